@@ -1,0 +1,67 @@
+-- The table of a layout: how many words it has, where each stands, what each holds at the start, and which pass owns what.
+use Rattle.std.specs.Prelude.{ℕ, ◌+◌, ◌*◌, ◌<◌, cond, eqb}
+use Rattle.arena.specs.declared.limits.Mode.{Mode}
+use Rattle.arena.specs.declared.limits.Mode.TheVariants.{Tree, Records}
+use Rattle.arena.specs.declared.layout.Layout.{Layout}
+use Rattle.arena.specs.declared.word.Side.TheVariants.{Left, Right}
+use Rattle.arena.specs.declared.word.NodeWord.TheVariants.{Head, Child}
+use Rattle.arena.specs.declared.word.ScxWord.TheVariants.{State, Member, Seen}
+use Rattle.arena.specs.declared.word.ScxWord.{ScxWord}
+use Rattle.arena.specs.declared.word.Word.{Word}
+use Rattle.arena.specs.declared.word.Word.TheVariants.{Node, Scx}
+use Rattle.arena.specs.Words.{node_place, scx_place}
+
+-- the nodes that are there from the start: three of the tree, or node 0 and eight cells
+abbrev pub opening_nodes : Mode → ℕ
+opening_nodes Tree = 3
+opening_nodes Records = 9
+
+-- how many nodes and SCX-records there are; SCX-record 0 is nobody's
+abbrev pub all_nodes : Layout → ℕ
+all_nodes lay = opening_nodes lay.mode + lay.passes * lay.nodes
+
+abbrev pub all_scx : Layout → ℕ
+all_scx lay = 1 + lay.passes * lay.scx
+
+-- the first node and the first SCX-record of a pass's share
+abbrev pub first_node : Layout → ℕ → ℕ
+first_node lay c = opening_nodes lay.mode + c * lay.nodes
+
+abbrev pub first_scx : Layout → ℕ → ℕ
+first_scx lay c = 1 + c * lay.scx
+
+-- how many words there are
+abbrev pub table_size : Layout → ℕ
+table_size lay = 7 * all_nodes lay + 14 * all_scx lay
+
+-- the place of a word in the table
+abbrev pub place : Layout → Word → ℕ
+place lay (Node n part) = 7 * n.0 + node_place part
+place lay (Scx s part) = 7 * all_nodes lay + 14 * s.0 + scx_place part
+
+-- an SCX-record covers at most four nodes
+abbrev pub IsScxWord : ScxWord → Type 0
+IsScxWord (Member j) = j < 4
+IsScxWord (Seen j) = j < 4
+IsScxWord _ = Unit {0}
+
+-- a word of the table
+abbrev pub IsWord : Layout → Word → Type 0
+IsWord lay (Node n part) = n.0 < all_nodes lay
+IsWord lay (Scx s part) = (s.0 < all_scx lay) × IsScxWord part
+
+-- what a word holds at the start: the dummy is aborted; the tree is a root of class 2 over leaves of class 1 and class 2
+abbrev pub tree_opening : Word → ℕ
+tree_opening (Node n Head) = cond (eqb n.0 0) 2 (cond (eqb n.0 1) 13 (cond (eqb n.0 2) 14 0))
+tree_opening (Node n (Child Left)) = cond (eqb n.0 0) 1 0
+tree_opening (Node n (Child Right)) = cond (eqb n.0 0) 2 0
+tree_opening (Scx s State) = cond (eqb s.0 0) 2 0
+tree_opening _ = 0
+
+abbrev pub records_opening : Word → ℕ
+records_opening (Scx s State) = cond (eqb s.0 0) 2 0
+records_opening _ = 0
+
+abbrev pub opening : Mode → Word → ℕ
+opening Tree w = tree_opening w
+opening Records w = records_opening w

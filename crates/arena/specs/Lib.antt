@@ -1,0 +1,6 @@
+pub mod Words
+pub mod Limits
+pub mod Layout
+pub mod Machines
+pub mod Share
+pub mod PlainWords

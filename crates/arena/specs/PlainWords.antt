@@ -1,0 +1,24 @@
+-- What the words of a table hold.
+use Rattle.std.specs.Prelude.{◌≡◌, ◌≢◌, ℕ, List, slice_index}
+use Rattle.arena.specs.declared.layout.Layout.{Layout}
+use Rattle.arena.specs.declared.word.Word.{Word}
+use Rattle.arena.specs.Layout.{place, opening, IsWord}
+
+-- a table's layout, and its words by their places
+pub record Contents : Type 0 where
+  pub layout : Layout
+  pub words : List ℕ
+
+-- what a word holds
+abbrev pub held : Contents → Word → ℕ
+held c w = slice_index c.words (place c.layout w)
+
+-- one word holds this value now, and nothing else is changed
+pub record IsChanged (old new : Contents) (word : Word) (value : ℕ) : Type 0 where
+  pub layout : new.layout ≡ old.layout
+  pub changed : held new word ≡ value
+  pub others : (w : Word) → IsWord old.layout w → w ≢ word → held new w ≡ held old w
+
+-- each word holds what it holds at the start
+abbrev pub IsOpening : Contents → Type 0
+IsOpening c = (w : Word) → IsWord c.layout w → held c w ≡ opening c.layout.mode w

@@ -1,0 +1,24 @@
+-- What a pass owns, and what is left of it.
+use Rattle.std.specs.Prelude.{ℕ, ◌+◌, ◌<◌, ◌≤◌}
+use Rattle.arena.specs.declared.layout.Layout.{Layout}
+use Rattle.arena.specs.Layout.{first_node, first_scx}
+
+-- the next node and SCX-record of a share, and how many of each are left
+pub record Left : Type 0 where
+  pub next_node : ℕ
+  pub nodes : ℕ
+  pub next_scx : ℕ
+  pub scx : ℕ
+
+-- the whole share of a pass
+abbrev pub whole_share : Layout → ℕ → Left
+whole_share lay c = record { next_node = first_node lay c; nodes = lay.nodes; next_scx = first_scx lay c; scx = lay.scx }
+
+-- a node, or an SCX-record, that the share still has
+pub record HasNode (left : Left) (n : ℕ) : Type 0 where
+  pub from : left.next_node ≤ n
+  pub below : n < left.next_node + left.nodes
+
+pub record HasScx (left : Left) (s : ℕ) : Type 0 where
+  pub from : left.next_scx ≤ s
+  pub below : s < left.next_scx + left.scx

@@ -1,0 +1,90 @@
+-- What each word of a node and of an SCX-record is called, and how words are told apart.
+use Rattle.std.specs.Prelude.{ℕ, ◌+◌, Bool, true, false, cond, ◌&&◌, eqb}
+use Rattle.arena.specs.declared.word.Side.{Side}
+use Rattle.arena.specs.declared.word.Side.TheVariants.{Left, Right}
+use Rattle.arena.specs.declared.word.NodeWord.{NodeWord}
+use Rattle.arena.specs.declared.word.NodeWord.TheVariants.{Head, Key, Value, Child, Info, Marked}
+use Rattle.arena.specs.declared.word.ScxWord.{ScxWord}
+use Rattle.arena.specs.declared.word.ScxWord.TheVariants.{State, AllFrozen, Plan, New, Old, Member, Seen, Call}
+use Rattle.arena.specs.declared.word.Word.{Word}
+use Rattle.arena.specs.declared.word.Word.TheVariants.{Node, Scx}
+use Rattle.arena.specs.declared.step.Deed.{Deed}
+use Rattle.arena.specs.declared.step.Deed.TheVariants.{Load, Store, Exchange}
+
+-- the place of a word within its node: seven words
+abbrev pub node_place : NodeWord → ℕ
+node_place Head = 0
+node_place Key = 1
+node_place Value = 2
+node_place (Child Left) = 3
+node_place (Child Right) = 4
+node_place Info = 5
+node_place Marked = 6
+
+-- the place of a word within its SCX-record: fourteen words
+abbrev pub scx_place : ScxWord → ℕ
+scx_place State = 0
+scx_place AllFrozen = 1
+scx_place Plan = 2
+scx_place New = 3
+scx_place Old = 4
+scx_place (Member j) = 5 + j
+scx_place (Seen j) = 9 + j
+scx_place Call = 13
+
+-- the words by the numbers of their records
+abbrev pub node : ℕ → NodeWord → Word
+node n part = Node record { 0 = n } part
+
+abbrev pub scx : ℕ → ScxWord → Word
+scx s part = Scx record { 0 = s } part
+
+abbrev pub info : ℕ → Word
+info n = node n Info
+
+abbrev pub marked : ℕ → Word
+marked n = node n Marked
+
+abbrev pub child : ℕ → Side → Word
+child n side = node n (Child side)
+
+abbrev pub state : ℕ → Word
+state s = scx s State
+
+-- whether two words are the same
+abbrev pub same_side : Side → Side → Bool
+same_side Left Left = true
+same_side Right Right = true
+same_side _ _ = false
+
+abbrev pub same_node_word : NodeWord → NodeWord → Bool
+same_node_word Head Head = true
+same_node_word Key Key = true
+same_node_word Value Value = true
+same_node_word (Child a) (Child b) = same_side a b
+same_node_word Info Info = true
+same_node_word Marked Marked = true
+same_node_word _ _ = false
+
+abbrev pub same_scx_word : ScxWord → ScxWord → Bool
+same_scx_word State State = true
+same_scx_word AllFrozen AllFrozen = true
+same_scx_word Plan Plan = true
+same_scx_word New New = true
+same_scx_word Old Old = true
+same_scx_word (Member j) (Member k) = eqb j k
+same_scx_word (Seen j) (Seen k) = eqb j k
+same_scx_word Call Call = true
+same_scx_word _ _ = false
+
+abbrev pub same_word : Word → Word → Bool
+same_word (Node n a) (Node m b) = eqb n.0 m.0 && same_node_word a b
+same_word (Scx s a) (Scx t b) = eqb s.0 t.0 && same_scx_word a b
+same_word (Node _ _) (Scx _ _) = false
+same_word (Scx _ _) (Node _ _) = false
+
+-- what a word holds after a deed that found `found`
+abbrev pub deed_after : Deed → ℕ → ℕ
+deed_after Load found = found
+deed_after (Store v) found = v
+deed_after (Exchange expected v) found = cond (eqb found expected) v found

@@ -1,0 +1,120 @@
+//! Where each word stands in the table.
+ghost use Rattle.std.specs.Prelude.{◌≡◌, ℕ, ◌<◌, ◌≤◌};
+
+use crate::limits::Mode;
+use crate::number::PassNo;
+use crate::word::{NodeWord, ScxWord, Side, Word};
+
+/// A table within accepted limits.
+#[derive(Clone, Copy, Debug, PartialEq, Eq)]
+pub struct Layout {
+    pub mode: Mode,
+    pub passes: u32,
+    pub nodes: u32,
+    pub scx: u32,
+    ghost passes_fit: { passes ≤ 32 },
+    ghost nodes_fit: { nodes ≤ 32768 },
+    ghost scx_fit: { scx ≤ 32768 },
+}
+
+impl Layout {
+    ghost use Rattle.arena.specs.Layout.{opening_nodes, all_nodes, all_scx, first_node, first_scx, table_size, place, IsWord};
+    ghost use Rattle.arena.specs.declared.word.Word.{Word};
+
+    /// How many nodes there are from the start: the tree's first three, or node 0 and the cells 1 to 8.
+    pub fn opening(&self) -> u32
+        ensures { result ≡ opening_nodes self.now.mode }
+    {
+        match self.mode {
+            Mode::Tree => 3,
+            Mode::Records => 9,
+        }
+    }
+
+    /// How many nodes there are in all.
+    pub fn all_nodes(&self) -> u32
+        ensures nodes { result ≡ all_nodes self.now }
+        ensures fits { result ≤ 1048585 }
+    {
+        self.opening() + self.passes * self.nodes
+    }
+
+    /// How many SCX-records there are in all, with the dummy.
+    pub fn all_scx(&self) -> u32
+        ensures scx { result ≡ all_scx self.now }
+        ensures fits { result ≤ 1048577 }
+    {
+        1 + self.passes * self.scx
+    }
+
+    /// The first node that a pass owns.
+    pub fn first_node(&self, pass: PassNo) -> u32
+        requires { pass.0 < self.now.passes }
+        ensures { result ≡ first_node self.now pass.0 }
+    {
+        self.opening() + pass.0 * self.nodes
+    }
+
+    /// The first SCX-record that a pass owns.
+    pub fn first_scx(&self, pass: PassNo) -> u32
+        requires { pass.0 < self.now.passes }
+        ensures { result ≡ first_scx self.now pass.0 }
+    {
+        1 + pass.0 * self.scx
+    }
+
+    /// How many words the table has.
+    pub fn size(&self) -> usize
+        ensures { result ≡ table_size self.now }
+    {
+        7 * self.all_nodes() as usize + 14 * self.all_scx() as usize
+    }
+
+    /// The place of a word in the table. No other word has it.
+    pub fn place(&self, word: Word) -> usize
+        requires { IsWord self.now word }
+        ensures place { result ≡ place self.now word }
+        ensures inside { result < table_size self.now }
+        ensures apart { (other : Word) → IsWord self.now other → place self.now other ≡ result → other ≡ word }
+    {
+        match word {
+            Word::Node(node, part) => 7 * node.0 as usize + node_place(part),
+            Word::Scx(scx, part) => {
+                7 * self.all_nodes() as usize + 14 * scx.0 as usize + scx_place(part)
+            }
+        }
+    }
+}
+
+ghost use Rattle.arena.specs.Words.{node_place, scx_place};
+
+/// The place of a word within its node.
+fn node_place(part: NodeWord) -> usize
+    ensures { result ≡ node_place part }
+{
+    match part {
+        NodeWord::Head => 0,
+        NodeWord::Key => 1,
+        NodeWord::Value => 2,
+        NodeWord::Child(Side::Left) => 3,
+        NodeWord::Child(Side::Right) => 4,
+        NodeWord::Info => 5,
+        NodeWord::Marked => 6,
+    }
+}
+
+/// The place of a word within its SCX-record.
+fn scx_place(part: ScxWord) -> usize
+    ensures { result ≡ scx_place part }
+{
+    match part {
+        ScxWord::State => 0,
+        ScxWord::AllFrozen => 1,
+        ScxWord::Plan => 2,
+        ScxWord::New => 3,
+        ScxWord::Old => 4,
+        ScxWord::Member(member) => 5 + member.index(),
+        ScxWord::Seen(member) => 9 + member.index(),
+        ScxWord::Call => 13,
+    }
+}

@@ -1,0 +1,24 @@
+//! The words of the shared table, the single steps on them, and what each client owns of them.
+#![tactic(auto)]
+
+mod fault;
+mod layout;
+mod limits;
+mod machine;
+mod number;
+mod plain;
+
+mod share;
+mod step;
+mod word;
+
+pub use fault::{BadLimits, NoMemory};
+pub use layout::Layout;
+pub use limits::{Limits, Mode};
+pub use machine::{Machine, Turn};
+pub use number::{MemberNo, NodeNo, PassNo, ScxNo};
+
+pub use plain::PlainWords;
+pub use share::{Fresh, Share};
+pub use step::{Deed, Kind, Row, Step};
+pub use word::{NodeWord, ScxWord, Side, Word};

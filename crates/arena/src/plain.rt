@@ -1,0 +1,113 @@
+//! The words of a table in plain memory, for one thread.
+ghost use Rattle.std.specs.Prelude.{◌≡◌, ◌≢◌, ℕ, ◌+◌, IfOk, slice_index, vec_len};
+ghost use Rattle.arena.specs.Layout.{table_size, tree_opening, records_opening, IsWord};
+ghost use Rattle.arena.specs.PlainWords.{Contents, IsChanged, IsOpening, held};
+ghost use Rattle.arena.specs.Words.{deed_after};
+ghost use Rattle.arena.specs.declared.word.Word.{Word};
+
+use crate::fault::NoMemory;
+use crate::layout::Layout;
+use crate::limits::Mode;
+use crate::number::{NodeNo, ScxNo};
+use crate::step::{Deed, Step};
+use crate::word::{NodeWord, ScxWord, Side, Word};
+use std::alloc::Global;
+use std::marker::Model;
+
+/// What a word holds after a deed that found `found`.
+fn stored(deed: Deed, found: u64) -> u64
+    ensures { result ≡ deed_after deed found }
+{
+    match deed {
+        Deed::Load => found,
+        Deed::Store(new) => new,
+        Deed::Exchange { expected, new } => {
+            if found == expected {
+                new
+            } else {
+                found
+            }
+        }
+    }
+}
+
+/// The words of a table, which any client may change one at a time.
+#[derive(Drop)]
+pub struct PlainWords {
+    layout: Layout,
+    words: Vec<u64>,
+}
+
+impl Model for PlainWords {
+    ghost Value = { Contents };
+
+    ghost view = { λ p. record { layout = p.layout; words = p.words.items } };
+
+    ghost invariant = { λ p. vec_len p.words ≡ table_size p.layout };
+}
+
+impl PlainWords {
+    /// The words as they are at the start. The only error is want of memory.
+    pub fn new(alloc: Global, layout: &Layout) -> Result<PlainWords, NoMemory>
+        ensures layout { IfOk result (λ p. p.layout ≡ layout.now) }
+        ensures opening { IfOk result IsOpening }
+    {
+        let mut words = PlainWords::zeros(alloc, layout)?;
+        words.set(Word::Scx(ScxNo(0), ScxWord::State), 2);
+        if let Mode::Tree = layout.mode {
+            words.plant();
+        }
+        Ok(words)
+    }
+
+    fn zeros(alloc: Global, layout: &Layout) -> Result<PlainWords, NoMemory>
+        ensures layout { IfOk result (λ p. p.layout ≡ layout.now) }
+        ensures zeros { IfOk result (λ p. (w : Word) → IsWord p.layout w → held p w ≡ 0) }
+    {
+        let words = vec![in alloc; 0; layout.size()]?;
+        Ok(PlainWords {
+            layout: *layout,
+            words,
+        })
+    }
+
+    /// The opening tree: a root of class 2 over a leaf of class 1 and a leaf of class 2.
+    fn plant(&mut self)
+        requires { (w : Word) → IsWord self.old.layout w → held self.old w ≡ records_opening w }
+        ensures layout { self.new.layout ≡ self.old.layout }
+        ensures opening { (w : Word) → IsWord self.old.layout w → held self.new w ≡ tree_opening w }
+    {
+        self.set(Word::Node(NodeNo(0), NodeWord::Head), 2);
+        self.set(Word::Node(NodeNo(0), NodeWord::Child(Side::Left)), 1);
+        self.set(Word::Node(NodeNo(0), NodeWord::Child(Side::Right)), 2);
+        self.set(Word::Node(NodeNo(1), NodeWord::Head), 13);
+        self.set(Word::Node(NodeNo(2), NodeWord::Head), 14);
+    }
+
+    fn set(&mut self, word: Word, value: u64)
+        requires { IsWord self.old.layout word }
+        ensures { IsChanged self.old self.new word value }
+    {
+        let place = self.layout.place(word);
+        self.words[place] = value;
+    }
+
+    /// What a word holds.
+    pub fn get(&self, word: Word) -> u64
+        requires { IsWord self.now.layout word }
+        ensures { result ≡ held self.now word }
+    {
+        self.words[self.layout.place(word)]
+    }
+
+    /// Makes one step, and answers what its word held before.
+    pub fn apply(&mut self, step: Step) -> u64
+        requires { IsWord self.old.layout step.word }
+        ensures found { result ≡ held self.old step.word }
+        ensures after { IsChanged self.old self.new step.word (deed_after step.deed result) }
+    {
+        let found = self.get(step.word);
+        self.set(step.word, stored(step.deed, found));
+        found
+    }
+}
