@@ -5,11 +5,10 @@ use Rattle.arena.specs.declared.limits.Mode.TheVariants.{Tree, Records}
 use Rattle.arena.specs.declared.layout.Layout.{Layout}
 use Rattle.arena.specs.declared.word.Side.TheVariants.{Left, Right}
 use Rattle.arena.specs.declared.word.NodeWord.TheVariants.{Head, Child}
-use Rattle.arena.specs.declared.word.ScxWord.TheVariants.{State, Member, Seen}
-use Rattle.arena.specs.declared.word.ScxWord.{ScxWord}
+use Rattle.arena.specs.declared.word.ScxWord.TheVariants.{State}
 use Rattle.arena.specs.declared.word.Word.{Word}
 use Rattle.arena.specs.declared.word.Word.TheVariants.{Node, Scx}
-use Rattle.arena.specs.Words.{node_place, scx_place}
+use Rattle.arena.specs.Words.{node_place, scx_place, IsScxWord}
 
 -- the nodes that are there from the start: three of the tree, or node 0 and eight cells
 abbrev pub opening_nodes : Mode → ℕ
@@ -38,12 +37,6 @@ table_size lay = 7 * all_nodes lay + 14 * all_scx lay
 abbrev pub place : Layout → Word → ℕ
 place lay (Node n part) = 7 * n.0 + node_place part
 place lay (Scx s part) = 7 * all_nodes lay + 14 * s.0 + scx_place part
-
--- an SCX-record covers at most four nodes
-abbrev pub IsScxWord : ScxWord → Type 0
-IsScxWord (Member j) = j < 4
-IsScxWord (Seen j) = j < 4
-IsScxWord _ = Unit {0}
 
 -- a word of the table
 abbrev pub IsWord : Layout → Word → Type 0

@@ -4,3 +4,4 @@ pub mod Layout
 pub mod Machines
 pub mod Share
 pub mod PlainWords
+pub mod History

@@ -1,5 +1,5 @@
 -- What each word of a node and of an SCX-record is called, and how words are told apart.
-use Rattle.std.specs.Prelude.{ℕ, ◌+◌, Bool, true, false, cond, ◌&&◌, eqb}
+use Rattle.std.specs.Prelude.{ℕ, ◌+◌, ◌<◌, Bool, true, false, cond, ◌&&◌, eqb}
 use Rattle.arena.specs.declared.word.Side.{Side}
 use Rattle.arena.specs.declared.word.Side.TheVariants.{Left, Right}
 use Rattle.arena.specs.declared.word.NodeWord.{NodeWord}
@@ -31,6 +31,12 @@ scx_place Old = 4
 scx_place (Member j) = 5 + j
 scx_place (Seen j) = 9 + j
 scx_place Call = 13
+
+-- an SCX-record covers at most four nodes
+abbrev pub IsScxWord : ScxWord → Type 0
+IsScxWord (Member j) = j < 4
+IsScxWord (Seen j) = j < 4
+IsScxWord _ = Unit {0}
 
 -- the words by the numbers of their records
 abbrev pub node : ℕ → NodeWord → Word

@@ -1,8 +1,8 @@
 //! Where each word stands in the table.
-ghost use Rattle.std.specs.Prelude.{◌≡◌, ℕ, ◌<◌, ◌≤◌};
+ghost use Rattle.std.specs.Prelude.{◌≡◌, ℕ, ◌+◌, ◌<◌, ◌≤◌, ◌↔◌, IsTrue, IsSome, IfSome};
 
 use crate::limits::Mode;
-use crate::number::PassNo;
+use crate::number::{PassNo, ScxNo};
 use crate::word::{NodeWord, ScxWord, Side, Word};
 
 /// A table within accepted limits.
@@ -70,6 +70,34 @@ impl Layout {
         7 * self.all_nodes() as usize + 14 * self.all_scx() as usize
     }
 
+    /// The pass that owns an SCX-record; none for the dummy, and for a number beyond the last.
+    pub fn owner(&self, scx: ScxNo) -> Option<PassNo>
+        ensures pass { IfSome result (λ p. p.0 < self.now.passes) }
+        ensures from { IfSome result (λ p. first_scx self.now p.0 ≤ scx.0) }
+        ensures below { IfSome result (λ p. scx.0 < first_scx self.now p.0 + self.now.scx) }
+        ensures owned { 0 < scx.0 → scx.0 < all_scx self.now → IsSome result }
+    {
+        let pass = scx.0.checked_sub(1)?.checked_div(u64::from(self.scx))?;
+        if pass < u64::from(self.passes) {
+            Some(PassNo(pass as u32))
+        } else {
+            None
+        }
+    }
+
+    /// Whether a word is one of the table.
+    pub fn has(&self, word: Word) -> bool
+        ensures { IsTrue result ↔ IsWord self.now word }
+    {
+        match word {
+            Word::Node(node, _) => node.0 < u64::from(self.all_nodes()),
+            Word::Scx(scx, part) => {
+                let _place = scx_place(part);
+                scx.0 < u64::from(self.all_scx())
+            }
+        }
+    }
+
     /// The place of a word in the table. No other word has it.
     pub fn place(&self, word: Word) -> usize
         requires { IsWord self.now word }
@@ -86,7 +114,7 @@ impl Layout {
     }
 }
 
-ghost use Rattle.arena.specs.Words.{node_place, scx_place};
+ghost use Rattle.arena.specs.Words.{node_place, scx_place, IsScxWord};
 
 /// The place of a word within its node.
 fn node_place(part: NodeWord) -> usize
@@ -105,7 +133,8 @@ fn node_place(part: NodeWord) -> usize
 
 /// The place of a word within its SCX-record.
 fn scx_place(part: ScxWord) -> usize
-    ensures { result ≡ scx_place part }
+    ensures place { result ≡ scx_place part }
+    ensures word { IsScxWord part }
 {
     match part {
         ScxWord::State => 0,

@@ -15,10 +15,10 @@ mod word;
 pub use fault::{BadLimits, NoMemory};
 pub use layout::Layout;
 pub use limits::{Limits, Mode};
-pub use machine::{Machine, Turn};
+pub use machine::{Machine, Shape, Turn};
 pub use number::{MemberNo, NodeNo, PassNo, ScxNo};
 
 pub use plain::PlainWords;
 pub use share::{Fresh, Share};
 pub use step::{Deed, Kind, Row, Step};
-pub use word::{NodeWord, ScxWord, Side, Word};
+pub use word::{NodeWord, ScxWord, Side, Word, ABORTED, COMMITTED, IN_PROGRESS};

@@ -1,5 +1,5 @@
 //! Numbers of nodes, SCX-records, passes and members.
-ghost use Rattle.std.specs.Prelude.{◌≡◌, ℕ, ◌<◌, ◌↔◌, IsSome, IfSome};
+ghost use Rattle.std.specs.Prelude.{◌≡◌, ℕ, ◌+◌, ◌<◌, ◌↔◌, IsSome, IfSome};
 
 use std::marker::Model;
 
@@ -40,6 +40,20 @@ impl MemberNo {
     {
         if index < 4 {
             Some(MemberNo { index })
+        } else {
+            None
+        }
+    }
+
+    /// The one behind it, if there is one.
+    pub fn next(self) -> Option<MemberNo>
+        ensures valid { IsSome result ↔ (self < 3) }
+        ensures value { IfSome result (λ m. m ≡ self + 1) }
+    {
+        if self.index < 3 {
+            Some(MemberNo {
+                index: self.index + 1,
+            })
         } else {
             None
         }

@@ -1,0 +1,31 @@
+-- The parts of a plan word.
+use Rattle.std.specs.Prelude.{ℕ, ◌+◌, ◌*◌, ◌/◌, ◌%◌, ◌^◌, Bool, cond, eqb, List, [], ◌∷◌}
+use Rattle.arena.specs.declared.word.Side.{Side}
+use Rattle.arena.specs.declared.word.Side.TheVariants.{Left, Right}
+
+-- how many nodes it covers
+abbrev pub count : ℕ → ℕ
+count plan = plan % 8
+
+-- whether the j-th of them is to be finalized
+abbrev pub is_removed : ℕ → ℕ → Bool
+is_removed plan j = eqb (plan / 8 / 2 ^ j % 2) 1
+
+-- which of them has the field that is changed, and on which side
+abbrev pub at_of : ℕ → ℕ
+at_of plan = plan / 128 % 4
+
+abbrev pub side_of : ℕ → Side
+side_of plan = cond (eqb (plan / 512) 0) Left Right
+
+abbrev pub side_no : Side → ℕ
+side_no Left = 0
+side_no Right = 1
+
+-- a bit for each node that is to be finalized
+abbrev pub bit : Bool → ℕ
+bit b = cond b 1 0
+
+abbrev pub removed_bits : List Bool → ℕ
+removed_bits [] = 0
+removed_bits (b ∷ bs) = bit b + 2 * removed_bits bs

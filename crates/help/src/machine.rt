@@ -1,0 +1,138 @@
+//! The steps of HELP.
+ghost use Rattle.std.specs.Prelude.{◌≡◌, ℕ, ◌+◌, ◌<◌, ◌≤◌, IfSome};
+
+use crate::plan::Plan;
+use crate::state::{HelpAt, HelpRun};
+use arena::{ABORTED, COMMITTED, Deed, Kind, Machine, MemberNo, NodeNo, NodeWord, ScxWord, Shape, Step, Turn, Word};
+
+impl HelpRun {
+    ghost use Rattle.std.specs.Prelude.{◌≡◌, ◌<◌, ◌≤◌, ◌+◌, ◌-◌, MatchOption};
+    ghost use Rattle.arena.specs.Machines.{MatchTurn};
+    ghost use Rattle.help.specs.HelpSteps.{help_left};
+
+    /// Asks for a step, and stands there.
+    fn ask(&mut self, at: HelpAt, kind: Kind, word: Word, deed: Deed) -> Turn<bool>
+        ensures at { self.new.at ≡ at }
+        ensures turn { MatchTurn result (λ _. Unit {0}) (λ _. ⊥) }
+    {
+        self.at = at;
+        Turn::Ask(Step { kind, word, deed })
+    }
+
+    /// Loads one of the settled words of the SCX-record.
+    fn load(&mut self, at: HelpAt, part: ScxWord) -> Turn<bool>
+        ensures at { self.new.at ≡ at }
+        ensures turn { MatchTurn result (λ _. Unit {0}) (λ _. ⊥) }
+    {
+        self.ask(at, Kind::LoadSettled, Word::Scx(self.scx, part), Deed::Load)
+    }
+
+    fn freeze(&mut self, j: MemberNo, seen: u64) -> Turn<bool>
+        ensures at { self.new.at ≡ HelpAt.Freeze j seen }
+        ensures turn { MatchTurn result (λ _. Unit {0}) (λ _. ⊥) }
+    {
+        let info = Word::Node(self.members[j.index()], NodeWord::Info);
+        let new = self.scx.0;
+        let deed = Deed::Exchange {
+            expected: seen,
+            new,
+        };
+        self.ask(HelpAt::Freeze { j, seen }, Kind::Freeze, info, deed)
+    }
+
+    /// Goes on to the next node once the j-th is frozen.
+    fn after_freeze(&mut self, j: MemberNo) -> Turn<bool>
+        ensures nearer { help_left self.new.at < help_left (HelpAt.Freeze j 0) }
+        ensures turn { MatchTurn result (λ _. Unit {0}) (λ _. ⊥) }
+    {
+        match self.plan.member_behind(j) {
+            Some(j) => self.load(HelpAt::Member { j }, ScxWord::Member(j)),
+            None => {
+                let allfrozen = Word::Scx(self.scx, ScxWord::AllFrozen);
+                self.ask(HelpAt::SetFrozen, Kind::SetFrozen, allfrozen, Deed::Store(1))
+            }
+        }
+    }
+
+    /// Marks the next node to be finalized, from this one on, or goes on to the update.
+    fn mark_from(&mut self, from: Option<MemberNo>) -> Turn<bool>
+        ensures nearer { MatchOption from (help_left self.new.at < 4) (λ j. help_left self.new.at < 8 - j) }
+        ensures turn { MatchTurn result (λ _. Unit {0}) (λ _. ⊥) }
+    {
+        match from.and_then(|j| self.plan.removed_from(j)) {
+            Some(j) => {
+                let marked = Word::Node(self.members[j.index()], NodeWord::Marked);
+                self.ask(HelpAt::Mark { j }, Kind::Mark, marked, Deed::Store(1))
+            }
+            None => self.load(HelpAt::New, ScxWord::New),
+        }
+    }
+
+    fn update(&mut self, old: u64, new: u64) -> Turn<bool>
+        ensures at { self.new.at ≡ HelpAt.Update }
+        ensures turn { MatchTurn result (λ _. Unit {0}) (λ _. ⊥) }
+    {
+        let node = self.members[self.plan.at().index()];
+        let field = Word::Node(node, NodeWord::Child(self.plan.side()));
+        let deed = Deed::Exchange { expected: old, new };
+        self.ask(HelpAt::Update, Kind::Update, field, deed)
+    }
+
+    /// Stores that the SCX-record is finished.
+    fn finish(&mut self, at: HelpAt, kind: Kind, state: u64) -> Turn<bool>
+        ensures at { self.new.at ≡ at }
+        ensures turn { MatchTurn result (λ _. Unit {0}) (λ _. ⊥) }
+    {
+        let word = Word::Scx(self.scx, ScxWord::State);
+        self.ask(at, kind, word, Deed::Store(state))
+    }
+}
+
+impl<S: Shape> Machine<S> for HelpRun {
+    type Answer = bool;
+
+    ghost use Rattle.std.specs.Prelude.{ℕ};
+    ghost use Rattle.help.specs.HelpSteps.{help_left};
+
+    ghost left = { λ m. help_left m.at };
+
+    fn next(&mut self, got: Option<u64>) -> Turn<bool> {
+        let found = got.unwrap_or(0);
+        let at = self.at;
+        match at {
+            HelpAt::Start => self.load(HelpAt::Plan, ScxWord::Plan),
+            HelpAt::Plan => {
+                self.plan = Plan(found);
+                let j = MemberNo::FIRST;
+                self.load(HelpAt::Member { j }, ScxWord::Member(j))
+            }
+            HelpAt::Member { j } => {
+                self.members[j.index()] = NodeNo(found);
+                self.load(HelpAt::Seen { j }, ScxWord::Seen(j))
+            }
+            HelpAt::Seen { j } => self.freeze(j, found),
+            HelpAt::Freeze { j, seen } => {
+                if found == seen || found == self.scx.0 {
+                    self.after_freeze(j)
+                } else {
+                    let allfrozen = Word::Scx(self.scx, ScxWord::AllFrozen);
+                    self.ask(HelpAt::AllFrozen { j, found }, Kind::LoadAllFrozen, allfrozen, Deed::Load)
+                }
+            }
+            HelpAt::AllFrozen { j, found: other } => {
+                if found == 0 {
+                    self.finish(HelpAt::Abort { j, found: other }, Kind::Abort, ABORTED)
+                } else {
+                    Turn::Done(true)
+                }
+            }
+            HelpAt::Abort { j: _, found: _ } => Turn::Done(false),
+            HelpAt::SetFrozen => self.mark_from(Some(MemberNo::FIRST)),
+            HelpAt::Mark { j } => self.mark_from(j.next()),
+            HelpAt::New => self.load(HelpAt::Old { new: found }, ScxWord::Old),
+            HelpAt::Old { new } => self.update(found, new),
+            HelpAt::Update => self.finish(HelpAt::Commit, Kind::Commit, COMMITTED),
+            HelpAt::Commit => Turn::Done(true),
+        }
+    }
+}

@@ -1,0 +1,83 @@
+//! The word `plan` of an SCX-record.
+ghost use Rattle.std.specs.Prelude.{◌≡◌, ℕ, ◌+◌, ◌*◌, ◌/◌, ◌%◌, ◌^◌, ◌<◌, ◌≤◌, ◌↔◌, true, false, IsTrue, IsSome, IfSome, IfNone};
+ghost use Rattle.help.specs.Plan.{count, side_of, side_no, at_of, is_removed, removed_bits};
+
+use arena::{MemberNo, Side};
+
+/// How many nodes an SCX-record covers, which of them it finalizes, and which field of which of them
+/// it changes: `count + 8 * removed + 128 * at + 512 * side`, where bit j of `removed` is set for the
+/// j-th node if it is to be finalized.
+#[derive(Clone, Copy, Debug, PartialEq, Eq)]
+pub struct Plan(pub u64);
+
+impl Plan {
+    /// The plan of an SCX-record over so many nodes, 1 to 4, where `removed` says of each whether it
+    /// is to be finalized.
+    pub fn new(count: usize, removed: [bool; 4], at: MemberNo, side: Side) -> Plan
+        requires { count ≤ 4 }
+        ensures { result.0 ≡ count + 8 * removed_bits removed + 128 * at + 512 * side_no side }
+    {
+        let [a, b, c, d] = removed;
+        let removed = u64::from(a) + 2 * u64::from(b) + 4 * u64::from(c) + 8 * u64::from(d);
+        let side = match side {
+            Side::Left => 0,
+            Side::Right => 512,
+        };
+        Plan(count as u64 + 8 * removed + 128 * at.index() as u64 + side)
+    }
+
+    /// The place behind this one, if the plan covers so many nodes.
+    pub fn member_behind(self, j: MemberNo) -> Option<MemberNo>
+        ensures valid { IsSome result ↔ ((j < 3) × (j + 1 < count self.0)) }
+        ensures value { IfSome result (λ k. k ≡ j + 1) }
+    {
+        let next = j.next()?;
+        if (next.index() as u64) < self.0 % 8 {
+            Some(next)
+        } else {
+            None
+        }
+    }
+
+    /// Whether the j-th node is to be finalized.
+    pub fn removes(self, j: MemberNo) -> bool
+        ensures { result ≡ is_removed self.0 j }
+    {
+        (self.0 / 8 >> j.index()) % 2 == 1
+    }
+
+    /// The first node to be finalized, from the j-th on.
+    pub fn removed_from(self, j: MemberNo) -> Option<MemberNo>
+        ensures removed { IfSome result (λ k. (j ≤ k) × (k < 4) × (is_removed self.0 k ≡ true) × ((i : ℕ) → j ≤ i → i < k → is_removed self.0 i ≡ false)) }
+        ensures none { IfNone result ((i : ℕ) → j ≤ i → i < 4 → is_removed self.0 i ≡ false) }
+    {
+        for index in j.index()..4 {
+            let j = MemberNo::new(index as u8)?;
+            if self.removes(j) {
+                return Some(j);
+            }
+        }
+        None
+    }
+
+    /// The place of the node whose field is changed.
+    pub fn at(self) -> MemberNo
+        ensures { result ≡ at_of self.0 }
+    {
+        match self.0 / 128 % 4 {
+            0 => MemberNo::FIRST,
+            at => MemberNo::new(at as u8).unwrap(),
+        }
+    }
+
+    /// The side of the field that is changed.
+    pub fn side(self) -> Side
+        ensures { result ≡ side_of self.0 }
+    {
+        if self.0 / 512 == 0 {
+            Side::Left
+        } else {
+            Side::Right
+        }
+    }
+}

@@ -1,0 +1,65 @@
+//! Where a run of HELP stands.
+ghost use Rattle.std.specs.Prelude.{◌≡◌, ◌≤◌};
+
+use crate::plan::Plan;
+use arena::{MemberNo, NodeNo, ScxNo};
+
+/// The step that a run of HELP has asked for.
+#[derive(Clone, Copy, Debug, PartialEq, Eq)]
+pub enum HelpAt {
+    Start,
+    Plan,
+    Member { j: MemberNo },
+    Seen { j: MemberNo },
+    Freeze { j: MemberNo, seen: u64 },
+    /// The j-th node could not be frozen: its info was `found`.
+    AllFrozen { j: MemberNo, found: u64 },
+    Abort { j: MemberNo, found: u64 },
+    SetFrozen,
+    Mark { j: MemberNo },
+    New,
+    Old { new: u64 },
+    Update,
+    Commit,
+}
+
+/// HELP of one SCX-record, step by step: freezes its nodes in order, sets `allfrozen`, marks those to
+/// be finalized, changes the field and commits; where a node cannot be frozen and `allfrozen` is not
+/// set, aborts. Answers whether the SCX-record is committed. From Brown, Ellen and Ruppert,
+/// "Pragmatic primitives for non-blocking data structures" (PODC 2013).
+#[derive(Clone, Copy, Debug, PartialEq, Eq)]
+pub struct HelpRun {
+    pub scx: ScxNo,
+    pub plan: Plan,
+    pub members: [NodeNo; 4],
+    pub at: HelpAt,
+}
+
+impl HelpRun {
+    ghost use Rattle.std.specs.Prelude.{◌≡◌, ◌≤◌};
+    ghost use Rattle.help.specs.HelpSteps.{help_left};
+    ghost use Rattle.help.specs.declared.state.HelpAt.TheVariants.{Start};
+
+    /// A run that has not begun. It asks for at most 27 steps.
+    pub fn new(scx: ScxNo) -> HelpRun
+        ensures scx { result.scx ≡ scx }
+        ensures start { result.at ≡ Start }
+        ensures bound { help_left result.at ≤ 27 }
+    {
+        HelpRun {
+            scx,
+            plan: Plan(0),
+            members: [NodeNo(0); 4],
+            at: HelpAt::Start,
+        }
+    }
+
+    /// The node that could not be frozen and the SCX-record that its info names, once the run has
+    /// answered false.
+    pub fn blocked(&self) -> (NodeNo, ScxNo) {
+        match self.at {
+            HelpAt::Abort { j, found } => (self.members[j.index()], ScxNo(found)),
+            _ => (NodeNo(0), ScxNo(0)),
+        }
+    }
+}

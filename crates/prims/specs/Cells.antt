@@ -1,0 +1,7 @@
+-- Cells ask nothing of an SCX-record.
+use Rattle.std.specs.Prelude.{ℕ}
+use Rattle.arena.specs.declared.layout.Layout.{Layout}
+use Rattle.arena.specs.History.{History}
+
+abbrev pub allows_all : Layout → History → ℕ → Type 0
+allows_all lay h s = Unit {0}

@@ -1,0 +1,6 @@
+pub mod Cells
+pub mod LlxSteps
+pub mod ScxSteps
+pub mod VlxSteps
+pub mod Snap
+pub mod PutSteps

@@ -1,0 +1,14 @@
+-- How many steps a run of SCX with the fill of its fresh cell may still ask for.
+use Rattle.std.specs.Prelude.{ℕ, ◌+◌}
+use Rattle.prims.specs.declared.put.PutRun.{PutRun}
+use Rattle.prims.specs.declared.put.PutAt.{PutAt}
+use Rattle.prims.specs.declared.put.PutAt.TheVariants.{Start, Fill, Scx}
+use Rattle.prims.specs.ScxSteps.{scx_left}
+
+abbrev pub put_left_at : PutAt → ℕ → ℕ
+put_left_at Start scx = scx + 1
+put_left_at Fill scx = scx
+put_left_at Scx scx = scx
+
+abbrev pub put_left : PutRun → ℕ
+put_left m = put_left_at m.at (scx_left m.scx.at)

@@ -1,0 +1,255 @@
+//! LLX of a node.
+ghost use Rattle.std.specs.Prelude.{◌≡◌, ℕ, ◌+◌, ◌<◌, ◌≤◌};
+
+use crate::snap::Snap;
+use arena::{ABORTED, COMMITTED, Deed, IN_PROGRESS, Kind, Machine, NodeNo, NodeWord, ScxNo, ScxWord, Shape, Side, Step, Turn, Word};
+use help::HelpRun;
+
+/// What an LLX answers.
+#[derive(Clone, Copy, Debug, PartialEq, Eq)]
+pub enum Llx {
+    /// The node's fields at one moment, at which it is not finalized.
+    Snapshot(Snap),
+    /// The node is finalized, by this SCX-record.
+    Finalized { node: NodeNo, scx: ScxNo },
+    /// Another client's SCX-record was in the way.
+    Fail { node: NodeNo, scx: ScxNo },
+}
+
+/// The step that an LLX has asked for, with what it has read.
+#[derive(Clone, Copy, Debug, PartialEq, Eq)]
+pub enum LlxAt {
+    Start,
+    Marked,
+    Info { marked: bool },
+    State { marked: bool, scx: ScxNo },
+    MarkedAgain { marked: bool, scx: ScxNo, state: u64 },
+    Left { marked: bool, scx: ScxNo },
+    Right { marked: bool, scx: ScxNo, left: u64 },
+    InfoAgain { marked: bool, scx: ScxNo, left: u64, right: u64 },
+    StateAgain { marked: bool, scx: ScxNo },
+    Help { marked: bool, help: HelpRun },
+    LastInfo,
+    LastState { scx: ScxNo },
+    LastHelp { scx: ScxNo, help: HelpRun },
+}
+
+/// LLX of one node, step by step: a snapshot where its info names a finished SCX-record before and
+/// after the fields are read; else it helps what it met. From Brown, Ellen and Ruppert (PODC 2013).
+#[derive(Clone, Copy, Debug, PartialEq, Eq)]
+pub struct LlxRun {
+    pub node: NodeNo,
+    pub at: LlxAt,
+}
+
+impl LlxRun {
+    ghost use Rattle.std.specs.Prelude.{◌≡◌, ◌+◌, ◌<◌, ◌≤◌};
+    ghost use Rattle.arena.specs.Machines.{MatchTurn};
+    ghost use Rattle.help.specs.HelpSteps.{help_left};
+    ghost use Rattle.prims.specs.LlxSteps.{llx_left};
+
+    /// A run that has not begun. It asks for at most 64 steps.
+    pub fn new(node: NodeNo) -> LlxRun
+        ensures node { result.node ≡ node }
+        ensures start { result.at ≡ LlxAt.Start }
+        ensures bound { llx_left result.at ≤ 64 }
+    {
+        LlxRun {
+            node,
+            at: LlxAt::Start,
+        }
+    }
+
+    /// Loads a word of the node.
+    fn load(&mut self, at: LlxAt, kind: Kind, part: NodeWord) -> Turn<Llx>
+        ensures at { self.new.at ≡ at }
+        ensures turn { MatchTurn result (λ _. Unit {0}) (λ _. ⊥) }
+    {
+        self.at = at;
+        Turn::Ask(Step {
+            kind,
+            word: Word::Node(self.node, part),
+            deed: Deed::Load,
+        })
+    }
+
+    fn load_child(&mut self, at: LlxAt, side: Side) -> Turn<Llx>
+        ensures at { self.new.at ≡ at }
+        ensures turn { MatchTurn result (λ _. Unit {0}) (λ _. ⊥) }
+    {
+        self.load(at, Kind::LoadChild, NodeWord::Child(side))
+    }
+
+    fn load_state(&mut self, at: LlxAt, scx: ScxNo) -> Turn<Llx>
+        ensures at { self.new.at ≡ at }
+        ensures turn { MatchTurn result (λ _. Unit {0}) (λ _. ⊥) }
+    {
+        self.at = at;
+        Turn::Ask(Step {
+            kind: Kind::LoadState,
+            word: Word::Scx(scx, ScxWord::State),
+            deed: Deed::Load,
+        })
+    }
+
+    /// Reads the fields if the SCX-record that the info names left the node in place.
+    fn read_fields(&mut self, marked: bool, scx: ScxNo, state: u64, marked_again: bool) -> Turn<Llx>
+        ensures nearer { llx_left self.new.at < 50 }
+        ensures turn { MatchTurn result (λ _. Unit {0}) (λ _. ⊥) }
+    {
+        if state == ABORTED || state == COMMITTED && !marked_again {
+            self.load_child(LlxAt::Left { marked, scx }, Side::Left)
+        } else {
+            self.load_state(LlxAt::StateAgain { marked, scx }, scx)
+        }
+    }
+
+    /// Ends with the snapshot if the info is still what it was.
+    fn compare_info(&mut self, marked: bool, snap: Snap, info: u64) -> Turn<Llx>
+        ensures nearer { MatchTurn result (λ _. llx_left self.new.at < 47) (λ _. Unit {0}) }
+    {
+        let scx = snap.scx;
+        if info == scx.0 {
+            Turn::Done(Llx::Snapshot(snap))
+        } else {
+            self.load_state(LlxAt::StateAgain { marked, scx }, scx)
+        }
+    }
+
+    /// Helps the SCX-record that was met, or goes on at once if it is finished.
+    fn meet<S: Shape>(&mut self, marked: bool, scx: ScxNo, state: u64) -> Turn<Llx>
+        ensures nearer { MatchTurn result (λ _. llx_left self.new.at < 46) (λ _. Unit {0}) }
+    {
+        if state == IN_PROGRESS {
+            self.help_on::<S>(marked, HelpRun::new(scx), None)
+        } else {
+            self.helped(marked && state == COMMITTED, scx)
+        }
+    }
+
+    fn help_on<S: Shape>(&mut self, marked: bool, mut help: HelpRun, got: Option<u64>) -> Turn<Llx>
+        ensures nearer { MatchTurn result (λ _. llx_left self.new.at < 24 + help_left help.at) (λ _. Unit {0}) }
+    {
+        let scx = help.scx;
+        match Machine::<S>::next(&mut help, got) {
+            Turn::Ask(step) => {
+                self.at = LlxAt::Help { marked, help };
+                Turn::Ask(step)
+            }
+            Turn::Done(committed) => self.helped(marked && committed, scx),
+        }
+    }
+
+    /// Ends if the SCX-record that was met has finalized the node, else looks at the info once more.
+    fn helped(&mut self, finalized: bool, scx: ScxNo) -> Turn<Llx>
+        ensures nearer { MatchTurn result (λ _. llx_left self.new.at < 24) (λ _. Unit {0}) }
+    {
+        if finalized {
+            let node = self.node;
+            Turn::Done(Llx::Finalized { node, scx })
+        } else {
+            self.load(LlxAt::LastInfo, Kind::LoadInfo, NodeWord::Info)
+        }
+    }
+
+    /// Helps the SCX-record that stands in the info now, and fails.
+    fn help_last<S: Shape>(&mut self, scx: ScxNo, mut help: HelpRun, got: Option<u64>) -> Turn<Llx>
+        ensures nearer { MatchTurn result (λ _. llx_left self.new.at < help_left help.at) (λ _. Unit {0}) }
+    {
+        match Machine::<S>::next(&mut help, got) {
+            Turn::Ask(step) => {
+                self.at = LlxAt::LastHelp { scx, help };
+                Turn::Ask(step)
+            }
+            Turn::Done(_) => self.fail(scx),
+        }
+    }
+
+    fn fail(&self, scx: ScxNo) -> Turn<Llx>
+        ensures { MatchTurn result (λ _. ⊥) (λ a. a ≡ Llx.Fail self.now.node scx) }
+    {
+        let node = self.node;
+        Turn::Done(Llx::Fail { node, scx })
+    }
+}
+
+impl<S: Shape> Machine<S> for LlxRun {
+    type Answer = Llx;
+
+    ghost use Rattle.std.specs.Prelude.{ℕ};
+    ghost use Rattle.prims.specs.LlxSteps.{llx_left};
+
+    ghost left = { λ m. llx_left m.at };
+
+    fn next(&mut self, got: Option<u64>) -> Turn<Llx> {
+        let found = got.unwrap_or(0);
+        let at = self.at;
+        match at {
+            LlxAt::Start => self.load(LlxAt::Marked, Kind::LoadMarked, NodeWord::Marked),
+            LlxAt::Marked => {
+                let marked = found != 0;
+                self.load(LlxAt::Info { marked }, Kind::LoadInfo, NodeWord::Info)
+            }
+            LlxAt::Info { marked } => {
+                let scx = ScxNo(found);
+                self.load_state(LlxAt::State { marked, scx }, scx)
+            }
+            LlxAt::State { marked, scx } => {
+                let at = LlxAt::MarkedAgain {
+                    marked,
+                    scx,
+                    state: found,
+                };
+                self.load(at, Kind::LoadMarked, NodeWord::Marked)
+            }
+            LlxAt::MarkedAgain { marked, scx, state } => {
+                self.read_fields(marked, scx, state, found != 0)
+            }
+            LlxAt::Left { marked, scx } => {
+                let at = LlxAt::Right {
+                    marked,
+                    scx,
+                    left: found,
+                };
+                self.load_child(at, Side::Right)
+            }
+            LlxAt::Right { marked, scx, left } => {
+                let at = LlxAt::InfoAgain {
+                    marked,
+                    scx,
+                    left,
+                    right: found,
+                };
+                self.load(at, Kind::LoadInfo, NodeWord::Info)
+            }
+            LlxAt::InfoAgain {
+                marked,
+                scx,
+                left,
+                right,
+            } => {
+                let snap = Snap {
+                    node: self.node,
+                    scx,
+                    left: NodeNo(left),
+                    right: NodeNo(right),
+                };
+                self.compare_info(marked, snap, found)
+            }
+            LlxAt::StateAgain { marked, scx } => self.meet::<S>(marked, scx, found),
+            LlxAt::Help { marked, help } => self.help_on::<S>(marked, help, got),
+            LlxAt::LastInfo => {
+                let scx = ScxNo(found);
+                self.load_state(LlxAt::LastState { scx }, scx)
+            }
+            LlxAt::LastState { scx } => {
+                if found == IN_PROGRESS {
+                    self.help_last::<S>(scx, HelpRun::new(scx), None)
+                } else {
+                    self.fail(scx)
+                }
+            }
+            LlxAt::LastHelp { scx, help } => self.help_last::<S>(scx, help, got),
+        }
+    }
+}

@@ -1,0 +1,66 @@
+//! SCX with a fresh cell.
+ghost use Rattle.std.specs.Prelude.{◌≡◌, ℕ, ◌+◌, ◌<◌, ◌≤◌};
+
+use crate::scx::{Scx, ScxRun};
+use arena::{Deed, Kind, Machine, NodeWord, Shape, Step, Turn, Word};
+
+#[derive(Clone, Copy, Debug, PartialEq, Eq)]
+pub enum PutAt {
+    Start,
+    Fill,
+    Scx,
+}
+
+/// Fills the value of the fresh cell of an SCX, and then runs it.
+#[derive(Debug, Drop)]
+pub struct PutRun {
+    pub value: u64,
+    pub scx: ScxRun,
+    pub at: PutAt,
+}
+
+impl PutRun {
+    ghost use Rattle.std.specs.Prelude.{◌≡◌, ◌≤◌, ◌+◌};
+    ghost use Rattle.prims.specs.PutSteps.{put_left};
+
+    /// A run that has not begun, over an SCX that has not begun. It asks for at most 40 steps.
+    pub fn new(value: u64, scx: ScxRun) -> PutRun
+        requires { scx_left scx.at ≤ 39 }
+        ensures { put_left result ≤ 40 }
+    {
+        PutRun {
+            value,
+            scx,
+            at: PutAt::Start,
+        }
+    }
+
+    ghost use Rattle.prims.specs.ScxSteps.{scx_left};
+}
+
+impl<S: Shape> Machine<S> for PutRun {
+    type Answer = Scx;
+
+    ghost use Rattle.std.specs.Prelude.{ℕ};
+    ghost use Rattle.prims.specs.PutSteps.{put_left};
+
+    ghost left = { put_left };
+
+    fn next(&mut self, got: Option<u64>) -> Turn<Scx> {
+        match self.at {
+            PutAt::Start => {
+                self.at = PutAt::Fill;
+                Turn::Ask(Step {
+                    kind: Kind::Fill,
+                    word: Word::Node(self.scx.update.fresh.node(), NodeWord::Value),
+                    deed: Deed::Store(self.value),
+                })
+            }
+            PutAt::Fill => {
+                self.at = PutAt::Scx;
+                Machine::<S>::next(&mut self.scx, None)
+            }
+            PutAt::Scx => Machine::<S>::next(&mut self.scx, got),
+        }
+    }
+}

@@ -1,0 +1,171 @@
+//! SCX of nodes.
+ghost use Rattle.std.specs.Prelude.{◌≡◌, ℕ, ◌+◌, ◌<◌, ◌≤◌};
+
+use crate::snap::Snap;
+use crate::update::Update;
+use arena::{Deed, Kind, Machine, MemberNo, NodeNo, ScxNo, ScxWord, Shape, Step, Turn, Word};
+use help::{HelpRun};
+
+/// What an SCX answers.
+#[derive(Clone, Copy, Debug, PartialEq, Eq)]
+pub enum Scx {
+    /// The field holds the fresh node from one moment of the call on.
+    Done,
+    /// This node had changed: its info named this SCX-record.
+    Lost { node: NodeNo, scx: ScxNo },
+}
+
+/// The step that an SCX has asked for.
+#[derive(Clone, Copy, Debug, PartialEq, Eq)]
+pub enum ScxAt {
+    Start,
+    Plan,
+    New,
+    Old,
+    Member { j: MemberNo },
+    Seen { j: MemberNo },
+    Call,
+    Help { help: HelpRun },
+}
+
+/// SCX, step by step: fills an SCX-record of its own and completes it by HELP. From Brown, Ellen and
+/// Ruppert (PODC 2013).
+#[derive(Debug, Drop)]
+pub struct ScxRun {
+    pub scx: ScxNo,
+    pub call: u64,
+    pub update: Update,
+    pub at: ScxAt,
+}
+
+impl ScxRun {
+    ghost use Rattle.std.specs.Prelude.{◌≡◌, ◌≤◌, ◌<◌, ◌+◌};
+    ghost use Rattle.arena.specs.Machines.{MatchTurn};
+    ghost use Rattle.help.specs.HelpSteps.{help_left};
+    ghost use Rattle.prims.specs.ScxSteps.{scx_left};
+
+    /// A run that has not begun, on the next SCX-record of the caller's share, in its call of this
+    /// number. It asks for at most 39 steps.
+    pub fn new(update: Update, scx: ScxNo, call: u64) -> ScxRun
+        ensures start { result.at ≡ ScxAt.Start }
+        ensures bound { scx_left result.at ≤ 39 }
+    {
+        ScxRun {
+            scx,
+            call,
+            update,
+            at: ScxAt::Start,
+        }
+    }
+
+    /// Fills a word of the SCX-record.
+    fn fill(&mut self, at: ScxAt, part: ScxWord, value: u64) -> Turn<Scx>
+        ensures at { self.new.at ≡ at }
+        ensures turn { MatchTurn result (λ _. Unit {0}) (λ _. ⊥) }
+    {
+        self.at = at;
+        Turn::Ask(Step {
+            kind: Kind::Fill,
+            word: Word::Scx(self.scx, part),
+            deed: Deed::Store(value),
+        })
+    }
+
+    /// What the snapshot at a place says.
+    fn snap(&self, j: MemberNo) -> Snap {
+        self.update
+            .snaps
+            .get(j.index())
+            .copied()
+            .unwrap_or_default()
+    }
+
+    /// Fills the j-th node.
+    fn fill_member(&mut self, j: MemberNo) -> Turn<Scx>
+        ensures at { self.new.at ≡ ScxAt.Member j }
+        ensures turn { MatchTurn result (λ _. Unit {0}) (λ _. ⊥) }
+    {
+        let node = self.snap(j).node.0;
+        self.fill(ScxAt::Member { j }, ScxWord::Member(j), node)
+    }
+
+    /// Fills what the info of the j-th node was.
+    fn fill_seen(&mut self, j: MemberNo) -> Turn<Scx>
+        ensures at { self.new.at ≡ ScxAt.Seen j }
+        ensures turn { MatchTurn result (λ _. Unit {0}) (λ _. ⊥) }
+    {
+        let seen = self.snap(j).scx.0;
+        self.fill(ScxAt::Seen { j }, ScxWord::Seen(j), seen)
+    }
+
+    fn after_member(&mut self, j: MemberNo) -> Turn<Scx>
+        ensures nearer { scx_left self.new.at < scx_left (ScxAt.Member j) }
+        ensures turn { MatchTurn result (λ _. Unit {0}) (λ _. ⊥) }
+    {
+        match self.update.plan.member_behind(j) {
+            Some(j) => self.fill_member(j),
+            None => self.fill_seen(MemberNo::FIRST),
+        }
+    }
+
+    fn after_seen(&mut self, j: MemberNo) -> Turn<Scx>
+        ensures nearer { scx_left self.new.at < scx_left (ScxAt.Seen j) }
+        ensures turn { MatchTurn result (λ _. Unit {0}) (λ _. ⊥) }
+    {
+        match self.update.plan.member_behind(j) {
+            Some(j) => self.fill_seen(j),
+            None => {
+                let call = self.call;
+                self.fill(ScxAt::Call, ScxWord::Call, call)
+            }
+        }
+    }
+
+    fn help_on<S: Shape>(&mut self, mut help: HelpRun, got: Option<u64>) -> Turn<Scx>
+        ensures nearer { MatchTurn result (λ _. scx_left self.new.at < help_left help.at) (λ _. Unit {0}) }
+    {
+        match Machine::<S>::next(&mut help, got) {
+            Turn::Ask(step) => {
+                self.at = ScxAt::Help { help };
+                Turn::Ask(step)
+            }
+            Turn::Done(true) => Turn::Done(Scx::Done),
+            Turn::Done(false) => {
+                let (node, scx) = help.blocked();
+                Turn::Done(Scx::Lost { node, scx })
+            }
+        }
+    }
+}
+
+impl<S: Shape> Machine<S> for ScxRun {
+    type Answer = Scx;
+
+    ghost use Rattle.std.specs.Prelude.{ℕ};
+    ghost use Rattle.prims.specs.ScxSteps.{scx_left};
+
+    ghost left = { λ m. scx_left m.at };
+
+    fn next(&mut self, got: Option<u64>) -> Turn<Scx> {
+        let at = self.at;
+        match at {
+            ScxAt::Start => {
+                let plan = self.update.plan.0;
+                self.fill(ScxAt::Plan, ScxWord::Plan, plan)
+            }
+            ScxAt::Plan => {
+                let new = self.update.fresh.node().0;
+                self.fill(ScxAt::New, ScxWord::New, new)
+            }
+            ScxAt::New => {
+                let old = self.update.old.0;
+                self.fill(ScxAt::Old, ScxWord::Old, old)
+            }
+            ScxAt::Old => self.fill_member(MemberNo::FIRST),
+            ScxAt::Member { j } => self.after_member(j),
+            ScxAt::Seen { j } => self.after_seen(j),
+            ScxAt::Call => self.help_on::<S>(HelpRun::new(self.scx), None),
+            ScxAt::Help { help } => self.help_on::<S>(help, got),
+        }
+    }
+}

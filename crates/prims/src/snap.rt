@@ -1,0 +1,39 @@
+//! Snapshots.
+ghost use Rattle.std.specs.Prelude.{◌≡◌};
+
+use arena::{NodeNo, ScxNo, Side};
+
+/// What an LLX of a node found: its info and its fields at one moment.
+#[derive(Clone, Copy, Debug, PartialEq, Eq)]
+pub struct Snap {
+    pub node: NodeNo,
+    pub scx: ScxNo,
+    pub left: NodeNo,
+    pub right: NodeNo,
+}
+
+impl Snap {
+    ghost use Rattle.std.specs.Prelude.{◌≡◌};
+    ghost use Rattle.prims.specs.Snap.{child_of};
+
+    /// A field of the node.
+    pub fn child(&self, side: Side) -> NodeNo
+        ensures { result ≡ child_of self.now side }
+    {
+        match side {
+            Side::Left => self.left,
+            Side::Right => self.right,
+        }
+    }
+}
+
+impl Default for Snap {
+    fn default() -> Snap {
+        Snap {
+            node: NodeNo(0),
+            scx: ScxNo(0),
+            left: NodeNo(0),
+            right: NodeNo(0),
+        }
+    }
+}

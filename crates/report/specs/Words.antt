@@ -1,0 +1,35 @@
+-- Words of the table as text.
+use Rattle.std.specs.Prelude.{ℕ, List, ◌++◌, codes, decimal}
+use Rattle.arena.specs.declared.word.Side.TheVariants.{Left, Right}
+use Rattle.arena.specs.declared.word.NodeWord.{NodeWord}
+use Rattle.arena.specs.declared.word.NodeWord.TheVariants.{Head, Key, Value, Child, Info, Marked}
+use Rattle.arena.specs.declared.word.ScxWord.{ScxWord}
+use Rattle.arena.specs.declared.word.ScxWord.TheVariants.{State, AllFrozen, Plan, New, Old, Member, Seen, Call}
+use Rattle.arena.specs.declared.word.Word.{Word}
+use Rattle.arena.specs.declared.word.Word.TheVariants.{Node, Scx}
+
+-- a word's name within its node
+abbrev pub node_part : NodeWord → List ℕ
+node_part Head = codes "head"
+node_part Key = codes "key"
+node_part Value = codes "value"
+node_part (Child Left) = codes "left"
+node_part (Child Right) = codes "right"
+node_part Info = codes "info"
+node_part Marked = codes "marked"
+
+-- a word's name within its SCX-record
+abbrev pub scx_part : ScxWord → List ℕ
+scx_part State = codes "state"
+scx_part AllFrozen = codes "allfrozen"
+scx_part Plan = codes "plan"
+scx_part New = codes "new"
+scx_part Old = codes "old"
+scx_part (Member place) = codes "v" ++ decimal place
+scx_part (Seen place) = codes "i" ++ decimal place
+scx_part Call = codes "call"
+
+-- the record's number, then the word's name within it
+abbrev pub word_text : Word → List ℕ
+word_text (Node n part) = codes "n" ++ decimal n.0 ++ codes "." ++ node_part part
+word_text (Scx s part) = codes "s" ++ decimal s.0 ++ codes "." ++ scx_part part

@@ -1,0 +1,16 @@
+//! The record of a run as text.
+#![tactic(auto)]
+
+mod answer;
+mod call;
+mod count;
+mod fault;
+mod fields;
+mod head;
+mod line;
+mod send;
+mod word;
+mod write;
+
+pub use fault::WriteFault;
+pub use write::write_record;

@@ -1,0 +1,28 @@
+//! Bytes on their way out.
+ghost use Rattle.std.specs.Prelude.{◌≡◌, ◌+◌, ◌-◌, ◌^◌, ◌≤◌, ℕ, OnOk, OnErr, length, take, min};
+ghost use Rattle.std.specs.Io.KnownBytes.{Appends};
+
+use crate::fault::WriteFault;
+use script::Metered;
+use std::io::Write;
+
+/// Writes all bytes, or those before a failed write.
+pub fn send<W: Write>(text: &[u8], to: &mut Metered<W>) -> Result<(), WriteFault>
+    ensures all { OnOk result (Appends (W.contents to.old.inner) (W.contents to.new.inner) text.now) }
+    ensures beginning { OnErr result ((n : ℕ) × (n ≤ length text.now) × Appends (W.contents to.old.inner) (W.contents to.new.inner) (take n text.now)) }
+    ensures ok { OnOk result (to.new.failures ≡ to.old.failures) }
+    ensures err { OnErr result (to.new.failures ≡ min (to.old.failures + 1) (2 ^ 64 - 1)) }
+    ensures why { OnErr result (result ≡ Err WriteFault.Write) }
+{
+    let mut sent = 0;
+    for _ in 0..u64::MAX {
+        if sent >= text.len() {
+            return Ok(());
+        }
+        match to.write(&text[sent..]) {
+            Ok(0) | Err(_) => return Err(WriteFault::Write),
+            Ok(n) => sent += n,
+        }
+    }
+    Err(WriteFault::Write)
+}

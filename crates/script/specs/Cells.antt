@@ -1,0 +1,12 @@
+-- What a list of cells says.
+use Rattle.std.specs.Prelude.{ℕ, List, [], take, Option, Some, None}
+use Rattle.script.specs.declared.cells.Cells.{Cells}
+
+-- the numbers of the cells, in their order
+abbrev pub cells_of : Cells → List ℕ
+cells_of c = take c.count c.list
+
+-- the same where there may be none
+abbrev pub maybe_cells_of : Option Cells → List ℕ
+maybe_cells_of None = []
+maybe_cells_of (Some c) = cells_of c

@@ -1,0 +1,4 @@
+pub mod Kinds
+pub mod Part
+pub mod Cells
+pub mod Update

@@ -1,0 +1,119 @@
+//! Calls of a script.
+ghost use Rattle.std.specs.Prelude.{◌≡◌, ◌≤◌, ◌<◌, ◌↔◌, IsTrue, IsSome, IfSome, Contains, length};
+ghost use Rattle.script.specs.Part.{is_part};
+ghost use Rattle.script.specs.Cells.{cells_of, maybe_cells_of};
+
+use crate::cells::{Cell, Cells};
+use arena::{PassNo, Side};
+
+/// What a call does.
+#[derive(Clone, Copy, Debug, PartialEq, Eq)]
+pub enum Command {
+    /// Takes a snapshot of a cell.
+    Llx { cell: Cell },
+    /// Puts a fresh cell into a field of one of some cells, and finalizes some of them.
+    Scx(Update),
+    /// Looks whether these cells are as their snapshots say.
+    Vlx { cells: Cells },
+    /// LLX of a cell, then SCX of it alone.
+    Set { field: (Cell, Side), value: u64 },
+}
+
+/// What an SCX changes: a field of one of its cells gets a fresh cell with this value, and some of
+/// the cells are finalized.
+#[derive(Clone, Copy, Debug, PartialEq, Eq)]
+pub struct Update {
+    cells: Cells,
+    finalize: Option<Cells>,
+    field: (Cell, Side),
+    value: u64,
+    ghost part: { IsTrue (is_part (maybe_cells_of finalize) (cells_of cells)) },
+    ghost inside: { ∥ Contains (cells_of cells) field.0 ∥₁ },
+}
+
+impl Update {
+    ghost use Rattle.script.specs.Update.{update_cells, update_finalize, update_field, update_value};
+
+    /// An update, if what is to be finalized is a part of the cells in their order, and the field
+    /// belongs to one of them.
+    pub fn new(
+        cells: Cells,
+        finalize: Option<Cells>,
+        field: (Cell, Side),
+        value: u64,
+    ) -> Option<Update>
+        ensures valid { IsSome result ↔ (IsTrue (is_part (maybe_cells_of finalize) (cells_of cells)) × Contains (cells_of cells) field.0) }
+        ensures cells { IfSome result (λ u. update_cells u ≡ cells_of cells) }
+        ensures finalize { IfSome result (λ u. update_finalize u ≡ maybe_cells_of finalize) }
+        ensures field { IfSome result (λ u. update_field u ≡ field) }
+        ensures value { IfSome result (λ u. update_value u ≡ value) }
+    {
+        let is_part = match &finalize {
+            Some(some) => is_part(some.as_slice(), cells.as_slice()),
+            None => true,
+        };
+        if !is_part || !cells.as_slice().contains(&field.0) {
+            return None;
+        }
+        Some(Update {
+            cells,
+            finalize,
+            field,
+            value,
+        })
+    }
+
+    /// The cells that must be as their snapshots say.
+    pub fn cells(&self) -> &[Cell]
+        ensures cells { result.now ≡ update_cells self.now }
+        ensures some { 1 ≤ length result.now }
+        ensures few { length result.now ≤ 4 }
+        ensures differ { AllPairs (λ a b. a ≢ b) result.now }
+    {
+        self.cells.as_slice()
+    }
+
+    /// Those of the cells that are finalized, in their order.
+    pub fn finalize(&self) -> &[Cell]
+        ensures cells { result.now ≡ update_finalize self.now }
+        ensures part { IsTrue (is_part result.now (update_cells self.now)) }
+    {
+        match &self.finalize {
+            Some(cells) => cells.as_slice(),
+            None => &[],
+        }
+    }
+
+    pub fn field(&self) -> (Cell, Side)
+        ensures field { result ≡ update_field self.now }
+        ensures inside { ∥ Contains (update_cells self.now) result.0 ∥₁ }
+    {
+        self.field
+    }
+
+    pub fn value(&self) -> u64
+        ensures { result ≡ update_value self.now }
+    {
+        self.value
+    }
+}
+
+/// Whether `whole` gives `part`, where some of its cells are left out.
+fn is_part(part: &[Cell], whole: &[Cell]) -> bool
+    ensures { result ≡ is_part part.now whole.now }
+{
+    let mut found = 0;
+    for cell in whole {
+        if found < part.len() && part[found] == *cell {
+            found += 1;
+        }
+    }
+    found == part.len()
+}
+
+/// A call and the client that makes it.
+#[derive(Clone, Copy, Debug, PartialEq, Eq)]
+pub struct Call {
+    pub client: PassNo,
+    pub command: Command,
+}

@@ -1,0 +1,26 @@
+//! Scripts of calls and schedules of turns, as csv rows say them.
+#![tactic(auto)]
+
+mod cells;
+mod command;
+mod fail_at;
+mod fault;
+mod kind;
+mod metered;
+mod number;
+
+mod schedule;
+mod script;
+
+pub use cells::{Cell, Cells};
+pub use command::{Call, Command, Update};
+pub use fail_at::FailAt;
+pub use fault::{ScheduleCause, ScheduleFault, ScriptCause, ScriptFault, TextFault};
+pub use kind::{kind_name, kind_of};
+pub use metered::Metered;
+pub use number::number_of;
+pub use schedule::{Order, Schedule};
+pub use script::{Script};
+
+
+
