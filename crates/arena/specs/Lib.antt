@@ -5,3 +5,4 @@ pub mod Machines
 pub mod Share
 pub mod PlainWords
 pub mod History
+pub mod MemberNo

@@ -91,10 +91,10 @@ impl Layout {
     {
         match word {
             Word::Node(node, _) => node.0 < u64::from(self.all_nodes()),
-            Word::Scx(scx, part) => {
-                let _place = scx_place(part);
-                scx.0 < u64::from(self.all_scx())
+            Word::Scx(scx, ScxWord::Member(j) | ScxWord::Seen(j)) => {
+                j < 4 && scx.0 < u64::from(self.all_scx())
             }
+            Word::Scx(scx, _) => scx.0 < u64::from(self.all_scx()),
         }
     }
 
@@ -133,8 +133,8 @@ fn node_place(part: NodeWord) -> usize
 
 /// The place of a word within its SCX-record.
 fn scx_place(part: ScxWord) -> usize
-    ensures place { result ≡ scx_place part }
-    ensures word { IsScxWord part }
+    requires { IsScxWord part }
+    ensures { result ≡ scx_place part }
 {
     match part {
         ScxWord::State => 0,
@@ -142,8 +142,8 @@ fn scx_place(part: ScxWord) -> usize
         ScxWord::Plan => 2,
         ScxWord::New => 3,
         ScxWord::Old => 4,
-        ScxWord::Member(member) => 5 + member.index(),
-        ScxWord::Seen(member) => 9 + member.index(),
+        ScxWord::Member(j) => 5 + j as usize,
+        ScxWord::Seen(j) => 9 + j as usize,
         ScxWord::Call => 13,
     }
 }

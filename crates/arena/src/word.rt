@@ -1,5 +1,5 @@
 //! The words of the table by name.
-use crate::number::{MemberNo, NodeNo, ScxNo};
+use crate::number::{NodeNo, ScxNo};
 
 /// What the word `state` of an SCX-record says.
 pub const IN_PROGRESS: u64 = 0;
@@ -32,10 +32,10 @@ pub enum ScxWord {
     Plan,
     New,
     Old,
-    /// A node that the SCX-record covers.
-    Member(MemberNo),
+    /// A node that the SCX-record covers: one of four, counted from 0.
+    Member(u8),
     /// The info word of that node as its linked snapshot found it.
-    Seen(MemberNo),
+    Seen(u8),
     Call,
 }
 

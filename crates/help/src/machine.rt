@@ -8,6 +8,7 @@ use arena::{ABORTED, COMMITTED, Deed, Kind, Machine, MemberNo, NodeNo, NodeWord,
 impl HelpRun {
     ghost use Rattle.std.specs.Prelude.{◌≡◌, ◌<◌, ◌≤◌, ◌+◌, ◌-◌, MatchOption};
     ghost use Rattle.arena.specs.Machines.{MatchTurn};
+    ghost use Rattle.arena.specs.MemberNo.{index_of};
     ghost use Rattle.help.specs.HelpSteps.{help_left};
 
     /// Asks for a step, and stands there.
@@ -46,7 +47,7 @@ impl HelpRun {
         ensures turn { MatchTurn result (λ _. Unit {0}) (λ _. ⊥) }
     {
         match self.plan.member_behind(j) {
-            Some(j) => self.load(HelpAt::Member { j }, ScxWord::Member(j)),
+            Some(j) => self.load(HelpAt::Member { j }, ScxWord::Member(j.number())),
             None => {
                 let allfrozen = Word::Scx(self.scx, ScxWord::AllFrozen);
                 self.ask(HelpAt::SetFrozen, Kind::SetFrozen, allfrozen, Deed::Store(1))
@@ -56,7 +57,7 @@ impl HelpRun {
 
     /// Marks the next node to be finalized, from this one on, or goes on to the update.
     fn mark_from(&mut self, from: Option<MemberNo>) -> Turn<bool>
-        ensures nearer { MatchOption from (help_left self.new.at < 4) (λ j. help_left self.new.at < 8 - j) }
+        ensures nearer { MatchOption from (help_left self.new.at < 4) (λ j. help_left self.new.at < 8 - index_of j) }
         ensures turn { MatchTurn result (λ _. Unit {0}) (λ _. ⊥) }
     {
         match from.and_then(|j| self.plan.removed_from(j)) {
@@ -98,17 +99,16 @@ impl<S: Shape> Machine<S> for HelpRun {
 
     fn next(&mut self, got: Option<u64>) -> Turn<bool> {
         let found = got.unwrap_or(0);
-        let at = self.at;
-        match at {
+        match self.at {
             HelpAt::Start => self.load(HelpAt::Plan, ScxWord::Plan),
             HelpAt::Plan => {
                 self.plan = Plan(found);
-                let j = MemberNo::FIRST;
-                self.load(HelpAt::Member { j }, ScxWord::Member(j))
+                let j = MemberNo::First;
+                self.load(HelpAt::Member { j }, ScxWord::Member(j.number()))
             }
             HelpAt::Member { j } => {
                 self.members[j.index()] = NodeNo(found);
-                self.load(HelpAt::Seen { j }, ScxWord::Seen(j))
+                self.load(HelpAt::Seen { j }, ScxWord::Seen(j.number()))
             }
             HelpAt::Seen { j } => self.freeze(j, found),
             HelpAt::Freeze { j, seen } => {
@@ -127,7 +127,7 @@ impl<S: Shape> Machine<S> for HelpRun {
                 }
             }
             HelpAt::Abort { j: _, found: _ } => Turn::Done(false),
-            HelpAt::SetFrozen => self.mark_from(Some(MemberNo::FIRST)),
+            HelpAt::SetFrozen => self.mark_from(Some(MemberNo::First)),
             HelpAt::Mark { j } => self.mark_from(j.next()),
             HelpAt::New => self.load(HelpAt::Old { new: found }, ScxWord::Old),
             HelpAt::Old { new } => self.update(found, new),

@@ -1,11 +1,12 @@
 //! The word `plan` of an SCX-record.
 ghost use Rattle.std.specs.Prelude.{◌≡◌, ℕ, ◌+◌, ◌*◌, ◌/◌, ◌%◌, ◌^◌, ◌<◌, ◌≤◌, ◌↔◌, true, false, IsTrue, IsSome, IfSome, IfNone};
+ghost use Rattle.arena.specs.MemberNo.{index_of};
 ghost use Rattle.help.specs.Plan.{count, side_of, side_no, at_of, is_removed, removed_bits};
 
 use arena::{MemberNo, Side};
 
 /// How many nodes an SCX-record covers, which of them it finalizes, and which field of which of them
-/// it changes: `count + 8 * removed + 128 * at + 512 * side`, where bit j of `removed` is set for the
+/// it changes: `count + 8 * removed + 128 * index_of at + 512 * side`, where bit j of `removed` is set for the
 /// j-th node if it is to be finalized.
 #[derive(Clone, Copy, Debug, PartialEq, Eq)]
 pub struct Plan(pub u64);
@@ -15,7 +16,7 @@ impl Plan {
     /// is to be finalized.
     pub fn new(count: usize, removed: [bool; 4], at: MemberNo, side: Side) -> Plan
         requires { count ≤ 4 }
-        ensures { result.0 ≡ count + 8 * removed_bits removed + 128 * at + 512 * side_no side }
+        ensures { result.0 ≡ count + 8 * removed_bits removed + 128 * index_of at + 512 * side_no side }
     {
         let [a, b, c, d] = removed;
         let removed = u64::from(a) + 2 * u64::from(b) + 4 * u64::from(c) + 8 * u64::from(d);
@@ -28,8 +29,8 @@ impl Plan {
 
     /// The place behind this one, if the plan covers so many nodes.
     pub fn member_behind(self, j: MemberNo) -> Option<MemberNo>
-        ensures valid { IsSome result ↔ ((j < 3) × (j + 1 < count self.0)) }
-        ensures value { IfSome result (λ k. k ≡ j + 1) }
+        ensures valid { IsSome result ↔ ((index_of j < 3) × (index_of j + 1 < count self.0)) }
+        ensures value { IfSome result (λ k. index_of k ≡ index_of j + 1) }
     {
         let next = j.next()?;
         if (next.index() as u64) < self.0 % 8 {
@@ -41,18 +42,18 @@ impl Plan {
 
     /// Whether the j-th node is to be finalized.
     pub fn removes(self, j: MemberNo) -> bool
-        ensures { result ≡ is_removed self.0 j }
+        ensures { result ≡ is_removed self.0 (index_of j) }
     {
         (self.0 / 8 >> j.index()) % 2 == 1
     }
 
     /// The first node to be finalized, from the j-th on.
     pub fn removed_from(self, j: MemberNo) -> Option<MemberNo>
-        ensures removed { IfSome result (λ k. (j ≤ k) × (k < 4) × (is_removed self.0 k ≡ true) × ((i : ℕ) → j ≤ i → i < k → is_removed self.0 i ≡ false)) }
-        ensures none { IfNone result ((i : ℕ) → j ≤ i → i < 4 → is_removed self.0 i ≡ false) }
+        ensures removed { IfSome result (λ k. (index_of j ≤ index_of k) × (is_removed self.0 (index_of k) ≡ true) × ((i : ℕ) → index_of j ≤ i → i < index_of k → is_removed self.0 i ≡ false)) }
+        ensures none { IfNone result ((i : ℕ) → index_of j ≤ i → i < 4 → is_removed self.0 i ≡ false) }
     {
         for index in j.index()..4 {
-            let j = MemberNo::new(index as u8)?;
+            let j = MemberNo::new(index)?;
             if self.removes(j) {
                 return Some(j);
             }
@@ -62,12 +63,9 @@ impl Plan {
 
     /// The place of the node whose field is changed.
     pub fn at(self) -> MemberNo
-        ensures { result ≡ at_of self.0 }
+        ensures { index_of result ≡ at_of self.0 }
     {
-        match self.0 / 128 % 4 {
-            0 => MemberNo::FIRST,
-            at => MemberNo::new(at as u8).unwrap(),
-        }
+        MemberNo::new((self.0 / 128 % 4) as usize).unwrap()
     }
 
     /// The side of the field that is changed.

@@ -2,11 +2,10 @@
 #![tactic(auto)]
 
 mod client;
-mod play;
+mod lines;
 mod player;
 mod record;
 mod run;
 
-pub use play::play;
-pub use player::Player;
+pub use player::{Player, play};
 pub use record::{Answer, Entry, Line, Record, Reply, Resource, Row};

@@ -1,5 +1,5 @@
 //! What a run leaves behind.
-use arena::{NodeNo, PassNo, ScxNo};
+use arena::{Kind, NodeNo, PassNo, ScxNo};
 use script::Script;
 
 /// The script, and the lines of a run in order.
@@ -23,6 +23,19 @@ pub enum Row {
     /// A turn without an atomic step: of a client with no call left, or the whole of a call that
     /// answers at once.
     Idle { number: u64, client: PassNo },
+}
+
+impl Row {
+    /// The kind of the step, if the turn made one.
+    pub fn kind(&self) -> Option<Kind> {
+        match self {
+            Row::Step { number: _, row } => Some(row.kind),
+            Row::Idle {
+                number: _,
+                client: _,
+            } => None,
+        }
+    }
 }
 
 /// An update that won: its place in the log from 1, its step, the SCX-record and that one's owner.

@@ -1,86 +1,57 @@
 //! The machine of a call.
-ghost use Rattle.std.specs.Prelude.{◌≡◌};
+ghost use Rattle.std.specs.Prelude.{◌≡◌, ℕ};
 
 use crate::record::Answer;
-use arena::{Machine, Side, Turn};
+use arena::{Machine, Turn};
 use prims::{Cells, Llx, LlxRun, PutRun, Scx, Vlx, VlxRun};
-use script::Cell;
 
-/// A call that has begun.
+/// A call that has begun. A `set` is first an LLX and then an SCX.
 #[derive(Debug, Drop)]
 pub(crate) enum Run {
     Llx(LlxRun),
-    /// The LLX of a `set`, with the field and the value of its fresh cell.
-    Set {
-        llx: LlxRun,
-        field: (Cell, Side),
-        value: u64,
-    },
-    Put(PutRun),
+    Scx(PutRun),
     Vlx(VlxRun),
 }
 
-/// What a machine that has ended answered.
+/// What a machine answered.
 #[derive(Clone, Copy, Debug, PartialEq, Eq)]
 pub(crate) enum Ended {
     Llx(Llx),
-    /// The LLX of a `set`, which is not over where it gave a snapshot.
-    Set {
-        llx: Llx,
-        field: (Cell, Side),
-        value: u64,
-    },
-    Put(Scx),
+    Scx(Scx),
     Vlx(Vlx),
 }
 
-impl Run {
-    /// Goes on with what the last step found.
-    pub(crate) fn next(&mut self, got: Option<u64>) -> Turn<Ended> {
+impl Ended {
+    /// What the record says of it.
+    pub(crate) fn answer(self) -> Answer {
         match self {
-            Run::Llx(run) => ended(Machine::<Cells>::next(run, got), |llx| Ended::Llx(llx)),
-            Run::Set { llx, field, value } => {
-                let (field, value) = (*field, *value);
-                ended(Machine::<Cells>::next(llx, got), |llx| Ended::Set { llx, field, value })
-            }
-            Run::Put(run) => ended(Machine::<Cells>::next(run, got), |scx| Ended::Put(scx)),
-            Run::Vlx(run) => ended(Machine::<Cells>::next(run, got), |vlx| Ended::Vlx(vlx)),
+            Ended::Llx(Llx::Snapshot(snap)) => Answer::Snapshot {
+                left: snap.left,
+                right: snap.right,
+            },
+            Ended::Llx(Llx::Finalized { node: _, scx: _ }) => Answer::Finalized,
+            Ended::Llx(Llx::Fail { node, scx }) => Answer::Fail { node, scx },
+            Ended::Scx(Scx::Done) => Answer::Done,
+            Ended::Scx(Scx::Lost { node, scx }) => Answer::Lost { node, scx },
+            Ended::Vlx(Vlx::Same) => Answer::Same,
+            Ended::Vlx(Vlx::Changed { node, scx }) => Answer::Changed { node, scx },
         }
     }
 }
 
-/// The same turn with what an answer becomes.
-fn ended<A: Drop, B, F: FnOnce(A) -> B + Drop>(turn: Turn<A>, become: F) -> Turn<B>
-    requires { F.IsAlwaysCallable become }
-{
-    match turn {
-        Turn::Ask(step) => Turn::Ask(step),
-        Turn::Done(answer) => Turn::Done(become(answer)),
-    }
-}
+impl Machine<Cells> for Run {
+    type Answer = Ended;
 
-/// What the program says of an LLX.
-pub(crate) fn llx_answer(llx: Llx) -> Answer {
-    match llx {
-        Llx::Snapshot(snap) => Answer::Snapshot {
-            left: snap.left,
-            right: snap.right,
-        },
-        Llx::Finalized { node: _, scx: _ } => Answer::Finalized,
-        Llx::Fail { node, scx } => Answer::Fail { node, scx },
-    }
-}
+    ghost use Rattle.std.specs.Prelude.{ℕ};
+    ghost use Rattle.player.specs.Run.{run_left};
 
-pub(crate) fn scx_answer(scx: Scx) -> Answer {
-    match scx {
-        Scx::Done => Answer::Done,
-        Scx::Lost { node, scx } => Answer::Lost { node, scx },
-    }
-}
+    ghost left = { run_left };
 
-pub(crate) fn vlx_answer(vlx: Vlx) -> Answer {
-    match vlx {
-        Vlx::Same => Answer::Same,
-        Vlx::Changed { node, scx } => Answer::Changed { node, scx },
+    fn next(&mut self, got: Option<u64>) -> Turn<Ended> {
+        match self {
+            Run::Llx(run) => Machine::<Cells>::next(run, got).map(|llx| Ended::Llx(llx)),
+            Run::Scx(run) => Machine::<Cells>::next(run, got).map(|scx| Ended::Scx(scx)),
+            Run::Vlx(run) => Machine::<Cells>::next(run, got).map(|vlx| Ended::Vlx(vlx)),
+        }
     }
 }

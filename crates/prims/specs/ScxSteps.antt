@@ -1,5 +1,6 @@
 -- How many steps a run of SCX, or of the fill of a fresh cell and SCX, may still ask for.
 use Rattle.std.specs.Prelude.{ℕ, ◌+◌, ◌-◌}
+use Rattle.arena.specs.MemberNo.{index_of}
 use Rattle.help.specs.HelpSteps.{help_left}
 use Rattle.prims.specs.declared.scx.ScxAt.{ScxAt}
 use Rattle.prims.specs.declared.scx.ScxAt.TheVariants.{Start, Plan, New, Old, Member, Seen, Call, Help}
@@ -10,7 +11,7 @@ scx_left Start = 34
 scx_left Plan = 33
 scx_left New = 32
 scx_left Old = 31
-scx_left (Member j) = 27 + (3 - j)
-scx_left (Seen j) = 23 + (3 - j)
+scx_left (Member j) = 27 + (3 - index_of j)
+scx_left (Seen j) = 23 + (3 - index_of j)
 scx_left Call = 22
 scx_left (Help help) = help_left help.at

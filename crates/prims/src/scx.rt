@@ -86,7 +86,7 @@ impl ScxRun {
         ensures turn { MatchTurn result (λ _. Unit {0}) (λ _. ⊥) }
     {
         let node = self.snap(j).node.0;
-        self.fill(ScxAt::Member { j }, ScxWord::Member(j), node)
+        self.fill(ScxAt::Member { j }, ScxWord::Member(j.number()), node)
     }
 
     /// Fills what the info of the j-th node was.
@@ -95,7 +95,7 @@ impl ScxRun {
         ensures turn { MatchTurn result (λ _. Unit {0}) (λ _. ⊥) }
     {
         let seen = self.snap(j).scx.0;
-        self.fill(ScxAt::Seen { j }, ScxWord::Seen(j), seen)
+        self.fill(ScxAt::Seen { j }, ScxWord::Seen(j.number()), seen)
     }
 
     fn after_member(&mut self, j: MemberNo) -> Turn<Scx>
@@ -104,7 +104,7 @@ impl ScxRun {
     {
         match self.update.plan.member_behind(j) {
             Some(j) => self.fill_member(j),
-            None => self.fill_seen(MemberNo::FIRST),
+            None => self.fill_seen(MemberNo::First),
         }
     }
 
@@ -161,7 +161,7 @@ impl<S: Shape> Machine<S> for ScxRun {
                 let old = self.update.old.0;
                 self.fill(ScxAt::Old, ScxWord::Old, old)
             }
-            ScxAt::Old => self.fill_member(MemberNo::FIRST),
+            ScxAt::Old => self.fill_member(MemberNo::First),
             ScxAt::Member { j } => self.after_member(j),
             ScxAt::Seen { j } => self.after_seen(j),
             ScxAt::Call => self.help_on::<S>(HelpRun::new(self.scx), None),

@@ -4,7 +4,7 @@ ghost use Rattle.std.specs.Prelude.{◌≡◌};
 use arena::{NodeNo, ScxNo, Side};
 
 /// What an LLX of a node found: its info and its fields at one moment.
-#[derive(Clone, Copy, Debug, PartialEq, Eq)]
+#[derive(Clone, Copy, Debug, Default, PartialEq, Eq)]
 pub struct Snap {
     pub node: NodeNo,
     pub scx: ScxNo,
@@ -23,17 +23,6 @@ impl Snap {
         match side {
             Side::Left => self.left,
             Side::Right => self.right,
-        }
-    }
-}
-
-impl Default for Snap {
-    fn default() -> Snap {
-        Snap {
-            node: NodeNo(0),
-            scx: ScxNo(0),
-            left: NodeNo(0),
-            right: NodeNo(0),
         }
     }
 }

@@ -1,5 +1,6 @@
 //! What an SCX is to do.
-ghost use Rattle.std.specs.Prelude.{◌≡◌, ℕ, ◌+◌, ◌*◌, ◌<◌, ◌≤◌, ◌^◌, length, Any};
+ghost use Rattle.std.specs.Prelude.{◌≡◌, ℕ, ◌+◌, ◌*◌, ◌<◌, ◌≤◌, ◌^◌, length};
+ghost use Rattle.arena.specs.MemberNo.{index_of};
 ghost use Rattle.arrayvec.specs.ArrayVec.{array_vec_len};
 
 use crate::snap::Snap;
@@ -23,7 +24,7 @@ impl Update {
     /// among them.
     pub fn new(snaps: &[Snap], finalize: &[NodeNo], field: (NodeNo, Side), fresh: Fresh) -> Update
         requires fits { length snaps.now ≤ 4 }
-        requires field { Any (λ s. s.node ≡ field.0) snaps.now }
+        requires some { 0 < length snaps.now }
         ensures snaps { result.snaps.items ≡ snaps.now }
         ensures fresh { result.fresh ≡ fresh }
     {
@@ -39,14 +40,14 @@ impl Update {
     }
 }
 
-/// The place of a node among those of the snapshots.
+/// The place of a node among those of the snapshots. The caller sees to it that it is among them.
 fn place_of(node: NodeNo, snaps: &[Snap]) -> MemberNo
     requires fits { length snaps.now ≤ 4 }
-    requires among { Any (λ s. s.node ≡ node) snaps.now }
-    ensures within { result < length snaps.now }
+    requires some { 0 < length snaps.now }
+    ensures within { index_of result < length snaps.now }
 {
     let at = snaps.iter().position(|s| s.node == node).unwrap_or(0);
-    MemberNo::new(at as u8).unwrap_or(MemberNo::FIRST)
+    MemberNo::new(at).unwrap_or(MemberNo::First)
 }
 
 /// Which of the snapshots' nodes are to be finalized.

@@ -1,19 +1,18 @@
 -- Answers as text.
 use Rattle.std.specs.Prelude.{ℕ, List, ◌++◌, codes, decimal}
-use Rattle.player.specs.declared.record.Resource.{Resource}
 use Rattle.player.specs.declared.record.Resource.TheVariants.{Nodes, Scx}
 use Rattle.player.specs.declared.record.Answer.{Answer}
 use Rattle.player.specs.declared.record.Answer.TheVariants.{Snapshot, Finalized, Fail, Done, Lost, Same, Changed, Unlinked, Full}
 
 -- what an answer says, in words parted by one space
 abbrev pub answer_text : Answer → List ℕ
-answer_text (Snapshot left right) = codes "snap " ++ decimal left.0 ++ codes " " ++ decimal right.0
+answer_text (Snapshot left right) = codes "snap " ++ (decimal left.0 ++ (codes " " ++ decimal right.0))
 answer_text Finalized = codes "finalized"
-answer_text (Fail node scx) = codes "fail n" ++ decimal node.0 ++ codes " s" ++ decimal scx.0
+answer_text (Fail node scx) = codes "fail n" ++ (decimal node.0 ++ (codes " s" ++ decimal scx.0))
 answer_text Done = codes "done"
-answer_text (Lost node scx) = codes "lost n" ++ decimal node.0 ++ codes " s" ++ decimal scx.0
+answer_text (Lost node scx) = codes "lost n" ++ (decimal node.0 ++ (codes " s" ++ decimal scx.0))
 answer_text Same = codes "same"
-answer_text (Changed node scx) = codes "changed n" ++ decimal node.0 ++ codes " s" ++ decimal scx.0
+answer_text (Changed node scx) = codes "changed n" ++ (decimal node.0 ++ (codes " s" ++ decimal scx.0))
 answer_text (Unlinked node) = codes "unlinked n" ++ decimal node.0
 answer_text (Full Nodes left) = codes "full nodes " ++ decimal left
 answer_text (Full Scx left) = codes "full scx " ++ decimal left

@@ -31,5 +31,5 @@ scx_part Call = codes "call"
 
 -- the record's number, then the word's name within it
 abbrev pub word_text : Word → List ℕ
-word_text (Node n part) = codes "n" ++ decimal n.0 ++ codes "." ++ node_part part
-word_text (Scx s part) = codes "s" ++ decimal s.0 ++ codes "." ++ scx_part part
+word_text (Node n part) = codes "n" ++ (decimal n.0 ++ (codes "." ++ node_part part))
+word_text (Scx s part) = codes "s" ++ (decimal s.0 ++ (codes "." ++ scx_part part))

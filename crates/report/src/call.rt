@@ -1,9 +1,9 @@
 //! Calls as rows.
 use crate::count::Counts;
 use crate::fields::Fields;
-use arena::{NodeNo, Side};
+use arena::Side;
 use itoa::Buffer;
-use script::{Call, Command};
+use script::{Call, Cell, Command};
 use std::alloc::{AllocError, Global};
 
 /// The lines of some calls, of which `counts` has counted those before.
@@ -21,58 +21,75 @@ pub fn calls_text(
 }
 
 fn call_line(alloc: Global, call: &Call, number: u64) -> Result<Vec<u8>, AllocError> {
-    let fields = Fields::new(alloc, "call")?
+    let command = CommandText::of(alloc, &call.command)?;
+    Fields::new(alloc, "call")?
         .number(u64::from(call.client.0))?
-        .number(number)?;
-    with_command(alloc, fields, &call.command)?.into_line(alloc)
+        .number(number)?
+        .text(command.name)?
+        .text(command.a.as_str())?
+        .text(command.b.as_str())?
+        .text(command.c.as_str())?
+        .into_line(alloc)
 }
 
-/// With the name of a command, and its arguments as a script has them.
-fn with_command(alloc: Global, fields: Fields, command: &Command) -> Result<Fields, AllocError> {
-    match command {
-        Command::Llx { cell } => fields.text("llx")?.number(cell.0),
-        Command::Scx {
-            cells,
-            finalize,
-            field,
-            value,
-        } => {
-            let change = change_text(alloc, field.0, field.1, *value)?;
-            fields
-                .text("scx")?
-                .text(cells_text(alloc, cells.as_slice())?.as_str())?
-                .text(cells_text(alloc, finalize.as_slice())?.as_str())?
-                .text(change.as_str())
+/// The name of a command, and its arguments as a script has them.
+#[derive(Drop)]
+struct CommandText {
+    name: &'static str,
+    a: String,
+    b: String,
+    c: String,
+}
+
+impl CommandText {
+    fn of(alloc: Global, command: &Command) -> Result<CommandText, AllocError> {
+        match command {
+            Command::Llx { cell } => Ok(CommandText {
+                name: "llx",
+                a: format!(in alloc; "{}", cell.node().0)?,
+                b: String::new(alloc),
+                c: String::new(alloc),
+            }),
+            Command::Scx(update) => Ok(CommandText {
+                name: "scx",
+                a: cells_text(alloc, update.cells())?,
+                b: cells_text(alloc, update.finalize())?,
+                c: change_text(alloc, update.field(), update.value())?,
+            }),
+            Command::Vlx { cells } => Ok(CommandText {
+                name: "vlx",
+                a: cells_text(alloc, cells.as_slice())?,
+                b: String::new(alloc),
+                c: String::new(alloc),
+            }),
+            Command::Set { field, value } => Ok(CommandText {
+                name: "set",
+                a: format!(in alloc; "{}", field.0.node().0)?,
+                b: format!(in alloc; "{}", side_name(field.1))?,
+                c: format!(in alloc; "{value}")?,
+            }),
         }
-        Command::Vlx { cells } => fields
-            .text("vlx")?
-            .text(cells_text(alloc, cells.as_slice())?.as_str()),
-        Command::Set { field, value } => fields
-            .text("set")?
-            .number(field.0.0)?
-            .text(side_text(field.1))?
-            .number(*value),
     }
 }
 
-/// Numbers of cells, parted by one space.
-fn cells_text(alloc: Global, cells: &[NodeNo]) -> Result<String, AllocError> {
+/// The numbers of cells, parted by one space.
+fn cells_text(alloc: Global, cells: &[Cell]) -> Result<String, AllocError> {
     let mut text = String::new(alloc);
     for (place, cell) in cells.iter().enumerate() {
         if place > 0 {
             text.push(' ')?;
         }
-        text.push_str(Buffer::new().format(cell.0))?;
+        text.push_str(Buffer::new().format(cell.node().0))?;
     }
     Ok(text)
 }
 
 /// A field and the value that goes into it.
-fn change_text(alloc: Global, cell: NodeNo, side: Side, value: u64) -> Result<String, AllocError> {
-    format!(in alloc; "{} {} {value}", cell.0, side_text(side))
+fn change_text(alloc: Global, field: (Cell, Side), value: u64) -> Result<String, AllocError> {
+    format!(in alloc; "{} {} {value}", field.0.node().0, side_name(field.1))
 }
 
-fn side_text(side: Side) -> &'static str {
+fn side_name(side: Side) -> &'static str {
     match side {
         Side::Left => "left",
         Side::Right => "right",

@@ -14,3 +14,6 @@ mod write;
 
 pub use fault::WriteFault;
 pub use write::write_record;
+
+#[cfg(test)]
+mod tests;

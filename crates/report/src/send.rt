@@ -15,14 +15,11 @@ pub fn send<W: Write>(text: &[u8], to: &mut Metered<W>) -> Result<(), WriteFault
     ensures why { OnErr result (result ≡ Err WriteFault.Write) }
 {
     let mut sent = 0;
-    for _ in 0..u64::MAX {
-        if sent >= text.len() {
-            return Ok(());
-        }
+    while sent < text.len() {
         match to.write(&text[sent..]) {
             Ok(0) | Err(_) => return Err(WriteFault::Write),
             Ok(n) => sent += n,
         }
     }
-    Err(WriteFault::Write)
+    Ok(())
 }

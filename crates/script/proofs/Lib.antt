@@ -1,1 +1,4 @@
 pub mod Differ
+pub mod Parts
+pub mod Numbers
+pub mod Fields

@@ -1,5 +1,5 @@
 -- What an update says.
-use Rattle.std.specs.Prelude.{ℕ, List, ◌×◌}
+use Rattle.std.specs.Prelude.{ℕ, List}
 use Rattle.arena.specs.declared.word.Side.{Side}
 use Rattle.script.specs.declared.command.Update.{Update}
 use Rattle.script.specs.Cells.{cells_of, maybe_cells_of}

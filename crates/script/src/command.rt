@@ -1,5 +1,5 @@
 //! Calls of a script.
-ghost use Rattle.std.specs.Prelude.{◌≡◌, ◌≤◌, ◌<◌, ◌↔◌, IsTrue, IsSome, IfSome, Contains, length};
+ghost use Rattle.std.specs.Prelude.{◌≡◌, ◌≢◌, ◌≤◌, ◌↔◌, IsTrue, IsSome, IfSome, AllPairs, Contains, length};
 ghost use Rattle.script.specs.Part.{is_part};
 ghost use Rattle.script.specs.Cells.{cells_of, maybe_cells_of};
 

@@ -37,9 +37,9 @@ impl<T: Read> Read for FailAt<T> {
             return Err(ErrorKind::Other.into());
         }
         let most = self.left.min(buf.len());
-        let count = self.inner.read(&mut buf[..most])?;
-        self.left -= count;
-        Ok(count)
+        let given = self.inner.read(&mut buf[..most])?;
+        self.left -= given;
+        Ok(given)
     }
 }
 
@@ -57,9 +57,9 @@ impl<T: Write> Write for FailAt<T> {
             return Err(ErrorKind::Other.into());
         }
         let most = self.left.min(buf.len());
-        let count = self.inner.write(&buf[..most])?;
-        self.left -= count;
-        Ok(count)
+        let taken = self.inner.write(&buf[..most])?;
+        self.left -= taken;
+        Ok(taken)
     }
 
     fn flush(&mut self) -> io::Result<()>

@@ -60,18 +60,24 @@ pub enum ScheduleCause {
 /// The causes that rows of every text have.
 pub(crate) trait Cause {
     const FIELDS: Self;
+
     const END: Self;
+
     const LONG: Self;
 }
 
 impl Cause for ScriptCause {
     const FIELDS: ScriptCause = ScriptCause::Fields;
+
     const END: ScriptCause = ScriptCause::End;
+
     const LONG: ScriptCause = ScriptCause::Long;
 }
 
 impl Cause for ScheduleCause {
     const FIELDS: ScheduleCause = ScheduleCause::Fields;
+
     const END: ScheduleCause = ScheduleCause::End;
+
     const LONG: ScheduleCause = ScheduleCause::Long;
 }

@@ -1,6 +1,7 @@
 //! Scripts of calls and schedules of turns, as csv rows say them.
 #![tactic(auto)]
 
+mod call_rows;
 mod cells;
 mod command;
 mod fail_at;
@@ -8,7 +9,7 @@ mod fault;
 mod kind;
 mod metered;
 mod number;
-
+mod rows;
 mod schedule;
 mod script;
 
@@ -19,8 +20,8 @@ pub use fault::{ScheduleCause, ScheduleFault, ScriptCause, ScriptFault, TextFaul
 pub use kind::{kind_name, kind_of};
 pub use metered::Metered;
 pub use number::number_of;
-pub use schedule::{Order, Schedule};
-pub use script::{Script};
+pub use schedule::{Order, Schedule, read_schedule};
+pub use script::{Script, read_script};
 
-
-
+#[cfg(test)]
+mod tests;

@@ -39,11 +39,11 @@ impl<T: Read> Read for Metered<T> {
         ensures ok { OnOk result (self.new.failures ≡ self.old.failures) }
         ensures err { OnErr result (self.new.failures ≡ min (self.old.failures + 1) (2 ^ 64 - 1)) }
     {
-        let result = self.inner.read(buf);
-        if result.is_err() {
+        let given = self.inner.read(buf);
+        if given.is_err() {
             self.fail();
         }
-        result
+        given
     }
 }
 
@@ -61,13 +61,13 @@ impl<T: Write> Write for Metered<T> {
         ensures none { 0 < length buf.now → result ≡ Ok 0 → self.new.failures ≡ min (self.old.failures + 1) (2 ^ 64 - 1) }
         ensures err { OnErr result (self.new.failures ≡ min (self.old.failures + 1) (2 ^ 64 - 1)) }
     {
-        let result = self.inner.write(buf);
-        match &result {
+        let taken = self.inner.write(buf);
+        match &taken {
             Ok(0) if !buf.is_empty() => self.fail(),
             Ok(_) => {}
             Err(_) => self.fail(),
         }
-        result
+        taken
     }
 
     fn flush(&mut self) -> io::Result<()>
@@ -75,10 +75,10 @@ impl<T: Write> Write for Metered<T> {
         ensures ok { OnOk result (self.new.failures ≡ self.old.failures) }
         ensures err { OnErr result (self.new.failures ≡ min (self.old.failures + 1) (2 ^ 64 - 1)) }
     {
-        let result = self.inner.flush();
-        if result.is_err() {
+        let flushed = self.inner.flush();
+        if flushed.is_err() {
             self.fail();
         }
-        result
+        flushed
     }
 }

@@ -12,3 +12,11 @@ pub fn number_of(text: &str) -> Option<u64>
         _ => None,
     }
 }
+
+/// The same of a number below 2 ^ 32.
+#[tactic(auto, using(crate::proofs::Numbers::same_number))]
+pub(crate) fn small_number_of(text: &str) -> Option<u32>
+    ensures { MatchOption result ((n : ℕ) → n < 2 ^ 32 → text.now ≢ decimal n) (λ n. text.now ≡ decimal n) }
+{
+    u32::try_from(number_of(text)?).ok()
+}

@@ -1,13 +1,34 @@
 //! Schedules of turns.
+ghost use Rattle.script.specs.declared.fault.TextFault.{TextFault};
+ghost use Rattle.std.specs.Prelude.{◌≡◌, ◌≢◌, ◌≤◌, ◌<◌, ◌^◌, ◌-◌, ℕ, [], ◌∷◌, decimal, IfOk, IfSome, IfNone, OnOk, OnErr, IfErr, IsErrOf, All, length, vec_len};
+ghost use Rattle.script.specs.declared.schedule.What.{What};
+ghost use Rattle.script.specs.Orders.{IsOrder, order_row};
+ghost use Rattle.script.specs.What.{what_text};
+ghost use Rattle.csv.specs.Records.{fields_of};
+
+use crate::fault::{ScheduleCause, ScheduleFault};
+use crate::kind::kind_of;
+use crate::metered::Metered;
+use crate::number::small_number_of;
+use crate::rows::{Format, Rows, client_of, field, settled};
+use crate::script::Script;
 use arena::{Kind, PassNo};
+use csv::StringRecord;
+use std::alloc::Global;
+use std::io::Read;
 
 /// What one row of a schedule orders.
 #[derive(Clone, Copy, Debug, PartialEq, Eq)]
 pub enum Order {
     /// So many turns of the client.
-    Step { client: PassNo, turns: u32 },
+    Step {
+        client: PassNo,
+        turns: u32,
+    },
     /// Turns until the client has one more reply; none if it has no call left.
-    Call { client: PassNo },
+    Call {
+        client: PassNo,
+    },
     /// Turns until the client has made so many more steps of the kind, or has no call left.
     Until {
         client: PassNo,
@@ -15,10 +36,158 @@ pub enum Order {
         times: u32,
     },
     /// Turns until the client has no call left.
-    Finish { client: PassNo },
+    Finish {
+        client: PassNo,
+    },
 }
 
 #[derive(Debug, Drop)]
 pub struct Schedule {
     pub orders: Vec<Order>,
+    ghost few: { vec_len orders ≤ 65536 },
+}
+
+/// Reads a schedule for the clients of a script: its orders, and the end row that counts them.
+/// Nothing is kept of a text that is refused.
+pub fn read_schedule<R: Read>(
+    alloc: Global,
+    script: &Script,
+    from: &mut Metered<R>,
+) -> Result<Schedule, ScheduleFault>
+    ensures orders { IfOk result (λ schedule. All (IsOrder script.now.layout.passes) schedule.orders.items) }
+
+    // Whether a read failed is told by the failure count, as long as it can rise.
+    ensures ok { OnOk result (from.new.failures ≡ from.old.failures) }
+    ensures read { IsErrOf result TextFault.Read → from.old.failures < 2 ^ 64 - 1 → from.new.failures ≢ from.old.failures }
+    ensures failed { from.new.failures ≢ from.old.failures → IsErrOf result TextFault.Read }
+{
+    let before = from.failures;
+    let schedule = schedule_of(alloc, script.layout.passes, from);
+    settled(schedule, before, from.failures)
+}
+
+fn schedule_of<R: Read>(
+    alloc: Global,
+    passes: u32,
+    from: &mut Metered<R>,
+) -> Result<Schedule, ScheduleFault>
+    ensures { IfOk result (λ schedule. All (IsOrder passes) schedule.orders.items) }
+{
+    let orders = Rows::new(alloc, from).entries(alloc, &OrderRows { passes })?;
+    Ok(Schedule { orders })
+}
+
+/// Rows `what,client,kind,n` of a schedule.
+#[derive(Clone, Copy)]
+struct OrderRows {
+    passes: u32,
+}
+
+/// What a row of a schedule orders.
+#[derive(Clone, Copy)]
+enum What {
+    Step,
+    Call,
+    Until,
+    Finish,
+}
+
+impl Format for OrderRows {
+    type Entry = Order;
+
+    type Cause = ScheduleCause;
+
+    const WIDTH: usize = 4;
+
+    ghost accepts = { λ rows. IsOrder rows.passes };
+
+    fn entry(&self, row: &StringRecord) -> Result<Order, ScheduleCause>
+        ensures accepted { IfOk result (IsOrder self.now.passes) }
+        ensures row { IfOk result (λ order. length (fields_of row.now) ≡ 4 → fields_of row.now ≡ order_row order) }
+    {
+        let what = what_of(field(row, 0)).ok_or(ScheduleCause::Command)?;
+        let client = client_of(field(row, 1), self.passes).ok_or(ScheduleCause::Client)?;
+        order_of(what, client, field(row, 2), field(row, 3))
+    }
+}
+
+fn what_of(text: &str) -> Option<What>
+    ensures some { IfSome result (λ what. text.now ≡ what_text what) }
+    ensures none { IfNone result ((what : What) → text.now ≢ what_text what) }
+{
+    match text {
+        "step" => Some(What::Step),
+        "call" => Some(What::Call),
+        "until" => Some(What::Until),
+        "finish" => Some(What::Finish),
+        _ => None,
+    }
+}
+
+/// The order of a row with these last fields.
+fn order_of(what: What, client: PassNo, kind: &str, number: &str) -> Result<Order, ScheduleCause>
+    ensures order { (passes : ℕ) → client.0 < passes → IfOk result (IsOrder passes) }
+    ensures row { IfOk result (λ order. order_row order ≡ what_text what ∷ decimal client.0 ∷ kind.now ∷ number.now ∷ []) }
+{
+    match what {
+        What::Step => {
+            no_kind(kind)?;
+            let turns = times_of(number)?;
+            Ok(Order::Step { client, turns })
+        }
+        What::Call => {
+            no_kind(kind)?;
+            no_number(number)?;
+            Ok(Order::Call { client })
+        }
+        What::Until => {
+            let kind = kind_of(kind).ok_or(ScheduleCause::Kind)?;
+            let times = times_of(number)?;
+            Ok(Order::Until {
+                client,
+                kind,
+                times,
+            })
+        }
+        What::Finish => {
+            no_kind(kind)?;
+            no_number(number)?;
+            Ok(Order::Finish { client })
+        }
+    }
+}
+
+fn no_kind(text: &str) -> Result<(), ScheduleCause>
+    ensures ok { OnOk result (text.now ≡ []) }
+    ensures err { IfErr result (λ cause. (cause ≡ ScheduleCause.Kind) × (text.now ≢ [])) }
+{
+    if text.is_empty() {
+        Ok(())
+    } else {
+        Err(ScheduleCause::Kind)
+    }
+}
+
+fn no_number(text: &str) -> Result<(), ScheduleCause>
+    ensures ok { OnOk result (text.now ≡ []) }
+    ensures err { IfErr result (λ cause. (cause ≡ ScheduleCause.Number) × (text.now ≢ [])) }
+{
+    if text.is_empty() {
+        Ok(())
+    } else {
+        Err(ScheduleCause::Number)
+    }
+}
+
+/// How many turns, or steps of a kind: 1 to 1,000,000.
+#[tactic(auto, using(crate::proofs::Numbers::same_number))]
+fn times_of(text: &str) -> Result<u32, ScheduleCause>
+    ensures ok { IfOk result (λ n. (1 ≤ n) × (n ≤ 1000000) × (text.now ≡ decimal n)) }
+    ensures err { OnErr result ((n : ℕ) → 1 ≤ n → n ≤ 1000000 → text.now ≢ decimal n) }
+    ensures cause { IfErr result (λ cause. cause ≡ ScheduleCause.Number) }
+{
+    match small_number_of(text) {
+        Some(times) if 1 <= times && times <= 1000000 => Ok(times),
+        _ => Err(ScheduleCause::Number),
+    }
 }

@@ -1,6 +1,20 @@
 //! Scripts of calls.
+ghost use Rattle.script.specs.declared.fault.TextFault.{TextFault};
+ghost use Rattle.std.specs.Prelude.{◌≡◌, ◌≢◌, ◌≤◌, ◌<◌, ◌^◌, ◌-◌, IfOk, IfSome, OnOk, IsErrOf, All, length, vec_len};
+ghost use Rattle.arena.specs.Limits.{IsAccepted, IsLayoutOf};
+ghost use Rattle.csv.specs.Records.{fields_of};
+ghost use Rattle.script.specs.Rows.{limits_row};
+
+use crate::call_rows::CallRows;
 use crate::command::Call;
-use arena::{Layout, Limits};
+use crate::fault::{ScriptCause, ScriptFault};
+use crate::metered::Metered;
+use crate::number::small_number_of;
+use crate::rows::{Rows, field, settled};
+use arena::{Layout, Limits, Mode};
+use csv::StringRecord;
+use std::alloc::Global;
+use std::io::Read;
 
 /// The limits of a table, and the calls of its clients in the order of the script.
 #[derive(Debug, Drop)]
@@ -8,4 +22,68 @@ pub struct Script {
     pub limits: Limits,
     pub layout: Layout,
     pub calls: Vec<Call>,
+    ghost clients: { All (λ call. call.client.0 < layout.passes) calls.items },
+    ghost few: { vec_len calls ≤ 65536 },
+}
+
+/// Reads a script: its limits, its calls, and the end row that counts them. Nothing is kept of a
+/// text that is refused.
+pub fn read_script<R: Read>(
+    alloc: Global,
+    mode: Mode,
+    from: &mut Metered<R>,
+) -> Result<Script, ScriptFault>
+    ensures accepted { IfOk result (λ script. IsAccepted script.limits) }
+    ensures layout { IfOk result (λ script. IsLayoutOf script.limits mode script.layout) }
+
+    // Whether a read failed is told by the failure count, as long as it can rise.
+    ensures ok { OnOk result (from.new.failures ≡ from.old.failures) }
+    ensures read { IsErrOf result TextFault.Read → from.old.failures < 2 ^ 64 - 1 → from.new.failures ≢ from.old.failures }
+    ensures failed { from.new.failures ≢ from.old.failures → IsErrOf result TextFault.Read }
+{
+    let before = from.failures;
+    let script = script_of(alloc, mode, from);
+    settled(script, before, from.failures)
+}
+
+fn script_of<R: Read>(
+    alloc: Global,
+    mode: Mode,
+    from: &mut Metered<R>,
+) -> Result<Script, ScriptFault>
+    ensures accepted { IfOk result (λ script. IsAccepted script.limits) }
+    ensures layout { IfOk result (λ script. IsLayoutOf script.limits mode script.layout) }
+{
+    let mut rows = Rows::new(alloc, from);
+    if !rows.advance(5)? {
+        return Err(rows.fault(ScriptCause::End));
+    }
+    let Some((limits, layout)) = limits_of(rows.row(), mode) else {
+        return Err(rows.fault(ScriptCause::Limits));
+    };
+    let calls = rows.entries(alloc, &CallRows { layout })?;
+    Ok(Script {
+        limits,
+        layout,
+        calls,
+    })
+}
+
+/// What the first row says.
+fn limits_of(row: &StringRecord, mode: Mode) -> Option<(Limits, Layout)>
+    ensures accepted { IfSome result (λ r. IsAccepted r.0) }
+    ensures layout { IfSome result (λ r. IsLayoutOf r.0 mode r.1) }
+    ensures row { IfSome result (λ r. length (fields_of row.now) ≡ 5 → fields_of row.now ≡ limits_row r.0) }
+{
+    if field(row, 0) != "limits" {
+        return None;
+    }
+    let limits = Limits {
+        passes: small_number_of(field(row, 1))?,
+        nodes: small_number_of(field(row, 2))?,
+        scx: small_number_of(field(row, 3))?,
+        tries: small_number_of(field(row, 4))?,
+    };
+    let layout = limits.check(mode).ok()?;
+    Some((limits, layout))
 }

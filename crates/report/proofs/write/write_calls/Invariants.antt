@@ -1,0 +1,5 @@
+use Rattle.std.proofs.Common.{◌≡◌}
+use Rattle.report.proofs.write.write_calls.Given as goal
+
+abbrev pub invariant-loop-some : goal.invariant-loop-some
+invariant-loop-some g l = l.to.failures ≡ l.fn.to.failures

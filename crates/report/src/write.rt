@@ -1,0 +1,66 @@
+//! The whole report.
+ghost use Rattle.std.specs.Prelude.{◌≡◌, ◌+◌, ◌-◌, ◌^◌, OnOk, IsErrOf, min};
+
+use crate::call::calls_text;
+use crate::count::Counts;
+use crate::fault::WriteFault;
+use crate::head::{end_text, head_text};
+use crate::line::lines_text;
+use crate::send::send;
+use player::{Line, Record};
+use script::{Call, Metered};
+use std::alloc::Global;
+use std::io::Write;
+
+/// How many rows are made in memory before they go out.
+const ROWS: usize = 64;
+
+/// Writes the report of a run: a row that names the format and the mode, the limits, the calls of the
+/// script, the lines of the run in order, and a row that counts them. After a fault what went out is a
+/// beginning of the report.
+pub fn write_record<W: Write>(
+    alloc: Global,
+    record: &Record,
+    to: &mut Metered<W>,
+) -> Result<(), WriteFault>
+    ensures ok { OnOk result (to.new.failures ≡ to.old.failures) }
+    ensures no_memory { IsErrOf result WriteFault.NoMemory → to.new.failures ≡ to.old.failures }
+    ensures write { IsErrOf result WriteFault.Write → to.new.failures ≡ min (to.old.failures + 1) (2 ^ 64 - 1) }
+{
+    let script = &record.script;
+    send(head_text(alloc, script)?.as_slice(), to)?;
+    write_calls(alloc, script.calls.as_slice(), to)?;
+    write_lines(alloc, record.lines.as_slice(), to)?;
+    send(end_text(alloc, record.lines.as_slice())?.as_slice(), to)
+}
+
+fn write_calls<W: Write>(
+    alloc: Global,
+    calls: &[Call],
+    to: &mut Metered<W>,
+) -> Result<(), WriteFault>
+    ensures ok { OnOk result (to.new.failures ≡ to.old.failures) }
+    ensures no_memory { IsErrOf result WriteFault.NoMemory → to.new.failures ≡ to.old.failures }
+    ensures write { IsErrOf result WriteFault.Write → to.new.failures ≡ min (to.old.failures + 1) (2 ^ 64 - 1) }
+{
+    let mut counts = Counts::new(alloc);
+    for some in calls.chunks(ROWS) {
+        send(calls_text(alloc, some, &mut counts)?.as_slice(), to)?;
+    }
+    Ok(())
+}
+
+fn write_lines<W: Write>(
+    alloc: Global,
+    lines: &[Line],
+    to: &mut Metered<W>,
+) -> Result<(), WriteFault>
+    ensures ok { OnOk result (to.new.failures ≡ to.old.failures) }
+    ensures no_memory { IsErrOf result WriteFault.NoMemory → to.new.failures ≡ to.old.failures }
+    ensures write { IsErrOf result WriteFault.Write → to.new.failures ≡ min (to.old.failures + 1) (2 ^ 64 - 1) }
+{
+    for some in lines.chunks(ROWS) {
+        send(lines_text(alloc, some)?.as_slice(), to)?;
+    }
+    Ok(())
+}

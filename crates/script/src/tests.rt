@@ -1,0 +1,490 @@
+use crate::fault::{ScheduleCause, ScheduleFault, ScriptCause, ScriptFault};
+use crate::{
+    Call, Cell, Cells, Command, FailAt, Metered, Order, Schedule, Script, Update, kind_name,
+    kind_of, number_of, read_schedule, read_script,
+};
+use arena::{Kind, Limits, Mode, PassNo, Side};
+use std::alloc::{AllocError, Global};
+use std::io::{Read, Write};
+use std::test::Fail;
+
+/// A script with each command.
+const SCRIPT: &str = "limits,2,10,11,3\n0,llx,1,,\n1,scx,4 2 8,4 8,2 right 70\n0,scx,5,,5 left 0\n\
+    1,vlx,3 7,,\n0,set,6,left,18446744073709551615\nend,5,,,\n";
+
+/// A schedule with each order.
+const SCHEDULE: &str = "call,1,,\nuntil,0,allfrozen,1\nstep,1,,1000000\nfinish,0,,\nend,4,,\n";
+
+fn script(alloc: Global, text: &[u8]) -> Result<Script, ScriptFault> {
+    read_script(alloc, Mode::Records, &mut Metered::new(text))
+}
+
+fn schedule(alloc: Global, text: &[u8]) -> Result<Schedule, ScheduleFault> {
+    let script = match script(alloc, b"limits,2,10,10,1\nend,0,,,\n") {
+        Ok(script) => script,
+        Err(_) => return Err(ScheduleFault::NoMemory),
+    };
+    read_schedule(alloc, &script, &mut Metered::new(text))
+}
+
+fn cell(number: u64) -> Result<Cell, Fail> {
+    Ok(Cell::new(number).ok_or("no cell")?)
+}
+
+fn cells(numbers: &[u64]) -> Result<Cells, Fail> {
+    let mut numbers = numbers.iter();
+    let mut cells = Cells::one(cell(*numbers.next().ok_or("no cells")?)?);
+    for number in numbers {
+        cells = cells.with(cell(*number)?).ok_or("too many cells")?;
+    }
+    Ok(cells)
+}
+
+#[test]
+fn a_script_is_read(rt: HostRuntime) -> Result<(), Fail> {
+    let script = script(rt.alloc(), SCRIPT.as_bytes())?;
+    let limits = Limits {
+        passes: 2,
+        nodes: 10,
+        scx: 11,
+        tries: 3,
+    };
+    assert_eq!(rt; script.limits, limits);
+    assert_eq!(rt; script.layout, limits.check(Mode::Records)?);
+    let field = (cell(2)?, Side::Right);
+    let both = Update::new(cells(&[4, 2, 8])?, Some(cells(&[4, 8])?), field, 70);
+    let field = (cell(5)?, Side::Left);
+    let alone = Update::new(cells(&[5])?, None, field, 0);
+    let field = (cell(6)?, Side::Left);
+    let value = u64::MAX;
+    let calls = [
+        (0, Command::Llx { cell: cell(1)? }),
+        (1, Command::Scx(both.ok_or("no update")?)),
+        (0, Command::Scx(alone.ok_or("no update")?)),
+        (
+            1,
+            Command::Vlx {
+                cells: cells(&[3, 7])?,
+            },
+        ),
+        (0, Command::Set { field, value }),
+    ];
+    assert_eq!(rt; script.calls.len(), calls.len());
+    for (call, (client, command)) in script.calls.iter().zip(calls) {
+        let client = PassNo(client);
+        assert_eq!(rt; *call, Call { client, command });
+    }
+    Ok(())
+}
+
+#[test]
+fn a_schedule_is_read(rt: HostRuntime) -> Result<(), Fail> {
+    let schedule = schedule(rt.alloc(), SCHEDULE.as_bytes())?;
+    let (first, second) = (PassNo(0), PassNo(1));
+    let orders = [
+        Order::Call { client: second },
+        Order::Until {
+            client: first,
+            kind: Kind::LoadAllFrozen,
+            times: 1,
+        },
+        Order::Step {
+            client: second,
+            turns: 1000000,
+        },
+        Order::Finish { client: first },
+    ];
+    assert_eq!(rt; schedule.orders.as_slice(), orders.as_slice());
+    Ok(())
+}
+
+/// Scripts, the row that is faulty, and what is wrong with it.
+const BAD_SCRIPTS: [(&[u8], u64, ScriptCause); 66] = [
+    // The first row.
+    (b"", 1, ScriptCause::End),
+    (b"\n\r\n\n", 1, ScriptCause::End),
+    (b"limits,1,1,1\n", 1, ScriptCause::Fields),
+    (b"limits,1,1,1,1,\n", 1, ScriptCause::Fields),
+    (b"limits\xff,1,1,1,1\n", 1, ScriptCause::Fields),
+    (b"end,0,,,\n", 1, ScriptCause::Limits),
+    (b"limit,1,1,1,1\n", 1, ScriptCause::Limits),
+    (b"limits,0,1,1,1\n", 1, ScriptCause::Limits),
+    (b"limits,33,1,1,1\n", 1, ScriptCause::Limits),
+    (b"limits,1,32769,1,1\n", 1, ScriptCause::Limits),
+    (b"limits,1,1,32769,1\n", 1, ScriptCause::Limits),
+    (b"limits,1,1,1,0\n", 1, ScriptCause::Limits),
+    (b"limits,1,1,1,1001\n", 1, ScriptCause::Limits),
+    (b"limits,4294967297,1,1,1\n", 1, ScriptCause::Limits),
+    (b"limits,+1,1,1,1\n", 1, ScriptCause::Limits),
+    (b"limits,1,01,1,1\n", 1, ScriptCause::Limits),
+    (b"limits,1,1, 1,1\n", 1, ScriptCause::Limits),
+    (b"limits,1,1,1,\n", 1, ScriptCause::Limits),
+    // No end row.
+    (b"limits,1,1,1,1\n", 2, ScriptCause::End),
+    (b"limits,1,1,1,1\n\n0,llx,1,,\n\n", 3, ScriptCause::End),
+    // The number of fields, which is looked at first.
+    (b"limits,1,1,1,1\n9,put,x,\n", 2, ScriptCause::Fields),
+    (b"limits,1,1,1,1\n9,put,x,,,\n", 2, ScriptCause::Fields),
+    (b"limits,1,1,1,1\nend,7,,\n", 2, ScriptCause::Fields),
+    (b"limits,1,1,1,1\n \n", 2, ScriptCause::Fields),
+    (
+        b"limits,1,1,1,1\n0,llx,\"1,,\nend,1,,,\n",
+        2,
+        ScriptCause::Fields,
+    ),
+    (
+        b"limits,1,1,1,1\n9,put,\xff,,\n0,llx,1,,\n",
+        2,
+        ScriptCause::Fields,
+    ),
+    // The client, which is looked at before the command.
+    (b"limits,1,1,1,1\n1,put,x,,\n", 2, ScriptCause::Client),
+    (b"limits,1,1,1,1\n+0,llx,1,,\n", 2, ScriptCause::Client),
+    (b"limits,1,1,1,1\n00,llx,1,,\n", 2, ScriptCause::Client),
+    (b"limits,1,1,1,1\n 0,llx,1,,\n", 2, ScriptCause::Client),
+    (b"limits,1,1,1,1\n,llx,1,,\n", 2, ScriptCause::Client),
+    (
+        b"limits,1,1,1,1\n4294967296,llx,1,,\n",
+        2,
+        ScriptCause::Client,
+    ),
+    (
+        b"limits,1,1,1,1\n\n0,llx,1,,\n\n1,llx,1,,\n",
+        3,
+        ScriptCause::Client,
+    ),
+    // The command, which is looked at before the arguments.
+    (b"limits,1,1,1,1\n0,put,x,,\n", 2, ScriptCause::Command),
+    (b"limits,1,1,1,1\n0,,,,\n", 2, ScriptCause::Command),
+    (b"limits,1,1,1,1\n0,insert,5,50,\n", 2, ScriptCause::Command),
+    // The arguments.
+    (b"limits,1,1,1,1\n0,llx,0,,\n", 2, ScriptCause::Argument),
+    (b"limits,1,1,1,1\n0,llx,9,,\n", 2, ScriptCause::Argument),
+    (b"limits,1,1,1,1\n0,llx,+1,,\n", 2, ScriptCause::Argument),
+    (b"limits,1,1,1,1\n0,llx,,,\n", 2, ScriptCause::Argument),
+    (b"limits,1,1,1,1\n0,llx,1,1,\n", 2, ScriptCause::Argument),
+    (b"limits,1,1,1,1\n0,llx,1,,1\n", 2, ScriptCause::Argument),
+    (
+        b"limits,1,1,1,1\n0,scx,,,1 left 0\n",
+        2,
+        ScriptCause::Argument,
+    ),
+    (
+        b"limits,1,1,1,1\n0,scx,1 2 3 4 5,,1 left 0\n",
+        2,
+        ScriptCause::Argument,
+    ),
+    (
+        b"limits,1,1,1,1\n0,scx,1 1,,1 left 0\n",
+        2,
+        ScriptCause::Argument,
+    ),
+    (
+        b"limits,1,1,1,1\n0,scx,1  2,,1 left 0\n",
+        2,
+        ScriptCause::Argument,
+    ),
+    (
+        b"limits,1,1,1,1\n0,scx,1 2 ,,1 left 0\n",
+        2,
+        ScriptCause::Argument,
+    ),
+    (
+        b"limits,1,1,1,1\n0,scx,1 2,2 1,1 left 0\n",
+        2,
+        ScriptCause::Argument,
+    ),
+    (
+        b"limits,1,1,1,1\n0,scx,1 2,3,1 left 0\n",
+        2,
+        ScriptCause::Argument,
+    ),
+    (
+        b"limits,1,1,1,1\n0,scx,1 2, ,1 left 0\n",
+        2,
+        ScriptCause::Argument,
+    ),
+    (
+        b"limits,1,1,1,1\n0,scx,1 2,,3 left 0\n",
+        2,
+        ScriptCause::Argument,
+    ),
+    (
+        b"limits,1,1,1,1\n0,scx,1 2,,1 top 0\n",
+        2,
+        ScriptCause::Argument,
+    ),
+    (
+        b"limits,1,1,1,1\n0,scx,1 2,,1 left 00\n",
+        2,
+        ScriptCause::Argument,
+    ),
+    (
+        b"limits,1,1,1,1\n0,scx,1 2,,1 left 0 \n",
+        2,
+        ScriptCause::Argument,
+    ),
+    (
+        b"limits,1,1,1,1\n0,scx,1 2,,1 left\n",
+        2,
+        ScriptCause::Argument,
+    ),
+    (
+        b"limits,1,1,1,1\n0,scx,1 2,,1  left 0\n",
+        2,
+        ScriptCause::Argument,
+    ),
+    (b"limits,1,1,1,1\n0,vlx,,,\n", 2, ScriptCause::Argument),
+    (b"limits,1,1,1,1\n0,vlx,1,2,\n", 2, ScriptCause::Argument),
+    (b"limits,1,1,1,1\n0,vlx,1,,2\n", 2, ScriptCause::Argument),
+    (
+        b"limits,1,1,1,1\n0,set,9,left,1\n",
+        2,
+        ScriptCause::Argument,
+    ),
+    (
+        b"limits,1,1,1,1\n0,set,1,Left,1\n",
+        2,
+        ScriptCause::Argument,
+    ),
+    (
+        b"limits,1,1,1,1\n0,set,1,left,18446744073709551616\n",
+        2,
+        ScriptCause::Argument,
+    ),
+    // The end row.
+    (b"limits,1,1,1,1\nend,1,,,\n", 2, ScriptCause::End),
+    (
+        b"limits,1,1,1,1\n0,llx,1,,\nend,01,,,\n",
+        3,
+        ScriptCause::End,
+    ),
+    (b"limits,1,1,1,1\nend,0,,,0\n", 2, ScriptCause::End),
+    (b"limits,1,1,1,1\nend,,,,\n", 2, ScriptCause::End),
+];
+
+/// Rows behind the end row, and what is wrong with them.
+const BEHIND: [(&[u8], ScriptCause); 6] = [
+    (b"0,llx,1,,\n", ScriptCause::End),
+    (b"end,0,,,\n", ScriptCause::End),
+    (b"0,llx,1\n", ScriptCause::Fields),
+    (b"1,llx,1,,\n", ScriptCause::Client),
+    (b"0,put,1,,\n", ScriptCause::Command),
+    (b"0,llx,9,,\n", ScriptCause::Argument),
+];
+
+#[test]
+fn bad_scripts_are_refused(rt: HostRuntime) -> Result<(), Fail> {
+    for (number, (text, row, cause)) in BAD_SCRIPTS.into_iter().enumerate() {
+        let fault = ScriptFault::Bad { row, cause };
+        assert_eq!(rt;
+            script(rt.alloc(), text).err(),
+            Some(fault),
+            "case {number}"
+        );
+    }
+    for (number, (behind, cause)) in BEHIND.into_iter().enumerate() {
+        let mut text = b"limits,1,1,1,1\nend,0,,,\n".to_vec(rt.alloc())?;
+        text.extend_from_slice(behind)?;
+        let fault = ScriptFault::Bad { row: 3, cause };
+        let got = script(rt.alloc(), text.as_slice()).err();
+        assert_eq!(rt; got, Some(fault), "behind {number}");
+    }
+    Ok(())
+}
+
+#[test]
+fn the_mode_decides_which_commands_there_are(rt: HostRuntime) -> Result<(), Fail> {
+    let text = b"limits,1,1,1,1\n0,llx,1,,\nend,1,,,\n".as_slice();
+    let fault = ScriptFault::Bad {
+        row: 2,
+        cause: ScriptCause::Command,
+    };
+    let tree = read_script(rt.alloc(), Mode::Tree, &mut Metered::new(text));
+    assert_eq!(rt; tree.err(), Some(fault));
+    assert!(rt; script(rt.alloc(), text).is_ok());
+    Ok(())
+}
+
+/// A script of so many calls.
+fn long_script(alloc: Global, calls: u32) -> Result<Vec<u8>, AllocError> {
+    let mut text = b"limits,1,1,1,1\n".to_vec(alloc)?;
+    for _ in 0..calls {
+        text.extend_from_slice(b"0,llx,1,,\n")?;
+    }
+    Ok(text)
+}
+
+#[test]
+fn a_script_has_at_most_65536_calls(rt: HostRuntime) -> Result<(), Fail> {
+    let mut text = long_script(rt.alloc(), 65536)?;
+    text.extend_from_slice(b"end,65536,,,\n")?;
+    let script = script(rt.alloc(), text.as_slice())?;
+    assert_eq!(rt; script.calls.len(), 65536);
+    Ok(())
+}
+
+#[test]
+fn the_call_past_the_most_is_named(rt: HostRuntime) -> Result<(), Fail> {
+    let mut text = long_script(rt.alloc(), 65537)?;
+    text.extend_from_slice(b"end,65537,,,\n")?;
+    let fault = ScriptFault::Bad {
+        row: 65538,
+        cause: ScriptCause::Long,
+    };
+    assert_eq!(rt; script(rt.alloc(), text.as_slice()).err(), Some(fault));
+    Ok(())
+}
+
+/// Schedules for two clients, the row that is faulty, and what is wrong with it.
+const BAD_SCHEDULES: [(&[u8], u64, ScheduleCause); 44] = [
+    (b"", 1, ScheduleCause::End),
+    (b"finish,0,,\n", 2, ScheduleCause::End),
+    (b"jump,9,x\n", 1, ScheduleCause::Fields),
+    (b"jump,9,x,x,\n", 1, ScheduleCause::Fields),
+    (b"end,0,\n", 1, ScheduleCause::Fields),
+    (b"finish,0,,\n\njump,\xff,,\n", 2, ScheduleCause::Fields),
+    (b"finish,0,\",\nend,1,,\n", 1, ScheduleCause::Fields),
+    // The command, which is looked at before the client.
+    (b"jump,9,x,x\n", 1, ScheduleCause::Command),
+    (b",,,\n", 1, ScheduleCause::Command),
+    (b"Step,0,,1\n", 1, ScheduleCause::Command),
+    // The client, which is looked at before the kind.
+    (b"step,2,x,x\n", 1, ScheduleCause::Client),
+    (b"call,2,x,x\n", 1, ScheduleCause::Client),
+    (b"until,2,x,x\n", 1, ScheduleCause::Client),
+    (b"finish,,x,x\n", 1, ScheduleCause::Client),
+    (b"finish,+1,,\n", 1, ScheduleCause::Client),
+    (b"finish,01,,\n", 1, ScheduleCause::Client),
+    (b"finish, 1,,\n", 1, ScheduleCause::Client),
+    // The kind, which is looked at before the number.
+    (b"step,0,fill,x\n", 1, ScheduleCause::Kind),
+    (b"call,0,fill,x\n", 1, ScheduleCause::Kind),
+    (b"until,0,melt,x\n", 1, ScheduleCause::Kind),
+    (b"until,0,,x\n", 1, ScheduleCause::Kind),
+    (b"finish,0,fill,x\n", 1, ScheduleCause::Kind),
+    // The number.
+    (b"step,0,,0\n", 1, ScheduleCause::Number),
+    (b"step,0,,1000001\n", 1, ScheduleCause::Number),
+    (b"step,0,,\n", 1, ScheduleCause::Number),
+    (b"step,0,,+5\n", 1, ScheduleCause::Number),
+    (b"step,0,,007\n", 1, ScheduleCause::Number),
+    (b"step,0,, 5\n", 1, ScheduleCause::Number),
+    (b"call,0,,1\n", 1, ScheduleCause::Number),
+    (b"until,0,fill,0\n", 1, ScheduleCause::Number),
+    (b"until,0,fill,1000001\n", 1, ScheduleCause::Number),
+    (b"until,0,fill,\n", 1, ScheduleCause::Number),
+    (b"finish,0,,0\n", 1, ScheduleCause::Number),
+    // The end row, and what stands behind it.
+    (b"end,1,,\n", 1, ScheduleCause::End),
+    (b"end,0,fill,\n", 1, ScheduleCause::End),
+    (b"end,0,,0\n", 1, ScheduleCause::End),
+    (b"finish,0,,\nend,0,,\n", 2, ScheduleCause::End),
+    (b"end,0,,\nend,0,,\n", 2, ScheduleCause::End),
+    (b"end,0,,\nfinish,0,,\n", 2, ScheduleCause::End),
+    (b"end,0,,\nfinish,0,\n", 2, ScheduleCause::Fields),
+    (b"end,0,,\njump,0,,\n", 2, ScheduleCause::Command),
+    (b"end,0,,\nfinish,2,,\n", 2, ScheduleCause::Client),
+    (b"end,0,,\nfinish,0,x,\n", 2, ScheduleCause::Kind),
+    (b"end,0,,\nfinish,0,,x\n", 2, ScheduleCause::Number),
+];
+
+#[test]
+fn bad_schedules_are_refused(rt: HostRuntime) {
+    for (number, (text, row, cause)) in BAD_SCHEDULES.into_iter().enumerate() {
+        let fault = ScheduleFault::Bad { row, cause };
+        assert_eq!(rt;
+            schedule(rt.alloc(), text).err(),
+            Some(fault),
+            "case {number}"
+        );
+    }
+}
+
+#[test]
+fn the_order_past_the_most_is_named(rt: HostRuntime) -> Result<(), Fail> {
+    let mut text = Vec::new(rt.alloc());
+    for _ in 0..65537 {
+        text.extend_from_slice(b"finish,0,,\n")?;
+    }
+    let fault = ScheduleFault::Bad {
+        row: 65537,
+        cause: ScheduleCause::Long,
+    };
+    assert_eq!(rt; schedule(rt.alloc(), text.as_slice()).err(), Some(fault));
+    Ok(())
+}
+
+#[test]
+fn a_failed_read_is_told_as_such(rt: HostRuntime) -> Result<(), Fail> {
+    let whole = script(rt.alloc(), SCRIPT.as_bytes())?;
+    for left in 0..=SCRIPT.len() {
+        let mut from = Metered::new(FailAt::new(SCRIPT.as_bytes(), left));
+        let got = read_script(rt.alloc(), Mode::Records, &mut from);
+        assert_eq!(rt; got.err(), Some(ScriptFault::Read), "after {left} bytes");
+        assert_eq!(rt; from.failures, 1, "after {left} bytes");
+    }
+    for left in 0..=SCHEDULE.len() {
+        let mut from = Metered::new(FailAt::new(SCHEDULE.as_bytes(), left));
+        let got = read_schedule(rt.alloc(), &whole, &mut from);
+        assert_eq!(rt; got.err(), Some(ScheduleFault::Read), "after {left} bytes");
+    }
+    Ok(())
+}
+
+#[test]
+fn the_first_fault_in_the_order_of_rows_is_told(rt: HostRuntime) {
+    let text = b"limits,1,1,1,1\n9,llx,1,,\n0,llx,1,,\n".as_slice();
+    let bad = ScriptFault::Bad {
+        row: 2,
+        cause: ScriptCause::Client,
+    };
+    for left in 0..=text.len() {
+        let mut from = Metered::new(FailAt::new(text, left));
+        let got = read_script(rt.alloc(), Mode::Records, &mut from).err();
+        let fault = if left < 25 { ScriptFault::Read } else { bad };
+        assert_eq!(rt; got, Some(fault), "after {left} bytes");
+    }
+}
+
+#[test]
+fn causes_are_printed_by_their_words(rt: HostRuntime) -> Result<(), Fail> {
+    let fault = ScriptFault::Bad {
+        row: 12,
+        cause: ScriptCause::Argument,
+    };
+    assert_eq!(rt;
+        format!(in rt.alloc(); "{fault}")?.as_str(),
+        "row 12: argument"
+    );
+    let cause = ScheduleCause::Number;
+    assert_eq!(rt; format!(in rt.alloc(); "{cause}")?.as_str(), "number");
+    Ok(())
+}
+
+#[test]
+fn names_and_numbers(rt: HostRuntime) {
+    assert_eq!(rt; kind_name(Kind::LoadSettled), "settled");
+    assert_eq!(rt; kind_of("frozen"), Some(Kind::SetFrozen));
+    assert_eq!(rt; kind_of("Fill"), None);
+    assert_eq!(rt; number_of("0"), Some(0));
+    assert_eq!(rt; number_of("18446744073709551615"), Some(u64::MAX));
+    for text in ["+5", "007", " 5", "", "-0", "5 ", "18446744073709551616"] {
+        assert_eq!(rt; number_of(text), None, "{text}");
+    }
+}
+
+#[test]
+fn writes_are_cut_and_counted(rt: HostRuntime) -> Result<(), Fail> {
+    let mut to = Metered::new(FailAt::new(Vec::new(rt.alloc()), 3));
+    assert_eq!(rt; to.write(b"ab").ok(), Some(2));
+    assert_eq!(rt; to.write(b"cd").ok(), Some(1));
+    assert!(rt; to.write(b"d").is_err() && to.write(b"").is_err());
+    assert!(rt; to.flush().is_ok());
+    assert_eq!(rt; to.failures, 2);
+    assert_eq!(rt; to.inner.inner.as_slice(), b"abc".as_slice());
+    let mut full = Metered::new([0u8; 0].as_slice());
+    assert_eq!(rt; full.read(&mut [0; 4]).ok(), Some(0));
+    assert_eq!(rt; full.failures, 0);
+    Ok(())
+}
