@@ -1,5 +1,5 @@
 use crate::{WriteFault, write_record};
-use arena::{Kind, MemberNo, Mode, NodeNo, NodeWord, PassNo, ScxNo, ScxWord, Side, Word};
+use arena::{Kind, Mode, NodeNo, NodeWord, PassNo, ScxNo, ScxWord, Side, Word};
 use player::{Answer, Entry, Line, Record, Reply, Resource, Row};
 use script::{FailAt, Metered, read_script};
 use std::alloc::Global;
@@ -141,14 +141,11 @@ fn untouched(alloc: Global) -> Result<Record, Fail> {
 }
 
 /// Each kind of step but one, and each word.
-fn each_word() -> Result<[(Kind, Word); 21], Fail> {
+fn each_word() -> [(Kind, Word); 21] {
     let node = |part| Word::Node(NodeNo(5), part);
     let scx = |part| Word::Scx(ScxNo(2), part);
     let (left, right) = (NodeWord::Child(Side::Left), NodeWord::Child(Side::Right));
-    let one = MemberNo::new(1).ok_or("a member")?;
-    let two = MemberNo::new(2).ok_or("a member")?;
-    let three = MemberNo::new(3).ok_or("a member")?;
-    Ok([
+    [
         (Kind::Fill, node(NodeWord::Head)),
         (Kind::LoadSettled, node(NodeWord::Key)),
         (Kind::LoadInfo, node(NodeWord::Value)),
@@ -161,16 +158,16 @@ fn each_word() -> Result<[(Kind, Word); 21], Fail> {
         (Kind::Mark, scx(ScxWord::Plan)),
         (Kind::Commit, scx(ScxWord::New)),
         (Kind::Abort, scx(ScxWord::Old)),
-        (Kind::Fill, scx(ScxWord::Member(MemberNo::FIRST))),
-        (Kind::Fill, scx(ScxWord::Member(one))),
-        (Kind::Fill, scx(ScxWord::Member(two))),
-        (Kind::Fill, scx(ScxWord::Member(three))),
-        (Kind::Fill, scx(ScxWord::Seen(MemberNo::FIRST))),
-        (Kind::Fill, scx(ScxWord::Seen(one))),
-        (Kind::Fill, scx(ScxWord::Seen(two))),
-        (Kind::Fill, scx(ScxWord::Seen(three))),
+        (Kind::Fill, scx(ScxWord::Member(0))),
+        (Kind::Fill, scx(ScxWord::Member(1))),
+        (Kind::Fill, scx(ScxWord::Member(2))),
+        (Kind::Fill, scx(ScxWord::Member(3))),
+        (Kind::Fill, scx(ScxWord::Seen(0))),
+        (Kind::Fill, scx(ScxWord::Seen(1))),
+        (Kind::Fill, scx(ScxWord::Seen(2))),
+        (Kind::Fill, scx(ScxWord::Seen(3))),
         (Kind::Fill, scx(ScxWord::Call)),
-    ])
+    ]
 }
 
 /// A line of each form, with each kind, word and answer.
@@ -223,7 +220,7 @@ fn each_line(alloc: Global) -> Result<Vec<Line>, Fail> {
         reply(no_scx, None),
     ];
     let mut lines = Vec::new(alloc);
-    for (place, (kind, word)) in (0u64..).zip(each_word()?) {
+    for (place, (kind, word)) in (0u64..).zip(each_word()) {
         lines.push(step(place + 1, kind, word, place))?;
     }
     lines.extend_from_slice(&rest)?;

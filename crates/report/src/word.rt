@@ -19,8 +19,8 @@ pub fn word_text(alloc: Global, word: Word) -> Result<String, AllocError>
         ScxWord::Plan => format!(in alloc; "s{scx}.plan"),
         ScxWord::New => format!(in alloc; "s{scx}.new"),
         ScxWord::Old => format!(in alloc; "s{scx}.old"),
-        ScxWord::Member(member) => format!(in alloc; "s{scx}.v{}", member.index()),
-        ScxWord::Seen(member) => format!(in alloc; "s{scx}.i{}", member.index()),
+        ScxWord::Member(member) => format!(in alloc; "s{scx}.v{member}"),
+        ScxWord::Seen(member) => format!(in alloc; "s{scx}.i{member}"),
         ScxWord::Call => format!(in alloc; "s{scx}.call"),
     }
 }

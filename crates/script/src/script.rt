@@ -11,7 +11,7 @@ use crate::fault::{ScriptCause, ScriptFault};
 use crate::metered::Metered;
 use crate::number::small_number_of;
 use crate::rows::{Rows, field, settled};
-use arena::{Layout, Limits, Mode};
+use arena::{Layout, Limits, Mode, NoMemory};
 use csv::StringRecord;
 use std::alloc::Global;
 use std::io::Read;
@@ -24,6 +24,23 @@ pub struct Script {
     pub calls: Vec<Call>,
     ghost clients: { All (λ call. call.client.0 < layout.passes) calls.items },
     ghost few: { vec_len calls ≤ 65536 },
+}
+
+impl Script {
+    ghost use Rattle.std.specs.Prelude.{◌≡◌, IfOk};
+
+    /// A copy of the script. The only error is want of memory.
+    pub fn copy(&self, alloc: Global) -> Result<Script, NoMemory>
+        ensures layout { IfOk result (λ s. s.layout ≡ self.now.layout) }
+        ensures limits { IfOk result (λ s. s.limits ≡ self.now.limits) }
+        ensures calls { IfOk result (λ s. s.calls.items ≡ self.now.calls.items) }
+    {
+        Ok(Script {
+            limits: self.limits,
+            layout: self.layout,
+            calls: self.calls.as_slice().to_vec(alloc)?,
+        })
+    }
 }
 
 /// Reads a script: its limits, its calls, and the end row that counts them. Nothing is kept of a

@@ -1,0 +1,39 @@
+//! What the program does with its words.
+use crate::fault::Fault;
+use crate::play::play_over;
+use crate::wish::{Wish, read_words};
+use arena::Mode;
+use std::fs;
+use std::io::Write;
+use std::rt::Files;
+
+/// Does what the words ask for, of which the first is the program's own name, and answers the exit
+/// status. The files are opened in the order of the words before any of them is read.
+pub fn ask_over<R: Files + AllocGlobal, O: Write, E: Write>(
+    rt: &R,
+    words: &[String],
+    out: &mut O,
+    err: &mut E,
+) -> u8 {
+    let opened = match read_words(rt.alloc(), words) {
+        Ok(Wish::Records { script, schedule }) => open_both(rt, script, schedule),
+        Err(fault) => Err(fault),
+    };
+    match opened {
+        Ok((mut script, mut schedule)) => {
+            play_over(
+                rt.alloc(),
+                Mode::Records,
+                &mut script,
+                &mut schedule,
+                out,
+                err,
+            )
+        }
+        Err(fault) => fault.tell(err),
+    }
+}
+
+fn open_both<R: Files>(rt: &R, first: &str, second: &str) -> Result<(R::File, R::File), Fault> {
+    Ok((fs::open(rt, first)?, fs::open(rt, second)?))
+}

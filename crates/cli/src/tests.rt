@@ -1,0 +1,324 @@
+use crate::ask::ask_over;
+use crate::play::play_over;
+use arena::Mode;
+use script::FailAt;
+use std::alloc::Global;
+use std::test::Fail;
+
+/// A set of a client, and then another client's snapshot of the cell.
+const SET: &str = "limits,2,10,10,1\n0,set,1,left,70\n1,llx,1,,\nend,2,,,\n";
+
+const IN_TURN: &str = "finish,0,,\nfinish,1,,\nend,2,,\n";
+
+/// The report of the two.
+const SET_REPORT: &str = "\
+report,1,records,,,,
+limits,2,10,10,1,,
+call,0,0,set,1,left,70
+call,1,0,llx,1,,
+step,1,0,marked,n1.marked,0,0
+step,2,0,info,n1.info,0,0
+step,3,0,state,s0.state,2,2
+step,4,0,marked,n1.marked,0,0
+step,5,0,child,n1.left,0,0
+step,6,0,child,n1.right,0,0
+step,7,0,info,n1.info,0,0
+step,8,0,fill,n9.value,0,70
+step,9,0,fill,s1.plan,0,1
+step,10,0,fill,s1.new,0,9
+step,11,0,fill,s1.old,0,0
+step,12,0,fill,s1.v0,0,1
+step,13,0,fill,s1.i0,0,0
+step,14,0,fill,s1.call,0,0
+step,15,0,settled,s1.plan,1,1
+step,16,0,settled,s1.v0,1,1
+step,17,0,settled,s1.i0,0,0
+step,18,0,freeze,n1.info,0,1
+step,19,0,frozen,s1.allfrozen,0,1
+step,20,0,settled,s1.new,9,9
+step,21,0,settled,s1.old,0,0
+step,22,0,update,n1.left,0,9
+log,1,22,s1,0,0,
+step,23,0,commit,s1.state,0,1
+reply,0,0,1,23,22,done
+step,24,1,marked,n1.marked,0,0
+step,25,1,info,n1.info,1,1
+step,26,1,state,s1.state,1,1
+step,27,1,marked,n1.marked,0,0
+step,28,1,child,n1.left,9,9
+step,29,1,child,n1.right,0,0
+step,30,1,info,n1.info,1,1
+reply,1,0,24,30,30,snap 9 0
+end,30,2,1,,,
+";
+
+/// A snapshot of a cell that no one has changed, and its report.
+const UNTOUCHED: &str = "limits,1,0,0,1\n0,llx,8,,\nend,1,,,\n";
+
+const UNTOUCHED_REPORT: &str = "\
+report,1,records,,,,
+limits,1,0,0,1,,
+call,0,0,llx,8,,
+step,1,0,marked,n8.marked,0,0
+step,2,0,info,n8.info,0,0
+step,3,0,state,s0.state,2,2
+step,4,0,marked,n8.marked,0,0
+step,5,0,child,n8.left,0,0
+step,6,0,child,n8.right,0,0
+step,7,0,info,n8.info,0,0
+reply,0,0,1,7,7,snap 0 0
+end,7,1,0,,,
+";
+
+/// What a command wrote, and its status.
+#[derive(Drop)]
+struct Ended {
+    status: u8,
+    out: Vec<u8>,
+    err: Vec<u8>,
+}
+
+fn played(alloc: Global, script: &str, schedule: &str) -> Ended {
+    let (mut script, mut schedule) = (script.as_bytes(), schedule.as_bytes());
+    let (mut out, mut err) = (Vec::new(alloc), Vec::new(alloc));
+    let status = play_over(
+        alloc,
+        Mode::Records,
+        &mut script,
+        &mut schedule,
+        &mut out,
+        &mut err,
+    );
+    Ended { status, out, err }
+}
+
+/// The lines that begin so.
+fn lines_of(alloc: Global, text: &[u8], start: &str) -> Result<Vec<u8>, Fail> {
+    let mut lines = Vec::new(alloc);
+    for line in text.split(|byte| *byte == b'\n') {
+        if line.starts_with(start.as_bytes()) {
+            lines.extend_from_slice(line)?;
+            lines.push(b'\n')?;
+        }
+    }
+    Ok(lines)
+}
+
+#[test]
+fn whole_reports(rt: HostRuntime) {
+    let cases = [
+        (SET, IN_TURN, SET_REPORT),
+        (UNTOUCHED, "finish,0,,\nend,1,,\n", UNTOUCHED_REPORT),
+    ];
+    for (script, schedule, report) in cases {
+        let ended = played(rt.alloc(), script, schedule);
+        assert_eq!(rt; ended.err.as_slice(), b"".as_slice());
+        assert_eq!(rt; ended.out.as_slice(), report.as_bytes());
+        assert_eq!(rt; ended.status, 0);
+    }
+}
+
+#[test]
+fn replies(rt: HostRuntime) -> Result<(), Fail> {
+    // The clients race for cells: one finalizes a cell that the other has a snapshot of, one is
+    // stopped before it freezes its cell, and one sees that a cell has changed.
+    let cases = [
+        (
+            "limits,2,10,10,1\n1,llx,2,,\n0,llx,1,,\n0,llx,2,,\n0,scx,1 2,2,1 left 70\n0,llx,2,,\n\
+             1,scx,2,,2 left 80\nend,6,,,\n",
+            "call,1,,\nfinish,0,,\nfinish,1,,\nend,3,,\n",
+            "reply,1,0,1,7,7,snap 0 0\nreply,0,0,8,14,14,snap 0 0\nreply,0,1,15,21,21,snap 0 0\n\
+             reply,0,2,22,43,42,done\nreply,0,3,44,48,48,finalized\nreply,1,1,49,61,,lost n2 s1\n",
+            "end,61,6,1,,,\n",
+        ),
+        (
+            "limits,2,10,10,1\n0,set,1,left,70\n1,set,1,left,71\nend,2,,,\n",
+            "until,0,fill,7\nfinish,1,,\nfinish,0,,\nend,3,,\n",
+            "reply,1,0,15,37,36,done\nreply,0,0,1,43,,lost n1 s11\n",
+            "end,43,2,1,,,\n",
+        ),
+        (
+            "limits,2,10,10,1\n0,llx,1,,\n0,llx,2,,\n0,vlx,1 2,,\n1,set,2,left,5\nend,4,,,\n",
+            "step,0,,14\nfinish,1,,\nfinish,0,,\nend,3,,\n",
+            "reply,0,0,1,7,7,snap 0 0\nreply,0,1,8,14,14,snap 0 0\nreply,1,0,15,37,36,done\n\
+             reply,0,2,38,39,,changed n2 s11\n",
+            "end,39,4,1,,,\n",
+        ),
+        // A client with no call left, no turn at all, and a schedule that ends in mid-call.
+        (
+            UNTOUCHED,
+            "finish,0,,\nstep,0,,2\nend,2,,\n",
+            "reply,0,0,1,7,7,snap 0 0\n",
+            "end,9,1,0,,,\n",
+        ),
+        (UNTOUCHED, "end,0,,\n", "", "end,0,0,0,,,\n"),
+        (UNTOUCHED, "step,0,,6\nend,1,,\n", "", "end,6,0,0,,,\n"),
+    ];
+    for (script, schedule, replies, end) in cases {
+        let ended = played(rt.alloc(), script, schedule);
+        let told = lines_of(rt.alloc(), ended.out.as_slice(), "reply,")?;
+        assert_eq!(rt; ended.err.as_slice(), b"".as_slice());
+        assert_eq!(rt; told.as_slice(), replies.as_bytes());
+        assert!(rt; ended.out.as_slice().ends_with(end.as_bytes()), "{end}");
+        assert_eq!(rt; ended.status, 0);
+    }
+    Ok(())
+}
+
+#[test]
+fn refused_texts(rt: HostRuntime) {
+    let rest = "end,1,,,\n";
+    let cases = [
+        (
+            "limits,1,0,0,1\n0,llx,8\nend,1,,,\n",
+            "",
+            "bad script: row 2: fields\n",
+        ),
+        (
+            "limits,33,0,0,1\nend,0,,,\n",
+            "",
+            "bad script: row 1: limits\n",
+        ),
+        (rest, "", "bad script: row 1: limits\n"),
+        (
+            "limits,1,0,0,1\n1,llx,8,,\nend,1,,,\n",
+            "",
+            "bad script: row 2: client\n",
+        ),
+        (
+            "limits,1,0,0,1\n0,put,8,50,\nend,1,,,\n",
+            "",
+            "bad script: row 2: command\n",
+        ),
+        (
+            "limits,1,0,0,1\n0,llx,9,,\nend,1,,,\n",
+            "",
+            "bad script: row 2: argument\n",
+        ),
+        ("limits,1,0,0,1\n", "", "bad script: row 2: end\n"),
+        ("", "", "bad script: row 1: end\n"),
+        (
+            UNTOUCHED,
+            "finish,0,\nend,1,,\n",
+            "bad schedule: row 1: fields\n",
+        ),
+        (
+            UNTOUCHED,
+            "begin,0,,\nend,1,,\n",
+            "bad schedule: row 1: command\n",
+        ),
+        (UNTOUCHED, "call,1,,\n", "bad schedule: row 1: client\n"),
+        (UNTOUCHED, "until,0,melt,1\n", "bad schedule: row 1: kind\n"),
+        (UNTOUCHED, "step,0,,0\n", "bad schedule: row 1: number\n"),
+        (UNTOUCHED, "end,1,,\n", "bad schedule: row 1: end\n"),
+        // A fault of the script comes first.
+        ("limits,1,0,0,1\n", "end,1,,\n", "bad script: row 2: end\n"),
+    ];
+    for (script, schedule, line) in cases {
+        let ended = played(rt.alloc(), script, schedule);
+        assert_eq!(rt; ended.err.as_slice(), line.as_bytes());
+        assert_eq!(rt; ended.out.as_slice(), b"".as_slice());
+        assert_eq!(rt; ended.status, 1);
+    }
+}
+
+#[test]
+fn reader_fails_at_each_byte(rt: HostRuntime) {
+    let alloc = rt.alloc();
+    for bytes in 0..=SET.len() {
+        let (mut out, mut err) = (Vec::new(alloc), Vec::new(alloc));
+        let mut script = FailAt::new(SET.as_bytes(), bytes);
+        let mut schedule = IN_TURN.as_bytes();
+        let status = play_over(
+            alloc,
+            Mode::Records,
+            &mut script,
+            &mut schedule,
+            &mut out,
+            &mut err,
+        );
+        assert_eq!(rt;
+            (status, out.len()),
+            (4, 0),
+            "after {bytes} bytes of the script"
+        );
+        assert_eq!(rt; err.as_slice(), b"read failed\n".as_slice());
+    }
+    for bytes in 0..=IN_TURN.len() {
+        let (mut out, mut err) = (Vec::new(alloc), Vec::new(alloc));
+        let mut script = SET.as_bytes();
+        let mut schedule = FailAt::new(IN_TURN.as_bytes(), bytes);
+        let status = play_over(
+            alloc,
+            Mode::Records,
+            &mut script,
+            &mut schedule,
+            &mut out,
+            &mut err,
+        );
+        assert_eq!(rt;
+            (status, out.len()),
+            (4, 0),
+            "after {bytes} bytes of the schedule"
+        );
+        assert_eq!(rt; err.as_slice(), b"read failed\n".as_slice());
+    }
+}
+
+#[test]
+fn writer_fails_at_each_byte(rt: HostRuntime) {
+    let alloc = rt.alloc();
+    for bytes in 0..SET_REPORT.len() {
+        let (mut script, mut schedule) = (SET.as_bytes(), IN_TURN.as_bytes());
+        let mut out = FailAt::new(Vec::new(alloc), bytes);
+        let mut err = Vec::new(alloc);
+        let status = play_over(
+            alloc,
+            Mode::Records,
+            &mut script,
+            &mut schedule,
+            &mut out,
+            &mut err,
+        );
+        assert_eq!(rt; status, 4, "after {bytes} bytes");
+        assert_eq!(rt; err.as_slice(), b"write failed\n".as_slice());
+        assert_eq!(rt; out.inner.as_slice(), &SET_REPORT.as_bytes()[..bytes]);
+    }
+}
+
+/// What the program writes with these words after its name.
+fn asked(rt: &HostRuntime, words: &[&str]) -> Result<Ended, Fail> {
+    let mut all = Vec::new(rt.alloc());
+    all.push(String::from_str(rt.alloc(), "regnubas")?)?;
+    for word in words {
+        all.push(String::from_str(rt.alloc(), *word)?)?;
+    }
+    let (mut out, mut err) = (Vec::new(rt.alloc()), Vec::new(rt.alloc()));
+    let status = ask_over(rt, all.as_slice(), &mut out, &mut err);
+    Ok(Ended { status, out, err })
+}
+
+#[test]
+fn words(rt: HostRuntime) -> Result<(), Fail> {
+    let usage = [
+        [].as_slice(),
+        ["records"].as_slice(),
+        ["records", "a"].as_slice(),
+        ["records", "a", "b", "c"].as_slice(),
+        ["play", "a", "b"].as_slice(),
+        ["run", "a"].as_slice(),
+        ["audit", "a"].as_slice(),
+        ["help"].as_slice(),
+        ["--help"].as_slice(),
+        ["records", "--help"].as_slice(),
+    ];
+    for words in usage {
+        let ended = asked(&rt, words)?;
+        assert_eq!(rt; ended.err.as_slice(), b"usage\n".as_slice());
+        assert_eq!(rt; (ended.status, ended.out.len()), (2, 0));
+    }
+    let ended = asked(&rt, &["records", "no such script", "no such schedule"])?;
+    assert_eq!(rt; ended.err.as_slice(), b"read failed\n".as_slice());
+    assert_eq!(rt; (ended.status, ended.out.len()), (4, 0));
+    Ok(())
+}
