@@ -82,6 +82,5 @@ pub word_refl : (w : Word) → same_word w w ≡ true
 word_refl (Node n a) = rw (eqb_refl, node_word_refl) refl
 word_refl (Scx s a) = rw (eqb_refl, scx_word_refl) refl
 
-
 pub word_apart : (u w : Word) → same_word u w ≡ false → w ≢ u
 word_apart u w e same = let x : same_word u u ≡ false = ap (same_word u) (sym same) ∙ e in let y : same_word u u ≡ true = word_refl u in cc

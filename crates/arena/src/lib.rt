@@ -7,7 +7,6 @@ mod limits;
 mod machine;
 mod number;
 mod plain;
-
 mod share;
 mod step;
 mod word;
@@ -17,8 +16,7 @@ pub use layout::Layout;
 pub use limits::{Limits, Mode};
 pub use machine::{Machine, Shape, Turn};
 pub use number::{MemberNo, NodeNo, PassNo, ScxNo};
-
 pub use plain::PlainWords;
 pub use share::{Fresh, Share};
 pub use step::{Deed, Kind, Row, Step};
-pub use word::{NodeWord, ScxWord, Side, Word, ABORTED, COMMITTED, IN_PROGRESS};
+pub use word::{ABORTED, COMMITTED, IN_PROGRESS, NodeWord, ScxWord, Side, Word};

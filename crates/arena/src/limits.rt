@@ -23,7 +23,9 @@ pub struct Limits {
 
 impl Limits {
     pub const MOST_PASSES: u32 = 32;
+
     pub const MOST_RECORDS: u32 = 32768;
+
     pub const MOST_TRIES: u32 = 1000;
 
     ghost use Rattle.arena.specs.Limits.{IsAccepted, IsLayoutOf};

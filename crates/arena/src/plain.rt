@@ -21,13 +21,7 @@ fn stored(deed: Deed, found: u64) -> u64
     match deed {
         Deed::Load => found,
         Deed::Store(new) => new,
-        Deed::Exchange { expected, new } => {
-            if found == expected {
-                new
-            } else {
-                found
-            }
-        }
+        Deed::Exchange { expected, new } => { if found == expected { new } else { found } }
     }
 }
 

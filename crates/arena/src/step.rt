@@ -26,10 +26,7 @@ pub enum Deed {
     Load,
     Store(u64),
     /// Stores `new` where the word holds `expected`.
-    Exchange {
-        expected: u64,
-        new: u64,
-    },
+    Exchange { expected: u64, new: u64 },
 }
 
 /// One atomic step on one word.

@@ -3,7 +3,9 @@ use crate::number::{NodeNo, ScxNo};
 
 /// What the word `state` of an SCX-record says.
 pub const IN_PROGRESS: u64 = 0;
+
 pub const COMMITTED: u64 = 1;
+
 pub const ABORTED: u64 = 2;
 
 #[derive(Clone, Copy, Debug, PartialEq, Eq)]

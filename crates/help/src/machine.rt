@@ -3,7 +3,10 @@ ghost use Rattle.std.specs.Prelude.{◌≡◌, ℕ, ◌+◌, ◌<◌, ◌≤◌,
 
 use crate::plan::Plan;
 use crate::state::{HelpAt, HelpRun};
-use arena::{ABORTED, COMMITTED, Deed, Kind, Machine, MemberNo, NodeNo, NodeWord, ScxWord, Shape, Step, Turn, Word};
+use arena::{
+    ABORTED, COMMITTED, Deed, Kind, Machine, MemberNo, NodeNo, NodeWord, ScxWord, Shape, Step,
+    Turn, Word,
+};
 
 impl HelpRun {
     ghost use Rattle.std.specs.Prelude.{◌≡◌, ◌<◌, ◌≤◌, ◌+◌, ◌-◌, MatchOption};
@@ -50,7 +53,12 @@ impl HelpRun {
             Some(j) => self.load(HelpAt::Member { j }, ScxWord::Member(j.number())),
             None => {
                 let allfrozen = Word::Scx(self.scx, ScxWord::AllFrozen);
-                self.ask(HelpAt::SetFrozen, Kind::SetFrozen, allfrozen, Deed::Store(1))
+                self.ask(
+                    HelpAt::SetFrozen,
+                    Kind::SetFrozen,
+                    allfrozen,
+                    Deed::Store(1),
+                )
             }
         }
     }
@@ -116,7 +124,12 @@ impl<S: Shape> Machine<S> for HelpRun {
                     self.after_freeze(j)
                 } else {
                     let allfrozen = Word::Scx(self.scx, ScxWord::AllFrozen);
-                    self.ask(HelpAt::AllFrozen { j, found }, Kind::LoadAllFrozen, allfrozen, Deed::Load)
+                    self.ask(
+                        HelpAt::AllFrozen { j, found },
+                        Kind::LoadAllFrozen,
+                        allfrozen,
+                        Deed::Load,
+                    )
                 }
             }
             HelpAt::AllFrozen { j, found: other } => {

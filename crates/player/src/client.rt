@@ -160,10 +160,16 @@ impl Client {
     fn records(&mut self) -> Result<(Fresh, ScxNo), Answer> {
         let (nodes, scx) = self.share.left();
         if nodes == 0 {
-            return Err(Answer::Full { what: Resource::Nodes, left: nodes });
+            return Err(Answer::Full {
+                what: Resource::Nodes,
+                left: nodes,
+            });
         }
         if scx == 0 {
-            return Err(Answer::Full { what: Resource::Scx, left: scx });
+            return Err(Answer::Full {
+                what: Resource::Scx,
+                left: scx,
+            });
         }
         match (self.share.fresh(), self.share.scx()) {
             (Some(fresh), Some(scx)) => Ok((fresh, scx)),
@@ -184,11 +190,7 @@ impl Client {
     fn run(&mut self, mut run: Run, then: Option<Put>) -> Option<Answer> {
         match Machine::<Cells>::next(&mut run, None) {
             Turn::Ask(step) => {
-                self.running = Some(Running {
-                    run,
-                    then,
-                    step,
-                });
+                self.running = Some(Running { run, then, step });
                 None
             }
             Turn::Done(ended) => Some(ended.answer()),
@@ -218,14 +220,14 @@ impl Client {
 
     /// Tells the client what the step that it had asked for found: it asks for another, or answers.
     pub(crate) fn tell(&mut self, found: u64) -> Option<Answer> {
-        let Running { mut run, then, step: _ } = self.running.take()?;
+        let Running {
+            mut run,
+            then,
+            step: _,
+        } = self.running.take()?;
         match Machine::<Cells>::next(&mut run, Some(found)) {
             Turn::Ask(step) => {
-                self.running = Some(Running {
-                    run,
-                    then,
-                    step,
-                });
+                self.running = Some(Running { run, then, step });
                 None
             }
             Turn::Done(ended) => self.after(ended, then),
@@ -246,12 +248,14 @@ impl Client {
     /// Keeps the snapshot of an LLX, or drops the one before where it gave none.
     fn keep(&mut self, llx: Llx) {
         let (node, found) = match llx {
-            Llx::Snapshot(Snap {
-                node,
-                scx,
-                left,
-                right,
-            }) => (node, Some(Found { scx, left, right })),
+            Llx::Snapshot(
+                Snap {
+                    node,
+                    scx,
+                    left,
+                    right,
+                },
+            ) => (node, Some(Found { scx, left, right })),
             Llx::Finalized { node, scx: _ } => (node, None),
             Llx::Fail { node, scx: _ } => (node, None),
         };
@@ -270,7 +274,9 @@ impl Client {
             moment: self.moment(turn, answer),
             answer,
         };
-        self.next = self.next.and_then(|at| next_call(calls, at.checked_add(1)?, self.pass));
+        self.next = self
+            .next
+            .and_then(|at| next_call(calls, at.checked_add(1)?, self.pass));
         self.number = self.number.saturating_add(1);
         reply
     }

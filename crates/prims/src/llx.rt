@@ -2,7 +2,10 @@
 ghost use Rattle.std.specs.Prelude.{◌≡◌, ℕ, ◌+◌, ◌<◌, ◌≤◌};
 
 use crate::snap::Snap;
-use arena::{ABORTED, COMMITTED, Deed, IN_PROGRESS, Kind, Machine, NodeNo, NodeWord, ScxNo, ScxWord, Shape, Side, Step, Turn, Word};
+use arena::{
+    ABORTED, COMMITTED, Deed, IN_PROGRESS, Kind, Machine, NodeNo, NodeWord, ScxNo, ScxWord, Shape,
+    Side, Step, Turn, Word,
+};
 use help::HelpRun;
 
 /// What an LLX answers.
@@ -21,17 +24,49 @@ pub enum Llx {
 pub enum LlxAt {
     Start,
     Marked,
-    Info { marked: bool },
-    State { marked: bool, scx: ScxNo },
-    MarkedAgain { marked: bool, scx: ScxNo, state: u64 },
-    Left { marked: bool, scx: ScxNo },
-    Right { marked: bool, scx: ScxNo, left: u64 },
-    InfoAgain { marked: bool, scx: ScxNo, left: u64, right: u64 },
-    StateAgain { marked: bool, scx: ScxNo },
-    Help { marked: bool, help: HelpRun },
+    Info {
+        marked: bool,
+    },
+    State {
+        marked: bool,
+        scx: ScxNo,
+    },
+    MarkedAgain {
+        marked: bool,
+        scx: ScxNo,
+        state: u64,
+    },
+    Left {
+        marked: bool,
+        scx: ScxNo,
+    },
+    Right {
+        marked: bool,
+        scx: ScxNo,
+        left: u64,
+    },
+    InfoAgain {
+        marked: bool,
+        scx: ScxNo,
+        left: u64,
+        right: u64,
+    },
+    StateAgain {
+        marked: bool,
+        scx: ScxNo,
+    },
+    Help {
+        marked: bool,
+        help: HelpRun,
+    },
     LastInfo,
-    LastState { scx: ScxNo },
-    LastHelp { scx: ScxNo, help: HelpRun },
+    LastState {
+        scx: ScxNo,
+    },
+    LastHelp {
+        scx: ScxNo,
+        help: HelpRun,
+    },
 }
 
 /// LLX of one node, step by step: a snapshot where its info names a finished SCX-record before and

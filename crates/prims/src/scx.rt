@@ -4,7 +4,7 @@ ghost use Rattle.std.specs.Prelude.{◌≡◌, ℕ, ◌+◌, ◌<◌, ◌≤◌}
 use crate::snap::Snap;
 use crate::update::Update;
 use arena::{Deed, Kind, Machine, MemberNo, NodeNo, ScxNo, ScxWord, Shape, Step, Turn, Word};
-use help::{HelpRun};
+use help::HelpRun;
 
 /// What an SCX answers.
 #[derive(Clone, Copy, Debug, PartialEq, Eq)]

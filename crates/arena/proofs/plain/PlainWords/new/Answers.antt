@@ -11,6 +11,6 @@ pub returns-clause-opening : goal.returns-clause-opening
 returns-clause-opening c =
     let layout : c.set.new.self.layout ≡ c.args.layout.now = c.set.ensures.layout ∙ c.in_ok-words.ensures.layout in
     elim c.match-layout.branch [
-      in-Tree t ↦ rw t.words-is (as_tree c.set.new.self t.plant.new.self t.plant.ensures.layout (ap (λ (x : Layout). x.mode) layout ∙ t.in-Tree.is) t.plant.ensures.opening)
+      | in-Tree t ↦ rw t.words-is (as_tree c.set.new.self t.plant.new.self t.plant.ensures.layout (ap (λ (x : Layout). x.mode) layout ∙ t.in-Tree.is) t.plant.ensures.opening)
       | in_default t ↦ rw t.words-is (as_records c.in_ok-words.words c.set.new.self c.set.ensures.layout (ap (λ (x : Layout). x.mode) c.in_ok-words.ensures.layout ∙ t.in_default.is) (opened _ _ c.set.ensures c.in_ok-words.ensures.zeros))
     ]
