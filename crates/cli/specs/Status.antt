@@ -1,5 +1,11 @@
--- The exit status of a fault.
+-- The faults of the program, and their exit status.
 use Rattle.std.specs.Prelude.{ℕ}
+use Rattle.report.specs.declared.fault.WriteFault.{WriteFault}
+use Rattle.report.specs.declared.fault.WriteFault.TheVariants as write
+use Rattle.script.specs.declared.fault.ScriptCause.{ScriptCause}
+use Rattle.script.specs.declared.fault.ScheduleCause.{ScheduleCause}
+use Rattle.script.specs.declared.fault.TextFault.{TextFault}
+use Rattle.script.specs.declared.fault.TextFault.TheVariants as text
 use Rattle.cli.specs.declared.fault.Fault.{Fault}
 use Rattle.cli.specs.declared.fault.Fault.TheVariants.{Usage, BadScript, BadSchedule, NoMemory, Read, Write}
 
@@ -11,3 +17,18 @@ status_of Usage = 2
 status_of NoMemory = 3
 status_of Read = 4
 status_of Write = 4
+
+-- what the faults of the crates below are here
+abbrev pub fault_of_script : TextFault ScriptCause → Fault
+fault_of_script text.NoMemory = NoMemory
+fault_of_script text.Read = Read
+fault_of_script (text.Bad row cause) = BadScript row cause
+
+abbrev pub fault_of_schedule : TextFault ScheduleCause → Fault
+fault_of_schedule text.NoMemory = NoMemory
+fault_of_schedule text.Read = Read
+fault_of_schedule (text.Bad row cause) = BadSchedule row cause
+
+abbrev pub fault_of_write : WriteFault → Fault
+fault_of_write write.NoMemory = NoMemory
+fault_of_write write.Write = Write

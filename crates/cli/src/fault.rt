@@ -1,6 +1,7 @@
 //! Why the program stops early.
 ghost use Rattle.std.specs.Prelude.{◌≡◌};
-ghost use Rattle.cli.specs.Status.{status_of};
+ghost use Rattle.cli.specs.Status.{fault_of_schedule, fault_of_script, fault_of_write, status_of};
+ghost use Rattle.cli.specs.declared.fault.Fault.TheVariants as fault;
 
 use arena::NoMemory;
 use report::WriteFault;
@@ -29,8 +30,6 @@ pub enum Fault {
 }
 
 impl Fault {
-    ghost use Rattle.cli.specs.Status.{status_of};
-
     /// The status with which the program ends.
     pub fn status(self) -> u8
         ensures { result ≡ status_of self }
@@ -54,6 +53,8 @@ impl Fault {
 }
 
 impl From<ScriptFault> for Fault {
+    ghost from_gives = { λ given made. made ≡ fault_of_script given };
+
     fn from(fault: ScriptFault) -> Fault {
         match fault {
             ScriptFault::NoMemory => Fault::NoMemory,
@@ -64,6 +65,8 @@ impl From<ScriptFault> for Fault {
 }
 
 impl From<ScheduleFault> for Fault {
+    ghost from_gives = { λ given made. made ≡ fault_of_schedule given };
+
     fn from(fault: ScheduleFault) -> Fault {
         match fault {
             ScheduleFault::NoMemory => Fault::NoMemory,
@@ -74,12 +77,16 @@ impl From<ScheduleFault> for Fault {
 }
 
 impl From<NoMemory> for Fault {
+    ghost from_gives = { λ _ made. made ≡ fault.NoMemory };
+
     fn from(_fault: NoMemory) -> Fault {
         Fault::NoMemory
     }
 }
 
 impl From<WriteFault> for Fault {
+    ghost from_gives = { λ given made. made ≡ fault_of_write given };
+
     fn from(fault: WriteFault) -> Fault {
         match fault {
             WriteFault::NoMemory => Fault::NoMemory,

@@ -1,4 +1,7 @@
 //! The commands that play a script.
+ghost use Rattle.std.specs.Prelude.{◌≡◌, ◌≢◌, ◌≤◌, IfErr};
+ghost use Rattle.cli.specs.Status.{status_of};
+
 use crate::fault::Fault;
 use crate::run::run;
 use arena::Mode;
@@ -16,7 +19,11 @@ pub fn play_over<S: Read, T: Read, O: Write, E: Write>(
     schedule: &mut T,
     out: &mut O,
     err: &mut E,
-) -> u8 {
+) -> u8
+    ensures refused { result ≡ 1 → out.new ≡ out.old }
+    ensures not_usage { result ≢ 2 }
+    ensures status { result ≤ 4 }
+{
     match play(alloc, mode, script, schedule, out) {
         Ok(()) => 0,
         Err(fault) => fault.tell(err),
@@ -29,7 +36,10 @@ fn play<S: Read, T: Read, O: Write>(
     script: &mut S,
     schedule: &mut T,
     out: &mut O,
-) -> Result<(), Fault> {
+) -> Result<(), Fault>
+    ensures refused { IfErr result (λ fault. status_of fault ≡ 1 → out.new ≡ out.old) }
+    ensures not_usage { IfErr result (λ fault. status_of fault ≢ 2) }
+{
     let script = read_script(alloc, mode, &mut Metered::new(script))?;
     let schedule = read_schedule(alloc, &script, &mut Metered::new(schedule))?;
     let record = run(alloc, &script, &schedule)?;

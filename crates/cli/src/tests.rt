@@ -286,12 +286,12 @@ fn writer_fails_at_each_byte(rt: HostRuntime) {
     }
 }
 
-/// What the program writes with these words after its name.
-fn asked(rt: &HostRuntime, words: &[&str]) -> Result<Ended, Fail> {
+/// What the program writes with these words after its name, which one space parts.
+fn asked(rt: &HostRuntime, words: &str) -> Result<Ended, Fail> {
     let mut all = Vec::new(rt.alloc());
     all.push(String::from_str(rt.alloc(), "regnubas")?)?;
-    for word in words {
-        all.push(String::from_str(rt.alloc(), *word)?)?;
+    for word in words.split_whitespace() {
+        all.push(String::from_str(rt.alloc(), word)?)?;
     }
     let (mut out, mut err) = (Vec::new(rt.alloc()), Vec::new(rt.alloc()));
     let status = ask_over(rt, all.as_slice(), &mut out, &mut err);
@@ -300,25 +300,23 @@ fn asked(rt: &HostRuntime, words: &[&str]) -> Result<Ended, Fail> {
 
 #[test]
 fn words(rt: HostRuntime) -> Result<(), Fail> {
-    let usage = [
-        [].as_slice(),
-        ["records"].as_slice(),
-        ["records", "a"].as_slice(),
-        ["records", "a", "b", "c"].as_slice(),
-        ["play", "a", "b"].as_slice(),
-        ["run", "a"].as_slice(),
-        ["audit", "a"].as_slice(),
-        ["help"].as_slice(),
-        ["--help"].as_slice(),
-        ["records", "--help"].as_slice(),
+    let cases = [
+        ("", "usage\n", 2),
+        ("records", "usage\n", 2),
+        ("records a", "usage\n", 2),
+        ("records a b c", "usage\n", 2),
+        ("play a b", "usage\n", 2),
+        ("run a", "usage\n", 2),
+        ("audit a", "usage\n", 2),
+        ("help", "usage\n", 2),
+        ("--help", "usage\n", 2),
+        ("records --help", "usage\n", 2),
+        ("records no.script no.schedule", "read failed\n", 4),
     ];
-    for words in usage {
+    for (words, line, status) in cases {
         let ended = asked(&rt, words)?;
-        assert_eq!(rt; ended.err.as_slice(), b"usage\n".as_slice());
-        assert_eq!(rt; (ended.status, ended.out.len()), (2, 0));
+        assert_eq!(rt; ended.err.as_slice(), line.as_bytes(), "{words}");
+        assert_eq!(rt; (ended.status, ended.out.len()), (status, 0), "{words}");
     }
-    let ended = asked(&rt, &["records", "no such script", "no such schedule"])?;
-    assert_eq!(rt; ended.err.as_slice(), b"read failed\n".as_slice());
-    assert_eq!(rt; (ended.status, ended.out.len()), (4, 0));
     Ok(())
 }
