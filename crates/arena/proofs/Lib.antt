@@ -1,3 +1,6 @@
 pub mod SameWords
 pub mod Openings
 pub mod Shares
+pub mod Values
+pub mod Plans
+pub mod Taken

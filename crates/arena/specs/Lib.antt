@@ -4,5 +4,12 @@ pub mod Layout
 pub mod Machines
 pub mod Share
 pub mod PlainWords
-pub mod History
 pub mod MemberNo
+pub mod History
+pub mod ScxRecords
+pub mod Fills
+pub mod Lawful
+pub mod Blame
+pub mod Log
+pub mod Shape
+pub mod Finalized

@@ -1,8 +1,10 @@
 //! Calls that run step by step.
-ghost use Rattle.std.specs.Prelude.{◌≡◌, ℕ, ◌<◌};
+ghost use Rattle.std.specs.Prelude.{◌≡◌, ◌≢◌, ℕ, ◌<◌, Option, Some, None};
 ghost use Rattle.arena.specs.declared.layout.Layout.{Layout};
-ghost use Rattle.arena.specs.History.{History};
-ghost use Rattle.arena.specs.Machines.{MatchTurn};
+ghost use Rattle.arena.specs.History.{History, value, ◌⊳◌};
+ghost use Rattle.arena.specs.declared.step.Row.{Row};
+ghost use Rattle.arena.specs.declared.step.Step.{Step};
+ghost use Rattle.arena.specs.Machines.{MatchTurn, IsRun, Call, row_of, IsTold};
 
 use crate::step::Step;
 
@@ -32,9 +34,22 @@ pub trait Shape {
 }
 
 /// A call that asks for one atomic step at a time, and is told what each found. It runs under the
-/// shape of the layer above.
+/// shape of the layer above. Its conditions are said of the call and of the history so far, which
+/// rows of other passes may lengthen between any two of its own steps.
 pub trait Machine<S: Shape> {
     type Answer;
+
+    /// It may be called with what it is told.
+    ghost ready: { Self → Call → History → Option ℕ → Type 0 };
+
+    /// It waits for this step.
+    ghost waits: { Self → Call → History → Step → Type 0 };
+
+    /// It has answered, and the answer is right.
+    ghost answers: { Self → Call → History → Self.Answer → Type 0 };
+
+    /// The second is the first, further on: what it is a call of has not changed.
+    ghost same: { Self → Self → Type 0 };
 
     /// How many steps it may still ask for.
     ghost left: { Self → ℕ };
@@ -42,5 +57,16 @@ pub trait Machine<S: Shape> {
     /// Goes on with what the last step found; with nothing at the first call. It is not called again
     /// after `Done`.
     fn next(&mut self, got: Option<u64>) -> Turn<Self::Answer>
+        ensures turn { (c : Call) (h : History) → IsRun S.allows c.layout h → ready self.old c h got → MatchTurn result (waits self.new c h) (answers self.new c h) }
+        ensures same { same self.old self.new }
         ensures nearer { MatchTurn result (λ _. left self.new < left self.old) (λ _. Unit {0}) };
+
+    /// Rows of others leave it waiting.
+    ghost keeps: { (m : Self) (c : Call) (h : History) (s : Step) (r : Row) → IsRun S.allows c.layout (r ⊳ h) → r.pass.0 ≢ c.pass → waits m c h s → waits m c (r ⊳ h) s };
+
+    /// The step that it waits for is lawful, on a word of the table, and begins only what is allowed.
+    ghost lawful: { (m : Self) (c : Call) (h : History) (s : Step) → IsRun S.allows c.layout h → waits m c h s → IsRun S.allows c.layout (row_of c s h ⊳ h) };
+
+    /// Once the step is made, it may be called with what that told.
+    ghost made: { (m : Self) (c : Call) (h : History) (s : Step) (v : ℕ) → IsRun S.allows c.layout (row_of c s h ⊳ h) → IsTold s.deed (value h s.word) v → waits m c h s → ready m c (row_of c s h ⊳ h) (Some v) };
 }

@@ -2,7 +2,7 @@
 use crate::number::PassNo;
 use crate::word::Word;
 
-/// The kinds of step: three stores or loads of what is settled, loads, and the steps of an SCX.
+/// The kinds of step: a store of what is to be settled, loads, and the steps of an SCX.
 #[derive(Clone, Copy, Debug, PartialEq, Eq)]
 pub enum Kind {
     Fill,

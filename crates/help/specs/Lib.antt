@@ -1,2 +1,9 @@
 pub mod Plan
 pub mod HelpSteps
+pub mod Allowed
+pub mod HelpKnown
+pub mod AllowedLaws
+pub mod HelpKept
+pub mod HelpLawful
+pub mod HelpMade
+pub mod HelpTurns

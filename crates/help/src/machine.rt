@@ -9,15 +9,15 @@ use arena::{
 };
 
 impl HelpRun {
-    ghost use Rattle.std.specs.Prelude.{◌≡◌, ◌<◌, ◌≤◌, ◌+◌, ◌-◌, MatchOption};
-    ghost use Rattle.arena.specs.Machines.{MatchTurn};
+    ghost use Rattle.std.specs.Prelude.{◌≡◌, ◌<◌, ◌≤◌, ◌+◌, ◌-◌, true, false, ◌⊎◌, MatchOption};
     ghost use Rattle.arena.specs.MemberNo.{index_of};
+    ghost use Rattle.help.specs.Plan.{count, is_removed, at_of, side_of};
+    ghost use Rattle.help.specs.HelpKnown.{Asks, HasNext, IsLast, MarksNext, MarksNone, node_at, first_place};
     ghost use Rattle.help.specs.HelpSteps.{help_left};
 
     /// Asks for a step, and stands there.
     fn ask(&mut self, at: HelpAt, kind: Kind, word: Word, deed: Deed) -> Turn<bool>
-        ensures at { self.new.at ≡ at }
-        ensures turn { MatchTurn result (λ _. Unit {0}) (λ _. ⊥) }
+        ensures { Asks self.old self.new result at record { kind = kind; word = word; deed = deed } }
     {
         self.at = at;
         Turn::Ask(Step { kind, word, deed })
@@ -25,15 +25,13 @@ impl HelpRun {
 
     /// Loads one of the settled words of the SCX-record.
     fn load(&mut self, at: HelpAt, part: ScxWord) -> Turn<bool>
-        ensures at { self.new.at ≡ at }
-        ensures turn { MatchTurn result (λ _. Unit {0}) (λ _. ⊥) }
+        ensures { Asks self.old self.new result at record { kind = Kind.LoadSettled; word = Word.Scx self.old.scx part; deed = Deed.Load } }
     {
         self.ask(at, Kind::LoadSettled, Word::Scx(self.scx, part), Deed::Load)
     }
 
     fn freeze(&mut self, j: MemberNo, seen: u64) -> Turn<bool>
-        ensures at { self.new.at ≡ HelpAt.Freeze j seen }
-        ensures turn { MatchTurn result (λ _. Unit {0}) (λ _. ⊥) }
+        ensures { Asks self.old self.new result (HelpAt.Freeze j seen) record { kind = Kind.Freeze; word = Word.Node record { 0 = node_at self.old.members (index_of j) } NodeWord.Info; deed = Deed.Exchange seen self.old.scx.0 } }
     {
         let info = Word::Node(self.members[j.index()], NodeWord::Info);
         let new = self.scx.0;
@@ -46,8 +44,9 @@ impl HelpRun {
 
     /// Goes on to the next node once the j-th is frozen.
     fn after_freeze(&mut self, j: MemberNo) -> Turn<bool>
+        ensures scx { self.new.scx ≡ self.old.scx }
         ensures nearer { help_left self.new.at < help_left (HelpAt.Freeze j 0) }
-        ensures turn { MatchTurn result (λ _. Unit {0}) (λ _. ⊥) }
+        ensures turn { HasNext self.old self.new result j ⊎ IsLast self.old self.new result j }
     {
         match self.plan.member_behind(j) {
             Some(j) => self.load(HelpAt::Member { j }, ScxWord::Member(j.number())),
@@ -65,8 +64,9 @@ impl HelpRun {
 
     /// Marks the next node to be finalized, from this one on, or goes on to the update.
     fn mark_from(&mut self, from: Option<MemberNo>) -> Turn<bool>
+        ensures scx { self.new.scx ≡ self.old.scx }
         ensures nearer { MatchOption from (help_left self.new.at < 4) (λ j. help_left self.new.at < 8 - index_of j) }
-        ensures turn { MatchTurn result (λ _. Unit {0}) (λ _. ⊥) }
+        ensures turn { MarksNext self.old self.new result (first_place from) ⊎ MarksNone self.old self.new result (first_place from) }
     {
         match from.and_then(|j| self.plan.removed_from(j)) {
             Some(j) => {
@@ -78,8 +78,7 @@ impl HelpRun {
     }
 
     fn update(&mut self, old: u64, new: u64) -> Turn<bool>
-        ensures at { self.new.at ≡ HelpAt.Update }
-        ensures turn { MatchTurn result (λ _. Unit {0}) (λ _. ⊥) }
+        ensures { Asks self.old self.new result HelpAt.Update record { kind = Kind.Update; word = Word.Node record { 0 = node_at self.old.members (at_of self.old.plan.0) } (NodeWord.Child (side_of self.old.plan.0)); deed = Deed.Exchange old new } }
     {
         let node = self.members[self.plan.at().index()];
         let field = Word::Node(node, NodeWord::Child(self.plan.side()));
@@ -89,8 +88,7 @@ impl HelpRun {
 
     /// Stores that the SCX-record is finished.
     fn finish(&mut self, at: HelpAt, kind: Kind, state: u64) -> Turn<bool>
-        ensures at { self.new.at ≡ at }
-        ensures turn { MatchTurn result (λ _. Unit {0}) (λ _. ⊥) }
+        ensures { Asks self.old self.new result at record { kind = kind; word = Word.Scx self.old.scx ScxWord.State; deed = Deed.Store state } }
     {
         let word = Word::Scx(self.scx, ScxWord::State);
         self.ask(at, kind, word, Deed::Store(state))
@@ -100,8 +98,21 @@ impl HelpRun {
 impl<S: Shape> Machine<S> for HelpRun {
     type Answer = bool;
 
-    ghost use Rattle.std.specs.Prelude.{ℕ};
+    ghost use Rattle.std.specs.Prelude.{◌≡◌, ℕ};
     ghost use Rattle.help.specs.HelpSteps.{help_left};
+    ghost use Rattle.help.specs.HelpKnown.{help_ready, help_waits, help_answers};
+
+    ghost ready = { help_ready S.allows };
+
+    ghost waits = { help_waits S.allows };
+
+    ghost answers = { help_answers };
+
+    ghost use Rattle.help.specs.HelpKept.{help_keeps};
+    ghost use Rattle.help.specs.HelpMade.{help_made};
+    ghost use Rattle.help.specs.HelpLawful.{help_lawful};
+
+    ghost same = { λ old now. now.scx ≡ old.scx };
 
     ghost left = { λ m. help_left m.at };
 
@@ -148,4 +159,10 @@ impl<S: Shape> Machine<S> for HelpRun {
             HelpAt::Commit => Turn::Done(true),
         }
     }
+
+    ghost keeps = { help_keeps S.allows };
+
+    ghost lawful = { help_lawful S.allows };
+
+    ghost made = { help_made S.allows };
 }

@@ -38,6 +38,7 @@ pub struct HelpRun {
 impl HelpRun {
     ghost use Rattle.std.specs.Prelude.{◌≡◌, ◌≤◌};
     ghost use Rattle.help.specs.HelpSteps.{help_left};
+    ghost use Rattle.help.specs.HelpKnown.{blocked_at};
     ghost use Rattle.help.specs.declared.state.HelpAt.TheVariants.{Start};
 
     /// A run that has not begun. It asks for at most 27 steps.
@@ -56,7 +57,9 @@ impl HelpRun {
 
     /// The node that could not be frozen and the SCX-record that its info names, once the run has
     /// answered false.
-    pub fn blocked(&self) -> (NodeNo, ScxNo) {
+    pub fn blocked(&self) -> (NodeNo, ScxNo)
+        ensures { result ≡ blocked_at self.now.members self.now.at }
+    {
         match self.at {
             HelpAt::Abort { j, found } => (self.members[j.index()], ScxNo(found)),
             _ => (NodeNo(0), ScxNo(0)),

@@ -1,3 +1,4 @@
-pub mod Run
+pub mod RunSteps
+pub mod RunKnown
 pub mod Lines
 pub mod Player

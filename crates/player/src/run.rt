@@ -43,7 +43,16 @@ impl Machine<Cells> for Run {
     type Answer = Ended;
 
     ghost use Rattle.std.specs.Prelude.{ℕ};
-    ghost use Rattle.player.specs.Run.{run_left};
+    ghost use Rattle.player.specs.RunSteps.{run_left};
+    ghost use Rattle.player.specs.RunKnown.{run_ready, run_waits, run_answers, run_same, run_keeps, run_lawful, run_made};
+
+    ghost ready = { run_ready };
+
+    ghost waits = { run_waits };
+
+    ghost answers = { run_answers };
+
+    ghost same = { run_same };
 
     ghost left = { run_left };
 
@@ -54,4 +63,10 @@ impl Machine<Cells> for Run {
             Run::Vlx(run) => Machine::<Cells>::next(run, got).map(|vlx| Ended::Vlx(vlx)),
         }
     }
+
+    ghost keeps = { run_keeps };
+
+    ghost lawful = { run_lawful };
+
+    ghost made = { run_made };
 }

@@ -78,8 +78,11 @@ pub struct LlxRun {
 }
 
 impl LlxRun {
-    ghost use Rattle.std.specs.Prelude.{◌≡◌, ◌+◌, ◌<◌, ◌≤◌};
-    ghost use Rattle.arena.specs.Machines.{MatchTurn};
+    ghost use Rattle.std.specs.Prelude.{◌≡◌, ◌+◌, ◌<◌, ◌≤◌, ◌⊎◌};
+    ghost use Rattle.arena.specs.Words.{info};
+    ghost use Rattle.arena.specs.History.{History, HasHeld};
+    ghost use Rattle.arena.specs.Machines.{MatchTurn, Call};
+    ghost use Rattle.prims.specs.LlxKnown.{HasMet, Helps, Meets, Asks, Reads, LooksAgain, Snaps, Finalizes, llx_turn};
     ghost use Rattle.help.specs.HelpSteps.{help_left};
     ghost use Rattle.prims.specs.LlxSteps.{llx_left};
 
@@ -95,42 +98,37 @@ impl LlxRun {
         }
     }
 
-    /// Loads a word of the node.
-    fn load(&mut self, at: LlxAt, kind: Kind, part: NodeWord) -> Turn<Llx>
-        ensures at { self.new.at ≡ at }
-        ensures turn { MatchTurn result (λ _. Unit {0}) (λ _. ⊥) }
+    /// Asks for a load, and stands there.
+    fn ask(&mut self, at: LlxAt, kind: Kind, word: Word) -> Turn<Llx>
+        ensures { Asks self.old self.new result at record { kind = kind; word = word; deed = Deed.Load } }
     {
         self.at = at;
-        Turn::Ask(Step {
-            kind,
-            word: Word::Node(self.node, part),
-            deed: Deed::Load,
-        })
+        let deed = Deed::Load;
+        Turn::Ask(Step { kind, word, deed })
+    }
+
+    /// Loads a word of the node.
+    fn load(&mut self, at: LlxAt, kind: Kind, part: NodeWord) -> Turn<Llx>
+        ensures { Asks self.old self.new result at record { kind = kind; word = Word.Node self.old.node part; deed = Deed.Load } }
+    {
+        self.ask(at, kind, Word::Node(self.node, part))
     }
 
     fn load_child(&mut self, at: LlxAt, side: Side) -> Turn<Llx>
-        ensures at { self.new.at ≡ at }
-        ensures turn { MatchTurn result (λ _. Unit {0}) (λ _. ⊥) }
+        ensures { Asks self.old self.new result at record { kind = Kind.LoadChild; word = Word.Node self.old.node (NodeWord.Child side); deed = Deed.Load } }
     {
         self.load(at, Kind::LoadChild, NodeWord::Child(side))
     }
 
     fn load_state(&mut self, at: LlxAt, scx: ScxNo) -> Turn<Llx>
-        ensures at { self.new.at ≡ at }
-        ensures turn { MatchTurn result (λ _. Unit {0}) (λ _. ⊥) }
+        ensures { Asks self.old self.new result at record { kind = Kind.LoadState; word = Word.Scx scx ScxWord.State; deed = Deed.Load } }
     {
-        self.at = at;
-        Turn::Ask(Step {
-            kind: Kind::LoadState,
-            word: Word::Scx(scx, ScxWord::State),
-            deed: Deed::Load,
-        })
+        self.ask(at, Kind::LoadState, Word::Scx(scx, ScxWord::State))
     }
 
     /// Reads the fields if the SCX-record that the info names left the node in place.
     fn read_fields(&mut self, marked: bool, scx: ScxNo, state: u64, marked_again: bool) -> Turn<Llx>
-        ensures nearer { llx_left self.new.at < 50 }
-        ensures turn { MatchTurn result (λ _. Unit {0}) (λ _. ⊥) }
+        ensures turn { Reads self.old self.new result marked scx state marked_again ⊎ LooksAgain self.old self.new result marked scx }
     {
         if state == ABORTED || state == COMMITTED && !marked_again {
             self.load_child(LlxAt::Left { marked, scx }, Side::Left)
@@ -141,7 +139,7 @@ impl LlxRun {
 
     /// Ends with the snapshot if the info is still what it was.
     fn compare_info(&mut self, marked: bool, snap: Snap, info: u64) -> Turn<Llx>
-        ensures nearer { MatchTurn result (λ _. llx_left self.new.at < 47) (λ _. Unit {0}) }
+        ensures turn { Snaps self.new self.old result snap info ⊎ LooksAgain self.old self.new result marked snap.scx }
     {
         let scx = snap.scx;
         if info == scx.0 {
@@ -153,6 +151,8 @@ impl LlxRun {
 
     /// Helps the SCX-record that was met, or goes on at once if it is finished.
     fn meet<S: Shape>(&mut self, marked: bool, scx: ScxNo, state: u64) -> Turn<Llx>
+        ensures node { self.new.node ≡ self.old.node }
+        ensures turn { (c : Call) (h : History) → Meets S.allows c h self.old.node.0 marked scx.0 state → llx_turn S.allows c h self.new result }
         ensures nearer { MatchTurn result (λ _. llx_left self.new.at < 46) (λ _. Unit {0}) }
     {
         if state == IN_PROGRESS {
@@ -163,6 +163,8 @@ impl LlxRun {
     }
 
     fn help_on<S: Shape>(&mut self, marked: bool, mut help: HelpRun, got: Option<u64>) -> Turn<Llx>
+        ensures node { self.new.node ≡ self.old.node }
+        ensures turn { (c : Call) (h : History) → Helps S.allows c h self.old.node.0 help got → HasMet h self.old.node.0 marked help.scx.0 → llx_turn S.allows c h self.new result }
         ensures nearer { MatchTurn result (λ _. llx_left self.new.at < 24 + help_left help.at) (λ _. Unit {0}) }
     {
         let scx = help.scx;
@@ -177,7 +179,7 @@ impl LlxRun {
 
     /// Ends if the SCX-record that was met has finalized the node, else looks at the info once more.
     fn helped(&mut self, finalized: bool, scx: ScxNo) -> Turn<Llx>
-        ensures nearer { MatchTurn result (λ _. llx_left self.new.at < 24) (λ _. Unit {0}) }
+        ensures turn { Finalizes self.new self.old result finalized scx ⊎ Asks self.old self.new result LlxAt.LastInfo record { kind = Kind.LoadInfo; word = Word.Node self.old.node NodeWord.Info; deed = Deed.Load } }
     {
         if finalized {
             let node = self.node;
@@ -189,6 +191,8 @@ impl LlxRun {
 
     /// Helps the SCX-record that stands in the info now, and fails.
     fn help_last<S: Shape>(&mut self, scx: ScxNo, mut help: HelpRun, got: Option<u64>) -> Turn<Llx>
+        ensures node { self.new.node ≡ self.old.node }
+        ensures turn { (c : Call) (h : History) → Helps S.allows c h self.old.node.0 help got → HasHeld h (info self.old.node.0) scx.0 → llx_turn S.allows c h self.new result }
         ensures nearer { MatchTurn result (λ _. llx_left self.new.at < help_left help.at) (λ _. Unit {0}) }
     {
         match Machine::<S>::next(&mut help, got) {
@@ -201,7 +205,7 @@ impl LlxRun {
     }
 
     fn fail(&self, scx: ScxNo) -> Turn<Llx>
-        ensures { MatchTurn result (λ _. ⊥) (λ a. a ≡ Llx.Fail self.now.node scx) }
+        ensures { result ≡ Turn.Done (Llx.Fail self.now.node scx) }
     {
         let node = self.node;
         Turn::Done(Llx::Fail { node, scx })
@@ -211,8 +215,18 @@ impl LlxRun {
 impl<S: Shape> Machine<S> for LlxRun {
     type Answer = Llx;
 
-    ghost use Rattle.std.specs.Prelude.{ℕ};
+    ghost use Rattle.std.specs.Prelude.{◌≡◌, ℕ};
     ghost use Rattle.prims.specs.LlxSteps.{llx_left};
+    ghost use Rattle.prims.specs.LlxKnown.{llx_ready, llx_waits, llx_answers};
+    ghost use Rattle.prims.specs.LlxLaws.{llx_keeps, llx_lawful, llx_made};
+
+    ghost ready = { llx_ready S.allows };
+
+    ghost waits = { llx_waits S.allows };
+
+    ghost answers = { llx_answers };
+
+    ghost same = { λ old now. now.node ≡ old.node };
 
     ghost left = { λ m. llx_left m.at };
 
@@ -287,4 +301,10 @@ impl<S: Shape> Machine<S> for LlxRun {
             LlxAt::LastHelp { scx, help } => self.help_last::<S>(scx, help, got),
         }
     }
+
+    ghost keeps = { llx_keeps S.allows };
+
+    ghost lawful = { llx_lawful S.allows };
+
+    ghost made = { llx_made S.allows };
 }

@@ -41,8 +41,18 @@ impl PutRun {
 impl<S: Shape> Machine<S> for PutRun {
     type Answer = Scx;
 
-    ghost use Rattle.std.specs.Prelude.{ℕ};
+    ghost use Rattle.std.specs.Prelude.{◌≡◌, ℕ};
     ghost use Rattle.prims.specs.PutSteps.{put_left};
+    ghost use Rattle.prims.specs.PutKnown.{put_ready, put_waits, put_answers};
+    ghost use Rattle.prims.specs.PutLaws.{put_keeps, put_lawful, put_made};
+
+    ghost ready = { put_ready S.allows };
+
+    ghost waits = { put_waits S.allows };
+
+    ghost answers = { put_answers };
+
+    ghost same = { λ old now. (now.scx.scx ≡ old.scx.scx) × (now.scx.update ≡ old.scx.update) };
 
     ghost left = { put_left };
 
@@ -63,4 +73,10 @@ impl<S: Shape> Machine<S> for PutRun {
             PutAt::Scx => Machine::<S>::next(&mut self.scx, got),
         }
     }
+
+    ghost keeps = { put_keeps S.allows };
+
+    ghost lawful = { put_lawful S.allows };
+
+    ghost made = { put_made S.allows };
 }

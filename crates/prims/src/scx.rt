@@ -39,8 +39,12 @@ pub struct ScxRun {
 }
 
 impl ScxRun {
-    ghost use Rattle.std.specs.Prelude.{◌≡◌, ◌≤◌, ◌<◌, ◌+◌};
-    ghost use Rattle.arena.specs.Machines.{MatchTurn};
+    ghost use Rattle.std.specs.Prelude.{◌≡◌, ◌≤◌, ◌<◌, ◌+◌, ◌⊎◌};
+    ghost use Rattle.arena.specs.MemberNo.{index_of};
+    ghost use Rattle.arena.specs.History.{History};
+    ghost use Rattle.arena.specs.Machines.{MatchTurn, Call};
+    ghost use Rattle.prims.specs.VlxKnown.{snap_at};
+    ghost use Rattle.prims.specs.ScxKnown.{FillsAt, FillsNext, FillsLast, Helps, scx_turn};
     ghost use Rattle.help.specs.HelpSteps.{help_left};
     ghost use Rattle.prims.specs.ScxSteps.{scx_left};
 
@@ -60,8 +64,8 @@ impl ScxRun {
 
     /// Fills a word of the SCX-record.
     fn fill(&mut self, at: ScxAt, part: ScxWord, value: u64) -> Turn<Scx>
-        ensures at { self.new.at ≡ at }
-        ensures turn { MatchTurn result (λ _. Unit {0}) (λ _. ⊥) }
+        ensures stands { self.new ≡ record self.old { at = at } }
+        ensures asked { result ≡ Turn.Ask (record { kind = Kind.Fill; word = Word.Scx self.old.scx part; deed = Deed.Store value }) }
     {
         self.at = at;
         Turn::Ask(Step {
@@ -72,7 +76,9 @@ impl ScxRun {
     }
 
     /// What the snapshot at a place says.
-    fn snap(&self, j: MemberNo) -> Snap {
+    fn snap(&self, j: MemberNo) -> Snap
+        ensures { result ≡ snap_at self.now.update.snaps.items (index_of j) }
+    {
         self.update
             .snaps
             .get(j.index())
@@ -82,8 +88,7 @@ impl ScxRun {
 
     /// Fills the j-th node.
     fn fill_member(&mut self, j: MemberNo) -> Turn<Scx>
-        ensures at { self.new.at ≡ ScxAt.Member j }
-        ensures turn { MatchTurn result (λ _. Unit {0}) (λ _. ⊥) }
+        ensures { FillsAt self.old self.new result (ScxAt.Member j) }
     {
         let node = self.snap(j).node.0;
         self.fill(ScxAt::Member { j }, ScxWord::Member(j.number()), node)
@@ -91,16 +96,16 @@ impl ScxRun {
 
     /// Fills what the info of the j-th node was.
     fn fill_seen(&mut self, j: MemberNo) -> Turn<Scx>
-        ensures at { self.new.at ≡ ScxAt.Seen j }
-        ensures turn { MatchTurn result (λ _. Unit {0}) (λ _. ⊥) }
+        ensures { FillsAt self.old self.new result (ScxAt.Seen j) }
     {
         let seen = self.snap(j).scx.0;
         self.fill(ScxAt::Seen { j }, ScxWord::Seen(j.number()), seen)
     }
 
     fn after_member(&mut self, j: MemberNo) -> Turn<Scx>
+        ensures turn { FillsNext self.old self.new result j (λ k. ScxAt.Member k) ⊎ FillsLast self.old self.new result j (ScxAt.Seen MemberNo.First) }
+        ensures same { (self.new.scx ≡ self.old.scx) × (self.new.update ≡ self.old.update) }
         ensures nearer { scx_left self.new.at < scx_left (ScxAt.Member j) }
-        ensures turn { MatchTurn result (λ _. Unit {0}) (λ _. ⊥) }
     {
         match self.update.plan.member_behind(j) {
             Some(j) => self.fill_member(j),
@@ -109,8 +114,9 @@ impl ScxRun {
     }
 
     fn after_seen(&mut self, j: MemberNo) -> Turn<Scx>
+        ensures turn { FillsNext self.old self.new result j (λ k. ScxAt.Seen k) ⊎ FillsLast self.old self.new result j ScxAt.Call }
+        ensures same { (self.new.scx ≡ self.old.scx) × (self.new.update ≡ self.old.update) }
         ensures nearer { scx_left self.new.at < scx_left (ScxAt.Seen j) }
-        ensures turn { MatchTurn result (λ _. Unit {0}) (λ _. ⊥) }
     {
         match self.update.plan.member_behind(j) {
             Some(j) => self.fill_seen(j),
@@ -122,6 +128,8 @@ impl ScxRun {
     }
 
     fn help_on<S: Shape>(&mut self, mut help: HelpRun, got: Option<u64>) -> Turn<Scx>
+        ensures turn { (c : Call) (h : History) → Helps S.allows c h self.old help got → scx_turn S.allows c h self.new result }
+        ensures same { (self.new.scx ≡ self.old.scx) × (self.new.update ≡ self.old.update) }
         ensures nearer { MatchTurn result (λ _. scx_left self.new.at < help_left help.at) (λ _. Unit {0}) }
     {
         match Machine::<S>::next(&mut help, got) {
@@ -141,8 +149,19 @@ impl ScxRun {
 impl<S: Shape> Machine<S> for ScxRun {
     type Answer = Scx;
 
-    ghost use Rattle.std.specs.Prelude.{ℕ};
+    ghost use Rattle.std.specs.Prelude.{◌≡◌, ℕ};
     ghost use Rattle.prims.specs.ScxSteps.{scx_left};
+    ghost use Rattle.prims.specs.ScxKnown.{scx_ready, scx_waits, scx_answers};
+    ghost use Rattle.prims.specs.ScxLaws.{scx_keeps, scx_lawful};
+    ghost use Rattle.prims.specs.ScxMade.{scx_made};
+
+    ghost ready = { scx_ready S.allows };
+
+    ghost waits = { scx_waits S.allows };
+
+    ghost answers = { scx_answers };
+
+    ghost same = { λ old now. (now.scx ≡ old.scx) × (now.update ≡ old.update) };
 
     ghost left = { λ m. scx_left m.at };
 
@@ -168,4 +187,10 @@ impl<S: Shape> Machine<S> for ScxRun {
             ScxAt::Help { help } => self.help_on::<S>(help, got),
         }
     }
+
+    ghost keeps = { scx_keeps S.allows };
+
+    ghost lawful = { scx_lawful S.allows };
+
+    ghost made = { scx_made S.allows };
 }

@@ -25,10 +25,11 @@ pub struct VlxRun {
 }
 
 impl VlxRun {
-    ghost use Rattle.std.specs.Prelude.{◌≡◌, ◌+◌, ◌-◌, ◌<◌, ◌≤◌, length};
+    ghost use Rattle.std.specs.Prelude.{◌≡◌, ◌+◌, ◌-◌, ◌<◌, ◌≤◌, ◌⊎◌, length};
     ghost use Rattle.arena.specs.Machines.{MatchTurn};
     ghost use Rattle.arrayvec.specs.ArrayVec.{array_vec_len};
     ghost use Rattle.prims.specs.VlxSteps.{vlx_left};
+    ghost use Rattle.prims.specs.VlxKnown.{AsksNext, IsThrough, snap_at};
 
     /// A run that has not begun, over 1 to 4 snapshots. It asks for as many steps at most.
     pub fn new(snaps: &[Snap]) -> VlxRun
@@ -44,8 +45,17 @@ impl VlxRun {
         }
     }
 
+    /// The snapshot at a place.
+    fn snap(&self, index: usize) -> Snap
+        ensures { result ≡ snap_at self.now.snaps.items index }
+    {
+        self.snaps.get(index).copied().unwrap_or_default()
+    }
+
+    /// Asks for the info of the next node.
     fn ask_next(&mut self) -> Turn<Vlx>
-        ensures { MatchTurn result (λ _. vlx_left self.new < vlx_left self.old) (λ _. Unit {0}) }
+        ensures turn { AsksNext self.old self.new result ⊎ IsThrough self.old self.new result }
+        ensures nearer { MatchTurn result (λ _. vlx_left self.new < vlx_left self.old) (λ _. Unit {0}) }
     {
         match self.snaps.get(self.asked) {
             None => Turn::Done(Vlx::Same),
@@ -65,21 +75,37 @@ impl VlxRun {
 impl<S: Shape> Machine<S> for VlxRun {
     type Answer = Vlx;
 
-    ghost use Rattle.std.specs.Prelude.{ℕ};
+    ghost use Rattle.std.specs.Prelude.{◌≡◌, ℕ};
     ghost use Rattle.prims.specs.VlxSteps.{vlx_left};
+    ghost use Rattle.prims.specs.VlxKnown.{vlx_ready, vlx_waits, vlx_answers};
+    ghost use Rattle.prims.specs.VlxLaws.{vlx_keeps, vlx_lawful, vlx_made};
+
+    ghost ready = { vlx_ready };
+
+    ghost waits = { vlx_waits };
+
+    ghost answers = { vlx_answers };
+
+    ghost same = { λ old now. now.snaps ≡ old.snaps };
 
     ghost left = { vlx_left };
 
     fn next(&mut self, got: Option<u64>) -> Turn<Vlx> {
-        let (Some(found), Some(asked)) = (got, self.asked.checked_sub(1)) else {
+        let (Some(found), Some(last)) = (got, self.asked.checked_sub(1)) else {
             return self.ask_next();
         };
-        match self.snaps.get(asked) {
-            Some(snap) if snap.scx.0 != found => Turn::Done(Vlx::Changed {
-                node: snap.node,
-                scx: ScxNo(found),
-            }),
-            _ => self.ask_next(),
+        let snap = self.snap(last);
+        if snap.scx.0 == found {
+            return self.ask_next();
         }
+        let node = snap.node;
+        let scx = ScxNo(found);
+        Turn::Done(Vlx::Changed { node, scx })
     }
+
+    ghost keeps = { vlx_keeps S.allows };
+
+    ghost lawful = { vlx_lawful S.allows };
+
+    ghost made = { vlx_made S.allows };
 }

@@ -1,0 +1,155 @@
+-- What a word holds, and has held, after one more row.
+use Rattle.std.proofs.Common.{◌≡◌, ◌≢◌, ℕ, Bool, true, false, ◌&&◌, eqb, ◌⊎◌, inl, inr, refl, sym, ◌∙◌, ap, eq-eqb, ne_eqb, List, [], ◌∷◌, ◌++◌}
+use mathlib.Core.Path.{fun_ext}
+use Rattle.arena.specs.declared.limits.Mode.{Mode}
+use Rattle.arena.specs.declared.limits.Mode.TheVariants.{Tree, Records}
+use Rattle.arena.specs.declared.word.NodeWord.{NodeWord}
+use Rattle.arena.specs.declared.word.ScxWord.{ScxWord}
+use Rattle.arena.specs.declared.word.ScxWord.TheVariants.{State}
+use Rattle.arena.specs.declared.word.Word.{Word}
+use Rattle.arena.specs.declared.step.Row.{Row}
+use Rattle.arena.specs.declared.step.Deed.TheVariants.{Exchange}
+use Rattle.arena.specs.Words.{same_word, same_node_word, same_scx_word, node, scx, info, marked, state, deed_after}
+use Rattle.arena.specs.History.{History, Start, ◌⊳◌, value, HasHeld, EndsWith, rows_after}
+use Rattle.arena.proofs.SameWords.{word_same, word_refl}
+
+pub value_at : (r : Row) (h : History) (w : Word) → r.word ≡ w → value (r ⊳ h) w ≡ r.after
+unfolding value
+value_at r h w e = rw e (rw word_refl refl)
+
+pub value_other : (r : Row) (h : History) (w : Word) → same_word r.word w ≡ false → value (r ⊳ h) w ≡ value h w
+unfolding value
+value_other r h w e = rw e refl
+
+-- a row on another word
+pub value_apart : (r : Row) (h : History) (u w : Word) → r.word ≡ u → same_word u w ≡ false → value (r ⊳ h) w ≡ value h w
+value_apart r h u w e d = value_other r h w (rw e d)
+
+-- a row that changes nothing leaves every word
+pub value_quiet : (r : Row) (h : History) → r.before ≡ value h r.word → r.after ≡ r.before → (w : Word) → value (r ⊳ h) w ≡ value h w
+unfolding value
+value_quiet r h b a w = go (same_word r.word w) refl
+  where
+    go : (t : Bool) → same_word r.word w ≡ t → value (r ⊳ h) w ≡ value h w
+    go true e = rw e (a ∙ b ∙ ap (value h) (word_same r.word w e))
+    go false e = rw e refl
+
+pub value_quiet_all : (r : Row) (h : History) → r.before ≡ value h r.word → r.after ≡ r.before → value (r ⊳ h) ≡ value h
+value_quiet_all r h b a = fun_ext (value_quiet r h b a)
+
+-- What a word has held
+
+pub held_at : (h : History) (w : Word) (v : ℕ) → value h w ≡ v → HasHeld h w v
+unfolding HasHeld
+held_at (Start mode) w v e = e
+held_at (r ⊳ h) w v e = inl e
+
+pub held_now : (h : History) (w : Word) → HasHeld h w (value h w)
+held_now h w = held_at h w (value h w) refl
+
+pub held_more : (r : Row) (h : History) (w : Word) (v : ℕ) → HasHeld h w v → HasHeld (r ⊳ h) w v
+unfolding HasHeld
+held_more r h w v p = inr p
+
+pub held_split : (r : Row) (h : History) (w : Word) (v : ℕ) → HasHeld (r ⊳ h) w v → (value (r ⊳ h) w ≡ v) ⊎ HasHeld h w v
+unfolding HasHeld
+held_split r h w v p = p
+
+pub held_start : (mode : Mode) (w : Word) (v : ℕ) → HasHeld (Start mode) w v → value (Start mode) w ≡ v
+unfolding HasHeld
+held_start mode w v p = p
+
+-- a row that leaves the word
+pub held_back : (r : Row) (h : History) (w : Word) (v : ℕ) → value (r ⊳ h) w ≡ value h w → HasHeld (r ⊳ h) w v → HasHeld h w v
+held_back r h w v e p = go (held_split r h w v p)
+  where
+    go : (value (r ⊳ h) w ≡ v) ⊎ HasHeld h w v → HasHeld h w v
+    go (inl q) = held_at h w v (sym e ∙ q)
+    go (inr q) = q
+
+-- The opening words
+
+pub opening_info : (mode : Mode) (n : ℕ) → value (Start mode) (info n) ≡ 0
+unfolding value
+opening_info Tree n = refl
+opening_info Records n = refl
+
+pub opening_marked : (mode : Mode) (n : ℕ) → value (Start mode) (marked n) ≡ 0
+unfolding value
+opening_marked Tree n = refl
+opening_marked Records n = refl
+
+-- of an SCX-record's words only the dummy's state is not zero
+pub opening_scx : (mode : Mode) (s : ℕ) (part : ScxWord) → same_scx_word State part ≡ false → value (Start mode) (scx s part) ≡ 0
+unfolding value
+opening_scx Tree s State e = cc
+opening_scx Tree s _ e = refl
+opening_scx Records s State e = cc
+opening_scx Records s _ e = refl
+
+pub opening_dummy : (mode : Mode) → value (Start mode) (state 0) ≡ 2
+unfolding value
+opening_dummy Tree = refl
+opening_dummy Records = refl
+
+pub opening_state : (mode : Mode) (s : ℕ) → s ≢ 0 → value (Start mode) (state s) ≡ 0
+unfolding value
+opening_state Tree s d = rw (ne_eqb s 0 d) refl
+opening_state Records s d = rw (ne_eqb s 0 d) refl
+
+-- Words that differ
+
+and_false : (a b : Bool) → b ≡ false → a && b ≡ false
+and_false true b e = e
+and_false false b e = refl
+
+pub node_word_apart : (n m : ℕ) (a b : NodeWord) → same_node_word a b ≡ false → same_word (node n a) (node m b) ≡ false
+node_word_apart n m a b e = and_false (eqb n m) (same_node_word a b) e
+
+pub scx_word_apart : (s t : ℕ) (a b : ScxWord) → same_scx_word a b ≡ false → same_word (scx s a) (scx t b) ≡ false
+scx_word_apart s t a b e = and_false (eqb s t) (same_scx_word a b) e
+
+pub node_apart : (n m : ℕ) (a b : NodeWord) → n ≢ m → same_word (node n a) (node m b) ≡ false
+node_apart n m a b d = rw (ne_eqb n m d) refl
+
+pub scx_apart : (s t : ℕ) (a b : ScxWord) → s ≢ t → same_word (scx s a) (scx t b) ≡ false
+scx_apart s t a b d = rw (ne_eqb s t d) refl
+
+-- What an exchange leaves
+
+pub exchange_won : (e v f : ℕ) → f ≡ e → deed_after (Exchange e v) f ≡ v
+exchange_won e v f p = rw (eq-eqb f e p) refl
+
+pub exchange_lost : (e v f : ℕ) → f ≢ e → deed_after (Exchange e v) f ≡ f
+exchange_lost e v f p = rw (ne_eqb f e p) refl
+
+-- Moments
+
+pub ends_self : (h : History) → EndsWith h h
+ends_self (Start mode) = refl
+ends_self (r ⊳ h) = inl refl
+
+pub ends_trans : (h m l : History) → EndsWith h m → EndsWith m l → EndsWith h l
+ends_trans (Start mode) m l e f = rw e at f
+ends_trans (r ⊳ h) m l (inl e) f = rw e at f
+ends_trans (r ⊳ h) m l (inr e) f = inr (ends_trans h m l e f)
+
+-- what a word held at a moment it has held
+pub held_since : (h m : History) (w : Word) (v : ℕ) → EndsWith h m → HasHeld m w v → HasHeld h w v
+held_since (Start mode) m w v e p = rw e at p
+held_since (r ⊳ h) m w v (inl e) p = rw e at p
+held_since (r ⊳ h) m w v (inr e) p = held_more r h w v (held_since h m w v e p)
+
+-- Rows one after another
+
+pub rows_after_append : (h : History) (before then : List Row) → rows_after h (before ++ then) ≡ rows_after (rows_after h before) then
+rows_after_append h [] then = refl
+rows_after_append h (r ∷ rows) then = rows_after_append (r ⊳ h) rows then
+
+pub rows_after_last : (h : History) (rows : List Row) (r : Row) → rows_after h (rows ++ r ∷ []) ≡ r ⊳ rows_after h rows
+rows_after_last h rows r = rows_after_append h rows (r ∷ [])
+
+-- the history before the rows is a moment of the history after them
+pub rows_after_ends : (h : History) (rows : List Row) → EndsWith (rows_after h rows) h
+rows_after_ends h [] = ends_self h
+rows_after_ends h (r ∷ rows) = ends_trans (rows_after (r ⊳ h) rows) (r ⊳ h) h (rows_after_ends (r ⊳ h) rows) (inr (ends_self h))

@@ -1,0 +1,27 @@
+-- Who was in the way of a call.
+use Rattle.std.specs.Prelude.{◌≡◌, ℕ, ◌<◌}
+use Rattle.arena.specs.declared.step.Row.{Row}
+use Rattle.arena.specs.Words.{state}
+use Rattle.arena.specs.History.{History, ◌⊳◌, value, EndsWith}
+use Rattle.arena.specs.ScxRecords.{member, count}
+use Rattle.arena.specs.Fills.{IsNamedScx}
+
+-- the SCX-record covers the node
+pub record IsMember (h : History) (s n : ℕ) : Type 0 where
+  pub index : ℕ
+  pub within : index < count h s
+  pub is : member h s index ≡ n
+
+-- it is in progress: not finished, and an info word names it, or has named it
+pub record IsInProgress (h : History) (s : ℕ) : Type 0 where
+  pub unfinished : value h (state s) ≡ 0
+  pub named : IsNamedScx h s
+
+-- after some row behind the moment `start`, s was in progress and covered n
+pub record WasInTheWay (h start : History) (n s : ℕ) : Type 0 where
+  pub row : Row
+  pub before : History
+  pub within : EndsWith h (row ⊳ before)
+  pub since : EndsWith before start
+  pub running : IsInProgress (row ⊳ before) s
+  pub covers : IsMember (row ⊳ before) s n

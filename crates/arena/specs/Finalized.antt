@@ -1,0 +1,14 @@
+-- Which nodes are finalized.
+use Rattle.std.specs.Prelude.{◌≡◌, ℕ, ◌<◌, true}
+use Rattle.arena.specs.Words.{state}
+use Rattle.arena.specs.History.{History, value}
+use Rattle.arena.specs.ScxRecords.{member, count, is_removed}
+
+-- a committed SCX-record finalizes the node: no later row changes a word of it
+pub record IsFinalized (h : History) (n : ℕ) : Type 0 where
+  pub scx : ℕ
+  pub committed : value h (state scx) ≡ 1
+  pub index : ℕ
+  pub within : index < count h scx
+  pub is : member h scx index ≡ n
+  pub removed : is_removed h scx index ≡ true

@@ -1,0 +1,36 @@
+-- What the layer above allows of an SCX-record that its owner has not begun, whatever rows come until then.
+use Rattle.std.specs.Prelude.{◌≡◌, ◌≢◌, ℕ, false, ◌⊎◌}
+use Rattle.arena.specs.declared.layout.Layout.{Layout}
+use Rattle.arena.specs.declared.step.Row.{Row}
+use Rattle.arena.specs.Words.{info}
+use Rattle.arena.specs.History.{History, Start, ◌⊳◌, value}
+use Rattle.arena.specs.ScxRecords.{member, seen}
+use Rattle.arena.specs.Fills.{IsFillOfScx}
+use Rattle.arena.specs.Log.{is_fill}
+use Rattle.arena.specs.Machines.{IsRun}
+use Rattle.histories.proofs.Facts.{Descriptor, descriptor}
+use Rattle.histories.proofs.Begins.{Begins}
+
+-- a row that changes nothing
+pub record IsQuiet (r : Row) : Type 0 where
+  pub no_fill : is_fill r.kind ≡ false
+  pub same : r.after ≡ r.before
+
+-- a row that may come before the pass c begins s: of another pass, a fill of a word of s, or one that changes nothing
+abbrev pub IsBetween : ℕ → ℕ → Row → Type 0
+IsBetween c s r = (r.pass.0 ≢ c) ⊎ (IsFillOfScx s r ⊎ IsQuiet r)
+
+-- only such rows stand behind h in the later history
+abbrev pub IsLater : ℕ → ℕ → History → History → Type 0
+IsLater c s h (Start mode) = h ≡ Start mode
+IsLater c s h (r ⊳ k) = (h ≡ r ⊳ k) ⊎ (IsBetween c s r × IsLater c s h k)
+
+-- s is allowed with these words whenever its first freezing exchange may win
+abbrev pub IsAllowed : (Layout → History → ℕ → Type 0) → Layout → ℕ → History → ℕ → Descriptor → Type 0
+IsAllowed allows lay c h s d =
+    (k : History) → IsLater c s h k → IsRun allows lay k → descriptor k s ≡ d → Begins lay d k c s → value k (info (member k s 0)) ≡ seen k s 0 → allows lay k s
+
+-- s is its owner's, and stands ready for its first freezing exchange
+pub record IsPrepared (allows : Layout → History → ℕ → Type 0) (lay : Layout) (c : ℕ) (h : History) (s : ℕ) : Type 0 where
+  pub begins : Begins lay (descriptor h s) h c s
+  pub allowed : IsAllowed allows lay c h s (descriptor h s)

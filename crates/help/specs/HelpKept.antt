@@ -1,0 +1,178 @@
+-- What a run of HELP knows stays: rows of others keep it, and rows that change nothing.
+use Rattle.std.proofs.Common.{◌≡◌, ◌≢◌, ℕ, suc, ◌<◌, ◌⊎◌, inl, inr, ⊎_elim, refl, sym, ◌∙◌, subst}
+use Rattle.arena.specs.declared.layout.Layout.{Layout}
+use Rattle.arena.specs.declared.step.Row.{Row}
+use Rattle.arena.specs.declared.step.Step.{Step}
+use Rattle.arena.specs.MemberNo.{index_of}
+use Rattle.arena.specs.Words.{info}
+use Rattle.arena.specs.History.{History, ◌⊳◌, HasHeld}
+use Rattle.arena.specs.ScxRecords.{member, seen, count}
+use Rattle.arena.specs.Fills.{IsNamedScx}
+use Rattle.arena.specs.Lawful.{Lawful, AreFrozen}
+use Rattle.arena.specs.Machines.{IsRun, Call}
+use Rattle.arena.proofs.Values.{held_more}
+use Rattle.histories.proofs.Changes.{lawful_row}
+use Rattle.histories.proofs.Facts.{descriptor, IsStuck, descriptor_same, won_more}
+use Rattle.histories.proofs.Moments.{descriptor_stays, named_more, finished_stays, all_frozen_stays, marked_stays}
+use Rattle.histories.proofs.Helping.{IsStarted, started_more, over_stays, stuck_stays}
+use Rattle.histories.proofs.Owners.{stays_free, own_words_stay}
+use Rattle.histories.proofs.Begins.{passed_stays}
+use Rattle.help.specs.AllowedLaws.{IsOutside, same_plan, same_member, same_seen, same_new, same_old, same_field, free_words, prepared_more, quiet_words, free_back}
+use Rattle.help.specs.HelpKnown.{IsServed, node_at, HasRead, Freezes, HasLost, IsBlocked, Blocked, Aborts, Frozen, Marks, help_known, help_step, help_waits}
+use Rattle.help.specs.declared.state.HelpRun.{HelpRun}
+use Rattle.help.specs.declared.state.HelpAt.{HelpAt}
+use Rattle.help.specs.declared.state.HelpAt.TheVariants.{Start, Plan as AtPlan, Member as AtMember, Seen as AtSeen, Freeze as AtFreeze, AllFrozen as AtAllFrozen, Abort as AtAbort, SetFrozen as AtSetFrozen, Mark as AtMark, New as AtNew, Old as AtOld, Update as AtUpdate, Commit as AtCommit}
+
+-- Where the words of the SCX-record stay
+
+module _ (h k : History) (m : HelpRun) (e : descriptor k m.scx.0 ≡ descriptor h m.scx.0) where
+  pub fewer : (j : ℕ) → j < count k m.scx.0 → j < count h m.scx.0
+  fewer j i = rw (same_plan h k m.scx.0 e) at i
+
+  pub read_more : (n : ℕ) → HasRead m h n → HasRead m k n
+  read_more n x i p = x i p ∙ sym (same_member h k m.scx.0 e i)
+
+  pub blocked_same : (n v : ℕ) → HasHeld k (info n) v → IsBlocked h m.scx.0 n v → IsBlocked k m.scx.0 n v
+  blocked_same n v p x = record {
+    index = x.index;
+    within = rw (same_plan h k m.scx.0 e) x.within;
+    is = same_member h k m.scx.0 e x.index ∙ x.is;
+    other = λ q. x.other (q ∙ same_seen h k m.scx.0 e x.index);
+    held = p;
+  }
+
+-- Whatever lawful row comes, of an SCX-record that an info word names
+
+module _ (lay : Layout) (h : History) (r : Row) (l : Lawful lay (r ⊳ h)) where
+  pub started_words : (s : ℕ) → IsStarted h s → descriptor (r ⊳ h) s ≡ descriptor h s
+  started_words s x = descriptor_stays lay h r s l x.real x.named
+
+  pub are_frozen_more : (s : ℕ) → descriptor (r ⊳ h) s ≡ descriptor h s → (j : ℕ) → AreFrozen h s j → AreFrozen (r ⊳ h) s j
+  are_frozen_more s e j x i p =
+      let q : HasHeld (r ⊳ h) (info (member h s i)) s = held_more r h (info (member h s i)) s (x i p) in
+      rw (same_member h (r ⊳ h) s e i) q
+
+  pub frozen_more : (m : HelpRun) → Frozen h m → Frozen (r ⊳ h) m
+  frozen_more m x =
+      let e = started_words m.scx.0 x.started in
+      record {
+        started = started_more r h m.scx.0 x.started;
+        plan = same_plan h (r ⊳ h) m.scx.0 e ∙ x.plan;
+        frozen = rw (same_plan h (r ⊳ h) m.scx.0 e) (are_frozen_more m.scx.0 e (count h m.scx.0) x.frozen);
+        read = rw (same_plan h (r ⊳ h) m.scx.0 e) (read_more h (r ⊳ h) m e (count h m.scx.0) x.read);
+      }
+
+  pub marks_more : (m : HelpRun) (j : ℕ) → Marks h m j → Marks (r ⊳ h) m j
+  marks_more m j x =
+      let e = started_words m.scx.0 x.started in
+      record {
+        started = started_more r h m.scx.0 x.started;
+        plan = same_plan h (r ⊳ h) m.scx.0 e ∙ x.plan;
+        read = rw (same_plan h (r ⊳ h) m.scx.0 e) (read_more h (r ⊳ h) m e (count h m.scx.0) x.read);
+        flag = all_frozen_stays lay h r m.scx.0 l x.flag;
+        marked = λ i p q t. rw (same_member h (r ⊳ h) m.scx.0 e i) (marked_stays lay h r (member h m.scx.0 i) l (x.marked i p (fewer h (r ⊳ h) m e i q) (rw (same_plan h (r ⊳ h) m.scx.0 e) at t)));
+      }
+
+  pub all_marked_more : (m : HelpRun) → Marks h m (count h m.scx.0) → Marks (r ⊳ h) m (count (r ⊳ h) m.scx.0)
+  all_marked_more m x = rw (same_plan h (r ⊳ h) m.scx.0 (started_words m.scx.0 x.started)) (marks_more m (count h m.scx.0) x)
+
+-- A row of another pass, or one that changes nothing
+
+module _ (allows : Layout → History → ℕ → Type 0) (lay : Layout) (c : ℕ) (h : History) (r : Row) (is_pass : c < lay.passes) (l : Lawful lay (r ⊳ h)) (o : IsOutside c r) where
+  pub served_words : (s : ℕ) → IsServed allows lay c h s → descriptor (r ⊳ h) s ≡ descriptor h s
+  served_words s (inl x) = started_words lay h r l s x
+  served_words s (inr x) = free_words lay h r c s l o x.begins
+
+  served_more : (s : ℕ) → IsServed allows lay c h s → IsServed allows lay c (r ⊳ h) s
+  served_more s (inl x) = inl (started_more r h s x)
+  served_more s (inr x) = inr (prepared_more lay h r c s l allows is_pass o x)
+
+  pub freezes_more : (m : HelpRun) (j k : ℕ) → Freezes allows lay c h m j k → Freezes allows lay c (r ⊳ h) m j k
+  freezes_more m j k x =
+      let e = served_words m.scx.0 x.served in
+      record {
+        served = served_more m.scx.0 x.served;
+        plan = same_plan h (r ⊳ h) m.scx.0 e ∙ x.plan;
+        within = rw (same_plan h (r ⊳ h) m.scx.0 e) x.within;
+        frozen = are_frozen_more lay h r l m.scx.0 e j x.frozen;
+        read = read_more h (r ⊳ h) m e k x.read;
+      }
+
+  pub lost_words : (s : ℕ) → HasLost lay c h s → descriptor (r ⊳ h) s ≡ descriptor h s
+  lost_words s x = go o
+    where
+      go : IsOutside c r → descriptor (r ⊳ h) s ≡ descriptor h s
+      go (inl other) = descriptor_same h (r ⊳ h) s (λ a i. own_words_stay lay h r c s l other x.own x.free a)
+      go (inr q) = quiet_words lay h r (lawful_row lay h r l).before q s
+
+  lost_more : (s : ℕ) → HasLost lay c h s → HasLost lay c (r ⊳ h) s
+  lost_more s x =
+      let e = lost_words s x in
+      record {
+        own = x.own;
+        free = free o;
+        some = rw (same_plan h (r ⊳ h) s e) x.some;
+        named = rw (same_member h (r ⊳ h) s e 0) (named_more r x.named);
+        rest = rw (same_seen h (r ⊳ h) s e 0) (finished_stays lay h r (seen h s 0) l x.rest);
+        passed = rw (same_member h (r ⊳ h) s e 0, same_seen h (r ⊳ h) s e 0) (passed_stays lay h r (member h s 0) (seen h s 0) l x.named x.rest x.passed);
+      }
+    where
+      free : IsOutside c r → ¬ IsNamedScx (r ⊳ h) s
+      free (inl other) p = stays_free lay h r c s l other x.own x.free p
+      free (inr q) p = x.free (free_back lay h r (lawful_row lay h r l).before q s p)
+
+  over_words : (m : HelpRun) (P : Type 0) → (IsStarted h m.scx.0 × P) ⊎ HasLost lay c h m.scx.0 → descriptor (r ⊳ h) m.scx.0 ≡ descriptor h m.scx.0
+  over_words m P (inl x) = started_words lay h r l m.scx.0 x.0
+  over_words m P (inr x) = lost_words m.scx.0 x
+
+  blocked_more : (m : HelpRun) (j v : ℕ) → Blocked lay c h m j v → Blocked lay c (r ⊳ h) m j v
+  blocked_more m j v x = record {
+    over = ⊎_elim (λ y. inl (started_more r h m.scx.0 y.0, over_stays lay h r m.scx.0 l y.0 y.1)) (λ y. inr (lost_more m.scx.0 y)) x.over;
+    blocked = blocked_same h (r ⊳ h) m (over_words m _ x.over) _ v (held_more r h (info (node_at m.members j)) v x.blocked.held) x.blocked;
+  }
+
+  aborts_more : (m : HelpRun) (j v : ℕ) → Aborts lay c h m j v → Aborts lay c (r ⊳ h) m j v
+  aborts_more m j v x = record {
+    stuck = ⊎_elim (λ y. inl (started_more r h m.scx.0 y.0, subst (λ d. IsStuck d (r ⊳ h) m.scx.0) (sym (started_words lay h r l m.scx.0 y.0)) (stuck_stays lay h r m.scx.0 l y.0 y.1))) (λ y. inr (lost_more m.scx.0 y)) x.stuck;
+    blocked = blocked_same h (r ⊳ h) m (over_words m _ x.stuck) _ v (held_more r h (info (node_at m.members j)) v x.blocked.held) x.blocked;
+  }
+
+  -- so it keeps what is known at each place
+  pub known_more : (m : HelpRun) (at : HelpAt) → help_known allows lay c h m at → help_known allows lay c (r ⊳ h) m at
+  known_more m Start k = k
+  known_more m AtPlan k = served_more m.scx.0 k
+  known_more m (AtMember j) k = freezes_more m (index_of j) (index_of j) k
+  known_more m (AtSeen j) k = freezes_more m (index_of j) (suc (index_of j)) k
+  known_more m (AtFreeze j v) k = (freezes_more m (index_of j) (suc (index_of j)) k.0, same_seen h (r ⊳ h) m.scx.0 (served_words m.scx.0 k.0.served) (index_of j) ∙ k.1)
+  known_more m (AtAllFrozen j v) k = blocked_more m (index_of j) v k
+  known_more m (AtAbort j v) k = aborts_more m (index_of j) v k
+  known_more m AtSetFrozen k = frozen_more lay h r l m k
+  known_more m (AtMark j) k =
+      let e = started_words lay h r l m.scx.0 k.0.started in
+      (marks_more lay h r l m (index_of j) k.0, rw (same_plan h (r ⊳ h) m.scx.0 e) k.1, rw (same_plan h (r ⊳ h) m.scx.0 e) k.2)
+  known_more m AtNew k = all_marked_more lay h r l m k
+  known_more m (AtOld v) k = (all_marked_more lay h r l m k.0, same_new h (r ⊳ h) m.scx.0 (started_words lay h r l m.scx.0 k.0.started) ∙ k.1)
+  known_more m AtUpdate k = all_marked_more lay h r l m k
+  known_more m AtCommit k = (started_more r h m.scx.0 k.0, won_more r h m.scx.0 k.1)
+
+  -- and the step that it waits for
+  step_more : (m : HelpRun) (at : HelpAt) → help_known allows lay c h m at → help_step (r ⊳ h) m.scx.0 at ≡ help_step h m.scx.0 at
+  step_more m Start k = refl
+  step_more m AtPlan k = refl
+  step_more m (AtMember j) k = refl
+  step_more m (AtSeen j) k = refl
+  step_more m (AtFreeze j v) k = let e = served_words m.scx.0 k.0.served in rw (same_member h (r ⊳ h) m.scx.0 e (index_of j), same_seen h (r ⊳ h) m.scx.0 e (index_of j)) refl
+  step_more m (AtAllFrozen j v) k = refl
+  step_more m (AtAbort j v) k = refl
+  step_more m AtSetFrozen k = refl
+  step_more m (AtMark j) k = rw (same_member h (r ⊳ h) m.scx.0 (started_words lay h r l m.scx.0 k.0.started) (index_of j)) refl
+  step_more m AtNew k = refl
+  step_more m (AtOld v) k = refl
+  step_more m AtUpdate k = let e = started_words lay h r l m.scx.0 k.started in rw (same_field h (r ⊳ h) m.scx.0 e, same_old h (r ⊳ h) m.scx.0 e, same_new h (r ⊳ h) m.scx.0 e) refl
+  step_more m AtCommit k = refl
+
+pub help_keeps : (allows : Layout → History → ℕ → Type 0) (m : HelpRun) (c : Call) (h : History) (s : Step) (r : Row) → IsRun allows c.layout (r ⊳ h) → r.pass.0 ≢ c.pass → help_waits allows m c h s → help_waits allows m c (r ⊳ h) s
+help_keeps allows m c h s r run other w = record {
+  known = known_more allows c.layout c.pass h r c.is_pass run.lawful (inl other) m m.at w.known;
+  asked = w.asked ∙ sym (step_more allows c.layout c.pass h r c.is_pass run.lawful (inl other) m m.at w.known);
+}

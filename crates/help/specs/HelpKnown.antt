@@ -1,0 +1,215 @@
+-- When a run of HELP may go on, what it waits for, and what its answer says.
+use Rattle.std.specs.Prelude.{◌≡◌, ◌≢◌, ℕ, suc, ◌<◌, ◌≤◌, true, false, Bool, ◌⊎◌, List, Option, Some, None, get_or}
+use Rattle.arena.specs.declared.layout.Layout.{Layout}
+use Rattle.arena.specs.declared.number.NodeNo.{NodeNo}
+use Rattle.arena.specs.declared.number.MemberNo.{MemberNo}
+use Rattle.arena.specs.declared.number.ScxNo.{ScxNo}
+use Rattle.arena.specs.declared.machine.Turn.{Turn}
+use Rattle.arena.specs.declared.machine.Turn.TheVariants.{Ask}
+use Rattle.arena.specs.declared.step.Step.{Step}
+use Rattle.arena.specs.declared.step.Deed.TheVariants.{Load, Store, Exchange}
+use Rattle.arena.specs.declared.step.Kind.TheVariants.{LoadSettled, LoadAllFrozen, Freeze, SetFrozen, Mark, Update, Commit, Abort}
+use Rattle.arena.specs.declared.word.ScxWord.{ScxWord}
+use Rattle.arena.specs.declared.word.ScxWord.TheVariants.{AllFrozen, Plan, New, Old, Member, Seen}
+use Rattle.arena.specs.MemberNo.{index_of}
+use Rattle.arena.specs.Words.{scx, info, marked, state}
+use Rattle.arena.specs.History.{History, value, HasHeld}
+use Rattle.arena.specs.ScxRecords.{plan, member, seen, new, old, count, is_removed, field}
+use Rattle.arena.specs.Fills.{IsNamed, IsNamedScx, IsOwnScx}
+use Rattle.arena.specs.Lawful.{AreFrozen, AllAreFrozen, HasWon}
+use Rattle.arena.specs.Log.{log, IsEntered}
+use Rattle.arena.specs.Machines.{Call}
+use Rattle.histories.proofs.Facts.{descriptor, IsStuck}
+use Rattle.histories.proofs.Helping.{IsStarted, IsOver}
+use Rattle.help.specs.Plan.{count as planned, is_removed as removed}
+use Rattle.help.specs.Allowed.{IsPrepared}
+use Rattle.help.specs.declared.state.HelpRun.{HelpRun}
+use Rattle.help.specs.declared.state.HelpAt.{HelpAt}
+use Rattle.help.specs.declared.state.HelpAt.TheVariants.{Start, Plan as AtPlan, Member as AtMember, Seen as AtSeen, Freeze as AtFreeze, AllFrozen as AtAllFrozen, Abort as AtAbort, SetFrozen as AtSetFrozen, Mark as AtMark, New as AtNew, Old as AtOld, Update as AtUpdate, Commit as AtCommit}
+
+-- a helper's SCX-record is named by an info word, an owner's may still be ready to begin
+abbrev pub IsServed : (Layout → History → ℕ → Type 0) → Layout → ℕ → History → ℕ → Type 0
+IsServed allows lay c h s = IsStarted h s ⊎ IsPrepared allows lay c h s
+
+-- the number of a node in the list
+abbrev pub node_at : List NodeNo → ℕ → ℕ
+node_at nodes i = (get_or nodes i record { 0 = 0 }).0
+
+-- the run has read the first k nodes of its SCX-record
+abbrev pub HasRead : HelpRun → History → ℕ → Type 0
+HasRead m h k = (i : ℕ) → i < k → node_at m.members i ≡ member h m.scx.0 i
+
+-- on its way to freeze the j-th node, the run has read the first k
+pub record Freezes (allows : Layout → History → ℕ → Type 0) (lay : Layout) (c : ℕ) (h : History) (m : HelpRun) (j k : ℕ) : Type 0 where
+  pub served : IsServed allows lay c h m.scx.0
+  pub plan : plan h m.scx.0 ≡ m.plan.0
+  pub within : j < count h m.scx.0
+  pub frozen : AreFrozen h m.scx.0 j
+  pub read : HasRead m h k
+
+-- the owner has lost its first freezing exchange
+pub record HasLost (lay : Layout) (c : ℕ) (h : History) (s : ℕ) : Type 0 where
+  pub own : IsOwnScx lay c s
+  pub free : ¬ IsNamedScx h s
+  pub some : 0 < count h s
+  pub named : IsNamed lay h (member h s 0)
+  pub rest : value h (state (seen h s 0)) ≢ 0
+  pub passed : value h (info (member h s 0)) ≢ seen h s 0
+
+-- a node's info was not what the SCX-record has seen there
+pub record IsBlocked (h : History) (s n v : ℕ) : Type 0 where
+  pub index : ℕ
+  pub within : index < count h s
+  pub is : member h s index ≡ n
+  pub other : v ≢ seen h s index
+  pub held : HasHeld h (info n) v
+
+-- what is known of it: that it is over, or that it never begins
+pub record Blocked (lay : Layout) (c : ℕ) (h : History) (m : HelpRun) (j v : ℕ) : Type 0 where
+  pub over : (IsStarted h m.scx.0 × IsOver h m.scx.0) ⊎ HasLost lay c h m.scx.0
+  pub blocked : IsBlocked h m.scx.0 (node_at m.members j) v
+
+-- it can be aborted
+pub record Aborts (lay : Layout) (c : ℕ) (h : History) (m : HelpRun) (j v : ℕ) : Type 0 where
+  pub stuck : (IsStarted h m.scx.0 × IsStuck (descriptor h m.scx.0) h m.scx.0) ⊎ HasLost lay c h m.scx.0
+  pub blocked : IsBlocked h m.scx.0 (node_at m.members j) v
+
+-- all its nodes are frozen
+pub record Frozen (h : History) (m : HelpRun) : Type 0 where
+  pub started : IsStarted h m.scx.0
+  pub plan : plan h m.scx.0 ≡ m.plan.0
+  pub frozen : AllAreFrozen h m.scx.0
+  pub read : HasRead m h (count h m.scx.0)
+
+-- its flag is set, and those of its first j nodes that it finalizes are marked
+pub record Marks (h : History) (m : HelpRun) (j : ℕ) : Type 0 where
+  pub started : IsStarted h m.scx.0
+  pub plan : plan h m.scx.0 ≡ m.plan.0
+  pub read : HasRead m h (count h m.scx.0)
+  pub flag : value h (scx m.scx.0 AllFrozen) ≡ 1
+  pub marked : (i : ℕ) → i < j → i < count h m.scx.0 → is_removed h m.scx.0 i ≡ true → value h (marked (member h m.scx.0 i)) ≡ 1
+
+-- all that it finalizes are marked
+abbrev pub Marked : History → HelpRun → Type 0
+Marked h m = Marks h m (count h m.scx.0)
+
+-- what is known while the run waits
+abbrev pub help_known : (Layout → History → ℕ → Type 0) → Layout → ℕ → History → HelpRun → HelpAt → Type 0
+help_known allows lay c h m Start = ⊥
+help_known allows lay c h m AtPlan = IsServed allows lay c h m.scx.0
+help_known allows lay c h m (AtMember j) = Freezes allows lay c h m (index_of j) (index_of j)
+help_known allows lay c h m (AtSeen j) = Freezes allows lay c h m (index_of j) (suc (index_of j))
+help_known allows lay c h m (AtFreeze j v) = Freezes allows lay c h m (index_of j) (suc (index_of j)) × (seen h m.scx.0 (index_of j) ≡ v)
+help_known allows lay c h m (AtAllFrozen j v) = Blocked lay c h m (index_of j) v
+help_known allows lay c h m (AtAbort j v) = Aborts lay c h m (index_of j) v
+help_known allows lay c h m AtSetFrozen = Frozen h m
+help_known allows lay c h m (AtMark j) = Marks h m (index_of j) × (index_of j < count h m.scx.0) × (is_removed h m.scx.0 (index_of j) ≡ true)
+help_known allows lay c h m AtNew = Marked h m
+help_known allows lay c h m (AtOld v) = Marked h m × (new h m.scx.0 ≡ v)
+help_known allows lay c h m AtUpdate = Marked h m
+help_known allows lay c h m AtCommit = IsStarted h m.scx.0 × HasWon h m.scx.0
+
+-- a load of a settled word of s
+abbrev pub settled_load : ℕ → ScxWord → Step
+settled_load s part = record { kind = LoadSettled; word = scx s part; deed = Load }
+
+-- the step that it waits for
+abbrev pub help_step : History → ℕ → HelpAt → Step
+help_step h s Start = settled_load s Plan
+help_step h s AtPlan = settled_load s Plan
+help_step h s (AtMember j) = settled_load s (Member (index_of j))
+help_step h s (AtSeen j) = settled_load s (Seen (index_of j))
+help_step h s (AtFreeze j v) = record { kind = Freeze; word = info (member h s (index_of j)); deed = Exchange (seen h s (index_of j)) s }
+help_step h s (AtAllFrozen j v) = record { kind = LoadAllFrozen; word = scx s AllFrozen; deed = Load }
+help_step h s (AtAbort j v) = record { kind = Abort; word = state s; deed = Store 2 }
+help_step h s AtSetFrozen = record { kind = SetFrozen; word = scx s AllFrozen; deed = Store 1 }
+help_step h s (AtMark j) = record { kind = Mark; word = marked (member h s (index_of j)); deed = Store 1 }
+help_step h s AtNew = settled_load s New
+help_step h s (AtOld v) = settled_load s Old
+help_step h s AtUpdate = record { kind = Update; word = field h s; deed = Exchange (old h s) (new h s) }
+help_step h s AtCommit = record { kind = Commit; word = state s; deed = Store 1 }
+
+pub record help_waits (allows : Layout → History → ℕ → Type 0) (m : HelpRun) (c : Call) (h : History) (step : Step) : Type 0 where
+  pub known : help_known allows c.layout c.pass h m m.at
+  pub asked : step ≡ help_step h m.scx.0 m.at
+
+-- what is known once the freezing exchange of the j-th node has found v where `seen` is expected
+pub record HasTried (lay : Layout) (c : ℕ) (h : History) (m : HelpRun) (j v expected : ℕ) : Type 0 where
+  pub plan : plan h m.scx.0 ≡ m.plan.0
+  pub within : j < count h m.scx.0
+  pub read : HasRead m h (suc j)
+  pub won : (v ≡ expected) ⊎ (v ≡ m.scx.0) → IsStarted h m.scx.0 × AreFrozen h m.scx.0 (suc j)
+  pub lost : v ≢ expected → v ≢ m.scx.0 → Blocked lay c h m j v
+
+-- what is known once its step has told v
+abbrev pub help_told : (Layout → History → ℕ → Type 0) → Layout → ℕ → History → HelpRun → HelpAt → ℕ → Type 0
+help_told allows lay c h m Start v = ⊥
+help_told allows lay c h m AtPlan v = IsServed allows lay c h m.scx.0 × (plan h m.scx.0 ≡ v)
+help_told allows lay c h m (AtMember j) v = Freezes allows lay c h m (index_of j) (index_of j) × (member h m.scx.0 (index_of j) ≡ v)
+help_told allows lay c h m (AtSeen j) v = Freezes allows lay c h m (index_of j) (suc (index_of j)) × (seen h m.scx.0 (index_of j) ≡ v)
+help_told allows lay c h m (AtFreeze j expected) v = HasTried lay c h m (index_of j) v expected
+help_told allows lay c h m (AtAllFrozen j found) v = Blocked lay c h m (index_of j) found × (value h (scx m.scx.0 AllFrozen) ≡ v)
+help_told allows lay c h m (AtAbort j found) v = (value h (state m.scx.0) ≡ 2) × IsBlocked h m.scx.0 (node_at m.members (index_of j)) found
+help_told allows lay c h m AtSetFrozen v = Marks h m 0
+help_told allows lay c h m (AtMark j) v = Marks h m (suc (index_of j))
+help_told allows lay c h m AtNew v = Marked h m × (new h m.scx.0 ≡ v)
+help_told allows lay c h m (AtOld found) v = Marked h m × (new h m.scx.0 ≡ found) × (old h m.scx.0 ≡ v)
+help_told allows lay c h m AtUpdate v = IsStarted h m.scx.0 × HasWon h m.scx.0
+help_told allows lay c h m AtCommit v = value h (state m.scx.0) ≡ 1
+
+abbrev pub help_ready : (Layout → History → ℕ → Type 0) → HelpRun → Call → History → Option ℕ → Type 0
+help_ready allows m c h None = (m.at ≡ Start) × IsServed allows c.layout c.pass h m.scx.0
+help_ready allows m c h (Some v) = help_told allows c.layout c.pass h m m.at v
+
+-- the run stands where it could not freeze a node
+abbrev pub HasNoted : History → HelpRun → HelpAt → Type 0
+HasNoted h m (AtAbort j found) = IsBlocked h m.scx.0 (node_at m.members (index_of j)) found
+HasNoted h m _ = ⊥
+
+-- true: it is committed; false: it is aborted, has no entry, and a node was not as it had seen it
+pub record HasAborted (lay : Layout) (h : History) (m : HelpRun) : Type 0 where
+  pub aborted : value h (state m.scx.0) ≡ 2
+  pub no_entry : ¬ IsEntered (log lay h) m.scx.0
+  pub blocked : HasNoted h m m.at
+
+abbrev pub help_answers : HelpRun → Call → History → Bool → Type 0
+help_answers m c h true = value h (state m.scx.0) ≡ 1
+help_answers m c h false = HasAborted c.layout h m
+
+-- the node that could not be frozen, and what its info named
+abbrev pub blocked_at : List NodeNo → HelpAt → NodeNo × ScxNo
+blocked_at nodes (AtAbort j found) = (get_or nodes (index_of j) record { 0 = 0 }, record { 0 = found })
+blocked_at nodes _ = (record { 0 = 0 }, record { 0 = 0 })
+
+-- The run stands at a place and waits for a step
+pub record Asks (old now : HelpRun) (turn : Turn Bool) (at : HelpAt) (step : Step) : Type 0 where
+  pub stands : now ≡ record old { at = at }
+  pub asked : turn ≡ Ask step
+
+-- the places from j on, or none
+abbrev pub first_place : Option MemberNo → ℕ
+first_place None = 4
+first_place (Some j) = index_of j
+
+-- it goes on to the node behind the j-th, or sets the flag behind the last
+pub record HasNext (old now : HelpRun) (turn : Turn Bool) (j : MemberNo) : Type 0 where
+  pub next : MemberNo
+  pub is : index_of next ≡ suc (index_of j)
+  pub within : index_of next < planned old.plan.0
+  pub asks : Asks old now turn (AtMember next) (settled_load old.scx.0 (Member (index_of next)))
+
+pub record IsLast (old now : HelpRun) (turn : Turn Bool) (j : MemberNo) : Type 0 where
+  pub none : (index_of j < 3) × (suc (index_of j) < planned old.plan.0) → ⊥
+  pub asks : Asks old now turn AtSetFrozen record { kind = SetFrozen; word = scx old.scx.0 AllFrozen; deed = Store 1 }
+
+-- it marks the first node to be finalized from a place on, or goes on to the update
+pub record MarksNext (old now : HelpRun) (turn : Turn Bool) (from : ℕ) : Type 0 where
+  pub next : MemberNo
+  pub behind : from ≤ index_of next
+  pub is : removed old.plan.0 (index_of next) ≡ true
+  pub first : (i : ℕ) → from ≤ i → i < index_of next → removed old.plan.0 i ≡ false
+  pub asks : Asks old now turn (AtMark next) record { kind = Mark; word = marked (node_at old.members (index_of next)); deed = Store 1 }
+
+pub record MarksNone (old now : HelpRun) (turn : Turn Bool) (from : ℕ) : Type 0 where
+  pub none : (i : ℕ) → from ≤ i → i < 4 → removed old.plan.0 i ≡ false
+  pub asks : Asks old now turn AtNew (settled_load old.scx.0 New)

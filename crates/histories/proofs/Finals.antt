@@ -1,0 +1,174 @@
+-- Finalized nodes: they never change; at rest a node is final where it is marked, and only there.
+use Rattle.std.proofs.Common.{◌≡◌, ◌≢◌, ℕ, Bool, true, false, inl, inr, ⊎_elim, refl, sym, ◌∙◌, arith}
+use native.Mathlib.Decide.{ℕ_discrete}
+use Rattle.arena.specs.declared.layout.Layout.{Layout}
+use Rattle.arena.specs.declared.word.NodeWord.{NodeWord}
+use Rattle.arena.specs.declared.word.NodeWord.TheVariants.{Head, Key, Value, Child, Info, Marked}
+use Rattle.arena.specs.declared.word.ScxWord.TheVariants.{AllFrozen}
+use Rattle.arena.specs.declared.step.Row.{Row}
+use Rattle.arena.specs.Words.{node, info, marked, scx, state}
+use Rattle.arena.specs.History.{History, ◌⊳◌, value, EndsWith}
+use Rattle.arena.specs.Fills.{IsNamed}
+use Rattle.arena.specs.Lawful.{HasWon, Lawful}
+use Rattle.arena.specs.Log.{log, is_final}
+use Rattle.arena.specs.Finalized.{IsFinalized}
+use Rattle.arena.specs.Blame.{IsMember}
+use Rattle.histories.proofs.Changes.{UpdateWins, lawful_tail}
+use Rattle.histories.proofs.Updates.{update_is_first}
+use Rattle.histories.proofs.Lasts.{holds_member}
+use Rattle.histories.proofs.Facts.{descriptor, IsEnded, IsFlagged, IsMarker, Facts, member_named, flagged_about}
+use Rattle.histories.proofs.Always.{facts, facts_before}
+use Rattle.histories.proofs.Moments.{state_stays, marked_stays, node_stays, still, sealed, since}
+use Rattle.histories.proofs.Members.{IsRemoved}
+use Rattle.histories.proofs.Entries.{won_named, IsFinalizedBy, finalized_by_stays, final_by, by_final}
+
+flag_set : {lay : Layout} {h : History} (s : ℕ) → Facts lay h → HasWon h s → value h (scx s AllFrozen) ≢ 0
+flag_set s f w e = let y = f.winner s w in omega arith
+
+-- what an SCX-record that has won finalizes is marked, and held by it
+pub finalized_marked : {lay : Layout} {h : History} {n s : ℕ} → Facts lay h → IsFinalizedBy h n s → value h (marked n) ≡ 1
+finalized_marked {lay} {h} {n} {s} f x = rw x.removed.is at (f.all_marked s x.won x.removed.index x.removed.within x.removed.removed)
+
+pub finalizer_holds : {lay : Layout} {h : History} {n s : ℕ} → Facts lay h → IsFinalizedBy h n s → value h (info n) ≡ s
+finalizer_holds {lay} {h} {n} {s} f x = rw x.removed.is at (f.finalizes s (flag_set s f x.won) x.removed.index x.removed.within x.removed.removed)
+
+-- so a node has one finalizer
+pub one_finalizer : {lay : Layout} {h : History} {n s u : ℕ} → Facts lay h → IsFinalizedBy h n s → IsFinalizedBy h n u → s ≡ u
+one_finalizer f x y = sym (finalizer_holds f x) ∙ finalizer_holds f y
+
+-- an SCX-record whose flag is set holds what it finalizes, so a node has one of them too
+pub record IsFinalizing (h : History) (n s : ℕ) : Type 0 where
+  pub flag : value h (scx s AllFrozen) ≡ 1
+  pub removed : IsRemoved h s n
+
+pub finalizing_holds : {lay : Layout} {h : History} {n s : ℕ} → Facts lay h → IsFinalizing h n s → value h (info n) ≡ s
+finalizing_holds {lay} {h} {n} {s} f x = rw x.removed.is at (f.finalizes s (λ e. let y = x.flag in omega arith) x.removed.index x.removed.within x.removed.removed)
+
+pub one_finalizing : {lay : Layout} {h : History} {n s u : ℕ} → Facts lay h → IsFinalizing h n s → IsFinalizing h n u → s ≡ u
+one_finalizing f x y = sym (finalizing_holds f x) ∙ finalizing_holds f y
+
+-- a final node is marked
+pub final_marked : (lay : Layout) (h : History) (n : ℕ) → Lawful lay h → is_final (log lay h) n ≡ true → value h (marked n) ≡ 1
+final_marked lay h n l e = let x : (s : ℕ) × IsFinalizedBy h n s = final_by lay h n l e in finalized_marked (facts lay h l) x.1
+
+-- and a marked node whose info names a finished SCX-record is final: that SCX-record is committed and finalizes it
+pub record IsFinalAtRest (h : History) (n s : ℕ) : Type 0 where
+  pub committed : value h (state s) ≡ 1
+  pub by : IsFinalizedBy h n s
+
+pub marked_final : (lay : Layout) (h : History) (n s : ℕ) → Lawful lay h → value h (marked n) ≢ 0 → value h (info n) ≡ s → value h (state s) ≢ 0 → IsFinalAtRest h n s
+marked_final lay h n s l m e d = at_marker (f.marked n m)
+  where
+    f : Facts lay h
+    f = facts lay h l
+
+    at_marker : (u : ℕ) × IsMarker (descriptor h u) h u n → IsFinalAtRest h n s
+    at_marker x = rw q (ends (f.ended x.0 (rw sym_q d)))
+      where
+        q : s ≡ x.0
+        q = sym e ∙ x.1.holds
+
+        sym_q : x.0 ≡ s
+        sym_q = sym q
+
+        c : IsFlagged (descriptor h x.0) h x.0
+        c = f.flagged x.0 (λ z. let y = x.1.flag in omega arith)
+
+        removed : IsRemoved h x.0 n
+        removed = record { index = x.1.index; within = x.1.within; is = x.1.is; removed = x.1.removed }
+
+        ends : IsEnded h x.0 (value h (state x.0)) → IsFinalAtRest h n x.0
+        ends (inl y) = record { committed = y.0; by = record { won = y.1; removed = removed } }
+        ends (inr y) = absurd (⊎_elim
+            y.1
+            (λ z. z.unfrozen (c.frozen z.index z.within))
+            ((flagged_about f c).done (λ z. let a = y.0 in omega arith)))
+
+-- so a node that is not marked is not final, and none is that names an aborted SCX-record
+pub not_final : (lay : Layout) (h : History) (n : ℕ) → Lawful lay h → value h (marked n) ≡ 0 → is_final (log lay h) n ≡ false
+not_final lay h n l z = go (is_final (log lay h) n) refl
+  where
+    go : (t : Bool) → is_final (log lay h) n ≡ t → t ≡ false
+    go false e = refl
+    go true e = absurd (let x = final_marked lay h n l e in omega arith)
+
+pub aborted_unmarked : (lay : Layout) (h : History) (n s : ℕ) → Lawful lay h → value h (info n) ≡ s → value h (state s) ≡ 2 → value h (marked n) ≡ 0
+aborted_unmarked lay h n s l e a = go (ℕ_discrete (value h (marked n)) 0)
+  where
+    go : Dec (value h (marked n) ≡ 0) → value h (marked n) ≡ 0
+    go (yes z) = z
+    go (no d) = absurd (let x = (marked_final lay h n s l d e (λ q. omega arith)).committed in omega arith)
+
+pub final_at_rest : (lay : Layout) (h : History) (n s : ℕ) → Lawful lay h → value h (marked n) ≢ 0 → value h (info n) ≡ s → value h (state s) ≢ 0 → is_final (log lay h) n ≡ true
+final_at_rest lay h n s l m e d = by_final lay h n s l (marked_final lay h n s l m e d).by
+
+-- before an update wins, none of its SCX-record's nodes is final
+pub win_not_final : (lay : Layout) (h : History) (r : Row) (u n : ℕ) → Lawful lay (r ⊳ h) → UpdateWins h r u → IsMember h u n → is_final (log lay h) n ≡ false
+win_not_final lay h r u n l w x = go (is_final (log lay h) n) refl
+  where
+    f : Facts lay h
+    f = facts_before lay h r l
+
+    go : (t : Bool) → is_final (log lay h) n ≡ t → t ≡ false
+    go false e = refl
+    go true e =
+        let y : (s : ℕ) × IsFinalizedBy h n s = final_by lay h n (lawful_tail lay h r l) e in
+        let q : y.0 ≡ u = sym (finalizer_holds f y.1) ∙ holds_member f w x in
+        absurd (update_is_first f w (rw q at y.1.won))
+
+-- Finalized nodes never change
+
+finalized_by : {lay : Layout} {h : History} {n : ℕ} → Facts lay h → (x : IsFinalized h n) → IsFinalizedBy h n x.scx
+finalized_by {lay} {h} {n} f x = go (f.ended x.scx (λ e. let y = x.committed in omega arith))
+  where
+    go : IsEnded h x.scx (value h (state x.scx)) → IsFinalizedBy h n x.scx
+    go (inl y) = record { won = y.1; removed = record { index = x.index; within = x.within; is = x.is; removed = x.removed } }
+    go (inr y) = absurd (let a = y.0 in let b = x.committed in omega arith)
+
+pub finalized_stays : (lay : Layout) (h : History) (r : Row) (n : ℕ) → Lawful lay (r ⊳ h) → IsFinalized h n → IsFinalized (r ⊳ h) n
+finalized_stays lay h r n l x =
+    let f : Facts lay h = facts_before lay h r l in
+    let y : IsFinalizedBy (r ⊳ h) n x.scx = finalized_by_stays lay h r n x.scx l (finalized_by f x) in
+    record {
+      scx = x.scx;
+      committed = state_stays lay h r x.scx l (λ e. let a = x.committed in omega arith) ∙ x.committed;
+      index = y.removed.index;
+      within = y.removed.within;
+      is = y.removed.is;
+      removed = y.removed.removed;
+    }
+
+-- no lawful row changes a word of a finalized node
+pub finalized_unchanged : (lay : Layout) (h : History) (r : Row) (n : ℕ) (part : NodeWord) → Lawful lay (r ⊳ h) → IsFinalized h n → value (r ⊳ h) (node n part) ≡ value h (node n part)
+finalized_unchanged lay h r n part l x = go part
+  where
+    f : Facts lay h
+    f = facts_before lay h r l
+
+    by : IsFinalizedBy h n x.scx
+    by = finalized_by f x
+
+    mark : value h (marked n) ≡ 1
+    mark = finalized_marked f by
+
+    held : value h (info n) ≡ x.scx
+    held = finalizer_holds f by
+
+    held_then : value (r ⊳ h) (info n) ≡ x.scx
+    held_then = sealed lay h r n x.scx l (λ e. let y = mark in omega arith) held
+
+    named : IsNamed lay h n
+    named = rw x.is at (member_named lay h x.scx _ x.index (won_named x.scx f by.won).1)
+
+    go : (part : NodeWord) → value (r ⊳ h) (node n part) ≡ value h (node n part)
+    go Head = node_stays lay h r n Head l tt named
+    go Key = node_stays lay h r n Key l tt named
+    go Value = node_stays lay h r n Value l tt named
+    go (Child side) = (still lay h r n x.scx l named (λ e. let a = x.committed in omega arith) held_then).fields side
+    go Info = held_then ∙ sym held
+    go Marked = marked_stays lay h r n l mark ∙ sym mark
+
+-- nor do any later rows
+pub finalized_since : (lay : Layout) (h m : History) (n : ℕ) (part : NodeWord) → Lawful lay h → EndsWith h m → IsFinalized m n → value h (node n part) ≡ value m (node n part)
+finalized_since lay h m n part l e x =
+    (since (λ k. IsFinalized k n × (value k (node n part) ≡ value m (node n part))) lay (λ h r l y. (finalized_stays lay h r n l y.0, finalized_unchanged lay h r n part l y.0 ∙ y.1)) h m l e (x, refl)).1

@@ -1,0 +1,16 @@
+//! Lawful histories: what is known of them, and a judge that says whether a run is one.
+#![tactic(auto)]
+
+mod beginning;
+mod exchanges;
+mod filling;
+mod judge;
+mod loads;
+mod naming;
+mod records;
+mod words;
+
+pub use judge::first_unlawful;
+
+#[cfg(test)]
+mod tests;

@@ -1,0 +1,56 @@
+-- When the machine of a call may go on, what it waits for, and what its answer says: as the machine inside.
+use Rattle.std.specs.Prelude.{◌≡◌, ◌≢◌, ℕ, Option, Some}
+use Rattle.arena.specs.declared.step.Row.{Row}
+use Rattle.arena.specs.declared.step.Step.{Step}
+use Rattle.arena.specs.History.{History, ◌⊳◌, value}
+use Rattle.arena.specs.Machines.{Call, IsRun, IsTold, row_of}
+use Rattle.prims.specs.Cells.{allows_all}
+use Rattle.prims.specs.LlxKnown.{llx_ready, llx_waits, llx_answers}
+use Rattle.prims.specs.LlxLaws.{llx_keeps, llx_lawful, llx_made}
+use Rattle.prims.specs.VlxKnown.{vlx_ready, vlx_waits, vlx_answers}
+use Rattle.prims.specs.VlxLaws.{vlx_keeps, vlx_lawful, vlx_made}
+use Rattle.prims.specs.PutKnown.{put_ready, put_waits, put_answers}
+use Rattle.prims.specs.PutLaws.{put_keeps, put_lawful, put_made}
+use Rattle.player.specs.declared.run.Run.{Run}
+use Rattle.player.specs.declared.run.Run.TheVariants.{Llx, Scx, Vlx}
+use Rattle.player.specs.declared.run.Ended.{Ended}
+use Rattle.player.specs.declared.run.Ended.TheVariants as ended
+
+abbrev pub run_ready : Run → Call → History → Option ℕ → Type 0
+run_ready (Llx m) c h got = llx_ready allows_all m c h got
+run_ready (Scx m) c h got = put_ready allows_all m c h got
+run_ready (Vlx m) c h got = vlx_ready m c h got
+
+abbrev pub run_waits : Run → Call → History → Step → Type 0
+run_waits (Llx m) c h s = llx_waits allows_all m c h s
+run_waits (Scx m) c h s = put_waits allows_all m c h s
+run_waits (Vlx m) c h s = vlx_waits m c h s
+
+-- a machine answers of its own kind
+abbrev pub run_answers : Run → Call → History → Ended → Type 0
+run_answers (Llx m) c h (ended.Llx a) = llx_answers m c h a
+run_answers (Scx m) c h (ended.Scx a) = put_answers m c h a
+run_answers (Vlx m) c h (ended.Vlx a) = vlx_answers m c h a
+run_answers _ c h _ = ⊥
+
+-- of the same kind, and further on
+abbrev pub run_same : Run → Run → Type 0
+run_same (Llx old) (Llx now) = now.node ≡ old.node
+run_same (Scx old) (Scx now) = (now.scx.scx ≡ old.scx.scx) × (now.scx.update ≡ old.scx.update)
+run_same (Vlx old) (Vlx now) = now.snaps ≡ old.snaps
+run_same _ _ = ⊥
+
+pub run_keeps : (m : Run) (c : Call) (h : History) (s : Step) (r : Row) → IsRun allows_all c.layout (r ⊳ h) → r.pass.0 ≢ c.pass → run_waits m c h s → run_waits m c (r ⊳ h) s
+run_keeps (Llx m) c h s r run other w = llx_keeps allows_all m c h s r run other w
+run_keeps (Scx m) c h s r run other w = put_keeps allows_all m c h s r run other w
+run_keeps (Vlx m) c h s r run other w = vlx_keeps allows_all m c h s r run other w
+
+pub run_lawful : (m : Run) (c : Call) (h : History) (s : Step) → IsRun allows_all c.layout h → run_waits m c h s → IsRun allows_all c.layout (row_of c s h ⊳ h)
+run_lawful (Llx m) c h s run w = llx_lawful allows_all m c h s run w
+run_lawful (Scx m) c h s run w = put_lawful allows_all m c h s run w
+run_lawful (Vlx m) c h s run w = vlx_lawful allows_all m c h s run w
+
+pub run_made : (m : Run) (c : Call) (h : History) (s : Step) (v : ℕ) → IsRun allows_all c.layout (row_of c s h ⊳ h) → IsTold s.deed (value h s.word) v → run_waits m c h s → run_ready m c (row_of c s h ⊳ h) (Some v)
+run_made (Llx m) c h s v run told w = llx_made allows_all m c h s v run told w
+run_made (Scx m) c h s v run told w = put_made allows_all m c h s v run told w
+run_made (Vlx m) c h s v run told w = vlx_made allows_all m c h s v run told w

@@ -1,0 +1,171 @@
+-- When a run of LLX may go on, what it waits for, and what its answer says.
+use Rattle.std.specs.Prelude.{◌≡◌, ◌≢◌, ℕ, ◌<◌, Bool, true, false, ◌⊎◌, Option, Some, None}
+use Rattle.arena.specs.declared.layout.Layout.{Layout}
+use Rattle.arena.specs.declared.word.Side.TheVariants.{Left, Right}
+use Rattle.arena.specs.declared.word.Word.{Word}
+use Rattle.arena.specs.declared.step.Step.{Step}
+use Rattle.arena.specs.declared.step.Deed.TheVariants.{Load}
+use Rattle.arena.specs.declared.step.Kind.{Kind}
+use Rattle.arena.specs.declared.step.Kind.TheVariants.{LoadInfo, LoadState, LoadMarked, LoadChild}
+use Rattle.arena.specs.Layout.{all_nodes}
+use Rattle.arena.specs.Words.{info, marked, child, state}
+use Rattle.arena.specs.History.{History, value, HasHeld}
+use Rattle.arena.specs.Fills.{IsInField}
+use Rattle.arena.specs.Log.{log, fields, is_final}
+use Rattle.arena.specs.Machines.{Call, IsRun, MatchTurn}
+use Rattle.arena.specs.declared.machine.Turn.{Turn}
+use Rattle.arena.specs.declared.machine.Turn.TheVariants.{Ask, Done}
+use Rattle.arena.specs.declared.number.ScxNo.{ScxNo}
+use Rattle.help.specs.declared.state.HelpRun.{HelpRun}
+use Rattle.histories.proofs.Finals.{IsFinalizing}
+use Rattle.help.specs.HelpKnown.{help_ready, help_waits}
+use Rattle.prims.specs.Linked.{IsLinked}
+use Rattle.prims.specs.declared.snap.Snap.{Snap}
+use Rattle.prims.specs.declared.llx.Llx.{Llx}
+use Rattle.prims.specs.declared.llx.Llx.TheVariants.{Snapshot, Finalized, Fail}
+use Rattle.prims.specs.declared.llx.LlxRun.{LlxRun}
+use Rattle.prims.specs.declared.llx.LlxAt.{LlxAt}
+use Rattle.prims.specs.declared.llx.LlxAt.TheVariants.{Start, Marked, Info, State, MarkedAgain, Left as AtLeft, Right as AtRight, InfoAgain, StateAgain, Help, LastInfo, LastState, LastHelp}
+
+-- the node's info has named s; and where the node was marked before that, s finalizes it
+pub record HasMet (h : History) (n : ℕ) (was_marked : Bool) (s : ℕ) : Type 0 where
+  pub held : HasHeld h (info n) s
+  pub finalizes : was_marked ≡ true → IsFinalizing h n s
+
+-- s is finished, and as long as the info names it the node is not marked
+pub record IsAtRest (h : History) (n s : ℕ) : Type 0 where
+  pub rest : value h (state s) ≢ 0
+  pub unmarked : value h (info n) ≡ s → value h (marked n) ≡ 0
+
+-- what is known at each place
+abbrev pub llx_known : History → ℕ → LlxAt → Type 0
+llx_known h n (Info b) = b ≡ true → value h (marked n) ≡ 1
+llx_known h n (State b s) = HasMet h n b s.0
+llx_known h n (MarkedAgain b s v) = HasMet h n b s.0 × (v ≢ 0 → value h (state s.0) ≡ v)
+llx_known h n (AtLeft b s) = HasMet h n b s.0 × IsAtRest h n s.0
+llx_known h n (AtRight b s l) = HasMet h n b s.0 × IsAtRest h n s.0 × (value h (info n) ≡ s.0 → value h (child n Left) ≡ l)
+llx_known h n (InfoAgain b s l r) = HasMet h n b s.0 × IsAtRest h n s.0 × (value h (info n) ≡ s.0 → value h (child n Left) ≡ l) × (value h (info n) ≡ s.0 → value h (child n Right) ≡ r)
+llx_known h n (StateAgain b s) = HasMet h n b s.0
+llx_known h n (Help b m) = HasMet h n b m.scx.0
+llx_known h n (LastState s) = HasHeld h (info n) s.0
+llx_known h n (LastHelp s m) = HasHeld h (info n) s.0
+llx_known h n _ = Unit {0}
+
+abbrev pub load : Kind → Word → Step
+load kind word = record { kind = kind; word = word; deed = Load }
+
+-- the step that it waits for
+abbrev pub llx_asked : (Layout → History → ℕ → Type 0) → Call → History → ℕ → LlxAt → Step → Type 0
+llx_asked allows c h n Start step = ⊥
+llx_asked allows c h n Marked step = step ≡ load LoadMarked (marked n)
+llx_asked allows c h n (Info b) step = step ≡ load LoadInfo (info n)
+llx_asked allows c h n (State b s) step = step ≡ load LoadState (state s.0)
+llx_asked allows c h n (MarkedAgain b s v) step = step ≡ load LoadMarked (marked n)
+llx_asked allows c h n (AtLeft b s) step = step ≡ load LoadChild (child n Left)
+llx_asked allows c h n (AtRight b s l) step = step ≡ load LoadChild (child n Right)
+llx_asked allows c h n (InfoAgain b s l r) step = step ≡ load LoadInfo (info n)
+llx_asked allows c h n (StateAgain b s) step = step ≡ load LoadState (state s.0)
+llx_asked allows c h n (Help b m) step = help_waits allows m c h step
+llx_asked allows c h n LastInfo step = step ≡ load LoadInfo (info n)
+llx_asked allows c h n (LastState s) step = step ≡ load LoadState (state s.0)
+llx_asked allows c h n (LastHelp s m) step = help_waits allows m c h step
+
+-- what is known of what it is told: a load tells what its word holds
+abbrev pub llx_told : (Layout → History → ℕ → Type 0) → Call → History → ℕ → LlxAt → ℕ → Type 0
+llx_told allows c h n Start v = ⊥
+llx_told allows c h n Marked v = value h (marked n) ≡ v
+llx_told allows c h n (Info b) v = value h (info n) ≡ v
+llx_told allows c h n (State b s) v = value h (state s.0) ≡ v
+llx_told allows c h n (MarkedAgain b s x) v = value h (marked n) ≡ v
+llx_told allows c h n (AtLeft b s) v = value h (child n Left) ≡ v
+llx_told allows c h n (AtRight b s l) v = value h (child n Right) ≡ v
+llx_told allows c h n (InfoAgain b s l r) v = value h (info n) ≡ v
+llx_told allows c h n (StateAgain b s) v = value h (state s.0) ≡ v
+llx_told allows c h n (Help b m) v = help_ready allows m c h (Some v)
+llx_told allows c h n LastInfo v = value h (info n) ≡ v
+llx_told allows c h n (LastState s) v = value h (state s.0) ≡ v
+llx_told allows c h n (LastHelp s m) v = help_ready allows m c h (Some v)
+
+-- the node is one that the caller may look at: of the table, there from the start or named by a field
+pub record IsOpened (lay : Layout) (h : History) (n : ℕ) : Type 0 where
+  pub in_field : IsInField lay h n
+  pub inside : n < all_nodes lay
+
+pub record llx_waits (allows : Layout → History → ℕ → Type 0) (m : LlxRun) (c : Call) (h : History) (step : Step) : Type 0 where
+  pub opened : IsOpened c.layout h m.node.0
+  pub known : llx_known h m.node.0 m.at
+  pub asked : llx_asked allows c h m.node.0 m.at step
+
+abbrev pub llx_got : (Layout → History → ℕ → Type 0) → Call → History → ℕ → LlxAt → Option ℕ → Type 0
+llx_got allows c h n at None = at ≡ Start
+llx_got allows c h n at (Some v) = llx_told allows c h n at v
+
+pub record llx_ready (allows : Layout → History → ℕ → Type 0) (m : LlxRun) (c : Call) (h : History) (got : Option ℕ) : Type 0 where
+  pub opened : IsOpened c.layout h m.node.0
+  pub known : llx_known h m.node.0 m.at
+  pub told : llx_got allows c h m.node.0 m.at got
+
+-- a snapshot gives the info and the fields that its node has now, at which it is not final
+pub record IsSnapshot (lay : Layout) (h : History) (n : ℕ) (snap : Snap) : Type 0 where
+  pub node : snap.node.0 ≡ n
+  pub linked : IsLinked lay h snap
+  pub info : value h (info n) ≡ snap.scx.0
+  pub left : snap.left.0 ≡ fields lay h n Left
+  pub right : snap.right.0 ≡ fields lay h n Right
+  pub not_final : is_final (log lay h) n ≡ false
+
+-- the node is finalized, by that SCX-record
+pub record IsFinalBy (lay : Layout) (h : History) (n s : ℕ) : Type 0 where
+  pub final : is_final (log lay h) n ≡ true
+  pub by : IsFinalizing h n s
+  pub committed : value h (state s) ≡ 1
+
+-- a failed LLX names what it has found in the node's info
+abbrev pub llx_answers : LlxRun → Call → History → Llx → Type 0
+llx_answers m c h (Snapshot snap) = IsSnapshot c.layout h m.node.0 snap
+llx_answers m c h (Finalized node s) = (node.0 ≡ m.node.0) × IsFinalBy c.layout h m.node.0 s.0
+llx_answers m c h (Fail node s) = (node.0 ≡ m.node.0) × HasHeld h (info m.node.0) s.0
+
+-- What its turns leave
+
+-- the run stands at a place and waits for a step
+pub record Asks (old now : LlxRun) (turn : Turn Llx) (at : LlxAt) (step : Step) : Type 0 where
+  pub stands : now ≡ record old { at = at }
+  pub asked : turn ≡ Ask step
+
+-- it reads the fields where the SCX-record left the node in place, or looks at that once more
+pub record Reads (old now : LlxRun) (turn : Turn Llx) (b : Bool) (s : ScxNo) (v : ℕ) (again : Bool) : Type 0 where
+  pub in_place : (v ≡ 2) ⊎ ((v ≡ 1) × (again ≡ false))
+  pub asks : Asks old now turn (AtLeft b s) (load LoadChild (child old.node.0 Left))
+
+abbrev pub LooksAgain : LlxRun → LlxRun → Turn Llx → Bool → ScxNo → Type 0
+LooksAgain old now turn b s = Asks old now turn (StateAgain b s) (load LoadState (state s.0))
+
+-- it ends with a snapshot
+pub record Snaps (now old : LlxRun) (turn : Turn Llx) (snap : Snap) (v : ℕ) : Type 0 where
+  pub same : v ≡ snap.scx.0
+  pub run : now ≡ old
+  pub done : turn ≡ Done (Snapshot snap)
+
+-- it ends with a finalized node
+pub record Finalizes (now old : LlxRun) (turn : Turn Llx) (b : Bool) (s : ScxNo) : Type 0 where
+  pub final : b ≡ true
+  pub run : now ≡ old
+  pub done : turn ≡ Done (Finalized old.node s)
+
+-- a turn is right: what it waits for, or what it answers
+abbrev pub llx_turn : (Layout → History → ℕ → Type 0) → Call → History → LlxRun → Turn Llx → Type 0
+llx_turn allows c h m turn = MatchTurn turn (llx_waits allows m c h) (llx_answers m c h)
+
+-- a run of HELP that may be called
+pub record Helps (allows : Layout → History → ℕ → Type 0) (c : Call) (h : History) (n : ℕ) (help : HelpRun) (got : Option ℕ) : Type 0 where
+  pub run : IsRun allows c.layout h
+  pub opened : IsOpened c.layout h n
+  pub ready : help_ready allows help c h got
+
+-- the state of an SCX-record that was met
+pub record Meets (allows : Layout → History → ℕ → Type 0) (c : Call) (h : History) (n : ℕ) (b : Bool) (s v : ℕ) : Type 0 where
+  pub run : IsRun allows c.layout h
+  pub opened : IsOpened c.layout h n
+  pub met : HasMet h n b s
+  pub state : value h (state s) ≡ v

@@ -1,0 +1,122 @@
+-- What a run of LLX knows and waits for after each of its turns.
+use Rattle.std.proofs.Common.{◌≡◌, ◌≢◌, ℕ, Bool, true, false, not, eqb, eq-eqb, ne_eqb, Option, Some, None, ◌⊎◌, inl, inr, refl, sym, ◌∙◌, arith}
+use Rattle.std.specs.Prelude.{unwrap_or}
+use native.Mathlib.Decide.{ℕ_discrete}
+use Rattle.arena.specs.declared.layout.Layout.{Layout}
+use Rattle.arena.specs.declared.number.ScxNo.{ScxNo}
+use Rattle.arena.specs.declared.machine.Turn.{Turn}
+use Rattle.arena.specs.declared.step.Step.{Step}
+use Rattle.arena.specs.declared.step.Kind.TheVariants.{LoadInfo, LoadState}
+use Rattle.arena.specs.declared.word.Side.{Side}
+use Rattle.arena.specs.declared.word.Side.TheVariants.{Left, Right}
+use Rattle.arena.specs.Words.{info, child, state}
+use Rattle.arena.specs.History.{History, value, HasHeld}
+use Rattle.arena.specs.Machines.{IsRun, Call}
+use Rattle.arena.proofs.Values.{held_at}
+use Rattle.histories.proofs.Always.{facts}
+use Rattle.histories.proofs.Fields.{fields_are}
+use Rattle.histories.proofs.Entries.{by_final}
+use Rattle.histories.proofs.Helping.{committed_won}
+use Rattle.histories.proofs.Finals.{not_final, aborted_unmarked}
+use Rattle.help.specs.HelpKnown.{help_answers}
+use Rattle.help.specs.declared.state.HelpRun.{HelpRun}
+use Rattle.help.specs.declared.state.HelpAt.TheVariants.{Start as HelpStart}
+use Rattle.prims.specs.Linked.{marker_named}
+use Rattle.prims.specs.Snap.{child_of}
+use Rattle.prims.specs.LlxKnown.{HasMet, IsAtRest, IsOpened, IsSnapshot, IsFinalBy, Asks, Reads, LooksAgain, Snaps, Finalizes, Helps, load, llx_known, llx_asked, llx_told, llx_ready, llx_turn}
+use Rattle.prims.specs.declared.llx.Llx.{Llx}
+use Rattle.prims.specs.declared.llx.LlxRun.{LlxRun}
+use Rattle.prims.specs.declared.llx.LlxAt.{LlxAt}
+use Rattle.prims.specs.declared.llx.LlxAt.TheVariants.{Start, Marked, Info, State, MarkedAgain, Left as AtLeft, InfoAgain, StateAgain, Help, LastInfo, LastState, LastHelp}
+
+-- what a run knows, and what it has been told, at the place where it stands
+pub record Knows (allows : Layout → History → ℕ → Type 0) (c : Call) (h : History) (n : ℕ) (at : LlxAt) (found : ℕ) : Type 0 where
+  pub opened : IsOpened c.layout h n
+  pub known : llx_known h n at
+  pub told : llx_told allows c h n at found
+
+pub knows : (allows : Layout → History → ℕ → Type 0) (m : LlxRun) (c : Call) (h : History) (got : Option ℕ) (found : ℕ) (at : LlxAt) → m.at ≡ at → (at ≡ Start → ⊥) → found ≡ unwrap_or got 0 → llx_ready allows m c h got → Knows allows c h m.node.0 at found
+knows allows m c h None found at is d e r = absurd (d (sym is ∙ r.told))
+knows allows m c h (Some v) found at is d e r = record { opened = r.opened; known = rw (sym is) r.known; told = rw (e, sym is) r.told }
+
+-- a run of HELP that goes on
+pub helps : (allows : Layout → History → ℕ → Type 0) (m : LlxRun) (help : HelpRun) (b : Bool) (c : Call) (h : History) (got : Option ℕ) → m.at ≡ Help b help → IsRun allows c.layout h → llx_ready allows m c h got → Helps allows c h m.node.0 help got × HasMet h m.node.0 b help.scx.0
+helps allows m help b c h None is run r = absurd (let e : Help b help ≡ Start = sym is ∙ r.told in cc)
+helps allows m help b c h (Some v) is run r = (record { run = run; opened = r.opened; ready = rw is at r.told }, rw is at r.known)
+
+pub helps_last : (allows : Layout → History → ℕ → Type 0) (m : LlxRun) (help : HelpRun) (s : ScxNo) (c : Call) (h : History) (got : Option ℕ) → m.at ≡ LastHelp s help → IsRun allows c.layout h → llx_ready allows m c h got → Helps allows c h m.node.0 help got × HasHeld h (info m.node.0) s.0
+helps_last allows m help s c h None is run r = absurd (let e : LastHelp s help ≡ Start = sym is ∙ r.told in cc)
+helps_last allows m help s c h (Some v) is run r = (record { run = run; opened = r.opened; ready = rw is at r.told }, rw is at r.known)
+
+module _ (allows : Layout → History → ℕ → Type 0) (c : Call) (h : History) (run : IsRun allows c.layout h) where
+  waits_at : (old now : LlxRun) (turn : Turn Llx) (at : LlxAt) (step : Step) → Asks old now turn at step → IsOpened c.layout h old.node.0 → llx_known h old.node.0 at → llx_asked allows c h old.node.0 at step → llx_turn allows c h now turn
+  waits_at old now turn at step a o k e = rw (a.asked, a.stands) record { opened = o; known = k; asked = e }
+
+  -- a new run of HELP of what an info names and what is in progress
+  pub new_help : (n : ℕ) (s : ScxNo) (help : HelpRun) → IsOpened c.layout h n → HasHeld h (info n) s.0 → value h (state s.0) ≡ 0 → help.scx ≡ s → help.at ≡ HelpStart → Helps allows c h n help None
+  new_help n s help o p e q z = record {
+    run = run;
+    opened = o;
+    ready = (z, inl (rw q record { real = λ y. (let d = (facts c.layout h run.lawful).dummy in let w : value h (state 0) ≡ 0 = rw y at e in omega arith); named = (n, p) }));
+  }
+
+  pub turn_info : (m now : LlxRun) (turn : Turn Llx) (b : Bool) (v : ℕ) → Knows allows c h m.node.0 Marked v → (b ≡ true → v ≢ 0) → Asks m now turn (Info b) (load LoadInfo (info m.node.0)) → llx_turn allows c h now turn
+  turn_info m now turn b v k d a = waits_at m now turn (Info b) _ a k.opened (λ e. (facts c.layout h run.lawful).mark m.node.0 (λ z. d e (sym k.told ∙ z))) refl
+
+  pub turn_state : (m now : LlxRun) (turn : Turn Llx) (b : Bool) (v : ℕ) → Knows allows c h m.node.0 (Info b) v → Asks m now turn (State b record { 0 = v }) (load LoadState (state v)) → llx_turn allows c h now turn
+  turn_state m now turn b v k a = waits_at m now turn (State b record { 0 = v }) _ a k.opened
+      record { held = held_at h (info m.node.0) v k.told; finalizes = λ e. marker_named c.layout h m.node.0 v run.lawful (λ z. let y = k.known e in omega arith) k.told }
+      refl
+
+  pub turn_read : (m now : LlxRun) (turn : Turn Llx) (b : Bool) (s : ScxNo) (v found : ℕ) (again : Bool) → Knows allows c h m.node.0 (MarkedAgain b s v) found → (again ≡ false → found ≡ 0) → Reads m now turn b s v again ⊎ LooksAgain m now turn b s → llx_turn allows c h now turn
+  turn_read m now turn b s v found again k d (inr a) = waits_at m now turn (StateAgain b s) _ a k.opened k.known.0 refl
+  turn_read m now turn b s v found again k d (inl a) = waits_at m now turn (AtLeft b s) _ a.asks k.opened (k.known.0, go a.in_place) refl
+    where
+      go : (v ≡ 2) ⊎ ((v ≡ 1) × (again ≡ false)) → IsAtRest h m.node.0 s.0
+      go (inl e) = let q = k.known.1 (λ z. omega arith) in record { rest = λ z. omega arith; unmarked = λ i. aborted_unmarked c.layout h m.node.0 s.0 run.lawful i (q ∙ e) }
+      go (inr e) = let q = k.known.1 (λ z. let y = e.0 in omega arith) in record { rest = λ z. let y = e.0 in omega arith; unmarked = λ i. k.told ∙ d e.1 }
+
+  snapshot : (n : ℕ) (b : Bool) (s : ScxNo) (x y : ℕ) → IsOpened c.layout h n → llx_known h n (InfoAgain b s x y) → value h (info n) ≡ s.0 → IsSnapshot c.layout h n record { node = record { 0 = n }; scx = s; left = record { 0 = x }; right = record { 0 = y } }
+  snapshot n b s x y o k e = record {
+    node = refl;
+    linked = record { in_field = o.in_field; inside = o.inside; held = k.0.held; rest = k.1.rest; unmarked = k.1.unmarked; had = λ side. held_at h (child n side) _ (fields side e); fields = fields };
+    info = e;
+    left = sym (k.2 e) ∙ fields_are c.layout h n Left run.lawful;
+    right = sym (k.3 e) ∙ fields_are c.layout h n Right run.lawful;
+    not_final = not_final c.layout h n run.lawful (k.1.unmarked e);
+  }
+    where
+      fields : (side : Side) → value h (info n) ≡ s.0 → value h (child n side) ≡ (child_of record { node = record { 0 = n }; scx = s; left = record { 0 = x }; right = record { 0 = y } } side).0
+      fields Left = k.2
+      fields Right = k.3
+
+  pub turn_compare : (m now : LlxRun) (turn : Turn Llx) (b : Bool) (s : ScxNo) (x y found : ℕ) → Knows allows c h m.node.0 (InfoAgain b s x y) found
+      → Snaps now m turn record { node = m.node; scx = s; left = record { 0 = x }; right = record { 0 = y } } found ⊎ LooksAgain m now turn b s → llx_turn allows c h now turn
+  turn_compare m now turn b s x y found k (inr a) = waits_at m now turn (StateAgain b s) _ a k.opened k.known.0 refl
+  turn_compare m now turn b s x y found k (inl a) = rw (a.done, a.run) (snapshot m.node.0 b s x y k.opened k.known (k.told ∙ a.same))
+
+  final_by_met : (n s : ℕ) (b : Bool) → HasMet h n b s → b ≡ true → value h (state s) ≡ 1 → IsFinalBy c.layout h n s
+  final_by_met n s b m e q = record { final = by_final c.layout h n s run.lawful record { won = committed_won c.layout h s run.lawful q; removed = (m.finalizes e).removed }; by = m.finalizes e; committed = q }
+
+  pub turn_helped : (m now : LlxRun) (turn : Turn Llx) (b t : Bool) (s : ScxNo) → IsOpened c.layout h m.node.0 → HasMet h m.node.0 b s.0 → (t ≡ true → (b ≡ true) × (value h (state s.0) ≡ 1)) → Finalizes now m turn t s ⊎ Asks m now turn LastInfo (load LoadInfo (info m.node.0)) → llx_turn allows c h now turn
+  turn_helped m now turn b t s o met d (inr a) = waits_at m now turn LastInfo _ a o tt refl
+  turn_helped m now turn b t s o met d (inl a) = rw (a.done, a.run) (refl, final_by_met m.node.0 s.0 b met (d a.final).0 (d a.final).1)
+
+  pub turn_last : (m now : LlxRun) (turn : Turn Llx) (v : ℕ) → Knows allows c h m.node.0 LastInfo v → Asks m now turn (LastState record { 0 = v }) (load LoadState (state v)) → llx_turn allows c h now turn
+  turn_last m now turn v k a = waits_at m now turn (LastState record { 0 = v }) _ a k.opened (held_at h (info m.node.0) v k.told) refl
+
+-- where HELP has answered true, its SCX-record is committed
+pub committed_state : (c : Call) (h : History) (b : Bool) (now help : HelpRun) → help_answers now c h b → now.scx ≡ help.scx → b ≡ true → value h (state help.scx.0) ≡ 1
+committed_state c h true now help a e t = rw e at a
+committed_state c h false now help a e t = cc
+
+-- a test for a value that is not 0
+pub not_zero : (v : ℕ) → not (eqb v 0) ≡ true → v ≢ 0
+not_zero v e z = let x : eqb v 0 ≡ true = eq-eqb v 0 z in cc
+
+pub is_zero : (v : ℕ) → not (eqb v 0) ≡ false → v ≡ 0
+is_zero v e = go (ℕ_discrete v 0)
+  where
+    go : Dec (v ≡ 0) → v ≡ 0
+    go (yes z) = z
+    go (no d) = absurd (let x : eqb v 0 ≡ false = ne_eqb v 0 d in cc)

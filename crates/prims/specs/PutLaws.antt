@@ -1,0 +1,95 @@
+-- The laws of SCX with a fresh cell.
+use Rattle.std.proofs.Common.{◌≢◌, ℕ, Some, inl, inr, refl, ◌∙◌}
+use Rattle.arena.specs.declared.layout.Layout.{Layout}
+use Rattle.arena.specs.declared.step.Row.{Row}
+use Rattle.arena.specs.declared.step.Step.{Step}
+use Rattle.arena.specs.declared.word.NodeWord.TheVariants.{Value, Child, Info}
+use Rattle.arena.specs.declared.word.ScxWord.TheVariants.{New}
+use Rattle.arena.specs.Words.{node, scx, info, state, child}
+use Rattle.arena.specs.History.{History, ◌⊳◌, value}
+use Rattle.arena.specs.Fills.{IsNamed, opening_node, by_field, by_scx, IsNamedScx, IsTakenNode}
+use Rattle.arena.specs.Lawful.{Lawful}
+use Rattle.arena.specs.Machines.{IsRun, Call, row_of, IsTold}
+use Rattle.arena.proofs.Values.{value_apart, held_back, node_word_apart}
+use Rattle.histories.proofs.Changes.{lawful_more}
+use Rattle.histories.proofs.Owners.{own_node_inside}
+use Rattle.histories.proofs.Shapes.{shaped_more}
+use Rattle.help.specs.AllowedLaws.{later_self, later_trans}
+use Rattle.prims.specs.Cells.{allows_all}
+use Rattle.prims.specs.Linked.{linked_more}
+use Rattle.prims.specs.VlxKnown.{snap_at}
+use Rattle.prims.specs.ScxKnown.{InHand}
+use Rattle.prims.specs.ScxLaws.{taken_more, hand_kept, scx_keeps, scx_lawful}
+use Rattle.prims.specs.ScxMade.{scx_made}
+use Rattle.prims.specs.PutKnown.{PutHand, put_step, put_waits_at, put_told_at, put_waits, put_ready}
+use Rattle.prims.specs.declared.put.PutRun.{PutRun}
+use Rattle.prims.specs.declared.put.PutAt.{PutAt}
+use Rattle.prims.specs.declared.put.PutAt.TheVariants.{Start, Fill as AtFill, Scx}
+
+taken_node_more : (r : Row) (h : History) (n : ℕ) → IsTakenNode h n → IsTakenNode (r ⊳ h) n
+unfolding IsTakenNode
+taken_node_more r h n p = inr p
+
+kept_at : (allows : Layout → History → ℕ → Type 0) (m : PutRun) (c : Call) (h : History) (at : PutAt) (s : Step) (r : Row) → IsRun allows c.layout (r ⊳ h) → r.pass.0 ≢ c.pass → put_waits_at allows c h m at s → put_waits_at allows c (r ⊳ h) m at s
+kept_at allows m c h Start s r run other w = w
+kept_at allows m c h Scx s r run other w = scx_keeps allows m.scx c h s r run other w
+kept_at allows m c h AtFill s r run other w = (
+  record {
+    hand = hand_kept allows_all c.layout c.pass h r m.scx run.lawful c.is_pass other w.0.hand;
+    start = w.0.start;
+    in_order = λ n o p. taken_node_more r h n (w.0.in_order n o p);
+    allowed = λ k q d later f y. w.0.allowed k q d (later_trans c.pass m.scx.scx.0 h (r ⊳ h) k later (inr (inl other, later_self c.pass m.scx.scx.0 h))) f y;
+  },
+  w.1,
+)
+
+pub put_keeps : (allows : Layout → History → ℕ → Type 0) (m : PutRun) (c : Call) (h : History) (s : Step) (r : Row) → IsRun allows c.layout (r ⊳ h) → r.pass.0 ≢ c.pass → put_waits allows m c h s → put_waits allows m c (r ⊳ h) s
+put_keeps allows m c h s r run other w = kept_at allows m c h m.at s r run other w
+
+lawful_at : (allows : Layout → History → ℕ → Type 0) (m : PutRun) (c : Call) (h : History) (at : PutAt) (s : Step) → IsRun allows c.layout h → put_waits_at allows c h m at s → IsRun allows c.layout (row_of c s h ⊳ h)
+lawful_at allows m c h Start s run w = absurd w
+lawful_at allows m c h Scx s run w = scx_lawful allows m.scx c h s run w
+lawful_at allows m c h AtFill s run w = rw w.1 record { lawful = x; shaped = shaped_more allows c.layout h (row_of c (put_step m) h) x run.shaped (λ u f g. absurd (let e = g.kind in cc)) }
+  where
+    x : Lawful c.layout (row_of c (put_step m) h ⊳ h)
+    x = lawful_more c.layout h (row_of c (put_step m) h) run.lawful record { before = refl; obeys = record { own = w.0.hand.fresh; in_order = w.0.in_order; unnamed = w.0.hand.unnamed }; pass = c.is_pass; word = own_node_inside c.layout c.pass m.scx.update.fresh c.is_pass w.0.hand.fresh }
+
+pub put_lawful : (allows : Layout → History → ℕ → Type 0) (m : PutRun) (c : Call) (h : History) (s : Step) → IsRun allows c.layout h → put_waits allows m c h s → IsRun allows c.layout (row_of c s h ⊳ h)
+put_lawful allows m c h s run w = lawful_at allows m c h m.at s run w
+
+-- the fill of its fresh node
+
+module _ (allows : Layout → History → ℕ → Type 0) (m : PutRun) (c : Call) (h : History) where
+  abbrev r : Row
+  r = row_of c (put_step m) h
+
+  free_back : (s : ℕ) → IsNamedScx (r ⊳ h) s → IsNamedScx h s
+  free_back s p = (p.0, held_back r h (info p.0) s (value_apart r h (node m.scx.update.fresh Value) (info p.0) refl (node_word_apart m.scx.update.fresh p.0 Value Info refl)) p.1)
+
+  unnamed_back : {n : ℕ} → IsNamed c.layout (r ⊳ h) n → IsNamed c.layout h n
+  unnamed_back (opening_node i) = opening_node i
+  unnamed_back (by_field k side p q) = by_field k side (unnamed_back p) (held_back r h (child k side) _ (value_apart r h (node m.scx.update.fresh Value) (child k side) refl (node_word_apart m.scx.update.fresh k Value (Child side) refl)) q)
+  unnamed_back (by_scx u part p i q) = by_scx u part (free_back u p) i (held_back r h (scx u part) _ (value_apart r h (node m.scx.update.fresh Value) (scx u part) refl refl) q)
+
+  hand_put : Lawful c.layout (r ⊳ h) → PutHand allows c.layout c.pass h m.scx → InHand allows c.layout c.pass (r ⊳ h) m.scx
+  hand_put l y = record {
+    update = y.hand.update;
+    linked = λ j p. linked_more c.layout h r (snap_at m.scx.update.snaps.items j) l (y.hand.linked j p);
+    is_open = record { own = y.hand.is_open.own; in_order = λ t o p. taken_more r h t (y.hand.is_open.in_order t o p); unnamed = λ p. y.hand.is_open.unnamed (free_back m.scx.scx.0 p) };
+    unfinished = value_apart r h (node m.scx.update.fresh Value) (state m.scx.scx.0) refl refl ∙ y.hand.unfinished;
+    fresh = y.hand.fresh;
+    unnamed = λ p. y.hand.unnamed (unnamed_back p);
+    in_no_field = λ n side p. y.hand.in_no_field n side (held_back r h (child n side) m.scx.update.fresh (value_apart r h (node m.scx.update.fresh Value) (child n side) refl (node_word_apart m.scx.update.fresh n Value (Child side) refl)) p);
+    in_no_other = λ u d p. y.hand.in_no_other u d (held_back r h (scx u New) m.scx.update.fresh (value_apart r h (node m.scx.update.fresh Value) (scx u New) refl refl) p);
+    allowed = λ d z. y.allowed h r d (later_self c.pass m.scx.scx.0 h) (Value, refl, refl) z;
+  }
+
+made_at : (allows : Layout → History → ℕ → Type 0) (m : PutRun) (c : Call) (h : History) (at : PutAt) (s : Step) (v : ℕ) → IsRun allows c.layout (row_of c s h ⊳ h) → IsTold s.deed (value h s.word) v → put_waits_at allows c h m at s → put_told_at allows c (row_of c s h ⊳ h) m at v
+made_at allows m c h Start s v run t w = absurd w
+made_at allows m c h Scx s v run t w = scx_made allows m.scx c h s v run t w
+made_at allows m c h AtFill s v run t w =
+    let l : Lawful c.layout (row_of c (put_step m) h ⊳ h) = rw w.1 at run.lawful in
+    rw w.1 (w.0.start, hand_put allows m c h l w.0)
+
+pub put_made : (allows : Layout → History → ℕ → Type 0) (m : PutRun) (c : Call) (h : History) (s : Step) (v : ℕ) → IsRun allows c.layout (row_of c s h ⊳ h) → IsTold s.deed (value h s.word) v → put_waits allows m c h s → put_ready allows m c (row_of c s h ⊳ h) (Some v)
+put_made allows m c h s v run t w = made_at allows m c h m.at s v run t w

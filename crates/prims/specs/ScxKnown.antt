@@ -1,0 +1,215 @@
+-- When a run of SCX may go on, what it waits for, and what its answer says.
+use Rattle.std.specs.Prelude.{◌≡◌, ◌≢◌, ℕ, suc, ◌<◌, length, Option, Some, None}
+use Rattle.arena.specs.declared.layout.Layout.{Layout}
+use Rattle.arena.specs.declared.step.Step.{Step}
+use Rattle.arena.specs.declared.step.Deed.TheVariants.{Store}
+use Rattle.arena.specs.declared.step.Kind.TheVariants.{Fill}
+use Rattle.arena.specs.declared.word.Side.{Side}
+use Rattle.arena.specs.declared.word.ScxWord.{ScxWord}
+use Rattle.arena.specs.declared.word.ScxWord.TheVariants.{Plan, New, Old, Member, Seen, Call as CallWord}
+use Rattle.arena.specs.MemberNo.{index_of}
+use Rattle.arena.specs.Words.{scx, state, child}
+use Rattle.arena.specs.History.{History, value, HasHeld}
+use Rattle.arena.specs.ScxRecords.{IsPlan, count_of, side_of, index_of as field_of}
+use Rattle.arena.specs.Fills.{IsOwnNode, IsOpenScx, IsNamed}
+use Rattle.arena.specs.Lawful.{HasWon}
+use Rattle.arena.specs.Log.{log, IsEntered}
+use Rattle.arena.specs.declared.machine.Turn.{Turn}
+use Rattle.arena.specs.declared.machine.Turn.TheVariants.{Ask}
+use Rattle.arena.specs.declared.number.MemberNo.{MemberNo}
+use Rattle.help.specs.Plan.{count as planned}
+use Rattle.help.specs.declared.state.HelpRun.{HelpRun}
+use Rattle.arena.specs.Machines.{Call, IsRun, MatchTurn}
+use Rattle.histories.proofs.Facts.{Descriptor}
+use Rattle.help.specs.Allowed.{IsAllowed}
+use Rattle.help.specs.HelpKnown.{IsBlocked, help_ready, help_waits}
+use Rattle.prims.specs.Snap.{child_of}
+use Rattle.prims.specs.VlxKnown.{snap_at, AllLinked}
+use Rattle.prims.specs.declared.scx.ScxRun.{ScxRun}
+use Rattle.prims.specs.declared.scx.Scx.{Scx}
+use Rattle.prims.specs.declared.scx.Scx.TheVariants.{Done, Lost}
+use Rattle.prims.specs.declared.scx.ScxAt.{ScxAt}
+use Rattle.prims.specs.declared.scx.ScxAt.TheVariants.{Start, Plan as AtPlan, New as AtNew, Old as AtOld, Member as AtMember, Seen as AtSeen, Call as AtCall, Help}
+use Rattle.prims.specs.declared.update.Update.{Update}
+
+-- an update over different nodes, by a plan of them, with what its field holds
+pub record IsUpdateOver (u : Update) : Type 0 where
+  pub planned : IsPlan u.plan.0
+  pub count : count_of u.plan.0 ≡ length u.snaps.items
+  pub distinct : (i j : ℕ) → i < length u.snaps.items → j < length u.snaps.items → i ≢ j → (snap_at u.snaps.items i).node.0 ≢ (snap_at u.snaps.items j).node.0
+  pub old : u.old.0 ≡ (child_of (snap_at u.snaps.items (field_of u.plan.0)) (side_of u.plan.0)).0
+
+-- what each word of the SCX-record is to hold
+abbrev pub wanted : ScxRun → ScxWord → ℕ
+wanted m Plan = m.update.plan.0
+wanted m New = m.update.fresh
+wanted m Old = m.update.old.0
+wanted m (Member j) = (snap_at m.update.snaps.items j).node.0
+wanted m (Seen j) = (snap_at m.update.snaps.items j).scx.0
+wanted m CallWord = m.call
+wanted m _ = 0
+
+-- a descriptor says what the words are to hold
+pub record Says (d : Descriptor) (m : ScxRun) : Type 0 where
+  pub plan : d.plan ≡ m.update.plan.0
+  pub new : d.new ≡ m.update.fresh
+  pub old : d.old ≡ m.update.old.0
+  pub member : (j : ℕ) → j < length m.update.snaps.items → d.member j ≡ (snap_at m.update.snaps.items j).node.0
+  pub seen : (j : ℕ) → j < length m.update.snaps.items → d.seen j ≡ (snap_at m.update.snaps.items j).scx.0
+  pub call : d.call ≡ m.call
+
+-- what the pass has in hand: usable snapshots, an SCX-record and a node of its own that nothing names, and an update that is allowed
+pub record InHand (allows : Layout → History → ℕ → Type 0) (lay : Layout) (c : ℕ) (h : History) (m : ScxRun) : Type 0 where
+  pub update : IsUpdateOver m.update
+  pub linked : AllLinked lay h m.update.snaps.items
+  pub is_open : IsOpenScx lay h c m.scx.0
+  pub unfinished : value h (state m.scx.0) ≡ 0
+  pub fresh : IsOwnNode lay c m.update.fresh
+  pub unnamed : ¬ IsNamed lay h m.update.fresh
+  pub in_no_field : (n : ℕ) (side : Side) → ¬ HasHeld h (child n side) m.update.fresh
+  pub in_no_other : (u : ℕ) → u ≢ m.scx.0 → ¬ HasHeld h (scx u New) m.update.fresh
+  pub allowed : (d : Descriptor) → Says d m → IsAllowed allows lay c h m.scx.0 d
+
+-- the word that is filled at a place
+abbrev pub part_at : ScxAt → ScxWord
+part_at AtPlan = Plan
+part_at AtNew = New
+part_at AtOld = Old
+part_at (AtMember j) = Member (index_of j)
+part_at (AtSeen j) = Seen (index_of j)
+part_at AtCall = CallWord
+part_at _ = Plan
+
+-- the words that were filled before, of an SCX-record over k nodes
+abbrev pub IsFilled : ℕ → ScxAt → ScxWord → Type 0
+IsFilled k AtNew Plan = Unit {0}
+IsFilled k AtOld Plan = Unit {0}
+IsFilled k AtOld New = Unit {0}
+IsFilled k (AtMember j) Plan = Unit {0}
+IsFilled k (AtMember j) New = Unit {0}
+IsFilled k (AtMember j) Old = Unit {0}
+IsFilled k (AtMember j) (Member i) = i < index_of j
+IsFilled k (AtSeen j) Plan = Unit {0}
+IsFilled k (AtSeen j) New = Unit {0}
+IsFilled k (AtSeen j) Old = Unit {0}
+IsFilled k (AtSeen j) (Member i) = i < k
+IsFilled k (AtSeen j) (Seen i) = i < index_of j
+IsFilled k AtCall Plan = Unit {0}
+IsFilled k AtCall New = Unit {0}
+IsFilled k AtCall Old = Unit {0}
+IsFilled k AtCall (Member i) = i < k
+IsFilled k AtCall (Seen i) = i < k
+IsFilled k _ _ = ⊥
+
+-- the words that are filled once that one is too
+abbrev pub IsFilledThen : ℕ → ScxAt → ScxWord → Type 0
+IsFilledThen k AtPlan Plan = Unit {0}
+IsFilledThen k AtNew Plan = Unit {0}
+IsFilledThen k AtNew New = Unit {0}
+IsFilledThen k AtOld Plan = Unit {0}
+IsFilledThen k AtOld New = Unit {0}
+IsFilledThen k AtOld Old = Unit {0}
+IsFilledThen k (AtMember j) Plan = Unit {0}
+IsFilledThen k (AtMember j) New = Unit {0}
+IsFilledThen k (AtMember j) Old = Unit {0}
+IsFilledThen k (AtMember j) (Member i) = i < suc (index_of j)
+IsFilledThen k (AtSeen j) Plan = Unit {0}
+IsFilledThen k (AtSeen j) New = Unit {0}
+IsFilledThen k (AtSeen j) Old = Unit {0}
+IsFilledThen k (AtSeen j) (Member i) = i < k
+IsFilledThen k (AtSeen j) (Seen i) = i < suc (index_of j)
+IsFilledThen k AtCall Plan = Unit {0}
+IsFilledThen k AtCall New = Unit {0}
+IsFilledThen k AtCall Old = Unit {0}
+IsFilledThen k AtCall (Member i) = i < k
+IsFilledThen k AtCall (Seen i) = i < k
+IsFilledThen k AtCall CallWord = Unit {0}
+IsFilledThen k _ _ = ⊥
+
+-- the filled words hold what they are to hold
+abbrev pub Holds : History → ScxRun → (ScxWord → Type 0) → Type 0
+Holds h m P = (part : ScxWord) → P part → value h (scx m.scx.0 part) ≡ wanted m part
+
+-- the place lies within the nodes of the update
+abbrev pub IsWithin : ℕ → ScxAt → Type 0
+IsWithin k (AtMember j) = index_of j < k
+IsWithin k (AtSeen j) = index_of j < k
+IsWithin k _ = Unit {0}
+
+-- a run that fills a word
+pub record Fills (allows : Layout → History → ℕ → Type 0) (c : Call) (h : History) (m : ScxRun) (at : ScxAt) : Type 0 where
+  pub hand : InHand allows c.layout c.pass h m
+  pub within : IsWithin (length m.update.snaps.items) at
+  pub filled : Holds h m (IsFilled (length m.update.snaps.items) at)
+
+abbrev pub fill_step : ScxRun → ScxWord → Step
+fill_step m part = record { kind = Fill; word = scx m.scx.0 part; deed = Store (wanted m part) }
+
+pub record FillWaits (allows : Layout → History → ℕ → Type 0) (c : Call) (h : History) (m : ScxRun) (at : ScxAt) (step : Step) : Type 0 where
+  pub fills : Fills allows c h m at
+  pub asked : step ≡ fill_step m (part_at at)
+
+pub record FillMade (allows : Layout → History → ℕ → Type 0) (c : Call) (h : History) (m : ScxRun) (at : ScxAt) : Type 0 where
+  pub hand : InHand allows c.layout c.pass h m
+  pub within : IsWithin (length m.update.snaps.items) at
+  pub filled : Holds h m (IsFilledThen (length m.update.snaps.items) at)
+
+abbrev pub scx_waits_at : (Layout → History → ℕ → Type 0) → Call → History → ScxRun → ScxAt → Step → Type 0
+scx_waits_at allows c h m Start step = ⊥
+scx_waits_at allows c h m (Help help) step = help_waits allows help c h step × (help.scx ≡ m.scx)
+scx_waits_at allows c h m at step = FillWaits allows c h m at step
+
+abbrev pub scx_told_at : (Layout → History → ℕ → Type 0) → Call → History → ScxRun → ScxAt → ℕ → Type 0
+scx_told_at allows c h m Start v = ⊥
+scx_told_at allows c h m (Help help) v = help_ready allows help c h (Some v) × (help.scx ≡ m.scx)
+scx_told_at allows c h m at v = FillMade allows c h m at
+
+abbrev pub scx_waits : (Layout → History → ℕ → Type 0) → ScxRun → Call → History → Step → Type 0
+scx_waits allows m c h step = scx_waits_at allows c h m m.at step
+
+abbrev pub scx_ready : (Layout → History → ℕ → Type 0) → ScxRun → Call → History → Option ℕ → Type 0
+scx_ready allows m c h None = (m.at ≡ Start) × InHand allows c.layout c.pass h m
+scx_ready allows m c h (Some v) = scx_told_at allows c h m m.at v
+
+-- it is committed: its update has won
+pub record IsDone (h : History) (s : ℕ) : Type 0 where
+  pub committed : value h (state s) ≡ 1
+  pub won : HasWon h s
+
+-- it is aborted, has no entry, and this node's info was not as it had seen it
+pub record IsLost (lay : Layout) (h : History) (s n v : ℕ) : Type 0 where
+  pub aborted : value h (state s) ≡ 2
+  pub no_entry : ¬ IsEntered (log lay h) s
+  pub blocked : IsBlocked h s n v
+
+abbrev pub scx_answers : ScxRun → Call → History → Scx → Type 0
+scx_answers m c h Done = IsDone h m.scx.0
+scx_answers m c h (Lost node found) = IsLost c.layout h m.scx.0 node.0 found.0
+
+-- What its turns leave
+
+-- the run stands at a place and fills the word there
+pub record FillsAt (old now : ScxRun) (turn : Turn Scx) (at : ScxAt) : Type 0 where
+  pub stands : now ≡ record old { at = at }
+  pub asked : turn ≡ Ask (fill_step old (part_at at))
+
+-- it fills the next node, or goes on behind the last
+pub record FillsNext (old now : ScxRun) (turn : Turn Scx) (j : MemberNo) (place : MemberNo → ScxAt) : Type 0 where
+  pub next : MemberNo
+  pub is : index_of next ≡ suc (index_of j)
+  pub within : index_of next < planned old.update.plan.0
+  pub fills : FillsAt old now turn (place next)
+
+pub record FillsLast (old now : ScxRun) (turn : Turn Scx) (j : MemberNo) (at : ScxAt) : Type 0 where
+  pub none : (index_of j < 3) × (suc (index_of j) < planned old.update.plan.0) → ⊥
+  pub fills : FillsAt old now turn at
+
+-- a turn is right: what it waits for, or what it answers
+abbrev pub scx_turn : (Layout → History → ℕ → Type 0) → Call → History → ScxRun → Turn Scx → Type 0
+scx_turn allows c h m turn = MatchTurn turn (scx_waits allows m c h) (scx_answers m c h)
+
+-- a run of HELP of its SCX-record that may be called
+pub record Helps (allows : Layout → History → ℕ → Type 0) (c : Call) (h : History) (m : ScxRun) (help : HelpRun) (got : Option ℕ) : Type 0 where
+  pub run : IsRun allows c.layout h
+  pub ready : help_ready allows help c h got
+  pub same : help.scx ≡ m.scx

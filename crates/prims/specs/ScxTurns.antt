@@ -1,0 +1,181 @@
+-- What a run of SCX knows and waits for after each of its turns.
+use Rattle.std.proofs.Common.{◌≡◌, ℕ, suc, ◌<◌, ◌≤◌, ◌%◌, Bool, true, Option, Some, None, ◌⊎◌, inl, inr, refl, sym, ◌∙◌, ap, arith, length, subst}
+use Rattle.arena.specs.declared.layout.Layout.{Layout}
+use Rattle.arena.specs.declared.number.MemberNo.{MemberNo}
+use Rattle.arena.specs.declared.number.MemberNo.TheVariants.{First}
+use Rattle.arena.specs.declared.machine.Turn.{Turn}
+use Rattle.arena.specs.declared.word.ScxWord.{ScxWord}
+use Rattle.arena.specs.declared.step.Step.{Step}
+use Rattle.arena.specs.declared.step.Deed.TheVariants.{Store}
+use Rattle.arena.specs.declared.step.Kind.TheVariants.{Fill}
+use Rattle.arena.specs.declared.word.ScxWord.TheVariants.{State, AllFrozen, Plan, New, Old, Member, Seen, Call as CallWord}
+use Rattle.arena.specs.MemberNo.{index_of}
+use Rattle.arena.specs.Words.{scx, info, state, child}
+use Rattle.arena.specs.History.{History, value}
+use Rattle.arena.specs.ScxRecords.{count_of, index_of as field_of, side_of, plan, member, seen, new, old, count}
+use Rattle.arena.specs.Machines.{IsRun, Call}
+use Rattle.arena.proofs.Plans.{plan_counted}
+use Rattle.histories.proofs.Facts.{Descriptor, descriptor}
+use Rattle.histories.proofs.Begins.{Begins}
+use Rattle.histories.proofs.Helping.{committed_won}
+use Rattle.arena.specs.Lawful.{Lawful}
+use Rattle.help.specs.HelpKnown.{help_answers}
+use Rattle.prims.specs.LlxTurns.{committed_state}
+use Rattle.help.specs.declared.state.HelpRun.{HelpRun}
+use Rattle.help.specs.declared.state.HelpAt.TheVariants.{Start as HelpStart}
+use Rattle.help.specs.Plan.{count as planned}
+use Rattle.help.specs.Allowed.{IsPrepared}
+use Rattle.prims.specs.Linked.{in_field_named}
+use Rattle.prims.specs.VlxKnown.{snap_at}
+use Rattle.prims.specs.ScxKnown.{IsUpdateOver, IsDone, Helps, scx_ready, scx_told_at, Says, wanted, InHand, part_at, IsFilled, IsFilledThen, Holds, IsWithin, FillWaits, FillMade, FillsAt, FillsNext, FillsLast, scx_turn, scx_waits_at}
+use Rattle.prims.specs.declared.scx.ScxRun.{ScxRun}
+use Rattle.prims.specs.declared.scx.Scx.{Scx}
+use Rattle.prims.specs.declared.scx.ScxAt.{ScxAt}
+use Rattle.prims.specs.declared.scx.ScxAt.TheVariants.{Start, Member as AtMember, Seen as AtSeen, Call as AtCall}
+
+three : (a : ℕ) → (a < 3) ⊎ (3 ≤ a)
+three a = grind arith
+
+not_less : (a b : ℕ) → (a < b → ⊥) → b ≤ a
+not_less a b d = grind arith
+
+module _ (allows : Layout → History → ℕ → Type 0) (c : Call) (h : History) (m : ScxRun) where
+  -- what is in hand does not ask where the run stands
+  says_of : (at : ScxAt) (d : Descriptor) → Says d (record m { at = at }) → Says d m
+  says_of at d x = record { plan = x.plan; new = x.new; old = x.old; member = x.member; seen = x.seen; call = x.call }
+
+  hand_of : (at : ScxAt) → InHand allows c.layout c.pass h m → InHand allows c.layout c.pass h (record m { at = at })
+  hand_of at x = record { update = x.update; linked = x.linked; is_open = x.is_open; unfinished = x.unfinished; fresh = x.fresh; unnamed = x.unnamed; in_no_field = x.in_no_field; in_no_other = x.in_no_other; allowed = λ d y. x.allowed d (says_of at d y) }
+
+  word_of : (at : ScxAt) (part : ScxWord) → wanted m part ≡ wanted (record m { at = at }) part
+  word_of at State = refl
+  word_of at AllFrozen = refl
+  word_of at Plan = refl
+  word_of at New = refl
+  word_of at Old = refl
+  word_of at (Member j) = refl
+  word_of at (Seen j) = refl
+  word_of at CallWord = refl
+
+  abbrev step_of : ScxWord → ℕ → Step
+  step_of part v = record { kind = Fill; word = scx m.scx.0 part; deed = Store v }
+
+  -- the next word is filled
+  pub turn_fill : (at : ScxAt) (now : ScxRun) (turn : Turn Scx) → InHand allows c.layout c.pass h m → IsWithin (length m.update.snaps.items) at → Holds h m (IsFilled (length m.update.snaps.items) at)
+      → ((s : _) → FillWaits allows c h (record m { at = at }) at s → scx_waits_at allows c h (record m { at = at }) at s) → FillsAt m now turn at → scx_turn allows c h now turn
+  turn_fill at now turn x i f w a = rw (a.asked, a.stands) (w _ record { fills = record { hand = hand_of at x; within = i; filled = λ part p. f part p ∙ word_of at part }; asked = ap (λ (v : ℕ). step_of (part_at at) v) (word_of at (part_at at)) })
+
+  fewer : IsUpdateOver m.update → (j : ℕ) → j < count_of m.update.plan.0 → j < length m.update.snaps.items
+  fewer u j i = rw u.count at i
+
+  -- a place of the plan, or what is behind the last
+  next_within : IsUpdateOver m.update → (j : MemberNo) → index_of j < planned m.update.plan.0 → index_of j < length m.update.snaps.items
+  next_within u j i = let a = plan_counted m.update.plan.0 u.planned.some in let b = a.count in fewer u (index_of j) (omega arith)
+
+  last_covers : IsUpdateOver m.update → (j : MemberNo) → ((index_of j < 3) × (suc (index_of j) < planned m.update.plan.0) → ⊥) → length m.update.snaps.items ≤ suc (index_of j)
+  last_covers u j d = go (three (index_of j))
+    where
+      e : length m.update.snaps.items ≡ m.update.plan.0 % 8
+      e = sym u.count ∙ (plan_counted m.update.plan.0 u.planned.some).count
+
+      go : (index_of j < 3) ⊎ (3 ≤ index_of j) → length m.update.snaps.items ≤ suc (index_of j)
+      go (inr p) = let f = (plan_counted m.update.plan.0 u.planned.some).few in omega (arith, e)
+      go (inl p) = rw e (not_less (suc (index_of j)) (m.update.plan.0 % 8) (λ q. d (p, q)))
+
+  pub turn_member : (j : MemberNo) (now : ScxRun) (turn : Turn Scx) → FillMade allows c h m (AtMember j) → FillsNext m now turn j (λ k. AtMember k) ⊎ FillsLast m now turn j (AtSeen First) → scx_turn allows c h now turn
+  turn_member j now turn x (inl a) = turn_fill (AtMember a.next) now turn x.hand (next_within x.hand.update a.next a.within) (λ part p. x.filled part (filled part p)) (λ s y. y) a.fills
+    where
+      filled : (part : ScxWord) → IsFilled (length m.update.snaps.items) (AtMember a.next) part → IsFilledThen (length m.update.snaps.items) (AtMember j) part
+      filled Plan p = tt
+      filled New p = tt
+      filled Old p = tt
+      filled (Member i) p = let e = a.is in omega arith
+      filled _ p = absurd p
+  turn_member j now turn x (inr a) = turn_fill (AtSeen First) now turn x.hand (fewer x.hand.update 0 x.hand.update.planned.some) (λ part p. x.filled part (filled part p)) (λ s y. y) a.fills
+    where
+      filled : (part : ScxWord) → IsFilled (length m.update.snaps.items) (AtSeen First) part → IsFilledThen (length m.update.snaps.items) (AtMember j) part
+      filled Plan p = tt
+      filled New p = tt
+      filled Old p = tt
+      filled (Member i) p = let e = last_covers x.hand.update j a.none in omega arith
+      filled (Seen i) p = absurd (omega arith)
+      filled _ p = absurd p
+
+  pub turn_seen : (j : MemberNo) (now : ScxRun) (turn : Turn Scx) → FillMade allows c h m (AtSeen j) → FillsNext m now turn j (λ k. AtSeen k) ⊎ FillsLast m now turn j AtCall → scx_turn allows c h now turn
+  turn_seen j now turn x (inl a) = turn_fill (AtSeen a.next) now turn x.hand (next_within x.hand.update a.next a.within) (λ part p. x.filled part (filled part p)) (λ s y. y) a.fills
+    where
+      filled : (part : ScxWord) → IsFilled (length m.update.snaps.items) (AtSeen a.next) part → IsFilledThen (length m.update.snaps.items) (AtSeen j) part
+      filled Plan p = tt
+      filled New p = tt
+      filled Old p = tt
+      filled (Member i) p = p
+      filled (Seen i) p = let e = a.is in omega arith
+      filled _ p = absurd p
+  turn_seen j now turn x (inr a) = turn_fill AtCall now turn x.hand tt (λ part p. x.filled part (filled part p)) (λ s y. y) a.fills
+    where
+      filled : (part : ScxWord) → IsFilled (length m.update.snaps.items) AtCall part → IsFilledThen (length m.update.snaps.items) (AtSeen j) part
+      filled Plan p = tt
+      filled New p = tt
+      filled Old p = tt
+      filled (Member i) p = p
+      filled (Seen i) p = let e = last_covers x.hand.update j a.none in omega arith
+      filled _ p = absurd p
+
+  -- all is filled, so HELP may begin
+  prepared : FillMade allows c h m AtCall → IsPrepared allows c.layout c.pass h m.scx.0
+  prepared x = record { begins = begins; allowed = x.hand.allowed (descriptor h m.scx.0) record { plan = ep; new = en; old = eo; member = em; seen = es; call = x.filled CallWord tt } }
+    where
+      ep : plan h m.scx.0 ≡ m.update.plan.0
+      ep = x.filled Plan tt
+
+      en : new h m.scx.0 ≡ m.update.fresh
+      en = x.filled New tt
+
+      eo : old h m.scx.0 ≡ m.update.old.0
+      eo = x.filled Old tt
+
+      em : (j : ℕ) → j < length m.update.snaps.items → member h m.scx.0 j ≡ (snap_at m.update.snaps.items j).node.0
+      em j i = x.filled (Member j) i
+
+      es : (j : ℕ) → j < length m.update.snaps.items → seen h m.scx.0 j ≡ (snap_at m.update.snaps.items j).scx.0
+      es j i = x.filled (Seen j) i
+
+      less : (j : ℕ) → j < count h m.scx.0 → j < length m.update.snaps.items
+      less j i = fewer x.hand.update j (rw ep at i)
+
+      at_field : (q : ℕ) → plan h m.scx.0 ≡ q → q ≡ m.update.plan.0 → value h (info (member h m.scx.0 (field_of q))) ≡ seen h m.scx.0 (field_of q) → value h (child (member h m.scx.0 (field_of q)) (side_of q)) ≡ old h m.scx.0
+      at_field q e f y =
+          let i : field_of m.update.plan.0 < length m.update.snaps.items = fewer x.hand.update (field_of m.update.plan.0) x.hand.update.planned.field in
+          let z : value h (info (snap_at m.update.snaps.items (field_of m.update.plan.0)).node.0) ≡ (snap_at m.update.snaps.items (field_of m.update.plan.0)).scx.0 = rw (f, em (field_of m.update.plan.0) i, es (field_of m.update.plan.0) i) at y in
+          rw (f, em (field_of m.update.plan.0) i, eo, x.hand.update.old) ((x.hand.linked (field_of m.update.plan.0) i).fields (side_of m.update.plan.0) z)
+
+      begins : Begins c.layout (descriptor h m.scx.0) h c.pass m.scx.0
+      begins = record {
+        own = x.hand.is_open.own;
+        free = x.hand.is_open.unnamed;
+        unfinished = x.hand.unfinished;
+        planned = rw ep x.hand.update.planned;
+        inside = λ j i. rw (em j (less j i)) (x.hand.linked j (less j i)).inside;
+        distinct = λ j k p q d. rw (em j (less j p), em k (less k q)) (x.hand.update.distinct j k (less j p) (less k q) d);
+        named = λ j i. rw (em j (less j i)) (in_field_named (snap_at m.update.snaps.items j).node.0 (x.hand.linked j (less j i)).in_field);
+        rest = λ j i. rw (es j (less j i)) (x.hand.linked j (less j i)).rest;
+        unmarked = λ j i. rw (em j (less j i), es j (less j i)) (x.hand.linked j (less j i)).unmarked;
+        shows = at_field (plan h m.scx.0) refl ep;
+        new_own = rw en x.hand.fresh;
+        new_unnamed = rw en x.hand.unnamed;
+        new_in_no_field = rw en x.hand.in_no_field;
+        new_in_no_other = rw en x.hand.in_no_other;
+      }
+
+  pub begin_help : (help : HelpRun) → IsRun allows c.layout h → FillMade allows c h m AtCall → help.scx ≡ m.scx → help.at ≡ HelpStart → Helps allows c h m help None
+  begin_help help run x e z = record { run = run; ready = (z, inr (rw e (prepared x))); same = e }
+
+-- where it has been told something, its words are filled
+pub made_then : (allows : Layout → History → ℕ → Type 0) (m : ScxRun) (c : Call) (h : History) (got : Option ℕ) (at : ScxAt) → m.at ≡ at → (at ≡ Start → ⊥) → ((v : ℕ) → scx_told_at allows c h m at v → FillMade allows c h m at) → scx_ready allows m c h got → FillMade allows c h m at
+made_then allows m c h None at is d f r = absurd (d (sym is ∙ r.0))
+made_then allows m c h (Some v) at is d f r = f v (subst (λ a. scx_told_at allows c h m a v) is r)
+
+pub done_at : (c : Call) (h : History) (m : ScxRun) (now help : HelpRun) (b : Bool) → Lawful c.layout h → help_answers now c h b → b ≡ true → now.scx ≡ help.scx → help.scx ≡ m.scx → IsDone h m.scx.0
+done_at c h m now help b l a t e f =
+    let s : value h (state m.scx.0) ≡ 1 = rw f at (committed_state c h b now help a e t) in
+    record { committed = s; won = committed_won c.layout h m.scx.0 l s }

@@ -1,0 +1,73 @@
+-- When a run of VLX may go on, what it waits for, and what its answer says.
+use Rattle.std.specs.Prelude.{◌≡◌, ◌≢◌, ℕ, suc, ◌<◌, ◌≤◌, List, length, get_or, Option, Some, None}
+use Rattle.arena.specs.declared.layout.Layout.{Layout}
+use Rattle.arena.specs.declared.step.Step.{Step}
+use Rattle.arena.specs.declared.step.Kind.TheVariants.{LoadInfo}
+use Rattle.arena.specs.declared.machine.Turn.{Turn}
+use Rattle.arena.specs.declared.machine.Turn.TheVariants.{Ask, Done}
+use Rattle.arena.specs.Words.{info}
+use Rattle.arena.specs.History.{History, value, EndsWith}
+use Rattle.arena.specs.Machines.{Call}
+use Rattle.prims.specs.Linked.{IsLinked}
+use Rattle.prims.specs.LlxKnown.{load}
+use Rattle.prims.specs.declared.snap.Snap.{Snap}
+use Rattle.prims.specs.declared.vlx.Vlx.{Vlx}
+use Rattle.prims.specs.declared.vlx.Vlx.TheVariants.{Same, Changed}
+use Rattle.prims.specs.declared.vlx.VlxRun.{VlxRun}
+
+-- a snapshot of the list
+abbrev pub snap_at : List Snap → ℕ → Snap
+snap_at snaps i = get_or snaps i record { node = record { 0 = 0 }; scx = record { 0 = 0 }; left = record { 0 = 0 }; right = record { 0 = 0 } }
+
+abbrev pub AllLinked : Layout → History → List Snap → Type 0
+AllLinked lay h snaps = (i : ℕ) → i < length snaps → IsLinked lay h (snap_at snaps i)
+
+-- at a moment since which all snapshots are usable, the first k were what the infos named
+pub record HasLooked (lay : Layout) (h : History) (snaps : List Snap) (k : ℕ) : Type 0 where
+  pub moment : History
+  pub within : EndsWith h moment
+  pub linked : AllLinked lay moment snaps
+  pub same : (i : ℕ) → i < k → value moment (info (snap_at snaps i).node.0) ≡ (snap_at snaps i).scx.0
+
+-- the run has asked for the info of its k-th snapshot
+pub record Looks (lay : Layout) (h : History) (m : VlxRun) (k : ℕ) : Type 0 where
+  pub looked : HasLooked lay h m.snaps.items k
+  pub within : k < length m.snaps.items
+  pub is : m.asked ≡ suc k
+
+pub record vlx_waits (m : VlxRun) (c : Call) (h : History) (step : Step) : Type 0 where
+  pub index : ℕ
+  pub looks : Looks c.layout h m index
+  pub asked : step ≡ load LoadInfo (info (snap_at m.snaps.items index).node.0)
+
+pub record vlx_told (m : VlxRun) (c : Call) (h : History) (v : ℕ) : Type 0 where
+  pub index : ℕ
+  pub looks : Looks c.layout h m index
+  pub told : value h (info (snap_at m.snaps.items index).node.0) ≡ v
+
+abbrev pub vlx_ready : VlxRun → Call → History → Option ℕ → Type 0
+vlx_ready m c h None = (m.asked ≡ 0) × AllLinked c.layout h m.snaps.items
+vlx_ready m c h (Some v) = vlx_told m c h v
+
+-- this node's info names something else
+pub record HasChanged (h : History) (snaps : List Snap) (n v : ℕ) : Type 0 where
+  pub index : ℕ
+  pub within : index < length snaps
+  pub node : (snap_at snaps index).node.0 ≡ n
+  pub info : value h (info n) ≡ v
+  pub other : (snap_at snaps index).scx.0 ≢ v
+
+abbrev pub vlx_answers : VlxRun → Call → History → Vlx → Type 0
+vlx_answers m c h Same = HasLooked c.layout h m.snaps.items (length m.snaps.items)
+vlx_answers m c h (Changed node s) = HasChanged h m.snaps.items node.0 s.0
+
+-- it asks for the next info, or ends behind the last
+pub record AsksNext (old now : VlxRun) (turn : Turn Vlx) : Type 0 where
+  pub within : old.asked < length old.snaps.items
+  pub stands : now ≡ record old { asked = suc old.asked }
+  pub asked : turn ≡ Ask (load LoadInfo (info (snap_at old.snaps.items old.asked).node.0))
+
+pub record IsThrough (old now : VlxRun) (turn : Turn Vlx) : Type 0 where
+  pub through : length old.snaps.items ≤ old.asked
+  pub stands : now ≡ old
+  pub done : turn ≡ Done Same
