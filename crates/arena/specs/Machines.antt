@@ -8,7 +8,7 @@ use Rattle.arena.specs.declared.step.Deed.TheVariants.{Load, Store, Exchange}
 use Rattle.arena.specs.declared.machine.Turn.{Turn}
 use Rattle.arena.specs.declared.machine.Turn.TheVariants.{Ask, Done}
 use Rattle.arena.specs.Words.{deed_after}
-use Rattle.arena.specs.History.{History, value, ◌⊳◌}
+use Rattle.arena.specs.History.{History, value}
 use Rattle.arena.specs.Lawful.{Lawful}
 use Rattle.arena.specs.Shape.{Shaped}
 

@@ -54,10 +54,11 @@ pub trait Machine<S: Shape> {
     /// How many steps it may still ask for.
     ghost left: { Self → ℕ };
 
-    /// Goes on with what the last step found; with nothing at the first call. It is not called again
-    /// after `Done`.
+    /// Goes on with what the last step found; with nothing at the first call, which asks for a step.
+    /// It is not called again after `Done`.
     fn next(&mut self, got: Option<u64>) -> Turn<Self::Answer>
         ensures turn { (c : Call) (h : History) → IsRun S.allows c.layout h → ready self.old c h got → MatchTurn result (waits self.new c h) (answers self.new c h) }
+        ensures begins { got ≡ None → (c : Call) (h : History) → ready self.old c h None → MatchTurn result (λ _. Unit {0}) (λ _. ⊥) }
         ensures same { same self.old self.new }
         ensures nearer { MatchTurn result (λ _. left self.new < left self.old) (λ _. Unit {0}) };
 

@@ -1,6 +1,7 @@
 //! The run of a script by a schedule.
 ghost use Rattle.std.specs.Prelude.{◌≡◌, ◌<◌, All};
 ghost use Rattle.player.specs.Player.{passes_of};
+ghost use Rattle.player.specs.Played.{IsPlayed, IsSameScript};
 ghost use Rattle.script.specs.Orders.{IsOrder};
 
 use arena::{NoMemory, PassNo};
@@ -20,8 +21,10 @@ pub fn run(alloc: Global, script: &Script, schedule: &Schedule) -> Result<Record
 }
 
 fn obey(player: &mut Player, order: Order) -> Result<(), NoMemory>
-    requires { IsOrder (passes_of player.old) order }
-    ensures { passes_of player.new ≡ passes_of player.old }
+    requires order { IsOrder (passes_of player.old) order }
+    requires played { IsPlayed player.old }
+    ensures played { IsPlayed player.new }
+    ensures script { IsSameScript player.old.script player.new.script }
 {
     match order {
         Order::Step { client, turns } => make_turns(player, client, turns),
@@ -36,8 +39,10 @@ fn obey(player: &mut Player, order: Order) -> Result<(), NoMemory>
 }
 
 fn make_turns(player: &mut Player, client: PassNo, turns: u32) -> Result<(), NoMemory>
-    requires { client.0 < passes_of player.old }
-    ensures { passes_of player.new ≡ passes_of player.old }
+    requires client { client.0 < passes_of player.old }
+    requires played { IsPlayed player.old }
+    ensures played { IsPlayed player.new }
+    ensures script { IsSameScript player.old.script player.new.script }
 {
     for _ in 0..turns {
         // By `?` the kit's checker has no proof here, since a row holds types of a crate below.

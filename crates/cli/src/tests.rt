@@ -144,6 +144,79 @@ fn replies(rt: HostRuntime) -> Result<(), Fail> {
              reply,0,2,38,39,,changed n2 s11\n",
             "end,39,4,1,,,\n",
         ),
+        // The cell changes between the two loads of its info, for an `llx` and for a `set`.
+        (
+            "limits,2,10,10,1\n0,llx,1,,\n1,set,1,left,70\nend,2,,,\n",
+            "step,0,,2\nfinish,1,,\nfinish,0,,\nend,3,,\n",
+            "reply,1,0,3,25,24,done\nreply,0,0,1,33,,fail n1 s11\n",
+            "end,33,2,1,,,\n",
+        ),
+        (
+            "limits,2,10,10,1\n0,set,1,left,60\n1,set,1,left,70\nend,2,,,\n",
+            "step,0,,2\nfinish,1,,\nfinish,0,,\nend,3,,\n",
+            "reply,1,0,3,25,24,done\nreply,0,0,1,33,,fail n1 s11\n",
+            "end,33,2,1,,,\n",
+        ),
+        // An `llx` helps the one that is in its way to its end, and fails; where that one
+        // finalizes the cell, it answers so.
+        (
+            "limits,2,10,10,1\n0,llx,1,,\n1,set,1,left,70\nend,2,,,\n",
+            "until,1,freeze,1\nfinish,0,,\nfinish,1,,\nend,3,,\n",
+            "reply,0,0,19,34,,fail n1 s11\nreply,1,0,1,39,31,done\n",
+            "end,39,2,1,,,\n",
+        ),
+        (
+            "limits,2,10,10,1\n0,llx,1,,\n1,llx,1,,\n1,scx,1,1,1 left 5\nend,3,,,\n",
+            "until,1,mark,1\nfinish,0,,\nfinish,1,,\nend,3,,\n",
+            "reply,1,0,1,7,7,snap 0 0\nreply,0,0,21,35,35,finalized\nreply,1,1,8,39,34,done\n",
+            "end,39,3,1,,,\n",
+        ),
+        // Which snapshots a client has: an unlinked call drops none, its own SCX drops those of its
+        // cells, and an `llx` or a `set` of a finalized cell gives none.
+        (
+            "limits,1,10,10,1\n0,llx,1,,\n0,scx,1 2,,1 left 5\n0,vlx,1,,\n0,vlx,3 2 1,,\n\
+             0,scx,1,1,1 left 5\n0,vlx,1,,\n0,llx,1,,\n0,llx,2,,\n0,set,1,left,3\n\
+             0,scx,2 1,,2 right 4\n0,vlx,2,,\nend,11,,,\n",
+            "finish,0,,\nend,1,,\n",
+            "reply,0,0,1,7,7,snap 0 0\nreply,0,1,8,8,,unlinked n2\nreply,0,2,9,9,9,same\n\
+             reply,0,3,10,10,,unlinked n3\nreply,0,4,11,27,26,done\nreply,0,5,28,28,,unlinked n1\n\
+             reply,0,6,29,33,33,finalized\nreply,0,7,34,40,40,snap 0 0\n\
+             reply,0,8,41,45,45,finalized\nreply,0,9,46,46,,unlinked n1\nreply,0,10,47,47,47,same\n",
+            "end,47,11,1,,,\n",
+        ),
+        // Of an empty share, the nodes are named first, but a cell without a snapshot before them;
+        // what is refused keeps its snapshot.
+        (
+            "limits,1,0,0,1\n0,scx,1,,1 left 5\n0,llx,1,,\n0,scx,1,,1 left 5\n0,vlx,1,,\n\
+             0,set,2,left,5\n0,vlx,1 2,,\nend,6,,,\n",
+            "finish,0,,\nend,1,,\n",
+            "reply,0,0,1,1,,unlinked n1\nreply,0,1,2,8,8,snap 0 0\nreply,0,2,9,9,,full nodes 0\n\
+             reply,0,3,10,10,10,same\nreply,0,4,11,17,,full nodes 0\nreply,0,5,18,19,18,same\n",
+            "end,19,6,0,,,\n",
+        ),
+        (
+            "limits,1,1,0,1\n0,llx,1,,\n0,scx,1,,1 left 5\n0,set,1,left,5\n0,vlx,1,,\n\
+             end,4,,,\n",
+            "finish,0,,\nend,1,,\n",
+            "reply,0,0,1,7,7,snap 0 0\nreply,0,1,8,8,,full scx 0\nreply,0,2,9,15,,full scx 0\n\
+             reply,0,3,16,16,16,same\n",
+            "end,16,4,0,,,\n",
+        ),
+        // Shares that are used up: of client 0's nodes and of client 1's SCX-records there is one.
+        (
+            "limits,1,1,2,1\n0,set,1,left,5\n0,set,1,left,6\nend,2,,,\n",
+            "finish,0,,\nend,1,,\n",
+            "reply,0,0,1,23,22,done\nreply,0,1,24,30,,full nodes 0\n",
+            "end,30,2,1,,,\n",
+        ),
+        (
+            "limits,2,2,1,1\n1,set,1,left,5\n1,llx,1,,\n1,scx,1,,1 left 6\n0,set,1,left,7\n\
+             end,4,,,\n",
+            "finish,1,,\nfinish,0,,\nend,2,,\n",
+            "reply,1,0,1,23,22,done\nreply,1,1,24,30,30,snap 11 0\nreply,1,2,31,31,,full scx 0\n\
+             reply,0,0,32,54,53,done\n",
+            "end,54,4,2,,,\n",
+        ),
         // A client with no call left, no turn at all, and a schedule that ends in mid-call.
         (
             UNTOUCHED,
@@ -163,6 +236,113 @@ fn replies(rt: HostRuntime) -> Result<(), Fail> {
         assert_eq!(rt; ended.status, 0);
     }
     Ok(())
+}
+
+/// Other spellings of a script and its schedule: both line ends, blank lines, quotes, and no newline
+/// behind the last row.
+#[test]
+fn same_report_of_other_spellings(rt: HostRuntime) {
+    let cases = [
+        (
+            "limits,2,10,10,1\r\n0,set,1,left,70\r\n1,llx,1,,\r\nend,2,,,\r\n",
+            "finish,0,,\r\nfinish,1,,\r\nend,2,,\r\n",
+        ),
+        (
+            "limits,2,10,10,1\n0,set,1,left,70\r\n1,llx,1,,\nend,2,,,",
+            "finish,0,,\r\nfinish,1,,\nend,2,,",
+        ),
+        (
+            "\nlimits,2,10,10,1\n\n\n0,set,1,left,70\n\r\n1,llx,1,,\n\nend,2,,,\n\n\n",
+            "\r\n\nfinish,0,,\n\nfinish,1,,\n\r\nend,2,,\n\n",
+        ),
+        (
+            "\"limits\",\"2\",10,10,\"1\"\n0,\"set\",\"1\",left,\"70\"\n1,llx,1,\"\",\n\
+             \"end\",2,,,\"\"",
+            "\"finish\",0,\"\",\r\nfinish,\"1\",,\n\"end\",\"2\",,\"\"\n",
+        ),
+    ];
+    for (number, (script, schedule)) in cases.into_iter().enumerate() {
+        let ended = played(rt.alloc(), script, schedule);
+        assert_eq!(rt; ended.err.as_slice(), b"".as_slice(), "case {number}");
+        assert_eq!(rt;
+            ended.out.as_slice(),
+            SET_REPORT.as_bytes(),
+            "case {number}"
+        );
+    }
+}
+
+/// How many lines a text has.
+fn count_lines(text: &[u8]) -> usize {
+    text.iter().filter(|byte| **byte == b'\n').count()
+}
+
+/// A first line, so many others, and a last one.
+fn long_text(
+    alloc: Global,
+    first: &str,
+    line: &str,
+    lines: u32,
+    last: &str,
+) -> Result<String, Fail> {
+    let mut text = String::from_str(alloc, first)?;
+    for _ in 0..lines {
+        text.push_str(line)?;
+    }
+    text.push_str(last)?;
+    Ok(text)
+}
+
+#[test]
+fn longest_texts(rt: HostRuntime) -> Result<(), Fail> {
+    // Each call is of a cell without a snapshot, and so one turn. The 65,536th row of each text is
+    // taken, and the next one is named.
+    let alloc = rt.alloc();
+    let (limits, call, order) = ("limits,1,0,0,1\n", "0,vlx,1,,\n", "call,0,,\n");
+    let script = long_text(alloc, limits, call, 65536, "end,65536,,,\n")?;
+    let schedule = long_text(alloc, "", order, 65536, "end,65536,,\n")?;
+    let long_script = long_text(alloc, limits, call, 65537, "end,65537,,,\n")?;
+    let long_schedule = long_text(alloc, "", order, 65537, "end,65537,,\n")?;
+    let ended = played(rt.alloc(), script.as_str(), schedule.as_str());
+    let end = "reply,0,65535,65536,65536,,unlinked n1\nend,65536,65536,0,,,\n";
+    assert!(rt; ended.out.as_slice().ends_with(end.as_bytes()));
+    assert_eq!(rt;
+        (ended.status, count_lines(ended.out.as_slice())),
+        (0, 3 * 65536 + 3)
+    );
+    let refused = [
+        (
+            played(rt.alloc(), long_script.as_str(), schedule.as_str()),
+            "bad script: row 65538: long\n",
+        ),
+        (
+            played(rt.alloc(), script.as_str(), long_schedule.as_str()),
+            "bad schedule: row 65537: long\n",
+        ),
+    ];
+    for (ended, line) in refused {
+        assert_eq!(rt; ended.err.as_slice(), line.as_bytes());
+        assert_eq!(rt; (ended.status, ended.out.len()), (1, 0));
+    }
+    Ok(())
+}
+
+#[test]
+fn million_idle_turns(rt: HostRuntime) {
+    // One client has no call, and the other none after its first.
+    let schedule = "step,1,,999990\nfinish,0,,\nstep,0,,3\nend,3,,\n";
+    let ended = played(
+        rt.alloc(),
+        "limits,2,0,0,1\n0,llx,8,,\nend,1,,,\n",
+        schedule,
+    );
+    let end = "\nreply,0,0,999991,999997,999997,snap 0 0\nstep,999998,0,idle,,,\n\
+               step,999999,0,idle,,,\nstep,1000000,0,idle,,,\nend,1000000,1,0,,,\n";
+    assert!(rt; ended.out.as_slice().ends_with(end.as_bytes()));
+    assert_eq!(rt;
+        (ended.status, count_lines(ended.out.as_slice())),
+        (0, 1000005)
+    );
 }
 
 #[test]

@@ -1,5 +1,5 @@
 -- The step that a run of HELP waits for is lawful, and begins only what the shape allows.
-use Rattle.std.proofs.Common.{◌≡◌, ℕ, suc, ◌<◌, ◌⊎◌, inl, inr, refl, sym, ◌∙◌, arith}
+use Rattle.std.proofs.Common.{◌≡◌, ◌≢◌, ℕ, suc, ◌<◌, ◌⊎◌, inl, inr, refl, sym, ◌∙◌, ap, arith}
 use native.Mathlib.Decide.{ℕ_discrete}
 use Rattle.arena.specs.declared.layout.Layout.{Layout}
 use Rattle.arena.specs.declared.number.MemberNo.{MemberNo}
@@ -8,7 +8,7 @@ use Rattle.arena.specs.declared.step.Row.{Row}
 use Rattle.arena.specs.declared.step.Step.{Step}
 use Rattle.arena.specs.declared.step.Deed.TheVariants.{Exchange}
 use Rattle.arena.specs.declared.step.Kind.{Kind}
-use Rattle.arena.specs.declared.step.Kind.TheVariants.{LoadSettled, LoadAllFrozen, Freeze, SetFrozen, Mark, Update, Commit, Abort}
+use Rattle.arena.specs.declared.step.Kind.TheVariants.{Fill, LoadSettled, LoadAllFrozen, Freeze, SetFrozen, Mark, Update, Commit, Abort}
 use Rattle.arena.specs.declared.word.ScxWord.TheVariants.{AllFrozen}
 use Rattle.arena.specs.MemberNo.{index_of}
 use Rattle.arena.specs.Layout.{all_scx, all_nodes}
@@ -167,3 +167,22 @@ module _ (allows : Layout → History → ℕ → Type 0) (c : Call) (h : Histor
 
 pub help_lawful : (allows : Layout → History → ℕ → Type 0) (m : HelpRun) (c : Call) (h : History) (s : Step) → IsRun allows c.layout h → help_waits allows m c h s → IsRun allows c.layout (row_of c s h ⊳ h)
 help_lawful allows m c h s run w = rw w.asked (run_at allows c h m run.lawful m.at run.shaped w.known)
+
+-- HELP never asks for a fill
+fills_not_at : (h : History) (s : ℕ) (at : HelpAt) → (help_step h s at).kind ≢ Fill
+fills_not_at h s Start e = cc
+fills_not_at h s AtPlan e = cc
+fills_not_at h s (AtMember j) e = cc
+fills_not_at h s (AtSeen j) e = cc
+fills_not_at h s (AtFreeze j v) e = cc
+fills_not_at h s (AtAllFrozen j v) e = cc
+fills_not_at h s (AtAbort j v) e = cc
+fills_not_at h s AtSetFrozen e = cc
+fills_not_at h s (AtMark j) e = cc
+fills_not_at h s AtNew e = cc
+fills_not_at h s (AtOld v) e = cc
+fills_not_at h s AtUpdate e = cc
+fills_not_at h s AtCommit e = cc
+
+pub help_fills_not : (allows : Layout → History → ℕ → Type 0) (m : HelpRun) (c : Call) (h : History) (s : Step) → help_waits allows m c h s → s.kind ≢ Fill
+help_fills_not allows m c h s w e = fills_not_at h m.scx.0 m.at (ap (λ (t : Step). t.kind) (sym w.asked) ∙ e)

@@ -62,6 +62,15 @@ impl HelpRun {
         }
     }
 
+    /// Looks whether `allfrozen` is set, where the info of the j-th node was not to be had.
+    fn load_all_frozen(&mut self, j: MemberNo, found: u64) -> Turn<bool>
+        ensures { Asks self.old self.new result (HelpAt.AllFrozen j found) record { kind = Kind.LoadAllFrozen; word = Word.Scx self.old.scx ScxWord.AllFrozen; deed = Deed.Load } }
+    {
+        let allfrozen = Word::Scx(self.scx, ScxWord::AllFrozen);
+        let at = HelpAt::AllFrozen { j, found };
+        self.ask(at, Kind::LoadAllFrozen, allfrozen, Deed::Load)
+    }
+
     /// Marks the next node to be finalized, from this one on, or goes on to the update.
     fn mark_from(&mut self, from: Option<MemberNo>) -> Turn<bool>
         ensures scx { self.new.scx ≡ self.old.scx }
@@ -134,13 +143,7 @@ impl<S: Shape> Machine<S> for HelpRun {
                 if found == seen || found == self.scx.0 {
                     self.after_freeze(j)
                 } else {
-                    let allfrozen = Word::Scx(self.scx, ScxWord::AllFrozen);
-                    self.ask(
-                        HelpAt::AllFrozen { j, found },
-                        Kind::LoadAllFrozen,
-                        allfrozen,
-                        Deed::Load,
-                    )
+                    self.load_all_frozen(j, found)
                 }
             }
             HelpAt::AllFrozen { j, found: other } => {

@@ -19,6 +19,7 @@ pub mod Begins
 pub mod Shapes
 mod Examples
 pub mod Unmentioned
+pub mod Taking
 pub mod Steps
 pub mod Helds
 pub mod Mentions

@@ -1,16 +1,26 @@
--- A node that no field and no SCX-record has ever named: rows of others leave it so, and so do rows that do not store its number.
-use Rattle.std.proofs.Common.{◌≡◌, ◌≢◌, ℕ, ◌<◌, Bool, true, false, ◌⊎◌, inl, inr, ⊎_elim, refl, sym, ◌∙◌, arith}
+-- A node that no field and no SCX-record has ever named: rows of others leave it so, and so do rows that do not store its number and all rows but fills.
+use Rattle.std.proofs.Common.{◌≡◌, ◌≢◌, ℕ, ◌<◌, ◌≤◌, Bool, true, false, ◌⊎◌, inl, inr, ⊎_elim, refl, sym, ◌∙◌, arith, subst}
 use Rattle.arena.specs.declared.layout.Layout.{Layout}
 use Rattle.arena.specs.declared.word.Side.{Side}
+use Rattle.arena.specs.declared.limits.Mode.{Mode}
+use Rattle.arena.specs.declared.word.NodeWord.TheVariants.{Child, Info, Marked}
 use Rattle.arena.specs.declared.word.Word.{Word}
+use Rattle.arena.specs.declared.word.Word.TheVariants.{Node, Scx}
 use Rattle.arena.specs.declared.word.ScxWord.{ScxWord}
+use Rattle.arena.specs.declared.word.ScxWord.TheVariants.{State, AllFrozen, New}
 use Rattle.arena.specs.declared.step.Row.{Row}
-use Rattle.arena.specs.Words.{same_word, scx, child}
-use Rattle.arena.specs.History.{History, ◌⊳◌, value, HasHeld}
+use Rattle.arena.specs.declared.step.Kind.TheVariants.{Fill}
+use Rattle.arena.specs.Layout.{opening_nodes}
+use Rattle.arena.specs.Words.{same_word, same_scx_word, scx, info, marked, child, state}
+use Rattle.arena.specs.History.{History, Start, ◌⊳◌, value, HasHeld}
+use Rattle.arena.specs.ScxRecords.{member, new}
 use Rattle.arena.specs.Fills.{IsOwnNode, NamesNode, IsNamed, opening_node, by_field, by_scx}
 use Rattle.arena.specs.Lawful.{Lawful}
 use Rattle.arena.proofs.SameWords.{word_same}
-use Rattle.arena.proofs.Values.{value_at, value_other, held_at, held_split}
+use Rattle.arena.proofs.Values.{value_at, value_quiet, value_apart, value_other, held_at, held_now, held_split, held_back, held_start, opening_scx, node_word_apart, scx_word_apart}
+use Rattle.histories.proofs.Changes.{Change, nothing, fills_node, fills_scx, freezes, sets_frozen, marks, updates, commits, aborts, change, lawful_row}
+use Rattle.histories.proofs.Mentions.{opening_field, some_open}
+use Rattle.histories.proofs.Steps.{value_start}
 use Rattle.histories.proofs.Unnamed.{field_back, word_back}
 
 pub record IsUnmentioned (h : History) (n : ℕ) : Type 0 where
@@ -47,3 +57,78 @@ unmentioned_by_others lay h r c n l is_pass other own u = record {
   in_no_field = λ m side p. ⊎_elim (unmentioned_unnamed lay h c n own u) (u.in_no_field m side) (field_back lay h r c l is_pass other m side n own p);
   in_no_scx = λ s part i p. ⊎_elim (unmentioned_unnamed lay h c n own u) (u.in_no_scx s part i) (word_back lay h r c l is_pass other s part n i own p);
 }
+
+-- At the start
+
+never_state : (part : ScxWord) → NamesNode part → same_scx_word State part ≡ false
+never_state State i = absurd i
+never_state _ i = refl
+
+never_flag : (part : ScxWord) → NamesNode part → same_scx_word AllFrozen part ≡ false
+never_flag AllFrozen i = absurd i
+never_flag _ i = refl
+
+-- at the start no word names a node that is not there yet
+pub unmentioned_start : (mode : Mode) (n : ℕ) → opening_nodes mode ≤ n → IsUnmentioned (Start mode) n
+unmentioned_start mode n late = record {
+  in_no_field = λ m side p. let e = sym (value_start mode (child m side)) ∙ held_start mode (child m side) n p in let i = opening_field mode m side in omega arith;
+  in_no_scx = λ s part i p. let e = sym (opening_scx mode s part (never_state part i)) ∙ held_start mode (scx s part) n p in let some = some_open mode in omega arith;
+}
+
+-- Any row
+
+-- the words that name nodes
+abbrev pub IsMention : Word → Type 0
+IsMention (Node n (Child side)) = Unit {0}
+IsMention (Node n _) = ⊥
+IsMention (Scx s part) = NamesNode part
+
+-- a fill, or any other row, that leaves no word that names nodes with the node's number
+pub unmentioned_by_fill : (h : History) (r : Row) (n : ℕ) → (IsMention r.word → r.after ≢ n) → IsUnmentioned h n → IsUnmentioned (r ⊳ h) n
+unmentioned_by_fill h r n d u = record {
+  in_no_field = λ m side p. u.in_no_field m side (back (child m side) tt p);
+  in_no_scx = λ s part i p. u.in_no_scx s part i (back (scx s part) i p);
+}
+  where
+    back : (w : Word) → IsMention w → HasHeld (r ⊳ h) w n → HasHeld h w n
+    back w i p = go (held_split r h w n p)
+      where
+        test : (t : Bool) → same_word r.word w ≡ t → value (r ⊳ h) w ≡ n → HasHeld h w n
+        test true e q = let x : r.word ≡ w = word_same r.word w e in absurd (d (subst IsMention (sym x) i) (sym (value_at r h w x) ∙ q))
+        test false e q = held_at h w n (sym (value_other r h w e) ∙ q)
+
+        go : (value (r ⊳ h) w ≡ n) ⊎ HasHeld h w n → HasHeld h w n
+        go (inr q) = q
+        go (inl q) = test (same_word r.word w) refl q
+
+-- a lawful row that is no fill: an update stores what its SCX-record's `new` holds, and the others change no word that names nodes
+pub unmentioned_by_step : (lay : Layout) (h : History) (r : Row) (n : ℕ) → Lawful lay (r ⊳ h) → r.kind ≢ Fill → IsUnmentioned h n → IsUnmentioned (r ⊳ h) n
+unmentioned_by_step lay h r n l no_fill u = go (change lay h r l)
+  where
+    untouched : ((m : ℕ) (side : Side) → value (r ⊳ h) (child m side) ≡ value h (child m side)) → ((s : ℕ) (part : ScxWord) → NamesNode part → value (r ⊳ h) (scx s part) ≡ value h (scx s part)) → IsUnmentioned (r ⊳ h) n
+    untouched f g = record {
+      in_no_field = λ m side p. u.in_no_field m side (held_back r h (child m side) n (f m side) p);
+      in_no_scx = λ s part i p. u.in_no_scx s part i (held_back r h (scx s part) n (g s part i) p);
+    }
+
+    of_state : (t : ℕ) → r.word ≡ state t → IsUnmentioned (r ⊳ h) n
+    of_state t e = untouched (λ m side. value_apart r h (state t) (child m side) e refl) (λ s part i. value_apart r h (state t) (scx s part) e (scx_word_apart t s State part (never_state part i)))
+
+    go : Change lay h r → IsUnmentioned (r ⊳ h) n
+    go (nothing i a) = let b = (lawful_row lay h r l).before in untouched (λ m side. value_quiet r h b a (child m side)) (λ s part i. value_quiet r h b a (scx s part))
+    go (fills_node m part x) = absurd (no_fill x.kind)
+    go (fills_scx t part x) = absurd (no_fill x.kind)
+    go (freezes t j w) = untouched
+        (λ m side. value_apart r h (info (member h t j)) (child m side) w.freeze.word (node_word_apart (member h t j) m Info (Child side) refl))
+        (λ s part i. value_apart r h (info (member h t j)) (scx s part) w.freeze.word refl)
+    go (sets_frozen t k x) = untouched
+        (λ m side. value_apart r h (scx t AllFrozen) (child m side) x.word refl)
+        (λ s part i. value_apart r h (scx t AllFrozen) (scx s part) x.word (scx_word_apart t s AllFrozen part (never_flag part i)))
+    go (marks t j k x) = untouched
+        (λ m side. value_apart r h (marked (member h t j)) (child m side) x.word (node_word_apart (member h t j) m Marked (Child side) refl))
+        (λ s part i. value_apart r h (marked (member h t j)) (scx s part) x.word refl)
+    go (updates t w) =
+        let held : HasHeld h (scx t New) (new h t) = held_now h (scx t New) in
+        unmentioned_kept h r n (λ e. u.in_no_scx t New tt (subst (λ v. HasHeld h (scx t New) v) (sym w.stored ∙ e) held)) u
+    go (commits t k x) = of_state t x.word
+    go (aborts t j k x) = of_state t x.word

@@ -1,0 +1,10 @@
+pub mod Views
+pub mod Clients
+pub mod Begins
+pub mod Middles
+pub mod Steps
+pub mod Stands
+pub mod Commands
+pub mod Snapshots
+pub mod Winners
+pub mod Plays

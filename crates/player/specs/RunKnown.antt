@@ -11,6 +11,11 @@ use Rattle.prims.specs.VlxKnown.{vlx_ready, vlx_waits, vlx_answers}
 use Rattle.prims.specs.VlxLaws.{vlx_keeps, vlx_lawful, vlx_made}
 use Rattle.prims.specs.PutKnown.{put_ready, put_waits, put_answers}
 use Rattle.prims.specs.PutLaws.{put_keeps, put_lawful, put_made}
+use Rattle.prims.specs.declared.llx.Llx.TheVariants.{Snapshot as LlxSnapshot, Finalized as LlxFinalized, Fail as LlxFail}
+use Rattle.prims.specs.declared.scx.Scx.TheVariants.{Done as ScxDone, Lost as ScxLost}
+use Rattle.prims.specs.declared.vlx.Vlx.TheVariants.{Same as VlxSame, Changed as VlxChanged}
+use Rattle.player.specs.declared.record.Answer.{Answer}
+use Rattle.player.specs.declared.record.Answer.TheVariants.{Snapshot, Finalized, Fail, Done, Lost, Same, Changed}
 use Rattle.player.specs.declared.run.Run.{Run}
 use Rattle.player.specs.declared.run.Run.TheVariants.{Llx, Scx, Vlx}
 use Rattle.player.specs.declared.run.Ended.{Ended}
@@ -32,6 +37,16 @@ run_answers (Llx m) c h (ended.Llx a) = llx_answers m c h a
 run_answers (Scx m) c h (ended.Scx a) = put_answers m c h a
 run_answers (Vlx m) c h (ended.Vlx a) = vlx_answers m c h a
 run_answers _ c h _ = ⊥
+
+-- what the record says of it
+abbrev pub answer_of : Ended → Answer
+answer_of (ended.Llx (LlxSnapshot snap)) = Snapshot snap.left snap.right
+answer_of (ended.Llx (LlxFinalized node scx)) = Finalized
+answer_of (ended.Llx (LlxFail node scx)) = Fail node scx
+answer_of (ended.Scx ScxDone) = Done
+answer_of (ended.Scx (ScxLost node scx)) = Lost node scx
+answer_of (ended.Vlx VlxSame) = Same
+answer_of (ended.Vlx (VlxChanged node scx)) = Changed node scx
 
 -- of the same kind, and further on
 abbrev pub run_same : Run → Run → Type 0

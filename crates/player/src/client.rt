@@ -1,6 +1,8 @@
 //! A client of the player: what it owns and what it is in the middle of.
 ghost use Rattle.std.specs.Prelude.{◌≡◌, ℕ, ◌+◌, ◌<◌, ◌≤◌, length, map, IfOk};
 
+use crate::kept::Kept;
+use crate::place::next_call;
 use crate::record::{Answer, Reply, Resource};
 use crate::run::{Ended, Run};
 use arena::{Fresh, Layout, Machine, NodeNo, PassNo, ScxNo, Share, Side, Step, Turn};
@@ -8,18 +10,10 @@ use arrayvec::ArrayVec;
 use prims::{Cells, Llx, LlxRun, PutRun, ScxRun, Snap, Update, VlxRun};
 use script::{Call, Cell, Command};
 
-/// What the last LLX of a cell found.
-#[derive(Clone, Copy, Debug, PartialEq, Eq)]
-struct Found {
-    scx: ScxNo,
-    left: NodeNo,
-    right: NodeNo,
-}
-
 /// What a `set` does once its LLX has given a snapshot.
 #[derive(Clone, Copy, Debug, PartialEq, Eq)]
 struct Put {
-    field: (Cell, Side),
+    side: Side,
     value: u64,
 }
 
@@ -45,36 +39,48 @@ pub(crate) enum Standing {
 pub(crate) struct Client {
     pass: PassNo,
     share: Share,
-    /// The last snapshot of each cell, by the cell's number.
-    found: [Option<Found>; 9],
+    kept: Kept,
     /// Where in the script the call stands that runs or comes next.
     next: Option<usize>,
     /// The number of that call among the client's own.
     number: u64,
     /// The turn in which that call began.
     begin: u64,
-    /// The turn in which an update of that call won.
-    won: Option<u64>,
     running: Option<Running>,
 }
 
 impl Client {
+    ghost use Rattle.std.specs.Prelude.{◌≡◌, ◌≢◌, ◌<◌, ◌+◌, ◌-◌, Option, Some, None, IfOk, IfErr, List, [], length, MatchOption};
+    ghost use Rattle.arena.specs.declared.limits.Mode.TheVariants.{Records};
+    ghost use Rattle.script.specs.declared.command.Command.TheVariants.{Scx as ScxCommand};
+    ghost use Rattle.prims.specs.declared.snap.Snap.{Snap};
+    ghost use Rattle.player.specs.declared.run.Run.{Run};
+    ghost use Rattle.prims.specs.Snaps.{AreDistinct, IsAmong};
+    ghost use Rattle.prims.specs.declared.llx.LlxRun.{LlxRun};
+    ghost use Rattle.player.specs.declared.run.Run.TheVariants.{Llx as LlxOf};
+    ghost use Rattle.player.specs.declared.run.Ended.TheVariants.{Llx as LlxEnded};
+    ghost use Rattle.player.specs.declared.client.Running.{Running};
+    ghost use Rattle.player.specs.View.{View, view, IsSound, IsBehind, Rests, command_of, Starts, Hears, Answered, Told, GoesOn, CanPut, IsFull, Puts, Begins, Stood, IsClient};
+
     pub(crate) fn new(layout: &Layout, pass: PassNo, calls: &[Call]) -> Client
         requires { pass.0 < layout.now.passes }
+        ensures pass { result.pass ≡ pass }
+        ensures rests { Rests (view layout.now calls.now [] pass.0) result }
     {
         Client {
             pass,
             share: Share::of(layout, pass),
-            found: [None; 9],
+            kept: Kept::new(),
             next: next_call(calls, 0, pass),
             number: 0,
             begin: 0,
-            won: None,
             running: None,
         }
     }
 
-    pub(crate) fn number(&self) -> u64 {
+    pub(crate) fn number(&self) -> u64
+        ensures { result ≡ self.now.number }
+    {
         self.number
     }
 
@@ -82,39 +88,59 @@ impl Client {
         self.next.is_some()
     }
 
-    /// Notes that an update of the client's call has won.
-    pub(crate) fn win(&mut self, turn: u64) {
-        self.won = Some(turn);
+    /// How the client stands at this turn, with its next call begun.
+    pub(crate) fn stand(&mut self, calls: &[Call], turn: u64) -> Standing
+        ensures { (v : View) (began : Option ℕ) → IsSound v → (length v.calls ≢ 0 → v.layout.mode ≡ Records) → calls.now ≡ v.calls → IsClient v began self.old → Stood v turn self.old self.new result }
+    {
+        if self.running.is_some() {
+            return self.asked();
+        }
+        self.begin_next(calls, turn)
     }
 
-    /// How the client stands at this turn, with its next call begun.
-    pub(crate) fn stand(&mut self, calls: &[Call], turn: u64) -> Standing {
-        if self.running.is_none() {
-            let Some(call) = self.next.and_then(|at| calls.get(at)) else {
-                return Standing::Finished;
-            };
-            if let Some(answer) = self.begin(call.command, turn) {
-                return Standing::Answers(answer);
-            }
-        }
+    /// The step that the client waits for, if a call runs.
+    fn asked(&self) -> Standing
+        ensures { MatchOption self.now.running (result ≡ Standing.Finished) (λ r. result ≡ Standing.Asks r.step) }
+    {
         match &self.running {
             Some(running) => Standing::Asks(running.step),
             None => Standing::Finished,
         }
     }
 
+    /// Begins the next call, if there is one.
+    fn begin_next(&mut self, calls: &[Call], turn: u64) -> Standing
+        ensures { (v : View) → IsSound v → (length v.calls ≢ 0 → v.layout.mode ≡ Records) → calls.now ≡ v.calls → Rests v self.old → Stood v turn self.old self.new result }
+    {
+        let Some(at) = self.next else {
+            return Standing::Finished;
+        };
+        let Some(call) = calls.get(at) else {
+            return Standing::Finished;
+        };
+        if let Some(answer) = self.begin(call.command, turn) {
+            return Standing::Answers(answer);
+        }
+        self.asked()
+    }
+
     /// Begins a call, which answers at once or asks for a step.
-    fn begin(&mut self, command: Command, turn: u64) -> Option<Answer> {
+    fn begin(&mut self, command: Command, turn: u64) -> Option<Answer>
+        ensures { (v : View) → IsSound v → v.layout.mode ≡ Records → Rests v self.old → command_of v self.old ≡ Some command → Begins v turn self.old self.new result }
+    {
         self.begin = turn;
-        self.won = None;
         match command {
             Command::Llx { cell } => self.run(Run::Llx(LlxRun::new(cell.node())), None),
             Command::Set { field, value } => {
                 let llx = Run::Llx(LlxRun::new(field.0.node()));
-                self.run(llx, Some(Put { field, value }))
+                let put = Put {
+                    side: field.1,
+                    value,
+                };
+                self.run(llx, Some(put))
             }
             Command::Scx(update) => self.begin_scx(&update),
-            Command::Vlx { cells } => match self.linked(cells.as_slice()) {
+            Command::Vlx { cells } => match self.kept.linked(cells.as_slice()) {
                 Ok(snaps) => self.run(Run::Vlx(VlxRun::new(&snaps)), None),
                 Err(node) => Some(Answer::Unlinked { node }),
             },
@@ -122,13 +148,16 @@ impl Client {
     }
 
     /// Takes the snapshots and the records of an `scx`, if they are there.
-    fn begin_scx(&mut self, update: &script::Update) -> Option<Answer> {
+    fn begin_scx(&mut self, update: &script::Update) -> Option<Answer>
+        ensures { (v : View) → IsSound v → Rests v self.old → command_of v self.old ≡ Some (ScxCommand update.now) → Begins v self.old.begin self.old self.new result }
+    {
         let cells = update.cells();
-        match self.linked(cells) {
+        match self.kept.linked(cells) {
             Err(node) => Some(Answer::Unlinked { node }),
             Ok(snaps) => {
                 let finalize = nodes(update.finalize());
-                self.put(&snaps, &finalize, update.field(), update.value())
+                let (cell, side) = update.field();
+                self.put(&snaps, &finalize, (cell.node(), side), update.value())
             }
         }
     }
@@ -139,25 +168,31 @@ impl Client {
         &mut self,
         snaps: &[Snap],
         finalize: &[NodeNo],
-        field: (Cell, Side),
+        field: (NodeNo, Side),
         value: u64,
     ) -> Option<Answer>
         requires fits { length snaps.now ≤ 4 }
-        requires some { 0 < length snaps.now }
+        requires distinct { AreDistinct snaps.now }
+        requires among { IsAmong snaps.now field.0.0 }
+        ensures { (v : View) → IsSound v → CanPut v self.old snaps.now → Puts v self.old self.new result }
     {
         let (fresh, scx) = match self.records() {
             Ok(records) => records,
             Err(full) => return Some(full),
         };
-        self.forget(snaps);
-        let field = (field.0.node(), field.1);
+        self.kept.forget(snaps);
         let update = Update::new(snaps, finalize, field, fresh);
         let scx = ScxRun::new(update, scx, self.number);
         self.run(Run::Scx(PutRun::new(value, scx)), None)
     }
 
     /// Takes a node and an SCX-record; the nodes are tested first.
-    fn records(&mut self) -> Result<(Fresh, ScxNo), Answer> {
+    fn records(&mut self) -> Result<(Fresh, ScxNo), Answer>
+        ensures taken { IfOk result (λ r. (r.0 ≡ self.old.share.next_node) × (r.1.0 ≡ self.old.share.next_scx)) }
+        ensures some { IfOk result (λ r. (0 < self.old.share.nodes) × (0 < self.old.share.scx)) }
+        ensures left { IfOk result (λ r. self.new ≡ record self.old { share = record { next_node = self.old.share.next_node + 1; nodes = self.old.share.nodes - 1; next_scx = self.old.share.next_scx + 1; scx = self.old.share.scx - 1 } }) }
+        ensures full { IfErr result (λ a. IsFull a × (self.new ≡ self.old)) }
+    {
         let (nodes, scx) = self.share.left();
         if nodes == 0 {
             return Err(Answer::Full {
@@ -177,17 +212,10 @@ impl Client {
         }
     }
 
-    /// Drops the snapshots of some cells.
-    fn forget(&mut self, snaps: &[Snap]) {
-        for snap in snaps {
-            if let Some(found) = self.found.get_mut(snap.node.0 as usize) {
-                *found = None;
-            }
-        }
-    }
-
     /// Runs a machine from its start.
-    fn run(&mut self, mut run: Run, then: Option<Put>) -> Option<Answer> {
+    fn run(&mut self, mut run: Run, then: Option<Put>) -> Option<Answer>
+        ensures { (v : View) → IsSound v → Starts v self.old run then → (result ≡ None) × GoesOn v self.old self.new }
+    {
         match Machine::<Cells>::next(&mut run, None) {
             Turn::Ask(step) => {
                 self.running = Some(Running { run, then, step });
@@ -197,29 +225,10 @@ impl Client {
         }
     }
 
-    /// The client's snapshots of these cells, or the first cell of which it has none.
-    fn linked(&self, cells: &[Cell]) -> Result<ArrayVec<Snap, 4>, NodeNo>
-        requires { length cells.now ≤ 4 }
-        ensures nodes { IfOk result (λ snaps. map (λ s. s.node.0) snaps.items ≡ cells.now) }
-    {
-        let mut snaps = ArrayVec::new();
-        for cell in cells {
-            let node = cell.node();
-            match self.found[node.0 as usize] {
-                Some(Found { scx, left, right }) => snaps.push(Snap {
-                    node,
-                    scx,
-                    left,
-                    right,
-                }),
-                None => return Err(node),
-            }
-        }
-        Ok(snaps)
-    }
-
     /// Tells the client what the step that it had asked for found: it asks for another, or answers.
-    pub(crate) fn tell(&mut self, found: u64) -> Option<Answer> {
+    pub(crate) fn tell(&mut self, found: u64) -> Option<Answer>
+        ensures { (v : View) (q : Running) → IsSound v → self.old.running ≡ Some q → Hears v self.old q found → Told v self.old self.new result }
+    {
         let Running {
             mut run,
             then,
@@ -235,57 +244,61 @@ impl Client {
     }
 
     /// What follows a machine that has answered: the client's answer, or the SCX of a `set`.
-    fn after(&mut self, ended: Ended, then: Option<Put>) -> Option<Answer> {
-        if let Ended::Llx(llx) = ended {
-            self.keep(llx);
-            if let (Llx::Snapshot(snap), Some(Put { field, value })) = (llx, then) {
-                return self.put(&[snap], &[], field, value);
-            }
-        }
-        Some(ended.answer())
-    }
-
-    /// Keeps the snapshot of an LLX, or drops the one before where it gave none.
-    fn keep(&mut self, llx: Llx) {
-        let (node, found) = match llx {
-            Llx::Snapshot(
-                Snap {
-                    node,
-                    scx,
-                    left,
-                    right,
-                },
-            ) => (node, Some(Found { scx, left, right })),
-            Llx::Finalized { node, scx: _ } => (node, None),
-            Llx::Fail { node, scx: _ } => (node, None),
-        };
-        if let Some(kept) = self.found.get_mut(node.0 as usize) {
-            *kept = found;
+    fn after(&mut self, ended: Ended, then: Option<Put>) -> Option<Answer>
+        ensures { (v : View) (run : Run) → IsSound v → Answered v self.old run then ended → Told v self.old self.new result }
+    {
+        match ended {
+            Ended::Llx(llx) => self.after_llx(llx, then),
+            Ended::Scx(_) | Ended::Vlx(_) => Some(ended.answer()),
         }
     }
 
-    /// Ends the call that runs, or that answered at once, in this turn.
-    pub(crate) fn end(&mut self, calls: &[Call], turn: u64, answer: Answer) -> Reply {
+    fn after_llx(&mut self, llx: Llx, then: Option<Put>) -> Option<Answer>
+        ensures { (v : View) (m : LlxRun) → IsSound v → Answered v self.old (LlxOf m) then (LlxEnded llx) → Told v self.old self.new result }
+    {
+        self.kept.keep(llx);
+        match (llx, then) {
+            (Llx::Snapshot(snap), Some(put)) => self.put(&[snap], &[], (snap.node, put.side), put.value),
+            _ => Some(Ended::Llx(llx).answer()),
+        }
+    }
+
+    /// Ends the call that runs, or that answered at once, in this turn. `won` is the turn of the last
+    /// update of the client's that has won.
+    pub(crate) fn end(
+        &mut self,
+        calls: &[Call],
+        turn: u64,
+        answer: Answer,
+        won: Option<u64>,
+    ) -> Reply
+        ensures client { result.client ≡ self.old.pass }
+        ensures call { result.call ≡ self.old.number }
+        ensures begin { result.begin ≡ self.old.begin }
+        ensures end { result.end ≡ turn }
+        ensures answer { result.answer ≡ answer }
+        ensures next { IsBehind calls.now self.old self.new }
+    {
         let reply = Reply {
             client: self.pass,
             call: self.number,
             begin: self.begin,
             end: turn,
-            moment: self.moment(turn, answer),
+            moment: self.moment(turn, answer, won),
             answer,
         };
-        self.next = self
-            .next
-            .and_then(|at| next_call(calls, at.checked_add(1)?, self.pass));
-        self.number = self.number.saturating_add(1);
+        if let Some(at) = self.next {
+            self.next = next_call(calls, at.saturating_add(1), self.pass);
+            self.number = self.number.saturating_add(1);
+        }
         reply
     }
 
     /// The turn at which an answer stands: of a done SCX that of its update, of a VLX its first, of an
     /// LLX its last.
-    fn moment(&self, turn: u64, answer: Answer) -> Option<u64> {
+    fn moment(&self, turn: u64, answer: Answer, won: Option<u64>) -> Option<u64> {
         match answer {
-            Answer::Done => self.won,
+            Answer::Done => won,
             Answer::Same => Some(self.begin),
             Answer::Snapshot { left: _, right: _ } => Some(turn),
             Answer::Finalized => Some(turn),
@@ -304,11 +317,4 @@ fn nodes(cells: &[Cell]) -> ArrayVec<NodeNo, 4>
         nodes.push(cell.node());
     }
     nodes
-}
-
-/// Where the next call of a client stands, from this place on.
-fn next_call(calls: &[Call], from: usize, pass: PassNo) -> Option<usize> {
-    let behind = calls.get(from..)?;
-    let at = behind.iter().position(|call| call.client == pass)?;
-    from.checked_add(at)
 }

@@ -2,7 +2,9 @@
 #![tactic(auto)]
 
 mod client;
+mod kept;
 mod lines;
+mod place;
 mod player;
 mod record;
 mod run;

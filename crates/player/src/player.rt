@@ -1,9 +1,12 @@
 //! The player.
-ghost use Rattle.std.specs.Prelude.{◌≡◌, ℕ, ◌+◌, ◌<◌, ◌≤◌, vec_len, IfOk, All};
+ghost use Rattle.std.specs.Prelude.{◌≡◌, ℕ, ◌+◌, ◌<◌, ◌≤◌, [], Some, vec_len, slice_get, map, IfOk, All};
+ghost use Rattle.player.specs.declared.client.Client.{Client};
+ghost use Rattle.player.specs.View.{view, Rests};
+ghost use Rattle.player.specs.LawfulRun.{IsLawfulRun};
 
 use crate::client::{Client, Standing};
 use crate::lines::Lines;
-use crate::record::{Answer, Record, Row};
+use crate::record::{Answer, Entry, Line, Record, Row};
 use arena::{Kind, NoMemory, NodeNo, NodeWord, PassNo, PlainWords, ScxNo, ScxWord, Step, Word};
 use script::Script;
 use std::alloc::Global;
@@ -14,28 +17,43 @@ pub struct Player {
     script: Script,
     words: PlainWords,
     clients: Vec<Client>,
+    /// The turn of each client's last update that won.
+    wins: Vec<Option<u64>>,
     lines: Lines,
     ghost all_clients: { vec_len clients ≡ script.layout.passes },
+    ghost all_wins: { vec_len wins ≡ script.layout.passes },
     ghost same_layout: { words.layout ≡ script.layout },
 }
 
 impl Player {
-    ghost use Rattle.std.specs.Prelude.{◌≡◌, ◌<◌, ◌≤◌, IfOk, IfSome};
-    ghost use Rattle.arena.specs.Layout.{all_scx};
+    ghost use Rattle.std.specs.Prelude.{◌≡◌, ◌≢◌, ℕ, ◌<◌, ◌≤◌, ◌∷◌, List, [], Some, None, IfOk, IfErr, OnErr, IfSome, MatchOption, slice_get, reverse};
+    ghost use Rattle.arena.specs.declared.word.Side.{Side};
+    ghost use Rattle.arena.specs.declared.step.Kind.TheVariants.{Update};
+    ghost use Rattle.arena.specs.Layout.{IsWord, all_scx};
+    ghost use Rattle.arena.specs.Words.{child, info};
+    ghost use Rattle.arena.specs.PlainWords.{held};
+    ghost use Rattle.player.specs.declared.record.Line.{Line};
     ghost use Rattle.player.specs.Player.{passes_of};
-    ghost use Rattle.player.specs.Lines.{room};
+    ghost use Rattle.player.specs.Lines.{room, newest};
+    ghost use Rattle.player.specs.Turns.{turns, clients, entry_owed};
+    ghost use Rattle.player.specs.Played.{IsPlayed, IsAsked, IsMade, IsReplied, IsTurnMore, IsSameScript, HasSameClients, HasSameWords};
 
     /// A player of a copy of the script, with no turn made. The only error is want of memory.
     pub fn new(alloc: Global, script: &Script) -> Result<Player, NoMemory>
-        ensures { IfOk result (λ p. passes_of p ≡ script.now.layout.passes) }
+        ensures played { IfOk result IsPlayed }
+        ensures layout { IfOk result (λ p. p.script.layout ≡ script.now.layout) }
+        ensures calls { IfOk result (λ p. p.script.calls.items ≡ script.now.calls.items) }
+        ensures no_turns { IfOk result (λ p. newest p.lines ≡ []) }
     {
         let script = script.copy(alloc)?;
         let words = PlainWords::new(alloc, &script.layout)?;
         let clients = clients(alloc, &script)?;
+        let wins = vec![in alloc; None; script.layout.passes as usize]?;
         Ok(Player {
             script,
             words,
             clients,
+            wins,
             lines: Lines::new(alloc),
         })
     }
@@ -44,8 +62,10 @@ impl Player {
     /// its call answers without a step. A refusal leaves all as it was, and the same turn can be
     /// asked again.
     pub fn step(&mut self, client: PassNo) -> Result<Row, NoMemory>
-        requires { client.0 < passes_of self.old }
-        ensures { passes_of self.new ≡ passes_of self.old }
+        requires client { client.0 < passes_of self.old }
+        requires played { IsPlayed self.old }
+        ensures turn { IfOk result (λ row. IsTurnMore self.old self.new client.0) }
+        ensures refused { IfErr result (λ e. HasSameClients self.old self.new × (newest self.new.lines ≡ newest self.old.lines)) }
     {
         self.lines.reserve()?;
         let number = self.lines.next_turn();
@@ -64,7 +84,8 @@ impl Player {
     fn idle(&mut self, client: PassNo, number: u64) -> Row
         requires { 3 ≤ room self.old.lines }
         ensures room { 2 ≤ room self.new.lines }
-        ensures passes { passes_of self.new ≡ passes_of self.old }
+        ensures same { HasSameClients self.old self.new }
+        ensures line { newest self.new.lines ≡ Line.Step (Row.Idle number client) ∷ newest self.old.lines }
     {
         let row = Row::Idle { number, client };
         self.lines.push_row(row);
@@ -75,77 +96,72 @@ impl Player {
     fn make(&mut self, client: PassNo, number: u64, step: Step) -> Row
         requires room { 3 ≤ room self.old.lines }
         requires client { client.0 < passes_of self.old }
-        ensures passes { passes_of self.new ≡ passes_of self.old }
+        requires asked { IsAsked self.old client.0 number step }
+        ensures { IsTurnMore self.old self.new client.0 }
     {
-        let (before, after) = self.apply(step);
+        let before = self.words.apply(step);
         let row = arena::Row {
             pass: client,
             call: self.clients[client.0 as usize].number(),
             kind: step.kind,
             word: step.word,
             before,
-            after,
+            after: self.words.get(step.word),
         };
-        let row = Row::Step { number, row };
-        self.lines.push_row(row);
-        if step.kind == Kind::Update && before != after {
-            self.log(number, step.word);
-        }
+        self.lines.push_row(Row::Step { number, row });
+        self.log(number, &row);
         if let Some(answer) = self.clients[client.0 as usize].tell(before) {
             self.reply(client, number, answer);
         }
-        row
+        Row::Step { number, row }
     }
 
-    /// Makes a step, and answers what its word held before and holds after.
-    fn apply(&mut self, step: Step) -> (u64, u64)
-        ensures lines { self.new.lines ≡ self.old.lines }
-        ensures passes { passes_of self.new ≡ passes_of self.old }
-    {
-        // No machine names a word outside of the table; the proof of this is still to come.
-        if !self.script.layout.has(step.word) {
-            return (0, 0);
-        }
-        let before = self.words.apply(step);
-        (before, self.words.get(step.word))
-    }
-
-    /// Writes down the update that has just won at a field, as its SCX-record's.
-    fn log(&mut self, number: u64, field: Word)
-        requires { 2 ≤ room self.old.lines }
+    /// Writes down what the step of this turn enters into the log.
+    fn log(&mut self, number: u64, row: &arena::Row)
+        requires room { 2 ≤ room self.old.lines }
+        requires made { IsMade self.old number row.now }
         ensures room { 1 ≤ room self.new.lines }
-        ensures passes { passes_of self.new ≡ passes_of self.old }
+        ensures same { HasSameClients self.old self.new }
+        ensures line { MatchOption (entry_owed self.old.script.layout (newest self.old.lines)) (newest self.new.lines ≡ newest self.old.lines) (λ e. newest self.new.lines ≡ Line.Log e ∷ newest self.old.lines) }
     {
-        let Some((scx, owner)) = self.holder(field) else {
-            return;
-        };
-        let call = self.words.get(Word::Scx(scx, ScxWord::Call));
-        self.lines.push_entry(scx, owner, call);
-        self.clients[owner.0 as usize].win(number);
+        if let Some(entry) = self.entry(number, row) {
+            self.lines.push_entry(entry);
+            self.wins[entry.client.0 as usize] = Some(number);
+        }
     }
 
-    /// The SCX-record that holds a field's node, and the client that owns it.
-    fn holder(&self, field: Word) -> Option<(ScxNo, PassNo)>
-        ensures { IfSome result (λ h. (h.0.0 < all_scx self.now.script.layout) × (h.1.0 < passes_of self.now)) }
+    /// The entry of a step, if that is an update that has won: that of the SCX-record that holds the
+    /// field's node.
+    fn entry(&self, number: u64, row: &arena::Row) -> Option<Entry>
+        requires { IsMade self.now number row.now }
+        ensures owed { result ≡ entry_owed self.now.script.layout (newest self.now.lines) }
+        ensures owner { IfSome result (λ e. e.client.0 < passes_of self.now) }
     {
-        let Word::Node(node, _) = field else {
-            return None;
-        };
-        let info = Word::Node(node, NodeWord::Info);
-        if !self.script.layout.has(info) {
+        if row.kind != Kind::Update || row.before == row.after {
             return None;
         }
-        let scx = ScxNo(self.words.get(info));
-        let owner = self.script.layout.owner(scx)?;
-        Some((scx, owner))
+        let Word::Node(node, NodeWord::Child(_)) = row.word else {
+            return None;
+        };
+        let scx = ScxNo(self.words.get(Word::Node(node, NodeWord::Info)));
+        Some(Entry {
+            place: self.lines.next_entry(),
+            step: number,
+            scx,
+            client: self.script.layout.owner(scx)?,
+            call: self.words.get(Word::Scx(scx, ScxWord::Call)),
+        })
     }
 
     fn reply(&mut self, client: PassNo, number: u64, answer: Answer)
         requires room { 1 ≤ room self.old.lines }
         requires client { client.0 < passes_of self.old }
-        ensures passes { passes_of self.new ≡ passes_of self.old }
+        ensures same { HasSameWords self.old self.new }
+        ensures replied { (c : Client) → slice_get self.old.clients.items client.0 ≡ Some c → c.pass.0 ≡ client.0 → IsReplied self.old self.new number answer c }
     {
-        let reply = self.clients[client.0 as usize].end(&self.script.calls, number, answer);
+        let at = client.0 as usize;
+        let won = self.wins[at];
+        let reply = self.clients[at].end(&self.script.calls, number, answer, won);
         self.lines.push_reply(reply);
     }
 
@@ -166,8 +182,10 @@ impl Player {
     /// Turns of a client until it has one more reply; none if it has no call left. Turns that were
     /// made before a refusal stay made.
     pub fn call(&mut self, client: PassNo) -> Result<(), NoMemory>
-        requires { client.0 < passes_of self.old }
-        ensures { passes_of self.new ≡ passes_of self.old }
+        requires client { client.0 < passes_of self.old }
+        requires played { IsPlayed self.old }
+        ensures played { IsPlayed self.new }
+        ensures script { IsSameScript self.old.script self.new.script }
     {
         let answered = self.answered(client);
         for _ in 0..u64::MAX {
@@ -182,8 +200,10 @@ impl Player {
     /// Turns of a client until it has made so many more steps of a kind, or has no call left. Turns
     /// that were made before a refusal stay made.
     pub fn run_until(&mut self, client: PassNo, kind: Kind, times: u32) -> Result<(), NoMemory>
-        requires { client.0 < passes_of self.old }
-        ensures { passes_of self.new ≡ passes_of self.old }
+        requires client { client.0 < passes_of self.old }
+        requires played { IsPlayed self.old }
+        ensures played { IsPlayed self.new }
+        ensures script { IsSameScript self.old.script self.new.script }
     {
         let mut left = times;
         for _ in 0..u64::MAX {
@@ -200,8 +220,10 @@ impl Player {
 
     /// Turns of a client until it has no call left. Turns that were made before a refusal stay made.
     pub fn finish(&mut self, client: PassNo) -> Result<(), NoMemory>
-        requires { client.0 < passes_of self.old }
-        ensures { passes_of self.new ≡ passes_of self.old }
+        requires client { client.0 < passes_of self.old }
+        requires played { IsPlayed self.old }
+        ensures played { IsPlayed self.new }
+        ensures script { IsSameScript self.old.script self.new.script }
     {
         for _ in 0..u64::MAX {
             if !self.has_call(client) {
@@ -213,7 +235,11 @@ impl Player {
     }
 
     /// The script and the lines of all turns.
-    pub fn record(self) -> Record {
+    pub fn record(self) -> Record
+        ensures script { result.script ≡ self.script }
+        ensures lines { result.lines.items ≡ self.lines.list.items }
+        ensures lawful { IsPlayed self → IsLawfulRun self.script.layout self.script.calls.items (reverse (clients (newest self.lines))) result.lines.items }
+    {
         Record {
             script: self.script,
             lines: self.lines.into_list(),
@@ -223,7 +249,8 @@ impl Player {
 
 /// The clients of a script before their first turns.
 fn clients(alloc: Global, script: &Script) -> Result<Vec<Client>, NoMemory>
-    ensures { IfOk result (λ c. vec_len c ≡ script.now.layout.passes) }
+    ensures count { IfOk result (λ c. vec_len c ≡ script.now.layout.passes) }
+    ensures each { IfOk result (λ c. (j : ℕ) (d : Client) → slice_get c.items j ≡ Some d → (d.pass.0 ≡ j) × Rests (view script.now.layout script.now.calls.items [] j) d) }
 {
     let mut clients = Vec::new(alloc);
     for pass in 0..script.layout.passes {
@@ -236,6 +263,9 @@ fn clients(alloc: Global, script: &Script) -> Result<Vec<Client>, NoMemory>
 /// of memory.
 pub fn play(alloc: Global, script: &Script, turns: &[PassNo]) -> Result<Record, NoMemory>
     requires { All (λ pass. pass.0 < script.now.layout.passes) turns.now }
+    ensures layout { IfOk result (λ r. r.script.layout ≡ script.now.layout) }
+    ensures calls { IfOk result (λ r. r.script.calls.items ≡ script.now.calls.items) }
+    ensures lawful { IfOk result (λ r. IsLawfulRun script.now.layout script.now.calls.items (map (λ p. p.0) turns.now) r.lines.items) }
 {
     let mut player = Player::new(alloc, script)?;
     for turn in turns {

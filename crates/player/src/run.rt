@@ -22,8 +22,13 @@ pub(crate) enum Ended {
 }
 
 impl Ended {
+    ghost use Rattle.std.specs.Prelude.{◌≡◌};
+    ghost use Rattle.player.specs.RunKnown.{answer_of};
+
     /// What the record says of it.
-    pub(crate) fn answer(self) -> Answer {
+    pub(crate) fn answer(self) -> Answer
+        ensures { result ≡ answer_of self }
+    {
         match self {
             Ended::Llx(Llx::Snapshot(snap)) => Answer::Snapshot {
                 left: snap.left,

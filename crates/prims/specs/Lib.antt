@@ -8,6 +8,8 @@ pub mod LlxTurns
 pub mod VlxSteps
 pub mod VlxKnown
 pub mod VlxLaws
+pub mod Snaps
+pub mod Updates
 pub mod ScxSteps
 pub mod ScxKnown
 pub mod ScxLaws

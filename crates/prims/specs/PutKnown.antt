@@ -34,12 +34,12 @@ put_step m = record { kind = Fill; word = node m.scx.update.fresh Value; deed = 
 abbrev pub put_waits_at : (Layout → History → ℕ → Type 0) → Call → History → PutRun → PutAt → Step → Type 0
 put_waits_at allows c h m Start step = ⊥
 put_waits_at allows c h m AtFill step = PutHand allows c.layout c.pass h m.scx × (step ≡ put_step m)
-put_waits_at allows c h m Scx step = scx_waits allows m.scx c h step
+put_waits_at allows c h m Scx step = IsTakenNode h m.scx.update.fresh × scx_waits allows m.scx c h step
 
 abbrev pub put_told_at : (Layout → History → ℕ → Type 0) → Call → History → PutRun → PutAt → ℕ → Type 0
 put_told_at allows c h m Start v = ⊥
-put_told_at allows c h m AtFill v = (m.scx.at ≡ ScxStart) × InHand allows c.layout c.pass h m.scx
-put_told_at allows c h m Scx v = scx_ready allows m.scx c h (Some v)
+put_told_at allows c h m AtFill v = IsTakenNode h m.scx.update.fresh × (m.scx.at ≡ ScxStart) × InHand allows c.layout c.pass h m.scx
+put_told_at allows c h m Scx v = IsTakenNode h m.scx.update.fresh × scx_ready allows m.scx c h (Some v)
 
 abbrev pub put_waits : (Layout → History → ℕ → Type 0) → PutRun → Call → History → Step → Type 0
 put_waits allows m c h step = put_waits_at allows c h m m.at step
@@ -48,5 +48,6 @@ abbrev pub put_ready : (Layout → History → ℕ → Type 0) → PutRun → Ca
 put_ready allows m c h None = (m.at ≡ Start) × PutHand allows c.layout c.pass h m.scx
 put_ready allows m c h (Some v) = put_told_at allows c h m m.at v
 
+-- its fresh node is taken, and the answer is that of the SCX
 abbrev pub put_answers : PutRun → Call → History → Answer → Type 0
-put_answers m c h a = scx_answers m.scx c h a
+put_answers m c h a = IsTakenNode h m.scx.update.fresh × scx_answers m.scx c h a

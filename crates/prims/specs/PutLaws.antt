@@ -7,10 +7,11 @@ use Rattle.arena.specs.declared.word.NodeWord.TheVariants.{Value, Child, Info}
 use Rattle.arena.specs.declared.word.ScxWord.TheVariants.{New}
 use Rattle.arena.specs.Words.{node, scx, info, state, child}
 use Rattle.arena.specs.History.{History, ◌⊳◌, value}
-use Rattle.arena.specs.Fills.{IsNamed, opening_node, by_field, by_scx, IsNamedScx, IsTakenNode}
+use Rattle.arena.specs.Fills.{IsNamed, opening_node, by_field, by_scx, IsNamedScx}
 use Rattle.arena.specs.Lawful.{Lawful}
 use Rattle.arena.specs.Machines.{IsRun, Call, row_of, IsTold}
 use Rattle.arena.proofs.Values.{value_apart, held_back, node_word_apart}
+use Rattle.arena.proofs.Taken.{taken_node_more, fill_takes_node}
 use Rattle.histories.proofs.Changes.{lawful_more}
 use Rattle.histories.proofs.Owners.{own_node_inside}
 use Rattle.histories.proofs.Shapes.{shaped_more}
@@ -26,13 +27,9 @@ use Rattle.prims.specs.declared.put.PutRun.{PutRun}
 use Rattle.prims.specs.declared.put.PutAt.{PutAt}
 use Rattle.prims.specs.declared.put.PutAt.TheVariants.{Start, Fill as AtFill, Scx}
 
-taken_node_more : (r : Row) (h : History) (n : ℕ) → IsTakenNode h n → IsTakenNode (r ⊳ h) n
-unfolding IsTakenNode
-taken_node_more r h n p = inr p
-
 kept_at : (allows : Layout → History → ℕ → Type 0) (m : PutRun) (c : Call) (h : History) (at : PutAt) (s : Step) (r : Row) → IsRun allows c.layout (r ⊳ h) → r.pass.0 ≢ c.pass → put_waits_at allows c h m at s → put_waits_at allows c (r ⊳ h) m at s
 kept_at allows m c h Start s r run other w = w
-kept_at allows m c h Scx s r run other w = scx_keeps allows m.scx c h s r run other w
+kept_at allows m c h Scx s r run other w = (taken_node_more r h m.scx.update.fresh w.0, scx_keeps allows m.scx c h s r run other w.1)
 kept_at allows m c h AtFill s r run other w = (
   record {
     hand = hand_kept allows_all c.layout c.pass h r m.scx run.lawful c.is_pass other w.0.hand;
@@ -48,7 +45,7 @@ put_keeps allows m c h s r run other w = kept_at allows m c h m.at s r run other
 
 lawful_at : (allows : Layout → History → ℕ → Type 0) (m : PutRun) (c : Call) (h : History) (at : PutAt) (s : Step) → IsRun allows c.layout h → put_waits_at allows c h m at s → IsRun allows c.layout (row_of c s h ⊳ h)
 lawful_at allows m c h Start s run w = absurd w
-lawful_at allows m c h Scx s run w = scx_lawful allows m.scx c h s run w
+lawful_at allows m c h Scx s run w = scx_lawful allows m.scx c h s run w.1
 lawful_at allows m c h AtFill s run w = rw w.1 record { lawful = x; shaped = shaped_more allows c.layout h (row_of c (put_step m) h) x run.shaped (λ u f g. absurd (let e = g.kind in cc)) }
   where
     x : Lawful c.layout (row_of c (put_step m) h ⊳ h)
@@ -86,10 +83,10 @@ module _ (allows : Layout → History → ℕ → Type 0) (m : PutRun) (c : Call
 
 made_at : (allows : Layout → History → ℕ → Type 0) (m : PutRun) (c : Call) (h : History) (at : PutAt) (s : Step) (v : ℕ) → IsRun allows c.layout (row_of c s h ⊳ h) → IsTold s.deed (value h s.word) v → put_waits_at allows c h m at s → put_told_at allows c (row_of c s h ⊳ h) m at v
 made_at allows m c h Start s v run t w = absurd w
-made_at allows m c h Scx s v run t w = scx_made allows m.scx c h s v run t w
+made_at allows m c h Scx s v run t w = (taken_node_more (row_of c s h) h m.scx.update.fresh w.0, scx_made allows m.scx c h s v run t w.1)
 made_at allows m c h AtFill s v run t w =
     let l : Lawful c.layout (row_of c (put_step m) h ⊳ h) = rw w.1 at run.lawful in
-    rw w.1 (w.0.start, hand_put allows m c h l w.0)
+    rw w.1 (fill_takes_node (row_of c (put_step m) h) h m.scx.update.fresh Value refl refl, w.0.start, hand_put allows m c h l w.0)
 
 pub put_made : (allows : Layout → History → ℕ → Type 0) (m : PutRun) (c : Call) (h : History) (s : Step) (v : ℕ) → IsRun allows c.layout (row_of c s h ⊳ h) → IsTold s.deed (value h s.word) v → put_waits allows m c h s → put_ready allows m c (row_of c s h ⊳ h) (Some v)
 put_made allows m c h s v run t w = made_at allows m c h m.at s v run t w

@@ -46,7 +46,7 @@ pub record vlx_told (m : VlxRun) (c : Call) (h : History) (v : ℕ) : Type 0 whe
   pub told : value h (info (snap_at m.snaps.items index).node.0) ≡ v
 
 abbrev pub vlx_ready : VlxRun → Call → History → Option ℕ → Type 0
-vlx_ready m c h None = (m.asked ≡ 0) × AllLinked c.layout h m.snaps.items
+vlx_ready m c h None = (m.asked ≡ 0) × (0 < length m.snaps.items) × AllLinked c.layout h m.snaps.items
 vlx_ready m c h (Some v) = vlx_told m c h v
 
 -- this node's info names something else

@@ -46,7 +46,12 @@ turn_next c h old now turn x i (inr a) =
 
 -- the first turn
 pub first_looked : (c : Call) (h : History) (m : VlxRun) → vlx_ready m c h None → HasLooked c.layout h m.snaps.items m.asked
-first_looked c h m r = record { moment = h; within = ends_self h; linked = r.1; same = λ i p. let e = r.0 in absurd (omega arith) }
+first_looked c h m r = record { moment = h; within = ends_self h; linked = r.2; same = λ i p. let e = r.0 in absurd (omega arith) }
+
+-- there is a snapshot, so it asks for the first
+pub first_asks : (c : Call) (h : History) (old now : VlxRun) (turn : Turn Vlx) → vlx_ready old c h None → AsksNext old now turn ⊎ IsThrough old now turn → MatchTurn turn (λ _. Unit {0}) (λ _. ⊥)
+first_asks c h old now turn r (inl a) = rw a.asked tt
+first_asks c h old now turn r (inr a) = let x = a.through in let e = r.0 in let i = r.1 in absurd (omega arith)
 
 -- one more snapshot is still what the info names, so it was at the moment
 pub one_more : (c : Call) (h : History) (m : VlxRun) (v : ℕ) → Lawful c.layout h → (x : vlx_told m c h v) → (snap_at m.snaps.items x.index).scx.0 ≡ v → HasLooked c.layout h m.snaps.items m.asked

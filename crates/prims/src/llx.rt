@@ -126,6 +126,28 @@ impl LlxRun {
         self.ask(at, Kind::LoadState, Word::Scx(scx, ScxWord::State))
     }
 
+    /// Reads the info of the node, after its mark.
+    fn load_info(&mut self, marked: bool) -> Turn<Llx>
+        ensures { Asks self.old self.new result (LlxAt.Info marked) record { kind = Kind.LoadInfo; word = Word.Node self.old.node NodeWord.Info; deed = Deed.Load } }
+    {
+        self.load(LlxAt::Info { marked }, Kind::LoadInfo, NodeWord::Info)
+    }
+
+    /// Reads the mark of the node once more, after the state of what its info names.
+    fn load_mark_again(&mut self, marked: bool, scx: ScxNo, state: u64) -> Turn<Llx>
+        ensures { Asks self.old self.new result (LlxAt.MarkedAgain marked scx state) record { kind = Kind.LoadMarked; word = Word.Node self.old.node NodeWord.Marked; deed = Deed.Load } }
+    {
+        let at = LlxAt::MarkedAgain { marked, scx, state };
+        self.load(at, Kind::LoadMarked, NodeWord::Marked)
+    }
+
+    /// Reads the right field, after the left one.
+    fn load_right(&mut self, marked: bool, scx: ScxNo, left: u64) -> Turn<Llx>
+        ensures { Asks self.old self.new result (LlxAt.Right marked scx left) record { kind = Kind.LoadChild; word = Word.Node self.old.node (NodeWord.Child Side.Right); deed = Deed.Load } }
+    {
+        self.load_child(LlxAt::Right { marked, scx, left }, Side::Right)
+    }
+
     /// Reads the fields if the SCX-record that the info names left the node in place.
     fn read_fields(&mut self, marked: bool, scx: ScxNo, state: u64, marked_again: bool) -> Turn<Llx>
         ensures turn { Reads self.old self.new result marked scx state marked_again ⊎ LooksAgain self.old self.new result marked scx }
@@ -137,13 +159,37 @@ impl LlxRun {
         }
     }
 
-    /// Ends with the snapshot if the info is still what it was.
-    fn compare_info(&mut self, marked: bool, snap: Snap, info: u64) -> Turn<Llx>
-        ensures turn { Snaps self.new self.old result snap info ⊎ LooksAgain self.old self.new result marked snap.scx }
+    /// Reads the info of the node once more, after its fields.
+    fn load_info_again(&mut self, marked: bool, scx: ScxNo, left: u64, right: u64) -> Turn<Llx>
+        ensures { Asks self.old self.new result (LlxAt.InfoAgain marked scx left right) record { kind = Kind.LoadInfo; word = Word.Node self.old.node NodeWord.Info; deed = Deed.Load } }
     {
-        let scx = snap.scx;
+        let at = LlxAt::InfoAgain {
+            marked,
+            scx,
+            left,
+            right,
+        };
+        self.load(at, Kind::LoadInfo, NodeWord::Info)
+    }
+
+    /// Ends with the snapshot if the info is still what it was.
+    fn compare_info(
+        &mut self,
+        marked: bool,
+        scx: ScxNo,
+        left: u64,
+        right: u64,
+        info: u64,
+    ) -> Turn<Llx>
+        ensures turn { Snaps self.new self.old result record { node = self.old.node; scx = scx; left = record { 0 = left }; right = record { 0 = right } } info ⊎ LooksAgain self.old self.new result marked scx }
+    {
         if info == scx.0 {
-            Turn::Done(Llx::Snapshot(snap))
+            Turn::Done(Llx::Snapshot(Snap {
+                node: self.node,
+                scx,
+                left: NodeNo(left),
+                right: NodeNo(right),
+            }))
         } else {
             self.load_state(LlxAt::StateAgain { marked, scx }, scx)
         }
@@ -235,56 +281,23 @@ impl<S: Shape> Machine<S> for LlxRun {
         let at = self.at;
         match at {
             LlxAt::Start => self.load(LlxAt::Marked, Kind::LoadMarked, NodeWord::Marked),
-            LlxAt::Marked => {
-                let marked = found != 0;
-                self.load(LlxAt::Info { marked }, Kind::LoadInfo, NodeWord::Info)
-            }
+            LlxAt::Marked => self.load_info(found != 0),
             LlxAt::Info { marked } => {
                 let scx = ScxNo(found);
                 self.load_state(LlxAt::State { marked, scx }, scx)
             }
-            LlxAt::State { marked, scx } => {
-                let at = LlxAt::MarkedAgain {
-                    marked,
-                    scx,
-                    state: found,
-                };
-                self.load(at, Kind::LoadMarked, NodeWord::Marked)
-            }
+            LlxAt::State { marked, scx } => self.load_mark_again(marked, scx, found),
             LlxAt::MarkedAgain { marked, scx, state } => {
                 self.read_fields(marked, scx, state, found != 0)
             }
-            LlxAt::Left { marked, scx } => {
-                let at = LlxAt::Right {
-                    marked,
-                    scx,
-                    left: found,
-                };
-                self.load_child(at, Side::Right)
-            }
-            LlxAt::Right { marked, scx, left } => {
-                let at = LlxAt::InfoAgain {
-                    marked,
-                    scx,
-                    left,
-                    right: found,
-                };
-                self.load(at, Kind::LoadInfo, NodeWord::Info)
-            }
+            LlxAt::Left { marked, scx } => self.load_right(marked, scx, found),
+            LlxAt::Right { marked, scx, left } => self.load_info_again(marked, scx, left, found),
             LlxAt::InfoAgain {
                 marked,
                 scx,
                 left,
                 right,
-            } => {
-                let snap = Snap {
-                    node: self.node,
-                    scx,
-                    left: NodeNo(left),
-                    right: NodeNo(right),
-                };
-                self.compare_info(marked, snap, found)
-            }
+            } => self.compare_info(marked, scx, left, right, found),
             LlxAt::StateAgain { marked, scx } => self.meet::<S>(marked, scx, found),
             LlxAt::Help { marked, help } => self.help_on::<S>(marked, help, got),
             LlxAt::LastInfo => {

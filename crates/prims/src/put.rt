@@ -26,7 +26,10 @@ impl PutRun {
     /// A run that has not begun, over an SCX that has not begun. It asks for at most 40 steps.
     pub fn new(value: u64, scx: ScxRun) -> PutRun
         requires { scx_left scx.at ≤ 39 }
-        ensures { put_left result ≤ 40 }
+        ensures value { result.value ≡ value }
+        ensures scx { result.scx ≡ scx }
+        ensures start { result.at ≡ PutAt.Start }
+        ensures bound { put_left result ≤ 40 }
     {
         PutRun {
             value,

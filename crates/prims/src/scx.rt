@@ -51,6 +51,9 @@ impl ScxRun {
     /// A run that has not begun, on the next SCX-record of the caller's share, in its call of this
     /// number. It asks for at most 39 steps.
     pub fn new(update: Update, scx: ScxNo, call: u64) -> ScxRun
+        ensures scx { result.scx ≡ scx }
+        ensures call { result.call ≡ call }
+        ensures update { result.update ≡ update }
         ensures start { result.at ≡ ScxAt.Start }
         ensures bound { scx_left result.at ≤ 39 }
     {

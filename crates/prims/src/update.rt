@@ -1,6 +1,8 @@
 //! What an SCX is to do.
-ghost use Rattle.std.specs.Prelude.{◌≡◌, ℕ, ◌+◌, ◌*◌, ◌<◌, ◌≤◌, ◌^◌, length};
+ghost use Rattle.std.specs.Prelude.{◌≡◌, ℕ, ◌+◌, ◌*◌, ◌<◌, ◌≤◌, ◌^◌, false, length, slice_index_or};
 ghost use Rattle.arena.specs.MemberNo.{index_of};
+ghost use Rattle.prims.specs.VlxKnown.{snap_at};
+ghost use Rattle.prims.specs.Snaps.{IsAmong, finalizes};
 ghost use Rattle.arrayvec.specs.ArrayVec.{array_vec_len};
 
 use crate::snap::Snap;
@@ -20,11 +22,23 @@ pub struct Update {
 }
 
 impl Update {
-    /// An update of 1 to 4 snapshots of different nodes. Those in `finalize` and the field's node are
-    /// among them.
+    ghost use Rattle.std.specs.Prelude.{◌≡◌, ℕ, ◌<◌, ◌≤◌, ◌↔◌, true, length};
+    ghost use Rattle.arena.specs.ScxRecords.{removes, side_of};
+    ghost use Rattle.prims.specs.ScxKnown.{IsUpdateOver};
+    ghost use Rattle.prims.specs.VlxKnown.{snap_at};
+    ghost use Rattle.prims.specs.Snaps.{AreDistinct, IsAmong, HasNode};
+    ghost use Rattle.prims.specs.Updates.{field_place};
+
+    /// An update of 1 to 4 snapshots of different nodes, of which the field's node is one. It finalizes
+    /// those that are in `finalize`.
     pub fn new(snaps: &[Snap], finalize: &[NodeNo], field: (NodeNo, Side), fresh: Fresh) -> Update
         requires fits { length snaps.now ≤ 4 }
-        requires some { 0 < length snaps.now }
+        requires distinct { AreDistinct snaps.now }
+        requires among { IsAmong snaps.now field.0.0 }
+        ensures over { IsUpdateOver result }
+        ensures field { (snap_at snaps.now (field_place result)).node.0 ≡ field.0.0 }
+        ensures side { side_of result.plan.0 ≡ field.1 }
+        ensures removed { (j : ℕ) → j < length snaps.now → (removes result.plan.0 j ≡ true) ↔ HasNode finalize.now (snap_at snaps.now j).node.0 }
         ensures snaps { result.snaps.items ≡ snaps.now }
         ensures fresh { result.fresh ≡ fresh }
     {
@@ -40,17 +54,33 @@ impl Update {
     }
 }
 
-/// The place of a node among those of the snapshots. The caller sees to it that it is among them.
+/// The place of a node among those of the snapshots.
 fn place_of(node: NodeNo, snaps: &[Snap]) -> MemberNo
     requires fits { length snaps.now ≤ 4 }
-    requires some { 0 < length snaps.now }
+    requires among { IsAmong snaps.now node.0 }
     ensures within { index_of result < length snaps.now }
+    ensures is { (snap_at snaps.now (index_of result)).node.0 ≡ node.0 }
 {
     let at = snaps.iter().position(|s| s.node == node).unwrap_or(0);
     MemberNo::new(at).unwrap_or(MemberNo::First)
 }
 
 /// Which of the snapshots' nodes are to be finalized.
-fn removed(snaps: &[Snap], finalize: &[NodeNo]) -> [bool; 4] {
-    [0, 1, 2, 3].map(|j: usize| snaps.get(j).is_some_and(|s| finalize.contains(&s.node)))
+fn removed(snaps: &[Snap], finalize: &[NodeNo]) -> [bool; 4]
+    ensures four { length result ≡ 4 }
+    ensures bits { (j : ℕ) → j < 4 → slice_index_or result j false ≡ finalizes snaps.now finalize.now j }
+{
+    [
+        is_removed(snaps, finalize, 0),
+        is_removed(snaps, finalize, 1),
+        is_removed(snaps, finalize, 2),
+        is_removed(snaps, finalize, 3),
+    ]
+}
+
+/// Whether there is a snapshot at the place, of a node that is to be finalized.
+fn is_removed(snaps: &[Snap], finalize: &[NodeNo], j: usize) -> bool
+    ensures { result ≡ finalizes snaps.now finalize.now j }
+{
+    j < snaps.len() && finalize.contains(&snaps[j].node)
 }

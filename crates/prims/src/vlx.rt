@@ -35,6 +35,7 @@ impl VlxRun {
     pub fn new(snaps: &[Snap]) -> VlxRun
         requires { length snaps.now ≤ 4 }
         ensures snaps { result.snaps.items ≡ snaps.now }
+        ensures asked { result.asked ≡ 0 }
         ensures bound { vlx_left result ≡ length snaps.now }
     {
         let mut list = ArrayVec::new();

@@ -1,6 +1,9 @@
 //! Calls as rows.
+ghost use Rattle.std.specs.Prelude.{◌≡◌, [], OnOk};
+ghost use Rattle.report.specs.Rows.{IsReady, page_row};
+
 use crate::count::Counts;
-use crate::fields::Fields;
+use crate::page::Page;
 use arena::Side;
 use itoa::Buffer;
 use script::{Call, Cell, Command};
@@ -12,24 +15,29 @@ pub fn calls_text(
     calls: &[Call],
     counts: &mut Counts,
 ) -> Result<Vec<u8>, AllocError> {
-    let mut text = Vec::new(alloc);
+    let mut page = Page::new(alloc);
     for call in calls {
         let number = counts.count(call.client)?;
-        text.extend_from_slice(call_line(alloc, call, number)?.as_slice())?;
+        call_line(alloc, &mut page, call, number)?;
     }
-    Ok(text)
+    page.into_text()
 }
 
-fn call_line(alloc: Global, call: &Call, number: u64) -> Result<Vec<u8>, AllocError> {
+fn call_line(alloc: Global, page: &mut Page, call: &Call, number: u64) -> Result<(), AllocError>
+    requires ready { IsReady page.old }
+    requires row { page_row page.old ≡ [] }
+    ensures ready { OnOk result (IsReady page.new) }
+    ensures row { OnOk result (page_row page.new ≡ []) }
+{
     let command = CommandText::of(alloc, &call.command)?;
-    Fields::new(alloc, "call")?
-        .number(u64::from(call.client.0))?
-        .number(number)?
-        .text(command.name)?
-        .text(command.a.as_str())?
-        .text(command.b.as_str())?
-        .text(command.c.as_str())?
-        .into_line(alloc)
+    page.text("call")?;
+    page.number(u64::from(call.client.0))?;
+    page.number(number)?;
+    page.text(command.name)?;
+    page.text(command.a.as_str())?;
+    page.text(command.b.as_str())?;
+    page.text(command.c.as_str())?;
+    page.end_line()
 }
 
 /// The name of a command, and its arguments as a script has them.

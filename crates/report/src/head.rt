@@ -1,35 +1,47 @@
 //! The first rows of a report and its last one.
-use crate::fields::Fields;
+ghost use Rattle.std.specs.Prelude.{◌≡◌, [], OnOk};
+ghost use Rattle.report.specs.Rows.{IsReady, page_row};
+
+use crate::page::Page;
 use arena::{Limits, Mode};
-use player::{Line, Record};
+use player::Line;
 use script::Script;
 use std::alloc::{AllocError, Global};
 
 /// The two lines that say what was run and how large it was.
 pub fn head_text(alloc: Global, script: &Script) -> Result<Vec<u8>, AllocError> {
-    let mut text = title_line(alloc, script.layout.mode)?;
-    text.extend_from_slice(limits_line(alloc, &script.limits)?.as_slice())?;
-    Ok(text)
+    let mut page = Page::new(alloc);
+    title_line(&mut page, script.layout.mode)?;
+    limits_line(&mut page, &script.limits)?;
+    page.into_text()
 }
 
-fn title_line(alloc: Global, mode: Mode) -> Result<Vec<u8>, AllocError> {
+fn title_line(page: &mut Page, mode: Mode) -> Result<(), AllocError>
+    requires ready { IsReady page.old }
+    requires row { page_row page.old ≡ [] }
+    ensures ready { OnOk result (IsReady page.new) }
+    ensures row { OnOk result (page_row page.new ≡ []) }
+{
     let name = match mode {
         Mode::Tree => "tree",
         Mode::Records => "records",
     };
-    Fields::new(alloc, "report")?
-        .number(1)?
-        .text(name)?
-        .into_line(alloc)
+    page.text("report")?;
+    page.number(1)?;
+    page.text(name)?;
+    page.end_line()
 }
 
-fn limits_line(alloc: Global, limits: &Limits) -> Result<Vec<u8>, AllocError> {
-    Fields::new(alloc, "limits")?
-        .number(u64::from(limits.passes))?
-        .number(u64::from(limits.nodes))?
-        .number(u64::from(limits.scx))?
-        .number(u64::from(limits.tries))?
-        .into_line(alloc)
+fn limits_line(page: &mut Page, limits: &Limits) -> Result<(), AllocError>
+    requires ready { IsReady page.old }
+    requires row { page_row page.old ≡ [] }
+{
+    page.text("limits")?;
+    page.number(u64::from(limits.passes))?;
+    page.number(u64::from(limits.nodes))?;
+    page.number(u64::from(limits.scx))?;
+    page.number(u64::from(limits.tries))?;
+    page.end_line()
 }
 
 /// The line that counts the others by their kind.
@@ -37,9 +49,11 @@ pub fn end_text(alloc: Global, lines: &[Line]) -> Result<Vec<u8>, AllocError> {
     let steps = lines.iter().filter(|line| matches!(line, Line::Step(_)));
     let replies = lines.iter().filter(|line| matches!(line, Line::Reply(_)));
     let logs = lines.iter().filter(|line| matches!(line, Line::Log(_)));
-    Fields::new(alloc, "end")?
-        .number(steps.count() as u64)?
-        .number(replies.count() as u64)?
-        .number(logs.count() as u64)?
-        .into_line(alloc)
+    let mut page = Page::new(alloc);
+    page.text("end")?;
+    page.number(steps.count() as u64)?;
+    page.number(replies.count() as u64)?;
+    page.number(logs.count() as u64)?;
+    page.end_line()?;
+    page.into_text()
 }

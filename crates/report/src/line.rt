@@ -1,6 +1,9 @@
 //! Steps, log entries and replies as rows.
+ghost use Rattle.std.specs.Prelude.{◌≡◌, [], OnOk};
+ghost use Rattle.report.specs.Rows.{IsReady, page_row};
+
 use crate::answer::answer_text;
-use crate::fields::Fields;
+use crate::page::Page;
 use crate::word::word_text;
 use arena::PassNo;
 use player::{Entry, Line, Reply, Row};
@@ -9,63 +12,92 @@ use std::alloc::{AllocError, Global};
 
 /// The text of some lines of a run.
 pub fn lines_text(alloc: Global, lines: &[Line]) -> Result<Vec<u8>, AllocError> {
-    let mut text = Vec::new(alloc);
+    let mut page = Page::new(alloc);
     for line in lines {
-        text.extend_from_slice(line_text(alloc, line)?.as_slice())?;
+        put_line(alloc, &mut page, line)?;
     }
-    Ok(text)
+    page.into_text()
 }
 
-fn line_text(alloc: Global, line: &Line) -> Result<Vec<u8>, AllocError> {
+fn put_line(alloc: Global, page: &mut Page, line: &Line) -> Result<(), AllocError>
+    requires ready { IsReady page.old }
+    requires row { page_row page.old ≡ [] }
+    ensures ready { OnOk result (IsReady page.new) }
+    ensures row { OnOk result (page_row page.new ≡ []) }
+{
     match line {
-        Line::Step(Row::Step { number, row }) => step_line(alloc, *number, row),
-        Line::Step(Row::Idle { number, client }) => idle_line(alloc, *number, *client),
-        Line::Log(entry) => log_line(alloc, entry),
-        Line::Reply(reply) => reply_line(alloc, reply),
+        Line::Step(Row::Step { number, row }) => step_line(alloc, page, *number, row),
+        Line::Step(Row::Idle { number, client }) => idle_line(page, *number, *client),
+        Line::Log(entry) => log_line(alloc, page, entry),
+        Line::Reply(reply) => reply_line(alloc, page, reply),
     }
 }
 
-fn step_line(alloc: Global, number: u64, row: &arena::Row) -> Result<Vec<u8>, AllocError> {
-    Fields::new(alloc, "step")?
-        .number(number)?
-        .number(u64::from(row.pass.0))?
-        .text(kind_name(row.kind))?
-        .text(word_text(alloc, row.word)?.as_str())?
-        .number(row.before)?
-        .number(row.after)?
-        .into_line(alloc)
+fn step_line(
+    alloc: Global,
+    page: &mut Page,
+    number: u64,
+    row: &arena::Row,
+) -> Result<(), AllocError>
+    requires ready { IsReady page.old }
+    requires row { page_row page.old ≡ [] }
+    ensures ready { OnOk result (IsReady page.new) }
+    ensures row { OnOk result (page_row page.new ≡ []) }
+{
+    page.text("step")?;
+    page.number(number)?;
+    page.number(u64::from(row.pass.0))?;
+    page.text(kind_name(row.kind))?;
+    page.text(word_text(alloc, row.word)?.as_str())?;
+    page.number(row.before)?;
+    page.number(row.after)?;
+    page.end_line()
 }
 
-fn idle_line(alloc: Global, number: u64, client: PassNo) -> Result<Vec<u8>, AllocError> {
-    Fields::new(alloc, "step")?
-        .number(number)?
-        .number(u64::from(client.0))?
-        .text("idle")?
-        .into_line(alloc)
+fn idle_line(page: &mut Page, number: u64, client: PassNo) -> Result<(), AllocError>
+    requires ready { IsReady page.old }
+    requires row { page_row page.old ≡ [] }
+    ensures ready { OnOk result (IsReady page.new) }
+    ensures row { OnOk result (page_row page.new ≡ []) }
+{
+    page.text("step")?;
+    page.number(number)?;
+    page.number(u64::from(client.0))?;
+    page.text("idle")?;
+    page.end_line()
 }
 
-fn log_line(alloc: Global, entry: &Entry) -> Result<Vec<u8>, AllocError> {
+fn log_line(alloc: Global, page: &mut Page, entry: &Entry) -> Result<(), AllocError>
+    requires ready { IsReady page.old }
+    requires row { page_row page.old ≡ [] }
+    ensures ready { OnOk result (IsReady page.new) }
+    ensures row { OnOk result (page_row page.new ≡ []) }
+{
     let scx = format!(in alloc; "s{}", entry.scx.0)?;
-    Fields::new(alloc, "log")?
-        .number(entry.place)?
-        .number(entry.step)?
-        .text(scx.as_str())?
-        .number(u64::from(entry.client.0))?
-        .number(entry.call)?
-        .into_line(alloc)
+    page.text("log")?;
+    page.number(entry.place)?;
+    page.number(entry.step)?;
+    page.text(scx.as_str())?;
+    page.number(u64::from(entry.client.0))?;
+    page.number(entry.call)?;
+    page.end_line()
 }
 
-fn reply_line(alloc: Global, reply: &Reply) -> Result<Vec<u8>, AllocError> {
-    let fields = Fields::new(alloc, "reply")?
-        .number(u64::from(reply.client.0))?
-        .number(reply.call)?
-        .number(reply.begin)?
-        .number(reply.end)?;
-    let fields = match reply.moment {
-        Some(moment) => fields.number(moment)?,
-        None => fields.text("")?,
-    };
-    fields
-        .text(answer_text(alloc, reply.answer)?.as_str())?
-        .into_line(alloc)
+fn reply_line(alloc: Global, page: &mut Page, reply: &Reply) -> Result<(), AllocError>
+    requires ready { IsReady page.old }
+    requires row { page_row page.old ≡ [] }
+    ensures ready { OnOk result (IsReady page.new) }
+    ensures row { OnOk result (page_row page.new ≡ []) }
+{
+    page.text("reply")?;
+    page.number(u64::from(reply.client.0))?;
+    page.number(reply.call)?;
+    page.number(reply.begin)?;
+    page.number(reply.end)?;
+    match reply.moment {
+        Some(moment) => page.number(moment)?,
+        None => page.text("")?,
+    }
+    page.text(answer_text(alloc, reply.answer)?.as_str())?;
+    page.end_line()
 }

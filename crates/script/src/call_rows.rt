@@ -1,5 +1,6 @@
 //! The rows of a script that are calls.
-ghost use Rattle.std.specs.Prelude.{◌≡◌, ◌<◌, IfOk};
+ghost use Rattle.std.specs.Prelude.{◌≡◌, ◌<◌, IfOk, OnOk};
+ghost use Rattle.arena.specs.declared.limits.Mode.TheVariants.{Records};
 ghost use Rattle.script.specs.declared.command.Call.{Call};
 
 use crate::cells::{Cell, Cells};
@@ -23,7 +24,9 @@ impl Format for CallRows {
 
     const WIDTH: usize = 5;
 
-    ghost accepts = { λ rows call. call.client.0 < rows.layout.passes };
+    // There are calls in records mode alone.
+    ghost accepts = { λ rows call.
+        (call.client.0 < rows.layout.passes) × (rows.layout.mode ≡ Records) };
 
     fn entry(&self, row: &StringRecord) -> Result<Call, ScriptCause> {
         let client = client_of(field(row, 0), self.layout.passes).ok_or(ScriptCause::Client)?;
@@ -34,7 +37,9 @@ impl Format for CallRows {
 }
 
 /// The command of this name with these arguments.
-fn command_of(mode: Mode, name: &str, arguments: [&str; 3]) -> Result<Command, ScriptCause> {
+fn command_of(mode: Mode, name: &str, arguments: [&str; 3]) -> Result<Command, ScriptCause>
+    ensures { OnOk result (mode ≡ Records) }
+{
     let command = match (mode, name) {
         (Mode::Records, "llx") => llx_of(arguments),
         (Mode::Records, "scx") => scx_of(arguments),

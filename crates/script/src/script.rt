@@ -2,6 +2,7 @@
 ghost use Rattle.script.specs.declared.fault.TextFault.{TextFault};
 ghost use Rattle.std.specs.Prelude.{◌≡◌, ◌≢◌, ◌≤◌, ◌<◌, ◌^◌, ◌-◌, IfOk, IfSome, OnOk, IsErrOf, All, length, vec_len};
 ghost use Rattle.arena.specs.Limits.{IsAccepted, IsLayoutOf};
+ghost use Rattle.arena.specs.declared.limits.Mode.TheVariants.{Records};
 ghost use Rattle.csv.specs.Records.{fields_of};
 ghost use Rattle.script.specs.Rows.{limits_row};
 
@@ -24,6 +25,7 @@ pub struct Script {
     pub calls: Vec<Call>,
     ghost clients: { All (λ call. call.client.0 < layout.passes) calls.items },
     ghost few: { vec_len calls ≤ 65536 },
+    ghost of_cells: { vec_len calls ≢ 0 → layout.mode ≡ Records },
 }
 
 impl Script {

@@ -1,6 +1,6 @@
 use Rattle.std.proofs.Common.{◌≡◌}
-use Rattle.player.specs.Player.{passes_of}
+use Rattle.player.specs.Played.{IsPlayed}
 use Rattle.cli.proofs.run.run.Given as goal
 
 abbrev pub invariant-loop-order : goal.invariant-loop-order
-invariant-loop-order l = passes_of l.player ≡ l.script.layout.passes
+invariant-loop-order l = record { played : IsPlayed l.player; layout : l.player.script.layout ≡ l.script.layout }

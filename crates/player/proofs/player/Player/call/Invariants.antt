@@ -1,6 +1,6 @@
 use Rattle.std.proofs.Common.{◌≡◌}
-use Rattle.player.specs.Player.{passes_of}
+use Rattle.player.specs.Played.{IsPlayed, IsSameScript}
 use Rattle.player.proofs.player.Player.call.Given as goal
 
 abbrev pub invariant-loop : goal.invariant-loop
-invariant-loop l = passes_of l.self ≡ passes_of l.fn.self
+invariant-loop l = record { played : IsPlayed l.self; script : IsSameScript l.fn.self.script l.self.script }

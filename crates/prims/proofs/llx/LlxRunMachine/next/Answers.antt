@@ -6,7 +6,7 @@ use Rattle.prims.proofs.llx.LlxRunMachine.next.Goals as goal
 pub returns-in-Marked-clause-turn : goal.returns-in-Marked-clause-turn
 returns-in-Marked-clause-turn g c d h run r =
     let k = knows g.S.Shape.allows c.args.self.now d h c.args.got c.unwrap_or-found.result Marked c.in-Marked.is (λ e. cc) c.unwrap_or-found.ensures r in
-    turn_info g.S.Shape.allows d h run c.args.self.now c.load-in-Marked.new.self c.load-in-Marked.result _ c.unwrap_or-found.result k (not_zero c.unwrap_or-found.result) c.load-in-Marked.ensures
+    turn_info g.S.Shape.allows d h run c.args.self.now c.load_info.new.self c.load_info.result _ c.unwrap_or-found.result k (not_zero c.unwrap_or-found.result) c.load_info.ensures
 
 pub returns-in-Info-clause-turn : goal.returns-in-Info-clause-turn
 returns-in-Info-clause-turn g c d h run r =

@@ -1,6 +1,6 @@
 use Rattle.std.proofs.Common.{sym, ◌∙◌, ap, arith}
 use Rattle.prims.specs.declared.snap.Snap.{Snap}
-use Rattle.prims.specs.VlxLaws.{vlx_turn, told_some, told_none, turn_first, turn_on}
+use Rattle.prims.specs.VlxLaws.{vlx_turn, told_some, told_none, turn_first, first_asks, turn_on}
 use Rattle.prims.proofs.vlx.VlxRunMachine.next.Goals.{in_default-via-in-Some+in_default, in_default-via-in_default}
 use Rattle.prims.proofs.vlx.VlxRunMachine.next.Goals as goal
 
@@ -17,3 +17,6 @@ returns-then-snap-found-clause-turn g c d h run r =
     let z = c.in-Some-Some.ensures in
     turn_on d h c.args.self.now c.ask_next-then-snap-found.new.self c.ask_next-then-snap-found.result c.in-Some-Some.last c.in-Some-Some.found run.lawful x (let y = x.looks.is in omega arith)
     (λ i. ap (λ (s : Snap). s.scx.0) (sym c.snap-snap.ensures) ∙ c.if-snap-found.true) c.ask_next-then-snap-found.ensures.turn
+
+pub returns-in_default-clause-begins : goal.returns-in_default-clause-begins
+returns-in_default-clause-begins g c none d h r = first_asks d h c.args.self.now c.ask_next.new.self c.ask_next.result r c.ask_next.ensures.turn

@@ -1,15 +1,16 @@
 use Rattle.std.proofs.Common.{arith, ◌≡◌, ◌++◌, ◌∷◌, [], ◌+◌, ◌-◌, ◌∙◌, ap, append_assoc, length}
 use Rattle.std.proofs.lemmas.List.{replicate_more}
-use Rattle.report.proofs.fields.Fields.into_line.Goals as goal
+use Rattle.csv.specs.Records.{fields_of}
+use Rattle.report.proofs.page.fill_up.Goals as goal
 
 pub loop-preserved : goal.loop-preserved
 loop-preserved c =
     let inv = c.loop.invariant in
-    let given = c.args.self in
+    let given = fields_of c.args.row.now in
     let some = c.loop.counter - length given in
-    let next : c.loop.counter + 1 - length given ≡ some + 1 = omega (arith, ap length c.self.view_is) in
-    let pushed = rw inv.partial at c.in_ok-push_field.ensures.fields in
+    let next : c.loop.counter + 1 - length given ≡ some + 1 = omega arith in
+    let pushed = rw inv.whole at c.in_ok-push_field.ensures.fields in
     record {
       fields = rw next (pushed ∙ ap (λ fields. fields ++ [] ∷ []) inv.fields ∙ append_assoc given _ _ ∙ ap (λ more. given ++ more) (replicate_more some []));
-      partial = c.in_ok-push_field.ensures.partial;
+      whole = c.in_ok-push_field.ensures.partial;
     }

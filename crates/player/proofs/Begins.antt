@@ -1,0 +1,179 @@
+-- What calls need to begin.
+use Rattle.std.proofs.Common.{◌≡◌, ◌≢◌, ℕ, suc, ◌+◌, ◌<◌, ◌≤◌, inl, inr, List, Option, Some, None, refl, sym, ◌∙◌, ap, subst, arith, length, zero, [], ◌∷◌, ◌⊎◌, ⊎_elim, eqb, eqb-true, eq-eqb, slice_index_or, slice_get, get_or, nat_lt, map, AllPairs, Contains, MatchOption, Bool, true, false, is_some}
+use Rattle.arena.specs.declared.layout.Layout.{Layout}
+use Rattle.arena.specs.declared.limits.Mode.{Mode}
+use Rattle.arena.specs.declared.limits.Mode.TheVariants.{Records}
+use Rattle.arena.specs.Layout.{opening_nodes, all_nodes}
+use Rattle.arena.specs.History.{History}
+use Rattle.arena.proofs.Values.{ends_self}
+use Rattle.prims.specs.LlxKnown.{IsOpened, llx_ready, llx_known}
+use Rattle.prims.specs.VlxKnown.{AllLinked, vlx_ready}
+use Rattle.prims.specs.Cells.{allows_all}
+use Rattle.prims.specs.Snaps.{AreDistinct, IsAmong}
+use Rattle.prims.specs.declared.snap.Snap.{Snap}
+use Rattle.std.specs.List.{list_any}
+use Rattle.std.proofs.Math.Logic.{∥∥₁_elim}
+use Rattle.std.proofs.lemmas.List.{length-map}
+use Rattle.std.proofs.lemmas.Bool.{or_left}
+use Rattle.histories.proofs.Helds.{or_split, or_right}
+use Rattle.prims.proofs.Snapshots.{among}
+use Rattle.prims.specs.VlxKnown.{snap_at}
+use Rattle.prims.specs.declared.llx.LlxRun.{LlxRun}
+use Rattle.prims.specs.declared.llx.LlxAt.TheVariants.{Start}
+use Rattle.prims.specs.declared.vlx.VlxRun.{VlxRun}
+use Rattle.script.specs.declared.command.Command.{Command}
+use Rattle.script.specs.declared.command.Command.TheVariants.{Vlx as VlxCommand, Scx as ScxCommand}
+use Rattle.player.specs.declared.run.Run.TheVariants.{Llx, Scx, Vlx}
+use Rattle.player.specs.declared.client.Client.{Client}
+use Rattle.player.specs.declared.client.Put.{Put}
+use Rattle.player.specs.declared.record.Answer.{Answer}
+use Rattle.player.specs.declared.record.Answer.TheVariants.{Snapshot, Finalized, Fail, Done, Lost, Same, Changed, Unlinked, Full}
+use Rattle.player.specs.LawfulRun.{IsRefusal}
+use Rattle.player.specs.View.{View, IsSound, Rests, Starts, IsLlxOf, command_of, machine_call, GoesOn, IsFull, Puts, Begins, Refuses, Stood, IsClient}
+use Rattle.player.specs.declared.client.Standing.{Standing}
+use Rattle.player.specs.declared.client.Standing.TheVariants.{Finished, Answers, Asks}
+use Rattle.script.specs.declared.command.Call.{Call}
+use Rattle.player.specs.LawfulRun.{commands}
+use Rattle.std.proofs.lemmas.Option.{slice_get_read}
+use Rattle.player.proofs.Commands.{next_at}
+
+-- a cell is there from the start
+cell_opened : (lay : Layout) (h : History) (n : ℕ) → lay.mode ≡ Records → n ≤ 8 → IsOpened lay h n
+cell_opened lay h n e i = record { in_field = inl early; inside = let a = early in omega arith }
+  where
+    early : n < opening_nodes lay.mode
+    early = rw e (omega arith)
+
+-- an LLX of a cell
+pub llx_starts : (v : View) (c : Client) (m : LlxRun) (then : Option Put) (command : Command) → v.layout.mode ≡ Records → Rests v c → m.at ≡ Start → m.node.0 ≤ 8 → command_of v c ≡ Some command → IsLlxOf command m.node.0 then → Starts v c (Llx m) then
+llx_starts v c m then command mode r start i is f = record {
+  works = record { stands = r.stands; newest = tt; command = command; is = is; run_of = f; is_pass = r.stands.is_pass; start = v.past; since = ends_self v.past };
+  none = r.none;
+  ready = record { opened = cell_opened v.layout v.past m.node.0 mode i; known = rw start tt; told = start };
+}
+
+-- a VLX of usable snapshots
+pub vlx_starts : (v : View) (c : Client) (m : VlxRun) (cells : _) → Rests v c → m.asked ≡ 0 → 0 < length m.snaps.items → AllLinked v.layout v.past m.snaps.items → command_of v c ≡ Some (VlxCommand cells) → Starts v c (Vlx m) None
+vlx_starts v c m cells r start some l is = record {
+  works = record { stands = r.stands; newest = tt; command = VlxCommand cells; is = is; run_of = tt; is_pass = r.stands.is_pass; start = v.past; since = ends_self v.past };
+  none = r.none;
+  ready = (start, some, l);
+}
+
+-- as many snapshots as cells
+pub some_snaps : (snaps : List Snap) (cells : List ℕ) → map (λ (s : Snap). s.node.0) snaps ≡ cells → 1 ≤ length cells → 0 < length snaps
+some_snaps [] cells e i = absurd (let d : length cells ≡ 0 = rw (sym e) refl in omega arith)
+some_snaps (s ∷ snaps) cells e i = omega arith
+
+-- different cells have snapshots of different nodes
+node_at : (snaps : List Snap) (i : ℕ) → i < length snaps → slice_index_or (map (λ (s : Snap). s.node.0) snaps) i 0 ≡ (snap_at snaps i).node.0
+node_at [] i p = absurd (omega arith)
+node_at (s ∷ snaps) zero p = refl
+node_at (s ∷ snaps) (suc i) p = node_at snaps i (omega arith)
+
+apart : (i j : ℕ) → i ≢ j → (i < j) ⊎ (j < i)
+apart i j d = grind arith
+
+pub distinct_snaps : (snaps : List Snap) (cells : List ℕ) → map (λ (s : Snap). s.node.0) snaps ≡ cells → AllPairs (λ a b. a ≢ b) cells → AreDistinct snaps
+distinct_snaps snaps cells e d i j p q n same = ⊎_elim (λ less. differ i j less q (rw (node_at snaps i p, node_at snaps j q) same)) (λ less. differ j i less p (rw (node_at snaps i p, node_at snaps j q) (sym same))) (apart i j n)
+  where
+    differ : (i j : ℕ) → i < j → j < length snaps → slice_index_or (map (λ (s : Snap). s.node.0) snaps) i 0 ≢ slice_index_or (map (λ (s : Snap). s.node.0) snaps) j 0
+    differ i j less q = rw e (d i j 0 less (rw (sym e) (rw (length-map snaps (λ (s : Snap). s.node.0)) q)))
+
+-- a cell of those has a snapshot
+has_snap : List Snap → ℕ → Bool
+has_snap snaps n = list_any (λ (s : Snap). eqb s.node.0 n) snaps
+
+snap_there : (snaps : List Snap) (n : ℕ) → has_snap snaps n ≡ true → IsAmong snaps n
+unfolding has_snap
+snap_there [] n e = absurd cc
+snap_there (s ∷ snaps) n e = ⊎_elim (λ q. record { at = 0; within = omega arith; is = eqb-true s.node.0 n q }) (λ q. let x = snap_there snaps n q in record { at = suc x.at; within = let y = x.within in omega arith; is = x.is }) (or_split (eqb s.node.0 n) (has_snap snaps n) e)
+
+snap_found : (snaps : List Snap) (n i : ℕ) → i < length snaps → (snap_at snaps i).node.0 ≡ n → has_snap snaps n ≡ true
+unfolding has_snap
+snap_found [] n i p e = absurd (omega arith)
+snap_found (s ∷ snaps) n zero p e = or_left (eqb s.node.0 n) (has_snap snaps n) (eq-eqb s.node.0 n e)
+snap_found (s ∷ snaps) n (suc i) p e = or_right (eqb s.node.0 n) (has_snap snaps n) (snap_found snaps n i (omega arith) e)
+
+pub among_snaps : (snaps : List Snap) (cells : List ℕ) (n : ℕ) → map (λ (s : Snap). s.node.0) snaps ≡ cells → ∥ Contains cells n ∥₁ → IsAmong snaps n
+among_snaps snaps cells n e x = go (has_snap snaps n) refl
+  where
+    go : (b : Bool) → has_snap snaps n ≡ b → IsAmong snaps n
+    go true d = snap_there snaps n d
+    go false d = absurd (∥∥₁_elim x (λ a b. absurd a) (λ (c : Contains cells n). let y = among snaps n (rw e c) in let z = snap_found snaps n y.at y.within y.is in cc))
+
+-- what is known of a client does not ask when its call began
+pub rests_at : (v : View) (c : Client) (turn : ℕ) → Rests v c → Rests v (record c { begin = turn })
+rests_at v c turn r = record { stands = record { is_pass = r.stands.is_pass; number = r.stands.number; place = r.stands.place; kept = r.stands.kept; share = r.stands.share }; none = r.none }
+
+-- a call that runs has begun
+pub begins_run : (v : View) (old new : Client) (turn : ℕ) (answer : Option Answer) → (answer ≡ None) × GoesOn v (record old { begin = turn }) new → Begins v turn old new answer
+begins_run v old new turn answer x = rw x.0 (record { pass = x.1.same.pass; number = x.1.same.number; next = x.1.same.next }, x.1.begin, (x.1.running, x.1.is, x.1.waits))
+
+-- a full share is a refusal of an SCX
+full_refused : (update : _) (answer : Answer) → IsFull answer → IsRefusal (ScxCommand update) answer
+full_refused update (Full what left) f = tt
+full_refused update (Snapshot left right) f = absurd f
+full_refused update Finalized f = absurd f
+full_refused update (Fail node scx) f = absurd f
+full_refused update Done f = absurd f
+full_refused update (Lost node scx) f = absurd f
+full_refused update Same f = absurd f
+full_refused update (Changed node scx) f = absurd f
+full_refused update (Unlinked node) f = absurd f
+
+pub begins_put : (v : View) (old new : Client) (update : _) (answer : Option Answer) → command_of v old ≡ Some (ScxCommand update) → Puts v old new answer → Begins v old.begin old new answer
+begins_put v old new update None is p = (p.same, p.begin, (p.running, p.is, p.waits))
+begins_put v old new update (Some answer) is p = (p.0, p.1, record { rests = p.2; command = ScxCommand update; is = rw p.0.pass is; refusal = full_refused update answer p.3 })
+
+pub begins_from : (v : View) (old new : Client) (turn : ℕ) (answer : Option Answer) → Begins v turn (record old { begin = turn }) new answer → Begins v turn old new answer
+begins_from v old new turn None x = (record { pass = x.0.pass; number = x.0.number; next = x.0.next }, x.1, x.2)
+begins_from v old new turn (Some answer) x = (record { pass = x.0.pass; number = x.0.number; next = x.0.next }, x.1, x.2)
+
+some_call : (a b : Call) → Some a ≡ Some b → a ≡ b
+some_call a b e = cc
+
+-- a call at this place of the script is the client's next
+call_there : (v : View) (c : Client) (calls : List Call) (at : ℕ) (call : Call) → Rests v c → calls ≡ v.calls → c.next ≡ Some at → slice_get calls at ≡ Some call → (slice_get (commands v.calls c.pass.0) v.answered ≡ Some call.command)
+call_there v c calls at call r e is get =
+    let x = next_at v.calls c.pass.0 c.number at (rw is at r.stands.place) in
+    let y : Some call ≡ Some (record { client = record { 0 = c.pass.0 }; command = x.0 }) = sym get ∙ ap (λ (l : List Call). slice_get l at) e ∙ x.1 in
+    rw (sym r.stands.number) (x.2 ∙ ap (λ (k : Command). Some k) (sym (ap (λ (k : Call). k.command) (some_call call _ y))))
+
+pub next_is : (v : View) (c : Client) (calls : List Call) (at : ℕ) (call : Call) → Rests v c → calls ≡ v.calls → c.next ≡ Some at → slice_get calls at ≡ Some call → command_of v c ≡ Some call.command
+next_is v c calls at call r e is get = call_there v c calls at call r e is get
+
+-- where a call is to come, the script has one
+no_end : (v : View) (c : Client) (calls : List Call) (at : ℕ) → Rests v c → calls ≡ v.calls → c.next ≡ Some at → slice_get calls at ≡ None → ⊥
+no_end v c calls at r e is get =
+    let x = next_at v.calls c.pass.0 c.number at (rw is at r.stands.place) in
+    let y : Some (record { client = record { 0 = c.pass.0 }; command = x.0 }) ≡ None = sym x.1 ∙ ap (λ (l : List Call). slice_get l at) (sym e) ∙ get in
+    cc
+
+pub some_calls : (calls : List Call) (at : ℕ) (call : Call) → slice_get calls at ≡ Some call → length calls ≢ 0
+some_calls [] at call e = absurd cc
+some_calls (x ∷ calls) at call e = λ d. omega arith
+
+-- what a lookup found
+pub get_there : (calls : List Call) (at : ℕ) (call : Call) → true ≡ nat_lt at (length calls) → call ≡ get_or calls at call → slice_get calls at ≡ Some call
+get_there calls at call i e = slice_get_read calls (length calls) at call refl (grind (arith, i)) e
+
+-- how a client stands once its call has begun, or was refused
+pub stood_refused : (v : View) (turn : ℕ) (old new : Client) (answer : Answer) → Rests v old → Begins v turn old new (Some answer) → Stood v turn old new (Answers answer)
+stood_refused v turn old new answer r x = (x.0, r, x.2, x.1)
+
+pub stood_begun : (v : View) (turn : ℕ) (old new : Client) (standing : Standing) → Rests v old → Begins v turn old new None → MatchOption new.running (standing ≡ Finished) (λ r. standing ≡ Asks r.step) → Stood v turn old new standing
+stood_begun v turn old new standing r x m =
+    let y : standing ≡ Asks x.2.0.step = rw x.2.1 at m in
+    rw y (x.0, x.2.0, x.2.1, refl, x.2.2, inl (r, x.1))
+
+-- how a client stands whose call runs
+pub stood_on : (v : View) (began : Option ℕ) (turn : ℕ) (c : Client) (standing : Standing) → is_some c.running ≡ true → IsClient v began c → MatchOption c.running (standing ≡ Finished) (λ r. standing ≡ Asks r.step) → Stood v turn c c standing
+stood_on v began turn c standing some (inl x) m = absurd (let e = x.0.none in let d : is_some c.running ≡ false = rw e refl in cc)
+stood_on v began turn c standing some (inr x) m =
+    let y : standing ≡ Asks x.0.step = rw x.1 at m in
+    rw y (record { pass = refl; number = refl; next = refl }, x.0, x.1, refl, x.2, inr (λ e. let d = x.1 in absurd cc, refl))
+
+pub rests_of : (v : View) (began : Option ℕ) (c : Client) → is_some c.running ≡ false → IsClient v began c → Rests v c
+rests_of v began c none (inl x) = x.0
+rests_of v began c none (inr x) = absurd (let e = x.1 in let d : is_some c.running ≡ true = rw e refl in cc)

@@ -1,0 +1,52 @@
+-- What is true of a player before its first turn and after its last.
+use Rattle.std.proofs.Common.{◌≡◌, ℕ, zero, suc, ◌+◌, ◌<◌, List, [], ◌∷◌, ◌++◌, length, map, reverse, take, get_or, Some, slice_get, inl, inr, refl, sym, ◌∙◌, ap, subst}
+use Rattle.std.proofs.lemmas.List.{map_more, reverse-append}
+use Rattle.arena.specs.declared.layout.Layout.{Layout}
+use Rattle.arena.specs.PlainWords.{Contents, IsOpening}
+use Rattle.arena.specs.History.{value}
+use Rattle.arena.specs.Lawful.{Lawful}
+use Rattle.arena.specs.Shape.{Shaped}
+use Rattle.histories.proofs.Finals.{finalized_since}
+use Rattle.script.specs.declared.command.Call.{Call}
+use Rattle.player.specs.declared.client.Client.{Client}
+use Rattle.player.specs.declared.player.Player.{Player}
+use Rattle.player.specs.Lines.{newest}
+use Rattle.player.specs.Turns.{history, clients}
+use Rattle.player.specs.View.{view, Rests}
+use Rattle.player.specs.LawfulRun.{AreLines, IsLawfulRun}
+use Rattle.player.specs.Played.{IsBetween, IsPlayed}
+
+-- words as they are at the start, and clients that rest, are between two turns
+pub opening_between : (lay : Layout) (calls : List Call) (words : Contents) (all : List Client) → words.layout ≡ lay → IsOpening words → ((j : ℕ) (d : Client) → slice_get all j ≡ Some d → (d.pass.0 ≡ j) × Rests (view lay calls [] j) d) → IsBetween lay calls words all []
+unfolding value Lawful Shaped AreLines
+opening_between lay calls words all same opening each = record {
+  so_far = record {
+    layout = same;
+    holds = λ w i. opening w (rw same i) ∙ rw same refl;
+    sound = record { lawful = refl; shaped = tt };
+    in_order = tt;
+  };
+  settled = record { entry = refl; reply = λ y. y };
+  each = λ j d get. let y = each j d get in (y.0, inl (y.1, inr refl));
+}
+
+-- the lines of a player are a lawful run of the turns that it made
+pub played_record : (p : Player) → IsPlayed p → (turns : List ℕ) → clients (newest p.lines) ≡ reverse turns → IsLawfulRun p.script.layout p.script.calls.items turns p.lines.list.items
+played_record p x turns e = record {
+  turns = e;
+  in_order = x.so_far.in_order;
+  settled = x.settled;
+  lawful = x.so_far.sound.lawful;
+  finalized = λ past n part ends final. finalized_since p.script.layout (history p.script.layout.mode (newest p.lines)) past n part x.so_far.sound.lawful ends final;
+}
+
+-- what holds of each element, with its place, and of one more holds of all with that one at the end
+pub get_more : {X : Type 0} (P : ℕ → X → Type 0) (xs : List X) (x : X) (n : ℕ) → length xs ≡ n → ((j : ℕ) (d : X) → slice_get xs j ≡ Some d → P j d) → P n x → (j : ℕ) (d : X) → slice_get (xs ++ x ∷ []) j ≡ Some d → P j d
+get_more P [] x n e f p zero d get = subst (λ (k : ℕ). P k d) (sym e) (subst (P n) (cc) p)
+get_more P [] x n e f p (suc j) d get = absurd cc
+get_more P (y ∷ xs) x n e f p zero d get = f 0 d get
+get_more P (y ∷ xs) x n e f p (suc j) d get = get_more (λ k. P (suc k)) xs x (length xs) refl (λ k. f (suc k)) (rw e p) j d get
+
+-- one more element comes first in the reverse
+pub reverse_map_more : {X Y : Type 0} (f : X → Y) (xs : List X) (i : ℕ) (d : X) → i < length xs → reverse (map f (take (i + 1) xs)) ≡ f (get_or xs i d) ∷ reverse (map f (take i xs))
+reverse_map_more f xs i d less = ap reverse (map_more f xs i d less) ∙ reverse-append (map f (take i xs)) (f (get_or xs i d) ∷ [])

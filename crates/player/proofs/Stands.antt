@@ -1,0 +1,108 @@
+-- How a turn begins: what the client that makes it stands at.
+use Rattle.std.proofs.Common.{◌≡◌, ◌≢◌, ℕ, suc, ◌<◌, ◌≤◌, ◌⊎◌, inl, inr, List, ◌∷◌, set, length, drop, get_or, Option, Some, None, slice_get, refl, sym, ◌∙◌, ap, subst, arith}
+use Rattle.std.proofs.lemmas.Option.{slice_get_read}
+use Rattle.arena.specs.declared.layout.Layout.{Layout}
+use Rattle.arena.specs.declared.number.PassNo.{PassNo}
+use Rattle.arena.specs.declared.step.Step.{Step as Ask}
+use Rattle.arena.specs.PlainWords.{Contents}
+use Rattle.script.specs.declared.command.Call.{Call}
+use Rattle.script.specs.declared.command.Command.{Command}
+use Rattle.player.specs.declared.record.Line.{Line}
+use Rattle.player.specs.declared.record.Line.TheVariants.{Step, Reply as ReplyLine}
+use Rattle.player.specs.declared.record.Row.TheVariants.{Idle}
+use Rattle.player.specs.declared.record.Reply.{Reply}
+use Rattle.player.specs.declared.record.Answer.{Answer}
+use Rattle.player.specs.declared.client.Client.{Client}
+use Rattle.player.specs.declared.client.Running.{Running}
+use Rattle.player.specs.declared.client.Standing.TheVariants.{Finished, Answers, Asks}
+use Rattle.player.specs.declared.player.Player.{Player}
+use Rattle.player.specs.Lines.{newest}
+use Rattle.player.specs.LawfulRun.{commands}
+use Rattle.player.specs.Turns.{turns, begin}
+use Rattle.player.specs.View.{View, view, Rests, Refuses, Waits, IsClient, Stood, command_of}
+use Rattle.player.specs.Played.{IsTurnOf, IsBetween, IsPlayed, IsAsked, IsEnd}
+use Rattle.player.proofs.Commands.{none_left}
+use Rattle.player.proofs.Middles.{turn_begins, turn_changed, finished_turn, refused_turn}
+use Rattle.player.proofs.Steps.{few_calls}
+
+-- a client of the player
+pub client_there : (p : Player) (i : ℕ) (c : Client) → i < p.script.layout.passes → c ≡ get_or p.clients.items i c → slice_get p.clients.items i ≡ Some c
+client_there p i c inside e = slice_get_read p.clients.items (length p.clients.items) i c refl (omega (arith, inside, p.all_clients, p.clients.ok.0)) e
+
+-- a client at rest that has a call left has not begun it
+not_begun : (v : View) (began : Option ℕ) (old new : Client) (command : Command) → new.pass ≡ old.pass → IsClient v began old → Rests v old → command_of v new ≡ Some command → began ≡ None
+not_begun v began old new command same (inl (x, inr e)) r is = e
+not_begun v began old new command same (inr (q, runs, w, e)) r is = absurd (let d = r.none in cc)
+not_begun v began old new command same (inl (x, inl none)) r is =
+    let over : slice_get (commands v.calls old.pass.0) v.answered ≡ None = rw (sym r.stands.number) (none_left v.calls old.pass.0 old.number (rw none at r.stands.place)) in
+    let there : slice_get (commands v.calls old.pass.0) v.answered ≡ Some command = ap (λ (p : PassNo). slice_get (commands v.calls p.0) v.answered) (sym same) ∙ is in
+    absurd cc
+
+-- a client whose call runs began it at its first turn since its last reply
+has_begun : (v : View) (began : Option ℕ) (old : Client) → IsClient v began old → old.running ≢ None → began ≡ Some old.begin
+has_begun v began old (inl x) d = absurd (d x.0.none)
+has_begun v began old (inr (q, runs, w, e)) d = e
+
+module _ (p : Player) (i number : ℕ) (old new : Client) (played : IsPlayed p) (there : slice_get p.clients.items i ≡ Some old) where
+  abbrev lay : Layout
+  lay = p.script.layout
+
+  abbrev calls : List Call
+  calls = p.script.calls.items
+
+  abbrev lines : List Line
+  lines = newest p.lines
+
+  abbrev v : View
+  v = view lay calls lines i
+
+  is_i : old.pass.0 ≡ i
+  is_i = (played.each i old there).0
+
+  pub is_client : IsClient v (begin lines i) old
+  is_client = (played.each i old there).1
+
+  -- its turn, with what it has become
+  own_turn : new.pass ≡ old.pass → IsTurnOf lay calls p.words (set p.clients.items i new) lines new
+  own_turn same = subst (λ (k : ℕ). IsTurnOf lay calls p.words (set p.clients.items k new) lines new) is_i (turn_changed lay calls p.words p.clients.items lines old new same (turn_begins lay calls p.words p.clients.items lines i old there played))
+
+  new_i : new.pass ≡ old.pass → new.pass.0 ≡ i
+  new_i same = ap (λ (k : PassNo). k.0) same ∙ is_i
+
+  -- it asks for a step
+  pub stood_asked : (q : Player) (step : Ask) → q.script.layout ≡ lay → q.script.calls.items ≡ calls → q.words ≡ p.words → q.clients.items ≡ set p.clients.items i new → newest q.lines ≡ lines → number ≡ suc (turns (newest q.lines)) → Stood v number old new (Asks step) → IsAsked q i number step
+  stood_asked q step a b w d e n s = record {
+    client = new;
+    is = new_i s.0.pass;
+    settled = rw (a, b, e) played.settled;
+    turn = rw (a, b, w, d, e) (own_turn s.0.pass);
+    in_turn = n;
+    running = s.1;
+    runs = s.2;
+    asks = s.3;
+    waits = rw (a, b, e) (subst (λ (k : ℕ). Waits (view lay calls lines k) new s.1) (sym (new_i s.0.pass)) s.4);
+    began = began s.5;
+  }
+    where
+      same_begin : begin (newest q.lines) new.pass.0 ≡ begin lines i
+      same_begin = ap (λ (l : List Line). begin l new.pass.0) e ∙ ap (λ (k : ℕ). begin lines k) (new_i s.0.pass)
+
+      began : (Rests v old × (new.begin ≡ number)) ⊎ ((old.running ≢ None) × (new.begin ≡ old.begin)) → ((begin (newest q.lines) new.pass.0 ≡ None) × (new.begin ≡ number)) ⊎ (begin (newest q.lines) new.pass.0 ≡ Some new.begin)
+      began (inl (r, x)) = inl (same_begin ∙ not_begun v (begin lines i) old new s.4.works.command s.0.pass is_client r s.4.works.is, x)
+      began (inr (d, x)) = inr (same_begin ∙ has_begun v (begin lines i) old is_client d ∙ ap (λ (k : ℕ). Some k) (sym x))
+
+  -- it has no call left
+  pub stood_finished : (pass : PassNo) → pass.0 ≡ i → number ≡ suc (turns lines) → Stood v number old new Finished → IsBetween lay calls p.words (set p.clients.items i new) (Step (Idle number pass) ∷ lines)
+  stood_finished pass is n s =
+      let same : new.pass ≡ old.pass = ap (λ (k : Client). k.pass) s.0 in
+      finished_turn lay calls p.words (set p.clients.items i new) lines new number pass played.settled (own_turn same)
+      (subst (λ (k : ℕ). Rests (view lay calls lines k) new) (sym (new_i same)) (subst (λ (k : Client). Rests v k) (sym s.0) s.2))
+      (ap (λ (k : Client). k.next) s.0 ∙ s.1) n (ap (λ (k : ℕ). let x : PassNo = record { 0 = k } in x) (is ∙ sym (new_i same)))
+
+  -- its call is refused
+  pub stood_refused : (pass : PassNo) (answer : Answer) (reply : Reply) (end : Client) → pass.0 ≡ i → number ≡ suc (turns lines) → Stood v number old new (Answers answer) → IsEnd calls new end number answer reply → IsBetween lay calls p.words (set (set p.clients.items i new) new.pass.0 end) (ReplyLine reply ∷ Step (Idle number pass) ∷ lines)
+  stood_refused pass answer reply end is n s e =
+      refused_turn lay calls p.words (set p.clients.items i new) lines new end number pass answer reply (few_calls p) played.settled (own_turn s.0.pass)
+      (subst (λ (k : ℕ). Refuses (view lay calls lines k) new answer) (sym (new_i s.0.pass)) s.2)
+      (ap (λ (k : ℕ). begin lines k) (new_i s.0.pass) ∙ not_begun v (begin lines i) old new s.2.command s.0.pass is_client s.1 s.2.is)
+      s.3 n (ap (λ (k : ℕ). let x : PassNo = record { 0 = k } in x) (is ∙ sym (new_i s.0.pass))) e.answers e.client e.call e.begin e.end e.behind

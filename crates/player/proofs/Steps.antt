@@ -1,0 +1,202 @@
+-- The turn of a client that makes a step.
+use Rattle.std.proofs.Common.{◌≡◌, ◌≢◌, ℕ, suc, ◌<◌, ◌≤◌, ◌⊎◌, inl, inr, List, [], ◌∷◌, set, length, Option, Some, None, MatchOption, slice_get, unwrap_or, refl, sym, ◌∙◌, ap, subst, eq-eqb, arith}
+use Rattle.arena.specs.declared.layout.Layout.{Layout}
+use Rattle.arena.specs.declared.number.PassNo.{PassNo}
+use Rattle.arena.specs.declared.step.Row.{Row}
+use Rattle.arena.specs.declared.step.Step.{Step as Ask}
+use Rattle.arena.specs.declared.step.Kind.{Kind}
+use Rattle.arena.specs.declared.word.Word.{Word}
+use Rattle.arena.specs.Words.{deed_after}
+use Rattle.arena.specs.declared.step.Deed.{Deed}
+use Rattle.arena.specs.declared.step.Deed.TheVariants.{Load, Store, Exchange}
+use Rattle.arena.specs.Layout.{IsWord}
+use Rattle.arena.specs.PlainWords.{Contents, held, IsChanged}
+use Rattle.arena.specs.History.{History, ◌⊳◌, value}
+use Rattle.arena.specs.Lawful.{IsLawful}
+use Rattle.arena.specs.Machines.{IsRun, IsTold}
+use Rattle.histories.proofs.Changes.{lawful_row}
+use Rattle.prims.specs.Cells.{allows_all}
+use Rattle.script.specs.declared.command.Call.{Call}
+use Rattle.script.specs.declared.command.Command.{Command}
+use Rattle.player.specs.declared.record.Line.{Line}
+use Rattle.player.specs.declared.record.Line.TheVariants.{Step, Log, Reply as ReplyLine}
+use Rattle.player.specs.declared.record.Row.TheVariants.{Step as Made, Idle}
+use Rattle.player.specs.declared.record.Reply.{Reply}
+use Rattle.player.specs.declared.record.Entry.{Entry}
+use Rattle.player.specs.declared.record.Answer.{Answer}
+use Rattle.player.specs.declared.client.Client.{Client}
+use Rattle.player.specs.declared.client.Running.{Running}
+use Rattle.player.specs.declared.player.Player.{Player}
+use Rattle.player.specs.Lines.{newest}
+use Rattle.player.specs.Turns.{history, turns, answered, clients, begin, last_client, entry_owed}
+use Rattle.player.specs.LawfulRun.{commands, IsAnswer, IsFitting, IsReplyOwed, IsSettled, IsStep, AreLines}
+use Rattle.player.specs.View.{View, view, IsSound, Waits, Rests, Hears, IsClient, IsSameCall, GoesOn, Ends}
+use Rattle.player.specs.Played.{IsSoFar, IsTurnOf, IsBetween, IsAsked, IsEnd}
+use Rattle.player.proofs.Views.{own_row, step_sound, hears}
+use Rattle.player.proofs.Middles.{others_step, others_log, so_far_same, step_made, turn_changed, turn_ends, replied}
+
+-- the client that makes the turn is about to hear what its step found; turn number `number` has been written down in full
+pub record IsHeard (lay : Layout) (calls : List Call) (words : Contents) (all : List Client) (lines : List Line) (c : Client) (q : Running) (found number : ℕ) : Type 0 where
+  pub turn : IsTurnOf lay calls words all lines c
+  pub told : Hears (view lay calls lines c.pass.0) c q found
+  pub runs : c.running ≡ Some q
+  pub began : begin lines c.pass.0 ≡ Some c.begin
+  pub last : last_client lines ≡ Some c.pass.0
+  pub entry : entry_owed lay lines ≡ None
+  pub none_owed : ¬ IsReplyOwed calls lines
+  pub fits : (command : Command) (answer : Answer) → IsAnswer command answer → IsFitting lines command answer
+  pub in_turn : number ≡ turns lines
+
+-- a machine may be told what its step found
+told_all : (deed : Deed) (v : ℕ) → IsTold deed v v
+told_all Load v = refl
+told_all (Store new) v = tt
+told_all (Exchange expected new) v = refl
+
+-- the first turn of the call is this, or was before
+begun_at : (lines : List Line) (number : ℕ) (c : Client) → ((begin lines c.pass.0 ≡ None) × (c.begin ≡ number)) ⊎ (begin lines c.pass.0 ≡ Some c.begin) → unwrap_or (begin lines c.pass.0) number ≡ c.begin
+begun_at lines number c (inl (e, b)) = rw (e, b) refl
+begun_at lines number c (inr e) = rw e refl
+
+-- equal parts make equal rows
+row_same : (pass : PassNo) (c call call' : ℕ) (kind : Kind) (word : Word) (before before' after after' : ℕ) → pass.0 ≡ c → call ≡ call' → before ≡ before' → after ≡ after' → (let r : Row = record { pass = pass; call = call; kind = kind; word = word; before = before; after = after } in r) ≡ record { pass = record { 0 = c }; call = call'; kind = kind; word = word; before = before'; after = after' }
+row_same pass c call call' kind word before before' after after' p k b a = rw (k, b, a) (ap (λ (n : ℕ). let r : Row = record { pass = record { 0 = n }; call = call'; kind = kind; word = word; before = before'; after = after' } in r) p)
+
+module _ (p : Player) (i number : ℕ) (step : Ask) (a : IsAsked p i number step) where
+  abbrev lay : Layout
+  lay = p.script.layout
+
+  abbrev calls : List Call
+  calls = p.script.calls.items
+
+  abbrev lines : List Line
+  lines = newest p.lines
+
+  abbrev v : View
+  v = view lay calls lines a.client.pass.0
+
+  abbrev made : Row
+  made = own_row v a.client a.running.step
+
+  -- the step goes on with the run
+  sound : IsRun allows_all lay (made ⊳ history lay.mode lines)
+  sound = step_sound v a.client a.running a.turn.so_far.sound a.waits
+
+  lawful : IsLawful lay (history lay.mode lines) made
+  lawful = lawful_row lay (history lay.mode lines) made sound.lawful
+
+  -- it is on a word of the table
+  pub asked_word : IsWord p.words.layout step.word
+  asked_word = rw (a.turn.so_far.layout, sym a.asks) lawful.word
+
+  pub asked_made : (words : Contents) → IsChanged p.words words made.word made.after → IsTurnOf lay calls words p.clients.items (Step (Made number made) ∷ lines) a.client
+  asked_made words changed = record {
+    so_far = step_made lay calls p.words words lines number made changed sound (a.settled, record { in_turn = a.in_turn; lawful = lawful; call = a.waits.works.stands.number; command = a.waits.works.command; is = a.waits.works.is }) a.turn.so_far;
+    others = others_step lay calls p.clients.items lines a.client.pass.0 number made sound refl a.turn.others;
+    own = a.turn.own;
+  }
+
+  asked_begun : begin (Step (Made number made) ∷ lines) a.client.pass.0 ≡ Some a.client.begin
+  asked_begun = rw (eq-eqb a.client.pass.0 a.client.pass.0 refl) (ap (λ (k : ℕ). Some k) (begun_at lines number a.client a.began))
+
+  -- what the player has found, and left there
+  asked_value : held p.words step.word ≡ value (history lay.mode lines) a.running.step.word
+  asked_value = subst (λ (s : Ask). held p.words s.word ≡ value (history lay.mode lines) a.running.step.word) a.asks (a.turn.so_far.holds a.running.step.word lawful.word)
+
+  pub asked_changed : (words : Contents) (found : ℕ) → found ≡ held p.words step.word → IsChanged p.words words step.word (deed_after step.deed found) → IsChanged p.words words made.word made.after
+  asked_changed words found e x =
+      let y : IsChanged p.words words step.word (deed_after step.deed made.before) = rw (sym asked_value, sym e) x in
+      subst (λ (s : Ask). IsChanged p.words words s.word (deed_after s.deed made.before)) (sym a.asks) y
+
+  -- the row that it writes down is that of the client's step
+  pub asked_row : (pass : PassNo) (call found after : ℕ) → pass.0 ≡ i → call ≡ a.client.number → found ≡ held p.words step.word → after ≡ deed_after step.deed found → (let r : Row = record { pass = pass; call = call; kind = step.kind; word = step.word; before = found; after = after } in r) ≡ made
+  asked_row pass call found after e n f g =
+      subst (λ (s : Ask). (let r : Row = record { pass = pass; call = call; kind = s.kind; word = s.word; before = found; after = after } in r) ≡ made) a.asks
+      (row_same pass a.client.pass.0 call a.client.number a.running.step.kind a.running.step.word found made.before after made.after (e ∙ sym a.is) n (f ∙ asked_value)
+      (subst (λ (s : Ask). after ≡ deed_after s.deed found) (sym a.asks) g ∙ ap (λ (k : ℕ). deed_after a.running.step.deed k) (f ∙ asked_value)))
+
+  -- with its entry written down, if there is one, the client hears
+  pub asked_heard : (words : Contents) (after : List Line) → IsChanged p.words words made.word made.after → MatchOption (entry_owed lay (Step (Made number made) ∷ lines)) (after ≡ Step (Made number made) ∷ lines) (λ e. after ≡ Log e ∷ Step (Made number made) ∷ lines) → IsHeard lay calls words p.clients.items after a.client a.running made.before number
+  asked_heard words after changed m = go (entry_owed lay (Step (Made number made) ∷ lines)) refl m
+    where
+      x : IsTurnOf lay calls words p.clients.items (Step (Made number made) ∷ lines) a.client
+      x = asked_made words changed
+
+      h : Hears (view lay calls (Step (Made number made) ∷ lines) a.client.pass.0) a.client a.running made.before
+      h = hears v a.client a.running a.turn.so_far.sound a.waits made.before (told_all a.running.step.deed made.before)
+
+      go : (owed : Option Entry) → entry_owed lay (Step (Made number made) ∷ lines) ≡ owed → MatchOption owed (after ≡ Step (Made number made) ∷ lines) (λ e. after ≡ Log e ∷ Step (Made number made) ∷ lines) → IsHeard lay calls words p.clients.items after a.client a.running made.before number
+      go None e is = subst (λ l. IsHeard lay calls words p.clients.items l a.client a.running made.before number) (sym is)
+          record { turn = x; told = h; runs = a.runs; began = asked_begun; last = refl; entry = e; none_owed = λ y. y; fits = λ command answer f. f; in_turn = a.in_turn }
+      go (Some entry) e is = subst (λ l. IsHeard lay calls words p.clients.items l a.client a.running made.before number) (sym is)
+          record {
+            turn = record { so_far = so_far_same lay calls words (Step (Made number made) ∷ lines) (Log entry) refl e x.so_far; others = others_log lay calls p.clients.items (Step (Made number made) ∷ lines) a.client.pass.0 entry x.others; own = x.own };
+            told = h;
+            runs = a.runs;
+            began = asked_begun;
+            last = refl;
+            entry = refl;
+            none_owed = λ y. y;
+            fits = λ command answer f. f;
+            in_turn = a.in_turn;
+          }
+
+  -- the lines with the row that the player writes down
+  pub asked_so_far : (row : Row) (words : Contents) (after : List Line) → row ≡ made → IsChanged p.words words made.word made.after → after ≡ Step (Made number row) ∷ lines → IsSoFar lay calls words after
+  asked_so_far row words after e changed is =
+      subst (λ l. IsSoFar lay calls words l) (sym is) (subst (λ (r : Row). IsSoFar lay calls words (Step (Made number r) ∷ lines)) (sym e) (asked_made words changed).so_far)
+
+  -- and what the client hears behind them
+  pub asked_hears : (row : Row) (words : Contents) (pushed after : List Line) (found : ℕ) → row ≡ made → found ≡ held p.words step.word → IsChanged p.words words made.word made.after → pushed ≡ Step (Made number row) ∷ lines → MatchOption (entry_owed lay pushed) (after ≡ pushed) (λ e. after ≡ Log e ∷ pushed) → IsHeard lay calls words p.clients.items after a.client a.running found number
+  asked_hears row words pushed after found e f changed is m =
+      let same : pushed ≡ Step (Made number made) ∷ lines = is ∙ ap (λ (r : Row). Step (Made number r) ∷ lines) e in
+      subst (λ (k : ℕ). IsHeard lay calls words p.clients.items after a.client a.running k number) (sym (f ∙ asked_value))
+      (asked_heard words after changed (rw same at m))
+
+-- Behind what the client has heard
+
+-- it asks for another step
+pub heard_on : (lay : Layout) (calls : List Call) (words : Contents) (all : List Client) (lines : List Line) (c new : Client) (q : Running) (found number : ℕ) → IsHeard lay calls words all lines c q found number → GoesOn (view lay calls lines c.pass.0) c new → IsBetween lay calls words (set all c.pass.0 new) lines
+heard_on lay calls words all lines c new q found number x g =
+    turn_ends lay calls words (set all c.pass.0 new) lines new record { entry = x.entry; reply = x.none_owed }
+    (subst (λ (k : ℕ). IsClient (view lay calls lines k) (begin lines k) new) (ap (λ (p : PassNo). p.0) (sym g.same.pass)) (inr (g.running, g.is, g.waits, x.began ∙ ap (λ (k : ℕ). Some k) (sym g.begin))))
+    (turn_changed lay calls words all lines c new g.same.pass x.turn)
+
+-- its call ends, and the reply is written down
+pub heard_end : (lay : Layout) (calls : List Call) (words : Contents) (all : List Client) (lines : List Line) (c mid new : Client) (q : Running) (found number : ℕ) (answer : Answer) (reply : Reply) → length calls ≤ 65536 → IsHeard lay calls words all lines c q found number → Ends (view lay calls lines c.pass.0) c mid answer → IsEnd calls mid new number answer reply → IsBetween lay calls words (set (set all c.pass.0 mid) c.pass.0 new) (ReplyLine reply ∷ lines)
+heard_end lay calls words all lines c mid new q found number answer reply few x g e =
+    subst (λ (k : ℕ). IsBetween lay calls words (set (set all c.pass.0 mid) k new) (ReplyLine reply ∷ lines)) pass0
+    (replied lay calls words (set all c.pass.0 mid) lines mid new reply g.command few
+    (turn_changed lay calls words all lines c mid g.same.pass x.turn)
+    (subst (λ (k : ℕ). Rests (view lay calls lines k) mid) (sym pass0) g.rests)
+    (ap (λ (k : ℕ). slice_get (commands calls mid.pass.0) (answered lines k)) pass0 ∙ g.is)
+    (ap (λ (k : ℕ). begin lines k) pass0 ∙ x.began ∙ ap (λ (k : ℕ). Some k) (sym g.begin))
+    (x.last ∙ ap (λ (k : ℕ). Some k) (sym pass0)) x.entry (rw e.answers (x.fits g.command answer g.answers)) e.client e.call e.begin (e.end ∙ x.in_turn) e.behind)
+  where
+    pass0 : mid.pass.0 ≡ c.pass.0
+    pass0 = ap (λ (p : PassNo). p.0) g.same.pass
+
+-- What the player makes of it
+
+-- the same under other names
+pub between_at : (lay lay' : Layout) (calls calls' : List Call) (words words' : Contents) (all all' : List Client) (lines lines' : List Line) → lay' ≡ lay → calls' ≡ calls → words' ≡ words → all' ≡ all → lines' ≡ lines → IsBetween lay calls words all lines → IsBetween lay' calls' words' all' lines'
+between_at lay lay' calls calls' words words' all all' lines lines' a b c d e x = rw (a, b, c, d, e) x
+
+-- the turns are one more, whatever else is written down behind the row
+pub turns_logged : (lay : Layout) (pushed after : List Line) → MatchOption (entry_owed lay pushed) (after ≡ pushed) (λ e. after ≡ Log e ∷ pushed) → clients after ≡ clients pushed
+turns_logged lay pushed after m = go (entry_owed lay pushed) m
+  where
+    go : (owed : Option Entry) → MatchOption owed (after ≡ pushed) (λ e. after ≡ Log e ∷ pushed) → clients after ≡ clients pushed
+    go None e = ap (λ (l : List Line). clients l) e
+    go (Some entry) e = ap (λ (l : List Line). clients l) e
+
+-- what is told to the client as the player has it, is told to that client
+pub told_goes : (v : View) (now c new : Client) (q : Running) (found : ℕ) → now ≡ c → IsSound v → c.running ≡ Some q → Hears v c q found → ((w : View) (r : Running) → IsSound w → now.running ≡ Some r → Hears w now r found → GoesOn w now new) → GoesOn v c new
+told_goes v now c new q found e sound runs h f = subst (λ (k : Client). GoesOn v k new) e (f v q sound (subst (λ (k : Client). k.running ≡ Some q) (sym e) runs) (subst (λ (k : Client). Hears v k q found) (sym e) h))
+
+pub told_ends : (v : View) (now c new : Client) (q : Running) (found : ℕ) (answer : Answer) → now ≡ c → IsSound v → c.running ≡ Some q → Hears v c q found → ((w : View) (r : Running) → IsSound w → now.running ≡ Some r → Hears w now r found → Ends w now new answer) → Ends v c new answer
+told_ends v now c new q found answer e sound runs h f = subst (λ (k : Client). Ends v k new answer) e (f v q sound (subst (λ (k : Client). k.running ≡ Some q) (sym e) runs) (subst (λ (k : Client). Hears v k q found) (sym e) h))
+
+-- a script has few calls
+pub few_calls : (p : Player) → length p.script.calls.items ≤ 65536
+few_calls p = omega (arith, p.script.few, p.script.calls.ok.0)

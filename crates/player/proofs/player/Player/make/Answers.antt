@@ -1,0 +1,78 @@
+use Rattle.std.proofs.Common.{◌≡◌, ℕ, List, set, Some, slice_get, refl, sym, ◌∙◌, ap, subst}
+use Rattle.player.specs.declared.record.Line.{Line}
+use Rattle.player.specs.Lines.{newest}
+use Rattle.player.specs.Turns.{clients}
+use Rattle.player.specs.View.{view}
+use Rattle.player.specs.Played.{IsEnd}
+use Rattle.script.specs.declared.command.Call.{Call}
+use Rattle.arena.specs.declared.number.PassNo.{PassNo}
+use Rattle.player.proofs.Middles.{get_own}
+use Rattle.std.proofs.lemmas.Option.{get_or_from_slice_get}
+use Rattle.player.specs.declared.client.Client.{Client}
+use Rattle.player.proofs.Steps.{asked_word, asked_row, asked_changed, asked_so_far, asked_hears, heard_on, heard_end, told_goes, told_ends, between_at, turns_logged, few_calls}
+use Rattle.player.proofs.player.Player.make.Goals as goal
+
+pub apply-before-requires : goal.apply-before-requires
+apply-before-requires c = asked_word c.args.self.now c.args.client.0 c.args.number c.args.step c.requires.asked
+
+pub get-requires : goal.get-requires
+get-requires c = rw c.apply-before.ensures.after.layout (asked_word c.args.self.now c.args.client.0 c.args.number c.args.step c.requires.asked)
+
+pub log-requires-clause-made : goal.log-requires-clause-made
+log-requires-clause-made c =
+    let p = c.args.self.now in
+    let a = c.requires.asked in
+    let there : slice_get p.clients.items c.args.client.0 ≡ Some a.client = subst (λ (k : ℕ). slice_get p.clients.items k ≡ Some a.client) a.is a.turn.own in
+    let own = c.index.ensures ∙ get_or_from_slice_get p.clients.items c.args.client.0 a.client c.index.result.now there in
+    let row = asked_row p c.args.client.0 c.args.number c.args.step a c.args.client c.number.result c.apply-before.result c.get.result refl (c.number.ensures ∙ ap (λ (k : Client). k.number) own) c.apply-before.ensures.found (c.get.ensures ∙ c.apply-before.ensures.after.changed) in
+    let changed = asked_changed p c.args.client.0 c.args.number c.args.step a c.apply-before.new.self c.apply-before.result c.apply-before.ensures.found c.apply-before.ensures.after in
+    record {
+      older = _;
+      lines = c.push_row.ensures.line;
+      so_far = asked_so_far p c.args.client.0 c.args.number c.args.step a _ c.apply-before.new.self _ row changed c.push_row.ensures.line;
+    }
+
+pub returns-in-Some : goal.returns-in-Some
+returns-in-Some c =
+    let p = c.args.self.now in
+    let a = c.requires.asked in
+    let i = c.args.client.0 in
+    let there : slice_get p.clients.items i ≡ Some a.client = subst (λ (k : ℕ). slice_get p.clients.items k ≡ Some a.client) a.is a.turn.own in
+    let own = c.index.ensures ∙ get_or_from_slice_get p.clients.items i a.client c.index.result.now there in
+    let row = asked_row p i c.args.number c.args.step a c.args.client c.number.result c.apply-before.result c.get.result refl (c.number.ensures ∙ ap (λ (k : Client). k.number) own) c.apply-before.ensures.found (c.get.ensures ∙ c.apply-before.ensures.after.changed) in
+    let changed = asked_changed p i c.args.number c.args.step a c.apply-before.new.self c.apply-before.result c.apply-before.ensures.found c.apply-before.ensures.after in
+    let heard = asked_hears p i c.args.number c.args.step a _ c.apply-before.new.self _ (newest c.log.new.self.lines) c.apply-before.result row c.apply-before.ensures.found changed c.push_row.ensures.line c.log.ensures.line in
+    let v = view p.script.layout p.script.calls.items (newest c.log.new.self.lines) a.client.pass.0 in
+    let seen = c.index_mut.ensures.value ∙ get_or_from_slice_get c.log.new.self.clients.items i a.client c.index_mut.result.now (ap (λ (l : List Client). slice_get l i) c.log.ensures.same.clients ∙ there) in
+    let new = c.tell.new.self in
+    let answer = c.in-Some.answer in
+    let ends = told_ends v c.index_mut.result.now a.client new a.running c.apply-before.result answer seen heard.turn.so_far.sound heard.runs heard.told c.in-Some.ensures in
+    let r = c.reply.ensures.replied new (get_own c.log.new.self.clients.items i a.client new (ap (λ (l : List Client). slice_get l i) c.log.ensures.same.clients ∙ there)) (ap (λ (k : PassNo). k.0) ends.same.pass ∙ a.is) in
+    let end : IsEnd p.script.calls.items new r.client c.args.number answer r.reply = subst (λ (k : List Call). IsEnd k new r.client c.args.number answer r.reply) c.log.ensures.same.script.calls r.end in
+    let between = heard_end p.script.layout p.script.calls.items c.apply-before.new.self p.clients.items (newest c.log.new.self.lines) a.client new r.client a.running c.apply-before.result c.args.number answer r.reply (few_calls p) heard ends end in
+    record {
+      played = between_at _ _ _ _ _ _ _ _ _ _ (c.reply.ensures.same.script.layout ∙ c.log.ensures.same.script.layout) (c.reply.ensures.same.script.calls ∙ c.log.ensures.same.script.calls) (c.reply.ensures.same.words ∙ c.log.ensures.same.words)
+        (r.clients ∙ ap (λ (l : List Client). set (set l i new) new.pass.0 r.client) c.log.ensures.same.clients ∙ ap (λ (k : ℕ). set (set p.clients.items k new) new.pass.0 r.client) (sym a.is) ∙ ap (λ (k : PassNo). set (set p.clients.items a.client.pass.0 new) k.0 r.client) ends.same.pass) r.line between;
+      script = record { layout = c.reply.ensures.same.script.layout ∙ c.log.ensures.same.script.layout; calls = c.reply.ensures.same.script.calls ∙ c.log.ensures.same.script.calls };
+      turns = ap (λ (l : List Line). clients l) r.line ∙ turns_logged p.script.layout (newest c.push_row.new.self) (newest c.log.new.self.lines) c.log.ensures.line ∙ ap (λ (l : List Line). clients l) c.push_row.ensures.line;
+    }
+
+pub returns-in_default : goal.returns-in_default
+returns-in_default c =
+    let p = c.args.self.now in
+    let a = c.requires.asked in
+    let i = c.args.client.0 in
+    let there : slice_get p.clients.items i ≡ Some a.client = subst (λ (k : ℕ). slice_get p.clients.items k ≡ Some a.client) a.is a.turn.own in
+    let own = c.index.ensures ∙ get_or_from_slice_get p.clients.items i a.client c.index.result.now there in
+    let row = asked_row p i c.args.number c.args.step a c.args.client c.number.result c.apply-before.result c.get.result refl (c.number.ensures ∙ ap (λ (k : Client). k.number) own) c.apply-before.ensures.found (c.get.ensures ∙ c.apply-before.ensures.after.changed) in
+    let changed = asked_changed p i c.args.number c.args.step a c.apply-before.new.self c.apply-before.result c.apply-before.ensures.found c.apply-before.ensures.after in
+    let heard = asked_hears p i c.args.number c.args.step a _ c.apply-before.new.self _ (newest c.log.new.self.lines) c.apply-before.result row c.apply-before.ensures.found changed c.push_row.ensures.line c.log.ensures.line in
+    let v = view p.script.layout p.script.calls.items (newest c.log.new.self.lines) a.client.pass.0 in
+    let seen = c.index_mut.ensures.value ∙ get_or_from_slice_get c.log.new.self.clients.items i a.client c.index_mut.result.now (ap (λ (l : List Client). slice_get l i) c.log.ensures.same.clients ∙ there) in
+    let goes = told_goes v c.index_mut.result.now a.client c.tell.new.self a.running c.apply-before.result seen heard.turn.so_far.sound heard.runs heard.told c.in_default.ensures in
+    let between = heard_on p.script.layout p.script.calls.items c.apply-before.new.self p.clients.items (newest c.log.new.self.lines) a.client c.tell.new.self a.running c.apply-before.result c.args.number heard goes in
+    record {
+      played = between_at _ _ _ _ _ _ _ _ _ _ c.log.ensures.same.script.layout c.log.ensures.same.script.calls c.log.ensures.same.words (ap (λ (l : List Client). set l i c.tell.new.self) c.log.ensures.same.clients ∙ ap (λ (k : ℕ). set p.clients.items k c.tell.new.self) (sym a.is)) refl between;
+      script = c.log.ensures.same.script;
+      turns = turns_logged p.script.layout (newest c.push_row.new.self) (newest c.log.new.self.lines) c.log.ensures.line ∙ ap (λ (l : List Line). clients l) c.push_row.ensures.line;
+    }

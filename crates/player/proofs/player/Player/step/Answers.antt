@@ -1,0 +1,72 @@
+use Rattle.std.proofs.Common.{◌≡◌, ℕ, suc, List, ◌∷◌, set, slice_get, reverse, refl, sym, ◌∙◌, ap, subst}
+use Rattle.arena.specs.declared.number.PassNo.{PassNo}
+use Rattle.script.specs.declared.command.Call.{Call}
+use Rattle.script.proofs.OfCells.{calls_are_of_cells}
+use Rattle.player.specs.declared.record.Line.{Line}
+use Rattle.player.specs.declared.record.Line.TheVariants.{Step, Reply}
+use Rattle.player.specs.declared.record.Row.TheVariants.{Idle}
+use Rattle.player.specs.declared.client.Client.{Client}
+use Rattle.player.specs.Lines.{newest}
+use Rattle.player.specs.Turns.{turns, clients, begin}
+use Rattle.player.specs.View.{view}
+use Rattle.player.specs.Played.{IsEnd}
+use Rattle.player.proofs.Middles.{get_own}
+use Rattle.player.proofs.Steps.{between_at}
+use Rattle.player.proofs.Stands.{client_there, is_client, stood_asked, stood_finished, stood_refused}
+use Rattle.player.proofs.player.Player.step.Goals as goal
+
+pub make-requires-clause-asked : goal.make-requires-clause-asked
+make-requires-clause-asked c =
+    let p = c.args.self.now in
+    let i = c.args.client.0 in
+    let old = c.index_mut.result.now in
+    let new = c.stand-standing.new.self in
+    let number = c.next_turn-number.result in
+    let there = client_there p i old c.requires.client c.index_mut.ensures.value in
+    let lines = ap (λ (l : List Line). reverse l) c.in_ok-reserve.ensures.same in
+    let client = is_client p i number old new c.requires.played there in
+    let stood = c.in-Asks.ensures (view p.script.layout p.script.calls.items (newest p.lines) i) (begin (newest p.lines) i) c.requires.played.so_far.sound (calls_are_of_cells p.script) c.deref.ensures.value client in
+    stood_asked p i number old new c.requires.played there _ c.in-Asks.step refl refl refl refl lines c.next_turn-number.ensures stood
+
+pub returns-in-Finished-clause-turn : goal.returns-in-Finished-clause-turn
+returns-in-Finished-clause-turn c =
+    let p = c.args.self.now in
+    let i = c.args.client.0 in
+    let old = c.index_mut.result.now in
+    let new = c.stand-standing.new.self in
+    let number = c.next_turn-number.result in
+    let there = client_there p i old c.requires.client c.index_mut.ensures.value in
+    let lines = ap (λ (l : List Line). reverse l) c.in_ok-reserve.ensures.same in
+    let client = is_client p i number old new c.requires.played there in
+    let stood = c.in-Finished.ensures (view p.script.layout p.script.calls.items (newest p.lines) i) (begin (newest p.lines) i) c.requires.played.so_far.sound (calls_are_of_cells p.script) c.deref.ensures.value client in
+    let between = stood_finished p i number old new c.requires.played there c.args.client refl (c.next_turn-number.ensures ∙ ap (λ (l : List Line). suc (turns l)) lines) stood in
+    let line = c.idle.ensures.line ∙ ap (λ (l : List Line). Step (Idle number c.args.client) ∷ l) lines in
+    record {
+      played = between_at _ _ _ _ _ _ _ _ _ _ c.idle.ensures.same.script.layout c.idle.ensures.same.script.calls c.idle.ensures.same.words c.idle.ensures.same.clients line between;
+      script = record { layout = c.idle.ensures.same.script.layout; calls = c.idle.ensures.same.script.calls };
+      turns = ap (λ (l : List Line). clients l) line;
+    }
+
+pub returns-in-Answers-clause-turn : goal.returns-in-Answers-clause-turn
+returns-in-Answers-clause-turn c =
+    let p = c.args.self.now in
+    let i = c.args.client.0 in
+    let old = c.index_mut.result.now in
+    let new = c.stand-standing.new.self in
+    let number = c.next_turn-number.result in
+    let there = client_there p i old c.requires.client c.index_mut.ensures.value in
+    let lines = ap (λ (l : List Line). reverse l) c.in_ok-reserve.ensures.same in
+    let client = is_client p i number old new c.requires.played there in
+    let answer = c.in-Answers.answer in
+    let stood = c.in-Answers.ensures (view p.script.layout p.script.calls.items (newest p.lines) i) (begin (newest p.lines) i) c.requires.played.so_far.sound (calls_are_of_cells p.script) c.deref.ensures.value client in
+    let pass : new.pass.0 ≡ i = ap (λ (k : PassNo). k.0) stood.0.pass ∙ (c.requires.played.each i old there).0 in
+    let idle = c.idle-row.ensures in
+    let r = c.reply.ensures.replied new (ap (λ (l : List Client). slice_get l i) idle.same.clients ∙ get_own p.clients.items i old new there) pass in
+    let end : IsEnd p.script.calls.items new r.client number answer r.reply = subst (λ (k : List Call). IsEnd k new r.client number answer r.reply) idle.same.script.calls r.end in
+    let between = stood_refused p i number old new c.requires.played there c.args.client answer r.reply r.client refl (c.next_turn-number.ensures ∙ ap (λ (l : List Line). suc (turns l)) lines) stood end in
+    let line = r.line ∙ ap (λ (l : List Line). Reply r.reply ∷ l) (idle.line ∙ ap (λ (l : List Line). Step (Idle number c.args.client) ∷ l) lines) in
+    record {
+      played = between_at _ _ _ _ _ _ _ _ _ _ (c.reply.ensures.same.script.layout ∙ idle.same.script.layout) (c.reply.ensures.same.script.calls ∙ idle.same.script.calls) (c.reply.ensures.same.words ∙ idle.same.words) (r.clients ∙ ap (λ (l : List Client). set l new.pass.0 r.client) idle.same.clients) line between;
+      script = record { layout = c.reply.ensures.same.script.layout ∙ idle.same.script.layout; calls = c.reply.ensures.same.script.calls ∙ idle.same.script.calls };
+      turns = ap (λ (l : List Line). clients l) line;
+    }

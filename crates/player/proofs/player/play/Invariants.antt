@@ -1,0 +1,13 @@
+use Rattle.std.proofs.Common.{◌≡◌, map, take, reverse}
+use Rattle.player.specs.Lines.{newest}
+use Rattle.player.specs.Turns.{clients}
+use Rattle.player.specs.Played.{IsPlayed}
+use Rattle.player.proofs.player.play.Given as goal
+
+abbrev pub invariant-loop-turn : goal.invariant-loop-turn
+invariant-loop-turn l = record {
+  played : IsPlayed l.player;
+  layout : l.player.script.layout ≡ l.script.layout;
+  calls : l.player.script.calls.items ≡ l.script.calls.items;
+  turns : clients (newest l.player.lines) ≡ reverse (map (λ p. p.0) (take l.turn-index l.turns));
+}

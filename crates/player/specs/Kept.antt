@@ -1,0 +1,50 @@
+-- What a client keeps of the snapshots that it took.
+use Rattle.std.specs.Prelude.{◌≡◌, ℕ, ◌<◌, List, length, get_or, Option, Some, None, IsSome, slice_get}
+use Rattle.arena.specs.declared.layout.Layout.{Layout}
+use Rattle.arena.specs.History.{History}
+use Rattle.prims.specs.Linked.{IsLinked}
+use Rattle.prims.specs.VlxKnown.{snap_at}
+use Rattle.prims.specs.declared.snap.Snap.{Snap}
+use Rattle.prims.specs.declared.llx.Llx.{Llx}
+use Rattle.prims.specs.declared.llx.Llx.TheVariants.{Snapshot, Finalized, Fail}
+use Rattle.player.specs.declared.kept.Found.{Found}
+use Rattle.player.specs.declared.kept.Kept.{Kept}
+
+-- what is kept of a node, if anything
+abbrev pub kept_of : Kept → ℕ → Option Found
+kept_of kept n = get_or kept.found n None
+
+-- the snapshot of a node that was found to be so
+abbrev pub snap_of : ℕ → Found → Snap
+snap_of n found = record { node = record { 0 = n }; scx = found.scx; left = found.left; right = found.right }
+
+-- what a snapshot says of its node
+abbrev pub parts : Snap → Found
+parts snap = record { scx = snap.scx; left = snap.left; right = snap.right }
+
+-- all that is kept may be used
+abbrev pub AreKept : Layout → History → Kept → Type 0
+AreKept lay h kept = (n : ℕ) (found : Found) → kept_of kept n ≡ Some found → IsLinked lay h (snap_of n found)
+
+-- the node of an LLX
+abbrev pub node_of : Llx → ℕ
+node_of (Snapshot snap) = snap.node.0
+node_of (Finalized node scx) = node.0
+node_of (Fail node scx) = node.0
+
+-- what an LLX leaves to keep of its node
+abbrev pub found_of : Llx → Option Found
+found_of (Snapshot snap) = Some (parts snap)
+found_of (Finalized node scx) = None
+found_of (Fail node scx) = None
+
+-- these snapshots are kept
+abbrev pub AllKept : Kept → List Snap → Type 0
+AllKept kept snaps = (i : ℕ) → i < length snaps → kept_of kept (snap_at snaps i).node.0 ≡ Some (parts (snap_at snaps i))
+
+-- the node is the first of the cells of which nothing is kept
+pub record IsFirstUnkept (kept : Kept) (cells : List ℕ) (node : ℕ) : Type 0 where
+  pub place : ℕ
+  pub is : slice_get cells place ≡ Some node
+  pub unkept : kept_of kept node ≡ None
+  pub before : (i : ℕ) → i < place → IsSome (kept_of kept (get_or cells i 0))

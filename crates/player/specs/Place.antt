@@ -1,0 +1,10 @@
+-- Where a client's calls stand in a script.
+use Rattle.std.specs.Prelude.{◌≡◌, ℕ, suc, List, [], ◌∷◌, drop, Option, Some, None, slice_get}
+use Rattle.script.specs.declared.command.Call.{Call}
+use Rattle.script.specs.declared.command.Command.{Command}
+use Rattle.player.specs.LawfulRun.{commands}
+
+-- where the first of the commands that are still to come stands among the calls; nowhere if there is none
+abbrev pub IsAt : List Call → ℕ → List Command → Option ℕ → Type 0
+IsAt calls c left None = left ≡ []
+IsAt calls c left (Some at) = (command : Command) × (slice_get calls at ≡ Some (record { client = record { 0 = c }; command = command })) × (left ≡ command ∷ commands (drop (suc at) calls) c)

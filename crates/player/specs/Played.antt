@@ -1,0 +1,112 @@
+-- What is true of a player between two turns, and in the middle of one.
+use Rattle.std.specs.Prelude.{◌≡◌, ◌≢◌, ℕ, ◌<◌, suc, ◌⊎◌, List, ◌∷◌, set, Option, Some, None, slice_get}
+use Rattle.arena.specs.declared.layout.Layout.{Layout}
+use Rattle.arena.specs.declared.word.Word.{Word}
+use Rattle.arena.specs.Layout.{IsWord}
+use Rattle.arena.specs.PlainWords.{Contents, held}
+use Rattle.arena.specs.History.{value}
+use Rattle.arena.specs.Machines.{IsRun}
+use Rattle.prims.specs.Cells.{allows_all}
+use Rattle.script.specs.declared.command.Call.{Call}
+use Rattle.script.specs.declared.script.Script.{Script}
+use Rattle.arena.specs.declared.step.Step.{Step as Ask}
+use Rattle.arena.specs.declared.step.Row.{Row}
+use Rattle.player.specs.declared.record.Line.{Line}
+use Rattle.player.specs.declared.record.Line.TheVariants.{Step, Reply as ReplyLine}
+use Rattle.player.specs.declared.record.Row.TheVariants.{Step as Made}
+use Rattle.player.specs.declared.record.Reply.{Reply}
+use Rattle.player.specs.declared.record.Answer.{Answer}
+use Rattle.player.specs.declared.client.Running.{Running}
+use Rattle.player.specs.Lines.{newest}
+use Rattle.player.specs.declared.client.Client.{Client}
+use Rattle.player.specs.declared.player.Player.{Player}
+use Rattle.player.specs.Turns.{history, begin, turns, clients}
+use Rattle.player.specs.LawfulRun.{AreLines, IsSettled}
+use Rattle.player.specs.View.{View, view, IsClient, Waits, IsBehind}
+
+-- the words hold what the steps have left in them, and the lines so far are lawful
+pub record IsSoFar (lay : Layout) (calls : List Call) (words : Contents) (lines : List Line) : Type 0 where
+  pub layout : words.layout ≡ lay
+  pub holds : (w : Word) → IsWord lay w → held words w ≡ value (history lay.mode lines) w
+  pub sound : IsRun allows_all lay (history lay.mode lines)
+  pub in_order : AreLines lay calls lines
+
+-- each client but this one stands between two turns
+abbrev pub AreOthers : Layout → List Call → List Client → List Line → ℕ → Type 0
+AreOthers lay calls clients lines i =
+    (j : ℕ) (c : Client) → j ≢ i → slice_get clients j ≡ Some c → (c.pass.0 ≡ j) × IsClient (view lay calls lines j) (begin lines j) c
+
+-- in the middle of a turn of this client
+pub record IsTurnOf (lay : Layout) (calls : List Call) (words : Contents) (clients : List Client) (lines : List Line) (c : Client) : Type 0 where
+  pub so_far : IsSoFar lay calls words lines
+  pub others : AreOthers lay calls clients lines c.pass.0
+  pub own : slice_get clients c.pass.0 ≡ Some c
+
+-- between two turns
+pub record IsBetween (lay : Layout) (calls : List Call) (words : Contents) (clients : List Client) (lines : List Line) : Type 0 where
+  pub so_far : IsSoFar lay calls words lines
+  pub settled : IsSettled lay calls lines
+  pub each : (j : ℕ) (c : Client) → slice_get clients j ≡ Some c → (c.pass.0 ≡ j) × IsClient (view lay calls lines j) (begin lines j) c
+
+-- a player between two turns
+abbrev pub IsPlayed : Player → Type 0
+IsPlayed p = IsBetween p.script.layout p.script.calls.items p.words p.clients.items (newest p.lines)
+
+-- In the middle of a turn
+
+-- this client, whose turn it is, asks for a step
+pub record IsAsked (p : Player) (i number : ℕ) (step : Ask) : Type 0 where
+  pub client : Client
+  pub is : client.pass.0 ≡ i
+  pub settled : IsSettled p.script.layout p.script.calls.items (newest p.lines)
+  pub turn : IsTurnOf p.script.layout p.script.calls.items p.words p.clients.items (newest p.lines) client
+  pub in_turn : number ≡ suc (turns (newest p.lines))
+  pub running : Running
+  pub runs : client.running ≡ Some running
+  pub asks : running.step ≡ step
+  pub waits : Waits (view p.script.layout p.script.calls.items (newest p.lines) client.pass.0) client running
+  pub began : ((begin (newest p.lines) client.pass.0 ≡ None) × (client.begin ≡ number)) ⊎ (begin (newest p.lines) client.pass.0 ≡ Some client.begin)
+
+-- the newest line is this step
+pub record IsMade (p : Player) (number : ℕ) (row : Row) : Type 0 where
+  pub older : List Line
+  pub lines : newest p.lines ≡ Step (Made number row) ∷ older
+  pub so_far : IsSoFar p.script.layout p.script.calls.items p.words (newest p.lines)
+
+-- the reply to a client's call, which ends it
+pub record IsEnd (calls : List Call) (old new : Client) (turn : ℕ) (answer : Answer) (reply : Reply) : Type 0 where
+  pub client : reply.client ≡ old.pass
+  pub call : reply.call ≡ old.number
+  pub begin : reply.begin ≡ old.begin
+  pub end : reply.end ≡ turn
+  pub answers : reply.answer ≡ answer
+  pub behind : IsBehind calls old new
+
+-- one reply more, to the call of this client
+pub record IsReplied (old new : Player) (turn : ℕ) (answer : Answer) (c : Client) : Type 0 where
+  pub client : Client
+  pub reply : Reply
+  pub end : IsEnd old.script.calls.items c client turn answer reply
+  pub clients : new.clients.items ≡ set old.clients.items c.pass.0 client
+  pub line : newest new.lines ≡ ReplyLine reply ∷ newest old.lines
+
+-- it is the same script
+pub record IsSameScript (old new : Script) : Type 0 where
+  pub layout : new.layout ≡ old.layout
+  pub calls : new.calls.items ≡ old.calls.items
+
+-- nothing has changed but the lines; or but the clients and the lines
+pub record HasSameClients (old new : Player) : Type 0 where
+  pub script : IsSameScript old.script new.script
+  pub words : new.words ≡ old.words
+  pub clients : new.clients.items ≡ old.clients.items
+
+pub record HasSameWords (old new : Player) : Type 0 where
+  pub script : IsSameScript old.script new.script
+  pub words : new.words ≡ old.words
+
+-- one turn of this client more
+pub record IsTurnMore (old new : Player) (i : ℕ) : Type 0 where
+  pub played : IsPlayed new
+  pub script : IsSameScript old.script new.script
+  pub turns : clients (newest new.lines) ≡ i ∷ clients (newest old.lines)

@@ -1,0 +1,104 @@
+-- What the lines of a run say. Lines stand here with the newest first.
+use Rattle.std.specs.Prelude.{ℕ, suc, Bool, true, false, cond, ◌&&◌, eqb, not, List, [], ◌∷◌, Option, Some, None, unwrap_or}
+use Rattle.arena.specs.declared.limits.Mode.{Mode}
+use Rattle.arena.specs.declared.layout.Layout.{Layout}
+use Rattle.arena.specs.declared.step.Row.{Row as StepRow}
+use Rattle.arena.specs.declared.step.Kind.{Kind}
+use Rattle.arena.specs.declared.step.Kind.TheVariants.{Update}
+use Rattle.arena.specs.declared.word.Word.{Word}
+use Rattle.arena.specs.declared.word.Word.TheVariants.{Node}
+use Rattle.arena.specs.declared.word.NodeWord.TheVariants.{Child}
+use Rattle.arena.specs.declared.word.ScxWord.TheVariants.{Call as CallWord}
+use Rattle.arena.specs.Words.{info, scx}
+use Rattle.arena.specs.History.{History, Start, ◌⊳◌, value}
+use Rattle.arena.specs.Log.{owner}
+use Rattle.player.specs.declared.record.Line.{Line}
+use Rattle.player.specs.declared.record.Line.TheVariants.{Step, Log, Reply}
+use Rattle.player.specs.declared.record.Row.{Row}
+use Rattle.player.specs.declared.record.Row.TheVariants.{Step as Made, Idle}
+use Rattle.player.specs.declared.record.Entry.{Entry}
+
+-- the client of a turn, and the turn's number
+abbrev pub client_of : Row → ℕ
+client_of (Made number row) = row.pass.0
+client_of (Idle number client) = client.0
+
+abbrev pub number_of : Row → ℕ
+number_of (Made number row) = number
+number_of (Idle number client) = number
+
+-- the history of the steps that the turns made
+abbrev pub history : Mode → List Line → History
+history mode [] = Start mode
+history mode (Step (Made number row) ∷ lines) = row ⊳ history mode lines
+history mode (Step (Idle number client) ∷ lines) = history mode lines
+history mode (Log entry ∷ lines) = history mode lines
+history mode (Reply reply ∷ lines) = history mode lines
+
+-- how many turns there were, and who made each
+abbrev pub turns : List Line → ℕ
+turns [] = 0
+turns (Step row ∷ lines) = suc (turns lines)
+turns (Log entry ∷ lines) = turns lines
+turns (Reply reply ∷ lines) = turns lines
+
+abbrev pub clients : List Line → List ℕ
+clients [] = []
+clients (Step row ∷ lines) = client_of row ∷ clients lines
+clients (Log entry ∷ lines) = clients lines
+clients (Reply reply ∷ lines) = clients lines
+
+-- who made the newest turn
+abbrev pub last_client : List Line → Option ℕ
+last_client [] = None
+last_client (Step row ∷ lines) = Some (client_of row)
+last_client (Log entry ∷ lines) = last_client lines
+last_client (Reply reply ∷ lines) = last_client lines
+
+-- how many calls of a client are answered
+abbrev pub answered : List Line → ℕ → ℕ
+answered [] c = 0
+answered (Step row ∷ lines) c = answered lines c
+answered (Log entry ∷ lines) c = answered lines c
+answered (Reply reply ∷ lines) c = cond (eqb reply.client.0 c) (suc (answered lines c)) (answered lines c)
+
+-- the client's first turn since its last reply
+abbrev pub begin : List Line → ℕ → Option ℕ
+begin [] c = None
+begin (Step row ∷ lines) c = cond (eqb (client_of row) c) (Some (unwrap_or (begin lines c) (number_of row))) (begin lines c)
+begin (Log entry ∷ lines) c = begin lines c
+begin (Reply reply ∷ lines) c = cond (eqb reply.client.0 c) None (begin lines c)
+
+-- how many updates are written down
+abbrev pub entries : List Line → ℕ
+entries [] = 0
+entries (Step row ∷ lines) = entries lines
+entries (Log entry ∷ lines) = suc (entries lines)
+entries (Reply reply ∷ lines) = entries lines
+
+-- The line that a winning update asks for
+
+abbrev pub is_update : Kind → Bool
+is_update Update = true
+is_update _ = false
+
+-- the entry of an update of a node's field: the SCX-record that holds the node, its owner and the owner's call
+abbrev pub entry_at : Layout → History → ℕ → ℕ → Word → Option Entry
+entry_at lay h place number (Node n (Child side)) =
+    Some
+    record {
+      place = place;
+      step = number;
+      scx = record { 0 = value h (info n.0) };
+      client = record { 0 = owner lay (value h (info n.0)) };
+      call = value h (scx (value h (info n.0)) CallWord);
+    }
+entry_at lay h place number _ = None
+
+abbrev pub entry_of : Layout → List Line → ℕ → StepRow → Option Entry
+entry_of lay lines number row = cond (is_update row.kind && not (eqb row.before row.after)) (entry_at lay (history lay.mode lines) (suc (entries lines)) number row.word) None
+
+-- the entry that has to stand behind the newest line
+abbrev pub entry_owed : Layout → List Line → Option Entry
+entry_owed lay (Step (Made number row) ∷ lines) = entry_of lay lines number row
+entry_owed lay _ = None
