@@ -1,5 +1,6 @@
 //! The run of a script by a schedule.
-ghost use Rattle.std.specs.Prelude.{◌≡◌, ◌<◌, All};
+ghost use Rattle.std.specs.Prelude.{◌≡◌, ℕ, ◌<◌, All, IfOk, List};
+ghost use Rattle.player.specs.LawfulRun.{IsLawfulRun};
 ghost use Rattle.player.specs.Player.{passes_of};
 ghost use Rattle.player.specs.Played.{IsPlayed, IsSameScript};
 ghost use Rattle.script.specs.Orders.{IsOrder};
@@ -9,9 +10,11 @@ use player::{Player, Record};
 use script::{Order, Schedule, Script};
 use std::alloc::Global;
 
-/// The record of the turns that the schedule orders. The only error is want of memory.
+/// The record of the turns that the schedule orders: a lawful run of the script. The only error is
+/// want of memory.
 pub fn run(alloc: Global, script: &Script, schedule: &Schedule) -> Result<Record, NoMemory>
     requires { All (IsOrder script.now.layout.passes) schedule.now.orders.items }
+    ensures { IfOk result (λ r. (turns : List ℕ) × IsLawfulRun script.now.layout script.now.calls.items turns r.lines.items) }
 {
     let mut player = Player::new(alloc, script)?;
     for order in schedule.orders.iter() {

@@ -1,14 +1,12 @@
 -- What calls need to begin.
-use Rattle.std.proofs.Common.{◌≡◌, ◌≢◌, ℕ, suc, ◌+◌, ◌<◌, ◌≤◌, inl, inr, List, Option, Some, None, refl, sym, ◌∙◌, ap, subst, arith, length, zero, [], ◌∷◌, ◌⊎◌, ⊎_elim, eqb, eqb-true, eq-eqb, slice_index_or, slice_get, get_or, nat_lt, map, AllPairs, Contains, MatchOption, Bool, true, false, is_some}
+use Rattle.std.proofs.Common.{◌≡◌, ◌≢◌, ℕ, suc, ◌<◌, ◌≤◌, inl, List, Option, Some, None, refl, sym, ◌∙◌, ap, arith, length, zero, [], ◌∷◌, ◌⊎◌, ⊎_elim, eqb, eqb-true, eq-eqb, slice_index_or, slice_get, get_or, nat_lt, map, AllPairs, Contains, MatchOption, Bool, true, false}
 use Rattle.arena.specs.declared.layout.Layout.{Layout}
-use Rattle.arena.specs.declared.limits.Mode.{Mode}
 use Rattle.arena.specs.declared.limits.Mode.TheVariants.{Records}
-use Rattle.arena.specs.Layout.{opening_nodes, all_nodes}
+use Rattle.arena.specs.Layout.{opening_nodes}
 use Rattle.arena.specs.History.{History}
 use Rattle.arena.proofs.Values.{ends_self}
-use Rattle.prims.specs.LlxKnown.{IsOpened, llx_ready, llx_known}
-use Rattle.prims.specs.VlxKnown.{AllLinked, vlx_ready}
-use Rattle.prims.specs.Cells.{allows_all}
+use Rattle.prims.specs.LlxKnown.{IsOpened}
+use Rattle.prims.specs.VlxKnown.{AllLinked}
 use Rattle.prims.specs.Snaps.{AreDistinct, IsAmong}
 use Rattle.prims.specs.declared.snap.Snap.{Snap}
 use Rattle.std.specs.List.{list_any}
@@ -23,17 +21,16 @@ use Rattle.prims.specs.declared.llx.LlxAt.TheVariants.{Start}
 use Rattle.prims.specs.declared.vlx.VlxRun.{VlxRun}
 use Rattle.script.specs.declared.command.Command.{Command}
 use Rattle.script.specs.declared.command.Command.TheVariants.{Vlx as VlxCommand, Scx as ScxCommand}
-use Rattle.player.specs.declared.run.Run.TheVariants.{Llx, Scx, Vlx}
+use Rattle.player.specs.declared.run.Run.TheVariants.{Llx, Vlx}
 use Rattle.player.specs.declared.client.Client.{Client}
 use Rattle.player.specs.declared.client.Put.{Put}
 use Rattle.player.specs.declared.record.Answer.{Answer}
 use Rattle.player.specs.declared.record.Answer.TheVariants.{Snapshot, Finalized, Fail, Done, Lost, Same, Changed, Unlinked, Full}
 use Rattle.player.specs.LawfulRun.{IsRefusal}
-use Rattle.player.specs.View.{View, IsSound, Rests, Starts, IsLlxOf, command_of, machine_call, GoesOn, IsFull, Puts, Begins, Refuses, Stood, IsClient}
+use Rattle.player.specs.View.{View, Rests, Starts, IsLlxOf, command_of, GoesOn, IsFull, Puts, Begins, Stood}
 use Rattle.player.specs.declared.client.Standing.{Standing}
 use Rattle.player.specs.declared.client.Standing.TheVariants.{Finished, Answers, Asks}
 use Rattle.script.specs.declared.command.Call.{Call}
-use Rattle.player.specs.LawfulRun.{commands}
 use Rattle.std.proofs.lemmas.Option.{slice_get_read}
 use Rattle.player.proofs.Commands.{next_at}
 
@@ -126,30 +123,17 @@ pub begins_put : (v : View) (old new : Client) (update : _) (answer : Option Ans
 begins_put v old new update None is p = (p.same, p.begin, (p.running, p.is, p.waits))
 begins_put v old new update (Some answer) is p = (p.0, p.1, record { rests = p.2; command = ScxCommand update; is = rw p.0.pass is; refusal = full_refused update answer p.3 })
 
-pub begins_from : (v : View) (old new : Client) (turn : ℕ) (answer : Option Answer) → Begins v turn (record old { begin = turn }) new answer → Begins v turn old new answer
-begins_from v old new turn None x = (record { pass = x.0.pass; number = x.0.number; next = x.0.next }, x.1, x.2)
-begins_from v old new turn (Some answer) x = (record { pass = x.0.pass; number = x.0.number; next = x.0.next }, x.1, x.2)
-
 some_call : (a b : Call) → Some a ≡ Some b → a ≡ b
 some_call a b e = cc
 
 -- a call at this place of the script is the client's next
-call_there : (v : View) (c : Client) (calls : List Call) (at : ℕ) (call : Call) → Rests v c → calls ≡ v.calls → c.next ≡ Some at → slice_get calls at ≡ Some call → (slice_get (commands v.calls c.pass.0) v.answered ≡ Some call.command)
-call_there v c calls at call r e is get =
+pub next_is : (v : View) (c : Client) (calls : List Call) (at : ℕ) (call : Call) → Rests v c → calls ≡ v.calls → c.next ≡ Some at → slice_get calls at ≡ Some call → command_of v c ≡ Some call.command
+next_is v c calls at call r e is get =
     let x = next_at v.calls c.pass.0 c.number at (rw is at r.stands.place) in
     let y : Some call ≡ Some (record { client = record { 0 = c.pass.0 }; command = x.0 }) = sym get ∙ ap (λ (l : List Call). slice_get l at) e ∙ x.1 in
     rw (sym r.stands.number) (x.2 ∙ ap (λ (k : Command). Some k) (sym (ap (λ (k : Call). k.command) (some_call call _ y))))
 
-pub next_is : (v : View) (c : Client) (calls : List Call) (at : ℕ) (call : Call) → Rests v c → calls ≡ v.calls → c.next ≡ Some at → slice_get calls at ≡ Some call → command_of v c ≡ Some call.command
-next_is v c calls at call r e is get = call_there v c calls at call r e is get
-
--- where a call is to come, the script has one
-no_end : (v : View) (c : Client) (calls : List Call) (at : ℕ) → Rests v c → calls ≡ v.calls → c.next ≡ Some at → slice_get calls at ≡ None → ⊥
-no_end v c calls at r e is get =
-    let x = next_at v.calls c.pass.0 c.number at (rw is at r.stands.place) in
-    let y : Some (record { client = record { 0 = c.pass.0 }; command = x.0 }) ≡ None = sym x.1 ∙ ap (λ (l : List Call). slice_get l at) (sym e) ∙ get in
-    cc
-
+-- a script with a call at some place has calls
 pub some_calls : (calls : List Call) (at : ℕ) (call : Call) → slice_get calls at ≡ Some call → length calls ≢ 0
 some_calls [] at call e = absurd cc
 some_calls (x ∷ calls) at call e = λ d. omega arith
@@ -166,14 +150,3 @@ pub stood_begun : (v : View) (turn : ℕ) (old new : Client) (standing : Standin
 stood_begun v turn old new standing r x m =
     let y : standing ≡ Asks x.2.0.step = rw x.2.1 at m in
     rw y (x.0, x.2.0, x.2.1, refl, x.2.2, inl (r, x.1))
-
--- how a client stands whose call runs
-pub stood_on : (v : View) (began : Option ℕ) (turn : ℕ) (c : Client) (standing : Standing) → is_some c.running ≡ true → IsClient v began c → MatchOption c.running (standing ≡ Finished) (λ r. standing ≡ Asks r.step) → Stood v turn c c standing
-stood_on v began turn c standing some (inl x) m = absurd (let e = x.0.none in let d : is_some c.running ≡ false = rw e refl in cc)
-stood_on v began turn c standing some (inr x) m =
-    let y : standing ≡ Asks x.0.step = rw x.1 at m in
-    rw y (record { pass = refl; number = refl; next = refl }, x.0, x.1, refl, x.2, inr (λ e. let d = x.1 in absurd cc, refl))
-
-pub rests_of : (v : View) (began : Option ℕ) (c : Client) → is_some c.running ≡ false → IsClient v began c → Rests v c
-rests_of v began c none (inl x) = x.0
-rests_of v began c none (inr x) = absurd (let e = x.1 in let d : is_some c.running ≡ true = rw e refl in cc)

@@ -1,5 +1,5 @@
 -- What a client's turns leave.
-use Rattle.std.proofs.Common.{◌≡◌, ◌≢◌, ℕ, suc, ◌+◌, ◌-◌, ◌<◌, ◌≤◌, ◌⊎◌, inl, inr, ⊎_elim, List, [], ◌∷◌, Option, Some, None, refl, sym, ◌∙◌, ap, subst, arith}
+use Rattle.std.proofs.Common.{◌≡◌, ◌≢◌, ℕ, suc, ◌+◌, ◌-◌, ◌<◌, ◌⊎◌, inl, inr, ⊎_elim, List, [], ◌∷◌, Option, Some, None, refl, sym, ◌∙◌, ap, subst, arith}
 use Rattle.arena.specs.declared.step.Step.{Step}
 use Rattle.arena.specs.declared.layout.Layout.{Layout}
 use Rattle.arena.proofs.Values.{ends_self}
@@ -36,9 +36,9 @@ use Rattle.player.specs.declared.run.Ended.TheVariants as ended
 use Rattle.player.specs.declared.record.Answer.{Answer}
 use Rattle.player.specs.declared.record.Answer.TheVariants.{Snapshot, Finalized, Fail, Done, Lost, Same, Changed, Unlinked, Full}
 use Rattle.player.specs.LawfulRun.{IsAnswer}
-use Rattle.player.specs.RunKnown.{run_ready, run_waits, run_answers, run_same, answer_of}
+use Rattle.player.specs.RunKnown.{run_waits, run_answers, run_same, answer_of}
 use Rattle.histories.proofs.Taking.{finished_taken}
-use Rattle.player.specs.View.{View, IsSound, IsLlxOf, IsScxOf, IsVlxOf, IsShare, first_free, HasNewest, IsRunOf, Stands, Rests, Works, Waits, Hears, Starts, Answered, machine_call, command_of, IsSameCall, GoesOn, Told, Ends, CanPut, Puts, IsFull, IsClient}
+use Rattle.player.specs.View.{View, IsSound, IsLlxOf, IsScxOf, IsVlxOf, IsShare, first_free, HasNewest, IsRunOf, Stands, Rests, Works, Hears, Starts, Answered, machine_call, GoesOn, Told, Ends, CanPut, Puts, IsFull}
 
 -- what does not change while a machine goes on
 record IsKept (left : Left) (old now : Run) : Type 0 where
@@ -291,11 +291,14 @@ put_starts v c snaps kept m sound x some_node some_scx k over is fresh scx start
     since = ends_self v.past;
   };
   none = x.rests.none;
-  ready = (at, put_begin v.layout c.pass.0 v.past m.scx sound.lawful over (rw is x.linked) start
-    (rw scx (left_own_scx v.layout v.past c.pass.0 c.share _ _ c.share.next_scx y.share own_scx))
-    (rw scx y.share.taken_scx) (rw scx (y.share.untaken c.share.next_scx own_scx))
-    (rw fresh (left_own_node v.layout v.past c.pass.0 c.share _ _ c.share.next_node y.share own_node))
-    (rw fresh y.share.taken_nodes) (rw fresh (y.share.unmentioned c.share.next_node own_node)));
+  ready = (
+    at,
+    put_begin v.layout c.pass.0 v.past m.scx sound.lawful over (rw is x.linked) start
+        (rw scx (left_own_scx v.layout v.past c.pass.0 c.share _ _ c.share.next_scx y.share own_scx))
+        (rw scx y.share.taken_scx) (rw scx (y.share.untaken c.share.next_scx own_scx))
+        (rw fresh (left_own_node v.layout v.past c.pass.0 c.share _ _ c.share.next_node y.share own_node))
+        (rw fresh y.share.taken_nodes) (rw fresh (y.share.unmentioned c.share.next_node own_node)),
+  );
 }
   where
     y : Stands v c (c.share.next_node, c.share.next_scx)

@@ -1,11 +1,10 @@
 -- What each line leaves of what is true in the middle of a turn.
-use Rattle.std.proofs.Common.{◌≡◌, ◌≢◌, ℕ, zero, suc, ◌+◌, ◌^◌, ◌<◌, ◌≤◌, Bool, true, false, eqb, cond, not, ◌&&◌, ◌⊎◌, inl, inr, List, [], ◌∷◌, set, length, drop, Option, Some, None, slice_get, unwrap_or, refl, sym, ◌∙◌, ap, subst, ne_eqb, eq-eqb, arith}
+use Rattle.std.proofs.Common.{◌≡◌, ◌≢◌, ℕ, zero, suc, ◌+◌, ◌<◌, ◌≤◌, Bool, true, false, inl, inr, List, [], ◌∷◌, set, length, Option, Some, None, slice_get, refl, sym, ◌∙◌, ap, subst, ne_eqb, eq-eqb, arith}
 use Rattle.std.proofs.lemmas.Option.{slice_get_within}
 use native.Mathlib.Decide.{ℕ_discrete}
 use Rattle.arena.specs.declared.layout.Layout.{Layout}
 use Rattle.arena.specs.declared.number.PassNo.{PassNo}
 use Rattle.arena.specs.declared.step.Row.{Row}
-use Rattle.arena.specs.declared.step.Step.{Step as Ask}
 use Rattle.arena.specs.declared.word.Word.{Word}
 use Rattle.arena.specs.Layout.{IsWord, all_nodes, all_scx, first_scx}
 use Rattle.arena.specs.declared.number.NodeNo.{NodeNo}
@@ -20,10 +19,10 @@ use Rattle.arena.specs.Log.{owner}
 use Rattle.histories.proofs.Changes.{lawful_row}
 use Rattle.player.proofs.Winners.{winner_holds, owner_is, info_kept, call_kept}
 use Rattle.player.specs.declared.player.Player.{Player}
-use Rattle.arena.specs.Words.{same_word, deed_after, info, scx as scx_word}
+use Rattle.arena.specs.Words.{same_word, info, scx as scx_word}
 use Rattle.arena.specs.PlainWords.{Contents, held, IsChanged}
 use Rattle.arena.specs.History.{History, ◌⊳◌, value}
-use Rattle.arena.specs.Machines.{IsRun, IsTold}
+use Rattle.arena.specs.Machines.{IsRun}
 use Rattle.arena.proofs.SameWords.{word_same, word_apart}
 use Rattle.arena.proofs.Values.{value_at, value_other}
 use Rattle.script.specs.declared.command.Command.{Command}
@@ -32,19 +31,17 @@ use Rattle.prims.specs.Cells.{allows_all}
 use Rattle.script.specs.declared.command.Call.{Call}
 use Rattle.player.specs.declared.record.Line.{Line}
 use Rattle.player.specs.declared.record.Line.TheVariants.{Step, Log, Reply as ReplyLine}
-use Rattle.player.specs.declared.record.Row.{Row as Turn}
 use Rattle.player.specs.declared.record.Row.TheVariants.{Step as Made, Idle}
 use Rattle.player.specs.declared.record.Reply.{Reply}
 use Rattle.player.specs.declared.record.Entry.{Entry}
 use Rattle.player.specs.declared.record.Answer.{Answer}
 use Rattle.player.specs.declared.client.Client.{Client}
-use Rattle.player.specs.declared.client.Running.{Running}
 use Rattle.player.specs.Lines.{newest}
-use Rattle.player.specs.Turns.{history, turns, entries, answered, begin, last_client, client_of, number_of, entry_owed, entry_at}
-use Rattle.player.specs.LawfulRun.{commands, next_command, IsRefusal, IsAnswer, IsFitting, IsReplyOwed, IsStep, IsIdle, IsReply, IsSettled, IsNext, AreLines}
-use Rattle.player.specs.View.{View, view, IsSound, Rests, Waits, Hears, IsClient, Stands, command_of, IsBehind, IsSameCall, Refuses, Ends, Told, GoesOn}
+use Rattle.player.specs.Turns.{history, turns, entries, answered, begin, last_client, entry_owed, entry_at}
+use Rattle.player.specs.LawfulRun.{next_command, IsFitting, IsSettled, IsNext, AreLines}
+use Rattle.player.specs.View.{view, Rests, IsClient, IsBehind, Refuses}
 use Rattle.player.specs.Played.{IsSoFar, AreOthers, IsTurnOf, IsBetween, IsMade}
-use Rattle.player.proofs.Views.{client_by_others, own_row, step_sound, hears}
+use Rattle.player.proofs.Views.{client_by_others}
 
 -- Others
 
@@ -173,15 +170,18 @@ replied lay calls words clients lines old new reply command few x r is began las
     (rw (eq-eqb reply.client.0 new.pass.0 (ap (λ (p : PassNo). p.0) client ∙ sym (ap (λ (p : PassNo). p.0) pass)))
     (inl (subst (λ (k : ℕ). Rests (record { layout = lay; calls = calls; past = history lay.mode lines; answered = suc (answered lines k) }) new) (ap (λ (p : PassNo). p.0) (sym pass)) (behind lay calls lines old new command few r is b), inr refl)))
     (turn_changed lay calls words clients (ReplyLine reply ∷ lines) old new pass record {
-      so_far = so_far_same lay calls words lines (ReplyLine reply) refl (entry, record {
-        client = last ∙ ap (λ (p : PassNo). Some p.0) (sym client);
-        call = call ∙ r.stands.number ∙ ap (λ (p : PassNo). answered lines p.0) (sym client);
-        begin = ap (λ (p : PassNo). begin lines p.0) client ∙ began ∙ ap (λ (k : ℕ). Some k) (sym begun);
-        end = end;
-        command = command;
-        is = ap (λ (p : PassNo). next_command calls lines p.0) client ∙ is;
-        fits = fits;
-      }) x.so_far;
+      so_far = so_far_same lay calls words lines (ReplyLine reply) refl (
+        entry,
+        record {
+          client = last ∙ ap (λ (p : PassNo). Some p.0) (sym client);
+          call = call ∙ r.stands.number ∙ ap (λ (p : PassNo). answered lines p.0) (sym client);
+          begin = ap (λ (p : PassNo). begin lines p.0) client ∙ began ∙ ap (λ (k : ℕ). Some k) (sym begun);
+          end = end;
+          command = command;
+          is = ap (λ (p : PassNo). next_command calls lines p.0) client ∙ is;
+          fits = fits;
+        },
+      ) x.so_far;
       others = others_reply lay calls clients lines old.pass.0 reply (ap (λ (p : PassNo). p.0) client) x.others;
       own = x.own;
     })

@@ -1,5 +1,5 @@
 -- The turn of a client that makes a step.
-use Rattle.std.proofs.Common.{◌≡◌, ◌≢◌, ℕ, suc, ◌<◌, ◌≤◌, ◌⊎◌, inl, inr, List, [], ◌∷◌, set, length, Option, Some, None, MatchOption, slice_get, unwrap_or, refl, sym, ◌∙◌, ap, subst, eq-eqb, arith}
+use Rattle.std.proofs.Common.{◌≡◌, ℕ, ◌≤◌, ◌⊎◌, inl, inr, List, ◌∷◌, set, length, Option, Some, None, MatchOption, slice_get, unwrap_or, refl, sym, ◌∙◌, ap, subst, eq-eqb, arith}
 use Rattle.arena.specs.declared.layout.Layout.{Layout}
 use Rattle.arena.specs.declared.number.PassNo.{PassNo}
 use Rattle.arena.specs.declared.step.Row.{Row}
@@ -11,7 +11,7 @@ use Rattle.arena.specs.declared.step.Deed.{Deed}
 use Rattle.arena.specs.declared.step.Deed.TheVariants.{Load, Store, Exchange}
 use Rattle.arena.specs.Layout.{IsWord}
 use Rattle.arena.specs.PlainWords.{Contents, held, IsChanged}
-use Rattle.arena.specs.History.{History, ◌⊳◌, value}
+use Rattle.arena.specs.History.{◌⊳◌, value}
 use Rattle.arena.specs.Lawful.{IsLawful}
 use Rattle.arena.specs.Machines.{IsRun, IsTold}
 use Rattle.histories.proofs.Changes.{lawful_row}
@@ -20,7 +20,7 @@ use Rattle.script.specs.declared.command.Call.{Call}
 use Rattle.script.specs.declared.command.Command.{Command}
 use Rattle.player.specs.declared.record.Line.{Line}
 use Rattle.player.specs.declared.record.Line.TheVariants.{Step, Log, Reply as ReplyLine}
-use Rattle.player.specs.declared.record.Row.TheVariants.{Step as Made, Idle}
+use Rattle.player.specs.declared.record.Row.TheVariants.{Step as Made}
 use Rattle.player.specs.declared.record.Reply.{Reply}
 use Rattle.player.specs.declared.record.Entry.{Entry}
 use Rattle.player.specs.declared.record.Answer.{Answer}
@@ -29,8 +29,8 @@ use Rattle.player.specs.declared.client.Running.{Running}
 use Rattle.player.specs.declared.player.Player.{Player}
 use Rattle.player.specs.Lines.{newest}
 use Rattle.player.specs.Turns.{history, turns, answered, clients, begin, last_client, entry_owed}
-use Rattle.player.specs.LawfulRun.{commands, IsAnswer, IsFitting, IsReplyOwed, IsSettled, IsStep, AreLines}
-use Rattle.player.specs.View.{View, view, IsSound, Waits, Rests, Hears, IsClient, IsSameCall, GoesOn, Ends}
+use Rattle.player.specs.LawfulRun.{commands, IsAnswer, IsFitting, IsReplyOwed}
+use Rattle.player.specs.View.{View, view, IsSound, Rests, Hears, IsClient, GoesOn, Ends}
 use Rattle.player.specs.Played.{IsSoFar, IsTurnOf, IsBetween, IsAsked, IsEnd}
 use Rattle.player.proofs.Views.{own_row, step_sound, hears}
 use Rattle.player.proofs.Middles.{others_step, others_log, so_far_same, step_made, turn_changed, turn_ends, replied}

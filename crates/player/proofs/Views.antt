@@ -1,5 +1,5 @@
 -- What each row leaves of what the clients know.
-use Rattle.std.proofs.Common.{◌≡◌, ◌≢◌, ℕ, suc, ◌+◌, ◌<◌, ◌≤◌, Bool, true, false, eqb, ◌⊎◌, inl, inr, List, ◌∷◌, Option, Some, None, refl, sym, ◌∙◌, ap, subst, cond, ne_eqb, arith, MatchOption}
+use Rattle.std.proofs.Common.{◌≢◌, ℕ, ◌<◌, ◌≤◌, inl, inr, Option, refl, arith}
 use Rattle.arena.specs.declared.layout.Layout.{Layout}
 use Rattle.arena.specs.declared.step.Row.{Row}
 use Rattle.arena.specs.declared.step.Step.{Step as Ask}
@@ -7,9 +7,9 @@ use Rattle.arena.specs.Layout.{opening_nodes, first_node, first_scx}
 use Rattle.arena.specs.Share.{Left, whole_share, HasNode, HasScx}
 use Rattle.arena.specs.Words.{deed_after}
 use Rattle.arena.specs.History.{History, Start, ◌⊳◌, value}
-use Rattle.arena.specs.Fills.{IsOwnNode, IsOwnScx, IsTakenNode, IsTakenScx}
+use Rattle.arena.specs.Fills.{IsOwnNode, IsOwnScx, IsTakenScx}
 use Rattle.arena.specs.Lawful.{Lawful}
-use Rattle.arena.specs.Machines.{Call, IsRun, IsTold, row_of}
+use Rattle.arena.specs.Machines.{Call, IsTold, row_of}
 use Rattle.arena.proofs.Taken.{taken_node_more, taken_scx_more}
 use Rattle.histories.proofs.Unmentioned.{IsUnmentioned, unmentioned_start, unmentioned_by_step, unmentioned_by_others}
 use Rattle.prims.specs.Cells.{allows_all}
@@ -22,7 +22,7 @@ use Rattle.player.specs.declared.kept.Kept.{Kept}
 use Rattle.player.specs.Kept.{AreKept, snap_of}
 use Rattle.player.specs.declared.client.Put.{Put}
 use Rattle.player.specs.RunKnown.{run_waits, run_keeps, run_lawful, run_made}
-use Rattle.player.specs.View.{View, IsSound, IsShare, first_free, HasNewest, Stands, Rests, Works, Waits, Hears, IsClient, machine_call}
+use Rattle.player.specs.View.{View, IsSound, IsShare, first_free, HasNewest, Stands, Works, Waits, Hears, IsClient, machine_call}
 use Rattle.histories.proofs.Taking.{untaken_by_others, untaken_by_step}
 use Rattle.prims.proofs.FillsNot.{llx_fills_not, vlx_fills_not}
 use Rattle.prims.proofs.PutRows.{put_unmentioned, put_untaken}

@@ -1,5 +1,5 @@
 -- What a record says: a run that was made turn by turn, in which every step is lawful.
-use Rattle.std.specs.Prelude.{◌≡◌, ℕ, suc, Bool, true, false, cond, eqb, ◌⊎◌, List, [], ◌∷◌, Option, Some, None, slice_get, reverse}
+use Rattle.std.specs.Prelude.{◌≡◌, ℕ, suc, cond, eqb, ◌⊎◌, List, [], ◌∷◌, Option, Some, None, slice_get, reverse}
 use Rattle.arena.specs.declared.layout.Layout.{Layout}
 use Rattle.arena.specs.declared.step.Row.{Row as StepRow}
 use Rattle.arena.specs.declared.word.NodeWord.{NodeWord}
@@ -14,7 +14,6 @@ use Rattle.player.specs.declared.record.Line.{Line}
 use Rattle.player.specs.declared.record.Line.TheVariants.{Step, Log, Reply as ReplyLine}
 use Rattle.player.specs.declared.record.Row.TheVariants.{Step as Made, Idle}
 use Rattle.player.specs.declared.record.Row.{Row}
-use Rattle.player.specs.declared.record.Entry.{Entry}
 use Rattle.player.specs.declared.record.Reply.{Reply}
 use Rattle.player.specs.declared.record.Answer.{Answer}
 use Rattle.player.specs.declared.record.Answer.TheVariants.{Snapshot, Finalized, Fail, Done, Lost, Same, Changed, Unlinked, Full}

@@ -1,5 +1,5 @@
 -- What is true of a player between two turns, and in the middle of one.
-use Rattle.std.specs.Prelude.{◌≡◌, ◌≢◌, ℕ, ◌<◌, suc, ◌⊎◌, List, ◌∷◌, set, Option, Some, None, slice_get}
+use Rattle.std.specs.Prelude.{◌≡◌, ◌≢◌, ℕ, suc, ◌⊎◌, List, ◌∷◌, set, Some, None, slice_get}
 use Rattle.arena.specs.declared.layout.Layout.{Layout}
 use Rattle.arena.specs.declared.word.Word.{Word}
 use Rattle.arena.specs.Layout.{IsWord}
@@ -22,7 +22,7 @@ use Rattle.player.specs.declared.client.Client.{Client}
 use Rattle.player.specs.declared.player.Player.{Player}
 use Rattle.player.specs.Turns.{history, begin, turns, clients}
 use Rattle.player.specs.LawfulRun.{AreLines, IsSettled}
-use Rattle.player.specs.View.{View, view, IsClient, Waits, IsBehind}
+use Rattle.player.specs.View.{view, IsClient, Waits, IsBehind}
 
 -- the words hold what the steps have left in them, and the lines so far are lawful
 pub record IsSoFar (lay : Layout) (calls : List Call) (words : Contents) (lines : List Line) : Type 0 where

@@ -1,5 +1,5 @@
 -- What a client knows at a moment of the run, and what a turn of it leaves.
-use Rattle.std.specs.Prelude.{◌≡◌, ◌≢◌, ℕ, suc, ◌+◌, ◌^◌, ◌<◌, ◌≤◌, ◌⊎◌, List, [], ◌∷◌, drop, Option, Some, None, slice_get}
+use Rattle.std.specs.Prelude.{◌≡◌, ◌≢◌, ℕ, suc, ◌+◌, ◌^◌, ◌<◌, ◌≤◌, ◌⊎◌, List, drop, Option, Some, None, slice_get}
 use Rattle.arena.specs.declared.layout.Layout.{Layout}
 use Rattle.arena.specs.Layout.{first_node, first_scx}
 use Rattle.arena.specs.Share.{Left, HasNode, HasScx}

@@ -258,7 +258,12 @@ impl Client {
     {
         self.kept.keep(llx);
         match (llx, then) {
-            (Llx::Snapshot(snap), Some(put)) => self.put(&[snap], &[], (snap.node, put.side), put.value),
+            (Llx::Snapshot(snap), Some(put)) => self.put(
+                &[snap],
+                &[],
+                (snap.node, put.side),
+                put.value,
+            ),
             _ => Some(Ended::Llx(llx).answer()),
         }
     }

@@ -1,9 +1,9 @@
-use Rattle.std.proofs.Common.{refl, sym}
+use Rattle.std.proofs.Common.{refl}
 use Rattle.script.specs.declared.command.Command.{Command}
 use Rattle.player.specs.declared.run.Ended.TheVariants.{Llx as LlxEnded}
 use Rattle.player.specs.RunKnown.{answer_of}
 use Rattle.player.specs.LawfulRun.{IsAnswer}
-use Rattle.player.specs.View.{Ends, IsLlxOf}
+use Rattle.player.specs.View.{IsLlxOf}
 use Rattle.player.proofs.Clients.{snapshot_linked, ends_llx, llx_fits, no_snapshot_fits, can_put, told_put, answered_put}
 use Rattle.player.proofs.client.Client.after_llx.Goals.{in_default-via-in-Snapshot+in_default, in_default-via-in_default}
 use Rattle.player.proofs.client.Client.after_llx.Goals as goal

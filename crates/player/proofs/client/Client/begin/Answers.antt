@@ -1,6 +1,6 @@
-use Rattle.std.proofs.Common.{refl, sym, ◌∙◌, ap, Some, None, Option}
+use Rattle.std.proofs.Common.{refl, ◌∙◌, ap, Some, None}
 use Rattle.script.specs.declared.command.Command.{Command}
-use Rattle.player.proofs.Begins.{llx_starts, vlx_starts, rests_at, begins_run, begins_from, some_snaps}
+use Rattle.player.proofs.Begins.{llx_starts, vlx_starts, rests_at, begins_run, some_snaps}
 use Rattle.player.proofs.client.Client.begin.Goals as goal
 
 pub returns-in-Llx : goal.returns-in-Llx

@@ -1,4 +1,4 @@
-use Rattle.std.proofs.Common.{refl, sym}
+use Rattle.std.proofs.Common.{sym}
 use Rattle.player.proofs.Begins.{next_is, some_calls, stood_refused, stood_begun, get_there}
 use Rattle.player.proofs.client.Client.begin_next.Goals as goal
 

@@ -1,4 +1,3 @@
-use Rattle.std.proofs.Common.{sym, ◌∙◌}
 use Rattle.prims.specs.Snaps.{AreDistinct, IsAmong}
 use Rattle.player.proofs.Begins.{begins_put, distinct_snaps, among_snaps}
 use Rattle.player.proofs.client.Client.begin_scx.Goals as goal

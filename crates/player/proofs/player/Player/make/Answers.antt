@@ -52,7 +52,7 @@ returns-in-Some c =
     let between = heard_end p.script.layout p.script.calls.items c.apply-before.new.self p.clients.items (newest c.log.new.self.lines) a.client new r.client a.running c.apply-before.result c.args.number answer r.reply (few_calls p) heard ends end in
     record {
       played = between_at _ _ _ _ _ _ _ _ _ _ (c.reply.ensures.same.script.layout ∙ c.log.ensures.same.script.layout) (c.reply.ensures.same.script.calls ∙ c.log.ensures.same.script.calls) (c.reply.ensures.same.words ∙ c.log.ensures.same.words)
-        (r.clients ∙ ap (λ (l : List Client). set (set l i new) new.pass.0 r.client) c.log.ensures.same.clients ∙ ap (λ (k : ℕ). set (set p.clients.items k new) new.pass.0 r.client) (sym a.is) ∙ ap (λ (k : PassNo). set (set p.clients.items a.client.pass.0 new) k.0 r.client) ends.same.pass) r.line between;
+          (r.clients ∙ ap (λ (l : List Client). set (set l i new) new.pass.0 r.client) c.log.ensures.same.clients ∙ ap (λ (k : ℕ). set (set p.clients.items k new) new.pass.0 r.client) (sym a.is) ∙ ap (λ (k : PassNo). set (set p.clients.items a.client.pass.0 new) k.0 r.client) ends.same.pass) r.line between;
       script = record { layout = c.reply.ensures.same.script.layout ∙ c.log.ensures.same.script.layout; calls = c.reply.ensures.same.script.calls ∙ c.log.ensures.same.script.calls };
       turns = ap (λ (l : List Line). clients l) r.line ∙ turns_logged p.script.layout (newest c.push_row.new.self) (newest c.log.new.self.lines) c.log.ensures.line ∙ ap (λ (l : List Line). clients l) c.push_row.ensures.line;
     }

@@ -1,4 +1,3 @@
-use Rattle.std.proofs.Common.{◌≡◌}
 use Rattle.player.specs.Played.{IsPlayed, IsSameScript}
 use Rattle.player.proofs.player.Player.run_until.Given as goal
 

@@ -1,4 +1,4 @@
-use Rattle.std.proofs.Common.{◌≡◌, ℕ, suc, List, ◌∷◌, set, slice_get, reverse, refl, sym, ◌∙◌, ap, subst}
+use Rattle.std.proofs.Common.{◌≡◌, suc, List, ◌∷◌, set, slice_get, reverse, refl, ◌∙◌, ap, subst}
 use Rattle.arena.specs.declared.number.PassNo.{PassNo}
 use Rattle.script.specs.declared.command.Call.{Call}
 use Rattle.script.proofs.OfCells.{calls_are_of_cells}
