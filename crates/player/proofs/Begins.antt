@@ -26,7 +26,7 @@ use Rattle.player.specs.declared.client.Client.{Client}
 use Rattle.player.specs.declared.client.Put.{Put}
 use Rattle.player.specs.declared.record.Answer.{Answer}
 use Rattle.player.specs.declared.record.Answer.TheVariants.{Snapshot, Finalized, Fail, Done, Lost, Same, Changed, Unlinked, Full}
-use Rattle.player.specs.LawfulRun.{IsRefusal}
+use Rattle.player.specs.LawfulRun.{IsAnswerAtOnce}
 use Rattle.player.specs.View.{View, Rests, Starts, IsLlxOf, command_of, GoesOn, IsFull, Puts, Begins, Stood}
 use Rattle.player.specs.declared.client.Standing.{Standing}
 use Rattle.player.specs.declared.client.Standing.TheVariants.{Finished, Answers, Asks}
@@ -108,7 +108,7 @@ pub begins_run : (v : View) (old new : Client) (turn : ℕ) (answer : Option Ans
 begins_run v old new turn answer x = rw x.0 (record { pass = x.1.same.pass; number = x.1.same.number; next = x.1.same.next }, x.1.begin, (x.1.running, x.1.is, x.1.waits))
 
 -- a full share is a refusal of an SCX
-full_refused : (update : _) (answer : Answer) → IsFull answer → IsRefusal (ScxCommand update) answer
+full_refused : (update : _) (answer : Answer) → IsFull answer → IsAnswerAtOnce (ScxCommand update) answer
 full_refused update (Full what left) f = tt
 full_refused update (Snapshot left right) f = absurd f
 full_refused update Finalized f = absurd f

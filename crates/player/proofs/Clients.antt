@@ -35,7 +35,7 @@ use Rattle.player.specs.declared.run.Ended.{Ended}
 use Rattle.player.specs.declared.run.Ended.TheVariants as ended
 use Rattle.player.specs.declared.record.Answer.{Answer}
 use Rattle.player.specs.declared.record.Answer.TheVariants.{Snapshot, Finalized, Fail, Done, Lost, Same, Changed, Unlinked, Full}
-use Rattle.player.specs.LawfulRun.{IsAnswer}
+use Rattle.player.specs.LawfulRun.{IsAnswerAfterStep}
 use Rattle.player.specs.RunKnown.{run_waits, run_answers, run_same, answer_of}
 use Rattle.histories.proofs.Taking.{finished_taken}
 use Rattle.player.specs.View.{View, IsSound, IsLlxOf, IsScxOf, IsVlxOf, IsShare, first_free, HasNewest, IsRunOf, Stands, Rests, Works, Hears, Starts, Answered, machine_call, GoesOn, Told, Ends, CanPut, Puts, IsFull}
@@ -141,7 +141,7 @@ rests_then v c (Scx m) then (ended.Llx a) sound x = absurd x.answers
 rests_then v c (Scx m) then (ended.Vlx a) sound x = absurd x.answers
 
 -- its answer fits the command
-scx_fits : (command : Command) (then : Option Put) (a : ScxAnswer) → IsScxOf command then → IsAnswer command (answer_of (ended.Scx a))
+scx_fits : (command : Command) (then : Option Put) (a : ScxAnswer) → IsScxOf command then → IsAnswerAfterStep command (answer_of (ended.Scx a))
 scx_fits (ScxOf update) None ScxDone x = tt
 scx_fits (ScxOf update) None (ScxLost node scx) x = tt
 scx_fits (SetOf field value) None ScxDone x = tt
@@ -151,7 +151,7 @@ scx_fits (SetOf field value) (Some put) a x = absurd x
 scx_fits (LlxOf cell) then a x = absurd x
 scx_fits (VlxOf cells) then a x = absurd x
 
-vlx_fits : (command : Command) (then : Option Put) (a : VlxAnswer) → IsVlxOf command then → IsAnswer command (answer_of (ended.Vlx a))
+vlx_fits : (command : Command) (then : Option Put) (a : VlxAnswer) → IsVlxOf command then → IsAnswerAfterStep command (answer_of (ended.Vlx a))
 vlx_fits (VlxOf cells) None VlxSame x = tt
 vlx_fits (VlxOf cells) None (VlxChanged node scx) x = tt
 vlx_fits (VlxOf cells) (Some put) a x = absurd x
@@ -160,7 +160,7 @@ vlx_fits (ScxOf update) then a x = absurd x
 vlx_fits (SetOf field value) then a x = absurd x
 
 -- a snapshot ends an LLX alone; what is no snapshot ends an LLX and a set
-pub llx_fits : (command : Command) (n : ℕ) (a : LlxAnswer) → IsLlxOf command n None → IsAnswer command (answer_of (ended.Llx a))
+pub llx_fits : (command : Command) (n : ℕ) (a : LlxAnswer) → IsLlxOf command n None → IsAnswerAfterStep command (answer_of (ended.Llx a))
 llx_fits (LlxOf cell) n (LlxSnapshot snap) x = tt
 llx_fits (LlxOf cell) n (LlxFinalized node scx) x = tt
 llx_fits (LlxOf cell) n (LlxFail node scx) x = tt
@@ -168,7 +168,7 @@ llx_fits (ScxOf update) n a x = absurd x
 llx_fits (VlxOf cells) n a x = absurd x
 llx_fits (SetOf field value) n a x = absurd x
 
-pub no_snapshot_fits : (command : Command) (n : ℕ) (then : Option Put) (a : LlxAnswer) → IsLlxOf command n then → ((snap : Snap) → a ≢ LlxSnapshot snap) → IsAnswer command (answer_of (ended.Llx a))
+pub no_snapshot_fits : (command : Command) (n : ℕ) (then : Option Put) (a : LlxAnswer) → IsLlxOf command n then → ((snap : Snap) → a ≢ LlxSnapshot snap) → IsAnswerAfterStep command (answer_of (ended.Llx a))
 no_snapshot_fits (LlxOf cell) n None a x d = llx_fits (LlxOf cell) n a x
 no_snapshot_fits (SetOf field value) n (Some put) (LlxSnapshot snap) x d = absurd (d snap refl)
 no_snapshot_fits (SetOf field value) n (Some put) (LlxFinalized node scx) x d = tt
@@ -203,7 +203,7 @@ pub rests_kept : (v : View) (c : Client) (kept : Kept) (m : LlxRun) (then : Opti
 rests_kept v c kept m then a x k = record { stands = record { is_pass = x.works.stands.is_pass; number = x.works.stands.number; place = x.works.stands.place; kept = k; share = x.works.stands.share }; none = x.none }
 
 -- its call ends, where no SCX follows
-pub ends_llx : (v : View) (old new : Client) (m : LlxRun) (then : Option Put) (a : LlxAnswer) → Answered v old (Llx m) then (ended.Llx a) → new ≡ record old { kept = new.kept } → AreKept v.layout v.past new.kept → ((command : Command) → IsLlxOf command m.node.0 then → IsAnswer command (answer_of (ended.Llx a))) → Ends v old new (answer_of (ended.Llx a))
+pub ends_llx : (v : View) (old new : Client) (m : LlxRun) (then : Option Put) (a : LlxAnswer) → Answered v old (Llx m) then (ended.Llx a) → new ≡ record old { kept = new.kept } → AreKept v.layout v.past new.kept → ((command : Command) → IsLlxOf command m.node.0 then → IsAnswerAfterStep command (answer_of (ended.Llx a))) → Ends v old new (answer_of (ended.Llx a))
 ends_llx v old new m then a x e k f = subst (λ n. Ends v old n (answer_of (ended.Llx a))) (sym e)
     record {
       same = record { pass = refl; number = refl; next = refl };
@@ -215,10 +215,10 @@ ends_llx v old new m then a x e k f = subst (λ n. Ends v old n (answer_of (ende
     }
 
 -- a snapshot that an SCX follows is that of a set
-set_follows : (command : Command) (n : ℕ) (put : Put) → IsLlxOf command n (Some put) → IsScxOf command None × ((answer : Answer) → IsFull answer → IsAnswer command answer)
+set_follows : (command : Command) (n : ℕ) (put : Put) → IsLlxOf command n (Some put) → IsScxOf command None × ((answer : Answer) → IsFull answer → IsAnswerAfterStep command answer)
 set_follows (SetOf field value) n put x = (tt, full)
   where
-    full : (answer : Answer) → IsFull answer → IsAnswer (SetOf field value) answer
+    full : (answer : Answer) → IsFull answer → IsAnswerAfterStep (SetOf field value) answer
     full (Full what left) f = tt
     full (Snapshot left right) f = absurd f
     full Finalized f = absurd f

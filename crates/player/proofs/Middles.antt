@@ -38,7 +38,7 @@ use Rattle.player.specs.declared.record.Answer.{Answer}
 use Rattle.player.specs.declared.client.Client.{Client}
 use Rattle.player.specs.Lines.{newest}
 use Rattle.player.specs.Turns.{history, turns, entries, answered, begin, last_client, entry_owed, entry_at}
-use Rattle.player.specs.LawfulRun.{next_command, IsFitting, IsSettled, IsNext, AreLines}
+use Rattle.player.specs.LawfulRun.{next_command, IsFitting, OwesNothing, IsNext, AreLines}
 use Rattle.player.specs.View.{view, Rests, IsClient, IsBehind, Refuses}
 use Rattle.player.specs.Played.{IsSoFar, AreOthers, IsTurnOf, IsBetween, IsMade}
 use Rattle.player.proofs.Views.{client_by_others}
@@ -90,7 +90,7 @@ turn_begins lay calls words clients lines i c get x =
 some_client : (a b : Client) → Some a ≡ Some b → a ≡ b
 some_client a b e = cc
 
-pub turn_ends : (lay : Layout) (calls : List Call) (words : Contents) (clients : List Client) (lines : List Line) (c : Client) → IsSettled lay calls lines → IsClient (view lay calls lines c.pass.0) (begin lines c.pass.0) c → IsTurnOf lay calls words clients lines c → IsBetween lay calls words clients lines
+pub turn_ends : (lay : Layout) (calls : List Call) (words : Contents) (clients : List Client) (lines : List Line) (c : Client) → OwesNothing lay calls lines → IsClient (view lay calls lines c.pass.0) (begin lines c.pass.0) c → IsTurnOf lay calls words clients lines c → IsBetween lay calls words clients lines
 turn_ends lay calls words clients lines c settled is x = record { so_far = x.so_far; settled = settled; each = λ j d get. go j d get (ℕ_discrete j c.pass.0) }
   where
     go : (j : ℕ) (d : Client) → slice_get clients j ≡ Some d → Dec (j ≡ c.pass.0) → (d.pass.0 ≡ j) × IsClient (view lay calls lines j) (begin lines j) d
@@ -121,13 +121,13 @@ step_made lay calls old new lines number row changed run next x = record {
     go w i false e = changed.others w (rw x.layout i) (word_apart row.word w e) ∙ x.holds w i ∙ sym (value_other row (history lay.mode lines) w e)
 
 -- The turn of a client with no call left
-pub finished_turn : (lay : Layout) (calls : List Call) (words : Contents) (clients : List Client) (lines : List Line) (c : Client) (number : ℕ) (pass : PassNo) → IsSettled lay calls lines → IsTurnOf lay calls words clients lines c → Rests (view lay calls lines c.pass.0) c → c.next ≡ None → number ≡ suc (turns lines) → pass ≡ c.pass → IsBetween lay calls words clients (Step (Idle number pass) ∷ lines)
+pub finished_turn : (lay : Layout) (calls : List Call) (words : Contents) (clients : List Client) (lines : List Line) (c : Client) (number : ℕ) (pass : PassNo) → OwesNothing lay calls lines → IsTurnOf lay calls words clients lines c → Rests (view lay calls lines c.pass.0) c → c.next ≡ None → number ≡ suc (turns lines) → pass ≡ c.pass → IsBetween lay calls words clients (Step (Idle number pass) ∷ lines)
 finished_turn lay calls words clients lines c number pass settled x r none n is =
     turn_ends lay calls words clients (Step (Idle number pass) ∷ lines) c
     record { entry = refl; reply = λ y. let a = y.1 in let b = over in cc }
     (inl (record { stands = r.stands; none = r.none }, inl none))
     record {
-      so_far = so_far_same lay calls words lines (Step (Idle number pass)) refl (settled, record { in_turn = n; idle = inl over }) x.so_far;
+      so_far = so_far_same lay calls words lines (Step (Idle number pass)) refl (settled, record { is_pass = rw (ap (λ (p : PassNo). p.0) is) r.stands.is_pass; in_turn = n; idle = inl over }) x.so_far;
       others = others_idle lay calls clients lines c.pass.0 number pass (ap (λ (p : PassNo). p.0) is) x.others;
       own = x.own;
     }
@@ -190,11 +190,11 @@ replied lay calls words clients lines old new reply command few x r is began las
     pass = ap (λ (k : Client). k.pass) b.same
 
 -- The turn of a client whose call is refused
-pub refused_turn : (lay : Layout) (calls : List Call) (words : Contents) (clients : List Client) (lines : List Line) (c new : Client) (number : ℕ) (pass : PassNo) (answer : Answer) (reply : Reply) → length calls ≤ 65536 → IsSettled lay calls lines → IsTurnOf lay calls words clients lines c → Refuses (view lay calls lines c.pass.0) c answer → begin lines c.pass.0 ≡ None → c.begin ≡ number → number ≡ suc (turns lines) → pass ≡ c.pass → reply.answer ≡ answer → reply.client ≡ c.pass → reply.call ≡ c.number → reply.begin ≡ c.begin → reply.end ≡ number → IsBehind calls c new → IsBetween lay calls words (set clients c.pass.0 new) (ReplyLine reply ∷ Step (Idle number pass) ∷ lines)
+pub refused_turn : (lay : Layout) (calls : List Call) (words : Contents) (clients : List Client) (lines : List Line) (c new : Client) (number : ℕ) (pass : PassNo) (answer : Answer) (reply : Reply) → length calls ≤ 65536 → OwesNothing lay calls lines → IsTurnOf lay calls words clients lines c → Refuses (view lay calls lines c.pass.0) c answer → begin lines c.pass.0 ≡ None → c.begin ≡ number → number ≡ suc (turns lines) → pass ≡ c.pass → reply.answer ≡ answer → reply.client ≡ c.pass → reply.call ≡ c.number → reply.begin ≡ c.begin → reply.end ≡ number → IsBehind calls c new → IsBetween lay calls words (set clients c.pass.0 new) (ReplyLine reply ∷ Step (Idle number pass) ∷ lines)
 refused_turn lay calls words clients lines c new number pass answer reply few settled x r unbegun begins n is fits client call begun end b =
     replied lay calls words clients (Step (Idle number pass) ∷ lines) c new reply r.command few
     record {
-      so_far = so_far_same lay calls words lines (Step (Idle number pass)) refl (settled, record { in_turn = n; idle = inr (rw is0 unbegun) }) x.so_far;
+      so_far = so_far_same lay calls words lines (Step (Idle number pass)) refl (settled, record { is_pass = rw is0 r.rests.stands.is_pass; in_turn = n; idle = inr (rw is0 unbegun) }) x.so_far;
       others = others_idle lay calls clients lines c.pass.0 number pass is0 x.others;
       own = x.own;
     }

@@ -1,5 +1,5 @@
 -- The turn of a client that makes a step.
-use Rattle.std.proofs.Common.{◌≡◌, ℕ, ◌≤◌, ◌⊎◌, inl, inr, List, ◌∷◌, set, length, Option, Some, None, MatchOption, slice_get, unwrap_or, refl, sym, ◌∙◌, ap, subst, eq-eqb, arith}
+use Rattle.std.proofs.Common.{◌≡◌, ℕ, ◌≤◌, ◌⊎◌, inl, inr, List, ◌∷◌, set, length, Option, Some, None, MatchOption, slice_get, unwrap_or, refl, sym, ◌∙◌, ap, subst, eq-eqb, arith, [], ◌++◌}
 use Rattle.arena.specs.declared.layout.Layout.{Layout}
 use Rattle.arena.specs.declared.number.PassNo.{PassNo}
 use Rattle.arena.specs.declared.step.Row.{Row}
@@ -29,7 +29,7 @@ use Rattle.player.specs.declared.client.Running.{Running}
 use Rattle.player.specs.declared.player.Player.{Player}
 use Rattle.player.specs.Lines.{newest}
 use Rattle.player.specs.Turns.{history, turns, answered, clients, begin, last_client, entry_owed}
-use Rattle.player.specs.LawfulRun.{commands, IsAnswer, IsFitting, IsReplyOwed}
+use Rattle.player.specs.LawfulRun.{commands, IsAnswerAfterStep, IsFitting, IsReplyOwed}
 use Rattle.player.specs.View.{View, view, IsSound, Rests, Hears, IsClient, GoesOn, Ends}
 use Rattle.player.specs.Played.{IsSoFar, IsTurnOf, IsBetween, IsAsked, IsEnd}
 use Rattle.player.proofs.Views.{own_row, step_sound, hears}
@@ -44,7 +44,7 @@ pub record IsHeard (lay : Layout) (calls : List Call) (words : Contents) (all : 
   pub last : last_client lines ≡ Some c.pass.0
   pub entry : entry_owed lay lines ≡ None
   pub none_owed : ¬ IsReplyOwed calls lines
-  pub fits : (command : Command) (answer : Answer) → IsAnswer command answer → IsFitting lines command answer
+  pub fits : (command : Command) (answer : Answer) → IsAnswerAfterStep command answer → IsFitting lines command answer
   pub in_turn : number ≡ turns lines
 
 -- a machine may be told what its step found
@@ -200,3 +200,11 @@ told_ends v now c new q found answer e sound runs h f = subst (λ (k : Client). 
 -- a script has few calls
 pub few_calls : (p : Player) → length p.script.calls.items ≤ 65536
 few_calls p = omega (arith, p.script.few, p.script.calls.ok.0)
+
+-- what is written down behind the row
+pub logged : (lay : Layout) (pushed after : List Line) → MatchOption (entry_owed lay pushed) (after ≡ pushed) (λ e. after ≡ Log e ∷ pushed) → (behind : List Line) × (after ≡ behind ++ pushed)
+logged lay pushed after m = go (entry_owed lay pushed) m
+  where
+    go : (owed : Option Entry) → MatchOption owed (after ≡ pushed) (λ e. after ≡ Log e ∷ pushed) → (behind : List Line) × (after ≡ behind ++ pushed)
+    go None e = ([], e)
+    go (Some entry) e = (Log entry ∷ [], e)

@@ -1,5 +1,5 @@
 -- What a record says: a run that was made turn by turn, in which every step is lawful.
-use Rattle.std.specs.Prelude.{◌≡◌, ℕ, suc, cond, eqb, ◌⊎◌, List, [], ◌∷◌, Option, Some, None, slice_get, reverse}
+use Rattle.std.specs.Prelude.{◌≡◌, ℕ, ◌<◌, suc, cond, eqb, ◌⊎◌, List, [], ◌∷◌, Option, Some, None, slice_get, reverse}
 use Rattle.arena.specs.declared.layout.Layout.{Layout}
 use Rattle.arena.specs.declared.step.Row.{Row as StepRow}
 use Rattle.arena.specs.declared.word.NodeWord.{NodeWord}
@@ -28,28 +28,28 @@ commands (call ∷ calls) c = cond (eqb call.client.0 c) (call.command ∷ comma
 abbrev pub next_command : List Call → List Line → ℕ → Option Command
 next_command calls lines c = slice_get (commands calls c) (answered lines c)
 
--- the answers that a call may give before its first step
-abbrev pub IsRefusal : Command → Answer → Type 0
-IsRefusal (Scx update) (Unlinked node) = Unit {0}
-IsRefusal (Scx update) (Full what left) = Unit {0}
-IsRefusal (Vlx cells) (Unlinked node) = Unit {0}
-IsRefusal _ _ = ⊥
+-- the answers that a call may give in place of a first step
+abbrev pub IsAnswerAtOnce : Command → Answer → Type 0
+IsAnswerAtOnce (Scx update) (Unlinked node) = Unit {0}
+IsAnswerAtOnce (Scx update) (Full what left) = Unit {0}
+IsAnswerAtOnce (Vlx cells) (Unlinked node) = Unit {0}
+IsAnswerAtOnce _ _ = ⊥
 
 -- the answers that a call may give after a step
-abbrev pub IsAnswer : Command → Answer → Type 0
-IsAnswer (Llx cell) (Snapshot left right) = Unit {0}
-IsAnswer (Llx cell) Finalized = Unit {0}
-IsAnswer (Llx cell) (Fail node scx) = Unit {0}
-IsAnswer (Scx update) Done = Unit {0}
-IsAnswer (Scx update) (Lost node scx) = Unit {0}
-IsAnswer (Vlx cells) Same = Unit {0}
-IsAnswer (Vlx cells) (Changed node scx) = Unit {0}
-IsAnswer (Set field value) Finalized = Unit {0}
-IsAnswer (Set field value) (Fail node scx) = Unit {0}
-IsAnswer (Set field value) (Full what left) = Unit {0}
-IsAnswer (Set field value) Done = Unit {0}
-IsAnswer (Set field value) (Lost node scx) = Unit {0}
-IsAnswer _ _ = ⊥
+abbrev pub IsAnswerAfterStep : Command → Answer → Type 0
+IsAnswerAfterStep (Llx cell) (Snapshot left right) = Unit {0}
+IsAnswerAfterStep (Llx cell) Finalized = Unit {0}
+IsAnswerAfterStep (Llx cell) (Fail node scx) = Unit {0}
+IsAnswerAfterStep (Scx update) Done = Unit {0}
+IsAnswerAfterStep (Scx update) (Lost node scx) = Unit {0}
+IsAnswerAfterStep (Vlx cells) Same = Unit {0}
+IsAnswerAfterStep (Vlx cells) (Changed node scx) = Unit {0}
+IsAnswerAfterStep (Set field value) Finalized = Unit {0}
+IsAnswerAfterStep (Set field value) (Fail node scx) = Unit {0}
+IsAnswerAfterStep (Set field value) (Full what left) = Unit {0}
+IsAnswerAfterStep (Set field value) Done = Unit {0}
+IsAnswerAfterStep (Set field value) (Lost node scx) = Unit {0}
+IsAnswerAfterStep _ _ = ⊥
 
 -- the newest line is the idle turn of a client that has a call left: the whole of that call, whose reply comes next
 abbrev pub IsReplyOwed : List Call → List Line → Type 0
@@ -65,18 +65,19 @@ pub record IsStep (lay : Layout) (calls : List Call) (lines : List Line) (number
   pub is : next_command calls lines row.pass.0 ≡ Some command
 
 -- a turn without a step: of a client with no call left, or the whole of a call that has not begun
-pub record IsIdle (calls : List Call) (lines : List Line) (number c : ℕ) : Type 0 where
+pub record IsIdle (lay : Layout) (calls : List Call) (lines : List Line) (number c : ℕ) : Type 0 where
+  pub is_pass : c < lay.passes
   pub in_turn : number ≡ suc (turns lines)
   pub idle : (next_command calls lines c ≡ None) ⊎ (begin lines c ≡ None)
 
 abbrev pub IsTurn : Layout → List Call → List Line → Row → Type 0
 IsTurn lay calls lines (Made number row) = IsStep lay calls lines number row
-IsTurn lay calls lines (Idle number client) = IsIdle calls lines number client.0
+IsTurn lay calls lines (Idle number client) = IsIdle lay calls lines number client.0
 
 -- the answer fits the command: after a step, or in place of one
 abbrev pub IsFitting : List Line → Command → Answer → Type 0
-IsFitting (Step (Idle number client) ∷ lines) command answer = IsRefusal command answer
-IsFitting lines command answer = IsAnswer command answer
+IsFitting (Step (Idle number client) ∷ lines) command answer = IsAnswerAtOnce command answer
+IsFitting lines command answer = IsAnswerAfterStep command answer
 
 -- the reply to the next call of the client that made the newest turn, which is the call's last
 pub record IsReply (calls : List Call) (lines : List Line) (reply : Reply) : Type 0 where
@@ -89,13 +90,13 @@ pub record IsReply (calls : List Call) (lines : List Line) (reply : Reply) : Typ
   pub fits : IsFitting lines command reply.answer
 
 -- nothing has to stand behind the newest line
-pub record IsSettled (lay : Layout) (calls : List Call) (lines : List Line) : Type 0 where
+pub record OwesNothing (lay : Layout) (calls : List Call) (lines : List Line) : Type 0 where
   pub entry : entry_owed lay lines ≡ None
   pub reply : ¬ IsReplyOwed calls lines
 
 -- a line that fits those before it: a turn or a reply where no other line is owed, or the entry that is
 abbrev pub IsNext : Layout → List Call → List Line → Line → Type 0
-IsNext lay calls lines (Step row) = IsSettled lay calls lines × IsTurn lay calls lines row
+IsNext lay calls lines (Step row) = OwesNothing lay calls lines × IsTurn lay calls lines row
 IsNext lay calls lines (Log entry) = entry_owed lay lines ≡ Some entry
 IsNext lay calls lines (ReplyLine reply) = (entry_owed lay lines ≡ None) × IsReply calls lines reply
 
@@ -104,14 +105,15 @@ unfoldable pub AreLines : Layout → List Call → List Line → Type 0
 AreLines lay calls [] = Unit {0}
 AreLines lay calls (line ∷ lines) = AreLines lay calls lines × IsNext lay calls lines line
 
--- no later step changes a word of a finalized node
+-- each word of a node holds what it held at any moment at which the node was finalized
 abbrev pub StaysFinalized : History → Type 0
 StaysFinalized h = (past : History) (n : ℕ) (part : NodeWord) → EndsWith h past → IsFinalized past n → value h (node n part) ≡ value past (node n part)
 
 -- The main statement: the lines, of which the first comes first, are a lawful run of the calls, in which turn i was made by the i-th of these clients.
+-- That the steps are a lawful history is said of each step in `in_order`, and once more of all in `lawful`.
 pub record IsLawfulRun (lay : Layout) (calls : List Call) (passes : List ℕ) (lines : List Line) : Type 0 where
   pub turns : clients (reverse lines) ≡ reverse passes
   pub in_order : AreLines lay calls (reverse lines)
-  pub settled : IsSettled lay calls (reverse lines)
+  pub settled : OwesNothing lay calls (reverse lines)
   pub lawful : Lawful lay (history lay.mode (reverse lines))
   pub finalized : StaysFinalized (history lay.mode (reverse lines))

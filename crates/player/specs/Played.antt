@@ -1,5 +1,5 @@
 -- What is true of a player between two turns, and in the middle of one.
-use Rattle.std.specs.Prelude.{◌≡◌, ◌≢◌, ℕ, suc, ◌⊎◌, List, ◌∷◌, set, Some, None, slice_get}
+use Rattle.std.specs.Prelude.{◌≡◌, ◌≢◌, ℕ, suc, ◌⊎◌, List, ◌∷◌, set, Some, None, slice_get, ◌++◌}
 use Rattle.arena.specs.declared.layout.Layout.{Layout}
 use Rattle.arena.specs.declared.word.Word.{Word}
 use Rattle.arena.specs.Layout.{IsWord}
@@ -13,6 +13,7 @@ use Rattle.arena.specs.declared.step.Step.{Step as Ask}
 use Rattle.arena.specs.declared.step.Row.{Row}
 use Rattle.player.specs.declared.record.Line.{Line}
 use Rattle.player.specs.declared.record.Line.TheVariants.{Step, Reply as ReplyLine}
+use Rattle.player.specs.declared.record.Row.{Row as Turn}
 use Rattle.player.specs.declared.record.Row.TheVariants.{Step as Made}
 use Rattle.player.specs.declared.record.Reply.{Reply}
 use Rattle.player.specs.declared.record.Answer.{Answer}
@@ -21,7 +22,7 @@ use Rattle.player.specs.Lines.{newest}
 use Rattle.player.specs.declared.client.Client.{Client}
 use Rattle.player.specs.declared.player.Player.{Player}
 use Rattle.player.specs.Turns.{history, begin, turns, clients}
-use Rattle.player.specs.LawfulRun.{AreLines, IsSettled}
+use Rattle.player.specs.LawfulRun.{AreLines, OwesNothing}
 use Rattle.player.specs.View.{view, IsClient, Waits, IsBehind}
 
 -- the words hold what the steps have left in them, and the lines so far are lawful
@@ -45,7 +46,7 @@ pub record IsTurnOf (lay : Layout) (calls : List Call) (words : Contents) (clien
 -- between two turns
 pub record IsBetween (lay : Layout) (calls : List Call) (words : Contents) (clients : List Client) (lines : List Line) : Type 0 where
   pub so_far : IsSoFar lay calls words lines
-  pub settled : IsSettled lay calls lines
+  pub settled : OwesNothing lay calls lines
   pub each : (j : ℕ) (c : Client) → slice_get clients j ≡ Some c → (c.pass.0 ≡ j) × IsClient (view lay calls lines j) (begin lines j) c
 
 -- a player between two turns
@@ -58,7 +59,7 @@ IsPlayed p = IsBetween p.script.layout p.script.calls.items p.words p.clients.it
 pub record IsAsked (p : Player) (i number : ℕ) (step : Ask) : Type 0 where
   pub client : Client
   pub is : client.pass.0 ≡ i
-  pub settled : IsSettled p.script.layout p.script.calls.items (newest p.lines)
+  pub settled : OwesNothing p.script.layout p.script.calls.items (newest p.lines)
   pub turn : IsTurnOf p.script.layout p.script.calls.items p.words p.clients.items (newest p.lines) client
   pub in_turn : number ≡ suc (turns (newest p.lines))
   pub running : Running
@@ -95,7 +96,7 @@ pub record IsSameScript (old new : Script) : Type 0 where
   pub layout : new.layout ≡ old.layout
   pub calls : new.calls.items ≡ old.calls.items
 
--- nothing has changed but the lines; or but the clients and the lines
+-- script, words and clients are as they were; or the script and the words
 pub record HasSameClients (old new : Player) : Type 0 where
   pub script : IsSameScript old.script new.script
   pub words : new.words ≡ old.words
@@ -105,8 +106,10 @@ pub record HasSameWords (old new : Player) : Type 0 where
   pub script : IsSameScript old.script new.script
   pub words : new.words ≡ old.words
 
--- one turn of this client more
-pub record IsTurnMore (old new : Player) (i : ℕ) : Type 0 where
+-- one turn of this client more, which is this row, and what is written down behind it
+pub record IsTurnMore (old new : Player) (i : ℕ) (row : Turn) : Type 0 where
   pub played : IsPlayed new
   pub script : IsSameScript old.script new.script
+  pub behind : List Line
+  pub lines : newest new.lines ≡ behind ++ Step row ∷ newest old.lines
   pub turns : clients (newest new.lines) ≡ i ∷ clients (newest old.lines)

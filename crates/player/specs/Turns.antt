@@ -62,7 +62,7 @@ answered (Step row ∷ lines) c = answered lines c
 answered (Log entry ∷ lines) c = answered lines c
 answered (Reply reply ∷ lines) c = cond (eqb reply.client.0 c) (suc (answered lines c)) (answered lines c)
 
--- the client's first turn since its last reply
+-- the number of the client's first turn since its last reply
 abbrev pub begin : List Line → ℕ → Option ℕ
 begin [] c = None
 begin (Step row ∷ lines) c = cond (eqb (client_of row) c) (Some (unwrap_or (begin lines c) (number_of row))) (begin lines c)
@@ -82,7 +82,7 @@ abbrev pub is_update : Kind → Bool
 is_update Update = true
 is_update _ = false
 
--- the entry of an update of a node's field: the SCX-record that holds the node, its owner and the owner's call
+-- the entry of an update of a node's field: the SCX-record that the node's info names, its owner and the call that its word says
 abbrev pub entry_at : Layout → History → ℕ → ℕ → Word → Option Entry
 entry_at lay h place number (Node n (Child side)) =
     Some

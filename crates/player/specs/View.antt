@@ -28,7 +28,7 @@ use Rattle.player.specs.RunKnown.{run_ready, run_waits, run_answers}
 use Rattle.player.specs.Kept.{AreKept}
 use Rattle.player.specs.Place.{IsAt}
 use Rattle.player.specs.Turns.{history, answered}
-use Rattle.player.specs.LawfulRun.{commands, IsRefusal, IsAnswer}
+use Rattle.player.specs.LawfulRun.{commands, IsAnswerAtOnce, IsAnswerAfterStep}
 
 -- what the lines so far say to a client: the steps, and how many of its calls are answered
 pub record View : Type 0 where
@@ -164,7 +164,7 @@ pub record Refuses (v : View) (c : Client) (answer : Answer) : Type 0 where
   pub rests : Rests v c
   pub command : Command
   pub is : command_of v c ≡ Some command
-  pub refusal : IsRefusal command answer
+  pub refusal : IsAnswerAtOnce command answer
 
 -- its call is answered
 pub record Ends (v : View) (old new : Client) (answer : Answer) : Type 0 where
@@ -173,7 +173,7 @@ pub record Ends (v : View) (old new : Client) (answer : Answer) : Type 0 where
   pub rests : Rests v new
   pub command : Command
   pub is : command_of v new ≡ Some command
-  pub answers : IsAnswer command answer
+  pub answers : IsAnswerAfterStep command answer
 
 -- what its machine does with what a step found: it asks for another step, or the call is answered
 abbrev pub Told : View → Client → Client → Option Answer → Type 0

@@ -64,8 +64,8 @@ impl Player {
     pub fn step(&mut self, client: PassNo) -> Result<Row, NoMemory>
         requires client { client.0 < passes_of self.old }
         requires played { IsPlayed self.old }
-        ensures turn { IfOk result (λ row. IsTurnMore self.old self.new client.0) }
-        ensures refused { IfErr result (λ e. HasSameClients self.old self.new × (newest self.new.lines ≡ newest self.old.lines)) }
+        ensures turn { IfOk result (λ row. IsTurnMore self.old self.new client.0 row) }
+        ensures refused { IfErr result (λ e. HasSameClients self.old self.new × (newest self.new.lines ≡ newest self.old.lines) × (self.new.wins ≡ self.old.wins)) }
     {
         self.lines.reserve()?;
         let number = self.lines.next_turn();
@@ -85,7 +85,8 @@ impl Player {
         requires { 3 ≤ room self.old.lines }
         ensures room { 2 ≤ room self.new.lines }
         ensures same { HasSameClients self.old self.new }
-        ensures line { newest self.new.lines ≡ Line.Step (Row.Idle number client) ∷ newest self.old.lines }
+        ensures row { result ≡ Row.Idle number client }
+        ensures line { newest self.new.lines ≡ Line.Step result ∷ newest self.old.lines }
     {
         let row = Row::Idle { number, client };
         self.lines.push_row(row);
@@ -97,7 +98,7 @@ impl Player {
         requires room { 3 ≤ room self.old.lines }
         requires client { client.0 < passes_of self.old }
         requires asked { IsAsked self.old client.0 number step }
-        ensures { IsTurnMore self.old self.new client.0 }
+        ensures { IsTurnMore self.old self.new client.0 result }
     {
         let before = self.words.apply(step);
         let row = arena::Row {

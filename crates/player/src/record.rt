@@ -38,7 +38,8 @@ impl Row {
     }
 }
 
-/// An update that won: its place in the log from 1, its step, the SCX-record and that one's owner.
+/// An update that won: its place in the log from 1, its step, the SCX-record, that one's owner, and the
+/// number of the owner's call, as the SCX-record says it.
 #[derive(Clone, Copy, Debug, PartialEq, Eq)]
 pub struct Entry {
     pub place: u64,
@@ -55,7 +56,7 @@ pub struct Reply {
     pub call: u64,
     pub begin: u64,
     pub end: u64,
-    /// None where the call was refused or lost.
+    /// None where the call changed and told nothing: it was refused, failed, lost, or found a change.
     pub moment: Option<u64>,
     pub answer: Answer,
 }

@@ -1,5 +1,6 @@
-use Rattle.std.proofs.Common.{◌≡◌, ℕ, List, set, Some, slice_get, refl, sym, ◌∙◌, ap, subst}
+use Rattle.std.proofs.Common.{◌≡◌, ℕ, List, ◌∷◌, ◌++◌, set, Some, slice_get, refl, sym, ◌∙◌, ap, subst}
 use Rattle.player.specs.declared.record.Line.{Line}
+use Rattle.player.specs.declared.record.Line.TheVariants.{Reply}
 use Rattle.player.specs.Lines.{newest}
 use Rattle.player.specs.Turns.{clients}
 use Rattle.player.specs.View.{view}
@@ -9,7 +10,7 @@ use Rattle.arena.specs.declared.number.PassNo.{PassNo}
 use Rattle.player.proofs.Middles.{get_own}
 use Rattle.std.proofs.lemmas.Option.{get_or_from_slice_get}
 use Rattle.player.specs.declared.client.Client.{Client}
-use Rattle.player.proofs.Steps.{asked_word, asked_row, asked_changed, asked_so_far, asked_hears, heard_on, heard_end, told_goes, told_ends, between_at, turns_logged, few_calls}
+use Rattle.player.proofs.Steps.{asked_word, asked_row, asked_changed, asked_so_far, asked_hears, heard_on, heard_end, told_goes, told_ends, between_at, turns_logged, logged, few_calls}
 use Rattle.player.proofs.player.Player.make.Goals as goal
 
 pub apply-before-requires : goal.apply-before-requires
@@ -54,6 +55,8 @@ returns-in-Some c =
       played = between_at _ _ _ _ _ _ _ _ _ _ (c.reply.ensures.same.script.layout ∙ c.log.ensures.same.script.layout) (c.reply.ensures.same.script.calls ∙ c.log.ensures.same.script.calls) (c.reply.ensures.same.words ∙ c.log.ensures.same.words)
           (r.clients ∙ ap (λ (l : List Client). set (set l i new) new.pass.0 r.client) c.log.ensures.same.clients ∙ ap (λ (k : ℕ). set (set p.clients.items k new) new.pass.0 r.client) (sym a.is) ∙ ap (λ (k : PassNo). set (set p.clients.items a.client.pass.0 new) k.0 r.client) ends.same.pass) r.line between;
       script = record { layout = c.reply.ensures.same.script.layout ∙ c.log.ensures.same.script.layout; calls = c.reply.ensures.same.script.calls ∙ c.log.ensures.same.script.calls };
+      behind = Reply r.reply ∷ (logged p.script.layout (newest c.push_row.new.self) (newest c.log.new.self.lines) c.log.ensures.line).0;
+      lines = r.line ∙ ap (λ (l : List Line). Reply r.reply ∷ l) ((logged p.script.layout (newest c.push_row.new.self) (newest c.log.new.self.lines) c.log.ensures.line).1 ∙ ap (λ (l : List Line). (logged p.script.layout (newest c.push_row.new.self) (newest c.log.new.self.lines) c.log.ensures.line).0 ++ l) c.push_row.ensures.line);
       turns = ap (λ (l : List Line). clients l) r.line ∙ turns_logged p.script.layout (newest c.push_row.new.self) (newest c.log.new.self.lines) c.log.ensures.line ∙ ap (λ (l : List Line). clients l) c.push_row.ensures.line;
     }
 
@@ -74,5 +77,7 @@ returns-in_default c =
     record {
       played = between_at _ _ _ _ _ _ _ _ _ _ c.log.ensures.same.script.layout c.log.ensures.same.script.calls c.log.ensures.same.words (ap (λ (l : List Client). set l i c.tell.new.self) c.log.ensures.same.clients ∙ ap (λ (k : ℕ). set p.clients.items k c.tell.new.self) (sym a.is)) refl between;
       script = c.log.ensures.same.script;
+      behind = (logged p.script.layout (newest c.push_row.new.self) (newest c.log.new.self.lines) c.log.ensures.line).0;
+      lines = (logged p.script.layout (newest c.push_row.new.self) (newest c.log.new.self.lines) c.log.ensures.line).1 ∙ ap (λ (l : List Line). (logged p.script.layout (newest c.push_row.new.self) (newest c.log.new.self.lines) c.log.ensures.line).0 ++ l) c.push_row.ensures.line;
       turns = turns_logged p.script.layout (newest c.push_row.new.self) (newest c.log.new.self.lines) c.log.ensures.line ∙ ap (λ (l : List Line). clients l) c.push_row.ensures.line;
     }

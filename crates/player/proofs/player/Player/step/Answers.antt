@@ -1,10 +1,10 @@
-use Rattle.std.proofs.Common.{◌≡◌, suc, List, ◌∷◌, set, slice_get, reverse, refl, ◌∙◌, ap, subst}
+use Rattle.std.proofs.Common.{[], ◌≡◌, suc, List, ◌∷◌, set, slice_get, reverse, refl, ◌∙◌, ap, subst}
 use Rattle.arena.specs.declared.number.PassNo.{PassNo}
 use Rattle.script.specs.declared.command.Call.{Call}
 use Rattle.script.proofs.OfCells.{calls_are_of_cells}
 use Rattle.player.specs.declared.record.Line.{Line}
 use Rattle.player.specs.declared.record.Line.TheVariants.{Step, Reply}
-use Rattle.player.specs.declared.record.Row.TheVariants.{Idle}
+use Rattle.player.specs.declared.record.Row.{Row}
 use Rattle.player.specs.declared.client.Client.{Client}
 use Rattle.player.specs.Lines.{newest}
 use Rattle.player.specs.Turns.{turns, clients, begin}
@@ -40,11 +40,14 @@ returns-in-Finished-clause-turn c =
     let client = is_client p i number old new c.requires.played there in
     let stood = c.in-Finished.ensures (view p.script.layout p.script.calls.items (newest p.lines) i) (begin (newest p.lines) i) c.requires.played.so_far.sound (calls_are_of_cells p.script) c.deref.ensures.value client in
     let between = stood_finished p i number old new c.requires.played there c.args.client refl (c.next_turn-number.ensures ∙ ap (λ (l : List Line). suc (turns l)) lines) stood in
-    let line = c.idle.ensures.line ∙ ap (λ (l : List Line). Step (Idle number c.args.client) ∷ l) lines in
+    let line = c.idle.ensures.line ∙ ap (λ (l : List Line). Step c.idle.result ∷ l) lines in
+    let idle = ap (λ (r : Row). Step r ∷ newest p.lines) c.idle.ensures.row in
     record {
-      played = between_at _ _ _ _ _ _ _ _ _ _ c.idle.ensures.same.script.layout c.idle.ensures.same.script.calls c.idle.ensures.same.words c.idle.ensures.same.clients line between;
+      played = between_at _ _ _ _ _ _ _ _ _ _ c.idle.ensures.same.script.layout c.idle.ensures.same.script.calls c.idle.ensures.same.words c.idle.ensures.same.clients (line ∙ idle) between;
       script = record { layout = c.idle.ensures.same.script.layout; calls = c.idle.ensures.same.script.calls };
-      turns = ap (λ (l : List Line). clients l) line;
+      behind = [];
+      lines = line;
+      turns = ap (λ (l : List Line). clients l) (line ∙ idle);
     }
 
 pub returns-in-Answers-clause-turn : goal.returns-in-Answers-clause-turn
@@ -64,9 +67,12 @@ returns-in-Answers-clause-turn c =
     let r = c.reply.ensures.replied new (ap (λ (l : List Client). slice_get l i) idle.same.clients ∙ get_own p.clients.items i old new there) pass in
     let end : IsEnd p.script.calls.items new r.client number answer r.reply = subst (λ (k : List Call). IsEnd k new r.client number answer r.reply) idle.same.script.calls r.end in
     let between = stood_refused p i number old new c.requires.played there c.args.client answer r.reply r.client refl (c.next_turn-number.ensures ∙ ap (λ (l : List Line). suc (turns l)) lines) stood end in
-    let line = r.line ∙ ap (λ (l : List Line). Reply r.reply ∷ l) (idle.line ∙ ap (λ (l : List Line). Step (Idle number c.args.client) ∷ l) lines) in
+    let line = r.line ∙ ap (λ (l : List Line). Reply r.reply ∷ l) (idle.line ∙ ap (λ (l : List Line). Step c.idle-row.result ∷ l) lines) in
+    let row = ap (λ (r' : Row). Reply r.reply ∷ Step r' ∷ newest p.lines) idle.row in
     record {
-      played = between_at _ _ _ _ _ _ _ _ _ _ (c.reply.ensures.same.script.layout ∙ idle.same.script.layout) (c.reply.ensures.same.script.calls ∙ idle.same.script.calls) (c.reply.ensures.same.words ∙ idle.same.words) (r.clients ∙ ap (λ (l : List Client). set l new.pass.0 r.client) idle.same.clients) line between;
+      played = between_at _ _ _ _ _ _ _ _ _ _ (c.reply.ensures.same.script.layout ∙ idle.same.script.layout) (c.reply.ensures.same.script.calls ∙ idle.same.script.calls) (c.reply.ensures.same.words ∙ idle.same.words) (r.clients ∙ ap (λ (l : List Client). set l new.pass.0 r.client) idle.same.clients) (line ∙ row) between;
       script = record { layout = c.reply.ensures.same.script.layout ∙ idle.same.script.layout; calls = c.reply.ensures.same.script.calls ∙ idle.same.script.calls };
-      turns = ap (λ (l : List Line). clients l) line;
+      behind = Reply r.reply ∷ [];
+      lines = line;
+      turns = ap (λ (l : List Line). clients l) (line ∙ row);
     }
