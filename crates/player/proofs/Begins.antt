@@ -1,5 +1,5 @@
 -- What calls need to begin.
-use Rattle.std.proofs.Common.{◌≡◌, ◌≢◌, ℕ, suc, ◌<◌, ◌≤◌, inl, List, Option, Some, None, refl, sym, ◌∙◌, ap, arith, length, zero, [], ◌∷◌, ◌⊎◌, ⊎_elim, eqb, eqb-true, eq-eqb, slice_index_or, slice_get, get_or, nat_lt, map, AllPairs, Contains, MatchOption, Bool, true, false}
+use Rattle.std.proofs.Common.{◌≡◌, ◌≢◌, ℕ, suc, ◌+◌, ◌<◌, ◌≤◌, inl, List, Option, Some, None, refl, sym, ◌∙◌, ap, arith, length, zero, [], ◌∷◌, ◌⊎◌, ⊎_elim, eqb, eqb-true, eq-eqb, slice_index_or, slice_get, get_or, nat_lt, map, AllPairs, Contains, MatchOption, Bool, true, false}
 use Rattle.arena.specs.declared.layout.Layout.{Layout}
 use Rattle.arena.specs.declared.limits.Mode.TheVariants.{Records}
 use Rattle.arena.specs.Layout.{opening_nodes}
@@ -9,6 +9,9 @@ use Rattle.prims.specs.LlxKnown.{IsOpened}
 use Rattle.prims.specs.VlxKnown.{AllLinked}
 use Rattle.prims.specs.Snaps.{AreDistinct, IsAmong}
 use Rattle.prims.specs.declared.snap.Snap.{Snap}
+use Rattle.prims.specs.LlxSteps.{llx_left}
+use Rattle.prims.specs.VlxSteps.{vlx_left}
+use Rattle.script.specs.Cells.{cells_of}
 use Rattle.std.specs.List.{list_any}
 use Rattle.std.proofs.Math.Logic.{∥∥₁_elim}
 use Rattle.std.proofs.lemmas.List.{length-map}
@@ -20,13 +23,13 @@ use Rattle.prims.specs.declared.llx.LlxRun.{LlxRun}
 use Rattle.prims.specs.declared.llx.LlxAt.TheVariants.{Start}
 use Rattle.prims.specs.declared.vlx.VlxRun.{VlxRun}
 use Rattle.script.specs.declared.command.Command.{Command}
-use Rattle.script.specs.declared.command.Command.TheVariants.{Vlx as VlxCommand, Scx as ScxCommand}
+use Rattle.script.specs.declared.command.Command.TheVariants.{Llx as LlxCommand, Vlx as VlxCommand, Scx as ScxCommand, Set as SetCommand}
 use Rattle.player.specs.declared.run.Run.TheVariants.{Llx, Vlx}
 use Rattle.player.specs.declared.client.Client.{Client}
 use Rattle.player.specs.declared.client.Put.{Put}
 use Rattle.player.specs.declared.record.Answer.{Answer}
-use Rattle.player.specs.declared.record.Answer.TheVariants.{Snapshot, Finalized, Fail, Done, Lost, Same, Changed, Unlinked, Full}
-use Rattle.player.specs.LawfulRun.{IsAnswerAtOnce}
+use Rattle.player.specs.LawfulRun.{most_steps, IsAnswerAtOnce}
+use Rattle.player.specs.RunSteps.{then_left}
 use Rattle.player.specs.View.{View, Rests, Starts, IsLlxOf, command_of, GoesOn, IsFull, Puts, Begins, Stood}
 use Rattle.player.specs.declared.client.Standing.{Standing}
 use Rattle.player.specs.declared.client.Standing.TheVariants.{Finished, Answers, Asks}
@@ -41,26 +44,40 @@ cell_opened lay h n e i = record { in_field = inl early; inside = let a = early 
     early : n < opening_nodes lay.mode
     early = rw e (omega arith)
 
+-- an LLX from its start, and the SCX that may follow it, make no more steps than their command may
+llx_few : (command : Command) (n : ℕ) (then : Option Put) → IsLlxOf command n then → llx_left Start + then_left then ≤ most_steps command
+llx_few (LlxCommand cell) n None f = omega arith
+llx_few (SetCommand field value) n (Some put) f = omega arith
+llx_few (LlxCommand cell) n (Some put) f = absurd f
+llx_few (SetCommand field value) n None f = absurd f
+llx_few (ScxCommand update) n then f = absurd f
+llx_few (VlxCommand cells) n then f = absurd f
+
 -- an LLX of a cell
-pub llx_starts : (v : View) (c : Client) (m : LlxRun) (then : Option Put) (command : Command) → v.layout.mode ≡ Records → Rests v c → m.at ≡ Start → m.node.0 ≤ 8 → command_of v c ≡ Some command → IsLlxOf command m.node.0 then → Starts v c (Llx m) then
-llx_starts v c m then command mode r start i is f = record {
+pub llx_starts : (v : View) (c : Client) (m : LlxRun) (then : Option Put) (command : Command) → v.layout.mode ≡ Records → Rests v c → m.at ≡ Start → m.node.0 ≤ 8 → command_of v c ≡ Some command → IsLlxOf command m.node.0 then → v.steps ≡ 0 → Starts v c (Llx m) then
+llx_starts v c m then command mode r start i is f none = record {
   works = record { stands = r.stands; newest = tt; command = command; is = is; run_of = f; is_pass = r.stands.is_pass; start = v.past; since = ends_self v.past };
   none = r.none;
   ready = record { opened = cell_opened v.layout v.past m.node.0 mode i; known = rw start tt; told = start };
+  few = let few = llx_few command m.node.0 then f in rw (none, start) (omega arith);
 }
 
 -- a VLX of usable snapshots
-pub vlx_starts : (v : View) (c : Client) (m : VlxRun) (cells : _) → Rests v c → m.asked ≡ 0 → 0 < length m.snaps.items → AllLinked v.layout v.past m.snaps.items → command_of v c ≡ Some (VlxCommand cells) → Starts v c (Vlx m) None
-vlx_starts v c m cells r start some l is = record {
+pub vlx_starts : (v : View) (c : Client) (m : VlxRun) (cells : _) → Rests v c → m.asked ≡ 0 → 0 < length m.snaps.items → AllLinked v.layout v.past m.snaps.items → command_of v c ≡ Some (VlxCommand cells) → v.steps ≡ 0 → vlx_left m ≡ length (cells_of cells) → Starts v c (Vlx m) None
+vlx_starts v c m cells r start some l is none left = record {
   works = record { stands = r.stands; newest = tt; command = VlxCommand cells; is = is; run_of = tt; is_pass = r.stands.is_pass; start = v.past; since = ends_self v.past };
   none = r.none;
   ready = (start, some, l);
+  few = omega (arith, none, left);
 }
 
 -- as many snapshots as cells
+pub as_many_snaps : (snaps : List Snap) (cells : List ℕ) → map (λ (s : Snap). s.node.0) snaps ≡ cells → length snaps ≡ length cells
+as_many_snaps snaps cells e = sym (length-map snaps (λ (s : Snap). s.node.0)) ∙ ap (λ (l : List ℕ). length l) e
+
+-- so there is one
 pub some_snaps : (snaps : List Snap) (cells : List ℕ) → map (λ (s : Snap). s.node.0) snaps ≡ cells → 1 ≤ length cells → 0 < length snaps
-some_snaps [] cells e i = absurd (let d : length cells ≡ 0 = rw (sym e) refl in omega arith)
-some_snaps (s ∷ snaps) cells e i = omega arith
+some_snaps snaps cells e i = rw (as_many_snaps snaps cells e) i
 
 -- different cells have snapshots of different nodes
 node_at : (snaps : List Snap) (i : ℕ) → i < length snaps → slice_index_or (map (λ (s : Snap). s.node.0) snaps) i 0 ≡ (snap_at snaps i).node.0
@@ -109,15 +126,7 @@ begins_run v old new turn answer x = rw x.0 (record { pass = x.1.same.pass; numb
 
 -- a full share is a refusal of an SCX
 full_refused : (update : _) (answer : Answer) → IsFull answer → IsAnswerAtOnce (ScxCommand update) answer
-full_refused update (Full what left) f = tt
-full_refused update (Snapshot left right) f = absurd f
-full_refused update Finalized f = absurd f
-full_refused update (Fail node scx) f = absurd f
-full_refused update Done f = absurd f
-full_refused update (Lost node scx) f = absurd f
-full_refused update Same f = absurd f
-full_refused update (Changed node scx) f = absurd f
-full_refused update (Unlinked node) f = absurd f
+full_refused update answer f = rw f.is tt
 
 pub begins_put : (v : View) (old new : Client) (update : _) (answer : Option Answer) → command_of v old ≡ Some (ScxCommand update) → Puts v old new answer → Begins v old.begin old new answer
 begins_put v old new update None is p = (p.same, p.begin, (p.running, p.is, p.waits))

@@ -1,5 +1,5 @@
 -- What a client's turns leave.
-use Rattle.std.proofs.Common.{◌≡◌, ◌≢◌, ℕ, suc, ◌+◌, ◌-◌, ◌<◌, ◌⊎◌, inl, inr, ⊎_elim, List, [], ◌∷◌, Option, Some, None, refl, sym, ◌∙◌, ap, subst, arith}
+use Rattle.std.proofs.Common.{◌≡◌, ◌≢◌, ℕ, suc, ◌+◌, ◌-◌, ◌<◌, ◌≤◌, ◌⊎◌, inl, inr, ⊎_elim, List, [], ◌∷◌, Option, Some, None, refl, sym, ◌∙◌, ap, subst, arith}
 use Rattle.arena.specs.declared.step.Step.{Step}
 use Rattle.arena.specs.declared.layout.Layout.{Layout}
 use Rattle.arena.proofs.Values.{ends_self}
@@ -34,9 +34,10 @@ use Rattle.prims.specs.declared.vlx.Vlx.TheVariants.{Same as VlxSame, Changed as
 use Rattle.player.specs.declared.run.Ended.{Ended}
 use Rattle.player.specs.declared.run.Ended.TheVariants as ended
 use Rattle.player.specs.declared.record.Answer.{Answer}
-use Rattle.player.specs.declared.record.Answer.TheVariants.{Snapshot, Finalized, Fail, Done, Lost, Same, Changed, Unlinked, Full}
-use Rattle.player.specs.LawfulRun.{IsAnswerAfterStep}
+use Rattle.player.specs.LawfulRun.{most_steps, IsAnswerAfterStep}
 use Rattle.player.specs.RunKnown.{run_waits, run_answers, run_same, answer_of}
+use Rattle.player.specs.RunSteps.{run_left, left_of}
+use Rattle.prims.specs.PutSteps.{put_left}
 use Rattle.histories.proofs.Taking.{finished_taken}
 use Rattle.player.specs.View.{View, IsSound, IsLlxOf, IsScxOf, IsVlxOf, IsShare, first_free, HasNewest, IsRunOf, Stands, Rests, Works, Hears, Starts, Answered, machine_call, GoesOn, Told, Ends, CanPut, Puts, IsFull}
 
@@ -75,15 +76,15 @@ works_so v c running old now then same w =
       since = w.since;
     }
 
--- a machine that asks for a step waits for it
-pub goes_on : (v : View) (c : Client) (old now : Run) (then : Option Put) (step : Step) (w : Works v c old then) → run_same old now → run_waits now (machine_call v c w.is_pass w.start) v.past step → GoesOn v c (record c { running = Some (record { run = now; then = then; step = step }) })
+-- a machine that asks for a step waits for it, and has fewer steps left
+pub goes_on : (v : View) (c : Client) (old now : Run) (then : Option Put) (step : Step) (w : Works v c old then) → run_same old now → run_waits now (machine_call v c w.is_pass w.start) v.past step → v.steps + left_of old then ≤ most_steps w.command → run_left now < run_left old → GoesOn v c (record c { running = Some (record { run = now; then = then; step = step }) })
 unfolding works_so
-goes_on v c old now then step w same waits = record {
+goes_on v c old now then step w same waits few nearer = record {
   same = record { pass = refl; number = refl; next = refl };
   begin = refl;
   running = record { run = now; then = then; step = step };
   is = refl;
-  waits = record { works = works_so v c (Some (record { run = now; then = then; step = step })) old now then same w; waits = waits };
+  waits = record { works = works_so v c (Some (record { run = now; then = then; step = step })) old now then same w; waits = waits; few = omega (arith, few, nearer) };
 }
 
 -- The answer of a machine
@@ -96,7 +97,7 @@ hears_as v c q p found e d x = rw (some_same p q (e ∙ d)) x
 
 pub answered_so : (v : View) (c : Client) (p : Running) (now : Run) (ended : Ended) (found : ℕ) (rest : Option Running) (x : Hears v c p found) → rest ≡ None → run_same p.run now → run_answers now (machine_call v c x.works.is_pass x.works.start) v.past ended → Answered v (record c { running = rest }) now p.then ended
 unfolding works_so
-answered_so v c p now ended found rest x e same a = record { works = works_so v c rest p.run now p.then same x.works; none = e; answers = a }
+answered_so v c p now ended found rest x e same a = record { works = works_so v c rest p.run now p.then same x.works; none = e; answers = a; few = let few = x.few in omega arith }
 
 -- what is told does not ask whether a machine ran
 pub told_from : (v : View) (c new : Client) (rest : Option Running) (answer : Option Answer) → Told v (record c { running = rest }) new answer → Told v c new answer
@@ -216,18 +217,7 @@ ends_llx v old new m then a x e k f = subst (λ n. Ends v old n (answer_of (ende
 
 -- a snapshot that an SCX follows is that of a set
 set_follows : (command : Command) (n : ℕ) (put : Put) → IsLlxOf command n (Some put) → IsScxOf command None × ((answer : Answer) → IsFull answer → IsAnswerAfterStep command answer)
-set_follows (SetOf field value) n put x = (tt, full)
-  where
-    full : (answer : Answer) → IsFull answer → IsAnswerAfterStep (SetOf field value) answer
-    full (Full what left) f = tt
-    full (Snapshot left right) f = absurd f
-    full Finalized f = absurd f
-    full (Fail node scx) f = absurd f
-    full Done f = absurd f
-    full (Lost node scx) f = absurd f
-    full Same f = absurd f
-    full (Changed node scx) f = absurd f
-    full (Unlinked node) f = absurd f
+set_follows (SetOf field value) n put x = (tt, λ answer f. rw f.is tt)
 set_follows (LlxOf cell) n put x = absurd x
 set_follows (ScxOf update) n put x = absurd x
 set_follows (VlxOf cells) n put x = absurd x
@@ -242,6 +232,7 @@ can_put v old new m put snap x e k = record {
   command = x.works.command;
   is = rw (ap (λ (n : Client). n.pass) e) x.works.is;
   serves = (set_follows x.works.command m.node.0 put x.works.run_of).0;
+  few = x.few;
 }
 
 pub told_put : (v : View) (old kept new : Client) (m : LlxRun) (put : Put) (snap : Snap) (answer : Option Answer) → Answered v old (Llx m) (Some put) (ended.Llx (LlxSnapshot snap)) → kept ≡ record old { kept = kept.kept } → Puts v kept new answer → Told v old new answer
@@ -278,8 +269,8 @@ taken_share lay h c left some_node some_scx x = record {
 }
 
 -- with them the SCX may begin
-pub put_starts : (v : View) (c : Client) (snaps : List Snap) (kept : Kept) (m : PutRun) → IsSound v → CanPut v c snaps → 0 < c.share.nodes → 0 < c.share.scx → AreKept v.layout v.past kept → IsUpdateOver m.scx.update → m.scx.update.snaps.items ≡ snaps → m.scx.update.fresh ≡ c.share.next_node → m.scx.scx.0 ≡ c.share.next_scx → m.scx.at ≡ ScxStart → m.at ≡ PutStart → Starts v (record c { share = taken c.share; kept = kept }) (Scx m) None
-put_starts v c snaps kept m sound x some_node some_scx k over is fresh scx start at = record {
+pub put_starts : (v : View) (c : Client) (snaps : List Snap) (kept : Kept) (m : PutRun) → IsSound v → CanPut v c snaps → 0 < c.share.nodes → 0 < c.share.scx → AreKept v.layout v.past kept → IsUpdateOver m.scx.update → m.scx.update.snaps.items ≡ snaps → m.scx.update.fresh ≡ c.share.next_node → m.scx.scx.0 ≡ c.share.next_scx → m.scx.at ≡ ScxStart → m.at ≡ PutStart → put_left m ≤ 40 → Starts v (record c { share = taken c.share; kept = kept }) (Scx m) None
+put_starts v c snaps kept m sound x some_node some_scx k over is fresh scx start at bound = record {
   works = record {
     stands = record { is_pass = y.is_pass; number = y.number; place = y.place; kept = k; share = rw (fresh, scx) (taken_share v.layout v.past c.pass.0 c.share some_node some_scx y.share) };
     newest = (omega (arith, fresh), omega (arith, scx), λ e. let a = y.share.from_scx in omega (arith, e, scx));
@@ -299,6 +290,7 @@ put_starts v c snaps kept m sound x some_node some_scx k over is fresh scx start
         (rw fresh (left_own_node v.layout v.past c.pass.0 c.share _ _ c.share.next_node y.share own_node))
         (rw fresh y.share.taken_nodes) (rw fresh (y.share.unmentioned c.share.next_node own_node)),
   );
+  few = let few = x.few in omega (arith, bound);
 }
   where
     y : Stands v c (c.share.next_node, c.share.next_scx)

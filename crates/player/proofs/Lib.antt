@@ -8,3 +8,5 @@ pub mod Commands
 pub mod Snapshots
 pub mod Winners
 pub mod Plays
+pub mod TurnsMore
+pub mod SameKinds

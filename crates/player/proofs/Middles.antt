@@ -37,7 +37,7 @@ use Rattle.player.specs.declared.record.Entry.{Entry}
 use Rattle.player.specs.declared.record.Answer.{Answer}
 use Rattle.player.specs.declared.client.Client.{Client}
 use Rattle.player.specs.Lines.{newest}
-use Rattle.player.specs.Turns.{history, turns, entries, answered, begin, last_client, entry_owed, entry_at}
+use Rattle.player.specs.Turns.{history, turns, entries, answered, steps, begin, last_client, entry_owed, entry_at}
 use Rattle.player.specs.LawfulRun.{next_command, IsFitting, OwesNothing, IsNext, AreLines}
 use Rattle.player.specs.View.{view, Rests, IsClient, IsBehind, Refuses}
 use Rattle.player.specs.Played.{IsSoFar, AreOthers, IsTurnOf, IsBetween, IsMade}
@@ -121,11 +121,11 @@ step_made lay calls old new lines number row changed run next x = record {
     go w i false e = changed.others w (rw x.layout i) (word_apart row.word w e) ∙ x.holds w i ∙ sym (value_other row (history lay.mode lines) w e)
 
 -- The turn of a client with no call left
-pub finished_turn : (lay : Layout) (calls : List Call) (words : Contents) (clients : List Client) (lines : List Line) (c : Client) (number : ℕ) (pass : PassNo) → OwesNothing lay calls lines → IsTurnOf lay calls words clients lines c → Rests (view lay calls lines c.pass.0) c → c.next ≡ None → number ≡ suc (turns lines) → pass ≡ c.pass → IsBetween lay calls words clients (Step (Idle number pass) ∷ lines)
-finished_turn lay calls words clients lines c number pass settled x r none n is =
+pub finished_turn : (lay : Layout) (calls : List Call) (words : Contents) (clients : List Client) (lines : List Line) (c : Client) (number : ℕ) (pass : PassNo) → OwesNothing lay calls lines → IsTurnOf lay calls words clients lines c → Rests (view lay calls lines c.pass.0) c → steps lines c.pass.0 ≡ 0 → c.next ≡ None → number ≡ suc (turns lines) → pass ≡ c.pass → IsBetween lay calls words clients (Step (Idle number pass) ∷ lines)
+finished_turn lay calls words clients lines c number pass settled x r unmoved none n is =
     turn_ends lay calls words clients (Step (Idle number pass) ∷ lines) c
     record { entry = refl; reply = λ y. let a = y.1 in let b = over in cc }
-    (inl (record { stands = r.stands; none = r.none }, inl none))
+    (inl (record { stands = r.stands; none = r.none }, unmoved, inl none))
     record {
       so_far = so_far_same lay calls words lines (Step (Idle number pass)) refl (settled, record { is_pass = rw (ap (λ (p : PassNo). p.0) is) r.stands.is_pass; in_turn = n; idle = inl over }) x.so_far;
       others = others_idle lay calls clients lines c.pass.0 number pass (ap (λ (p : PassNo). p.0) is) x.others;
@@ -138,10 +138,10 @@ finished_turn lay calls words clients lines c number pass settled x r none n is 
 -- A reply
 
 -- the client stands at its next call
-behind : (lay : Layout) (calls : List Call) (lines : List Line) (old new : Client) (command : Command) → length calls ≤ 65536 → Rests (view lay calls lines old.pass.0) old → next_command calls lines old.pass.0 ≡ Some command → IsBehind calls old new → Rests (record { layout = lay; calls = calls; past = history lay.mode lines; answered = suc (answered lines old.pass.0) }) new
+behind : (lay : Layout) (calls : List Call) (lines : List Line) (old new : Client) (command : Command) → length calls ≤ 65536 → Rests (view lay calls lines old.pass.0) old → next_command calls lines old.pass.0 ≡ Some command → IsBehind calls old new → Rests (record { layout = lay; calls = calls; past = history lay.mode lines; answered = suc (answered lines old.pass.0); steps = 0 }) new
 behind lay calls lines old new command few r is b = go old.next refl
   where
-    go : (next : Option ℕ) → old.next ≡ next → Rests (record { layout = lay; calls = calls; past = history lay.mode lines; answered = suc (answered lines old.pass.0) }) new
+    go : (next : Option ℕ) → old.next ≡ next → Rests (record { layout = lay; calls = calls; past = history lay.mode lines; answered = suc (answered lines old.pass.0); steps = 0 }) new
     go None e =
         let none : next_command calls lines old.pass.0 ≡ None = rw (sym r.stands.number) (none_left calls old.pass.0 old.number (rw e at r.stands.place)) in
         absurd cc
@@ -150,7 +150,7 @@ behind lay calls lines old new command few r is b = go old.next refl
         let small : old.number < length calls = number_small calls old.pass.0 old.number at place in
         let within : at < length calls = slice_get_within calls at _ place.1 in
         let number : new.number ≡ suc old.number = b.number at e (omega arith) in
-        subst (λ (n : Client). Rests (record { layout = lay; calls = calls; past = history lay.mode lines; answered = suc (answered lines old.pass.0) }) n) (sym b.same)
+        subst (λ (n : Client). Rests (record { layout = lay; calls = calls; past = history lay.mode lines; answered = suc (answered lines old.pass.0); steps = 0 }) n) (sym b.same)
         record {
           stands = record {
             is_pass = r.stands.is_pass;
@@ -168,7 +168,7 @@ replied lay calls words clients lines old new reply command few x r is began las
     turn_ends lay calls words (set clients old.pass.0 new) (ReplyLine reply ∷ lines) new
     record { entry = refl; reply = λ y. y }
     (rw (eq-eqb reply.client.0 new.pass.0 (ap (λ (p : PassNo). p.0) client ∙ sym (ap (λ (p : PassNo). p.0) pass)))
-    (inl (subst (λ (k : ℕ). Rests (record { layout = lay; calls = calls; past = history lay.mode lines; answered = suc (answered lines k) }) new) (ap (λ (p : PassNo). p.0) (sym pass)) (behind lay calls lines old new command few r is b), inr refl)))
+    (inl (subst (λ (k : ℕ). Rests (record { layout = lay; calls = calls; past = history lay.mode lines; answered = suc (answered lines k); steps = 0 }) new) (ap (λ (p : PassNo). p.0) (sym pass)) (behind lay calls lines old new command few r is b), refl, inr refl)))
     (turn_changed lay calls words clients (ReplyLine reply ∷ lines) old new pass record {
       so_far = so_far_same lay calls words lines (ReplyLine reply) refl (
         entry,

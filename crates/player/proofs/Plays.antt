@@ -27,7 +27,7 @@ opening_between lay calls words all same opening each = record {
     in_order = tt;
   };
   settled = record { entry = refl; reply = λ y. y };
-  each = λ j d get. let y = each j d get in (y.0, inl (y.1, inr refl));
+  each = λ j d get. let y = each j d get in (y.0, inl (y.1, refl, inr refl));
 }
 
 -- the lines of a player are a lawful run of the turns that it made

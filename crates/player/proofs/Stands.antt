@@ -1,5 +1,5 @@
 -- How a turn begins: what the client that makes it stands at.
-use Rattle.std.proofs.Common.{◌≡◌, ◌≢◌, ℕ, suc, ◌<◌, ◌⊎◌, inl, inr, List, ◌∷◌, set, length, get_or, Option, Some, None, slice_get, refl, sym, ◌∙◌, ap, subst, arith}
+use Rattle.std.proofs.Common.{◌≡◌, ◌≢◌, ℕ, suc, ◌<◌, ◌⊎◌, inl, inr, List, ◌∷◌, set, length, get_or, Option, Some, None, is_some, drop, slice_get, refl, sym, ◌∙◌, ap, subst, arith}
 use Rattle.std.proofs.lemmas.Option.{slice_get_read}
 use Rattle.arena.specs.declared.layout.Layout.{Layout}
 use Rattle.arena.specs.declared.number.PassNo.{PassNo}
@@ -15,11 +15,12 @@ use Rattle.player.specs.declared.client.Client.{Client}
 use Rattle.player.specs.declared.client.Standing.TheVariants.{Finished, Answers, Asks}
 use Rattle.player.specs.declared.player.Player.{Player}
 use Rattle.player.specs.Lines.{newest}
-use Rattle.player.specs.LawfulRun.{commands}
-use Rattle.player.specs.Turns.{turns, begin}
+use Rattle.player.specs.Place.{IsAt}
+use Rattle.player.specs.LawfulRun.{commands, next_command}
+use Rattle.player.specs.Turns.{turns, begin, steps, answered}
 use Rattle.player.specs.View.{View, view, Rests, Refuses, Waits, IsClient, Stood, command_of}
 use Rattle.player.specs.Played.{IsTurnOf, IsBetween, IsPlayed, IsAsked, IsEnd}
-use Rattle.player.proofs.Commands.{none_left}
+use Rattle.player.proofs.Commands.{none_left, next_at}
 use Rattle.player.proofs.Middles.{turn_begins, turn_changed, finished_turn, refused_turn}
 use Rattle.player.proofs.Steps.{few_calls}
 
@@ -29,12 +30,17 @@ client_there p i c inside e = slice_get_read p.clients.items (length p.clients.i
 
 -- a client at rest that has a call left has not begun it
 not_begun : (v : View) (began : Option ℕ) (old new : Client) (command : Command) → new.pass ≡ old.pass → IsClient v began old → Rests v old → command_of v new ≡ Some command → began ≡ None
-not_begun v began old new command same (inl (x, inr e)) r is = e
+not_begun v began old new command same (inl (x, unmoved, inr e)) r is = e
 not_begun v began old new command same (inr (q, runs, w, e)) r is = absurd (let d = r.none in cc)
-not_begun v began old new command same (inl (x, inl none)) r is =
+not_begun v began old new command same (inl (x, unmoved, inl none)) r is =
     let over : slice_get (commands v.calls old.pass.0) v.answered ≡ None = rw (sym r.stands.number) (none_left v.calls old.pass.0 old.number (rw none at r.stands.place)) in
     let there : slice_get (commands v.calls old.pass.0) v.answered ≡ Some command = ap (λ (p : PassNo). slice_get (commands v.calls p.0) v.answered) (sym same) ∙ is in
     absurd cc
+
+-- a client at rest has made no step since its last reply
+pub unmoved_at_rest : (v : View) (began : Option ℕ) (c : Client) → IsClient v began c → Rests v c → v.steps ≡ 0
+unmoved_at_rest v began c (inl (x, unmoved, y)) r = unmoved
+unmoved_at_rest v began c (inr (q, runs, w, e)) r = absurd (let d = r.none in cc)
 
 -- a client whose call runs began it at its first turn since its last reply
 has_begun : (v : View) (began : Option ℕ) (old : Client) → IsClient v began old → old.running ≢ None → began ≡ Some old.begin
@@ -95,6 +101,7 @@ module _ (p : Player) (i number : ℕ) (old new : Client) (played : IsPlayed p) 
       let same : new.pass ≡ old.pass = ap (λ (k : Client). k.pass) s.0 in
       finished_turn lay calls p.words (set p.clients.items i new) lines new number pass played.settled (own_turn same)
       (subst (λ (k : ℕ). Rests (view lay calls lines k) new) (sym (new_i same)) (subst (λ (k : Client). Rests v k) (sym s.0) s.2))
+      (ap (λ (k : ℕ). steps lines k) (new_i same) ∙ unmoved_at_rest v (begin lines i) old is_client s.2)
       (ap (λ (k : Client). k.next) s.0 ∙ s.1) n (ap (λ (k : ℕ). let x : PassNo = record { 0 = k } in x) (is ∙ sym (new_i same)))
 
   -- its call is refused
@@ -104,3 +111,23 @@ module _ (p : Player) (i number : ℕ) (old new : Client) (played : IsPlayed p) 
       (subst (λ (k : ℕ). Refuses (view lay calls lines k) new answer) (sym (new_i s.0.pass)) s.2)
       (ap (λ (k : ℕ). begin lines k) (new_i s.0.pass) ∙ not_begun v (begin lines i) old new s.2.command s.0.pass is_client s.1 s.2.is)
       s.3 n (ap (λ (k : ℕ). let x : PassNo = record { 0 = k } in x) (is ∙ sym (new_i s.0.pass))) e.answers e.client e.call e.begin e.end e.behind
+
+  -- the client keeps the number of its next call
+  pub own_number : old.number ≡ answered lines i
+  own_number = go is_client
+    where
+      go : IsClient v (begin lines i) old → old.number ≡ answered lines i
+      go (inl x) = x.0.stands.number
+      go (inr x) = x.2.works.stands.number
+
+  -- and knows whether there is one
+  pub own_next : is_some old.next ≡ is_some (next_command calls lines i)
+  own_next = go is_client
+    where
+      at : (next : Option ℕ) → old.next ≡ next → IsAt calls old.pass.0 (drop old.number (commands calls old.pass.0)) old.next → is_some next ≡ is_some (next_command calls lines i)
+      at None e x = rw (own_number, is_i) at (ap is_some (sym (none_left calls old.pass.0 old.number (rw e at x))))
+      at (Some n) e x = rw (own_number, is_i) at (ap is_some (sym (next_at calls old.pass.0 old.number n (rw e at x)).2))
+
+      go : IsClient v (begin lines i) old → is_some old.next ≡ is_some (next_command calls lines i)
+      go (inl x) = at old.next refl x.0.stands.place
+      go (inr x) = at old.next refl x.2.works.stands.place

@@ -91,7 +91,7 @@ module _ (p : Player) (i number : ℕ) (step : Ask) (a : IsAsked p i number step
 
   pub asked_made : (words : Contents) → IsChanged p.words words made.word made.after → IsTurnOf lay calls words p.clients.items (Step (Made number made) ∷ lines) a.client
   asked_made words changed = record {
-    so_far = step_made lay calls p.words words lines number made changed sound (a.settled, record { in_turn = a.in_turn; lawful = lawful; call = a.waits.works.stands.number; command = a.waits.works.command; is = a.waits.works.is }) a.turn.so_far;
+    so_far = step_made lay calls p.words words lines number made changed sound (a.settled, record { in_turn = a.in_turn; lawful = lawful; call = a.waits.works.stands.number; command = a.waits.works.command; is = a.waits.works.is; few = let few = a.waits.few in omega arith }) a.turn.so_far;
     others = others_step lay calls p.clients.items lines a.client.pass.0 number made sound refl a.turn.others;
     own = a.turn.own;
   }
@@ -123,7 +123,7 @@ module _ (p : Player) (i number : ℕ) (step : Ask) (a : IsAsked p i number step
       x = asked_made words changed
 
       h : Hears (view lay calls (Step (Made number made) ∷ lines) a.client.pass.0) a.client a.running made.before
-      h = hears v a.client a.running a.turn.so_far.sound a.waits made.before (told_all a.running.step.deed made.before)
+      h = rw (eq-eqb a.client.pass.0 a.client.pass.0 refl) (hears v a.client a.running a.turn.so_far.sound a.waits made.before (told_all a.running.step.deed made.before))
 
       go : (owed : Option Entry) → entry_owed lay (Step (Made number made) ∷ lines) ≡ owed → MatchOption owed (after ≡ Step (Made number made) ∷ lines) (λ e. after ≡ Log e ∷ Step (Made number made) ∷ lines) → IsHeard lay calls words p.clients.items after a.client a.running made.before number
       go None e is = subst (λ l. IsHeard lay calls words p.clients.items l a.client a.running made.before number) (sym is)

@@ -1,5 +1,5 @@
 -- What each row leaves of what the clients know.
-use Rattle.std.proofs.Common.{◌≢◌, ℕ, ◌<◌, ◌≤◌, inl, inr, Option, refl, arith}
+use Rattle.std.proofs.Common.{◌≢◌, ℕ, suc, ◌<◌, ◌≤◌, inl, inr, Option, refl, arith}
 use Rattle.arena.specs.declared.layout.Layout.{Layout}
 use Rattle.arena.specs.declared.step.Row.{Row}
 use Rattle.arena.specs.declared.step.Step.{Step as Ask}
@@ -71,9 +71,12 @@ share_by_own (Scx m) call h step left node scx l w newest x = share_kept call.la
     (λ n p i u. put_unmentioned allows_all m call h step n l w i (λ e. let a = p.from in let b = newest.0 in omega arith) u)
     (λ s p u. put_untaken allows_all m call h step s w (λ e. let a = p.from in let b = newest.1 in omega arith) u) x
 
--- the view with one row more
+-- the view with one row of another client more, and with one of its own
 abbrev pub after_row : View → Row → View
-after_row v r = record { layout = v.layout; calls = v.calls; past = r ⊳ v.past; answered = v.answered }
+after_row v r = record { layout = v.layout; calls = v.calls; past = r ⊳ v.past; answered = v.answered; steps = v.steps }
+
+abbrev pub after_own : View → Row → View
+after_own v r = record { layout = v.layout; calls = v.calls; past = r ⊳ v.past; answered = v.answered; steps = suc v.steps }
 
 -- the row of a client's own step
 abbrev pub own_row : View → Client → Ask → Row
@@ -105,8 +108,8 @@ module _ (v : View) (c : Client) (r : Row) (run : IsSound (after_row v r)) (othe
 
   pub client_by_others : (began : Option ℕ) → IsClient v began c → IsClient (after_row v r) began c
   unfolding works_by_others
-  client_by_others began (inl x) = inl (record { stands = stands_by_others _ x.0.stands; none = x.0.none }, x.1)
-  client_by_others began (inr (q, is, w, e)) = inr (q, is, record { works = works_by_others q.run q.then w.works; waits = run_keeps q.run (machine_call v c w.works.is_pass w.works.start) v.past q.step r run other w.waits }, e)
+  client_by_others began (inl x) = inl (record { stands = stands_by_others _ x.0.stands; none = x.0.none }, x.1, x.2)
+  client_by_others began (inr (q, is, w, e)) = inr (q, is, record { works = works_by_others q.run q.then w.works; waits = run_keeps q.run (machine_call v c w.works.is_pass w.works.start) v.past q.step r run other w.waits; few = w.few }, e)
 
 -- Its own step
 
@@ -114,11 +117,11 @@ module _ (v : View) (c : Client) (q : Running) (sound : IsSound v) (w : Waits v 
   abbrev call : Call
   call = machine_call v c w.works.is_pass w.works.start
 
-  pub step_sound : IsSound (after_row v (own_row v c q.step))
+  pub step_sound : IsSound (after_own v (own_row v c q.step))
   step_sound = run_lawful q.run call v.past q.step sound w.waits
 
   -- the machine may be told what the step found
-  pub hears : (found : ℕ) → IsTold q.step.deed (value v.past q.step.word) found → Hears (after_row v (own_row v c q.step)) c q found
+  pub hears : (found : ℕ) → IsTold q.step.deed (value v.past q.step.word) found → Hears (after_own v (own_row v c q.step)) c q found
   hears found told = record {
     works = record {
       stands = record {
@@ -137,6 +140,7 @@ module _ (v : View) (c : Client) (q : Running) (sound : IsSound v) (w : Waits v 
       since = inr w.works.since;
     };
     ready = run_made q.run call v.past q.step found step_sound told w.waits;
+    few = let few = w.few in omega arith;
   }
 
 -- Nothing of a whole share is touched at the start

@@ -1,5 +1,5 @@
 -- What a record says: a run that was made turn by turn, in which every step is lawful.
-use Rattle.std.specs.Prelude.{◌≡◌, ℕ, ◌<◌, suc, cond, eqb, ◌⊎◌, List, [], ◌∷◌, Option, Some, None, slice_get, reverse}
+use Rattle.std.specs.Prelude.{◌≡◌, ℕ, ◌<◌, suc, cond, eqb, ◌⊎◌, List, [], ◌∷◌, length, Option, Some, None, slice_get, reverse}
 use Rattle.arena.specs.declared.layout.Layout.{Layout}
 use Rattle.arena.specs.declared.step.Row.{Row as StepRow}
 use Rattle.arena.specs.declared.word.NodeWord.{NodeWord}
@@ -7,6 +7,7 @@ use Rattle.arena.specs.Words.{node}
 use Rattle.arena.specs.History.{History, value, EndsWith}
 use Rattle.arena.specs.Lawful.{Lawful, IsLawful}
 use Rattle.arena.specs.Finalized.{IsFinalized}
+use Rattle.script.specs.Cells.{cells_of}
 use Rattle.script.specs.declared.command.Call.{Call}
 use Rattle.script.specs.declared.command.Command.{Command}
 use Rattle.script.specs.declared.command.Command.TheVariants.{Llx, Scx, Vlx, Set}
@@ -17,7 +18,7 @@ use Rattle.player.specs.declared.record.Row.{Row}
 use Rattle.player.specs.declared.record.Reply.{Reply}
 use Rattle.player.specs.declared.record.Answer.{Answer}
 use Rattle.player.specs.declared.record.Answer.TheVariants.{Snapshot, Finalized, Fail, Done, Lost, Same, Changed, Unlinked, Full}
-use Rattle.player.specs.Turns.{history, turns, clients, last_client, answered, begin, entry_owed}
+use Rattle.player.specs.Turns.{history, turns, clients, last_client, answered, begin, steps, entry_owed}
 
 -- what a client is to do, call by call in the script's order
 abbrev pub commands : List Call → ℕ → List Command
@@ -27,6 +28,13 @@ commands (call ∷ calls) c = cond (eqb call.client.0 c) (call.command ∷ comma
 -- its next call: the first that is not answered
 abbrev pub next_command : List Call → List Line → ℕ → Option Command
 next_command calls lines c = slice_get (commands calls c) (answered lines c)
+
+-- how many steps a call may make: a VLX one for each cell, a set those of an LLX and an SCX
+abbrev pub most_steps : Command → ℕ
+most_steps (Llx cell) = 64
+most_steps (Scx update) = 40
+most_steps (Vlx cells) = length (cells_of cells)
+most_steps (Set field value) = 104
 
 -- the answers that a call may give in place of a first step
 abbrev pub IsAnswerAtOnce : Command → Answer → Type 0
@@ -56,13 +64,14 @@ abbrev pub IsReplyOwed : List Call → List Line → Type 0
 IsReplyOwed calls (Step (Idle number client) ∷ lines) = (command : Command) × (next_command calls lines client.0 ≡ Some command)
 IsReplyOwed calls _ = ⊥
 
--- a turn that makes a step, in the client's next call
+-- a turn that makes a step, in the client's next call, which has made fewer steps than it may
 pub record IsStep (lay : Layout) (calls : List Call) (lines : List Line) (number : ℕ) (row : StepRow) : Type 0 where
   pub in_turn : number ≡ suc (turns lines)
   pub lawful : IsLawful lay (history lay.mode lines) row
   pub call : row.call ≡ answered lines row.pass.0
   pub command : Command
   pub is : next_command calls lines row.pass.0 ≡ Some command
+  pub few : steps lines row.pass.0 < most_steps command
 
 -- a turn without a step: of a client with no call left, or the whole of a call that has not begun
 pub record IsIdle (lay : Layout) (calls : List Call) (lines : List Line) (number c : ℕ) : Type 0 where

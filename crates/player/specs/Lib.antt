@@ -8,3 +8,4 @@ pub mod Kept
 pub mod Place
 pub mod View
 pub mod Played
+pub mod TurnsMore

@@ -1,7 +1,18 @@
 -- What callers know of a player.
-use Rattle.std.specs.Prelude.{ℕ}
+use Rattle.std.specs.Prelude.{ℕ, List}
+use Rattle.script.specs.declared.command.Call.{Call}
+use Rattle.player.specs.declared.record.Line.{Line}
+use Rattle.player.specs.Lines.{newest}
 use Rattle.player.specs.declared.player.Player.{Player}
 
 -- how many clients there are
 abbrev pub passes_of : Player → ℕ
 passes_of p = p.script.layout.passes
+
+-- the calls that they are to make
+abbrev pub calls_of : Player → List Call
+calls_of p = p.script.calls.items
+
+-- the lines so far, the newest first
+abbrev pub lines_of : Player → List Line
+lines_of p = newest p.lines

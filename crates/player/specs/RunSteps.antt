@@ -1,8 +1,9 @@
 -- How many steps a run may still ask for.
-use Rattle.std.specs.Prelude.{ℕ}
+use Rattle.std.specs.Prelude.{ℕ, ◌+◌, Option, Some, None}
 use Rattle.prims.specs.LlxSteps.{llx_left}
 use Rattle.prims.specs.PutSteps.{put_left}
 use Rattle.prims.specs.VlxSteps.{vlx_left}
+use Rattle.player.specs.declared.client.Put.{Put}
 use Rattle.player.specs.declared.run.Run.{Run}
 use Rattle.player.specs.declared.run.Run.TheVariants.{Llx, Scx, Vlx}
 
@@ -10,3 +11,12 @@ abbrev pub run_left : Run → ℕ
 run_left (Llx run) = llx_left run.at
 run_left (Scx run) = put_left run
 run_left (Vlx run) = vlx_left run
+
+-- how many steps what follows it may ask for: the SCX of a set
+abbrev pub then_left : Option Put → ℕ
+then_left None = 0
+then_left (Some put) = 40
+
+-- how many steps a call may still ask for: its machine, and what follows it
+abbrev pub left_of : Run → Option Put → ℕ
+left_of run then = run_left run + then_left then

@@ -4,7 +4,7 @@ use Rattle.arena.specs.declared.limits.Mode.{Mode}
 use Rattle.arena.specs.declared.layout.Layout.{Layout}
 use Rattle.arena.specs.declared.step.Row.{Row as StepRow}
 use Rattle.arena.specs.declared.step.Kind.{Kind}
-use Rattle.arena.specs.declared.step.Kind.TheVariants.{Update}
+use Rattle.arena.specs.declared.step.Kind.TheVariants.{Fill, LoadSettled, LoadInfo, LoadState, LoadMarked, LoadAllFrozen, LoadChild, Freeze, SetFrozen, Mark, Update, Commit, Abort}
 use Rattle.arena.specs.declared.word.Word.{Word}
 use Rattle.arena.specs.declared.word.Word.TheVariants.{Node}
 use Rattle.arena.specs.declared.word.NodeWord.TheVariants.{Child}
@@ -26,6 +26,32 @@ client_of (Idle number client) = client.0
 abbrev pub number_of : Row → ℕ
 number_of (Made number row) = number
 number_of (Idle number client) = number
+
+-- the kind of the step of a turn, if it made one
+abbrev pub kind_of : Row → Option Kind
+kind_of (Made number row) = Some row.kind
+kind_of (Idle number client) = None
+
+-- the place of a kind among all, by which kinds are told apart
+abbrev pub kind_place : Kind → ℕ
+kind_place Fill = 0
+kind_place LoadSettled = 1
+kind_place LoadInfo = 2
+kind_place LoadState = 3
+kind_place LoadMarked = 4
+kind_place LoadAllFrozen = 5
+kind_place LoadChild = 6
+kind_place Freeze = 7
+kind_place SetFrozen = 8
+kind_place Mark = 9
+kind_place Update = 10
+kind_place Commit = 11
+kind_place Abort = 12
+
+-- whether a turn made a step of this kind
+abbrev pub is_of : Kind → Row → Bool
+is_of kind (Made number row) = eqb (kind_place row.kind) (kind_place kind)
+is_of kind (Idle number client) = false
 
 -- the history of the steps that the turns made
 abbrev pub history : Mode → List Line → History
@@ -68,6 +94,21 @@ begin [] c = None
 begin (Step row ∷ lines) c = cond (eqb (client_of row) c) (Some (unwrap_or (begin lines c) (number_of row))) (begin lines c)
 begin (Log entry ∷ lines) c = begin lines c
 begin (Reply reply ∷ lines) c = cond (eqb reply.client.0 c) None (begin lines c)
+
+-- how many steps a client has made since its last reply
+abbrev pub steps : List Line → ℕ → ℕ
+steps [] c = 0
+steps (Step (Made number row) ∷ lines) c = cond (eqb row.pass.0 c) (suc (steps lines c)) (steps lines c)
+steps (Step (Idle number client) ∷ lines) c = steps lines c
+steps (Log entry ∷ lines) c = steps lines c
+steps (Reply reply ∷ lines) c = cond (eqb reply.client.0 c) 0 (steps lines c)
+
+-- how many steps of a kind a client has made in all
+abbrev pub made : List Line → ℕ → Kind → ℕ
+made [] c kind = 0
+made (Step row ∷ lines) c kind = cond (eqb (client_of row) c && is_of kind row) (suc (made lines c kind)) (made lines c kind)
+made (Log entry ∷ lines) c kind = made lines c kind
+made (Reply reply ∷ lines) c kind = made lines c kind
 
 -- how many updates are written down
 abbrev pub entries : List Line → ℕ

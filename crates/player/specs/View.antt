@@ -15,6 +15,7 @@ use Rattle.script.specs.declared.command.Command.{Command}
 use Rattle.script.specs.declared.command.Command.TheVariants.{Llx as LlxOf, Scx as ScxOf, Vlx as VlxOf, Set as SetOf}
 use Rattle.player.specs.declared.record.Line.{Line}
 use Rattle.player.specs.declared.record.Answer.{Answer}
+use Rattle.player.specs.declared.record.Resource.{Resource}
 use Rattle.player.specs.declared.record.Answer.TheVariants.{Full}
 use Rattle.player.specs.declared.run.Run.{Run}
 use Rattle.player.specs.declared.run.Run.TheVariants.{Llx, Scx, Vlx}
@@ -25,20 +26,22 @@ use Rattle.player.specs.declared.client.Standing.{Standing}
 use Rattle.player.specs.declared.client.Standing.TheVariants.{Finished, Answers, Asks}
 use Rattle.player.specs.declared.run.Ended.{Ended}
 use Rattle.player.specs.RunKnown.{run_ready, run_waits, run_answers}
+use Rattle.player.specs.RunSteps.{then_left, left_of}
 use Rattle.player.specs.Kept.{AreKept}
 use Rattle.player.specs.Place.{IsAt}
-use Rattle.player.specs.Turns.{history, answered}
-use Rattle.player.specs.LawfulRun.{commands, IsAnswerAtOnce, IsAnswerAfterStep}
+use Rattle.player.specs.Turns.{history, answered, steps}
+use Rattle.player.specs.LawfulRun.{commands, most_steps, IsAnswerAtOnce, IsAnswerAfterStep}
 
--- what the lines so far say to a client: the steps, and how many of its calls are answered
+-- what the lines so far say to a client: the steps, how many of its calls are answered, and how many steps it has made since the last answer
 pub record View : Type 0 where
   pub layout : Layout
   pub calls : List Call
   pub past : History
   pub answered : ℕ
+  pub steps : ℕ
 
 abbrev pub view : Layout → List Call → List Line → ℕ → View
-view lay calls lines c = record { layout = lay; calls = calls; past = history lay.mode lines; answered = answered lines c }
+view lay calls lines c = record { layout = lay; calls = calls; past = history lay.mode lines; answered = answered lines c; steps = steps lines c }
 
 -- its steps are lawful
 abbrev pub IsSound : View → Type 0
@@ -117,31 +120,37 @@ pub record Works (v : View) (c : Client) (run : Run) (then : Option Put) : Type 
   pub start : History
   pub since : EndsWith v.past start
 
+-- Below, `few` says that the steps that the call has made, those that the machine may still ask for and those of what follows it are no more than the call may make; a step that the machine waits for counts too.
+
 -- it has not asked for a step yet
 pub record Starts (v : View) (c : Client) (run : Run) (then : Option Put) : Type 0 where
   pub works : Works v c run then
   pub none : c.running ≡ None
   pub ready : run_ready run (machine_call v c works.is_pass works.start) v.past None
+  pub few : v.steps + left_of run then ≤ most_steps works.command
 
 -- it has answered
 pub record Answered (v : View) (c : Client) (run : Run) (then : Option Put) (ended : Ended) : Type 0 where
   pub works : Works v c run then
   pub none : c.running ≡ None
   pub answers : run_answers run (machine_call v c works.is_pass works.start) v.past ended
+  pub few : v.steps + then_left then ≤ most_steps works.command
 
 -- it waits for a step
 pub record Waits (v : View) (c : Client) (running : Running) : Type 0 where
   pub works : Works v c running.run running.then
   pub waits : run_waits running.run (machine_call v c works.is_pass works.start) v.past running.step
+  pub few : suc (v.steps + left_of running.run running.then) ≤ most_steps works.command
 
 -- it is told what its step found
 pub record Hears (v : View) (c : Client) (running : Running) (found : ℕ) : Type 0 where
   pub works : Works v c running.run running.then
   pub ready : run_ready running.run (machine_call v c works.is_pass works.start) v.past (Some found)
+  pub few : v.steps + left_of running.run running.then ≤ most_steps works.command
 
--- a client between two turns, whose first turn since its last reply was this: it rests, or waits for a step of the call that began then
+-- a client between two turns, whose first turn since its last reply was this: it rests and has made no step since then, or waits for a step of the call that began then
 abbrev pub IsClient : View → Option ℕ → Client → Type 0
-IsClient v began c = (Rests v c × ((c.next ≡ None) ⊎ (began ≡ None))) ⊎ ((r : Running) × (c.running ≡ Some r) × Waits v c r × (began ≡ Some c.begin))
+IsClient v began c = (Rests v c × (v.steps ≡ 0) × ((c.next ≡ None) ⊎ (began ≡ None))) ⊎ ((r : Running) × (c.running ≡ Some r) × Waits v c r × (began ≡ Some c.begin))
 
 -- What its turns leave
 
@@ -188,17 +197,20 @@ Stood v turn old new (Asks step) = IsSameCall old new × (r : Running) × (new.r
 
 -- A call begins
 
--- what an SCX has to be given: usable snapshots; the command is one that an SCX serves
+-- what an SCX has to be given: usable snapshots; the command is one that an SCX serves, and may make as many steps more
 pub record CanPut (v : View) (c : Client) (snaps : List Snap) : Type 0 where
   pub rests : Rests v c
   pub linked : AllLinked v.layout v.past snaps
   pub command : Command
   pub is : command_of v c ≡ Some command
   pub serves : IsScxOf command None
+  pub few : v.steps + 40 ≤ most_steps command
 
-abbrev pub IsFull : Answer → Type 0
-IsFull (Full what left) = Unit {0}
-IsFull _ = ⊥
+-- the share has too little of a resource
+pub record IsFull (answer : Answer) : Type 0 where
+  pub what : Resource
+  pub left : ℕ
+  pub is : answer ≡ Full what left
 
 -- an SCX begins, or the share has too little
 abbrev pub Puts : View → Client → Client → Option Answer → Type 0

@@ -50,7 +50,7 @@ pub(crate) struct Client {
 }
 
 impl Client {
-    ghost use Rattle.std.specs.Prelude.{◌≡◌, ◌≢◌, ◌<◌, ◌+◌, ◌-◌, Option, Some, None, IfOk, IfErr, List, [], length, MatchOption};
+    ghost use Rattle.std.specs.Prelude.{◌≡◌, ◌≢◌, ◌<◌, ◌+◌, ◌-◌, Option, Some, None, is_some, IfOk, IfErr, List, [], length, MatchOption};
     ghost use Rattle.arena.specs.declared.limits.Mode.TheVariants.{Records};
     ghost use Rattle.script.specs.declared.command.Command.TheVariants.{Scx as ScxCommand};
     ghost use Rattle.prims.specs.declared.snap.Snap.{Snap};
@@ -84,7 +84,9 @@ impl Client {
         self.number
     }
 
-    pub(crate) fn has_call(&self) -> bool {
+    pub(crate) fn has_call(&self) -> bool
+        ensures { result ≡ is_some self.now.next }
+    {
         self.next.is_some()
     }
 
@@ -110,7 +112,7 @@ impl Client {
 
     /// Begins the next call, if there is one.
     fn begin_next(&mut self, calls: &[Call], turn: u64) -> Standing
-        ensures { (v : View) → IsSound v → (length v.calls ≢ 0 → v.layout.mode ≡ Records) → calls.now ≡ v.calls → Rests v self.old → Stood v turn self.old self.new result }
+        ensures { (v : View) → IsSound v → (length v.calls ≢ 0 → v.layout.mode ≡ Records) → calls.now ≡ v.calls → Rests v self.old → v.steps ≡ 0 → Stood v turn self.old self.new result }
     {
         let Some(at) = self.next else {
             return Standing::Finished;
@@ -126,7 +128,7 @@ impl Client {
 
     /// Begins a call, which answers at once or asks for a step.
     fn begin(&mut self, command: Command, turn: u64) -> Option<Answer>
-        ensures { (v : View) → IsSound v → v.layout.mode ≡ Records → Rests v self.old → command_of v self.old ≡ Some command → Begins v turn self.old self.new result }
+        ensures { (v : View) → IsSound v → v.layout.mode ≡ Records → Rests v self.old → v.steps ≡ 0 → command_of v self.old ≡ Some command → Begins v turn self.old self.new result }
     {
         self.begin = turn;
         match command {
@@ -149,7 +151,7 @@ impl Client {
 
     /// Takes the snapshots and the records of an `scx`, if they are there.
     fn begin_scx(&mut self, update: &script::Update) -> Option<Answer>
-        ensures { (v : View) → IsSound v → Rests v self.old → command_of v self.old ≡ Some (ScxCommand update.now) → Begins v self.old.begin self.old self.new result }
+        ensures { (v : View) → IsSound v → Rests v self.old → v.steps ≡ 0 → command_of v self.old ≡ Some (ScxCommand update.now) → Begins v self.old.begin self.old self.new result }
     {
         let cells = update.cells();
         match self.kept.linked(cells) {

@@ -26,16 +26,18 @@ pub struct Player {
 }
 
 impl Player {
-    ghost use Rattle.std.specs.Prelude.{◌≡◌, ◌≢◌, ℕ, ◌<◌, ◌≤◌, ◌∷◌, List, [], Some, None, IfOk, IfErr, OnErr, IfSome, MatchOption, slice_get, reverse};
+    ghost use Rattle.std.specs.Prelude.{◌≡◌, ◌≢◌, ◌⊎◌, ℕ, suc, ◌+◌, ◌<◌, ◌≤◌, ◌∷◌, List, [], Some, None, is_some, IfOk, OnOk, IfErr, OnErr, IfSome, MatchOption, slice_get, reverse};
     ghost use Rattle.arena.specs.declared.word.Side.{Side};
     ghost use Rattle.arena.specs.declared.step.Kind.TheVariants.{Update};
     ghost use Rattle.arena.specs.Layout.{IsWord, all_scx};
     ghost use Rattle.arena.specs.Words.{child, info};
     ghost use Rattle.arena.specs.PlainWords.{held};
     ghost use Rattle.player.specs.declared.record.Line.{Line};
-    ghost use Rattle.player.specs.Player.{passes_of};
+    ghost use Rattle.player.specs.Player.{passes_of, calls_of, lines_of};
+    ghost use Rattle.player.specs.LawfulRun.{next_command};
+    ghost use Rattle.player.specs.TurnsMore.{HasCall, HasNoCall, AwaitsReply, AwaitsSteps, AreTurnsWhile};
     ghost use Rattle.player.specs.Lines.{room, newest};
-    ghost use Rattle.player.specs.Turns.{turns, clients, entry_owed};
+    ghost use Rattle.player.specs.Turns.{turns, clients, answered, made, entry_owed};
     ghost use Rattle.player.specs.Played.{IsPlayed, IsAsked, IsMade, IsReplied, IsTurnMore, IsSameScript, HasSameClients, HasSameWords};
 
     /// A player of a copy of the script, with no turn made. The only error is want of memory.
@@ -168,14 +170,18 @@ impl Player {
 
     /// Whether a client has a call left.
     fn has_call(&self, client: PassNo) -> bool
-        requires { client.0 < passes_of self.now }
+        requires client { client.0 < passes_of self.now }
+        requires played { IsPlayed self.now }
+        ensures { result ≡ is_some (next_command (calls_of self.now) (lines_of self.now) client.0) }
     {
         self.clients[client.0 as usize].has_call()
     }
 
     /// How many calls of a client are answered.
     fn answered(&self, client: PassNo) -> u64
-        requires { client.0 < passes_of self.now }
+        requires client { client.0 < passes_of self.now }
+        requires played { IsPlayed self.now }
+        ensures { result ≡ answered (lines_of self.now) client.0 }
     {
         self.clients[client.0 as usize].number()
     }
@@ -185,14 +191,12 @@ impl Player {
     pub fn call(&mut self, client: PassNo) -> Result<(), NoMemory>
         requires client { client.0 < passes_of self.old }
         requires played { IsPlayed self.old }
-        ensures played { IsPlayed self.new }
-        ensures script { IsSameScript self.old.script self.new.script }
+        ensures turns { AreTurnsWhile (AwaitsReply (calls_of self.old) client.0 (lines_of self.old)) client.0 self.old self.new }
+        ensures replied { OnOk result (HasCall (calls_of self.old) client.0 (lines_of self.old) → answered (lines_of self.new) client.0 ≡ suc (answered (lines_of self.old) client.0)) }
+        ensures none { HasNoCall (calls_of self.old) client.0 (lines_of self.old) → lines_of self.new ≡ lines_of self.old }
     {
         let answered = self.answered(client);
-        for _ in 0..u64::MAX {
-            if !self.has_call(client) || self.answered(client) != answered {
-                break;
-            }
+        while self.has_call(client) && self.answered(client) == answered {
             self.step(client)?;
         }
         Ok(())
@@ -203,14 +207,12 @@ impl Player {
     pub fn run_until(&mut self, client: PassNo, kind: Kind, times: u32) -> Result<(), NoMemory>
         requires client { client.0 < passes_of self.old }
         requires played { IsPlayed self.old }
-        ensures played { IsPlayed self.new }
-        ensures script { IsSameScript self.old.script self.new.script }
+        ensures turns { AreTurnsWhile (AwaitsSteps (calls_of self.old) client.0 kind times (lines_of self.old)) client.0 self.old self.new }
+        ensures made { OnOk result ((made (lines_of self.new) client.0 kind ≡ made (lines_of self.old) client.0 kind + times) ⊎ HasNoCall (calls_of self.old) client.0 (lines_of self.new)) }
+        ensures at_most { made (lines_of self.new) client.0 kind ≤ made (lines_of self.old) client.0 kind + times }
     {
         let mut left = times;
-        for _ in 0..u64::MAX {
-            if left == 0 || !self.has_call(client) {
-                break;
-            }
+        while left > 0 && self.has_call(client) {
             let row = self.step(client)?;
             if row.kind() == Some(kind) {
                 left -= 1;
@@ -223,13 +225,10 @@ impl Player {
     pub fn finish(&mut self, client: PassNo) -> Result<(), NoMemory>
         requires client { client.0 < passes_of self.old }
         requires played { IsPlayed self.old }
-        ensures played { IsPlayed self.new }
-        ensures script { IsSameScript self.old.script self.new.script }
+        ensures turns { AreTurnsWhile (HasCall (calls_of self.old) client.0) client.0 self.old self.new }
+        ensures finished { OnOk result (HasNoCall (calls_of self.old) client.0 (lines_of self.new)) }
     {
-        for _ in 0..u64::MAX {
-            if !self.has_call(client) {
-                break;
-            }
+        while self.has_call(client) {
             self.step(client)?;
         }
         Ok(())

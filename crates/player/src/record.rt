@@ -26,8 +26,13 @@ pub enum Row {
 }
 
 impl Row {
+    ghost use Rattle.std.specs.Prelude.{◌≡◌};
+    ghost use Rattle.player.specs.Turns.{kind_of};
+
     /// The kind of the step, if the turn made one.
-    pub fn kind(&self) -> Option<Kind> {
+    pub fn kind(&self) -> Option<Kind>
+        ensures { result ≡ kind_of self.now }
+    {
         match self {
             Row::Step { number: _, row } => Some(row.kind),
             Row::Idle {

@@ -1,3 +1,4 @@
+use Rattle.std.proofs.Common.{arith}
 use Rattle.prims.specs.Snaps.{AreDistinct, IsAmong}
 use Rattle.player.proofs.Begins.{begins_put, distinct_snaps, among_snaps}
 use Rattle.player.proofs.client.Client.begin_scx.Goals as goal
@@ -13,6 +14,6 @@ put-requires-clause-among c =
     x
 
 pub returns-in-Ok : goal.returns-in-Ok
-returns-in-Ok c v sound r is =
+returns-in-Ok c v sound r none is =
     begins_put v c.args.self.now c.put.new.self c.args.update.now c.put.result is
-    (c.put.ensures v sound record { rests = r; linked = rw c.deref.ensures.0 (c.in-Ok.ensures.linked v.layout v.past r.stands.kept); command = _; is = is; serves = tt })
+    (c.put.ensures v sound record { rests = r; linked = rw c.deref.ensures.0 (c.in-Ok.ensures.linked v.layout v.past r.stands.kept); command = _; is = is; serves = tt; few = omega (arith, none) })

@@ -1,5 +1,15 @@
-use Rattle.player.specs.Played.{IsPlayed, IsSameScript}
+use Rattle.std.proofs.Common.{◌≡◌, ◌⊎◌, suc}
+use Rattle.player.specs.Turns.{answered}
+use Rattle.player.specs.Player.{calls_of, lines_of}
+use Rattle.player.specs.TurnsMore.{HasNoCall, AwaitsReply, AreTurnsWhile, to_go}
 use Rattle.player.proofs.player.Player.call.Given as goal
 
-abbrev pub invariant-loop : goal.invariant-loop
-invariant-loop l = record { played : IsPlayed l.self; script : IsSameScript l.fn.self.script l.self.script }
+abbrev pub invariant-loop-self : goal.invariant-loop-self
+invariant-loop-self l = record {
+  turns : AreTurnsWhile (AwaitsReply (calls_of l.fn.self) l.client.0 (lines_of l.fn.self)) l.client.0 l.fn.self l.self;
+  none : HasNoCall (calls_of l.fn.self) l.client.0 (lines_of l.fn.self) → lines_of l.self ≡ lines_of l.fn.self;
+  replies : (answered (lines_of l.self) l.client.0 ≡ answered (lines_of l.fn.self) l.client.0) ⊎ (answered (lines_of l.self) l.client.0 ≡ suc (answered (lines_of l.fn.self) l.client.0));
+}
+
+abbrev pub decreases-loop-self : goal.decreases-loop-self
+decreases-loop-self l = to_go (calls_of l.fn.self) l.client.0 (lines_of l.self)

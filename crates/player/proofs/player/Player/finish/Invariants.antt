@@ -1,5 +1,9 @@
-use Rattle.player.specs.Played.{IsPlayed, IsSameScript}
+use Rattle.player.specs.Player.{calls_of, lines_of}
+use Rattle.player.specs.TurnsMore.{HasCall, AreTurnsWhile, to_go}
 use Rattle.player.proofs.player.Player.finish.Given as goal
 
-abbrev pub invariant-loop : goal.invariant-loop
-invariant-loop l = record { played : IsPlayed l.self; script : IsSameScript l.fn.self.script l.self.script }
+abbrev pub invariant-loop-client : goal.invariant-loop-client
+invariant-loop-client l = AreTurnsWhile (HasCall (calls_of l.fn.self) l.client.0) l.client.0 l.fn.self l.self
+
+abbrev pub decreases-loop-client : goal.decreases-loop-client
+decreases-loop-client l = to_go (calls_of l.fn.self) l.client.0 (lines_of l.self)

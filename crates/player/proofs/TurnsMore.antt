@@ -1,0 +1,206 @@
+-- What the turns of one client add.
+use Rattle.std.proofs.Common.{◌≡◌, ℕ, suc, ◌+◌, ◌-◌, ◌<◌, ◌≤◌, ◌⊎◌, inl, inr, Bool, true, false, cond, eqb, eqb-true, eq-eqb, append_assoc, length-append, List, [], ◌∷◌, ◌++◌, length, replicate, Option, Some, None, is_some, refl, sym, ◌∙◌, ap, subst, arith}
+use Rattle.std.proofs.lemmas.Option.{slice_get_within}
+use Rattle.std.proofs.lemmas.List.{length-take}
+use Rattle.arena.specs.declared.layout.Layout.{Layout}
+use Rattle.arena.specs.declared.step.Kind.{Kind}
+use Rattle.script.specs.declared.command.Call.{Call}
+use Rattle.script.specs.declared.command.Command.{Command}
+use Rattle.script.specs.declared.command.Command.TheVariants.{Llx, Scx, Vlx, Set}
+use Rattle.player.specs.declared.record.Line.{Line}
+use Rattle.player.specs.declared.record.Line.TheVariants.{Step, Log, Reply}
+use Rattle.player.specs.declared.record.Reply.{Reply as ReplyOf}
+use Rattle.player.specs.declared.record.Row.{Row}
+use Rattle.player.specs.declared.record.Row.TheVariants.{Step as Made, Idle}
+use Rattle.player.specs.declared.player.Player.{Player}
+use Rattle.player.specs.Player.{calls_of, lines_of}
+use Rattle.player.specs.Lines.{newest}
+use Rattle.player.specs.Turns.{turns, clients, client_of, answered, steps, last_client, made, is_of}
+use Rattle.player.specs.LawfulRun.{commands, next_command, most_steps, OwesNothing, IsReply, AreLines}
+use Rattle.player.specs.Played.{IsPlayed, IsSameScript, IsTurnMore}
+use Rattle.player.specs.TurnsMore.{HasCall, AwaitsSteps, AreMadeWhile, AreTurnsWhile, to_go}
+
+-- One turn
+
+-- where each turn keeps the script, all do
+same_script : (old p q : Player) → IsSameScript old.script p.script → IsSameScript p.script q.script → IsSameScript old.script q.script
+same_script old p q x y = record { layout = y.layout ∙ x.layout; calls = y.calls ∙ x.calls }
+
+-- where the turns are one more, no turn stands behind the newest, and that is the client's
+only_turn : (behind : List Line) (row : Row) (lines : List Line) (c : ℕ) → clients (behind ++ Step row ∷ lines) ≡ c ∷ clients lines → (clients behind ≡ []) × (client_of row ≡ c)
+only_turn behind row lines c e = only (clients behind) (client_of row) (clients lines) (sym (joined behind) ∙ e)
+  where
+    joined : (behind : List Line) → clients (behind ++ Step row ∷ lines) ≡ clients behind ++ client_of row ∷ clients lines
+    joined [] = refl
+    joined (Step r ∷ behind) = ap (λ (l : List ℕ). client_of r ∷ l) (joined behind)
+    joined (Log entry ∷ behind) = joined behind
+    joined (Reply reply ∷ behind) = joined behind
+
+    only : (newer : List ℕ) (own : ℕ) (older : List ℕ) → newer ++ own ∷ older ≡ c ∷ older → (newer ≡ []) × (own ≡ c)
+    only [] own older e = (refl, cc)
+    only (x ∷ newer) own older e = absurd (let n : length ((x ∷ newer) ++ own ∷ older) ≡ length (c ∷ older) = ap (λ (l : List ℕ). length l) e in grind (arith, length-append))
+
+-- it is one turn more of those that were made while the lines were so
+made_more : (so : List Line → Type 0) (c : ℕ) (older behind : List Line) (row : Row) (quiet : List Line) → AreMadeWhile so c older behind → so (behind ++ older) → client_of row ≡ c → clients quiet ≡ [] → AreMadeWhile so c older (quiet ++ Step row ∷ behind)
+unfolding AreMadeWhile
+made_more so c older behind row [] x is own e = (x, own, is)
+made_more so c older behind row (Step r ∷ quiet) x is own e = absurd cc
+made_more so c older behind row (Log entry ∷ quiet) x is own e = made_more so c older behind row quiet x is own e
+made_more so c older behind row (Reply reply ∷ quiet) x is own e = made_more so c older behind row quiet x is own e
+
+-- turns of one client are so many times that client
+clients_made : (so : List Line → Type 0) (c : ℕ) (older behind : List Line) → AreMadeWhile so c older behind → clients (behind ++ older) ≡ replicate (turns behind) c ++ clients older
+unfolding AreMadeWhile
+clients_made so c older [] x = refl
+clients_made so c older (Step row ∷ behind) x = rw (x.1, clients_made so c older behind x.0) refl
+clients_made so c older (Log entry ∷ behind) x = clients_made so c older behind x
+clients_made so c older (Reply reply ∷ behind) x = clients_made so c older behind x
+
+-- before the first turn
+pub no_turns : (so : List Line → Type 0) (c : ℕ) (p : Player) → IsPlayed p → AreTurnsWhile so c p p
+unfolding AreMadeWhile
+no_turns so c p played = record { played = played; script = record { layout = refl; calls = refl }; behind = []; lines = refl; each = tt; turns = refl }
+
+-- after one more
+pub turn_more : (so : List Line → Type 0) (c : ℕ) (old p q : Player) (row : Row) → AreTurnsWhile so c old p → so (lines_of p) → IsTurnMore p q c row → AreTurnsWhile so c old q
+turn_more so c old p q row x is t = record {
+  played = t.played;
+  script = same_script old p q x.script t.script;
+  behind = t.behind ++ Step row ∷ x.behind;
+  lines = lines;
+  each = each;
+  turns = ap (λ (l : List Line). clients l) lines ∙ clients_made so c (lines_of old) (t.behind ++ Step row ∷ x.behind) each;
+}
+  where
+    only : (clients t.behind ≡ []) × (client_of row ≡ c)
+    only = only_turn t.behind row (newest p.lines) c (ap (λ (l : List Line). clients l) (sym t.lines) ∙ t.turns)
+
+    lines : newest q.lines ≡ (t.behind ++ Step row ∷ x.behind) ++ lines_of old
+    lines = t.lines ∙ ap (λ (l : List Line). t.behind ++ Step row ∷ l) x.lines ∙ sym (append_assoc t.behind (Step row ∷ x.behind) (lines_of old))
+
+    each : AreMadeWhile so c (lines_of old) (t.behind ++ Step row ∷ x.behind)
+    each = made_more so c (lines_of old) x.behind row t.behind x.each (subst so x.lines is) only.1 only.0
+
+-- the test whether the client has a call left
+pub has_still : (so : List Line → Type 0) (c : ℕ) (old p : Player) (found : Bool) → AreTurnsWhile so c old p → found ≡ is_some (next_command (calls_of p) (lines_of p) c) → found ≡ true → HasCall (calls_of old) c (lines_of p)
+has_still so c old p found x e t = rw x.script.calls at (sym e ∙ t)
+
+-- What it adds
+
+-- there is a value
+some_value : {X : Type 0} (o : Option X) → is_some o ≡ true → (x : X) × (o ≡ Some x)
+some_value None e = absurd cc
+some_value (Some x) e = (x, refl)
+
+-- it is a step of the client's call, or the call has its reply
+abbrev pub Moves : ℕ → List Line → List Line → Type 0
+Moves c old new = ((answered new c ≡ answered old c) × (steps new c ≡ suc (steps old c))) ⊎ ((answered new c ≡ suc (answered old c)) × (steps new c ≡ 0))
+
+-- equal options hold equal values
+some_same : (a b : ℕ) → Some a ≡ Some b → a ≡ b
+some_same a b e = cc
+
+-- a reply is one to the client that made the newest turn
+reply_moves : (calls : List Call) (c : ℕ) (older lines : List Line) (reply : ReplyOf) → IsReply calls lines reply → last_client lines ≡ Some c → answered lines c ≡ answered older c → Moves c older (Reply reply ∷ lines)
+reply_moves calls c older lines reply x last same =
+    let own : reply.client.0 ≡ c = some_same reply.client.0 c (sym x.client ∙ last) in
+    inr (rw (eq-eqb reply.client.0 c own) (ap suc same), rw (eq-eqb reply.client.0 c own) refl)
+
+-- no second reply stands behind one
+one_reply : (calls : List Call) (lines : List Line) (reply reply' : ReplyOf) → IsReply calls lines reply' → ¬ IsReply calls (Reply reply' ∷ lines) reply
+one_reply calls lines reply reply' x y =
+    let own : reply'.client.0 ≡ reply.client.0 = some_same reply'.client.0 reply.client.0 (sym x.client ∙ y.client) in
+    let none : None ≡ Some reply.begin = rw (eq-eqb reply'.client.0 reply.client.0 own) at y.begin in
+    cc
+
+-- a client that has a call left makes a step, or gets a reply, at its turn
+moves : (lay : Layout) (calls : List Call) (c : ℕ) (older : List Line) (row : Row) (behind : List Line) → AreLines lay calls (behind ++ Step row ∷ older) → OwesNothing lay calls (behind ++ Step row ∷ older) → clients behind ≡ [] → client_of row ≡ c → HasCall calls c older → Moves c older (behind ++ Step row ∷ older)
+unfolding AreLines
+moves lay calls c older (Made number row) [] x settled quiet own has = inl (refl, rw (eq-eqb row.pass.0 c own) refl)
+moves lay calls c older (Idle number client) [] x settled quiet own has = absurd (settled.reply (some_value (next_command calls older client.0) (rw own has)))
+moves lay calls c older (Made number row) (Log entry ∷ []) x settled quiet own has = inl (refl, rw (eq-eqb row.pass.0 c own) refl)
+moves lay calls c older (Idle number client) (Log entry ∷ []) x settled quiet own has = absurd (let y = x.1 in cc)
+moves lay calls c older row (Log entry ∷ Log entry' ∷ behind) x settled quiet own has = absurd (let y = x.1 in cc)
+moves lay calls c older row (Log entry ∷ Reply reply ∷ behind) x settled quiet own has = absurd (let y = x.1 in cc)
+moves lay calls c older row (Reply reply ∷ []) x settled quiet own has = reply_moves calls c older (Step row ∷ older) reply x.1.1 (ap (λ (n : ℕ). Some n) own) refl
+moves lay calls c older row (Reply reply ∷ Log entry ∷ []) x settled quiet own has = reply_moves calls c older (Log entry ∷ Step row ∷ older) reply x.1.1 (ap (λ (n : ℕ). Some n) own) refl
+moves lay calls c older row (Reply reply ∷ Log entry ∷ Log entry' ∷ behind) x settled quiet own has = absurd (let y = x.0.1 in cc)
+moves lay calls c older row (Reply reply ∷ Log entry ∷ Reply reply' ∷ behind) x settled quiet own has = absurd (let y = x.0.1 in cc)
+moves lay calls c older row (Reply reply ∷ Log entry ∷ Step row' ∷ behind) x settled quiet own has = absurd cc
+moves lay calls c older row (Reply reply ∷ Reply reply' ∷ behind) x settled quiet own has = absurd (one_reply calls (behind ++ Step row ∷ older) reply reply' x.0.1.1 x.1.1)
+moves lay calls c older row (Step row' ∷ behind) x settled quiet own has = absurd cc
+moves lay calls c older row (Log entry ∷ Step row' ∷ behind) x settled quiet own has = absurd cc
+moves lay calls c older row (Reply reply ∷ Step row' ∷ behind) x settled quiet own has = absurd cc
+
+-- no call may make more steps than a set
+most_few : (command : Command) → most_steps command ≤ 104
+most_few (Llx cell) = omega arith
+most_few (Scx update) = omega arith
+most_few (Vlx cells) = let few = cells.few in grind (arith, length-take)
+most_few (Set field value) = omega arith
+
+-- so the client of a lawful run has made few since its last reply
+steps_few : (lay : Layout) (calls : List Call) (lines : List Line) (c : ℕ) → AreLines lay calls lines → steps lines c ≤ 104
+unfolding AreLines
+steps_few lay calls [] c x = omega arith
+steps_few lay calls (Step (Made number row) ∷ lines) c x = go (eqb row.pass.0 c) refl (steps_few lay calls lines c x.0)
+  where
+    go : (b : Bool) → eqb row.pass.0 c ≡ b → steps lines c ≤ 104 → cond b (suc (steps lines c)) (steps lines c) ≤ 104
+    go true e before = let few = x.1.1.few in let most = most_few x.1.1.command in rw (sym (eqb-true row.pass.0 c e)) (omega arith)
+    go false e before = before
+steps_few lay calls (Step (Idle number client) ∷ lines) c x = steps_few lay calls lines c x.0
+steps_few lay calls (Log entry ∷ lines) c x = steps_few lay calls lines c x.0
+steps_few lay calls (Reply reply ∷ lines) c x = go (eqb reply.client.0 c) (steps_few lay calls lines c x.0)
+  where
+    go : (b : Bool) → steps lines c ≤ 104 → cond b 0 (steps lines c) ≤ 104
+    go true before = omega arith
+    go false before = before
+
+-- a client that makes a step or gets its reply has less to go
+nearer : (calls : List Call) (c : ℕ) (old new : List Line) → HasCall calls c old → steps old c ≤ 104 → Moves c old new → to_go calls c new < to_go calls c old
+nearer calls c old new has few m =
+    let x = some_value (next_command calls old c) has in
+    let below : answered old c < length (commands calls c) = slice_get_within (commands calls c) (answered old c) x.0 x.1 in
+    go below m
+  where
+    go : answered old c < length (commands calls c) → Moves c old new → to_go calls c new < to_go calls c old
+    go below (inl y) = rw (y.0, y.1) (omega arith)
+    go below (inr y) = rw (y.0, y.1) (omega arith)
+
+-- a turn of a player's client that has a call left
+pub turn_moves : (so : List Line → Type 0) (c : ℕ) (old p q : Player) (row : Row) → AreTurnsWhile so c old p → HasCall (calls_of old) c (lines_of p) → IsTurnMore p q c row → Moves c (lines_of p) (lines_of q)
+turn_moves so c old p q row x has t = subst (λ (l : List Line). Moves c (lines_of p) l) (sym t.lines) (moves p.script.layout (calls_of p) c (lines_of p) row t.behind
+    (rw (t.script.layout, t.script.calls, t.lines) at t.played.so_far.in_order) (rw (t.script.layout, t.script.calls, t.lines) at t.played.settled) only.0 only.1 (rw x.script.calls has))
+  where
+    only : (clients t.behind ≡ []) × (client_of row ≡ c)
+    only = only_turn t.behind row (lines_of p) c (ap (λ (l : List Line). clients l) (sym t.lines) ∙ t.turns)
+
+-- so each of its turns leaves it less to go
+pub turn_nearer : (so : List Line → Type 0) (c : ℕ) (old p q : Player) (row : Row) → AreTurnsWhile so c old p → HasCall (calls_of old) c (lines_of p) → IsTurnMore p q c row → to_go (calls_of old) c (lines_of q) < to_go (calls_of old) c (lines_of p)
+turn_nearer so c old p q row x has t = nearer (calls_of old) c (lines_of p) (lines_of q) has (steps_few p.script.layout (calls_of p) (lines_of p) c x.played.so_far.in_order) (turn_moves so c old p q row x has t)
+
+-- a client that had no reply more has at most one
+pub replies_more : (n c : ℕ) (old new : List Line) → answered old c ≡ n → Moves c old new → (answered new c ≡ n) ⊎ (answered new c ≡ suc n)
+replies_more n c old new e (inl m) = inl (m.0 ∙ e)
+replies_more n c old new e (inr m) = inr (m.0 ∙ ap suc e)
+
+-- the steps of a kind are one more where the turn made one
+made_by : (p q : Player) (c : ℕ) (row : Row) (kind : Kind) → IsTurnMore p q c row → made (lines_of q) c kind ≡ cond (is_of kind row) (suc (made (lines_of p) c kind)) (made (lines_of p) c kind)
+made_by p q c row kind t = ap (λ (l : List Line). made l c kind) t.lines ∙ quiet t.behind only.0 ∙ rw (eq-eqb (client_of row) c only.1) refl
+  where
+    only : (clients t.behind ≡ []) × (client_of row ≡ c)
+    only = only_turn t.behind row (lines_of p) c (ap (λ (l : List Line). clients l) (sym t.lines) ∙ t.turns)
+
+    quiet : (behind : List Line) → clients behind ≡ [] → made (behind ++ Step row ∷ lines_of p) c kind ≡ made (Step row ∷ lines_of p) c kind
+    quiet [] e = refl
+    quiet (Step r ∷ behind) e = absurd cc
+    quiet (Log entry ∷ behind) e = quiet behind e
+    quiet (Reply reply ∷ behind) e = quiet behind e
+
+-- and those that are still wanted are one fewer
+pub wanted_more : (c : ℕ) (kind : Kind) (times left : ℕ) (old p q : Player) (row : Row) → 0 < left → AreTurnsWhile (AwaitsSteps (calls_of old) c kind times (lines_of old)) c old p → made (lines_of p) c kind + left ≡ made (lines_of old) c kind + times → HasCall (calls_of old) c (lines_of p) → IsTurnMore p q c row → AreTurnsWhile (AwaitsSteps (calls_of old) c kind times (lines_of old)) c old q × (made (lines_of q) c kind + cond (is_of kind row) (left - 1) left ≡ made (lines_of old) c kind + times)
+wanted_more c kind times left old p q row some x e has t = (turn_more _ c old p q row x (has, omega arith) t, go (is_of kind row) (made_by p q c row kind t))
+  where
+    go : (is : Bool) → made (lines_of q) c kind ≡ cond is (suc (made (lines_of p) c kind)) (made (lines_of p) c kind) → made (lines_of q) c kind + cond is (left - 1) left ≡ made (lines_of old) c kind + times
+    go true m = omega arith
+    go false m = omega arith
