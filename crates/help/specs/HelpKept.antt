@@ -5,12 +5,12 @@ use Rattle.arena.specs.declared.step.Row.{Row}
 use Rattle.arena.specs.declared.step.Step.{Step}
 use Rattle.arena.specs.MemberNo.{index_of}
 use Rattle.arena.specs.Words.{info}
-use Rattle.arena.specs.History.{History, ◌⊳◌, HasHeld}
+use Rattle.arena.specs.History.{History, ◌⊳◌, HasHeld, EndsWith}
 use Rattle.arena.specs.ScxRecords.{member, seen, count}
 use Rattle.arena.specs.Fills.{IsNamedScx}
 use Rattle.arena.specs.Lawful.{Lawful, AreFrozen}
 use Rattle.arena.specs.Machines.{IsRun, Call}
-use Rattle.arena.proofs.Values.{held_more}
+use Rattle.arena.proofs.Values.{held_more, ends_self, ends_trans}
 use Rattle.histories.proofs.Changes.{lawful_row}
 use Rattle.histories.proofs.Facts.{descriptor, IsStuck, descriptor_same, won_more}
 use Rattle.histories.proofs.Moments.{descriptor_stays, named_more, finished_stays, all_frozen_stays, marked_stays}
@@ -18,7 +18,7 @@ use Rattle.histories.proofs.Helping.{IsStarted, started_more, over_stays, stuck_
 use Rattle.histories.proofs.Owners.{stays_free, own_words_stay}
 use Rattle.histories.proofs.Begins.{passed_stays}
 use Rattle.help.specs.AllowedLaws.{IsOutside, same_plan, same_member, same_seen, same_new, same_old, same_field, free_words, prepared_more, quiet_words, free_back}
-use Rattle.help.specs.HelpKnown.{IsServed, node_at, HasRead, Freezes, HasLost, IsBlocked, Blocked, Aborts, Frozen, Marks, help_known, help_step, help_waits}
+use Rattle.help.specs.HelpKnown.{IsServed, HasRead, Freezes, HasLost, IsBlocked, Blocked, Aborts, Frozen, Marks, help_known, help_step, help_waits}
 use Rattle.help.specs.declared.state.HelpRun.{HelpRun}
 use Rattle.help.specs.declared.state.HelpAt.{HelpAt}
 use Rattle.help.specs.declared.state.HelpAt.TheVariants.{Start, Plan as AtPlan, Member as AtMember, Seen as AtSeen, Freeze as AtFreeze, AllFrozen as AtAllFrozen, Abort as AtAbort, SetFrozen as AtSetFrozen, Mark as AtMark, New as AtNew, Old as AtOld, Update as AtUpdate, Commit as AtCommit}
@@ -32,13 +32,17 @@ module _ (h k : History) (m : HelpRun) (e : descriptor k m.scx.0 ≡ descriptor 
   pub read_more : (n : ℕ) → HasRead m h n → HasRead m k n
   read_more n x i p = x i p ∙ sym (same_member h k m.scx.0 e i)
 
-  pub blocked_same : (n v : ℕ) → HasHeld k (info n) v → IsBlocked h m.scx.0 n v → IsBlocked k m.scx.0 n v
+  pub blocked_same : (n v : ℕ) → EndsWith k h → IsBlocked h m.scx.0 n v → IsBlocked k m.scx.0 n v
   blocked_same n v p x = record {
     index = x.index;
     within = rw (same_plan h k m.scx.0 e) x.within;
     is = same_member h k m.scx.0 e x.index ∙ x.is;
     other = λ q. x.other (q ∙ same_seen h k m.scx.0 e x.index);
-    held = p;
+    not_own = x.not_own;
+    moment = x.moment;
+    since = ends_trans k h x.moment p x.since;
+    covered = x.covered;
+    held = x.held;
   }
 
 -- Whatever lawful row comes, of an SCX-record that an info word names
@@ -128,13 +132,13 @@ module _ (allows : Layout → History → ℕ → Type 0) (lay : Layout) (c : �
   blocked_more : (m : HelpRun) (j v : ℕ) → Blocked lay c h m j v → Blocked lay c (r ⊳ h) m j v
   blocked_more m j v x = record {
     over = ⊎_elim (λ y. inl (started_more r h m.scx.0 y.0, over_stays lay h r m.scx.0 l y.0 y.1)) (λ y. inr (lost_more m.scx.0 y)) x.over;
-    blocked = blocked_same h (r ⊳ h) m (over_words m _ x.over) _ v (held_more r h (info (node_at m.members j)) v x.blocked.held) x.blocked;
+    blocked = blocked_same h (r ⊳ h) m (over_words m _ x.over) _ v (inr (ends_self h)) x.blocked;
   }
 
   aborts_more : (m : HelpRun) (j v : ℕ) → Aborts lay c h m j v → Aborts lay c (r ⊳ h) m j v
   aborts_more m j v x = record {
     stuck = ⊎_elim (λ y. inl (started_more r h m.scx.0 y.0, subst (λ d. IsStuck d (r ⊳ h) m.scx.0) (sym (started_words lay h r l m.scx.0 y.0)) (stuck_stays lay h r m.scx.0 l y.0 y.1))) (λ y. inr (lost_more m.scx.0 y)) x.stuck;
-    blocked = blocked_same h (r ⊳ h) m (over_words m _ x.stuck) _ v (held_more r h (info (node_at m.members j)) v x.blocked.held) x.blocked;
+    blocked = blocked_same h (r ⊳ h) m (over_words m _ x.stuck) _ v (inr (ends_self h)) x.blocked;
   }
 
   -- so it keeps what is known at each place

@@ -13,7 +13,7 @@ use Rattle.arena.specs.declared.word.ScxWord.{ScxWord}
 use Rattle.arena.specs.declared.word.ScxWord.TheVariants.{AllFrozen, Plan, New, Old, Member, Seen}
 use Rattle.arena.specs.MemberNo.{index_of}
 use Rattle.arena.specs.Words.{scx, info, marked, state}
-use Rattle.arena.specs.History.{History, value, HasHeld}
+use Rattle.arena.specs.History.{History, value, EndsWith}
 use Rattle.arena.specs.ScxRecords.{plan, member, seen, new, old, count, is_removed, field}
 use Rattle.arena.specs.Fills.{IsNamed, IsNamedScx, IsOwnScx}
 use Rattle.arena.specs.Lawful.{AreFrozen, AllAreFrozen, HasWon}
@@ -56,13 +56,17 @@ pub record HasLost (lay : Layout) (c : ℕ) (h : History) (s : ℕ) : Type 0 whe
   pub rest : value h (state (seen h s 0)) ≢ 0
   pub passed : value h (info (member h s 0)) ≢ seen h s 0
 
--- a node's info was not what the SCX-record has seen there
+-- at a moment at which the SCX-record covered the node already, the node's info named something else, and not what the SCX-record has seen there
 pub record IsBlocked (h : History) (s n v : ℕ) : Type 0 where
   pub index : ℕ
   pub within : index < count h s
   pub is : member h s index ≡ n
   pub other : v ≢ seen h s index
-  pub held : HasHeld h (info n) v
+  pub not_own : v ≢ s
+  pub moment : History
+  pub since : EndsWith h moment
+  pub covered : index < count moment s
+  pub held : value moment (info n) ≡ v
 
 -- what is known of it: that it is over, or that it never begins
 pub record Blocked (lay : Layout) (c : ℕ) (h : History) (m : HelpRun) (j v : ℕ) : Type 0 where

@@ -12,7 +12,7 @@ use Rattle.arena.specs.History.{History, ◌⊳◌, value, HasHeld}
 use Rattle.arena.specs.ScxRecords.{member, seen, count}
 use Rattle.arena.specs.Lawful.{Lawful, IsExchange, AreFrozen}
 use Rattle.arena.specs.Machines.{IsRun, Call, row_of, IsTold}
-use Rattle.arena.proofs.Values.{value_at, value_apart, held_at, held_more, scx_word_apart}
+use Rattle.arena.proofs.Values.{value_at, value_apart, held_at, held_more, scx_word_apart, ends_self}
 use Rattle.histories.proofs.Changes.{lawful_tail}
 use Rattle.histories.proofs.Facts.{descriptor, descriptor_same}
 use Rattle.histories.proofs.Quiet.{not_state}
@@ -81,7 +81,7 @@ module _ (allows : Layout → History → ℕ → Type 0) (c : Call) (h : Histor
     over_at : Freezes allows c.layout c.pass (r ⊳ h) m (index_of j) (suc (index_of j)) → value (r ⊳ h) (info (member (r ⊳ h) m.scx.0 (index_of j))) ≢ seen (r ⊳ h) m.scx.0 (index_of j) → value (r ⊳ h) (info (member (r ⊳ h) m.scx.0 (index_of j))) ≢ m.scx.0 → Blocked c.layout c.pass (r ⊳ h) m (index_of j) (value (r ⊳ h) (info (member (r ⊳ h) m.scx.0 (index_of j))))
     over_at y d n = record {
       over = go y.served;
-      blocked = record { index = index_of j; within = y.within; is = sym read; other = d; held = rw read (held_at (r ⊳ h) (info (member (r ⊳ h) m.scx.0 (index_of j))) _ refl) };
+      blocked = record { index = index_of j; within = y.within; is = sym read; other = d; not_own = n; moment = r ⊳ h; since = ends_self (r ⊳ h); covered = y.within; held = rw read refl };
     }
       where
         read : node_at m.members (index_of j) ≡ member (r ⊳ h) m.scx.0 (index_of j)
@@ -151,7 +151,7 @@ module _ (allows : Layout → History → ℕ → Type 0) (c : Call) (h : Histor
   made_at (AtAllFrozen j e) v l t k = (quiet_known (AtAllFrozen j e) l k record { no_fill = refl; same = refl }, quiet_value (AtAllFrozen j e) l k v t refl)
   made_at (AtAbort j e) v l t k = (
     value_at (row_of c (help_step h m.scx.0 (AtAbort j e)) h) h (state m.scx.0) refl,
-    blocked_same h (row_of c (help_step h m.scx.0 (AtAbort j e)) h ⊳ h) m (abort_words j e) (node_at m.members (index_of j)) e (held_more (row_of c (help_step h m.scx.0 (AtAbort j e)) h) h (info (node_at m.members (index_of j))) e k.blocked.held) k.blocked,
+    blocked_same h (row_of c (help_step h m.scx.0 (AtAbort j e)) h ⊳ h) m (abort_words j e) (node_at m.members (index_of j)) e (inr (ends_self h)) k.blocked,
   )
   made_at AtSetFrozen v l t k =
       let q = frozen_more c.layout h (row_of c (help_step h m.scx.0 AtSetFrozen) h) l m k in

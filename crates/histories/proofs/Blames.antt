@@ -20,15 +20,17 @@ use Rattle.histories.proofs.Keeps.{Marks}
 use Rattle.histories.proofs.Freezes.{freeze_in_progress, freeze_keeps_scx, freeze_keeps_info, freeze_keeps_mark, freeze_stores, freeze_real}
 use Rattle.histories.proofs.Updates.{update_in_progress, update_keeps_scx, update_keeps_info, update_keeps_mark, update_flagged}
 use Rattle.histories.proofs.Always.{Effect, quiet, freeze, update, effect, facts, facts_before}
-use Rattle.histories.proofs.Moments.{descriptor_stays, named_scx_more}
+use Rattle.histories.proofs.Moments.{descriptor_stays, named_scx_more, sealed}
 use Rattle.histories.proofs.Members.{IsRemoved, is_removed_of}
 use Rattle.histories.proofs.Fields.{entry_of, Logs, same, wins, logs}
 use Rattle.histories.proofs.Entries.{removed_stays}
 
-earlier : {h m : History} {n s : ℕ} (r : Row) → WasInTheWay h m n s → WasInTheWay (r ⊳ h) m n s
+-- what was in the way before a row was so after it
+pub earlier : {h m : History} {n s : ℕ} (r : Row) → WasInTheWay h m n s → WasInTheWay (r ⊳ h) m n s
 earlier r x = record { row = x.row; before = x.before; within = inr x.within; since = x.since; running = x.running; covers = x.covers }
 
-member_of : (h : History) (s n : ℕ) → IsCell (descriptor h s) h s n → IsMember h s n
+-- a node that s has frozen is one that it covers
+pub member_of : (h : History) (s n : ℕ) → IsCell (descriptor h s) h s n → IsMember h s n
 member_of h s n c = record { index = c.index; within = c.within; is = c.is }
 
 -- the info of the node is no longer what it was
@@ -70,8 +72,8 @@ changed_word r h w d = go (same_word r.word w) refl
     go true e = word_same r.word w e
     go false e = absurd (d (value_other r h w e))
 
--- the node is marked and was not
-pub blame_mark : (lay : Layout) (h m : History) (n : ℕ) → Lawful lay h → EndsWith h m → value m (marked n) ≡ 0 → value h (marked n) ≢ 0 → (s : ℕ) × WasInTheWay h m n s
+-- the node is marked and was not: its info names what marked it
+pub blame_mark : (lay : Layout) (h m : History) (n : ℕ) → Lawful lay h → EndsWith h m → value m (marked n) ≡ 0 → value h (marked n) ≢ 0 → WasInTheWay h m n (value h (info n))
 blame_mark lay (Start mode) m n l e z d = absurd (d (ap (λ k. value k (marked n)) (sym e) ∙ z))
 blame_mark lay (r ⊳ h) m n l (inl e) z d = absurd (d (ap (λ k. value k (marked n)) (sym e) ∙ z))
 blame_mark lay (r ⊳ h) m n l (inr e) z d = go (ℕ_discrete (value h (marked n)) 0) (blame_mark lay h m n (lawful_tail lay h r l) e z)
@@ -79,29 +81,28 @@ blame_mark lay (r ⊳ h) m n l (inr e) z d = go (ℕ_discrete (value h (marked n
     f : Facts lay h
     f = facts_before lay h r l
 
-    go : Dec (value h (marked n) ≡ 0) → (value h (marked n) ≢ 0 → (s : ℕ) × WasInTheWay h m n s) → (s : ℕ) × WasInTheWay (r ⊳ h) m n s
-    go (no x) more = let y : (s : ℕ) × WasInTheWay h m n s = more x in (y.0, earlier r y.1)
+    go : Dec (value h (marked n) ≡ 0) → (value h (marked n) ≢ 0 → WasInTheWay h m n (value h (info n))) → WasInTheWay (r ⊳ h) m n (value (r ⊳ h) (info n))
+    go (no x) more = subst (λ s. WasInTheWay (r ⊳ h) m n s) (sym (sealed lay h r n (value h (info n)) l x refl)) (earlier r (more x))
     go (yes x) more = by_effect (effect lay h r l)
       where
-        marks : Marks h n (value (r ⊳ h) (marked n)) → (s : ℕ) × WasInTheWay (r ⊳ h) m n s
-        marks y =
+        marks : value (r ⊳ h) (info n) ≡ value h (info n) → Marks h n (value (r ⊳ h) (marked n)) → WasInTheWay (r ⊳ h) m n (value (r ⊳ h) (info n))
+        marks kept y =
             let u : ℕ = y.scx in
             let word : r.word ≡ marked n = changed_word r h (marked n) (λ q. d (q ∙ x)) in
             let real : u ≢ 0 = some_is_real f (f.flagged u (λ q. let a : value h (scx u AllFrozen) ≡ 1 = y.marker.flag in omega arith)).some in
-            let named : HasHeld h (info n) u = held_at h (info n) u y.marker.holds in (
-              u,
-              record {
-                row = r;
-                before = h;
-                within = inl refl;
-                since = e;
-                running = record { unfinished = value_apart r h (marked n) (state u) word refl ∙ y.running; named = (n, held_more r h _ u named) };
-                covers = member_of (r ⊳ h) u n ((facts lay (r ⊳ h) l).cell u n real (held_more r h _ u named));
-              },
-            )
+            let named : HasHeld h (info n) u = held_at h (info n) u y.marker.holds in
+            let way : WasInTheWay (r ⊳ h) m n u = record {
+              row = r;
+              before = h;
+              within = inl refl;
+              since = e;
+              running = record { unfinished = value_apart r h (marked n) (state u) word refl ∙ y.running; named = (n, held_more r h _ u named) };
+              covers = member_of (r ⊳ h) u n ((facts lay (r ⊳ h) l).cell u n real (held_more r h _ u named));
+            } in
+            subst (λ s. WasInTheWay (r ⊳ h) m n s) (sym (kept ∙ y.marker.holds)) way
 
-        by_effect : Effect lay h r → (s : ℕ) × WasInTheWay (r ⊳ h) m n s
-        by_effect (quiet k) = ⊎_elim (λ q. absurd (d (q ∙ x))) marks (k.mark n)
+        by_effect : Effect lay h r → WasInTheWay (r ⊳ h) m n (value (r ⊳ h) (info n))
+        by_effect (quiet k) = ⊎_elim (λ q. absurd (d (q ∙ x))) (marks (k.info n)) (k.mark n)
         by_effect (freeze u j w) = absurd (d (freeze_keeps_mark f w n ∙ x))
         by_effect (update u w) = absurd (d (update_keeps_mark f w n ∙ x))
 

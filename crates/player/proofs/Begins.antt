@@ -1,23 +1,33 @@
 -- What calls need to begin.
-use Rattle.std.proofs.Common.{◌≡◌, ◌≢◌, ℕ, suc, ◌+◌, ◌<◌, ◌≤◌, inl, List, Option, Some, None, refl, sym, ◌∙◌, ap, arith, length, zero, [], ◌∷◌, ◌⊎◌, ⊎_elim, eqb, eqb-true, eq-eqb, slice_index_or, slice_get, get_or, nat_lt, map, AllPairs, Contains, MatchOption, Bool, true, false}
+use Rattle.std.proofs.Common.{◌≡◌, ◌≢◌, ℕ, suc, ◌+◌, ◌<◌, ◌≤◌, inl, List, Option, Some, None, refl, sym, ◌∙◌, ap, subst, arith, length, zero, [], ◌∷◌, ◌⊎◌, ⊎_elim, slice_index_or, slice_get, get_or, nat_lt, map, AllPairs, Contains, MatchOption, Bool, true, false}
 use Rattle.arena.specs.declared.layout.Layout.{Layout}
 use Rattle.arena.specs.declared.limits.Mode.TheVariants.{Records}
 use Rattle.arena.specs.Layout.{opening_nodes}
-use Rattle.arena.specs.History.{History}
+use Rattle.arena.specs.History.{History, value}
 use Rattle.arena.proofs.Values.{ends_self}
 use Rattle.prims.specs.LlxKnown.{IsOpened}
-use Rattle.prims.specs.VlxKnown.{AllLinked}
+use Rattle.prims.specs.Cells.{allows_all}
+use Rattle.prims.proofs.LlxAnswers.{ready_at_start}
+use Rattle.script.specs.Cells.{cells_of}
+use Rattle.script.specs.Update.{update_cells, update_finalize, update_field, update_value}
+use Rattle.arena.specs.declared.number.NodeNo.{NodeNo}
+use Rattle.arena.specs.declared.word.Side.{Side}
+use Rattle.player.specs.declared.kept.Found.{Found}
+use Rattle.player.specs.LawfulRun.{AreLinked}
+use Rattle.player.specs.Kept.{AllKept, IsUsable, IsFirstUnkept, kept_of}
+use Rattle.player.proofs.Puts.{vlx_ready_first}
+use Rattle.player.proofs.Over.{all_over, all_idle, taken_one, taken_none}
+use Rattle.player.proofs.Ends.{among_none, are_linked}
+use Rattle.player.proofs.Putting.{full_answer}
 use Rattle.prims.specs.Snaps.{AreDistinct, IsAmong}
 use Rattle.prims.specs.declared.snap.Snap.{Snap}
 use Rattle.prims.specs.LlxSteps.{llx_left}
 use Rattle.prims.specs.VlxSteps.{vlx_left}
 use Rattle.script.specs.Cells.{cells_of}
-use Rattle.std.specs.List.{list_any}
 use Rattle.std.proofs.Math.Logic.{∥∥₁_elim}
 use Rattle.std.proofs.lemmas.List.{length-map}
-use Rattle.std.proofs.lemmas.Bool.{or_left}
-use Rattle.histories.proofs.Helds.{or_split, or_right}
 use Rattle.prims.proofs.Snapshots.{among}
+use Rattle.player.proofs.Snapshots.{has_snap, snap_there, snap_found, kept_linked, first_unlinked}
 use Rattle.prims.specs.VlxKnown.{snap_at}
 use Rattle.prims.specs.declared.llx.LlxRun.{LlxRun}
 use Rattle.prims.specs.declared.llx.LlxAt.TheVariants.{Start}
@@ -28,9 +38,11 @@ use Rattle.player.specs.declared.run.Run.TheVariants.{Llx, Vlx}
 use Rattle.player.specs.declared.client.Client.{Client}
 use Rattle.player.specs.declared.client.Put.{Put}
 use Rattle.player.specs.declared.record.Answer.{Answer}
-use Rattle.player.specs.LawfulRun.{most_steps, IsAnswerAtOnce}
+use Rattle.player.specs.declared.record.Answer.TheVariants.{Unlinked}
+use Rattle.player.specs.LawfulRun.{most_steps, AreLinked}
 use Rattle.player.specs.RunSteps.{then_left}
-use Rattle.player.specs.View.{View, Rests, Starts, IsLlxOf, command_of, GoesOn, IsFull, Puts, Begins, Stood}
+use Rattle.prims.specs.ScxKnown.{nodes_of}
+use Rattle.player.specs.View.{View, no_hand, IsSound, Rests, Refuses, Starts, IsLlxOf, IsUnbegun, command_of, machine_call, GoesOn, CanPut, Puts, Begins, Stood}
 use Rattle.player.specs.declared.client.Standing.{Standing}
 use Rattle.player.specs.declared.client.Standing.TheVariants.{Finished, Answers, Asks}
 use Rattle.script.specs.declared.command.Call.{Call}
@@ -44,6 +56,13 @@ cell_opened lay h n e i = record { in_field = inl early; inside = let a = early 
     early : n < opening_nodes lay.mode
     early = rw e (omega arith)
 
+none_late : (won : Option ℕ) (turn begin : ℕ) → won ≡ None → won ≡ Some turn → begin ≤ turn
+none_late won turn begin e d = cc
+
+-- what is kept of no node
+pub nothing_kept : {X : Type 0} {found : Option Found} {f : Found} → found ≡ None → found ≡ Some f → X
+nothing_kept e d = absurd (cc)
+
 -- an LLX from its start, and the SCX that may follow it, make no more steps than their command may
 llx_few : (command : Command) (n : ℕ) (then : Option Put) → IsLlxOf command n then → llx_left Start + then_left then ≤ most_steps command
 llx_few (LlxCommand cell) n None f = omega arith
@@ -54,21 +73,21 @@ llx_few (ScxCommand update) n then f = absurd f
 llx_few (VlxCommand cells) n then f = absurd f
 
 -- an LLX of a cell
-pub llx_starts : (v : View) (c : Client) (m : LlxRun) (then : Option Put) (command : Command) → v.layout.mode ≡ Records → Rests v c → m.at ≡ Start → m.node.0 ≤ 8 → command_of v c ≡ Some command → IsLlxOf command m.node.0 then → v.steps ≡ 0 → Starts v c (Llx m) then
-llx_starts v c m then command mode r start i is f none = record {
-  works = record { stands = r.stands; newest = tt; command = command; is = is; run_of = f; is_pass = r.stands.is_pass; start = v.past; since = ends_self v.past };
+pub llx_starts : (v : View) (began : Option ℕ) (c : Client) (m : LlxRun) (then : Option Put) (command : Command) → IsSound v → v.layout.mode ≡ Records → Rests v c → IsUnbegun v began → m.at ≡ Start → m.node.0 ≤ 8 → command_of v c ≡ Some command → IsLlxOf command m.node.0 then → Starts v c (Llx m) then
+llx_starts v began c m then command sound mode r u start i is f = record {
+  works = record { stands = r.stands; newest = tt; command = command; is = is; run_of = (i, f); is_pass = r.stands.is_pass; start = v.past; since = ends_self v.past; begun = sym u.start; moments = λ j p. absurd (omega arith); room = tt; took = taken_none v c.pass.0 (no_hand c.share) u.start; won = u.won; late = λ turn e. none_late v.won turn c.begin u.won e };
   none = r.none;
-  ready = record { opened = cell_opened v.layout v.past m.node.0 mode i; known = rw start tt; told = start };
-  few = let few = llx_few command m.node.0 then f in rw (none, start) (omega arith);
+  ready = ready_at_start allows_all m (machine_call v c r.stands.is_pass v.past) v.past refl start (cell_opened v.layout v.past m.node.0 mode i) (all_idle v.layout v.past c.pass.0 c.share _ _ sound.lawful r.stands.share r.stands.over);
+  few = let few = llx_few command m.node.0 then f in rw (u.steps, start) (omega arith);
 }
 
 -- a VLX of usable snapshots
-pub vlx_starts : (v : View) (c : Client) (m : VlxRun) (cells : _) → Rests v c → m.asked ≡ 0 → 0 < length m.snaps.items → AllLinked v.layout v.past m.snaps.items → command_of v c ≡ Some (VlxCommand cells) → v.steps ≡ 0 → vlx_left m ≡ length (cells_of cells) → Starts v c (Vlx m) None
-vlx_starts v c m cells r start some l is none left = record {
-  works = record { stands = r.stands; newest = tt; command = VlxCommand cells; is = is; run_of = tt; is_pass = r.stands.is_pass; start = v.past; since = ends_self v.past };
+pub vlx_starts : (v : View) (began : Option ℕ) (c : Client) (m : VlxRun) (cells : _) → IsSound v → Rests v c → IsUnbegun v began → m.asked ≡ 0 → 0 < length m.snaps.items → nodes_of m.snaps.items ≡ cells_of cells → ((i : ℕ) → i < length m.snaps.items → (moment : History) × (v.linked (snap_at m.snaps.items i).node.0 ≡ Some moment) × IsUsable v.layout c.pass.0 v.past (snap_at m.snaps.items i) moment) → command_of v c ≡ Some (VlxCommand cells) → vlx_left m ≡ length (cells_of cells) → Starts v c (Vlx m) None
+vlx_starts v began c m cells sound r u start some nodes l is left = record {
+  works = record { stands = r.stands; newest = tt; command = VlxCommand cells; is = is; run_of = nodes; is_pass = r.stands.is_pass; start = v.past; since = ends_self v.past; begun = sym u.start; moments = λ i p. let x = l i p in record { moment = x.0; found = x.2.found; source = x.1 }; room = tt; took = taken_none v c.pass.0 (no_hand c.share) u.start; won = u.won; late = λ turn e. none_late v.won turn c.begin u.won e };
   none = r.none;
-  ready = (start, some, l);
-  few = omega (arith, none, left);
+  ready = vlx_ready_first v.layout c.pass.0 c.number r.stands.is_pass v.past m start some (λ i p. let x = l i p in (x.0, x.2)) (all_over v.layout v.past c.pass.0 c.share _ _ r.stands.share r.stands.over);
+  few = omega (arith, u.steps, left);
 }
 
 -- as many snapshots as cells
@@ -95,20 +114,6 @@ distinct_snaps snaps cells e d i j p q n same = ⊎_elim (λ less. differ i j le
     differ i j less q = rw e (d i j 0 less (rw (sym e) (rw (length-map snaps (λ (s : Snap). s.node.0)) q)))
 
 -- a cell of those has a snapshot
-has_snap : List Snap → ℕ → Bool
-has_snap snaps n = list_any (λ (s : Snap). eqb s.node.0 n) snaps
-
-snap_there : (snaps : List Snap) (n : ℕ) → has_snap snaps n ≡ true → IsAmong snaps n
-unfolding has_snap
-snap_there [] n e = absurd cc
-snap_there (s ∷ snaps) n e = ⊎_elim (λ q. record { at = 0; within = omega arith; is = eqb-true s.node.0 n q }) (λ q. let x = snap_there snaps n q in record { at = suc x.at; within = let y = x.within in omega arith; is = x.is }) (or_split (eqb s.node.0 n) (has_snap snaps n) e)
-
-snap_found : (snaps : List Snap) (n i : ℕ) → i < length snaps → (snap_at snaps i).node.0 ≡ n → has_snap snaps n ≡ true
-unfolding has_snap
-snap_found [] n i p e = absurd (omega arith)
-snap_found (s ∷ snaps) n zero p e = or_left (eqb s.node.0 n) (has_snap snaps n) (eq-eqb s.node.0 n e)
-snap_found (s ∷ snaps) n (suc i) p e = or_right (eqb s.node.0 n) (has_snap snaps n) (snap_found snaps n i (omega arith) e)
-
 pub among_snaps : (snaps : List Snap) (cells : List ℕ) (n : ℕ) → map (λ (s : Snap). s.node.0) snaps ≡ cells → ∥ Contains cells n ∥₁ → IsAmong snaps n
 among_snaps snaps cells n e x = go (has_snap snaps n) refl
   where
@@ -118,19 +123,52 @@ among_snaps snaps cells n e x = go (has_snap snaps n) refl
 
 -- what is known of a client does not ask when its call began
 pub rests_at : (v : View) (c : Client) (turn : ℕ) → Rests v c → Rests v (record c { begin = turn })
-rests_at v c turn r = record { stands = record { is_pass = r.stands.is_pass; number = r.stands.number; place = r.stands.place; kept = r.stands.kept; share = r.stands.share }; none = r.none }
+rests_at v c turn r = record { stands = record { is_pass = r.stands.is_pass; number = r.stands.number; place = r.stands.place; kept = r.stands.kept; unkept = r.stands.unkept; dropped = r.stands.dropped; share = r.stands.share; over = r.stands.over }; none = r.none }
 
 -- a call that runs has begun
 pub begins_run : (v : View) (old new : Client) (turn : ℕ) (answer : Option Answer) → (answer ≡ None) × GoesOn v (record old { begin = turn }) new → Begins v turn old new answer
 begins_run v old new turn answer x = rw x.0 (record { pass = x.1.same.pass; number = x.1.same.number; next = x.1.same.next }, x.1.begin, (x.1.running, x.1.is, x.1.waits))
 
--- a full share is a refusal of an SCX
-full_refused : (update : _) (answer : Answer) → IsFull answer → IsAnswerAtOnce (ScxCommand update) answer
-full_refused update answer f = rw f.is tt
+-- a client at rest keeps a snapshot of each cell of which one is said
+unkept_is : (v : View) (c : Client) → Rests v c → (n : ℕ) → n ≤ 8 → kept_of c.kept n ≡ None → v.linked n ≡ None
+unkept_is v c r n i e = ⊎_elim (λ z. absurd (among_none n z)) (λ z. z) (r.stands.unkept n i e)
 
-pub begins_put : (v : View) (old new : Client) (update : _) (answer : Option Answer) → command_of v old ≡ Some (ScxCommand update) → Puts v old new answer → Begins v old.begin old new answer
-begins_put v old new update None is p = (p.same, p.begin, (p.running, p.is, p.waits))
-begins_put v old new update (Some answer) is p = (p.0, p.1, record { rests = p.2; command = ScxCommand update; is = rw p.0.pass is; refusal = full_refused update answer p.3 })
+-- what is kept of different cells is given to an SCX
+pub scx_can_put : (v : View) (began : Option ℕ) (c : Client) (update : _) (snaps : List Snap) (finalize : List NodeNo) (field : NodeNo × Side) (x : ℕ) → Rests v c → IsUnbegun v began → command_of v c ≡ Some (ScxCommand update) → AllKept c.kept snaps → nodes_of snaps ≡ update_cells update → map (λ (n : NodeNo). n.0) finalize ≡ update_finalize update → (field.0.0 ≡ (update_field update).0) × (field.1 ≡ (update_field update).1) → x ≡ update_value update → CanPut v v.linked c snaps (map (λ (n : NodeNo). n.0) finalize) (field.0.0, field.1) x
+scx_can_put v began c update snaps finalize field x r u is kept nodes removed at value = record {
+  rests = record { stands = r.stands; none = r.none };
+  others = λ n d. refl;
+  since = rw u.start (ends_self v.past);
+  unwon = u.won;
+  usable = λ i p. let y = l i p in (y.0, y.2);
+  command = ScxCommand update;
+  is = is;
+  moments = λ i p. let y = l i p in record { moment = y.0; found = y.2.found; source = y.1 };
+  took = taken_none v c.pass.0 (no_hand c.share) u.start;
+  serves = λ m z. record { called = z.called; covers = z.covers ∙ nodes; finalizes = rw (sym removed) z.finalizes; node = z.node ∙ at.0; side = z.side ∙ at.1; value = z.value ∙ value };
+  few = omega (arith, u.steps);
+}
+  where
+    l : (i : ℕ) → i < length snaps → (moment : History) × (v.linked (snap_at snaps i).node.0 ≡ Some moment) × IsUsable v.layout c.pass.0 v.past (snap_at snaps i) moment
+    l = kept_linked v.layout c.pass.0 v.past v.linked c.kept snaps kept r.stands.kept
+
+-- each cell of what is kept has its snapshot
+pub scx_linked : (v : View) (c : Client) (command : Command) (snaps : List Snap) (cells : List ℕ) → Rests v c → AllKept c.kept snaps → nodes_of snaps ≡ cells → AreLinked v.linked cells
+scx_linked v c command snaps cells r kept nodes = are_linked v c command snaps cells nodes (λ i p. let y = kept_linked v.layout c.pass.0 v.past v.linked c.kept snaps kept r.stands.kept i p in (y.0, y.1))
+
+pub begins_put : (v : View) (began : Option ℕ) (old new : Client) (update : _) (answer : Option Answer) → IsUnbegun v began → command_of v old ≡ Some (ScxCommand update) → AreLinked v.linked (update_cells update) → Puts v v.linked old new answer → Begins v old.begin old new answer
+begins_put v began old new update None u is linked p = (p.same, p.begin, (p.running, p.is, p.waits))
+begins_put v began old new update (Some answer) u is linked p =
+    let w = full_answer v.layout v.past new.pass.0 new.share answer p.2.stands.share p.3 in
+    subst (λ (a : Answer). Begins v old.begin old new (Some a)) (sym w.is)
+    (p.0, p.1, record { rests = record { stands = p.2.stands; none = p.2.none }; command = ScxCommand update; is = rw p.0.pass is; refusal = tt; right = (linked, w.empty); unwon = u.won; took = taken_one v new.pass.0 (no_hand new.share) (taken_none v new.pass.0 (no_hand new.share) u.start) })
+
+-- a cell without a snapshot is a refusal of an SCX and of a VLX
+pub scx_unlinked : (v : View) (began : Option ℕ) (c : Client) (update : _) (node : NodeNo) → Rests v c → IsUnbegun v began → command_of v c ≡ Some (ScxCommand update) → IsFirstUnkept c.kept (update_cells update) node.0 → Refuses v c (Unlinked node)
+scx_unlinked v began c update node r u is x = record { rests = r; command = ScxCommand update; is = is; refusal = tt; right = first_unlinked v.layout c.pass.0 v.past v.linked c.kept (update_cells update) node.0 r.stands.kept (unkept_is v c r) x; unwon = u.won; took = taken_one v c.pass.0 (no_hand c.share) (taken_none v c.pass.0 (no_hand c.share) u.start) }
+
+pub vlx_unlinked : (v : View) (began : Option ℕ) (c : Client) (cells : _) (node : NodeNo) → Rests v c → IsUnbegun v began → command_of v c ≡ Some (VlxCommand cells) → IsFirstUnkept c.kept (cells_of cells) node.0 → Refuses v c (Unlinked node)
+vlx_unlinked v began c cells node r u is x = record { rests = r; command = VlxCommand cells; is = is; refusal = tt; right = first_unlinked v.layout c.pass.0 v.past v.linked c.kept (cells_of cells) node.0 r.stands.kept (unkept_is v c r) x; unwon = u.won; took = taken_one v c.pass.0 (no_hand c.share) (taken_none v c.pass.0 (no_hand c.share) u.start) }
 
 some_call : (a b : Call) → Some a ≡ Some b → a ≡ b
 some_call a b e = cc

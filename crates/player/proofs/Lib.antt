@@ -1,10 +1,17 @@
+pub mod Over
+pub mod Puts
 pub mod Views
 pub mod Clients
+pub mod Ends
+pub mod Putting
 pub mod Begins
+pub mod Begun
+pub mod Entered
 pub mod Middles
 pub mod Steps
 pub mod Stands
 pub mod Commands
+pub mod MayMakes
 pub mod Snapshots
 pub mod Winners
 pub mod Plays

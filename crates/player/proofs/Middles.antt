@@ -1,7 +1,8 @@
 -- What each line leaves of what is true in the middle of a turn.
-use Rattle.std.proofs.Common.{◌≡◌, ◌≢◌, ℕ, zero, suc, ◌+◌, ◌<◌, ◌≤◌, Bool, true, false, inl, inr, List, [], ◌∷◌, set, length, Option, Some, None, slice_get, refl, sym, ◌∙◌, ap, subst, ne_eqb, eq-eqb, arith}
+use Rattle.std.proofs.Common.{◌≡◌, ◌≢◌, ℕ, zero, suc, ◌+◌, ◌<◌, ◌≤◌, Bool, true, false, cond, eqb, eqb-true, is_some, inl, inr, List, [], ◌∷◌, set, length, Option, Some, None, MatchOption, slice_get, refl, sym, ◌∙◌, ap, subst, ne_eqb, eq-eqb, arith}
 use Rattle.std.proofs.lemmas.Option.{slice_get_within}
 use native.Mathlib.Decide.{ℕ_discrete}
+use Rattle.arena.specs.declared.limits.Mode.{Mode}
 use Rattle.arena.specs.declared.layout.Layout.{Layout}
 use Rattle.arena.specs.declared.number.PassNo.{PassNo}
 use Rattle.arena.specs.declared.step.Row.{Row}
@@ -17,7 +18,7 @@ use Rattle.arena.specs.declared.step.Kind.TheVariants.{Update}
 use Rattle.arena.specs.Lawful.{IsLawful}
 use Rattle.arena.specs.Log.{owner}
 use Rattle.histories.proofs.Changes.{lawful_row}
-use Rattle.player.proofs.Winners.{winner_holds, owner_is, info_kept, call_kept}
+use Rattle.player.proofs.Winners.{tells_won, winner_holds, owner_is, info_kept, call_kept}
 use Rattle.player.specs.declared.player.Player.{Player}
 use Rattle.arena.specs.Words.{same_word, info, scx as scx_word}
 use Rattle.arena.specs.PlainWords.{Contents, held, IsChanged}
@@ -35,43 +36,67 @@ use Rattle.player.specs.declared.record.Row.TheVariants.{Step as Made, Idle}
 use Rattle.player.specs.declared.record.Reply.{Reply}
 use Rattle.player.specs.declared.record.Entry.{Entry}
 use Rattle.player.specs.declared.record.Answer.{Answer}
+use Rattle.player.specs.declared.record.Answer.TheVariants.{Snapshot, Finalized, Fail, Done, Lost, Same, Changed, Unlinked, Full}
+use Rattle.script.specs.declared.command.Command.TheVariants.{Llx as LlxOf, Scx as ScxOf, Vlx as VlxOf, Set as SetOf}
 use Rattle.player.specs.declared.client.Client.{Client}
 use Rattle.player.specs.Lines.{newest}
-use Rattle.player.specs.Turns.{history, turns, entries, answered, steps, begin, last_client, entry_owed, entry_at}
-use Rattle.player.specs.LawfulRun.{next_command, IsFitting, OwesNothing, IsNext, AreLines}
-use Rattle.player.specs.View.{view, Rests, IsClient, IsBehind, Refuses}
-use Rattle.player.specs.Played.{IsSoFar, AreOthers, IsTurnOf, IsBetween, IsMade}
-use Rattle.player.proofs.Views.{client_by_others}
+use Rattle.player.specs.Turns.{history, turns, entries, answered, begin, start, steps, won, last_client, entry_of, entry_owed, entry_at}
+use Rattle.player.specs.LawfulRun.{next_command, linked, moment_of, HasTakenOne, IsEntered, IsAnswerAtOnce, IsFitting, IsRight, IsReply, OwesNothing, IsNext, AreLines}
+use Rattle.player.specs.View.{View, view, no_hand, linked_by, Rests, IsClient, IsBehind, Refuses}
+use Rattle.player.specs.Played.{IsSoFar, AreOthers, IsTurnOf, IsBetween, IsMade, IsEnd, AreWins}
+use Rattle.player.proofs.Views.{TellsWon, client_by_others, stands_from}
+use Rattle.player.proofs.Begun.{some_turn, start_kept, begin_within, won_within}
+use Rattle.player.proofs.Ends.{entered_none}
 
 -- Others
 
-pub others_step : (lay : Layout) (calls : List Call) (clients : List Client) (lines : List Line) (i number : ℕ) (row : Row) → IsRun allows_all lay (row ⊳ history lay.mode lines) → row.pass.0 ≡ i → AreOthers lay calls clients lines i → AreOthers lay calls clients (Step (Made number row) ∷ lines) i
-others_step lay calls clients lines i number row run is x j c d get =
+pub others_step : (lay : Layout) (calls : List Call) (clients : List Client) (lines : List Line) (i number : ℕ) (row : Row) → IsRun allows_all lay (history lay.mode lines) → IsRun allows_all lay (row ⊳ history lay.mode lines) → row.pass.0 ≡ i → number ≡ suc (turns lines) → AreLines lay calls lines → AreOthers lay calls clients lines i → AreOthers lay calls clients (Step (Made number row) ∷ lines) i
+others_step lay calls clients lines i number row sound run is turn so_far x j c d get =
     let y = x j c d get in
-    (y.0, rw (ne_eqb row.pass.0 j (λ e. d (sym e ∙ is))) (client_by_others (view lay calls lines j) c row run (λ e. d (sym y.0 ∙ sym e ∙ is)) (begin lines j) y.1))
+    let tells = subst (λ (k : ℕ). TellsWon (view lay calls lines j) k row number (won lay (Step (Made number row) ∷ lines) j)) (sym y.0) (tells_won lay lines number row run.lawful calls j) in (
+      y.0,
+      rw (ne_eqb row.pass.0 j (λ e. d (sym e ∙ is))) (client_by_others (view lay calls lines j) c row number (cond (is_some (begin lines j)) (start lay.mode lines j) (row ⊳ history lay.mode lines)) (won lay (Step (Made number row) ∷ lines) j) sound run tells (λ e. d (sym y.0 ∙ sym e ∙ is)) (begin lines j)
+          (λ e. rw e refl) (λ k e. (rw e refl, let late = begin_within lay calls lines j k so_far e in omega (arith, turn))) y.1),
+    )
 
 others_idle : (lay : Layout) (calls : List Call) (clients : List Client) (lines : List Line) (i number : ℕ) (pass : PassNo) → pass.0 ≡ i → AreOthers lay calls clients lines i → AreOthers lay calls clients (Step (Idle number pass) ∷ lines) i
-others_idle lay calls clients lines i number pass is x j c d get = let y = x j c d get in (y.0, rw (ne_eqb pass.0 j (λ e. d (sym e ∙ is))) y.1)
+others_idle lay calls clients lines i number pass is x j c d get =
+    let y = x j c d get in
+    (y.0, rw (ne_eqb pass.0 j (λ e. d (sym e ∙ is))) (subst (λ (k : History). IsClient (record { layout = lay; calls = calls; past = history lay.mode lines; answered = answered lines j; start = k; steps = steps lines j; won = won lay lines j; linked = linked calls lay.mode lines j }) (begin lines j) c) (sym (start_kept lay.mode lines j)) y.1))
 
 -- an entry tells the clients nothing
 pub others_log : (lay : Layout) (calls : List Call) (clients : List Client) (lines : List Line) (i : ℕ) (entry : Entry) → AreOthers lay calls clients lines i → AreOthers lay calls clients (Log entry ∷ lines) i
 others_log lay calls clients lines i entry x = x
 
+-- a reply of another client leaves the snapshots
+linked_other : (calls : List Call) (mode : Mode) (lines : List Line) (reply : Reply) (c n : ℕ) → reply.client.0 ≢ c → linked calls mode (ReplyLine reply ∷ lines) c n ≡ linked calls mode lines c n
+linked_other calls mode lines reply c n d = rw (ne_eqb reply.client.0 c d) refl
+
 others_reply : (lay : Layout) (calls : List Call) (clients : List Client) (lines : List Line) (i : ℕ) (reply : Reply) → reply.client.0 ≡ i → AreOthers lay calls clients lines i → AreOthers lay calls clients (ReplyLine reply ∷ lines) i
-others_reply lay calls clients lines i reply is x j c d get = let y = x j c d get in (y.0, rw (ne_eqb reply.client.0 j (λ e. d (sym e ∙ is))) y.1)
+others_reply lay calls clients lines i reply is x j c d get =
+    let y = x j c d get in
+    let other : reply.client.0 ≢ j = λ e. d (sym e ∙ is) in
+    let same : linked calls lay.mode lines j ≡ linked calls lay.mode (ReplyLine reply ∷ lines) j = λ k n. sym (linked_other calls lay.mode lines reply j n other) k in
+    (y.0, rw (ne_eqb reply.client.0 j other) (subst (λ (l : ℕ → Option History). IsClient (record { layout = lay; calls = calls; past = history lay.mode lines; answered = answered lines j; start = start lay.mode lines j; steps = steps lines j; won = won lay lines j; linked = l }) (begin lines j) c) same y.1))
 
--- one client is changed
-get_other : (clients : List Client) (i j : ℕ) (new : Client) → j ≢ i → slice_get (set clients i new) j ≡ slice_get clients j
+-- one element is changed
+pub get_other : {X : Type 0} (xs : List X) (i j : ℕ) (new : X) → j ≢ i → slice_get (set xs i new) j ≡ slice_get xs j
 get_other [] i j new d = refl
-get_other (c ∷ clients) zero zero new d = absurd (d refl)
-get_other (c ∷ clients) zero (suc j) new d = refl
-get_other (c ∷ clients) (suc i) zero new d = refl
-get_other (c ∷ clients) (suc i) (suc j) new d = get_other clients i j new (λ e. d (ap suc e))
+get_other (x ∷ xs) zero zero new d = absurd (d refl)
+get_other (x ∷ xs) zero (suc j) new d = refl
+get_other (x ∷ xs) (suc i) zero new d = refl
+get_other (x ∷ xs) (suc i) (suc j) new d = get_other xs i j new (λ e. d (ap suc e))
 
-pub get_own : (clients : List Client) (i : ℕ) (old new : Client) → slice_get clients i ≡ Some old → slice_get (set clients i new) i ≡ Some new
+pub get_own : {X : Type 0} (xs : List X) (i : ℕ) (old new : X) → slice_get xs i ≡ Some old → slice_get (set xs i new) i ≡ Some new
 get_own [] i old new e = absurd cc
-get_own (c ∷ clients) zero old new e = refl
-get_own (c ∷ clients) (suc i) old new e = get_own clients i old new e
+get_own (x ∷ xs) zero old new e = refl
+get_own (x ∷ xs) (suc i) old new e = get_own xs i old new e
+
+-- there is one at each place
+pub get_there : {X : Type 0} (xs : List X) (i : ℕ) → i < length xs → (x : X) × (slice_get xs i ≡ Some x)
+get_there [] i p = absurd (omega arith)
+get_there (x ∷ xs) zero p = (x, refl)
+get_there (x ∷ xs) (suc i) p = get_there xs i (omega arith)
 
 -- its turn goes on with the client changed
 pub turn_changed : (lay : Layout) (calls : List Call) (words : Contents) (clients : List Client) (lines : List Line) (old new : Client) → new.pass ≡ old.pass → IsTurnOf lay calls words clients lines old → IsTurnOf lay calls words (set clients old.pass.0 new) lines new
@@ -121,11 +146,11 @@ step_made lay calls old new lines number row changed run next x = record {
     go w i false e = changed.others w (rw x.layout i) (word_apart row.word w e) ∙ x.holds w i ∙ sym (value_other row (history lay.mode lines) w e)
 
 -- The turn of a client with no call left
-pub finished_turn : (lay : Layout) (calls : List Call) (words : Contents) (clients : List Client) (lines : List Line) (c : Client) (number : ℕ) (pass : PassNo) → OwesNothing lay calls lines → IsTurnOf lay calls words clients lines c → Rests (view lay calls lines c.pass.0) c → steps lines c.pass.0 ≡ 0 → c.next ≡ None → number ≡ suc (turns lines) → pass ≡ c.pass → IsBetween lay calls words clients (Step (Idle number pass) ∷ lines)
-finished_turn lay calls words clients lines c number pass settled x r unmoved none n is =
+pub finished_turn : (lay : Layout) (calls : List Call) (words : Contents) (clients : List Client) (lines : List Line) (c : Client) (number : ℕ) (pass : PassNo) → OwesNothing lay calls lines → IsTurnOf lay calls words clients lines c → Rests (view lay calls lines c.pass.0) c → c.next ≡ None → number ≡ suc (turns lines) → pass ≡ c.pass → IsBetween lay calls words clients (Step (Idle number pass) ∷ lines)
+finished_turn lay calls words clients lines c number pass settled x r none n is =
     turn_ends lay calls words clients (Step (Idle number pass) ∷ lines) c
     record { entry = refl; reply = λ y. let a = y.1 in let b = over in cc }
-    (inl (record { stands = r.stands; none = r.none }, unmoved, inl none))
+    (inl (record { stands = stands_from (view lay calls lines c.pass.0) c _ _ (no_hand c.share) r.stands; none = r.none }, inl none))
     record {
       so_far = so_far_same lay calls words lines (Step (Idle number pass)) refl (settled, record { is_pass = rw (ap (λ (p : PassNo). p.0) is) r.stands.is_pass; in_turn = n; idle = inl over }) x.so_far;
       others = others_idle lay calls clients lines c.pass.0 number pass (ap (λ (p : PassNo). p.0) is) x.others;
@@ -138,10 +163,10 @@ finished_turn lay calls words clients lines c number pass settled x r unmoved no
 -- A reply
 
 -- the client stands at its next call
-behind : (lay : Layout) (calls : List Call) (lines : List Line) (old new : Client) (command : Command) → length calls ≤ 65536 → Rests (view lay calls lines old.pass.0) old → next_command calls lines old.pass.0 ≡ Some command → IsBehind calls old new → Rests (record { layout = lay; calls = calls; past = history lay.mode lines; answered = suc (answered lines old.pass.0); steps = 0 }) new
-behind lay calls lines old new command few r is b = go old.next refl
+behind : (lay : Layout) (calls : List Call) (lines : List Line) (old new : Client) (command : Command) (said : ℕ → Option History) → length calls ≤ 65536 → Rests (record (view lay calls lines old.pass.0) { linked = said }) old → next_command calls lines old.pass.0 ≡ Some command → IsBehind calls old new → Rests (record { layout = lay; calls = calls; past = history lay.mode lines; answered = suc (answered lines old.pass.0); start = history lay.mode lines; steps = 0; won = None; linked = said }) new
+behind lay calls lines old new command said few r is b = go old.next refl
   where
-    go : (next : Option ℕ) → old.next ≡ next → Rests (record { layout = lay; calls = calls; past = history lay.mode lines; answered = suc (answered lines old.pass.0); steps = 0 }) new
+    go : (next : Option ℕ) → old.next ≡ next → Rests (record { layout = lay; calls = calls; past = history lay.mode lines; answered = suc (answered lines old.pass.0); start = history lay.mode lines; steps = 0; won = None; linked = said }) new
     go None e =
         let none : next_command calls lines old.pass.0 ≡ None = rw (sym r.stands.number) (none_left calls old.pass.0 old.number (rw e at r.stands.place)) in
         absurd cc
@@ -150,60 +175,233 @@ behind lay calls lines old new command few r is b = go old.next refl
         let small : old.number < length calls = number_small calls old.pass.0 old.number at place in
         let within : at < length calls = slice_get_within calls at _ place.1 in
         let number : new.number ≡ suc old.number = b.number at e (omega arith) in
-        subst (λ (n : Client). Rests (record { layout = lay; calls = calls; past = history lay.mode lines; answered = suc (answered lines old.pass.0); steps = 0 }) n) (sym b.same)
+        subst (λ (n : Client). Rests (record { layout = lay; calls = calls; past = history lay.mode lines; answered = suc (answered lines old.pass.0); start = history lay.mode lines; steps = 0; won = None; linked = said }) n) (sym b.same)
         record {
           stands = record {
             is_pass = r.stands.is_pass;
             number = number ∙ ap suc r.stands.number;
             place = rw number (place_more calls old.pass.0 old.number at place new.next (b.next at e (omega arith)));
             kept = r.stands.kept;
+            unkept = r.stands.unkept;
+            dropped = r.stands.dropped;
             share = r.stands.share;
+            over = r.stands.over;
           };
           none = r.none;
         }
 
+-- what is known of a call that has ended, but for its reply
+pub record IsOver (lay : Layout) (calls : List Call) (lines : List Line) (i : ℕ) (c : Client) (command : Command) (answer : Answer) : Type 0 where
+  pub is : next_command calls lines i ≡ Some command
+  pub rests : Rests (record (view lay calls lines i) { linked = linked_by (view lay calls lines i) command answer }) c
+  pub number : c.number ≡ answered lines i
+  pub began : begin lines i ≡ Some c.begin
+  pub last : last_client lines ≡ Some i
+  pub owed : entry_owed lay lines ≡ None
+  pub fits : IsFitting lines command answer
+  pub right : IsRight lay i (history lay.mode lines) (start lay.mode lines i) (linked calls lay.mode lines i) command answer
+  pub entry : IsEntered answer (won lay lines i)
+  pub took : HasTakenOne lay i (history lay.mode lines) (start lay.mode lines i)
+  pub late : (turn : ℕ) → won lay lines i ≡ Some turn → c.begin ≤ turn
+
+-- what the lines say to the client once its reply is written down
+view_replied : (lay : Layout) (calls : List Call) (lines : List Line) (reply : Reply) (command : Command) (c : ℕ) → reply.client.0 ≡ c → next_command calls lines c ≡ Some command → (let v : View = record { layout = lay; calls = calls; past = history lay.mode lines; answered = suc (answered lines c); start = history lay.mode lines; steps = 0; won = None; linked = linked_by (view lay calls lines c) command reply.answer } in v) ≡ view lay calls (ReplyLine reply ∷ lines) c
+view_replied lay calls lines reply command c is next = λ i. record {
+  layout = lay;
+  calls = calls;
+  past = history lay.mode lines;
+  answered = sym (ap (λ (b : Bool). cond b (suc (answered lines c)) (answered lines c)) here) i;
+  start = sym (ap (λ (b : Bool). cond b (history lay.mode lines) (start lay.mode lines c)) here) i;
+  steps = sym (ap (λ (b : Bool). cond b 0 (steps lines c)) here) i;
+  won = sym (ap (λ (b : Bool). cond b None (won lay lines c)) here) i;
+  linked = λ n. said n i;
+}
+  where
+    here : eqb reply.client.0 c ≡ true
+    here = eq-eqb reply.client.0 c is
+
+    said : (n : ℕ) → linked_by (view lay calls lines c) command reply.answer n ≡ linked calls lay.mode (ReplyLine reply ∷ lines) c n
+    said n = rw (here, next) refl
+
+-- the moment of an answer is that of the lines
+moment_same : (answer : Answer) (first last : ℕ) (said won : Option ℕ) → IsEntered answer won → ((turn : ℕ) → won ≡ Some turn → said ≡ Some turn) → moment_of answer first last said ≡ moment_of answer first last won
+moment_same Done first last said (Some turn) x f = f turn refl
+moment_same Done first last said None x f = absurd x
+moment_same (Snapshot left right) first last said won x f = refl
+moment_same Finalized first last said won x f = refl
+moment_same (Fail node scx) first last said won x f = refl
+moment_same (Lost node scx) first last said won x f = refl
+moment_same Same first last said won x f = refl
+moment_same (Changed node scx) first last said won x f = refl
+moment_same (Unlinked node) first last said won x f = refl
+moment_same (Full what left) first last said won x f = refl
+
+-- and lies between the first turn and the last
+moment_within : (answer : Answer) (first last m : ℕ) (won : Option ℕ) → first ≤ last → ((turn : ℕ) → won ≡ Some turn → (first ≤ turn) × (turn ≤ last)) → moment_of answer first last won ≡ Some m → (first ≤ m) × (m ≤ last)
+moment_within Done first last m won i f e = f m e
+moment_within (Snapshot left right) first last m won i f e = let same : last ≡ m = some_turn last m e in (omega arith, omega arith)
+moment_within Finalized first last m won i f e = let same : last ≡ m = some_turn last m e in (omega arith, omega arith)
+moment_within Same first last m won i f e = let same : first ≡ m = some_turn first m e in (omega arith, omega arith)
+moment_within (Fail node scx) first last m won i f e = cc
+moment_within (Lost node scx) first last m won i f e = cc
+moment_within (Changed node scx) first last m won i f e = cc
+moment_within (Unlinked node) first last m won i f e = cc
+moment_within (Full what left) first last m won i f e = cc
+
 -- the reply to a call that has ended
-pub replied : (lay : Layout) (calls : List Call) (words : Contents) (clients : List Client) (lines : List Line) (old new : Client) (reply : Reply) (command : Command) → length calls ≤ 65536 → IsTurnOf lay calls words clients lines old → Rests (view lay calls lines old.pass.0) old → next_command calls lines old.pass.0 ≡ Some command → begin lines old.pass.0 ≡ Some old.begin → last_client lines ≡ Some old.pass.0 → entry_owed lay lines ≡ None → IsFitting lines command reply.answer → reply.client ≡ old.pass → reply.call ≡ old.number → reply.begin ≡ old.begin → reply.end ≡ turns lines → IsBehind calls old new → IsBetween lay calls words (set clients old.pass.0 new) (ReplyLine reply ∷ lines)
-replied lay calls words clients lines old new reply command few x r is began last entry fits client call begun end b =
+pub replied : (lay : Layout) (calls : List Call) (words : Contents) (clients : List Client) (lines : List Line) (old new : Client) (answer : Answer) (said : Option ℕ) (reply : Reply) (command : Command) (number : ℕ) → length calls ≤ 65536 → IsTurnOf lay calls words clients lines old → IsOver lay calls lines old.pass.0 old command answer → ((turn : ℕ) → won lay lines old.pass.0 ≡ Some turn → said ≡ Some turn) → number ≡ turns lines → IsEnd calls old new number answer said reply → IsBetween lay calls words (set clients old.pass.0 new) (ReplyLine reply ∷ lines)
+replied lay calls words clients lines old new answer said reply command number few x o wins n e =
     turn_ends lay calls words (set clients old.pass.0 new) (ReplyLine reply ∷ lines) new
     record { entry = refl; reply = λ y. y }
-    (rw (eq-eqb reply.client.0 new.pass.0 (ap (λ (p : PassNo). p.0) client ∙ sym (ap (λ (p : PassNo). p.0) pass)))
-    (inl (subst (λ (k : ℕ). Rests (record { layout = lay; calls = calls; past = history lay.mode lines; answered = suc (answered lines k); steps = 0 }) new) (ap (λ (p : PassNo). p.0) (sym pass)) (behind lay calls lines old new command few r is b), refl, inr refl)))
+    (inl (
+      rests,
+      inr record {
+        none = rw here refl;
+        start = rw here refl;
+        steps = rw here refl;
+        won = rw here refl;
+      },
+    ))
     (turn_changed lay calls words clients (ReplyLine reply ∷ lines) old new pass record {
-      so_far = so_far_same lay calls words lines (ReplyLine reply) refl (
-        entry,
-        record {
-          client = last ∙ ap (λ (p : PassNo). Some p.0) (sym client);
-          call = call ∙ r.stands.number ∙ ap (λ (p : PassNo). answered lines p.0) (sym client);
-          begin = ap (λ (p : PassNo). begin lines p.0) client ∙ began ∙ ap (λ (k : ℕ). Some k) (sym begun);
-          end = end;
-          command = command;
-          is = ap (λ (p : PassNo). next_command calls lines p.0) client ∙ is;
-          fits = fits;
-        },
-      ) x.so_far;
-      others = others_reply lay calls clients lines old.pass.0 reply (ap (λ (p : PassNo). p.0) client) x.others;
+      so_far = so_far_same lay calls words lines (ReplyLine reply) refl (o.owed, is_reply) x.so_far;
+      others = others_reply lay calls clients lines old.pass.0 reply client x.others;
       own = x.own;
     })
   where
     pass : new.pass ≡ old.pass
-    pass = ap (λ (k : Client). k.pass) b.same
+    pass = ap (λ (k : Client). k.pass) e.behind.same
+
+    client : reply.client.0 ≡ old.pass.0
+    client = ap (λ (p : PassNo). p.0) e.client
+
+    to_new : reply.client.0 ≡ new.pass.0
+    to_new = client ∙ ap (λ (p : PassNo). p.0) (sym pass)
+
+    here : eqb reply.client.0 new.pass.0 ≡ true
+    here = eq-eqb reply.client.0 new.pass.0 to_new
+
+    rests : Rests (view lay calls (ReplyLine reply ∷ lines) new.pass.0) new
+    rests =
+        subst (λ (k : ℕ). Rests (view lay calls (ReplyLine reply ∷ lines) k) new) (ap (λ (p : PassNo). p.0) (sym pass))
+        (subst (λ (v : View). Rests v new) (view_replied lay calls lines reply command old.pass.0 client o.is)
+        (behind lay calls lines old new command (linked_by (view lay calls lines old.pass.0) command reply.answer) few (rw e.answers o.rests) o.is e.behind))
+
+    begins : old.begin ≤ turns lines
+    begins = begin_within lay calls lines old.pass.0 old.begin x.so_far.in_order o.began
+
+    moment : reply.moment ≡ moment_of reply.answer reply.begin reply.end (won lay lines old.pass.0)
+    moment = rw (e.answers, e.begin, e.end) (e.moment ∙ moment_same answer old.begin number said (won lay lines old.pass.0) o.entry wins)
+
+    within : (m : ℕ) → reply.moment ≡ Some m → (reply.begin ≤ m) × (m ≤ reply.end)
+    within m q = moment_within reply.answer reply.begin reply.end m (won lay lines old.pass.0) (rw (e.begin, e.end, n) begins) (λ turn w. (rw e.begin (o.late turn w), rw (e.end, n) (won_within lay calls lines old.pass.0 turn x.so_far.in_order w))) (sym moment ∙ q)
+
+    is_reply : IsReply lay calls lines reply
+    is_reply = record {
+      client = o.last ∙ ap (λ (k : ℕ). Some k) (sym client);
+      call = e.call ∙ o.number ∙ ap (λ (k : ℕ). answered lines k) (sym client);
+      begin = ap (λ (k : ℕ). begin lines k) client ∙ o.began ∙ ap (λ (k : ℕ). Some k) (sym e.begin);
+      end = e.end ∙ n;
+      command = command;
+      is = ap (λ (k : ℕ). next_command calls lines k) client ∙ o.is;
+      fits = rw e.answers o.fits;
+      right = subst (λ (k : ℕ). IsRight lay k (history lay.mode lines) (start lay.mode lines k) (linked calls lay.mode lines k) command reply.answer) (sym client) (rw e.answers o.right);
+      took = subst (λ (k : ℕ). HasTakenOne lay k (history lay.mode lines) (start lay.mode lines k)) (sym client) o.took;
+      moment = subst (λ (k : ℕ). reply.moment ≡ moment_of reply.answer reply.begin reply.end (won lay lines k)) (sym client) moment;
+      within = within;
+      entry = subst (λ (k : ℕ). IsEntered reply.answer (won lay lines k)) (sym client) (rw e.answers o.entry);
+    }
 
 -- The turn of a client whose call is refused
-pub refused_turn : (lay : Layout) (calls : List Call) (words : Contents) (clients : List Client) (lines : List Line) (c new : Client) (number : ℕ) (pass : PassNo) (answer : Answer) (reply : Reply) → length calls ≤ 65536 → OwesNothing lay calls lines → IsTurnOf lay calls words clients lines c → Refuses (view lay calls lines c.pass.0) c answer → begin lines c.pass.0 ≡ None → c.begin ≡ number → number ≡ suc (turns lines) → pass ≡ c.pass → reply.answer ≡ answer → reply.client ≡ c.pass → reply.call ≡ c.number → reply.begin ≡ c.begin → reply.end ≡ number → IsBehind calls c new → IsBetween lay calls words (set clients c.pass.0 new) (ReplyLine reply ∷ Step (Idle number pass) ∷ lines)
-refused_turn lay calls words clients lines c new number pass answer reply few settled x r unbegun begins n is fits client call begun end b =
-    replied lay calls words clients (Step (Idle number pass) ∷ lines) c new reply r.command few
+
+-- a refusal in place of a first step leaves the snapshots, and is no done SCX
+record IsRefusal (v : View) (command : Command) (answer : Answer) : Type 0 where
+  leaves : (n : ℕ) → linked_by v command answer n ≡ v.linked n
+  not_done : answer ≡ Done → ⊥
+
+is_refusal : (v : View) (command : Command) (answer : Answer) → IsAnswerAtOnce command answer → IsRefusal v command answer
+is_refusal v (ScxOf update) (Unlinked node) x = record { leaves = λ n. refl; not_done = λ e. cc }
+is_refusal v (ScxOf update) (Full what left) x = record { leaves = λ n. refl; not_done = λ e. cc }
+is_refusal v (VlxOf cells) (Unlinked node) x = record { leaves = λ n. refl; not_done = λ e. cc }
+is_refusal v (ScxOf update) (Snapshot left right) x = absurd x
+is_refusal v (ScxOf update) Finalized x = absurd x
+is_refusal v (ScxOf update) (Fail node scx) x = absurd x
+is_refusal v (ScxOf update) Done x = absurd x
+is_refusal v (ScxOf update) (Lost node scx) x = absurd x
+is_refusal v (ScxOf update) Same x = absurd x
+is_refusal v (ScxOf update) (Changed node scx) x = absurd x
+is_refusal v (VlxOf cells) (Snapshot left right) x = absurd x
+is_refusal v (VlxOf cells) Finalized x = absurd x
+is_refusal v (VlxOf cells) (Fail node scx) x = absurd x
+is_refusal v (VlxOf cells) Done x = absurd x
+is_refusal v (VlxOf cells) (Lost node scx) x = absurd x
+is_refusal v (VlxOf cells) Same x = absurd x
+is_refusal v (VlxOf cells) (Changed node scx) x = absurd x
+is_refusal v (VlxOf cells) (Full what left) x = absurd x
+is_refusal v (LlxOf cell) answer x = absurd x
+is_refusal v (SetOf field value) answer x = absurd x
+
+pub refused_turn : (lay : Layout) (calls : List Call) (words : Contents) (clients : List Client) (lines : List Line) (c new : Client) (number : ℕ) (pass : PassNo) (answer : Answer) (said : Option ℕ) (reply : Reply) → length calls ≤ 65536 → OwesNothing lay calls lines → IsTurnOf lay calls words clients lines c → Refuses (view lay calls lines c.pass.0) c answer → begin lines c.pass.0 ≡ None → c.begin ≡ number → number ≡ suc (turns lines) → pass ≡ c.pass → IsEnd calls c new number answer said reply → IsBetween lay calls words (set clients c.pass.0 new) (ReplyLine reply ∷ Step (Idle number pass) ∷ lines)
+refused_turn lay calls words clients lines c new number pass answer said reply few settled x r unbegun begins n is e =
+    replied lay calls words clients (Step (Idle number pass) ∷ lines) c new answer said reply r.command number few
     record {
       so_far = so_far_same lay calls words lines (Step (Idle number pass)) refl (settled, record { is_pass = rw is0 r.rests.stands.is_pass; in_turn = n; idle = inr (rw is0 unbegun) }) x.so_far;
       others = others_idle lay calls clients lines c.pass.0 number pass is0 x.others;
       own = x.own;
     }
-    record { stands = r.rests.stands; none = r.rests.none } r.is
-    (rw (eq-eqb pass.0 c.pass.0 is0) (ap (λ (k : ℕ). Some k) (rw unbegun (sym begins))))
-    (ap (λ (k : ℕ). Some k) is0) refl (rw fits r.refusal) client call begun (end ∙ n) b
+    record {
+      is = r.is;
+      rests = subst (λ (l : ℕ → Option History). Rests (record (view lay calls (Step (Idle number pass) ∷ lines) c.pass.0) { linked = l }) c) (λ k m. sym (refusal.leaves m) k)
+          record { stands = stands_from (view lay calls lines c.pass.0) c _ _ (no_hand c.share) r.rests.stands; none = r.rests.none };
+      number = r.rests.stands.number;
+      began = rw (eq-eqb pass.0 c.pass.0 is0) (ap (λ (k : ℕ). Some k) (rw unbegun (sym begins)));
+      last = ap (λ (k : ℕ). Some k) is0;
+      owed = refl;
+      fits = r.refusal;
+      right = rw (eq-eqb pass.0 c.pass.0 is0) r.right;
+      entry = entered_none answer (won lay lines c.pass.0) r.unwon refusal.not_done;
+      took = rw (eq-eqb pass.0 c.pass.0 is0) r.took;
+      late = λ turn w. never turn w (c.begin ≤ turn);
+    }
+    (λ turn w. never turn w (said ≡ Some turn)) n e
   where
     is0 : pass.0 ≡ c.pass.0
     is0 = ap (λ (p : PassNo). p.0) is
+
+    refusal : IsRefusal (view lay calls lines c.pass.0) r.command answer
+    refusal = is_refusal (view lay calls lines c.pass.0) r.command answer r.refusal
+
+    never : (turn : ℕ) → won lay lines c.pass.0 ≡ Some turn → (X : Type 0) → X
+    never turn w X = absurd (let none : won lay lines c.pass.0 ≡ None = r.unwon in cc)
+
+-- The turns of updates
+
+-- a turn without a step and a reply leave those that are remembered
+pub wins_idle : (lay : Layout) (lines : List Line) (number : ℕ) (pass : PassNo) (wins : List (Option ℕ)) → AreWins lay lines wins → AreWins lay (Step (Idle number pass) ∷ lines) wins
+wins_idle lay lines number pass wins x c turn e = x c turn e
+
+pub wins_reply : (lay : Layout) (lines : List Line) (reply : Reply) (wins : List (Option ℕ)) → AreWins lay lines wins → AreWins lay (ReplyLine reply ∷ lines) wins
+wins_reply lay lines reply wins x c turn e = go (eqb reply.client.0 c) e
+  where
+    go : (b : Bool) → cond b None (won lay lines c) ≡ Some turn → slice_get wins c ≡ Some (Some turn)
+    go true d = cc
+    go false d = x c turn d
+
+-- a step that wins is remembered with its turn
+pub wins_step : (lay : Layout) (lines pushed after : List Line) (number passes : ℕ) (row : Row) (old new : List (Option ℕ)) → length old ≡ passes → pushed ≡ Step (Made number row) ∷ lines → MatchOption (entry_owed lay pushed) (after ≡ pushed) (λ e. after ≡ Log e ∷ pushed) → MatchOption (entry_owed lay pushed) (new ≡ old) (λ e. (e.client.0 < passes) × (new ≡ set old e.client.0 (Some number))) → AreWins lay lines old → AreWins lay after new
+wins_step lay lines pushed after number passes row old new many line is changed x c turn e = go (entry_owed lay (Step (Made number row) ∷ lines)) refl (rw line at is) (rw line at changed)
+  where
+    go : (owed : Option Entry) → entry_of lay lines number row ≡ owed → MatchOption owed (after ≡ Step (Made number row) ∷ lines) (λ e. after ≡ Log e ∷ Step (Made number row) ∷ lines) → MatchOption owed (new ≡ old) (λ e. (e.client.0 < passes) × (new ≡ set old e.client.0 (Some number))) → slice_get new c ≡ Some (Some turn)
+    go None d same kept =
+        let w : won lay lines c ≡ Some turn = rw d at (rw same at e) in
+        rw kept (x c turn w)
+    go (Some entry) d same put = at_client (eqb entry.client.0 c) refl (rw d at (rw same at e))
+      where
+        at_client : (b : Bool) → eqb entry.client.0 c ≡ b → cond (eqb entry.client.0 c) (Some number) (won lay lines c) ≡ Some turn → slice_get new c ≡ Some (Some turn)
+        at_client true q w =
+            let same_turn : number ≡ turn = some_turn number turn (rw q at w) in
+            let there = get_there old entry.client.0 (omega (arith, put.0, many)) in
+            rw put.1 (subst (λ (k : ℕ). slice_get (set old entry.client.0 (Some number)) k ≡ Some (Some turn)) (eqb-true entry.client.0 c q) (get_own old entry.client.0 there.0 (Some number) there.1 ∙ ap (λ (k : ℕ). Some (Some k)) same_turn))
+        at_client false q w = rw put.1 (get_other old entry.client.0 c (Some number) (λ z. let t : eqb entry.client.0 c ≡ true = eq-eqb entry.client.0 c (sym z) in cc) ∙ x c turn (rw q at w))
 
 -- The entry of the newest step
 

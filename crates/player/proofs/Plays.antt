@@ -1,11 +1,14 @@
 -- What is true of a player before its first turn and after its last.
-use Rattle.std.proofs.Common.{◌≡◌, ℕ, zero, suc, ◌+◌, ◌<◌, List, [], ◌∷◌, ◌++◌, length, map, reverse, take, get_or, Some, slice_get, inl, inr, refl, sym, ◌∙◌, ap, subst}
+use Rattle.std.proofs.Common.{◌≡◌, ℕ, zero, suc, ◌+◌, ◌<◌, List, [], ◌∷◌, ◌++◌, length, map, reverse, take, get_or, Option, Some, slice_get, inl, inr, refl, sym, ◌∙◌, ap, subst}
 use Rattle.std.proofs.lemmas.List.{map_more, reverse-append}
 use Rattle.arena.specs.declared.layout.Layout.{Layout}
 use Rattle.arena.specs.PlainWords.{Contents, IsOpening}
 use Rattle.arena.specs.History.{value}
 use Rattle.arena.specs.Lawful.{Lawful}
 use Rattle.arena.specs.Shape.{Shaped}
+use Rattle.histories.proofs.Entries.{once}
+use Rattle.histories.proofs.Fields.{fields_are}
+use Rattle.histories.proofs.Moments.{lawful_since}
 use Rattle.histories.proofs.Finals.{finalized_since}
 use Rattle.script.specs.declared.command.Call.{Call}
 use Rattle.player.specs.declared.client.Client.{Client}
@@ -14,7 +17,7 @@ use Rattle.player.specs.Lines.{newest}
 use Rattle.player.specs.Turns.{history, clients}
 use Rattle.player.specs.View.{view, Rests}
 use Rattle.player.specs.LawfulRun.{AreLines, IsLawfulRun}
-use Rattle.player.specs.Played.{IsBetween, IsPlayed}
+use Rattle.player.specs.Played.{IsBetween, IsPlayed, AreWins}
 
 -- words as they are at the start, and clients that rest, are between two turns
 pub opening_between : (lay : Layout) (calls : List Call) (words : Contents) (all : List Client) → words.layout ≡ lay → IsOpening words → ((j : ℕ) (d : Client) → slice_get all j ≡ Some d → (d.pass.0 ≡ j) × Rests (view lay calls [] j) d) → IsBetween lay calls words all []
@@ -27,17 +30,23 @@ opening_between lay calls words all same opening each = record {
     in_order = tt;
   };
   settled = record { entry = refl; reply = λ y. y };
-  each = λ j d get. let y = each j d get in (y.0, inl (y.1, refl, inr refl));
+  each = λ j d get. let y = each j d get in (y.0, inl (y.1, inr record { none = refl; start = refl; steps = refl; won = refl }));
 }
+
+-- no update has won before the first turn
+pub no_wins : (lay : Layout) (wins : List (Option ℕ)) → AreWins lay [] wins
+no_wins lay wins c turn e = cc
 
 -- the lines of a player are a lawful run of the turns that it made
 pub played_record : (p : Player) → IsPlayed p → (turns : List ℕ) → clients (newest p.lines) ≡ reverse turns → IsLawfulRun p.script.layout p.script.calls.items turns p.lines.list.items
 played_record p x turns e = record {
   turns = e;
-  in_order = x.so_far.in_order;
-  settled = x.settled;
-  lawful = x.so_far.sound.lawful;
-  finalized = λ past n part ends final. finalized_since p.script.layout (history p.script.layout.mode (newest p.lines)) past n part x.so_far.sound.lawful ends final;
+  in_order = x.between.so_far.in_order;
+  settled = x.between.settled;
+  lawful = x.between.so_far.sound.lawful;
+  spell = λ past n side e. fields_are p.script.layout past n side (lawful_since p.script.layout (history p.script.layout.mode (newest p.lines)) past x.between.so_far.sound.lawful e);
+  once = once p.script.layout (history p.script.layout.mode (newest p.lines)) x.between.so_far.sound.lawful;
+  finalized = λ past n part ends final. finalized_since p.script.layout (history p.script.layout.mode (newest p.lines)) past n part x.between.so_far.sound.lawful ends final;
 }
 
 -- what holds of each element, with its place, and of one more holds of all with that one at the end

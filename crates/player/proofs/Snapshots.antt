@@ -1,47 +1,108 @@
 -- What is kept once a snapshot is kept, or some are dropped.
-use Rattle.std.proofs.Common.{◌≡◌, ℕ, zero, suc, ◌⊎◌, inl, inr, Bool, true, false, if◌then◌else◌, List, [], ◌∷◌, get_or, Option, Some, None, refl, sym, ap, subst}
+use Rattle.std.proofs.Common.{◌≡◌, ◌≢◌, ℕ, zero, suc, ◌<◌, ◌≤◌, ◌⊎◌, inl, inr, ⊎_elim, Bool, true, false, if◌then◌else◌, cond, eqb, eqb-true, eq-eqb, ne_eqb, List, [], ◌∷◌, length, get_or, Option, Some, None, IsSome, refl, sym, ◌∙◌, ap, subst, arith}
 use Rattle.std.proofs.Math.ListN.{set}
+use Rattle.std.specs.List.{list_any}
+use Rattle.std.proofs.lemmas.Bool.{or_left}
+use Rattle.histories.proofs.Helds.{or_split, or_right}
+use native.Mathlib.Decide.{ℕ_discrete}
 use Rattle.arena.specs.declared.layout.Layout.{Layout}
 use Rattle.arena.specs.History.{History}
-use Rattle.prims.specs.Linked.{IsLinked}
-use Rattle.prims.specs.VlxKnown.{AllLinked, snap_at}
+use Rattle.prims.specs.VlxKnown.{snap_at}
+use Rattle.prims.specs.Snaps.{IsAmong}
 use Rattle.prims.specs.declared.snap.Snap.{Snap}
 use Rattle.prims.specs.declared.llx.Llx.{Llx}
-use Rattle.prims.specs.declared.llx.Llx.TheVariants.{Snapshot, Finalized, Fail}
 use Rattle.player.specs.declared.kept.Found.{Found}
 use Rattle.player.specs.declared.kept.Kept.{Kept}
-use Rattle.player.specs.Kept.{AreKept, AllKept, kept_of, node_of, found_of, parts, snap_of}
+use Rattle.player.specs.Kept.{AreKept, AllKept, IsUsable, IsFirstUnkept, kept_of, node_of, found_of, parts, snap_of}
+use Rattle.player.specs.LawfulRun.{IsFirstUnlinked}
 
 -- what is read after a write was written, or stood there before
-read_after : {X : Type 0} (xs : List (Option X)) (i n : ℕ) (y : Option X) (x : X) → get_or (set xs i y) n None ≡ Some x → ((n ≡ i) × (y ≡ Some x)) ⊎ (get_or xs n None ≡ Some x)
-read_after [] i n y x e = inr e
-read_after (z ∷ zs) zero zero y x e = inl (refl, e)
-read_after (z ∷ zs) zero (suc n) y x e = inr e
-read_after (z ∷ zs) (suc i) zero y x e = inr e
-read_after (z ∷ zs) (suc i) (suc n) y x e = elim (read_after zs i n y x e) [ inl h ↦ inl (ap suc h.0, h.1) | inr h ↦ inr h ]
+read_there : {X : Type 0} (xs : List (Option X)) (i : ℕ) (y : Option X) → i < length xs → get_or (set xs i y) i None ≡ y
+read_there [] i y p = absurd (omega arith)
+read_there (z ∷ zs) zero y p = refl
+read_there (z ∷ zs) (suc i) y p = read_there zs i y (omega arith)
 
--- what an LLX found may be kept if its snapshot may be used
-found_linked : (lay : Layout) (h : History) (llx : Llx) → ((snap : Snap) → llx ≡ Snapshot snap → IsLinked lay h snap) → (found : Found) → found_of llx ≡ Some found → IsLinked lay h (snap_of (node_of llx) found)
-found_linked lay h (Snapshot snap) f found e = let same : parts snap ≡ found = cc in subst (λ (x : Found). IsLinked lay h (snap_of snap.node.0 x)) same (f snap refl)
-found_linked lay h (Finalized node scx) f found e = cc
-found_linked lay h (Fail node scx) f found e = cc
+read_other : {X : Type 0} (xs : List (Option X)) (i n : ℕ) (y : Option X) → n ≢ i → get_or (set xs i y) n None ≡ get_or xs n None
+read_other [] i n y d = refl
+read_other (z ∷ zs) zero zero y d = absurd (d refl)
+read_other (z ∷ zs) zero (suc n) y d = refl
+read_other (z ∷ zs) (suc i) zero y d = refl
+read_other (z ∷ zs) (suc i) (suc n) y d = read_other zs i n y (λ e. d (ap suc e))
 
--- after an LLX, what is kept may be used if its snapshot may
-pub kept_after : (lay : Layout) (h : History) (old new : Kept) (llx : Llx) → new.found ≡ set old.found (node_of llx) (found_of llx) → AreKept lay h old → ((snap : Snap) → llx ≡ Snapshot snap → IsLinked lay h snap) → AreKept lay h new
-kept_after lay h old new llx e kept f n found is =
-    elim (read_after old.found (node_of llx) n (found_of llx) found (subst (λ (xs : List (Option Found)). get_or xs n None ≡ Some found) e is)) [
-      | inl x ↦ subst (λ (m : ℕ). IsLinked lay h (snap_of m found)) (sym x.0) (found_linked lay h llx f found x.1)
-      | inr x ↦ kept n found x
-    ]
+-- once an LLX of a cell is answered, what it found is kept of it in place of what was, and `moment` is said of it
+module _ (old new : Kept) (llx : Llx) (linked linked_after : ℕ → Option History) (moment : Option History) (e : new.found ≡ set old.found (node_of llx) (found_of llx)) (small : node_of llx ≤ 8) (said : (n : ℕ) → linked_after n ≡ cond (eqb (node_of llx) n) moment (linked n)) where
+  read : (n : ℕ) → get_or new.found n None ≡ get_or (set old.found (node_of llx) (found_of llx)) n None
+  read n = ap (λ (xs : List (Option Found)). get_or xs n None) e
 
--- what is left of what may be used may be used
-pub kept_without : (lay : Layout) (h : History) (old new : Kept) (is_dropped : ℕ → Bool) → ((n : ℕ) → kept_of new n ≡ (if is_dropped n then None else kept_of old n)) → AreKept lay h old → AreKept lay h new
-kept_without lay h old new is_dropped left kept n found is = go (is_dropped n) (left n)
+  -- what is kept of a node then, and what is said of it
+  record IsCell (n : ℕ) : Type 0 where
+    is : n ≡ node_of llx
+    kept : kept_of new n ≡ found_of llx
+    says : linked_after n ≡ moment
+
+  record IsOther (n : ℕ) : Type 0 where
+    kept : kept_of new n ≡ kept_of old n
+    says : linked_after n ≡ linked n
+
+  kept_then : (n : ℕ) → IsCell n ⊎ IsOther n
+  kept_then n = go (ℕ_discrete n (node_of llx))
+    where
+      go : Dec (n ≡ node_of llx) → IsCell n ⊎ IsOther n
+      go (yes q) = inl record { is = q; kept = read n ∙ rw q (read_there old.found (node_of llx) (found_of llx) (omega (arith, old.nine, small))); says = said n ∙ rw (eq-eqb (node_of llx) n (sym q)) refl }
+      go (no d) = inr record { kept = read n ∙ read_other old.found (node_of llx) n (found_of llx) d; says = said n ∙ rw (ne_eqb (node_of llx) n (λ q. d (sym q))) refl }
+
+  pub kept_after : (lay : Layout) (c : ℕ) (h : History) → AreKept lay c h linked old → ((found : Found) → found_of llx ≡ Some found → (k : History) × (moment ≡ Some k) × IsUsable lay c h (snap_of (node_of llx) found) k) → AreKept lay c h linked_after new
+  kept_after lay c h kept usable n found is = ⊎_elim cell other (kept_then n)
+    where
+      cell : IsCell n → (k : History) × (linked_after n ≡ Some k) × IsUsable lay c h (snap_of n found) k
+      cell x = let y = usable found (sym x.kept ∙ is) in (y.0, x.says ∙ y.1, subst (λ (m : ℕ). IsUsable lay c h (snap_of m found) y.0) (sym x.is) y.2)
+
+      other : IsOther n → (k : History) × (linked_after n ≡ Some k) × IsUsable lay c h (snap_of n found) k
+      other x = let y = kept n found (sym x.kept ∙ is) in (y.0, x.says ∙ y.1, y.2)
+
+  pub unkept_after : ((n : ℕ) → n ≤ 8 → kept_of old n ≡ None → linked n ≡ None) → (found_of llx ≡ None → moment ≡ None) → (n : ℕ) → n ≤ 8 → kept_of new n ≡ None → linked_after n ≡ None
+  unkept_after unkept none n i is = ⊎_elim (λ x. x.says ∙ none (sym x.kept ∙ is)) (λ x. x.says ∙ unkept n i (sym x.kept ∙ is)) (kept_then n)
+
+-- a snapshot is of the node
+abbrev pub has_snap : List Snap → ℕ → Bool
+has_snap snaps n = list_any (λ (s : Snap). eqb s.node.0 n) snaps
+
+pub snap_there : (snaps : List Snap) (n : ℕ) → has_snap snaps n ≡ true → IsAmong snaps n
+snap_there [] n e = absurd cc
+snap_there (s ∷ ss) n e = ⊎_elim (λ q. record { at = 0; within = omega arith; is = eqb-true s.node.0 n q }) (λ q. let x = snap_there ss n q in record { at = suc x.at; within = let y = x.within in omega arith; is = x.is }) (or_split (eqb s.node.0 n) (has_snap ss n) e)
+
+pub snap_found : (snaps : List Snap) (n i : ℕ) → i < length snaps → (snap_at snaps i).node.0 ≡ n → has_snap snaps n ≡ true
+snap_found [] n i p e = absurd (omega arith)
+snap_found (s ∷ ss) n zero p e = or_left (eqb s.node.0 n) (has_snap ss n) (eq-eqb s.node.0 n e)
+snap_found (s ∷ ss) n (suc i) p e = or_right (eqb s.node.0 n) (has_snap ss n) (snap_found ss n i (omega arith) e)
+
+-- once the snapshots of some nodes are dropped
+module _ (old new : Kept) (snaps : List Snap) (left : (n : ℕ) → kept_of new n ≡ (if has_snap snaps n then None else kept_of old n)) where
+  -- what is kept of a node then
+  kept_or_dropped : (n : ℕ) → (IsAmong snaps n × (kept_of new n ≡ None)) ⊎ ((IsAmong snaps n → ⊥) × (kept_of new n ≡ kept_of old n))
+  kept_or_dropped n = go (has_snap snaps n) refl (left n)
+    where
+      go : (b : Bool) → has_snap snaps n ≡ b → kept_of new n ≡ (if b then None else kept_of old n) → (IsAmong snaps n × (kept_of new n ≡ None)) ⊎ ((IsAmong snaps n → ⊥) × (kept_of new n ≡ kept_of old n))
+      go true e k = inl (snap_there snaps n e, k)
+      go false e k = inr (λ x. let y : has_snap snaps n ≡ true = snap_found snaps n x.at x.within x.is in cc, k)
+
+  pub dropped : (n : ℕ) → IsAmong snaps n → kept_of new n ≡ None
+  dropped n x = ⊎_elim (λ y. y.1) (λ y. absurd (y.0 x)) (kept_or_dropped n)
+
+  pub kept_without : (lay : Layout) (c : ℕ) (h : History) (linked linked_after : ℕ → Option History) → ((n : ℕ) → (IsAmong snaps n → ⊥) → linked n ≡ linked_after n) → AreKept lay c h linked old → AreKept lay c h linked_after new
+  kept_without lay c h linked linked_after same kept n found is = ⊎_elim (λ x. let y : kept_of new n ≡ None = x.1 in let z : kept_of new n ≡ Some found = is in cc) (λ x. let y = kept n found (sym x.1 ∙ is) in (y.0, sym (same n x.0) ∙ y.1, y.2)) (kept_or_dropped n)
+
+  pub unkept_without : (linked linked_after : ℕ → Option History) → ((n : ℕ) → (IsAmong snaps n → ⊥) → linked n ≡ linked_after n) → ((n : ℕ) → n ≤ 8 → kept_of old n ≡ None → linked n ≡ None) → (n : ℕ) → n ≤ 8 → kept_of new n ≡ None → IsAmong snaps n ⊎ (linked_after n ≡ None)
+  unkept_without linked linked_after same unkept n i is = ⊎_elim (λ x. inl x.0) (λ x. inr (sym (same n x.0) ∙ unkept n i (sym x.1 ∙ is))) (kept_or_dropped n)
+
+-- kept snapshots may be used, and their moments are said
+pub kept_linked : (lay : Layout) (c : ℕ) (h : History) (linked : ℕ → Option History) (kept : Kept) (snaps : List Snap) → AllKept kept snaps → AreKept lay c h linked kept → (i : ℕ) → i < length snaps → (moment : History) × (linked (snap_at snaps i).node.0 ≡ Some moment) × IsUsable lay c h (snap_at snaps i) moment
+kept_linked lay c h linked kept snaps those x i below = x (snap_at snaps i).node.0 (parts (snap_at snaps i)) (those i below)
+
+-- the first cell of which nothing is kept is the first of which no snapshot is said
+pub first_unlinked : (lay : Layout) (c : ℕ) (h : History) (linked : ℕ → Option History) (kept : Kept) (cells : List ℕ) (node : ℕ) → AreKept lay c h linked kept → ((n : ℕ) → n ≤ 8 → kept_of kept n ≡ None → linked n ≡ None) → IsFirstUnkept kept cells node → IsFirstUnlinked linked cells node
+first_unlinked lay c h linked kept cells node those unkept x = record { place = x.place; is = x.is; none = unkept node x.small x.unkept; before = λ i p. some (get_or cells i 0) (kept_of kept (get_or cells i 0)) refl (x.before i p) }
   where
-    go : (dropped : Bool) → kept_of new n ≡ (if dropped then None else kept_of old n) → IsLinked lay h (snap_of n found)
-    go true e = cc
-    go false e = kept n found (let same : kept_of old n ≡ Some found = cc in same)
-
--- kept snapshots may be used
-pub kept_linked : (lay : Layout) (h : History) (kept : Kept) (snaps : List Snap) → AllKept kept snaps → AreKept lay h kept → AllLinked lay h snaps
-kept_linked lay h kept snaps those x i below = x (snap_at snaps i).node.0 (parts (snap_at snaps i)) (those i below)
+    some : (n : ℕ) (found : Option Found) → kept_of kept n ≡ found → IsSome found → IsSome (linked n)
+    some n (Some found) e = λ y. let z = those n found e in subst (λ (m : Option History). IsSome m) (sym z.1) refl
+    some n None e = λ y. cc

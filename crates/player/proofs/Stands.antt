@@ -17,7 +17,7 @@ use Rattle.player.specs.declared.player.Player.{Player}
 use Rattle.player.specs.Lines.{newest}
 use Rattle.player.specs.Place.{IsAt}
 use Rattle.player.specs.LawfulRun.{commands, next_command}
-use Rattle.player.specs.Turns.{turns, begin, steps, answered}
+use Rattle.player.specs.Turns.{turns, begin, answered}
 use Rattle.player.specs.View.{View, view, Rests, Refuses, Waits, IsClient, Stood, command_of}
 use Rattle.player.specs.Played.{IsTurnOf, IsBetween, IsPlayed, IsAsked, IsEnd}
 use Rattle.player.proofs.Commands.{none_left, next_at}
@@ -30,17 +30,12 @@ client_there p i c inside e = slice_get_read p.clients.items (length p.clients.i
 
 -- a client at rest that has a call left has not begun it
 not_begun : (v : View) (began : Option ℕ) (old new : Client) (command : Command) → new.pass ≡ old.pass → IsClient v began old → Rests v old → command_of v new ≡ Some command → began ≡ None
-not_begun v began old new command same (inl (x, unmoved, inr e)) r is = e
+not_begun v began old new command same (inl (x, inr u)) r is = u.none
 not_begun v began old new command same (inr (q, runs, w, e)) r is = absurd (let d = r.none in cc)
-not_begun v began old new command same (inl (x, unmoved, inl none)) r is =
+not_begun v began old new command same (inl (x, inl none)) r is =
     let over : slice_get (commands v.calls old.pass.0) v.answered ≡ None = rw (sym r.stands.number) (none_left v.calls old.pass.0 old.number (rw none at r.stands.place)) in
     let there : slice_get (commands v.calls old.pass.0) v.answered ≡ Some command = ap (λ (p : PassNo). slice_get (commands v.calls p.0) v.answered) (sym same) ∙ is in
     absurd cc
-
--- a client at rest has made no step since its last reply
-pub unmoved_at_rest : (v : View) (began : Option ℕ) (c : Client) → IsClient v began c → Rests v c → v.steps ≡ 0
-unmoved_at_rest v began c (inl (x, unmoved, y)) r = unmoved
-unmoved_at_rest v began c (inr (q, runs, w, e)) r = absurd (let d = r.none in cc)
 
 -- a client whose call runs began it at its first turn since its last reply
 has_begun : (v : View) (began : Option ℕ) (old : Client) → IsClient v began old → old.running ≢ None → began ≡ Some old.begin
@@ -61,24 +56,25 @@ module _ (p : Player) (i number : ℕ) (old new : Client) (played : IsPlayed p) 
   v = view lay calls lines i
 
   is_i : old.pass.0 ≡ i
-  is_i = (played.each i old there).0
+  is_i = (played.between.each i old there).0
 
   pub is_client : IsClient v (begin lines i) old
-  is_client = (played.each i old there).1
+  is_client = (played.between.each i old there).1
 
   -- its turn, with what it has become
   own_turn : new.pass ≡ old.pass → IsTurnOf lay calls p.words (set p.clients.items i new) lines new
-  own_turn same = subst (λ (k : ℕ). IsTurnOf lay calls p.words (set p.clients.items k new) lines new) is_i (turn_changed lay calls p.words p.clients.items lines old new same (turn_begins lay calls p.words p.clients.items lines i old there played))
+  own_turn same = subst (λ (k : ℕ). IsTurnOf lay calls p.words (set p.clients.items k new) lines new) is_i (turn_changed lay calls p.words p.clients.items lines old new same (turn_begins lay calls p.words p.clients.items lines i old there played.between))
 
   new_i : new.pass ≡ old.pass → new.pass.0 ≡ i
   new_i same = ap (λ (k : PassNo). k.0) same ∙ is_i
 
   -- it asks for a step
-  pub stood_asked : (q : Player) (step : Ask) → q.script.layout ≡ lay → q.script.calls.items ≡ calls → q.words ≡ p.words → q.clients.items ≡ set p.clients.items i new → newest q.lines ≡ lines → number ≡ suc (turns (newest q.lines)) → Stood v number old new (Asks step) → IsAsked q i number step
-  stood_asked q step a b w d e n s = record {
+  pub stood_asked : (q : Player) (step : Ask) → q.script.layout ≡ lay → q.script.calls.items ≡ calls → q.words ≡ p.words → q.clients.items ≡ set p.clients.items i new → newest q.lines ≡ lines → q.wins.items ≡ p.wins.items → number ≡ suc (turns (newest q.lines)) → Stood v number old new (Asks step) → IsAsked q i number step
+  stood_asked q step a b w d e f n s = record {
+    wins = rw (a, e, f) played.wins;
     client = new;
     is = new_i s.0.pass;
-    settled = rw (a, b, e) played.settled;
+    settled = rw (a, b, e) played.between.settled;
     turn = rw (a, b, w, d, e) (own_turn s.0.pass);
     in_turn = n;
     running = s.1;
@@ -99,18 +95,17 @@ module _ (p : Player) (i number : ℕ) (old new : Client) (played : IsPlayed p) 
   pub stood_finished : (pass : PassNo) → pass.0 ≡ i → number ≡ suc (turns lines) → Stood v number old new Finished → IsBetween lay calls p.words (set p.clients.items i new) (Step (Idle number pass) ∷ lines)
   stood_finished pass is n s =
       let same : new.pass ≡ old.pass = ap (λ (k : Client). k.pass) s.0 in
-      finished_turn lay calls p.words (set p.clients.items i new) lines new number pass played.settled (own_turn same)
+      finished_turn lay calls p.words (set p.clients.items i new) lines new number pass played.between.settled (own_turn same)
       (subst (λ (k : ℕ). Rests (view lay calls lines k) new) (sym (new_i same)) (subst (λ (k : Client). Rests v k) (sym s.0) s.2))
-      (ap (λ (k : ℕ). steps lines k) (new_i same) ∙ unmoved_at_rest v (begin lines i) old is_client s.2)
       (ap (λ (k : Client). k.next) s.0 ∙ s.1) n (ap (λ (k : ℕ). let x : PassNo = record { 0 = k } in x) (is ∙ sym (new_i same)))
 
   -- its call is refused
-  pub stood_refused : (pass : PassNo) (answer : Answer) (reply : Reply) (end : Client) → pass.0 ≡ i → number ≡ suc (turns lines) → Stood v number old new (Answers answer) → IsEnd calls new end number answer reply → IsBetween lay calls p.words (set (set p.clients.items i new) new.pass.0 end) (ReplyLine reply ∷ Step (Idle number pass) ∷ lines)
-  stood_refused pass answer reply end is n s e =
-      refused_turn lay calls p.words (set p.clients.items i new) lines new end number pass answer reply (few_calls p) played.settled (own_turn s.0.pass)
+  pub stood_refused : (pass : PassNo) (answer : Answer) (said : Option ℕ) (reply : Reply) (end : Client) → pass.0 ≡ i → number ≡ suc (turns lines) → Stood v number old new (Answers answer) → IsEnd calls new end number answer said reply → IsBetween lay calls p.words (set (set p.clients.items i new) new.pass.0 end) (ReplyLine reply ∷ Step (Idle number pass) ∷ lines)
+  stood_refused pass answer said reply end is n s e =
+      refused_turn lay calls p.words (set p.clients.items i new) lines new end number pass answer said reply (few_calls p) played.between.settled (own_turn s.0.pass)
       (subst (λ (k : ℕ). Refuses (view lay calls lines k) new answer) (sym (new_i s.0.pass)) s.2)
       (ap (λ (k : ℕ). begin lines k) (new_i s.0.pass) ∙ not_begun v (begin lines i) old new s.2.command s.0.pass is_client s.1 s.2.is)
-      s.3 n (ap (λ (k : ℕ). let x : PassNo = record { 0 = k } in x) (is ∙ sym (new_i s.0.pass))) e.answers e.client e.call e.begin e.end e.behind
+      s.3 n (ap (λ (k : ℕ). let x : PassNo = record { 0 = k } in x) (is ∙ sym (new_i s.0.pass))) e
 
   -- the client keeps the number of its next call
   pub own_number : old.number ≡ answered lines i

@@ -1,5 +1,7 @@
 -- The turn of a client that makes a step.
-use Rattle.std.proofs.Common.{◌≡◌, ℕ, ◌≤◌, ◌⊎◌, inl, inr, List, ◌∷◌, set, length, Option, Some, None, MatchOption, slice_get, unwrap_or, refl, sym, ◌∙◌, ap, subst, eq-eqb, arith, [], ◌++◌}
+use Rattle.std.proofs.Common.{◌≡◌, ℕ, ◌≤◌, ◌≢◌, ◌⊎◌, inl, inr, ⊎_elim, List, ◌∷◌, set, length, Option, Some, None, MatchOption, IsSome, slice_get, unwrap_or, refl, sym, ◌∙◌, ap, subst, eq-eqb, arith, [], ◌++◌}
+use native.Mathlib.Decide.{ℕ_discrete}
+use Rattle.arena.specs.Fills.{IsOwnScx}
 use Rattle.arena.specs.declared.layout.Layout.{Layout}
 use Rattle.arena.specs.declared.number.PassNo.{PassNo}
 use Rattle.arena.specs.declared.step.Row.{Row}
@@ -28,12 +30,16 @@ use Rattle.player.specs.declared.client.Client.{Client}
 use Rattle.player.specs.declared.client.Running.{Running}
 use Rattle.player.specs.declared.player.Player.{Player}
 use Rattle.player.specs.Lines.{newest}
-use Rattle.player.specs.Turns.{history, turns, answered, clients, begin, last_client, entry_owed}
-use Rattle.player.specs.LawfulRun.{commands, IsAnswerAfterStep, IsFitting, IsReplyOwed}
-use Rattle.player.specs.View.{View, view, IsSound, Rests, Hears, IsClient, GoesOn, Ends}
-use Rattle.player.specs.Played.{IsSoFar, IsTurnOf, IsBetween, IsAsked, IsEnd}
+use Rattle.player.specs.Turns.{history, turns, answered, clients, begin, start, won, last_client, entry_of, entry_owed}
+use Rattle.player.specs.LawfulRun.{commands, IsAnswerAfterStep, linked, HasTakenOne, IsFitting, IsRight, IsReplyOwed, IsEntryFor, IsWinOf}
+use Rattle.player.specs.View.{View, view, IsSound, Hears, IsClient, GoesOn, Ends}
+use Rattle.player.specs.Played.{IsSoFar, IsTurnOf, IsBetween, IsAsked, IsEnd, AreWins}
 use Rattle.player.proofs.Views.{own_row, step_sound, hears}
-use Rattle.player.proofs.Middles.{others_step, others_log, so_far_same, step_made, turn_changed, turn_ends, replied}
+use Rattle.player.proofs.Middles.{IsOver, get_there, others_step, others_log, so_far_same, step_made, turn_changed, turn_ends, replied}
+use Rattle.player.proofs.MayMakes.{may_make}
+use Rattle.player.proofs.Begun.{begin_within}
+use Rattle.player.proofs.Winners.{IsEntryOfWin, entry_wins, tells_won}
+use Rattle.player.proofs.Entered.{IsEntryFrom, entry_by_others, entry_by_own, rest_wins_not}
 
 -- the client that makes the turn is about to hear what its step found; turn number `number` has been written down in full
 pub record IsHeard (lay : Layout) (calls : List Call) (words : Contents) (all : List Client) (lines : List Line) (c : Client) (q : Running) (found number : ℕ) : Type 0 where
@@ -80,7 +86,7 @@ module _ (p : Player) (i number : ℕ) (step : Ask) (a : IsAsked p i number step
 
   -- the step goes on with the run
   sound : IsRun allows_all lay (made ⊳ history lay.mode lines)
-  sound = step_sound v a.client a.running a.turn.so_far.sound a.waits
+  sound = step_sound v a.client a.running a.turn.so_far.sound a.waits v.won
 
   lawful : IsLawful lay (history lay.mode lines) made
   lawful = lawful_row lay (history lay.mode lines) made sound.lawful
@@ -91,8 +97,8 @@ module _ (p : Player) (i number : ℕ) (step : Ask) (a : IsAsked p i number step
 
   pub asked_made : (words : Contents) → IsChanged p.words words made.word made.after → IsTurnOf lay calls words p.clients.items (Step (Made number made) ∷ lines) a.client
   asked_made words changed = record {
-    so_far = step_made lay calls p.words words lines number made changed sound (a.settled, record { in_turn = a.in_turn; lawful = lawful; call = a.waits.works.stands.number; command = a.waits.works.command; is = a.waits.works.is; few = let few = a.waits.few in omega arith }) a.turn.so_far;
-    others = others_step lay calls p.clients.items lines a.client.pass.0 number made sound refl a.turn.others;
+    so_far = step_made lay calls p.words words lines number made changed sound (a.settled, record { in_turn = a.in_turn; lawful = lawful; call = a.waits.works.stands.number; command = a.waits.works.command; is = a.waits.works.is; few = let few = a.waits.few in omega arith; may = may_make a.waits.works.command a.client.number a.running.run a.running.then _ _ a.running.step a.waits.works.run_of a.waits.waits }) a.turn.so_far;
+    others = others_step lay calls p.clients.items lines a.client.pass.0 number made a.turn.so_far.sound sound refl a.in_turn a.turn.so_far.in_order a.turn.others;
     own = a.turn.own;
   }
 
@@ -115,6 +121,52 @@ module _ (p : Player) (i number : ℕ) (step : Ask) (a : IsAsked p i number step
       (row_same pass a.client.pass.0 call a.client.number a.running.step.kind a.running.step.word found made.before after made.after (e ∙ sym a.is) n (f ∙ asked_value)
       (subst (λ (s : Ask). after ≡ deed_after s.deed found) (sym a.asks) g ∙ ap (λ (k : ℕ). deed_after a.running.step.deed k) (f ∙ asked_value)))
 
+  -- its call has begun in this turn, or before
+  begun_before : a.client.begin ≤ number
+  begun_before = ⊎_elim (λ x. let e = x.1 in omega arith) (λ e. let i = begin_within lay calls lines a.client.pass.0 a.client.begin a.turn.so_far.in_order e in let n = a.in_turn in omega arith) a.began
+
+  -- what the entry of the step is to say, where its owner has this in hand
+  win_of : (entry : Entry) (s : ℕ) → IsEntryOfWin lay (history lay.mode lines) made entry s → (c : Client) → c.pass.0 ≡ entry.client.0 → IsEntryFrom (view lay calls lines entry.client.0) c made s → (made.pass.0 ≢ entry.client.0 → IsSome (begin lines entry.client.0)) → IsWinOf lay calls lines made entry
+  win_of entry s w c is x begun = record {
+    begun = begun;
+    first = x.first;
+    call = w.call_is ∙ x.called ∙ x.number;
+    command = x.command;
+    is = subst (λ (k : ℕ). slice_get (commands calls k) (answered lines entry.client.0) ≡ Some x.command) is x.is;
+    entered = x.entered;
+    logged = x.logged;
+    same_scx = x.same_scx ∙ sym w.scx_is;
+    same_owner = x.same_owner ∙ is;
+    same_call = x.same_call ∙ sym (w.call_is ∙ x.called);
+    does = subst (λ (k : ℕ). IsEntryFor lay k (history lay.mode lines) (start lay.mode lines entry.client.0) (linked calls lay.mode lines entry.client.0) x.entered x.command) is x.does;
+  }
+
+  -- the step's own client, or another, has the update in hand that wins
+  log_entry : (entry : Entry) → entry_of lay lines number made ≡ Some entry → IsWinOf lay calls lines made entry
+  log_entry entry e = go (ℕ_discrete entry.client.0 a.client.pass.0)
+    where
+      w : (s : ℕ) × IsEntryOfWin lay (history lay.mode lines) made entry s
+      w = entry_wins lay lines number made sound.lawful entry e
+
+      of_other : (c : Client) → c.pass.0 ≡ entry.client.0 → entry.client.0 ≢ a.client.pass.0 → IsClient (view lay calls lines entry.client.0) (begin lines entry.client.0) c → IsEntryFrom (view lay calls lines entry.client.0) c made w.0
+      of_other c is d (inr (q, runs, x, b)) = entry_by_others (view lay calls lines entry.client.0) c q made w.0 a.turn.so_far.sound x sound (λ z. d (sym is ∙ sym z)) w.1.wins (subst (λ (k : ℕ). IsOwnScx lay k w.0) (sym is) w.1.own)
+      of_other c is d (inl (x, b)) = absurd (rest_wins_not (view lay calls lines entry.client.0) c a.turn.so_far.sound made w.0 sound.lawful w.1.wins (subst (λ (k : ℕ). IsOwnScx lay k w.0) (sym is) w.1.own) x)
+
+      has_begun : (c : Client) → c.pass.0 ≡ entry.client.0 → entry.client.0 ≢ a.client.pass.0 → IsClient (view lay calls lines entry.client.0) (begin lines entry.client.0) c → IsSome (begin lines entry.client.0)
+      has_begun c is d (inr (q, runs, x, b)) = rw b refl
+      has_begun c is d (inl (x, b)) = absurd (rest_wins_not (view lay calls lines entry.client.0) c a.turn.so_far.sound made w.0 sound.lawful w.1.wins (subst (λ (k : ℕ). IsOwnScx lay k w.0) (sym is) w.1.own) x)
+
+      go : Dec (entry.client.0 ≡ a.client.pass.0) → IsWinOf lay calls lines made entry
+      go (yes is) =
+          win_of entry w.0 w.1 a.client (sym is)
+          (subst (λ (k : ℕ). IsEntryFrom (view lay calls lines k) a.client made w.0) (sym is)
+          (entry_by_own v a.client a.running w.0 a.turn.so_far.sound a.waits w.1.wins (subst (λ (k : ℕ). IsOwnScx lay k w.0) is w.1.own) (told_all a.running.step.deed made.before)))
+          (λ d. absurd (d (sym is)))
+      go (no d) =
+          let there = get_there p.clients.items entry.client.0 (omega (arith, w.1.is_pass, p.all_clients, p.clients.ok.0)) in
+          let other = a.turn.others entry.client.0 there.0 d there.1 in
+          win_of entry w.0 w.1 there.0 other.0 (of_other there.0 other.0 d other.1) (λ z. has_begun there.0 other.0 d other.1)
+
   -- with its entry written down, if there is one, the client hears
   pub asked_heard : (words : Contents) (after : List Line) → IsChanged p.words words made.word made.after → MatchOption (entry_owed lay (Step (Made number made) ∷ lines)) (after ≡ Step (Made number made) ∷ lines) (λ e. after ≡ Log e ∷ Step (Made number made) ∷ lines) → IsHeard lay calls words p.clients.items after a.client a.running made.before number
   asked_heard words after changed m = go (entry_owed lay (Step (Made number made) ∷ lines)) refl m
@@ -123,14 +175,14 @@ module _ (p : Player) (i number : ℕ) (step : Ask) (a : IsAsked p i number step
       x = asked_made words changed
 
       h : Hears (view lay calls (Step (Made number made) ∷ lines) a.client.pass.0) a.client a.running made.before
-      h = rw (eq-eqb a.client.pass.0 a.client.pass.0 refl) (hears v a.client a.running a.turn.so_far.sound a.waits made.before (told_all a.running.step.deed made.before))
+      h = rw (eq-eqb a.client.pass.0 a.client.pass.0 refl) (hears v a.client a.running a.turn.so_far.sound a.waits number (won lay (Step (Made number made) ∷ lines) a.client.pass.0) (tells_won lay lines number made sound.lawful calls a.client.pass.0) begun_before made.before (told_all a.running.step.deed made.before))
 
       go : (owed : Option Entry) → entry_owed lay (Step (Made number made) ∷ lines) ≡ owed → MatchOption owed (after ≡ Step (Made number made) ∷ lines) (λ e. after ≡ Log e ∷ Step (Made number made) ∷ lines) → IsHeard lay calls words p.clients.items after a.client a.running made.before number
       go None e is = subst (λ l. IsHeard lay calls words p.clients.items l a.client a.running made.before number) (sym is)
           record { turn = x; told = h; runs = a.runs; began = asked_begun; last = refl; entry = e; none_owed = λ y. y; fits = λ command answer f. f; in_turn = a.in_turn }
       go (Some entry) e is = subst (λ l. IsHeard lay calls words p.clients.items l a.client a.running made.before number) (sym is)
           record {
-            turn = record { so_far = so_far_same lay calls words (Step (Made number made) ∷ lines) (Log entry) refl e x.so_far; others = others_log lay calls p.clients.items (Step (Made number made) ∷ lines) a.client.pass.0 entry x.others; own = x.own };
+            turn = record { so_far = so_far_same lay calls words (Step (Made number made) ∷ lines) (Log entry) refl (e, log_entry entry e) x.so_far; others = others_log lay calls p.clients.items (Step (Made number made) ∷ lines) a.client.pass.0 entry x.others; own = x.own };
             told = h;
             runs = a.runs;
             began = asked_begun;
@@ -163,24 +215,45 @@ heard_on lay calls words all lines c new q found number x g =
     (turn_changed lay calls words all lines c new g.same.pass x.turn)
 
 -- its call ends, and the reply is written down
-pub heard_end : (lay : Layout) (calls : List Call) (words : Contents) (all : List Client) (lines : List Line) (c mid new : Client) (q : Running) (found number : ℕ) (answer : Answer) (reply : Reply) → length calls ≤ 65536 → IsHeard lay calls words all lines c q found number → Ends (view lay calls lines c.pass.0) c mid answer → IsEnd calls mid new number answer reply → IsBetween lay calls words (set (set all c.pass.0 mid) c.pass.0 new) (ReplyLine reply ∷ lines)
-heard_end lay calls words all lines c mid new q found number answer reply few x g e =
+pub heard_end : (lay : Layout) (calls : List Call) (words : Contents) (all : List Client) (lines : List Line) (c mid new : Client) (q : Running) (found number : ℕ) (answer : Answer) (said : Option ℕ) (reply : Reply) → length calls ≤ 65536 → IsHeard lay calls words all lines c q found number → Ends (view lay calls lines c.pass.0) c mid answer → ((turn : ℕ) → won lay lines c.pass.0 ≡ Some turn → said ≡ Some turn) → IsEnd calls mid new number answer said reply → IsBetween lay calls words (set (set all c.pass.0 mid) c.pass.0 new) (ReplyLine reply ∷ lines)
+heard_end lay calls words all lines c mid new q found number answer said reply few x g wins e =
     subst (λ (k : ℕ). IsBetween lay calls words (set (set all c.pass.0 mid) k new) (ReplyLine reply ∷ lines)) pass0
-    (replied lay calls words (set all c.pass.0 mid) lines mid new reply g.command few
+    (replied lay calls words (set all c.pass.0 mid) lines mid new answer said reply g.command number few
     (turn_changed lay calls words all lines c mid g.same.pass x.turn)
-    (subst (λ (k : ℕ). Rests (view lay calls lines k) mid) (sym pass0) g.rests)
-    (ap (λ (k : ℕ). slice_get (commands calls mid.pass.0) (answered lines k)) pass0 ∙ g.is)
-    (ap (λ (k : ℕ). begin lines k) pass0 ∙ x.began ∙ ap (λ (k : ℕ). Some k) (sym g.begin))
-    (x.last ∙ ap (λ (k : ℕ). Some k) (sym pass0)) x.entry (rw e.answers (x.fits g.command answer g.answers)) e.client e.call e.begin (e.end ∙ x.in_turn) e.behind)
+    (subst (λ (k : ℕ). IsOver lay calls lines k mid g.command answer) (sym pass0) over)
+    (subst (λ (k : ℕ). (turn : ℕ) → won lay lines k ≡ Some turn → said ≡ Some turn) (sym pass0) wins)
+    x.in_turn e)
   where
     pass0 : mid.pass.0 ≡ c.pass.0
     pass0 = ap (λ (p : PassNo). p.0) g.same.pass
+
+    over : IsOver lay calls lines c.pass.0 mid g.command answer
+    over = record {
+      is = ap (λ (k : ℕ). slice_get (commands calls k) (answered lines c.pass.0)) (sym pass0) ∙ g.is;
+      rests = g.rests;
+      number = g.rests.stands.number;
+      began = x.began ∙ ap (λ (k : ℕ). Some k) (sym g.begin);
+      last = x.last;
+      owed = x.entry;
+      fits = x.fits g.command answer g.answers;
+      right = subst (λ (k : ℕ). IsRight lay k (history lay.mode lines) (start lay.mode lines c.pass.0) (linked calls lay.mode lines c.pass.0) g.command answer) pass0 g.right;
+      entry = g.entry;
+      took = subst (λ (k : ℕ). HasTakenOne lay k (history lay.mode lines) (start lay.mode lines c.pass.0)) pass0 g.took;
+      late = g.late;
+    }
 
 -- What the player makes of it
 
 -- the same under other names
 pub between_at : (lay lay' : Layout) (calls calls' : List Call) (words words' : Contents) (all all' : List Client) (lines lines' : List Line) → lay' ≡ lay → calls' ≡ calls → words' ≡ words → all' ≡ all → lines' ≡ lines → IsBetween lay calls words all lines → IsBetween lay' calls' words' all' lines'
 between_at lay lay' calls calls' words words' all all' lines lines' a b c d e x = rw (a, b, c, d, e) x
+
+-- what is remembered of a client is the turn that the lines say
+pub remembered : (lay : Layout) (lines : List Line) (wins : List (Option ℕ)) (k i : ℕ) (said : Option ℕ) → AreWins lay lines wins → slice_get wins k ≡ Some said → k ≡ i → (turn : ℕ) → won lay lines i ≡ Some turn → said ≡ Some turn
+remembered lay lines wins k i said x there same turn e = let y = x i turn e in let z : slice_get wins i ≡ Some said = rw same at there in cc
+
+pub wins_at : (lay lay' : Layout) (lines lines' : List Line) (wins wins' : List (Option ℕ)) → lay' ≡ lay → lines' ≡ lines → wins' ≡ wins → AreWins lay lines wins → AreWins lay' lines' wins'
+wins_at lay lay' lines lines' wins wins' a b c x = rw (a, b, c) x
 
 -- the turns are one more, whatever else is written down behind the row
 pub turns_logged : (lay : Layout) (pushed after : List Line) → MatchOption (entry_owed lay pushed) (after ≡ pushed) (λ e. after ≡ Log e ∷ pushed) → clients after ≡ clients pushed

@@ -1,5 +1,5 @@
 -- What the turns of one client add.
-use Rattle.std.proofs.Common.{◌≡◌, ℕ, suc, ◌+◌, ◌-◌, ◌<◌, ◌≤◌, ◌⊎◌, inl, inr, Bool, true, false, cond, eqb, eqb-true, eq-eqb, append_assoc, length-append, List, [], ◌∷◌, ◌++◌, length, replicate, Option, Some, None, is_some, refl, sym, ◌∙◌, ap, subst, arith}
+use Rattle.std.proofs.Common.{◌≡◌, ◌≢◌, ℕ, suc, ◌+◌, ◌-◌, ◌<◌, ◌≤◌, ◌⊎◌, inl, inr, Bool, true, false, cond, eqb, eqb-true, eq-eqb, append_assoc, length-append, List, [], ◌∷◌, ◌++◌, length, replicate, Option, Some, None, is_some, refl, sym, ◌∙◌, ap, subst, arith}
 use Rattle.std.proofs.lemmas.Option.{slice_get_within}
 use Rattle.std.proofs.lemmas.List.{length-take}
 use Rattle.arena.specs.declared.layout.Layout.{Layout}
@@ -24,7 +24,7 @@ use Rattle.player.specs.TurnsMore.{HasCall, AwaitsSteps, AreMadeWhile, AreTurnsW
 
 -- where each turn keeps the script, all do
 same_script : (old p q : Player) → IsSameScript old.script p.script → IsSameScript p.script q.script → IsSameScript old.script q.script
-same_script old p q x y = record { layout = y.layout ∙ x.layout; calls = y.calls ∙ x.calls }
+same_script old p q x y = record { limits = y.limits ∙ x.limits; layout = y.layout ∙ x.layout; calls = y.calls ∙ x.calls }
 
 -- where the turns are one more, no turn stands behind the newest, and that is the client's
 only_turn : (behind : List Line) (row : Row) (lines : List Line) (c : ℕ) → clients (behind ++ Step row ∷ lines) ≡ c ∷ clients lines → (clients behind ≡ []) × (client_of row ≡ c)
@@ -40,26 +40,42 @@ only_turn behind row lines c e = only (clients behind) (client_of row) (clients 
     only [] own older e = (refl, cc)
     only (x ∷ newer) own older e = absurd (let n : length ((x ∷ newer) ++ own ∷ older) ≡ length (c ∷ older) = ap (λ (l : List ℕ). length l) e in grind (arith, length-append))
 
+-- where a line stands among them, there are lines
+some_line : (newer : List Line) (line : Line) (older : List Line) → newer ++ line ∷ older ≢ []
+some_line [] line older e = cc
+some_line (first ∷ newer) line older e = cc
+
 -- it is one turn more of those that were made while the lines were so
 made_more : (so : List Line → Type 0) (c : ℕ) (older behind : List Line) (row : Row) (quiet : List Line) → AreMadeWhile so c older behind → so (behind ++ older) → client_of row ≡ c → clients quiet ≡ [] → AreMadeWhile so c older (quiet ++ Step row ∷ behind)
 unfolding AreMadeWhile
 made_more so c older behind row [] x is own e = (x, own, is)
 made_more so c older behind row (Step r ∷ quiet) x is own e = absurd cc
-made_more so c older behind row (Log entry ∷ quiet) x is own e = made_more so c older behind row quiet x is own e
-made_more so c older behind row (Reply reply ∷ quiet) x is own e = made_more so c older behind row quiet x is own e
+made_more so c older behind row (Log entry ∷ quiet) x is own e = (made_more so c older behind row quiet x is own e, some_line quiet (Step row) behind)
+made_more so c older behind row (Reply reply ∷ quiet) x is own e = (made_more so c older behind row quiet x is own e, some_line quiet (Step row) behind)
 
 -- turns of one client are so many times that client
 clients_made : (so : List Line → Type 0) (c : ℕ) (older behind : List Line) → AreMadeWhile so c older behind → clients (behind ++ older) ≡ replicate (turns behind) c ++ clients older
 unfolding AreMadeWhile
 clients_made so c older [] x = refl
 clients_made so c older (Step row ∷ behind) x = rw (x.1, clients_made so c older behind x.0) refl
-clients_made so c older (Log entry ∷ behind) x = clients_made so c older behind x
-clients_made so c older (Reply reply ∷ behind) x = clients_made so c older behind x
+clients_made so c older (Log entry ∷ behind) x = clients_made so c older behind x.0
+clients_made so c older (Reply reply ∷ behind) x = clients_made so c older behind x.0
+
+-- how many turns there were is how many clients made them
+turns_are : (lines : List Line) → turns lines ≡ length (clients lines)
+turns_are [] = refl
+turns_are (Step row ∷ lines) = ap suc (turns_are lines)
+turns_are (Log entry ∷ lines) = turns_are lines
+turns_are (Reply reply ∷ lines) = turns_are lines
+
+-- each turn is one more
+pub one_more : (p q : Player) (c : ℕ) (row : Row) → IsTurnMore p q c row → turns (lines_of q) ≡ suc (turns (lines_of p))
+one_more p q c row t = turns_are (lines_of q) ∙ ap (λ (l : List ℕ). length l) t.turns ∙ ap suc (sym (turns_are (lines_of p)))
 
 -- before the first turn
 pub no_turns : (so : List Line → Type 0) (c : ℕ) (p : Player) → IsPlayed p → AreTurnsWhile so c p p
 unfolding AreMadeWhile
-no_turns so c p played = record { played = played; script = record { layout = refl; calls = refl }; behind = []; lines = refl; each = tt; turns = refl }
+no_turns so c p played = record { played = played; script = record { limits = refl; layout = refl; calls = refl }; behind = []; lines = refl; each = tt; turns = refl }
 
 -- after one more
 pub turn_more : (so : List Line → Type 0) (c : ℕ) (old p q : Player) (row : Row) → AreTurnsWhile so c old p → so (lines_of p) → IsTurnMore p q c row → AreTurnsWhile so c old q
@@ -101,14 +117,14 @@ some_same : (a b : ℕ) → Some a ≡ Some b → a ≡ b
 some_same a b e = cc
 
 -- a reply is one to the client that made the newest turn
-reply_moves : (calls : List Call) (c : ℕ) (older lines : List Line) (reply : ReplyOf) → IsReply calls lines reply → last_client lines ≡ Some c → answered lines c ≡ answered older c → Moves c older (Reply reply ∷ lines)
-reply_moves calls c older lines reply x last same =
+reply_moves : (lay : Layout) (calls : List Call) (c : ℕ) (older lines : List Line) (reply : ReplyOf) → IsReply lay calls lines reply → last_client lines ≡ Some c → answered lines c ≡ answered older c → Moves c older (Reply reply ∷ lines)
+reply_moves lay calls c older lines reply x last same =
     let own : reply.client.0 ≡ c = some_same reply.client.0 c (sym x.client ∙ last) in
     inr (rw (eq-eqb reply.client.0 c own) (ap suc same), rw (eq-eqb reply.client.0 c own) refl)
 
 -- no second reply stands behind one
-one_reply : (calls : List Call) (lines : List Line) (reply reply' : ReplyOf) → IsReply calls lines reply' → ¬ IsReply calls (Reply reply' ∷ lines) reply
-one_reply calls lines reply reply' x y =
+one_reply : (lay : Layout) (calls : List Call) (lines : List Line) (reply reply' : ReplyOf) → IsReply lay calls lines reply' → ¬ IsReply lay calls (Reply reply' ∷ lines) reply
+one_reply lay calls lines reply reply' x y =
     let own : reply'.client.0 ≡ reply.client.0 = some_same reply'.client.0 reply.client.0 (sym x.client ∙ y.client) in
     let none : None ≡ Some reply.begin = rw (eq-eqb reply'.client.0 reply.client.0 own) at y.begin in
     cc
@@ -119,15 +135,15 @@ unfolding AreLines
 moves lay calls c older (Made number row) [] x settled quiet own has = inl (refl, rw (eq-eqb row.pass.0 c own) refl)
 moves lay calls c older (Idle number client) [] x settled quiet own has = absurd (settled.reply (some_value (next_command calls older client.0) (rw own has)))
 moves lay calls c older (Made number row) (Log entry ∷ []) x settled quiet own has = inl (refl, rw (eq-eqb row.pass.0 c own) refl)
-moves lay calls c older (Idle number client) (Log entry ∷ []) x settled quiet own has = absurd (let y = x.1 in cc)
-moves lay calls c older row (Log entry ∷ Log entry' ∷ behind) x settled quiet own has = absurd (let y = x.1 in cc)
-moves lay calls c older row (Log entry ∷ Reply reply ∷ behind) x settled quiet own has = absurd (let y = x.1 in cc)
-moves lay calls c older row (Reply reply ∷ []) x settled quiet own has = reply_moves calls c older (Step row ∷ older) reply x.1.1 (ap (λ (n : ℕ). Some n) own) refl
-moves lay calls c older row (Reply reply ∷ Log entry ∷ []) x settled quiet own has = reply_moves calls c older (Log entry ∷ Step row ∷ older) reply x.1.1 (ap (λ (n : ℕ). Some n) own) refl
-moves lay calls c older row (Reply reply ∷ Log entry ∷ Log entry' ∷ behind) x settled quiet own has = absurd (let y = x.0.1 in cc)
-moves lay calls c older row (Reply reply ∷ Log entry ∷ Reply reply' ∷ behind) x settled quiet own has = absurd (let y = x.0.1 in cc)
+moves lay calls c older (Idle number client) (Log entry ∷ []) x settled quiet own has = absurd x.1
+moves lay calls c older row (Log entry ∷ Log entry' ∷ behind) x settled quiet own has = absurd x.1
+moves lay calls c older row (Log entry ∷ Reply reply ∷ behind) x settled quiet own has = absurd x.1
+moves lay calls c older row (Reply reply ∷ []) x settled quiet own has = reply_moves lay calls c older (Step row ∷ older) reply x.1.1 (ap (λ (n : ℕ). Some n) own) refl
+moves lay calls c older row (Reply reply ∷ Log entry ∷ []) x settled quiet own has = reply_moves lay calls c older (Log entry ∷ Step row ∷ older) reply x.1.1 (ap (λ (n : ℕ). Some n) own) refl
+moves lay calls c older row (Reply reply ∷ Log entry ∷ Log entry' ∷ behind) x settled quiet own has = absurd x.0.1
+moves lay calls c older row (Reply reply ∷ Log entry ∷ Reply reply' ∷ behind) x settled quiet own has = absurd x.0.1
 moves lay calls c older row (Reply reply ∷ Log entry ∷ Step row' ∷ behind) x settled quiet own has = absurd cc
-moves lay calls c older row (Reply reply ∷ Reply reply' ∷ behind) x settled quiet own has = absurd (one_reply calls (behind ++ Step row ∷ older) reply reply' x.0.1.1 x.1.1)
+moves lay calls c older row (Reply reply ∷ Reply reply' ∷ behind) x settled quiet own has = absurd (one_reply lay calls (behind ++ Step row ∷ older) reply reply' x.0.1.1 x.1.1)
 moves lay calls c older row (Step row' ∷ behind) x settled quiet own has = absurd cc
 moves lay calls c older row (Log entry ∷ Step row' ∷ behind) x settled quiet own has = absurd cc
 moves lay calls c older row (Reply reply ∷ Step row' ∷ behind) x settled quiet own has = absurd cc
@@ -170,14 +186,14 @@ nearer calls c old new has few m =
 -- a turn of a player's client that has a call left
 pub turn_moves : (so : List Line → Type 0) (c : ℕ) (old p q : Player) (row : Row) → AreTurnsWhile so c old p → HasCall (calls_of old) c (lines_of p) → IsTurnMore p q c row → Moves c (lines_of p) (lines_of q)
 turn_moves so c old p q row x has t = subst (λ (l : List Line). Moves c (lines_of p) l) (sym t.lines) (moves p.script.layout (calls_of p) c (lines_of p) row t.behind
-    (rw (t.script.layout, t.script.calls, t.lines) at t.played.so_far.in_order) (rw (t.script.layout, t.script.calls, t.lines) at t.played.settled) only.0 only.1 (rw x.script.calls has))
+    (rw (t.script.layout, t.script.calls, t.lines) at t.played.between.so_far.in_order) (rw (t.script.layout, t.script.calls, t.lines) at t.played.between.settled) only.0 only.1 (rw x.script.calls has))
   where
     only : (clients t.behind ≡ []) × (client_of row ≡ c)
     only = only_turn t.behind row (lines_of p) c (ap (λ (l : List Line). clients l) (sym t.lines) ∙ t.turns)
 
 -- so each of its turns leaves it less to go
 pub turn_nearer : (so : List Line → Type 0) (c : ℕ) (old p q : Player) (row : Row) → AreTurnsWhile so c old p → HasCall (calls_of old) c (lines_of p) → IsTurnMore p q c row → to_go (calls_of old) c (lines_of q) < to_go (calls_of old) c (lines_of p)
-turn_nearer so c old p q row x has t = nearer (calls_of old) c (lines_of p) (lines_of q) has (steps_few p.script.layout (calls_of p) (lines_of p) c x.played.so_far.in_order) (turn_moves so c old p q row x has t)
+turn_nearer so c old p q row x has t = nearer (calls_of old) c (lines_of p) (lines_of q) has (steps_few p.script.layout (calls_of p) (lines_of p) c x.played.between.so_far.in_order) (turn_moves so c old p q row x has t)
 
 -- a client that had no reply more has at most one
 pub replies_more : (n c : ℕ) (old new : List Line) → answered old c ≡ n → Moves c old new → (answered new c ≡ n) ⊎ (answered new c ≡ suc n)

@@ -1,34 +1,66 @@
 -- What each row leaves of what the clients know.
-use Rattle.std.proofs.Common.{◌≢◌, ℕ, suc, ◌<◌, ◌≤◌, inl, inr, Option, refl, arith}
+use Rattle.std.proofs.Common.{◌≡◌, ◌≢◌, ℕ, suc, ◌<◌, ◌≤◌, ◌⊎◌, inl, inr, ⊎_elim, Option, Some, None, List, refl, sym, ◌∙◌, subst, arith}
+use native.Mathlib.Decide.{ℕ_discrete}
 use Rattle.arena.specs.declared.layout.Layout.{Layout}
 use Rattle.arena.specs.declared.step.Row.{Row}
 use Rattle.arena.specs.declared.step.Step.{Step as Ask}
 use Rattle.arena.specs.Layout.{opening_nodes, first_node, first_scx}
 use Rattle.arena.specs.Share.{Left, whole_share, HasNode, HasScx}
 use Rattle.arena.specs.Words.{deed_after}
-use Rattle.arena.specs.History.{History, Start, ◌⊳◌, value}
-use Rattle.arena.specs.Fills.{IsOwnNode, IsOwnScx, IsTakenScx}
-use Rattle.arena.specs.Lawful.{Lawful}
+use Rattle.arena.specs.History.{History, Start, ◌⊳◌, value, EndsWith}
+use Rattle.arena.specs.ScxRecords.{member}
+use Rattle.arena.specs.Blame.{IsMember, IsInProgress}
+use Rattle.arena.specs.Fills.{IsOwnNode, IsOwnScx, IsTakenNode, IsTakenScx}
+use Rattle.arena.specs.Lawful.{Lawful, HasWon}
 use Rattle.arena.specs.Machines.{Call, IsTold, row_of}
 use Rattle.arena.proofs.Taken.{taken_node_more, taken_scx_more}
+use Rattle.histories.proofs.Changes.{UpdateWins}
+use Rattle.histories.proofs.Facts.{Facts, won_more}
+use Rattle.histories.proofs.Updates.{update_won, update_split, update_in_progress, update_flagged}
+use Rattle.histories.proofs.Always.{facts_before}
+use Rattle.histories.proofs.Fields.{Logs, same as log_same, wins as log_wins, logs}
+use Rattle.histories.proofs.Taking.{named_scx_taken}
 use Rattle.histories.proofs.Unmentioned.{IsUnmentioned, unmentioned_start, unmentioned_by_step, unmentioned_by_others}
 use Rattle.prims.specs.Cells.{allows_all}
 use Rattle.prims.specs.Linked.{linked_more}
+use Rattle.prims.specs.Moments.{AreOver}
+use Rattle.prims.specs.Begun.{TakesOnly, takes_by_others}
+use Rattle.prims.proofs.Alone.{moment_more, over_more}
+use Rattle.prims.specs.Snaps.{IsAmong}
+use Rattle.prims.specs.VlxKnown.{snap_at}
+use Rattle.prims.specs.declared.snap.Snap.{Snap}
+use Rattle.script.specs.declared.command.Command.{Command}
+use Rattle.script.specs.declared.command.Command.TheVariants.{Llx as LlxOf, Scx as ScxOf, Vlx as VlxOf, Set as SetOf}
 use Rattle.player.specs.declared.run.Run.{Run}
 use Rattle.player.specs.declared.run.Run.TheVariants.{Llx, Scx, Vlx}
 use Rattle.player.specs.declared.client.Client.{Client}
 use Rattle.player.specs.declared.client.Running.{Running}
-use Rattle.player.specs.declared.kept.Kept.{Kept}
-use Rattle.player.specs.Kept.{AreKept, snap_of}
 use Rattle.player.specs.declared.client.Put.{Put}
-use Rattle.player.specs.RunKnown.{run_waits, run_keeps, run_lawful, run_made}
-use Rattle.player.specs.View.{View, IsSound, IsShare, first_free, HasNewest, Stands, Works, Waits, Hears, IsClient, machine_call}
+use Rattle.player.specs.declared.kept.Found.{Found}
+use Rattle.player.specs.Kept.{IsUsable, kept_of, snap_of}
+use Rattle.player.specs.LawfulRun.{HasRoom}
+use Rattle.player.specs.RunKnown.{run_waits, run_ready, run_keeps, run_lawful, run_made}
+use Rattle.player.specs.View.{View, Hand, no_hand, in_hand, snaps_of, IsSound, IsShare, HasNewest, IsStart, IsSource, IsRunOf, HasTaken, HaveMoments, IsRoomy, IsWonAs, IsWonBy, Stands, Rests, Works, Waits, Hears, IsClient, machine_call}
+use Rattle.player.proofs.Puts.{put_covers, put_ready_covers}
+use Rattle.player.proofs.Over.{takes_by_own, nodes_by_own}
 use Rattle.histories.proofs.Taking.{untaken_by_others, untaken_by_step}
 use Rattle.prims.proofs.FillsNot.{llx_fills_not, vlx_fills_not}
+use Rattle.prims.proofs.LooksNot.{put_looks_not}
+use Rattle.prims.specs.declared.put.PutRun.{PutRun}
+use Rattle.arena.specs.declared.step.Kind.TheVariants.{LoadInfo}
 use Rattle.prims.proofs.PutRows.{put_unmentioned, put_untaken}
+use Rattle.prims.proofs.UntakenNodes.{untaken_node_by_others, untaken_node_by_step, put_untaken_node}
 
-pub kept_more : (lay : Layout) (h : History) (r : Row) (kept : Kept) → Lawful lay (r ⊳ h) → AreKept lay h kept → AreKept lay (r ⊳ h) kept
-kept_more lay h r kept l x n found e = linked_more lay h r (snap_of n found) l (x n found e)
+some_number : (a b : ℕ) → Some a ≡ Some b → a ≡ b
+some_number a b e = cc
+
+-- a row at which no SCX-record of the pass in progress covers its node leaves a snapshot usable
+pub usable_more : (lay : Layout) (c : ℕ) (h : History) (r : Row) (snap : Snap) (moment : History) → Lawful lay (r ⊳ h) → ((s : ℕ) → IsOwnScx lay c s → IsInProgress (r ⊳ h) s → ¬ IsMember (r ⊳ h) s snap.node.0) → IsUsable lay c h snap moment → IsUsable lay c (r ⊳ h) snap moment
+usable_more lay c h r snap moment l none x = record { linked = linked_more lay h r snap l x.linked; found = moment_more lay h r snap moment x.found; alone = alone }
+  where
+    alone : (k : History) → EndsWith (r ⊳ h) k → EndsWith k moment → (s : ℕ) → IsOwnScx lay c s → IsInProgress k s → ¬ IsMember k s snap.node.0
+    alone k (inl e) after s own p m = none s own (rw e at p) (rw e at m)
+    alone k (inr e) after s own p m = x.alone k e after s own p m
 
 -- a node that a share still has is the pass's own
 pub left_own_node : (lay : Layout) (h : History) (c : ℕ) (left : Left) (node scx n : ℕ) → IsShare lay h c left node scx → HasNode left n → IsOwnNode lay c n
@@ -47,13 +79,14 @@ share_by_others lay h r c left node scx l is_pass other x = record {
   taken_nodes = λ n own less. taken_node_more r h n (x.taken_nodes n own less);
   taken_scx = λ s own less. taken_scx_more r h s (x.taken_scx s own less);
   unmentioned = λ n p. unmentioned_by_others lay h r c n l is_pass other (left_own_node lay h c left node scx n x p) (x.unmentioned n p);
+  untaken_nodes = λ n p. untaken_node_by_others lay h r c n l other (left_own_node lay h c left node scx n x p) (x.untaken_nodes n p);
   untaken = λ s p. untaken_by_others lay h r c s l other (left_own_scx lay h c left node scx s x p) (x.untaken s p);
 }
 
 -- Its own machine's step leaves what the share still has untouched
 
-share_kept : (lay : Layout) (h : History) (r : Row) (c : ℕ) (left : Left) (node scx : ℕ) → ((n : ℕ) → HasNode left n → opening_nodes lay.mode ≤ n → IsUnmentioned h n → IsUnmentioned (r ⊳ h) n) → ((s : ℕ) → HasScx left s → ¬ IsTakenScx h s → ¬ IsTakenScx (r ⊳ h) s) → IsShare lay h c left node scx → IsShare lay (r ⊳ h) c left node scx
-share_kept lay h r c left node scx f g x = record {
+share_kept : (lay : Layout) (h : History) (r : Row) (c : ℕ) (left : Left) (node scx : ℕ) → ((n : ℕ) → HasNode left n → opening_nodes lay.mode ≤ n → IsUnmentioned h n → IsUnmentioned (r ⊳ h) n) → ((n : ℕ) → HasNode left n → ¬ IsTakenNode h n → ¬ IsTakenNode (r ⊳ h) n) → ((s : ℕ) → HasScx left s → ¬ IsTakenScx h s → ¬ IsTakenScx (r ⊳ h) s) → IsShare lay h c left node scx → IsShare lay (r ⊳ h) c left node scx
+share_kept lay h r c left node scx f t g x = record {
   from_node = x.from_node;
   to_node = x.to_node;
   from_scx = x.from_scx;
@@ -61,42 +94,185 @@ share_kept lay h r c left node scx f g x = record {
   taken_nodes = λ n own less. taken_node_more r h n (x.taken_nodes n own less);
   taken_scx = λ s own less. taken_scx_more r h s (x.taken_scx s own less);
   unmentioned = λ n p. f n p (let a = p.from in let b = x.from_node in omega arith) (x.unmentioned n p);
+  untaken_nodes = λ n p. t n p (x.untaken_nodes n p);
   untaken = λ s p. g s p (x.untaken s p);
 }
 
 pub share_by_own : (run : Run) (call : Call) (h : History) (step : Ask) (left : Left) (node scx : ℕ) → Lawful call.layout (row_of call step h ⊳ h) → run_waits run call h step → HasNewest left run → IsShare call.layout h call.pass left node scx → IsShare call.layout (row_of call step h ⊳ h) call.pass left node scx
-share_by_own (Llx m) call h step left node scx l w newest x = share_kept call.layout h (row_of call step h) call.pass left node scx (λ n p i u. unmentioned_by_step call.layout h _ n l (llx_fills_not allows_all m call h step w) u) (λ s p u. untaken_by_step h _ s (llx_fills_not allows_all m call h step w) u) x
-share_by_own (Vlx m) call h step left node scx l w newest x = share_kept call.layout h (row_of call step h) call.pass left node scx (λ n p i u. unmentioned_by_step call.layout h _ n l (vlx_fills_not m call h step w) u) (λ s p u. untaken_by_step h _ s (vlx_fills_not m call h step w) u) x
+share_by_own (Llx m) call h step left node scx l w newest x = share_kept call.layout h (row_of call step h) call.pass left node scx (λ n p i u. unmentioned_by_step call.layout h _ n l (llx_fills_not allows_all m call h step w) u) (λ n p u. untaken_node_by_step h _ n (llx_fills_not allows_all m call h step w) u) (λ s p u. untaken_by_step h _ s (llx_fills_not allows_all m call h step w) u) x
+share_by_own (Vlx m) call h step left node scx l w newest x = share_kept call.layout h (row_of call step h) call.pass left node scx (λ n p i u. unmentioned_by_step call.layout h _ n l (vlx_fills_not m call h step w) u) (λ n p u. untaken_node_by_step h _ n (vlx_fills_not m call h step w) u) (λ s p u. untaken_by_step h _ s (vlx_fills_not m call h step w) u) x
 share_by_own (Scx m) call h step left node scx l w newest x = share_kept call.layout h (row_of call step h) call.pass left node scx
     (λ n p i u. put_unmentioned allows_all m call h step n l w i (λ e. let a = p.from in let b = newest.0 in omega arith) u)
+    (λ n p u. put_untaken_node allows_all m call h step n w (λ e. let a = p.from in let b = newest.0 in omega arith) u)
     (λ s p u. put_untaken allows_all m call h step s w (λ e. let a = p.from in let b = newest.1 in omega arith) u) x
 
--- the view with one row of another client more, and with one of its own
-abbrev pub after_row : View → Row → View
-after_row v r = record { layout = v.layout; calls = v.calls; past = r ⊳ v.past; answered = v.answered; steps = v.steps }
-
-abbrev pub after_own : View → Row → View
-after_own v r = record { layout = v.layout; calls = v.calls; past = r ⊳ v.past; answered = v.answered; steps = suc v.steps }
+-- the view with one row more, with this begin of the call, so many steps of its own, and this turn of its update
+abbrev pub after_row : View → Row → History → ℕ → Option ℕ → View
+after_row v r start steps won = record { layout = v.layout; calls = v.calls; past = r ⊳ v.past; answered = v.answered; start = start; steps = steps; won = won; linked = v.linked }
 
 -- the row of a client's own step
 abbrev pub own_row : View → Client → Ask → Row
 own_row v c step = record { pass = record { 0 = c.pass.0 }; call = c.number; kind = step.kind; word = step.word; before = value v.past step.word; after = deed_after step.deed (value v.past step.word) }
 
--- Rows of others
+-- what a client has does not ask when its call began, nor whether an update has won
+pub stands_from : (v : View) (c : Client) (start : History) (won : Option ℕ) (hand : Hand) → Stands v c hand → Stands (record v { start = start; won = won }) c hand
+stands_from v c start won hand x = record { is_pass = x.is_pass; number = x.number; place = x.place; kept = x.kept; unkept = x.unkept; dropped = x.dropped; share = x.share; over = x.over }
 
-module _ (v : View) (c : Client) (r : Row) (run : IsSound (after_row v r)) (other : r.pass.0 ≢ c.pass.0) where
-  stands_by_others : (free : ℕ × ℕ) → Stands v c free → Stands (after_row v r) c free
-  stands_by_others free x = record {
-    is_pass = x.is_pass;
-    number = x.number;
-    place = x.place;
-    kept = kept_more v.layout v.past r c.kept run.lawful x.kept;
-    share = share_by_others v.layout v.past r c.pass.0 c.share free.0 free.1 run.lawful x.is_pass other x.share;
+-- What a client has in hand
+
+-- its SCX-record that is in progress is the one in hand
+pub own_in_hand : (lay : Layout) (h : History) (c s u : ℕ) → Lawful lay h → AreOver lay c u h → IsOwnScx lay c s → IsInProgress h s → s ≡ u
+own_in_hand lay h c s u l over own p = go (ℕ_discrete s u)
+  where
+    go : Dec (s ≡ u) → s ≡ u
+    go (yes e) = e
+    go (no d) = absurd (over s own d (named_scx_taken lay h s l (λ e. let a = own.from in omega arith) p.named) p.unfinished)
+
+-- the next SCX-record of its share is not in progress
+pub next_idle : (lay : Layout) (h : History) (c : ℕ) (left : Left) (node scx : ℕ) → Lawful lay h → IsShare lay h c left node scx → IsOwnScx lay c left.next_scx → ¬ IsInProgress h left.next_scx
+next_idle lay h c left node scx l share own p =
+    share.untaken left.next_scx record { from = omega arith; below = let a = own.below in let b = share.to_scx in omega arith }
+    (named_scx_taken lay h left.next_scx l (λ e. let a = own.from in omega arith) p.named)
+
+-- what an SCX-record in hand covers: the nodes of the snapshots in hand
+abbrev pub Covers : Layout → History → ℕ → Hand → Type 0
+Covers lay h c hand = (n : ℕ) → IsOwnScx lay c hand.scx → IsInProgress h hand.scx → IsMember h hand.scx n → IsAmong hand.snaps n
+
+-- a client without one covers nothing
+covers_none : (lay : Layout) (h : History) (c : ℕ) (left : Left) (node scx : ℕ) → Lawful lay h → IsShare lay h c left node scx → Covers lay h c (no_hand left)
+covers_none lay h c left node scx l share n own p m = absurd (next_idle lay h c left node scx l share own p)
+
+covers_waits : (run : Run) (call : Call) (h : History) (step : Ask) (left : Left) → Lawful call.layout h → run_waits run call h step → IsShare call.layout h call.pass left (in_hand left run).node (in_hand left run).scx → Covers call.layout h call.pass (in_hand left run)
+covers_waits (Llx m) call h step left l w share = covers_none call.layout h call.pass left _ _ l share
+covers_waits (Vlx m) call h step left l w share = covers_none call.layout h call.pass left _ _ l share
+covers_waits (Scx m) call h step left l w share = λ n own p x. put_covers m call h step n w p x
+
+covers_ready : (run : Run) (call : Call) (h : History) (v : ℕ) (left : Left) → Lawful call.layout h → run_ready run call h (Some v) → IsShare call.layout h call.pass left (in_hand left run).node (in_hand left run).scx → Covers call.layout h call.pass (in_hand left run)
+covers_ready (Llx m) call h v left l w share = covers_none call.layout h call.pass left _ _ l share
+covers_ready (Vlx m) call h v left l w share = covers_none call.layout h call.pass left _ _ l share
+covers_ready (Scx m) call h v left l w share = λ n own p x. put_ready_covers m call h v n w p x
+
+-- One more row
+
+-- it leaves what a client has, if it leaves its share and what it has taken, and what it has in hand covers its snapshots
+stands_more : (v : View) (c : Client) (r : Row) (start : History) (steps : ℕ) (won : Option ℕ) (hand : Hand) → IsSound (after_row v r start steps won) → IsShare v.layout (r ⊳ v.past) c.pass.0 c.share hand.node hand.scx → AreOver v.layout c.pass.0 hand.scx (r ⊳ v.past) → Covers v.layout (r ⊳ v.past) c.pass.0 hand → Stands v c hand → Stands (after_row v r start steps won) c hand
+stands_more v c r start steps won hand run share over covers x = record {
+  is_pass = x.is_pass;
+  number = x.number;
+  place = x.place;
+  kept = λ n found e. let y = x.kept n found e in (y.0, y.1, usable_more v.layout c.pass.0 v.past r (snap_of n found) y.0 run.lawful (alone n found e) y.2);
+  unkept = x.unkept;
+  dropped = x.dropped;
+  share = share;
+  over = over;
+}
+  where
+    alone : (n : ℕ) (found : Found) → kept_of c.kept n ≡ Some found → (s : ℕ) → IsOwnScx v.layout c.pass.0 s → IsInProgress (r ⊳ v.past) s → ¬ IsMember (r ⊳ v.past) s n
+    alone n found e s own p m =
+        let same : s ≡ hand.scx = own_in_hand v.layout (r ⊳ v.past) c.pass.0 s hand.scx run.lawful over own p in
+        let none : kept_of c.kept n ≡ None = x.dropped n (covers n (rw same at own) (rw same at p) (rw same at m)) in
+        let e2 : kept_of c.kept n ≡ Some found = e in
+        cc
+
+-- what a row says of the update of client c: it has won in this turn, or its turn is as it was
+pub record TellsWon (v : View) (c : ℕ) (r : Row) (number : ℕ) (won : Option ℕ) : Type 0 where
+  pub yes : (s : ℕ) → UpdateWins v.past r s → IsOwnScx v.layout c s → won ≡ Some number
+  pub no : (won ≡ v.won) ⊎ ((won ≡ Some number) × ((s : ℕ) × UpdateWins v.past r s × IsOwnScx v.layout c s))
+
+-- an SCX-record has won after a row if it had, or if the row is its win
+won_by : (lay : Layout) (h : History) (r : Row) (s : ℕ) → Lawful lay (r ⊳ h) → HasWon (r ⊳ h) s → HasWon h s ⊎ UpdateWins h r s
+won_by lay h r s l w = go (logs lay h r l)
+  where
+    go : Logs lay h r → HasWon h s ⊎ UpdateWins h r s
+    go (log_same e back) = inl (back s w)
+    go (log_wins u x e) = ⊎_elim (λ q. inr (rw q x)) (λ y. inl y) (update_split (facts_before lay h r l) x s w)
+
+-- an SCX-record whose update wins is in progress
+pub wins_in_progress : (lay : Layout) (h : History) (r : Row) (s : ℕ) → Lawful lay (r ⊳ h) → UpdateWins h r s → IsInProgress h s
+wins_in_progress lay h r s l x =
+    let f : Facts lay h = facts_before lay h r l in
+    record { unfinished = update_in_progress f x; named = (member h s 0, (update_flagged f x).frozen 0 (update_flagged f x).some) }
+
+module _ (v : View) (c : Client) (r : Row) (number : ℕ) (start : History) (steps : ℕ) (won : Option ℕ) (sound : IsSound v) (run : IsSound (after_row v r start steps won)) (tells : TellsWon v c.pass.0 r number won) where
+  -- without an SCX in hand no update of the client's wins
+  no_win : (hand : Hand) → Stands v c hand → hand.scx ≡ c.share.next_scx → v.won ≡ None → won ≡ None
+  no_win hand x e none = ⊎_elim (λ q. q ∙ none) (λ y. absurd (bad y.1)) tells.no
+    where
+      bad : ((s : ℕ) × UpdateWins v.past r s × IsOwnScx v.layout c.pass.0 s) → ⊥
+      bad y =
+          let p : IsInProgress v.past y.0 = wins_in_progress v.layout v.past r y.0 run.lawful y.1 in
+          let same : y.0 ≡ c.share.next_scx = own_in_hand v.layout v.past c.pass.0 y.0 hand.scx sound.lawful x.over y.2 p ∙ e in
+          next_idle v.layout v.past c.pass.0 c.share hand.node hand.scx sound.lawful x.share (rw same at y.2) (rw same at p)
+
+  -- the update of the SCX in hand has won where its SCX-record has
+  won_as : (hand : Hand) → Stands v c hand → IsWonAs v c.pass.0 hand.scx → IsWonAs (after_row v r start steps won) c.pass.0 hand.scx
+  won_as hand x w = record { own = w.own; yes = yes; no = no }
+    where
+      still : (turn : ℕ) → v.won ≡ Some turn → (turn : ℕ) × (won ≡ Some turn)
+      still turn e = ⊎_elim (λ q. (turn, q ∙ e)) (λ y. (number, y.0)) tells.no
+
+      yes : HasWon (r ⊳ v.past) hand.scx → (turn : ℕ) × (won ≡ Some turn)
+      yes y = ⊎_elim (λ z. let q = w.yes z in still q.0 q.1) (λ z. (number, tells.yes hand.scx z w.own)) (won_by v.layout v.past r hand.scx run.lawful y)
+
+      no : ¬ HasWon (r ⊳ v.past) hand.scx → won ≡ None
+      no y = ⊎_elim (λ q. q ∙ w.no (λ z. y (won_more r v.past hand.scx z))) (λ z. absurd (bad z.1)) tells.no
+        where
+          bad : ((s : ℕ) × UpdateWins v.past r s × IsOwnScx v.layout c.pass.0 s) → ⊥
+          bad z =
+              let same : z.0 ≡ hand.scx = own_in_hand v.layout v.past c.pass.0 z.0 hand.scx sound.lawful x.over z.2 (wins_in_progress v.layout v.past r z.0 run.lawful z.1) in
+              y (rw same at (update_won (facts_before v.layout v.past r run.lawful) z.1))
+
+  won_more_by : (q : Run) → Stands v c (in_hand c.share q) → IsWonBy v c.pass.0 q → IsWonBy (after_row v r start steps won) c.pass.0 q
+  won_more_by (Scx m) x w = won_as (in_hand c.share (Scx m)) x w
+  won_more_by (Llx m) x w = no_win (no_hand c.share) x refl w
+  won_more_by (Vlx m) x w = no_win (no_hand c.share) x refl w
+
+  late_more : c.begin ≤ number → ((turn : ℕ) → v.won ≡ Some turn → c.begin ≤ turn) → (turn : ℕ) → won ≡ Some turn → c.begin ≤ turn
+  late_more i f turn e = ⊎_elim (λ q. f turn (sym q ∙ e)) (λ y. let same : number ≡ turn = some_number number turn (sym y.0 ∙ e) in rw same at i) tells.no
+
+  -- the moments of snapshots stay, where the row looks at no info word for the client
+  moments_more : (command : Command) (snaps : List Snap) → start ≡ v.start → (r.pass.0 ≡ c.pass.0 → r.kind ≢ LoadInfo) → HaveMoments v c.pass.0 command snaps → HaveMoments (after_row v r start steps won) c.pass.0 command snaps
+  moments_more command snaps since looks x i p =
+      let y = x i p in
+      record { moment = y.moment; found = moment_more v.layout v.past r (snap_at snaps i) y.moment y.found; source = source_more command (snap_at snaps i).node.0 y.moment y.source }
+    where
+      source_more : (command : Command) (n : ℕ) (moment : History) → IsSource v c.pass.0 command n moment → IsSource (after_row v r start steps won) c.pass.0 command n moment
+      source_more (SetOf field x) n moment y = record { row = y.row; before = y.before; is = y.is; since = subst (λ (k : History). EndsWith y.before k) (sym since) y.since; own = y.own; kind = y.kind; word = y.word; none_since = none }
+        where
+          row_of_more : (a b : Row) (h k : History) → a ⊳ h ≡ b ⊳ k → a ≡ b
+          row_of_more a b h k e = cc
+
+          none : (later : Row) (k : History) → EndsWith (r ⊳ v.past) (later ⊳ k) → EndsWith k moment → later.pass.0 ≡ c.pass.0 → later.kind ≢ LoadInfo
+          none later k (inl e) f = rw (row_of_more later r k v.past e) looks
+          none later k (inr e) f = y.none_since later k e f
+      source_more (ScxOf update) n moment y = y
+      source_more (VlxOf cells) n moment y = y
+      source_more (LlxOf cell) n moment y = y
+
+  -- an LLX has no snapshots yet, and those of a VLX are kept ones
+  moments_by : (q : Run) (then : Option Put) (command : Command) → start ≡ v.start → ((m : PutRun) → q ≡ Scx m → r.pass.0 ≡ c.pass.0 → r.kind ≢ LoadInfo) → IsRunOf command c.number q then → HaveMoments v c.pass.0 command (snaps_of q) → HaveMoments (after_row v r start steps won) c.pass.0 command (snaps_of q)
+  moments_by (Llx m) then command since looks of x = λ i p. absurd (omega arith)
+  moments_by (Scx m) then command since looks of x = moments_more command m.scx.update.snaps.items since (looks m refl) x
+  moments_by (Vlx m) then (VlxOf cells) since looks of x = λ i p. let y = x i p in record { moment = y.moment; found = moment_more v.layout v.past r (snap_at m.snaps.items i) y.moment y.found; source = y.source }
+  moments_by (Vlx m) then (LlxOf cell) since looks of x = absurd of
+  moments_by (Vlx m) then (ScxOf update) since looks of x = absurd of
+  moments_by (Vlx m) then (SetOf field x) since looks of y = absurd of
+
+  took : (q : Run) → TakesOnly v.layout c.pass.0 (in_hand c.share q).scx v.past r → ((n : ℕ) → IsOwnNode v.layout c.pass.0 n → n ≢ (in_hand c.share q).node → ¬ IsTakenNode v.past n → ¬ IsTakenNode (r ⊳ v.past) n) → start ≡ v.start → HasTaken v c.pass.0 (in_hand c.share q) → HasTaken (after_row v r start steps won) c.pass.0 (in_hand c.share q)
+  took q takes nodes e y = record {
+    nodes = λ n own d free. nodes n own d (y.nodes n own d (subst (λ (k : History). ¬ IsTakenNode k n) e free));
+    scx_records = λ s own d free. takes s own d (y.scx_records s own d (subst (λ (k : History). ¬ IsTakenScx k s) e free));
   }
 
-  works_by_others : (q : Run) (then : Option Put) → Works v c q then → Works (after_row v r) c q then
-  works_by_others q then x = record {
-    stands = stands_by_others (first_free c.share q) x.stands;
+  roomy : (q : Run) → start ≡ v.start → IsRoomy v c.pass.0 q → IsRoomy (after_row v r start steps won) c.pass.0 q
+  roomy (Scx m) e y = subst (λ (k : History). HasRoom v.layout c.pass.0 k) (sym e) y
+  roomy (Llx m) e y = tt
+  roomy (Vlx m) e y = tt
+
+  -- a machine still runs
+  works_more : (q : Run) (then : Option Put) → start ≡ v.start → c.begin ≤ number → ((m : PutRun) → q ≡ Scx m → r.pass.0 ≡ c.pass.0 → r.kind ≢ LoadInfo) → TakesOnly v.layout c.pass.0 (in_hand c.share q).scx v.past r → ((n : ℕ) → IsOwnNode v.layout c.pass.0 n → n ≢ (in_hand c.share q).node → ¬ IsTakenNode v.past n → ¬ IsTakenNode (r ⊳ v.past) n) → Stands (after_row v r start steps won) c (in_hand c.share q) → Works v c q then → Works (after_row v r start steps won) c q then
+  works_more q then same i looks takes nodes stands x = record {
+    stands = stands;
     newest = x.newest;
     command = x.command;
     is = x.is;
@@ -104,12 +280,36 @@ module _ (v : View) (c : Client) (r : Row) (run : IsSound (after_row v r)) (othe
     is_pass = x.is_pass;
     start = x.start;
     since = inr x.since;
+    begun = subst (λ (k : History). IsStart q x.start k) (sym same) x.begun;
+    moments = moments_by q then x.command same looks x.run_of x.moments;
+    room = roomy q same x.room;
+    took = took q takes nodes same x.took;
+    won = won_more_by q x.stands x.won;
+    late = late_more i x.late;
   }
 
-  pub client_by_others : (began : Option ℕ) → IsClient v began c → IsClient (after_row v r) began c
-  unfolding works_by_others
-  client_by_others began (inl x) = inl (record { stands = stands_by_others _ x.0.stands; none = x.0.none }, x.1, x.2)
-  client_by_others began (inr (q, is, w, e)) = inr (q, is, record { works = works_by_others q.run q.then w.works; waits = run_keeps q.run (machine_call v c w.works.is_pass w.works.start) v.past q.step r run other w.waits; few = w.few }, e)
+-- Rows of others
+
+module _ (v : View) (c : Client) (r : Row) (number : ℕ) (start : History) (won : Option ℕ) (sound : IsSound v) (run : IsSound (after_row v r start v.steps won)) (tells : TellsWon v c.pass.0 r number won) (other : r.pass.0 ≢ c.pass.0) where
+  share_then : (hand : Hand) → Stands v c hand → IsShare v.layout (r ⊳ v.past) c.pass.0 c.share hand.node hand.scx
+  share_then hand x = share_by_others v.layout v.past r c.pass.0 c.share hand.node hand.scx run.lawful x.is_pass other x.share
+
+  stands_by_others : (hand : Hand) → Covers v.layout (r ⊳ v.past) c.pass.0 hand → Stands v c hand → Stands (after_row v r start v.steps won) c hand
+  stands_by_others hand covers x = stands_more v c r start v.steps won hand run (share_then hand x) (over_more v.layout c.pass.0 hand.scx v.past r run.lawful (takes_by_others v.layout c.pass.0 hand.scx v.past r run.lawful other) x.over) covers x
+
+  rests_by_others : Rests v c → Rests (after_row v r start v.steps won) c
+  rests_by_others x = record { stands = stands_by_others (no_hand c.share) (covers_none v.layout (r ⊳ v.past) c.pass.0 c.share _ _ run.lawful (share_then (no_hand c.share) x.stands)) x.stands; none = x.none }
+
+  pub client_by_others : (began : Option ℕ) → (began ≡ None → start ≡ r ⊳ v.past) → ((k : ℕ) → began ≡ Some k → (start ≡ v.start) × (k ≤ number)) → IsClient v began c → IsClient (after_row v r start v.steps won) began c
+  unfolding works_more
+  client_by_others began f g (inl (x, inl none)) = inl (rests_by_others x, inl none)
+  client_by_others began f g (inl (x, inr u)) = inl (rests_by_others x, inr record { none = u.none; start = f u.none; steps = u.steps; won = no_win v c r number start v.steps won sound run tells (no_hand c.share) x.stands refl u.won })
+  client_by_others began f g (inr (q, is, w, e)) =
+      let call = machine_call v c w.works.is_pass w.works.start in
+      let waits = run_keeps q.run call v.past q.step r run other w.waits in
+      let hand = in_hand c.share q.run in
+      let stands = stands_by_others hand (covers_waits q.run call (r ⊳ v.past) q.step c.share run.lawful waits (share_then hand w.works.stands)) w.works.stands in
+      inr (q, is, record { works = works_more v c r number start v.steps won sound run tells q.run q.then (g c.begin e).0 (g c.begin e).1 (λ m z own. absurd (other own)) (takes_by_others v.layout c.pass.0 hand.scx v.past r run.lawful other) (λ n own d. untaken_node_by_others v.layout v.past r c.pass.0 n run.lawful other own) stands w.works; waits = waits; few = w.few }, e)
 
 -- Its own step
 
@@ -117,35 +317,25 @@ module _ (v : View) (c : Client) (q : Running) (sound : IsSound v) (w : Waits v 
   abbrev call : Call
   call = machine_call v c w.works.is_pass w.works.start
 
-  pub step_sound : IsSound (after_own v (own_row v c q.step))
-  step_sound = run_lawful q.run call v.past q.step sound w.waits
+  abbrev hand : Hand
+  hand = in_hand c.share q.run
+
+  pub step_sound : (won : Option ℕ) → IsSound (after_row v (own_row v c q.step) v.start (suc v.steps) won)
+  step_sound won = run_lawful q.run call v.past q.step sound w.waits
 
   -- the machine may be told what the step found
-  pub hears : (found : ℕ) → IsTold q.step.deed (value v.past q.step.word) found → Hears (after_own v (own_row v c q.step)) c q found
-  hears found told = record {
-    works = record {
-      stands = record {
-        is_pass = w.works.is_pass;
-        number = w.works.stands.number;
-        place = w.works.stands.place;
-        kept = kept_more v.layout v.past (own_row v c q.step) c.kept step_sound.lawful w.works.stands.kept;
-        share = share_by_own q.run call v.past q.step c.share _ _ step_sound.lawful w.waits w.works.newest w.works.stands.share;
-      };
-      newest = w.works.newest;
-      command = w.works.command;
-      is = w.works.is;
-      run_of = w.works.run_of;
-      is_pass = w.works.is_pass;
-      start = w.works.start;
-      since = inr w.works.since;
-    };
-    ready = run_made q.run call v.past q.step found step_sound told w.waits;
-    few = let few = w.few in omega arith;
-  }
+  pub hears : (number : ℕ) (won : Option ℕ) → TellsWon v c.pass.0 (own_row v c q.step) number won → c.begin ≤ number → (found : ℕ) → IsTold q.step.deed (value v.past q.step.word) found → Hears (after_row v (own_row v c q.step) v.start (suc v.steps) won) c q found
+  unfolding works_more
+  hears number won tells late found told =
+      let run = step_sound won in
+      let ready = run_made q.run call v.past q.step found run told w.waits in
+      let share = share_by_own q.run call v.past q.step c.share _ _ run.lawful w.waits w.works.newest w.works.stands.share in
+      let stands = stands_more v c (own_row v c q.step) v.start (suc v.steps) won hand run share (over_more v.layout c.pass.0 hand.scx v.past (own_row v c q.step) run.lawful (takes_by_own q.run call c.share v.past q.step w.waits) w.works.stands.over) (covers_ready q.run call (own_row v c q.step ⊳ v.past) found c.share run.lawful ready share) w.works.stands in
+      record { works = works_more v c (own_row v c q.step) number v.start (suc v.steps) won sound run tells q.run q.then refl late (λ m z own. put_looks_not allows_all m call v.past q.step (subst (λ (k : Run). run_waits k call v.past q.step) z w.waits)) (takes_by_own q.run call c.share v.past q.step w.waits) (λ n own d. nodes_by_own q.run call c.share v.past q.step w.waits n d) stands w.works; ready = ready; few = let few = w.few in omega arith }
 
 -- Nothing of a whole share is touched at the start
 pub whole_untouched : (lay : Layout) (c : ℕ) → IsShare lay (Start lay.mode) c (whole_share lay c) (first_node lay c) (first_scx lay c)
-unfolding IsTakenScx
+unfolding IsTakenNode IsTakenScx
 whole_untouched lay c = record {
   from_node = omega arith;
   to_node = refl;
@@ -154,5 +344,6 @@ whole_untouched lay c = record {
   taken_nodes = λ n own less. absurd (let a = own.from in omega arith);
   taken_scx = λ s own less. absurd (let a = own.from in omega arith);
   unmentioned = λ n p. unmentioned_start lay.mode n (let a = p.from in omega arith);
+  untaken_nodes = λ n p t. t;
   untaken = λ s p t. t;
 }

@@ -1,8 +1,11 @@
 -- What a client keeps of the snapshots that it took.
-use Rattle.std.specs.Prelude.{◌≡◌, ℕ, ◌<◌, List, length, get_or, Option, Some, None, IsSome, slice_get}
+use Rattle.std.specs.Prelude.{◌≡◌, ℕ, ◌<◌, ◌≤◌, List, length, get_or, Option, Some, None, IsSome, slice_get}
 use Rattle.arena.specs.declared.layout.Layout.{Layout}
-use Rattle.arena.specs.History.{History}
+use Rattle.arena.specs.History.{History, EndsWith}
+use Rattle.arena.specs.Fills.{IsOwnScx}
+use Rattle.arena.specs.Blame.{IsMember, IsInProgress}
 use Rattle.prims.specs.Linked.{IsLinked}
+use Rattle.prims.specs.Moments.{IsMoment}
 use Rattle.prims.specs.VlxKnown.{snap_at}
 use Rattle.prims.specs.declared.snap.Snap.{Snap}
 use Rattle.prims.specs.declared.llx.Llx.{Llx}
@@ -22,9 +25,15 @@ snap_of n found = record { node = record { 0 = n }; scx = found.scx; left = foun
 abbrev pub parts : Snap → Found
 parts snap = record { scx = snap.scx; left = snap.left; right = snap.right }
 
--- all that is kept may be used
-abbrev pub AreKept : Layout → History → Kept → Type 0
-AreKept lay h kept = (n : ℕ) (found : Found) → kept_of kept n ≡ Some found → IsLinked lay h (snap_of n found)
+-- a snapshot of this moment that the pass c may use: what it says holds as long as its node's info is what it found, and since its moment no SCX-record of the pass has covered its node while in progress
+pub record IsUsable (lay : Layout) (c : ℕ) (h : History) (snap : Snap) (moment : History) : Type 0 where
+  pub linked : IsLinked lay h snap
+  pub found : IsMoment lay h snap moment
+  pub alone : (k : History) → EndsWith h k → EndsWith k moment → (s : ℕ) → IsOwnScx lay c s → IsInProgress k s → ¬ IsMember k s snap.node.0
+
+-- all that is kept may be used, and is of the moment that is said of its node
+abbrev pub AreKept : Layout → ℕ → History → (ℕ → Option History) → Kept → Type 0
+AreKept lay c h linked kept = (n : ℕ) (found : Found) → kept_of kept n ≡ Some found → (moment : History) × (linked n ≡ Some moment) × IsUsable lay c h (snap_of n found) moment
 
 -- the node of an LLX
 abbrev pub node_of : Llx → ℕ
@@ -46,5 +55,6 @@ AllKept kept snaps = (i : ℕ) → i < length snaps → kept_of kept (snap_at sn
 pub record IsFirstUnkept (kept : Kept) (cells : List ℕ) (node : ℕ) : Type 0 where
   pub place : ℕ
   pub is : slice_get cells place ≡ Some node
+  pub small : node ≤ 8
   pub unkept : kept_of kept node ≡ None
   pub before : (i : ℕ) → i < place → IsSome (kept_of kept (get_or cells i 0))

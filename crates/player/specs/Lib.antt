@@ -9,3 +9,4 @@ pub mod Place
 pub mod View
 pub mod Played
 pub mod TurnsMore
+pub mod Schedules

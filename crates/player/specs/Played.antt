@@ -1,5 +1,5 @@
 -- What is true of a player between two turns, and in the middle of one.
-use Rattle.std.specs.Prelude.{◌≡◌, ◌≢◌, ℕ, suc, ◌⊎◌, List, ◌∷◌, set, Some, None, slice_get, ◌++◌}
+use Rattle.std.specs.Prelude.{◌≡◌, ◌≢◌, ℕ, suc, ◌⊎◌, List, ◌∷◌, set, Option, Some, None, slice_get, ◌++◌}
 use Rattle.arena.specs.declared.layout.Layout.{Layout}
 use Rattle.arena.specs.declared.word.Word.{Word}
 use Rattle.arena.specs.Layout.{IsWord}
@@ -21,8 +21,8 @@ use Rattle.player.specs.declared.client.Running.{Running}
 use Rattle.player.specs.Lines.{newest}
 use Rattle.player.specs.declared.client.Client.{Client}
 use Rattle.player.specs.declared.player.Player.{Player}
-use Rattle.player.specs.Turns.{history, begin, turns, clients}
-use Rattle.player.specs.LawfulRun.{AreLines, OwesNothing}
+use Rattle.player.specs.Turns.{history, begin, turns, clients, won}
+use Rattle.player.specs.LawfulRun.{moment_of, AreLines, OwesNothing}
 use Rattle.player.specs.View.{view, IsClient, Waits, IsBehind}
 
 -- the words hold what the steps have left in them, and the lines so far are lawful
@@ -49,9 +49,14 @@ pub record IsBetween (lay : Layout) (calls : List Call) (words : Contents) (clie
   pub settled : OwesNothing lay calls lines
   pub each : (j : ℕ) (c : Client) → slice_get clients j ≡ Some c → (c.pass.0 ≡ j) × IsClient (view lay calls lines j) (begin lines j) c
 
+-- of each client whose update has won since its last reply, the turn in which it has is remembered
+abbrev pub AreWins : Layout → List Line → List (Option ℕ) → Type 0
+AreWins lay lines wins = (c turn : ℕ) → won lay lines c ≡ Some turn → slice_get wins c ≡ Some (Some turn)
+
 -- a player between two turns
-abbrev pub IsPlayed : Player → Type 0
-IsPlayed p = IsBetween p.script.layout p.script.calls.items p.words p.clients.items (newest p.lines)
+pub record IsPlayed (p : Player) : Type 0 where
+  pub between : IsBetween p.script.layout p.script.calls.items p.words p.clients.items (newest p.lines)
+  pub wins : AreWins p.script.layout (newest p.lines) p.wins.items
 
 -- In the middle of a turn
 
@@ -66,6 +71,7 @@ pub record IsAsked (p : Player) (i number : ℕ) (step : Ask) : Type 0 where
   pub runs : client.running ≡ Some running
   pub asks : running.step ≡ step
   pub waits : Waits (view p.script.layout p.script.calls.items (newest p.lines) client.pass.0) client running
+  pub wins : AreWins p.script.layout (newest p.lines) p.wins.items
   pub began : ((begin (newest p.lines) client.pass.0 ≡ None) × (client.begin ≡ number)) ⊎ (begin (newest p.lines) client.pass.0 ≡ Some client.begin)
 
 -- the newest line is this step
@@ -74,29 +80,33 @@ pub record IsMade (p : Player) (number : ℕ) (row : Row) : Type 0 where
   pub lines : newest p.lines ≡ Step (Made number row) ∷ older
   pub so_far : IsSoFar p.script.layout p.script.calls.items p.words (newest p.lines)
 
--- the reply to a client's call, which ends it
-pub record IsEnd (calls : List Call) (old new : Client) (turn : ℕ) (answer : Answer) (reply : Reply) : Type 0 where
+-- the reply to a client's call, which ends it; its last update that has won did so in this turn
+pub record IsEnd (calls : List Call) (old new : Client) (turn : ℕ) (answer : Answer) (won : Option ℕ) (reply : Reply) : Type 0 where
   pub client : reply.client ≡ old.pass
   pub call : reply.call ≡ old.number
   pub begin : reply.begin ≡ old.begin
   pub end : reply.end ≡ turn
   pub answers : reply.answer ≡ answer
+  pub moment : reply.moment ≡ moment_of answer old.begin turn won
   pub behind : IsBehind calls old new
 
 -- one reply more, to the call of this client
 pub record IsReplied (old new : Player) (turn : ℕ) (answer : Answer) (c : Client) : Type 0 where
   pub client : Client
   pub reply : Reply
-  pub end : IsEnd old.script.calls.items c client turn answer reply
+  pub won : Option ℕ
+  pub wins : slice_get old.wins.items c.pass.0 ≡ Some won
+  pub end : IsEnd old.script.calls.items c client turn answer won reply
   pub clients : new.clients.items ≡ set old.clients.items c.pass.0 client
   pub line : newest new.lines ≡ ReplyLine reply ∷ newest old.lines
 
 -- it is the same script
 pub record IsSameScript (old new : Script) : Type 0 where
+  pub limits : new.limits ≡ old.limits
   pub layout : new.layout ≡ old.layout
   pub calls : new.calls.items ≡ old.calls.items
 
--- script, words and clients are as they were; or the script and the words
+-- script, words and clients are as they were; or all but clients and lines
 pub record HasSameClients (old new : Player) : Type 0 where
   pub script : IsSameScript old.script new.script
   pub words : new.words ≡ old.words
@@ -105,6 +115,7 @@ pub record HasSameClients (old new : Player) : Type 0 where
 pub record HasSameWords (old new : Player) : Type 0 where
   pub script : IsSameScript old.script new.script
   pub words : new.words ≡ old.words
+  pub wins : new.wins.items ≡ old.wins.items
 
 -- one turn of this client more, which is this row, and what is written down behind it
 pub record IsTurnMore (old new : Player) (i : ℕ) (row : Turn) : Type 0 where

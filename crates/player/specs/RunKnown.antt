@@ -51,7 +51,7 @@ answer_of (ended.Vlx (VlxChanged node scx)) = Changed node scx
 -- of the same kind, and further on
 abbrev pub run_same : Run → Run → Type 0
 run_same (Llx old) (Llx now) = now.node ≡ old.node
-run_same (Scx old) (Scx now) = (now.scx.scx ≡ old.scx.scx) × (now.scx.update ≡ old.scx.update)
+run_same (Scx old) (Scx now) = (now.scx.scx ≡ old.scx.scx) × (now.scx.update ≡ old.scx.update) × (now.scx.call ≡ old.scx.call) × (now.value ≡ old.value)
 run_same (Vlx old) (Vlx now) = now.snaps ≡ old.snaps
 run_same _ _ = ⊥
 

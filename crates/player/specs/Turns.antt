@@ -1,5 +1,5 @@
 -- What the lines of a run say. Lines stand here with the newest first.
-use Rattle.std.specs.Prelude.{ℕ, suc, Bool, true, false, cond, ◌&&◌, eqb, not, List, [], ◌∷◌, Option, Some, None, unwrap_or}
+use Rattle.std.specs.Prelude.{ℕ, suc, Bool, true, false, cond, ◌&&◌, ◌||◌, eqb, not, List, [], ◌∷◌, Option, Some, None, unwrap_or, is_some}
 use Rattle.arena.specs.declared.limits.Mode.{Mode}
 use Rattle.arena.specs.declared.layout.Layout.{Layout}
 use Rattle.arena.specs.declared.step.Row.{Row as StepRow}
@@ -95,6 +95,13 @@ begin (Step row ∷ lines) c = cond (eqb (client_of row) c) (Some (unwrap_or (be
 begin (Log entry ∷ lines) c = begin lines c
 begin (Reply reply ∷ lines) c = cond (eqb reply.client.0 c) None (begin lines c)
 
+-- the steps up to the begin of the client's call: those before its first turn since its last reply; all of them if it has made none
+abbrev pub start : Mode → List Line → ℕ → History
+start mode [] c = Start mode
+start mode (Step row ∷ lines) c = cond (eqb (client_of row) c || is_some (begin lines c)) (start mode lines c) (history mode (Step row ∷ lines))
+start mode (Log entry ∷ lines) c = start mode lines c
+start mode (Reply reply ∷ lines) c = cond (eqb reply.client.0 c) (history mode lines) (start mode lines c)
+
 -- how many steps a client has made since its last reply
 abbrev pub steps : List Line → ℕ → ℕ
 steps [] c = 0
@@ -143,3 +150,16 @@ entry_of lay lines number row = cond (is_update row.kind && not (eqb row.before 
 abbrev pub entry_owed : Layout → List Line → Option Entry
 entry_owed lay (Step (Made number row) ∷ lines) = entry_of lay lines number row
 entry_owed lay _ = None
+
+-- the entry, if it is one, is of an update of this client's
+abbrev pub is_entry_of : Option Entry → ℕ → Bool
+is_entry_of None c = false
+is_entry_of (Some entry) c = eqb entry.client.0 c
+
+-- the turn in which an update of the client's has won since its last reply
+abbrev pub won : Layout → List Line → ℕ → Option ℕ
+won lay [] c = None
+won lay (Step (Made number row) ∷ lines) c = cond (is_entry_of (entry_of lay lines number row) c) (Some number) (won lay lines c)
+won lay (Step (Idle number client) ∷ lines) c = won lay lines c
+won lay (Log entry ∷ lines) c = won lay lines c
+won lay (Reply reply ∷ lines) c = cond (eqb reply.client.0 c) None (won lay lines c)

@@ -1,5 +1,5 @@
 -- Turns of one client that follow one another.
-use Rattle.std.specs.Prelude.{◌≡◌, ℕ, ◌+◌, ◌-◌, ◌*◌, ◌<◌, List, [], ◌∷◌, ◌++◌, length, replicate, IsSome, IsNone}
+use Rattle.std.specs.Prelude.{◌≡◌, ◌≢◌, ℕ, ◌+◌, ◌-◌, ◌*◌, ◌<◌, List, [], ◌∷◌, ◌++◌, length, replicate, IsSome, IsNone}
 use Rattle.arena.specs.declared.step.Kind.{Kind}
 use Rattle.script.specs.declared.command.Call.{Call}
 use Rattle.player.specs.declared.record.Line.{Line}
@@ -26,12 +26,12 @@ AwaitsReply calls c older lines = HasCall calls c lines × (answered lines c ≡
 abbrev pub AwaitsSteps : List Call → ℕ → Kind → ℕ → List Line → List Line → Type 0
 AwaitsSteps calls c kind times older lines = HasCall calls c lines × (made lines c kind < made older c kind + times)
 
--- Each turn among the lines behind the older ones is one of this client, and was made while the lines before it were so.
+-- The lines behind the older ones are turns of this client, each with what stands behind it, and each turn was made while the lines before it were so.
 unfoldable pub AreMadeWhile : (List Line → Type 0) → ℕ → List Line → List Line → Type 0
 AreMadeWhile so c older [] = Unit {0}
 AreMadeWhile so c older (Step row ∷ behind) = AreMadeWhile so c older behind × (client_of row ≡ c) × so (behind ++ older)
-AreMadeWhile so c older (Log entry ∷ behind) = AreMadeWhile so c older behind
-AreMadeWhile so c older (Reply reply ∷ behind) = AreMadeWhile so c older behind
+AreMadeWhile so c older (Log entry ∷ behind) = AreMadeWhile so c older behind × (behind ≢ [])
+AreMadeWhile so c older (Reply reply ∷ behind) = AreMadeWhile so c older behind × (behind ≢ [])
 
 -- Turns of this client alone were made, each while the lines before it were so. The script is the same.
 pub record AreTurnsWhile (so : List Line → Type 0) (c : ℕ) (old new : Player) : Type 0 where

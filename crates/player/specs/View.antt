@@ -1,21 +1,32 @@
 -- What a client knows at a moment of the run, and what a turn of it leaves.
-use Rattle.std.specs.Prelude.{◌≡◌, ◌≢◌, ℕ, suc, ◌+◌, ◌^◌, ◌<◌, ◌≤◌, ◌⊎◌, List, drop, Option, Some, None, slice_get}
+use Rattle.std.specs.Prelude.{◌≡◌, ◌≢◌, ℕ, suc, ◌+◌, ◌^◌, ◌<◌, ◌≤◌, ◌⊎◌, ◌↔◌, true, List, [], ◌∷◌, length, drop, Option, Some, None, slice_get}
+use Rattle.std.specs.List.{Contains}
+use Rattle.arena.specs.declared.word.Side.{Side}
 use Rattle.arena.specs.declared.layout.Layout.{Layout}
 use Rattle.arena.specs.Layout.{first_node, first_scx}
 use Rattle.arena.specs.Share.{Left, HasNode, HasScx}
-use Rattle.arena.specs.History.{History, EndsWith}
+use Rattle.arena.specs.History.{History, value, EndsWith}
+use Rattle.arena.specs.ScxRecords.{removes, side_of}
+use Rattle.arena.specs.Lawful.{HasWon}
 use Rattle.arena.specs.Fills.{IsOwnNode, IsOwnScx, IsTakenNode, IsTakenScx}
 use Rattle.arena.specs.Machines.{Call as MachineCall, IsRun}
 use Rattle.histories.proofs.Unmentioned.{IsUnmentioned}
 use Rattle.prims.specs.Cells.{allows_all}
-use Rattle.prims.specs.VlxKnown.{AllLinked}
+use Rattle.prims.specs.Moments.{IsMoment, AreOver, HasTakenOnly}
+use Rattle.prims.specs.ScxKnown.{nodes_of}
+use Rattle.prims.specs.VlxKnown.{snap_at}
+use Rattle.prims.specs.Snaps.{IsAmong}
+use Rattle.prims.specs.Updates.{field_place}
+use Rattle.prims.specs.declared.put.PutRun.{PutRun}
 use Rattle.prims.specs.declared.snap.Snap.{Snap}
 use Rattle.script.specs.declared.command.Call.{Call}
 use Rattle.script.specs.declared.command.Command.{Command}
 use Rattle.script.specs.declared.command.Command.TheVariants.{Llx as LlxOf, Scx as ScxOf, Vlx as VlxOf, Set as SetOf}
 use Rattle.player.specs.declared.record.Line.{Line}
 use Rattle.player.specs.declared.record.Answer.{Answer}
-use Rattle.player.specs.declared.record.Resource.{Resource}
+use Rattle.script.specs.Cells.{cells_of}
+use Rattle.script.specs.Update.{update_cells, update_finalize, update_field, update_value}
+use Rattle.player.specs.declared.record.Resource.TheVariants.{Nodes, Scx as ScxRecords}
 use Rattle.player.specs.declared.record.Answer.TheVariants.{Full}
 use Rattle.player.specs.declared.run.Run.{Run}
 use Rattle.player.specs.declared.run.Run.TheVariants.{Llx, Scx, Vlx}
@@ -27,21 +38,25 @@ use Rattle.player.specs.declared.client.Standing.TheVariants.{Finished, Answers,
 use Rattle.player.specs.declared.run.Ended.{Ended}
 use Rattle.player.specs.RunKnown.{run_ready, run_waits, run_answers}
 use Rattle.player.specs.RunSteps.{then_left, left_of}
-use Rattle.player.specs.Kept.{AreKept}
+use Rattle.player.specs.Kept.{AreKept, IsUsable, kept_of}
 use Rattle.player.specs.Place.{IsAt}
-use Rattle.player.specs.Turns.{history, answered, steps}
-use Rattle.player.specs.LawfulRun.{commands, most_steps, IsAnswerAtOnce, IsAnswerAfterStep}
+use Rattle.player.specs.Turns.{history, answered, start, steps, won}
+use Rattle.player.specs.LawfulRun.{commands, linked, linked_then, most_steps, IsAnswerAtOnce, IsAnswerAfterStep, IsLastLook, HasRoom, HasTakenOne, IsRight, IsEntered}
 
--- what the lines so far say to a client: the steps, how many of its calls are answered, and how many steps it has made since the last answer
+-- what the lines so far say to a client: the steps, how many of its calls are answered, the steps up to the begin of its call, how many steps it has made since its last reply,
+-- the turn in which an update of that call has won, and the moments of the snapshots that the client keeps
 pub record View : Type 0 where
   pub layout : Layout
   pub calls : List Call
   pub past : History
   pub answered : ℕ
+  pub start : History
   pub steps : ℕ
+  pub won : Option ℕ
+  pub linked : ℕ → Option History
 
 abbrev pub view : Layout → List Call → List Line → ℕ → View
-view lay calls lines c = record { layout = lay; calls = calls; past = history lay.mode lines; answered = answered lines c; steps = steps lines c }
+view lay calls lines c = record { layout = lay; calls = calls; past = history lay.mode lines; answered = answered lines c; start = start lay.mode lines c; steps = steps lines c; won = won lay lines c; linked = linked calls lay.mode lines c }
 
 -- its steps are lawful
 abbrev pub IsSound : View → Type 0
@@ -58,12 +73,22 @@ pub record IsShare (lay : Layout) (h : History) (c : ℕ) (left : Left) (node sc
   pub taken_nodes : (n : ℕ) → IsOwnNode lay c n → n < node → IsTakenNode h n
   pub taken_scx : (s : ℕ) → IsOwnScx lay c s → s < scx → IsTakenScx h s
   pub unmentioned : (n : ℕ) → HasNode left n → IsUnmentioned h n
+  pub untaken_nodes : (n : ℕ) → HasNode left n → ¬ IsTakenNode h n
   pub untaken : (s : ℕ) → HasScx left s → ¬ IsTakenScx h s
 
--- the first node and SCX-record of a share that may not be taken yet while a machine runs: those that an SCX has in hand, or the next
-abbrev pub first_free : Left → Run → ℕ × ℕ
-first_free left (Scx m) = (m.scx.update.fresh, m.scx.scx.0)
-first_free left _ = (left.next_node, left.next_scx)
+-- what an SCX has in hand: a node, an SCX-record, and snapshots
+pub record Hand : Type 0 where
+  pub node : ℕ
+  pub scx : ℕ
+  pub snaps : List Snap
+
+-- without one a client has none yet: it will take the next records of its share
+abbrev pub no_hand : Left → Hand
+no_hand left = record { node = left.next_node; scx = left.next_scx; snaps = [] }
+
+abbrev pub in_hand : Left → Run → Hand
+in_hand left (Scx m) = record { node = m.scx.update.fresh; scx = m.scx.scx.0; snaps = m.scx.update.snaps.items }
+in_hand left _ = no_hand left
 
 -- an SCX has the newest records of the share in hand
 abbrev pub HasNewest : Left → Run → Type 0
@@ -76,31 +101,44 @@ IsLlxOf (LlxOf cell) n None = n ≡ cell
 IsLlxOf (SetOf field value) n (Some put) = (n ≡ field.0) × (put.side ≡ field.1) × (put.value ≡ value)
 IsLlxOf _ n _ = ⊥
 
-abbrev pub IsScxOf : Command → Option Put → Type 0
-IsScxOf (ScxOf update) None = Unit {0}
-IsScxOf (SetOf field value) None = Unit {0}
-IsScxOf _ _ = ⊥
+-- an SCX of the client's call of this number covers these nodes, finalizes those in the second list, and puts a node of this value into that field
+pub record IsPutOf (m : PutRun) (number : ℕ) (nodes removed : List ℕ) (field : ℕ × Side) (x : ℕ) : Type 0 where
+  pub called : m.scx.call ≡ number
+  pub covers : nodes_of m.scx.update.snaps.items ≡ nodes
+  pub finalizes : (j : ℕ) → j < length m.scx.update.snaps.items → (removes m.scx.update.plan.0 j ≡ true) ↔ Contains removed (snap_at m.scx.update.snaps.items j).node.0
+  pub node : (snap_at m.scx.update.snaps.items (field_place m.scx.update)).node.0 ≡ field.0
+  pub side : side_of m.scx.update.plan.0 ≡ field.1
+  pub value : m.value ≡ x
 
-abbrev pub IsVlxOf : Command → Option Put → Type 0
-IsVlxOf (VlxOf cells) None = Unit {0}
-IsVlxOf _ _ = ⊥
+abbrev pub IsScxOf : Command → ℕ → PutRun → Option Put → Type 0
+IsScxOf (ScxOf update) number m None = IsPutOf m number (update_cells update) (update_finalize update) (update_field update) (update_value update)
+IsScxOf (SetOf field x) number m None = IsPutOf m number (field.0 ∷ []) [] field x
+IsScxOf _ number m _ = ⊥
 
-abbrev pub IsRunOf : Command → Run → Option Put → Type 0
-IsRunOf command (Llx m) then = IsLlxOf command m.node.0 then
-IsRunOf command (Scx m) then = IsScxOf command then
-IsRunOf command (Vlx m) then = IsVlxOf command then
+abbrev pub IsVlxOf : Command → List Snap → Option Put → Type 0
+IsVlxOf (VlxOf cells) snaps None = nodes_of snaps ≡ cells_of cells
+IsVlxOf _ snaps _ = ⊥
 
--- a client between two turns, but for its machine; its next call is the first that is not answered
-pub record Stands (v : View) (c : Client) (free : ℕ × ℕ) : Type 0 where
+abbrev pub IsRunOf : Command → ℕ → Run → Option Put → Type 0
+IsRunOf command number (Llx m) then = (m.node.0 ≤ 8) × IsLlxOf command m.node.0 then
+IsRunOf command number (Scx m) then = IsScxOf command number m then
+IsRunOf command number (Vlx m) then = IsVlxOf command m.snaps.items then
+
+-- a client between two turns, but for its machine; its next call is the first that is not answered; the SCX-records that it has taken are finished, but for the one that it may have in hand;
+-- what it keeps are the snapshots that the lines say, but for those that it has in hand
+pub record Stands (v : View) (c : Client) (hand : Hand) : Type 0 where
   pub is_pass : c.pass.0 < v.layout.passes
   pub number : c.number ≡ v.answered
   pub place : IsAt v.calls c.pass.0 (drop c.number (commands v.calls c.pass.0)) c.next
-  pub kept : AreKept v.layout v.past c.kept
-  pub share : IsShare v.layout v.past c.pass.0 c.share free.0 free.1
+  pub kept : AreKept v.layout c.pass.0 v.past v.linked c.kept
+  pub unkept : (n : ℕ) → n ≤ 8 → kept_of c.kept n ≡ None → IsAmong hand.snaps n ⊎ (v.linked n ≡ None)
+  pub dropped : (n : ℕ) → IsAmong hand.snaps n → kept_of c.kept n ≡ None
+  pub share : IsShare v.layout v.past c.pass.0 c.share hand.node hand.scx
+  pub over : AreOver v.layout c.pass.0 hand.scx v.past
 
 -- no machine of the client runs
 pub record Rests (v : View) (c : Client) : Type 0 where
-  pub stands : Stands v c (c.share.next_node, c.share.next_scx)
+  pub stands : Stands v c (no_hand c.share)
   pub none : c.running ≡ None
 
 abbrev pub command_of : View → Client → Option Command
@@ -109,16 +147,66 @@ command_of v c = slice_get (commands v.calls c.pass.0) v.answered
 abbrev pub machine_call : (v : View) (c : Client) → c.pass.0 < v.layout.passes → History → MachineCall
 machine_call v c is_pass start = record { layout = v.layout; pass = c.pass.0; is_pass = is_pass; number = c.number; start = start }
 
+-- where a machine starts: an LLX and a VLX at the begin of the call, an SCX there or later
+abbrev pub IsStart : Run → History → History → Type 0
+IsStart (Scx m) start begun = EndsWith start begun
+IsStart _ start begun = start ≡ begun
+
+-- the snapshots of a machine
+abbrev pub snaps_of : Run → List Snap
+snaps_of (Llx m) = []
+snaps_of (Scx m) = m.scx.update.snaps.items
+snaps_of (Vlx m) = m.snaps.items
+
+-- the moment is that of the snapshot of the node: for a `set` one of the call itself, else that of the snapshot which the client keeps
+abbrev pub IsSource : View → ℕ → Command → ℕ → History → Type 0
+IsSource v c (SetOf field x) n moment = IsLastLook c v.past v.start moment n
+IsSource v c _ n moment = v.linked n ≡ Some moment
+
+pub record HasMoment (v : View) (c : ℕ) (command : Command) (snap : Snap) : Type 0 where
+  pub moment : History
+  pub found : IsMoment v.layout v.past snap moment
+  pub source : IsSource v c command snap.node.0 moment
+
+abbrev pub HaveMoments : View → ℕ → Command → List Snap → Type 0
+HaveMoments v c command snaps = (i : ℕ) → i < length snaps → HasMoment v c command (snap_at snaps i)
+
+-- the update of the call has won if that of its SCX-record, which is of the pass c, has
+pub record IsWonAs (v : View) (c s : ℕ) : Type 0 where
+  pub own : IsOwnScx v.layout c s
+  pub yes : HasWon v.past s → (turn : ℕ) × (v.won ≡ Some turn)
+  pub no : ¬ HasWon v.past s → v.won ≡ None
+
+abbrev pub IsWonBy : View → ℕ → Run → Type 0
+IsWonBy v c (Scx m) = IsWonAs v c m.scx.scx.0
+IsWonBy v c _ = v.won ≡ None
+
+-- since its call's begin the client has taken only what it has in hand
+pub record HasTaken (v : View) (c : ℕ) (hand : Hand) : Type 0 where
+  pub nodes : (n : ℕ) → IsOwnNode v.layout c n → n ≢ hand.node → ¬ IsTakenNode v.start n → ¬ IsTakenNode v.past n
+  pub scx_records : HasTakenOnly v.layout c hand.scx v.start v.past
+
+-- an SCX has found room in the share
+abbrev pub IsRoomy : View → ℕ → Run → Type 0
+IsRoomy v c (Scx m) = HasRoom v.layout c v.start
+IsRoomy v c _ = Unit {0}
+
 -- a machine runs for its next call
 pub record Works (v : View) (c : Client) (run : Run) (then : Option Put) : Type 0 where
-  pub stands : Stands v c (first_free c.share run)
+  pub stands : Stands v c (in_hand c.share run)
   pub newest : HasNewest c.share run
   pub command : Command
   pub is : command_of v c ≡ Some command
-  pub run_of : IsRunOf command run then
+  pub run_of : IsRunOf command c.number run then
   pub is_pass : c.pass.0 < v.layout.passes
   pub start : History
   pub since : EndsWith v.past start
+  pub begun : IsStart run start v.start
+  pub moments : HaveMoments v c.pass.0 command (snaps_of run)
+  pub room : IsRoomy v c.pass.0 run
+  pub took : HasTaken v c.pass.0 (in_hand c.share run)
+  pub won : IsWonBy v c.pass.0 run
+  pub late : (turn : ℕ) → v.won ≡ Some turn → c.begin ≤ turn
 
 -- Below, `few` says that the steps that the call has made, those that the machine may still ask for and those of what follows it are no more than the call may make; a step that the machine waits for counts too.
 
@@ -148,9 +236,16 @@ pub record Hears (v : View) (c : Client) (running : Running) (found : ℕ) : Typ
   pub ready : run_ready running.run (machine_call v c works.is_pass works.start) v.past (Some found)
   pub few : v.steps + left_of running.run running.then ≤ most_steps works.command
 
--- a client between two turns, whose first turn since its last reply was this: it rests and has made no step since then, or waits for a step of the call that began then
+-- its next call has not begun
+pub record IsUnbegun (v : View) (began : Option ℕ) : Type 0 where
+  pub none : began ≡ None
+  pub start : v.start ≡ v.past
+  pub steps : v.steps ≡ 0
+  pub won : v.won ≡ None
+
+-- a client between two turns, whose first turn since its last reply was this: it rests, or waits for a step of the call that began then
 abbrev pub IsClient : View → Option ℕ → Client → Type 0
-IsClient v began c = (Rests v c × (v.steps ≡ 0) × ((c.next ≡ None) ⊎ (began ≡ None))) ⊎ ((r : Running) × (c.running ≡ Some r) × Waits v c r × (began ≡ Some c.begin))
+IsClient v began c = (Rests v c × ((c.next ≡ None) ⊎ IsUnbegun v began)) ⊎ ((r : Running) × (c.running ≡ Some r) × Waits v c r × (began ≡ Some c.begin))
 
 -- What its turns leave
 
@@ -174,15 +269,26 @@ pub record Refuses (v : View) (c : Client) (answer : Answer) : Type 0 where
   pub command : Command
   pub is : command_of v c ≡ Some command
   pub refusal : IsAnswerAtOnce command answer
+  pub right : IsRight v.layout c.pass.0 v.past v.start v.linked command answer
+  pub unwon : v.won ≡ None
+  pub took : HasTakenOne v.layout c.pass.0 v.past v.start
+
+-- what the lines say of its snapshots once its call is answered so
+abbrev pub linked_by : View → Command → Answer → ℕ → Option History
+linked_by v command answer n = linked_then (Some command) answer v.past n (v.linked n)
 
 -- its call is answered
 pub record Ends (v : View) (old new : Client) (answer : Answer) : Type 0 where
   pub same : IsSameCall old new
   pub begin : new.begin ≡ old.begin
-  pub rests : Rests v new
   pub command : Command
   pub is : command_of v new ≡ Some command
+  pub rests : Rests (record v { linked = linked_by v command answer }) new
   pub answers : IsAnswerAfterStep command answer
+  pub right : IsRight v.layout new.pass.0 v.past v.start v.linked command answer
+  pub entry : IsEntered answer v.won
+  pub took : HasTakenOne v.layout new.pass.0 v.past v.start
+  pub late : (turn : ℕ) → v.won ≡ Some turn → new.begin ≤ turn
 
 -- what its machine does with what a step found: it asks for another step, or the call is answered
 abbrev pub Told : View → Client → Client → Option Answer → Type 0
@@ -197,25 +303,30 @@ Stood v turn old new (Asks step) = IsSameCall old new × (r : Running) × (new.r
 
 -- A call begins
 
--- what an SCX has to be given: usable snapshots; the command is one that an SCX serves, and may make as many steps more
-pub record CanPut (v : View) (c : Client) (snaps : List Snap) : Type 0 where
-  pub rests : Rests v c
-  pub linked : AllLinked v.layout v.past snaps
+-- what an SCX has to be given: usable snapshots; the command is one that such an SCX serves, and may make as many steps more. The lines will say `linked` of the snapshots if the SCX is refused
+pub record CanPut (v : View) (linked : ℕ → Option History) (c : Client) (snaps : List Snap) (removed : List ℕ) (field : ℕ × Side) (x : ℕ) : Type 0 where
+  pub rests : Rests (record v { linked = linked }) c
+  pub others : (n : ℕ) → (IsAmong snaps n → ⊥) → linked n ≡ v.linked n
+  pub since : EndsWith v.past v.start
+  pub unwon : v.won ≡ None
+  pub usable : (i : ℕ) → i < length snaps → (moment : History) × IsUsable v.layout c.pass.0 v.past (snap_at snaps i) moment
   pub command : Command
   pub is : command_of v c ≡ Some command
-  pub serves : IsScxOf command None
+  pub moments : HaveMoments v c.pass.0 command snaps
+  pub took : HasTaken v c.pass.0 (no_hand c.share)
+  pub serves : (m : PutRun) → IsPutOf m c.number (nodes_of snaps) removed field x → IsScxOf command c.number m None
   pub few : v.steps + 40 ≤ most_steps command
 
--- the share has too little of a resource
-pub record IsFull (answer : Answer) : Type 0 where
-  pub what : Resource
-  pub left : ℕ
-  pub is : answer ≡ Full what left
+-- the share has no node left, or nodes but no SCX-record
+abbrev pub IsFull : Left → Answer → Type 0
+IsFull share (Full Nodes left) = (left ≡ 0) × (share.nodes ≡ 0)
+IsFull share (Full ScxRecords left) = (left ≡ 0) × (share.scx ≡ 0) × (0 < share.nodes)
+IsFull share _ = ⊥
 
 -- an SCX begins, or the share has too little
-abbrev pub Puts : View → Client → Client → Option Answer → Type 0
-Puts v old new None = GoesOn v old new
-Puts v old new (Some answer) = IsSameCall old new × (new.begin ≡ old.begin) × Rests v new × IsFull answer
+abbrev pub Puts : View → (ℕ → Option History) → Client → Client → Option Answer → Type 0
+Puts v linked old new None = GoesOn v old new
+Puts v linked old new (Some answer) = IsSameCall old new × (new.begin ≡ old.begin) × Rests (record v { linked = linked }) new × IsFull new.share answer
 
 -- a call begins at this turn, or is refused
 abbrev pub Begins : View → ℕ → Client → Client → Option Answer → Type 0

@@ -50,9 +50,10 @@ pub(crate) struct Client {
 }
 
 impl Client {
-    ghost use Rattle.std.specs.Prelude.{◌≡◌, ◌≢◌, ◌<◌, ◌+◌, ◌-◌, Option, Some, None, is_some, IfOk, IfErr, List, [], length, MatchOption};
+    ghost use Rattle.std.specs.Prelude.{◌≡◌, ◌≢◌, ◌<◌, ◌+◌, ◌-◌, Option, Some, None, is_some, IfOk, IfErr, List, [], length, map, MatchOption};
     ghost use Rattle.arena.specs.declared.limits.Mode.TheVariants.{Records};
     ghost use Rattle.script.specs.declared.command.Command.TheVariants.{Scx as ScxCommand};
+    ghost use Rattle.arena.specs.History.{History};
     ghost use Rattle.prims.specs.declared.snap.Snap.{Snap};
     ghost use Rattle.player.specs.declared.run.Run.{Run};
     ghost use Rattle.prims.specs.Snaps.{AreDistinct, IsAmong};
@@ -60,7 +61,8 @@ impl Client {
     ghost use Rattle.player.specs.declared.run.Run.TheVariants.{Llx as LlxOf};
     ghost use Rattle.player.specs.declared.run.Ended.TheVariants.{Llx as LlxEnded};
     ghost use Rattle.player.specs.declared.client.Running.{Running};
-    ghost use Rattle.player.specs.View.{View, view, IsSound, IsBehind, Rests, command_of, Starts, Hears, Answered, Told, GoesOn, CanPut, IsFull, Puts, Begins, Stood, IsClient};
+    ghost use Rattle.player.specs.LawfulRun.{moment_of};
+    ghost use Rattle.player.specs.View.{View, view, IsSound, IsBehind, Rests, command_of, Starts, Hears, Answered, Told, GoesOn, CanPut, IsFull, Puts, Begins, Stood, IsUnbegun, IsClient};
 
     pub(crate) fn new(layout: &Layout, pass: PassNo, calls: &[Call]) -> Client
         requires { pass.0 < layout.now.passes }
@@ -112,7 +114,7 @@ impl Client {
 
     /// Begins the next call, if there is one.
     fn begin_next(&mut self, calls: &[Call], turn: u64) -> Standing
-        ensures { (v : View) → IsSound v → (length v.calls ≢ 0 → v.layout.mode ≡ Records) → calls.now ≡ v.calls → Rests v self.old → v.steps ≡ 0 → Stood v turn self.old self.new result }
+        ensures { (v : View) (began : Option ℕ) → IsSound v → (length v.calls ≢ 0 → v.layout.mode ≡ Records) → calls.now ≡ v.calls → Rests v self.old → (self.old.next ≢ None → IsUnbegun v began) → Stood v turn self.old self.new result }
     {
         let Some(at) = self.next else {
             return Standing::Finished;
@@ -128,7 +130,7 @@ impl Client {
 
     /// Begins a call, which answers at once or asks for a step.
     fn begin(&mut self, command: Command, turn: u64) -> Option<Answer>
-        ensures { (v : View) → IsSound v → v.layout.mode ≡ Records → Rests v self.old → v.steps ≡ 0 → command_of v self.old ≡ Some command → Begins v turn self.old self.new result }
+        ensures { (v : View) (began : Option ℕ) → IsSound v → v.layout.mode ≡ Records → Rests v self.old → IsUnbegun v began → command_of v self.old ≡ Some command → Begins v turn self.old self.new result }
     {
         self.begin = turn;
         match command {
@@ -151,7 +153,7 @@ impl Client {
 
     /// Takes the snapshots and the records of an `scx`, if they are there.
     fn begin_scx(&mut self, update: &script::Update) -> Option<Answer>
-        ensures { (v : View) → IsSound v → Rests v self.old → v.steps ≡ 0 → command_of v self.old ≡ Some (ScxCommand update.now) → Begins v self.old.begin self.old self.new result }
+        ensures { (v : View) (began : Option ℕ) → IsSound v → Rests v self.old → IsUnbegun v began → command_of v self.old ≡ Some (ScxCommand update.now) → Begins v self.old.begin self.old self.new result }
     {
         let cells = update.cells();
         match self.kept.linked(cells) {
@@ -176,7 +178,7 @@ impl Client {
         requires fits { length snaps.now ≤ 4 }
         requires distinct { AreDistinct snaps.now }
         requires among { IsAmong snaps.now field.0.0 }
-        ensures { (v : View) → IsSound v → CanPut v self.old snaps.now → Puts v self.old self.new result }
+        ensures { (v : View) (linked : ℕ → Option History) → IsSound v → CanPut v linked self.old snaps.now (map (λ n. n.0) finalize.now) (field.0.0, field.1) value → Puts v linked self.old self.new result }
     {
         let (fresh, scx) = match self.records() {
             Ok(records) => records,
@@ -193,7 +195,7 @@ impl Client {
         ensures taken { IfOk result (λ r. (r.0 ≡ self.old.share.next_node) × (r.1.0 ≡ self.old.share.next_scx)) }
         ensures some { IfOk result (λ r. (0 < self.old.share.nodes) × (0 < self.old.share.scx)) }
         ensures left { IfOk result (λ r. self.new ≡ record self.old { share = record { next_node = self.old.share.next_node + 1; nodes = self.old.share.nodes - 1; next_scx = self.old.share.next_scx + 1; scx = self.old.share.scx - 1 } }) }
-        ensures full { IfErr result (λ a. IsFull a × (self.new ≡ self.old)) }
+        ensures full { IfErr result (λ a. IsFull self.old.share a × (self.new ≡ self.old)) }
     {
         let (nodes, scx) = self.share.left();
         if nodes == 0 {
@@ -284,6 +286,7 @@ impl Client {
         ensures begin { result.begin ≡ self.old.begin }
         ensures end { result.end ≡ turn }
         ensures answer { result.answer ≡ answer }
+        ensures moment { result.moment ≡ moment_of answer self.old.begin turn won }
         ensures next { IsBehind calls.now self.old self.new }
     {
         let reply = Reply {
@@ -303,7 +306,9 @@ impl Client {
 
     /// The turn at which an answer stands: of a done SCX that of its update, of a VLX its first, of an
     /// LLX its last.
-    fn moment(&self, turn: u64, answer: Answer, won: Option<u64>) -> Option<u64> {
+    fn moment(&self, turn: u64, answer: Answer, won: Option<u64>) -> Option<u64>
+        ensures { result ≡ moment_of answer self.now.begin turn won }
+    {
         match answer {
             Answer::Done => won,
             Answer::Same => Some(self.begin),

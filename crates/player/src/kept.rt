@@ -19,25 +19,21 @@ struct Found {
 #[derive(Debug, Drop)]
 pub(crate) struct Kept {
     found: [Option<Found>; 9],
+    ghost nine: { length found ≡ 9 },
 }
 
 impl Kept {
-    ghost use Rattle.arena.specs.declared.layout.Layout.{Layout};
-    ghost use Rattle.arena.specs.History.{History};
-    ghost use Rattle.prims.specs.Linked.{IsLinked};
-    ghost use Rattle.prims.specs.VlxKnown.{AllLinked};
-    ghost use Rattle.player.specs.Kept.{AreKept, AllKept, IsFirstUnkept, kept_of, node_of, found_of};
+    ghost use Rattle.player.specs.Kept.{AllKept, IsFirstUnkept, kept_of, node_of, found_of};
 
     pub(crate) fn new() -> Kept
-        ensures { (lay : Layout) (h : History) → AreKept lay h result }
+        ensures { (n : ℕ) → kept_of result n ≡ None }
     {
         Kept { found: [None; 9] }
     }
 
     /// Keeps the snapshot of an LLX, or drops the one before where it gave none.
     pub(crate) fn keep(&mut self, llx: Llx)
-        ensures found { self.new.found ≡ slice_set self.old.found (node_of llx) (found_of llx) }
-        ensures kept { (lay : Layout) (h : History) → AreKept lay h self.old → ((snap : Snap) → llx ≡ Llx.Snapshot snap → IsLinked lay h snap) → AreKept lay h self.new }
+        ensures { self.new.found ≡ slice_set self.old.found (node_of llx) (found_of llx) }
     {
         match llx {
             Llx::Snapshot(
@@ -55,8 +51,7 @@ impl Kept {
 
     /// Drops the snapshots of some cells.
     pub(crate) fn forget(&mut self, snaps: &[Snap])
-        ensures found { (n : ℕ) → kept_of self.new n ≡ (if list_any (λ s. s.node.0 == n) snaps.now then None else kept_of self.old n) }
-        ensures kept { (lay : Layout) (h : History) → AreKept lay h self.old → AreKept lay h self.new }
+        ensures { (n : ℕ) → kept_of self.new n ≡ (if list_any (λ s. s.node.0 == n) snaps.now then None else kept_of self.old n) }
     {
         for snap in snaps {
             self.put(snap.node, None);
@@ -78,7 +73,6 @@ impl Kept {
         requires { length cells.now ≤ 4 }
         ensures nodes { IfOk result (λ snaps. map (λ s. s.node.0) snaps.items ≡ cells.now) }
         ensures kept { IfOk result (λ snaps. AllKept self.now snaps.items) }
-        ensures linked { (lay : Layout) (h : History) → AreKept lay h self.now → IfOk result (λ snaps. AllLinked lay h snaps.items) }
         ensures unkept { IfErr result (λ node. IsFirstUnkept self.now cells.now node.0) }
     {
         let mut snaps = ArrayVec::new();

@@ -26,7 +26,7 @@ pub struct Player {
 }
 
 impl Player {
-    ghost use Rattle.std.specs.Prelude.{◌≡◌, ◌≢◌, ◌⊎◌, ℕ, suc, ◌+◌, ◌<◌, ◌≤◌, ◌∷◌, List, [], Some, None, is_some, IfOk, OnOk, IfErr, OnErr, IfSome, MatchOption, slice_get, reverse};
+    ghost use Rattle.std.specs.Prelude.{◌≡◌, ◌≢◌, ◌⊎◌, ℕ, suc, ◌+◌, ◌<◌, ◌≤◌, ◌∷◌, List, [], Some, None, is_some, IfOk, OnOk, IfErr, OnErr, IfSome, MatchOption, slice_get, set, reverse};
     ghost use Rattle.arena.specs.declared.word.Side.{Side};
     ghost use Rattle.arena.specs.declared.step.Kind.TheVariants.{Update};
     ghost use Rattle.arena.specs.Layout.{IsWord, all_scx};
@@ -43,6 +43,7 @@ impl Player {
     /// A player of a copy of the script, with no turn made. The only error is want of memory.
     pub fn new(alloc: Global, script: &Script) -> Result<Player, NoMemory>
         ensures played { IfOk result IsPlayed }
+        ensures limits { IfOk result (λ p. p.script.limits ≡ script.now.limits) }
         ensures layout { IfOk result (λ p. p.script.layout ≡ script.now.layout) }
         ensures calls { IfOk result (λ p. p.script.calls.items ≡ script.now.calls.items) }
         ensures no_turns { IfOk result (λ p. newest p.lines ≡ []) }
@@ -87,6 +88,7 @@ impl Player {
         requires { 3 ≤ room self.old.lines }
         ensures room { 2 ≤ room self.new.lines }
         ensures same { HasSameClients self.old self.new }
+        ensures wins { self.new.wins.items ≡ self.old.wins.items }
         ensures row { result ≡ Row.Idle number client }
         ensures line { newest self.new.lines ≡ Line.Step result ∷ newest self.old.lines }
     {
@@ -126,6 +128,7 @@ impl Player {
         ensures room { 1 ≤ room self.new.lines }
         ensures same { HasSameClients self.old self.new }
         ensures line { MatchOption (entry_owed self.old.script.layout (newest self.old.lines)) (newest self.new.lines ≡ newest self.old.lines) (λ e. newest self.new.lines ≡ Line.Log e ∷ newest self.old.lines) }
+        ensures wins { MatchOption (entry_owed self.old.script.layout (newest self.old.lines)) (self.new.wins.items ≡ self.old.wins.items) (λ e. (e.client.0 < passes_of self.old) × (self.new.wins.items ≡ set self.old.wins.items e.client.0 (Some number))) }
     {
         if let Some(entry) = self.entry(number, row) {
             self.lines.push_entry(entry);
@@ -263,6 +266,7 @@ fn clients(alloc: Global, script: &Script) -> Result<Vec<Client>, NoMemory>
 /// of memory.
 pub fn play(alloc: Global, script: &Script, turns: &[PassNo]) -> Result<Record, NoMemory>
     requires { All (λ pass. pass.0 < script.now.layout.passes) turns.now }
+    ensures limits { IfOk result (λ r. r.script.limits ≡ script.now.limits) }
     ensures layout { IfOk result (λ r. r.script.layout ≡ script.now.layout) }
     ensures calls { IfOk result (λ r. r.script.calls.items ≡ script.now.calls.items) }
     ensures lawful { IfOk result (λ r. IsLawfulRun script.now.layout script.now.calls.items (map (λ p. p.0) turns.now) r.lines.items) }

@@ -1,5 +1,12 @@
 pub mod FillsNot
+pub mod LooksNot
+pub mod IdleRows
+pub mod LlxAnswers
+pub mod OnePass
 pub mod PutRows
+pub mod UntakenNodes
 pub mod PutBegins
+pub mod PutEntries
+pub mod Alone
 pub mod Snapshots
 pub mod Planned

@@ -66,7 +66,7 @@ module _ (allows : Layout → History → ℕ → Type 0) (m : ScxRun) (c : Call
 -- a row at a place
 unmentioned_put : (allows : Layout → History → ℕ → Type 0) (m : PutRun) (c : Call) (h : History) (s : Step) (n : ℕ) (at : PutAt) → Lawful c.layout (row_of c s h ⊳ h) → put_waits_at allows c h m at s → opening_nodes c.layout.mode ≤ n → n ≢ m.scx.update.fresh → IsUnmentioned h n → IsUnmentioned (row_of c s h ⊳ h) n
 unmentioned_put allows m c h s n Start l w late other u = absurd w
-unmentioned_put allows m c h s n AtFill l w late other u = rw w.1 (unmentioned_by_fill h (row_of c (put_step m) h) n (λ i. absurd i) u)
+unmentioned_put allows m c h s n AtFill l w late other u = rw w.2 (unmentioned_by_fill h (row_of c (put_step m) h) n (λ i. absurd i) u)
 unmentioned_put allows m c h s n Scx l w late other u = unmentioned_at allows m.scx c h n late other u m.scx.at s l w.1
 
 -- a row of its leaves every node but its own that nothing mentions so
@@ -93,7 +93,7 @@ untaken_at allows m c h AtCall s t w other free = untaken_fill allows m c h AtCa
 -- nor a row at a place
 untaken_put : (allows : Layout → History → ℕ → Type 0) (m : PutRun) (c : Call) (h : History) (s : Step) (t : ℕ) (at : PutAt) → put_waits_at allows c h m at s → t ≢ m.scx.scx.0 → ¬ IsTakenScx h t → ¬ IsTakenScx (row_of c s h ⊳ h) t
 untaken_put allows m c h s t Start w other free = absurd w
-untaken_put allows m c h s t AtFill w other free = rw w.1 (untaken_by_node h (row_of c (put_step m) h) m.scx.update.fresh t Value refl free)
+untaken_put allows m c h s t AtFill w other free = rw w.2 (untaken_by_node h (row_of c (put_step m) h) m.scx.update.fresh t Value refl free)
 untaken_put allows m c h s t Scx w other free = untaken_at allows m.scx c h m.scx.at s t w.1 other free
 
 -- a row of its takes no SCX-record but its own

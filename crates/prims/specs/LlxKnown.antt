@@ -3,14 +3,16 @@ use Rattle.std.specs.Prelude.{◌≡◌, ◌≢◌, ℕ, ◌<◌, Bool, true, fa
 use Rattle.arena.specs.declared.layout.Layout.{Layout}
 use Rattle.arena.specs.declared.word.Side.TheVariants.{Left, Right}
 use Rattle.arena.specs.declared.word.Word.{Word}
+use Rattle.arena.specs.declared.step.Row.{Row}
 use Rattle.arena.specs.declared.step.Step.{Step}
 use Rattle.arena.specs.declared.step.Deed.TheVariants.{Load}
 use Rattle.arena.specs.declared.step.Kind.{Kind}
 use Rattle.arena.specs.declared.step.Kind.TheVariants.{LoadInfo, LoadState, LoadMarked, LoadChild}
 use Rattle.arena.specs.Layout.{all_nodes}
 use Rattle.arena.specs.Words.{info, marked, child, state}
-use Rattle.arena.specs.History.{History, value, HasHeld}
-use Rattle.arena.specs.Fills.{IsInField}
+use Rattle.arena.specs.History.{History, ◌⊳◌, value, HasHeld, EndsWith}
+use Rattle.arena.specs.Blame.{WasInTheWay}
+use Rattle.arena.specs.Fills.{IsOthersScx, IsInField}
 use Rattle.arena.specs.Log.{log, fields, is_final}
 use Rattle.arena.specs.Machines.{Call, IsRun, MatchTurn}
 use Rattle.arena.specs.declared.machine.Turn.{Turn}
@@ -19,6 +21,8 @@ use Rattle.arena.specs.declared.number.ScxNo.{ScxNo}
 use Rattle.help.specs.declared.state.HelpRun.{HelpRun}
 use Rattle.histories.proofs.Finals.{IsFinalizing}
 use Rattle.help.specs.HelpKnown.{help_ready, help_waits}
+use Rattle.prims.specs.Idle.{IsQuietSince}
+use Rattle.prims.specs.InTheWay.{HasBeen, IsBehind, IsDisturbed}
 use Rattle.prims.specs.Linked.{IsLinked}
 use Rattle.prims.specs.declared.snap.Snap.{Snap}
 use Rattle.prims.specs.declared.llx.Llx.{Llx}
@@ -27,10 +31,23 @@ use Rattle.prims.specs.declared.llx.LlxRun.{LlxRun}
 use Rattle.prims.specs.declared.llx.LlxAt.{LlxAt}
 use Rattle.prims.specs.declared.llx.LlxAt.TheVariants.{Start, Marked, Info, State, MarkedAgain, Left as AtLeft, Right as AtRight, InfoAgain, StateAgain, Help, LastInfo, LastState, LastHelp}
 
--- the node's info has named s; and where the node was marked before that, s finalizes it
-pub record HasMet (h : History) (n : ℕ) (was_marked : Bool) (s : ℕ) : Type 0 where
+-- the node's info has named s in the call; and where the node was marked before that, s finalizes it; else it was unmarked at a moment of the call
+pub record HasMet (c : Call) (h : History) (n : ℕ) (was_marked : Bool) (s : ℕ) : Type 0 where
   pub held : HasHeld h (info n) s
+  pub named : HasBeen h c.start (λ m. value m (info n) ≡ s)
   pub finalizes : was_marked ≡ true → IsFinalizing h n s
+  pub unmarked : was_marked ≡ false → HasBeen h c.start (λ m. value m (marked n) ≡ 0)
+
+-- the run doesn't read on, since something disturbed it
+pub record HasStopped (c : Call) (h : History) (n : ℕ) (was_marked : Bool) (s : ℕ) : Type 0 where
+  pub met : HasMet c h n was_marked s
+  pub disturbed : IsDisturbed h c.start n s
+
+-- s, which the node's info has named, was in the way of the call, at whose begin the node was not final
+pub record IsToBlame (c : Call) (h : History) (n s : ℕ) : Type 0 where
+  pub held : HasHeld h (info n) s
+  pub in_the_way : WasInTheWay h c.start n s
+  pub not_final : is_final (log c.layout c.start) n ≡ false
 
 -- s is finished, and as long as the info names it the node is not marked
 pub record IsAtRest (h : History) (n s : ℕ) : Type 0 where
@@ -38,18 +55,19 @@ pub record IsAtRest (h : History) (n s : ℕ) : Type 0 where
   pub unmarked : value h (info n) ≡ s → value h (marked n) ≡ 0
 
 -- what is known at each place
-abbrev pub llx_known : History → ℕ → LlxAt → Type 0
-llx_known h n (Info b) = b ≡ true → value h (marked n) ≡ 1
-llx_known h n (State b s) = HasMet h n b s.0
-llx_known h n (MarkedAgain b s v) = HasMet h n b s.0 × (v ≢ 0 → value h (state s.0) ≡ v)
-llx_known h n (AtLeft b s) = HasMet h n b s.0 × IsAtRest h n s.0
-llx_known h n (AtRight b s l) = HasMet h n b s.0 × IsAtRest h n s.0 × (value h (info n) ≡ s.0 → value h (child n Left) ≡ l)
-llx_known h n (InfoAgain b s l r) = HasMet h n b s.0 × IsAtRest h n s.0 × (value h (info n) ≡ s.0 → value h (child n Left) ≡ l) × (value h (info n) ≡ s.0 → value h (child n Right) ≡ r)
-llx_known h n (StateAgain b s) = HasMet h n b s.0
-llx_known h n (Help b m) = HasMet h n b m.scx.0
-llx_known h n (LastState s) = HasHeld h (info n) s.0
-llx_known h n (LastHelp s m) = HasHeld h (info n) s.0
-llx_known h n _ = Unit {0}
+abbrev pub llx_known : Call → History → ℕ → LlxAt → Type 0
+llx_known c h n (Info b) = (b ≡ true → value h (marked n) ≡ 1) × (b ≡ false → HasBeen h c.start (λ m. value m (marked n) ≡ 0))
+llx_known c h n (State b s) = HasMet c h n b s.0
+llx_known c h n (MarkedAgain b s v) = HasMet c h n b s.0 × (v ≢ 0 → value h (state s.0) ≡ v) × (v ≡ 0 → WasInTheWay h c.start n s.0)
+llx_known c h n (AtLeft b s) = HasMet c h n b s.0 × IsAtRest h n s.0
+llx_known c h n (AtRight b s l) = HasMet c h n b s.0 × IsAtRest h n s.0 × (value h (info n) ≡ s.0 → value h (child n Left) ≡ l)
+llx_known c h n (InfoAgain b s l r) = HasMet c h n b s.0 × IsAtRest h n s.0 × (value h (info n) ≡ s.0 → value h (child n Left) ≡ l) × (value h (info n) ≡ s.0 → value h (child n Right) ≡ r)
+llx_known c h n (StateAgain b s) = HasStopped c h n b s.0
+llx_known c h n (Help b m) = HasStopped c h n b m.scx.0
+llx_known c h n LastInfo = (s : ℕ) × HasStopped c h n false s
+llx_known c h n (LastState s) = IsToBlame c h n s.0
+llx_known c h n (LastHelp s m) = IsToBlame c h n s.0 × (m.scx ≡ s)
+llx_known c h n _ = Unit {0}
 
 abbrev pub load : Kind → Word → Step
 load kind word = record { kind = kind; word = word; deed = Load }
@@ -70,6 +88,16 @@ llx_asked allows c h n LastInfo step = step ≡ load LoadInfo (info n)
 llx_asked allows c h n (LastState s) step = step ≡ load LoadState (state s.0)
 llx_asked allows c h n (LastHelp s m) step = help_waits allows m c h step
 
+-- the newest row is a load of the node's info in the call
+pub record HasJustLooked (c : Call) (h : History) (n : ℕ) : Type 0 where
+  pub row : Row
+  pub before : History
+  pub is : h ≡ row ⊳ before
+  pub since : EndsWith before c.start
+  pub own : row.pass.0 ≡ c.pass
+  pub kind : row.kind ≡ LoadInfo
+  pub word : row.word ≡ info n
+
 -- what is known of what it is told: a load tells what its word holds
 abbrev pub llx_told : (Layout → History → ℕ → Type 0) → Call → History → ℕ → LlxAt → ℕ → Type 0
 llx_told allows c h n Start v = ⊥
@@ -79,7 +107,7 @@ llx_told allows c h n (State b s) v = value h (state s.0) ≡ v
 llx_told allows c h n (MarkedAgain b s x) v = value h (marked n) ≡ v
 llx_told allows c h n (AtLeft b s) v = value h (child n Left) ≡ v
 llx_told allows c h n (AtRight b s l) v = value h (child n Right) ≡ v
-llx_told allows c h n (InfoAgain b s l r) v = value h (info n) ≡ v
+llx_told allows c h n (InfoAgain b s l r) v = (value h (info n) ≡ v) × HasJustLooked c h n
 llx_told allows c h n (StateAgain b s) v = value h (state s.0) ≡ v
 llx_told allows c h n (Help b m) v = help_ready allows m c h (Some v)
 llx_told allows c h n LastInfo v = value h (info n) ≡ v
@@ -91,18 +119,24 @@ pub record IsOpened (lay : Layout) (h : History) (n : ℕ) : Type 0 where
   pub in_field : IsInField lay h n
   pub inside : n < all_nodes lay
 
+-- at a moment of its call the run waits for this step; since the call's begin none of the pass's own SCX-records was in progress
 pub record llx_waits (allows : Layout → History → ℕ → Type 0) (m : LlxRun) (c : Call) (h : History) (step : Step) : Type 0 where
   pub opened : IsOpened c.layout h m.node.0
-  pub known : llx_known h m.node.0 m.at
+  pub since : EndsWith h c.start
+  pub quiet : IsQuietSince c.layout c.pass c.start h
+  pub known : llx_known c h m.node.0 m.at
   pub asked : llx_asked allows c h m.node.0 m.at step
 
+-- it begins, or a row of its own has told it something
 abbrev pub llx_got : (Layout → History → ℕ → Type 0) → Call → History → ℕ → LlxAt → Option ℕ → Type 0
 llx_got allows c h n at None = at ≡ Start
-llx_got allows c h n at (Some v) = llx_told allows c h n at v
+llx_got allows c h n at (Some v) = llx_told allows c h n at v × IsBehind h c.start
 
 pub record llx_ready (allows : Layout → History → ℕ → Type 0) (m : LlxRun) (c : Call) (h : History) (got : Option ℕ) : Type 0 where
   pub opened : IsOpened c.layout h m.node.0
-  pub known : llx_known h m.node.0 m.at
+  pub since : EndsWith h c.start
+  pub quiet : IsQuietSince c.layout c.pass c.start h
+  pub known : llx_known c h m.node.0 m.at
   pub told : llx_got allows c h m.node.0 m.at got
 
 -- a snapshot gives the info and the fields that its node has now, at which it is not final
@@ -120,11 +154,18 @@ pub record IsFinalBy (lay : Layout) (h : History) (n s : ℕ) : Type 0 where
   pub by : IsFinalizing h n s
   pub committed : value h (state s) ≡ 1
 
--- a failed LLX names what it has found in the node's info
+-- another pass's SCX-record, which the node's info has named, was in the way of the call, at whose begin the node was not final; it is finished now
+pub record HasFailed (c : Call) (h : History) (n s : ℕ) : Type 0 where
+  pub held : HasHeld h (info n) s
+  pub others : IsOthersScx c.layout c.pass s
+  pub in_the_way : WasInTheWay h c.start n s
+  pub over : value h (state s) ≢ 0
+  pub not_final : is_final (log c.layout c.start) n ≡ false
+
 abbrev pub llx_answers : LlxRun → Call → History → Llx → Type 0
-llx_answers m c h (Snapshot snap) = IsSnapshot c.layout h m.node.0 snap
+llx_answers m c h (Snapshot snap) = IsSnapshot c.layout h m.node.0 snap × HasJustLooked c h m.node.0
 llx_answers m c h (Finalized node s) = (node.0 ≡ m.node.0) × IsFinalBy c.layout h m.node.0 s.0
-llx_answers m c h (Fail node s) = (node.0 ≡ m.node.0) × HasHeld h (info m.node.0) s.0
+llx_answers m c h (Fail node s) = (node.0 ≡ m.node.0) × HasFailed c h m.node.0 s.0
 
 -- What its turns leave
 
@@ -141,6 +182,17 @@ pub record Reads (old now : LlxRun) (turn : Turn Llx) (b : Bool) (s : ScxNo) (v 
 abbrev pub LooksAgain : LlxRun → LlxRun → Turn Llx → Bool → ScxNo → Type 0
 LooksAgain old now turn b s = Asks old now turn (StateAgain b s) (load LoadState (state s.0))
 
+-- it looks at the SCX-record once more, where that is in progress, or committed and the node marked
+pub record Declines (old now : LlxRun) (turn : Turn Llx) (b : Bool) (s : ScxNo) (v : ℕ) (again : Bool) : Type 0 where
+  pub not_aborted : v ≢ 2
+  pub marked : v ≡ 1 → again ≡ true
+  pub asks : LooksAgain old now turn b s
+
+-- or where the info names another
+pub record Differs (old now : LlxRun) (turn : Turn Llx) (b : Bool) (s : ScxNo) (v : ℕ) : Type 0 where
+  pub other : v ≢ s.0
+  pub asks : LooksAgain old now turn b s
+
 -- it ends with a snapshot
 pub record Snaps (now old : LlxRun) (turn : Turn Llx) (snap : Snap) (v : ℕ) : Type 0 where
   pub same : v ≡ snap.scx.0
@@ -153,6 +205,11 @@ pub record Finalizes (now old : LlxRun) (turn : Turn Llx) (b : Bool) (s : ScxNo)
   pub run : now ≡ old
   pub done : turn ≡ Done (Finalized old.node s)
 
+-- it looks at the info once more where the node is not finalized
+pub record LooksLast (old now : LlxRun) (turn : Turn Llx) (b : Bool) : Type 0 where
+  pub not_final : b ≡ false
+  pub asks : Asks old now turn LastInfo (load LoadInfo (info old.node.0))
+
 -- a turn is right: what it waits for, or what it answers
 abbrev pub llx_turn : (Layout → History → ℕ → Type 0) → Call → History → LlxRun → Turn Llx → Type 0
 llx_turn allows c h m turn = MatchTurn turn (llx_waits allows m c h) (llx_answers m c h)
@@ -161,11 +218,15 @@ llx_turn allows c h m turn = MatchTurn turn (llx_waits allows m c h) (llx_answer
 pub record Helps (allows : Layout → History → ℕ → Type 0) (c : Call) (h : History) (n : ℕ) (help : HelpRun) (got : Option ℕ) : Type 0 where
   pub run : IsRun allows c.layout h
   pub opened : IsOpened c.layout h n
+  pub since : EndsWith h c.start
+  pub quiet : IsQuietSince c.layout c.pass c.start h
   pub ready : help_ready allows help c h got
 
 -- the state of an SCX-record that was met
 pub record Meets (allows : Layout → History → ℕ → Type 0) (c : Call) (h : History) (n : ℕ) (b : Bool) (s v : ℕ) : Type 0 where
   pub run : IsRun allows c.layout h
   pub opened : IsOpened c.layout h n
-  pub met : HasMet h n b s
+  pub since : EndsWith h c.start
+  pub quiet : IsQuietSince c.layout c.pass c.start h
+  pub stopped : HasStopped c h n b s
   pub state : value h (state s) ≡ v

@@ -7,15 +7,17 @@ use Rattle.arena.specs.declared.step.Deed.TheVariants.{Store}
 use Rattle.arena.specs.declared.step.Kind.TheVariants.{Fill}
 use Rattle.arena.specs.declared.word.NodeWord.TheVariants.{Value}
 use Rattle.arena.specs.Words.{node}
-use Rattle.arena.specs.History.{History, ◌⊳◌}
-use Rattle.arena.specs.Fills.{IsOwnNode, IsTakenNode, IsFillOfNode}
+use Rattle.arena.specs.History.{History, ◌⊳◌, value}
+use Rattle.arena.specs.Fills.{IsOwnNode, IsTakenNode, IsTakenScx, IsFillOfNode}
 use Rattle.arena.specs.Machines.{Call}
 use Rattle.histories.proofs.Facts.{Descriptor}
 use Rattle.help.specs.Allowed.{IsLater, IsAllowed}
 use Rattle.prims.specs.Cells.{allows_all}
-use Rattle.prims.specs.ScxKnown.{InHand, Says, scx_ready, scx_waits, scx_answers}
+use Rattle.prims.specs.VlxKnown.{IsClear}
+use Rattle.prims.specs.ScxKnown.{InHand, Says, IsUnderWay, IsDone, IsLost, scx_ready, scx_waits}
 use Rattle.prims.specs.declared.scx.ScxRun.{ScxRun}
 use Rattle.prims.specs.declared.scx.Scx.{Scx as Answer}
+use Rattle.prims.specs.declared.scx.Scx.TheVariants.{Done, Lost}
 use Rattle.prims.specs.declared.scx.ScxAt.TheVariants.{Start as ScxStart}
 use Rattle.prims.specs.declared.put.PutRun.{PutRun}
 use Rattle.prims.specs.declared.put.PutAt.{PutAt}
@@ -31,23 +33,47 @@ pub record PutHand (allows : Layout → History → ℕ → Type 0) (lay : Layou
 abbrev pub put_step : PutRun → Step
 put_step m = record { kind = Fill; word = node m.scx.update.fresh Value; deed = Store m.value }
 
+-- the fresh node is of the pass's share, is taken, and has its value
+pub record HasValue (c : Call) (h : History) (m : PutRun) : Type 0 where
+  pub own : IsOwnNode c.layout c.pass m.scx.update.fresh
+  pub taken : IsTakenNode h m.scx.update.fresh
+  pub value : value h (node m.scx.update.fresh Value) ≡ m.value
+
 abbrev pub put_waits_at : (Layout → History → ℕ → Type 0) → Call → History → PutRun → PutAt → Step → Type 0
 put_waits_at allows c h m Start step = ⊥
-put_waits_at allows c h m AtFill step = PutHand allows c.layout c.pass h m.scx × (step ≡ put_step m)
-put_waits_at allows c h m Scx step = IsTakenNode h m.scx.update.fresh × scx_waits allows m.scx c h step
+put_waits_at allows c h m AtFill step = PutHand allows c.layout c.pass h m.scx × IsUnderWay c h m.scx.scx.0 m.scx.update.snaps.items × (step ≡ put_step m)
+put_waits_at allows c h m Scx step = HasValue c h m × scx_waits allows m.scx c h step
 
 abbrev pub put_told_at : (Layout → History → ℕ → Type 0) → Call → History → PutRun → PutAt → ℕ → Type 0
 put_told_at allows c h m Start v = ⊥
-put_told_at allows c h m AtFill v = IsTakenNode h m.scx.update.fresh × (m.scx.at ≡ ScxStart) × InHand allows c.layout c.pass h m.scx
-put_told_at allows c h m Scx v = IsTakenNode h m.scx.update.fresh × scx_ready allows m.scx c h (Some v)
+put_told_at allows c h m AtFill v = HasValue c h m × (m.scx.at ≡ ScxStart) × InHand allows c.layout c.pass h m.scx × IsUnderWay c h m.scx.scx.0 m.scx.update.snaps.items
+put_told_at allows c h m Scx v = HasValue c h m × scx_ready allows m.scx c h (Some v)
 
 abbrev pub put_waits : (Layout → History → ℕ → Type 0) → PutRun → Call → History → Step → Type 0
 put_waits allows m c h step = put_waits_at allows c h m m.at step
 
+-- it begins at this moment, with what the pass has in hand, and with an SCX-record that is not taken
+pub record IsFirstPut (allows : Layout → History → ℕ → Type 0) (m : PutRun) (c : Call) (h : History) : Type 0 where
+  pub stands : m.at ≡ Start
+  pub hand : PutHand allows c.layout c.pass h m.scx
+  pub begins : h ≡ c.start
+  pub clear : IsClear c.layout c.pass h m.scx.update.snaps.items
+  pub free : ¬ IsTakenScx h m.scx.scx.0
+
 abbrev pub put_ready : (Layout → History → ℕ → Type 0) → PutRun → Call → History → Option ℕ → Type 0
-put_ready allows m c h None = (m.at ≡ Start) × PutHand allows c.layout c.pass h m.scx
+put_ready allows m c h None = IsFirstPut allows m c h
 put_ready allows m c h (Some v) = put_told_at allows c h m m.at v
 
--- its fresh node is taken, and the answer is that of the SCX
+-- the update has its entry, and before that the fresh node had its value
+pub record IsPut (c : Call) (h : History) (m : PutRun) : Type 0 where
+  pub done : IsDone c h m.scx
+  pub value : value done.entry.before (node m.scx.update.fresh Value) ≡ m.value
+
+-- how it ends: the update has its entry, or it is lost
+abbrev pub put_ends : PutRun → Call → History → Answer → Type 0
+put_ends m c h Done = IsPut c h m
+put_ends m c h (Lost node found) = IsLost c h m.scx node.0 found.0
+
+-- the fresh node is taken and has its value, and the answer is that of the SCX
 abbrev pub put_answers : PutRun → Call → History → Answer → Type 0
-put_answers m c h a = IsTakenNode h m.scx.update.fresh × scx_answers m.scx c h a
+put_answers m c h a = HasValue c h m × put_ends m c h a

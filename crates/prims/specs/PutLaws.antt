@@ -1,5 +1,5 @@
 -- The laws of SCX with a fresh cell.
-use Rattle.std.proofs.Common.{◌≢◌, ℕ, Some, inl, inr, refl, ◌∙◌}
+use Rattle.std.proofs.Common.{◌≡◌, ◌≢◌, ℕ, Some, inl, inr, refl, ◌∙◌}
 use Rattle.arena.specs.declared.layout.Layout.{Layout}
 use Rattle.arena.specs.declared.step.Row.{Row}
 use Rattle.arena.specs.declared.step.Step.{Step}
@@ -10,7 +10,7 @@ use Rattle.arena.specs.History.{History, ◌⊳◌, value}
 use Rattle.arena.specs.Fills.{IsNamed, opening_node, by_field, by_scx, IsNamedScx}
 use Rattle.arena.specs.Lawful.{Lawful}
 use Rattle.arena.specs.Machines.{IsRun, Call, row_of, IsTold}
-use Rattle.arena.proofs.Values.{value_apart, held_back, node_word_apart}
+use Rattle.arena.proofs.Values.{value_at, value_apart, held_back, node_word_apart}
 use Rattle.arena.proofs.Taken.{taken_node_more, fill_takes_node}
 use Rattle.histories.proofs.Changes.{lawful_more}
 use Rattle.histories.proofs.Owners.{own_node_inside}
@@ -19,17 +19,25 @@ use Rattle.help.specs.AllowedLaws.{later_self, later_trans}
 use Rattle.prims.specs.Cells.{allows_all}
 use Rattle.prims.specs.Linked.{linked_more}
 use Rattle.prims.specs.VlxKnown.{snap_at}
+use Rattle.prims.specs.Unfilled.{own_value_unfilled}
+use Rattle.prims.specs.Begun.{takes_by_others, takes_by_node, way_more}
 use Rattle.prims.specs.ScxKnown.{InHand}
 use Rattle.prims.specs.ScxLaws.{taken_more, hand_kept, scx_keeps, scx_lawful}
-use Rattle.prims.specs.ScxMade.{scx_made}
-use Rattle.prims.specs.PutKnown.{PutHand, put_step, put_waits_at, put_told_at, put_waits, put_ready}
+use Rattle.prims.specs.ScxMade.{scx_made, scx_value}
+use Rattle.prims.specs.PutKnown.{PutHand, HasValue, put_step, put_waits_at, put_told_at, put_waits, put_ready}
 use Rattle.prims.specs.declared.put.PutRun.{PutRun}
 use Rattle.prims.specs.declared.put.PutAt.{PutAt}
 use Rattle.prims.specs.declared.put.PutAt.TheVariants.{Start, Fill as AtFill, Scx}
 
+value_more : (c : Call) (h : History) (r : Row) (m : PutRun) → value (r ⊳ h) (node m.scx.update.fresh Value) ≡ value h (node m.scx.update.fresh Value) → HasValue c h m → HasValue c (r ⊳ h) m
+value_more c h r m e x = record { own = x.own; taken = taken_node_more r h m.scx.update.fresh x.taken; value = e ∙ x.value }
+
 kept_at : (allows : Layout → History → ℕ → Type 0) (m : PutRun) (c : Call) (h : History) (at : PutAt) (s : Step) (r : Row) → IsRun allows c.layout (r ⊳ h) → r.pass.0 ≢ c.pass → put_waits_at allows c h m at s → put_waits_at allows c (r ⊳ h) m at s
 kept_at allows m c h Start s r run other w = w
-kept_at allows m c h Scx s r run other w = (taken_node_more r h m.scx.update.fresh w.0, scx_keeps allows m.scx c h s r run other w.1)
+kept_at allows m c h Scx s r run other w = (
+  value_more c h r m (own_value_unfilled c.layout h r c.pass m.scx.update.fresh run.lawful other w.0.own) w.0,
+  scx_keeps allows m.scx c h s r run other w.1,
+)
 kept_at allows m c h AtFill s r run other w = (
   record {
     hand = hand_kept allows_all c.layout c.pass h r m.scx run.lawful c.is_pass other w.0.hand;
@@ -37,7 +45,8 @@ kept_at allows m c h AtFill s r run other w = (
     in_order = λ n o p. taken_node_more r h n (w.0.in_order n o p);
     allowed = λ k q d later f y. w.0.allowed k q d (later_trans c.pass m.scx.scx.0 h (r ⊳ h) k later (inr (inl other, later_self c.pass m.scx.scx.0 h))) f y;
   },
-  w.1,
+  way_more c h r m.scx.scx.0 m.scx.update.snaps.items (takes_by_others c.layout c.pass m.scx.scx.0 h r run.lawful other) w.1,
+  w.2,
 )
 
 pub put_keeps : (allows : Layout → History → ℕ → Type 0) (m : PutRun) (c : Call) (h : History) (s : Step) (r : Row) → IsRun allows c.layout (r ⊳ h) → r.pass.0 ≢ c.pass → put_waits allows m c h s → put_waits allows m c (r ⊳ h) s
@@ -46,7 +55,7 @@ put_keeps allows m c h s r run other w = kept_at allows m c h m.at s r run other
 lawful_at : (allows : Layout → History → ℕ → Type 0) (m : PutRun) (c : Call) (h : History) (at : PutAt) (s : Step) → IsRun allows c.layout h → put_waits_at allows c h m at s → IsRun allows c.layout (row_of c s h ⊳ h)
 lawful_at allows m c h Start s run w = absurd w
 lawful_at allows m c h Scx s run w = scx_lawful allows m.scx c h s run w.1
-lawful_at allows m c h AtFill s run w = rw w.1 record { lawful = x; shaped = shaped_more allows c.layout h (row_of c (put_step m) h) x run.shaped (λ u f g. absurd (let e = g.kind in cc)) }
+lawful_at allows m c h AtFill s run w = rw w.2 record { lawful = x; shaped = shaped_more allows c.layout h (row_of c (put_step m) h) x run.shaped (λ u f g. absurd (let e = g.kind in cc)) }
   where
     x : Lawful c.layout (row_of c (put_step m) h ⊳ h)
     x = lawful_more c.layout h (row_of c (put_step m) h) run.lawful record { before = refl; obeys = record { own = w.0.hand.fresh; in_order = w.0.in_order; unnamed = w.0.hand.unnamed }; pass = c.is_pass; word = own_node_inside c.layout c.pass m.scx.update.fresh c.is_pass w.0.hand.fresh }
@@ -83,10 +92,15 @@ module _ (allows : Layout → History → ℕ → Type 0) (m : PutRun) (c : Call
 
 made_at : (allows : Layout → History → ℕ → Type 0) (m : PutRun) (c : Call) (h : History) (at : PutAt) (s : Step) (v : ℕ) → IsRun allows c.layout (row_of c s h ⊳ h) → IsTold s.deed (value h s.word) v → put_waits_at allows c h m at s → put_told_at allows c (row_of c s h ⊳ h) m at v
 made_at allows m c h Start s v run t w = absurd w
-made_at allows m c h Scx s v run t w = (taken_node_more (row_of c s h) h m.scx.update.fresh w.0, scx_made allows m.scx c h s v run t w.1)
+made_at allows m c h Scx s v run t w = (value_more c h (row_of c s h) m (scx_value allows m.scx c h s m.scx.update.fresh run.lawful w.1) w.0, scx_made allows m.scx c h s v run t w.1)
 made_at allows m c h AtFill s v run t w =
-    let l : Lawful c.layout (row_of c (put_step m) h ⊳ h) = rw w.1 at run.lawful in
-    rw w.1 (fill_takes_node (row_of c (put_step m) h) h m.scx.update.fresh Value refl refl, w.0.start, hand_put allows m c h l w.0)
+    let l : Lawful c.layout (row_of c (put_step m) h ⊳ h) = rw w.2 at run.lawful in
+    rw w.2 (
+      record { own = w.0.hand.fresh; taken = fill_takes_node (row_of c (put_step m) h) h m.scx.update.fresh Value refl refl; value = value_at (row_of c (put_step m) h) h (node m.scx.update.fresh Value) refl },
+      w.0.start,
+      hand_put allows m c h l w.0,
+      way_more c h (row_of c (put_step m) h) m.scx.scx.0 m.scx.update.snaps.items (takes_by_node c.layout c.pass m.scx.scx.0 h (row_of c (put_step m) h) m.scx.update.fresh Value refl) w.1,
+    )
 
 pub put_made : (allows : Layout → History → ℕ → Type 0) (m : PutRun) (c : Call) (h : History) (s : Step) (v : ℕ) → IsRun allows c.layout (row_of c s h ⊳ h) → IsTold s.deed (value h s.word) v → put_waits allows m c h s → put_ready allows m c (row_of c s h ⊳ h) (Some v)
 put_made allows m c h s v run t w = made_at allows m c h m.at s v run t w

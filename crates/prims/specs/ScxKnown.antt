@@ -1,6 +1,7 @@
 -- When a run of SCX may go on, what it waits for, and what its answer says.
-use Rattle.std.specs.Prelude.{◌≡◌, ◌≢◌, ℕ, suc, ◌<◌, length, Option, Some, None}
+use Rattle.std.specs.Prelude.{◌≡◌, ◌≢◌, ℕ, suc, ◌<◌, cond, List, [], ◌∷◌, length, map, Option, Some, None}
 use Rattle.arena.specs.declared.layout.Layout.{Layout}
+use Rattle.arena.specs.declared.step.Row.{Row}
 use Rattle.arena.specs.declared.step.Step.{Step}
 use Rattle.arena.specs.declared.step.Deed.TheVariants.{Store}
 use Rattle.arena.specs.declared.step.Kind.TheVariants.{Fill}
@@ -9,11 +10,11 @@ use Rattle.arena.specs.declared.word.ScxWord.{ScxWord}
 use Rattle.arena.specs.declared.word.ScxWord.TheVariants.{Plan, New, Old, Member, Seen, Call as CallWord}
 use Rattle.arena.specs.MemberNo.{index_of}
 use Rattle.arena.specs.Words.{scx, state, child}
-use Rattle.arena.specs.History.{History, value, HasHeld}
-use Rattle.arena.specs.ScxRecords.{IsPlan, count_of, side_of, index_of as field_of}
-use Rattle.arena.specs.Fills.{IsOwnNode, IsOpenScx, IsNamed}
-use Rattle.arena.specs.Lawful.{HasWon}
-use Rattle.arena.specs.Log.{log, IsEntered}
+use Rattle.arena.specs.History.{History, ◌⊳◌, value, HasHeld, EndsWith}
+use Rattle.arena.specs.ScxRecords.{IsPlan, count_of, removes, side_of, index_of as field_of, plan, new, member, seen}
+use Rattle.arena.specs.Fills.{IsOwnNode, IsOwnScx, IsOpenScx, IsNamed, IsTakenScx}
+use Rattle.arena.specs.Lawful.{IsWin, HasWon}
+use Rattle.arena.specs.Log.{Entry, log, IsEntered}
 use Rattle.arena.specs.declared.machine.Turn.{Turn}
 use Rattle.arena.specs.declared.machine.Turn.TheVariants.{Ask}
 use Rattle.arena.specs.declared.number.MemberNo.{MemberNo}
@@ -24,7 +25,9 @@ use Rattle.histories.proofs.Facts.{Descriptor}
 use Rattle.help.specs.Allowed.{IsAllowed}
 use Rattle.help.specs.HelpKnown.{IsBlocked, help_ready, help_waits}
 use Rattle.prims.specs.Snap.{child_of}
-use Rattle.prims.specs.VlxKnown.{snap_at, AllLinked}
+use Rattle.prims.specs.Moments.{IsAsFound, IsBlamed}
+use Rattle.prims.specs.VlxKnown.{snap_at, AllLinked, HasBegun}
+use Rattle.prims.specs.declared.snap.Snap.{Snap}
 use Rattle.prims.specs.declared.scx.ScxRun.{ScxRun}
 use Rattle.prims.specs.declared.scx.Scx.{Scx}
 use Rattle.prims.specs.declared.scx.Scx.TheVariants.{Done, Lost}
@@ -69,6 +72,11 @@ pub record InHand (allows : Layout → History → ℕ → Type 0) (lay : Layout
   pub in_no_field : (n : ℕ) (side : Side) → ¬ HasHeld h (child n side) m.update.fresh
   pub in_no_other : (u : ℕ) → u ≢ m.scx.0 → ¬ HasHeld h (scx u New) m.update.fresh
   pub allowed : (d : Descriptor) → Says d m → IsAllowed allows lay c h m.scx.0 d
+
+-- a call on the SCX-record s has come so far; s was not taken as it began
+pub record IsUnderWay (c : Call) (h : History) (s : ℕ) (snaps : List Snap) : Type 0 where
+  pub begun : HasBegun c h s snaps
+  pub free : ¬ IsTakenScx c.start s
 
 -- the word that is filled at a place
 abbrev pub part_at : ScxAt → ScxWord
@@ -139,6 +147,7 @@ IsWithin k _ = Unit {0}
 -- a run that fills a word
 pub record Fills (allows : Layout → History → ℕ → Type 0) (c : Call) (h : History) (m : ScxRun) (at : ScxAt) : Type 0 where
   pub hand : InHand allows c.layout c.pass h m
+  pub way : IsUnderWay c h m.scx.0 m.update.snaps.items
   pub within : IsWithin (length m.update.snaps.items) at
   pub filled : Holds h m (IsFilled (length m.update.snaps.items) at)
 
@@ -151,40 +160,93 @@ pub record FillWaits (allows : Layout → History → ℕ → Type 0) (c : Call)
 
 pub record FillMade (allows : Layout → History → ℕ → Type 0) (c : Call) (h : History) (m : ScxRun) (at : ScxAt) : Type 0 where
   pub hand : InHand allows c.layout c.pass h m
+  pub way : IsUnderWay c h m.scx.0 m.update.snaps.items
   pub within : IsWithin (length m.update.snaps.items) at
   pub filled : Holds h m (IsFilledThen (length m.update.snaps.items) at)
 
+-- the words of the pass's SCX-record s hold what the update wants
+pub record HasFilled (c : Call) (h : History) (s number : ℕ) (u : Update) : Type 0 where
+  pub own : IsOwnScx c.layout c.pass s
+  pub way : IsUnderWay c h s u.snaps.items
+  pub over : IsUpdateOver u
+  pub planned : plan h s ≡ u.plan.0
+  pub fresh : new h s ≡ u.fresh
+  pub members : (j : ℕ) → j < length u.snaps.items → member h s j ≡ (snap_at u.snaps.items j).node.0
+  pub found : (j : ℕ) → j < length u.snaps.items → seen h s j ≡ (snap_at u.snaps.items j).scx.0
+  pub called : value h (scx s CallWord) ≡ number
+
 abbrev pub scx_waits_at : (Layout → History → ℕ → Type 0) → Call → History → ScxRun → ScxAt → Step → Type 0
 scx_waits_at allows c h m Start step = ⊥
-scx_waits_at allows c h m (Help help) step = help_waits allows help c h step × (help.scx ≡ m.scx)
+scx_waits_at allows c h m (Help help) step = help_waits allows help c h step × (help.scx ≡ m.scx) × HasFilled c h m.scx.0 m.call m.update
 scx_waits_at allows c h m at step = FillWaits allows c h m at step
 
 abbrev pub scx_told_at : (Layout → History → ℕ → Type 0) → Call → History → ScxRun → ScxAt → ℕ → Type 0
 scx_told_at allows c h m Start v = ⊥
-scx_told_at allows c h m (Help help) v = help_ready allows help c h (Some v) × (help.scx ≡ m.scx)
+scx_told_at allows c h m (Help help) v = help_ready allows help c h (Some v) × (help.scx ≡ m.scx) × HasFilled c h m.scx.0 m.call m.update
 scx_told_at allows c h m at v = FillMade allows c h m at
 
 abbrev pub scx_waits : (Layout → History → ℕ → Type 0) → ScxRun → Call → History → Step → Type 0
 scx_waits allows m c h step = scx_waits_at allows c h m m.at step
 
 abbrev pub scx_ready : (Layout → History → ℕ → Type 0) → ScxRun → Call → History → Option ℕ → Type 0
-scx_ready allows m c h None = (m.at ≡ Start) × InHand allows c.layout c.pass h m
+scx_ready allows m c h None = (m.at ≡ Start) × InHand allows c.layout c.pass h m × IsUnderWay c h m.scx.0 m.update.snaps.items
 scx_ready allows m c h (Some v) = scx_told_at allows c h m m.at v
 
--- it is committed: its update has won
-pub record IsDone (h : History) (s : ℕ) : Type 0 where
-  pub committed : value h (state s) ≡ 1
-  pub won : HasWon h s
+-- the nodes of snapshots, and those that a plan finalizes, where the first of the snapshots has the place j in it
+abbrev pub nodes_of : List Snap → List ℕ
+nodes_of snaps = map (λ (snap : Snap). snap.node.0) snaps
 
--- it is aborted, has no entry, and this node's info was not as it had seen it
-pub record IsLost (lay : Layout) (h : History) (s n v : ℕ) : Type 0 where
-  pub aborted : value h (state s) ≡ 2
-  pub no_entry : ¬ IsEntered (log lay h) s
-  pub blocked : IsBlocked h s n v
+abbrev pub removed_nodes : ℕ → List Snap → ℕ → List ℕ
+removed_nodes p [] j = []
+removed_nodes p (snap ∷ snaps) j = cond (removes p j) (snap.node.0 ∷ removed_nodes p snaps (suc j)) (removed_nodes p snaps (suc j))
+
+-- the entry of the update, of a call of the pass c
+abbrev pub update_entry : ℕ → ScxRun → Entry
+update_entry c m =
+    record {
+      scx = m.scx.0;
+      owner = c;
+      call = m.call;
+      members = nodes_of m.update.snaps.items;
+      removed = removed_nodes m.update.plan.0 m.update.snaps.items 0;
+      node = (snap_at m.update.snaps.items (field_of m.update.plan.0)).node.0;
+      side = side_of m.update.plan.0;
+      new = m.update.fresh;
+    }
+
+-- this row, behind the call's begin, has put the update's entry into the log, and before it each node was as its snapshot found it
+pub record IsEntryAt (c : Call) (h : History) (m : ScxRun) (row : Row) (before : History) : Type 0 where
+  pub within : EndsWith h (row ⊳ before)
+  pub since : EndsWith before c.start
+  pub wins : IsWin before row m.scx.0
+  pub logged : log c.layout (row ⊳ before) ≡ update_entry c.pass m ∷ log c.layout before
+  pub found : (i : ℕ) → i < length m.update.snaps.items → IsAsFound c.layout h before (snap_at m.update.snaps.items i)
+
+-- the update has its entry
+pub record HasEntry (c : Call) (h : History) (m : ScxRun) : Type 0 where
+  pub row : Row
+  pub before : History
+  pub is : IsEntryAt c h m row before
+
+-- it is committed: its update has won, and has its entry
+pub record IsDone (c : Call) (h : History) (m : ScxRun) : Type 0 where
+  pub committed : value h (state m.scx.0) ≡ 1
+  pub won : HasWon h m.scx.0
+  pub entry : HasEntry c h m
+
+-- it is aborted, has no entry, and this node's info was not as it had seen it: another pass has changed it since its snapshot
+pub record IsLost (c : Call) (h : History) (m : ScxRun) (n v : ℕ) : Type 0 where
+  pub aborted : value h (state m.scx.0) ≡ 2
+  pub no_entry : ¬ IsEntered (log c.layout h) m.scx.0
+  pub blocked : IsBlocked h m.scx.0 n v
+  pub index : ℕ
+  pub within : index < length m.update.snaps.items
+  pub node : (snap_at m.update.snaps.items index).node.0 ≡ n
+  pub blamed : IsBlamed c h (snap_at m.update.snaps.items index) v
 
 abbrev pub scx_answers : ScxRun → Call → History → Scx → Type 0
-scx_answers m c h Done = IsDone h m.scx.0
-scx_answers m c h (Lost node found) = IsLost c.layout h m.scx.0 node.0 found.0
+scx_answers m c h Done = IsDone c h m
+scx_answers m c h (Lost node found) = IsLost c h m node.0 found.0
 
 -- What its turns leave
 
@@ -213,3 +275,4 @@ pub record Helps (allows : Layout → History → ℕ → Type 0) (c : Call) (h 
   pub run : IsRun allows c.layout h
   pub ready : help_ready allows help c h got
   pub same : help.scx ≡ m.scx
+  pub filled : HasFilled c h m.scx.0 m.call m.update

@@ -23,6 +23,8 @@ use Rattle.prims.specs.Linked.{linked_more, in_field_named}
 use Rattle.arena.specs.declared.word.Side.{Side}
 use Rattle.prims.specs.Snap.{child_of}
 use Rattle.prims.specs.VlxKnown.{snap_at}
+use Rattle.prims.specs.Unfilled.{own_words_unfilled}
+use Rattle.prims.specs.Begun.{takes_by_others, way_more, filled_more}
 use Rattle.prims.specs.ScxKnown.{wanted, InHand, part_at, IsWithin, Fills, FillWaits, fill_step, scx_waits_at, scx_waits}
 use Rattle.prims.specs.declared.scx.ScxRun.{ScxRun}
 use Rattle.prims.specs.declared.scx.ScxAt.{ScxAt}
@@ -54,13 +56,14 @@ module _ (allows : Layout → History → ℕ → Type 0) (lay : Layout) (c : �
 fills_kept : (allows : Layout → History → ℕ → Type 0) (m : ScxRun) (c : Call) (h : History) (at : ScxAt) (r : Row) → IsRun allows c.layout (r ⊳ h) → r.pass.0 ≢ c.pass → Fills allows c h m at → Fills allows c (r ⊳ h) m at
 fills_kept allows m c h at r run other x = record {
   hand = hand_kept allows c.layout c.pass h r m run.lawful c.is_pass other x.hand;
+  way = way_more c h r m.scx.0 m.update.snaps.items (takes_by_others c.layout c.pass m.scx.0 h r run.lawful other) x.way;
   within = x.within;
   filled = λ part p. words_kept allows c.layout c.pass h r m run.lawful other x.hand part ∙ x.filled part p;
 }
 
 kept_at : (allows : Layout → History → ℕ → Type 0) (m : ScxRun) (c : Call) (h : History) (at : ScxAt) (s : Step) (r : Row) → IsRun allows c.layout (r ⊳ h) → r.pass.0 ≢ c.pass → scx_waits_at allows c h m at s → scx_waits_at allows c (r ⊳ h) m at s
 kept_at allows m c h Start s r run other w = w
-kept_at allows m c h (Help help) s r run other w = (help_keeps allows help c h s r run other w.0, w.1)
+kept_at allows m c h (Help help) s r run other w = (help_keeps allows help c h s r run other w.0, w.1, filled_more c h r m.scx.0 m.call m.update (takes_by_others c.layout c.pass m.scx.0 h r run.lawful other) (own_words_unfilled c.layout h r c.pass m.scx.0 run.lawful other w.2.own) w.2)
 kept_at allows m c h AtPlan s r run other w = record { fills = fills_kept allows m c h AtPlan r run other w.fills; asked = w.asked }
 kept_at allows m c h AtNew s r run other w = record { fills = fills_kept allows m c h AtNew r run other w.fills; asked = w.asked }
 kept_at allows m c h AtOld s r run other w = record { fills = fills_kept allows m c h AtOld r run other w.fills; asked = w.asked }

@@ -5,10 +5,11 @@ use Rattle.arena.specs.declared.step.Row.{Row}
 use Rattle.arena.specs.declared.step.Step.{Step}
 use Rattle.arena.specs.declared.word.Word.{Word}
 use Rattle.arena.specs.declared.word.Word.TheVariants.{Node, Scx}
+use Rattle.arena.specs.declared.word.NodeWord.TheVariants.{Value}
 use Rattle.arena.specs.declared.word.ScxWord.{ScxWord}
 use Rattle.arena.specs.declared.word.ScxWord.TheVariants.{State, Plan, New, Old, Member, Seen, Call as CallWord}
 use Rattle.arena.specs.MemberNo.{index_of}
-use Rattle.arena.specs.Words.{same_word, scx, info, state, child}
+use Rattle.arena.specs.Words.{same_word, node, scx, info, state, child}
 use Rattle.arena.specs.History.{History, ◌⊳◌, value}
 use Rattle.arena.specs.Fills.{IsNamed, opening_node, by_field, by_scx, IsNamedScx}
 use Rattle.arena.specs.Lawful.{Lawful}
@@ -17,9 +18,12 @@ use Rattle.arena.proofs.SameWords.{word_same}
 use Rattle.arena.proofs.Values.{value_at, value_other, value_apart, held_back, scx_apart, scx_word_apart}
 use Rattle.histories.proofs.Quiet.{never_state}
 use Rattle.help.specs.AllowedLaws.{allowed_more}
+use Rattle.help.specs.HelpLawful.{help_fills_not}
 use Rattle.help.specs.HelpMade.{help_made}
 use Rattle.prims.specs.Linked.{linked_more}
 use Rattle.prims.specs.VlxKnown.{snap_at}
+use Rattle.prims.specs.Unfilled.{step_words, step_value}
+use Rattle.prims.specs.Begun.{takes_by_fill, takes_by_step, way_more, filled_more}
 use Rattle.prims.specs.ScxKnown.{wanted, InHand, part_at, IsFilled, IsFilledThen, Holds, Fills, FillWaits, FillMade, fill_step, scx_waits_at, scx_told_at, scx_waits, scx_ready}
 use Rattle.prims.specs.ScxLaws.{taken_more, part_fill}
 use Rattle.prims.specs.declared.scx.ScxRun.{ScxRun}
@@ -120,7 +124,7 @@ module _ (allows : Layout → History → ℕ → Type 0) (m : ScxRun) (c : Call
       test false e (inl q) = value_other r h (scx m.scx.0 part) e ∙ x part q
 
   fill_made : Lawful c.layout (r ⊳ h) → Fills allows c h m at → FillMade allows c (r ⊳ h) m at
-  fill_made l x = record { hand = hand_filled l x.hand; within = x.within; filled = holds_then x.filled }
+  fill_made l x = record { hand = hand_filled l x.hand; way = way_more c h r m.scx.0 m.update.snaps.items (takes_by_fill c.layout c.pass m.scx.0 h r (part_at at) refl) x.way; within = x.within; filled = holds_then x.filled }
 
 made_by : (allows : Layout → History → ℕ → Type 0) (m : ScxRun) (c : Call) (h : History) (at : ScxAt) (s : Step) → IsRun allows c.layout (row_of c s h ⊳ h) → FillWaits allows c h m at s → FillMade allows c (row_of c s h ⊳ h) m at
 made_by allows m c h at s run w =
@@ -129,7 +133,11 @@ made_by allows m c h at s run w =
 
 made_at : (allows : Layout → History → ℕ → Type 0) (m : ScxRun) (c : Call) (h : History) (at : ScxAt) (s : Step) (v : ℕ) → IsRun allows c.layout (row_of c s h ⊳ h) → IsTold s.deed (value h s.word) v → scx_waits_at allows c h m at s → scx_told_at allows c (row_of c s h ⊳ h) m at v
 made_at allows m c h Start s v run t w = absurd w
-made_at allows m c h (Help help) s v run t w = (help_made allows help c h s v run t w.0, w.1)
+made_at allows m c h (Help help) s v run t w = (
+  help_made allows help c h s v run t w.0,
+  w.1,
+  filled_more c h (row_of c s h) m.scx.0 m.call m.update (takes_by_step c.layout c.pass m.scx.0 h (row_of c s h) (help_fills_not allows help c h s w.0)) (step_words c.layout h (row_of c s h) m.scx.0 run.lawful (help_fills_not allows help c h s w.0)) w.2,
+)
 made_at allows m c h AtPlan s v run t w = made_by allows m c h AtPlan s run w
 made_at allows m c h AtNew s v run t w = made_by allows m c h AtNew s run w
 made_at allows m c h AtOld s v run t w = made_by allows m c h AtOld s run w
@@ -139,3 +147,21 @@ made_at allows m c h AtCall s v run t w = made_by allows m c h AtCall s run w
 
 pub scx_made : (allows : Layout → History → ℕ → Type 0) (m : ScxRun) (c : Call) (h : History) (s : Step) (v : ℕ) → IsRun allows c.layout (row_of c s h ⊳ h) → IsTold s.deed (value h s.word) v → scx_waits allows m c h s → scx_ready allows m c (row_of c s h ⊳ h) (Some v)
 scx_made allows m c h s v run t w = made_at allows m c h m.at s v run t w
+
+-- its rows leave the value of every node
+
+fill_value : (allows : Layout → History → ℕ → Type 0) (m : ScxRun) (c : Call) (h : History) (at : ScxAt) (s : Step) (n : ℕ) → FillWaits allows c h m at s → value (row_of c s h ⊳ h) (node n Value) ≡ value h (node n Value)
+fill_value allows m c h at s n w = rw w.asked (value_apart (row_of c (fill_step m (part_at at)) h) h (scx m.scx.0 (part_at at)) (node n Value) refl refl)
+
+value_at_place : (allows : Layout → History → ℕ → Type 0) (m : ScxRun) (c : Call) (h : History) (at : ScxAt) (s : Step) (n : ℕ) → Lawful c.layout (row_of c s h ⊳ h) → scx_waits_at allows c h m at s → value (row_of c s h ⊳ h) (node n Value) ≡ value h (node n Value)
+value_at_place allows m c h Start s n l w = absurd w
+value_at_place allows m c h (Help help) s n l w = step_value c.layout h (row_of c s h) n l (help_fills_not allows help c h s w.0)
+value_at_place allows m c h AtPlan s n l w = fill_value allows m c h AtPlan s n w
+value_at_place allows m c h AtNew s n l w = fill_value allows m c h AtNew s n w
+value_at_place allows m c h AtOld s n l w = fill_value allows m c h AtOld s n w
+value_at_place allows m c h (AtMember j) s n l w = fill_value allows m c h (AtMember j) s n w
+value_at_place allows m c h (AtSeen j) s n l w = fill_value allows m c h (AtSeen j) s n w
+value_at_place allows m c h AtCall s n l w = fill_value allows m c h AtCall s n w
+
+pub scx_value : (allows : Layout → History → ℕ → Type 0) (m : ScxRun) (c : Call) (h : History) (s : Step) (n : ℕ) → Lawful c.layout (row_of c s h ⊳ h) → scx_waits allows m c h s → value (row_of c s h ⊳ h) (node n Value) ≡ value h (node n Value)
+scx_value allows m c h s n l w = value_at_place allows m c h m.at s n l w

@@ -1,5 +1,5 @@
 -- What a run of SCX knows and waits for after each of its turns.
-use Rattle.std.proofs.Common.{◌≡◌, ℕ, suc, ◌<◌, ◌≤◌, ◌%◌, Bool, true, Option, Some, None, ◌⊎◌, inl, inr, refl, sym, ◌∙◌, ap, arith, length, subst}
+use Rattle.std.proofs.Common.{◌≡◌, ℕ, suc, ◌<◌, ◌≤◌, ◌%◌, Bool, true, false, Option, Some, None, ◌⊎◌, inl, inr, refl, sym, ◌∙◌, ap, arith, length, subst}
 use Rattle.arena.specs.declared.layout.Layout.{Layout}
 use Rattle.arena.specs.declared.number.MemberNo.{MemberNo}
 use Rattle.arena.specs.declared.number.MemberNo.TheVariants.{First}
@@ -17,17 +17,21 @@ use Rattle.arena.specs.Machines.{IsRun, Call}
 use Rattle.arena.proofs.Plans.{plan_counted}
 use Rattle.histories.proofs.Facts.{Descriptor, descriptor}
 use Rattle.histories.proofs.Begins.{Begins}
-use Rattle.histories.proofs.Helping.{committed_won}
+use Rattle.histories.proofs.Helping.{committed_won, aborted_no_entry}
 use Rattle.arena.specs.Lawful.{Lawful}
-use Rattle.help.specs.HelpKnown.{help_answers}
+use Rattle.arena.proofs.Values.{ends_self}
+use Rattle.help.specs.HelpKnown.{IsBlocked, HasNoted, node_at, blocked_at, help_answers}
 use Rattle.prims.specs.LlxTurns.{committed_state}
 use Rattle.help.specs.declared.state.HelpRun.{HelpRun}
-use Rattle.help.specs.declared.state.HelpAt.TheVariants.{Start as HelpStart}
+use Rattle.help.specs.declared.state.HelpAt.{HelpAt}
+use Rattle.help.specs.declared.state.HelpAt.TheVariants.{Start as HelpStart, Abort as AtAbort}
 use Rattle.help.specs.Plan.{count as planned}
 use Rattle.help.specs.Allowed.{IsPrepared}
 use Rattle.prims.specs.Linked.{in_field_named}
 use Rattle.prims.specs.VlxKnown.{snap_at}
-use Rattle.prims.specs.ScxKnown.{IsUpdateOver, IsDone, Helps, scx_ready, scx_told_at, Says, wanted, InHand, part_at, IsFilled, IsFilledThen, Holds, IsWithin, FillWaits, FillMade, FillsAt, FillsNext, FillsLast, scx_turn, scx_waits_at}
+use Rattle.prims.specs.Entered.{filled_entry}
+use Rattle.prims.specs.Blamed.{blamed_then}
+use Rattle.prims.specs.ScxKnown.{IsUpdateOver, IsUnderWay, HasFilled, IsDone, IsLost, Helps, scx_ready, scx_told_at, Says, wanted, InHand, part_at, IsFilled, IsFilledThen, Holds, IsWithin, FillWaits, FillMade, FillsAt, FillsNext, FillsLast, scx_turn, scx_waits_at}
 use Rattle.prims.specs.declared.scx.ScxRun.{ScxRun}
 use Rattle.prims.specs.declared.scx.Scx.{Scx}
 use Rattle.prims.specs.declared.scx.ScxAt.{ScxAt}
@@ -61,9 +65,9 @@ module _ (allows : Layout → History → ℕ → Type 0) (c : Call) (h : Histor
   step_of part v = record { kind = Fill; word = scx m.scx.0 part; deed = Store v }
 
   -- the next word is filled
-  pub turn_fill : (at : ScxAt) (now : ScxRun) (turn : Turn Scx) → InHand allows c.layout c.pass h m → IsWithin (length m.update.snaps.items) at → Holds h m (IsFilled (length m.update.snaps.items) at)
+  pub turn_fill : (at : ScxAt) (now : ScxRun) (turn : Turn Scx) → InHand allows c.layout c.pass h m → IsUnderWay c h m.scx.0 m.update.snaps.items → IsWithin (length m.update.snaps.items) at → Holds h m (IsFilled (length m.update.snaps.items) at)
       → ((s : _) → FillWaits allows c h (record m { at = at }) at s → scx_waits_at allows c h (record m { at = at }) at s) → FillsAt m now turn at → scx_turn allows c h now turn
-  turn_fill at now turn x i f w a = rw (a.asked, a.stands) (w _ record { fills = record { hand = hand_of at x; within = i; filled = λ part p. f part p ∙ word_of at part }; asked = ap (λ (v : ℕ). step_of (part_at at) v) (word_of at (part_at at)) })
+  turn_fill at now turn x y i f w a = rw (a.asked, a.stands) (w _ record { fills = record { hand = hand_of at x; way = y; within = i; filled = λ part p. f part p ∙ word_of at part }; asked = ap (λ (v : ℕ). step_of (part_at at) v) (word_of at (part_at at)) })
 
   fewer : IsUpdateOver m.update → (j : ℕ) → j < count_of m.update.plan.0 → j < length m.update.snaps.items
   fewer u j i = rw u.count at i
@@ -83,7 +87,7 @@ module _ (allows : Layout → History → ℕ → Type 0) (c : Call) (h : Histor
       go (inl p) = rw e (not_less (suc (index_of j)) (m.update.plan.0 % 8) (λ q. d (p, q)))
 
   pub turn_member : (j : MemberNo) (now : ScxRun) (turn : Turn Scx) → FillMade allows c h m (AtMember j) → FillsNext m now turn j (λ k. AtMember k) ⊎ FillsLast m now turn j (AtSeen First) → scx_turn allows c h now turn
-  turn_member j now turn x (inl a) = turn_fill (AtMember a.next) now turn x.hand (next_within x.hand.update a.next a.within) (λ part p. x.filled part (filled part p)) (λ s y. y) a.fills
+  turn_member j now turn x (inl a) = turn_fill (AtMember a.next) now turn x.hand x.way (next_within x.hand.update a.next a.within) (λ part p. x.filled part (filled part p)) (λ s y. y) a.fills
     where
       filled : (part : ScxWord) → IsFilled (length m.update.snaps.items) (AtMember a.next) part → IsFilledThen (length m.update.snaps.items) (AtMember j) part
       filled Plan p = tt
@@ -91,7 +95,7 @@ module _ (allows : Layout → History → ℕ → Type 0) (c : Call) (h : Histor
       filled Old p = tt
       filled (Member i) p = let e = a.is in omega arith
       filled _ p = absurd p
-  turn_member j now turn x (inr a) = turn_fill (AtSeen First) now turn x.hand (fewer x.hand.update 0 x.hand.update.planned.some) (λ part p. x.filled part (filled part p)) (λ s y. y) a.fills
+  turn_member j now turn x (inr a) = turn_fill (AtSeen First) now turn x.hand x.way (fewer x.hand.update 0 x.hand.update.planned.some) (λ part p. x.filled part (filled part p)) (λ s y. y) a.fills
     where
       filled : (part : ScxWord) → IsFilled (length m.update.snaps.items) (AtSeen First) part → IsFilledThen (length m.update.snaps.items) (AtMember j) part
       filled Plan p = tt
@@ -102,7 +106,7 @@ module _ (allows : Layout → History → ℕ → Type 0) (c : Call) (h : Histor
       filled _ p = absurd p
 
   pub turn_seen : (j : MemberNo) (now : ScxRun) (turn : Turn Scx) → FillMade allows c h m (AtSeen j) → FillsNext m now turn j (λ k. AtSeen k) ⊎ FillsLast m now turn j AtCall → scx_turn allows c h now turn
-  turn_seen j now turn x (inl a) = turn_fill (AtSeen a.next) now turn x.hand (next_within x.hand.update a.next a.within) (λ part p. x.filled part (filled part p)) (λ s y. y) a.fills
+  turn_seen j now turn x (inl a) = turn_fill (AtSeen a.next) now turn x.hand x.way (next_within x.hand.update a.next a.within) (λ part p. x.filled part (filled part p)) (λ s y. y) a.fills
     where
       filled : (part : ScxWord) → IsFilled (length m.update.snaps.items) (AtSeen a.next) part → IsFilledThen (length m.update.snaps.items) (AtSeen j) part
       filled Plan p = tt
@@ -111,7 +115,7 @@ module _ (allows : Layout → History → ℕ → Type 0) (c : Call) (h : Histor
       filled (Member i) p = p
       filled (Seen i) p = let e = a.is in omega arith
       filled _ p = absurd p
-  turn_seen j now turn x (inr a) = turn_fill AtCall now turn x.hand tt (λ part p. x.filled part (filled part p)) (λ s y. y) a.fills
+  turn_seen j now turn x (inr a) = turn_fill AtCall now turn x.hand x.way tt (λ part p. x.filled part (filled part p)) (λ s y. y) a.fills
     where
       filled : (part : ScxWord) → IsFilled (length m.update.snaps.items) AtCall part → IsFilledThen (length m.update.snaps.items) (AtSeen j) part
       filled Plan p = tt
@@ -167,15 +171,57 @@ module _ (allows : Layout → History → ℕ → Type 0) (c : Call) (h : Histor
         new_in_no_other = rw en x.hand.in_no_other;
       }
 
+  -- and its words hold what the update wants
+  filled : FillMade allows c h m AtCall → HasFilled c h m.scx.0 m.call m.update
+  filled x = record {
+    own = x.hand.is_open.own;
+    way = x.way;
+    over = x.hand.update;
+    planned = x.filled Plan tt;
+    fresh = x.filled New tt;
+    members = λ j i. x.filled (Member j) i;
+    found = λ j i. x.filled (Seen j) i;
+    called = x.filled CallWord tt;
+  }
+
   pub begin_help : (help : HelpRun) → IsRun allows c.layout h → FillMade allows c h m AtCall → help.scx ≡ m.scx → help.at ≡ HelpStart → Helps allows c h m help None
-  begin_help help run x e z = record { run = run; ready = (z, inr (rw e (prepared x))); same = e }
+  begin_help help run x e z = record { run = run; ready = (z, inr (rw e (prepared x))); same = e; filled = filled x }
 
 -- where it has been told something, its words are filled
 pub made_then : (allows : Layout → History → ℕ → Type 0) (m : ScxRun) (c : Call) (h : History) (got : Option ℕ) (at : ScxAt) → m.at ≡ at → (at ≡ Start → ⊥) → ((v : ℕ) → scx_told_at allows c h m at v → FillMade allows c h m at) → scx_ready allows m c h got → FillMade allows c h m at
 made_then allows m c h None at is d f r = absurd (d (sym is ∙ r.0))
 made_then allows m c h (Some v) at is d f r = f v (subst (λ a. scx_told_at allows c h m a v) is r)
 
-pub done_at : (c : Call) (h : History) (m : ScxRun) (now help : HelpRun) (b : Bool) → Lawful c.layout h → help_answers now c h b → b ≡ true → now.scx ≡ help.scx → help.scx ≡ m.scx → IsDone h m.scx.0
-done_at c h m now help b l a t e f =
-    let s : value h (state m.scx.0) ≡ 1 = rw f at (committed_state c h b now help a e t) in
-    record { committed = s; won = committed_won c.layout h m.scx.0 l s }
+-- HELP has answered
+
+module _ (c : Call) (h : History) (m : ScxRun) (help : HelpRun) (l : Lawful c.layout h) (x : HasFilled c h m.scx.0 m.call m.update) (same : help.scx ≡ m.scx) where
+  -- it is committed
+  pub done_at : (b : Bool) (now : HelpRun) → help_answers now c h b → b ≡ true → now.scx ≡ help.scx → IsDone c h m
+  done_at b now a t e =
+      let s : value h (state m.scx.0) ≡ 1 = rw same at (committed_state c h b now help a e t) in
+      let w = committed_won c.layout h m.scx.0 l s in
+      record { committed = s; won = w; entry = filled_entry c h m l x w }
+
+  -- a node could not be frozen
+  lost_by : (n v : ℕ) → value h (state m.scx.0) ≡ 2 → IsBlocked h m.scx.0 n v → IsLost c h m n v
+  lost_by n v a b = record {
+    aborted = a;
+    no_entry = aborted_no_entry c.layout h h m.scx.0 l (ends_self h) a;
+    blocked = b;
+    index = b.index;
+    within = within;
+    node = sym (x.members b.index within) ∙ b.is;
+    blamed = blamed_then c h m.scx.0 m.update.snaps.items l x.way.begun b.index within x.way.free b.moment v b.not_own b.since (let i = b.covered in omega arith) (rw (sym b.is ∙ x.members b.index within) at b.held) (λ e. b.other (sym e ∙ sym (x.found b.index within)));
+  }
+    where
+      within : b.index < length m.update.snaps.items
+      within = rw (ap count_of x.planned ∙ x.over.count) at b.within
+
+  -- HELP stands where it has aborted
+  lost_with : (now : HelpRun) (at : HelpAt) → now.scx ≡ help.scx → value h (state now.scx.0) ≡ 2 → HasNoted h now at → IsLost c h m (blocked_at now.members at).0.0 (blocked_at now.members at).1.0
+  lost_with now (AtAbort j found) e a k = lost_by (node_at now.members (index_of j)) found (rw (e, same) at a) (rw (e, same) at k)
+  lost_with now _ e a k = absurd k
+
+  pub lost_at : (b : Bool) (now : HelpRun) → help_answers now c h b → b ≡ false → now.scx ≡ help.scx → IsLost c h m (blocked_at now.members now.at).0.0 (blocked_at now.members now.at).1.0
+  lost_at true now a t e = cc
+  lost_at false now a t e = lost_with now now.at e a.aborted a.blocked

@@ -9,6 +9,7 @@ use Rattle.arena.specs.Words.{info}
 use Rattle.arena.specs.History.{History, value, EndsWith}
 use Rattle.arena.specs.Machines.{Call}
 use Rattle.prims.specs.Linked.{IsLinked}
+use Rattle.prims.specs.Moments.{IsAsFound, IsLeftAlone, AreOver, HasTakenOnly, IsBlamed}
 use Rattle.prims.specs.LlxKnown.{load}
 use Rattle.prims.specs.declared.snap.Snap.{Snap}
 use Rattle.prims.specs.declared.vlx.Vlx.{Vlx}
@@ -22,44 +23,71 @@ snap_at snaps i = get_or snaps i record { node = record { 0 = 0 }; scx = record 
 abbrev pub AllLinked : Layout → History → List Snap → Type 0
 AllLinked lay h snaps = (i : ℕ) → i < length snaps → IsLinked lay h (snap_at snaps i)
 
--- at a moment since which all snapshots are usable, the first k were what the infos named
-pub record HasLooked (lay : Layout) (h : History) (snaps : List Snap) (k : ℕ) : Type 0 where
-  pub moment : History
-  pub within : EndsWith h moment
-  pub linked : AllLinked lay moment snaps
-  pub same : (i : ℕ) → i < k → value moment (info (snap_at snaps i).node.0) ≡ (snap_at snaps i).scx.0
+-- what a pass knows as a call over snapshots begins: each SCX-record that it has taken is finished, and none was over a node since its snapshot
+pub record IsClear (lay : Layout) (c : ℕ) (h : History) (snaps : List Snap) : Type 0 where
+  pub over : AreOver lay c 0 h
+  pub alone : (i : ℕ) → i < length snaps → IsLeftAlone lay c h (snap_at snaps i)
+
+-- a call over snapshots has come so far: since its begin its pass has taken no SCX-record but s
+pub record HasBegun (c : Call) (h : History) (s : ℕ) (snaps : List Snap) : Type 0 where
+  pub since : EndsWith h c.start
+  pub clear : IsClear c.layout c.pass c.start snaps
+  pub only : HasTakenOnly c.layout c.pass s c.start h
+
+-- as the call began, all snapshots were usable, and the first k were what the infos named
+pub record HasLooked (c : Call) (h : History) (snaps : List Snap) (k : ℕ) : Type 0 where
+  pub begun : HasBegun c h 0 snaps
+  pub linked : AllLinked c.layout c.start snaps
+  pub same : (i : ℕ) → i < k → value c.start (info (snap_at snaps i).node.0) ≡ (snap_at snaps i).scx.0
 
 -- the run has asked for the info of its k-th snapshot
-pub record Looks (lay : Layout) (h : History) (m : VlxRun) (k : ℕ) : Type 0 where
-  pub looked : HasLooked lay h m.snaps.items k
+pub record Looks (c : Call) (h : History) (m : VlxRun) (k : ℕ) : Type 0 where
+  pub looked : HasLooked c h m.snaps.items k
   pub within : k < length m.snaps.items
   pub is : m.asked ≡ suc k
 
 pub record vlx_waits (m : VlxRun) (c : Call) (h : History) (step : Step) : Type 0 where
   pub index : ℕ
-  pub looks : Looks c.layout h m index
+  pub looks : Looks c h m index
   pub asked : step ≡ load LoadInfo (info (snap_at m.snaps.items index).node.0)
 
 pub record vlx_told (m : VlxRun) (c : Call) (h : History) (v : ℕ) : Type 0 where
   pub index : ℕ
-  pub looks : Looks c.layout h m index
+  pub looks : Looks c h m index
   pub told : value h (info (snap_at m.snaps.items index).node.0) ≡ v
 
+-- it begins at this moment, over usable snapshots
+pub record IsFirstLook (m : VlxRun) (c : Call) (h : History) : Type 0 where
+  pub asked : m.asked ≡ 0
+  pub some : 0 < length m.snaps.items
+  pub linked : AllLinked c.layout h m.snaps.items
+  pub begins : h ≡ c.start
+  pub clear : IsClear c.layout c.pass h m.snaps.items
+
 abbrev pub vlx_ready : VlxRun → Call → History → Option ℕ → Type 0
-vlx_ready m c h None = (m.asked ≡ 0) × (0 < length m.snaps.items) × AllLinked c.layout h m.snaps.items
+vlx_ready m c h None = IsFirstLook m c h
 vlx_ready m c h (Some v) = vlx_told m c h v
 
--- this node's info names something else
-pub record HasChanged (h : History) (snaps : List Snap) (n v : ℕ) : Type 0 where
+-- as the call began, all snapshots were usable, and each node was as its snapshot found it
+pub record IsSame (c : Call) (h : History) (snaps : List Snap) : Type 0 where
+  pub since : EndsWith h c.start
+  pub linked : AllLinked c.layout c.start snaps
+  pub info : (i : ℕ) → i < length snaps → value c.start (info (snap_at snaps i).node.0) ≡ (snap_at snaps i).scx.0
+  pub found : (i : ℕ) → i < length snaps → IsAsFound c.layout h c.start (snap_at snaps i)
+
+-- this node's info names something else, of another pass, that was in the way since its snapshot; those before it were as their snapshots found them, as the call began
+pub record HasChanged (c : Call) (h : History) (snaps : List Snap) (n v : ℕ) : Type 0 where
   pub index : ℕ
   pub within : index < length snaps
   pub node : (snap_at snaps index).node.0 ≡ n
   pub info : value h (info n) ≡ v
   pub other : (snap_at snaps index).scx.0 ≢ v
+  pub blamed : IsBlamed c h (snap_at snaps index) v
+  pub before : (i : ℕ) → i < index → IsAsFound c.layout h c.start (snap_at snaps i)
 
 abbrev pub vlx_answers : VlxRun → Call → History → Vlx → Type 0
-vlx_answers m c h Same = HasLooked c.layout h m.snaps.items (length m.snaps.items)
-vlx_answers m c h (Changed node s) = HasChanged h m.snaps.items node.0 s.0
+vlx_answers m c h Same = IsSame c h m.snaps.items
+vlx_answers m c h (Changed node s) = HasChanged c h m.snaps.items node.0 s.0
 
 -- it asks for the next info, or ends behind the last
 pub record AsksNext (old now : VlxRun) (turn : Turn Vlx) : Type 0 where

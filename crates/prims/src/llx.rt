@@ -79,10 +79,9 @@ pub struct LlxRun {
 
 impl LlxRun {
     ghost use Rattle.std.specs.Prelude.{◌≡◌, ◌+◌, ◌<◌, ◌≤◌, ◌⊎◌};
-    ghost use Rattle.arena.specs.Words.{info};
-    ghost use Rattle.arena.specs.History.{History, HasHeld};
+    ghost use Rattle.arena.specs.History.{History};
     ghost use Rattle.arena.specs.Machines.{MatchTurn, Call};
-    ghost use Rattle.prims.specs.LlxKnown.{HasMet, Helps, Meets, Asks, Reads, LooksAgain, Snaps, Finalizes, llx_turn};
+    ghost use Rattle.prims.specs.LlxKnown.{HasStopped, IsToBlame, Helps, Meets, Asks, Reads, Declines, Differs, Snaps, Finalizes, LooksLast, llx_turn};
     ghost use Rattle.help.specs.HelpSteps.{help_left};
     ghost use Rattle.prims.specs.LlxSteps.{llx_left};
 
@@ -150,7 +149,7 @@ impl LlxRun {
 
     /// Reads the fields if the SCX-record that the info names left the node in place.
     fn read_fields(&mut self, marked: bool, scx: ScxNo, state: u64, marked_again: bool) -> Turn<Llx>
-        ensures turn { Reads self.old self.new result marked scx state marked_again ⊎ LooksAgain self.old self.new result marked scx }
+        ensures turn { Reads self.old self.new result marked scx state marked_again ⊎ Declines self.old self.new result marked scx state marked_again }
     {
         if state == ABORTED || state == COMMITTED && !marked_again {
             self.load_child(LlxAt::Left { marked, scx }, Side::Left)
@@ -181,7 +180,7 @@ impl LlxRun {
         right: u64,
         info: u64,
     ) -> Turn<Llx>
-        ensures turn { Snaps self.new self.old result record { node = self.old.node; scx = scx; left = record { 0 = left }; right = record { 0 = right } } info ⊎ LooksAgain self.old self.new result marked scx }
+        ensures turn { Snaps self.new self.old result record { node = self.old.node; scx = scx; left = record { 0 = left }; right = record { 0 = right } } info ⊎ Differs self.old self.new result marked scx info }
     {
         if info == scx.0 {
             Turn::Done(Llx::Snapshot(Snap {
@@ -210,7 +209,7 @@ impl LlxRun {
 
     fn help_on<S: Shape>(&mut self, marked: bool, mut help: HelpRun, got: Option<u64>) -> Turn<Llx>
         ensures node { self.new.node ≡ self.old.node }
-        ensures turn { (c : Call) (h : History) → Helps S.allows c h self.old.node.0 help got → HasMet h self.old.node.0 marked help.scx.0 → llx_turn S.allows c h self.new result }
+        ensures turn { (c : Call) (h : History) → Helps S.allows c h self.old.node.0 help got → HasStopped c h self.old.node.0 marked help.scx.0 → llx_turn S.allows c h self.new result }
         ensures nearer { MatchTurn result (λ _. llx_left self.new.at < 24 + help_left help.at) (λ _. Unit {0}) }
     {
         let scx = help.scx;
@@ -225,7 +224,7 @@ impl LlxRun {
 
     /// Ends if the SCX-record that was met has finalized the node, else looks at the info once more.
     fn helped(&mut self, finalized: bool, scx: ScxNo) -> Turn<Llx>
-        ensures turn { Finalizes self.new self.old result finalized scx ⊎ Asks self.old self.new result LlxAt.LastInfo record { kind = Kind.LoadInfo; word = Word.Node self.old.node NodeWord.Info; deed = Deed.Load } }
+        ensures turn { Finalizes self.new self.old result finalized scx ⊎ LooksLast self.old self.new result finalized }
     {
         if finalized {
             let node = self.node;
@@ -238,7 +237,7 @@ impl LlxRun {
     /// Helps the SCX-record that stands in the info now, and fails.
     fn help_last<S: Shape>(&mut self, scx: ScxNo, mut help: HelpRun, got: Option<u64>) -> Turn<Llx>
         ensures node { self.new.node ≡ self.old.node }
-        ensures turn { (c : Call) (h : History) → Helps S.allows c h self.old.node.0 help got → HasHeld h (info self.old.node.0) scx.0 → llx_turn S.allows c h self.new result }
+        ensures turn { (c : Call) (h : History) → Helps S.allows c h self.old.node.0 help got → IsToBlame c h self.old.node.0 scx.0 → help.scx ≡ scx → llx_turn S.allows c h self.new result }
         ensures nearer { MatchTurn result (λ _. llx_left self.new.at < help_left help.at) (λ _. Unit {0}) }
     {
         match Machine::<S>::next(&mut help, got) {

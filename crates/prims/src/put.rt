@@ -55,7 +55,7 @@ impl<S: Shape> Machine<S> for PutRun {
 
     ghost answers = { put_answers };
 
-    ghost same = { λ old now. (now.scx.scx ≡ old.scx.scx) × (now.scx.update ≡ old.scx.update) };
+    ghost same = { λ old now. (now.scx.scx ≡ old.scx.scx) × (now.scx.update ≡ old.scx.update) × (now.scx.call ≡ old.scx.call) × (now.value ≡ old.value) };
 
     ghost left = { put_left };
 

@@ -11,7 +11,7 @@ use help::HelpRun;
 pub enum Scx {
     /// The field holds the fresh node from one moment of the call on.
     Done,
-    /// This node had changed: its info named this SCX-record.
+    /// This node had changed: its info named this SCX-record of another pass.
     Lost { node: NodeNo, scx: ScxNo },
 }
 
@@ -107,7 +107,7 @@ impl ScxRun {
 
     fn after_member(&mut self, j: MemberNo) -> Turn<Scx>
         ensures turn { FillsNext self.old self.new result j (λ k. ScxAt.Member k) ⊎ FillsLast self.old self.new result j (ScxAt.Seen MemberNo.First) }
-        ensures same { (self.new.scx ≡ self.old.scx) × (self.new.update ≡ self.old.update) }
+        ensures same { (self.new.scx ≡ self.old.scx) × (self.new.update ≡ self.old.update) × (self.new.call ≡ self.old.call) }
         ensures nearer { scx_left self.new.at < scx_left (ScxAt.Member j) }
     {
         match self.update.plan.member_behind(j) {
@@ -118,7 +118,7 @@ impl ScxRun {
 
     fn after_seen(&mut self, j: MemberNo) -> Turn<Scx>
         ensures turn { FillsNext self.old self.new result j (λ k. ScxAt.Seen k) ⊎ FillsLast self.old self.new result j ScxAt.Call }
-        ensures same { (self.new.scx ≡ self.old.scx) × (self.new.update ≡ self.old.update) }
+        ensures same { (self.new.scx ≡ self.old.scx) × (self.new.update ≡ self.old.update) × (self.new.call ≡ self.old.call) }
         ensures nearer { scx_left self.new.at < scx_left (ScxAt.Seen j) }
     {
         match self.update.plan.member_behind(j) {
@@ -132,7 +132,7 @@ impl ScxRun {
 
     fn help_on<S: Shape>(&mut self, mut help: HelpRun, got: Option<u64>) -> Turn<Scx>
         ensures turn { (c : Call) (h : History) → Helps S.allows c h self.old help got → scx_turn S.allows c h self.new result }
-        ensures same { (self.new.scx ≡ self.old.scx) × (self.new.update ≡ self.old.update) }
+        ensures same { (self.new.scx ≡ self.old.scx) × (self.new.update ≡ self.old.update) × (self.new.call ≡ self.old.call) }
         ensures nearer { MatchTurn result (λ _. scx_left self.new.at < help_left help.at) (λ _. Unit {0}) }
     {
         match Machine::<S>::next(&mut help, got) {
@@ -164,7 +164,7 @@ impl<S: Shape> Machine<S> for ScxRun {
 
     ghost answers = { scx_answers };
 
-    ghost same = { λ old now. (now.scx ≡ old.scx) × (now.update ≡ old.update) };
+    ghost same = { λ old now. (now.scx ≡ old.scx) × (now.update ≡ old.update) × (now.call ≡ old.call) };
 
     ghost left = { λ m. scx_left m.at };
 

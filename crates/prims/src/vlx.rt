@@ -9,9 +9,9 @@ use arrayvec::ArrayVec;
 /// What a VLX answers.
 #[derive(Clone, Copy, Debug, PartialEq, Eq)]
 pub enum Vlx {
-    /// Every node was as its snapshot says at one moment of the call.
+    /// Every node was as its snapshot says as the call began.
     Same,
-    /// This node has changed: its info names this SCX-record.
+    /// This node has changed: its info names this SCX-record of another pass.
     Changed { node: NodeNo, scx: ScxNo },
 }
 

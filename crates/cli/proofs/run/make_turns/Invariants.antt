@@ -1,5 +1,13 @@
-use Rattle.player.specs.Played.{IsPlayed, IsSameScript}
+use Rattle.std.proofs.Common.{◌≡◌, ◌+◌}
+use Rattle.script.specs.declared.schedule.Order.TheVariants.{Step}
+use Rattle.player.specs.Turns.{turns}
+use Rattle.player.specs.Player.{calls_of, lines_of}
+use Rattle.player.specs.TurnsMore.{AreTurnsWhile}
+use Rattle.player.specs.Schedules.{AsksForMore}
 use Rattle.cli.proofs.run.make_turns.Given as goal
 
 abbrev pub invariant-loop : goal.invariant-loop
-invariant-loop l = record { played : IsPlayed l.player; script : IsSameScript l.fn.player.script l.player.script }
+invariant-loop l = record {
+  asked : AreTurnsWhile (AsksForMore (calls_of l.fn.player) (Step l.client l.turns) (lines_of l.fn.player)) l.client.0 l.fn.player l.player;
+  made : turns (lines_of l.player) ≡ turns (lines_of l.fn.player) + l.counter;
+}

@@ -9,6 +9,7 @@ use Rattle.player.proofs.player.play.Goals as goal
 pub loop-turn-preserved : goal.loop-turn-preserved
 loop-turn-preserved c = record {
   played = c.in_ok-step.ensures.turn.played;
+  limits = c.in_ok-step.ensures.turn.script.limits ∙ c.loop-turn.invariant.limits;
   layout = c.in_ok-step.ensures.turn.script.layout ∙ c.loop-turn.invariant.layout;
   calls = c.in_ok-step.ensures.turn.script.calls ∙ c.loop-turn.invariant.calls;
   turns = rw (c.in_ok-step.ensures.turn.turns, c.loop-turn.invariant.turns, reverse_map_more (λ (p : PassNo). p.0) c.args.turns.now c.loop-turn.turn-index (record { 0 = 0 }) c.loop-turn-test.true);

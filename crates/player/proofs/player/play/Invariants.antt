@@ -7,6 +7,7 @@ use Rattle.player.proofs.player.play.Given as goal
 abbrev pub invariant-loop-turn : goal.invariant-loop-turn
 invariant-loop-turn l = record {
   played : IsPlayed l.player;
+  limits : l.player.script.limits ≡ l.script.limits;
   layout : l.player.script.layout ≡ l.script.layout;
   calls : l.player.script.calls.items ≡ l.script.calls.items;
   turns : clients (newest l.player.lines) ≡ reverse (map (λ p. p.0) (take l.turn-index l.turns));

@@ -1,4 +1,5 @@
-use Rattle.player.proofs.Clients.{after_run, ends_other}
+use Rattle.player.proofs.Clients.{after_run}
+use Rattle.player.proofs.Ends.{ends_other}
 use Rattle.player.proofs.client.Client.after.Goals as goal
 
 pub returns-in-Llx : goal.returns-in-Llx

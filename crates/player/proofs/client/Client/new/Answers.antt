@@ -1,5 +1,7 @@
-use Rattle.std.proofs.Common.{refl}
-use Rattle.arena.specs.History.{Start}
+use Rattle.std.proofs.Common.{refl, inr}
+use Rattle.player.proofs.Over.{none_taken}
+use Rattle.player.proofs.Begins.{nothing_kept}
+use Rattle.player.proofs.Ends.{among_none}
 use Rattle.player.proofs.Views.{whole_untouched}
 use Rattle.player.proofs.client.Client.new.Goals as goal
 
@@ -9,8 +11,11 @@ returns-clause-rests c = record {
     is_pass = c.requires;
     number = refl;
     place = c.next_call.ensures;
-    kept = c.new.ensures c.args.layout.now (Start c.args.layout.now.mode);
+    kept = λ n found e. nothing_kept (c.new.ensures n) e;
+    unkept = λ n i e. inr refl;
+    dropped = λ n x. absurd (among_none n x);
     share = rw c.of.ensures.whole (whole_untouched c.args.layout.now c.args.pass.0);
+    over = λ s own d t. absurd (none_taken c.args.layout.now.mode s t);
   };
   none = refl;
 }

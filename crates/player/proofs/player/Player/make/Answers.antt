@@ -1,4 +1,4 @@
-use Rattle.std.proofs.Common.{◌≡◌, ℕ, List, ◌∷◌, ◌++◌, set, Some, slice_get, refl, sym, ◌∙◌, ap, subst}
+use Rattle.std.proofs.Common.{arith, ◌≡◌, ℕ, List, ◌∷◌, ◌++◌, set, Some, slice_get, refl, sym, ◌∙◌, ap, subst}
 use Rattle.player.specs.declared.record.Line.{Line}
 use Rattle.player.specs.declared.record.Line.TheVariants.{Reply}
 use Rattle.player.specs.Lines.{newest}
@@ -7,10 +7,10 @@ use Rattle.player.specs.View.{view}
 use Rattle.player.specs.Played.{IsEnd}
 use Rattle.script.specs.declared.command.Call.{Call}
 use Rattle.arena.specs.declared.number.PassNo.{PassNo}
-use Rattle.player.proofs.Middles.{get_own}
+use Rattle.player.proofs.Middles.{get_own, wins_step, wins_reply}
 use Rattle.std.proofs.lemmas.Option.{get_or_from_slice_get}
 use Rattle.player.specs.declared.client.Client.{Client}
-use Rattle.player.proofs.Steps.{asked_word, asked_row, asked_changed, asked_so_far, asked_hears, heard_on, heard_end, told_goes, told_ends, between_at, turns_logged, logged, few_calls}
+use Rattle.player.proofs.Steps.{asked_word, asked_row, asked_changed, asked_so_far, asked_hears, heard_on, heard_end, told_goes, told_ends, between_at, wins_at, remembered, turns_logged, logged, few_calls}
 use Rattle.player.proofs.player.Player.make.Goals as goal
 
 pub apply-before-requires : goal.apply-before-requires
@@ -49,12 +49,16 @@ returns-in-Some c =
     let answer = c.in-Some.answer in
     let ends = told_ends v c.index_mut.result.now a.client new a.running c.apply-before.result answer seen heard.turn.so_far.sound heard.runs heard.told c.in-Some.ensures in
     let r = c.reply.ensures.replied new (get_own c.log.new.self.clients.items i a.client new (ap (λ (l : List Client). slice_get l i) c.log.ensures.same.clients ∙ there)) (ap (λ (k : PassNo). k.0) ends.same.pass ∙ a.is) in
-    let end : IsEnd p.script.calls.items new r.client c.args.number answer r.reply = subst (λ (k : List Call). IsEnd k new r.client c.args.number answer r.reply) c.log.ensures.same.script.calls r.end in
-    let between = heard_end p.script.layout p.script.calls.items c.apply-before.new.self p.clients.items (newest c.log.new.self.lines) a.client new r.client a.running c.apply-before.result c.args.number answer r.reply (few_calls p) heard ends end in
+    let end : IsEnd p.script.calls.items new r.client c.args.number answer r.won r.reply = subst (λ (k : List Call). IsEnd k new r.client c.args.number answer r.won r.reply) c.log.ensures.same.script.calls r.end in
+    let wins = wins_step p.script.layout (newest p.lines) _ (newest c.log.new.self.lines) c.args.number p.script.layout.passes _ p.wins.items c.log.new.self.wins.items (omega (arith, p.all_wins, p.wins.ok.0)) c.push_row.ensures.line c.log.ensures.line c.log.ensures.wins a.wins in
+    let between = heard_end p.script.layout p.script.calls.items c.apply-before.new.self p.clients.items (newest c.log.new.self.lines) a.client new r.client a.running c.apply-before.result c.args.number answer r.won r.reply (few_calls p) heard ends (remembered p.script.layout (newest c.log.new.self.lines) c.log.new.self.wins.items new.pass.0 a.client.pass.0 r.won wins r.wins (ap (λ (k : PassNo). k.0) ends.same.pass)) end in
     record {
-      played = between_at _ _ _ _ _ _ _ _ _ _ (c.reply.ensures.same.script.layout ∙ c.log.ensures.same.script.layout) (c.reply.ensures.same.script.calls ∙ c.log.ensures.same.script.calls) (c.reply.ensures.same.words ∙ c.log.ensures.same.words)
-          (r.clients ∙ ap (λ (l : List Client). set (set l i new) new.pass.0 r.client) c.log.ensures.same.clients ∙ ap (λ (k : ℕ). set (set p.clients.items k new) new.pass.0 r.client) (sym a.is) ∙ ap (λ (k : PassNo). set (set p.clients.items a.client.pass.0 new) k.0 r.client) ends.same.pass) r.line between;
-      script = record { layout = c.reply.ensures.same.script.layout ∙ c.log.ensures.same.script.layout; calls = c.reply.ensures.same.script.calls ∙ c.log.ensures.same.script.calls };
+      played = record {
+        between = between_at _ _ _ _ _ _ _ _ _ _ (c.reply.ensures.same.script.layout ∙ c.log.ensures.same.script.layout) (c.reply.ensures.same.script.calls ∙ c.log.ensures.same.script.calls) (c.reply.ensures.same.words ∙ c.log.ensures.same.words)
+            (r.clients ∙ ap (λ (l : List Client). set (set l i new) new.pass.0 r.client) c.log.ensures.same.clients ∙ ap (λ (k : ℕ). set (set p.clients.items k new) new.pass.0 r.client) (sym a.is) ∙ ap (λ (k : PassNo). set (set p.clients.items a.client.pass.0 new) k.0 r.client) ends.same.pass) r.line between;
+        wins = wins_at _ _ _ _ _ _ (c.reply.ensures.same.script.layout ∙ c.log.ensures.same.script.layout) r.line c.reply.ensures.same.wins (wins_reply p.script.layout (newest c.log.new.self.lines) r.reply c.log.new.self.wins.items wins);
+      };
+      script = record { limits = c.reply.ensures.same.script.limits ∙ c.log.ensures.same.script.limits; layout = c.reply.ensures.same.script.layout ∙ c.log.ensures.same.script.layout; calls = c.reply.ensures.same.script.calls ∙ c.log.ensures.same.script.calls };
       behind = Reply r.reply ∷ (logged p.script.layout (newest c.push_row.new.self) (newest c.log.new.self.lines) c.log.ensures.line).0;
       lines = r.line ∙ ap (λ (l : List Line). Reply r.reply ∷ l) ((logged p.script.layout (newest c.push_row.new.self) (newest c.log.new.self.lines) c.log.ensures.line).1 ∙ ap (λ (l : List Line). (logged p.script.layout (newest c.push_row.new.self) (newest c.log.new.self.lines) c.log.ensures.line).0 ++ l) c.push_row.ensures.line);
       turns = ap (λ (l : List Line). clients l) r.line ∙ turns_logged p.script.layout (newest c.push_row.new.self) (newest c.log.new.self.lines) c.log.ensures.line ∙ ap (λ (l : List Line). clients l) c.push_row.ensures.line;
@@ -75,7 +79,10 @@ returns-in_default c =
     let goes = told_goes v c.index_mut.result.now a.client c.tell.new.self a.running c.apply-before.result seen heard.turn.so_far.sound heard.runs heard.told c.in_default.ensures in
     let between = heard_on p.script.layout p.script.calls.items c.apply-before.new.self p.clients.items (newest c.log.new.self.lines) a.client c.tell.new.self a.running c.apply-before.result c.args.number heard goes in
     record {
-      played = between_at _ _ _ _ _ _ _ _ _ _ c.log.ensures.same.script.layout c.log.ensures.same.script.calls c.log.ensures.same.words (ap (λ (l : List Client). set l i c.tell.new.self) c.log.ensures.same.clients ∙ ap (λ (k : ℕ). set p.clients.items k c.tell.new.self) (sym a.is)) refl between;
+      played = record {
+        between = between_at _ _ _ _ _ _ _ _ _ _ c.log.ensures.same.script.layout c.log.ensures.same.script.calls c.log.ensures.same.words (ap (λ (l : List Client). set l i c.tell.new.self) c.log.ensures.same.clients ∙ ap (λ (k : ℕ). set p.clients.items k c.tell.new.self) (sym a.is)) refl between;
+        wins = wins_at _ _ (newest c.log.new.self.lines) (newest c.log.new.self.lines) _ _ c.log.ensures.same.script.layout refl refl (wins_step p.script.layout (newest p.lines) _ (newest c.log.new.self.lines) c.args.number p.script.layout.passes _ p.wins.items c.log.new.self.wins.items (omega (arith, p.all_wins, p.wins.ok.0)) c.push_row.ensures.line c.log.ensures.line c.log.ensures.wins a.wins);
+      };
       script = c.log.ensures.same.script;
       behind = (logged p.script.layout (newest c.push_row.new.self) (newest c.log.new.self.lines) c.log.ensures.line).0;
       lines = (logged p.script.layout (newest c.push_row.new.self) (newest c.log.new.self.lines) c.log.ensures.line).1 ∙ ap (λ (l : List Line). (logged p.script.layout (newest c.push_row.new.self) (newest c.log.new.self.lines) c.log.ensures.line).0 ++ l) c.push_row.ensures.line;

@@ -1,7 +1,16 @@
-use Rattle.player.proofs.Plays.{opening_between}
+use Rattle.std.proofs.Common.{◌≡◌, List, [], sym, subst}
+use Rattle.player.specs.declared.record.Line.{Line}
+use Rattle.player.specs.Lines.{newest}
+use Rattle.player.specs.Played.{IsBetween, AreWins}
+use Rattle.player.proofs.Plays.{opening_between, no_wins}
 use Rattle.player.proofs.player.Player.new.Goals as goal
 
 pub returns-clause-played : goal.returns-clause-played
 returns-clause-played c =
-    rw c.new-2.ensures
-    (opening_between c.in_ok-script.script.layout c.in_ok-script.script.calls.items c.in_ok-words.words c.in_ok-clients.clients.items c.in_ok-words.ensures.layout c.in_ok-words.ensures.opening c.in_ok-clients.ensures.each)
+    let script = c.in_ok-script.script in
+    let none : newest c.new-2.result ≡ [] = c.new-2.ensures in
+    record {
+      between = subst (λ (l : List Line). IsBetween script.layout script.calls.items c.in_ok-words.words c.in_ok-clients.clients.items l) (sym none)
+          (opening_between script.layout script.calls.items c.in_ok-words.words c.in_ok-clients.clients.items c.in_ok-words.ensures.layout c.in_ok-words.ensures.opening c.in_ok-clients.ensures.each);
+      wins = subst (λ (l : List Line). AreWins script.layout l c.in_ok-wins.wins.items) (sym none) (no_wins script.layout c.in_ok-wins.wins.items);
+    }

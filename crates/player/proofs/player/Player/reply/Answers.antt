@@ -1,10 +1,11 @@
-use Rattle.std.proofs.Common.{refl, sym, ◌∙◌, ap}
-use Rattle.std.proofs.lemmas.Option.{get_or_from_slice_get}
+use Rattle.std.proofs.Common.{length, arith, refl, sym, ◌∙◌, ap}
+use Rattle.std.proofs.lemmas.Option.{get_or_from_slice_get, slice_get_read}
 use Rattle.player.specs.declared.client.Client.{Client}
+use Rattle.player.specs.LawfulRun.{moment_of}
 use Rattle.player.proofs.player.Player.reply.Goals as goal
 
 pub returns-clause-same : goal.returns-clause-same
-returns-clause-same c = record { script = record { layout = refl; calls = refl }; words = refl }
+returns-clause-same c = record { script = record { limits = refl; layout = refl; calls = refl }; words = refl; wins = refl }
 
 pub returns-clause-replied : goal.returns-clause-replied
 returns-clause-replied c d there pass =
@@ -12,12 +13,15 @@ returns-clause-replied c d there pass =
     record {
       client = c.end-reply.new.self;
       reply = c.end-reply.result;
+      won = c.index-won.result.now;
+      wins = rw pass (slice_get_read c.args.self.now.wins.items (length c.args.self.now.wins.items) c.args.client.0 c.index-won.result.now refl (omega (arith, c.requires.client, c.args.self.now.all_wins, c.args.self.now.wins.ok.0)) c.index-won.ensures);
       end = record {
         client = c.end-reply.ensures.client ∙ ap (λ (k : Client). k.pass) own;
         call = c.end-reply.ensures.call ∙ ap (λ (k : Client). k.number) own;
         begin = c.end-reply.ensures.begin ∙ ap (λ (k : Client). k.begin) own;
         end = c.end-reply.ensures.end;
         answers = c.end-reply.ensures.answer;
+        moment = c.end-reply.ensures.moment ∙ ap (λ (k : Client). moment_of c.args.answer k.begin c.args.number c.index-won.result.now) own;
         behind = rw (sym own, sym c.deref.ensures.value) c.end-reply.ensures.next;
       };
       clients = rw pass refl;

@@ -1,5 +1,12 @@
-use Rattle.prims.specs.ScxTurns.{done_at}
+use Rattle.std.proofs.Common.{sym, subst}
+use Rattle.arena.specs.declared.number.NodeNo.{NodeNo}
+use Rattle.arena.specs.declared.number.ScxNo.{ScxNo}
+use Rattle.prims.specs.ScxKnown.{IsLost}
+use Rattle.prims.specs.ScxTurns.{done_at, lost_at}
 use Rattle.prims.proofs.scx.ScxRun.help_on.Goals as goal
 
 pub returns-in-Done-true-clause-turn : goal.returns-in-Done-true-clause-turn
-returns-in-Done-true-clause-turn g c d h x = done_at d h c.args.self.now c.next.new.self c.args.help c.in-Done-true.field-0 x.run.lawful (c.in-Done-true.ensures.turn d h x.run x.ready) c.in-Done-true.field-0-test c.next.ensures.same x.same
+returns-in-Done-true-clause-turn g c d h x = done_at d h c.args.self.now c.args.help x.run.lawful x.filled x.same c.in-Done-true.field-0 c.next.new.self (c.in-Done-true.ensures.turn d h x.run x.ready) c.in-Done-true.field-0-test c.next.ensures.same
+
+pub returns-in-Done-false-clause-turn : goal.returns-in-Done-false-clause-turn
+returns-in-Done-false-clause-turn g c d h x = subst (λ (p : NodeNo × ScxNo). IsLost d h c.args.self.now p.0.0 p.1.0) (sym c.blocked.ensures) (lost_at d h c.args.self.now c.args.help x.run.lawful x.filled x.same c.in-Done-false.field-0 c.next.new.self (c.in-Done-false.ensures.turn d h x.run x.ready) c.in-Done-false.field-0-test c.next.ensures.same)

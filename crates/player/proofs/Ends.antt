@@ -1,0 +1,482 @@
+-- How calls end: what their answers say, and what is left to the client.
+use Rattle.std.proofs.Common.{◌≡◌, ◌≢◌, ℕ, zero, suc, ◌<◌, ◌≤◌, ◌⊎◌, inl, inr, ⊎_elim, Bool, true, false, cond, ◌||◌, eqb, List, [], ◌∷◌, length, get_or, slice_get, Option, Some, None, IsSome, refl, sym, ◌∙◌, ap, subst, arith}
+use Rattle.std.proofs.Math.ListN.{set}
+use Rattle.std.specs.List.{Contains}
+use native.Mathlib.Decide.{ℕ_discrete}
+use Rattle.arena.specs.declared.number.NodeNo.{NodeNo}
+use Rattle.arena.specs.declared.number.ScxNo.{ScxNo}
+use Rattle.arena.specs.Words.{state}
+use Rattle.arena.specs.History.{History, value}
+use Rattle.arena.specs.Blame.{WasInTheWay}
+use Rattle.arena.specs.Fills.{IsOwnScx, IsTakenScx}
+use Rattle.arena.specs.Log.{log, is_final, has}
+use Rattle.histories.proofs.Helping.{aborted_never_won, committed_won}
+use Rattle.histories.proofs.Taking.{finished_taken}
+use Rattle.prims.specs.Moments.{IsMoment, IsAsFound}
+use Rattle.prims.specs.Snaps.{IsAmong}
+use Rattle.prims.proofs.Alone.{snapshot_moment}
+use Rattle.prims.specs.Idle.{same_moment}
+use Rattle.prims.specs.PutKnown.{put_answers}
+use Rattle.prims.specs.VlxKnown.{snap_at, vlx_answers}
+use Rattle.prims.proofs.Snapshots.{among}
+use Rattle.prims.specs.declared.snap.Snap.{Snap}
+use Rattle.prims.specs.declared.llx.LlxRun.{LlxRun}
+use Rattle.prims.specs.declared.put.PutRun.{PutRun}
+use Rattle.prims.specs.declared.vlx.VlxRun.{VlxRun}
+use Rattle.prims.specs.declared.llx.Llx.{Llx as LlxAnswer}
+use Rattle.prims.specs.declared.scx.Scx.{Scx as ScxAnswer}
+use Rattle.prims.specs.declared.vlx.Vlx.{Vlx as VlxAnswer}
+use Rattle.prims.specs.declared.llx.Llx.TheVariants.{Snapshot as LlxSnapshot, Finalized as LlxFinalized, Fail as LlxFail}
+use Rattle.prims.specs.declared.scx.Scx.TheVariants.{Done as ScxDone, Lost as ScxLost}
+use Rattle.prims.specs.declared.vlx.Vlx.TheVariants.{Same as VlxSame, Changed as VlxChanged}
+use Rattle.script.specs.declared.command.Command.{Command}
+use Rattle.script.specs.declared.command.Command.TheVariants.{Llx as LlxOf, Scx as ScxOf, Vlx as VlxOf, Set as SetOf}
+use Rattle.script.specs.Cells.{cells_of}
+use Rattle.script.specs.Update.{update_cells}
+use Rattle.player.specs.declared.run.Run.{Run}
+use Rattle.player.specs.declared.run.Run.TheVariants.{Llx, Scx, Vlx}
+use Rattle.player.specs.declared.run.Ended.{Ended}
+use Rattle.player.specs.declared.run.Ended.TheVariants as ended
+use Rattle.player.specs.declared.client.Client.{Client}
+use Rattle.player.specs.declared.client.Put.{Put}
+use Rattle.player.specs.declared.kept.Kept.{Kept}
+use Rattle.player.specs.declared.kept.Found.{Found}
+use Rattle.player.specs.declared.record.Answer.{Answer}
+use Rattle.player.specs.declared.record.Answer.TheVariants.{Snapshot, Finalized, Fail, Done, Lost, Same, Changed, Unlinked, Full}
+use Rattle.player.specs.Kept.{IsUsable, kept_of, node_of, found_of, parts, snap_of}
+use Rattle.player.specs.LawfulRun.{IsAnswerAfterStep, IsLastLook, HasRoom, AreLinked, IsRight, HasFailed, IsInTheWay, IsUnchanged, IsFirstChanged, IsEntered}
+use Rattle.player.specs.RunKnown.{answer_of}
+use Rattle.prims.specs.ScxKnown.{nodes_of}
+use Rattle.player.specs.View.{View, IsSound, IsLlxOf, IsScxOf, IsVlxOf, no_hand, in_hand, HaveMoments, Stands, Rests, Answered, Ends, machine_call, linked_by}
+use Rattle.prims.proofs.PutEntries.{put_finished}
+use Rattle.player.proofs.Puts.{IsChanged, put_committed, put_aborted, put_changed, vlx_changed}
+use Rattle.player.proofs.Snapshots.{has_snap, snap_there, snap_found, kept_after, unkept_after}
+use Rattle.player.proofs.Over.{all_idle, taken_one}
+
+-- Nodes of snapshots
+
+-- no snapshot is among none
+pub among_none : (n : ℕ) → IsAmong [] n → ⊥
+among_none n x = let i = x.within in omega arith
+
+-- a list of nodes has those of its snapshots
+pub has_nodes : (snaps : List Snap) (n : ℕ) → has (nodes_of snaps) n ≡ has_snap snaps n
+has_nodes [] n = refl
+has_nodes (snap ∷ snaps) n = ap (λ b. eqb snap.node.0 n || b) (has_nodes snaps n)
+
+contains_node : (snaps : List Snap) (i : ℕ) → i < length snaps → Contains (nodes_of snaps) (snap_at snaps i).node.0
+contains_node [] i p = absurd (omega arith)
+contains_node (snap ∷ snaps) zero p = (0, omega arith, refl)
+contains_node (snap ∷ snaps) (suc i) p = let x = contains_node snaps i (omega arith) in (suc x.0, omega (arith, x.1), x.2)
+
+-- what is said of the snapshots once those of some nodes are dropped
+record IsDropped (snaps : List Snap) (old new : ℕ → Option History) : Type 0 where
+  gone : (n : ℕ) → IsAmong snaps n → new n ≡ None
+  others : (n : ℕ) → (IsAmong snaps n → ⊥) → new n ≡ old n
+
+drop_nodes : (snaps : List Snap) (nodes : List ℕ) (old : ℕ → Option History) → nodes_of snaps ≡ nodes → IsDropped snaps old (λ n. cond (has nodes n) None (old n))
+drop_nodes snaps nodes old e = record {
+  gone = λ n x. rw (there n x) refl;
+  others = λ n d. go n (has nodes n) refl d;
+}
+  where
+    there : (n : ℕ) → IsAmong snaps n → has nodes n ≡ true
+    there n x = rw (sym e) (has_nodes snaps n ∙ snap_found snaps n x.at x.within x.is)
+
+    go : (n : ℕ) (b : Bool) → has nodes n ≡ b → (IsAmong snaps n → ⊥) → cond b None (old n) ≡ old n
+    go n false p d = refl
+    go n true p d = absurd (d (snap_there snaps n (sym (has_nodes snaps n) ∙ rw e p)))
+
+-- the same for one node
+drop_one : (snaps : List Snap) (node : ℕ) (old : ℕ → Option History) → nodes_of snaps ≡ node ∷ [] → IsDropped snaps old (λ n. cond (eqb node n) None (old n))
+drop_one snaps node old e = record { gone = λ n x. single n ∙ x_gone n x; others = λ n d. single n ∙ x.others n d }
+  where
+    x : IsDropped snaps old (λ n. cond (has (node ∷ []) n) None (old n))
+    x = drop_nodes snaps (node ∷ []) old e
+
+    x_gone : (n : ℕ) → IsAmong snaps n → cond (has (node ∷ []) n) None (old n) ≡ None
+    x_gone n y = x.gone n y
+
+    single : (n : ℕ) → cond (eqb node n) None (old n) ≡ cond (has (node ∷ []) n) None (old n)
+    single n = go (eqb node n)
+      where
+        go : (b : Bool) → cond b None (old n) ≡ cond (b || false) None (old n)
+        go true = refl
+        go false = refl
+
+-- The end of an SCX
+
+-- what an SCX answers
+record IsOutcome (v : View) (c : ℕ) (snaps : List Snap) (command : Command) (answer : Answer) : Type 0 where
+  answers : IsAnswerAfterStep command answer
+  right : IsRight v.layout c v.past v.start v.linked command answer
+  entry : IsEntered answer v.won
+  drops : IsDropped snaps v.linked (linked_by v command answer)
+
+entered_some : (won : Option ℕ) (turn : ℕ) → won ≡ Some turn → IsEntered Done won
+entered_some (Some k) turn e = tt
+entered_some None turn e = cc
+
+pub entered_none : (answer : Answer) (won : Option ℕ) → won ≡ None → (answer ≡ Done → ⊥) → IsEntered answer won
+entered_none Done won e d = absurd (d refl)
+entered_none (Snapshot left right) None e d = tt
+entered_none Finalized None e d = tt
+entered_none (Fail node scx) None e d = tt
+entered_none (Lost node scx) None e d = tt
+entered_none Same None e d = tt
+entered_none (Changed node scx) None e d = tt
+entered_none (Unlinked node) None e d = tt
+entered_none (Full what left) None e d = tt
+entered_none answer (Some k) e d = cc
+
+-- one of the nodes was changed by another client
+blamed_is : (v : View) (c : Client) (command : Command) (snaps : List Snap) (nodes : List ℕ) (start : History) (is_pass : c.pass.0 < v.layout.passes) (node scx : ℕ) (IsSuch : History → Type 0) → nodes_of snaps ≡ nodes → HaveMoments v c.pass.0 command snaps → ((i : ℕ) → i < length snaps → (snap_at snaps i).node.0 ≡ node → (moment : History) × IsMoment v.layout v.past (snap_at snaps i) moment × IsSuch moment) → IsChanged (machine_call v c is_pass start) v.past snaps node scx → IsInTheWay v.layout c.pass.0 v.past nodes node scx IsSuch
+blamed_is v c command snaps nodes start is_pass node scx IsSuch e x f b =
+    let y = f b.index b.within b.is in
+    record {
+      among = subst (λ (n : ℕ). Contains nodes n) b.is (subst (λ (l : List ℕ). Contains l (snap_at snaps b.index).node.0) e (contains_node snaps b.index b.within));
+      moment = y.0;
+      of_snapshot = y.2;
+      way = subst (λ (n : ℕ). WasInTheWay v.past y.0 n scx) b.is (b.blamed.in_the_way y.0 y.1);
+      named = b.named;
+      others = b.blamed.others;
+    }
+
+-- where there is one node, each snapshot is of that
+only_node : (snaps : List Snap) (n i : ℕ) → nodes_of snaps ≡ n ∷ [] → i < length snaps → (snap_at snaps i).node.0 ≡ n
+only_node [] n i e p = absurd (omega arith)
+only_node (snap ∷ []) n i e p = rw (let z : i ≡ 0 = omega arith in z) (let z : snap.node.0 ≡ n = cc in z)
+only_node (snap ∷ next ∷ snaps) n i e p = cc
+
+-- of each node a snapshot is kept
+pub are_linked : (v : View) (c : Client) (command : Command) (snaps : List Snap) (nodes : List ℕ) → nodes_of snaps ≡ nodes → ((i : ℕ) → i < length snaps → (moment : History) × (v.linked (snap_at snaps i).node.0 ≡ Some moment)) → AreLinked v.linked nodes
+are_linked v c command snaps nodes e f n q =
+    let i = among snaps n (rw (sym e) at q) in
+    let z = f i.at i.within in
+    subst (λ (m : Option History). IsSome m) (sym (subst (λ (k : ℕ). v.linked k ≡ Some z.0) i.is z.1)) refl
+
+-- what the answer of an SCX says
+scx_outcome : (v : View) (c : Client) (command : Command) (m : PutRun) (then : Option Put) (a : ScxAnswer) (start : History) (is_pass : c.pass.0 < v.layout.passes) → IsScxOf command c.number m then → HaveMoments v c.pass.0 command m.scx.update.snaps.items → HasRoom v.layout c.pass.0 v.start → (a ≡ ScxDone → (turn : ℕ) × (v.won ≡ Some turn)) → (a ≢ ScxDone → v.won ≡ None) → put_answers m (machine_call v c is_pass start) v.past a → IsOutcome v c.pass.0 m.scx.update.snaps.items command (answer_of (ended.Scx a))
+scx_outcome v c (ScxOf update) m None ScxDone start is_pass x moments room done lost y = record {
+  answers = tt;
+  right = room;
+  entry = entered_some v.won (done refl).0 (done refl).1;
+  drops = drop_nodes m.scx.update.snaps.items (update_cells update) v.linked x.covers;
+}
+scx_outcome v c (SetOf field value) m None ScxDone start is_pass x moments room done lost y = record {
+  answers = tt;
+  right = room;
+  entry = entered_some v.won (done refl).0 (done refl).1;
+  drops = drop_one m.scx.update.snaps.items field.0 v.linked x.covers;
+}
+scx_outcome v c (ScxOf update) m None (ScxLost node scx) start is_pass x moments room done lost y = record {
+  answers = tt;
+  right = (
+    are_linked v c (ScxOf update) m.scx.update.snaps.items (update_cells update) x.covers (λ i p. let z = moments i p in (z.moment, z.source)),
+    room,
+    blamed_is v c (ScxOf update) m.scx.update.snaps.items (update_cells update) start is_pass node.0 scx.0 (λ moment. v.linked node.0 ≡ Some moment) x.covers moments
+        (λ i p e. let z = moments i p in (z.moment, z.found, subst (λ (n : ℕ). v.linked n ≡ Some z.moment) e z.source))
+        (put_changed m (machine_call v c is_pass start) v.past node scx y),
+  );
+  entry = entered_none (Lost node scx) v.won (lost (λ e. cc)) (λ e. cc);
+  drops = drop_nodes m.scx.update.snaps.items (update_cells update) v.linked x.covers;
+}
+scx_outcome v c (SetOf field value) m None (ScxLost node scx) start is_pass x moments room done lost y = record {
+  answers = tt;
+  right = (
+    room,
+    blamed_is v c (SetOf field value) m.scx.update.snaps.items (field.0 ∷ []) start is_pass node.0 scx.0 (λ moment. IsLastLook c.pass.0 v.past v.start moment field.0 × (is_final (log v.layout moment) field.0 ≡ false)) x.covers moments
+        (λ i p e. let z = moments i p in (z.moment, z.found, subst (λ (n : ℕ). IsLastLook c.pass.0 v.past v.start z.moment n × (is_final (log v.layout z.moment) n ≡ false)) (only_node m.scx.update.snaps.items field.0 i x.covers p) (z.source, z.found.not_final)))
+        (put_changed m (machine_call v c is_pass start) v.past node scx y),
+  );
+  entry = entered_none (Lost node scx) v.won (lost (λ e. cc)) (λ e. cc);
+  drops = drop_one m.scx.update.snaps.items field.0 v.linked x.covers;
+}
+scx_outcome v c (ScxOf update) m (Some put) a start is_pass x moments room done lost y = absurd x
+scx_outcome v c (SetOf field value) m (Some put) a start is_pass x moments room done lost y = absurd x
+scx_outcome v c (LlxOf cell) m then a start is_pass x moments room done lost y = absurd x
+scx_outcome v c (VlxOf cells) m then a start is_pass x moments room done lost y = absurd x
+
+-- behind the node, or SCX-record, that is taken now stands the next one
+less_or_is : (n k : ℕ) → n < suc k → (n < k) ⊎ (n ≡ k)
+less_or_is n k i = grind arith
+
+-- a client whose SCX has ended has taken what it had in hand, and drops its snapshots
+rests_scx : (v : View) (c : Client) (m : PutRun) (then : Option Put) (a : ScxAnswer) (linked : ℕ → Option History) → IsSound v → IsDropped m.scx.update.snaps.items v.linked linked → Answered v c (Scx m) then (ended.Scx a) → Stands (record v { linked = linked }) c (no_hand c.share)
+rests_scx v c m then a linked sound drops x = record {
+  is_pass = y.is_pass;
+  number = y.number;
+  place = y.place;
+  kept = λ n found e. kept n found e;
+  unkept = λ n i e. ⊎_elim (λ z. inr (drops.gone n z)) (λ z. inr (unkept n i e z)) (y.unkept n i e);
+  dropped = λ n z. absurd (among_none n z);
+  share = record {
+    from_node = y.share.from_node;
+    to_node = y.share.to_node;
+    from_scx = y.share.from_scx;
+    to_scx = y.share.to_scx;
+    taken_nodes = λ n own less. ⊎_elim (y.share.taken_nodes n own) (λ e. rw e x.answers.0.taken) (less_or_is n m.scx.update.fresh (rw x.works.newest.0 at less));
+    taken_scx = λ s own less. ⊎_elim (y.share.taken_scx s own) (λ e. rw e (finished_taken v.layout v.past m.scx.scx.0 sound.lawful x.works.newest.2 finished)) (less_or_is s m.scx.scx.0 (rw x.works.newest.1 at less));
+    unmentioned = y.share.unmentioned;
+    untaken_nodes = y.share.untaken_nodes;
+    untaken = y.share.untaken;
+  };
+  over = λ s own d. each_over s own (ℕ_discrete s m.scx.scx.0);
+}
+  where
+    y : Stands v c (in_hand c.share (Scx m))
+    y = x.works.stands
+
+    finished : value v.past (state m.scx.scx.0) ≢ 0
+    finished = put_finished m (machine_call v c x.works.is_pass x.works.start) v.past a x.answers
+
+    each_over : (s : ℕ) → IsOwnScx v.layout c.pass.0 s → Dec (s ≡ m.scx.scx.0) → IsTakenScx v.past s → value v.past (state s) ≢ 0
+    each_over s own (no d) t = y.over s own d t
+    each_over s own (yes e) t = rw e finished
+
+    -- what is still kept is not of those snapshots
+    other : (n : ℕ) (found : Found) → kept_of c.kept n ≡ Some found → IsAmong m.scx.update.snaps.items n → ⊥
+    other n found e z = let none : kept_of c.kept n ≡ None = y.dropped n z in let some : kept_of c.kept n ≡ Some found = e in cc
+
+    kept : (n : ℕ) (found : Found) → kept_of c.kept n ≡ Some found → (moment : History) × (linked n ≡ Some moment) × IsUsable v.layout c.pass.0 v.past (snap_of n found) moment
+    kept n found e = let z = y.kept n found e in (z.0, drops.others n (other n found e) ∙ z.1, z.2)
+
+    unkept : (n : ℕ) → n ≤ 8 → kept_of c.kept n ≡ None → v.linked n ≡ None → linked n ≡ None
+    unkept n i e z = go (has_snap m.scx.update.snaps.items n) refl
+      where
+        go : (b : Bool) → has_snap m.scx.update.snaps.items n ≡ b → linked n ≡ None
+        go true q = drops.gone n (snap_there m.scx.update.snaps.items n q)
+        go false q = drops.others n (λ w. let t : has_snap m.scx.update.snaps.items n ≡ true = snap_found m.scx.update.snaps.items n w.at w.within w.is in cc) ∙ z
+
+-- the call of an SCX ends with its answer
+ends_scx : (v : View) (c : Client) (run : Run) (then : Option Put) (a : ScxAnswer) → IsSound v → Answered v c run then (ended.Scx a) → Ends v c c (answer_of (ended.Scx a))
+ends_scx v c (Scx m) then a sound x =
+    record {
+      same = record { pass = refl; number = refl; next = refl };
+      begin = refl;
+      command = x.works.command;
+      is = x.works.is;
+      rests = record { stands = rests_scx v c m then a (linked_by v x.works.command (answer_of (ended.Scx a))) sound o.drops x; none = x.none };
+      answers = o.answers;
+      right = o.right;
+      entry = o.entry;
+      took = taken_one v c.pass.0 _ x.works.took;
+      late = x.works.late;
+    }
+  where
+    done : (a : ScxAnswer) → put_answers m (machine_call v c x.works.is_pass x.works.start) v.past a → a ≡ ScxDone → (turn : ℕ) × (v.won ≡ Some turn)
+    done ScxDone y e = x.works.won.yes (committed_won v.layout v.past m.scx.scx.0 sound.lawful (put_committed m (machine_call v c x.works.is_pass x.works.start) v.past y))
+    done (ScxLost node scx) y e = cc
+
+    lost : (a : ScxAnswer) → put_answers m (machine_call v c x.works.is_pass x.works.start) v.past a → a ≢ ScxDone → v.won ≡ None
+    lost ScxDone y d = absurd (d refl)
+    lost (ScxLost node scx) y d = x.works.won.no (aborted_never_won v.layout v.past m.scx.scx.0 sound.lawful (put_aborted m (machine_call v c x.works.is_pass x.works.start) v.past node scx y))
+
+    o : IsOutcome v c.pass.0 m.scx.update.snaps.items x.works.command (answer_of (ended.Scx a))
+    o = scx_outcome v c x.works.command m then a x.works.start x.works.is_pass x.works.run_of x.works.moments x.works.room (done a x.answers) (lost a x.answers) x.answers
+ends_scx v c (Llx m) then a sound x = absurd x.answers
+ends_scx v c (Vlx m) then a sound x = absurd x.answers
+
+-- The end of a VLX
+
+-- the cell of a snapshot, by its place
+cell_there : (snaps : List Snap) (i : ℕ) → i < length snaps → slice_get (nodes_of snaps) i ≡ Some (snap_at snaps i).node.0
+cell_there [] i p = absurd (omega arith)
+cell_there (snap ∷ snaps) zero p = refl
+cell_there (snap ∷ snaps) (suc i) p = cell_there snaps i (omega arith)
+
+cell_is : (snaps : List Snap) (i : ℕ) → i < length snaps → get_or (nodes_of snaps) i 0 ≡ (snap_at snaps i).node.0
+cell_is [] i p = absurd (omega arith)
+cell_is (snap ∷ snaps) zero p = refl
+cell_is (snap ∷ snaps) (suc i) p = cell_is snaps i (omega arith)
+
+-- it names the first that was changed
+first_changed : (v : View) (c : ℕ) (cells : _) (snaps : List Snap) (node index : ℕ) → nodes_of snaps ≡ cells_of cells → HaveMoments v c (VlxOf cells) snaps → index < length snaps → (snap_at snaps index).node.0 ≡ node → ((i : ℕ) → i < index → IsAsFound v.layout v.past v.start (snap_at snaps i)) → IsFirstChanged v.layout v.start v.linked (cells_of cells) node
+first_changed v c cells snaps node index e moments within is found =
+    subst (λ (l : List ℕ). IsFirstChanged v.layout v.start v.linked l node) e
+    record { place = index; is = cell_there snaps index within ∙ ap (λ (n : ℕ). Some n) is; before = before }
+  where
+    before : (i : ℕ) → i < index → (moment : History) × (v.linked (get_or (nodes_of snaps) i 0) ≡ Some moment) × IsUnchanged v.layout v.start moment (get_or (nodes_of snaps) i 0)
+    before i p =
+        let z = moments i (omega (arith, within)) in
+        let w = found i p in
+        subst (λ (k : ℕ). (moment : History) × (v.linked k ≡ Some moment) × IsUnchanged v.layout v.start moment k) (sym (cell_is snaps i (omega (arith, within)))) (z.moment, z.source, record { same = w.last z.moment z.found; not_final = w.not_final })
+
+-- what the answer of a VLX says: it leaves the snapshots
+vlx_outcome : (v : View) (c : Client) (command : Command) (m : VlxRun) (then : Option Put) (a : VlxAnswer) → IsVlxOf command m.snaps.items then → HaveMoments v c.pass.0 command m.snaps.items → v.won ≡ None → (is_pass : c.pass.0 < v.layout.passes) → vlx_answers m (machine_call v c is_pass v.start) v.past a → IsOutcome v c.pass.0 [] command (answer_of (ended.Vlx a))
+vlx_outcome v c (VlxOf cells) m None VlxSame x moments won is_pass y = record {
+  answers = tt;
+  right = λ n q. same n (rw (sym x) at q);
+  entry = entered_none Same v.won won (λ e. cc);
+  drops = record { gone = λ n z. absurd (among_none n z); others = λ n z. refl };
+}
+  where
+    same : (n : ℕ) → Contains (nodes_of m.snaps.items) n → (moment : History) × (v.linked n ≡ Some moment) × IsUnchanged v.layout v.start moment n
+    same n q =
+        let i = among m.snaps.items n q in
+        let z = moments i.at i.within in
+        let w = y.found i.at i.within in
+        subst (λ (k : ℕ). (moment : History) × (v.linked k ≡ Some moment) × IsUnchanged v.layout v.start moment k) i.is (z.moment, z.source, record { same = w.last z.moment z.found; not_final = w.not_final })
+vlx_outcome v c (VlxOf cells) m None (VlxChanged node scx) x moments won is_pass y = record {
+  answers = tt;
+  right = (
+    are_linked v c (VlxOf cells) m.snaps.items (cells_of cells) x (λ i p. let z = moments i p in (z.moment, z.source)),
+    blamed_is v c (VlxOf cells) m.snaps.items (cells_of cells) v.start is_pass node.0 scx.0 (λ moment. v.linked node.0 ≡ Some moment) x moments
+        (λ i p e. let z = moments i p in (z.moment, z.found, subst (λ (n : ℕ). v.linked n ≡ Some z.moment) e z.source))
+        (vlx_changed m (machine_call v c is_pass v.start) v.past node scx y),
+    first_changed v c.pass.0 cells m.snaps.items node.0 y.index x moments y.within y.node y.before,
+  );
+  entry = entered_none (Changed node scx) v.won won (λ e. cc);
+  drops = record { gone = λ n z. absurd (among_none n z); others = λ n z. refl };
+}
+vlx_outcome v c (VlxOf cells) m (Some put) a x moments won is_pass y = absurd x
+vlx_outcome v c (LlxOf cell) m then a x moments won is_pass y = absurd x
+vlx_outcome v c (ScxOf update) m then a x moments won is_pass y = absurd x
+vlx_outcome v c (SetOf field value) m then a x moments won is_pass y = absurd x
+
+-- what is said of the snapshots as before leaves a client at rest
+rests_as : (v : View) (c : Client) (linked : ℕ → Option History) → IsDropped [] v.linked linked → Stands v c (no_hand c.share) → Stands (record v { linked = linked }) c (no_hand c.share)
+rests_as v c linked drops x = record {
+  is_pass = x.is_pass;
+  number = x.number;
+  place = x.place;
+  kept = λ n found e. let z = x.kept n found e in (z.0, drops.others n (among_none n) ∙ z.1, z.2);
+  unkept = λ n i e. ⊎_elim (λ z. inl z) (λ z. inr (drops.others n (among_none n) ∙ z)) (x.unkept n i e);
+  dropped = x.dropped;
+  share = x.share;
+  over = x.over;
+}
+
+ends_vlx : (v : View) (c : Client) (run : Run) (then : Option Put) (a : VlxAnswer) → Answered v c run then (ended.Vlx a) → Ends v c c (answer_of (ended.Vlx a))
+ends_vlx v c (Vlx m) then a x =
+    let y = subst (λ (k : History). vlx_answers m (machine_call v c x.works.is_pass k) v.past a) x.works.begun x.answers in
+    let o = vlx_outcome v c x.works.command m then a x.works.run_of x.works.moments x.works.won x.works.is_pass y in
+    record {
+      same = record { pass = refl; number = refl; next = refl };
+      begin = refl;
+      command = x.works.command;
+      is = x.works.is;
+      rests = record { stands = rests_as v c (linked_by v x.works.command (answer_of (ended.Vlx a))) o.drops x.works.stands; none = x.none };
+      answers = o.answers;
+      right = o.right;
+      entry = o.entry;
+      took = taken_one v c.pass.0 _ x.works.took;
+      late = x.works.late;
+    }
+ends_vlx v c (Llx m) then a x = absurd x.answers
+ends_vlx v c (Scx m) then a x = absurd x.answers
+
+pub ends_other : (v : View) (c : Client) (run : Run) (then : Option Put) (end : Ended) → ((a : ScxAnswer) × (end ≡ ended.Scx a)) ⊎ ((a : VlxAnswer) × (end ≡ ended.Vlx a)) → IsSound v → Answered v c run then end → Ends v c c (answer_of end)
+ends_other v c run then end (inl (a, e)) sound x = rw e (ends_scx v c run then a sound (subst (λ t. Answered v c run then t) e x))
+ends_other v c run then end (inr (a, e)) sound x = rw e (ends_vlx v c run then a (subst (λ t. Answered v c run then t) e x))
+
+-- The end of an LLX
+
+-- the node of its answer is the one that it looked at
+answer_node : (v : View) (c : Client) (m : LlxRun) (then : Option Put) (a : LlxAnswer) → Answered v c (Llx m) then (ended.Llx a) → node_of a ≡ m.node.0
+answer_node v c m then (LlxSnapshot snap) x = x.answers.0.node
+answer_node v c m then (LlxFinalized node scx) x = x.answers.0
+answer_node v c m then (LlxFail node scx) x = x.answers.0
+
+-- its snapshot may be used from now on
+pub snapshot_usable : (v : View) (c : Client) (m : LlxRun) (then : Option Put) (snap : Snap) → IsSound v → Answered v c (Llx m) then (ended.Llx (LlxSnapshot snap)) → IsUsable v.layout c.pass.0 v.past snap v.past
+snapshot_usable v c m then snap sound x = record {
+  linked = x.answers.0.linked;
+  found = snapshot_moment v.layout v.past m.node.0 snap x.answers.0;
+  alone = λ k e f s own p q. all_idle v.layout v.past c.pass.0 c.share _ _ sound.lawful x.works.stands.share x.works.stands.over s own (rw (same_moment v.past k e f) at p);
+}
+
+-- what is said of its node then
+abbrev pub moment_then : LlxAnswer → History → Option History
+moment_then (LlxSnapshot snap) now = Some now
+moment_then (LlxFinalized node scx) now = None
+moment_then (LlxFail node scx) now = None
+
+-- with its snapshot kept, or dropped, the client rests
+pub rests_kept : (v : View) (c : Client) (kept : Kept) (m : LlxRun) (then : Option Put) (a : LlxAnswer) (linked : ℕ → Option History) → IsSound v → Answered v c (Llx m) then (ended.Llx a) → kept.found ≡ set c.kept.found (node_of a) (found_of a) → ((n : ℕ) → linked n ≡ cond (eqb (node_of a) n) (moment_then a v.past) (v.linked n)) → Rests (record v { linked = linked }) (record c { kept = kept })
+rests_kept v c kept m then a linked sound x e said = record {
+  stands = record {
+    is_pass = y.is_pass;
+    number = y.number;
+    place = y.place;
+    kept = kept_after c.kept kept a v.linked linked (moment_then a v.past) e small said v.layout c.pass.0 v.past y.kept (usable a x);
+    unkept = λ n i d. inr (unkept_after c.kept kept a v.linked linked (moment_then a v.past) e small said (λ n i d. ⊎_elim (λ z. absurd (among_none n z)) (λ z. z) (y.unkept n i d)) (none a) n i d);
+    dropped = λ n z. absurd (among_none n z);
+    share = y.share;
+    over = y.over;
+  };
+  none = x.none;
+}
+  where
+    y : Stands v c (no_hand c.share)
+    y = x.works.stands
+
+    small : node_of a ≤ 8
+    small = rw (answer_node v c m then a x) x.works.run_of.0
+
+    none : (a : LlxAnswer) → found_of a ≡ None → moment_then a v.past ≡ None
+    none (LlxSnapshot snap) d = cc
+    none (LlxFinalized node scx) d = refl
+    none (LlxFail node scx) d = refl
+
+    usable : (a : LlxAnswer) → Answered v c (Llx m) then (ended.Llx a) → (found : Found) → found_of a ≡ Some found → (k : History) × (moment_then a v.past ≡ Some k) × IsUsable v.layout c.pass.0 v.past (snap_of (node_of a) found) k
+    usable (LlxSnapshot snap) z found d = let same : parts snap ≡ found = cc in (v.past, refl, subst (λ (f : Found). IsUsable v.layout c.pass.0 v.past (snap_of snap.node.0 f) v.past) same (snapshot_usable v c m then snap sound z))
+    usable (LlxFinalized node scx) z found d = cc
+    usable (LlxFail node scx) z found d = cc
+
+-- a failed LLX failed since the call's begin
+failed_since : (v : View) (c : Client) (m : LlxRun) (then : Option Put) (node : NodeNo) (scx : ScxNo) → Answered v c (Llx m) then (ended.Llx (LlxFail node scx)) → HasFailed v.layout c.pass.0 v.past v.start m.node.0 node.0 scx.0
+failed_since v c m then node scx x = record {
+  is = x.answers.0;
+  others = x.answers.1.others;
+  way = subst (λ (k : History). WasInTheWay v.past k m.node.0 scx.0) x.works.begun x.answers.1.in_the_way;
+  named = x.answers.1.held;
+  over = x.answers.1.over;
+  not_final = subst (λ (k : History). is_final (log v.layout k) m.node.0 ≡ false) x.works.begun x.answers.1.not_final;
+}
+
+-- what an LLX answers that ends a call
+record IsLlxOutcome (v : View) (c : ℕ) (command : Command) (a : LlxAnswer) : Type 0 where
+  answers : IsAnswerAfterStep command (answer_of (ended.Llx a))
+  right : IsRight v.layout c v.past v.start v.linked command (answer_of (ended.Llx a))
+  said : (n : ℕ) → linked_by v command (answer_of (ended.Llx a)) n ≡ cond (eqb (node_of a) n) (moment_then a v.past) (v.linked n)
+
+-- it ends an `llx`, and a `set` where it is no snapshot
+llx_outcome : (v : View) (c : Client) (command : Command) (m : LlxRun) (then : Option Put) (a : LlxAnswer) → ((then ≡ None) ⊎ ((snap : Snap) → a ≢ LlxSnapshot snap)) → IsLlxOf command m.node.0 then → Answered v c (Llx m) then (ended.Llx a) → IsLlxOutcome v c.pass.0 command a
+llx_outcome v c (LlxOf cell) m None (LlxSnapshot snap) d x y = record {
+  answers = tt;
+  right = rw (sym x) record { left_is = y.answers.0.left; right_is = y.answers.0.right; not_final = y.answers.0.not_final };
+  said = λ n. rw (y.answers.0.node ∙ x) refl;
+}
+llx_outcome v c (LlxOf cell) m None (LlxFinalized node scx) d x y = record { answers = tt; right = rw (sym x) y.answers.1.final; said = λ n. rw (y.answers.0 ∙ x) refl }
+llx_outcome v c (LlxOf cell) m None (LlxFail node scx) d x y = record { answers = tt; right = rw (sym x) (failed_since v c m None node scx y); said = λ n. rw (y.answers.0 ∙ x) refl }
+llx_outcome v c (SetOf field value) m (Some put) (LlxFinalized node scx) d x y = record { answers = tt; right = rw (sym x.0) y.answers.1.final; said = λ n. rw (y.answers.0 ∙ x.0) refl }
+llx_outcome v c (SetOf field value) m (Some put) (LlxFail node scx) d x y = record { answers = tt; right = rw (sym x.0) (failed_since v c m (Some put) node scx y); said = λ n. rw (y.answers.0 ∙ x.0) refl }
+llx_outcome v c (SetOf field value) m (Some put) (LlxSnapshot snap) (inl e) x y = cc
+llx_outcome v c (SetOf field value) m (Some put) (LlxSnapshot snap) (inr d) x y = absurd (d snap refl)
+llx_outcome v c (LlxOf cell) m (Some put) a d x y = absurd x
+llx_outcome v c (SetOf field value) m None a d x y = absurd x
+llx_outcome v c (ScxOf update) m then a d x y = absurd x
+llx_outcome v c (VlxOf cells) m then a d x y = absurd x
+
+-- its call ends, where no SCX follows
+pub ends_llx : (v : View) (old : Client) (kept : Kept) (m : LlxRun) (then : Option Put) (a : LlxAnswer) → IsSound v → Answered v old (Llx m) then (ended.Llx a) → kept.found ≡ set old.kept.found (node_of a) (found_of a) → ((then ≡ None) ⊎ ((snap : Snap) → a ≢ LlxSnapshot snap)) → Ends v old (record old { kept = kept }) (answer_of (ended.Llx a))
+ends_llx v old kept m then a sound x e d =
+    let o = llx_outcome v old x.works.command m then a d x.works.run_of.1 x in
+    record {
+      same = record { pass = refl; number = refl; next = refl };
+      begin = refl;
+      command = x.works.command;
+      is = x.works.is;
+      rests = rests_kept v old kept m then a (linked_by v x.works.command (answer_of (ended.Llx a))) sound x e o.said;
+      answers = o.answers;
+      right = o.right;
+      entry = entered_none (answer_of (ended.Llx a)) v.won x.works.won (not_done a);
+      took = taken_one v old.pass.0 _ x.works.took;
+      late = x.works.late;
+    }
+  where
+    not_done : (a : LlxAnswer) → answer_of (ended.Llx a) ≡ Done → ⊥
+    not_done (LlxSnapshot snap) q = cc
+    not_done (LlxFinalized node scx) q = cc
+    not_done (LlxFail node scx) q = cc

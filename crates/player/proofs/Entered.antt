@@ -1,0 +1,268 @@
+-- What the entry of a row that wins says: the update of the call that the owner of its SCX-record has in hand.
+use Rattle.std.proofs.Common.{◌≡◌, ◌≢◌, ℕ, zero, suc, ◌<◌, ◌+◌, inl, ⊎_elim, Bool, true, false, cond, eqb, eqb-true, eq-eqb, List, [], ◌∷◌, length, Option, Some, None, refl, sym, ◌∙◌, subst, arith}
+use Rattle.std.specs.List.{Contains}
+use Rattle.arena.specs.declared.step.Row.{Row}
+use Rattle.arena.specs.declared.word.NodeWord.TheVariants.{Value}
+use Rattle.arena.specs.declared.word.ScxWord.TheVariants.{Call as CallWord}
+use Rattle.arena.specs.Words.{node, scx}
+use Rattle.arena.specs.History.{History, ◌⊳◌, value}
+use Rattle.arena.specs.ScxRecords.{removes}
+use Rattle.arena.specs.Blame.{IsInProgress}
+use Rattle.arena.specs.Fills.{IsOwnNode, IsOwnScx, IsNamedScx}
+use Rattle.arena.specs.Lawful.{Lawful, IsWin}
+use Rattle.arena.specs.Log.{Entry as Entered, log, has}
+use Rattle.arena.specs.Machines.{Call as MachineCall, IsRun, IsTold}
+use Rattle.std.proofs.lemmas.Bool.{or_left}
+use Rattle.histories.proofs.Helds.{or_split, or_right}
+use Rattle.histories.proofs.Changes.{UpdateWins}
+use Rattle.histories.proofs.Updates.{update_win, update_is_first}
+use Rattle.histories.proofs.Always.{facts_before}
+use Rattle.prims.specs.Cells.{allows_all}
+use Rattle.prims.specs.PutKnown.{put_waits, put_ready}
+use Rattle.prims.specs.Snaps.{IsAmong}
+use Rattle.prims.specs.ScxKnown.{IsEntryAt, update_entry, removed_nodes, nodes_of}
+use Rattle.prims.specs.VlxKnown.{snap_at}
+use Rattle.prims.specs.declared.snap.Snap.{Snap}
+use Rattle.prims.specs.declared.put.PutRun.{PutRun}
+use Rattle.prims.proofs.Alone.{moment_more}
+use Rattle.prims.proofs.PutEntries.{put_full, put_entry, put_entry_then}
+use Rattle.prims.proofs.Snapshots.{among}
+use Rattle.script.specs.Part.{is_part}
+use Rattle.script.specs.Update.{update_cells, update_finalize, update_field, update_value}
+use Rattle.script.specs.declared.command.Command.{Command}
+use Rattle.script.specs.declared.command.Command.TheVariants.{Llx as LlxOf, Scx as ScxOf, Vlx as VlxOf, Set as SetOf}
+use Rattle.player.specs.declared.run.Run.{Run}
+use Rattle.player.specs.declared.run.Run.TheVariants.{Llx, Scx, Vlx}
+use Rattle.player.specs.declared.client.Client.{Client}
+use Rattle.player.specs.declared.client.Running.{Running}
+use Rattle.player.specs.declared.client.Put.{Put}
+use Rattle.player.specs.LawfulRun.{IsLastLook, IsUnchanged, AreUnchanged, IsEntryOver, IsEntryFor}
+use Rattle.player.specs.RunKnown.{run_waits, run_ready, run_keeps, run_made}
+use Rattle.player.specs.View.{View, IsSound, IsPutOf, IsScxOf, HaveMoments, no_hand, Stands, Rests, Works, Waits, machine_call, command_of}
+use Rattle.player.proofs.Ends.{has_nodes}
+use Rattle.player.proofs.Snapshots.{snap_there}
+use Rattle.player.proofs.Views.{own_row, step_sound, own_in_hand, next_idle, wins_in_progress}
+
+-- Which nodes an entry finalizes
+
+-- a list has what it contains
+has_contained : (xs : List ℕ) (n : ℕ) → Contains xs n → has xs n ≡ true
+has_contained [] n x = absurd (let i = x.1 in omega arith)
+has_contained (y ∷ ys) n (zero, i, e) = or_left (eqb y n) (has ys n) (eq-eqb y n e)
+has_contained (y ∷ ys) n (suc k, i, e) = or_right (eqb y n) (has ys n) (has_contained ys n (k, omega arith, e))
+
+contained : (xs : List ℕ) (n : ℕ) → has xs n ≡ true → Contains xs n
+contained [] n e = cc
+contained (y ∷ ys) n e = ⊎_elim (λ q. (0, omega arith, eqb-true y n q)) (λ q. let x = contained ys n q in (suc x.0, omega (arith, x.1), x.2)) (or_split (eqb y n) (has ys n) e)
+
+-- a part of a list has only what the list has
+part_inside : (part whole : List ℕ) (n : ℕ) → is_part part whole ≡ true → has part n ≡ true → has whole n ≡ true
+part_inside [] whole n p e = cc
+part_inside (x ∷ part) [] n p e = cc
+part_inside (x ∷ part) (y ∷ whole) n p e = go (eqb x y) refl p (λ q. part_inside part whole n q) (λ q. part_inside (x ∷ part) whole n q e)
+  where
+    go : (b : Bool) → eqb x y ≡ b → cond b (is_part part whole) (is_part (x ∷ part) whole) ≡ true → (is_part part whole ≡ true → has part n ≡ true → has whole n ≡ true) → (is_part (x ∷ part) whole ≡ true → has whole n ≡ true) → has (y ∷ whole) n ≡ true
+    go false q r f g = or_right (eqb y n) (has whole n) (g r)
+    go true q r f g = ⊎_elim (λ z. or_left (eqb y n) (has whole n) (eq-eqb y n (sym (eqb-true x y q) ∙ eqb-true x n z))) (λ z. or_right (eqb y n) (has whole n) (f r z)) (or_split (eqb x n) (has part n) e)
+
+-- a snapshot whose node the plan finalizes, where the first of the snapshots has this place in the plan
+record IsRemovedAt (p : ℕ) (snaps : List Snap) (from n : ℕ) : Type 0 where
+  at : ℕ
+  within : at < length snaps
+  is : (snap_at snaps at).node.0 ≡ n
+  place : ℕ
+  is_place : place ≡ from + at
+  removed : removes p place ≡ true
+
+-- the nodes that a plan finalizes are those of such snapshots
+removed_there : (p : ℕ) (snaps : List Snap) (from n : ℕ) → has (removed_nodes p snaps from) n ≡ true → IsRemovedAt p snaps from n
+removed_there p [] from n e = cc
+removed_there p (snap ∷ snaps) from n e = go (removes p from) refl e (removed_there p snaps (suc from) n)
+  where
+    later : IsRemovedAt p snaps (suc from) n → IsRemovedAt p (snap ∷ snaps) from n
+    later x = record { at = suc x.at; within = let i = x.within in omega arith; is = x.is; place = x.place; is_place = let i = x.is_place in omega arith; removed = x.removed }
+
+    go : (b : Bool) → removes p from ≡ b → has (cond b (snap.node.0 ∷ removed_nodes p snaps (suc from)) (removed_nodes p snaps (suc from))) n ≡ true → (has (removed_nodes p snaps (suc from)) n ≡ true → IsRemovedAt p snaps (suc from) n) → IsRemovedAt p (snap ∷ snaps) from n
+    go false r q f = later (f q)
+    go true r q f = ⊎_elim (λ z. record { at = 0; within = omega arith; is = eqb-true snap.node.0 n z; place = from; is_place = omega arith; removed = r }) (λ z. later (f z)) (or_split (eqb snap.node.0 n) (has (removed_nodes p snaps (suc from)) n) q)
+
+removed_found : (p : ℕ) (snaps : List Snap) (from n at place : ℕ) → at < length snaps → (snap_at snaps at).node.0 ≡ n → place ≡ from + at → removes p place ≡ true → has (removed_nodes p snaps from) n ≡ true
+removed_found p [] from n at place i e d r = absurd (omega arith)
+removed_found p (snap ∷ snaps) from n zero place i e d r =
+    let here : removes p from ≡ true = subst (λ (k : ℕ). removes p k ≡ true) (omega (arith, d)) r in
+    rw here (or_left (eqb snap.node.0 n) (has (removed_nodes p snaps (suc from)) n) (eq-eqb snap.node.0 n e))
+removed_found p (snap ∷ snaps) from n (suc at) place i e d r = go (removes p from) (removed_found p snaps (suc from) n at place (omega arith) e (omega (arith, d)) r)
+  where
+    go : (b : Bool) → has (removed_nodes p snaps (suc from)) n ≡ true → has (cond b (snap.node.0 ∷ removed_nodes p snaps (suc from)) (removed_nodes p snaps (suc from))) n ≡ true
+    go false x = x
+    go true x = or_right (eqb snap.node.0 n) (has (removed_nodes p snaps (suc from)) n) x
+
+same_test : (a b : Bool) → (a ≡ true → b ≡ true) → (b ≡ true → a ≡ true) → a ≡ b
+same_test true true f g = refl
+same_test false false f g = refl
+same_test true false f g = sym (f refl)
+same_test false true f g = g refl
+
+-- an SCX finalizes the nodes that it is to
+removes_those : (m : PutRun) (number : ℕ) (nodes removed : List ℕ) (field : _) (x n : ℕ) → IsPutOf m number nodes removed field x → ((k : ℕ) → has removed k ≡ true → has nodes k ≡ true) → has (removed_nodes m.scx.update.plan.0 m.scx.update.snaps.items 0) n ≡ has removed n
+removes_those m number nodes removed field x n p inside = same_test _ _ to from
+  where
+    snaps : List Snap
+    snaps = m.scx.update.snaps.items
+
+    to : has (removed_nodes m.scx.update.plan.0 snaps 0) n ≡ true → has removed n ≡ true
+    to e = let y = removed_there m.scx.update.plan.0 snaps 0 n e in has_contained removed n (subst (λ (k : ℕ). Contains removed k) y.is ((p.finalizes y.at y.within).0 (subst (λ (k : ℕ). removes m.scx.update.plan.0 k ≡ true) (let d = y.is_place in omega arith) y.removed)))
+
+    from : has removed n ≡ true → has (removed_nodes m.scx.update.plan.0 snaps 0) n ≡ true
+    from e =
+        let there : has (nodes_of snaps) n ≡ true = rw p.covers (inside n e) in
+        let y : IsAmong snaps n = snap_there snaps n (sym (has_nodes snaps n) ∙ there) in
+        removed_found m.scx.update.plan.0 snaps 0 n y.at y.at y.within y.is (omega arith) ((p.finalizes y.at y.within).1 (rw y.is (contained removed n e)))
+
+-- What the entry says
+
+-- the entry of a row is of the client's call, which it does
+pub record IsEntryFrom (v : View) (c : Client) (row : Row) (s : ℕ) : Type 0 where
+  pub first : v.won ≡ None
+  pub number : c.number ≡ v.answered
+  pub command : Command
+  pub is : command_of v c ≡ Some command
+  pub entered : Entered
+  pub logged : log v.layout (row ⊳ v.past) ≡ entered ∷ log v.layout v.past
+  pub same_scx : entered.scx ≡ s
+  pub same_owner : entered.owner ≡ c.pass.0
+  pub same_call : entered.call ≡ c.number
+  pub called : value v.past (scx s CallWord) ≡ c.number
+  pub does : IsEntryFor v.layout c.pass.0 v.past v.start v.linked entered command
+
+-- the entry of an SCX, and what its SCX-record says of its call
+record IsOfPut (v : View) (c : Client) (row : Row) (m : PutRun) (start : History) (is_pass : c.pass.0 < v.layout.passes) : Type 0 where
+  at : IsEntryAt (machine_call v c is_pass start) (row ⊳ v.past) m.scx row v.past
+  fresh : IsOwnNode v.layout c.pass.0 m.scx.update.fresh
+  value_is : value v.past (node m.scx.update.fresh Value) ≡ m.value
+  called : value v.past (scx m.scx.scx.0 CallWord) ≡ m.scx.call
+
+module _ (v : View) (c : Client) (row : Row) (m : PutRun) (start : History) (is_pass : c.pass.0 < v.layout.passes) (x : IsOfPut v c row m start is_pass) where
+  over_nodes : (nodes removed : List ℕ) (field : _) (y : ℕ) → ((k : ℕ) → has removed k ≡ true → has nodes k ≡ true) → IsPutOf m c.number nodes removed field y → IsEntryOver v.layout c.pass.0 v.past (update_entry c.pass.0 m.scx) nodes removed field y
+  over_nodes nodes removed field y inside p = record {
+    members = p.covers;
+    finalizes = λ n. removes_those m c.number nodes removed field y n p inside;
+    node_is = p.node;
+    side_is = p.side;
+    fresh = x.fresh;
+    value_is = x.value_is ∙ p.value;
+  }
+
+  unchanged : (command : Command) (i : ℕ) → i < length m.scx.update.snaps.items → (z : HaveMoments v c.pass.0 command m.scx.update.snaps.items) → (p : i < length m.scx.update.snaps.items) → IsUnchanged v.layout v.past (z i p).moment (snap_at m.scx.update.snaps.items i).node.0
+  unchanged command i within z p =
+      let y = x.at.found i p in
+      record { same = y.last (z i p).moment (moment_more v.layout v.past row (snap_at m.scx.update.snaps.items i) (z i p).moment (z i p).found); not_final = y.not_final }
+
+  does : (command : Command) → IsScxOf command c.number m None → HaveMoments v c.pass.0 command m.scx.update.snaps.items → IsEntryFor v.layout c.pass.0 v.past v.start v.linked (update_entry c.pass.0 m.scx) command
+  does (ScxOf update) p z = (over_nodes (update_cells update) (update_finalize update) (update_field update) (update_value update) (λ k e. part_inside (update_finalize update) (update_cells update) k update.part e) p, all)
+    where
+      all : AreUnchanged v.layout v.past v.linked (update_cells update)
+      all n q =
+          let i = among m.scx.update.snaps.items n (rw (sym p.covers) at q) in
+          subst (λ (k : ℕ). (moment : History) × (v.linked k ≡ Some moment) × IsUnchanged v.layout v.past moment k) i.is ((z i.at i.within).moment, (z i.at i.within).source, unchanged (ScxOf update) i.at i.within z i.within)
+  does (SetOf field y) p z =
+      let one : has (nodes_of m.scx.update.snaps.items) field.0 ≡ true = rw p.covers (or_left (eqb field.0 field.0) false (eq-eqb field.0 field.0 refl)) in
+      let i : IsAmong m.scx.update.snaps.items field.0 = snap_there m.scx.update.snaps.items field.0 (sym (has_nodes m.scx.update.snaps.items field.0) ∙ one) in (
+        over_nodes (field.0 ∷ []) [] field y (λ k e. cc) p,
+        ((z i.at i.within).moment, (z i.at i.within).found.within, subst (λ (k : ℕ). IsLastLook c.pass.0 v.past v.start (z i.at i.within).moment k) i.is (z i.at i.within).source, subst (λ (k : ℕ). IsUnchanged v.layout v.past (z i.at i.within).moment k) i.is (unchanged (SetOf field y) i.at i.within z i.within)),
+      )
+  does (LlxOf cell) p z = absurd p
+  does (VlxOf cells) p z = absurd p
+
+-- a row that wins wins for the SCX that its owner has in hand
+module _ (v : View) (c : Client) (sound : IsSound v) (row : Row) (s : ℕ) (l : Lawful v.layout (row ⊳ v.past)) (wins : UpdateWins v.past row s) (own : IsOwnScx v.layout c.pass.0 s) where
+  in_progress : IsInProgress v.past s
+  in_progress = wins_in_progress v.layout v.past row s l wins
+
+  is_win : IsWin v.past row s
+  is_win = update_win (facts_before v.layout v.past row l) wins
+
+  -- without one in hand no update of its wins
+  no_hand_wins : Stands v c (no_hand c.share) → ⊥
+  no_hand_wins x =
+      let same : s ≡ c.share.next_scx = own_in_hand v.layout v.past c.pass.0 s c.share.next_scx sound.lawful x.over own in_progress in
+      next_idle v.layout v.past c.pass.0 c.share _ _ sound.lawful x.share (rw same at own) (rw same at in_progress)
+
+  from_run : (run : Run) (then : Option Put) (x : Works v c run then) → ((m : PutRun) → run ≡ Scx m → m.scx.scx.0 ≡ s → IsOfPut v c row m x.start x.is_pass) → IsEntryFrom v c row s
+  from_run (Scx m) then x f =
+      let same : s ≡ m.scx.scx.0 = own_in_hand v.layout v.past c.pass.0 s m.scx.scx.0 sound.lawful x.stands.over own in_progress in
+      let y = f m refl (sym same) in
+      subst (λ (k : ℕ). IsEntryFrom v c row k) (sym same) record {
+        number = x.stands.number;
+        first = x.won.no (rw same at (update_is_first (facts_before v.layout v.past row l) wins));
+        command = x.command;
+        is = x.is;
+        entered = update_entry c.pass.0 m.scx;
+        logged = y.at.logged;
+        same_scx = refl;
+        same_owner = refl;
+        same_call = called x.command then x.run_of;
+        called = y.called ∙ called x.command then x.run_of;
+        does = by_then then x.run_of x.moments y;
+      }
+    where
+      called : (command : Command) (then : Option Put) → IsScxOf command c.number m then → m.scx.call ≡ c.number
+      called (ScxOf update) None p = p.called
+      called (SetOf field y) None p = p.called
+      called (ScxOf update) (Some put) p = absurd p
+      called (SetOf field y) (Some put) p = absurd p
+      called (LlxOf cell) then p = absurd p
+      called (VlxOf cells) then p = absurd p
+
+      by_then : (then : Option Put) → IsScxOf x.command c.number m then → HaveMoments v c.pass.0 x.command m.scx.update.snaps.items → IsOfPut v c row m x.start x.is_pass → IsEntryFor v.layout c.pass.0 v.past v.start v.linked (update_entry c.pass.0 m.scx) x.command
+      by_then None p z y = does v c row m x.start x.is_pass y x.command p z
+      by_then (Some put) p z y = absurd (none_then x.command put p)
+        where
+          none_then : (command : Command) (put : Put) → IsScxOf command c.number m (Some put) → ⊥
+          none_then (ScxOf update) put p = p
+          none_then (SetOf field y) put p = p
+          none_then (LlxOf cell) put p = p
+          none_then (VlxOf cells) put p = p
+  from_run (Llx m) then x f = absurd (no_hand_wins x.stands)
+  from_run (Vlx m) then x f = absurd (no_hand_wins x.stands)
+
+  -- and none wins for a client at rest
+  pub rest_wins_not : Rests v c → ⊥
+  rest_wins_not x = no_hand_wins x.stands
+
+-- a row of another client
+pub entry_by_others : (v : View) (c : Client) (q : Running) (row : Row) (s : ℕ) → IsSound v → Waits v c q → IsRun allows_all v.layout (row ⊳ v.past) → row.pass.0 ≢ c.pass.0 → UpdateWins v.past row s → IsOwnScx v.layout c.pass.0 s → IsEntryFrom v c row s
+entry_by_others v c q row s sound w run other wins own = from_run v c sound row s run.lawful wins own q.run q.then w.works of_put
+  where
+    call : MachineCall
+    call = machine_call v c w.works.is_pass w.works.start
+
+    of_put : (m : PutRun) → q.run ≡ Scx m → m.scx.scx.0 ≡ s → IsOfPut v c row m w.works.start w.works.is_pass
+    of_put m e same =
+        let before : put_waits allows_all m call v.past q.step = subst (λ (k : Run). run_waits k call v.past q.step) e w.waits in
+        let after : put_waits allows_all m call (row ⊳ v.past) q.step = subst (λ (k : Run). run_waits k call (row ⊳ v.past) q.step) e (run_keeps q.run call v.past q.step row run other w.waits) in
+        let win : IsWin v.past row m.scx.scx.0 = rw same (is_win v c sound row s run.lawful wins own) in
+        let named : IsNamedScx v.past m.scx.scx.0 = rw same (in_progress v c sound row s run.lawful wins own).named in
+        let y = put_entry allows_all m call (row ⊳ v.past) q.step row v.past run.lawful (inl refl) win after in
+        let z = put_full allows_all m call v.past q.step named before in
+        record { at = y.0; fresh = z.1.own; value_is = y.1; called = z.0.called }
+
+-- its own row
+pub entry_by_own : (v : View) (c : Client) (q : Running) (s : ℕ) → IsSound v → Waits v c q → UpdateWins v.past (own_row v c q.step) s → IsOwnScx v.layout c.pass.0 s → IsTold q.step.deed (value v.past q.step.word) (value v.past q.step.word) → IsEntryFrom v c (own_row v c q.step) s
+entry_by_own v c q s sound w wins own told = from_run v c sound (own_row v c q.step) s run.lawful wins own q.run q.then w.works of_put
+  where
+    call : MachineCall
+    call = machine_call v c w.works.is_pass w.works.start
+
+    run : IsRun allows_all v.layout (own_row v c q.step ⊳ v.past)
+    run = step_sound v c q sound w v.won
+
+    of_put : (m : PutRun) → q.run ≡ Scx m → m.scx.scx.0 ≡ s → IsOfPut v c (own_row v c q.step) m w.works.start w.works.is_pass
+    of_put m e same =
+        let before : put_waits allows_all m call v.past q.step = subst (λ (k : Run). run_waits k call v.past q.step) e w.waits in
+        let after : put_ready allows_all m call (own_row v c q.step ⊳ v.past) (Some (value v.past q.step.word)) = subst (λ (k : Run). run_ready k call (own_row v c q.step ⊳ v.past) (Some (value v.past q.step.word))) e (run_made q.run call v.past q.step (value v.past q.step.word) run told w.waits) in
+        let win : IsWin v.past (own_row v c q.step) m.scx.scx.0 = rw same (is_win v c sound (own_row v c q.step) s run.lawful wins own) in
+        let named : IsNamedScx v.past m.scx.scx.0 = rw same (in_progress v c sound (own_row v c q.step) s run.lawful wins own).named in
+        let y = put_entry_then allows_all m call (own_row v c q.step ⊳ v.past) (value v.past q.step.word) (own_row v c q.step) v.past run.lawful (inl refl) win after in
+        let z = put_full allows_all m call v.past q.step named before in
+        record { at = y.0; fresh = z.1.own; value_is = y.1; called = z.0.called }

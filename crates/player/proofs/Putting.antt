@@ -1,0 +1,254 @@
+-- How an SCX begins: with the next records of the share, and with snapshots that may be used.
+use Rattle.std.proofs.Common.{◌≡◌, ℕ, ◌+◌, ◌-◌, ◌<◌, ◌≤◌, ◌↔◌, map, ⊎_elim, true, cond, eqb, ne_eqb, List, [], ◌∷◌, length, if◌then◌else◌, Option, Some, None, slice_get, refl, sym, ◌∙◌, ap, subst, arith}
+use Rattle.std.proofs.Math.ListN.{set}
+use Rattle.arena.specs.declared.layout.Layout.{Layout}
+use Rattle.arena.specs.declared.word.Side.{Side}
+use Rattle.arena.specs.Share.{Left, HasNode as HasOwnNode, HasScx}
+use Rattle.arena.specs.History.{History, EndsWith}
+use Rattle.arena.specs.Fills.{IsOwnNode, IsOwnScx, IsTakenNode, IsTakenScx}
+use Rattle.arena.specs.Lawful.{HasWon}
+use Rattle.arena.proofs.Values.{ends_self}
+use Rattle.histories.proofs.Always.{facts}
+use Rattle.histories.proofs.Entries.{won_named}
+use Rattle.histories.proofs.Taking.{named_scx_taken}
+use Rattle.arena.specs.declared.number.NodeNo.{NodeNo}
+use Rattle.arena.specs.ScxRecords.{removes, side_of}
+use Rattle.prims.specs.Updates.{field_place}
+use Rattle.prims.specs.declared.update.Update.{Update}
+use Rattle.prims.specs.Snaps.{HasNode}
+use Rattle.prims.specs.ScxKnown.{IsUpdateOver, nodes_of}
+use Rattle.prims.specs.VlxKnown.{snap_at}
+use Rattle.prims.specs.PutSteps.{put_left}
+use Rattle.prims.specs.declared.snap.Snap.{Snap}
+use Rattle.prims.specs.declared.llx.LlxRun.{LlxRun}
+use Rattle.prims.specs.declared.put.PutRun.{PutRun}
+use Rattle.prims.specs.declared.llx.Llx.{Llx as LlxAnswer}
+use Rattle.prims.specs.declared.llx.Llx.TheVariants.{Snapshot as LlxSnapshot}
+use Rattle.prims.specs.declared.scx.ScxAt.TheVariants.{Start as ScxStart}
+use Rattle.prims.specs.declared.put.PutAt.TheVariants.{Start as PutStart}
+use Rattle.script.specs.declared.command.Command.{Command}
+use Rattle.script.specs.declared.command.Command.TheVariants.{Llx as LlxOf, Scx as ScxOf, Vlx as VlxOf, Set as SetOf}
+use Rattle.player.specs.declared.run.Run.TheVariants.{Llx, Scx}
+use Rattle.player.specs.declared.run.Ended.TheVariants as ended
+use Rattle.player.specs.declared.client.Client.{Client}
+use Rattle.player.specs.declared.client.Put.{Put}
+use Rattle.player.specs.declared.kept.Kept.{Kept}
+use Rattle.player.specs.declared.record.Answer.{Answer}
+use Rattle.player.specs.declared.record.Answer.TheVariants.{Snapshot, Finalized, Fail, Done, Lost, Same, Changed, Unlinked, Full}
+use Rattle.player.specs.declared.record.Resource.{Resource}
+use Rattle.player.specs.declared.record.Resource.TheVariants.{Nodes, Scx as ScxRecords}
+use Rattle.player.specs.Kept.{IsUsable, kept_of, node_of, found_of}
+use Rattle.player.specs.LawfulRun.{commands, IsLastLook, most_steps, IsEmpty}
+use Rattle.player.specs.View.{View, IsSound, IsShare, IsLlxOf, IsPutOf, no_hand, Stands, Rests, Starts, Answered, GoesOn, Told, IsFull, CanPut, Puts}
+use Rattle.prims.specs.Idle.{no_row_behind}
+use Rattle.prims.specs.Begun.{taken_since}
+use Rattle.prims.proofs.UntakenNodes.{taken_node_since}
+use Rattle.player.proofs.Over.{all_over, taken_one}
+use Rattle.player.proofs.Puts.{put_ready_first}
+use Rattle.player.proofs.Views.{left_own_node, left_own_scx}
+use Rattle.player.proofs.Snapshots.{has_snap, dropped, kept_without, unkept_without}
+use Rattle.player.proofs.Ends.{rests_kept, snapshot_usable, among_none, entered_none}
+
+-- A full share
+
+-- the answer of a share that is too small names what is used up
+pub record IsFullAnswer (lay : Layout) (c : ℕ) (h : History) (answer : Answer) : Type 0 where
+  pub what : Resource
+  pub left : ℕ
+  pub is : answer ≡ Full what left
+  pub empty : IsEmpty lay c h what left
+
+-- a share with a node left has one that is not taken
+next_node : (lay : Layout) (h : History) (c : ℕ) (left : Left) → IsShare lay h c left left.next_node left.next_scx → 0 < left.nodes → (n : ℕ) × IsOwnNode lay c n × ¬ IsTakenNode h n
+next_node lay h c left share some = (left.next_node, left_own_node lay h c left _ _ left.next_node share own, share.untaken_nodes left.next_node own)
+  where
+    own : HasOwnNode left left.next_node
+    own = record { from = omega arith; below = omega arith }
+
+pub full_answer : (lay : Layout) (h : History) (c : ℕ) (left : Left) (answer : Answer) → IsShare lay h c left left.next_node left.next_scx → IsFull left answer → IsFullAnswer lay c h answer
+full_answer lay h c left (Full Nodes k) share full = record { what = Nodes; left = k; is = refl; empty = (full.0, λ n own. share.taken_nodes n own (let a = own.below in let b = share.to_node in omega (arith, full.1))) }
+full_answer lay h c left (Full ScxRecords k) share full = record { what = ScxRecords; left = k; is = refl; empty = (full.0, λ s own. share.taken_scx s own (let a = own.below in let b = share.to_scx in omega (arith, full.1)), next_node lay h c left share full.2) }
+full_answer lay h c left (Snapshot a b) share full = absurd full
+full_answer lay h c left Finalized share full = absurd full
+full_answer lay h c left (Fail node scx) share full = absurd full
+full_answer lay h c left Done share full = absurd full
+full_answer lay h c left (Lost node scx) share full = absurd full
+full_answer lay h c left Same share full = absurd full
+full_answer lay h c left (Changed node scx) share full = absurd full
+full_answer lay h c left (Unlinked node) share full = absurd full
+
+-- The SCX of a set
+
+-- what is said of the snapshots if the SCX of the command is refused: that of a `set` has been taken now
+abbrev pub linked_now : View → Command → ℕ → Option History
+linked_now v (SetOf field x) n = cond (eqb field.0 n) (Some v.past) (v.linked n)
+linked_now v _ n = v.linked n
+
+single_snap : (snap : Snap) (i : ℕ) → i < length (snap ∷ []) → snap_at (snap ∷ []) i ≡ snap
+single_snap snap i p = rw (let e : i ≡ 0 = omega arith in e) refl
+
+-- a snapshot that an SCX follows is that of a set, and with it the SCX may begin
+pub can_put : (v : View) (old : Client) (kept : Kept) (m : LlxRun) (put : Put) (snap : Snap) → IsSound v → (x : Answered v old (Llx m) (Some put) (ended.Llx (LlxSnapshot snap))) → kept.found ≡ set old.kept.found (node_of (LlxSnapshot snap)) (found_of (LlxSnapshot snap)) → CanPut v (linked_now v x.works.command) (record old { kept = kept }) (snap ∷ []) [] (snap.node.0, put.side) put.value
+can_put v old kept m put snap sound x e = go x.works.command x.works.is x.works.run_of.1 x.few
+  where
+    usable : IsUsable v.layout old.pass.0 v.past snap v.past
+    usable = snapshot_usable v old m (Some put) snap sound x
+
+    -- its LLX has just loaded the info of the cell
+    looked : IsLastLook old.pass.0 v.past v.start v.past snap.node.0
+    looked = let y = x.answers.1 in record { row = y.row; before = y.before; is = y.is; since = subst (λ (s : History). EndsWith y.before s) x.works.begun y.since; own = y.own; kind = y.kind; word = rw x.answers.0.node y.word; none_since = λ later k e f. absurd (no_row_behind v.past k later e f) }
+
+    go : (command : Command) → slice_get (commands v.calls old.pass.0) v.answered ≡ Some command → IsLlxOf command m.node.0 (Some put) → v.steps + 40 ≤ most_steps command → CanPut v (linked_now v command) (record old { kept = kept }) (snap ∷ []) [] (snap.node.0, put.side) put.value
+    go (SetOf field y) is f few = record {
+      rests = rests_kept v old kept m (Some put) (LlxSnapshot snap) (linked_now v (SetOf field y)) sound x e (λ n. rw (x.answers.0.node ∙ f.0) refl);
+      others = λ n d. rw (ne_eqb field.0 n (λ q. d record { at = 0; within = omega arith; is = x.answers.0.node ∙ f.0 ∙ q })) refl;
+      since = subst (λ (s : History). EndsWith v.past s) x.works.begun x.works.since;
+      unwon = x.works.won;
+      usable = λ i p. (v.past, rw (single_snap snap i p) usable);
+      command = SetOf field y;
+      is = is;
+      moments = λ i p. record { moment = v.past; found = rw (single_snap snap i p) usable.found; source = rw (single_snap snap i p) looked };
+      took = x.works.took;
+      serves = λ k z. record {
+        called = z.called;
+        covers = z.covers ∙ ap (λ (n : ℕ). n ∷ []) (x.answers.0.node ∙ f.0);
+        finalizes = z.finalizes;
+        node = z.node ∙ x.answers.0.node ∙ f.0;
+        side = z.side ∙ f.1;
+        value = z.value ∙ f.2;
+      };
+      few = few;
+    }
+    go (LlxOf cell) is f few = absurd f
+    go (ScxOf update) is f few = absurd f
+    go (VlxOf cells) is f few = absurd f
+
+-- what it answers then
+pub told_put : (v : View) (old new : Client) (kept : Kept) (m : LlxRun) (put : Put) (snap : Snap) (answer : Option Answer) → (x : Answered v old (Llx m) (Some put) (ended.Llx (LlxSnapshot snap))) → Puts v (linked_now v x.works.command) (record old { kept = kept }) new answer → Told v old new answer
+told_put v old new kept m put snap None x p = record { same = record { pass = p.same.pass; number = p.same.number; next = p.same.next }; begin = p.begin; running = p.running; is = p.is; waits = p.waits }
+told_put v old new kept m put snap (Some answer) x p = go x.works.command x.works.is x.works.run_of.1 p.2
+  where
+    go : (command : Command) → slice_get (commands v.calls old.pass.0) v.answered ≡ Some command → IsLlxOf command m.node.0 (Some put) → Rests (record v { linked = linked_now v command }) new → Told v old new (Some answer)
+    go (SetOf field y) is f rests =
+        let w = full_answer v.layout v.past new.pass.0 new.share answer rests.stands.share p.3 in
+        subst (λ (a : Answer). Told v old new (Some a)) (sym w.is)
+        record {
+          same = record { pass = p.0.pass; number = p.0.number; next = p.0.next };
+          begin = p.1;
+          command = SetOf field y;
+          is = rw p.0.pass is;
+          rests = record { stands = rests.stands; none = rests.none };
+          answers = tt;
+          right = (w.empty, rw (sym (x.answers.0.node ∙ f.0)) (rw x.answers.0.node x.answers.0.not_final));
+          entry = entered_none (Full w.what w.left) v.won x.works.won (λ e. cc);
+          took = rw p.0.pass (taken_one v old.pass.0 (no_hand old.share) x.works.took);
+          late = λ turn e. rw p.1 (x.works.late turn e);
+        }
+    go (LlxOf cell) is f rests = absurd f
+    go (ScxOf update) is f rests = absurd f
+    go (VlxOf cells) is f rests = absurd f
+
+-- the same with what it has answered written out
+pub answered_put : (v : View) (c : Client) (m : LlxRun) (next : Option Put) (put : Put) (a : LlxAnswer) (snap : Snap) → next ≡ Some put → a ≡ LlxSnapshot snap → Answered v c (Llx m) next (ended.Llx a) → Answered v c (Llx m) (Some put) (ended.Llx (LlxSnapshot snap))
+answered_put v c m next put a snap e d x = subst (λ t. Answered v c (Llx m) t (ended.Llx (LlxSnapshot snap))) e (subst (λ t. Answered v c (Llx m) next (ended.Llx t)) d x)
+
+-- An SCX takes the next records of the share
+
+-- what is left once they are taken
+abbrev pub taken : Left → Left
+taken left = record { next_node = left.next_node + 1; nodes = left.nodes - 1; next_scx = left.next_scx + 1; scx = left.scx - 1 }
+
+taken_share : (lay : Layout) (h : History) (c : ℕ) (left : Left) → 0 < left.nodes → 0 < left.scx → IsShare lay h c left left.next_node left.next_scx → IsShare lay h c (taken left) left.next_node left.next_scx
+taken_share lay h c left some_node some_scx x = record {
+  from_node = let a = x.from_node in omega arith;
+  to_node = let a = x.to_node in omega arith;
+  from_scx = let a = x.from_scx in omega arith;
+  to_scx = let a = x.to_scx in omega arith;
+  taken_nodes = x.taken_nodes;
+  taken_scx = x.taken_scx;
+  unmentioned = λ n p. x.unmentioned n record { from = let a = p.from in omega arith; below = let a = p.below in omega arith };
+  untaken_nodes = λ n p. x.untaken_nodes n record { from = let a = p.from in omega arith; below = let a = p.below in omega arith };
+  untaken = λ s p. x.untaken s record { from = let a = p.from in omega arith; below = let a = p.below in omega arith };
+}
+
+-- an SCX over an update of these snapshots
+pub put_of : (m : PutRun) (u : Update) (number : ℕ) (snaps : List Snap) (finalize : List NodeNo) (field : NodeNo × Side) (x : ℕ) → m.scx.update ≡ u → m.scx.call ≡ number → m.value ≡ x → u.snaps.items ≡ snaps → (snap_at snaps (field_place u)).node.0 ≡ field.0.0 → side_of u.plan.0 ≡ field.1 → ((j : ℕ) → j < length snaps → (removes u.plan.0 j ≡ true) ↔ HasNode finalize (snap_at snaps j).node.0) → IsPutOf m number (nodes_of snaps) (map (λ (n : NodeNo). n.0) finalize) (field.0.0, field.1) x
+put_of m u number snaps finalize field x e k w is at side removed = record {
+  called = k;
+  covers = rw (e, is) refl;
+  finalizes = rw (e, is) removed;
+  node = rw (e, is) at;
+  side = rw e side;
+  value = w;
+}
+
+-- with them the SCX may begin
+pub put_starts : (v : View) (linked : ℕ → Option History) (c : Client) (snaps : List Snap) (removed : List ℕ) (field : ℕ × Side) (x : ℕ) (kept : Kept) (m : PutRun) → IsSound v → CanPut v linked c snaps removed field x → 0 < c.share.nodes → 0 < c.share.scx → ((n : ℕ) → kept_of kept n ≡ (if has_snap snaps n then None else kept_of c.kept n)) → IsUpdateOver m.scx.update → m.scx.update.snaps.items ≡ snaps → m.scx.update.fresh ≡ c.share.next_node → m.scx.scx.0 ≡ c.share.next_scx → m.scx.at ≡ ScxStart → m.at ≡ PutStart → IsPutOf m c.number (nodes_of snaps) removed field x → put_left m ≤ 40 → Starts v (record c { share = taken c.share; kept = kept }) (Scx m) None
+put_starts v linked c snaps removed field x kept m sound can some_node some_scx left over is fresh scx start at of bound = record {
+  works = record {
+    stands = record {
+      is_pass = y.is_pass;
+      number = y.number;
+      place = y.place;
+      kept = kept_without c.kept kept snaps left v.layout c.pass.0 v.past linked v.linked can.others y.kept;
+      unkept = λ n i d. rw is (unkept_without c.kept kept snaps left linked v.linked can.others (λ n i d. ⊎_elim (λ z. absurd (among_none n z)) (λ z. z) (y.unkept n i d)) n i d);
+      dropped = λ n z. dropped c.kept kept snaps left n (rw is at z);
+      share = rw (fresh, scx) (taken_share v.layout v.past c.pass.0 c.share some_node some_scx y.share);
+      over = rw scx y.over;
+    };
+    newest = (omega (arith, fresh), omega (arith, scx), real);
+    command = can.command;
+    is = can.is;
+    run_of = can.serves m of;
+    is_pass = y.is_pass;
+    start = v.past;
+    since = ends_self v.past;
+    begun = can.since;
+    moments = rw is can.moments;
+    took = rw (fresh, scx) record { nodes = can.took.nodes; scx_records = can.took.scx_records };
+    room = record {
+      node_number = c.share.next_node;
+      own_node = left_own_node v.layout v.past c.pass.0 c.share _ _ c.share.next_node y.share own_node;
+      free_node = λ t. y.share.untaken_nodes c.share.next_node own_node (taken_node_since v.past v.start c.share.next_node can.since t);
+      scx_number = c.share.next_scx;
+      own_scx = left_own_scx v.layout v.past c.pass.0 c.share _ _ c.share.next_scx y.share own_scx;
+      free_scx = λ t. y.share.untaken c.share.next_scx own_scx (taken_since v.past v.start c.share.next_scx can.since t);
+    };
+    won = record { own = own; yes = λ w. absurd (unwon w); no = λ w. can.unwon };
+    late = λ turn e. let d = can.unwon in absurd (let z : v.won ≡ Some turn = e in cc);
+  };
+  none = can.rests.none;
+  ready = put_ready_first v.layout c.pass.0 c.number y.is_pass v.past m sound.lawful over (λ i p. rw is (let z = can.usable i (rw is at p) in z)) at start own
+      (rw scx y.share.taken_scx) free
+      (rw fresh (left_own_node v.layout v.past c.pass.0 c.share _ _ c.share.next_node y.share own_node))
+      (rw fresh y.share.taken_nodes) (rw fresh (y.share.unmentioned c.share.next_node own_node)) (all_over v.layout v.past c.pass.0 c.share _ _ y.share y.over);
+  few = let few = can.few in omega (arith, bound);
+}
+  where
+    y : Stands (record v { linked = linked }) c (no_hand c.share)
+    y = can.rests.stands
+
+    own_node : HasOwnNode c.share c.share.next_node
+    own_node = record { from = omega arith; below = omega arith }
+
+    own_scx : HasScx c.share c.share.next_scx
+    own_scx = record { from = omega arith; below = omega arith }
+
+    own : IsOwnScx v.layout c.pass.0 m.scx.scx.0
+    own = rw scx (left_own_scx v.layout v.past c.pass.0 c.share _ _ c.share.next_scx y.share own_scx)
+
+    real : m.scx.scx.0 ≡ 0 → ⊥
+    real e = let a = own.from in omega arith
+
+    free : ¬ IsTakenScx v.past m.scx.scx.0
+    free = rw scx (y.share.untaken c.share.next_scx own_scx)
+
+    unwon : ¬ HasWon v.past m.scx.scx.0
+    unwon w = free (named_scx_taken v.layout v.past m.scx.scx.0 sound.lawful real (won_named m.scx.scx.0 (facts v.layout v.past sound.lawful) w))
+
+pub puts : (v : View) (linked : ℕ → Option History) (old : Client) (share : Left) (kept : Kept) (new : Client) (answer : Option Answer) → (answer ≡ None) × GoesOn v (record old { share = share; kept = kept }) new → Puts v linked old new answer
+puts v linked old share kept new answer x = rw x.0 record { same = record { pass = x.1.same.pass; number = x.1.same.number; next = x.1.same.next }; begin = x.1.begin; running = x.1.running; is = x.1.is; waits = x.1.waits }
+
+pub put_runs : (v : View) (linked : ℕ → Option History) (old mid : Client) (kept : Kept) (new : Client) (m : PutRun) (answer : Option Answer) → mid ≡ record old { share = taken old.share } → (Starts v (record mid { kept = kept }) (Scx m) None → (answer ≡ None) × GoesOn v (record mid { kept = kept }) new) → Starts v (record old { share = taken old.share; kept = kept }) (Scx m) None → Puts v linked old new answer
+put_runs v linked old mid kept new m answer e f starts =
+    puts v linked old (taken old.share) kept new answer (subst (λ (n : Client). Starts v (record n { kept = kept }) (Scx m) None → (answer ≡ None) × GoesOn v (record n { kept = kept }) new) e f starts)

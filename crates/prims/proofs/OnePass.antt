@@ -1,0 +1,31 @@
+-- Where there is one pass, nothing is ever in its way.
+use Rattle.std.proofs.Common.{◌≡◌, ℕ, ◌<◌, arith}
+use Rattle.arena.specs.declared.layout.Layout.{Layout}
+use Rattle.arena.specs.declared.number.NodeNo.{NodeNo}
+use Rattle.arena.specs.declared.number.ScxNo.{ScxNo}
+use Rattle.arena.specs.History.{History}
+use Rattle.arena.specs.Fills.{IsOthersScx}
+use Rattle.arena.specs.Machines.{Call}
+use Rattle.prims.specs.LlxKnown.{llx_answers}
+use Rattle.prims.specs.PutKnown.{put_answers}
+use Rattle.prims.specs.VlxKnown.{vlx_answers}
+use Rattle.prims.specs.declared.llx.LlxRun.{LlxRun}
+use Rattle.prims.specs.declared.llx.Llx.TheVariants.{Fail}
+use Rattle.prims.specs.declared.put.PutRun.{PutRun}
+use Rattle.prims.specs.declared.scx.Scx.TheVariants.{Lost}
+use Rattle.prims.specs.declared.vlx.VlxRun.{VlxRun}
+use Rattle.prims.specs.declared.vlx.Vlx.TheVariants.{Changed}
+
+-- no SCX-record is another pass's
+pub no_others : (lay : Layout) (c s : ℕ) → lay.passes ≡ 1 → c < lay.passes → IsOthersScx lay c s → ⊥
+no_others lay c s one is_pass o = let p = o.is_pass in o.is_other (omega arith)
+
+-- so LLX never fails, SCX never loses, and VLX finds no change
+pub alone_never_fails : (m : LlxRun) (c : Call) (h : History) (node : NodeNo) (s : ScxNo) → c.layout.passes ≡ 1 → llx_answers m c h (Fail node s) → ⊥
+alone_never_fails m c h node s one x = no_others c.layout c.pass s.0 one c.is_pass x.1.others
+
+pub alone_never_loses : (m : PutRun) (c : Call) (h : History) (node : NodeNo) (s : ScxNo) → c.layout.passes ≡ 1 → put_answers m c h (Lost node s) → ⊥
+alone_never_loses m c h node s one x = no_others c.layout c.pass s.0 one c.is_pass x.1.blamed.others
+
+pub alone_never_changes : (m : VlxRun) (c : Call) (h : History) (node : NodeNo) (s : ScxNo) → c.layout.passes ≡ 1 → vlx_answers m c h (Changed node s) → ⊥
+alone_never_changes m c h node s one x = no_others c.layout c.pass s.0 one c.is_pass x.blamed.others

@@ -1,0 +1,42 @@
+-- What snapshots say of moments: when a node was as its snapshot found it, and who was in the way since.
+use Rattle.std.specs.Prelude.{◌≡◌, ◌≢◌, ℕ, false}
+use Rattle.arena.specs.declared.layout.Layout.{Layout}
+use Rattle.arena.specs.Words.{info, state}
+use Rattle.arena.specs.History.{History, value, EndsWith}
+use Rattle.arena.specs.Fills.{IsNamed, IsOwnScx, IsOthersScx, IsTakenScx}
+use Rattle.arena.specs.Log.{log, last, is_final}
+use Rattle.arena.specs.Blame.{IsMember, IsInProgress, WasInTheWay}
+use Rattle.arena.specs.Machines.{Call}
+use Rattle.prims.specs.declared.snap.Snap.{Snap}
+
+-- at this moment of the history the node was as the snapshot found it: it was named and not final, and its info named the snapshot's SCX-record, which was finished
+pub record IsMoment (lay : Layout) (h : History) (snap : Snap) (k : History) : Type 0 where
+  pub within : EndsWith h k
+  pub named : IsNamed lay k snap.node.0
+  pub rest : value k (state snap.scx.0) ≢ 0
+  pub info : value k (info snap.node.0) ≡ snap.scx.0
+  pub not_final : is_final (log lay k) snap.node.0 ≡ false
+
+-- after k the last entry over the node is still that of every moment of the snapshot, and the node is not final
+pub record IsAsFound (lay : Layout) (h k : History) (snap : Snap) : Type 0 where
+  pub last : (moment : History) → IsMoment lay h snap moment → last (log lay k) snap.node.0 ≡ last (log lay moment) snap.node.0
+  pub not_final : is_final (log lay k) snap.node.0 ≡ false
+
+-- the snapshot has a moment since which no SCX-record of the pass c has covered its node while in progress
+pub record IsLeftAlone (lay : Layout) (c : ℕ) (h : History) (snap : Snap) : Type 0 where
+  pub moment : History
+  pub found : IsMoment lay h snap moment
+  pub idle : (k : History) → EndsWith h k → EndsWith k moment → (t : ℕ) → IsOwnScx lay c t → IsInProgress k t → ¬ IsMember k t snap.node.0
+
+-- each SCX-record that the pass c has taken is finished, but for s
+abbrev pub AreOver : Layout → ℕ → ℕ → History → Type 0
+AreOver lay c s h = (t : ℕ) → IsOwnScx lay c t → t ≢ s → IsTakenScx h t → value h (state t) ≢ 0
+
+-- since the moment `start` the pass c has taken no SCX-record of its own but s
+abbrev pub HasTakenOnly : Layout → ℕ → ℕ → History → History → Type 0
+HasTakenOnly lay c s start h = (t : ℕ) → IsOwnScx lay c t → t ≢ s → ¬ IsTakenScx start t → ¬ IsTakenScx h t
+
+-- an SCX-record of another pass has changed the node since the snapshot: since every moment of the snapshot it was in the way
+pub record IsBlamed (c : Call) (h : History) (snap : Snap) (v : ℕ) : Type 0 where
+  pub in_the_way : (moment : History) → IsMoment c.layout h snap moment → WasInTheWay h moment snap.node.0 v
+  pub others : IsOthersScx c.layout c.pass v

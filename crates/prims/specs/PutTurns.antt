@@ -1,0 +1,85 @@
+-- What a run of SCX with a fresh cell knows and waits for after each of its turns.
+use Rattle.std.proofs.Common.{◌≡◌, ℕ, Option, Some, None, List, [], ◌∷◌, inr, sym, ◌∙◌, ap, subst}
+use Rattle.arena.specs.declared.layout.Layout.{Layout}
+use Rattle.arena.specs.declared.machine.Turn.{Turn}
+use Rattle.arena.specs.declared.machine.Turn.TheVariants.{Ask, Done as End}
+use Rattle.arena.specs.declared.number.NodeNo.{NodeNo}
+use Rattle.arena.specs.declared.step.Row.{Row}
+use Rattle.arena.specs.declared.step.Deed.TheVariants.{Store}
+use Rattle.arena.specs.declared.step.Kind.TheVariants.{Fill}
+use Rattle.arena.specs.declared.word.Word.TheVariants.{Node}
+use Rattle.arena.specs.declared.word.NodeWord.TheVariants.{Value}
+use Rattle.arena.specs.declared.word.ScxWord.TheVariants.{New}
+use Rattle.arena.specs.Words.{node, scx}
+use Rattle.arena.specs.History.{History, ◌⊳◌, value, EndsWith}
+use Rattle.arena.specs.ScxRecords.{new}
+use Rattle.arena.specs.Fills.{IsNamed, by_scx}
+use Rattle.arena.specs.Lawful.{Lawful}
+use Rattle.arena.specs.Log.{Entry}
+use Rattle.arena.specs.Machines.{Call, MatchTurn}
+use Rattle.arena.proofs.Values.{ends_self, ends_trans, held_now}
+use Rattle.histories.proofs.Moments.{node_since}
+use Rattle.prims.specs.Wins.{IsWonAt, won_logged, won_was_named}
+use Rattle.prims.specs.ScxKnown.{IsUnderWay, IsEntryAt, scx_ready, scx_waits, scx_answers}
+use Rattle.prims.specs.PutKnown.{HasValue, IsFirstPut, put_waits_at, put_waits, put_told_at, put_ready, put_answers}
+use Rattle.prims.specs.declared.scx.ScxRun.{ScxRun}
+use Rattle.prims.specs.declared.scx.Scx.{Scx as Answer}
+use Rattle.prims.specs.declared.scx.Scx.TheVariants.{Done, Lost}
+use Rattle.prims.specs.declared.put.PutRun.{PutRun}
+use Rattle.prims.specs.declared.put.PutAt.TheVariants.{Start, Fill as AtFill, Scx}
+
+-- a call that begins now
+pub first_way : (allows : Layout → History → ℕ → Type 0) (m : PutRun) (c : Call) (h : History) → IsFirstPut allows m c h → IsUnderWay c h m.scx.scx.0 m.scx.update.snaps.items
+first_way allows m c h x = record {
+  begun = record { since = rw x.begins (ends_self c.start); clear = rw x.begins at x.clear; only = λ t own d free. rw x.begins free };
+  free = rw x.begins at x.free;
+}
+
+-- what it has been told
+
+pub told_first : (allows : Layout → History → ℕ → Type 0) (m : PutRun) (c : Call) (h : History) (got : Option ℕ) → m.at ≡ Start → put_ready allows m c h got → IsFirstPut allows m c h
+told_first allows m c h None is r = r
+told_first allows m c h (Some v) is r = absurd (rw is at r)
+
+pub told_scx : (allows : Layout → History → ℕ → Type 0) (m : PutRun) (c : Call) (h : History) (got : Option ℕ) → m.at ≡ Scx → put_ready allows m c h got → HasValue c h m × scx_ready allows m.scx c h got
+told_scx allows m c h None is r = absurd (let e : Scx ≡ Start = sym is ∙ r.stands in cc)
+told_scx allows m c h (Some v) is r = subst (λ at. put_told_at allows c h m at v) is r
+
+-- it fills its fresh node
+pub turn_start : (allows : Layout → History → ℕ → Type 0) (m : PutRun) (c : Call) (h : History) (n : NodeNo) → IsFirstPut allows m c h → n.0 ≡ m.scx.update.fresh → put_waits_at allows c h (record m { at = AtFill }) AtFill record { kind = Fill; word = Node n Value; deed = Store m.value }
+turn_start allows m c h n x e = (x.hand, first_way allows m c h x, ap (λ (k : ℕ). record { kind = Fill; word = node k Value; deed = Store m.value }) e)
+
+-- the fresh node of the newest entry
+newest_fresh : List Entry → ℕ
+newest_fresh [] = 0
+newest_fresh (e ∷ es) = e.new
+
+-- before the entry the fresh node had the value that it has
+pub value_before : (c : Call) (h : History) (m : ScxRun) (v : ℕ) (row : Row) (before : History) → Lawful c.layout h → IsEntryAt c h m row before → value h (node m.update.fresh Value) ≡ v → value before (node m.update.fresh Value) ≡ v
+unfolding newest_fresh
+value_before c h m v row before l x e = sym (node_since c.layout h before m.update.fresh Value l before_ends tt named) ∙ e
+  where
+    y : IsWonAt c.layout h m.scx.0
+    y = record { row = row; before = before; within = x.within; wins = x.wins }
+
+    before_ends : EndsWith h before
+    before_ends = ends_trans h (row ⊳ before) before x.within (inr (ends_self before))
+
+    fresh : new before m.scx.0 ≡ m.update.fresh
+    fresh = ap newest_fresh (sym (won_logged c.layout h m.scx.0 l y) ∙ x.logged)
+
+    named : IsNamed c.layout before m.update.fresh
+    named = subst (IsNamed c.layout before) fresh (by_scx m.scx.0 New (won_was_named c.layout h m.scx.0 l y) tt (held_now before (scx m.scx.0 New)))
+
+module _ (allows : Layout → History → ℕ → Type 0) (c : Call) (h : History) (l : Lawful c.layout h) where
+  -- the value of its fresh node
+  value_of : (old now : PutRun) → now.value ≡ old.value → now.scx.update ≡ old.scx.update → HasValue c h old → HasValue c h now
+  value_of old now e f x = record { own = rw f x.own; taken = rw f x.taken; value = rw (e, f) x.value }
+
+  -- its SCX goes on, or has answered
+  pub turn_scx : (old now : PutRun) (turn : Turn Answer) → now.at ≡ Scx → now.value ≡ old.value → now.scx.update ≡ old.scx.update → HasValue c h old → MatchTurn turn (scx_waits allows now.scx c h) (scx_answers now.scx c h) → MatchTurn turn (put_waits allows now c h) (put_answers now c h)
+  turn_scx old now (Ask s) is e f x w = subst (λ at. put_waits_at allows c h now at s) (sym is) (value_of old now e f x, w)
+  turn_scx old now (End Done) is e f x a =
+      let y : HasValue c h now = value_of old now e f x in
+      (y, record { done = a; value = value_before c h now.scx now.value a.entry.row a.entry.before l a.entry.is y.value })
+  turn_scx old now (End (Lost n s)) is e f x a = (value_of old now e f x, a)
