@@ -1,5 +1,6 @@
 -- Rows of seven fields as text.
-use Rattle.std.specs.Prelude.{ℕ, ◌≡◌, ◌-◌, List, [], ◌++◌, length, replicate, Option, Some, false}
+use Rattle.std.specs.Prelude.{ℕ, ◌≡◌, ◌-◌, ◌≤◌, List, [], ◌∷◌, ◌++◌, length, replicate, take, Option, Some, false}
+use Rattle.std.specs.Io.KnownBytes.{Appends}
 use Rattle.csv.specs.Records.{fields_of, partial_of}
 use Rattle.csv.specs.Writing.{default_writer, fields_written, has_written, row_text, text_written, writer_setup}
 use Rattle.report.specs.declared.page.Page.{Page}
@@ -11,6 +12,15 @@ seven fields = fields ++ replicate (7 - length fields) []
 -- their line
 abbrev pub line_of : List (List ℕ) → List ℕ
 line_of fields = row_text default_writer (seven fields)
+
+-- the lines of rows, one after another
+unfoldable pub rows_text : List (List (List ℕ)) → List ℕ
+rows_text [] = []
+rows_text (row ∷ rows) = line_of row ++ rows_text rows
+
+-- known bytes grow by a beginning of a text
+abbrev pub BeginsWith : Option (List ℕ) → Option (List ℕ) → List ℕ → Type 0
+BeginsWith old new text = (n : ℕ) × (n ≤ length text) × Appends old new (take n text)
 
 -- the fields that a page has for its next line
 abbrev pub page_row : Page → List (List ℕ)

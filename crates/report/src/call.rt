@@ -1,6 +1,10 @@
 //! Calls as rows.
-ghost use Rattle.std.specs.Prelude.{◌≡◌, [], OnOk};
-ghost use Rattle.report.specs.Rows.{IsReady, page_row};
+ghost use Rattle.std.specs.Prelude.{◌≡◌, ◌+◌, ◌^◌, ◌<◌, List, [], ◌∷◌, ◌++◌, length, reverse, IfOk, OnOk, codes, decimal, string_bytes};
+ghost use Rattle.std.specs.Io.KnownBytes.{Appends};
+ghost use Rattle.script.specs.declared.command.Call.{Call};
+ghost use Rattle.report.specs.Counts.{HasCounted};
+ghost use Rattle.report.specs.Report.{call_rows, change_text, command_row, numbers_text, side_text};
+ghost use Rattle.report.specs.Rows.{IsReady, line_of, page_row, page_text, rows_text};
 
 use crate::count::Counts;
 use crate::page::Page;
@@ -10,11 +14,10 @@ use script::{Call, Cell, Command};
 use std::alloc::{AllocError, Global};
 
 /// The lines of some calls, of which `counts` has counted those before.
-pub fn calls_text(
-    alloc: Global,
-    calls: &[Call],
-    counts: &mut Counts,
-) -> Result<Vec<u8>, AllocError> {
+pub fn calls_text(alloc: Global, calls: &[Call], counts: &mut Counts) -> Result<Vec<u8>, AllocError>
+    ensures rows { (earlier : List Call) → HasCounted counts.old earlier → length earlier + length calls.now < 2 ^ 64 → IfOk result (λ text. text.items ≡ rows_text (call_rows earlier calls.now)) }
+    ensures counted { (earlier : List Call) → HasCounted counts.old earlier → length earlier + length calls.now < 2 ^ 64 → OnOk result (HasCounted counts.new (reverse calls.now ++ earlier)) }
+{
     let mut page = Page::new(alloc);
     for call in calls {
         let number = counts.count(call.client)?;
@@ -28,6 +31,7 @@ fn call_line(alloc: Global, page: &mut Page, call: &Call, number: u64) -> Result
     requires row { page_row page.old ≡ [] }
     ensures ready { OnOk result (IsReady page.new) }
     ensures row { OnOk result (page_row page.new ≡ []) }
+    ensures line { OnOk result (Appends (page_text page.old) (page_text page.new) (line_of (codes "call" ∷ decimal call.now.client.0 ∷ decimal number ∷ command_row call.now.command))) }
 {
     let command = CommandText::of(alloc, &call.command)?;
     page.text("call")?;
@@ -50,7 +54,9 @@ struct CommandText {
 }
 
 impl CommandText {
-    fn of(alloc: Global, command: &Command) -> Result<CommandText, AllocError> {
+    fn of(alloc: Global, command: &Command) -> Result<CommandText, AllocError>
+        ensures { IfOk result (λ t. t.name.now ∷ string_bytes t.a ∷ string_bytes t.b ∷ string_bytes t.c ∷ [] ≡ command_row command.now) }
+    {
         match command {
             Command::Llx { cell } => Ok(CommandText {
                 name: "llx",
@@ -81,7 +87,9 @@ impl CommandText {
 }
 
 /// The numbers of cells, parted by one space.
-fn cells_text(alloc: Global, cells: &[Cell]) -> Result<String, AllocError> {
+fn cells_text(alloc: Global, cells: &[Cell]) -> Result<String, AllocError>
+    ensures { IfOk result (λ text. string_bytes text ≡ numbers_text cells.now) }
+{
     let mut text = String::new(alloc);
     for (place, cell) in cells.iter().enumerate() {
         if place > 0 {
@@ -93,11 +101,15 @@ fn cells_text(alloc: Global, cells: &[Cell]) -> Result<String, AllocError> {
 }
 
 /// A field and the value that goes into it.
-fn change_text(alloc: Global, field: (Cell, Side), value: u64) -> Result<String, AllocError> {
+fn change_text(alloc: Global, field: (Cell, Side), value: u64) -> Result<String, AllocError>
+    ensures { IfOk result (λ text. string_bytes text ≡ change_text field value) }
+{
     format!(in alloc; "{} {} {value}", field.0.node().0, side_name(field.1))
 }
 
-fn side_name(side: Side) -> &'static str {
+fn side_name(side: Side) -> &'static str
+    ensures { result.now ≡ side_text side }
+{
     match side {
         Side::Left => "left",
         Side::Right => "right",

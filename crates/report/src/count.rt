@@ -1,4 +1,7 @@
 //! Counts of clients' calls.
+ghost use Rattle.std.specs.Prelude.{◌≡◌, ◌≢◌, ℕ, ◌+◌, ◌-◌, ◌^◌, [], IfOk, OnOk, OnErr, min};
+ghost use Rattle.report.specs.Counts.{HasCounted, count_of};
+
 use arena::PassNo;
 use std::alloc::{AllocError, Global};
 
@@ -9,13 +12,20 @@ pub struct Counts {
 }
 
 impl Counts {
-    pub fn new(alloc: Global) -> Counts {
+    pub fn new(alloc: Global) -> Counts
+        ensures { HasCounted result [] }
+    {
         let calls = Vec::new(alloc);
         Counts { calls }
     }
 
     /// How many calls of the client there were before the one that is counted now.
-    pub fn count(&mut self, client: PassNo) -> Result<u64, AllocError> {
+    pub fn count(&mut self, client: PassNo) -> Result<u64, AllocError>
+        ensures before { IfOk result (λ before. before ≡ count_of self.old client.0) }
+        ensures counted { OnOk result (count_of self.new client.0 ≡ min (count_of self.old client.0 + 1) (2 ^ 64 - 1)) }
+        ensures unchanged { OnErr result (count_of self.new client.0 ≡ count_of self.old client.0) }
+        ensures others { (other : ℕ) → other ≢ client.0 → count_of self.new other ≡ count_of self.old other }
+    {
         let place = client.0 as usize;
         if self.calls.len() <= place {
             self.calls.resize(place + 1, 0)?;

@@ -1,6 +1,8 @@
 //! The first rows of a report and its last one.
-ghost use Rattle.std.specs.Prelude.{◌≡◌, [], OnOk};
-ghost use Rattle.report.specs.Rows.{IsReady, page_row};
+ghost use Rattle.std.specs.Prelude.{◌≡◌, [], ◌∷◌, IfOk, OnOk};
+ghost use Rattle.std.specs.Io.KnownBytes.{Appends};
+ghost use Rattle.report.specs.Report.{end_row, limits_row, title_row};
+ghost use Rattle.report.specs.Rows.{IsReady, line_of, page_row, page_text, rows_text};
 
 use crate::page::Page;
 use arena::{Limits, Mode};
@@ -9,7 +11,9 @@ use script::Script;
 use std::alloc::{AllocError, Global};
 
 /// The two lines that say what was run and how large it was.
-pub fn head_text(alloc: Global, script: &Script) -> Result<Vec<u8>, AllocError> {
+pub fn head_text(alloc: Global, script: &Script) -> Result<Vec<u8>, AllocError>
+    ensures { IfOk result (λ text. text.items ≡ rows_text (title_row script.now.layout.mode ∷ limits_row script.now.limits ∷ [])) }
+{
     let mut page = Page::new(alloc);
     title_line(&mut page, script.layout.mode)?;
     limits_line(&mut page, &script.limits)?;
@@ -21,6 +25,7 @@ fn title_line(page: &mut Page, mode: Mode) -> Result<(), AllocError>
     requires row { page_row page.old ≡ [] }
     ensures ready { OnOk result (IsReady page.new) }
     ensures row { OnOk result (page_row page.new ≡ []) }
+    ensures text { OnOk result (Appends (page_text page.old) (page_text page.new) (line_of (title_row mode))) }
 {
     let name = match mode {
         Mode::Tree => "tree",
@@ -35,6 +40,9 @@ fn title_line(page: &mut Page, mode: Mode) -> Result<(), AllocError>
 fn limits_line(page: &mut Page, limits: &Limits) -> Result<(), AllocError>
     requires ready { IsReady page.old }
     requires row { page_row page.old ≡ [] }
+    ensures ready { OnOk result (IsReady page.new) }
+    ensures row { OnOk result (page_row page.new ≡ []) }
+    ensures text { OnOk result (Appends (page_text page.old) (page_text page.new) (line_of (limits_row limits.now))) }
 {
     page.text("limits")?;
     page.number(u64::from(limits.passes))?;
@@ -45,7 +53,9 @@ fn limits_line(page: &mut Page, limits: &Limits) -> Result<(), AllocError>
 }
 
 /// The line that counts the others by their kind.
-pub fn end_text(alloc: Global, lines: &[Line]) -> Result<Vec<u8>, AllocError> {
+pub fn end_text(alloc: Global, lines: &[Line]) -> Result<Vec<u8>, AllocError>
+    ensures { IfOk result (λ text. text.items ≡ rows_text (end_row lines.now ∷ [])) }
+{
     let steps = lines.iter().filter(|line| matches!(line, Line::Step(_)));
     let replies = lines.iter().filter(|line| matches!(line, Line::Reply(_)));
     let logs = lines.iter().filter(|line| matches!(line, Line::Log(_)));

@@ -1,6 +1,10 @@
 //! Steps, log entries and replies as rows.
-ghost use Rattle.std.specs.Prelude.{◌≡◌, [], OnOk};
-ghost use Rattle.report.specs.Rows.{IsReady, page_row};
+ghost use Rattle.std.specs.Prelude.{◌≡◌, [], IfOk, OnOk, map};
+ghost use Rattle.std.specs.Io.KnownBytes.{Appends};
+ghost use Rattle.player.specs.declared.record.Line.TheVariants.{Step as StepLine, Log, Reply as ReplyLine};
+ghost use Rattle.player.specs.declared.record.Row.TheVariants.{Step as Made, Idle};
+ghost use Rattle.report.specs.Report.{line_row};
+ghost use Rattle.report.specs.Rows.{IsReady, line_of, page_row, page_text, rows_text};
 
 use crate::answer::answer_text;
 use crate::page::Page;
@@ -11,7 +15,9 @@ use script::kind_name;
 use std::alloc::{AllocError, Global};
 
 /// The text of some lines of a run.
-pub fn lines_text(alloc: Global, lines: &[Line]) -> Result<Vec<u8>, AllocError> {
+pub fn lines_text(alloc: Global, lines: &[Line]) -> Result<Vec<u8>, AllocError>
+    ensures { IfOk result (λ text. text.items ≡ rows_text (map line_row lines.now)) }
+{
     let mut page = Page::new(alloc);
     for line in lines {
         put_line(alloc, &mut page, line)?;
@@ -24,6 +30,7 @@ fn put_line(alloc: Global, page: &mut Page, line: &Line) -> Result<(), AllocErro
     requires row { page_row page.old ≡ [] }
     ensures ready { OnOk result (IsReady page.new) }
     ensures row { OnOk result (page_row page.new ≡ []) }
+    ensures text { OnOk result (Appends (page_text page.old) (page_text page.new) (line_of (line_row line.now))) }
 {
     match line {
         Line::Step(Row::Step { number, row }) => step_line(alloc, page, *number, row),
@@ -43,6 +50,7 @@ fn step_line(
     requires row { page_row page.old ≡ [] }
     ensures ready { OnOk result (IsReady page.new) }
     ensures row { OnOk result (page_row page.new ≡ []) }
+    ensures text { OnOk result (Appends (page_text page.old) (page_text page.new) (line_of (line_row (StepLine (Made number row.now))))) }
 {
     page.text("step")?;
     page.number(number)?;
@@ -59,6 +67,7 @@ fn idle_line(page: &mut Page, number: u64, client: PassNo) -> Result<(), AllocEr
     requires row { page_row page.old ≡ [] }
     ensures ready { OnOk result (IsReady page.new) }
     ensures row { OnOk result (page_row page.new ≡ []) }
+    ensures text { OnOk result (Appends (page_text page.old) (page_text page.new) (line_of (line_row (StepLine (Idle number client))))) }
 {
     page.text("step")?;
     page.number(number)?;
@@ -72,6 +81,7 @@ fn log_line(alloc: Global, page: &mut Page, entry: &Entry) -> Result<(), AllocEr
     requires row { page_row page.old ≡ [] }
     ensures ready { OnOk result (IsReady page.new) }
     ensures row { OnOk result (page_row page.new ≡ []) }
+    ensures text { OnOk result (Appends (page_text page.old) (page_text page.new) (line_of (line_row (Log entry.now)))) }
 {
     let scx = format!(in alloc; "s{}", entry.scx.0)?;
     page.text("log")?;
@@ -88,6 +98,7 @@ fn reply_line(alloc: Global, page: &mut Page, reply: &Reply) -> Result<(), Alloc
     requires row { page_row page.old ≡ [] }
     ensures ready { OnOk result (IsReady page.new) }
     ensures row { OnOk result (page_row page.new ≡ []) }
+    ensures text { OnOk result (Appends (page_text page.old) (page_text page.new) (line_of (line_row (ReplyLine reply.now)))) }
 {
     page.text("reply")?;
     page.number(u64::from(reply.client.0))?;

@@ -1,6 +1,7 @@
 //! Bytes on their way out.
-ghost use Rattle.std.specs.Prelude.{◌≡◌, ◌+◌, ◌-◌, ◌^◌, ◌≤◌, ℕ, OnOk, OnErr, length, take, min};
+ghost use Rattle.std.specs.Prelude.{◌≡◌, ◌+◌, ◌-◌, ◌^◌, OnOk, OnErr, min};
 ghost use Rattle.std.specs.Io.KnownBytes.{Appends};
+ghost use Rattle.report.specs.Rows.{BeginsWith};
 
 use crate::fault::WriteFault;
 use script::Metered;
@@ -9,7 +10,7 @@ use std::io::Write;
 /// Writes all bytes, or those before a failed write.
 pub fn send<W: Write>(text: &[u8], to: &mut Metered<W>) -> Result<(), WriteFault>
     ensures all { OnOk result (Appends (W.contents to.old.inner) (W.contents to.new.inner) text.now) }
-    ensures beginning { OnErr result ((n : ℕ) × (n ≤ length text.now) × Appends (W.contents to.old.inner) (W.contents to.new.inner) (take n text.now)) }
+    ensures beginning { OnErr result (BeginsWith (W.contents to.old.inner) (W.contents to.new.inner) text.now) }
     ensures ok { OnOk result (to.new.failures ≡ to.old.failures) }
     ensures err { OnErr result (to.new.failures ≡ min (to.old.failures + 1) (2 ^ 64 - 1)) }
     ensures why { OnErr result (result ≡ Err WriteFault.Write) }

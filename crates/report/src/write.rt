@@ -1,5 +1,8 @@
 //! The whole report.
-ghost use Rattle.std.specs.Prelude.{◌≡◌, ◌+◌, ◌-◌, ◌^◌, OnOk, IsErrOf, min};
+ghost use Rattle.std.specs.Prelude.{◌≡◌, [], ◌+◌, ◌-◌, ◌^◌, OnOk, OnErr, IsErrOf, map, min};
+ghost use Rattle.std.specs.Io.KnownBytes.{Appends};
+ghost use Rattle.report.specs.Report.{call_rows, line_row, report_text};
+ghost use Rattle.report.specs.Rows.{BeginsWith, rows_text};
 
 use crate::call::calls_text;
 use crate::count::Counts;
@@ -23,6 +26,8 @@ pub fn write_record<W: Write>(
     record: &Record,
     to: &mut Metered<W>,
 ) -> Result<(), WriteFault>
+    ensures all { OnOk result (Appends (W.contents to.old.inner) (W.contents to.new.inner) (report_text «record».now.script «record».now.lines.items)) }
+    ensures beginning { OnErr result (BeginsWith (W.contents to.old.inner) (W.contents to.new.inner) (report_text «record».now.script «record».now.lines.items)) }
     ensures ok { OnOk result (to.new.failures ≡ to.old.failures) }
     ensures no_memory { IsErrOf result WriteFault.NoMemory → to.new.failures ≡ to.old.failures }
     ensures write { IsErrOf result WriteFault.Write → to.new.failures ≡ min (to.old.failures + 1) (2 ^ 64 - 1) }
@@ -39,6 +44,8 @@ fn write_calls<W: Write>(
     calls: &[Call],
     to: &mut Metered<W>,
 ) -> Result<(), WriteFault>
+    ensures all { OnOk result (Appends (W.contents to.old.inner) (W.contents to.new.inner) (rows_text (call_rows [] calls.now))) }
+    ensures beginning { OnErr result (BeginsWith (W.contents to.old.inner) (W.contents to.new.inner) (rows_text (call_rows [] calls.now))) }
     ensures ok { OnOk result (to.new.failures ≡ to.old.failures) }
     ensures no_memory { IsErrOf result WriteFault.NoMemory → to.new.failures ≡ to.old.failures }
     ensures write { IsErrOf result WriteFault.Write → to.new.failures ≡ min (to.old.failures + 1) (2 ^ 64 - 1) }
@@ -55,6 +62,8 @@ fn write_lines<W: Write>(
     lines: &[Line],
     to: &mut Metered<W>,
 ) -> Result<(), WriteFault>
+    ensures all { OnOk result (Appends (W.contents to.old.inner) (W.contents to.new.inner) (rows_text (map line_row lines.now))) }
+    ensures beginning { OnErr result (BeginsWith (W.contents to.old.inner) (W.contents to.new.inner) (rows_text (map line_row lines.now))) }
     ensures ok { OnOk result (to.new.failures ≡ to.old.failures) }
     ensures no_memory { IsErrOf result WriteFault.NoMemory → to.new.failures ≡ to.old.failures }
     ensures write { IsErrOf result WriteFault.Write → to.new.failures ≡ min (to.old.failures + 1) (2 ^ 64 - 1) }

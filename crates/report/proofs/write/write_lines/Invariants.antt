@@ -1,5 +1,11 @@
-use Rattle.std.proofs.Common.{◌≡◌}
+use Rattle.std.proofs.Common.{◌≡◌, map}
+use Rattle.report.specs.Report.{line_row}
+use Rattle.report.specs.Rows.{rows_text}
+use Rattle.report.proofs.Texts.{IsSent}
 use Rattle.report.proofs.write.write_lines.Given as goal
 
 abbrev pub invariant-loop-some : goal.invariant-loop-some
-invariant-loop-some g l = l.to.failures ≡ l.fn.to.failures
+invariant-loop-some g l = record {
+  failures : l.to.failures ≡ l.fn.to.failures;
+  sent : IsSent (g.W.Write.contents l.fn.to.inner) (g.W.Write.contents l.to.inner) (rows_text (map line_row l.some-iterator.rest.now)) (rows_text (map line_row l.fn.lines));
+}

@@ -1,0 +1,57 @@
+-- Rows of calls, and their text, in parts.
+use Rattle.std.proofs.Common.{arith, ◌≡◌, List, [], ◌∷◌, ◌++◌, ℕ, ◌+◌, Option, Some, Result, Ok, Err, IfOk, OnOk, rules, refl, sym, ◌∙◌, ap, append_assoc, append-nil, length, length-append, reverse}
+use Rattle.std.proofs.lemmas.Grind.{reverse_onto}
+use Rattle.std.proofs.lemmas.List.{reverse-append, length-reverse}
+use Rattle.std.proofs.KnownBytes.{Appends-kept}
+use Rattle.std.specs.Io.KnownBytes.{Appends, Keeps}
+use Rattle.script.specs.declared.command.Call.{Call}
+use Rattle.report.specs.Rows.{line_of, rows_text}
+use Rattle.report.specs.Report.{call_row, call_rows}
+use Rattle.report.proofs.Texts.{rows_after}
+
+-- the calls that were made after the first one and these
+reverse_after : (x : Call) (xs earlier : List Call) → reverse xs ++ x ∷ earlier ≡ reverse (x ∷ xs) ++ earlier
+reverse_after x xs earlier = sym (append_assoc (reverse xs) (x ∷ []) earlier) ∙ ap (λ calls. calls ++ earlier) (sym (reverse_onto xs x []))
+
+pub call_rows_after : (earlier xs ys : List Call) → call_rows earlier (xs ++ ys) ≡ call_rows earlier xs ++ call_rows (reverse xs ++ earlier) ys
+unfolding call_rows
+call_rows_after earlier [] ys = refl
+call_rows_after earlier (x ∷ xs) ys =
+    ap (λ rows. call_row earlier x ∷ rows) (call_rows_after (x ∷ earlier) xs ys ∙ ap (λ before. call_rows (x ∷ earlier) xs ++ call_rows before ys) (reverse_after x xs earlier))
+
+-- the text of the rows of two parts of the calls
+pub call_text_append : (earlier xs ys : List Call) → rows_text (call_rows earlier (xs ++ ys)) ≡ rows_text (call_rows earlier xs) ++ rows_text (call_rows (reverse xs ++ earlier) ys)
+call_text_append earlier xs ys = ap rows_text (call_rows_after earlier xs ys) ∙ rows_after (call_rows earlier xs) (call_rows (reverse xs ++ earlier) ys)
+
+-- one more call after others
+pub call_text_more : (earlier done : List Call) (call : Call) → rows_text (call_rows earlier (done ++ call ∷ [])) ≡ rows_text (call_rows earlier done) ++ line_of (call_row (reverse done ++ earlier) call)
+unfolding call_rows rows_text
+call_text_more earlier done call =
+    call_text_append earlier done (call ∷ []) ∙ ap (λ text. rows_text (call_rows earlier done) ++ text) (append-nil (line_of (call_row (reverse done ++ earlier) call)))
+
+pub calls_before_more : (earlier done : List Call) (call : Call) → reverse (done ++ call ∷ []) ++ earlier ≡ call ∷ (reverse done ++ earlier)
+calls_before_more earlier done call = ap (λ calls. calls ++ earlier) (reverse-append done (call ∷ []))
+
+pub calls_before_length : (earlier done : List Call) → length (reverse done ++ earlier) ≡ length done + length earlier
+calls_before_length earlier done = length-append (reverse done) earlier ∙ ap (λ n. n + length earlier) (length-reverse done)
+
+-- Texts that are made
+
+pub no_call_text : (earlier : List Call) (page : Option (List ℕ)) → page ≡ Some [] → Appends (Some []) page (rows_text (call_rows earlier []))
+unfolding call_rows rows_text
+no_call_text earlier page empty = rw empty refl
+
+-- the text that is handed out is the one that was made
+pub made_text : {Text Fault : Type 0} (bytes : Text → List ℕ) (given : Result Text Fault) (page : Option (List ℕ)) (text : List ℕ) → Appends (Some []) page text → IfOk given (λ t. Keeps page (Some (bytes t))) → IfOk given (λ t. bytes t ≡ text)
+made_text bytes (Ok t) page text all kept = Appends-kept (Some []) page (Some (bytes t)) text all kept
+made_text bytes (Err fault) page text all kept = search rules
+
+pub so_on_ok : {T Fault So : Type 0} (given : Result T Fault) → So → OnOk given So
+so_on_ok (Ok t) so = so
+so_on_ok (Err fault) so = search rules
+
+-- nothing is left of no calls
+pub no_call_rows : (earlier calls : List Call) → length calls ≡ 0 → rows_text (call_rows earlier calls) ≡ []
+unfolding call_rows rows_text
+no_call_rows earlier [] e = refl
+no_call_rows earlier (call ∷ calls) e = absurd (omega (arith, e))

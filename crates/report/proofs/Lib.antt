@@ -1,0 +1,5 @@
+pub mod Texts
+pub mod Parts
+pub mod Numbers
+pub mod Counted
+pub mod CallRows

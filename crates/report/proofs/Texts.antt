@@ -1,0 +1,110 @@
+-- How known bytes grow line by line.
+use Rattle.std.proofs.Common.{◌≡◌, ℕ, suc, ◌+◌, ◌<◌, ◌≤◌, arith, IfOk, OnErr, OnOk, Result, Ok, Err, List, [], ◌∷◌, ◌++◌, ◌∙◌, ap, append_assoc, append-nil, drop, get_or, length, map, subst, sym, take, Option, Some, None, refl}
+use Rattle.std.proofs.lemmas.List.{drop_all, length-append, map-append, take-append-le}
+use Rattle.std.proofs.Math.Seq.{drop-cons, take-append-add, take-append_seam}
+use Rattle.std.specs.Io.KnownBytes.{Appends, Keeps}
+use Rattle.std.proofs.KnownBytes.{Appends-trans}
+use Rattle.report.specs.Rows.{BeginsWith, line_of, rows_text}
+
+-- known bytes are known when more come behind them
+pub appended : (old new : Option (List ℕ)) (known more : List ℕ) → old ≡ Some known → Appends old new more → new ≡ Some (known ++ more)
+appended None new known more e a = cc
+appended (Some old) None known more e a = absurd a
+appended (Some old) (Some new) known more e a = ap (λ bytes. Some bytes) (a ∙ ap (λ bytes. bytes ++ more) known_is)
+  where
+    known_is : old ≡ known
+    known_is = cc
+
+-- the first of the rows that are left goes out
+pub row_out : (so_far : List ℕ) (row : List (List ℕ)) (rows : List (List (List ℕ))) (whole : List ℕ) → so_far ++ rows_text (row ∷ rows) ≡ whole → (so_far ++ line_of row) ++ rows_text rows ≡ whole
+unfolding rows_text
+row_out so_far row rows whole e = append_assoc so_far (line_of row) (rows_text rows) ∙ e
+
+-- rows after rows
+pub rows_after : (rows more : List (List (List ℕ))) → rows_text (rows ++ more) ≡ rows_text rows ++ rows_text more
+unfolding rows_text
+rows_after [] more = refl
+rows_after (row ∷ rows) more = ap (λ text. line_of row ++ text) (rows_after rows more) ∙ sym (append_assoc (line_of row) (rows_text rows) (rows_text more))
+
+-- what a page has while the rows of some things go out one by one: those that are left make the text whole
+pub record IsMidway {A : Type 0} (row_of : A → List (List ℕ)) (left : List A) (text : Option (List ℕ)) (whole : List ℕ) : Type 0 where
+  pub so_far : List ℕ
+  pub is : text ≡ Some so_far
+  pub whole_is : so_far ++ rows_text (map row_of left) ≡ whole
+
+-- the row of the next thing goes out
+pub one_out : {A : Type 0} (row_of : A → List (List ℕ)) (things : List A) (k : ℕ) (d : A) (old new : Option (List ℕ)) (whole : List ℕ) → k < length things → Appends old new (line_of (row_of (get_or things k d))) → IsMidway row_of (drop k things) old whole → IsMidway row_of (drop (k + 1) things) new whole
+one_out row_of things k d old new whole within more x =
+    let next : k + 1 ≡ suc k = omega arith in
+    rw next (record {
+      so_far = x.so_far ++ line_of (row_of (get_or things k d));
+      is = appended old new x.so_far _ x.is more;
+      whole_is = row_out x.so_far (row_of (get_or things k d)) (map row_of (drop (suc k) things)) whole (rw (drop-cons things k d within) at x.whole_is);
+    })
+
+-- all have gone out
+pub all_out : {A : Type 0} (row_of : A → List (List ℕ)) (things : List A) (k : ℕ) (text : Option (List ℕ)) (out whole : List ℕ) → length things ≤ k → IsMidway row_of (drop k things) text whole → Keeps text (Some out) → out ≡ whole
+unfolding rows_text
+all_out row_of things k None out whole past x keeps = let e = x.is in cc
+all_out row_of things k (Some text) out whole past x keeps = keeps ∙ text_is ∙ sym (append-nil x.so_far) ∙ (rw (drop_all k things past) at x.whole_is)
+  where
+    text_is : text ≡ x.so_far
+    text_is = let e = x.is in cc
+
+-- what a value says, and what follows from that
+pub if_ok : {T E : Type 0} {P Q : T → Type 0} (r : Result T E) → ((t : T) → P t → Q t) → IfOk r P → IfOk r Q
+if_ok (Ok t) f p = f t p
+if_ok (Err e) f p = tt
+
+-- what a writer has while a text goes out piece by piece: what is left makes the text whole
+pub record IsSent (old new : Option (List ℕ)) (left whole : List ℕ) : Type 0 where
+  pub so_far : List ℕ
+  pub sent : Appends old new so_far
+  pub whole_is : so_far ++ left ≡ whole
+
+pub none_sent : (old : Option (List ℕ)) (whole : List ℕ) → IsSent old old whole whole
+none_sent None whole = record { so_far = []; sent = tt; whole_is = refl }
+none_sent (Some known) whole = record { so_far = []; sent = sym (append-nil known); whole_is = refl }
+
+-- a piece goes out
+pub piece_sent : (old mid new : Option (List ℕ)) (piece left whole : List ℕ) → IsSent old mid (piece ++ left) whole → Appends mid new piece → IsSent old new left whole
+piece_sent old mid new piece left whole x more = record { so_far = x.so_far ++ piece; sent = Appends-trans old mid new x.so_far piece x.sent more; whole_is = append_assoc x.so_far piece left ∙ x.whole_is }
+
+-- all has gone out
+pub all_sent : (old new : Option (List ℕ)) (whole : List ℕ) → IsSent old new [] whole → Appends old new whole
+all_sent old new whole x = subst (λ text. Appends old new text) (sym (append-nil x.so_far) ∙ x.whole_is) x.sent
+
+-- what has gone out so far is a beginning
+pub so_far_sent : (old new : Option (List ℕ)) (left whole : List ℕ) → IsSent old new left whole → BeginsWith old new whole
+so_far_sent old new left whole x =
+    subst (λ text. BeginsWith old new text) x.whole_is (length x.so_far, rw (length-append x.so_far left) (omega arith), rw (take-append_seam x.so_far left) x.sent)
+
+-- a beginning of a piece goes out
+pub part_sent : (old mid new : Option (List ℕ)) (piece left whole : List ℕ) → IsSent old mid (piece ++ left) whole → BeginsWith mid new piece → BeginsWith old new whole
+part_sent old mid new piece left whole x (n, bound, sent) =
+    subst (λ text. BeginsWith old new text) x.whole_is
+    (length x.so_far + n, rw (length-append x.so_far (piece ++ left), length-append piece left) (omega (arith, bound)), rw (take-append-add x.so_far (piece ++ left) n, take-append-le n piece left bound) (Appends-trans old mid new x.so_far (take n piece) x.sent sent))
+
+-- the rows of some things, and of those behind them
+pub rows_split : {A : Type 0} (row_of : A → List (List ℕ)) (all some more : List A) → all ≡ some ++ more → rows_text (map row_of all) ≡ rows_text (map row_of some) ++ rows_text (map row_of more)
+rows_split row_of all some more e = ap (λ things. rows_text (map row_of things)) e ∙ ap (λ rows. rows_text rows) (map-append row_of some more) ∙ rows_after (map row_of some) (map row_of more)
+
+-- nothing is left of nothing
+pub no_rows : {A : Type 0} (row_of : A → List (List ℕ)) (things : List A) → length things ≡ 0 → rows_text (map row_of things) ≡ []
+unfolding rows_text
+no_rows row_of [] e = refl
+no_rows row_of (thing ∷ things) e = absurd (omega (arith, e))
+
+-- what does not go by the error
+pub on_err : {T E : Type 0} {P : Type 0} (r : Result T E) → P → OnErr r P
+on_err (Ok t) p = tt
+on_err (Err e) p = p
+
+-- what follows in either case
+pub on_err_of : {T E : Type 0} {P Q : Type 0} (r : Result T E) → (P → Q) → OnErr r P → OnErr r Q
+on_err_of (Ok t) f p = tt
+on_err_of (Err e) f p = f p
+
+pub on_ok_of : {T E : Type 0} {P Q : Type 0} (r : Result T E) → (P → Q) → OnOk r P → OnOk r Q
+on_ok_of (Ok t) f p = f p
+on_ok_of (Err e) f p = tt

@@ -1,0 +1,51 @@
+use Rattle.std.proofs.Common.{arith, ◌≡◌, ◌+◌, ◌-◌, ◌^◌, ◌<◌, [], ◌∷◌, ◌++◌, Some, ap, sym, ◌∙◌, length, length-take, reverse, take}
+use Rattle.std.proofs.KnownBytes.{Appends-trans}
+use Rattle.std.proofs.lemmas.List.{take_more, take_all}
+use Rattle.std.specs.Io.KnownBytes.{Appends}
+use Rattle.report.specs.Report.{call_row, call_rows, calls_by}
+use Rattle.report.specs.Rows.{line_of, page_text, rows_text}
+use Rattle.report.proofs.Counted.{counted_more}
+use Rattle.report.proofs.CallRows.{call_text_more, calls_before_length, calls_before_more, made_text, no_call_text, so_on_ok}
+use Rattle.report.proofs.call.calls_text.Goals as goal
+
+pub loop-call-init : goal.loop-call-init
+loop-call-init c = record {
+  ready = c.new-page.ensures.ready;
+  row = c.new-page.ensures.row;
+  rows = λ earlier counted fits. no_call_text earlier _ c.new-page.ensures.text;
+  counted = λ earlier counted fits. counted;
+}
+
+pub loop-call-preserved : goal.loop-call-preserved
+loop-call-preserved c =
+    let inv = c.loop-call.invariant in
+    let calls = c.args.calls.now in
+    let i = c.loop-call.call-index in
+    let done = take i calls in
+    let call = c.call-item.result in
+    let now : take (i + 1) calls ≡ done ++ call ∷ [] = take_more calls i call (omega arith) ∙ ap (λ x. done ++ x ∷ []) (sym c.call-item.is) in
+    record {
+      ready = c.in_ok-call_line.ensures.ready;
+      row = c.in_ok-call_line.ensures.row;
+      rows = λ earlier counted fits.
+          let before = reverse done ++ earlier in
+          let number : c.in_ok-number.number ≡ calls_by call.client.0 before = c.in_ok-number.ensures.before ∙ inv.counted earlier counted fits call.client.0 in
+          let text = rows_text (call_rows earlier done) in
+          let line = line_of (call_row before call) in
+          let added : Appends (page_text c.loop-call.page) (page_text c.call_line.new.page) line = rw (← number) c.in_ok-call_line.ensures.line in
+          rw (now, call_text_more earlier done call) (Appends-trans (Some []) (page_text c.loop-call.page) (page_text c.call_line.new.page) text line (inv.rows earlier counted fits) added);
+      counted = λ earlier counted fits.
+          let before = reverse done ++ earlier in
+          let few : length before < 2 ^ 64 - 1 = omega (arith, calls_before_length earlier done, length-take i calls, fits) in
+          rw (now, calls_before_more earlier done call) (counted_more c.loop-call.counts c.count.new.self before call (inv.counted earlier counted fits) few c.in_ok-number.ensures.counted c.in_ok-number.ensures.others);
+    }
+
+pub returns-clause-rows : goal.returns-clause-rows
+returns-clause-rows c = λ earlier counted fits.
+    let all = take_all c.loop-call.call-index c.args.calls.now c.loop-call-test.false in
+    made_text (λ text. text.items) c.into_text.result (page_text c.loop-call.page) _ (rw all at (c.loop-call.invariant.rows earlier counted fits)) c.into_text.ensures
+
+pub returns-clause-counted : goal.returns-clause-counted
+returns-clause-counted c = λ earlier counted fits.
+    let all = take_all c.loop-call.call-index c.args.calls.now c.loop-call-test.false in
+    so_on_ok c.into_text.result (rw all at (c.loop-call.invariant.counted earlier counted fits))

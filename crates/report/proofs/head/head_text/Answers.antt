@@ -1,0 +1,12 @@
+use Rattle.std.proofs.Common.{subst, ◌≡◌, [], ◌∷◌, IfOk, Some, append-nil, append_assoc, rules}
+use Rattle.std.specs.Io.KnownBytes.{Keeps}
+use Rattle.report.specs.Report.{limits_row, title_row}
+use Rattle.report.specs.Rows.{page_text, rows_text}
+use Rattle.report.proofs.head.head_text.Goals as goal
+
+pub returns : goal.returns
+unfolding rows_text
+returns c =
+    let rows = title_row c.args.script.now.layout.mode ∷ limits_row c.args.script.now.limits ∷ [] in
+    let whole : page_text c.limits_line.new.page ≡ Some (rows_text rows) = search (rules, append_assoc, append-nil) in
+    subst (λ known. IfOk c.into_text.result (λ text. Keeps known (Some text.items))) whole c.into_text.ensures

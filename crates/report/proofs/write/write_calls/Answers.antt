@@ -1,0 +1,63 @@
+use Rattle.std.proofs.Common.{◌≡◌, ◌+◌, ◌<◌, ◌^◌, ◌++◌, ◌∙◌, [], ap, arith, length, length-append, refl, reverse, subst}
+use Rattle.std.proofs.lemmas.List.{length-reverse}
+use Rattle.report.specs.Report.{call_rows}
+use Rattle.report.specs.Rows.{rows_text}
+use Rattle.report.proofs.CallRows.{call_text_append, no_call_rows}
+use Rattle.report.proofs.Texts.{IsSent, all_sent, none_sent, on_err, part_sent, piece_sent, so_far_sent}
+use Rattle.report.proofs.write.write_calls.Goals as goal
+
+pub loop-some-init : goal.loop-some-init
+loop-some-init g c =
+    let rest = ap (λ iterator. iterator.rest.now) c.into_iter-some-iterator.ensures.into_iter_gives ∙ c.chunks-some-items.ensures.rest in
+    record {
+      failures = refl;
+      earlier = [];
+      counted = c.new-counts.ensures;
+      all = let e = ap (λ calls. length calls) rest in omega (arith, e);
+      sent = rw rest (none_sent _ _);
+    }
+
+pub loop-some-preserved : goal.loop-some-preserved
+loop-some-preserved g c =
+    let x = c.loop-some.invariant in
+    let some = c.in-Some.some.now in
+    let left = c.next.new.self.rest.now in
+    let split = c.in-Some.ensures.steps.1.0 in
+    let lengths : length c.loop-some.some-iterator.rest.now ≡ length some + length left = ap (λ calls. length calls) split ∙ length-append some left in
+    let bound : length x.earlier + length some < 2 ^ 64 = omega (arith, x.all, lengths) in
+    let old = g.W.Write.contents c.args.to.now.inner in
+    let mid = g.W.Write.contents c.loop-some.to.inner in
+    let whole = rows_text (call_rows [] c.args.calls.now) in
+    record {
+      failures = c.in_ok-send.ensures.ok ∙ x.failures;
+      earlier = reverse some ++ x.earlier;
+      counted = rw c.in_ok-calls_text.was at (c.calls_text.ensures.counted x.earlier x.counted bound);
+      all = rw (length-append (reverse some) x.earlier, length-reverse some) (omega (arith, x.all, lengths));
+      sent = piece_sent old mid _ (rows_text (call_rows x.earlier some)) (rows_text (call_rows (reverse some ++ x.earlier) left)) whole
+          (subst (λ text. IsSent old mid text whole) (ap (λ calls. rows_text (call_rows x.earlier calls)) split ∙ call_text_append x.earlier some left) x.sent)
+          (rw (c.as_slice.ensures.value ∙ (rw c.in_ok-calls_text.was at (c.calls_text.ensures.rows x.earlier x.counted bound))) at c.in_ok-send.ensures.all);
+    }
+
+pub returns-clause-all : goal.returns-clause-all
+returns-clause-all g c =
+    let x = c.loop-some.invariant in
+    all_sent _ _ _ (rw (no_call_rows x.earlier c.loop-some.some-iterator.rest.now c.in-None.ensures.steps.1.0) at x.sent)
+
+pub returns-in_err-calls_text-clause-beginning : goal.returns-in_err-calls_text-clause-beginning
+returns-in_err-calls_text-clause-beginning g c = on_err c.from_residual.result (so_far_sent _ _ _ _ c.loop-some.invariant.sent)
+
+pub returns-in_err-send-clause-beginning : goal.returns-in_err-send-clause-beginning
+returns-in_err-send-clause-beginning g c =
+    let x = c.loop-some.invariant in
+    let some = c.in-Some.some.now in
+    let left = c.next.new.self.rest.now in
+    let split = c.in-Some.ensures.steps.1.0 in
+    let lengths : length c.loop-some.some-iterator.rest.now ≡ length some + length left = ap (λ calls. length calls) split ∙ length-append some left in
+    let bound : length x.earlier + length some < 2 ^ 64 = omega (arith, x.all, lengths) in
+    let old = g.W.Write.contents c.args.to.now.inner in
+    let mid = g.W.Write.contents c.loop-some.to.inner in
+    let whole = rows_text (call_rows [] c.args.calls.now) in
+    on_err c.from_residual-in_err-send.result
+    (part_sent old mid _ (rows_text (call_rows x.earlier some)) (rows_text (call_rows (reverse some ++ x.earlier) left)) whole
+    (subst (λ text. IsSent old mid text whole) (ap (λ calls. rows_text (call_rows x.earlier calls)) split ∙ call_text_append x.earlier some left) x.sent)
+    (rw (c.as_slice.ensures.value ∙ (rw c.in_ok-calls_text.was at (c.calls_text.ensures.rows x.earlier x.counted bound))) at c.in_err-send.ensures.beginning))

@@ -1,0 +1,13 @@
+-- What was counted.
+use Rattle.std.specs.Prelude.{◌≡◌, ℕ, List, get_or}
+use Rattle.script.specs.declared.command.Call.{Call}
+use Rattle.report.specs.declared.count.Counts.{Counts}
+use Rattle.report.specs.Report.{calls_by}
+
+-- how many calls of a client were counted
+abbrev pub count_of : Counts → ℕ → ℕ
+count_of counts client = get_or counts.calls.items client 0
+
+-- these calls were counted, and no others
+abbrev pub HasCounted : Counts → List Call → Type 0
+HasCounted counts calls = (client : ℕ) → count_of counts client ≡ calls_by client calls

@@ -1,0 +1,118 @@
+-- The text of a report: the rows of its head, of the script's calls, of the run's lines, and one that counts them.
+use Rattle.std.specs.Prelude.{ℕ, suc, List, [], ◌∷◌, ◌++◌, codes, cond, decimal, eqb, map, Option, Some, None}
+use Rattle.arena.specs.declared.limits.Limits.{Limits}
+use Rattle.arena.specs.declared.limits.Mode.{Mode}
+use Rattle.arena.specs.declared.limits.Mode.TheVariants.{Tree, Records}
+use Rattle.arena.specs.declared.word.Side.{Side}
+use Rattle.arena.specs.declared.word.Side.TheVariants.{Left, Right}
+use Rattle.script.specs.Kinds.{kind_text}
+use Rattle.script.specs.Cells.{cells_of}
+use Rattle.script.specs.Update.{update_cells, update_finalize, update_field, update_value}
+use Rattle.script.specs.declared.command.Call.{Call}
+use Rattle.script.specs.declared.command.Command.{Command}
+use Rattle.script.specs.declared.command.Command.TheVariants.{Llx, Scx, Vlx, Set}
+use Rattle.script.specs.declared.script.Script.{Script}
+use Rattle.player.specs.declared.record.Line.{Line}
+use Rattle.player.specs.declared.record.Line.TheVariants.{Step, Log, Reply}
+use Rattle.player.specs.declared.record.Row.TheVariants.{Step as Made, Idle}
+use Rattle.report.specs.Answers.{answer_text}
+use Rattle.report.specs.Words.{word_text}
+use Rattle.report.specs.Rows.{rows_text}
+
+-- The head
+
+abbrev pub mode_text : Mode → List ℕ
+mode_text Tree = codes "tree"
+mode_text Records = codes "records"
+
+-- the format's version, and the mode
+abbrev pub title_row : Mode → List (List ℕ)
+title_row mode = codes "report" ∷ decimal 1 ∷ mode_text mode ∷ []
+
+abbrev pub limits_row : Limits → List (List ℕ)
+limits_row limits = codes "limits" ∷ decimal limits.passes ∷ decimal limits.nodes ∷ decimal limits.scx ∷ decimal limits.tries ∷ []
+
+-- Calls
+
+abbrev pub side_text : Side → List ℕ
+side_text Left = codes "left"
+side_text Right = codes "right"
+
+-- numbers, parted by one space
+unfoldable pub spaced : List ℕ → List ℕ
+spaced [] = []
+spaced (n ∷ ns) = codes " " ++ (decimal n ++ spaced ns)
+
+abbrev pub numbers_text : List ℕ → List ℕ
+numbers_text [] = []
+numbers_text (n ∷ ns) = decimal n ++ spaced ns
+
+-- a field and the value that goes into it
+abbrev pub change_text : ℕ × Side → ℕ → List ℕ
+change_text field value = decimal field.0 ++ (codes " " ++ (side_text field.1 ++ (codes " " ++ decimal value)))
+
+-- a command's name and its arguments, as a script has them
+abbrev pub command_row : Command → List (List ℕ)
+command_row (Llx cell) = codes "llx" ∷ decimal cell ∷ [] ∷ [] ∷ []
+command_row (Scx update) = codes "scx" ∷ numbers_text (update_cells update) ∷ numbers_text (update_finalize update) ∷ change_text (update_field update) (update_value update) ∷ []
+command_row (Vlx cells) = codes "vlx" ∷ numbers_text (cells_of cells) ∷ [] ∷ [] ∷ []
+command_row (Set field value) = codes "set" ∷ decimal field.0 ∷ side_text field.1 ∷ decimal value ∷ []
+
+-- how many of the calls are this client's
+abbrev pub calls_by : ℕ → List Call → ℕ
+calls_by c [] = 0
+calls_by c (call ∷ calls) = cond (eqb call.client.0 c) (suc (calls_by c calls)) (calls_by c calls)
+
+-- the client's number, and that of the call among the client's
+abbrev pub call_row : List Call → Call → List (List ℕ)
+call_row earlier call = codes "call" ∷ decimal call.client.0 ∷ decimal (calls_by call.client.0 earlier) ∷ command_row call.command
+
+-- those of calls that come after the earlier ones, of which the last comes first
+unfoldable pub call_rows : List Call → List Call → List (List (List ℕ))
+call_rows earlier [] = []
+call_rows earlier (call ∷ calls) = call_row earlier call ∷ call_rows (call ∷ earlier) calls
+
+-- Lines
+
+-- an empty field where there is none
+abbrev pub moment_text : Option ℕ → List ℕ
+moment_text (Some moment) = decimal moment
+moment_text None = []
+
+abbrev pub line_row : Line → List (List ℕ)
+line_row (Step (Made number row)) = codes "step" ∷ decimal number ∷ decimal row.pass.0 ∷ kind_text row.kind ∷ word_text row.word ∷ decimal row.before ∷ decimal row.after ∷ []
+line_row (Step (Idle number client)) = codes "step" ∷ decimal number ∷ decimal client.0 ∷ codes "idle" ∷ []
+line_row (Log entry) = codes "log" ∷ decimal entry.place ∷ decimal entry.step ∷ (codes "s" ++ decimal entry.scx.0) ∷ decimal entry.client.0 ∷ decimal entry.call ∷ []
+line_row (Reply reply) = codes "reply" ∷ decimal reply.client.0 ∷ decimal reply.call ∷ decimal reply.begin ∷ decimal reply.end ∷ moment_text reply.moment ∷ answer_text reply.answer ∷ []
+
+-- The end
+
+abbrev pub steps_in : List Line → ℕ
+steps_in [] = 0
+steps_in (Step row ∷ lines) = suc (steps_in lines)
+steps_in (Log entry ∷ lines) = steps_in lines
+steps_in (Reply reply ∷ lines) = steps_in lines
+
+abbrev pub replies_in : List Line → ℕ
+replies_in [] = 0
+replies_in (Step row ∷ lines) = replies_in lines
+replies_in (Log entry ∷ lines) = replies_in lines
+replies_in (Reply reply ∷ lines) = suc (replies_in lines)
+
+abbrev pub entries_in : List Line → ℕ
+entries_in [] = 0
+entries_in (Step row ∷ lines) = entries_in lines
+entries_in (Log entry ∷ lines) = suc (entries_in lines)
+entries_in (Reply reply ∷ lines) = entries_in lines
+
+-- the line that counts the others by their kind
+abbrev pub end_row : List Line → List (List ℕ)
+end_row lines = codes "end" ∷ decimal (steps_in lines) ∷ decimal (replies_in lines) ∷ decimal (entries_in lines) ∷ []
+
+-- The whole
+
+abbrev pub report_rows : Script → List Line → List (List (List ℕ))
+report_rows script lines = title_row script.layout.mode ∷ limits_row script.limits ∷ (call_rows [] script.calls.items ++ (map line_row lines ++ end_row lines ∷ []))
+
+abbrev pub report_text : Script → List Line → List ℕ
+report_text script lines = rows_text (report_rows script lines)
