@@ -3,6 +3,7 @@ use crate::fault::Fault;
 use crate::play::play_over;
 use crate::wish::{Wish, read_words};
 use arena::Mode;
+use script::Metered;
 use std::fs;
 use std::io::Write;
 use std::rt::Files;
@@ -26,7 +27,7 @@ pub fn ask_over<R: Files + AllocGlobal, O: Write, E: Write>(
                 Mode::Records,
                 &mut script,
                 &mut schedule,
-                out,
+                &mut Metered::new(out),
                 err,
             )
         }

@@ -1,17 +1,17 @@
 use crate::ask::ask_over;
 use crate::play::play_over;
 use arena::Mode;
-use script::FailAt;
+use script::{FailAt, Metered};
 use std::alloc::Global;
 use std::test::Fail;
 
 /// A set of a client, and then another client's snapshot of the cell.
-const SET: &str = "limits,2,10,10,1\n0,set,1,left,70\n1,llx,1,,\nend,2,,,\n";
+pub(crate) const SET: &str = "limits,2,10,10,1\n0,set,1,left,70\n1,llx,1,,\nend,2,,,\n";
 
-const IN_TURN: &str = "finish,0,,\nfinish,1,,\nend,2,,\n";
+pub(crate) const IN_TURN: &str = "finish,0,,\nfinish,1,,\nend,2,,\n";
 
 /// The report of the two.
-const SET_REPORT: &str = "\
+pub(crate) const SET_REPORT: &str = "\
 report,1,records,,,,
 limits,2,10,10,1,,
 call,0,0,set,1,left,70
@@ -55,7 +55,7 @@ end,30,2,1,,,
 /// A snapshot of a cell that no one has changed, and its report.
 const UNTOUCHED: &str = "limits,1,0,0,1\n0,llx,8,,\nend,1,,,\n";
 
-const UNTOUCHED_REPORT: &str = "\
+pub(crate) const UNTOUCHED_REPORT: &str = "\
 report,1,records,,,,
 limits,1,0,0,1,,
 call,0,0,llx,8,,
@@ -80,7 +80,7 @@ struct Ended {
 
 fn played(alloc: Global, script: &str, schedule: &str) -> Ended {
     let (mut script, mut schedule) = (script.as_bytes(), schedule.as_bytes());
-    let (mut out, mut err) = (Vec::new(alloc), Vec::new(alloc));
+    let (mut out, mut err) = (Metered::new(Vec::new(alloc)), Vec::new(alloc));
     let status = play_over(
         alloc,
         Mode::Records,
@@ -89,6 +89,7 @@ fn played(alloc: Global, script: &str, schedule: &str) -> Ended {
         &mut out,
         &mut err,
     );
+    let out = out.inner;
     Ended { status, out, err }
 }
 
@@ -406,7 +407,7 @@ fn refused_texts(rt: HostRuntime) {
 fn reader_fails_at_each_byte(rt: HostRuntime) {
     let alloc = rt.alloc();
     for bytes in 0..=SET.len() {
-        let (mut out, mut err) = (Vec::new(alloc), Vec::new(alloc));
+        let (mut out, mut err) = (Metered::new(Vec::new(alloc)), Vec::new(alloc));
         let mut script = FailAt::new(SET.as_bytes(), bytes);
         let mut schedule = IN_TURN.as_bytes();
         let status = play_over(
@@ -418,14 +419,14 @@ fn reader_fails_at_each_byte(rt: HostRuntime) {
             &mut err,
         );
         assert_eq!(rt;
-            (status, out.len()),
+            (status, out.inner.len()),
             (4, 0),
             "after {bytes} bytes of the script"
         );
         assert_eq!(rt; err.as_slice(), b"read failed\n".as_slice());
     }
     for bytes in 0..=IN_TURN.len() {
-        let (mut out, mut err) = (Vec::new(alloc), Vec::new(alloc));
+        let (mut out, mut err) = (Metered::new(Vec::new(alloc)), Vec::new(alloc));
         let mut script = SET.as_bytes();
         let mut schedule = FailAt::new(IN_TURN.as_bytes(), bytes);
         let status = play_over(
@@ -437,7 +438,7 @@ fn reader_fails_at_each_byte(rt: HostRuntime) {
             &mut err,
         );
         assert_eq!(rt;
-            (status, out.len()),
+            (status, out.inner.len()),
             (4, 0),
             "after {bytes} bytes of the schedule"
         );
@@ -450,7 +451,7 @@ fn writer_fails_at_each_byte(rt: HostRuntime) {
     let alloc = rt.alloc();
     for bytes in 0..SET_REPORT.len() {
         let (mut script, mut schedule) = (SET.as_bytes(), IN_TURN.as_bytes());
-        let mut out = FailAt::new(Vec::new(alloc), bytes);
+        let mut out = Metered::new(FailAt::new(Vec::new(alloc), bytes));
         let mut err = Vec::new(alloc);
         let status = play_over(
             alloc,
@@ -462,7 +463,7 @@ fn writer_fails_at_each_byte(rt: HostRuntime) {
         );
         assert_eq!(rt; status, 4, "after {bytes} bytes");
         assert_eq!(rt; err.as_slice(), b"write failed\n".as_slice());
-        assert_eq!(rt; out.inner.as_slice(), &SET_REPORT.as_bytes()[..bytes]);
+        assert_eq!(rt; out.inner.inner.as_slice(), &SET_REPORT.as_bytes()[..bytes]);
     }
 }
 

@@ -1,10 +1,16 @@
--- Counts of calls.
+-- Counts of calls and replies.
 use Rattle.std.proofs.Common.{◌≡◌, ◌≢◌, List, [], ◌∷◌, ℕ, ◌+◌, ◌-◌, ◌^◌, ◌<◌, ◌≤◌, Bool, true, false, refl, sym, ◌∙◌, arith, length, min, suc, cond, eqb}
 use Rattle.std.proofs.lemmas.Bool.{eqb-true, eqb-false}
 use Rattle.script.specs.declared.command.Call.{Call}
 use Rattle.report.specs.declared.count.Counts.{Counts}
 use Rattle.report.specs.Report.{calls_by}
-use Rattle.report.specs.Counts.{HasCounted, count_of}
+use Rattle.player.specs.declared.record.Line.{Line}
+use Rattle.player.specs.declared.record.Line.TheVariants.{Step, Log, Reply}
+use Rattle.player.specs.declared.record.Row.TheVariants.{Step as Made, Idle}
+use Rattle.player.specs.declared.record.Reply.{Reply as ReplyLine}
+use Rattle.player.specs.Turns.{answered}
+use Rattle.report.specs.Numbered.{AreNumbered, IsOfNextCall}
+use Rattle.report.specs.Counts.{HasCounted, HasCountedReplies, count_of}
 
 -- a client has no more calls than there are
 pub calls_by_bound : (client : ℕ) (calls : List Call) → calls_by client calls ≤ length calls
@@ -14,16 +20,48 @@ calls_by_bound client (call ∷ calls) = go (eqb call.client.0 client) (calls_by
   go true bound = omega (arith, bound)
   go false bound = omega (arith, bound)
 
+-- the count of a client after one more of some client
+one_more : (old new : Counts) (c client n : ℕ) → count_of old client ≡ n → n < 2 ^ 64 - 1
+    → (c ≡ client → count_of new c ≡ min (count_of old c + 1) (2 ^ 64 - 1))
+    → (client ≢ c → count_of new client ≡ count_of old client)
+    → count_of new client ≡ cond (eqb c client) (suc n) n
+one_more old new c client n before fits more other = go (eqb c client) refl where
+  go : (same : Bool) → eqb c client ≡ same → count_of new client ≡ cond same (suc n) n
+  go true same =
+      let is : c ≡ client = eqb-true c client same in
+      let told : count_of new client ≡ min (count_of old client + 1) (2 ^ 64 - 1) = rw (← is) (more is) in
+      omega (arith, told, before, fits)
+  go false same = other (λ is. eqb-false c client same (sym is)) ∙ before
+
 -- the counts after one more call
 pub counted_more : (old new : Counts) (earlier : List Call) (call : Call) → HasCounted old earlier → length earlier < 2 ^ 64 - 1
     → count_of new call.client.0 ≡ min (count_of old call.client.0 + 1) (2 ^ 64 - 1)
     → ((other : ℕ) → other ≢ call.client.0 → count_of new other ≡ count_of old other)
     → HasCounted new (call ∷ earlier)
-counted_more old new earlier call counted fits more others client = go (eqb call.client.0 client) refl where
-  go : (same : Bool) → eqb call.client.0 client ≡ same → count_of new client ≡ cond same (suc (calls_by client earlier)) (calls_by client earlier)
-  go true same =
-      let is : call.client.0 ≡ client = eqb-true call.client.0 client same in
-      let told : count_of new client ≡ min (count_of old client + 1) (2 ^ 64 - 1) = rw (← is) more in
-      let before = counted client in
-      omega (arith, told, before, fits, calls_by_bound client earlier)
-  go false same = others client (λ is. eqb-false call.client.0 client same (sym is)) ∙ counted client
+counted_more old new earlier call counted fits more others client =
+    one_more old new call.client.0 client (calls_by client earlier) (counted client) (omega (arith, fits, calls_by_bound client earlier)) (λ _. more) (others client)
+
+-- a client has no more replies than there are lines
+answered_bound : (client : ℕ) (lines : List Line) → answered lines client ≤ length lines
+answered_bound client [] = omega arith
+answered_bound client (Step row ∷ lines) = omega (arith, answered_bound client lines)
+answered_bound client (Log entry ∷ lines) = omega (arith, answered_bound client lines)
+answered_bound client (Reply reply ∷ lines) = go (eqb reply.client.0 client) (answered_bound client lines) where
+  go : (same : Bool) → answered lines client ≤ length lines → cond same (suc (answered lines client)) (answered lines client) ≤ suc (length lines)
+  go true bound = omega (arith, bound)
+  go false bound = omega (arith, bound)
+
+-- the counts after one more reply
+pub counted_reply : (old new : Counts) (passes : ℕ) (lines : List Line) (reply : ReplyLine) → HasCountedReplies old passes lines → length lines < 2 ^ 64 - 1
+    → (reply.client.0 < passes → count_of new reply.client.0 ≡ min (count_of old reply.client.0 + 1) (2 ^ 64 - 1))
+    → ((other : ℕ) → other < passes → other ≢ reply.client.0 → count_of new other ≡ count_of old other)
+    → HasCountedReplies new passes (Reply reply ∷ lines)
+counted_reply old new passes lines reply counted fits more others client below =
+    one_more old new reply.client.0 client (answered lines client) (counted client below) (omega (arith, fits, answered_bound client lines)) (λ is. more (rw is below)) (others client below)
+
+-- a step of the call that comes next, behind numbered lines
+pub numbered_more : (passes : ℕ) (counts : Counts) (lines : List Line) (line : Line) → HasCountedReplies counts passes lines → IsOfNextCall (count_of counts) line → AreNumbered passes lines → AreNumbered passes (line ∷ lines)
+numbered_more passes counts lines (Step (Made number row)) counted next numbered = (λ below. next ∙ counted row.pass.0 below, numbered)
+numbered_more passes counts lines (Step (Idle number client)) counted next numbered = numbered
+numbered_more passes counts lines (Log entry) counted next numbered = numbered
+numbered_more passes counts lines (Reply reply) counted next numbered = numbered

@@ -3,3 +3,5 @@ pub mod Parts
 pub mod Numbers
 pub mod Counted
 pub mod CallRows
+pub mod Reading
+pub mod RoundTrip

@@ -3,7 +3,8 @@ use Rattle.std.proofs.Common.{◌≡◌, List, [], ◌∷◌, ◌++◌, ◌∙�
 use Rattle.std.specs.Io.KnownBytes.{Appends}
 use Rattle.script.specs.declared.script.Script.{Script}
 use Rattle.player.specs.declared.record.Line.{Line}
-use Rattle.report.specs.Report.{call_rows, end_row, limits_row, line_row, report_text, title_row}
+use Rattle.script.specs.Rows.{limits_row}
+use Rattle.report.specs.Report.{call_rows, end_row, line_row, report_text, title_row}
 use Rattle.report.specs.Rows.{BeginsWith, rows_text}
 use Rattle.report.proofs.Texts.{IsSent, all_sent, none_sent, part_sent, piece_sent, rows_after}
 

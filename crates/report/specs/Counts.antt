@@ -1,5 +1,7 @@
 -- What was counted.
-use Rattle.std.specs.Prelude.{◌≡◌, ℕ, List, get_or}
+use Rattle.std.specs.Prelude.{◌≡◌, ◌<◌, ℕ, List, get_or}
+use Rattle.player.specs.declared.record.Line.{Line}
+use Rattle.player.specs.Turns.{answered}
 use Rattle.script.specs.declared.command.Call.{Call}
 use Rattle.report.specs.declared.count.Counts.{Counts}
 use Rattle.report.specs.Report.{calls_by}
@@ -11,3 +13,7 @@ count_of counts client = get_or counts.calls.items client 0
 -- these calls were counted, and no others
 abbrev pub HasCounted : Counts → List Call → Type 0
 HasCounted counts calls = (client : ℕ) → count_of counts client ≡ calls_by client calls
+
+-- the replies in these lines were counted, of so many clients; the newest line comes first
+abbrev pub HasCountedReplies : Counts → ℕ → List Line → Type 0
+HasCountedReplies counts passes lines = (client : ℕ) → client < passes → count_of counts client ≡ answered lines client

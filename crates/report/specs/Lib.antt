@@ -3,3 +3,5 @@ pub mod Answers
 pub mod Rows
 pub mod Report
 pub mod Counts
+pub mod Faults
+pub mod Numbered

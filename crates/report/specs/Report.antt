@@ -1,16 +1,11 @@
 -- The text of a report: the rows of its head, of the script's calls, of the run's lines, and one that counts them.
 use Rattle.std.specs.Prelude.{ℕ, suc, List, [], ◌∷◌, ◌++◌, codes, cond, decimal, eqb, map, Option, Some, None}
-use Rattle.arena.specs.declared.limits.Limits.{Limits}
 use Rattle.arena.specs.declared.limits.Mode.{Mode}
 use Rattle.arena.specs.declared.limits.Mode.TheVariants.{Tree, Records}
-use Rattle.arena.specs.declared.word.Side.{Side}
-use Rattle.arena.specs.declared.word.Side.TheVariants.{Left, Right}
 use Rattle.script.specs.Kinds.{kind_text}
-use Rattle.script.specs.Cells.{cells_of}
-use Rattle.script.specs.Update.{update_cells, update_finalize, update_field, update_value}
+use Rattle.script.specs.Commands.{command_row}
+use Rattle.script.specs.Rows.{limits_row}
 use Rattle.script.specs.declared.command.Call.{Call}
-use Rattle.script.specs.declared.command.Command.{Command}
-use Rattle.script.specs.declared.command.Command.TheVariants.{Llx, Scx, Vlx, Set}
 use Rattle.script.specs.declared.script.Script.{Script}
 use Rattle.player.specs.declared.record.Line.{Line}
 use Rattle.player.specs.declared.record.Line.TheVariants.{Step, Log, Reply}
@@ -29,34 +24,7 @@ mode_text Records = codes "records"
 abbrev pub title_row : Mode → List (List ℕ)
 title_row mode = codes "report" ∷ decimal 1 ∷ mode_text mode ∷ []
 
-abbrev pub limits_row : Limits → List (List ℕ)
-limits_row limits = codes "limits" ∷ decimal limits.passes ∷ decimal limits.nodes ∷ decimal limits.scx ∷ decimal limits.tries ∷ []
-
 -- Calls
-
-abbrev pub side_text : Side → List ℕ
-side_text Left = codes "left"
-side_text Right = codes "right"
-
--- numbers, parted by one space
-unfoldable pub spaced : List ℕ → List ℕ
-spaced [] = []
-spaced (n ∷ ns) = codes " " ++ (decimal n ++ spaced ns)
-
-abbrev pub numbers_text : List ℕ → List ℕ
-numbers_text [] = []
-numbers_text (n ∷ ns) = decimal n ++ spaced ns
-
--- a field and the value that goes into it
-abbrev pub change_text : ℕ × Side → ℕ → List ℕ
-change_text field value = decimal field.0 ++ (codes " " ++ (side_text field.1 ++ (codes " " ++ decimal value)))
-
--- a command's name and its arguments, as a script has them
-abbrev pub command_row : Command → List (List ℕ)
-command_row (Llx cell) = codes "llx" ∷ decimal cell ∷ [] ∷ [] ∷ []
-command_row (Scx update) = codes "scx" ∷ numbers_text (update_cells update) ∷ numbers_text (update_finalize update) ∷ change_text (update_field update) (update_value update) ∷ []
-command_row (Vlx cells) = codes "vlx" ∷ numbers_text (cells_of cells) ∷ [] ∷ [] ∷ []
-command_row (Set field value) = codes "set" ∷ decimal field.0 ∷ side_text field.1 ∷ decimal value ∷ []
 
 -- how many of the calls are this client's
 abbrev pub calls_by : ℕ → List Call → ℕ

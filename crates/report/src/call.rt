@@ -3,7 +3,8 @@ ghost use Rattle.std.specs.Prelude.{◌≡◌, ◌+◌, ◌^◌, ◌<◌, List, 
 ghost use Rattle.std.specs.Io.KnownBytes.{Appends};
 ghost use Rattle.script.specs.declared.command.Call.{Call};
 ghost use Rattle.report.specs.Counts.{HasCounted};
-ghost use Rattle.report.specs.Report.{call_rows, change_text, command_row, numbers_text, side_text};
+ghost use Rattle.script.specs.Commands.{change_text, command_row, numbers_text, side_text};
+ghost use Rattle.report.specs.Report.{call_rows};
 ghost use Rattle.report.specs.Rows.{IsReady, line_of, page_row, page_text, rows_text};
 
 use crate::count::Counts;

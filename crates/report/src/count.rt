@@ -1,5 +1,5 @@
 //! Counts of clients' calls.
-ghost use Rattle.std.specs.Prelude.{◌≡◌, ◌≢◌, ℕ, ◌+◌, ◌-◌, ◌^◌, [], IfOk, OnOk, OnErr, min};
+ghost use Rattle.std.specs.Prelude.{◌≡◌, ◌≢◌, ℕ, ◌+◌, ◌-◌, ◌^◌, ◌<◌, [], IfOk, OnOk, OnErr, min};
 ghost use Rattle.report.specs.Counts.{HasCounted, count_of};
 
 use arena::PassNo;
@@ -33,5 +33,22 @@ impl Counts {
         let before = self.calls[place];
         self.calls[place] = before.saturating_add(1);
         Ok(before)
+    }
+    /// Counts a call, if it is of one of so many clients.
+    pub fn count_below(&mut self, passes: u32, client: PassNo) -> Result<(), AllocError>
+        ensures counted { client.0 < passes → OnOk result (count_of self.new client.0 ≡ min (count_of self.old client.0 + 1) (2 ^ 64 - 1)) }
+        ensures others { (other : ℕ) → other < passes → other ≢ client.0 → count_of self.new other ≡ count_of self.old other }
+    {
+        if client.0 < passes {
+            self.count(client)?;
+        }
+        Ok(())
+    }
+
+    /// How many calls of the client there were so far.
+    pub fn so_far(&self, client: PassNo) -> u64
+        ensures { result ≡ count_of self.now client.0 }
+    {
+        self.calls.get(client.0 as usize).copied().unwrap_or(0)
     }
 }

@@ -1,10 +1,12 @@
 //! The first rows of a report and its last one.
 ghost use Rattle.std.specs.Prelude.{◌≡◌, [], ◌∷◌, IfOk, OnOk};
 ghost use Rattle.std.specs.Io.KnownBytes.{Appends};
-ghost use Rattle.report.specs.Report.{end_row, limits_row, title_row};
+ghost use Rattle.script.specs.Rows.{limits_row};
+ghost use Rattle.report.specs.Report.{end_row, title_row};
 ghost use Rattle.report.specs.Rows.{IsReady, line_of, page_row, page_text, rows_text};
 
 use crate::page::Page;
+use crate::totals::Totals;
 use arena::{Limits, Mode};
 use player::Line;
 use script::Script;
@@ -56,14 +58,12 @@ fn limits_line(page: &mut Page, limits: &Limits) -> Result<(), AllocError>
 pub fn end_text(alloc: Global, lines: &[Line]) -> Result<Vec<u8>, AllocError>
     ensures { IfOk result (λ text. text.items ≡ rows_text (end_row lines.now ∷ [])) }
 {
-    let steps = lines.iter().filter(|line| matches!(line, Line::Step(_)));
-    let replies = lines.iter().filter(|line| matches!(line, Line::Reply(_)));
-    let logs = lines.iter().filter(|line| matches!(line, Line::Log(_)));
+    let totals = Totals::of(lines);
     let mut page = Page::new(alloc);
     page.text("end")?;
-    page.number(steps.count() as u64)?;
-    page.number(replies.count() as u64)?;
-    page.number(logs.count() as u64)?;
+    page.number(totals.steps)?;
+    page.number(totals.replies)?;
+    page.number(totals.entries)?;
     page.end_line()?;
     page.into_text()
 }

@@ -7,12 +7,20 @@ mod count;
 mod fault;
 mod head;
 mod line;
+mod name;
 mod page;
+mod read;
+mod read_call;
+mod read_head;
+mod read_line;
+mod rows;
 mod send;
+mod totals;
 mod word;
 mod write;
 
-pub use fault::WriteFault;
+pub use fault::{ReportFault, WriteFault};
+pub use read::read_record;
 pub use write::write_record;
 
 #[cfg(test)]

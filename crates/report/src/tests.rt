@@ -1,4 +1,4 @@
-use crate::{WriteFault, write_record};
+use crate::{WriteFault, read_record, write_record};
 use arena::{Kind, Mode, NodeNo, NodeWord, PassNo, ScxNo, ScxWord, Side, Word};
 use player::{Answer, Entry, Line, Record, Reply, Resource, Row};
 use script::{FailAt, Metered, read_script};
@@ -241,6 +241,18 @@ fn whole_reports(rt: HostRuntime) -> Result<(), Fail> {
         let (text, result) = written(rt.alloc(), &record, 10000);
         assert_eq!(rt; result, Ok(()));
         assert_eq!(rt; text.as_slice(), want.as_bytes());
+    }
+    Ok(())
+}
+
+/// Read back, and written again.
+#[test]
+fn reports_that_are_read_back(rt: HostRuntime) -> Result<(), Fail> {
+    for report in [UNTOUCHED, EACH_FORM] {
+        let record = read_record(rt.alloc(), &mut Metered::new(report.as_bytes()))?;
+        let (text, result) = written(rt.alloc(), &record, 10000);
+        assert_eq!(rt; result, Ok(()));
+        assert_eq!(rt; text.as_slice(), report.as_bytes());
     }
     Ok(())
 }

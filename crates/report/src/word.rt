@@ -1,7 +1,8 @@
 //! Words of the table as text.
-ghost use Rattle.std.specs.Prelude.{◌≡◌, IfOk, string_bytes};
-ghost use Rattle.report.specs.Words.{node_part, word_text};
+ghost use Rattle.std.specs.Prelude.{◌≡◌, IfOk, IfSome, string_bytes};
+ghost use Rattle.report.specs.Words.{node_part, scx_part, word_text};
 
+use crate::name::{node_of, scx_of};
 use arena::{NodeWord, ScxWord, Side, Word};
 use std::alloc::{AllocError, Global};
 
@@ -37,5 +38,53 @@ fn node_part(part: NodeWord) -> &'static str
         NodeWord::Child(Side::Right) => "right",
         NodeWord::Info => "info",
         NodeWord::Marked => "marked",
+    }
+}
+
+/// The word of the table that a text names.
+pub fn word_of(text: &str) -> Option<Word>
+    ensures { IfSome result (λ word. text.now ≡ word_text word) }
+{
+    let (name, part) = text.split_once('.')?;
+    match node_of(name) {
+        Some(node) => Some(Word::Node(node, node_part_of(part)?)),
+        None => Some(Word::Scx(scx_of(name)?, scx_part_of(part)?)),
+    }
+}
+
+fn node_part_of(name: &str) -> Option<NodeWord>
+    ensures { IfSome result (λ part. name.now ≡ node_part part) }
+{
+    match name {
+        "head" => Some(NodeWord::Head),
+        "key" => Some(NodeWord::Key),
+        "value" => Some(NodeWord::Value),
+        "left" => Some(NodeWord::Child(Side::Left)),
+        "right" => Some(NodeWord::Child(Side::Right)),
+        "info" => Some(NodeWord::Info),
+        "marked" => Some(NodeWord::Marked),
+        _ => None,
+    }
+}
+
+fn scx_part_of(name: &str) -> Option<ScxWord>
+    ensures { IfSome result (λ part. name.now ≡ scx_part part) }
+{
+    match name {
+        "state" => Some(ScxWord::State),
+        "allfrozen" => Some(ScxWord::AllFrozen),
+        "plan" => Some(ScxWord::Plan),
+        "new" => Some(ScxWord::New),
+        "old" => Some(ScxWord::Old),
+        "v0" => Some(ScxWord::Member(0)),
+        "v1" => Some(ScxWord::Member(1)),
+        "v2" => Some(ScxWord::Member(2)),
+        "v3" => Some(ScxWord::Member(3)),
+        "i0" => Some(ScxWord::Seen(0)),
+        "i1" => Some(ScxWord::Seen(1)),
+        "i2" => Some(ScxWord::Seen(2)),
+        "i3" => Some(ScxWord::Seen(3)),
+        "call" => Some(ScxWord::Call),
+        _ => None,
     }
 }

@@ -23,3 +23,7 @@ four_fields_are fields a b c d h is_a is_b is_c is_d = rw (← is_a, ← is_b, �
 pub read_four : {T E : Type 0} (row : T → List (List ℕ)) (r : Result T E) (fields : List (List ℕ)) (a b c d : List ℕ) → field_of fields 0 ≡ a → field_of fields 1 ≡ b → field_of fields 2 ≡ c → field_of fields 3 ≡ d → IfOk r (λ t. row t ≡ a ∷ b ∷ c ∷ d ∷ []) → IfOk r (λ t. length fields ≡ 4 → fields ≡ row t)
 read_four row (Ok t) fields a b c d is_a is_b is_c is_d says = λ h. four_fields_are fields a b c d h is_a is_b is_c is_d ∙ sym says
 read_four row (Err e) fields a b c d is_a is_b is_c is_d says = search rules
+
+-- a row of five fields that is a command behind a client
+pub five_fields_say : (fields rest : List (List ℕ)) (first : List ℕ) → length fields ≡ 5 → fields ≡ first ∷ rest → field_of fields 1 ∷ field_of fields 2 ∷ field_of fields 3 ∷ field_of fields 4 ∷ [] ≡ rest
+five_fields_say fields rest first h is = let all = five_fields fields h in cc

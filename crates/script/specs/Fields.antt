@@ -1,7 +1,11 @@
 -- The fields of a row.
-use Rattle.std.specs.Prelude.{ℕ, List, [], unwrap_or}
+use Rattle.std.specs.Prelude.{ℕ, ◌≡◌, ◌<◌, List, [], decimal, unwrap_or}
 use Rattle.csv.specs.Records.{field_at}
 
 -- the field at a place, or an empty one
 abbrev pub field_of : List (List ℕ) → ℕ → List ℕ
 field_of fields place = unwrap_or (field_at fields place) []
+
+-- the field is the number of one of so many clients
+abbrev pub NamesClient : ℕ → List ℕ → Type 0
+NamesClient passes field = (client : ℕ) × (client < passes) × (field ≡ decimal client)

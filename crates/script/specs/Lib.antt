@@ -6,3 +6,8 @@ pub mod Orders
 pub mod Fields
 pub mod Rows
 pub mod What
+pub mod Commands
+pub mod Calls
+pub mod Texts
+pub mod Reads
+pub mod Grammars

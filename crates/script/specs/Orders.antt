@@ -1,8 +1,15 @@
--- What orders are accepted, and how rows say them.
-use Rattle.std.specs.Prelude.{ℕ, ◌<◌, ◌≤◌, List, [], ◌∷◌, codes, decimal}
+-- What orders are accepted, how rows say them, and why a row says none.
+use Rattle.std.specs.Prelude.{ℕ, ◌≡◌, ◌<◌, ◌≤◌, List, [], ◌∷◌, codes, decimal}
+use Rattle.arena.specs.declared.step.Kind.{Kind}
+use Rattle.script.specs.declared.fault.ScheduleCause.{ScheduleCause}
+use Rattle.script.specs.declared.fault.ScheduleCause.TheVariants as cause
 use Rattle.script.specs.declared.schedule.Order.{Order}
 use Rattle.script.specs.declared.schedule.Order.TheVariants.{Step, Call, Until, Finish}
+use Rattle.script.specs.declared.schedule.What.{What}
+use Rattle.script.specs.declared.schedule.What.TheVariants as what
+use Rattle.script.specs.Fields.{NamesClient, field_of}
 use Rattle.script.specs.Kinds.{kind_text}
+use Rattle.script.specs.What.{what_text}
 
 -- the client is one of so many, and the turns or steps are 1 to 1,000,000
 abbrev pub IsOrder : ℕ → Order → Type 0
@@ -17,3 +24,41 @@ order_row (Step client turns) = codes "step" ∷ decimal client.0 ∷ [] ∷ dec
 order_row (Call client) = codes "call" ∷ decimal client.0 ∷ [] ∷ [] ∷ []
 order_row (Until client kind times) = codes "until" ∷ decimal client.0 ∷ kind_text kind ∷ decimal times ∷ []
 order_row (Finish client) = codes "finish" ∷ decimal client.0 ∷ [] ∷ [] ∷ []
+
+-- the field names what a row orders
+abbrev pub NamesOrder : What → List ℕ → Type 0
+NamesOrder order field = field ≡ what_text order
+
+-- the field is a kind of step where the order has one, and empty elsewhere
+abbrev pub FitsAsKind : What → List ℕ → Type 0
+FitsAsKind what.Step field = field ≡ []
+FitsAsKind what.Call field = field ≡ []
+FitsAsKind what.Until field = (kind : Kind) × (field ≡ kind_text kind)
+FitsAsKind what.Finish field = field ≡ []
+
+-- the field is a number from 1 to 1,000,000
+abbrev pub NamesTimes : List ℕ → Type 0
+NamesTimes field = (times : ℕ) × (1 ≤ times) × (times ≤ 1000000) × (field ≡ decimal times)
+
+-- the same where the order has a number; the field is empty elsewhere
+abbrev pub FitsAsNumber : What → List ℕ → Type 0
+FitsAsNumber what.Step field = NamesTimes field
+FitsAsNumber what.Call field = field ≡ []
+FitsAsNumber what.Until field = NamesTimes field
+FitsAsNumber what.Finish field = field ≡ []
+
+-- why the last two fields of a row say nothing of this order: the first cause that fits
+abbrev pub IsUnfit : What → List ℕ → List ℕ → ScheduleCause → Type 0
+IsUnfit order kind number cause.Kind = ¬ (FitsAsKind order kind)
+IsUnfit order kind number cause.Number = FitsAsKind order kind × ¬ (FitsAsNumber order number)
+IsUnfit order kind number cause.Fields = ⊥
+IsUnfit order kind number cause.Command = ⊥
+IsUnfit order kind number cause.Client = ⊥
+IsUnfit order kind number cause.End = ⊥
+IsUnfit order kind number cause.Long = ⊥
+
+-- why a row says no order: its first field names none; or none of the clients; or the last two fields do not fit
+abbrev pub IsNoOrder : ℕ → List (List ℕ) → ScheduleCause → Type 0
+IsNoOrder passes fields cause.Command = (order : What) → ¬ (NamesOrder order (field_of fields 0))
+IsNoOrder passes fields cause.Client = (order : What) × NamesOrder order (field_of fields 0) × ¬ (NamesClient passes (field_of fields 1))
+IsNoOrder passes fields why = (order : What) × NamesOrder order (field_of fields 0) × NamesClient passes (field_of fields 1) × IsUnfit order (field_of fields 2) (field_of fields 3) why

@@ -1,7 +1,14 @@
 //! The rows of a script that are calls.
-ghost use Rattle.std.specs.Prelude.{◌≡◌, ◌<◌, IfOk, OnOk};
+ghost use Rattle.std.specs.Prelude.{◌≡◌, ◌≢◌, ◌<◌, ◌^◌, ◌↔◌, ℕ, [], ◌∷◌, ◌++◌, All, Contains, length, decimal, codes, refl, IsSome, IfSome, MatchOption, Option, IfOk, IfErr};
 ghost use Rattle.arena.specs.declared.limits.Mode.TheVariants.{Records};
+ghost use Rattle.arena.specs.declared.word.Side.{Side};
+ghost use Rattle.csv.specs.Records.{fields_of};
+ghost use Rattle.script.specs.declared.cells.Cells.{Cells};
 ghost use Rattle.script.specs.declared.command.Call.{Call};
+ghost use Rattle.script.specs.Calls.{call_row, IsNoCall, IsNoCommand};
+ghost use Rattle.script.specs.Grammars.{call_grammar};
+ghost use Rattle.script.specs.Cells.{cells_of, maybe_cells_of};
+ghost use Rattle.script.specs.Commands.{command_row, change_text, numbers_text, side_text, texts, AreCells, IsCell, IsCommand, IsCommandOf};
 
 use crate::cells::{Cell, Cells};
 use crate::command::{Call, Command, Update};
@@ -24,21 +31,34 @@ impl Format for CallRows {
 
     const WIDTH: usize = 5;
 
-    // There are calls in records mode alone.
-    ghost accepts = { λ rows call.
-        (call.client.0 < rows.layout.passes) × (rows.layout.mode ≡ Records) };
+    ghost WIDTH = { 5 };
 
-    fn entry(&self, row: &StringRecord) -> Result<Call, ScriptCause> {
+    ghost grammar = { λ rows. call_grammar rows.layout };
+
+    fn entry(&self, row: &StringRecord) -> Result<Call, ScriptCause>
+        ensures accepted { IfOk result (λ call. (call.client.0 < self.now.layout.passes) × (self.now.layout.mode ≡ Records) × IsCommand call.command) }
+        ensures row { IfOk result (λ call. length (fields_of row.now) ≡ 5 → fields_of row.now ≡ call_row call) }
+        ensures cause { IfErr result (λ cause. length (fields_of row.now) ≡ 5 → IsNoCall self.now.layout (fields_of row.now) cause) }
+    {
         let client = client_of(field(row, 0), self.layout.passes).ok_or(ScriptCause::Client)?;
         let arguments = [field(row, 2), field(row, 3), field(row, 4)];
         let command = command_of(self.layout.mode, field(row, 1), arguments)?;
         Ok(Call { client, command })
     }
+
+    ghost use Rattle.std.proofs.Common.{lit≤};
+
+    ghost width = { λ _. (refl, lit≤ tt) };
+
+    ghost causes = { λ _. (refl, refl, refl) };
 }
 
-/// The command of this name with these arguments.
-fn command_of(mode: Mode, name: &str, arguments: [&str; 3]) -> Result<Command, ScriptCause>
-    ensures { OnOk result (mode ≡ Records) }
+/// The command that a row of a script says by this name and these arguments. The cause is `Command`
+/// where no command of the mode has the name, and else `Argument`: none of the name has these
+/// arguments.
+pub fn command_of(mode: Mode, name: &str, arguments: [&str; 3]) -> Result<Command, ScriptCause>
+    ensures command { IfOk result (λ command. (mode ≡ Records) × IsCommand command × (name.now ∷ texts arguments.entry ≡ command_row command)) }
+    ensures cause { IfErr result (IsNoCommand mode name.now (texts arguments.entry)) }
 {
     let command = match (mode, name) {
         (Mode::Records, "llx") => llx_of(arguments),
@@ -53,7 +73,9 @@ fn command_of(mode: Mode, name: &str, arguments: [&str; 3]) -> Result<Command, S
     }
 }
 
-fn llx_of(arguments: [&str; 3]) -> Option<Command> {
+fn llx_of(arguments: [&str; 3]) -> Option<Command>
+    ensures { IsCommandOf (codes "llx" ∷ texts arguments.entry) result }
+{
     let [cell, "", ""] = arguments else {
         return None;
     };
@@ -62,20 +84,18 @@ fn llx_of(arguments: [&str; 3]) -> Option<Command> {
     })
 }
 
-fn scx_of(arguments: [&str; 3]) -> Option<Command> {
+fn scx_of(arguments: [&str; 3]) -> Option<Command>
+    ensures { IsCommandOf (codes "scx" ∷ texts arguments.entry) result }
+{
     let [cells, finalize, change] = arguments;
-    let finalize = match finalize {
-        "" => None,
-        some => Some(cells_of(some)?),
-    };
-    let (cell, change) = change.split_once(' ')?;
-    let (side, value) = change.split_once(' ')?;
-    let field = (cell_of(cell)?, side_of(side)?);
-    let update = Update::new(cells_of(cells)?, finalize, field, number_of(value)?)?;
+    let (field, value) = change_of(change)?;
+    let update = Update::new(cells_of(cells)?, finalize_of(finalize)?, field, value)?;
     Some(Command::Scx(update))
 }
 
-fn vlx_of(arguments: [&str; 3]) -> Option<Command> {
+fn vlx_of(arguments: [&str; 3]) -> Option<Command>
+    ensures { IsCommandOf (codes "vlx" ∷ texts arguments.entry) result }
+{
     let [cells, "", ""] = arguments else {
         return None;
     };
@@ -84,7 +104,9 @@ fn vlx_of(arguments: [&str; 3]) -> Option<Command> {
     })
 }
 
-fn set_of(arguments: [&str; 3]) -> Option<Command> {
+fn set_of(arguments: [&str; 3]) -> Option<Command>
+    ensures { IsCommandOf (codes "set" ∷ texts arguments.entry) result }
+{
     let [cell, side, value] = arguments;
     Some(Command::Set {
         field: (cell_of(cell)?, side_of(side)?),
@@ -92,21 +114,57 @@ fn set_of(arguments: [&str; 3]) -> Option<Command> {
     })
 }
 
-fn cell_of(text: &str) -> Option<Cell> {
+#[tactic(auto, using(crate::proofs::Numbers::same_number))]
+fn cell_of(text: &str) -> Option<Cell>
+    ensures { MatchOption result ((node : ℕ) → IsCell node → text.now ≢ decimal node) (λ cell. IsCell cell × (text.now ≡ decimal cell)) }
+{
     Cell::new(number_of(text)?)
 }
 
 /// One to four cells that differ, with one space between two.
-fn cells_of(text: &str) -> Option<Cells> {
-    let mut parts = text.split(' ');
-    let mut cells = Cells::one(cell_of(parts.next()?)?);
-    for part in parts {
-        cells = cells.with(cell_of(part)?)?;
+fn cells_of(text: &str) -> Option<Cells>
+    ensures { MatchOption result ((cells : Cells) → AreCells (cells_of cells) → text.now ≢ numbers_text (cells_of cells)) (λ cells. AreCells (cells_of cells) × (text.now ≡ numbers_text (cells_of cells))) }
+{
+    let mut cells = None;
+    for part in text.split(' ') {
+        cells = Some(one_more(cells, cell_of(part)?)?);
     }
-    Some(cells)
+    cells
 }
 
-fn side_of(text: &str) -> Option<Side> {
+/// These cells, if any, and one that is none of them; four are the most.
+fn one_more(cells: Option<Cells>, cell: Cell) -> Option<Cells>
+    ensures fits { IsSome result ↔ ((length (maybe_cells_of cells) < 4) × ¬ (Contains (maybe_cells_of cells) cell)) }
+    ensures cells { IfSome result (λ more. cells_of more ≡ maybe_cells_of cells ++ cell ∷ []) }
+{
+    match cells {
+        Some(cells) => cells.with(cell),
+        None => Some(Cells::one(cell)),
+    }
+}
+
+/// The cells of an SCX that are finalized, if any.
+fn finalize_of(text: &str) -> Option<Option<Cells>>
+    ensures { MatchOption result ((cells : Option Cells) → All IsCell (maybe_cells_of cells) → text.now ≢ numbers_text (maybe_cells_of cells)) (λ cells. All IsCell (maybe_cells_of cells) × (text.now ≡ numbers_text (maybe_cells_of cells))) }
+{
+    match text {
+        "" => Some(None),
+        some => Some(Some(cells_of(some)?)),
+    }
+}
+
+/// A field and the value that goes into it: cell, side and value, with one space between two.
+fn change_of(text: &str) -> Option<((Cell, Side), u64)>
+    ensures { MatchOption result ((field : ℕ × Side) (value : ℕ) → IsCell field.0 → value < 2 ^ 64 → text.now ≢ change_text field value) (λ change. IsCell change.0.0 × (change.1 < 2 ^ 64) × (text.now ≡ change_text change.0 change.1)) }
+{
+    let (cell, rest) = text.split_once(' ')?;
+    let (side, value) = rest.split_once(' ')?;
+    Some(((cell_of(cell)?, side_of(side)?), number_of(value)?))
+}
+
+fn side_of(text: &str) -> Option<Side>
+    ensures { MatchOption result ((side : Side) → text.now ≢ side_text side) (λ side. text.now ≡ side_text side) }
+{
     match text {
         "left" => Some(Side::Left),
         "right" => Some(Side::Right),

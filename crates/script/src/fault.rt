@@ -58,26 +58,51 @@ pub enum ScheduleCause {
 }
 
 /// The causes that rows of every text have.
-pub(crate) trait Cause {
+pub trait Cause {
+    /// The row has another number of fields, or is no text.
     const FIELDS: Self;
 
+    ghost FIELDS: { Self };
+
+    /// The end row is missing, does not count what is before it, or a row stands behind it.
     const END: Self;
 
+    ghost END: { Self };
+
+    /// There are too many rows.
     const LONG: Self;
+
+    ghost LONG: { Self };
 }
 
 impl Cause for ScriptCause {
+    ghost use Rattle.script.specs.declared.fault.ScriptCause.{ScriptCause};
+
     const FIELDS: ScriptCause = ScriptCause::Fields;
+
+    ghost FIELDS = { ScriptCause.Fields };
 
     const END: ScriptCause = ScriptCause::End;
 
+    ghost END = { ScriptCause.End };
+
     const LONG: ScriptCause = ScriptCause::Long;
+
+    ghost LONG = { ScriptCause.Long };
 }
 
 impl Cause for ScheduleCause {
+    ghost use Rattle.script.specs.declared.fault.ScheduleCause.{ScheduleCause};
+
     const FIELDS: ScheduleCause = ScheduleCause::Fields;
+
+    ghost FIELDS = { ScheduleCause.Fields };
 
     const END: ScheduleCause = ScheduleCause::End;
 
+    ghost END = { ScheduleCause.End };
+
     const LONG: ScheduleCause = ScheduleCause::Long;
+
+    ghost LONG = { ScheduleCause.Long };
 }

@@ -1,8 +1,10 @@
 //! Schedules of turns.
 ghost use Rattle.script.specs.declared.fault.TextFault.{TextFault};
-ghost use Rattle.std.specs.Prelude.{◌≡◌, ◌≢◌, ◌≤◌, ◌<◌, ◌^◌, ◌-◌, ℕ, [], ◌∷◌, decimal, IfOk, IfSome, IfNone, OnOk, OnErr, IfErr, IsErrOf, All, length, vec_len};
+ghost use Rattle.std.specs.Prelude.{◌≡◌, ◌≢◌, ◌≤◌, ◌<◌, ◌^◌, ◌-◌, ℕ, [], ◌∷◌, decimal, IfOk, IfSome, IfNone, OnOk, OnErr, IfErr, IsErrOf, All, Some, List, refl, length, vec_len};
 ghost use Rattle.script.specs.declared.schedule.What.{What};
-ghost use Rattle.script.specs.Orders.{IsOrder, order_row};
+ghost use Rattle.script.specs.Grammars.{IsScheduleFault, SayOrders, order_grammar};
+ghost use Rattle.script.specs.Orders.{IsNoOrder, IsOrder, IsUnfit, NamesTimes, order_row};
+ghost use Rattle.script.specs.Texts.{IfBad};
 ghost use Rattle.script.specs.What.{what_text};
 ghost use Rattle.csv.specs.Records.{fields_of};
 
@@ -56,6 +58,10 @@ pub fn read_schedule<R: Read>(
 ) -> Result<Schedule, ScheduleFault>
     ensures orders { IfOk result (λ schedule. All (IsOrder script.now.layout.passes) schedule.orders.items) }
 
+    // Of a reader that tells its bytes: the schedule is what they say, and a fault is their first.
+    ensures says { (bytes : List ℕ) → R.remaining from.old.inner ≡ Some bytes → IfOk result (λ schedule. SayOrders script.now.layout.passes bytes schedule.orders.items) }
+    ensures fault { (bytes : List ℕ) → R.remaining from.old.inner ≡ Some bytes → IfErr result (IfBad (IsScheduleFault script.now.layout.passes bytes)) }
+
     // Whether a read failed is told by the failure count, as long as it can rise.
     ensures ok { OnOk result (from.new.failures ≡ from.old.failures) }
     ensures read { IsErrOf result TextFault.Read → from.old.failures < 2 ^ 64 - 1 → from.new.failures ≢ from.old.failures }
@@ -71,7 +77,9 @@ fn schedule_of<R: Read>(
     passes: u32,
     from: &mut Metered<R>,
 ) -> Result<Schedule, ScheduleFault>
-    ensures { IfOk result (λ schedule. All (IsOrder passes) schedule.orders.items) }
+    ensures orders { IfOk result (λ schedule. All (IsOrder passes) schedule.orders.items) }
+    ensures says { (bytes : List ℕ) → R.remaining from.old.inner ≡ Some bytes → IfOk result (λ schedule. SayOrders passes bytes schedule.orders.items) }
+    ensures fault { (bytes : List ℕ) → R.remaining from.old.inner ≡ Some bytes → IfErr result (IfBad (IsScheduleFault passes bytes)) }
 {
     let orders = Rows::new(alloc, from).entries(alloc, &OrderRows { passes })?;
     Ok(Schedule { orders })
@@ -99,16 +107,25 @@ impl Format for OrderRows {
 
     const WIDTH: usize = 4;
 
-    ghost accepts = { λ rows. IsOrder rows.passes };
+    ghost WIDTH = { 4 };
+
+    ghost grammar = { λ rows. order_grammar rows.passes };
 
     fn entry(&self, row: &StringRecord) -> Result<Order, ScheduleCause>
         ensures accepted { IfOk result (IsOrder self.now.passes) }
         ensures row { IfOk result (λ order. length (fields_of row.now) ≡ 4 → fields_of row.now ≡ order_row order) }
+        ensures cause { IfErr result (IsNoOrder self.now.passes (fields_of row.now)) }
     {
         let what = what_of(field(row, 0)).ok_or(ScheduleCause::Command)?;
         let client = client_of(field(row, 1), self.passes).ok_or(ScheduleCause::Client)?;
         order_of(what, client, field(row, 2), field(row, 3))
     }
+
+    ghost use Rattle.std.proofs.Common.{lit≤};
+
+    ghost width = { λ _. (refl, lit≤ tt) };
+
+    ghost causes = { λ _. (refl, refl, refl) };
 }
 
 fn what_of(text: &str) -> Option<What>
@@ -128,6 +145,7 @@ fn what_of(text: &str) -> Option<What>
 fn order_of(what: What, client: PassNo, kind: &str, number: &str) -> Result<Order, ScheduleCause>
     ensures order { (passes : ℕ) → client.0 < passes → IfOk result (IsOrder passes) }
     ensures row { IfOk result (λ order. order_row order ≡ what_text what ∷ decimal client.0 ∷ kind.now ∷ number.now ∷ []) }
+    ensures cause { IfErr result (IsUnfit what kind.now number.now) }
 {
     match what {
         What::Step => {
@@ -183,7 +201,7 @@ fn no_number(text: &str) -> Result<(), ScheduleCause>
 #[tactic(auto, using(crate::proofs::Numbers::same_number))]
 fn times_of(text: &str) -> Result<u32, ScheduleCause>
     ensures ok { IfOk result (λ n. (1 ≤ n) × (n ≤ 1000000) × (text.now ≡ decimal n)) }
-    ensures err { OnErr result ((n : ℕ) → 1 ≤ n → n ≤ 1000000 → text.now ≢ decimal n) }
+    ensures err { OnErr result (¬ (NamesTimes text.now)) }
     ensures cause { IfErr result (λ cause. cause ≡ ScheduleCause.Number) }
 {
     match small_number_of(text) {

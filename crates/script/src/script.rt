@@ -1,6 +1,8 @@
 //! Scripts of calls.
 ghost use Rattle.script.specs.declared.fault.TextFault.{TextFault};
-ghost use Rattle.std.specs.Prelude.{◌≡◌, ◌≢◌, ◌≤◌, ◌<◌, ◌^◌, ◌-◌, IfOk, IfSome, OnOk, IsErrOf, All, length, vec_len};
+ghost use Rattle.std.specs.Prelude.{◌≡◌, ◌≢◌, ◌≤◌, ◌<◌, ◌^◌, ◌-◌, ℕ, List, Some, IfOk, IfErr, IfSome, IfNone, OnOk, IsErrOf, All, length, vec_len};
+ghost use Rattle.script.specs.Grammars.{IsScriptFault, SayScript};
+ghost use Rattle.script.specs.Texts.{IfBad};
 ghost use Rattle.arena.specs.Limits.{IsAccepted, IsLayoutOf};
 ghost use Rattle.arena.specs.declared.limits.Mode.TheVariants.{Records};
 ghost use Rattle.csv.specs.Records.{fields_of};
@@ -55,6 +57,10 @@ pub fn read_script<R: Read>(
     ensures accepted { IfOk result (λ script. IsAccepted script.limits) }
     ensures layout { IfOk result (λ script. IsLayoutOf script.limits mode script.layout) }
 
+    // Of a reader that tells its bytes: the script is what they say, and a fault is their first.
+    ensures says { (bytes : List ℕ) → R.remaining from.old.inner ≡ Some bytes → IfOk result (λ script. SayScript mode bytes script.limits script.layout script.calls.items) }
+    ensures fault { (bytes : List ℕ) → R.remaining from.old.inner ≡ Some bytes → IfErr result (IfBad (IsScriptFault mode bytes)) }
+
     // Whether a read failed is told by the failure count, as long as it can rise.
     ensures ok { OnOk result (from.new.failures ≡ from.old.failures) }
     ensures read { IsErrOf result TextFault.Read → from.old.failures < 2 ^ 64 - 1 → from.new.failures ≢ from.old.failures }
@@ -72,6 +78,8 @@ fn script_of<R: Read>(
 ) -> Result<Script, ScriptFault>
     ensures accepted { IfOk result (λ script. IsAccepted script.limits) }
     ensures layout { IfOk result (λ script. IsLayoutOf script.limits mode script.layout) }
+    ensures says { (bytes : List ℕ) → R.remaining from.old.inner ≡ Some bytes → IfOk result (λ script. SayScript mode bytes script.limits script.layout script.calls.items) }
+    ensures fault { (bytes : List ℕ) → R.remaining from.old.inner ≡ Some bytes → IfErr result (IfBad (IsScriptFault mode bytes)) }
 {
     let mut rows = Rows::new(alloc, from);
     if !rows.advance(5)? {
@@ -93,6 +101,7 @@ fn limits_of(row: &StringRecord, mode: Mode) -> Option<(Limits, Layout)>
     ensures accepted { IfSome result (λ r. IsAccepted r.0) }
     ensures layout { IfSome result (λ r. IsLayoutOf r.0 mode r.1) }
     ensures row { IfSome result (λ r. length (fields_of row.now) ≡ 5 → fields_of row.now ≡ limits_row r.0) }
+    ensures none { IfNone result ((limits : Limits) → IsAccepted limits → fields_of row.now ≢ limits_row limits) }
 {
     if field(row, 0) != "limits" {
         return None;

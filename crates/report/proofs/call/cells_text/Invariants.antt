@@ -1,5 +1,5 @@
 use Rattle.std.proofs.Common.{◌≡◌, string_bytes, take}
-use Rattle.report.specs.Report.{numbers_text}
+use Rattle.script.specs.Commands.{numbers_text}
 use Rattle.report.proofs.call.cells_text.Given as goal
 
 abbrev pub invariant-loop-place : goal.invariant-loop-place

@@ -1,6 +1,7 @@
 use Rattle.std.proofs.Common.{subst, ◌≡◌, [], ◌∷◌, IfOk, Some, append-nil, append_assoc, rules}
 use Rattle.std.specs.Io.KnownBytes.{Keeps}
-use Rattle.report.specs.Report.{limits_row, title_row}
+use Rattle.script.specs.Rows.{limits_row}
+use Rattle.report.specs.Report.{title_row}
 use Rattle.report.specs.Rows.{page_text, rows_text}
 use Rattle.report.proofs.head.head_text.Goals as goal
 

@@ -1,0 +1,25 @@
+use Rattle.std.proofs.Common.{arith, ◌≡◌, [], ◌∷◌, ◌∙◌, ap, map, rules, subst, sym}
+use Rattle.script.proofs.OfCells.{told_by_some}
+use Rattle.script.specs.Rows.{limits_row}
+use Rattle.script.specs.Reads.{Stands, last_row}
+use Rattle.report.specs.Report.{call_rows, title_row}
+use Rattle.report.specs.Rows.{seven}
+use Rattle.report.proofs.read.script_of.Goals as goal
+
+pub invariant_of-result-clause-of_cells : goal.invariant_of-result-clause-of_cells
+invariant_of-result-clause-of_cells g c some =
+    let calls = c.in_ok-calls.calls in
+    told_by_some calls.items (λ k d lt. (c.in_ok-calls.ensures.accepted k d lt).1) (omega (arith, calls.ok.0))
+
+pub returns-clause-rows : goal.returns-clause-rows
+returns-clause-rows g c = λ bytes none.
+    let mode : c.in-Some-limits_of.layout.mode ≡ c.in-Some.mode = search rules in
+    let first = c.in_ok-next_row.ensures bytes [] none in
+    let title : last_row c.next_row.new.rows ≡ seven (title_row c.in-Some-limits_of.layout.mode) = sym (c.row_fields.ensures first.row.0) ∙ c.in-Some.ensures ∙ ap (λ m. seven (title_row m)) (sym mode) in
+    let second = c.in_ok-next_row-2.ensures bytes (last_row c.next_row.new.rows ∷ []) first.read in
+    let limits : last_row c.next_row-2.new.rows ≡ seven (limits_row c.in-Some-limits_of.limits) = sym (c.row_fields-2.ensures second.row.0) ∙ c.in-Some-limits_of.ensures.row in
+    let third = c.in_ok-next_row-3.ensures bytes (last_row c.next_row.new.rows ∷ last_row c.next_row-2.new.rows ∷ []) second.read in
+    let calls = map seven (call_rows [] c.in_ok-calls.calls.items) in
+    subst (λ row. Stands g.R.Read.remaining bytes (row ∷ seven (limits_row c.in-Some-limits_of.limits) ∷ calls) 7 c.calls_of.new.rows) title
+    (subst (λ row. Stands g.R.Read.remaining bytes (last_row c.next_row.new.rows ∷ row ∷ calls) 7 c.calls_of.new.rows) limits
+    (c.in_ok-calls.ensures.rows bytes (last_row c.next_row.new.rows ∷ last_row c.next_row-2.new.rows ∷ []) third))

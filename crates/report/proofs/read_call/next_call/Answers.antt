@@ -1,0 +1,6 @@
+use Rattle.report.proofs.Counted.{counted_more}
+use Rattle.report.proofs.read_call.next_call.Goals as goal
+
+pub returns-clause-counted : goal.returns-clause-counted
+returns-clause-counted g c = λ earlier counted fits.
+    counted_more c.args.counts.now c.count.new.self earlier c.in-Some.call counted fits c.in-Ok.ensures.counted c.in-Ok.ensures.others

@@ -1,0 +1,18 @@
+use Rattle.std.proofs.Common.{ℕ, ◌-◌, ◌^◌, List, ◌++◌, map, reverse, vec_len}
+use Rattle.report.specs.Counts.{HasCountedReplies}
+use Rattle.report.specs.Numbered.{AreNumbered}
+use Rattle.script.specs.Reads.{Stands}
+use Rattle.report.specs.Report.{line_row}
+use Rattle.report.specs.Rows.{seven}
+use Rattle.report.proofs.read_line.lines_of.Given as goal
+
+abbrev pub invariant-loop-rows : goal.invariant-loop-rows
+invariant-loop-rows g l = record {
+  counted : HasCountedReplies l.replies l.fn.passes (reverse l.lines.items);
+  calls : AreNumbered l.fn.passes (reverse l.lines.items);
+  rows : (bytes : List ℕ) (before : List (List (List ℕ))) → Stands g.R.Read.remaining bytes before 7 l.fn.rows
+      → Stands g.R.Read.remaining bytes (before ++ map seven (map line_row l.lines.items)) 7 l.rows;
+}
+
+abbrev pub decreases-loop-rows : goal.decreases-loop-rows
+decreases-loop-rows g l = 2 ^ 64 - vec_len l.lines

@@ -1,0 +1,12 @@
+-- What is told of a text that is no report.
+use Rattle.script.specs.declared.fault.TextFault.{TextFault}
+use Rattle.script.specs.declared.fault.TextFault.TheVariants.{NoMemory, Read, Bad}
+use Rattle.report.specs.declared.fault.NotLawful.{NotLawful}
+use Rattle.report.specs.declared.fault.ReportFault.{ReportFault}
+use Rattle.report.specs.declared.fault.ReportFault.TheVariants as report
+
+-- the fault of the rows, as a fault of the report
+abbrev pub report_fault : TextFault NotLawful → ReportFault
+report_fault NoMemory = report.NoMemory
+report_fault Read = report.Read
+report_fault (Bad row cause) = report.NotLawful row

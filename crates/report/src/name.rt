@@ -1,0 +1,33 @@
+//! The names of records and clients in a report.
+ghost use Rattle.std.specs.Prelude.{◌≡◌, ◌++◌, IfSome, codes, decimal};
+
+use arena::{NodeNo, PassNo, ScxNo};
+use script::number_of;
+
+/// The node that a text names, as `n5`.
+pub fn node_of(text: &str) -> Option<NodeNo>
+    ensures { IfSome result (λ node. text.now ≡ codes "n" ++ decimal node.0) }
+{
+    Some(NodeNo(number_of(text.strip_prefix('n')?)?))
+}
+
+/// The SCX-record that a text names, as `s2`.
+pub fn scx_of(text: &str) -> Option<ScxNo>
+    ensures { IfSome result (λ scx. text.now ≡ codes "s" ++ decimal scx.0) }
+{
+    Some(ScxNo(number_of(text.strip_prefix('s')?)?))
+}
+
+/// The client of this number, whether or not there are so many.
+pub fn client_of(text: &str) -> Option<PassNo>
+    ensures { IfSome result (λ client. text.now ≡ decimal client.0) }
+{
+    Some(PassNo(small_number_of(text)?))
+}
+
+/// The number that a text spells, if it is below 2 ^ 32.
+pub fn small_number_of(text: &str) -> Option<u32>
+    ensures { IfSome result (λ n. text.now ≡ decimal n) }
+{
+    u32::try_from(number_of(text)?).ok()
+}

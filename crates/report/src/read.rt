@@ -1,0 +1,90 @@
+//! The whole report, read back.
+ghost use Rattle.std.specs.Prelude.{◌≡◌, ◌≢◌, ◌<◌, ◌-◌, ◌^◌, List, [], ◌∷◌, ◌++◌, ℕ, IfOk, IsErrOf, OnOk, Some, map, reverse};
+ghost use Rattle.arena.specs.Limits.{IsAccepted, IsLayoutOf};
+ghost use Rattle.script.specs.Rows.{limits_row};
+ghost use Rattle.script.specs.declared.script.Script.{Script};
+ghost use Rattle.player.specs.declared.record.Line.{Line};
+ghost use Rattle.report.specs.Numbered.{AreNumbered};
+ghost use Rattle.script.specs.Reads.{HasRead, Stands};
+ghost use Rattle.script.specs.Texts.{AreRows};
+ghost use Rattle.report.specs.Report.{call_rows, end_row, line_row, report_rows, report_text, title_row};
+ghost use Rattle.report.specs.Rows.{seven};
+
+use crate::fault::{NotLawful, ReportFault, RowFault};
+use crate::read_call::calls_of;
+use crate::read_head::{limits_of, mode_of};
+use crate::read_line::lines_of;
+use crate::rows::{advance, next_row, row_fields};
+use crate::totals::is_end_of;
+use player::{Line, Record};
+use script::{Metered, Rows, Script, settled};
+use std::alloc::Global;
+use std::io::Read;
+
+/// Reads a report of either mode: its rows are those of the record, and no others. Whether the run is
+/// lawful is not asked here, only what a row says by itself, the numbers of the calls and the counts of
+/// the end row. Nothing is kept of a text that is refused. What was written of a record is read as one
+/// that has the same report.
+pub fn read_record<R: Read>(alloc: Global, from: &mut Metered<R>) -> Result<Record, ReportFault>
+    ensures rows { (bytes : List ℕ) → R.remaining from.old.inner ≡ Some bytes → IfOk result (λ told. AreRows bytes (map seven (report_rows told.script told.lines.items))) }
+    ensures again { (script : Script) (lines : List Line) → R.remaining from.old.inner ≡ Some (report_text script lines) → IfOk result (λ told. report_text told.script told.lines.items ≡ report_text script lines) }
+    ensures calls { IfOk result (λ told. AreNumbered told.script.layout.passes (reverse told.lines.items)) }
+    ensures accepted { IfOk result (λ told. IsAccepted told.script.limits) }
+    ensures layout { IfOk result (λ told. IsLayoutOf told.script.limits told.script.layout.mode told.script.layout) }
+
+    // Whether a read failed is told by the failure count, as long as it can rise.
+    ensures ok { OnOk result (from.new.failures ≡ from.old.failures) }
+    ensures read { IsErrOf result ReportFault.Read → from.old.failures < 2 ^ 64 - 1 → from.new.failures ≢ from.old.failures }
+    ensures failed { from.new.failures ≢ from.old.failures → IsErrOf result ReportFault.Read }
+{
+    let before = from.failures;
+    let read = record_of(alloc, from);
+    Ok(settled(read, before, from.failures)?)
+}
+
+fn record_of<R: Read>(alloc: Global, from: &mut Metered<R>) -> Result<Record, RowFault>
+    ensures rows { (bytes : List ℕ) → R.remaining from.old.inner ≡ Some bytes → IfOk result (λ told. AreRows bytes (map seven (report_rows told.script told.lines.items))) }
+    ensures again { (script : Script) (lines : List Line) → R.remaining from.old.inner ≡ Some (report_text script lines) → IfOk result (λ told. report_text told.script told.lines.items ≡ report_text script lines) }
+    ensures calls { IfOk result (λ told. AreNumbered told.script.layout.passes (reverse told.lines.items)) }
+    ensures accepted { IfOk result (λ told. IsAccepted told.script.limits) }
+    ensures layout { IfOk result (λ told. IsLayoutOf told.script.limits told.script.layout.mode told.script.layout) }
+{
+    let mut rows = Rows::new(alloc, from);
+    let script = script_of(alloc, &mut rows)?;
+    let lines = lines_of(alloc, &mut rows, script.layout.passes)?;
+    end_of(&mut rows, lines.as_slice())?;
+    Ok(Record { script, lines })
+}
+
+/// Reads the first two rows and the calls, and goes on to the row behind them.
+fn script_of<R: Read + Drop>(alloc: Global, rows: &mut Rows<R>) -> Result<Script, RowFault>
+    ensures accepted { IfOk result (λ script. IsAccepted script.limits) }
+    ensures layout { IfOk result (λ script. IsLayoutOf script.limits script.layout.mode script.layout) }
+    ensures rows { (bytes : List ℕ) → HasRead R.remaining bytes [] rows.old → IfOk result (λ script. Stands R.remaining bytes (map seven (title_row script.layout.mode ∷ limits_row script.limits ∷ call_rows [] script.calls.items)) 7 rows.new) }
+{
+    next_row(rows)?;
+    let Some(mode) = mode_of(row_fields(rows)) else {
+        return Err(rows.fault(NotLawful));
+    };
+    next_row(rows)?;
+    let Some((limits, layout)) = limits_of(row_fields(rows), mode) else {
+        return Err(rows.fault(NotLawful));
+    };
+    next_row(rows)?;
+    let calls = calls_of(alloc, rows, layout)?;
+    Ok(Script {
+        limits,
+        layout,
+        calls,
+    })
+}
+
+/// Tests the end row, and that no row follows.
+fn end_of<R: Read + Drop>(rows: &mut Rows<R>, lines: &[Line]) -> Result<(), RowFault>
+    ensures { (bytes : List ℕ) (before : List (List (List ℕ))) → Stands R.remaining bytes before 7 rows.old → OnOk result (AreRows bytes (before ++ seven (end_row lines.now) ∷ [])) }
+{
+    if !is_end_of(row_fields(rows), lines) || advance(rows)? {
+        return Err(rows.fault(NotLawful));
+    }
+    Ok(())
+}

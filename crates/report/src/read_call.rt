@@ -1,0 +1,86 @@
+//! The calls of a report's script, as rows say them.
+ghost use Rattle.std.specs.Prelude.{◌≡◌, ◌≢◌, ◌≤◌, ◌<◌, ◌^◌, ◌-◌, List, [], ◌∷◌, ◌++◌, ℕ, All, IfOk, IfSome, codes, decimal, length, map, vec_len};
+ghost use Rattle.arena.specs.declared.limits.Mode.TheVariants.{Records};
+ghost use Rattle.script.specs.Commands.{command_row, texts};
+ghost use Rattle.script.specs.declared.command.Call.{Call};
+ghost use Rattle.report.specs.Counts.{HasCounted};
+ghost use Rattle.script.specs.Reads.{Stands, last_row};
+ghost use Rattle.report.specs.Report.{call_row, call_rows};
+ghost use Rattle.report.specs.Rows.{seven};
+
+use crate::count::Counts;
+use crate::fault::{NotLawful, RowFault};
+use crate::name::client_of;
+use crate::rows::{next_row, row_fields};
+use arena::Layout;
+use script::{Call, Rows, command_of, number_of};
+use std::alloc::Global;
+use std::io::Read;
+
+/// How many calls a script may have.
+const MOST_CALLS: usize = 65536;
+
+/// Reads the calls from this row on, up to the first row that is none.
+pub fn calls_of<R: Read + Drop>(
+    alloc: Global,
+    rows: &mut Rows<R>,
+    layout: Layout,
+) -> Result<Vec<Call>, RowFault>
+    ensures few { IfOk result (λ calls. vec_len calls ≤ 65536) }
+    ensures accepted { IfOk result (λ calls. All (λ call. (call.client.0 < layout.passes) × (layout.mode ≡ Records)) calls.items) }
+    ensures rows { (bytes : List ℕ) (before : List (List (List ℕ))) → Stands R.remaining bytes before 7 rows.old → IfOk result (λ calls. Stands R.remaining bytes (before ++ map seven (call_rows [] calls.items)) 7 rows.new) }
+{
+    let mut calls = Vec::new(alloc);
+    let mut counts = Counts::new(alloc);
+    while row_fields(rows)[0] == "call" {
+        let call = next_call(rows, layout, &mut counts)?;
+        if calls.len() == MOST_CALLS {
+            return Err(rows.fault(NotLawful));
+        }
+        calls
+            .extend_from_slice(&[call])
+            .map_err(|_| RowFault::NoMemory)?;
+        next_row(rows)?;
+    }
+    Ok(calls)
+}
+
+/// The call of this row, whose number is that of its client's calls so far.
+fn next_call<R: Read + Drop>(
+    rows: &Rows<R>,
+    layout: Layout,
+    counts: &mut Counts,
+) -> Result<Call, RowFault>
+    ensures accepted { IfOk result (λ call. (call.client.0 < layout.passes) × (layout.mode ≡ Records)) }
+    ensures row { (earlier : List Call) → HasCounted counts.old earlier → length (last_row rows.now) ≡ 7 → IfOk result (λ call. last_row rows.now ≡ seven (call_row earlier call)) }
+    ensures counted { (earlier : List Call) → HasCounted counts.old earlier → length earlier < 2 ^ 64 - 1 → IfOk result (λ call. HasCounted counts.new (call ∷ earlier)) }
+{
+    let Some((call, number)) = call_of(row_fields(rows), layout) else {
+        return Err(rows.fault(NotLawful));
+    };
+    let Ok(before) = counts.count(call.client) else {
+        return Err(RowFault::NoMemory);
+    };
+    if before != number {
+        return Err(rows.fault(NotLawful));
+    }
+    Ok(call)
+}
+
+/// The call that a row says, and its number among the client's calls.
+fn call_of(fields: [&str; 7], layout: Layout) -> Option<(Call, u64)>
+    ensures accepted { IfSome result (λ told. (told.0.client.0 < layout.passes) × (layout.mode ≡ Records)) }
+    ensures row { IfSome result (λ told. texts fields.entry ≡ codes "call" ∷ decimal told.0.client.0 ∷ decimal told.1 ∷ command_row told.0.command) }
+{
+    let ["call", client, number, name, a, b, c] = fields else {
+        return None;
+    };
+    let client = client_of(client)?;
+    let number = number_of(number)?;
+    let command = command_of(layout.mode, name, [a, b, c]).ok()?;
+    if client.0 < layout.passes {
+        Some((Call { client, command }, number))
+    } else {
+        None
+    }
+}

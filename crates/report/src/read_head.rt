@@ -1,0 +1,50 @@
+//! The first two rows of a report.
+ghost use Rattle.std.specs.Prelude.{◌≡◌, IfSome};
+ghost use Rattle.arena.specs.Limits.{IsAccepted, IsLayoutOf};
+ghost use Rattle.script.specs.Rows.{limits_row};
+ghost use Rattle.script.specs.Commands.{texts};
+ghost use Rattle.report.specs.Report.{mode_text, title_row};
+ghost use Rattle.report.specs.Rows.{seven};
+
+use crate::name::small_number_of;
+use arena::{Layout, Limits, Mode};
+use script::number_of;
+
+/// The version of the format.
+const VERSION: u64 = 1;
+
+/// The mode that the first row names.
+pub fn mode_of(fields: [&str; 7]) -> Option<Mode>
+    ensures { IfSome result (λ mode. texts fields.entry ≡ seven (title_row mode)) }
+{
+    let ["report", version, mode, "", "", "", ""] = fields else {
+        return None;
+    };
+    if number_of(version)? != VERSION {
+        return None;
+    }
+    match mode {
+        "tree" => Some(Mode::Tree),
+        "records" => Some(Mode::Records),
+        _ => None,
+    }
+}
+
+/// The limits that the second row says, which are in range, and the layout within them.
+pub fn limits_of(fields: [&str; 7], mode: Mode) -> Option<(Limits, Layout)>
+    ensures accepted { IfSome result (λ told. IsAccepted told.0) }
+    ensures layout { IfSome result (λ told. IsLayoutOf told.0 mode told.1) }
+    ensures row { IfSome result (λ told. texts fields.entry ≡ seven (limits_row told.0)) }
+{
+    let ["limits", passes, nodes, scx, tries, "", ""] = fields else {
+        return None;
+    };
+    let limits = Limits {
+        passes: small_number_of(passes)?,
+        nodes: small_number_of(nodes)?,
+        scx: small_number_of(scx)?,
+        tries: small_number_of(tries)?,
+    };
+    let layout = limits.check(mode).ok()?;
+    Some((limits, layout))
+}

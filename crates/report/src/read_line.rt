@@ -1,0 +1,140 @@
+//! The lines of a run, as rows say them.
+ghost use Rattle.std.specs.Prelude.{◌≡◌, ◌<◌, ◌-◌, ◌^◌, List, ◌∷◌, ◌++◌, ℕ, IfOk, IfSome, length, map, reverse};
+ghost use Rattle.player.specs.declared.record.Line.{Line};
+ghost use Rattle.player.specs.declared.record.Line.TheVariants.{Step as StepLine, Log, Reply as ReplyLine};
+ghost use Rattle.report.specs.Counts.{HasCountedReplies, count_of};
+ghost use Rattle.report.specs.Numbered.{AreNumbered, IsOfNextCall};
+ghost use Rattle.script.specs.Commands.{texts};
+ghost use Rattle.script.specs.Reads.{Stands, last_row};
+ghost use Rattle.report.specs.Report.{line_row, moment_text};
+ghost use Rattle.report.specs.Rows.{seven};
+
+use crate::answer::answer_of;
+use crate::count::Counts;
+use crate::fault::{NotLawful, RowFault};
+use crate::name::{client_of, scx_of};
+use crate::rows::{next_row, row_fields};
+use crate::word::word_of;
+use player::{Entry, Line, Reply, Row};
+use script::{Rows, kind_of, number_of};
+use std::alloc::Global;
+use std::io::Read;
+
+/// Reads the lines from this row on, up to the first row that begins as the end row does.
+pub fn lines_of<R: Read + Drop>(
+    alloc: Global,
+    rows: &mut Rows<R>,
+    passes: u32,
+) -> Result<Vec<Line>, RowFault>
+    ensures calls { IfOk result (λ lines. AreNumbered passes (reverse lines.items)) }
+    ensures rows { (bytes : List ℕ) (before : List (List (List ℕ))) → Stands R.remaining bytes before 7 rows.old → IfOk result (λ lines. Stands R.remaining bytes (before ++ map seven (map line_row lines.items)) 7 rows.new) }
+{
+    let mut lines = Vec::new(alloc);
+    let mut replies = Counts::new(alloc);
+    while row_fields(rows)[0] != "end" {
+        let line = next_line(rows, passes, &mut replies)?;
+        lines.push(line).map_err(|_| RowFault::NoMemory)?;
+        next_row(rows)?;
+    }
+    Ok(lines)
+}
+
+/// The line of this row, whose reply is counted if it is of one of so many clients.
+fn next_line<R: Read + Drop>(
+    rows: &Rows<R>,
+    passes: u32,
+    replies: &mut Counts,
+) -> Result<Line, RowFault>
+    ensures row { length (last_row rows.now) ≡ 7 → IfOk result (λ line. last_row rows.now ≡ seven (line_row line)) }
+    ensures call { IfOk result (IsOfNextCall (count_of replies.old)) }
+    ensures counted { (lines : List Line) → HasCountedReplies replies.old passes lines → length lines < 2 ^ 64 - 1 → IfOk result (λ line. HasCountedReplies replies.new passes (line ∷ lines)) }
+{
+    let Some(line) = line_of(row_fields(rows), replies) else {
+        return Err(rows.fault(NotLawful));
+    };
+    if let Line::Reply(reply) = &line {
+        let Ok(()) = replies.count_below(passes, reply.client) else {
+            return Err(RowFault::NoMemory);
+        };
+    }
+    Ok(line)
+}
+
+/// The line that a row says, by its form. A step is of its client's first call that has no reply yet.
+fn line_of(fields: [&str; 7], replies: &Counts) -> Option<Line>
+    ensures row { IfSome result (λ line. texts fields.entry ≡ seven (line_row line)) }
+    ensures call { IfSome result (IsOfNextCall (count_of replies.now)) }
+{
+    match fields[0] {
+        "step" => Some(Line::Step(turn_of(fields, replies)?)),
+        "log" => Some(Line::Log(entry_of(fields)?)),
+        "reply" => Some(Line::Reply(reply_of(fields)?)),
+        _ => None,
+    }
+}
+
+fn turn_of(fields: [&str; 7], replies: &Counts) -> Option<Row>
+    ensures row { IfSome result (λ row. texts fields.entry ≡ seven (line_row (StepLine row))) }
+    ensures call { IfSome result (λ row. IsOfNextCall (count_of replies.now) (StepLine row)) }
+{
+    if let ["step", number, client, "idle", "", "", ""] = fields {
+        let number = number_of(number)?;
+        let client = client_of(client)?;
+        return Some(Row::Idle { number, client });
+    }
+    let ["step", number, client, kind, word, before, after] = fields else {
+        return None;
+    };
+    let number = number_of(number)?;
+    let pass = client_of(client)?;
+    let row = arena::Row {
+        pass,
+        call: replies.so_far(pass),
+        kind: kind_of(kind)?,
+        word: word_of(word)?,
+        before: number_of(before)?,
+        after: number_of(after)?,
+    };
+    Some(Row::Step { number, row })
+}
+
+fn entry_of(fields: [&str; 7]) -> Option<Entry>
+    ensures { IfSome result (λ entry. texts fields.entry ≡ seven (line_row (Log entry))) }
+{
+    let ["log", place, step, scx, client, call, ""] = fields else {
+        return None;
+    };
+    Some(Entry {
+        place: number_of(place)?,
+        step: number_of(step)?,
+        scx: scx_of(scx)?,
+        client: client_of(client)?,
+        call: number_of(call)?,
+    })
+}
+
+fn reply_of(fields: [&str; 7]) -> Option<Reply>
+    ensures { IfSome result (λ reply. texts fields.entry ≡ seven (line_row (ReplyLine reply))) }
+{
+    let ["reply", client, call, begin, end, moment, answer] = fields else {
+        return None;
+    };
+    Some(Reply {
+        client: client_of(client)?,
+        call: number_of(call)?,
+        begin: number_of(begin)?,
+        end: number_of(end)?,
+        moment: moment_of(moment)?,
+        answer: answer_of(answer)?,
+    })
+}
+
+/// The moment of a reply, which may have none.
+fn moment_of(text: &str) -> Option<Option<u64>>
+    ensures { IfSome result (λ moment. text.now ≡ moment_text moment) }
+{
+    match text {
+        "" => Some(None),
+        some => Some(Some(number_of(some)?)),
+    }
+}

@@ -1,0 +1,55 @@
+//! The rows of a report, one at a time.
+ghost use Rattle.std.specs.Prelude.{◌≡◌, ◌++◌, List, ℕ, IfOk, MatchBool, OnOk, length};
+ghost use Rattle.csv.specs.Records.{fields_of};
+ghost use Rattle.script.specs.Commands.{texts};
+ghost use Rattle.script.specs.Fields.{field_of};
+ghost use Rattle.script.specs.Reads.{HasRead, Stands, last_row};
+ghost use Rattle.script.specs.Texts.{AreRows};
+
+use crate::fault::{NotLawful, RowFault};
+use csv::StringRecord;
+use script::Rows;
+use std::io::Read;
+
+/// How many fields a row of a report has.
+const WIDTH: usize = 7;
+
+/// Goes on to the next row, or to the place behind the last row, where it answers false.
+pub fn advance<R: Read + Drop>(rows: &mut Rows<R>) -> Result<bool, RowFault>
+    ensures { (bytes : List ℕ) (so_far : List (List (List ℕ))) → HasRead R.remaining bytes so_far rows.old → IfOk result (λ found. MatchBool found (Stands R.remaining bytes so_far 7 rows.new) (AreRows bytes so_far)) }
+{
+    rows.advance(WIDTH)
+}
+
+/// Goes on to the next row, which has to be there.
+pub fn next_row<R: Read + Drop>(rows: &mut Rows<R>) -> Result<(), RowFault>
+    ensures { (bytes : List ℕ) (so_far : List (List (List ℕ))) → HasRead R.remaining bytes so_far rows.old → OnOk result (Stands R.remaining bytes so_far 7 rows.new) }
+{
+    if advance(rows)? {
+        Ok(())
+    } else {
+        Err(rows.fault(NotLawful))
+    }
+}
+
+/// The fields of the row.
+pub fn row_fields<R: Read + Drop>(rows: &Rows<R>) -> [&str; 7]
+    ensures { length (last_row rows.now) ≡ 7 → texts result ≡ last_row rows.now }
+{
+    let row = rows.row();
+    [
+        field(row, 0),
+        field(row, 1),
+        field(row, 2),
+        field(row, 3),
+        field(row, 4),
+        field(row, 5),
+        field(row, 6),
+    ]
+}
+
+fn field(row: &StringRecord, place: usize) -> &str
+    ensures { result.now ≡ field_of (fields_of row.now) place }
+{
+    row.get(place).unwrap_or("")
+}

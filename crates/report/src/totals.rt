@@ -1,0 +1,45 @@
+//! How many lines of each kind a run has.
+ghost use Rattle.std.specs.Prelude.{◌≡◌, IsTrue};
+ghost use Rattle.report.specs.Report.{end_row, entries_in, replies_in, steps_in};
+ghost use Rattle.script.specs.Commands.{texts};
+ghost use Rattle.report.specs.Rows.{seven};
+
+use player::Line;
+use script::number_of;
+
+#[derive(Clone, Copy)]
+pub struct Totals {
+    pub steps: u64,
+    pub replies: u64,
+    pub entries: u64,
+}
+
+impl Totals {
+    pub fn of(lines: &[Line]) -> Totals
+        ensures steps { result.steps ≡ steps_in lines.now }
+        ensures replies { result.replies ≡ replies_in lines.now }
+        ensures entries { result.entries ≡ entries_in lines.now }
+    {
+        let steps = lines.iter().filter(|line| matches!(line, Line::Step(_)));
+        let replies = lines.iter().filter(|line| matches!(line, Line::Reply(_)));
+        let entries = lines.iter().filter(|line| matches!(line, Line::Log(_)));
+        Totals {
+            steps: steps.count() as u64,
+            replies: replies.count() as u64,
+            entries: entries.count() as u64,
+        }
+    }
+}
+
+/// Whether a row is the end row of these lines.
+pub fn is_end_of(fields: [&str; 7], lines: &[Line]) -> bool
+    ensures { IsTrue result → texts fields.entry ≡ seven (end_row lines.now) }
+{
+    let ["end", steps, replies, entries, "", "", ""] = fields else {
+        return false;
+    };
+    let totals = Totals::of(lines);
+    number_of(steps) == Some(totals.steps)
+        && number_of(replies) == Some(totals.replies)
+        && number_of(entries) == Some(totals.entries)
+}

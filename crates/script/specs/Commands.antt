@@ -1,0 +1,58 @@
+-- Commands as fields of a row.
+use Rattle.std.specs.Prelude.{ℕ, ◌≢◌, ◌≡◌, ◌≤◌, ◌<◌, ◌^◌, Option, Some, None, List, [], ◌∷◌, ◌++◌, All, codes, decimal, length, map}
+use denote.Ref.{Bor}
+use Rattle.arena.specs.declared.word.Side.{Side}
+use Rattle.arena.specs.declared.word.Side.TheVariants.{Left, Right}
+use Rattle.script.specs.Cells.{cells_of}
+use Rattle.script.specs.Update.{update_cells, update_finalize, update_field, update_value}
+use Rattle.script.specs.declared.command.Command.{Command}
+use Rattle.script.specs.declared.command.Command.TheVariants.{Llx, Scx, Vlx, Set}
+
+abbrev pub side_text : Side → List ℕ
+side_text Left = codes "left"
+side_text Right = codes "right"
+
+-- numbers, parted by one space
+unfoldable pub spaced : List ℕ → List ℕ
+spaced [] = []
+spaced (n ∷ ns) = codes " " ++ (decimal n ++ spaced ns)
+
+abbrev pub numbers_text : List ℕ → List ℕ
+numbers_text [] = []
+numbers_text (n ∷ ns) = decimal n ++ spaced ns
+
+-- a field and the value that goes into it
+abbrev pub change_text : ℕ × Side → ℕ → List ℕ
+change_text field value = decimal field.0 ++ (codes " " ++ (side_text field.1 ++ (codes " " ++ decimal value)))
+
+-- a command's name and its arguments, as a script has them
+abbrev pub command_row : Command → List (List ℕ)
+command_row (Llx cell) = codes "llx" ∷ decimal cell ∷ [] ∷ [] ∷ []
+command_row (Scx update) = codes "scx" ∷ numbers_text (update_cells update) ∷ numbers_text (update_finalize update) ∷ change_text (update_field update) (update_value update) ∷ []
+command_row (Vlx cells) = codes "vlx" ∷ numbers_text (cells_of cells) ∷ [] ∷ [] ∷ []
+command_row (Set field value) = codes "set" ∷ decimal field.0 ∷ side_text field.1 ∷ decimal value ∷ []
+
+-- the texts behind references
+abbrev pub texts : List (Bor (List ℕ)) → List (List ℕ)
+texts = map (λ text. text.now)
+
+-- a node that scripts name; clauses see a `Cell` as a number, and not each number is one
+abbrev pub IsCell : ℕ → Type 0
+IsCell node = (1 ≤ node) × (node ≤ 8)
+
+-- one such node or more; `Cells` itself says that it has at most four, and that they differ
+abbrev pub AreCells : List ℕ → Type 0
+AreCells nodes = (1 ≤ length nodes) × All IsCell nodes
+
+-- the command is one that there is: its nodes are cells, and its value fits a word; an `Update` itself
+-- says that those finalized are a part of its cells, and that its field belongs to one
+abbrev pub IsCommand : Command → Type 0
+IsCommand (Llx cell) = IsCell cell
+IsCommand (Scx update) = AreCells (update_cells update) × (update_value update < 2 ^ 64)
+IsCommand (Vlx cells) = AreCells (cells_of cells)
+IsCommand (Set field value) = IsCell field.0 × (value < 2 ^ 64)
+
+-- what is found is the command that has this row; nothing, where no command has it
+abbrev pub IsCommandOf : List (List ℕ) → Option Command → Type 0
+IsCommandOf row (Some command) = IsCommand command × (row ≡ command_row command)
+IsCommandOf row None = (command : Command) → IsCommand command → row ≢ command_row command
