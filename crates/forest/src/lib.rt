@@ -8,8 +8,6 @@ mod forest;
 mod pass;
 mod rule;
 mod steps;
-#[cfg(test)]
-mod tests;
 mod view;
 
 pub use close::Closed;
