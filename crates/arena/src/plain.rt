@@ -1,5 +1,5 @@
 //! The words of a table in plain memory, for one thread.
-ghost use Rattle.std.specs.Prelude.{◌≡◌, ◌≢◌, ℕ, ◌+◌, IfOk, slice_index, vec_len};
+ghost use Rattle.std.specs.Prelude.{◌≡◌, ◌≢◌, ℕ, ◌+◌, IfOk, slice_index, length, vec_len};
 ghost use Rattle.arena.specs.Layout.{table_size, tree_opening, records_opening, IsWord};
 ghost use Rattle.arena.specs.PlainWords.{Contents, IsChanged, IsOpening, held};
 ghost use Rattle.arena.specs.Words.{deed_after};
@@ -92,6 +92,14 @@ impl PlainWords {
         ensures { result ≡ held self.now word }
     {
         self.words[self.layout.place(word)]
+    }
+
+    /// The words by their places.
+    pub fn words(&self) -> &[u64]
+        ensures words { result.now ≡ self.now.words }
+        ensures size { length result.now ≡ table_size self.now.layout }
+    {
+        &self.words
     }
 
     /// Makes one step, and answers what its word held before.

@@ -1,0 +1,136 @@
+-- What all passes together know of the words at the end.
+use Rattle.std.proofs.Common.{◌≡◌, ◌≢◌, ◌<◌, ◌⊎◌, ℕ, zero, suc, inl, inr, ⊎_elim, List, [], ◌∷◌, ◌++◌, length, slice_index, refl, sym, ◌∙◌, ap, subst, arith, append_assoc}
+use mathlib.Core.Option.{some, some-injective, some-ne-none}
+use lib.ListN.{get_elem?}
+use Rattle.atomic_table.specs.declared.shared.Seat.{Seat}
+use Rattle.atomic_table.specs.Table.{State, Final, Seen}
+use Rattle.arena.specs.declared.layout.Layout.{Layout}
+use Rattle.arena.specs.declared.step.Row.{Row}
+use Rattle.arena.specs.declared.word.Word.{Word}
+use Rattle.arena.specs.declared.word.Side.{Side}
+use Rattle.arena.specs.Layout.{place, all_nodes, IsWord}
+use Rattle.arena.specs.Words.{child}
+use Rattle.arena.specs.PlainWords.{Contents, held}
+use Rattle.arena.specs.History.{History, value, EndsWith}
+use Rattle.arena.specs.Log.{log}
+use Rattle.arena.specs.Machines.{IsRun}
+use Rattle.arena.proofs.Values.{ends_trans}
+use Rattle.histories.proofs.Fields.{fields_are}
+use Rattle.prims.specs.Cells.{allows_all}
+use Rattle.forest.specs.declared.view.Knower.{Knower}
+use Rattle.forest.specs.declared.view.View.{View}
+use Rattle.forest.specs.declared.pass.Pass.TheInside.{Inside}
+use Rattle.forest.specs.Kept.{past, knower, row, look, looked, Made, Kept, Owns, Behind, HasLooked}
+use Rattle.forest.specs.Courses.{known_of}
+use Rattle.forest.specs.Shares.{IsAtRest, entries_of}
+use Rattle.forest.specs.Passes.{Sight, IsOf, AreOf, AreBegun, IsClosed, run_of, done_of}
+use Rattle.forest.specs.Gathered.{IsFrom, IsOneOf, AreIn}
+use Rattle.forest.specs.Held.{sight, IsPass}
+use Rattle.forest.proofs.Advances.{keeps_all, same_knower}
+use Rattle.forest.proofs.Frames.{free_unnamed, next_free}
+use Rattle.forest.proofs.Calls.{IsQuiet, quiet_start, quiet_other}
+use Rattle.forest.proofs.Passes.{HasCalled, seated, called_pass, called_done}
+use Rattle.forest.proofs.Meets.{look_called}
+
+-- the element of a list, by either way to read it
+pub index_is : (l : List ℕ) (i a : ℕ) → get_elem? l i ≡ some a → slice_index l i ≡ a
+index_is [] i a e = absurd (some-ne-none a (sym e))
+index_is (x ∷ xs) zero a e = some-injective x a e
+index_is (x ∷ xs) (suc i) a e = index_is xs i a e
+
+-- One pass
+
+-- a pass that has looked at the table once more
+pub looked_from : (p : Inside) (x : IsPass p) (s : Seat ℕ View) (n : ℕ) → s.me.1 ≡ p.seat.me.1 → Made allows_all look p.seat.me.0.passes n s.me.0.passes → (k : Knower) × (s.me.0.passes ≡ k ∷ []) × IsFrom (sight p) k
+looked_from p x s n bare m = (
+  knower p.number.0 p.layout (known_of s.me.0.passes),
+  y.seat,
+  record {
+    is = refl;
+    is_pass = x.is_pass;
+    sound = z.sound;
+    rest = z.rest;
+    ends = y.goes.since;
+    done = called_done p s _ y;
+  },
+)
+  where
+    me : Knower
+    me = knower p.number.0 p.layout (known_of p.seat.me.0.passes)
+
+    same : m.pass ≡ me
+    same = same_knower p.seat.me.0.passes m.pass me m.was x.seat
+
+    has_looked : HasLooked allows_all me (m.others ++ known_of p.seat.me.0.passes)
+    has_looked = subst (λ (k : Knower). HasLooked allows_all k (m.others ++ k.known)) same record { behind = (m.others, refl, m.by_others); before = m.before; after = m.after }
+
+    are : s.me.0.passes ≡ looked me (m.others ++ known_of p.seat.me.0.passes) ∷ []
+    are = subst (λ (k : Knower). s.me.0.passes ≡ looked k (m.others ++ k.known) ∷ []) same m.is
+
+    y : HasCalled p s (λ h. EndsWith h (past p.layout.mode (m.others ++ known_of p.seat.me.0.passes)))
+    y = look_called p x s (m.others ++ known_of p.seat.me.0.passes) has_looked are
+
+    z : IsPass (seated p s)
+    z = called_pass p x s _ bare y
+
+-- All of them
+
+one_left : (k : Knower) (ps qs : List Knower) → IsOneOf k ps → IsOneOf k (ps ++ qs)
+one_left k (p ∷ ps) qs (inl e) = inl e
+one_left k (p ∷ ps) qs (inr i) = inr (one_left k ps qs i)
+one_left k [] qs i = absurd i
+
+one_right : (k : Knower) (ps qs : List Knower) → IsOneOf k qs → IsOneOf k (ps ++ qs)
+one_right k [] qs i = i
+one_right k (p ∷ ps) qs i = inr (one_right k ps qs i)
+
+in_left : (ds : List Sight) (ps qs : List Knower) → AreIn ds ps → AreIn ds (ps ++ qs)
+in_left [] ps qs a = tt
+in_left (d ∷ ds) ps qs a = ((a.0.0, one_left a.0.0 ps qs a.0.1, a.0.2), in_left ds ps qs a.1)
+
+-- one more, at the seats that are joined
+pub in_more : (d : Sight) (ds : List Sight) (all own joined : List Knower) (k : Knower) → own ≡ k ∷ [] → joined ≡ all ++ own → IsFrom d k → AreIn ds all → AreIn (d ∷ ds) joined
+in_more d ds all own joined k e j f a = rw (j, e) ((k, one_right k all (k ∷ []) (inl refl), f), in_left ds all (k ∷ []) a)
+
+pub of_append : (id : _) (lay : Layout) (xs ys : List Sight) → AreOf id lay (xs ++ ys) → AreOf id lay xs × AreOf id lay ys
+of_append id lay [] ys a = (tt, a)
+of_append id lay (x ∷ xs) ys a = let z = of_append id lay xs ys a.1 in ((a.0, z.0), z.1)
+
+-- The end
+
+owned_behind : (lay : Layout) (run : List Row) (owner : ℕ → ℕ) (id : ℕ) (k : Knower) (ps : List Knower) → Owns lay run owner id ps → IsOneOf k ps → (k.layout ≡ lay) × Behind run k
+owned_behind lay run owner id k [] o i = absurd i
+owned_behind lay run owner id k (p ∷ ps) o (inl e) = subst (λ (q : Knower). (q.layout ≡ lay) × Behind run q) (sym e) (o.1, o.2)
+owned_behind lay run owner id k (p ∷ ps) o (inr i) = owned_behind lay run owner id k ps o.4 i
+
+-- behind what it knows are rows of others alone
+one_begun : (d : Sight) (k : Knower) (lay : Layout) (run : List Row) → d.layout ≡ lay → IsFrom d k → IsRun allows_all lay (past lay.mode run) → Behind run k → EndsWith (past lay.mode run) (run_of d) × (entries_of d.number (log d.layout (past lay.mode run)) ≡ done_of d)
+one_begun d k lay run same f sound b =
+    let h0 : History = past d.layout.mode k.known in
+    let sound' : IsRun allows_all d.layout (past d.layout.mode (b.0 ++ k.known)) = subst (λ l. IsRun allows_all d.layout (past d.layout.mode l)) b.1 (subst (λ (l : Layout). IsRun allows_all l (past l.mode run)) (sym same) sound) in
+    let mine = subst (λ (q : Knower). q.number.0 ≡ d.number) (sym f.is) refl in
+    let goes = keeps_all allows_all d.layout d.number (IsQuiet d.layout d.number h0 d.share) (λ h r run other z. quiet_other d.layout d.number h0 d.share f.is_pass h r run other z) b.0 k.known (rw mine at b.2) sound' (quiet_start d.layout d.number h0 d.share f.sound f.rest) in
+    let ends : EndsWith (past d.layout.mode run) (run_of d) = subst (λ l. EndsWith (past d.layout.mode l) (run_of d)) (sym b.1) (ends_trans _ _ _ goes.since f.ends) in
+    let none = goes.unwon (λ w. (free_unnamed d.layout _ d.number d.share.next_scx goes.sound.lawful w.0 (next_free d.layout _ d.number d.share _ _ goes.share w.0)).1 w.1) in
+    let done : entries_of d.number (log d.layout (past d.layout.mode run)) ≡ done_of d = subst (λ l. entries_of d.number (log d.layout (past d.layout.mode l)) ≡ done_of d) (sym b.1) (none ∙ f.done) in
+    subst (λ (l : Layout). EndsWith (past l.mode run) (run_of d) × (entries_of d.number (log d.layout (past l.mode run)) ≡ done_of d)) same (ends, done)
+
+all_begun : (id : _) (lay : Layout) (run : List Row) (owner : ℕ → ℕ) (seat : ℕ) (ks : List Knower) → IsRun allows_all lay (past lay.mode run) → Owns lay run owner seat ks → (ds : List Sight) → AreOf id lay ds → AreIn ds ks → AreBegun ds (past lay.mode run)
+all_begun id lay run owner seat ks sound o [] of a = tt
+all_begun id lay run owner seat ks sound o (d ∷ ds) of a =
+    let k = a.0.0 in
+    let b = owned_behind lay run owner seat k ks o a.0.1 in
+    let z = one_begun d k lay run of.0.1 a.0.2 sound b.1 in
+    (z.0, z.1, all_begun id lay run owner seat ks sound o ds of.1 a.1)
+
+pub closes : (id : _) (lay : Layout) (ds : List Sight) (seat : ℕ) (v : View) (words : List ℕ) (slots : List ℕ) → AreOf id lay ds → AreIn ds v.passes → Final (Seen (Kept allows_all lay) seat v) words slots → IsClosed lay ds (record { layout = lay; words = words })
+closes id lay ds seat v words slots of a f =
+    let kept : Kept allows_all lay f.0 = f.1.0 in
+    let holds : (w : Word) → IsWord lay w → slice_index words (place lay w) ≡ value (past lay.mode kept.run) w = λ w i. rw (← f.2) (kept.holds w i) in
+    record {
+      run = past lay.mode kept.run;
+      sound = kept.sound;
+      holds = holds;
+      fields = λ n side i. holds (child n side) i ∙ fields_are lay (past lay.mode kept.run) n side kept.sound.lawful;
+      begun = all_begun id lay kept.run kept.owner seat v.passes kept.sound (kept.passes seat v f.1.1) ds of a;
+    }

@@ -1,0 +1,150 @@
+-- Dealing and joining passes keeps the rule.
+use Rattle.std.proofs.Common.{◌≡◌, ◌≢◌, ◌<◌, ◌⊎◌, ℕ, zero, suc, List, [], ◌∷◌, ◌++◌, ◌==◌, length, if◌then◌else◌, set, sym, ap, refl, ◌∙◌, subst, ⊎_elim, inl, inr, arith, eq-eqb, ne_eqb, slice_index}
+use mathlib.Core.Option.{some, some-injective, some-ne-none}
+use lib.ListN.{get_elem?}
+use Rattle.atomic_table.specs.Table.{State, Splits, Joins, opening}
+use Rattle.atomic_table.proofs.Lists.{at_set}
+use Rattle.arena.specs.declared.layout.Layout.{Layout}
+use Rattle.arena.specs.declared.step.Row.{Row}
+use Rattle.arena.specs.declared.word.Word.{Word}
+use Rattle.arena.specs.Layout.{opening as opening_word, place, table_size, IsWord}
+use Rattle.arena.specs.History.{History, Start, value}
+use Rattle.arena.specs.Lawful.{Lawful}
+use Rattle.arena.specs.Shape.{Shaped}
+use Rattle.forest.specs.declared.view.Knower.{Knower}
+use Rattle.forest.specs.declared.view.View.{View}
+use Rattle.forest.specs.Kept.{Kept, Owns, Absent, view, beginners, undealt, dealt, joined, rest_of, first_of}
+
+snoc_at : {A : Type 0} (l : List A) (a b : A) (j : ℕ) → get_elem? (l ++ a ∷ []) j ≡ some b → (get_elem? l j ≡ some b) ⊎ ((j ≡ length l) × (a ≡ b))
+snoc_at [] a b zero e = inr (refl, some-injective a b e)
+snoc_at [] a b (suc j) e = absurd (some-ne-none b (sym e))
+snoc_at (x ∷ xs) a b zero e = inl e
+snoc_at (x ∷ xs) a b (suc j) e = ⊎_elim (λ h. inl h) (λ t. inr (ap suc t.0, t.1)) (snoc_at xs a b j e)
+
+-- the pass n has a new seat
+moved : (ℕ → ℕ) → ℕ → ℕ → ℕ → ℕ
+moved owner n to x = if x == n then to else owner x
+
+moved_here : (owner : ℕ → ℕ) (n to : ℕ) → moved owner n to n ≡ to
+unfolding moved
+moved_here owner n to = rw (eq-eqb n n refl) refl
+
+moved_else : (owner : ℕ → ℕ) (n to x : ℕ) → x ≢ n → moved owner n to x ≡ owner x
+unfolding moved
+moved_else owner n to x ne = rw (ne_eqb x n ne) refl
+
+-- the passes of a seat have another
+merged : (ℕ → ℕ) → ℕ → ℕ → ℕ → ℕ
+merged owner id other x = if owner x == other then id else owner x
+
+merged_here : (owner : ℕ → ℕ) (id other x : ℕ) → owner x ≡ other → merged owner id other x ≡ id
+unfolding merged
+merged_here owner id other x e = rw (eq-eqb (owner x) other e) refl
+
+merged_else : (owner : ℕ → ℕ) (id other x : ℕ) → owner x ≢ other → merged owner id other x ≡ owner x
+unfolding merged
+merged_else owner id other x ne = rw (ne_eqb (owner x) other ne) refl
+
+module _ (lay : Layout) (run : List Row) (owner : ℕ → ℕ) where
+  absent_of : (n j : ℕ) → owner n ≢ j → (ps : List Knower) → Owns lay run owner j ps → Absent n ps
+  absent_of n j ne [] h = tt
+  absent_of n j ne (p ∷ ps) h = ((λ e. ne (ap owner (sym e) ∙ h.0)), absent_of n j ne ps h.4)
+
+  -- another owner function that agrees on these passes
+  owned_by : (other : ℕ → ℕ) (j k : ℕ) → ((x : ℕ) → owner x ≡ j → other x ≡ k) → (ps : List Knower) → Owns lay run owner j ps → Owns lay run other k ps
+  owned_by other j k same [] h = tt
+  owned_by other j k same (p ∷ ps) h = (same p.number.0 h.0, h.1, h.2, h.3, owned_by other j k same ps h.4)
+
+  owned_apart : (n to j : ℕ) (ps : List Knower) → Absent n ps → Owns lay run owner j ps → Owns lay run (moved owner n to) j ps
+  owned_apart n to j [] a h = tt
+  owned_apart n to j (p ∷ ps) a h = (moved_else owner n to p.number.0 a.0 ∙ h.0, h.1, h.2, h.3, owned_apart n to j ps a.1 h.4)
+
+  absent_both : (n : ℕ) (ps qs : List Knower) → Absent n ps → Absent n qs → Absent n (ps ++ qs)
+  absent_both n [] qs a b = b
+  absent_both n (p ∷ ps) qs a b = (a.0, absent_both n ps qs a.1 b)
+
+  owned_both : (id other : ℕ) → id ≢ other → (ps qs : List Knower) → Owns lay run owner id ps → Owns lay run owner other qs → Owns lay run (merged owner id other) id (ps ++ qs)
+  owned_both id other ne [] qs h k = owned_by (merged owner id other) other id (λ x e. merged_here owner id other x e) qs k
+  owned_both id other ne (p ∷ ps) qs h k = (
+    merged_else owner id other p.number.0 (λ e. ne (sym h.0 ∙ e)) ∙ h.0,
+    h.1,
+    h.2,
+    absent_both p.number.0 ps qs h.3 (absent_of p.number.0 other (λ e. ne (sym h.0 ∙ e)) qs k),
+    owned_both id other ne ps qs h.4 k,
+  )
+
+module _ (allows : Layout → History → ℕ → Type 0) (lay : Layout) where
+  -- the rule holds of other views where it holds of all of them
+  reseated : (s : State ℕ View) (views : List View) (kept : Kept allows lay s) (owner : ℕ → ℕ) → ((id : ℕ) (v : View) → get_elem? views id ≡ some v → Owns lay kept.run owner id v.passes) → Kept allows lay (record { words = s.words; homes = s.homes; views = views })
+  reseated s views kept owner passes = record { run = kept.run; size = kept.size; holds = kept.holds; sound = kept.sound; owner = owner; passes = passes }
+
+  pub joins : (id other : ℕ) (v w : View) → Joins (Kept allows lay) id v other w (joined v w) (view [])
+  joins id other v w s kept at ne at_other =
+      let run = kept.run in
+      let owner = kept.owner in
+      let fine : id ≢ other = λ e. ne (sym e) in
+      let mine = kept.passes id v at in
+      let theirs : Owns lay run owner other w.passes = ⊎_elim
+      (λ (t : (other ≡ id) × (joined v w ≡ w)). absurd (ne t.0))
+      (λ (t : (other ≢ id) × (get_elem? s.views other ≡ some w)). kept.passes other w t.1)
+      (at_set s.views id other (joined v w) w at_other) in
+      reseated s _ kept (merged owner id other) (λ j u e. ⊎_elim
+      (λ (t : (j ≡ other) × (view [] ≡ u)). subst (λ x. Owns lay run (merged owner id other) j x.passes) t.1 tt)
+      (λ (t : (j ≢ other) × (get_elem? (set s.views id (joined v w)) j ≡ some u)). ⊎_elim
+      (λ (here : (j ≡ id) × (joined v w ≡ u)). subst (λ x. Owns lay run (merged owner id other) j x.passes) here.1
+      (subst (λ i. Owns lay run (merged owner id other) i (v.passes ++ w.passes)) (sym here.0) (owned_both lay run owner id other fine v.passes w.passes mine theirs)))
+      (λ (away : (j ≢ id) × (get_elem? s.views j ≡ some u)). owned_by lay run owner (merged owner id other) j j
+      (λ x is. merged_else owner id other x (λ e2. t.0 (sym is ∙ e2)) ∙ is) u.passes (kept.passes j u away.1))
+      (at_set s.views id j (joined v w) u t.1))
+      (at_set (set s.views id (joined v w)) other j (view []) u e))
+
+  splits_list : (id : ℕ) (v : View) (ps : List Knower) → v.passes ≡ ps → Splits (Kept allows lay) id v (view (rest_of ps)) (view (first_of ps))
+  splits_list id v [] is s kept at = reseated s _ kept kept.owner (λ j u e. ⊎_elim
+      (λ (t : get_elem? (set s.views id (view [])) j ≡ some u). ⊎_elim
+      (λ (here : (j ≡ id) × (view [] ≡ u)). subst (λ x. Owns lay kept.run kept.owner j x.passes) here.1 tt)
+      (λ (away : (j ≢ id) × (get_elem? s.views j ≡ some u)). kept.passes j u away.1)
+      (at_set s.views id j (view []) u t))
+      (λ (t : (j ≡ length (set s.views id (view []))) × (view [] ≡ u)). subst (λ x. Owns lay kept.run kept.owner j x.passes) t.1 tt)
+      (snoc_at (set s.views id (view [])) (view []) u j e))
+  splits_list id v (p ∷ ps) is s kept at =
+      let run = kept.run in
+      let owner = kept.owner in
+      let own : Owns lay run owner id (p ∷ ps) = subst (λ l. Owns lay run owner id l) is (kept.passes id v at) in
+      let old : List View = set s.views id (view ps) in
+      let new : ℕ → ℕ = moved owner p.number.0 (length old) in
+      reseated s _ kept new (λ j u e. ⊎_elim
+      (λ (t : get_elem? old j ≡ some u). ⊎_elim
+      (λ (here : (j ≡ id) × (view ps ≡ u)). subst (λ x. Owns lay run new j x.passes) here.1
+      (subst (λ i. Owns lay run new i ps) (sym here.0) (owned_apart lay run owner p.number.0 (length old) id ps own.3 own.4)))
+      (λ (away : (j ≢ id) × (get_elem? s.views j ≡ some u)). owned_apart lay run owner p.number.0 (length old) j u.passes
+      (absent_of lay run owner p.number.0 j (λ x. away.0 (sym x ∙ own.0)) u.passes (kept.passes j u away.1)) (kept.passes j u away.1))
+      (at_set s.views id j (view ps) u t))
+      (λ (t : (j ≡ length old) × (view (p ∷ []) ≡ u)). subst (λ x. Owns lay run new j x.passes) t.1
+      (subst (λ i. Owns lay run new i (p ∷ [])) (sym t.0) (moved_here owner p.number.0 (length old), own.1, own.2, tt, tt)))
+      (snoc_at old (view (p ∷ [])) u j e))
+
+  pub splits : (id : ℕ) (v : View) → Splits (Kept allows lay) id v (undealt v) (dealt v)
+  splits id v = splits_list id v v.passes refl
+
+  apart_below : (k from n : ℕ) → k < from → Absent k (beginners lay from n)
+  apart_below k from zero h = tt
+  apart_below k from (suc n) h = ((λ e. omega arith), apart_below k (suc from) n (omega arith))
+
+  opened : (from n : ℕ) → Owns lay [] (λ _. 0) 0 (beginners lay from n)
+  opened from zero = tt
+  opened from (suc n) = (refl, refl, ([], refl, tt), apart_below from (suc from) n (omega arith), opened (suc from) n)
+
+  -- the rule holds of words as they are at the start
+  pub opens : (words : List ℕ) (n : ℕ) → length words ≡ table_size lay → ((w : Word) → IsWord lay w → slice_index words (place lay w) ≡ opening_word lay.mode w) → Kept allows lay (opening words [] (view (beginners lay 0 n)))
+  unfolding value Lawful Shaped
+  opens words n size holds = record {
+    run = [];
+    size = size;
+    holds = holds;
+    sound = record { lawful = refl; shaped = tt };
+    owner = λ _. 0;
+    passes = λ j u e. ⊎_elim
+        (λ (t : get_elem? {A = View} [] j ≡ some u). absurd (some-ne-none u (sym t)))
+        (λ (t : (j ≡ 0) × (view (beginners lay 0 n) ≡ u)). subst (λ x. Owns lay [] (λ _. 0) j x.passes) t.1 (subst (λ i. Owns lay [] (λ _. 0) i (beginners lay 0 n)) (sym t.0) (opened 0 n)))
+        (snoc_at [] (view (beginners lay 0 n)) u j e);
+  }

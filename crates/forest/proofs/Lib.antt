@@ -1,0 +1,12 @@
+pub mod Moves
+pub mod Advances
+pub mod Deals
+pub mod Frames
+pub mod Calls
+pub mod Passes
+pub mod LlxCalls
+pub mod VlxCalls
+pub mod ScxCalls
+pub mod Meets
+pub mod Openings
+pub mod Closes

@@ -1,0 +1,123 @@
+-- How two passes meet.
+use Rattle.std.proofs.Common.{◌≡◌, ◌≢◌, ◌<◌, ◌≤◌, ◌+◌, ℕ, suc, List, [], ◌∷◌, ◌++◌, refl, sym, ◌∙◌, ap, subst, arith, eq-eqb, inr}
+use Rattle.atomic_table.specs.declared.shared.Seat.{Seat}
+use Rattle.arena.specs.declared.layout.Layout.{Layout}
+use Rattle.arena.specs.declared.limits.Mode.{Mode}
+use Rattle.arena.specs.declared.step.Row.{Row}
+use Rattle.arena.specs.History.{History, EndsWith}
+use Rattle.arena.specs.Machines.{IsRun}
+use Rattle.arena.proofs.Values.{ends_self}
+use Rattle.prims.specs.Cells.{allows_all}
+use Rattle.forest.specs.declared.view.Knower.{Knower}
+use Rattle.forest.specs.declared.view.View.{View}
+use Rattle.forest.specs.declared.pass.Pass.TheInside.{Inside}
+use Rattle.forest.specs.Kept.{past, knower, row, look, Looked, HasLooked, Met, looked, Behind, ByOthers}
+use Rattle.forest.specs.Courses.{known_of, rows_of}
+use Rattle.forest.specs.Passes.{run_of, steps_of}
+use Rattle.forest.specs.Held.{sight, IsPass}
+use Rattle.forest.proofs.Advances.{keeps_all, rows_by_others, same_knower}
+use Rattle.forest.proofs.Calls.{IsQuiet, quiet_start, quiet_other, quiet_step}
+use Rattle.forest.proofs.Passes.{HasCalled, seated}
+
+-- Two looks
+
+first_is : (a b : Knower) (more others : List Knower) → a ∷ more ≡ b ∷ others → a ≡ b
+first_is a b more others e = cc
+
+second_is : (a b p q : Knower) → p ∷ a ∷ [] ≡ q ∷ b ∷ [] → a ≡ b
+second_is a b p q e = cc
+
+module _ (allows : Layout → History → ℕ → Type 0) (p q : Knower) where
+  -- the first of two, which is q, looks
+  pub looks_first : (ps qs : List Knower) → ps ≡ q ∷ p ∷ [] → Looked allows ps qs → (early : List Row) × Behind early p × HasLooked allows q early × (q.number.0 ≢ p.number.0) × (p.layout ≡ q.layout) × (qs ≡ p ∷ looked q early ∷ [])
+  looks_first ps qs e x = from (first_is x.first q _ _ (sym x.were ∙ e)) (second_is x.second p x.first q (sym x.were ∙ e))
+    where
+      from : x.first ≡ q → x.second ≡ p → (early : List Row) × Behind early p × HasLooked allows q early × (q.number.0 ≢ p.number.0) × (p.layout ≡ q.layout) × (qs ≡ p ∷ looked q early ∷ [])
+      from a b = subst (λ (z : Knower). (early : List Row) × Behind early p × HasLooked allows z early × (z.number.0 ≢ p.number.0) × (p.layout ≡ z.layout) × (qs ≡ p ∷ looked z early ∷ [])) a
+          (subst (λ (z : Knower). (early : List Row) × Behind early z × HasLooked allows x.first early × (x.first.number.0 ≢ z.number.0) × (z.layout ≡ x.first.layout) × (qs ≡ z ∷ looked x.first early ∷ [])) b
+          (x.run, x.behind_second, record { behind = x.behind_first; before = x.before; after = x.after }, x.apart, x.same, x.are))
+
+-- What a look leaves
+
+ends_more : (mode : Mode) (rows known : List Row) → EndsWith (past mode (rows ++ known)) (past mode known)
+ends_more mode [] known = ends_self (past mode known)
+ends_more mode (r ∷ rs) known = inr (ends_more mode rs known)
+
+pub behind_ends : (run : List Row) (p : Knower) → Behind run p → EndsWith (past p.layout.mode run) (past p.layout.mode p.known)
+behind_ends run p b = subst (λ rows. EndsWith (past p.layout.mode rows) (past p.layout.mode p.known)) (sym b.1) (ends_more p.layout.mode b.0 p.known)
+
+-- a pass that has looked knows what it knew, and its look
+pub look_called : (p : Inside) (x : IsPass p) (s : Seat ℕ View) (run : List Row) → HasLooked allows_all (knower p.number.0 p.layout (known_of p.seat.me.0.passes)) run → s.me.0.passes ≡ looked (knower p.number.0 p.layout (known_of p.seat.me.0.passes)) run ∷ [] → HasCalled p s (λ h. EndsWith h (past p.layout.mode run))
+look_called p x s run y e =
+    let mode = p.layout.mode in
+    let start = past mode (known_of p.seat.me.0.passes) in
+    let r : Row = row p.number.0 look (past mode run) in
+    let known : r ∷ run ≡ known_of s.me.0.passes = sym (ap known_of e) in
+    let rows = y.behind.0 in
+    let before : IsRun allows_all p.layout (past mode (rows ++ known_of p.seat.me.0.passes)) = subst (λ l. IsRun allows_all p.layout (past mode l)) y.behind.1 y.before in
+    let quiet = keeps_all allows_all p.layout p.number.0 (IsQuiet p.layout p.number.0 start p.share) (λ h r run other z. quiet_other p.layout p.number.0 start p.share x.is_pass h r run other z) rows (known_of p.seat.me.0.passes) y.behind.2 before (quiet_start p.layout p.number.0 start p.share x.sound x.rest) in
+    record {
+      seat = rw known at e;
+      answers = subst (λ l. EndsWith (past mode l) (past mode run)) known (inr (ends_self (past mode run)));
+      goes = subst (λ l. IsQuiet p.layout p.number.0 start p.share (past mode l)) known (quiet_step p.layout p.number.0 start p.share (past mode run) r y.after (λ k. cc) (subst (λ l. IsQuiet p.layout p.number.0 start p.share (past mode l)) (sym y.behind.1) quiet));
+    }
+
+-- and has made one step more
+pub look_steps : (p : Inside) (s : Seat ℕ View) (run : List Row) → Behind run (knower p.number.0 p.layout (known_of p.seat.me.0.passes)) → s.me.0.passes ≡ looked (knower p.number.0 p.layout (known_of p.seat.me.0.passes)) run ∷ [] → steps_of (sight (seated p s)) ≡ suc (steps_of (sight p))
+look_steps p s run b e = ap (λ l. rows_of p.number.0 (known_of l)) e ∙ rw (eq-eqb p.number.0 p.number.0 refl) (ap suc (ap (rows_of p.number.0) b.1 ∙ rows_by_others p.number.0 b.0 _ b.2))
+
+-- What two passes have once they have met
+
+pub record HaveMet (p q : Inside) (s t : Seat ℕ View) : Type 0 where
+  pub early : List Row
+  pub late : List Row
+  pub apart : p.number.0 ≢ q.number.0
+  pub one : HasCalled p s (λ h. EndsWith h (past p.layout.mode late))
+  pub other : HasCalled q t (λ h. EndsWith h (past q.layout.mode early))
+  pub goes_on : EndsWith (past p.layout.mode late) (run_of (sight (seated q t)))
+  pub knew : EndsWith (past q.layout.mode early) (run_of (sight p))
+  pub one_step : steps_of (sight (seated p s)) ≡ suc (steps_of (sight p))
+  pub other_step : steps_of (sight (seated q t)) ≡ suc (steps_of (sight q))
+
+pub have_met : (p q : Inside) (x : IsPass p) (y : IsPass q) (s t : Seat ℕ View) → Met allows_all p.seat.me.0.passes q.seat.me.0.passes s.me.0.passes t.me.0.passes → HaveMet p q s t
+have_met p q x y s t m = record {
+  early = m.early;
+  late = m.late;
+  apart = λ e. m.apart (ap (λ (k : Knower). k.number.0) one ∙ e ∙ sym (ap (λ (k : Knower). k.number.0) other));
+  one = look_called p x s m.late one_looked one_is;
+  other = look_called q y t m.early other_looked other_is;
+  goes_on = subst (λ (l : Layout). EndsWith (past l.mode m.late) (run_of (sight (seated q t)))) (sym same) (subst (λ l. EndsWith (past q.layout.mode m.late) (past q.layout.mode l)) (sym (ap known_of other_is)) (behind_ends m.late (looked the_other m.early) goes_on));
+  knew = subst (λ (l : Layout). EndsWith (past l.mode m.early) (run_of (sight p))) same (behind_ends m.early the_one (subst (λ (k : Knower). Behind m.early k) one m.knew_one));
+  one_step = look_steps p s m.late one_looked.behind one_is;
+  other_step = look_steps q t m.early other_looked.behind other_is;
+}
+  where
+    the_one : Knower
+    the_one = knower p.number.0 p.layout (known_of p.seat.me.0.passes)
+
+    the_other : Knower
+    the_other = knower q.number.0 q.layout (known_of q.seat.me.0.passes)
+
+    one : m.one ≡ the_one
+    one = same_knower p.seat.me.0.passes m.one the_one m.was_one x.seat
+
+    other : m.other ≡ the_other
+    other = same_knower q.seat.me.0.passes m.other the_other m.was_other y.seat
+
+    same : p.layout ≡ q.layout
+    same = sym (ap (λ (k : Knower). k.layout) one) ∙ m.same ∙ ap (λ (k : Knower). k.layout) other
+
+    one_looked : HasLooked allows_all the_one m.late
+    one_looked = subst (λ (k : Knower). HasLooked allows_all k m.late) one m.one_looked
+
+    other_looked : HasLooked allows_all the_other m.early
+    other_looked = subst (λ (k : Knower). HasLooked allows_all k m.early) other m.other_looked
+
+    one_is : s.me.0.passes ≡ looked the_one m.late ∷ []
+    one_is = subst (λ (k : Knower). s.me.0.passes ≡ looked k m.late ∷ []) one m.is_one
+
+    other_is : t.me.0.passes ≡ looked the_other m.early ∷ []
+    other_is = subst (λ (k : Knower). t.me.0.passes ≡ looked k m.early ∷ []) other m.is_other
+
+    goes_on : Behind m.late (looked the_other m.early)
+    goes_on = subst (λ (k : Knower). Behind m.late (looked k m.early)) other m.goes_on

@@ -1,0 +1,95 @@
+-- What a call leaves of a pass.
+use Rattle.std.proofs.Common.{◌≡◌, ◌≢◌, ℕ, ◌+◌, ◌<◌, ◌≤◌, List, [], ◌∷◌, refl, sym, ◌∙◌, ap, subst, arith}
+use Rattle.atomic_table.specs.declared.shared.Seat.{Seat}
+use Rattle.arena.specs.declared.limits.Mode.TheVariants.{Records}
+use Rattle.arena.specs.declared.layout.Layout.{Layout}
+use Rattle.arena.specs.declared.step.Step.{Step}
+use Rattle.arena.specs.declared.step.Kind.TheVariants.{Fill}
+use Rattle.arena.specs.Layout.{first_node, first_scx}
+use Rattle.arena.specs.Share.{whole_share}
+use Rattle.arena.specs.History.{History, Start, ◌⊳◌, EndsWith}
+use Rattle.arena.specs.Fills.{IsTakenNode, IsTakenScx}
+use Rattle.arena.specs.Lawful.{Lawful}
+use Rattle.arena.specs.Machines.{Call, IsRun}
+use Rattle.arena.specs.Shape.{Shaped}
+use Rattle.histories.proofs.Unmentioned.{unmentioned_start}
+use Rattle.prims.specs.Cells.{allows_all}
+use Rattle.prims.specs.declared.snap.Snap.{Snap}
+use Rattle.forest.specs.declared.view.Knower.{Knower}
+use Rattle.forest.specs.declared.view.View.{View}
+use Rattle.forest.specs.declared.pass.Pass.TheInside.{Inside}
+use Rattle.forest.specs.Kept.{past, knower}
+use Rattle.forest.specs.Courses.{Course, IsCalled, known_of, rows_of, steps_of}
+use Rattle.forest.specs.Shares.{IsShare, IsAtRest, IsUsable}
+use Rattle.forest.specs.Passes.{Sight, IsLater, CanUse, done_of, run_of, steps_of as steps_in}
+use Rattle.forest.specs.Held.{sight, IsPass}
+use Rattle.forest.proofs.Frames.{Goes, free_unnamed, next_free}
+use Rattle.forest.proofs.Calls.{quiet_goes}
+
+-- a pass with its whole share is at rest at the start
+pub begins_at_rest : (lay : Layout) (c : ℕ) → IsAtRest lay c (Start lay.mode) (whole_share lay c)
+unfolding IsTakenNode IsTakenScx
+begins_at_rest lay c = record {
+  share = record {
+    from_node = omega arith;
+    to_node = refl;
+    from_scx = omega arith;
+    to_scx = refl;
+    taken_nodes = λ n own less. absurd (let a = own.from in omega arith);
+    taken_scx = λ s own less. absurd (let a = own.from in omega arith);
+    unmentioned = λ n p. unmentioned_start lay.mode n (let a = p.from in omega arith);
+    untaken_nodes = λ n p t. t;
+    untaken = λ s p t. t;
+  };
+  over = λ s own d t. absurd t;
+}
+
+pub begins_sound : (lay : Layout) → IsRun allows_all lay (Start lay.mode)
+unfolding Lawful Shaped
+begins_sound lay = record { lawful = refl; shaped = tt }
+
+-- the call of a pass
+abbrev pub call_of : (p : Inside) → IsPass p → ℕ → Call
+call_of p x number = record { layout = p.layout; pass = p.number.0; is_pass = x.is_pass; number = number; start = past p.layout.mode (known_of p.seat.me.0.passes) }
+
+-- the pass with its seat as it is now
+abbrev pub seated : Inside → Seat ℕ View → Inside
+seated p s = record { number = p.number; layout = p.layout; share = p.share; seat = s }
+
+-- what the pass has after a call that takes nothing
+pub record HasCalled (p : Inside) (s : Seat ℕ View) (A : History → Type 0) : Type 0 where
+  pub seat : s.me.0.passes ≡ knower p.number.0 p.layout (known_of s.me.0.passes) ∷ []
+  pub answers : A (past p.layout.mode (known_of s.me.0.passes))
+  pub goes : Goes p.layout p.number.0 (past p.layout.mode (known_of p.seat.me.0.passes)) (past p.layout.mode (known_of s.me.0.passes)) p.share p.share.next_node p.share.next_scx []
+
+pub called : (p : Inside) (x : IsPass p) (s : Seat ℕ View) (number : ℕ) {M : Type 0} (waits : M → Call → History → Step → Type 0) (same : M → M → Type 0) (first m : M) (A : History → Type 0) → ((m : M) (h : History) (t : Step) → waits m (call_of p x number) h t → t.kind ≢ Fill) → IsCalled allows_all s.me.0.passes (call_of p x number) (λ h. A h × Course allows_all waits same (call_of p x number) first m h) → HasCalled p s A
+called p x s number waits same first m A fills_not y =
+    let known : y.known ≡ known_of s.me.0.passes = sym (ap known_of y.is) in
+    record {
+      seat = rw known at y.is;
+      answers = subst (λ rows. A (past p.layout.mode rows)) known y.so.0;
+      goes = subst (λ rows. Goes p.layout p.number.0 (past p.layout.mode (known_of p.seat.me.0.passes)) (past p.layout.mode rows) p.share p.share.next_node p.share.next_scx []) known (quiet_goes waits same (call_of p x number) first p.share fills_not x.sound x.rest m _ y.so.1);
+    }
+
+-- it is a pass again
+pub called_pass : (p : Inside) (x : IsPass p) (s : Seat ℕ View) (A : History → Type 0) → s.me.1 ≡ p.seat.me.1 → HasCalled p s A → IsPass (seated p s)
+called_pass p x s A bare y = record { seat = y.seat; bare = bare ∙ x.bare; cells = x.cells; is_pass = x.is_pass; sound = y.goes.sound; rest = record { share = y.goes.share; over = y.goes.over } }
+
+-- it has no entry more
+pub called_done : (p : Inside) (s : Seat ℕ View) (A : History → Type 0) → HasCalled p s A → done_of (sight (seated p s)) ≡ done_of (sight p)
+called_done p s A y = y.goes.unwon (λ w. (free_unnamed p.layout _ p.number.0 p.share.next_scx y.goes.sound.lawful w.0 (next_free p.layout _ p.number.0 p.share _ _ y.goes.share w.0)).1 w.1)
+
+-- and knows a longer run
+pub called_later : (p : Inside) (s : Seat ℕ View) (A : History → Type 0) → s.table_id ≡ p.seat.table_id → HasCalled p s A → IsLater (sight p) (sight (seated p s))
+called_later p s A table y = record { table = table; layout = refl; number = refl; run = y.goes.since }
+
+-- its snapshots may still be used
+pub called_usable : (p : Inside) (s : Seat ℕ View) (A : History → Type 0) → HasCalled p s A → (snap : Snap) → CanUse (sight p) snap → CanUse (sight (seated p s)) snap
+called_usable p s A y snap u = (u.0, y.goes.usable snap u.0 (λ z. let i = z.within in omega arith) u.1)
+
+-- its steps are those of its seat
+pub steps_are : (c : ℕ) (lay : Layout) (ps : List Knower) → ps ≡ knower c lay (known_of ps) ∷ [] → steps_of ps ≡ rows_of c (known_of ps)
+steps_are c lay ps e = ap steps_of e
+
+pub called_steps : (p : Inside) (x : IsPass p) (s : Seat ℕ View) (A : History → Type 0) (left bound : ℕ) → HasCalled p s A → steps_of s.me.0.passes ≤ steps_of p.seat.me.0.passes + left → left ≤ bound → steps_in (sight (seated p s)) ≤ steps_in (sight p) + bound
+called_steps p x s A left bound y few small = let a = steps_are p.number.0 p.layout s.me.0.passes y.seat in let b = steps_are p.number.0 p.layout p.seat.me.0.passes x.seat in omega arith

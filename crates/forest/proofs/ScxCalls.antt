@@ -1,0 +1,341 @@
+-- What a call of `scx` says.
+use Rattle.std.proofs.Common.{◌≡◌, ◌≢◌, ◌<◌, ◌≤◌, ◌+◌, ◌-◌, ◌⊎◌, ◌↔◌, ℕ, zero, suc, inl, inr, ⊎_elim, Bool, true, false, cond, ◌||◌, eqb, eqb-true, eq-eqb, List, [], ◌∷◌, length, None, refl, sym, ◌∙◌, ap, subst, arith}
+use Rattle.std.proofs.lemmas.Bool.{or_left}
+use Rattle.std.specs.List.{Contains}
+use Rattle.atomic_table.specs.declared.shared.Seat.{Seat}
+use Rattle.arena.specs.declared.layout.Layout.{Layout}
+use Rattle.arena.specs.declared.number.NodeNo.{NodeNo}
+use Rattle.arena.specs.declared.word.Side.{Side}
+use Rattle.arena.specs.Layout.{first_scx}
+use Rattle.arena.specs.Words.{info, state}
+use Rattle.arena.specs.Share.{Left, HasNode as HasOwnNode, HasScx}
+use Rattle.arena.specs.History.{History, Start, ◌⊳◌, value, EndsWith}
+use Rattle.arena.specs.ScxRecords.{removes, side_of, index_of as field_of}
+use Rattle.arena.specs.Fills.{IsOwnNode, IsOwnScx, IsTakenNode, IsTakenScx}
+use Rattle.arena.specs.Lawful.{Lawful, HasWon}
+use Rattle.arena.specs.Log.{Entry, log, has, IsEntered, AreOnce}
+use Rattle.arena.specs.Machines.{Call, IsRun}
+use Rattle.arena.proofs.Values.{held_at, held_since}
+use Rattle.histories.proofs.Changes.{lawful_tail}
+use Rattle.histories.proofs.Entries.{IsIn, newest, older, once, entered_won}
+use Rattle.histories.proofs.Fields.{Logs, same as log_same, wins as log_wins, logs}
+use Rattle.histories.proofs.Helds.{or_split, or_right}
+use Rattle.histories.proofs.Helping.{aborted_never_won}
+use Rattle.prims.specs.Cells.{allows_all}
+use Rattle.prims.specs.Moments.{IsMoment, IsAsFound}
+use Rattle.prims.specs.Snaps.{AreDistinct, IsAmong, HasNode}
+use Rattle.prims.specs.Updates.{field_place}
+use Rattle.prims.specs.VlxKnown.{snap_at}
+use Rattle.arena.specs.Blame.{WasInTheWay}
+use Rattle.prims.specs.ScxKnown.{IsUpdateOver, IsEntryAt, IsDone as IsScxDone, IsLost, removed_nodes, nodes_of, update_entry}
+use Rattle.prims.specs.PutKnown.{put_ready, put_waits, put_answers}
+use Rattle.prims.proofs.PutBegins.{put_begin}
+use Rattle.prims.proofs.PutEntries.{put_finished}
+use Rattle.prims.specs.declared.snap.Snap.{Snap}
+use Rattle.prims.specs.declared.scx.Scx.{Scx}
+use Rattle.prims.specs.declared.scx.Scx.TheVariants.{Done, Lost}
+use Rattle.prims.specs.declared.scx.ScxAt.TheVariants.{Start as ScxStart}
+use Rattle.prims.specs.declared.put.PutRun.{PutRun}
+use Rattle.prims.specs.declared.put.PutAt.TheVariants.{Start as PutStart}
+use Rattle.prims.specs.declared.update.Update.{Update}
+use Rattle.forest.specs.declared.fault.Full.{Full}
+use Rattle.forest.specs.declared.fault.Resource.{Resource}
+use Rattle.forest.specs.declared.fault.Resource.TheVariants.{Nodes, Scx as ScxRecords}
+use Rattle.forest.specs.declared.view.View.{View}
+use Rattle.forest.specs.declared.pass.Pass.TheInside.{Inside}
+use Rattle.forest.specs.Kept.{past, knower}
+use Rattle.forest.specs.Courses.{Course, IsCalled, known_of, steps_of}
+use Rattle.forest.specs.Shares.{IsShare, IsAtRest, IsUsable, entries_of}
+use Rattle.forest.specs.Puts.{IsPutOf}
+use Rattle.forest.specs.Passes.{Sight, IsLater, CanUse, Each, AreApart, HasNodeOf, WasChanged, IsDone, ScxSays, IsFull, IsFullOf, IsAllTaken, IsUsedUp, taken, run_of, seen_of, done_of, steps_of as steps_in}
+use Rattle.forest.specs.Held.{sight, IsPass}
+use Rattle.forest.proofs.Frames.{Goes, HasOwnWon, left_own_node, left_own_scx, next_free, free_unnamed}
+use Rattle.forest.proofs.Calls.{HasHand, all_over, course_keeps, put_goes, put_rests}
+use Rattle.forest.proofs.Passes.{call_of, seated, steps_are}
+use Rattle.forest.proofs.VlxCalls.{each_at, is_clear}
+
+-- Entries
+
+-- a list in which no SCX-record has two entries
+in_entered : (e : Entry) (es : List Entry) → IsIn e es → IsEntered es e.scx
+in_entered e _ (newest es) = inl refl
+in_entered e _ (older x es i) = inr (in_entered e es i)
+
+once_same : (a b : Entry) (es : List Entry) → AreOnce es → a.scx ≡ b.scx → IsIn a es → IsIn b es → a ≡ b
+once_same a b [] o e i j = absurd (none a i)
+  where
+    none : (x : Entry) → IsIn x [] → ⊥
+    none x i = let z : IsEntered [] x.scx = in_entered x [] i in z
+once_same a b (x ∷ es) o e i j = go (split a i) (split b j) (once_same a b es o.1 e)
+  where
+    split : (y : Entry) → IsIn y (x ∷ es) → (y ≡ x) ⊎ IsIn y es
+    split y (newest _) = inl refl
+    split y (older _ _ k) = inr k
+
+    go : (a ≡ x) ⊎ IsIn a es → (b ≡ x) ⊎ IsIn b es → (IsIn a es → IsIn b es → a ≡ b) → a ≡ b
+    go (inl p) (inl q) more = p ∙ sym q
+    go (inl p) (inr q) more = absurd (o.0 (subst (λ s. IsEntered es s) (sym e ∙ ap (λ (z : Entry). z.scx) p) (in_entered b es q)))
+    go (inr p) (inl q) more = absurd (o.0 (subst (λ s. IsEntered es s) (e ∙ ap (λ (z : Entry). z.scx) q) (in_entered a es p)))
+    go (inr p) (inr q) more = more p q
+
+-- an entry of the log stays
+in_since : (lay : Layout) (h m : History) (e : Entry) → Lawful lay h → EndsWith h m → IsIn e (log lay m) → IsIn e (log lay h)
+in_since lay (Start mode) m e l p i = subst (λ k. IsIn e (log lay k)) p i
+in_since lay (r ⊳ h) m e l (inl p) i = subst (λ k. IsIn e (log lay k)) p i
+in_since lay (r ⊳ h) m e l (inr p) i = go (logs lay h r l) (in_since lay h m e (lawful_tail lay h r l) p i)
+  where
+    go : Logs lay h r → IsIn e (log lay h) → IsIn e (log lay (r ⊳ h))
+    go (log_same q back) j = rw q j
+    go (log_wins u w q) j = rw q (older _ _ j)
+
+-- an entry of the pass is one of the list
+in_entries : (c : ℕ) (e : Entry) (es rest : List Entry) → entries_of c es ≡ e ∷ rest → IsIn e es
+in_entries c e [] rest q = cc
+in_entries c e (x ∷ es) rest q = go (eqb x.owner c) q (in_entries c e es rest)
+  where
+    first : (a b : Entry) (more others : List Entry) → a ∷ more ≡ b ∷ others → a ≡ b
+    first a b more others p = cc
+
+    go : (t : Bool) → cond t (x ∷ entries_of c es) (entries_of c es) ≡ e ∷ rest → (entries_of c es ≡ e ∷ rest → IsIn e es) → IsIn e (x ∷ es)
+    go true p more = subst (λ y. IsIn y (x ∷ es)) (first x e _ _ p) (newest es)
+    go false p more = older x es (more p)
+
+-- Which nodes an update finalizes
+
+-- a snapshot whose node the plan finalizes, where the first of the snapshots has this place in the plan
+record IsRemovedAt (p : ℕ) (snaps : List Snap) (from n : ℕ) : Type 0 where
+  at : ℕ
+  within : at < length snaps
+  is : (snap_at snaps at).node.0 ≡ n
+  place : ℕ
+  is_place : place ≡ from + at
+  removed : removes p place ≡ true
+
+removed_there : (p : ℕ) (snaps : List Snap) (from n : ℕ) → has (removed_nodes p snaps from) n ≡ true → IsRemovedAt p snaps from n
+removed_there p [] from n e = cc
+removed_there p (snap ∷ snaps) from n e = go (removes p from) refl e (removed_there p snaps (suc from) n)
+  where
+    later : IsRemovedAt p snaps (suc from) n → IsRemovedAt p (snap ∷ snaps) from n
+    later x = record { at = suc x.at; within = let i = x.within in omega arith; is = x.is; place = x.place; is_place = let i = x.is_place in omega arith; removed = x.removed }
+
+    go : (b : Bool) → removes p from ≡ b → has (cond b (snap.node.0 ∷ removed_nodes p snaps (suc from)) (removed_nodes p snaps (suc from))) n ≡ true → (has (removed_nodes p snaps (suc from)) n ≡ true → IsRemovedAt p snaps (suc from) n) → IsRemovedAt p (snap ∷ snaps) from n
+    go false r q f = later (f q)
+    go true r q f = ⊎_elim (λ z. record { at = 0; within = omega arith; is = eqb-true snap.node.0 n z; place = from; is_place = omega arith; removed = r }) (λ z. later (f z)) (or_split (eqb snap.node.0 n) (has (removed_nodes p snaps (suc from)) n) q)
+
+removed_found : (p : ℕ) (snaps : List Snap) (from n at place : ℕ) → at < length snaps → (snap_at snaps at).node.0 ≡ n → place ≡ from + at → removes p place ≡ true → has (removed_nodes p snaps from) n ≡ true
+removed_found p [] from n at place i e d r = absurd (omega arith)
+removed_found p (snap ∷ snaps) from n zero place i e d r =
+    let here : removes p from ≡ true = subst (λ (k : ℕ). removes p k ≡ true) (omega (arith, d)) r in
+    rw here (or_left (eqb snap.node.0 n) (has (removed_nodes p snaps (suc from)) n) (eq-eqb snap.node.0 n e))
+removed_found p (snap ∷ snaps) from n (suc at) place i e d r = go (removes p from) (removed_found p snaps (suc from) n at place (omega arith) e (omega (arith, d)) r)
+  where
+    go : (b : Bool) → has (removed_nodes p snaps (suc from)) n ≡ true → has (cond b (snap.node.0 ∷ removed_nodes p snaps (suc from)) (removed_nodes p snaps (suc from))) n ≡ true
+    go false x = x
+    go true x = or_right (eqb snap.node.0 n) (has (removed_nodes p snaps (suc from)) n) x
+
+-- those of its nodes that are to be finalized
+removed_those : (p : ℕ) (snaps : List Snap) (finalize : List NodeNo) → ((j : ℕ) → j < length snaps → (removes p j ≡ true) ↔ HasNode finalize (snap_at snaps j).node.0) → (n : ℕ) → (has (removed_nodes p snaps 0) n ≡ true) ↔ (IsAmong snaps n × HasNode finalize n)
+removed_those p snaps finalize f n = (
+  (λ e.
+      let y = removed_there p snaps 0 n e in (
+        record { at = y.at; within = y.within; is = y.is },
+        subst (λ (k : ℕ). HasNode finalize k) y.is ((f y.at y.within).0 (subst (λ (k : ℕ). removes p k ≡ true) (let d = y.is_place in omega arith) y.removed)),
+      )),
+  (λ y. removed_found p snaps 0 n y.0.at y.0.at y.0.within y.0.is (omega arith) ((f y.0.at y.0.within).1 (rw y.0.is y.1))),
+)
+
+-- A share that is used up
+
+pub used_up : (p : Inside) (x : IsPass p) (f : Full) → IsFull p.share f → IsUsedUp (sight p) f
+used_up p x f full = (full, go f.what full)
+  where
+    go : (what : Resource) → IsFullOf p.share what f.left → IsAllTaken (sight p) what
+    go Nodes q = λ n own. x.rest.share.taken_nodes n own (let a = own.below in let b = x.rest.share.to_node in let z = q.0 in omega arith)
+    go ScxRecords q = λ s own. x.rest.share.taken_scx s own (let a = own.below in let b = x.rest.share.to_scx in let z = q.1 in omega arith)
+
+-- Calls
+
+-- further on it is still that
+put_same : (old now : PutRun) (snaps : List Snap) (finalize : List NodeNo) (field : ℕ × Side) (v node scx number : ℕ) → (now.scx.scx ≡ old.scx.scx) × (now.scx.update ≡ old.scx.update) × (now.scx.call ≡ old.scx.call) × (now.value ≡ old.value) → IsPutOf old snaps finalize field v node scx number → IsPutOf now snaps finalize field v node scx number
+put_same old now snaps finalize field v node scx number s x = record {
+  over = rw s.1 x.over;
+  snaps_are = rw s.1 x.snaps_are;
+  fresh = rw s.1 x.fresh;
+  record_is = rw s.0 x.record_is;
+  called = rw s.2 x.called;
+  removed = rw s.1 x.removed;
+  node_is = rw s.1 x.node_is;
+  side = rw s.1 x.side;
+  is_value = s.3 ∙ x.is_value;
+}
+
+-- it has the next records of the pass's share, and the snapshots, in hand
+put_hand : (m : PutRun) (snaps : List Snap) (finalize : List NodeNo) (field : ℕ × Side) (v node scx number : ℕ) → IsPutOf m snaps finalize field v node scx number → HasHand m node scx snaps
+put_hand m snaps finalize field v node scx number x = record { fresh = x.fresh; record_is = x.record_is; snaps_are = x.snaps_are }
+
+-- what is left once they are taken
+taken_share : (lay : Layout) (h : History) (c : ℕ) (left : Left) → 0 < left.nodes → 0 < left.scx → IsShare lay h c left left.next_node left.next_scx → IsShare lay h c (taken left) left.next_node left.next_scx
+taken_share lay h c left some_node some_scx x = record {
+  from_node = let a = x.from_node in omega arith;
+  to_node = let a = x.to_node in omega arith;
+  from_scx = let a = x.from_scx in omega arith;
+  to_scx = let a = x.to_scx in omega arith;
+  taken_nodes = x.taken_nodes;
+  taken_scx = x.taken_scx;
+  unmentioned = λ n p. x.unmentioned n record { from = let a = p.from in omega arith; below = let a = p.below in omega arith };
+  untaken_nodes = λ n p. x.untaken_nodes n record { from = let a = p.from in omega arith; below = let a = p.below in omega arith };
+  untaken = λ s p. x.untaken s record { from = let a = p.from in omega arith; below = let a = p.below in omega arith };
+}
+
+module _ (p : Inside) (x : IsPass p) (some_node : 0 < p.share.nodes) (some_scx : 0 < p.share.scx) (snaps : List Snap) (finalize : List NodeNo) (field : ℕ × Side) (v number : ℕ) where
+  -- a run of this call
+  abbrev pub Is : PutRun → Type 0
+  Is m = IsPutOf m snaps finalize field v p.share.next_node p.share.next_scx number
+
+  abbrev start : History
+  start = past p.layout.mode (known_of p.seat.me.0.passes)
+
+  own_node : IsOwnNode p.layout p.number.0 p.share.next_node
+  own_node = left_own_node p.layout start p.number.0 p.share _ _ p.share.next_node x.rest.share record { from = omega arith; below = omega arith }
+
+  own_scx : IsOwnScx p.layout p.number.0 p.share.next_scx
+  own_scx = left_own_scx p.layout start p.number.0 p.share _ _ p.share.next_scx x.rest.share record { from = omega arith; below = omega arith }
+
+  free : ¬ IsTakenScx start p.share.next_scx
+  free = next_free p.layout start p.number.0 p.share _ _ x.rest.share own_scx
+
+  pub put_begins : (m : PutRun) → Is m → m.at ≡ PutStart → m.scx.at ≡ ScxStart → Each (CanUse (sight p)) snaps → IsCalled allows_all p.seat.me.0.passes (call_of p x number) (λ h. ((call_of p x number).start ≡ h) × put_ready allows_all m (call_of p x number) h None)
+  put_begins m of at scx_at usable = record {
+    known = known_of p.seat.me.0.passes;
+    is = x.seat;
+    sound = x.sound;
+    so = (
+      refl,
+      record {
+        stands = at;
+        hand = put_begin p.layout p.number.0 start m.scx x.sound.lawful of.over
+            (λ i w. rw of.snaps_are (let q : i < length snaps = rw of.snaps_are at w in (each_at (CanUse (sight p)) snaps usable i q).1.linked))
+            scx_at (rw of.record_is own_scx) (rw of.record_is x.rest.share.taken_scx) (rw of.record_is free) (rw of.fresh own_node) (rw of.fresh x.rest.share.taken_nodes)
+            (rw of.fresh (x.rest.share.unmentioned p.share.next_node record { from = omega arith; below = omega arith }));
+        begins = refl;
+        clear = rw of.snaps_are (is_clear p.layout p.number.0 start snaps (each_at (CanUse (sight p)) snaps usable) (all_over p.layout p.number.0 start p.share x.rest));
+        free = rw of.record_is free;
+      },
+    );
+  }
+
+  -- what the pass has after the call
+  pub record HasPut (s : Seat ℕ View) (a : Scx) : Type 0 where
+    pub seat : s.me.0.passes ≡ knower p.number.0 p.layout (known_of s.me.0.passes) ∷ []
+    pub run : PutRun
+    pub is_of : Is run
+    pub answers : put_answers run (call_of p x number) (past p.layout.mode (known_of s.me.0.passes)) a
+    pub goes : Goes p.layout p.number.0 start (past p.layout.mode (known_of s.me.0.passes)) (taken p.share) p.share.next_node p.share.next_scx snaps
+
+  abbrev pub Same : PutRun → PutRun → Type 0
+  Same old now = (now.scx.scx ≡ old.scx.scx) × (now.scx.update ≡ old.scx.update) × (now.scx.call ≡ old.scx.call) × (now.value ≡ old.value)
+
+  pub put_called : (s : Seat ℕ View) (first m : PutRun) (a : Scx) → Is first → IsCalled allows_all s.me.0.passes (call_of p x number) (λ h. put_answers m (call_of p x number) h a × Course allows_all (put_waits allows_all) Same (call_of p x number) first m h) → HasPut s a
+  put_called s first m a of y =
+      let known : y.known ≡ known_of s.me.0.passes = sym (ap known_of y.is) in
+      record {
+        seat = rw known at y.is;
+        run = m;
+        is_of = course_keeps Is of (λ old now e q. put_same old now snaps finalize field v p.share.next_node p.share.next_scx number e q) m _ y.so.1;
+        answers = subst (λ rows. put_answers m (call_of p x number) (past p.layout.mode rows) a) known y.so.0;
+        goes = subst (λ rows. Goes p.layout p.number.0 start (past p.layout.mode rows) (taken p.share) p.share.next_node p.share.next_scx snaps) known
+            (put_goes Same (call_of p x number) first (taken p.share) p.share.next_node p.share.next_scx snaps (put_hand first snaps finalize field v p.share.next_node p.share.next_scx number of)
+            (λ old now e q. record { fresh = rw e.1 q.fresh; record_is = rw e.0 q.record_is; snaps_are = rw e.1 q.snaps_are })
+            (omega arith) (omega arith) x.sound (taken_share p.layout start p.number.0 p.share some_node some_scx x.rest.share) x.rest.over
+            (λ w. (free_unnamed p.layout start p.number.0 p.share.next_scx x.sound.lawful own_scx free).1 w.1) m _ y.so.1).1;
+      }
+
+  -- the pass with what is left of its share, and its seat as it is now
+  abbrev pub spent : Seat ℕ View → Inside
+  spent s = record { number = p.number; layout = p.layout; share = taken p.share; seat = s }
+
+  pub put_pass : (s : Seat ℕ View) (a : Scx) → s.me.1 ≡ p.seat.me.1 → HasPut s a → IsPass (spent s)
+  put_pass s a bare y = record {
+    seat = y.seat;
+    bare = bare ∙ x.bare;
+    cells = x.cells;
+    is_pass = x.is_pass;
+    sound = y.goes.sound;
+    rest = put_rests (call_of p x number) y.run _ a (taken p.share) p.share.next_node p.share.next_scx snaps (put_hand y.run snaps finalize field v p.share.next_node p.share.next_scx number y.is_of) (omega arith) (omega arith) (λ e. let q = own_scx.from in omega arith) y.answers y.goes;
+  }
+
+  pub put_says : (s : Seat ℕ View) (a : Scx) → first_scx p.layout p.number.0 + number ≡ p.share.next_scx → HasPut s a → ScxSays (sight p) (sight (spent s)) snaps finalize field v a
+  put_says s Done first y = (
+    e,
+    record {
+      row = d.entry.row;
+      before = d.entry.before;
+      within = at.within;
+      since = at.since;
+      logged = at.logged;
+      done = z.2 ∙ ap (λ k. k ∷ done_of (sight p)) same;
+      of_pass = refl;
+      of_record = y.is_of.record_is;
+      of_call = rw y.is_of.called first;
+      members = ap nodes_of y.is_of.snaps_are;
+      removed = λ n. subst (λ l. (has (removed_nodes m.scx.update.plan.0 l 0) n ≡ true) ↔ (IsAmong snaps n × HasNode finalize n)) (sym y.is_of.snaps_are) (removed_those m.scx.update.plan.0 snaps finalize y.is_of.removed n);
+      node = ap (λ l. (snap_at l (field_place m.scx.update)).node.0) y.is_of.snaps_are ∙ y.is_of.node_is;
+      side = y.is_of.side;
+      fresh = y.is_of.fresh;
+      has_value = y.answers.1.value ∙ y.is_of.is_value;
+      found = subst (λ l. (i : ℕ) → i < length l → IsAsFound p.layout h d.entry.before (snap_at l i)) y.is_of.snaps_are at.found;
+    },
+  )
+    where
+      m : PutRun
+      m = y.run
+
+      h : History
+      h = past p.layout.mode (known_of s.me.0.passes)
+
+      e : Entry
+      e = update_entry p.number.0 m.scx
+
+      d : IsScxDone (call_of p x number) h m.scx
+      d = y.answers.1.done
+
+      at : IsEntryAt (call_of p x number) h m.scx d.entry.row d.entry.before
+      at = d.entry.is
+
+      z : (k : Entry) × (k.scx ≡ p.share.next_scx) × (done_of (sight (spent s)) ≡ k ∷ done_of (sight p))
+      z = y.goes.won (own_scx, subst (λ k. HasWon h k) y.is_of.record_is d.won)
+
+      same : z.0 ≡ e
+      same = once_same z.0 e (log p.layout h) (once p.layout h y.goes.sound.lawful) (z.1 ∙ sym y.is_of.record_is) (in_entries p.number.0 z.0 (log p.layout h) (done_of (sight p)) z.2)
+          (in_since p.layout h (d.entry.row ⊳ d.entry.before) e y.goes.sound.lawful at.within (subst (λ l. IsIn e l) (sym at.logged) (newest _)))
+  put_says s (Lost n u) first y = (
+    record {
+      index = l.index;
+      within = subst (λ k. l.index < length k) y.is_of.snaps_are l.within;
+      is = subst (λ k. (snap_at k l.index).node.0 ≡ n.0) y.is_of.snaps_are l.node;
+      held = held_since h l.blocked.moment (info n.0) u.0 l.blocked.since (held_at l.blocked.moment (info n.0) u.0 l.blocked.held);
+      in_the_way = λ moment q. subst (λ (k : ℕ). WasInTheWay h moment k u.0) l.node (l.blamed.in_the_way moment (subst (λ k. IsMoment p.layout h (snap_at k l.index) moment) (sym y.is_of.snaps_are) q));
+      others = l.blamed.others;
+    },
+    y.goes.unwon (λ w. aborted_never_won p.layout h y.run.scx.scx.0 y.goes.sound.lawful l.aborted (rw y.is_of.record_is w.1)),
+  )
+    where
+      h : History
+      h = past p.layout.mode (known_of s.me.0.passes)
+
+      l : IsLost (call_of p x number) h y.run.scx n.0 u.0
+      l = y.answers.1
+
+  -- snapshots of other nodes may still be used
+  pub put_usable : (s : Seat ℕ View) (a : Scx) → HasPut s a → (snap : Snap) → ¬ IsAmong snaps snap.node.0 → CanUse (sight p) snap → CanUse (sight (spent s)) snap
+  put_usable s a y snap d u = (u.0, y.goes.usable snap u.0 d u.1)
+
+  pub put_later : (s : Seat ℕ View) (a : Scx) → s.table_id ≡ p.seat.table_id → HasPut s a → IsLater (sight p) (sight (spent s))
+  put_later s a table y = record { table = table; layout = refl; number = refl; run = y.goes.since }
+
+  pub put_steps : (s : Seat ℕ View) (a : Scx) (left bound : ℕ) → HasPut s a → steps_of s.me.0.passes ≤ steps_of p.seat.me.0.passes + left → left ≤ bound → steps_in (sight (spent s)) ≤ steps_in (sight p) + bound
+  put_steps s a left bound y few small = let a = steps_are p.number.0 p.layout s.me.0.passes y.seat in let b = steps_are p.number.0 p.layout p.seat.me.0.passes x.seat in omega arith
+
+-- the number of the call: how many SCX-records its pass had taken
+pub first_and_taken : (p : Inside) (x : IsPass p) (from : ℕ) → first_scx p.layout p.number.0 ≡ from → first_scx p.layout p.number.0 + (p.share.next_scx - from) ≡ p.share.next_scx
+first_and_taken p x from e = let a = x.rest.share.from_scx in omega arith

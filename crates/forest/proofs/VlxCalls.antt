@@ -1,0 +1,98 @@
+-- What a call of `vlx` says.
+use Rattle.std.proofs.Common.{◌≡◌, ◌≢◌, ◌<◌, ◌≤◌, ◌+◌, ◌⊎◌, ℕ, zero, suc, inl, inr, List, [], ◌∷◌, length, None, refl, sym, ◌∙◌, ap, subst, arith}
+use Rattle.atomic_table.specs.declared.shared.Seat.{Seat}
+use Rattle.arena.specs.declared.layout.Layout.{Layout}
+use Rattle.arena.specs.Words.{info}
+use Rattle.arena.specs.Share.{Left}
+use Rattle.arena.specs.History.{History, EndsWith}
+use Rattle.arena.specs.Machines.{Call, IsRun}
+use Rattle.arena.proofs.Values.{held_at, held_since}
+use Rattle.arena.specs.Blame.{WasInTheWay}
+use Rattle.prims.specs.Cells.{allows_all}
+use Rattle.prims.specs.Moments.{IsMoment, IsBlamed, AreOver}
+use Rattle.prims.specs.Snaps.{AreDistinct, IsAmong}
+use Rattle.prims.specs.VlxKnown.{snap_at, IsClear, vlx_ready, vlx_waits, vlx_answers}
+use Rattle.prims.proofs.FillsNot.{vlx_fills_not}
+use Rattle.prims.specs.declared.snap.Snap.{Snap}
+use Rattle.prims.specs.declared.vlx.Vlx.{Vlx}
+use Rattle.prims.specs.declared.vlx.Vlx.TheVariants.{Same, Changed}
+use Rattle.prims.specs.declared.vlx.VlxRun.{VlxRun}
+use Rattle.forest.specs.declared.view.View.{View}
+use Rattle.forest.specs.declared.pass.Pass.TheInside.{Inside}
+use Rattle.forest.specs.Kept.{past}
+use Rattle.forest.specs.Courses.{Course, IsCalled, known_of}
+use Rattle.forest.specs.Shares.{IsAtRest, IsUsable}
+use Rattle.forest.specs.Passes.{Sight, CanUse, Each, AreApart, HasNodeOf, WasChanged, VlxSays, run_of}
+use Rattle.forest.specs.Held.{sight, IsPass}
+use Rattle.forest.proofs.Calls.{all_over, course_keeps}
+use Rattle.forest.proofs.Passes.{HasCalled, call_of, seated, called}
+
+-- Lists of snapshots
+
+pub each_at : (P : Snap → Type 0) (snaps : List Snap) → Each P snaps → (i : ℕ) → i < length snaps → P (snap_at snaps i)
+each_at P [] x i w = absurd (omega arith)
+each_at P (snap ∷ snaps) x zero w = x.0
+each_at P (snap ∷ snaps) x (suc i) w = each_at P snaps x.1 i (omega arith)
+
+pub apart_at : (snaps : List Snap) → AreApart snaps → AreDistinct snaps
+apart_at [] x i j a b d e = absurd (omega arith)
+apart_at (snap ∷ snaps) x zero zero a b d e = d refl
+apart_at (snap ∷ snaps) x zero (suc j) a b d e = each_at (λ other. snap.node.0 ≢ other.node.0) snaps x.0 j (omega arith) e
+apart_at (snap ∷ snaps) x (suc i) zero a b d e = each_at (λ other. snap.node.0 ≢ other.node.0) snaps x.0 i (omega arith) (sym e)
+apart_at (snap ∷ snaps) x (suc i) (suc j) a b d e = apart_at snaps x.1 i j (omega arith) (omega arith) (λ q. d (ap suc q)) e
+
+pub among_at : (snaps : List Snap) (n : ℕ) → HasNodeOf snaps n → IsAmong snaps n
+among_at [] n x = absurd x
+among_at (snap ∷ snaps) n (inl e) = record { at = 0; within = omega arith; is = e }
+among_at (snap ∷ snaps) n (inr x) = let y = among_at snaps n x in record { at = suc y.at; within = let i = y.within in omega arith; is = y.is }
+
+-- where all that the pass has taken is finished, a call over usable snapshots may begin
+pub is_clear : (lay : Layout) (c : ℕ) (h : History) (snaps : List Snap) → ((i : ℕ) → i < length snaps → (moment : History) × IsUsable lay c h (snap_at snaps i) moment) → AreOver lay c 0 h → IsClear lay c h snaps
+is_clear lay c h snaps usable over = record {
+  over = over;
+  alone = λ i p. let x = usable i p in record { moment = x.0; found = x.1.found; idle = x.1.alone };
+}
+
+-- Calls
+
+pub vlx_begins : (p : Inside) (x : IsPass p) (m : VlxRun) (snaps : List Snap) → m.asked ≡ 0 → m.snaps.items ≡ snaps → 0 < length snaps → Each (CanUse (sight p)) snaps → IsCalled allows_all p.seat.me.0.passes (call_of p x 0) (λ h. ((call_of p x 0).start ≡ h) × vlx_ready m (call_of p x 0) h None)
+vlx_begins p x m snaps start is some usable = record {
+  known = known_of p.seat.me.0.passes;
+  is = x.seat;
+  sound = x.sound;
+  so = (
+    refl,
+    record {
+      asked = start;
+      some = rw is some;
+      linked = λ i w. rw is (let q : i < length snaps = rw is at w in (each_at (CanUse (sight p)) snaps usable i q).1.linked);
+      begins = refl;
+      clear = rw is (is_clear p.layout p.number.0 _ snaps (each_at (CanUse (sight p)) snaps usable) (all_over p.layout p.number.0 _ p.share x.rest));
+    },
+  );
+}
+
+abbrev pub Looked : (p : Inside) → IsPass p → List Snap → Vlx → History → Type 0
+Looked p x snaps a h = (m : VlxRun) × (m.snaps.items ≡ snaps) × vlx_answers m (call_of p x 0) h a
+
+pub vlx_called : (p : Inside) (x : IsPass p) (s : Seat ℕ View) (first m : VlxRun) (snaps : List Snap) (a : Vlx) → first.snaps.items ≡ snaps → IsCalled allows_all s.me.0.passes (call_of p x 0) (λ h. vlx_answers m (call_of p x 0) h a × Course allows_all vlx_waits (λ old now. now.snaps ≡ old.snaps) (call_of p x 0) first m h) → HasCalled p s (Looked p x snaps a)
+vlx_called p x s first m snaps a is y =
+    let z = called p x s 0 vlx_waits (λ old now. now.snaps ≡ old.snaps) first m (λ h. vlx_answers m (call_of p x 0) h a) (λ k h t w. vlx_fills_not k (call_of p x 0) h t w) y in
+    record { seat = z.seat; answers = (m, course_keeps (λ (k : VlxRun). k.snaps.items ≡ snaps) is (λ old now e q. ap (λ l. l.items) e ∙ q) m _ y.so.1, z.answers); goes = z.goes }
+
+module _ (p : Inside) (x : IsPass p) (s : Seat ℕ View) (snaps : List Snap) where
+  pub vlx_says : (a : Vlx) → HasCalled p s (Looked p x snaps a) → VlxSays (sight p) (sight (seated p s)) snaps a
+  vlx_says Same y = rw y.answers.1 at y.answers.2.found
+  vlx_says (Changed n u) y =
+      let z = y.answers.2 in
+      let is : (y.answers.0).snaps.items ≡ snaps = y.answers.1 in (
+        record {
+          index = z.index;
+          within = rw is at z.within;
+          is = rw is at z.node;
+          held = held_at (run_of (sight (seated p s))) (info n.0) u.0 z.info;
+          in_the_way = λ moment q. subst (λ (k : ℕ). WasInTheWay (run_of (sight (seated p s))) moment k u.0) z.node (z.blamed.in_the_way moment (rw is q));
+          others = z.blamed.others;
+        },
+        rw is at z.before,
+      )

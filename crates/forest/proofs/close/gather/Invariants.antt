@@ -1,0 +1,16 @@
+use Rattle.std.proofs.Common.{◌≡◌, ◌++◌, List, vec_len}
+use Rattle.forest.specs.Passes.{Sight, AreOf}
+use Rattle.forest.specs.Gathered.{AreIn}
+use Rattle.forest.proofs.close.gather.Given as goal
+
+abbrev pub invariant-loop-pass : goal.invariant-loop-pass
+invariant-loop-pass l = record {
+  gone : List Sight;
+  were : l.fn.passes.items ≡ l.passes.items ++ gone;
+  are_in : AreIn gone l.all.me.0.passes;
+  left : AreOf l.words.table_id l.layout l.passes.items;
+  table : l.all.table_id ≡ l.words.table_id;
+}
+
+abbrev pub decreases-loop-pass : goal.decreases-loop-pass
+decreases-loop-pass l = vec_len l.passes

@@ -1,0 +1,52 @@
+use Rattle.std.proofs.Common.{◌≡◌, ◌≢◌, ◌∙◌, ℕ, suc, refl, sym, ap, subst}
+use Rattle.arena.specs.History.{History, EndsWith}
+use Rattle.arena.proofs.Values.{ends_trans}
+use Rattle.prims.specs.declared.snap.Snap.{Snap}
+use Rattle.forest.specs.Shares.{IsUsable}
+use Rattle.forest.specs.Passes.{Sight, IsLater, run_of, done_of, steps_of}
+use Rattle.forest.specs.Held.{sight}
+use Rattle.forest.proofs.Passes.{seated, called_pass, called_later, called_done, called_usable}
+use Rattle.forest.proofs.Meets.{HaveMet, have_met}
+use Rattle.forest.proofs.forest.Forest+Cells.meet.Goals as goal
+
+pub meet-requires-clause-first : goal.meet-requires-clause-first
+meet-requires-clause-first c = let e = ap (λ (v : Sight). v.layout) c.one.view_is ∙ c.requires.one.1 in record { pass = _; is = c.one.invariant.seat; layout = e; is_pass = rw (← e) c.one.invariant.is_pass }
+
+pub meet-requires-clause-second : goal.meet-requires-clause-second
+meet-requires-clause-second c = let e = ap (λ (v : Sight). v.layout) c.other.view_is ∙ c.requires.other.1 in record { pass = _; is = c.other.invariant.seat; layout = e; is_pass = rw (← e) c.other.invariant.is_pass }
+
+met : (c : goal.After-meet) → HaveMet c.one.inside c.other.inside c.meet.new.one c.meet.new.other
+met c = have_met c.one.inside c.other.inside c.one.invariant c.other.invariant c.meet.new.one c.meet.new.other c.meet.ensures.met
+
+pub invariant_of-one : goal.invariant_of-one
+invariant_of-one c = called_pass c.one.inside c.one.invariant c.meet.new.one _ (c.meet.ensures.bare.0 ∙ sym c.one.invariant.bare) (met c).one
+
+pub invariant_of-other : goal.invariant_of-other
+invariant_of-other c = called_pass c.other.inside c.other.invariant c.meet.new.other _ (c.meet.ensures.bare.1 ∙ sym c.other.invariant.bare) (met c).other
+
+pub returns-clause-apart : goal.returns-clause-apart
+returns-clause-apart c = rw (← c.one.view_is, ← c.other.view_is) (met c).apart
+
+pub returns-clause-one_is_later : goal.returns-clause-one_is_later
+returns-clause-one_is_later c = rw (← c.one.view_is) (called_later c.one.inside c.meet.new.one _ c.meet.ensures.table.0 (met c).one)
+
+pub returns-clause-other_is_later : goal.returns-clause-other_is_later
+returns-clause-other_is_later c = rw (← c.other.view_is) (called_later c.other.inside c.meet.new.other _ c.meet.ensures.table.1 (met c).other)
+
+pub returns-clause-one_knows : goal.returns-clause-one_knows
+returns-clause-one_knows c = let m = met c in ends_trans _ _ _ m.one.answers m.goes_on
+
+pub returns-clause-other_knows : goal.returns-clause-other_knows
+returns-clause-other_knows c = let m = met c in rw (← c.one.view_is) (ends_trans _ _ _ m.other.answers m.knew)
+
+pub returns-clause-done : goal.returns-clause-done
+returns-clause-done c = let m = met c in rw (← c.one.view_is, ← c.other.view_is) (called_done c.one.inside c.meet.new.one _ m.one, called_done c.other.inside c.meet.new.other _ m.other)
+
+pub returns-clause-one_usable : goal.returns-clause-one_usable
+returns-clause-one_usable c = rw (← c.one.view_is) (called_usable c.one.inside c.meet.new.one _ (met c).one)
+
+pub returns-clause-other_usable : goal.returns-clause-other_usable
+returns-clause-other_usable c = rw (← c.other.view_is) (called_usable c.other.inside c.meet.new.other _ (met c).other)
+
+pub returns-clause-steps : goal.returns-clause-steps
+returns-clause-steps c = let m = met c in rw (← c.one.view_is, ← c.other.view_is) (m.one_step, m.other_step)

@@ -1,0 +1,17 @@
+use Rattle.std.proofs.Common.{refl}
+use Rattle.arena.specs.declared.step.Row.{Row}
+use Rattle.arena.specs.declared.layout.Layout.{Layout}
+use Rattle.forest.specs.Courses.{known_of}
+use Rattle.forest.specs.Held.{IsPass}
+use Rattle.forest.proofs.Passes.{begins_at_rest, begins_sound}
+use Rattle.forest.proofs.pass.Pass.new.Goals as goal
+
+pub invariant_of-result : goal.invariant_of-result
+invariant_of-result c = record {
+  seat = rw c.requires.seat.0 refl;
+  bare = c.requires.seat.1;
+  cells = c.requires.cells;
+  is_pass = c.requires.pass;
+  sound = rw c.requires.seat.0 (begins_sound c.args.layout.now);
+  rest = rw (c.requires.seat.0, c.of.ensures.whole) (begins_at_rest c.args.layout.now c.args.number.0);
+}

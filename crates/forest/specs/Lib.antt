@@ -1,0 +1,7 @@
+pub mod Kept
+pub mod Courses
+pub mod Shares
+pub mod Passes
+pub mod Puts
+pub mod Held
+pub mod Gathered

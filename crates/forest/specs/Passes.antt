@@ -1,0 +1,218 @@
+-- What contracts see of a pass, and what its calls say.
+use Rattle.std.specs.Prelude.{◌≡◌, ◌≢◌, ◌+◌, ◌-◌, ◌<◌, ◌⊎◌, ◌↔◌, ℕ, false, true, List, [], ◌∷◌, length, slice_get, Some, map}
+use Rattle.std.specs.List.{Contains}
+use Rattle.atomic_table.specs.Seated.{TableId}
+use Rattle.arena.specs.declared.limits.Mode.TheVariants.{Records}
+use Rattle.arena.specs.declared.layout.Layout.{Layout}
+use Rattle.arena.specs.declared.step.Row.{Row}
+use Rattle.arena.specs.Share.{Left, whole_share}
+use Rattle.arena.specs.declared.number.NodeNo.{NodeNo}
+use Rattle.arena.specs.declared.word.Side.{Side}
+use Rattle.arena.specs.declared.word.NodeWord.TheVariants.{Value}
+use Rattle.arena.specs.declared.word.Word.{Word}
+use Rattle.arena.specs.Layout.{first_scx, all_nodes, IsWord}
+use Rattle.arena.specs.Machines.{IsRun}
+use Rattle.arena.specs.PlainWords.{Contents, held}
+use Rattle.prims.specs.Cells.{allows_all}
+use Rattle.arena.specs.Words.{info, state, child, node as node_word}
+use Rattle.arena.specs.History.{History, ◌⊳◌, value, HasHeld, EndsWith}
+use Rattle.arena.specs.Fills.{IsOthersScx, IsOwnNode, IsOwnScx, IsTakenNode, IsTakenScx}
+use Rattle.arena.specs.Blame.{WasInTheWay}
+use Rattle.arena.specs.Log.{Entry, log, is_final, has, fields}
+use Rattle.prims.specs.LlxKnown.{IsSnapshot, IsFinalBy}
+use Rattle.prims.specs.declared.snap.Snap.{Snap}
+use Rattle.prims.specs.declared.llx.Llx.{Llx}
+use Rattle.prims.specs.declared.llx.Llx.TheVariants.{Snapshot, Finalized, Fail}
+use Rattle.prims.specs.Moments.{IsMoment, IsAsFound}
+use Rattle.prims.specs.ScxKnown.{nodes_of}
+use Rattle.prims.specs.Snaps.{IsAmong, HasNode}
+use Rattle.prims.specs.VlxKnown.{snap_at}
+use Rattle.prims.specs.declared.scx.Scx.{Scx}
+use Rattle.prims.specs.declared.scx.Scx.TheVariants.{Done, Lost}
+use Rattle.prims.specs.declared.vlx.Vlx.{Vlx}
+use Rattle.prims.specs.declared.vlx.Vlx.TheVariants.{Same, Changed}
+use Rattle.forest.specs.declared.fault.Full.{Full}
+use Rattle.forest.specs.declared.fault.Resource.{Resource}
+use Rattle.forest.specs.declared.fault.Resource.TheVariants.{Nodes, Scx as ScxRecords}
+use Rattle.forest.specs.Kept.{past}
+use Rattle.forest.specs.Courses.{rows_of}
+use Rattle.forest.specs.Shares.{IsUsable, entries_of}
+
+-- a pass: its table and layout, its number, what is left of its share, and the run up to its own last step, newest row first
+pub record Sight : Type 0 where
+  pub table : TableId
+  pub layout : Layout
+  pub number : ℕ
+  pub share : Left
+  pub known : List Row
+
+-- the run that it knows
+abbrev pub run_of : Sight → History
+run_of p = past p.layout.mode p.known
+
+-- its seen list: the log of that run, the newest entry first
+abbrev pub seen_of : Sight → List Entry
+seen_of p = log p.layout (run_of p)
+
+-- its done list: its own entries in its seen list
+abbrev pub done_of : Sight → List Entry
+done_of p = entries_of p.number (seen_of p)
+
+-- how many atomic steps it has made
+abbrev pub steps_of : Sight → ℕ
+steps_of p = rows_of p.number p.known
+
+-- the pass is of the forest with this table and this layout
+abbrev pub IsOf : TableId → Layout → Sight → Type 0
+IsOf table lay p = (p.table ≡ table) × (p.layout ≡ lay)
+
+-- a pass later on: it knows a longer run
+pub record IsLater (old new : Sight) : Type 0 where
+  pub table : new.table ≡ old.table
+  pub layout : new.layout ≡ old.layout
+  pub number : new.number ≡ old.number
+  pub run : EndsWith (run_of new) (run_of old)
+
+-- the pass may use the snapshot: what it says of its node holds as long as the node's info is what it found, and since then no SCX-record of the pass has covered the node while in progress
+abbrev pub CanUse : Sight → Snap → Type 0
+CanUse p snap = (moment : History) × IsUsable p.layout p.number (run_of p) snap moment
+
+-- What `llx` says
+
+-- another pass's SCX-record, which the node's info has named, was in the way of the call, at whose begin the node was not final; it is finished now
+pub record HasFailed (old new : Sight) (n s : ℕ) : Type 0 where
+  pub held : HasHeld (run_of new) (info n) s
+  pub others : IsOthersScx new.layout new.number s
+  pub in_the_way : WasInTheWay (run_of new) (run_of old) n s
+  pub over : value (run_of new) (state s) ≢ 0
+  pub not_final : is_final (seen_of old) n ≡ false
+
+-- a snapshot gives the fields of the node in the run that is known now, in which it is not final, and may be used; a finalized node is final in it
+abbrev pub LlxSays : Sight → Sight → ℕ → Llx → Type 0
+LlxSays old new n (Snapshot snap) = IsSnapshot new.layout (run_of new) n snap × CanUse new snap
+LlxSays old new n (Finalized node s) = (node.0 ≡ n) × IsFinalBy new.layout (run_of new) n s.0
+LlxSays old new n (Fail node s) = (node.0 ≡ n) × HasFailed old new n s.0
+
+-- the answer is that the node is finalized
+abbrev pub IsFinalizedAnswer : Llx → Type 0
+IsFinalizedAnswer (Snapshot snap) = ⊥
+IsFinalizedAnswer (Finalized node s) = Unit {0}
+IsFinalizedAnswer (Fail node s) = ⊥
+
+-- Snapshots that a call is given
+
+-- this is so of each
+abbrev pub Each : (Snap → Type 0) → List Snap → Type 0
+Each P [] = Unit {0}
+Each P (snap ∷ snaps) = P snap × Each P snaps
+
+-- they are of different nodes
+abbrev pub AreApart : List Snap → Type 0
+AreApart [] = Unit {0}
+AreApart (snap ∷ snaps) = Each (λ other. snap.node.0 ≢ other.node.0) snaps × AreApart snaps
+
+-- one of them is of the node
+abbrev pub HasNodeOf : List Snap → ℕ → Type 0
+HasNodeOf [] n = ⊥
+HasNodeOf (snap ∷ snaps) n = (snap.node.0 ≡ n) ⊎ HasNodeOf snaps n
+
+-- What `vlx` says
+
+-- since each moment of one of the snapshots, which is of the node, another pass's SCX-record over the node, which its info has named, was in the way
+pub record WasChanged (new : Sight) (snaps : List Snap) (n s : ℕ) : Type 0 where
+  pub index : ℕ
+  pub within : index < length snaps
+  pub is : (snap_at snaps index).node.0 ≡ n
+  pub held : HasHeld (run_of new) (info n) s
+  pub in_the_way : (moment : History) → IsMoment new.layout (run_of new) (snap_at snaps index) moment → WasInTheWay (run_of new) moment n s
+  pub others : IsOthersScx new.layout new.number s
+
+-- in the run that was known before, the nodes of the first k had the last entry that they had at their snapshots, and were not final
+abbrev pub AreAsFound : Sight → Sight → List Snap → ℕ → Type 0
+AreAsFound old new snaps k = (i : ℕ) → i < k → IsAsFound new.layout (run_of new) (run_of old) (snap_at snaps i)
+
+-- all nodes were as found; or one was not, and those before it were
+abbrev pub VlxSays : Sight → Sight → List Snap → Vlx → Type 0
+VlxSays old new snaps Same = AreAsFound old new snaps (length snaps)
+VlxSays old new snaps (Changed node s) = (c : WasChanged new snaps node.0 s.0) × AreAsFound old new snaps c.index
+
+-- What `scx` says
+
+-- a node and an SCX-record were taken
+abbrev pub taken : Left → Left
+taken left = record { next_node = left.next_node + 1; nodes = left.nodes - 1; next_scx = left.next_scx + 1; scx = left.scx - 1 }
+
+-- nothing is left of this, which is tested after the nodes
+abbrev pub IsFullOf : Left → Resource → ℕ → Type 0
+IsFullOf left Nodes k = (left.nodes ≡ 0) × (k ≡ 0)
+IsFullOf left ScxRecords k = (0 < left.nodes) × (left.scx ≡ 0) × (k ≡ 0)
+
+abbrev pub IsFull : Left → Full → Type 0
+IsFull left f = IsFullOf left f.what f.left
+
+-- all that the share had of it is taken in the run that the pass knows
+abbrev pub IsAllTaken : Sight → Resource → Type 0
+IsAllTaken p Nodes = (n : ℕ) → IsOwnNode p.layout p.number n → IsTakenNode (run_of p) n
+IsAllTaken p ScxRecords = (s : ℕ) → IsOwnScx p.layout p.number s → IsTakenScx (run_of p) s
+
+abbrev pub IsUsedUp : Sight → Full → Type 0
+IsUsedUp p f = IsFull p.share f × IsAllTaken p f.what
+
+-- the entry is the pass's only one behind what it had seen, and is that of this call, with the fresh node: just before it each node was as its snapshot found it, and the fresh node had its value
+pub record IsDone (old new : Sight) (snaps : List Snap) (finalize : List NodeNo) (field : ℕ × Side) (value_of_cell : ℕ) (e : Entry) : Type 0 where
+  pub row : Row
+  pub before : History
+  pub within : EndsWith (run_of new) (row ⊳ before)
+  pub since : EndsWith before (run_of old)
+  pub logged : log new.layout (row ⊳ before) ≡ e ∷ log new.layout before
+  pub done : done_of new ≡ e ∷ done_of old
+  pub of_pass : e.owner ≡ old.number
+  pub of_record : e.scx ≡ old.share.next_scx
+  pub of_call : first_scx old.layout old.number + e.call ≡ old.share.next_scx
+  pub members : e.members ≡ nodes_of snaps
+  pub removed : (n : ℕ) → (has e.removed n ≡ true) ↔ (IsAmong snaps n × HasNode finalize n)
+  pub node : e.node ≡ field.0
+  pub side : e.side ≡ field.1
+  pub fresh : e.new ≡ old.share.next_node
+  pub has_value : value before (node_word e.new Value) ≡ value_of_cell
+  pub found : (i : ℕ) → i < length snaps → IsAsFound new.layout (run_of new) before (snap_at snaps i)
+
+-- one entry more, of this call; or none, and a node was changed since its snapshot
+abbrev pub ScxSays : Sight → Sight → List Snap → List NodeNo → ℕ × Side → ℕ → Scx → Type 0
+ScxSays old new snaps finalize field v Done = (e : Entry) × IsDone old new snaps finalize field v e
+ScxSays old new snaps finalize field v (Lost node s) = WasChanged new snaps node.0 s.0 × (done_of new ≡ done_of old)
+
+-- New passes
+
+-- a pass that has made no step, with its whole share
+abbrev pub beginner : TableId → Layout → ℕ → Sight
+beginner table lay c = record { table = table; layout = lay; number = c; share = whole_share lay c; known = [] }
+
+-- so many passes there are, and each is such a one, in order
+pub record AreNew (table : TableId) (lay : Layout) (passes : List Sight) : Type 0 where
+  pub count : length passes ≡ lay.passes
+  pub each : (j : ℕ) (d : Sight) → slice_get passes j ≡ Some d → d ≡ beginner table lay j
+
+-- All passes
+
+-- they are of the forest with this table and this layout
+abbrev pub AreOf : TableId → Layout → List Sight → Type 0
+AreOf table lay [] = Unit {0}
+AreOf table lay (p ∷ ps) = IsOf table lay p × AreOf table lay ps
+
+-- each pass of the layout is among them
+abbrev pub AreAllBack : Layout → List Sight → Type 0
+AreAllBack lay passes = (n : ℕ) → n < lay.passes → Contains (map (λ (p : Sight). p.number) passes) n
+
+-- the run begins with what each of them knew, and its entries of each are those of its done list
+abbrev pub AreBegun : List Sight → History → Type 0
+AreBegun [] run = Unit {0}
+AreBegun (p ∷ ps) run = EndsWith run (run_of p) × (entries_of p.number (log p.layout run) ≡ done_of p) × AreBegun ps run
+
+-- the words are those of one run of cells, in which the fields are what its log says, and which goes on from what these passes knew
+pub record IsClosed (lay : Layout) (passes : List Sight) (words : Contents) : Type 0 where
+  pub run : History
+  pub sound : IsRun allows_all lay run
+  pub holds : (w : Word) → IsWord lay w → held words w ≡ value run w
+  pub fields : (n : ℕ) (side : Side) → n < all_nodes lay → held words (child n side) ≡ fields lay run n side
+  pub begun : AreBegun passes run

@@ -1,0 +1,32 @@
+-- What a run of SCX is to do.
+use Rattle.std.specs.Prelude.{◌≡◌, ◌<◌, ◌≤◌, ◌↔◌, ℕ, true, List, length}
+use Rattle.arena.specs.declared.number.NodeNo.{NodeNo}
+use Rattle.arena.specs.declared.word.Side.{Side}
+use Rattle.arena.specs.ScxRecords.{removes, side_of}
+use Rattle.prims.specs.ScxKnown.{IsUpdateOver}
+use Rattle.prims.specs.Snaps.{HasNode}
+use Rattle.prims.specs.Updates.{field_place}
+use Rattle.prims.specs.VlxKnown.{snap_at}
+use Rattle.prims.specs.PutSteps.{put_left}
+use Rattle.prims.specs.declared.snap.Snap.{Snap}
+use Rattle.prims.specs.declared.put.PutRun.{PutRun}
+use Rattle.prims.specs.declared.put.PutAt.TheVariants.{Start}
+use Rattle.prims.specs.declared.scx.ScxAt.TheVariants.{Start as ScxStart}
+
+-- it covers the nodes of these snapshots, finalizes those that are in the list, and puts this node, with this value, into the field, by this SCX-record, in the call of this number
+pub record IsPutOf (m : PutRun) (snaps : List Snap) (finalize : List NodeNo) (field : ℕ × Side) (v node scx number : ℕ) : Type 0 where
+  pub over : IsUpdateOver m.scx.update
+  pub snaps_are : m.scx.update.snaps.items ≡ snaps
+  pub fresh : m.scx.update.fresh ≡ node
+  pub record_is : m.scx.scx.0 ≡ scx
+  pub called : m.scx.call ≡ number
+  pub removed : (j : ℕ) → j < length snaps → (removes m.scx.update.plan.0 j ≡ true) ↔ HasNode finalize (snap_at snaps j).node.0
+  pub node_is : (snap_at snaps (field_place m.scx.update)).node.0 ≡ field.0
+  pub side : side_of m.scx.update.plan.0 ≡ field.1
+  pub is_value : m.value ≡ v
+
+-- it has not begun
+pub record IsUnbegun (m : PutRun) : Type 0 where
+  pub at : m.at ≡ Start
+  pub scx_at : m.scx.at ≡ ScxStart
+  pub few : put_left m ≤ 40

@@ -1,0 +1,127 @@
+//! The end of a forest, once all passes are back.
+ghost use Rattle.std.specs.Prelude.{◌≡◌, ◌<◌, ◌↔◌, [], ◌∷◌, vec_len, IsSome, IfSome};
+ghost use Rattle.std.specs.Slots.{IsFull, slots_len};
+ghost use Rattle.arena.specs.declared.word.Side.TheVariants.{Left, Right};
+ghost use Rattle.arena.specs.Layout.{all_nodes, table_size, IsWord};
+ghost use Rattle.arena.specs.PlainWords.{Contents, held};
+ghost use Rattle.arena.specs.Words.{child};
+ghost use Rattle.forest.specs.declared.view.Knower.{Knower};
+ghost use Rattle.forest.specs.Kept.{IsTableOf};
+ghost use Rattle.forest.specs.Passes.{IsOf, AreOf, AreAllBack, IsClosed};
+ghost use Rattle.forest.specs.Gathered.{IsFrom, AreIn};
+
+use crate::deal::take_in;
+use crate::forest::Forest;
+use crate::pass::Pass;
+use crate::rule::Asked;
+use crate::steps::{Words, make};
+use crate::view::View;
+use arena::{Deed, Kind, Layout, NodeNo, NodeWord, Side, Step, Word};
+use atomic_table::Seat;
+use prims::Cells;
+use std::alloc::Global;
+use std::marker::{Brand, Model};
+
+/// The words of a forest that no thread shares any more.
+pub struct Closed {
+    words: atomic_table::Closed<u8, Global>,
+    layout: Layout,
+}
+
+impl Model for Closed {
+    ghost Value = { Contents };
+
+    ghost view = { λ c. record { layout = c.layout; words = c.words.words.items } };
+
+    ghost invariant = { λ c. IsFull c.words.words × (slots_len c.words.words ≡ table_size c.layout) × (slots_len c.words.slots ≡ 0) };
+}
+
+impl Closed {
+    /// The fields of a node, if there is one of this number.
+    pub fn cell(&self, node: NodeNo) -> Option<(u64, u64)>
+        ensures some { IsSome result ↔ (node.0 < all_nodes self.now.layout) }
+        ensures left { IfSome result (λ f. f.0 ≡ held self.now (child node.0 Left)) }
+        ensures right { IfSome result (λ f. f.1 ≡ held self.now (child node.0 Right)) }
+    {
+        let left = Word::Node(node, NodeWord::Child(Side::Left));
+        let right = Word::Node(node, NodeWord::Child(Side::Right));
+        if !self.layout.has(left) {
+            return None;
+        }
+        Some((self.word(left), self.word(right)))
+    }
+
+    fn word(&self, word: Word) -> u64
+        requires { IsWord self.now.layout word }
+        ensures { result ≡ held self.now word }
+    {
+        self.words.word(self.layout.place(word))
+    }
+}
+
+impl Drop for Closed {
+    fn drop(self) {
+        let Closed { words, layout: _ } = self;
+        words.free();
+    }
+}
+
+impl Forest<Cells> {
+    /// Ends the forest: each of its passes, which are all there, looks at the table once more.
+    pub fn close(self, passes: Vec<Pass>) -> Closed
+        requires passes { AreOf self.table.shared.table_id self.layout passes.items }
+        requires all { AreAllBack self.layout passes.items }
+        ensures layout { result.layout ≡ self.layout }
+        ensures closed { IsClosed self.layout passes.items result }
+    {
+        let Forest { table, layout } = self;
+        match gather(&table.shared, &layout, passes) {
+            Some(seat) => Closed {
+                words: table.close_with(seat),
+                layout,
+            },
+            None => unreachable!(),
+        }
+    }
+}
+
+/// One seat with all these passes.
+fn gather(words: &Words<Cells>, layout: &Layout, mut passes: Vec<Pass>) -> Option<Seat<u8, View>>
+    requires table { IsTableOf words.now.table_id words.now.key layout.now }
+    requires passes { AreOf words.now.table_id layout.now passes.items }
+    ensures some { 0 < vec_len passes → IsSome result }
+    ensures table { IfSome result (λ s. s.table_id ≡ words.now.table_id) }
+    ensures all { IfSome result (λ s. AreIn passes.items s.me.0.passes) }
+{
+    let mut all = seat_of(words, layout, passes.pop()?);
+    while let Some(pass) = passes.pop() {
+        let own = seat_of(words, layout, pass);
+        take_in(words, layout, &mut all, own);
+    }
+    Some(all)
+}
+
+/// The seat of a pass, which has looked at the table once more.
+fn seat_of(words: &Words<Cells>, layout: &Layout, pass: Pass) -> Seat<u8, View>
+    requires table { IsTableOf words.now.table_id words.now.key layout.now }
+    requires pass { IsOf words.now.table_id layout.now pass }
+    ensures table { result.table_id ≡ words.now.table_id }
+    ensures bare { result.me.1 ≡ [] }
+    ensures pass { (k : Knower) × (result.me.0.passes ≡ k ∷ []) × IsFrom pass k }
+{
+    let Pass {
+        number: _,
+        layout: _,
+        share: _,
+        seat,
+    } = pass;
+    let mut seat = seat;
+    let step = Step {
+        kind: Kind::LoadSettled,
+        word: Word::Node(NodeNo(0), NodeWord::Head),
+        deed: Deed::Load,
+    };
+    let asked = Asked { call: 0, step };
+    make::<Cells, Brand>(words, &mut seat, &asked, layout.place(step.word));
+    seat
+}

@@ -1,0 +1,16 @@
+//! Threads that share the cells of one table of atomic words.
+#![tactic(auto)]
+
+mod close;
+mod deal;
+mod fault;
+mod forest;
+mod pass;
+mod rule;
+mod steps;
+mod view;
+
+pub use close::Closed;
+pub use fault::{Full, NewFault, Resource};
+pub use forest::Forest;
+pub use pass::Pass;

@@ -1,0 +1,62 @@
+//! What a thread needs to make calls.
+ghost use Rattle.std.specs.Prelude.{◌≡◌, ◌<◌, [], ◌∷◌};
+ghost use Rattle.arena.specs.declared.limits.Mode.TheVariants.{Records};
+ghost use Rattle.arena.specs.Share.{whole_share};
+ghost use Rattle.forest.specs.Kept.{knower};
+ghost use Rattle.forest.specs.Passes.{Sight};
+
+use crate::view::View;
+use arena::{Layout, PassNo, Share};
+use atomic_table::Seat;
+use std::marker::Model;
+
+/// A part in a forest: a number, a share of the nodes and SCX-records, and the run that it knows.
+#[derive(Drop)]
+pub struct Pass {
+    pub(crate) number: PassNo,
+    pub(crate) layout: Layout,
+    pub(crate) share: Share,
+    pub(crate) seat: Seat<u8, View>,
+}
+
+impl Model for Pass {
+    ghost use Rattle.forest.specs.Passes.{Sight};
+
+    ghost Value = { Sight };
+
+    ghost use Rattle.forest.specs.Held.{sight, IsPass};
+
+    ghost view = { sight };
+
+    ghost invariant = { IsPass };
+}
+
+impl Pass {
+    /// A pass that has made no step, at a seat of its own.
+    pub(crate) fn new(layout: &Layout, number: PassNo, seat: Seat<u8, View>) -> Pass
+        requires seat { (seat.me.0.passes ≡ knower number.0 layout.now [] ∷ []) × (seat.me.1 ≡ []) }
+        requires pass { number.0 < layout.now.passes }
+        requires cells { layout.now.mode ≡ Records }
+        ensures { result ≡ record { table = seat.table_id; layout = layout.now; number = number.0; share = whole_share layout.now number.0; known = [] } }
+    {
+        Pass {
+            number,
+            layout: *layout,
+            share: Share::of(layout, number),
+            seat,
+        }
+    }
+
+    pub(crate) fn number(&self) -> PassNo
+        ensures { result.0 ≡ self.now.number }
+    {
+        self.number
+    }
+
+    /// How many nodes and SCX-records are left of its share.
+    pub fn left(&self) -> (u32, u32)
+        ensures { result ≡ (self.now.share.nodes, self.now.share.scx) }
+    {
+        self.share.left()
+    }
+}

@@ -1,0 +1,70 @@
+//! The rule of the table, and what a step tells the seat that makes it.
+ghost use Rattle.std.specs.Prelude.{◌≡◌, []};
+ghost use Rattle.forest.specs.Kept.{Kept, Made, Looked, view, beginners, undealt, dealt, joined};
+
+use crate::view::View;
+use arena::{Layout, Shape, Step};
+use atomic_table::{Join, Play, Split, TableRule};
+use std::marker::{Brand, PhantomData};
+
+/// Some lawful run leads to the words, and each pass knows a beginning of it, behind which are rows
+/// of others alone.
+pub struct Lawful<S>(PhantomData<S>);
+
+impl<S: Shape> TableRule<u8, View, Layout> for Lawful<S> {
+    ghost holds = { λ lay. Kept S.allows lay };
+
+    ghost first = { λ lay. view (beginners lay 0 lay.passes) };
+}
+
+/// A step, and the number of the call that makes it.
+#[derive(Clone, Copy)]
+pub struct Asked {
+    pub call: u64,
+    pub step: Step,
+}
+
+/// What the maker of a step says of it. Each call of a method of the table picks it.
+pub trait Says {
+    ghost use Rattle.forest.specs.declared.rule.Asked.{Asked};
+
+    ghost said: { Asked };
+}
+
+impl Says for Brand {
+    ghost use Rattle.forest.specs.Kept.{look};
+
+    ghost said = { look };
+}
+
+/// The step of a seat with one pass.
+pub struct Makes<S, J>(PhantomData<(S, J)>);
+
+impl<S: Shape, J: Says> Play<u8, View> for Makes<S, J> {
+    ghost then = { λ st v n w. Made S.allows J.said v.0.passes n w.0.passes × (w.1 ≡ v.1) };
+}
+
+/// The step of a seat with two passes, by the first, which goes behind the other.
+pub struct Looks<S>(PhantomData<S>);
+
+impl<S: Shape> Play<u8, View> for Looks<S> {
+    ghost then = { λ st v n w. Looked S.allows v.0.passes w.0.passes × (w.1 ≡ v.1) };
+}
+
+/// The first pass of a seat goes to a new seat.
+pub struct Deal;
+
+impl Split<View> for Deal {
+    ghost left = { undealt };
+
+    ghost right = { dealt };
+}
+
+/// A seat takes in the passes of another.
+pub struct Both;
+
+impl Join<View> for Both {
+    ghost both = { joined };
+
+    ghost spent = { view [] };
+}
