@@ -1,22 +1,21 @@
 -- What calls need to begin.
 use Rattle.std.proofs.Common.{◌≡◌, ◌≢◌, ℕ, suc, ◌+◌, ◌<◌, ◌≤◌, inl, List, Option, Some, None, refl, sym, ◌∙◌, ap, subst, arith, length, zero, [], ◌∷◌, ◌⊎◌, ⊎_elim, slice_index_or, slice_get, get_or, nat_lt, map, AllPairs, Contains, MatchOption, Bool, true, false}
-use Rattle.arena.specs.declared.layout.Layout.{Layout}
 use Rattle.arena.specs.declared.limits.Mode.TheVariants.{Records}
-use Rattle.arena.specs.Layout.{opening_nodes}
 use Rattle.arena.specs.History.{History, value}
 use Rattle.arena.proofs.Values.{ends_self}
-use Rattle.prims.specs.LlxKnown.{IsOpened}
 use Rattle.prims.specs.Cells.{allows_all}
-use Rattle.prims.proofs.LlxAnswers.{ready_at_start}
+use Rattle.prims.proofs.LlxAnswers.{ready_at_start, cell_opened}
+use Rattle.prims.proofs.Shares.{all_over, all_idle}
+use Rattle.prims.proofs.Usable.{vlx_ready_first}
+use Rattle.prims.specs.Shares.{IsUsable}
 use Rattle.script.specs.Cells.{cells_of}
 use Rattle.script.specs.Update.{update_cells, update_finalize, update_field, update_value}
 use Rattle.arena.specs.declared.number.NodeNo.{NodeNo}
 use Rattle.arena.specs.declared.word.Side.{Side}
 use Rattle.player.specs.declared.kept.Found.{Found}
 use Rattle.player.specs.LawfulRun.{AreLinked}
-use Rattle.player.specs.Kept.{AllKept, IsUsable, IsFirstUnkept, kept_of}
-use Rattle.player.proofs.Puts.{vlx_ready_first}
-use Rattle.player.proofs.Over.{all_over, all_idle, taken_one, taken_none}
+use Rattle.player.specs.Kept.{AllKept, IsFirstUnkept, kept_of}
+use Rattle.player.proofs.Over.{taken_one, taken_none}
 use Rattle.player.proofs.Ends.{among_none, are_linked}
 use Rattle.player.proofs.Putting.{full_answer}
 use Rattle.prims.specs.Snaps.{AreDistinct, IsAmong}
@@ -48,13 +47,6 @@ use Rattle.player.specs.declared.client.Standing.TheVariants.{Finished, Answers,
 use Rattle.script.specs.declared.command.Call.{Call}
 use Rattle.std.proofs.lemmas.Option.{slice_get_read}
 use Rattle.player.proofs.Commands.{next_at}
-
--- a cell is there from the start
-cell_opened : (lay : Layout) (h : History) (n : ℕ) → lay.mode ≡ Records → n ≤ 8 → IsOpened lay h n
-cell_opened lay h n e i = record { in_field = inl early; inside = let a = early in omega arith }
-  where
-    early : n < opening_nodes lay.mode
-    early = rw e (omega arith)
 
 none_late : (won : Option ℕ) (turn begin : ℕ) → won ≡ None → won ≡ Some turn → begin ≤ turn
 none_late won turn begin e d = cc

@@ -2,20 +2,20 @@
 use Rattle.std.proofs.Common.{◌≡◌, ◌≢◌, ℕ, zero, suc, ◌<◌, ◌≤◌, ◌⊎◌, inl, inr, ⊎_elim, Bool, true, false, cond, ◌||◌, eqb, List, [], ◌∷◌, length, get_or, slice_get, Option, Some, None, IsSome, refl, sym, ◌∙◌, ap, subst, arith}
 use Rattle.std.proofs.Math.ListN.{set}
 use Rattle.std.specs.List.{Contains}
-use native.Mathlib.Decide.{ℕ_discrete}
 use Rattle.arena.specs.declared.number.NodeNo.{NodeNo}
 use Rattle.arena.specs.declared.number.ScxNo.{ScxNo}
 use Rattle.arena.specs.Words.{state}
 use Rattle.arena.specs.History.{History, value}
 use Rattle.arena.specs.Blame.{WasInTheWay}
-use Rattle.arena.specs.Fills.{IsOwnScx, IsTakenScx}
 use Rattle.arena.specs.Log.{log, is_final, has}
 use Rattle.histories.proofs.Helping.{aborted_never_won, committed_won}
 use Rattle.histories.proofs.Taking.{finished_taken}
 use Rattle.prims.specs.Moments.{IsMoment, IsAsFound}
 use Rattle.prims.specs.Snaps.{IsAmong}
-use Rattle.prims.proofs.Alone.{snapshot_moment}
-use Rattle.prims.specs.Idle.{same_moment}
+use Rattle.prims.proofs.Alone.{over_begins, over_ends}
+use Rattle.prims.proofs.Shares.{share_ends, all_idle}
+use Rattle.prims.proofs.Usable.{usable_now}
+use Rattle.prims.specs.Shares.{IsUsable}
 use Rattle.prims.specs.PutKnown.{put_answers}
 use Rattle.prims.specs.VlxKnown.{snap_at, vlx_answers}
 use Rattle.prims.proofs.Snapshots.{among}
@@ -43,7 +43,7 @@ use Rattle.player.specs.declared.kept.Kept.{Kept}
 use Rattle.player.specs.declared.kept.Found.{Found}
 use Rattle.player.specs.declared.record.Answer.{Answer}
 use Rattle.player.specs.declared.record.Answer.TheVariants.{Snapshot, Finalized, Fail, Done, Lost, Same, Changed, Unlinked, Full}
-use Rattle.player.specs.Kept.{IsUsable, kept_of, node_of, found_of, parts, snap_of}
+use Rattle.player.specs.Kept.{kept_of, node_of, found_of, parts, snap_of}
 use Rattle.player.specs.LawfulRun.{IsAnswerAfterStep, IsLastLook, HasRoom, AreLinked, IsRight, HasFailed, IsInTheWay, IsUnchanged, IsFirstChanged, IsEntered}
 use Rattle.player.specs.RunKnown.{answer_of}
 use Rattle.prims.specs.ScxKnown.{nodes_of}
@@ -51,7 +51,7 @@ use Rattle.player.specs.View.{View, IsSound, IsLlxOf, IsScxOf, IsVlxOf, no_hand,
 use Rattle.prims.proofs.PutEntries.{put_finished}
 use Rattle.player.proofs.Puts.{IsChanged, put_committed, put_aborted, put_changed, vlx_changed}
 use Rattle.player.proofs.Snapshots.{has_snap, snap_there, snap_found, kept_after, unkept_after}
-use Rattle.player.proofs.Over.{all_idle, taken_one}
+use Rattle.player.proofs.Over.{taken_one}
 
 -- Nodes of snapshots
 
@@ -197,10 +197,6 @@ scx_outcome v c (SetOf field value) m (Some put) a start is_pass x moments room 
 scx_outcome v c (LlxOf cell) m then a start is_pass x moments room done lost y = absurd x
 scx_outcome v c (VlxOf cells) m then a start is_pass x moments room done lost y = absurd x
 
--- behind the node, or SCX-record, that is taken now stands the next one
-less_or_is : (n k : ℕ) → n < suc k → (n < k) ⊎ (n ≡ k)
-less_or_is n k i = grind arith
-
 -- a client whose SCX has ended has taken what it had in hand, and drops its snapshots
 rests_scx : (v : View) (c : Client) (m : PutRun) (then : Option Put) (a : ScxAnswer) (linked : ℕ → Option History) → IsSound v → IsDropped m.scx.update.snaps.items v.linked linked → Answered v c (Scx m) then (ended.Scx a) → Stands (record v { linked = linked }) c (no_hand c.share)
 rests_scx v c m then a linked sound drops x = record {
@@ -210,18 +206,8 @@ rests_scx v c m then a linked sound drops x = record {
   kept = λ n found e. kept n found e;
   unkept = λ n i e. ⊎_elim (λ z. inr (drops.gone n z)) (λ z. inr (unkept n i e z)) (y.unkept n i e);
   dropped = λ n z. absurd (among_none n z);
-  share = record {
-    from_node = y.share.from_node;
-    to_node = y.share.to_node;
-    from_scx = y.share.from_scx;
-    to_scx = y.share.to_scx;
-    taken_nodes = λ n own less. ⊎_elim (y.share.taken_nodes n own) (λ e. rw e x.answers.0.taken) (less_or_is n m.scx.update.fresh (rw x.works.newest.0 at less));
-    taken_scx = λ s own less. ⊎_elim (y.share.taken_scx s own) (λ e. rw e (finished_taken v.layout v.past m.scx.scx.0 sound.lawful x.works.newest.2 finished)) (less_or_is s m.scx.scx.0 (rw x.works.newest.1 at less));
-    unmentioned = y.share.unmentioned;
-    untaken_nodes = y.share.untaken_nodes;
-    untaken = y.share.untaken;
-  };
-  over = λ s own d. each_over s own (ℕ_discrete s m.scx.scx.0);
+  share = share_ends v.layout v.past c.pass.0 c.share m.scx.update.fresh m.scx.scx.0 x.works.newest.0 x.works.newest.1 x.answers.0.taken (finished_taken v.layout v.past m.scx.scx.0 sound.lawful x.works.newest.2 finished) y.share;
+  over = over_begins v.layout c.pass.0 c.share.next_scx v.past (over_ends v.layout c.pass.0 m.scx.scx.0 v.past y.over finished);
 }
   where
     y : Stands v c (in_hand c.share (Scx m))
@@ -229,10 +215,6 @@ rests_scx v c m then a linked sound drops x = record {
 
     finished : value v.past (state m.scx.scx.0) ≢ 0
     finished = put_finished m (machine_call v c x.works.is_pass x.works.start) v.past a x.answers
-
-    each_over : (s : ℕ) → IsOwnScx v.layout c.pass.0 s → Dec (s ≡ m.scx.scx.0) → IsTakenScx v.past s → value v.past (state s) ≢ 0
-    each_over s own (no d) t = y.over s own d t
-    each_over s own (yes e) t = rw e finished
 
     -- what is still kept is not of those snapshots
     other : (n : ℕ) (found : Found) → kept_of c.kept n ≡ Some found → IsAmong m.scx.update.snaps.items n → ⊥
@@ -380,11 +362,7 @@ answer_node v c m then (LlxFail node scx) x = x.answers.0
 
 -- its snapshot may be used from now on
 pub snapshot_usable : (v : View) (c : Client) (m : LlxRun) (then : Option Put) (snap : Snap) → IsSound v → Answered v c (Llx m) then (ended.Llx (LlxSnapshot snap)) → IsUsable v.layout c.pass.0 v.past snap v.past
-snapshot_usable v c m then snap sound x = record {
-  linked = x.answers.0.linked;
-  found = snapshot_moment v.layout v.past m.node.0 snap x.answers.0;
-  alone = λ k e f s own p q. all_idle v.layout v.past c.pass.0 c.share _ _ sound.lawful x.works.stands.share x.works.stands.over s own (rw (same_moment v.past k e f) at p);
-}
+snapshot_usable v c m then snap sound x = usable_now v.layout c.pass.0 v.past m.node.0 snap (all_idle v.layout v.past c.pass.0 c.share _ _ sound.lawful x.works.stands.share x.works.stands.over) x.answers.0
 
 -- what is said of its node then
 abbrev pub moment_then : LlxAnswer → History → Option History

@@ -1,12 +1,11 @@
 -- What the entry of a row that wins says: the update of the call that the owner of its SCX-record has in hand.
-use Rattle.std.proofs.Common.{◌≡◌, ◌≢◌, ℕ, zero, suc, ◌<◌, ◌+◌, inl, ⊎_elim, Bool, true, false, cond, eqb, eqb-true, eq-eqb, List, [], ◌∷◌, length, Option, Some, None, refl, sym, ◌∙◌, subst, arith}
+use Rattle.std.proofs.Common.{◌≡◌, ◌≢◌, ℕ, zero, suc, ◌<◌, inl, ⊎_elim, Bool, true, false, cond, eqb, eqb-true, eq-eqb, ◌↔◌, List, [], ◌∷◌, length, Option, Some, None, refl, sym, ◌∙◌, subst, arith}
 use Rattle.std.specs.List.{Contains}
 use Rattle.arena.specs.declared.step.Row.{Row}
 use Rattle.arena.specs.declared.word.NodeWord.TheVariants.{Value}
 use Rattle.arena.specs.declared.word.ScxWord.TheVariants.{Call as CallWord}
 use Rattle.arena.specs.Words.{node, scx}
 use Rattle.arena.specs.History.{History, ◌⊳◌, value}
-use Rattle.arena.specs.ScxRecords.{removes}
 use Rattle.arena.specs.Blame.{IsInProgress}
 use Rattle.arena.specs.Fills.{IsOwnNode, IsOwnScx, IsNamedScx}
 use Rattle.arena.specs.Lawful.{Lawful, IsWin}
@@ -26,6 +25,8 @@ use Rattle.prims.specs.declared.snap.Snap.{Snap}
 use Rattle.prims.specs.declared.put.PutRun.{PutRun}
 use Rattle.prims.proofs.Alone.{moment_more}
 use Rattle.prims.proofs.PutEntries.{put_full, put_entry, put_entry_then}
+use Rattle.prims.proofs.Planned.{removed_those}
+use Rattle.prims.proofs.Shares.{own_in_hand, next_idle, wins_in_progress}
 use Rattle.prims.proofs.Snapshots.{among}
 use Rattle.script.specs.Part.{is_part}
 use Rattle.script.specs.Update.{update_cells, update_finalize, update_field, update_value}
@@ -41,7 +42,7 @@ use Rattle.player.specs.RunKnown.{run_waits, run_ready, run_keeps, run_made}
 use Rattle.player.specs.View.{View, IsSound, IsPutOf, IsScxOf, HaveMoments, no_hand, Stands, Rests, Works, Waits, machine_call, command_of}
 use Rattle.player.proofs.Ends.{has_nodes}
 use Rattle.player.proofs.Snapshots.{snap_there}
-use Rattle.player.proofs.Views.{own_row, step_sound, own_in_hand, next_idle, wins_in_progress}
+use Rattle.player.proofs.Views.{own_row, step_sound}
 
 -- Which nodes an entry finalizes
 
@@ -65,38 +66,6 @@ part_inside (x ∷ part) (y ∷ whole) n p e = go (eqb x y) refl p (λ q. part_i
     go false q r f g = or_right (eqb y n) (has whole n) (g r)
     go true q r f g = ⊎_elim (λ z. or_left (eqb y n) (has whole n) (eq-eqb y n (sym (eqb-true x y q) ∙ eqb-true x n z))) (λ z. or_right (eqb y n) (has whole n) (f r z)) (or_split (eqb x n) (has part n) e)
 
--- a snapshot whose node the plan finalizes, where the first of the snapshots has this place in the plan
-record IsRemovedAt (p : ℕ) (snaps : List Snap) (from n : ℕ) : Type 0 where
-  at : ℕ
-  within : at < length snaps
-  is : (snap_at snaps at).node.0 ≡ n
-  place : ℕ
-  is_place : place ≡ from + at
-  removed : removes p place ≡ true
-
--- the nodes that a plan finalizes are those of such snapshots
-removed_there : (p : ℕ) (snaps : List Snap) (from n : ℕ) → has (removed_nodes p snaps from) n ≡ true → IsRemovedAt p snaps from n
-removed_there p [] from n e = cc
-removed_there p (snap ∷ snaps) from n e = go (removes p from) refl e (removed_there p snaps (suc from) n)
-  where
-    later : IsRemovedAt p snaps (suc from) n → IsRemovedAt p (snap ∷ snaps) from n
-    later x = record { at = suc x.at; within = let i = x.within in omega arith; is = x.is; place = x.place; is_place = let i = x.is_place in omega arith; removed = x.removed }
-
-    go : (b : Bool) → removes p from ≡ b → has (cond b (snap.node.0 ∷ removed_nodes p snaps (suc from)) (removed_nodes p snaps (suc from))) n ≡ true → (has (removed_nodes p snaps (suc from)) n ≡ true → IsRemovedAt p snaps (suc from) n) → IsRemovedAt p (snap ∷ snaps) from n
-    go false r q f = later (f q)
-    go true r q f = ⊎_elim (λ z. record { at = 0; within = omega arith; is = eqb-true snap.node.0 n z; place = from; is_place = omega arith; removed = r }) (λ z. later (f z)) (or_split (eqb snap.node.0 n) (has (removed_nodes p snaps (suc from)) n) q)
-
-removed_found : (p : ℕ) (snaps : List Snap) (from n at place : ℕ) → at < length snaps → (snap_at snaps at).node.0 ≡ n → place ≡ from + at → removes p place ≡ true → has (removed_nodes p snaps from) n ≡ true
-removed_found p [] from n at place i e d r = absurd (omega arith)
-removed_found p (snap ∷ snaps) from n zero place i e d r =
-    let here : removes p from ≡ true = subst (λ (k : ℕ). removes p k ≡ true) (omega (arith, d)) r in
-    rw here (or_left (eqb snap.node.0 n) (has (removed_nodes p snaps (suc from)) n) (eq-eqb snap.node.0 n e))
-removed_found p (snap ∷ snaps) from n (suc at) place i e d r = go (removes p from) (removed_found p snaps (suc from) n at place (omega arith) e (omega (arith, d)) r)
-  where
-    go : (b : Bool) → has (removed_nodes p snaps (suc from)) n ≡ true → has (cond b (snap.node.0 ∷ removed_nodes p snaps (suc from)) (removed_nodes p snaps (suc from))) n ≡ true
-    go false x = x
-    go true x = or_right (eqb snap.node.0 n) (has (removed_nodes p snaps (suc from)) n) x
-
 same_test : (a b : Bool) → (a ≡ true → b ≡ true) → (b ≡ true → a ≡ true) → a ≡ b
 same_test true true f g = refl
 same_test false false f g = refl
@@ -110,14 +79,16 @@ removes_those m number nodes removed field x n p inside = same_test _ _ to from
     snaps : List Snap
     snaps = m.scx.update.snaps.items
 
+    those : (has (removed_nodes m.scx.update.plan.0 snaps 0) n ≡ true) ↔ (IsAmong snaps n × Contains removed n)
+    those = removed_those m.scx.update.plan.0 snaps removed p.finalizes n
+
     to : has (removed_nodes m.scx.update.plan.0 snaps 0) n ≡ true → has removed n ≡ true
-    to e = let y = removed_there m.scx.update.plan.0 snaps 0 n e in has_contained removed n (subst (λ (k : ℕ). Contains removed k) y.is ((p.finalizes y.at y.within).0 (subst (λ (k : ℕ). removes m.scx.update.plan.0 k ≡ true) (let d = y.is_place in omega arith) y.removed)))
+    to e = has_contained removed n (those.0 e).1
 
     from : has removed n ≡ true → has (removed_nodes m.scx.update.plan.0 snaps 0) n ≡ true
     from e =
         let there : has (nodes_of snaps) n ≡ true = rw p.covers (inside n e) in
-        let y : IsAmong snaps n = snap_there snaps n (sym (has_nodes snaps n) ∙ there) in
-        removed_found m.scx.update.plan.0 snaps 0 n y.at y.at y.within y.is (omega arith) ((p.finalizes y.at y.within).1 (rw y.is (contained removed n e)))
+        those.1 (snap_there snaps n (sym (has_nodes snaps n) ∙ there), contained removed n e)
 
 -- What the entry says
 

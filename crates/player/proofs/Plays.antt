@@ -1,5 +1,5 @@
 -- What is true of a player before its first turn and after its last.
-use Rattle.std.proofs.Common.{◌≡◌, ℕ, zero, suc, ◌+◌, ◌<◌, List, [], ◌∷◌, ◌++◌, length, map, reverse, take, get_or, Option, Some, slice_get, inl, inr, refl, sym, ◌∙◌, ap, subst}
+use Rattle.std.proofs.Common.{◌≡◌, ℕ, ◌+◌, ◌<◌, List, [], ◌∷◌, length, map, reverse, take, get_or, Option, Some, slice_get, inl, inr, refl, ◌∙◌, ap}
 use Rattle.std.proofs.lemmas.List.{map_more, reverse-append}
 use Rattle.arena.specs.declared.layout.Layout.{Layout}
 use Rattle.arena.specs.PlainWords.{Contents, IsOpening}
@@ -48,13 +48,6 @@ played_record p x turns e = record {
   once = once p.script.layout (history p.script.layout.mode (newest p.lines)) x.between.so_far.sound.lawful;
   finalized = λ past n part ends final. finalized_since p.script.layout (history p.script.layout.mode (newest p.lines)) past n part x.between.so_far.sound.lawful ends final;
 }
-
--- what holds of each element, with its place, and of one more holds of all with that one at the end
-pub get_more : {X : Type 0} (P : ℕ → X → Type 0) (xs : List X) (x : X) (n : ℕ) → length xs ≡ n → ((j : ℕ) (d : X) → slice_get xs j ≡ Some d → P j d) → P n x → (j : ℕ) (d : X) → slice_get (xs ++ x ∷ []) j ≡ Some d → P j d
-get_more P [] x n e f p zero d get = subst (λ (k : ℕ). P k d) (sym e) (subst (P n) (cc) p)
-get_more P [] x n e f p (suc j) d get = absurd cc
-get_more P (y ∷ xs) x n e f p zero d get = f 0 d get
-get_more P (y ∷ xs) x n e f p (suc j) d get = get_more (λ k. P (suc k)) xs x (length xs) refl (λ k. f (suc k)) (rw e p) j d get
 
 -- one more element comes first in the reverse
 pub reverse_map_more : {X Y : Type 0} (f : X → Y) (xs : List X) (i : ℕ) (d : X) → i < length xs → reverse (map f (take (i + 1) xs)) ≡ f (get_or xs i d) ∷ reverse (map f (take i xs))

@@ -1,5 +1,5 @@
 -- How an SCX begins: with the next records of the share, and with snapshots that may be used.
-use Rattle.std.proofs.Common.{◌≡◌, ℕ, ◌+◌, ◌-◌, ◌<◌, ◌≤◌, ◌↔◌, map, ⊎_elim, true, cond, eqb, ne_eqb, List, [], ◌∷◌, length, if◌then◌else◌, Option, Some, None, slice_get, refl, sym, ◌∙◌, ap, subst, arith}
+use Rattle.std.proofs.Common.{◌≡◌, ℕ, ◌+◌, ◌<◌, ◌≤◌, ◌↔◌, map, ⊎_elim, true, cond, eqb, ne_eqb, List, [], ◌∷◌, length, if◌then◌else◌, Option, Some, None, slice_get, refl, sym, ◌∙◌, ap, subst, arith}
 use Rattle.std.proofs.Math.ListN.{set}
 use Rattle.arena.specs.declared.layout.Layout.{Layout}
 use Rattle.arena.specs.declared.word.Side.{Side}
@@ -8,9 +8,6 @@ use Rattle.arena.specs.History.{History, EndsWith}
 use Rattle.arena.specs.Fills.{IsOwnNode, IsOwnScx, IsTakenNode, IsTakenScx}
 use Rattle.arena.specs.Lawful.{HasWon}
 use Rattle.arena.proofs.Values.{ends_self}
-use Rattle.histories.proofs.Always.{facts}
-use Rattle.histories.proofs.Entries.{won_named}
-use Rattle.histories.proofs.Taking.{named_scx_taken}
 use Rattle.arena.specs.declared.number.NodeNo.{NodeNo}
 use Rattle.arena.specs.ScxRecords.{removes, side_of}
 use Rattle.prims.specs.Updates.{field_place}
@@ -37,15 +34,16 @@ use Rattle.player.specs.declared.record.Answer.{Answer}
 use Rattle.player.specs.declared.record.Answer.TheVariants.{Snapshot, Finalized, Fail, Done, Lost, Same, Changed, Unlinked, Full}
 use Rattle.player.specs.declared.record.Resource.{Resource}
 use Rattle.player.specs.declared.record.Resource.TheVariants.{Nodes, Scx as ScxRecords}
-use Rattle.player.specs.Kept.{IsUsable, kept_of, node_of, found_of}
+use Rattle.player.specs.Kept.{kept_of, node_of, found_of}
 use Rattle.player.specs.LawfulRun.{commands, IsLastLook, most_steps, IsEmpty}
-use Rattle.player.specs.View.{View, IsSound, IsShare, IsLlxOf, IsPutOf, no_hand, Stands, Rests, Starts, Answered, GoesOn, Told, IsFull, CanPut, Puts}
+use Rattle.player.specs.View.{View, IsSound, IsLlxOf, IsPutOf, no_hand, Stands, Rests, Starts, Answered, GoesOn, Told, IsFull, CanPut, Puts}
 use Rattle.prims.specs.Idle.{no_row_behind}
 use Rattle.prims.specs.Begun.{taken_since}
 use Rattle.prims.proofs.UntakenNodes.{taken_node_since}
-use Rattle.player.proofs.Over.{all_over, taken_one}
-use Rattle.player.proofs.Puts.{put_ready_first}
-use Rattle.player.proofs.Views.{left_own_node, left_own_scx}
+use Rattle.prims.proofs.Shares.{left_own_node, left_own_scx, taken_share, free_unnamed, all_over}
+use Rattle.prims.proofs.Usable.{put_ready_first}
+use Rattle.prims.specs.Shares.{IsShare, IsUsable, taken}
+use Rattle.player.proofs.Over.{taken_one}
 use Rattle.player.proofs.Snapshots.{has_snap, dropped, kept_without, unkept_without}
 use Rattle.player.proofs.Ends.{rests_kept, snapshot_usable, among_none, entered_none}
 
@@ -154,23 +152,6 @@ answered_put v c m next put a snap e d x = subst (λ t. Answered v c (Llx m) t (
 
 -- An SCX takes the next records of the share
 
--- what is left once they are taken
-abbrev pub taken : Left → Left
-taken left = record { next_node = left.next_node + 1; nodes = left.nodes - 1; next_scx = left.next_scx + 1; scx = left.scx - 1 }
-
-taken_share : (lay : Layout) (h : History) (c : ℕ) (left : Left) → 0 < left.nodes → 0 < left.scx → IsShare lay h c left left.next_node left.next_scx → IsShare lay h c (taken left) left.next_node left.next_scx
-taken_share lay h c left some_node some_scx x = record {
-  from_node = let a = x.from_node in omega arith;
-  to_node = let a = x.to_node in omega arith;
-  from_scx = let a = x.from_scx in omega arith;
-  to_scx = let a = x.to_scx in omega arith;
-  taken_nodes = x.taken_nodes;
-  taken_scx = x.taken_scx;
-  unmentioned = λ n p. x.unmentioned n record { from = let a = p.from in omega arith; below = let a = p.below in omega arith };
-  untaken_nodes = λ n p. x.untaken_nodes n record { from = let a = p.from in omega arith; below = let a = p.below in omega arith };
-  untaken = λ s p. x.untaken s record { from = let a = p.from in omega arith; below = let a = p.below in omega arith };
-}
-
 -- an SCX over an update of these snapshots
 pub put_of : (m : PutRun) (u : Update) (number : ℕ) (snaps : List Snap) (finalize : List NodeNo) (field : NodeNo × Side) (x : ℕ) → m.scx.update ≡ u → m.scx.call ≡ number → m.value ≡ x → u.snaps.items ≡ snaps → (snap_at snaps (field_place u)).node.0 ≡ field.0.0 → side_of u.plan.0 ≡ field.1 → ((j : ℕ) → j < length snaps → (removes u.plan.0 j ≡ true) ↔ HasNode finalize (snap_at snaps j).node.0) → IsPutOf m number (nodes_of snaps) (map (λ (n : NodeNo). n.0) finalize) (field.0.0, field.1) x
 put_of m u number snaps finalize field x e k w is at side removed = record {
@@ -244,7 +225,7 @@ put_starts v linked c snaps removed field x kept m sound can some_node some_scx 
     free = rw scx (y.share.untaken c.share.next_scx own_scx)
 
     unwon : ¬ HasWon v.past m.scx.scx.0
-    unwon w = free (named_scx_taken v.layout v.past m.scx.scx.0 sound.lawful real (won_named m.scx.scx.0 (facts v.layout v.past sound.lawful) w))
+    unwon = (free_unnamed v.layout v.past c.pass.0 m.scx.scx.0 sound.lawful own free).1
 
 pub puts : (v : View) (linked : ℕ → Option History) (old : Client) (share : Left) (kept : Kept) (new : Client) (answer : Option Answer) → (answer ≡ None) × GoesOn v (record old { share = share; kept = kept }) new → Puts v linked old new answer
 puts v linked old share kept new answer x = rw x.0 record { same = record { pass = x.1.same.pass; number = x.1.same.number; next = x.1.same.next }; begin = x.1.begin; running = x.1.running; is = x.1.is; waits = x.1.waits }

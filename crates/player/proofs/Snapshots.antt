@@ -8,12 +8,13 @@ use native.Mathlib.Decide.{ℕ_discrete}
 use Rattle.arena.specs.declared.layout.Layout.{Layout}
 use Rattle.arena.specs.History.{History}
 use Rattle.prims.specs.VlxKnown.{snap_at}
+use Rattle.prims.specs.Shares.{IsUsable}
 use Rattle.prims.specs.Snaps.{IsAmong}
 use Rattle.prims.specs.declared.snap.Snap.{Snap}
 use Rattle.prims.specs.declared.llx.Llx.{Llx}
 use Rattle.player.specs.declared.kept.Found.{Found}
 use Rattle.player.specs.declared.kept.Kept.{Kept}
-use Rattle.player.specs.Kept.{AreKept, AllKept, IsUsable, IsFirstUnkept, kept_of, node_of, found_of, parts, snap_of}
+use Rattle.player.specs.Kept.{AreKept, AllKept, IsFirstUnkept, kept_of, node_of, found_of, parts, snap_of}
 use Rattle.player.specs.LawfulRun.{IsFirstUnlinked}
 
 -- what is read after a write was written, or stood there before

@@ -1,28 +1,21 @@
 -- What each row leaves of what the clients know.
-use Rattle.std.proofs.Common.{◌≡◌, ◌≢◌, ℕ, suc, ◌<◌, ◌≤◌, ◌⊎◌, inl, inr, ⊎_elim, Option, Some, None, List, refl, sym, ◌∙◌, subst, arith}
-use native.Mathlib.Decide.{ℕ_discrete}
+use Rattle.std.proofs.Common.{◌≡◌, ◌≢◌, ℕ, suc, ◌≤◌, ◌⊎◌, inl, inr, ⊎_elim, Option, Some, None, List, refl, sym, ◌∙◌, subst, arith}
 use Rattle.arena.specs.declared.layout.Layout.{Layout}
 use Rattle.arena.specs.declared.step.Row.{Row}
 use Rattle.arena.specs.declared.step.Step.{Step as Ask}
-use Rattle.arena.specs.Layout.{opening_nodes, first_node, first_scx}
-use Rattle.arena.specs.Share.{Left, whole_share, HasNode, HasScx}
+use Rattle.arena.specs.Share.{Left}
 use Rattle.arena.specs.Words.{deed_after}
-use Rattle.arena.specs.History.{History, Start, ◌⊳◌, value, EndsWith}
-use Rattle.arena.specs.ScxRecords.{member}
+use Rattle.arena.specs.History.{History, ◌⊳◌, value, EndsWith}
 use Rattle.arena.specs.Blame.{IsMember, IsInProgress}
 use Rattle.arena.specs.Fills.{IsOwnNode, IsOwnScx, IsTakenNode, IsTakenScx}
 use Rattle.arena.specs.Lawful.{Lawful, HasWon}
 use Rattle.arena.specs.Machines.{Call, IsTold, row_of}
-use Rattle.arena.proofs.Taken.{taken_node_more, taken_scx_more}
 use Rattle.histories.proofs.Changes.{UpdateWins}
-use Rattle.histories.proofs.Facts.{Facts, won_more}
-use Rattle.histories.proofs.Updates.{update_won, update_split, update_in_progress, update_flagged}
+use Rattle.histories.proofs.Facts.{won_more}
+use Rattle.histories.proofs.Updates.{update_won, update_split}
 use Rattle.histories.proofs.Always.{facts_before}
 use Rattle.histories.proofs.Fields.{Logs, same as log_same, wins as log_wins, logs}
-use Rattle.histories.proofs.Taking.{named_scx_taken}
-use Rattle.histories.proofs.Unmentioned.{IsUnmentioned, unmentioned_start, unmentioned_by_step, unmentioned_by_others}
 use Rattle.prims.specs.Cells.{allows_all}
-use Rattle.prims.specs.Linked.{linked_more}
 use Rattle.prims.specs.Moments.{AreOver}
 use Rattle.prims.specs.Begun.{TakesOnly, takes_by_others}
 use Rattle.prims.proofs.Alone.{moment_more, over_more}
@@ -37,74 +30,30 @@ use Rattle.player.specs.declared.client.Client.{Client}
 use Rattle.player.specs.declared.client.Running.{Running}
 use Rattle.player.specs.declared.client.Put.{Put}
 use Rattle.player.specs.declared.kept.Found.{Found}
-use Rattle.player.specs.Kept.{IsUsable, kept_of, snap_of}
+use Rattle.player.specs.Kept.{kept_of, snap_of}
 use Rattle.player.specs.LawfulRun.{HasRoom}
 use Rattle.player.specs.RunKnown.{run_waits, run_ready, run_keeps, run_lawful, run_made}
-use Rattle.player.specs.View.{View, Hand, no_hand, in_hand, snaps_of, IsSound, IsShare, HasNewest, IsStart, IsSource, IsRunOf, HasTaken, HaveMoments, IsRoomy, IsWonAs, IsWonBy, Stands, Rests, Works, Waits, Hears, IsClient, machine_call}
-use Rattle.player.proofs.Puts.{put_covers, put_ready_covers}
+use Rattle.player.specs.View.{View, Hand, no_hand, in_hand, snaps_of, IsSound, HasNewest, IsStart, IsSource, IsRunOf, HasTaken, HaveMoments, IsRoomy, IsWonAs, IsWonBy, Stands, Rests, Works, Waits, Hears, IsClient, machine_call}
+use Rattle.prims.proofs.PutEntries.{put_covers, put_covers_then}
+use Rattle.prims.proofs.Shares.{share_by_others, share_by_step, share_by_put, own_in_hand, next_idle, wins_in_progress}
+use Rattle.prims.proofs.Usable.{usable_more}
+use Rattle.prims.specs.Shares.{IsShare}
 use Rattle.player.proofs.Over.{takes_by_own, nodes_by_own}
-use Rattle.histories.proofs.Taking.{untaken_by_others, untaken_by_step}
 use Rattle.prims.proofs.FillsNot.{llx_fills_not, vlx_fills_not}
 use Rattle.prims.proofs.LooksNot.{put_looks_not}
 use Rattle.prims.specs.declared.put.PutRun.{PutRun}
 use Rattle.arena.specs.declared.step.Kind.TheVariants.{LoadInfo}
-use Rattle.prims.proofs.PutRows.{put_unmentioned, put_untaken}
-use Rattle.prims.proofs.UntakenNodes.{untaken_node_by_others, untaken_node_by_step, put_untaken_node}
+use Rattle.prims.proofs.UntakenNodes.{untaken_node_by_others}
 
 some_number : (a b : ℕ) → Some a ≡ Some b → a ≡ b
 some_number a b e = cc
 
--- a row at which no SCX-record of the pass in progress covers its node leaves a snapshot usable
-pub usable_more : (lay : Layout) (c : ℕ) (h : History) (r : Row) (snap : Snap) (moment : History) → Lawful lay (r ⊳ h) → ((s : ℕ) → IsOwnScx lay c s → IsInProgress (r ⊳ h) s → ¬ IsMember (r ⊳ h) s snap.node.0) → IsUsable lay c h snap moment → IsUsable lay c (r ⊳ h) snap moment
-usable_more lay c h r snap moment l none x = record { linked = linked_more lay h r snap l x.linked; found = moment_more lay h r snap moment x.found; alone = alone }
-  where
-    alone : (k : History) → EndsWith (r ⊳ h) k → EndsWith k moment → (s : ℕ) → IsOwnScx lay c s → IsInProgress k s → ¬ IsMember k s snap.node.0
-    alone k (inl e) after s own p m = none s own (rw e at p) (rw e at m)
-    alone k (inr e) after s own p m = x.alone k e after s own p m
-
--- a node that a share still has is the pass's own
-pub left_own_node : (lay : Layout) (h : History) (c : ℕ) (left : Left) (node scx n : ℕ) → IsShare lay h c left node scx → HasNode left n → IsOwnNode lay c n
-left_own_node lay h c left node scx n x p = record { from = let a = x.from_node in let b = p.from in omega arith; below = let a = x.to_node in let b = p.below in omega arith }
-
-pub left_own_scx : (lay : Layout) (h : History) (c : ℕ) (left : Left) (node scx s : ℕ) → IsShare lay h c left node scx → HasScx left s → IsOwnScx lay c s
-left_own_scx lay h c left node scx s x p = record { from = let a = x.from_scx in let b = p.from in omega arith; below = let a = x.to_scx in let b = p.below in omega arith }
-
--- a row of another pass leaves a share untouched
-pub share_by_others : (lay : Layout) (h : History) (r : Row) (c : ℕ) (left : Left) (node scx : ℕ) → Lawful lay (r ⊳ h) → c < lay.passes → r.pass.0 ≢ c → IsShare lay h c left node scx → IsShare lay (r ⊳ h) c left node scx
-share_by_others lay h r c left node scx l is_pass other x = record {
-  from_node = x.from_node;
-  to_node = x.to_node;
-  from_scx = x.from_scx;
-  to_scx = x.to_scx;
-  taken_nodes = λ n own less. taken_node_more r h n (x.taken_nodes n own less);
-  taken_scx = λ s own less. taken_scx_more r h s (x.taken_scx s own less);
-  unmentioned = λ n p. unmentioned_by_others lay h r c n l is_pass other (left_own_node lay h c left node scx n x p) (x.unmentioned n p);
-  untaken_nodes = λ n p. untaken_node_by_others lay h r c n l other (left_own_node lay h c left node scx n x p) (x.untaken_nodes n p);
-  untaken = λ s p. untaken_by_others lay h r c s l other (left_own_scx lay h c left node scx s x p) (x.untaken s p);
-}
-
 -- Its own machine's step leaves what the share still has untouched
 
-share_kept : (lay : Layout) (h : History) (r : Row) (c : ℕ) (left : Left) (node scx : ℕ) → ((n : ℕ) → HasNode left n → opening_nodes lay.mode ≤ n → IsUnmentioned h n → IsUnmentioned (r ⊳ h) n) → ((n : ℕ) → HasNode left n → ¬ IsTakenNode h n → ¬ IsTakenNode (r ⊳ h) n) → ((s : ℕ) → HasScx left s → ¬ IsTakenScx h s → ¬ IsTakenScx (r ⊳ h) s) → IsShare lay h c left node scx → IsShare lay (r ⊳ h) c left node scx
-share_kept lay h r c left node scx f t g x = record {
-  from_node = x.from_node;
-  to_node = x.to_node;
-  from_scx = x.from_scx;
-  to_scx = x.to_scx;
-  taken_nodes = λ n own less. taken_node_more r h n (x.taken_nodes n own less);
-  taken_scx = λ s own less. taken_scx_more r h s (x.taken_scx s own less);
-  unmentioned = λ n p. f n p (let a = p.from in let b = x.from_node in omega arith) (x.unmentioned n p);
-  untaken_nodes = λ n p. t n p (x.untaken_nodes n p);
-  untaken = λ s p. g s p (x.untaken s p);
-}
-
 pub share_by_own : (run : Run) (call : Call) (h : History) (step : Ask) (left : Left) (node scx : ℕ) → Lawful call.layout (row_of call step h ⊳ h) → run_waits run call h step → HasNewest left run → IsShare call.layout h call.pass left node scx → IsShare call.layout (row_of call step h ⊳ h) call.pass left node scx
-share_by_own (Llx m) call h step left node scx l w newest x = share_kept call.layout h (row_of call step h) call.pass left node scx (λ n p i u. unmentioned_by_step call.layout h _ n l (llx_fills_not allows_all m call h step w) u) (λ n p u. untaken_node_by_step h _ n (llx_fills_not allows_all m call h step w) u) (λ s p u. untaken_by_step h _ s (llx_fills_not allows_all m call h step w) u) x
-share_by_own (Vlx m) call h step left node scx l w newest x = share_kept call.layout h (row_of call step h) call.pass left node scx (λ n p i u. unmentioned_by_step call.layout h _ n l (vlx_fills_not m call h step w) u) (λ n p u. untaken_node_by_step h _ n (vlx_fills_not m call h step w) u) (λ s p u. untaken_by_step h _ s (vlx_fills_not m call h step w) u) x
-share_by_own (Scx m) call h step left node scx l w newest x = share_kept call.layout h (row_of call step h) call.pass left node scx
-    (λ n p i u. put_unmentioned allows_all m call h step n l w i (λ e. let a = p.from in let b = newest.0 in omega arith) u)
-    (λ n p u. put_untaken_node allows_all m call h step n w (λ e. let a = p.from in let b = newest.0 in omega arith) u)
-    (λ s p u. put_untaken allows_all m call h step s w (λ e. let a = p.from in let b = newest.1 in omega arith) u) x
+share_by_own (Llx m) call h step left node scx l w newest x = share_by_step call.layout h (row_of call step h) call.pass left node scx l (llx_fills_not allows_all m call h step w) x
+share_by_own (Vlx m) call h step left node scx l w newest x = share_by_step call.layout h (row_of call step h) call.pass left node scx l (vlx_fills_not m call h step w) x
+share_by_own (Scx m) call h step left node scx l w newest x = share_by_put allows_all m call h step left node scx l w newest.0 newest.1 x
 
 -- the view with one row more, with this begin of the call, so many steps of its own, and this turn of its update
 abbrev pub after_row : View → Row → History → ℕ → Option ℕ → View
@@ -120,20 +69,6 @@ stands_from v c start won hand x = record { is_pass = x.is_pass; number = x.numb
 
 -- What a client has in hand
 
--- its SCX-record that is in progress is the one in hand
-pub own_in_hand : (lay : Layout) (h : History) (c s u : ℕ) → Lawful lay h → AreOver lay c u h → IsOwnScx lay c s → IsInProgress h s → s ≡ u
-own_in_hand lay h c s u l over own p = go (ℕ_discrete s u)
-  where
-    go : Dec (s ≡ u) → s ≡ u
-    go (yes e) = e
-    go (no d) = absurd (over s own d (named_scx_taken lay h s l (λ e. let a = own.from in omega arith) p.named) p.unfinished)
-
--- the next SCX-record of its share is not in progress
-pub next_idle : (lay : Layout) (h : History) (c : ℕ) (left : Left) (node scx : ℕ) → Lawful lay h → IsShare lay h c left node scx → IsOwnScx lay c left.next_scx → ¬ IsInProgress h left.next_scx
-next_idle lay h c left node scx l share own p =
-    share.untaken left.next_scx record { from = omega arith; below = let a = own.below in let b = share.to_scx in omega arith }
-    (named_scx_taken lay h left.next_scx l (λ e. let a = own.from in omega arith) p.named)
-
 -- what an SCX-record in hand covers: the nodes of the snapshots in hand
 abbrev pub Covers : Layout → History → ℕ → Hand → Type 0
 Covers lay h c hand = (n : ℕ) → IsOwnScx lay c hand.scx → IsInProgress h hand.scx → IsMember h hand.scx n → IsAmong hand.snaps n
@@ -145,12 +80,12 @@ covers_none lay h c left node scx l share n own p m = absurd (next_idle lay h c 
 covers_waits : (run : Run) (call : Call) (h : History) (step : Ask) (left : Left) → Lawful call.layout h → run_waits run call h step → IsShare call.layout h call.pass left (in_hand left run).node (in_hand left run).scx → Covers call.layout h call.pass (in_hand left run)
 covers_waits (Llx m) call h step left l w share = covers_none call.layout h call.pass left _ _ l share
 covers_waits (Vlx m) call h step left l w share = covers_none call.layout h call.pass left _ _ l share
-covers_waits (Scx m) call h step left l w share = λ n own p x. put_covers m call h step n w p x
+covers_waits (Scx m) call h step left l w share = λ n own p x. put_covers allows_all m call h step n w p x
 
 covers_ready : (run : Run) (call : Call) (h : History) (v : ℕ) (left : Left) → Lawful call.layout h → run_ready run call h (Some v) → IsShare call.layout h call.pass left (in_hand left run).node (in_hand left run).scx → Covers call.layout h call.pass (in_hand left run)
 covers_ready (Llx m) call h v left l w share = covers_none call.layout h call.pass left _ _ l share
 covers_ready (Vlx m) call h v left l w share = covers_none call.layout h call.pass left _ _ l share
-covers_ready (Scx m) call h v left l w share = λ n own p x. put_ready_covers m call h v n w p x
+covers_ready (Scx m) call h v left l w share = λ n own p x. put_covers_then allows_all m call h v n w p x
 
 -- One more row
 
@@ -186,12 +121,6 @@ won_by lay h r s l w = go (logs lay h r l)
     go : Logs lay h r → HasWon h s ⊎ UpdateWins h r s
     go (log_same e back) = inl (back s w)
     go (log_wins u x e) = ⊎_elim (λ q. inr (rw q x)) (λ y. inl y) (update_split (facts_before lay h r l) x s w)
-
--- an SCX-record whose update wins is in progress
-pub wins_in_progress : (lay : Layout) (h : History) (r : Row) (s : ℕ) → Lawful lay (r ⊳ h) → UpdateWins h r s → IsInProgress h s
-wins_in_progress lay h r s l x =
-    let f : Facts lay h = facts_before lay h r l in
-    record { unfinished = update_in_progress f x; named = (member h s 0, (update_flagged f x).frozen 0 (update_flagged f x).some) }
 
 module _ (v : View) (c : Client) (r : Row) (number : ℕ) (start : History) (steps : ℕ) (won : Option ℕ) (sound : IsSound v) (run : IsSound (after_row v r start steps won)) (tells : TellsWon v c.pass.0 r number won) where
   -- without an SCX in hand no update of the client's wins
@@ -332,18 +261,3 @@ module _ (v : View) (c : Client) (q : Running) (sound : IsSound v) (w : Waits v 
       let share = share_by_own q.run call v.past q.step c.share _ _ run.lawful w.waits w.works.newest w.works.stands.share in
       let stands = stands_more v c (own_row v c q.step) v.start (suc v.steps) won hand run share (over_more v.layout c.pass.0 hand.scx v.past (own_row v c q.step) run.lawful (takes_by_own q.run call c.share v.past q.step w.waits) w.works.stands.over) (covers_ready q.run call (own_row v c q.step ⊳ v.past) found c.share run.lawful ready share) w.works.stands in
       record { works = works_more v c (own_row v c q.step) number v.start (suc v.steps) won sound run tells q.run q.then refl late (λ m z own. put_looks_not allows_all m call v.past q.step (subst (λ (k : Run). run_waits k call v.past q.step) z w.waits)) (takes_by_own q.run call c.share v.past q.step w.waits) (λ n own d. nodes_by_own q.run call c.share v.past q.step w.waits n d) stands w.works; ready = ready; few = let few = w.few in omega arith }
-
--- Nothing of a whole share is touched at the start
-pub whole_untouched : (lay : Layout) (c : ℕ) → IsShare lay (Start lay.mode) c (whole_share lay c) (first_node lay c) (first_scx lay c)
-unfolding IsTakenNode IsTakenScx
-whole_untouched lay c = record {
-  from_node = omega arith;
-  to_node = refl;
-  from_scx = omega arith;
-  to_scx = refl;
-  taken_nodes = λ n own less. absurd (let a = own.from in omega arith);
-  taken_scx = λ s own less. absurd (let a = own.from in omega arith);
-  unmentioned = λ n p. unmentioned_start lay.mode n (let a = p.from in omega arith);
-  untaken_nodes = λ n p t. t;
-  untaken = λ s p t. t;
-}

@@ -1,11 +1,8 @@
 -- What a client keeps of the snapshots that it took.
 use Rattle.std.specs.Prelude.{◌≡◌, ℕ, ◌<◌, ◌≤◌, List, length, get_or, Option, Some, None, IsSome, slice_get}
 use Rattle.arena.specs.declared.layout.Layout.{Layout}
-use Rattle.arena.specs.History.{History, EndsWith}
-use Rattle.arena.specs.Fills.{IsOwnScx}
-use Rattle.arena.specs.Blame.{IsMember, IsInProgress}
-use Rattle.prims.specs.Linked.{IsLinked}
-use Rattle.prims.specs.Moments.{IsMoment}
+use Rattle.arena.specs.History.{History}
+use Rattle.prims.specs.Shares.{IsUsable}
 use Rattle.prims.specs.VlxKnown.{snap_at}
 use Rattle.prims.specs.declared.snap.Snap.{Snap}
 use Rattle.prims.specs.declared.llx.Llx.{Llx}
@@ -24,12 +21,6 @@ snap_of n found = record { node = record { 0 = n }; scx = found.scx; left = foun
 -- what a snapshot says of its node
 abbrev pub parts : Snap → Found
 parts snap = record { scx = snap.scx; left = snap.left; right = snap.right }
-
--- a snapshot of this moment that the pass c may use: what it says holds as long as its node's info is what it found, and since its moment no SCX-record of the pass has covered its node while in progress
-pub record IsUsable (lay : Layout) (c : ℕ) (h : History) (snap : Snap) (moment : History) : Type 0 where
-  pub linked : IsLinked lay h snap
-  pub found : IsMoment lay h snap moment
-  pub alone : (k : History) → EndsWith h k → EndsWith k moment → (s : ℕ) → IsOwnScx lay c s → IsInProgress k s → ¬ IsMember k s snap.node.0
 
 -- all that is kept may be used, and is of the moment that is said of its node
 abbrev pub AreKept : Layout → ℕ → History → (ℕ → Option History) → Kept → Type 0

@@ -3,17 +3,16 @@ use Rattle.std.specs.Prelude.{◌≡◌, ◌≢◌, ℕ, suc, ◌+◌, ◌^◌, 
 use Rattle.std.specs.List.{Contains}
 use Rattle.arena.specs.declared.word.Side.{Side}
 use Rattle.arena.specs.declared.layout.Layout.{Layout}
-use Rattle.arena.specs.Layout.{first_node, first_scx}
-use Rattle.arena.specs.Share.{Left, HasNode, HasScx}
+use Rattle.arena.specs.Share.{Left}
 use Rattle.arena.specs.History.{History, value, EndsWith}
 use Rattle.arena.specs.ScxRecords.{removes, side_of}
 use Rattle.arena.specs.Lawful.{HasWon}
-use Rattle.arena.specs.Fills.{IsOwnNode, IsOwnScx, IsTakenNode, IsTakenScx}
+use Rattle.arena.specs.Fills.{IsOwnNode, IsOwnScx, IsTakenNode}
 use Rattle.arena.specs.Machines.{Call as MachineCall, IsRun}
-use Rattle.histories.proofs.Unmentioned.{IsUnmentioned}
 use Rattle.prims.specs.Cells.{allows_all}
 use Rattle.prims.specs.Moments.{IsMoment, AreOver, HasTakenOnly}
 use Rattle.prims.specs.ScxKnown.{nodes_of}
+use Rattle.prims.specs.Shares.{IsShare, IsUsable}
 use Rattle.prims.specs.VlxKnown.{snap_at}
 use Rattle.prims.specs.Snaps.{IsAmong}
 use Rattle.prims.specs.Updates.{field_place}
@@ -38,7 +37,7 @@ use Rattle.player.specs.declared.client.Standing.TheVariants.{Finished, Answers,
 use Rattle.player.specs.declared.run.Ended.{Ended}
 use Rattle.player.specs.RunKnown.{run_ready, run_waits, run_answers}
 use Rattle.player.specs.RunSteps.{then_left, left_of}
-use Rattle.player.specs.Kept.{AreKept, IsUsable, kept_of}
+use Rattle.player.specs.Kept.{AreKept, kept_of}
 use Rattle.player.specs.Place.{IsAt}
 use Rattle.player.specs.Turns.{history, answered, start, steps, won}
 use Rattle.player.specs.LawfulRun.{commands, linked, linked_then, most_steps, IsAnswerAtOnce, IsAnswerAfterStep, IsLastLook, HasRoom, HasTakenOne, IsRight, IsEntered}
@@ -63,18 +62,6 @@ abbrev pub IsSound : View → Type 0
 IsSound v = IsRun allows_all v.layout v.past
 
 -- What a client has
-
--- what is left of the share of pass c is untouched; what comes before this node and this SCX-record is taken
-pub record IsShare (lay : Layout) (h : History) (c : ℕ) (left : Left) (node scx : ℕ) : Type 0 where
-  pub from_node : first_node lay c ≤ left.next_node
-  pub to_node : left.next_node + left.nodes ≡ first_node lay c + lay.nodes
-  pub from_scx : first_scx lay c ≤ left.next_scx
-  pub to_scx : left.next_scx + left.scx ≡ first_scx lay c + lay.scx
-  pub taken_nodes : (n : ℕ) → IsOwnNode lay c n → n < node → IsTakenNode h n
-  pub taken_scx : (s : ℕ) → IsOwnScx lay c s → s < scx → IsTakenScx h s
-  pub unmentioned : (n : ℕ) → HasNode left n → IsUnmentioned h n
-  pub untaken_nodes : (n : ℕ) → HasNode left n → ¬ IsTakenNode h n
-  pub untaken : (s : ℕ) → HasScx left s → ¬ IsTakenScx h s
 
 -- what an SCX has in hand: a node, an SCX-record, and snapshots
 pub record Hand : Type 0 where

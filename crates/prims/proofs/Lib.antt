@@ -8,5 +8,8 @@ pub mod UntakenNodes
 pub mod PutBegins
 pub mod PutEntries
 pub mod Alone
+pub mod Shares
+pub mod Usable
 pub mod Snapshots
 pub mod Planned
+pub mod Lists

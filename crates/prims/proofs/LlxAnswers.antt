@@ -1,8 +1,10 @@
 -- What LLX's answers say of other moments, and how a call of it begins.
-use Rattle.std.proofs.Common.{◌≡◌, ℕ, true, false, Option, None, sym, subst}
+use Rattle.std.proofs.Common.{◌≡◌, ℕ, ◌<◌, ◌≤◌, inl, true, false, Option, None, sym, subst, arith}
+use Rattle.arena.specs.declared.limits.Mode.TheVariants.{Records}
 use Rattle.arena.specs.declared.layout.Layout.{Layout}
 use Rattle.arena.specs.declared.number.ScxNo.{ScxNo}
 use Rattle.arena.specs.declared.step.Step.{Step}
+use Rattle.arena.specs.Layout.{opening_nodes}
 use Rattle.arena.specs.History.{History, EndsWith}
 use Rattle.arena.specs.Lawful.{Lawful}
 use Rattle.arena.specs.Log.{log, is_final}
@@ -33,6 +35,13 @@ ready_at_start allows m c h e a o idle = record {
   known = subst (llx_known c h m.node.0) (sym a) tt;
   told = a;
 }
+
+-- a cell is there from the start
+pub cell_opened : (lay : Layout) (h : History) (n : ℕ) → lay.mode ≡ Records → n ≤ 8 → IsOpened lay h n
+cell_opened lay h n e i = record { in_field = inl early; inside = let a = early in omega arith }
+  where
+    early : n < opening_nodes lay.mode
+    early = rw e (omega arith)
 
 -- while it runs its pass is idle
 pub idle_where_ready : (allows : Layout → History → ℕ → Type 0) (m : LlxRun) (c : Call) (h : History) (got : Option ℕ) → llx_ready allows m c h got → IsIdle c.layout c.pass h

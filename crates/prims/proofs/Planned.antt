@@ -1,13 +1,17 @@
 -- What the plan word of an update says of its snapshots.
-use Rattle.std.proofs.Common.{◌≡◌, ℕ, ◌+◌, ◌*◌, ◌/◌, ◌%◌, ◌^◌, ◌<◌, ◌≤◌, ◌↔◌, subst, Bool, true, false, ltb, lt-ltb, ltb-true, List, length, get_or, refl, sym, ◌∙◌, ap, arith}
+use Rattle.std.proofs.Common.{◌≡◌, ℕ, zero, suc, ◌+◌, ◌*◌, ◌/◌, ◌%◌, ◌^◌, ◌<◌, ◌≤◌, ◌↔◌, ⊎_elim, subst, Bool, true, false, cond, ltb, lt-ltb, ltb-true, eqb, eqb-true, eq-eqb, List, [], ◌∷◌, length, get_or, refl, sym, ◌∙◌, ap, arith}
+use Rattle.std.proofs.lemmas.Bool.{or_left}
+use Rattle.std.specs.List.{Contains}
 use Rattle.arena.specs.declared.number.NodeNo.{NodeNo}
 use Rattle.arena.specs.declared.word.Side.{Side}
+use Rattle.arena.specs.Log.{has}
 use Rattle.arena.specs.ScxRecords.{IsPlan, count_of, removes, index_of, side_of}
+use Rattle.histories.proofs.Helds.{or_split, or_right}
 use Rattle.help.specs.Plan.{side_no, removed_bits}
 use Rattle.help.proofs.Packed.{packed_count, packed_field, packed_side, packed_within, packed_removes}
 use Rattle.prims.specs.Snap.{child_of}
-use Rattle.prims.specs.Snaps.{AreDistinct, HasNode, has_node, finalizes}
-use Rattle.prims.specs.ScxKnown.{IsUpdateOver}
+use Rattle.prims.specs.Snaps.{AreDistinct, IsAmong, HasNode, has_node, finalizes}
+use Rattle.prims.specs.ScxKnown.{IsUpdateOver, removed_nodes}
 use Rattle.prims.specs.VlxKnown.{snap_at}
 use Rattle.prims.proofs.Snapshots.{has_from, has_to}
 use Rattle.prims.specs.declared.snap.Snap.{Snap}
@@ -64,3 +68,48 @@ module _ (snaps : List Snap) (nodes : List NodeNo) (at : ℕ) (side : Side) (bs 
     distinct = rw f d;
     old = old_is u.snaps.items snaps (index_of u.plan.0) at (side_of u.plan.0) side u.old f (ap index_of e ∙ field_is) (ap side_of e ∙ side_is) o;
   }
+
+-- The nodes that it finalizes
+
+-- a snapshot whose node the plan finalizes, where the first of the snapshots has this place in the plan
+record IsRemovedAt (p : ℕ) (snaps : List Snap) (from n : ℕ) : Type 0 where
+  at : ℕ
+  within : at < length snaps
+  is : (snap_at snaps at).node.0 ≡ n
+  place : ℕ
+  is_place : place ≡ from + at
+  removed : removes p place ≡ true
+
+-- the nodes that a plan finalizes are those of such snapshots
+removed_there : (p : ℕ) (snaps : List Snap) (from n : ℕ) → has (removed_nodes p snaps from) n ≡ true → IsRemovedAt p snaps from n
+removed_there p [] from n e = cc
+removed_there p (snap ∷ snaps) from n e = go (removes p from) refl e (removed_there p snaps (suc from) n)
+  where
+    later : IsRemovedAt p snaps (suc from) n → IsRemovedAt p (snap ∷ snaps) from n
+    later x = record { at = suc x.at; within = let i = x.within in omega arith; is = x.is; place = x.place; is_place = let i = x.is_place in omega arith; removed = x.removed }
+
+    go : (b : Bool) → removes p from ≡ b → has (cond b (snap.node.0 ∷ removed_nodes p snaps (suc from)) (removed_nodes p snaps (suc from))) n ≡ true → (has (removed_nodes p snaps (suc from)) n ≡ true → IsRemovedAt p snaps (suc from) n) → IsRemovedAt p (snap ∷ snaps) from n
+    go false r q f = later (f q)
+    go true r q f = ⊎_elim (λ z. record { at = 0; within = omega arith; is = eqb-true snap.node.0 n z; place = from; is_place = omega arith; removed = r }) (λ z. later (f z)) (or_split (eqb snap.node.0 n) (has (removed_nodes p snaps (suc from)) n) q)
+
+removed_found : (p : ℕ) (snaps : List Snap) (from n at place : ℕ) → at < length snaps → (snap_at snaps at).node.0 ≡ n → place ≡ from + at → removes p place ≡ true → has (removed_nodes p snaps from) n ≡ true
+removed_found p [] from n at place i e d r = absurd (omega arith)
+removed_found p (snap ∷ snaps) from n zero place i e d r =
+    let here : removes p from ≡ true = subst (λ (k : ℕ). removes p k ≡ true) (omega (arith, d)) r in
+    rw here (or_left (eqb snap.node.0 n) (has (removed_nodes p snaps (suc from)) n) (eq-eqb snap.node.0 n e))
+removed_found p (snap ∷ snaps) from n (suc at) place i e d r = go (removes p from) (removed_found p snaps (suc from) n at place (omega arith) e (omega (arith, d)) r)
+  where
+    go : (b : Bool) → has (removed_nodes p snaps (suc from)) n ≡ true → has (cond b (snap.node.0 ∷ removed_nodes p snaps (suc from)) (removed_nodes p snaps (suc from))) n ≡ true
+    go false x = x
+    go true x = or_right (eqb snap.node.0 n) (has (removed_nodes p snaps (suc from)) n) x
+
+-- those of the snapshots that are to be finalized
+pub removed_those : (p : ℕ) (snaps : List Snap) (removed : List ℕ) → ((j : ℕ) → j < length snaps → (removes p j ≡ true) ↔ Contains removed (snap_at snaps j).node.0) → (n : ℕ) → (has (removed_nodes p snaps 0) n ≡ true) ↔ (IsAmong snaps n × Contains removed n)
+removed_those p snaps removed f n = (
+  (λ e.
+      let y = removed_there p snaps 0 n e in (
+        record { at = y.at; within = y.within; is = y.is },
+        subst (λ (k : ℕ). Contains removed k) y.is ((f y.at y.within).0 (subst (λ (k : ℕ). removes p k ≡ true) (let d = y.is_place in omega arith) y.removed)),
+      )),
+  (λ y. removed_found p snaps 0 n y.0.at y.0.at y.0.within y.0.is (omega arith) ((f y.0.at y.0.within).1 (rw y.0.is y.1))),
+)

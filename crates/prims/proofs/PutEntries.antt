@@ -9,7 +9,7 @@ use Rattle.arena.specs.History.{History, ◌⊳◌, value, EndsWith}
 use Rattle.arena.specs.ScxRecords.{count_of}
 use Rattle.arena.specs.Fills.{IsNamedScx}
 use Rattle.arena.specs.Lawful.{IsWin, Lawful}
-use Rattle.arena.specs.Blame.{IsMember}
+use Rattle.arena.specs.Blame.{IsMember, IsInProgress}
 use Rattle.arena.specs.Machines.{Call}
 use Rattle.histories.proofs.Always.{facts}
 use Rattle.histories.proofs.Moments.{won_since}
@@ -84,6 +84,13 @@ module _ (allows : Layout → History → ℕ → Type 0) (m : PutRun) (c : Call
 
   pub put_full_then : (v : ℕ) → IsNamedScx h m.scx.scx.0 → put_ready allows m c h (Some v) → IsFull
   put_full_then v p w = full_then m.at v p w
+
+  -- while it is in progress it covers only nodes of its snapshots
+  pub put_covers : (s : Step) (n : ℕ) → put_waits allows m c h s → IsInProgress h m.scx.scx.0 → IsMember h m.scx.scx.0 n → IsAmong m.scx.update.snaps.items n
+  put_covers s n w p x = filled_covers c h m.scx.scx.0 m.scx.call n m.scx.update (put_full s p.named w).0 x
+
+  pub put_covers_then : (v n : ℕ) → put_ready allows m c h (Some v) → IsInProgress h m.scx.scx.0 → IsMember h m.scx.scx.0 n → IsAmong m.scx.update.snaps.items n
+  put_covers_then v n w p x = filled_covers c h m.scx.scx.0 m.scx.call n m.scx.update (put_full_then v p.named w).0 x
 
   -- the entry of the row at which its update has won
   abbrev pub IsFullEntry : Row → History → Type 0

@@ -28,3 +28,4 @@ pub mod PutSteps
 pub mod PutKnown
 pub mod PutLaws
 pub mod PutTurns
+pub mod Shares

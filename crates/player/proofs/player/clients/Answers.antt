@@ -1,6 +1,6 @@
 use Rattle.std.proofs.Common.{rules, ◌≡◌, [], slice_get, ap, sym, ◌∙◌}
 use Rattle.player.specs.View.{view, Rests}
-use Rattle.player.proofs.Plays.{get_more}
+use Rattle.prims.proofs.Lists.{get_more}
 use Rattle.player.proofs.player.clients.Goals as goal
 
 pub loop-pass-preserved : goal.loop-pass-preserved

@@ -1,8 +1,7 @@
 use Rattle.std.proofs.Common.{refl, inr}
-use Rattle.player.proofs.Over.{none_taken}
+use Rattle.prims.proofs.Shares.{whole_untouched, none_taken}
 use Rattle.player.proofs.Begins.{nothing_kept}
 use Rattle.player.proofs.Ends.{among_none}
-use Rattle.player.proofs.Views.{whole_untouched}
 use Rattle.player.proofs.client.Client.new.Goals as goal
 
 pub returns-clause-rests : goal.returns-clause-rests

@@ -1,0 +1,172 @@
+-- What rows leave of a pass's share, and of the SCX-record that it has in hand.
+use Rattle.std.proofs.Common.{◌≡◌, ◌≢◌, ℕ, suc, ◌<◌, ◌≤◌, ◌⊎◌, ⊎_elim, refl, arith}
+use native.Mathlib.Decide.{ℕ_discrete}
+use Rattle.arena.specs.declared.limits.Mode.{Mode}
+use Rattle.arena.specs.declared.layout.Layout.{Layout}
+use Rattle.arena.specs.declared.step.Row.{Row}
+use Rattle.arena.specs.declared.step.Step.{Step}
+use Rattle.arena.specs.declared.step.Kind.TheVariants.{Fill}
+use Rattle.arena.specs.Layout.{opening_nodes, first_node, first_scx}
+use Rattle.arena.specs.Share.{Left, whole_share, HasNode, HasScx}
+use Rattle.arena.specs.History.{History, Start, ◌⊳◌}
+use Rattle.arena.specs.ScxRecords.{member}
+use Rattle.arena.specs.Blame.{IsInProgress}
+use Rattle.arena.specs.Fills.{IsOwnNode, IsOwnScx, IsTakenNode, IsTakenScx}
+use Rattle.arena.specs.Lawful.{Lawful, HasWon}
+use Rattle.arena.specs.Machines.{Call, row_of}
+use Rattle.arena.proofs.Taken.{taken_node_more, taken_scx_more}
+use Rattle.histories.proofs.Changes.{UpdateWins}
+use Rattle.histories.proofs.Facts.{Facts}
+use Rattle.histories.proofs.Updates.{update_in_progress, update_flagged}
+use Rattle.histories.proofs.Always.{facts, facts_before}
+use Rattle.histories.proofs.Entries.{won_named}
+use Rattle.histories.proofs.Taking.{named_scx_taken, untaken_by_others, untaken_by_step}
+use Rattle.histories.proofs.Unmentioned.{IsUnmentioned, unmentioned_start, unmentioned_by_step, unmentioned_by_others}
+use Rattle.prims.specs.Idle.{IsIdle, idle_if_over}
+use Rattle.prims.specs.Moments.{AreOver}
+use Rattle.prims.specs.PutKnown.{put_waits}
+use Rattle.prims.specs.Shares.{IsShare, taken}
+use Rattle.prims.specs.declared.put.PutRun.{PutRun}
+use Rattle.prims.proofs.PutRows.{put_unmentioned, put_untaken}
+use Rattle.prims.proofs.UntakenNodes.{untaken_node_by_others, untaken_node_by_step, put_untaken_node}
+
+-- Shares
+
+-- nothing of a whole share is touched at the start
+pub whole_untouched : (lay : Layout) (c : ℕ) → IsShare lay (Start lay.mode) c (whole_share lay c) (first_node lay c) (first_scx lay c)
+unfolding IsTakenNode IsTakenScx
+whole_untouched lay c = record {
+  from_node = omega arith;
+  to_node = refl;
+  from_scx = omega arith;
+  to_scx = refl;
+  taken_nodes = λ n own less. absurd (let a = own.from in omega arith);
+  taken_scx = λ s own less. absurd (let a = own.from in omega arith);
+  unmentioned = λ n p. unmentioned_start lay.mode n (let a = p.from in omega arith);
+  untaken_nodes = λ n p t. t;
+  untaken = λ s p t. t;
+}
+
+-- and nothing is taken
+pub none_taken : (mode : Mode) (s : ℕ) → ¬ IsTakenScx (Start mode) s
+unfolding IsTakenScx
+none_taken mode s t = t
+
+-- what a share still has is the pass's own
+pub left_own_node : (lay : Layout) (h : History) (c : ℕ) (left : Left) (node scx n : ℕ) → IsShare lay h c left node scx → HasNode left n → IsOwnNode lay c n
+left_own_node lay h c left node scx n x p = record { from = let a = x.from_node in let b = p.from in omega arith; below = let a = x.to_node in let b = p.below in omega arith }
+
+pub left_own_scx : (lay : Layout) (h : History) (c : ℕ) (left : Left) (node scx s : ℕ) → IsShare lay h c left node scx → HasScx left s → IsOwnScx lay c s
+left_own_scx lay h c left node scx s x p = record { from = let a = x.from_scx in let b = p.from in omega arith; below = let a = x.to_scx in let b = p.below in omega arith }
+
+-- a row that touches nothing of what is left
+share_kept : (lay : Layout) (h : History) (r : Row) (c : ℕ) (left : Left) (node scx : ℕ) → ((n : ℕ) → HasNode left n → opening_nodes lay.mode ≤ n → IsUnmentioned h n → IsUnmentioned (r ⊳ h) n) → ((n : ℕ) → HasNode left n → ¬ IsTakenNode h n → ¬ IsTakenNode (r ⊳ h) n) → ((s : ℕ) → HasScx left s → ¬ IsTakenScx h s → ¬ IsTakenScx (r ⊳ h) s) → IsShare lay h c left node scx → IsShare lay (r ⊳ h) c left node scx
+share_kept lay h r c left node scx f t g x = record {
+  from_node = x.from_node;
+  to_node = x.to_node;
+  from_scx = x.from_scx;
+  to_scx = x.to_scx;
+  taken_nodes = λ n own less. taken_node_more r h n (x.taken_nodes n own less);
+  taken_scx = λ s own less. taken_scx_more r h s (x.taken_scx s own less);
+  unmentioned = λ n p. f n p (let a = p.from in let b = x.from_node in omega arith) (x.unmentioned n p);
+  untaken_nodes = λ n p. t n p (x.untaken_nodes n p);
+  untaken = λ s p. g s p (x.untaken s p);
+}
+
+-- one of another pass
+pub share_by_others : (lay : Layout) (h : History) (r : Row) (c : ℕ) (left : Left) (node scx : ℕ) → Lawful lay (r ⊳ h) → c < lay.passes → r.pass.0 ≢ c → IsShare lay h c left node scx → IsShare lay (r ⊳ h) c left node scx
+share_by_others lay h r c left node scx l is_pass other x = share_kept lay h r c left node scx
+    (λ n p i u. unmentioned_by_others lay h r c n l is_pass other (left_own_node lay h c left node scx n x p) u)
+    (λ n p u. untaken_node_by_others lay h r c n l other (left_own_node lay h c left node scx n x p) u)
+    (λ s p u. untaken_by_others lay h r c s l other (left_own_scx lay h c left node scx s x p) u)
+    x
+
+-- one that is no fill
+pub share_by_step : (lay : Layout) (h : History) (r : Row) (c : ℕ) (left : Left) (node scx : ℕ) → Lawful lay (r ⊳ h) → r.kind ≢ Fill → IsShare lay h c left node scx → IsShare lay (r ⊳ h) c left node scx
+share_by_step lay h r c left node scx l no_fill x = share_kept lay h r c left node scx (λ n p i u. unmentioned_by_step lay h r n l no_fill u) (λ n p u. untaken_node_by_step h r n no_fill u) (λ s p u. untaken_by_step h r s no_fill u) x
+
+-- one of an SCX that has the newest records of the share in hand
+pub share_by_put : (allows : Layout → History → ℕ → Type 0) (m : PutRun) (call : Call) (h : History) (step : Step) (left : Left) (node scx : ℕ) → Lawful call.layout (row_of call step h ⊳ h) → put_waits allows m call h step → left.next_node ≡ suc m.scx.update.fresh → left.next_scx ≡ suc m.scx.scx.0 → IsShare call.layout h call.pass left node scx → IsShare call.layout (row_of call step h ⊳ h) call.pass left node scx
+share_by_put allows m call h step left node scx l w next_node next_scx x = share_kept call.layout h (row_of call step h) call.pass left node scx
+    (λ n p i u. put_unmentioned allows m call h step n l w i (λ e. let a = p.from in omega arith) u)
+    (λ n p u. put_untaken_node allows m call h step n w (λ e. let a = p.from in omega arith) u)
+    (λ s p u. put_untaken allows m call h step s w (λ e. let a = p.from in omega arith) u)
+    x
+
+-- an SCX that begins has the next records of the share in hand
+pub taken_share : (lay : Layout) (h : History) (c : ℕ) (left : Left) → 0 < left.nodes → 0 < left.scx → IsShare lay h c left left.next_node left.next_scx → IsShare lay h c (taken left) left.next_node left.next_scx
+taken_share lay h c left some_node some_scx x = record {
+  from_node = let a = x.from_node in omega arith;
+  to_node = let a = x.to_node in omega arith;
+  from_scx = let a = x.from_scx in omega arith;
+  to_scx = let a = x.to_scx in omega arith;
+  taken_nodes = x.taken_nodes;
+  taken_scx = x.taken_scx;
+  unmentioned = λ n p. x.unmentioned n record { from = let a = p.from in omega arith; below = let a = p.below in omega arith };
+  untaken_nodes = λ n p. x.untaken_nodes n record { from = let a = p.from in omega arith; below = let a = p.below in omega arith };
+  untaken = λ s p. x.untaken s record { from = let a = p.from in omega arith; below = let a = p.below in omega arith };
+}
+
+-- behind the node, or SCX-record, that is taken now stands the next one
+less_or_is : (n k : ℕ) → n < suc k → (n < k) ⊎ (n ≡ k)
+less_or_is n k i = grind arith
+
+-- and one that ends has taken them
+pub share_ends : (lay : Layout) (h : History) (c : ℕ) (left : Left) (node scx : ℕ) → left.next_node ≡ suc node → left.next_scx ≡ suc scx → IsTakenNode h node → IsTakenScx h scx → IsShare lay h c left node scx → IsShare lay h c left left.next_node left.next_scx
+share_ends lay h c left node scx next_node next_scx t u x = record {
+  from_node = x.from_node;
+  to_node = x.to_node;
+  from_scx = x.from_scx;
+  to_scx = x.to_scx;
+  taken_nodes = λ n own less. ⊎_elim (x.taken_nodes n own) (λ e. rw e t) (less_or_is n node (rw next_node at less));
+  taken_scx = λ s own less. ⊎_elim (x.taken_scx s own) (λ e. rw e u) (less_or_is s scx (rw next_scx at less));
+  unmentioned = x.unmentioned;
+  untaken_nodes = x.untaken_nodes;
+  untaken = x.untaken;
+}
+
+-- The pass's SCX-records
+
+-- the next one of the share is not taken
+pub next_free : (lay : Layout) (h : History) (c : ℕ) (left : Left) (node scx : ℕ) → IsShare lay h c left node scx → IsOwnScx lay c left.next_scx → ¬ IsTakenScx h left.next_scx
+next_free lay h c left node scx share own = share.untaken left.next_scx record { from = omega arith; below = let a = own.below in let b = share.to_scx in omega arith }
+
+-- one that is not taken is not named
+pub free_unnamed : (lay : Layout) (h : History) (c s : ℕ) → Lawful lay h → IsOwnScx lay c s → ¬ IsTakenScx h s → ¬ IsInProgress h s × ¬ HasWon h s
+free_unnamed lay h c s l own free = (
+  (λ p. free (named_scx_taken lay h s l real p.named)),
+  (λ w. free (named_scx_taken lay h s l real (won_named s (facts lay h l) w))),
+)
+  where
+    real : s ≢ 0
+    real e = let a = own.from in omega arith
+
+-- so the next one is not in progress
+pub next_idle : (lay : Layout) (h : History) (c : ℕ) (left : Left) (node scx : ℕ) → Lawful lay h → IsShare lay h c left node scx → IsOwnScx lay c left.next_scx → ¬ IsInProgress h left.next_scx
+next_idle lay h c left node scx l share own = (free_unnamed lay h c left.next_scx l own (next_free lay h c left node scx share own)).0
+
+-- nor has its update won
+pub next_unwon : (lay : Layout) (h : History) (c : ℕ) (left : Left) (node scx : ℕ) → Lawful lay h → IsShare lay h c left node scx → IsOwnScx lay c left.next_scx → ¬ HasWon h left.next_scx
+next_unwon lay h c left node scx l share own = (free_unnamed lay h c left.next_scx l own (next_free lay h c left node scx share own)).1
+
+-- that which is in progress is the one in hand
+pub own_in_hand : (lay : Layout) (h : History) (c s u : ℕ) → Lawful lay h → AreOver lay c u h → IsOwnScx lay c s → IsInProgress h s → s ≡ u
+own_in_hand lay h c s u l over own p = go (ℕ_discrete s u)
+  where
+    go : Dec (s ≡ u) → s ≡ u
+    go (yes e) = e
+    go (no d) = absurd (over s own d (named_scx_taken lay h s l (λ e. let a = own.from in omega arith) p.named) p.unfinished)
+
+-- where none is in hand all are finished
+pub all_over : (lay : Layout) (h : History) (c : ℕ) (left : Left) (node scx : ℕ) → IsShare lay h c left node scx → AreOver lay c left.next_scx h → AreOver lay c 0 h
+all_over lay h c left node scx share over s own real t = over s own (λ e. share.untaken s record { from = omega (arith, e); below = let a = own.below in let b = share.to_scx in omega (arith, e) } t) t
+
+-- so none is in progress
+pub all_idle : (lay : Layout) (h : History) (c : ℕ) (left : Left) (node scx : ℕ) → Lawful lay h → IsShare lay h c left node scx → AreOver lay c left.next_scx h → IsIdle lay c h
+all_idle lay h c left node scx l share over = idle_if_over lay c h l (λ s own t. all_over lay h c left node scx share over s own (λ e. let a = own.from in omega arith) t)
+
+-- one whose update wins is in progress
+pub wins_in_progress : (lay : Layout) (h : History) (r : Row) (s : ℕ) → Lawful lay (r ⊳ h) → UpdateWins h r s → IsInProgress h s
+wins_in_progress lay h r s l x =
+    let f : Facts lay h = facts_before lay h r l in
+    record { unfinished = update_in_progress f x; named = (member h s 0, (update_flagged f x).frozen 0 (update_flagged f x).some) }
