@@ -1,5 +1,5 @@
 -- What a machine's laws make of a step under the rule.
-use Rattle.std.proofs.Common.{◌≡◌, ◌≢◌, ◌<◌, ◌≤◌, ℕ, suc, List, [], ◌∷◌, ◌++◌, Option, Some, sym, ap, refl, ◌∙◌, subst, if◌then◌else◌, true, eqb, eq-eqb, ne_eqb, arith}
+use Rattle.std.proofs.Common.{◌≡◌, ◌≢◌, ◌<◌, ◌≤◌, ℕ, suc, List, [], ◌∷◌, ◌++◌, sym, ap, refl, ◌∙◌, subst, eq-eqb, ne_eqb, arith}
 use Rattle.arena.specs.declared.layout.Layout.{Layout}
 use Rattle.arena.specs.declared.step.Row.{Row}
 use Rattle.arena.specs.declared.step.Step.{Step}
@@ -14,7 +14,7 @@ use Rattle.histories.proofs.Changes.{lawful_row}
 use Rattle.forest.specs.declared.rule.Asked.{Asked}
 use Rattle.forest.specs.declared.view.Knower.{Knower}
 use Rattle.forest.specs.Kept.{past, past_of, knower, ByOthers, MayMake, Made, row}
-use Rattle.forest.specs.Courses.{Course, begins, others, makes, goes_on, IsCalled, rows_of, steps_of, weight}
+use Rattle.forest.specs.Courses.{IsCalled, rows_of, steps_of, weight}
 
 -- a run without its last row is a run
 pub run_before : (allows : Layout → History → ℕ → Type 0) (lay : Layout) (h : History) (r : Row) → IsRun allows lay (r ⊳ h) → IsRun allows lay h

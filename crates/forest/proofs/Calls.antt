@@ -1,5 +1,5 @@
 -- What whole calls leave of what the pass has.
-use Rattle.std.proofs.Common.{◌≡◌, ◌≢◌, ℕ, suc, ◌+◌, ◌-◌, ◌<◌, ◌⊎◌, inl, inr, ⊎_elim, List, [], ◌∷◌, refl, sym, ◌∙◌, ap, subst, arith}
+use Rattle.std.proofs.Common.{◌≡◌, ◌≢◌, ℕ, suc, ◌<◌, ◌⊎◌, ⊎_elim, List, [], refl, sym, ◌∙◌, subst, arith}
 use native.Mathlib.Decide.{ℕ_discrete}
 use Rattle.arena.specs.declared.layout.Layout.{Layout}
 use Rattle.arena.specs.declared.step.Row.{Row}
@@ -9,11 +9,9 @@ use Rattle.arena.specs.declared.step.Deed.TheVariants.{Load, Store, Exchange}
 use Rattle.arena.specs.declared.step.Kind.TheVariants.{Fill}
 use Rattle.arena.specs.Share.{Left}
 use Rattle.arena.specs.Words.{state}
-use Rattle.arena.specs.History.{History, ◌⊳◌, value, EndsWith}
+use Rattle.arena.specs.History.{History, ◌⊳◌, value}
 use Rattle.arena.specs.Blame.{IsMember, IsInProgress}
 use Rattle.arena.specs.Fills.{IsOwnScx, IsTakenNode, IsTakenScx}
-use Rattle.arena.specs.Lawful.{HasWon}
-use Rattle.arena.specs.Log.{Entry, log}
 use Rattle.arena.specs.Machines.{Call, IsRun, IsTold, row_of}
 use Rattle.histories.proofs.Taking.{finished_taken}
 use Rattle.prims.specs.Cells.{allows_all}
@@ -22,7 +20,7 @@ use Rattle.prims.specs.Begun.{TakesOnly, takes_by_others, takes_by_step}
 use Rattle.prims.specs.Idle.{IsIdle, idle_if_over}
 use Rattle.prims.specs.Snaps.{IsAmong}
 use Rattle.prims.specs.PutKnown.{put_waits, put_answers}
-use Rattle.prims.specs.PutLaws.{put_keeps, put_made}
+use Rattle.prims.specs.PutLaws.{put_made}
 use Rattle.prims.specs.declared.snap.Snap.{Snap}
 use Rattle.prims.specs.declared.scx.Scx.{Scx as Answer}
 use Rattle.prims.specs.declared.put.PutRun.{PutRun}
@@ -31,7 +29,7 @@ use Rattle.prims.proofs.PutRows.{put_unmentioned, put_untaken}
 use Rattle.prims.proofs.PutEntries.{filled_covers, put_full, put_full_then, put_finished}
 use Rattle.prims.proofs.UntakenNodes.{put_untaken_node}
 use Rattle.forest.specs.Courses.{Course, begins, others, makes, goes_on}
-use Rattle.forest.specs.Shares.{IsShare, IsAtRest, IsUsable, entries_of}
+use Rattle.forest.specs.Shares.{IsShare, IsAtRest}
 use Rattle.forest.proofs.Frames.{Goes, HasOwnWon, goes_from, goes_more, share_by_others, share_by_step, share_kept, next_free, free_unnamed}
 
 -- Passes at rest

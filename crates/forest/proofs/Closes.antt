@@ -1,16 +1,14 @@
 -- What all passes together know of the words at the end.
-use Rattle.std.proofs.Common.{◌≡◌, ◌≢◌, ◌<◌, ◌⊎◌, ℕ, zero, suc, inl, inr, ⊎_elim, List, [], ◌∷◌, ◌++◌, length, slice_index, refl, sym, ◌∙◌, ap, subst, arith, append_assoc}
+use Rattle.std.proofs.Common.{◌≡◌, ℕ, zero, suc, inl, inr, List, [], ◌∷◌, ◌++◌, slice_index, refl, sym, ◌∙◌, subst}
 use mathlib.Core.Option.{some, some-injective, some-ne-none}
 use lib.ListN.{get_elem?}
 use Rattle.atomic_table.specs.declared.shared.Seat.{Seat}
-use Rattle.atomic_table.specs.Table.{State, Final, Seen}
+use Rattle.atomic_table.specs.Table.{Final, Seen}
 use Rattle.arena.specs.declared.layout.Layout.{Layout}
 use Rattle.arena.specs.declared.step.Row.{Row}
 use Rattle.arena.specs.declared.word.Word.{Word}
-use Rattle.arena.specs.declared.word.Side.{Side}
-use Rattle.arena.specs.Layout.{place, all_nodes, IsWord}
+use Rattle.arena.specs.Layout.{place, IsWord}
 use Rattle.arena.specs.Words.{child}
-use Rattle.arena.specs.PlainWords.{Contents, held}
 use Rattle.arena.specs.History.{History, value, EndsWith}
 use Rattle.arena.specs.Log.{log}
 use Rattle.arena.specs.Machines.{IsRun}
@@ -20,10 +18,10 @@ use Rattle.prims.specs.Cells.{allows_all}
 use Rattle.forest.specs.declared.view.Knower.{Knower}
 use Rattle.forest.specs.declared.view.View.{View}
 use Rattle.forest.specs.declared.pass.Pass.TheInside.{Inside}
-use Rattle.forest.specs.Kept.{past, knower, row, look, looked, Made, Kept, Owns, Behind, HasLooked}
+use Rattle.forest.specs.Kept.{past, knower, look, looked, Made, Kept, Owns, Behind, HasLooked}
 use Rattle.forest.specs.Courses.{known_of}
-use Rattle.forest.specs.Shares.{IsAtRest, entries_of}
-use Rattle.forest.specs.Passes.{Sight, IsOf, AreOf, AreBegun, IsClosed, run_of, done_of}
+use Rattle.forest.specs.Shares.{entries_of}
+use Rattle.forest.specs.Passes.{Sight, AreOf, AreBegun, IsClosed, run_of, done_of}
 use Rattle.forest.specs.Gathered.{IsFrom, IsOneOf, AreIn}
 use Rattle.forest.specs.Held.{sight, IsPass}
 use Rattle.forest.proofs.Advances.{keeps_all, same_knower}

@@ -8,7 +8,7 @@ use Rattle.arena.specs.declared.layout.Layout.{Layout}
 use Rattle.arena.specs.declared.step.Row.{Row}
 use Rattle.arena.specs.declared.word.Word.{Word}
 use Rattle.arena.specs.Layout.{opening as opening_word, place, table_size, IsWord}
-use Rattle.arena.specs.History.{History, Start, value}
+use Rattle.arena.specs.History.{History, value}
 use Rattle.arena.specs.Lawful.{Lawful}
 use Rattle.arena.specs.Shape.{Shaped}
 use Rattle.forest.specs.declared.view.Knower.{Knower}

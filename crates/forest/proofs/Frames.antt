@@ -1,9 +1,8 @@
 -- What each row of a course leaves of what the pass has.
-use Rattle.std.proofs.Common.{◌≡◌, ◌≢◌, ℕ, suc, ◌+◌, ◌-◌, ◌<◌, ◌≤◌, ◌⊎◌, inl, inr, ⊎_elim, Bool, true, false, cond, eqb, eq-eqb, ne_eqb, List, [], ◌∷◌, length, refl, sym, ◌∙◌, ap, subst, arith}
+use Rattle.std.proofs.Common.{◌≡◌, ◌≢◌, ℕ, ◌<◌, ◌≤◌, inl, inr, ⊎_elim, eq-eqb, ne_eqb, List, ◌∷◌, refl, sym, ◌∙◌, ap, arith}
 use native.Mathlib.Decide.{ℕ_discrete}
 use Rattle.arena.specs.declared.layout.Layout.{Layout}
 use Rattle.arena.specs.declared.step.Row.{Row}
-use Rattle.arena.specs.declared.step.Step.{Step}
 use Rattle.arena.specs.declared.step.Kind.TheVariants.{Fill}
 use Rattle.arena.specs.Layout.{opening_nodes}
 use Rattle.arena.specs.Share.{Left, HasNode, HasScx}
@@ -13,7 +12,7 @@ use Rattle.arena.specs.Blame.{IsMember, IsInProgress}
 use Rattle.arena.specs.Fills.{IsOwnNode, IsOwnScx, IsTakenNode, IsTakenScx}
 use Rattle.arena.specs.Lawful.{Lawful, HasWon}
 use Rattle.arena.specs.Log.{Entry, log, owner}
-use Rattle.arena.specs.Machines.{Call, IsRun, row_of}
+use Rattle.arena.specs.Machines.{IsRun}
 use Rattle.arena.proofs.Values.{ends_self}
 use Rattle.arena.proofs.Plans.{owner_is}
 use Rattle.arena.proofs.Taken.{taken_node_more, taken_scx_more}
@@ -22,19 +21,19 @@ use Rattle.histories.proofs.Facts.{Facts, descriptor, IsOwned, won_more}
 use Rattle.histories.proofs.Updates.{update_won, update_split, update_in_progress, update_flagged, update_is_first, update_about}
 use Rattle.histories.proofs.Always.{facts, facts_before}
 use Rattle.histories.proofs.Fields.{Logs, same as log_same, wins as log_wins, logs, entry_of}
-use Rattle.histories.proofs.Entries.{won_named, won_real}
+use Rattle.histories.proofs.Entries.{won_named}
 use Rattle.histories.proofs.Owners.{one_scx_owner}
 use Rattle.histories.proofs.Taking.{named_scx_taken, untaken_by_others, untaken_by_step}
 use Rattle.histories.proofs.Unmentioned.{IsUnmentioned, unmentioned_by_step, unmentioned_by_others}
 use Rattle.prims.specs.Cells.{allows_all}
 use Rattle.prims.specs.Linked.{linked_more}
 use Rattle.prims.specs.Moments.{AreOver}
-use Rattle.prims.specs.Begun.{TakesOnly, takes_by_others, takes_by_step}
+use Rattle.prims.specs.Begun.{TakesOnly}
 use Rattle.prims.specs.Snaps.{IsAmong}
 use Rattle.prims.specs.declared.snap.Snap.{Snap}
 use Rattle.prims.proofs.Alone.{moment_more, over_more}
 use Rattle.prims.proofs.UntakenNodes.{untaken_node_by_others, untaken_node_by_step}
-use Rattle.forest.specs.Shares.{IsShare, IsAtRest, IsUsable, entries_of}
+use Rattle.forest.specs.Shares.{IsShare, IsUsable, entries_of}
 
 -- Snapshots
 

@@ -1,15 +1,14 @@
 -- What a call of `llx` says.
-use Rattle.std.proofs.Common.{◌≡◌, ◌<◌, ◌≤◌, ◌+◌, ℕ, true, inl, List, ◌∷◌, None, refl, sym, ◌∙◌, ap, subst, arith}
+use Rattle.std.proofs.Common.{◌≡◌, ◌≤◌, ℕ, true, inl, None, refl, sym, ◌∙◌, ap, subst, arith}
 use Rattle.atomic_table.specs.declared.shared.Seat.{Seat}
-use Rattle.arena.specs.declared.limits.Mode.{Mode}
 use Rattle.arena.specs.declared.limits.Mode.TheVariants.{Records}
 use Rattle.arena.specs.declared.layout.Layout.{Layout}
 use Rattle.arena.specs.declared.number.NodeNo.{NodeNo}
 use Rattle.arena.specs.Layout.{opening_nodes}
 use Rattle.arena.specs.Share.{Left}
-use Rattle.arena.specs.History.{History, EndsWith}
-use Rattle.arena.specs.Log.{log, is_final}
-use Rattle.arena.specs.Machines.{Call, IsRun}
+use Rattle.arena.specs.History.{History}
+use Rattle.arena.specs.Log.{is_final}
+use Rattle.arena.specs.Machines.{IsRun}
 use Rattle.prims.specs.Cells.{allows_all}
 use Rattle.prims.specs.Idle.{same_moment}
 use Rattle.prims.specs.LlxKnown.{IsOpened, IsSnapshot, llx_ready, llx_waits, llx_answers}
@@ -23,7 +22,6 @@ use Rattle.prims.specs.declared.llx.LlxRun.{LlxRun}
 use Rattle.prims.specs.declared.llx.LlxAt.TheVariants.{Start}
 use Rattle.forest.specs.declared.view.View.{View}
 use Rattle.forest.specs.declared.pass.Pass.TheInside.{Inside}
-use Rattle.forest.specs.Kept.{past}
 use Rattle.forest.specs.Courses.{Course, IsCalled, known_of}
 use Rattle.forest.specs.Shares.{IsAtRest, IsUsable}
 use Rattle.forest.specs.Passes.{LlxSays, IsFinalizedAnswer, run_of, seen_of}

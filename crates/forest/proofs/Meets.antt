@@ -1,5 +1,5 @@
 -- How two passes meet.
-use Rattle.std.proofs.Common.{◌≡◌, ◌≢◌, ◌<◌, ◌≤◌, ◌+◌, ℕ, suc, List, [], ◌∷◌, ◌++◌, refl, sym, ◌∙◌, ap, subst, arith, eq-eqb, inr}
+use Rattle.std.proofs.Common.{◌≡◌, ◌≢◌, ℕ, suc, List, [], ◌∷◌, ◌++◌, refl, sym, ◌∙◌, ap, subst, eq-eqb, inr}
 use Rattle.atomic_table.specs.declared.shared.Seat.{Seat}
 use Rattle.arena.specs.declared.layout.Layout.{Layout}
 use Rattle.arena.specs.declared.limits.Mode.{Mode}
@@ -11,7 +11,7 @@ use Rattle.prims.specs.Cells.{allows_all}
 use Rattle.forest.specs.declared.view.Knower.{Knower}
 use Rattle.forest.specs.declared.view.View.{View}
 use Rattle.forest.specs.declared.pass.Pass.TheInside.{Inside}
-use Rattle.forest.specs.Kept.{past, knower, row, look, Looked, HasLooked, Met, looked, Behind, ByOthers}
+use Rattle.forest.specs.Kept.{past, knower, row, look, Looked, HasLooked, Met, looked, Behind}
 use Rattle.forest.specs.Courses.{known_of, rows_of}
 use Rattle.forest.specs.Passes.{run_of, steps_of}
 use Rattle.forest.specs.Held.{sight, IsPass}

@@ -1,9 +1,9 @@
 -- A step of any kind keeps the rule.
-use Rattle.std.proofs.Common.{◌≡◌, ◌≢◌, ◌<◌, ℕ, Bool, true, false, cond, List, [], ◌∷◌, ◌++◌, length, slice_index, slice_set, length-set, sym, ap, refl, ◌∙◌, subst, ⊎_elim, arith}
+use Rattle.std.proofs.Common.{◌≡◌, ◌≢◌, ◌<◌, ℕ, Bool, true, false, List, [], ◌∷◌, ◌++◌, length, slice_index, slice_set, length-set, sym, ap, refl, ◌∙◌, subst, ⊎_elim, arith}
 use Rattle.std.proofs.lemmas.List.{get_or-set_same, get_or-set_other}
 use mathlib.Core.Option.{some}
 use lib.ListN.{get_elem?}
-use Rattle.atomic_table.specs.Table.{Me, State, Allows, keeps}
+use Rattle.atomic_table.specs.Table.{Me, Allows, keeps}
 use Rattle.atomic_table.proofs.Lists.{at_set}
 use Rattle.arena.specs.declared.layout.Layout.{Layout}
 use Rattle.arena.specs.declared.word.Word.{Word}
@@ -21,7 +21,7 @@ use Rattle.arena.proofs.Values.{value_at, value_other}
 use Rattle.forest.specs.declared.rule.Asked.{Asked}
 use Rattle.forest.specs.declared.view.Knower.{Knower}
 use Rattle.forest.specs.declared.view.View.{View}
-use Rattle.forest.specs.Kept.{past, past_of, knower, view, ByOthers, Behind, Owns, Kept, MayMake, Made, Looked, look, row}
+use Rattle.forest.specs.Kept.{past, past_of, knower, view, Owns, Kept, MayMake, Made, Looked, look, row}
 
 -- a row of another seat leaves the passes of a seat where they are
 owns_more : (lay : Layout) (run : List Row) (owner : ℕ → ℕ) (id : ℕ) (r : Row) → owner r.pass.0 ≢ id → (ps : List Knower) → Owns lay run owner id ps → Owns lay (r ∷ run) owner id ps

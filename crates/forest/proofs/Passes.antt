@@ -1,13 +1,11 @@
 -- What a call leaves of a pass.
-use Rattle.std.proofs.Common.{◌≡◌, ◌≢◌, ℕ, ◌+◌, ◌<◌, ◌≤◌, List, [], ◌∷◌, refl, sym, ◌∙◌, ap, subst, arith}
+use Rattle.std.proofs.Common.{◌≡◌, ◌≢◌, ℕ, ◌+◌, ◌≤◌, List, [], ◌∷◌, refl, sym, ◌∙◌, ap, subst, arith}
 use Rattle.atomic_table.specs.declared.shared.Seat.{Seat}
-use Rattle.arena.specs.declared.limits.Mode.TheVariants.{Records}
 use Rattle.arena.specs.declared.layout.Layout.{Layout}
 use Rattle.arena.specs.declared.step.Step.{Step}
 use Rattle.arena.specs.declared.step.Kind.TheVariants.{Fill}
-use Rattle.arena.specs.Layout.{first_node, first_scx}
 use Rattle.arena.specs.Share.{whole_share}
-use Rattle.arena.specs.History.{History, Start, ◌⊳◌, EndsWith}
+use Rattle.arena.specs.History.{History, Start}
 use Rattle.arena.specs.Fills.{IsTakenNode, IsTakenScx}
 use Rattle.arena.specs.Lawful.{Lawful}
 use Rattle.arena.specs.Machines.{Call, IsRun}
@@ -20,8 +18,8 @@ use Rattle.forest.specs.declared.view.View.{View}
 use Rattle.forest.specs.declared.pass.Pass.TheInside.{Inside}
 use Rattle.forest.specs.Kept.{past, knower}
 use Rattle.forest.specs.Courses.{Course, IsCalled, known_of, rows_of, steps_of}
-use Rattle.forest.specs.Shares.{IsShare, IsAtRest, IsUsable}
-use Rattle.forest.specs.Passes.{Sight, IsLater, CanUse, done_of, run_of, steps_of as steps_in}
+use Rattle.forest.specs.Shares.{IsAtRest}
+use Rattle.forest.specs.Passes.{IsLater, CanUse, done_of, steps_of as steps_in}
 use Rattle.forest.specs.Held.{sight, IsPass}
 use Rattle.forest.proofs.Frames.{Goes, free_unnamed, next_free}
 use Rattle.forest.proofs.Calls.{quiet_goes}

@@ -1,43 +1,39 @@
 -- What a call of `scx` says.
-use Rattle.std.proofs.Common.{◌≡◌, ◌≢◌, ◌<◌, ◌≤◌, ◌+◌, ◌-◌, ◌⊎◌, ◌↔◌, ℕ, zero, suc, inl, inr, ⊎_elim, Bool, true, false, cond, ◌||◌, eqb, eqb-true, eq-eqb, List, [], ◌∷◌, length, None, refl, sym, ◌∙◌, ap, subst, arith}
+use Rattle.std.proofs.Common.{◌≡◌, ◌<◌, ◌≤◌, ◌+◌, ◌-◌, ◌⊎◌, ◌↔◌, ℕ, zero, suc, inl, inr, ⊎_elim, Bool, true, false, cond, eqb, eqb-true, eq-eqb, List, [], ◌∷◌, length, None, refl, sym, ◌∙◌, ap, subst, arith}
 use Rattle.std.proofs.lemmas.Bool.{or_left}
-use Rattle.std.specs.List.{Contains}
 use Rattle.atomic_table.specs.declared.shared.Seat.{Seat}
 use Rattle.arena.specs.declared.layout.Layout.{Layout}
 use Rattle.arena.specs.declared.number.NodeNo.{NodeNo}
 use Rattle.arena.specs.declared.word.Side.{Side}
 use Rattle.arena.specs.Layout.{first_scx}
-use Rattle.arena.specs.Words.{info, state}
-use Rattle.arena.specs.Share.{Left, HasNode as HasOwnNode, HasScx}
-use Rattle.arena.specs.History.{History, Start, ◌⊳◌, value, EndsWith}
-use Rattle.arena.specs.ScxRecords.{removes, side_of, index_of as field_of}
-use Rattle.arena.specs.Fills.{IsOwnNode, IsOwnScx, IsTakenNode, IsTakenScx}
+use Rattle.arena.specs.Words.{info}
+use Rattle.arena.specs.Share.{Left}
+use Rattle.arena.specs.History.{History, Start, ◌⊳◌, EndsWith}
+use Rattle.arena.specs.ScxRecords.{removes}
+use Rattle.arena.specs.Fills.{IsOwnNode, IsOwnScx, IsTakenScx}
 use Rattle.arena.specs.Lawful.{Lawful, HasWon}
 use Rattle.arena.specs.Log.{Entry, log, has, IsEntered, AreOnce}
-use Rattle.arena.specs.Machines.{Call, IsRun}
 use Rattle.arena.proofs.Values.{held_at, held_since}
 use Rattle.histories.proofs.Changes.{lawful_tail}
-use Rattle.histories.proofs.Entries.{IsIn, newest, older, once, entered_won}
+use Rattle.histories.proofs.Entries.{IsIn, newest, older, once}
 use Rattle.histories.proofs.Fields.{Logs, same as log_same, wins as log_wins, logs}
 use Rattle.histories.proofs.Helds.{or_split, or_right}
 use Rattle.histories.proofs.Helping.{aborted_never_won}
 use Rattle.prims.specs.Cells.{allows_all}
 use Rattle.prims.specs.Moments.{IsMoment, IsAsFound}
-use Rattle.prims.specs.Snaps.{AreDistinct, IsAmong, HasNode}
+use Rattle.prims.specs.Snaps.{IsAmong, HasNode}
 use Rattle.prims.specs.Updates.{field_place}
 use Rattle.prims.specs.VlxKnown.{snap_at}
 use Rattle.arena.specs.Blame.{WasInTheWay}
-use Rattle.prims.specs.ScxKnown.{IsUpdateOver, IsEntryAt, IsDone as IsScxDone, IsLost, removed_nodes, nodes_of, update_entry}
+use Rattle.prims.specs.ScxKnown.{IsEntryAt, IsDone as IsScxDone, IsLost, removed_nodes, nodes_of, update_entry}
 use Rattle.prims.specs.PutKnown.{put_ready, put_waits, put_answers}
 use Rattle.prims.proofs.PutBegins.{put_begin}
-use Rattle.prims.proofs.PutEntries.{put_finished}
 use Rattle.prims.specs.declared.snap.Snap.{Snap}
 use Rattle.prims.specs.declared.scx.Scx.{Scx}
 use Rattle.prims.specs.declared.scx.Scx.TheVariants.{Done, Lost}
 use Rattle.prims.specs.declared.scx.ScxAt.TheVariants.{Start as ScxStart}
 use Rattle.prims.specs.declared.put.PutRun.{PutRun}
 use Rattle.prims.specs.declared.put.PutAt.TheVariants.{Start as PutStart}
-use Rattle.prims.specs.declared.update.Update.{Update}
 use Rattle.forest.specs.declared.fault.Full.{Full}
 use Rattle.forest.specs.declared.fault.Resource.{Resource}
 use Rattle.forest.specs.declared.fault.Resource.TheVariants.{Nodes, Scx as ScxRecords}
@@ -45,13 +41,13 @@ use Rattle.forest.specs.declared.view.View.{View}
 use Rattle.forest.specs.declared.pass.Pass.TheInside.{Inside}
 use Rattle.forest.specs.Kept.{past, knower}
 use Rattle.forest.specs.Courses.{Course, IsCalled, known_of, steps_of}
-use Rattle.forest.specs.Shares.{IsShare, IsAtRest, IsUsable, entries_of}
+use Rattle.forest.specs.Shares.{IsShare, entries_of}
 use Rattle.forest.specs.Puts.{IsPutOf}
-use Rattle.forest.specs.Passes.{Sight, IsLater, CanUse, Each, AreApart, HasNodeOf, WasChanged, IsDone, ScxSays, IsFull, IsFullOf, IsAllTaken, IsUsedUp, taken, run_of, seen_of, done_of, steps_of as steps_in}
+use Rattle.forest.specs.Passes.{IsLater, CanUse, Each, ScxSays, IsFull, IsFullOf, IsAllTaken, IsUsedUp, taken, done_of, steps_of as steps_in}
 use Rattle.forest.specs.Held.{sight, IsPass}
-use Rattle.forest.proofs.Frames.{Goes, HasOwnWon, left_own_node, left_own_scx, next_free, free_unnamed}
+use Rattle.forest.proofs.Frames.{Goes, left_own_node, left_own_scx, next_free, free_unnamed}
 use Rattle.forest.proofs.Calls.{HasHand, all_over, course_keeps, put_goes, put_rests}
-use Rattle.forest.proofs.Passes.{call_of, seated, steps_are}
+use Rattle.forest.proofs.Passes.{call_of, steps_are}
 use Rattle.forest.proofs.VlxCalls.{each_at, is_clear}
 
 -- Entries

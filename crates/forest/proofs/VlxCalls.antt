@@ -1,15 +1,13 @@
 -- What a call of `vlx` says.
-use Rattle.std.proofs.Common.{◌≡◌, ◌≢◌, ◌<◌, ◌≤◌, ◌+◌, ◌⊎◌, ℕ, zero, suc, inl, inr, List, [], ◌∷◌, length, None, refl, sym, ◌∙◌, ap, subst, arith}
+use Rattle.std.proofs.Common.{◌≡◌, ◌≢◌, ◌<◌, ℕ, zero, suc, inl, inr, List, [], ◌∷◌, length, None, refl, sym, ◌∙◌, ap, subst, arith}
 use Rattle.atomic_table.specs.declared.shared.Seat.{Seat}
 use Rattle.arena.specs.declared.layout.Layout.{Layout}
 use Rattle.arena.specs.Words.{info}
-use Rattle.arena.specs.Share.{Left}
-use Rattle.arena.specs.History.{History, EndsWith}
-use Rattle.arena.specs.Machines.{Call, IsRun}
-use Rattle.arena.proofs.Values.{held_at, held_since}
+use Rattle.arena.specs.History.{History}
+use Rattle.arena.proofs.Values.{held_at}
 use Rattle.arena.specs.Blame.{WasInTheWay}
 use Rattle.prims.specs.Cells.{allows_all}
-use Rattle.prims.specs.Moments.{IsMoment, IsBlamed, AreOver}
+use Rattle.prims.specs.Moments.{AreOver}
 use Rattle.prims.specs.Snaps.{AreDistinct, IsAmong}
 use Rattle.prims.specs.VlxKnown.{snap_at, IsClear, vlx_ready, vlx_waits, vlx_answers}
 use Rattle.prims.proofs.FillsNot.{vlx_fills_not}
@@ -19,10 +17,9 @@ use Rattle.prims.specs.declared.vlx.Vlx.TheVariants.{Same, Changed}
 use Rattle.prims.specs.declared.vlx.VlxRun.{VlxRun}
 use Rattle.forest.specs.declared.view.View.{View}
 use Rattle.forest.specs.declared.pass.Pass.TheInside.{Inside}
-use Rattle.forest.specs.Kept.{past}
 use Rattle.forest.specs.Courses.{Course, IsCalled, known_of}
-use Rattle.forest.specs.Shares.{IsAtRest, IsUsable}
-use Rattle.forest.specs.Passes.{Sight, CanUse, Each, AreApart, HasNodeOf, WasChanged, VlxSays, run_of}
+use Rattle.forest.specs.Shares.{IsUsable}
+use Rattle.forest.specs.Passes.{CanUse, Each, AreApart, HasNodeOf, VlxSays, run_of}
 use Rattle.forest.specs.Held.{sight, IsPass}
 use Rattle.forest.proofs.Calls.{all_over, course_keeps}
 use Rattle.forest.proofs.Passes.{HasCalled, call_of, seated, called}

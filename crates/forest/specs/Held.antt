@@ -1,7 +1,6 @@
 -- What is true of the fields of every pass.
-use Rattle.std.specs.Prelude.{◌≡◌, ◌<◌, List, [], ◌∷◌}
+use Rattle.std.specs.Prelude.{◌≡◌, ◌<◌, [], ◌∷◌}
 use Rattle.arena.specs.declared.limits.Mode.TheVariants.{Records}
-use Rattle.arena.specs.declared.step.Row.{Row}
 use Rattle.arena.specs.Machines.{IsRun}
 use Rattle.prims.specs.Cells.{allows_all}
 use Rattle.forest.specs.declared.pass.Pass.TheInside.{Inside}

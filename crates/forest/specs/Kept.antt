@@ -1,5 +1,5 @@
 -- The rule of the table: what its words and the views of all seats have to do with one lawful run.
-use Rattle.std.specs.Prelude.{◌≡◌, ◌≢◌, ◌<◌, ◌+◌, ℕ, zero, suc, List, [], ◌∷◌, ◌++◌, length, slice_index}
+use Rattle.std.specs.Prelude.{◌≡◌, ◌≢◌, ◌<◌, ℕ, zero, suc, List, [], ◌∷◌, ◌++◌, length, slice_index}
 use mathlib.Core.Option.{some}
 use lib.ListN.{get_elem?}
 use Rattle.atomic_table.specs.Seated.{TableId}
@@ -14,7 +14,7 @@ use Rattle.arena.specs.declared.step.Row.{Row}
 use Rattle.arena.specs.Layout.{place, table_size, IsWord}
 use Rattle.arena.specs.Words.{node, deed_after}
 use Rattle.arena.specs.History.{History, Start, ◌⊳◌, value}
-use Rattle.arena.specs.Machines.{Call, IsRun, IsTold}
+use Rattle.arena.specs.Machines.{IsRun, IsTold}
 use Rattle.forest.specs.declared.rule.Asked.{Asked}
 use Rattle.forest.specs.declared.view.Knower.{Knower}
 use Rattle.forest.specs.declared.view.View.{View}

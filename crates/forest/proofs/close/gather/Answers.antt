@@ -1,4 +1,4 @@
-use Rattle.std.proofs.Common.{◌≡◌, List, [], ◌∷◌, ◌++◌, inl, refl, sym, ◌∙◌, ap, subst, append_assoc}
+use Rattle.std.proofs.Common.{List, [], ◌∷◌, ◌++◌, inl, refl, sym, ◌∙◌, ap, subst, append_assoc}
 use Rattle.forest.specs.Passes.{Sight, AreOf}
 use Rattle.forest.specs.Gathered.{AreIn}
 use Rattle.forest.proofs.Closes.{in_more, of_append}

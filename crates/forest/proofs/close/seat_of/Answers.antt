@@ -1,11 +1,8 @@
-use Rattle.std.proofs.Common.{◌≡◌, ◌∙◌, List, ◌++◌, refl, sym, ap, subst}
-use Rattle.arena.specs.declared.layout.Layout.{Layout}
+use Rattle.std.proofs.Common.{◌++◌}
 use Rattle.prims.specs.Cells.{allows_all}
 use Rattle.forest.specs.Kept.{knower, past}
 use Rattle.forest.specs.Courses.{known_of}
-use Rattle.forest.specs.Passes.{Sight}
-use Rattle.forest.specs.Gathered.{IsFrom}
-use Rattle.forest.proofs.Moves.{head_inside, look_lawful}
+use Rattle.forest.proofs.Moves.{look_lawful}
 use Rattle.forest.proofs.Closes.{looked_from}
 use Rattle.forest.proofs.close.seat_of.Goals as goal
 

@@ -1,4 +1,4 @@
-use Rattle.std.proofs.Common.{arith, ap, sym, subst}
+use Rattle.std.proofs.Common.{arith}
 use Rattle.forest.proofs.Deals.{splits}
 use Rattle.forest.proofs.deal.deal.Goals as goal
 

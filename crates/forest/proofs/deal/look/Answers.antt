@@ -1,4 +1,3 @@
-use Rattle.std.proofs.Common.{sym}
 use Rattle.forest.proofs.Moves.{looks}
 use Rattle.forest.proofs.deal.look.Goals as goal
 

@@ -1,6 +1,5 @@
-use Rattle.std.proofs.Common.{ℕ, ◌≡◌, ◌≢◌, List, [], ◌∷◌, ◌++◌, refl, sym, ◌∙◌, ap, subst}
+use Rattle.std.proofs.Common.{ℕ, ◌++◌, sym, ◌∙◌, ap}
 use Rattle.atomic_table.specs.declared.shared.Seat.{Seat}
-use Rattle.forest.specs.declared.view.Knower.{Knower}
 use Rattle.forest.specs.declared.view.View.{View}
 use Rattle.forest.specs.Kept.{looked, rest_of, first_of}
 use Rattle.forest.proofs.Meets.{looks_first}

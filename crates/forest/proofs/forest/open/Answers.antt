@@ -1,4 +1,4 @@
-use Rattle.std.proofs.Common.{◌≡◌, ℕ, List, ◌∙◌, sym, ap, subst, slice_index}
+use Rattle.std.proofs.Common.{◌≡◌, ℕ, List, ◌∙◌, ap, slice_index}
 use Rattle.arena.specs.declared.layout.Layout.{Layout}
 use Rattle.arena.specs.declared.word.Word.{Word}
 use Rattle.arena.specs.Layout.{place, table_size, opening, IsWord}

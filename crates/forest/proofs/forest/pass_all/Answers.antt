@@ -1,4 +1,4 @@
-use Rattle.std.proofs.Common.{rules, ◌≡◌, ℕ, ◌∙◌, slice_get, refl, sym, ap}
+use Rattle.std.proofs.Common.{rules, ◌≡◌, ◌∙◌, slice_get, sym, ap}
 use Rattle.forest.specs.Kept.{rest_of, first_of}
 use Rattle.forest.specs.Passes.{Sight, beginner}
 use Rattle.forest.proofs.Openings.{first_left, rest_left, get_more}

@@ -1,4 +1,4 @@
-use Rattle.std.proofs.Common.{◌≡◌, ◌∙◌, ap}
+use Rattle.std.proofs.Common.{◌∙◌, ap}
 use Rattle.arena.specs.declared.number.ScxNo.{ScxNo}
 use Rattle.prims.specs.declared.update.Update.{Update}
 use Rattle.prims.specs.declared.scx.ScxRun.{ScxRun}

@@ -1,8 +1,7 @@
-use Rattle.std.proofs.Common.{◌≡◌, ℕ, Some, refl, ◌∙◌, sym, subst}
+use Rattle.std.proofs.Common.{Some, refl, sym, subst}
 use Rattle.arena.specs.declared.layout.Layout.{Layout}
 use Rattle.arena.specs.Layout.{IsWord}
 use Rattle.arena.specs.History.{History}
-use Rattle.arena.specs.Machines.{Call}
 use Rattle.forest.specs.Courses.{Course, others, makes, goes_on, IsCalled}
 use Rattle.forest.proofs.Advances.{may, word_of, told, turn_map, one_step}
 use Rattle.forest.proofs.steps.advance.Goals as goal

@@ -1,9 +1,6 @@
 use Rattle.std.proofs.Common.{◌≡◌, ◌∙◌, true, refl, sym, ap, subst}
-use Rattle.arena.specs.History.{History}
-use Rattle.prims.specs.declared.snap.Snap.{Snap}
 use Rattle.arena.specs.Log.{is_final}
-use Rattle.forest.specs.Shares.{IsUsable}
-use Rattle.forest.specs.Passes.{Sight, IsLater, LlxSays, IsFinalizedAnswer, run_of, seen_of, done_of, steps_of}
+use Rattle.forest.specs.Passes.{Sight, IsLater, LlxSays, seen_of, done_of}
 use Rattle.forest.specs.Held.{sight}
 use Rattle.forest.proofs.Passes.{HasCalled, call_of, seated, called_pass, called_later, called_done, called_usable, called_steps}
 use Rattle.forest.proofs.LlxCalls.{Answered, llx_begins, llx_called, llx_says, llx_finalized}

@@ -1,11 +1,7 @@
-use Rattle.std.proofs.Common.{◌≡◌, ◌≢◌, ◌∙◌, ℕ, suc, refl, sym, ap, subst}
-use Rattle.arena.specs.History.{History, EndsWith}
+use Rattle.std.proofs.Common.{◌∙◌, sym, ap}
 use Rattle.arena.proofs.Values.{ends_trans}
-use Rattle.prims.specs.declared.snap.Snap.{Snap}
-use Rattle.forest.specs.Shares.{IsUsable}
-use Rattle.forest.specs.Passes.{Sight, IsLater, run_of, done_of, steps_of}
-use Rattle.forest.specs.Held.{sight}
-use Rattle.forest.proofs.Passes.{seated, called_pass, called_later, called_done, called_usable}
+use Rattle.forest.specs.Passes.{Sight}
+use Rattle.forest.proofs.Passes.{called_pass, called_later, called_done, called_usable}
 use Rattle.forest.proofs.Meets.{HaveMet, have_met}
 use Rattle.forest.proofs.forest.Forest+Cells.meet.Goals as goal
 

@@ -1,16 +1,9 @@
-use Rattle.std.proofs.Common.{◌≡◌, ◌<◌, ◌+◌, ◌-◌, ◌∙◌, ℕ, refl, sym, ap, subst, arith}
+use Rattle.std.proofs.Common.{◌≡◌, ◌-◌, ◌∙◌, ℕ, sym, ap, subst}
 use Rattle.arena.specs.declared.layout.Layout.{Layout}
 use Rattle.arena.specs.Layout.{first_scx}
-use Rattle.arena.specs.Share.{Left}
-use Rattle.arena.specs.History.{History}
-use Rattle.prims.specs.Snaps.{IsAmong}
-use Rattle.prims.specs.declared.snap.Snap.{Snap}
-use Rattle.forest.specs.Shares.{IsUsable}
-use Rattle.forest.specs.Puts.{IsPutOf}
-use Rattle.forest.specs.Passes.{Sight, IsLater, ScxSays, CanUse, Each, taken, run_of, steps_of}
-use Rattle.forest.specs.Held.{sight, IsPass}
+use Rattle.forest.specs.Passes.{Sight, CanUse, Each}
 use Rattle.forest.proofs.Passes.{call_of}
-use Rattle.forest.proofs.ScxCalls.{HasPut, spent, put_begins, put_called, put_pass, put_says, put_usable, put_later, put_steps, first_and_taken}
+use Rattle.forest.proofs.ScxCalls.{HasPut, put_begins, put_called, put_pass, put_says, put_usable, put_later, put_steps, first_and_taken}
 use Rattle.forest.proofs.forest.Forest+Cells.scx.Goals as goal
 
 pub complete-requires-clause-ready : goal.complete-requires-clause-ready

@@ -1,10 +1,5 @@
 use Rattle.std.proofs.Common.{◌≡◌, ◌∙◌, refl, sym, ap, subst, arith}
-use Rattle.arena.specs.History.{History}
-use Rattle.prims.specs.declared.snap.Snap.{Snap}
-use Rattle.prims.specs.Cells.{allows_all}
-use Rattle.forest.specs.Courses.{IsCalled}
-use Rattle.forest.specs.Shares.{IsUsable}
-use Rattle.forest.specs.Passes.{Sight, IsLater, VlxSays, CanUse, Each, run_of, done_of, steps_of}
+use Rattle.forest.specs.Passes.{Sight, IsLater, VlxSays, CanUse, Each, done_of}
 use Rattle.forest.specs.Held.{sight}
 use Rattle.forest.proofs.Passes.{HasCalled, call_of, seated, called_pass, called_later, called_done, called_usable, called_steps}
 use Rattle.forest.proofs.VlxCalls.{Looked, vlx_begins, vlx_called, vlx_says}

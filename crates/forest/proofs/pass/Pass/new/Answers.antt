@@ -1,8 +1,4 @@
 use Rattle.std.proofs.Common.{refl}
-use Rattle.arena.specs.declared.step.Row.{Row}
-use Rattle.arena.specs.declared.layout.Layout.{Layout}
-use Rattle.forest.specs.Courses.{known_of}
-use Rattle.forest.specs.Held.{IsPass}
 use Rattle.forest.proofs.Passes.{begins_at_rest, begins_sound}
 use Rattle.forest.proofs.pass.Pass.new.Goals as goal
 
