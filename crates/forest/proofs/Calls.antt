@@ -1,6 +1,5 @@
 -- What whole calls leave of what the pass has.
-use Rattle.std.proofs.Common.{◌≡◌, ◌≢◌, ℕ, suc, ◌<◌, ◌⊎◌, ⊎_elim, List, [], refl, sym, ◌∙◌, subst, arith}
-use native.Mathlib.Decide.{ℕ_discrete}
+use Rattle.std.proofs.Common.{◌≡◌, ◌≢◌, ℕ, suc, ◌<◌, List, [], refl, sym, subst}
 use Rattle.arena.specs.declared.layout.Layout.{Layout}
 use Rattle.arena.specs.declared.step.Row.{Row}
 use Rattle.arena.specs.declared.step.Step.{Step}
@@ -11,36 +10,27 @@ use Rattle.arena.specs.Share.{Left}
 use Rattle.arena.specs.Words.{state}
 use Rattle.arena.specs.History.{History, ◌⊳◌, value}
 use Rattle.arena.specs.Blame.{IsMember, IsInProgress}
-use Rattle.arena.specs.Fills.{IsOwnScx, IsTakenNode, IsTakenScx}
+use Rattle.arena.specs.Fills.{IsOwnScx}
 use Rattle.arena.specs.Machines.{Call, IsRun, IsTold, row_of}
 use Rattle.histories.proofs.Taking.{finished_taken}
 use Rattle.prims.specs.Cells.{allows_all}
 use Rattle.prims.specs.Moments.{AreOver}
 use Rattle.prims.specs.Begun.{TakesOnly, takes_by_others, takes_by_step}
-use Rattle.prims.specs.Idle.{IsIdle, idle_if_over}
 use Rattle.prims.specs.Snaps.{IsAmong}
 use Rattle.prims.specs.PutKnown.{put_waits, put_answers}
 use Rattle.prims.specs.PutLaws.{put_made}
 use Rattle.prims.specs.declared.snap.Snap.{Snap}
 use Rattle.prims.specs.declared.scx.Scx.{Scx as Answer}
 use Rattle.prims.specs.declared.put.PutRun.{PutRun}
-use Rattle.prims.proofs.Alone.{put_takes}
-use Rattle.prims.proofs.PutRows.{put_unmentioned, put_untaken}
-use Rattle.prims.proofs.PutEntries.{filled_covers, put_full, put_full_then, put_finished}
-use Rattle.prims.proofs.UntakenNodes.{put_untaken_node}
+use Rattle.prims.proofs.Alone.{put_takes, over_begins, over_ends}
+use Rattle.prims.proofs.Shares.{share_by_others, share_by_step, share_by_put, share_ends, next_idle, next_unwon}
+use Rattle.prims.specs.Shares.{IsShare}
+use Rattle.prims.proofs.PutEntries.{put_covers, put_covers_then, put_finished}
 use Rattle.forest.specs.Courses.{Course, begins, others, makes, goes_on}
-use Rattle.forest.specs.Shares.{IsShare, IsAtRest}
-use Rattle.forest.proofs.Frames.{Goes, HasOwnWon, goes_from, goes_more, share_by_others, share_by_step, share_kept, next_free, free_unnamed}
+use Rattle.forest.specs.Shares.{IsAtRest}
+use Rattle.forest.proofs.Frames.{Goes, HasOwnWon, goes_from, goes_more}
 
--- Passes at rest
-
--- all that they have taken is finished
-pub all_over : (lay : Layout) (c : ℕ) (h : History) (left : Left) → IsAtRest lay c h left → AreOver lay c 0 h
-all_over lay c h left x s own real t = x.over s own (λ e. x.share.untaken s record { from = omega (arith, e); below = let a = own.below in let b = x.share.to_scx in omega (arith, e) } t) t
-
--- so none of it is in progress
-pub is_idle : (lay : Layout) (c : ℕ) (h : History) (left : Left) → IsRun allows_all lay h → IsAtRest lay c h left → IsIdle lay c h
-is_idle lay c h left run x = idle_if_over lay c h run.lawful (λ s own t. all_over lay c h left x s own (λ e. let a = own.from in omega arith) t)
+-- Courses
 
 -- what is so of a machine as the call begins, and of each further on, is so of it
 pub course_keeps : {M : Type 0} {allows : Layout → History → ℕ → Type 0} {waits : M → Call → History → Step → Type 0} {same : M → M → Type 0} {c : Call} {first : M} (P : M → Type 0) → P first → ((old now : M) → same old now → P old → P now) → (m : M) (h : History) → Course allows waits same c first m h → P m
@@ -57,10 +47,10 @@ module _ (lay : Layout) (c : ℕ) (start : History) (left : Left) where
 
   -- the next SCX-record of the share is not in progress
   covers : (h : History) → IsRun allows_all lay h → IsShare lay h c left left.next_node left.next_scx → (n : ℕ) → IsOwnScx lay c left.next_scx → IsInProgress h left.next_scx → IsMember h left.next_scx n → IsAmong [] n
-  covers h r share n own p y = absurd ((free_unnamed lay h c left.next_scx r.lawful own (next_free lay h c left _ _ share own)).0 p)
+  covers h r share n own p y = absurd (next_idle lay h c left _ _ r.lawful share own p)
 
   pub quiet_start : IsRun allows_all lay start → IsAtRest lay c start left → IsQuiet start
-  quiet_start run rest = goes_from lay c start left left.next_node left.next_scx [] run rest.share rest.over (λ w. (free_unnamed lay start c left.next_scx run.lawful w.0 (next_free lay start c left _ _ rest.share w.0)).1 w.1)
+  quiet_start run rest = goes_from lay c start left left.next_node left.next_scx [] run rest.share rest.over (λ w. next_unwon lay start c left _ _ run.lawful rest.share w.0 w.1)
 
   -- a row of another pass, and one that is no fill
   pub quiet_other : c < lay.passes → (h : History) (r : Row) → IsRun allows_all lay (r ⊳ h) → r.pass.0 ≢ c → IsQuiet h → IsQuiet (r ⊳ h)
@@ -113,7 +103,7 @@ module _ (same : PutRun → PutRun → Type 0) (c : Call) (first : PutRun) (left
       let w' : put_waits allows_all m c (r ⊳ g) s = rw e at w in (
         y.0,
         subst (λ k. Goes c.layout c.pass c.start k left node scx snaps) (sym e) (goes_more c.layout c.pass c.start g left node scx snaps r run' (takes_by_others c.layout c.pass scx g r run'.lawful other) y.1 share'
-            (λ n own p z. rw (sym y.0.snaps_are) (filled_covers c (r ⊳ g) m.scx.scx.0 m.scx.call n m.scx.update (put_full allows_all m c (r ⊳ g) s (rw y.0.record_is p.named) w').0 (rw y.0.record_is z)))),
+            (λ n own p z. rw (sym y.0.snaps_are) (put_covers allows_all m c (r ⊳ g) s n w' (rw y.0.record_is p) (rw y.0.record_is z)))),
       )
   put_goes m h (makes s g e w new x) =
       let y = put_goes m g x in
@@ -121,41 +111,19 @@ module _ (same : PutRun → PutRun → Type 0) (c : Call) (first : PutRun) (left
       let run' : IsRun allows_all c.layout (r ⊳ g) = rw e at new in
       let made = put_made allows_all m c g s (value g s.word) run' (told_found s.deed (value g s.word)) w in
       let takes : TakesOnly c.layout c.pass scx g r = subst (λ k. TakesOnly c.layout c.pass k g r) y.0.record_is (put_takes allows_all m c g s w) in
-      let share' = share_kept c.layout g r c.pass left node scx
-      (λ n p i u. put_unmentioned allows_all m c g s n run'.lawful w i (λ q. let a = p.from in let b = y.0.fresh in omega arith) u)
-      (λ n p u. put_untaken_node allows_all m c g s n w (λ q. let a = p.from in let b = y.0.fresh in omega arith) u)
-      (λ t p u. put_untaken allows_all m c g s t w (λ q. let a = p.from in let b = y.0.record_is in omega arith) u)
-      y.1.share in (
+      let share' = share_by_put allows_all m c g s left node scx run'.lawful w (rw y.0.fresh next_node) (rw y.0.record_is next_scx) y.1.share in (
         y.0,
         subst (λ k. Goes c.layout c.pass c.start k left node scx snaps) (sym e) (goes_more c.layout c.pass c.start g left node scx snaps r run' takes y.1 share'
-            (λ n own p z. rw (sym y.0.snaps_are) (filled_covers c (r ⊳ g) m.scx.scx.0 m.scx.call n m.scx.update (put_full_then allows_all m c (r ⊳ g) (value g s.word) (rw y.0.record_is p.named) made).0 (rw y.0.record_is z)))),
+            (λ n own p z. rw (sym y.0.snaps_are) (put_covers_then allows_all m c (r ⊳ g) (value g s.word) n made (rw y.0.record_is p) (rw y.0.record_is z)))),
       )
   put_goes m h (goes_on old is x) = let y = put_goes old h x in (keeps old m is y.0, y.1)
-
--- behind the node, or SCX-record, that is taken now stands the next one
-less_or_is : (n k : ℕ) → n < suc k → (n < k) ⊎ (n ≡ k)
-less_or_is n k i = grind arith
 
 -- once an SCX has answered, its pass is at rest
 pub put_rests : (c : Call) (m : PutRun) (h : History) (a : Answer) (left : Left) (node scx : ℕ) (snaps : List Snap) → HasHand m node scx snaps → left.next_node ≡ suc node → left.next_scx ≡ suc scx → scx ≢ 0 → put_answers m c h a → Goes c.layout c.pass c.start h left node scx snaps → IsAtRest c.layout c.pass h left
 put_rests c m h a left node scx snaps hand next_node next_scx real x y = record {
-  share = record {
-    from_node = y.share.from_node;
-    to_node = y.share.to_node;
-    from_scx = y.share.from_scx;
-    to_scx = y.share.to_scx;
-    taken_nodes = λ n own less. ⊎_elim (y.share.taken_nodes n own) (λ e. subst (λ k. IsTakenNode h k) (sym (e ∙ sym hand.fresh)) x.0.taken) (less_or_is n node (rw next_node at less));
-    taken_scx = λ s own less. ⊎_elim (y.share.taken_scx s own) (λ e. subst (λ k. IsTakenScx h k) (sym e) (finished_taken c.layout h scx y.sound.lawful real finished)) (less_or_is s scx (rw next_scx at less));
-    unmentioned = y.share.unmentioned;
-    untaken_nodes = y.share.untaken_nodes;
-    untaken = y.share.untaken;
-  };
-  over = λ s own d t. each_over s own (ℕ_discrete s scx) t;
+  share = share_ends c.layout h c.pass left node scx next_node next_scx (rw hand.fresh at x.0.taken) (finished_taken c.layout h scx y.sound.lawful real finished) y.share;
+  over = over_begins c.layout c.pass left.next_scx h (over_ends c.layout c.pass scx h y.over finished);
 }
   where
     finished : value h (state scx) ≢ 0
     finished = let f : value h (state m.scx.scx.0) ≢ 0 = put_finished m c h a x in rw hand.record_is at f
-
-    each_over : (s : ℕ) → IsOwnScx c.layout c.pass s → Dec (s ≡ scx) → IsTakenScx h s → value h (state s) ≢ 0
-    each_over s own (no d) t = y.over s own d t
-    each_over s own (yes e) t = subst (λ k. value h (state k) ≢ 0) (sym e) finished

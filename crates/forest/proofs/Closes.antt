@@ -25,7 +25,7 @@ use Rattle.forest.specs.Passes.{Sight, AreOf, AreBegun, IsClosed, run_of, done_o
 use Rattle.forest.specs.Gathered.{IsFrom, IsOneOf, AreIn}
 use Rattle.forest.specs.Held.{sight, IsPass}
 use Rattle.forest.proofs.Advances.{keeps_all, same_knower}
-use Rattle.forest.proofs.Frames.{free_unnamed, next_free}
+use Rattle.prims.proofs.Shares.{next_unwon}
 use Rattle.forest.proofs.Calls.{IsQuiet, quiet_start, quiet_other}
 use Rattle.forest.proofs.Passes.{HasCalled, seated, called_pass, called_done}
 use Rattle.forest.proofs.Meets.{look_called}
@@ -109,7 +109,7 @@ one_begun d k lay run same f sound b =
     let mine = subst (λ (q : Knower). q.number.0 ≡ d.number) (sym f.is) refl in
     let goes = keeps_all allows_all d.layout d.number (IsQuiet d.layout d.number h0 d.share) (λ h r run other z. quiet_other d.layout d.number h0 d.share f.is_pass h r run other z) b.0 k.known (rw mine at b.2) sound' (quiet_start d.layout d.number h0 d.share f.sound f.rest) in
     let ends : EndsWith (past d.layout.mode run) (run_of d) = subst (λ l. EndsWith (past d.layout.mode l) (run_of d)) (sym b.1) (ends_trans _ _ _ goes.since f.ends) in
-    let none = goes.unwon (λ w. (free_unnamed d.layout _ d.number d.share.next_scx goes.sound.lawful w.0 (next_free d.layout _ d.number d.share _ _ goes.share w.0)).1 w.1) in
+    let none = goes.unwon (λ w. next_unwon d.layout _ d.number d.share _ _ goes.sound.lawful goes.share w.0 w.1) in
     let done : entries_of d.number (log d.layout (past d.layout.mode run)) ≡ done_of d = subst (λ l. entries_of d.number (log d.layout (past d.layout.mode l)) ≡ done_of d) (sym b.1) (none ∙ f.done) in
     subst (λ (l : Layout). EndsWith (past l.mode run) (run_of d) × (entries_of d.number (log d.layout (past l.mode run)) ≡ done_of d)) same (ends, done)
 

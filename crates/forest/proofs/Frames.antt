@@ -1,116 +1,35 @@
 -- What each row of a course leaves of what the pass has.
-use Rattle.std.proofs.Common.{◌≡◌, ◌≢◌, ℕ, ◌<◌, ◌≤◌, inl, inr, ⊎_elim, eq-eqb, ne_eqb, List, ◌∷◌, refl, sym, ◌∙◌, ap, arith}
+use Rattle.std.proofs.Common.{◌≡◌, ◌≢◌, ℕ, inr, ⊎_elim, eq-eqb, ne_eqb, List, ◌∷◌, refl, sym, ◌∙◌, ap}
 use native.Mathlib.Decide.{ℕ_discrete}
 use Rattle.arena.specs.declared.layout.Layout.{Layout}
 use Rattle.arena.specs.declared.step.Row.{Row}
-use Rattle.arena.specs.declared.step.Kind.TheVariants.{Fill}
-use Rattle.arena.specs.Layout.{opening_nodes}
-use Rattle.arena.specs.Share.{Left, HasNode, HasScx}
+use Rattle.arena.specs.Share.{Left}
 use Rattle.arena.specs.History.{History, ◌⊳◌, EndsWith}
-use Rattle.arena.specs.ScxRecords.{member}
 use Rattle.arena.specs.Blame.{IsMember, IsInProgress}
-use Rattle.arena.specs.Fills.{IsOwnNode, IsOwnScx, IsTakenNode, IsTakenScx}
-use Rattle.arena.specs.Lawful.{Lawful, HasWon}
+use Rattle.arena.specs.Fills.{IsOwnScx}
+use Rattle.arena.specs.Lawful.{HasWon}
 use Rattle.arena.specs.Log.{Entry, log, owner}
 use Rattle.arena.specs.Machines.{IsRun}
 use Rattle.arena.proofs.Values.{ends_self}
 use Rattle.arena.proofs.Plans.{owner_is}
-use Rattle.arena.proofs.Taken.{taken_node_more, taken_scx_more}
 use Rattle.histories.proofs.Changes.{UpdateWins}
 use Rattle.histories.proofs.Facts.{Facts, descriptor, IsOwned, won_more}
-use Rattle.histories.proofs.Updates.{update_won, update_split, update_in_progress, update_flagged, update_is_first, update_about}
-use Rattle.histories.proofs.Always.{facts, facts_before}
+use Rattle.histories.proofs.Updates.{update_won, update_split, update_is_first, update_about}
+use Rattle.histories.proofs.Always.{facts_before}
 use Rattle.histories.proofs.Fields.{Logs, same as log_same, wins as log_wins, logs, entry_of}
-use Rattle.histories.proofs.Entries.{won_named}
 use Rattle.histories.proofs.Owners.{one_scx_owner}
-use Rattle.histories.proofs.Taking.{named_scx_taken, untaken_by_others, untaken_by_step}
-use Rattle.histories.proofs.Unmentioned.{IsUnmentioned, unmentioned_by_step, unmentioned_by_others}
 use Rattle.prims.specs.Cells.{allows_all}
-use Rattle.prims.specs.Linked.{linked_more}
 use Rattle.prims.specs.Moments.{AreOver}
 use Rattle.prims.specs.Begun.{TakesOnly}
 use Rattle.prims.specs.Snaps.{IsAmong}
 use Rattle.prims.specs.declared.snap.Snap.{Snap}
-use Rattle.prims.proofs.Alone.{moment_more, over_more}
-use Rattle.prims.proofs.UntakenNodes.{untaken_node_by_others, untaken_node_by_step}
-use Rattle.forest.specs.Shares.{IsShare, IsUsable, entries_of}
-
--- Snapshots
-
--- a row at which no SCX-record of the pass in progress covers its node leaves a snapshot usable
-usable_more : (lay : Layout) (c : ℕ) (h : History) (r : Row) (snap : Snap) (moment : History) → Lawful lay (r ⊳ h) → ((s : ℕ) → IsOwnScx lay c s → IsInProgress (r ⊳ h) s → ¬ IsMember (r ⊳ h) s snap.node.0) → IsUsable lay c h snap moment → IsUsable lay c (r ⊳ h) snap moment
-usable_more lay c h r snap moment l none x = record { linked = linked_more lay h r snap l x.linked; found = moment_more lay h r snap moment x.found; alone = alone }
-  where
-    alone : (k : History) → EndsWith (r ⊳ h) k → EndsWith k moment → (s : ℕ) → IsOwnScx lay c s → IsInProgress k s → ¬ IsMember k s snap.node.0
-    alone k (inl e) after s own p m = none s own (rw e at p) (rw e at m)
-    alone k (inr e) after s own p m = x.alone k e after s own p m
-
--- Shares
-
--- what a share still has is the pass's own
-pub left_own_node : (lay : Layout) (h : History) (c : ℕ) (left : Left) (node scx n : ℕ) → IsShare lay h c left node scx → HasNode left n → IsOwnNode lay c n
-left_own_node lay h c left node scx n x p = record { from = let a = x.from_node in let b = p.from in omega arith; below = let a = x.to_node in let b = p.below in omega arith }
-
-pub left_own_scx : (lay : Layout) (h : History) (c : ℕ) (left : Left) (node scx s : ℕ) → IsShare lay h c left node scx → HasScx left s → IsOwnScx lay c s
-left_own_scx lay h c left node scx s x p = record { from = let a = x.from_scx in let b = p.from in omega arith; below = let a = x.to_scx in let b = p.below in omega arith }
-
--- a row that touches nothing of what is left
-pub share_kept : (lay : Layout) (h : History) (r : Row) (c : ℕ) (left : Left) (node scx : ℕ) → ((n : ℕ) → HasNode left n → opening_nodes lay.mode ≤ n → IsUnmentioned h n → IsUnmentioned (r ⊳ h) n) → ((n : ℕ) → HasNode left n → ¬ IsTakenNode h n → ¬ IsTakenNode (r ⊳ h) n) → ((s : ℕ) → HasScx left s → ¬ IsTakenScx h s → ¬ IsTakenScx (r ⊳ h) s) → IsShare lay h c left node scx → IsShare lay (r ⊳ h) c left node scx
-share_kept lay h r c left node scx f t g x = record {
-  from_node = x.from_node;
-  to_node = x.to_node;
-  from_scx = x.from_scx;
-  to_scx = x.to_scx;
-  taken_nodes = λ n own less. taken_node_more r h n (x.taken_nodes n own less);
-  taken_scx = λ s own less. taken_scx_more r h s (x.taken_scx s own less);
-  unmentioned = λ n p. f n p (let a = p.from in let b = x.from_node in omega arith) (x.unmentioned n p);
-  untaken_nodes = λ n p. t n p (x.untaken_nodes n p);
-  untaken = λ s p. g s p (x.untaken s p);
-}
-
--- one of another pass
-pub share_by_others : (lay : Layout) (h : History) (r : Row) (c : ℕ) (left : Left) (node scx : ℕ) → Lawful lay (r ⊳ h) → c < lay.passes → r.pass.0 ≢ c → IsShare lay h c left node scx → IsShare lay (r ⊳ h) c left node scx
-share_by_others lay h r c left node scx l is_pass other x = share_kept lay h r c left node scx
-    (λ n p i u. unmentioned_by_others lay h r c n l is_pass other (left_own_node lay h c left node scx n x p) u)
-    (λ n p u. untaken_node_by_others lay h r c n l other (left_own_node lay h c left node scx n x p) u)
-    (λ s p u. untaken_by_others lay h r c s l other (left_own_scx lay h c left node scx s x p) u)
-    x
-
--- one that is no fill
-pub share_by_step : (lay : Layout) (h : History) (r : Row) (c : ℕ) (left : Left) (node scx : ℕ) → Lawful lay (r ⊳ h) → r.kind ≢ Fill → IsShare lay h c left node scx → IsShare lay (r ⊳ h) c left node scx
-share_by_step lay h r c left node scx l no_fill x = share_kept lay h r c left node scx (λ n p i u. unmentioned_by_step lay h r n l no_fill u) (λ n p u. untaken_node_by_step h r n no_fill u) (λ s p u. untaken_by_step h r s no_fill u) x
-
--- Its SCX-record
-
--- that which is in progress is the one in hand
-pub own_in_hand : (lay : Layout) (h : History) (c s u : ℕ) → Lawful lay h → AreOver lay c u h → IsOwnScx lay c s → IsInProgress h s → s ≡ u
-own_in_hand lay h c s u l over own p = go (ℕ_discrete s u)
-  where
-    go : Dec (s ≡ u) → s ≡ u
-    go (yes e) = e
-    go (no d) = absurd (over s own d (named_scx_taken lay h s l (λ e. let a = own.from in omega arith) p.named) p.unfinished)
-
--- the next one of the share is not taken
-pub next_free : (lay : Layout) (h : History) (c : ℕ) (left : Left) (node scx : ℕ) → IsShare lay h c left node scx → IsOwnScx lay c left.next_scx → ¬ IsTakenScx h left.next_scx
-next_free lay h c left node scx share own = share.untaken left.next_scx record { from = omega arith; below = let a = own.below in let b = share.to_scx in omega arith }
-
--- one that is not taken is not named
-pub free_unnamed : (lay : Layout) (h : History) (c s : ℕ) → Lawful lay h → IsOwnScx lay c s → ¬ IsTakenScx h s → ¬ IsInProgress h s × ¬ HasWon h s
-free_unnamed lay h c s l own free = (
-  (λ p. free (named_scx_taken lay h s l real p.named)),
-  (λ w. free (named_scx_taken lay h s l real (won_named s (facts lay h l) w))),
-)
-  where
-    real : s ≢ 0
-    real e = let a = own.from in omega arith
+use Rattle.prims.proofs.Alone.{over_more}
+use Rattle.prims.specs.Shares.{IsShare, IsUsable}
+use Rattle.prims.proofs.Shares.{own_in_hand, wins_in_progress}
+use Rattle.prims.proofs.Usable.{usable_more}
+use Rattle.forest.specs.Shares.{entries_of}
 
 -- Entries
-
--- an SCX-record whose update wins is in progress
-wins_in_progress : (lay : Layout) (h : History) (r : Row) (s : ℕ) → Lawful lay (r ⊳ h) → UpdateWins h r s → IsInProgress h s
-wins_in_progress lay h r s l x =
-    let f : Facts lay h = facts_before lay h r l in
-    record { unfinished = update_in_progress f x; named = (member h s 0, (update_flagged f x).frozen 0 (update_flagged f x).some) }
 
 -- the entry is of the pass, or it is not
 entry_mine : (c : ℕ) (e : Entry) (es : List Entry) → e.owner ≡ c → entries_of c (e ∷ es) ≡ e ∷ entries_of c es

@@ -1,21 +1,15 @@
 -- What a call of `llx` says.
-use Rattle.std.proofs.Common.{◌≡◌, ◌≤◌, ℕ, true, inl, None, refl, sym, ◌∙◌, ap, subst, arith}
+use Rattle.std.proofs.Common.{◌≡◌, ◌≤◌, ℕ, true, None, refl, sym, ◌∙◌, subst}
 use Rattle.atomic_table.specs.declared.shared.Seat.{Seat}
-use Rattle.arena.specs.declared.limits.Mode.TheVariants.{Records}
-use Rattle.arena.specs.declared.layout.Layout.{Layout}
 use Rattle.arena.specs.declared.number.NodeNo.{NodeNo}
-use Rattle.arena.specs.Layout.{opening_nodes}
-use Rattle.arena.specs.Share.{Left}
 use Rattle.arena.specs.History.{History}
 use Rattle.arena.specs.Log.{is_final}
-use Rattle.arena.specs.Machines.{IsRun}
 use Rattle.prims.specs.Cells.{allows_all}
-use Rattle.prims.specs.Idle.{same_moment}
-use Rattle.prims.specs.LlxKnown.{IsOpened, IsSnapshot, llx_ready, llx_waits, llx_answers}
-use Rattle.prims.proofs.Alone.{snapshot_moment}
+use Rattle.prims.specs.LlxKnown.{IsSnapshot, llx_ready, llx_waits, llx_answers}
 use Rattle.prims.proofs.FillsNot.{llx_fills_not}
-use Rattle.prims.proofs.LlxAnswers.{ready_at_start, finalized_at_start}
-use Rattle.prims.specs.declared.snap.Snap.{Snap}
+use Rattle.prims.proofs.LlxAnswers.{ready_at_start, cell_opened, finalized_at_start}
+use Rattle.prims.proofs.Shares.{all_idle}
+use Rattle.prims.proofs.Usable.{usable_now}
 use Rattle.prims.specs.declared.llx.Llx.{Llx}
 use Rattle.prims.specs.declared.llx.Llx.TheVariants.{Snapshot, Finalized, Fail}
 use Rattle.prims.specs.declared.llx.LlxRun.{LlxRun}
@@ -23,15 +17,10 @@ use Rattle.prims.specs.declared.llx.LlxAt.TheVariants.{Start}
 use Rattle.forest.specs.declared.view.View.{View}
 use Rattle.forest.specs.declared.pass.Pass.TheInside.{Inside}
 use Rattle.forest.specs.Courses.{Course, IsCalled, known_of}
-use Rattle.forest.specs.Shares.{IsAtRest, IsUsable}
 use Rattle.forest.specs.Passes.{LlxSays, IsFinalizedAnswer, run_of, seen_of}
 use Rattle.forest.specs.Held.{sight, IsPass}
-use Rattle.forest.proofs.Calls.{is_idle, course_keeps}
+use Rattle.forest.proofs.Calls.{course_keeps}
 use Rattle.forest.proofs.Passes.{HasCalled, call_of, seated, called}
-
--- a cell may be looked at
-opened : (lay : Layout) (h : History) (n : ℕ) → lay.mode ≡ Records → n ≤ 8 → IsOpened lay h n
-opened lay h n cells small = let nine : opening_nodes lay.mode ≡ 9 = ap opening_nodes cells in record { in_field = inl (omega arith); inside = omega arith }
 
 -- a run of a cell that has not begun may begin
 pub llx_begins : (p : Inside) (x : IsPass p) (m : LlxRun) → m.at ≡ Start → m.node.0 ≤ 8 → IsCalled allows_all p.seat.me.0.passes (call_of p x 0) (λ h. ((call_of p x 0).start ≡ h) × llx_ready allows_all m (call_of p x 0) h None)
@@ -39,7 +28,7 @@ llx_begins p x m start small = record {
   known = known_of p.seat.me.0.passes;
   is = x.seat;
   sound = x.sound;
-  so = (refl, ready_at_start allows_all m (call_of p x 0) _ refl start (opened p.layout _ m.node.0 x.cells small) (is_idle p.layout p.number.0 _ p.share x.sound x.rest));
+  so = (refl, ready_at_start allows_all m (call_of p x 0) _ refl start (cell_opened p.layout _ m.node.0 x.cells small) (all_idle p.layout _ p.number.0 p.share _ _ x.sound.lawful x.rest.share x.rest.over));
 }
 
 -- what its answer says
@@ -51,19 +40,11 @@ llx_called p x s first m node a is y =
     let z = called p x s 0 (llx_waits allows_all) (λ old now. now.node ≡ old.node) first m (λ h. llx_answers m (call_of p x 0) h a) (λ k h t w. llx_fills_not allows_all k (call_of p x 0) h t w) y in
     record { seat = z.seat; answers = (m, course_keeps (λ (k : LlxRun). k.node ≡ node) is (λ old now e q. e ∙ q) m _ y.so.1, z.answers); goes = z.goes }
 
--- a snapshot that was just taken may be used
-usable_now : (lay : Layout) (c : ℕ) (h : History) (left : Left) (n : ℕ) (snap : Snap) → IsRun allows_all lay h → IsAtRest lay c h left → IsSnapshot lay h n snap → IsUsable lay c h snap h
-usable_now lay c h left n snap run rest x = record {
-  linked = x.linked;
-  found = snapshot_moment lay h n snap x;
-  alone = λ k e after s own p y. is_idle lay c h left run rest s own (rw (same_moment h k e after) at p);
-}
-
 module _ (p : Inside) (x : IsPass p) (s : Seat ℕ View) (node : NodeNo) where
   pub llx_says : (a : Llx) → HasCalled p s (Answered p x node a) → LlxSays (sight p) (sight (seated p s)) node.0 a
   llx_says (Snapshot snap) y =
       let z : IsSnapshot p.layout (run_of (sight (seated p s))) node.0 snap = subst (λ (k : NodeNo). IsSnapshot p.layout (run_of (sight (seated p s))) k.0 snap) y.answers.1 y.answers.2.0 in
-      (z, (run_of (sight (seated p s)), usable_now p.layout p.number.0 _ p.share node.0 snap y.goes.sound (record { share = y.goes.share; over = y.goes.over }) z))
+      (z, (run_of (sight (seated p s)), usable_now p.layout p.number.0 _ node.0 snap (all_idle p.layout _ p.number.0 p.share _ _ y.goes.sound.lawful y.goes.share y.goes.over) z))
   llx_says (Finalized n u) y = rw y.answers.1 at y.answers.2
   llx_says (Fail n u) y =
       let z = rw y.answers.1 at y.answers.2 in

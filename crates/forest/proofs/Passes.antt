@@ -6,11 +6,9 @@ use Rattle.arena.specs.declared.step.Step.{Step}
 use Rattle.arena.specs.declared.step.Kind.TheVariants.{Fill}
 use Rattle.arena.specs.Share.{whole_share}
 use Rattle.arena.specs.History.{History, Start}
-use Rattle.arena.specs.Fills.{IsTakenNode, IsTakenScx}
 use Rattle.arena.specs.Lawful.{Lawful}
 use Rattle.arena.specs.Machines.{Call, IsRun}
 use Rattle.arena.specs.Shape.{Shaped}
-use Rattle.histories.proofs.Unmentioned.{unmentioned_start}
 use Rattle.prims.specs.Cells.{allows_all}
 use Rattle.prims.specs.declared.snap.Snap.{Snap}
 use Rattle.forest.specs.declared.view.Knower.{Knower}
@@ -21,26 +19,13 @@ use Rattle.forest.specs.Courses.{Course, IsCalled, known_of, rows_of, steps_of}
 use Rattle.forest.specs.Shares.{IsAtRest}
 use Rattle.forest.specs.Passes.{IsLater, CanUse, done_of, steps_of as steps_in}
 use Rattle.forest.specs.Held.{sight, IsPass}
-use Rattle.forest.proofs.Frames.{Goes, free_unnamed, next_free}
+use Rattle.prims.proofs.Shares.{whole_untouched, none_taken, next_unwon}
+use Rattle.forest.proofs.Frames.{Goes}
 use Rattle.forest.proofs.Calls.{quiet_goes}
 
 -- a pass with its whole share is at rest at the start
 pub begins_at_rest : (lay : Layout) (c : ℕ) → IsAtRest lay c (Start lay.mode) (whole_share lay c)
-unfolding IsTakenNode IsTakenScx
-begins_at_rest lay c = record {
-  share = record {
-    from_node = omega arith;
-    to_node = refl;
-    from_scx = omega arith;
-    to_scx = refl;
-    taken_nodes = λ n own less. absurd (let a = own.from in omega arith);
-    taken_scx = λ s own less. absurd (let a = own.from in omega arith);
-    unmentioned = λ n p. unmentioned_start lay.mode n (let a = p.from in omega arith);
-    untaken_nodes = λ n p t. t;
-    untaken = λ s p t. t;
-  };
-  over = λ s own d t. absurd t;
-}
+begins_at_rest lay c = record { share = whole_untouched lay c; over = λ s own d t. absurd (none_taken lay.mode s t) }
 
 pub begins_sound : (lay : Layout) → IsRun allows_all lay (Start lay.mode)
 unfolding Lawful Shaped
@@ -75,7 +60,7 @@ called_pass p x s A bare y = record { seat = y.seat; bare = bare ∙ x.bare; cel
 
 -- it has no entry more
 pub called_done : (p : Inside) (s : Seat ℕ View) (A : History → Type 0) → HasCalled p s A → done_of (sight (seated p s)) ≡ done_of (sight p)
-called_done p s A y = y.goes.unwon (λ w. (free_unnamed p.layout _ p.number.0 p.share.next_scx y.goes.sound.lawful w.0 (next_free p.layout _ p.number.0 p.share _ _ y.goes.share w.0)).1 w.1)
+called_done p s A y = y.goes.unwon (λ w. next_unwon p.layout _ p.number.0 p.share _ _ y.goes.sound.lawful y.goes.share w.0 w.1)
 
 -- and knows a longer run
 pub called_later : (p : Inside) (s : Seat ℕ View) (A : History → Type 0) → s.table_id ≡ p.seat.table_id → HasCalled p s A → IsLater (sight p) (sight (seated p s))

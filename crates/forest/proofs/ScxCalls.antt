@@ -1,15 +1,12 @@
 -- What a call of `scx` says.
-use Rattle.std.proofs.Common.{◌≡◌, ◌<◌, ◌≤◌, ◌+◌, ◌-◌, ◌⊎◌, ◌↔◌, ℕ, zero, suc, inl, inr, ⊎_elim, Bool, true, false, cond, eqb, eqb-true, eq-eqb, List, [], ◌∷◌, length, None, refl, sym, ◌∙◌, ap, subst, arith}
-use Rattle.std.proofs.lemmas.Bool.{or_left}
+use Rattle.std.proofs.Common.{◌≡◌, ◌<◌, ◌≤◌, ◌+◌, ◌-◌, ◌⊎◌, ◌↔◌, ℕ, inl, inr, Bool, true, false, cond, eqb, List, [], ◌∷◌, length, None, refl, sym, ◌∙◌, ap, subst, arith}
 use Rattle.atomic_table.specs.declared.shared.Seat.{Seat}
 use Rattle.arena.specs.declared.layout.Layout.{Layout}
 use Rattle.arena.specs.declared.number.NodeNo.{NodeNo}
 use Rattle.arena.specs.declared.word.Side.{Side}
 use Rattle.arena.specs.Layout.{first_scx}
 use Rattle.arena.specs.Words.{info}
-use Rattle.arena.specs.Share.{Left}
 use Rattle.arena.specs.History.{History, Start, ◌⊳◌, EndsWith}
-use Rattle.arena.specs.ScxRecords.{removes}
 use Rattle.arena.specs.Fills.{IsOwnNode, IsOwnScx, IsTakenScx}
 use Rattle.arena.specs.Lawful.{Lawful, HasWon}
 use Rattle.arena.specs.Log.{Entry, log, has, IsEntered, AreOnce}
@@ -17,7 +14,6 @@ use Rattle.arena.proofs.Values.{held_at, held_since}
 use Rattle.histories.proofs.Changes.{lawful_tail}
 use Rattle.histories.proofs.Entries.{IsIn, newest, older, once}
 use Rattle.histories.proofs.Fields.{Logs, same as log_same, wins as log_wins, logs}
-use Rattle.histories.proofs.Helds.{or_split, or_right}
 use Rattle.histories.proofs.Helping.{aborted_never_won}
 use Rattle.prims.specs.Cells.{allows_all}
 use Rattle.prims.specs.Moments.{IsMoment, IsAsFound}
@@ -27,7 +23,9 @@ use Rattle.prims.specs.VlxKnown.{snap_at}
 use Rattle.arena.specs.Blame.{WasInTheWay}
 use Rattle.prims.specs.ScxKnown.{IsEntryAt, IsDone as IsScxDone, IsLost, removed_nodes, nodes_of, update_entry}
 use Rattle.prims.specs.PutKnown.{put_ready, put_waits, put_answers}
-use Rattle.prims.proofs.PutBegins.{put_begin}
+use Rattle.prims.proofs.Planned.{removed_those}
+use Rattle.prims.proofs.Shares.{left_own_node, left_own_scx, taken_share, next_free, next_unwon, all_over}
+use Rattle.prims.proofs.Usable.{put_ready_first}
 use Rattle.prims.specs.declared.snap.Snap.{Snap}
 use Rattle.prims.specs.declared.scx.Scx.{Scx}
 use Rattle.prims.specs.declared.scx.Scx.TheVariants.{Done, Lost}
@@ -41,14 +39,14 @@ use Rattle.forest.specs.declared.view.View.{View}
 use Rattle.forest.specs.declared.pass.Pass.TheInside.{Inside}
 use Rattle.forest.specs.Kept.{past, knower}
 use Rattle.forest.specs.Courses.{Course, IsCalled, known_of, steps_of}
-use Rattle.forest.specs.Shares.{IsShare, entries_of}
+use Rattle.forest.specs.Shares.{entries_of}
 use Rattle.forest.specs.Puts.{IsPutOf}
 use Rattle.forest.specs.Passes.{IsLater, CanUse, Each, ScxSays, IsFull, IsFullOf, IsAllTaken, IsUsedUp, taken, done_of, steps_of as steps_in}
 use Rattle.forest.specs.Held.{sight, IsPass}
-use Rattle.forest.proofs.Frames.{Goes, left_own_node, left_own_scx, next_free, free_unnamed}
-use Rattle.forest.proofs.Calls.{HasHand, all_over, course_keeps, put_goes, put_rests}
+use Rattle.forest.proofs.Frames.{Goes}
+use Rattle.forest.proofs.Calls.{HasHand, course_keeps, put_goes, put_rests}
 use Rattle.forest.proofs.Passes.{call_of, steps_are}
-use Rattle.forest.proofs.VlxCalls.{each_at, is_clear}
+use Rattle.forest.proofs.VlxCalls.{each_at}
 
 -- Entries
 
@@ -96,50 +94,6 @@ in_entries c e (x ∷ es) rest q = go (eqb x.owner c) q (in_entries c e es rest)
     go true p more = subst (λ y. IsIn y (x ∷ es)) (first x e _ _ p) (newest es)
     go false p more = older x es (more p)
 
--- Which nodes an update finalizes
-
--- a snapshot whose node the plan finalizes, where the first of the snapshots has this place in the plan
-record IsRemovedAt (p : ℕ) (snaps : List Snap) (from n : ℕ) : Type 0 where
-  at : ℕ
-  within : at < length snaps
-  is : (snap_at snaps at).node.0 ≡ n
-  place : ℕ
-  is_place : place ≡ from + at
-  removed : removes p place ≡ true
-
-removed_there : (p : ℕ) (snaps : List Snap) (from n : ℕ) → has (removed_nodes p snaps from) n ≡ true → IsRemovedAt p snaps from n
-removed_there p [] from n e = cc
-removed_there p (snap ∷ snaps) from n e = go (removes p from) refl e (removed_there p snaps (suc from) n)
-  where
-    later : IsRemovedAt p snaps (suc from) n → IsRemovedAt p (snap ∷ snaps) from n
-    later x = record { at = suc x.at; within = let i = x.within in omega arith; is = x.is; place = x.place; is_place = let i = x.is_place in omega arith; removed = x.removed }
-
-    go : (b : Bool) → removes p from ≡ b → has (cond b (snap.node.0 ∷ removed_nodes p snaps (suc from)) (removed_nodes p snaps (suc from))) n ≡ true → (has (removed_nodes p snaps (suc from)) n ≡ true → IsRemovedAt p snaps (suc from) n) → IsRemovedAt p (snap ∷ snaps) from n
-    go false r q f = later (f q)
-    go true r q f = ⊎_elim (λ z. record { at = 0; within = omega arith; is = eqb-true snap.node.0 n z; place = from; is_place = omega arith; removed = r }) (λ z. later (f z)) (or_split (eqb snap.node.0 n) (has (removed_nodes p snaps (suc from)) n) q)
-
-removed_found : (p : ℕ) (snaps : List Snap) (from n at place : ℕ) → at < length snaps → (snap_at snaps at).node.0 ≡ n → place ≡ from + at → removes p place ≡ true → has (removed_nodes p snaps from) n ≡ true
-removed_found p [] from n at place i e d r = absurd (omega arith)
-removed_found p (snap ∷ snaps) from n zero place i e d r =
-    let here : removes p from ≡ true = subst (λ (k : ℕ). removes p k ≡ true) (omega (arith, d)) r in
-    rw here (or_left (eqb snap.node.0 n) (has (removed_nodes p snaps (suc from)) n) (eq-eqb snap.node.0 n e))
-removed_found p (snap ∷ snaps) from n (suc at) place i e d r = go (removes p from) (removed_found p snaps (suc from) n at place (omega arith) e (omega (arith, d)) r)
-  where
-    go : (b : Bool) → has (removed_nodes p snaps (suc from)) n ≡ true → has (cond b (snap.node.0 ∷ removed_nodes p snaps (suc from)) (removed_nodes p snaps (suc from))) n ≡ true
-    go false x = x
-    go true x = or_right (eqb snap.node.0 n) (has (removed_nodes p snaps (suc from)) n) x
-
--- those of its nodes that are to be finalized
-removed_those : (p : ℕ) (snaps : List Snap) (finalize : List NodeNo) → ((j : ℕ) → j < length snaps → (removes p j ≡ true) ↔ HasNode finalize (snap_at snaps j).node.0) → (n : ℕ) → (has (removed_nodes p snaps 0) n ≡ true) ↔ (IsAmong snaps n × HasNode finalize n)
-removed_those p snaps finalize f n = (
-  (λ e.
-      let y = removed_there p snaps 0 n e in (
-        record { at = y.at; within = y.within; is = y.is },
-        subst (λ (k : ℕ). HasNode finalize k) y.is ((f y.at y.within).0 (subst (λ (k : ℕ). removes p k ≡ true) (let d = y.is_place in omega arith) y.removed)),
-      )),
-  (λ y. removed_found p snaps 0 n y.0.at y.0.at y.0.within y.0.is (omega arith) ((f y.0.at y.0.within).1 (rw y.0.is y.1))),
-)
-
 -- A share that is used up
 
 pub used_up : (p : Inside) (x : IsPass p) (f : Full) → IsFull p.share f → IsUsedUp (sight p) f
@@ -169,20 +123,6 @@ put_same old now snaps finalize field v node scx number s x = record {
 put_hand : (m : PutRun) (snaps : List Snap) (finalize : List NodeNo) (field : ℕ × Side) (v node scx number : ℕ) → IsPutOf m snaps finalize field v node scx number → HasHand m node scx snaps
 put_hand m snaps finalize field v node scx number x = record { fresh = x.fresh; record_is = x.record_is; snaps_are = x.snaps_are }
 
--- what is left once they are taken
-taken_share : (lay : Layout) (h : History) (c : ℕ) (left : Left) → 0 < left.nodes → 0 < left.scx → IsShare lay h c left left.next_node left.next_scx → IsShare lay h c (taken left) left.next_node left.next_scx
-taken_share lay h c left some_node some_scx x = record {
-  from_node = let a = x.from_node in omega arith;
-  to_node = let a = x.to_node in omega arith;
-  from_scx = let a = x.from_scx in omega arith;
-  to_scx = let a = x.to_scx in omega arith;
-  taken_nodes = x.taken_nodes;
-  taken_scx = x.taken_scx;
-  unmentioned = λ n p. x.unmentioned n record { from = let a = p.from in omega arith; below = let a = p.below in omega arith };
-  untaken_nodes = λ n p. x.untaken_nodes n record { from = let a = p.from in omega arith; below = let a = p.below in omega arith };
-  untaken = λ s p. x.untaken s record { from = let a = p.from in omega arith; below = let a = p.below in omega arith };
-}
-
 module _ (p : Inside) (x : IsPass p) (some_node : 0 < p.share.nodes) (some_scx : 0 < p.share.scx) (snaps : List Snap) (finalize : List NodeNo) (field : ℕ × Side) (v number : ℕ) where
   -- a run of this call
   abbrev pub Is : PutRun → Type 0
@@ -207,16 +147,10 @@ module _ (p : Inside) (x : IsPass p) (some_node : 0 < p.share.nodes) (some_scx :
     sound = x.sound;
     so = (
       refl,
-      record {
-        stands = at;
-        hand = put_begin p.layout p.number.0 start m.scx x.sound.lawful of.over
-            (λ i w. rw of.snaps_are (let q : i < length snaps = rw of.snaps_are at w in (each_at (CanUse (sight p)) snaps usable i q).1.linked))
-            scx_at (rw of.record_is own_scx) (rw of.record_is x.rest.share.taken_scx) (rw of.record_is free) (rw of.fresh own_node) (rw of.fresh x.rest.share.taken_nodes)
-            (rw of.fresh (x.rest.share.unmentioned p.share.next_node record { from = omega arith; below = omega arith }));
-        begins = refl;
-        clear = rw of.snaps_are (is_clear p.layout p.number.0 start snaps (each_at (CanUse (sight p)) snaps usable) (all_over p.layout p.number.0 start p.share x.rest));
-        free = rw of.record_is free;
-      },
+      put_ready_first p.layout p.number.0 number x.is_pass start m x.sound.lawful of.over (rw of.snaps_are (each_at (CanUse (sight p)) snaps usable)) at
+          scx_at (rw of.record_is own_scx) (rw of.record_is x.rest.share.taken_scx) (rw of.record_is free) (rw of.fresh own_node) (rw of.fresh x.rest.share.taken_nodes)
+          (rw of.fresh (x.rest.share.unmentioned p.share.next_node record { from = omega arith; below = omega arith }))
+          (all_over p.layout start p.number.0 p.share _ _ x.rest.share x.rest.over),
     );
   }
 
@@ -243,7 +177,7 @@ module _ (p : Inside) (x : IsPass p) (some_node : 0 < p.share.nodes) (some_scx :
             (put_goes Same (call_of p x number) first (taken p.share) p.share.next_node p.share.next_scx snaps (put_hand first snaps finalize field v p.share.next_node p.share.next_scx number of)
             (λ old now e q. record { fresh = rw e.1 q.fresh; record_is = rw e.0 q.record_is; snaps_are = rw e.1 q.snaps_are })
             (omega arith) (omega arith) x.sound (taken_share p.layout start p.number.0 p.share some_node some_scx x.rest.share) x.rest.over
-            (λ w. (free_unnamed p.layout start p.number.0 p.share.next_scx x.sound.lawful own_scx free).1 w.1) m _ y.so.1).1;
+            (λ w. next_unwon p.layout start p.number.0 p.share _ _ x.sound.lawful x.rest.share own_scx w.1) m _ y.so.1).1;
       }
 
   -- the pass with what is left of its share, and its seat as it is now
@@ -274,7 +208,7 @@ module _ (p : Inside) (x : IsPass p) (some_node : 0 < p.share.nodes) (some_scx :
       of_record = y.is_of.record_is;
       of_call = rw y.is_of.called first;
       members = ap nodes_of y.is_of.snaps_are;
-      removed = λ n. subst (λ l. (has (removed_nodes m.scx.update.plan.0 l 0) n ≡ true) ↔ (IsAmong snaps n × HasNode finalize n)) (sym y.is_of.snaps_are) (removed_those m.scx.update.plan.0 snaps finalize y.is_of.removed n);
+      removed = λ n. subst (λ l. (has (removed_nodes m.scx.update.plan.0 l 0) n ≡ true) ↔ (IsAmong snaps n × HasNode finalize n)) (sym y.is_of.snaps_are) (removed_those m.scx.update.plan.0 snaps _ y.is_of.removed n);
       node = ap (λ l. (snap_at l (field_place m.scx.update)).node.0) y.is_of.snaps_are ∙ y.is_of.node_is;
       side = y.is_of.side;
       fresh = y.is_of.fresh;

@@ -1,16 +1,16 @@
 -- What a call of `vlx` says.
 use Rattle.std.proofs.Common.{◌≡◌, ◌≢◌, ◌<◌, ℕ, zero, suc, inl, inr, List, [], ◌∷◌, length, None, refl, sym, ◌∙◌, ap, subst, arith}
 use Rattle.atomic_table.specs.declared.shared.Seat.{Seat}
-use Rattle.arena.specs.declared.layout.Layout.{Layout}
 use Rattle.arena.specs.Words.{info}
 use Rattle.arena.specs.History.{History}
 use Rattle.arena.proofs.Values.{held_at}
 use Rattle.arena.specs.Blame.{WasInTheWay}
 use Rattle.prims.specs.Cells.{allows_all}
-use Rattle.prims.specs.Moments.{AreOver}
 use Rattle.prims.specs.Snaps.{AreDistinct, IsAmong}
-use Rattle.prims.specs.VlxKnown.{snap_at, IsClear, vlx_ready, vlx_waits, vlx_answers}
+use Rattle.prims.specs.VlxKnown.{snap_at, vlx_ready, vlx_waits, vlx_answers}
 use Rattle.prims.proofs.FillsNot.{vlx_fills_not}
+use Rattle.prims.proofs.Shares.{all_over}
+use Rattle.prims.proofs.Usable.{vlx_ready_first}
 use Rattle.prims.specs.declared.snap.Snap.{Snap}
 use Rattle.prims.specs.declared.vlx.Vlx.{Vlx}
 use Rattle.prims.specs.declared.vlx.Vlx.TheVariants.{Same, Changed}
@@ -18,10 +18,9 @@ use Rattle.prims.specs.declared.vlx.VlxRun.{VlxRun}
 use Rattle.forest.specs.declared.view.View.{View}
 use Rattle.forest.specs.declared.pass.Pass.TheInside.{Inside}
 use Rattle.forest.specs.Courses.{Course, IsCalled, known_of}
-use Rattle.forest.specs.Shares.{IsUsable}
 use Rattle.forest.specs.Passes.{CanUse, Each, AreApart, HasNodeOf, VlxSays, run_of}
 use Rattle.forest.specs.Held.{sight, IsPass}
-use Rattle.forest.proofs.Calls.{all_over, course_keeps}
+use Rattle.forest.proofs.Calls.{course_keeps}
 use Rattle.forest.proofs.Passes.{HasCalled, call_of, seated, called}
 
 -- Lists of snapshots
@@ -43,13 +42,6 @@ among_at [] n x = absurd x
 among_at (snap ∷ snaps) n (inl e) = record { at = 0; within = omega arith; is = e }
 among_at (snap ∷ snaps) n (inr x) = let y = among_at snaps n x in record { at = suc y.at; within = let i = y.within in omega arith; is = y.is }
 
--- where all that the pass has taken is finished, a call over usable snapshots may begin
-pub is_clear : (lay : Layout) (c : ℕ) (h : History) (snaps : List Snap) → ((i : ℕ) → i < length snaps → (moment : History) × IsUsable lay c h (snap_at snaps i) moment) → AreOver lay c 0 h → IsClear lay c h snaps
-is_clear lay c h snaps usable over = record {
-  over = over;
-  alone = λ i p. let x = usable i p in record { moment = x.0; found = x.1.found; idle = x.1.alone };
-}
-
 -- Calls
 
 pub vlx_begins : (p : Inside) (x : IsPass p) (m : VlxRun) (snaps : List Snap) → m.asked ≡ 0 → m.snaps.items ≡ snaps → 0 < length snaps → Each (CanUse (sight p)) snaps → IsCalled allows_all p.seat.me.0.passes (call_of p x 0) (λ h. ((call_of p x 0).start ≡ h) × vlx_ready m (call_of p x 0) h None)
@@ -59,13 +51,7 @@ vlx_begins p x m snaps start is some usable = record {
   sound = x.sound;
   so = (
     refl,
-    record {
-      asked = start;
-      some = rw is some;
-      linked = λ i w. rw is (let q : i < length snaps = rw is at w in (each_at (CanUse (sight p)) snaps usable i q).1.linked);
-      begins = refl;
-      clear = rw is (is_clear p.layout p.number.0 _ snaps (each_at (CanUse (sight p)) snaps usable) (all_over p.layout p.number.0 _ p.share x.rest));
-    },
+    vlx_ready_first p.layout p.number.0 0 x.is_pass _ m start (rw is some) (rw is (each_at (CanUse (sight p)) snaps usable)) (all_over p.layout _ p.number.0 p.share _ _ x.rest.share x.rest.over),
   );
 }
 

@@ -24,6 +24,7 @@ use Rattle.prims.specs.declared.llx.Llx.{Llx}
 use Rattle.prims.specs.declared.llx.Llx.TheVariants.{Snapshot, Finalized, Fail}
 use Rattle.prims.specs.Moments.{IsMoment, IsAsFound}
 use Rattle.prims.specs.ScxKnown.{nodes_of}
+use Rattle.prims.specs.Shares.{IsUsable}
 use Rattle.prims.specs.Snaps.{IsAmong, HasNode}
 use Rattle.prims.specs.VlxKnown.{snap_at}
 use Rattle.prims.specs.declared.scx.Scx.{Scx}
@@ -35,7 +36,7 @@ use Rattle.forest.specs.declared.fault.Resource.{Resource}
 use Rattle.forest.specs.declared.fault.Resource.TheVariants.{Nodes, Scx as ScxRecords}
 use Rattle.forest.specs.Kept.{past}
 use Rattle.forest.specs.Courses.{rows_of}
-use Rattle.forest.specs.Shares.{IsUsable, entries_of}
+use Rattle.forest.specs.Shares.{entries_of}
 
 -- a pass: its table and layout, its number, what is left of its share, and the run up to its own last step, newest row first
 pub record Sight : Type 0 where

@@ -1,39 +1,16 @@
--- What a pass has: what is left of its share, snapshots that it may use, and its entries in the log.
-use Rattle.std.specs.Prelude.{◌≡◌, ℕ, ◌+◌, ◌<◌, ◌≤◌, cond, eqb, List, [], ◌∷◌}
+-- A pass between two calls, and its entries in the log.
+use Rattle.std.specs.Prelude.{ℕ, cond, eqb, List, [], ◌∷◌}
 use Rattle.arena.specs.declared.layout.Layout.{Layout}
-use Rattle.arena.specs.Layout.{first_node, first_scx}
-use Rattle.arena.specs.Share.{Left, HasNode, HasScx}
-use Rattle.arena.specs.History.{History, EndsWith}
-use Rattle.arena.specs.Blame.{IsMember, IsInProgress}
-use Rattle.arena.specs.Fills.{IsOwnNode, IsOwnScx, IsTakenNode, IsTakenScx}
+use Rattle.arena.specs.Share.{Left}
+use Rattle.arena.specs.History.{History}
 use Rattle.arena.specs.Log.{Entry}
-use Rattle.histories.proofs.Unmentioned.{IsUnmentioned}
-use Rattle.prims.specs.Linked.{IsLinked}
-use Rattle.prims.specs.Moments.{IsMoment, AreOver}
-use Rattle.prims.specs.declared.snap.Snap.{Snap}
-
--- what is left of the share of pass c is untouched; what comes before this node and this SCX-record is taken
-pub record IsShare (lay : Layout) (h : History) (c : ℕ) (left : Left) (node scx : ℕ) : Type 0 where
-  pub from_node : first_node lay c ≤ left.next_node
-  pub to_node : left.next_node + left.nodes ≡ first_node lay c + lay.nodes
-  pub from_scx : first_scx lay c ≤ left.next_scx
-  pub to_scx : left.next_scx + left.scx ≡ first_scx lay c + lay.scx
-  pub taken_nodes : (n : ℕ) → IsOwnNode lay c n → n < node → IsTakenNode h n
-  pub taken_scx : (s : ℕ) → IsOwnScx lay c s → s < scx → IsTakenScx h s
-  pub unmentioned : (n : ℕ) → HasNode left n → IsUnmentioned h n
-  pub untaken_nodes : (n : ℕ) → HasNode left n → ¬ IsTakenNode h n
-  pub untaken : (s : ℕ) → HasScx left s → ¬ IsTakenScx h s
+use Rattle.prims.specs.Moments.{AreOver}
+use Rattle.prims.specs.Shares.{IsShare}
 
 -- between two calls of pass c: what it has taken is what comes before what is left, and each SCX-record that it has taken is finished
 pub record IsAtRest (lay : Layout) (c : ℕ) (h : History) (left : Left) : Type 0 where
   pub share : IsShare lay h c left left.next_node left.next_scx
   pub over : AreOver lay c left.next_scx h
-
--- a snapshot of this moment that the pass c may use: what it says holds as long as its node's info is what it found, and since its moment no SCX-record of the pass has covered its node while in progress
-pub record IsUsable (lay : Layout) (c : ℕ) (h : History) (snap : Snap) (moment : History) : Type 0 where
-  pub linked : IsLinked lay h snap
-  pub found : IsMoment lay h snap moment
-  pub alone : (k : History) → EndsWith h k → EndsWith k moment → (s : ℕ) → IsOwnScx lay c s → IsInProgress k s → ¬ IsMember k s snap.node.0
 
 -- the entries of a pass among these
 abbrev pub entries_of : ℕ → List Entry → List Entry

@@ -1,7 +1,8 @@
 use Rattle.std.proofs.Common.{rules, ◌≡◌, ◌∙◌, slice_get, sym, ap}
 use Rattle.forest.specs.Kept.{rest_of, first_of}
 use Rattle.forest.specs.Passes.{Sight, beginner}
-use Rattle.forest.proofs.Openings.{first_left, rest_left, get_more}
+use Rattle.prims.proofs.Lists.{get_more}
+use Rattle.forest.proofs.Openings.{first_left, rest_left}
 use Rattle.forest.proofs.forest.pass_all.Goals as goal
 
 pub new-requires-clause-seat : goal.new-requires-clause-seat
