@@ -26,6 +26,7 @@ use Rattle.prims.specs.PutKnown.{put_ready, put_waits, put_answers}
 use Rattle.prims.proofs.Planned.{removed_those}
 use Rattle.prims.proofs.Shares.{left_own_node, left_own_scx, taken_share, next_free, next_unwon, all_over}
 use Rattle.prims.proofs.Usable.{put_ready_first}
+use Rattle.prims.specs.Shares.{taken}
 use Rattle.prims.specs.declared.snap.Snap.{Snap}
 use Rattle.prims.specs.declared.scx.Scx.{Scx}
 use Rattle.prims.specs.declared.scx.Scx.TheVariants.{Done, Lost}
@@ -41,7 +42,7 @@ use Rattle.forest.specs.Kept.{past, knower}
 use Rattle.forest.specs.Courses.{Course, IsCalled, known_of, steps_of}
 use Rattle.forest.specs.Shares.{entries_of}
 use Rattle.forest.specs.Puts.{IsPutOf}
-use Rattle.forest.specs.Passes.{IsLater, CanUse, Each, ScxSays, IsFull, IsFullOf, IsAllTaken, IsUsedUp, taken, done_of, steps_of as steps_in}
+use Rattle.forest.specs.Passes.{IsLater, CanUse, Each, ScxSays, IsFull, IsFullOf, IsAllTaken, IsUsedUp, done_of, steps_of as steps_in}
 use Rattle.forest.specs.Held.{sight, IsPass}
 use Rattle.forest.proofs.Frames.{Goes}
 use Rattle.forest.proofs.Calls.{HasHand, course_keeps, put_goes, put_rests}

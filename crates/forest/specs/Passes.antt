@@ -1,5 +1,5 @@
 -- What contracts see of a pass, and what its calls say.
-use Rattle.std.specs.Prelude.{◌≡◌, ◌≢◌, ◌+◌, ◌-◌, ◌<◌, ◌⊎◌, ◌↔◌, ℕ, false, true, List, [], ◌∷◌, length, slice_get, Some, map}
+use Rattle.std.specs.Prelude.{◌≡◌, ◌≢◌, ◌+◌, ◌<◌, ◌⊎◌, ◌↔◌, ℕ, false, true, List, [], ◌∷◌, length, slice_get, Some, map}
 use Rattle.std.specs.List.{Contains}
 use Rattle.atomic_table.specs.Seated.{TableId}
 use Rattle.arena.specs.declared.layout.Layout.{Layout}
@@ -137,10 +137,6 @@ VlxSays old new snaps Same = AreAsFound old new snaps (length snaps)
 VlxSays old new snaps (Changed node s) = (c : WasChanged new snaps node.0 s.0) × AreAsFound old new snaps c.index
 
 -- What `scx` says
-
--- a node and an SCX-record were taken
-abbrev pub taken : Left → Left
-taken left = record { next_node = left.next_node + 1; nodes = left.nodes - 1; next_scx = left.next_scx + 1; scx = left.scx - 1 }
 
 -- nothing is left of this, which is tested after the nodes
 abbrev pub IsFullOf : Left → Resource → ℕ → Type 0

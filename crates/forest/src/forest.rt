@@ -6,9 +6,10 @@ ghost use Rattle.arena.specs.declared.limits.Mode.TheVariants.{Records};
 ghost use Rattle.arena.specs.Log.{is_final};
 ghost use Rattle.prims.specs.declared.snap.Snap.{Snap};
 ghost use Rattle.forest.specs.Kept.{IsTableOf, beginners};
+ghost use Rattle.prims.specs.Shares.{taken};
 ghost use Rattle.prims.specs.Snaps.{IsAmong};
 ghost use Rattle.forest.specs.Puts.{IsPutOf, IsUnbegun};
-ghost use Rattle.forest.specs.Passes.{IsOf, AreNew, IsLater, CanUse, Each, AreApart, HasNodeOf, LlxSays, VlxSays, ScxSays, IsFinalizedAnswer, IsFull, IsUsedUp, taken, run_of, seen_of, done_of, steps_of};
+ghost use Rattle.forest.specs.Passes.{IsOf, AreNew, IsLater, CanUse, Each, AreApart, HasNodeOf, LlxSays, VlxSays, ScxSays, IsFinalizedAnswer, IsFull, IsUsedUp, run_of, seen_of, done_of, steps_of};
 
 use crate::deal::{deal, meet};
 use crate::fault::{Full, NewFault, Resource};
