@@ -5,24 +5,22 @@ use Rattle.arena.specs.declared.layout.Layout.{Layout}
 use Rattle.arena.specs.declared.number.NodeNo.{NodeNo}
 use Rattle.arena.specs.declared.word.Side.{Side}
 use Rattle.arena.specs.Layout.{first_scx}
-use Rattle.arena.specs.Words.{info}
 use Rattle.arena.specs.History.{History, Start, ◌⊳◌, EndsWith}
 use Rattle.arena.specs.Fills.{IsOwnNode, IsOwnScx, IsTakenScx}
 use Rattle.arena.specs.Lawful.{Lawful, HasWon}
 use Rattle.arena.specs.Log.{Entry, log, has, IsEntered, AreOnce}
-use Rattle.arena.proofs.Values.{held_at, held_since}
 use Rattle.histories.proofs.Changes.{lawful_tail}
 use Rattle.histories.proofs.Entries.{IsIn, newest, older, once}
 use Rattle.histories.proofs.Fields.{Logs, same as log_same, wins as log_wins, logs}
 use Rattle.histories.proofs.Helping.{aborted_never_won}
 use Rattle.prims.specs.Cells.{allows_all}
-use Rattle.prims.specs.Moments.{IsMoment, IsAsFound}
+use Rattle.prims.specs.Moments.{IsAsFound}
 use Rattle.prims.specs.Snaps.{IsAmong, HasNode}
 use Rattle.prims.specs.Updates.{field_place}
 use Rattle.prims.specs.VlxKnown.{snap_at}
-use Rattle.arena.specs.Blame.{WasInTheWay}
-use Rattle.prims.specs.ScxKnown.{IsEntryAt, IsDone as IsScxDone, IsLost, removed_nodes, nodes_of, update_entry}
+use Rattle.prims.specs.ScxKnown.{IsEntryAt, IsDone as IsScxDone, removed_nodes, nodes_of, update_entry}
 use Rattle.prims.specs.PutKnown.{put_ready, put_waits, put_answers}
+use Rattle.prims.proofs.Changed.{put_changed}
 use Rattle.prims.proofs.Planned.{removed_those}
 use Rattle.prims.proofs.Shares.{left_own_node, left_own_scx, taken_share, next_free, next_unwon, all_over}
 use Rattle.prims.proofs.Usable.{put_ready_first}
@@ -47,7 +45,7 @@ use Rattle.forest.specs.Held.{sight, IsPass}
 use Rattle.forest.proofs.Frames.{Goes}
 use Rattle.forest.proofs.Calls.{HasHand, course_keeps, put_goes, put_rests}
 use Rattle.forest.proofs.Passes.{call_of, steps_are}
-use Rattle.forest.proofs.VlxCalls.{each_at}
+use Rattle.forest.proofs.VlxCalls.{each_at, was_changed}
 
 -- Entries
 
@@ -240,22 +238,12 @@ module _ (p : Inside) (x : IsPass p) (some_node : 0 < p.share.nodes) (some_scx :
       same = once_same z.0 e (log p.layout h) (once p.layout h y.goes.sound.lawful) (z.1 ∙ sym y.is_of.record_is) (in_entries p.number.0 z.0 (log p.layout h) (done_of (sight p)) z.2)
           (in_since p.layout h (d.entry.row ⊳ d.entry.before) e y.goes.sound.lawful at.within (subst (λ l. IsIn e l) (sym at.logged) (newest _)))
   put_says s (Lost n u) first y = (
-    record {
-      index = l.index;
-      within = subst (λ k. l.index < length k) y.is_of.snaps_are l.within;
-      is = subst (λ k. (snap_at k l.index).node.0 ≡ n.0) y.is_of.snaps_are l.node;
-      held = held_since h l.blocked.moment (info n.0) u.0 l.blocked.since (held_at l.blocked.moment (info n.0) u.0 l.blocked.held);
-      in_the_way = λ moment q. subst (λ (k : ℕ). WasInTheWay h moment k u.0) l.node (l.blamed.in_the_way moment (subst (λ k. IsMoment p.layout h (snap_at k l.index) moment) (sym y.is_of.snaps_are) q));
-      others = l.blamed.others;
-    },
-    y.goes.unwon (λ w. aborted_never_won p.layout h y.run.scx.scx.0 y.goes.sound.lawful l.aborted (rw y.is_of.record_is w.1)),
+    was_changed (sight (spent s)) x.is_pass number start _ snaps y.is_of.snaps_are n.0 u.0 (put_changed y.run (call_of p x number) h n u y.answers),
+    y.goes.unwon (λ w. aborted_never_won p.layout h y.run.scx.scx.0 y.goes.sound.lawful y.answers.1.aborted (rw y.is_of.record_is w.1)),
   )
     where
       h : History
       h = past p.layout.mode (known_of s.me.0.passes)
-
-      l : IsLost (call_of p x number) h y.run.scx n.0 u.0
-      l = y.answers.1
 
   -- snapshots of other nodes may still be used
   pub put_usable : (s : Seat ℕ View) (a : Scx) → HasPut s a → (snap : Snap) → ¬ IsAmong snaps snap.node.0 → CanUse (sight p) snap → CanUse (sight (spent s)) snap

@@ -1,14 +1,13 @@
 -- What a call of `vlx` says.
 use Rattle.std.proofs.Common.{◌≡◌, ◌≢◌, ◌<◌, ℕ, zero, suc, inl, inr, List, [], ◌∷◌, length, None, refl, sym, ◌∙◌, ap, subst, arith}
 use Rattle.atomic_table.specs.declared.shared.Seat.{Seat}
-use Rattle.arena.specs.Words.{info}
 use Rattle.arena.specs.History.{History}
-use Rattle.arena.proofs.Values.{held_at}
 use Rattle.arena.specs.Blame.{WasInTheWay}
 use Rattle.prims.specs.Cells.{allows_all}
 use Rattle.prims.specs.Snaps.{AreDistinct, IsAmong}
 use Rattle.prims.specs.VlxKnown.{snap_at, vlx_ready, vlx_waits, vlx_answers}
 use Rattle.prims.proofs.FillsNot.{vlx_fills_not}
+use Rattle.prims.proofs.Changed.{IsChanged, vlx_changed}
 use Rattle.prims.proofs.Shares.{all_over}
 use Rattle.prims.proofs.Usable.{vlx_ready_first}
 use Rattle.prims.specs.declared.snap.Snap.{Snap}
@@ -18,7 +17,7 @@ use Rattle.prims.specs.declared.vlx.VlxRun.{VlxRun}
 use Rattle.forest.specs.declared.view.View.{View}
 use Rattle.forest.specs.declared.pass.Pass.TheInside.{Inside}
 use Rattle.forest.specs.Courses.{Course, IsCalled, known_of}
-use Rattle.forest.specs.Passes.{CanUse, Each, AreApart, HasNodeOf, VlxSays, run_of}
+use Rattle.forest.specs.Passes.{Sight, CanUse, Each, AreApart, HasNodeOf, WasChanged, VlxSays, run_of}
 use Rattle.forest.specs.Held.{sight, IsPass}
 use Rattle.forest.proofs.Calls.{course_keeps}
 use Rattle.forest.proofs.Passes.{HasCalled, call_of, seated, called}
@@ -41,6 +40,17 @@ pub among_at : (snaps : List Snap) (n : ℕ) → HasNodeOf snaps n → IsAmong s
 among_at [] n x = absurd x
 among_at (snap ∷ snaps) n (inl e) = record { at = 0; within = omega arith; is = e }
 among_at (snap ∷ snaps) n (inr x) = let y = among_at snaps n x in record { at = suc y.at; within = let i = y.within in omega arith; is = y.is }
+
+-- a node that was changed since its snapshot
+abbrev pub was_changed : (new : Sight) (is_pass : new.number < new.layout.passes) (number : ℕ) (start : History) (items snaps : List Snap) → items ≡ snaps → (n s : ℕ) → IsChanged (record { layout = new.layout; pass = new.number; is_pass = is_pass; number = number; start = start }) (run_of new) items n s → WasChanged new snaps n s
+was_changed new is_pass number start items snaps is n s z = record {
+  index = z.index;
+  within = rw is at z.within;
+  is = rw is at z.is;
+  held = z.named;
+  in_the_way = λ moment q. subst (λ (k : ℕ). WasInTheWay (run_of new) moment k s) z.is (z.blamed.in_the_way moment (rw is q));
+  others = z.blamed.others;
+}
 
 -- Calls
 
@@ -66,16 +76,4 @@ vlx_called p x s first m snaps a is y =
 module _ (p : Inside) (x : IsPass p) (s : Seat ℕ View) (snaps : List Snap) where
   pub vlx_says : (a : Vlx) → HasCalled p s (Looked p x snaps a) → VlxSays (sight p) (sight (seated p s)) snaps a
   vlx_says Same y = rw y.answers.1 at y.answers.2.found
-  vlx_says (Changed n u) y =
-      let z = y.answers.2 in
-      let is : (y.answers.0).snaps.items ≡ snaps = y.answers.1 in (
-        record {
-          index = z.index;
-          within = rw is at z.within;
-          is = rw is at z.node;
-          held = held_at (run_of (sight (seated p s))) (info n.0) u.0 z.info;
-          in_the_way = λ moment q. subst (λ (k : ℕ). WasInTheWay (run_of (sight (seated p s))) moment k u.0) z.node (z.blamed.in_the_way moment (rw is q));
-          others = z.blamed.others;
-        },
-        rw is at z.before,
-      )
+  vlx_says (Changed n u) y = (was_changed (sight (seated p s)) x.is_pass 0 _ _ snaps y.answers.1 n.0 u.0 (vlx_changed y.answers.0 (call_of p x 0) _ n u y.answers.2), rw y.answers.1 at y.answers.2.before)

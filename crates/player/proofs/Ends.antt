@@ -49,7 +49,8 @@ use Rattle.player.specs.RunKnown.{answer_of}
 use Rattle.prims.specs.ScxKnown.{nodes_of}
 use Rattle.player.specs.View.{View, IsSound, IsLlxOf, IsScxOf, IsVlxOf, no_hand, in_hand, HaveMoments, Stands, Rests, Answered, Ends, machine_call, linked_by}
 use Rattle.prims.proofs.PutEntries.{put_finished}
-use Rattle.player.proofs.Puts.{IsChanged, put_committed, put_aborted, put_changed, vlx_changed}
+use Rattle.prims.proofs.Changed.{IsChanged, put_changed, vlx_changed}
+use Rattle.player.proofs.Puts.{put_committed, put_aborted}
 use Rattle.player.proofs.Snapshots.{has_snap, snap_there, snap_found, kept_after, unkept_after}
 use Rattle.player.proofs.Over.{taken_one}
 

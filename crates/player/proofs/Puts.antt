@@ -1,36 +1,16 @@
--- What the answers of an SCX with a fresh cell, and of a VLX, say of a history.
-use Rattle.std.proofs.Common.{◌≡◌, ℕ, ◌<◌, length, List}
+-- What the answers of an SCX with a fresh cell say of its SCX-record.
+use Rattle.std.proofs.Common.{◌≡◌}
 use Rattle.arena.specs.declared.number.NodeNo.{NodeNo}
 use Rattle.arena.specs.declared.number.ScxNo.{ScxNo}
-use Rattle.arena.specs.Words.{info, state}
-use Rattle.arena.specs.History.{History, value, HasHeld}
-use Rattle.arena.proofs.Values.{held_at, held_since}
+use Rattle.arena.specs.Words.{state}
+use Rattle.arena.specs.History.{History, value}
 use Rattle.arena.specs.Machines.{Call}
-use Rattle.prims.specs.Moments.{IsBlamed}
-use Rattle.prims.specs.VlxKnown.{snap_at, vlx_answers}
 use Rattle.prims.specs.PutKnown.{put_answers}
-use Rattle.prims.specs.declared.snap.Snap.{Snap}
 use Rattle.prims.specs.declared.put.PutRun.{PutRun}
-use Rattle.prims.specs.declared.vlx.VlxRun.{VlxRun}
 use Rattle.prims.specs.declared.scx.Scx.TheVariants.{Done, Lost}
-use Rattle.prims.specs.declared.vlx.Vlx.TheVariants.{Changed}
 
 pub put_committed : (m : PutRun) (call : Call) (h : History) → put_answers m call h Done → value h (state m.scx.scx.0) ≡ 1
 put_committed m call h x = x.1.done.committed
 
 pub put_aborted : (m : PutRun) (call : Call) (h : History) (node : NodeNo) (scx : ScxNo) → put_answers m call h (Lost node scx) → value h (state m.scx.scx.0) ≡ 2
 put_aborted m call h node scx x = x.1.aborted
-
--- the node is that of one of the snapshots, and since each moment of it the SCX-record of another pass was in the way, which its info has named
-pub record IsChanged (call : Call) (h : History) (snaps : List Snap) (node scx : ℕ) : Type 0 where
-  pub index : ℕ
-  pub within : index < length snaps
-  pub is : (snap_at snaps index).node.0 ≡ node
-  pub blamed : IsBlamed call h (snap_at snaps index) scx
-  pub named : HasHeld h (info node) scx
-
-pub put_changed : (m : PutRun) (call : Call) (h : History) (node : NodeNo) (scx : ScxNo) → put_answers m call h (Lost node scx) → IsChanged call h m.scx.update.snaps.items node.0 scx.0
-put_changed m call h node scx x = record { index = x.1.index; within = x.1.within; is = x.1.node; blamed = x.1.blamed; named = let b = x.1.blocked in held_since h b.moment (info node.0) scx.0 b.since (held_at b.moment (info node.0) scx.0 b.held) }
-
-pub vlx_changed : (m : VlxRun) (call : Call) (h : History) (node : NodeNo) (scx : ScxNo) → vlx_answers m call h (Changed node scx) → IsChanged call h m.snaps.items node.0 scx.0
-vlx_changed m call h node scx x = record { index = x.index; within = x.within; is = x.node; blamed = x.blamed; named = held_at h (info node.0) scx.0 x.info }

@@ -10,6 +10,7 @@ pub mod PutEntries
 pub mod Alone
 pub mod Shares
 pub mod Usable
+pub mod Changed
 pub mod Snapshots
 pub mod Planned
 pub mod Lists
