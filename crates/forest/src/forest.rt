@@ -133,13 +133,14 @@ impl Forest<Cells> {
         let records = take(&mut pass.share)?;
         let number = records.1.0 - u64::from(self.layout.first_scx(pass.number));
         let mut run = put(snaps, finalize, field, value, records, number);
-        Ok(complete(
+        let answer = complete(
             &self.table.shared,
             &self.layout,
             &mut pass.seat,
             number,
             &mut run,
-        ))
+        );
+        Ok(answer)
     }
 
     /// Whether all passes are there, of passes of this forest.
