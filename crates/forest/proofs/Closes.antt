@@ -11,22 +11,27 @@ use Rattle.arena.specs.Layout.{place, IsWord}
 use Rattle.arena.specs.Words.{child}
 use Rattle.arena.specs.History.{History, value, EndsWith}
 use Rattle.arena.specs.Log.{log}
+use Rattle.arena.specs.Share.{HasScx}
+use Rattle.arena.specs.Lawful.{Lawful}
 use Rattle.arena.specs.Machines.{IsRun}
 use Rattle.arena.proofs.Values.{ends_trans}
 use Rattle.histories.proofs.Fields.{fields_are}
+use Rattle.histories.proofs.Moments.{lawful_since}
 use Rattle.prims.specs.Cells.{allows_all}
 use Rattle.forest.specs.declared.view.Knower.{Knower}
 use Rattle.forest.specs.declared.view.View.{View}
 use Rattle.forest.specs.declared.pass.Pass.TheInside.{Inside}
 use Rattle.forest.specs.Kept.{past, knower, look, looked, Made, Kept, Owns, Behind, HasLooked}
 use Rattle.forest.specs.Courses.{known_of}
+use Rattle.prims.specs.Shares.{IsShare}
 use Rattle.forest.specs.Shares.{entries_of}
-use Rattle.forest.specs.Passes.{Sight, AreOf, AreBegun, IsClosed, run_of, done_of}
+use Rattle.forest.specs.Passes.{Sight, AreOf, Each, AreBegun, HasBlamed, HaveLeftShares, IsClosed, run_of, done_of}
 use Rattle.forest.specs.Gathered.{IsFrom, IsOneOf, AreIn}
 use Rattle.forest.specs.Held.{sight, IsPass}
 use Rattle.forest.proofs.Advances.{keeps_all, same_knower}
 use Rattle.prims.proofs.Shares.{next_unwon}
 use Rattle.forest.proofs.Calls.{IsQuiet, quiet_start, quiet_other}
+use Rattle.forest.proofs.Blames.{each_by, blames_left}
 use Rattle.forest.proofs.Passes.{HasCalled, seated, called_pass, called_done}
 use Rattle.forest.proofs.Meets.{look_called}
 
@@ -50,6 +55,7 @@ looked_from p x s n bare m = (
     rest = z.rest;
     ends = y.goes.since;
     done = called_done p s _ y;
+    blamed = x.blamed;
   },
 )
   where
@@ -101,34 +107,50 @@ owned_behind lay run owner id k [] o i = absurd i
 owned_behind lay run owner id k (p ∷ ps) o (inl e) = subst (λ (q : Knower). (q.layout ≡ lay) × Behind run q) (sym e) (o.1, o.2)
 owned_behind lay run owner id k (p ∷ ps) o (inr i) = owned_behind lay run owner id k ps o.4 i
 
+-- what is so of a pass at the end, whose run goes on from what the pass knew
+record IsAtEnd (lay : Layout) (run : History) (d : Sight) : Type 0 where
+  ends : EndsWith run (run_of d)
+  done : entries_of d.number (log d.layout run) ≡ done_of d
+  share : IsShare lay run d.number d.share d.share.next_node d.share.next_scx
+  blamed : HasBlamed d
+
 -- behind what it knows are rows of others alone
-one_begun : (d : Sight) (k : Knower) (lay : Layout) (run : List Row) → d.layout ≡ lay → IsFrom d k → IsRun allows_all lay (past lay.mode run) → Behind run k → EndsWith (past lay.mode run) (run_of d) × (entries_of d.number (log d.layout (past lay.mode run)) ≡ done_of d)
-one_begun d k lay run same f sound b =
+one_ended : (d : Sight) (k : Knower) (lay : Layout) (run : List Row) → d.layout ≡ lay → IsFrom d k → IsRun allows_all lay (past lay.mode run) → Behind run k → IsAtEnd lay (past lay.mode run) d
+one_ended d k lay run same f sound b =
     let h0 : History = past d.layout.mode k.known in
     let sound' : IsRun allows_all d.layout (past d.layout.mode (b.0 ++ k.known)) = subst (λ l. IsRun allows_all d.layout (past d.layout.mode l)) b.1 (subst (λ (l : Layout). IsRun allows_all l (past l.mode run)) (sym same) sound) in
     let mine = subst (λ (q : Knower). q.number.0 ≡ d.number) (sym f.is) refl in
     let goes = keeps_all allows_all d.layout d.number (IsQuiet d.layout d.number h0 d.share) (λ h r run other z. quiet_other d.layout d.number h0 d.share f.is_pass h r run other z) b.0 k.known (rw mine at b.2) sound' (quiet_start d.layout d.number h0 d.share f.sound f.rest) in
-    let ends : EndsWith (past d.layout.mode run) (run_of d) = subst (λ l. EndsWith (past d.layout.mode l) (run_of d)) (sym b.1) (ends_trans _ _ _ goes.since f.ends) in
     let none = goes.unwon (λ w. next_unwon d.layout _ d.number d.share _ _ goes.sound.lawful goes.share w.0 w.1) in
-    let done : entries_of d.number (log d.layout (past d.layout.mode run)) ≡ done_of d = subst (λ l. entries_of d.number (log d.layout (past d.layout.mode l)) ≡ done_of d) (sym b.1) (none ∙ f.done) in
-    subst (λ (l : Layout). EndsWith (past l.mode run) (run_of d) × (entries_of d.number (log d.layout (past l.mode run)) ≡ done_of d)) same (ends, done)
+    subst (λ (l : Layout). IsAtEnd l (past l.mode run) d) same (subst (λ l. IsAtEnd d.layout (past d.layout.mode l) d) (sym b.1) record { ends = ends_trans _ _ _ goes.since f.ends; done = none ∙ f.done; share = goes.share; blamed = f.blamed })
 
-all_begun : (id : _) (lay : Layout) (run : List Row) (owner : ℕ → ℕ) (seat : ℕ) (ks : List Knower) → IsRun allows_all lay (past lay.mode run) → Owns lay run owner seat ks → (ds : List Sight) → AreOf id lay ds → AreIn ds ks → AreBegun ds (past lay.mode run)
-all_begun id lay run owner seat ks sound o [] of a = tt
-all_begun id lay run owner seat ks sound o (d ∷ ds) of a =
+all_ended : (id : _) (lay : Layout) (run : List Row) (owner : ℕ → ℕ) (seat : ℕ) (ks : List Knower) → IsRun allows_all lay (past lay.mode run) → Owns lay run owner seat ks → (ds : List Sight) → AreOf id lay ds → AreIn ds ks → Each (IsAtEnd lay (past lay.mode run)) ds
+all_ended id lay run owner seat ks sound o [] of a = tt
+all_ended id lay run owner seat ks sound o (d ∷ ds) of a =
     let k = a.0.0 in
     let b = owned_behind lay run owner seat k ks o a.0.1 in
-    let z = one_begun d k lay run of.0.1 a.0.2 sound b.1 in
-    (z.0, z.1, all_begun id lay run owner seat ks sound o ds of.1 a.1)
+    (one_ended d k lay run of.0.1 a.0.2 sound b.1, all_ended id lay run owner seat ks sound o ds of.1 a.1)
+
+all_begun : (lay : Layout) (run : History) (ds : List Sight) → Each (IsAtEnd lay run) ds → AreBegun ds run
+all_begun lay run [] a = tt
+all_begun lay run (d ∷ ds) a = (a.0.ends, a.0.done, all_begun lay run ds a.1)
+
+-- what they have blamed is taken, and their shares are not
+all_left : (lay : Layout) (run : History) (ds : List Sight) → Lawful lay run → Each (IsAtEnd lay run) ds → HaveLeftShares ds
+all_left lay run ds l all = each_by (IsAtEnd lay run) (λ p. Each (λ q. Each (λ s. ¬ HasScx q.share s) p.blamed) ds) ds
+    (λ p a. each_by (IsAtEnd lay run) (λ q. Each (λ s. ¬ HasScx q.share s) p.blamed) ds
+    (λ q b. blames_left lay run p q q.number _ _ (lawful_since lay run (run_of p) l a.ends) a.ends b.share a.blamed) all) all
 
 pub closes : (id : _) (lay : Layout) (ds : List Sight) (seat : ℕ) (v : View) (words : List ℕ) (slots : List ℕ) → AreOf id lay ds → AreIn ds v.passes → Final (Seen (Kept allows_all lay) seat v) words slots → IsClosed lay ds (record { layout = lay; words = words })
 closes id lay ds seat v words slots of a f =
     let kept : Kept allows_all lay f.0 = f.1.0 in
     let holds : (w : Word) → IsWord lay w → slice_index words (place lay w) ≡ value (past lay.mode kept.run) w = λ w i. rw (← f.2) (kept.holds w i) in
+    let all : Each (IsAtEnd lay (past lay.mode kept.run)) ds = all_ended id lay kept.run kept.owner seat v.passes kept.sound (kept.passes seat v f.1.1) ds of a in
     record {
       run = past lay.mode kept.run;
       sound = kept.sound;
       holds = holds;
       fields = λ n side i. holds (child n side) i ∙ fields_are lay (past lay.mode kept.run) n side kept.sound.lawful;
-      begun = all_begun id lay kept.run kept.owner seat v.passes kept.sound (kept.passes seat v f.1.1) ds of a;
+      begun = all_begun lay (past lay.mode kept.run) ds all;
+      blamed = all_left lay (past lay.mode kept.run) ds kept.sound.lawful all;
     }

@@ -1,5 +1,5 @@
 -- What a call of `llx` says.
-use Rattle.std.proofs.Common.{◌≡◌, ◌≤◌, ℕ, true, None, refl, sym, ◌∙◌, subst}
+use Rattle.std.proofs.Common.{◌≡◌, ◌≤◌, ℕ, true, List, ◌∷◌, None, refl, sym, ◌∙◌, subst}
 use Rattle.atomic_table.specs.declared.shared.Seat.{Seat}
 use Rattle.arena.specs.declared.number.NodeNo.{NodeNo}
 use Rattle.arena.specs.History.{History}
@@ -17,10 +17,11 @@ use Rattle.prims.specs.declared.llx.LlxAt.TheVariants.{Start}
 use Rattle.forest.specs.declared.view.View.{View}
 use Rattle.forest.specs.declared.pass.Pass.TheInside.{Inside}
 use Rattle.forest.specs.Courses.{Course, IsCalled, known_of}
-use Rattle.forest.specs.Passes.{LlxSays, IsFinalizedAnswer, run_of, seen_of}
+use Rattle.forest.specs.Passes.{IsLater, LlxSays, IsFinalizedAnswer, blamed_by, run_of, seen_of}
 use Rattle.forest.specs.Held.{sight, IsPass}
 use Rattle.forest.proofs.Calls.{course_keeps}
-use Rattle.forest.proofs.Passes.{HasCalled, call_of, seated, called}
+use Rattle.forest.proofs.Blames.{blamed_more}
+use Rattle.forest.proofs.Passes.{HasCalled, called_pass, call_of, seated, called}
 
 -- a run of a cell that has not begun may begin
 pub llx_begins : (p : Inside) (x : IsPass p) (m : LlxRun) → m.at ≡ Start → m.node.0 ≤ 8 → IsCalled allows_all p.seat.me.0.passes (call_of p x 0) (λ h. ((call_of p x 0).start ≡ h) × llx_ready allows_all m (call_of p x 0) h None)
@@ -41,17 +42,43 @@ llx_called p x s first m node a is y =
     record { seat = z.seat; answers = (m, course_keeps (λ (k : LlxRun). k.node ≡ node) is (λ old now e q. e ∙ q) m _ y.so.1, z.answers); goes = z.goes }
 
 module _ (p : Inside) (x : IsPass p) (s : Seat ℕ View) (node : NodeNo) where
-  pub llx_says : (a : Llx) → HasCalled p s (Answered p x node a) → LlxSays (sight p) (sight (seated p s)) node.0 a
-  llx_says (Snapshot snap) y =
+  -- the pass with its seat and its blame list as they are now
+  abbrev pub heard : List ℕ → Inside
+  heard blamed = record { number = p.number; layout = p.layout; share = p.share; seat = s; blamed = blamed }
+
+  pub llx_says : (blamed : List ℕ) (a : Llx) → HasCalled p s (Answered p x node a) → LlxSays (sight p) (sight (heard blamed)) node.0 a
+  llx_says blamed (Snapshot snap) y =
       let z : IsSnapshot p.layout (run_of (sight (seated p s))) node.0 snap = subst (λ (k : NodeNo). IsSnapshot p.layout (run_of (sight (seated p s))) k.0 snap) y.answers.1 y.answers.2.0 in
       (z, (run_of (sight (seated p s)), usable_now p.layout p.number.0 _ node.0 snap (all_idle p.layout _ p.number.0 p.share _ _ y.goes.sound.lawful y.goes.share y.goes.over) z))
-  llx_says (Finalized n u) y = rw y.answers.1 at y.answers.2
-  llx_says (Fail n u) y =
+  llx_says blamed (Finalized n u) y = rw y.answers.1 at y.answers.2
+  llx_says blamed (Fail n u) y =
       let z = rw y.answers.1 at y.answers.2 in
       (z.0, record { held = z.1.held; others = z.1.others; in_the_way = z.1.in_the_way; over = z.1.over; not_final = z.1.not_final })
+
+  pub llx_later : (blamed : List ℕ) (a : Llx) → s.table_id ≡ p.seat.table_id → HasCalled p s (Answered p x node a) → IsLater (sight p) (sight (heard blamed))
+  llx_later blamed a table y = record { table = table; layout = refl; number = refl; run = y.goes.since }
 
   pub llx_finalized : (a : Llx) → HasCalled p s (Answered p x node a) → is_final (seen_of (sight p)) node.0 ≡ true → IsFinalizedAnswer a
   llx_finalized a y final =
       let m = y.answers.0 in
       let z = finalized_at_start m (call_of p x 0) _ a y.goes.sound.lawful y.goes.since (subst (λ (k : NodeNo). is_final (seen_of (sight p)) k.0 ≡ true) (sym y.answers.1) final) y.answers.2 in
       subst IsFinalizedAnswer (sym z.1) tt
+
+  -- it is a pass again
+  pub llx_pass : (a : Llx) (blamed : List ℕ) → blamed ≡ blamed_by a p.blamed → s.me.1 ≡ p.seat.me.1 → HasCalled p s (Answered p x node a) → IsPass (heard blamed)
+  llx_pass a blamed e bare y = subst (λ l. IsPass (heard l)) (sym e) (go a y)
+    where
+      go : (b : Llx) → HasCalled p s (Answered p x node b) → IsPass (heard (blamed_by b p.blamed))
+      go (Snapshot snap) z = called_pass p x s _ bare z
+      go (Finalized n u) z = called_pass p x s _ bare z
+      go (Fail n u) z =
+          let w = called_pass p x s _ bare z in
+          record {
+            seat = w.seat;
+            bare = w.bare;
+            cells = w.cells;
+            is_pass = w.is_pass;
+            sound = w.sound;
+            rest = w.rest;
+            blamed = blamed_more (sight p) (sight (heard (u.0 ∷ p.blamed))) node.0 u.0 refl refl refl w.sound.lawful z.goes.since (llx_says (u.0 ∷ p.blamed) (Fail n u) z).1 x.blamed;
+          }

@@ -5,18 +5,20 @@ use Rattle.arena.specs.declared.layout.Layout.{Layout}
 use Rattle.arena.specs.declared.limits.Mode.{Mode}
 use Rattle.arena.specs.declared.step.Row.{Row}
 use Rattle.arena.specs.History.{History, EndsWith}
+use Rattle.arena.specs.Lawful.{Lawful}
 use Rattle.arena.specs.Machines.{IsRun}
-use Rattle.arena.proofs.Values.{ends_self}
+use Rattle.arena.proofs.Values.{ends_self, ends_trans}
 use Rattle.prims.specs.Cells.{allows_all}
 use Rattle.forest.specs.declared.view.Knower.{Knower}
 use Rattle.forest.specs.declared.view.View.{View}
 use Rattle.forest.specs.declared.pass.Pass.TheInside.{Inside}
 use Rattle.forest.specs.Kept.{past, knower, row, look, Looked, HasLooked, Met, looked, Behind}
 use Rattle.forest.specs.Courses.{known_of, rows_of}
-use Rattle.forest.specs.Passes.{run_of, steps_of}
+use Rattle.forest.specs.Passes.{HaveLeftShares, run_of, steps_of}
 use Rattle.forest.specs.Held.{sight, IsPass}
 use Rattle.forest.proofs.Advances.{keeps_all, rows_by_others, same_knower}
 use Rattle.forest.proofs.Calls.{IsQuiet, quiet_start, quiet_other, quiet_step}
+use Rattle.forest.proofs.Blames.{blames_left}
 use Rattle.forest.proofs.Passes.{HasCalled, seated}
 
 -- Two looks
@@ -121,3 +123,19 @@ have_met p q x y s t m = record {
 
     goes_on : Behind m.late (looked the_other m.early)
     goes_on = subst (λ (k : Knower). Behind m.late (looked k m.early)) other m.goes_on
+
+-- what either has blamed has left both shares
+pub met_left : (p q : Inside) (x : IsPass p) (y : IsPass q) (s t : Seat ℕ View) → p.layout ≡ q.layout → HaveMet p q s t → HaveLeftShares (sight (seated p s) ∷ sight (seated q t) ∷ [])
+met_left p q x y s t same m = (
+  (
+    blames_left p.layout _ (sight p) (sight (seated p s)) p.number.0 _ _ x.sound.lawful m.one.goes.since m.one.goes.share x.blamed,
+    (blames_left q.layout _ (sight p) (sight (seated q t)) q.number.0 _ _ (subst (λ (l : Layout). Lawful l (run_of (sight p))) same x.sound.lawful) (ends_trans _ _ _ m.other.answers m.knew) m.other.goes.share x.blamed, tt),
+  ),
+  (
+    (
+      blames_left p.layout _ (sight q) (sight (seated p s)) p.number.0 _ _ (subst (λ (l : Layout). Lawful l (run_of (sight q))) (sym same) y.sound.lawful) (ends_trans _ _ _ (ends_trans _ _ _ m.one.answers m.goes_on) m.other.goes.since) m.one.goes.share y.blamed,
+      (blames_left q.layout _ (sight q) (sight (seated q t)) q.number.0 _ _ y.sound.lawful m.other.goes.since m.other.goes.share y.blamed, tt),
+    ),
+    tt,
+  ),
+)

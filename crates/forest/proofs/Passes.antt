@@ -22,6 +22,7 @@ use Rattle.forest.specs.Held.{sight, IsPass}
 use Rattle.prims.proofs.Shares.{whole_untouched, none_taken, next_unwon}
 use Rattle.forest.proofs.Frames.{Goes}
 use Rattle.forest.proofs.Calls.{quiet_goes}
+use Rattle.forest.proofs.Blames.{blamed_later}
 
 -- a pass with its whole share is at rest at the start
 pub begins_at_rest : (lay : Layout) (c : ℕ) → IsAtRest lay c (Start lay.mode) (whole_share lay c)
@@ -37,7 +38,7 @@ call_of p x number = record { layout = p.layout; pass = p.number.0; is_pass = x.
 
 -- the pass with its seat as it is now
 abbrev pub seated : Inside → Seat ℕ View → Inside
-seated p s = record { number = p.number; layout = p.layout; share = p.share; seat = s }
+seated p s = record { number = p.number; layout = p.layout; share = p.share; seat = s; blamed = p.blamed }
 
 -- what the pass has after a call that takes nothing
 pub record HasCalled (p : Inside) (s : Seat ℕ View) (A : History → Type 0) : Type 0 where
@@ -56,7 +57,7 @@ called p x s number waits same first m A fills_not y =
 
 -- it is a pass again
 pub called_pass : (p : Inside) (x : IsPass p) (s : Seat ℕ View) (A : History → Type 0) → s.me.1 ≡ p.seat.me.1 → HasCalled p s A → IsPass (seated p s)
-called_pass p x s A bare y = record { seat = y.seat; bare = bare ∙ x.bare; cells = x.cells; is_pass = x.is_pass; sound = y.goes.sound; rest = record { share = y.goes.share; over = y.goes.over } }
+called_pass p x s A bare y = record { seat = y.seat; bare = bare ∙ x.bare; cells = x.cells; is_pass = x.is_pass; sound = y.goes.sound; rest = record { share = y.goes.share; over = y.goes.over }; blamed = blamed_later (sight p) (sight (seated p s)) refl refl refl y.goes.sound.lawful y.goes.since x.blamed }
 
 -- it has no entry more
 pub called_done : (p : Inside) (s : Seat ℕ View) (A : History → Type 0) → HasCalled p s A → done_of (sight (seated p s)) ≡ done_of (sight p)

@@ -45,6 +45,7 @@ use Rattle.forest.specs.Held.{sight, IsPass}
 use Rattle.forest.proofs.Frames.{Goes}
 use Rattle.forest.proofs.Calls.{HasHand, course_keeps, put_goes, put_rests}
 use Rattle.forest.proofs.Passes.{call_of, steps_are}
+use Rattle.forest.proofs.Blames.{blamed_later}
 use Rattle.forest.proofs.VlxCalls.{each_at, was_changed}
 
 -- Entries
@@ -181,7 +182,7 @@ module _ (p : Inside) (x : IsPass p) (some_node : 0 < p.share.nodes) (some_scx :
 
   -- the pass with what is left of its share, and its seat as it is now
   abbrev pub spent : Seat ℕ View → Inside
-  spent s = record { number = p.number; layout = p.layout; share = taken p.share; seat = s }
+  spent s = record { number = p.number; layout = p.layout; share = taken p.share; seat = s; blamed = p.blamed }
 
   pub put_pass : (s : Seat ℕ View) (a : Scx) → s.me.1 ≡ p.seat.me.1 → HasPut s a → IsPass (spent s)
   put_pass s a bare y = record {
@@ -191,6 +192,7 @@ module _ (p : Inside) (x : IsPass p) (some_node : 0 < p.share.nodes) (some_scx :
     is_pass = x.is_pass;
     sound = y.goes.sound;
     rest = put_rests (call_of p x number) y.run _ a (taken p.share) p.share.next_node p.share.next_scx snaps (put_hand y.run snaps finalize field v p.share.next_node p.share.next_scx number y.is_of) (omega arith) (omega arith) (λ e. let q = own_scx.from in omega arith) y.answers y.goes;
+    blamed = blamed_later (sight p) (sight (spent s)) refl refl refl y.goes.sound.lawful y.goes.since x.blamed;
   }
 
   pub put_says : (s : Seat ℕ View) (a : Scx) → first_scx p.layout p.number.0 + number ≡ p.share.next_scx → HasPut s a → ScxSays (sight p) (sight (spent s)) snaps finalize field v a

@@ -7,7 +7,7 @@ use Rattle.prims.specs.Cells.{allows_all}
 use Rattle.forest.specs.declared.view.Knower.{Knower}
 use Rattle.forest.specs.Kept.{past, knower}
 use Rattle.forest.specs.Shares.{IsAtRest, entries_of}
-use Rattle.forest.specs.Passes.{Sight, run_of, done_of}
+use Rattle.forest.specs.Passes.{Sight, HasBlamed, run_of, done_of}
 
 -- the pass, later on, with no entry more
 pub record IsFrom (p : Sight) (k : Knower) : Type 0 where
@@ -17,6 +17,7 @@ pub record IsFrom (p : Sight) (k : Knower) : Type 0 where
   pub rest : IsAtRest p.layout p.number (past p.layout.mode k.known) p.share
   pub ends : EndsWith (past p.layout.mode k.known) (run_of p)
   pub done : entries_of p.number (log p.layout (past p.layout.mode k.known)) ≡ done_of p
+  pub blamed : HasBlamed p
 
 abbrev pub IsOneOf : Knower → List Knower → Type 0
 IsOneOf k [] = ⊥

@@ -5,3 +5,4 @@ pub mod Passes
 pub mod Puts
 pub mod Held
 pub mod Gathered
+pub mod Blames

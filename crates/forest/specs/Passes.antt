@@ -4,7 +4,7 @@ use Rattle.std.specs.List.{Contains}
 use Rattle.atomic_table.specs.Seated.{TableId}
 use Rattle.arena.specs.declared.layout.Layout.{Layout}
 use Rattle.arena.specs.declared.step.Row.{Row}
-use Rattle.arena.specs.Share.{Left, whole_share}
+use Rattle.arena.specs.Share.{Left, whole_share, HasScx}
 use Rattle.arena.specs.declared.number.NodeNo.{NodeNo}
 use Rattle.arena.specs.declared.word.Side.{Side}
 use Rattle.arena.specs.declared.word.NodeWord.TheVariants.{Value}
@@ -38,13 +38,14 @@ use Rattle.forest.specs.Kept.{past}
 use Rattle.forest.specs.Courses.{rows_of}
 use Rattle.forest.specs.Shares.{entries_of}
 
--- a pass: its table and layout, its number, what is left of its share, and the run up to its own last step, newest row first
+-- a pass: its table and layout, its number, what is left of its share, the run up to its own last step, newest row first, and its blame list, the last blamed first
 pub record Sight : Type 0 where
   pub table : TableId
   pub layout : Layout
   pub number : ℕ
   pub share : Left
   pub known : List Row
+  pub blamed : List ℕ
 
 -- the run that it knows
 abbrev pub run_of : Sight → History
@@ -77,6 +78,11 @@ pub record IsLater (old new : Sight) : Type 0 where
 abbrev pub CanUse : Sight → Snap → Type 0
 CanUse p snap = (moment : History) × IsUsable p.layout p.number (run_of p) snap moment
 
+-- this is so of each
+abbrev pub Each : {A : Type 0} → (A → Type 0) → List A → Type 0
+Each P [] = Unit {0}
+Each P (x ∷ xs) = P x × Each P xs
+
 -- What `llx` says
 
 -- another pass's SCX-record, which the node's info has named, was in the way of the call, at whose begin the node was not final; it is finished now
@@ -93,6 +99,23 @@ LlxSays old new n (Snapshot snap) = IsSnapshot new.layout (run_of new) n snap ×
 LlxSays old new n (Finalized node s) = (node.0 ≡ n) × IsFinalBy new.layout (run_of new) n s.0
 LlxSays old new n (Fail node s) = (node.0 ≡ n) × HasFailed old new n s.0
 
+-- the blame list after this answer: `Fail` blames its SCX-record
+abbrev pub blamed_by : Llx → List ℕ → List ℕ
+blamed_by (Snapshot snap) blamed = blamed
+blamed_by (Finalized node s) blamed = blamed
+blamed_by (Fail node s) blamed = s.0 ∷ blamed
+
+-- none of these stands twice
+abbrev pub AreDifferent : List ℕ → Type 0
+AreDifferent [] = Unit {0}
+AreDifferent (s ∷ ss) = Each (λ other. s ≢ other) ss × AreDifferent ss
+
+-- the blame list has SCX-records of other passes' shares, each finished in the run that the pass knows, and none of them twice
+pub record HasBlamed (p : Sight) : Type 0 where
+  pub others : Each (λ s. IsOthersScx p.layout p.number s) p.blamed
+  pub over : Each (λ s. value (run_of p) (state s) ≢ 0) p.blamed
+  pub different : AreDifferent p.blamed
+
 -- the answer is that the node is finalized
 abbrev pub IsFinalizedAnswer : Llx → Type 0
 IsFinalizedAnswer (Snapshot snap) = ⊥
@@ -100,11 +123,6 @@ IsFinalizedAnswer (Finalized node s) = Unit {0}
 IsFinalizedAnswer (Fail node s) = ⊥
 
 -- Snapshots that a call is given
-
--- this is so of each
-abbrev pub Each : (Snap → Type 0) → List Snap → Type 0
-Each P [] = Unit {0}
-Each P (snap ∷ snaps) = P snap × Each P snaps
 
 -- they are of different nodes
 abbrev pub AreApart : List Snap → Type 0
@@ -178,11 +196,17 @@ abbrev pub ScxSays : Sight → Sight → List Snap → List NodeNo → ℕ × Si
 ScxSays old new snaps finalize field v Done = (e : Entry) × IsDone old new snaps finalize field v e
 ScxSays old new snaps finalize field v (Lost node s) = WasChanged new snaps node.0 s.0 × (done_of new ≡ done_of old)
 
+-- Passes that come together
+
+-- what these passes have blamed is in no share of theirs any more
+abbrev pub HaveLeftShares : List Sight → Type 0
+HaveLeftShares passes = Each (λ p. Each (λ q. Each (λ s. ¬ HasScx q.share s) p.blamed) passes) passes
+
 -- New passes
 
 -- a pass that has made no step, with its whole share
 abbrev pub beginner : TableId → Layout → ℕ → Sight
-beginner table lay c = record { table = table; layout = lay; number = c; share = whole_share lay c; known = [] }
+beginner table lay c = record { table = table; layout = lay; number = c; share = whole_share lay c; known = []; blamed = [] }
 
 -- so many passes there are, and each is such a one, in order
 pub record AreNew (table : TableId) (lay : Layout) (passes : List Sight) : Type 0 where
@@ -205,10 +229,11 @@ abbrev pub AreBegun : List Sight → History → Type 0
 AreBegun [] run = Unit {0}
 AreBegun (p ∷ ps) run = EndsWith run (run_of p) × (entries_of p.number (log p.layout run) ≡ done_of p) × AreBegun ps run
 
--- the words are those of one run of cells, in which the fields are what its log says, and which goes on from what these passes knew
+-- the words are those of one run of cells, in which the fields are what its log says, and which goes on from what these passes knew; what they have blamed has left their shares
 pub record IsClosed (lay : Layout) (passes : List Sight) (words : Contents) : Type 0 where
   pub run : History
   pub sound : IsRun allows_all lay run
   pub holds : (w : Word) → IsWord lay w → held words w ≡ value run w
   pub fields : (n : ℕ) (side : Side) → n < all_nodes lay → held words (child n side) ≡ fields lay run n side
   pub begun : AreBegun passes run
+  pub blamed : HaveLeftShares passes

@@ -114,6 +114,7 @@ fn seat_of(words: &Words<Cells>, layout: &Layout, pass: Pass) -> Seat<u8, View>
         layout: _,
         share: _,
         seat,
+        blamed: _,
     } = pass;
     let mut seat = seat;
     let step = Step {

@@ -1,5 +1,5 @@
 //! A forest: cells that threads share.
-ghost use Rattle.std.specs.Prelude.{◌≡◌, ◌<◌, ◌≤◌, ◌+◌, true, length, IfOk, IfErr, OnOk, Ok, Err, suc, [], ◌≢◌};
+ghost use Rattle.std.specs.Prelude.{◌≡◌, ◌<◌, ◌≤◌, ◌+◌, true, length, IfOk, IfErr, OnOk, Ok, Err, suc, [], ◌∷◌, ◌≢◌};
 ghost use Rattle.arena.specs.History.{EndsWith};
 ghost use Rattle.arena.specs.Limits.{IsAccepted, IsLayoutOf};
 ghost use Rattle.arena.specs.declared.limits.Mode.TheVariants.{Records};
@@ -9,7 +9,7 @@ ghost use Rattle.forest.specs.Kept.{IsTableOf, beginners};
 ghost use Rattle.prims.specs.Shares.{taken};
 ghost use Rattle.prims.specs.Snaps.{IsAmong};
 ghost use Rattle.forest.specs.Puts.{IsPutOf, IsUnbegun};
-ghost use Rattle.forest.specs.Passes.{IsOf, AreNew, IsLater, CanUse, Each, AreApart, HasNodeOf, LlxSays, VlxSays, ScxSays, IsFinalizedAnswer, IsFull, IsUsedUp, run_of, seen_of, done_of, steps_of};
+ghost use Rattle.forest.specs.Passes.{IsOf, AreNew, IsLater, CanUse, Each, AreApart, HasNodeOf, LlxSays, VlxSays, ScxSays, IsFinalizedAnswer, HasBlamed, HaveLeftShares, blamed_by, IsFull, IsUsedUp, run_of, seen_of, done_of, steps_of};
 
 use crate::deal::{deal, meet};
 use crate::fault::{Full, NewFault, Resource};
@@ -55,7 +55,7 @@ impl Forest<Cells> {
         }
     }
 
-    /// LLX of a cell.
+    /// LLX of a cell. The pass blames the SCX-record that `Fail` names.
     pub fn llx(&self, pass: &mut Pass, node: NodeNo) -> Llx
         requires pass { IsOf self.now.table.shared.table_id self.now.layout pass.old }
         requires cell { node.0 ≤ 8 }
@@ -64,18 +64,22 @@ impl Forest<Cells> {
         ensures share { pass.new.share ≡ pass.old.share }
         ensures says { LlxSays pass.old pass.new node.0 result }
         ensures finalized { is_final (seen_of pass.old) node.0 ≡ true → IsFinalizedAnswer result }
+        ensures blamed { pass.new.blamed ≡ blamed_by result pass.old.blamed }
+        ensures blames { HasBlamed pass.new }
         ensures done { done_of pass.new ≡ done_of pass.old }
         ensures usable { (snap : Snap) → CanUse pass.old snap → CanUse pass.new snap }
         ensures steps { steps_of pass.new ≤ steps_of pass.old + 64 }
     {
         let mut run = LlxRun::new(node);
-        complete(
+        let answer = complete(
             &self.table.shared,
             &self.layout,
             &mut pass.seat,
             0,
             &mut run,
-        )
+        );
+        pass.blamed.hear(&answer);
+        answer
     }
 
     /// VLX of 1 to 4 snapshots of the pass.
@@ -88,6 +92,7 @@ impl Forest<Cells> {
         ensures later { IsLater pass.old pass.new }
         ensures share { pass.new.share ≡ pass.old.share }
         ensures says { VlxSays pass.old pass.new snaps.now result }
+        ensures blamed { pass.new.blamed ≡ pass.old.blamed }
         ensures done { done_of pass.new ≡ done_of pass.old }
         ensures usable { (snap : Snap) → CanUse pass.old snap → CanUse pass.new snap }
         ensures steps { steps_of pass.new ≤ steps_of pass.old + length snaps.now }
@@ -121,6 +126,7 @@ impl Forest<Cells> {
         ensures later { OnOk result (IsLater pass.old pass.new) }
         ensures taken { OnOk result (pass.new.share ≡ taken pass.old.share) }
         ensures says { IfOk result (λ a. ScxSays pass.old pass.new snaps.now finalize.now (field.0.0, field.1) value a) }
+        ensures blamed { pass.new.blamed ≡ pass.old.blamed }
         ensures usable { OnOk result ((snap : Snap) → ¬ IsAmong snaps.now snap.node.0 → CanUse pass.old snap → CanUse pass.new snap) }
         ensures steps { OnOk result (steps_of pass.new ≤ steps_of pass.old + 40) }
         ensures full { IfErr result (λ f. IsUsedUp pass.old f × (pass.new ≡ pass.old)) }
@@ -128,13 +134,14 @@ impl Forest<Cells> {
         let records = take(&mut pass.share)?;
         let number = records.1.0 - u64::from(self.layout.first_scx(pass.number));
         let mut run = put(snaps, finalize, field, value, records, number);
-        Ok(complete(
+        let answer = complete(
             &self.table.shared,
             &self.layout,
             &mut pass.seat,
             number,
             &mut run,
-        ))
+        );
+        Ok(answer)
     }
 
     /// Whether all passes are there, of passes of this forest.
@@ -147,7 +154,8 @@ impl Forest<Cells> {
         true
     }
 
-    /// Each of two passes looks at the table, and comes to know what both knew before.
+    /// Each of two passes looks at the table, and comes to know what both knew before. What one of them
+    /// has blamed has left the other's share by then.
     pub fn meet(&self, one: &mut Pass, other: &mut Pass)
         requires one { IsOf self.now.table.shared.table_id self.now.layout one.old }
         requires other { IsOf self.now.table.shared.table_id self.now.layout other.old }
@@ -159,6 +167,8 @@ impl Forest<Cells> {
         ensures one_knows { EndsWith (run_of one.new) (run_of other.new) }
         ensures other_knows { EndsWith (run_of other.new) (run_of one.old) }
         ensures shares { (one.new.share ≡ one.old.share) × (other.new.share ≡ other.old.share) }
+        ensures blamed { (one.new.blamed ≡ one.old.blamed) × (other.new.blamed ≡ other.old.blamed) }
+        ensures left { HaveLeftShares (one.new ∷ other.new ∷ []) }
         ensures done { (done_of one.new ≡ done_of one.old) × (done_of other.new ≡ done_of other.old) }
         ensures one_usable { (snap : Snap) → CanUse one.old snap → CanUse one.new snap }
         ensures other_usable { (snap : Snap) → CanUse other.old snap → CanUse other.new snap }

@@ -1,6 +1,7 @@
 //! Threads that share the cells of one table of atomic words.
 #![tactic(auto)]
 
+mod blamed;
 mod close;
 mod deal;
 mod fault;

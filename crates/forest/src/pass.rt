@@ -5,18 +5,21 @@ ghost use Rattle.arena.specs.Share.{whole_share};
 ghost use Rattle.forest.specs.Kept.{knower};
 ghost use Rattle.forest.specs.Passes.{Sight};
 
+use crate::blamed::Blamed;
 use crate::view::View;
 use arena::{Layout, PassNo, Share};
 use atomic_table::Seat;
 use std::marker::Model;
 
-/// A part in a forest: a number, a share of the nodes and SCX-records, and the run that it knows.
+/// A part in a forest: a number, a share of the nodes and SCX-records, the run that it knows, and whom
+/// its calls have blamed.
 #[derive(Drop)]
 pub struct Pass {
     pub(crate) number: PassNo,
     pub(crate) layout: Layout,
     pub(crate) share: Share,
     pub(crate) seat: Seat<u8, View>,
+    pub(crate) blamed: Blamed,
 }
 
 impl Model for Pass {
@@ -37,13 +40,14 @@ impl Pass {
         requires seat { (seat.me.0.passes ≡ knower number.0 layout.now [] ∷ []) × (seat.me.1 ≡ []) }
         requires pass { number.0 < layout.now.passes }
         requires cells { layout.now.mode ≡ Records }
-        ensures { result ≡ record { table = seat.table_id; layout = layout.now; number = number.0; share = whole_share layout.now number.0; known = [] } }
+        ensures { result ≡ record { table = seat.table_id; layout = layout.now; number = number.0; share = whole_share layout.now number.0; known = []; blamed = [] } }
     {
         Pass {
             number,
             layout: *layout,
             share: Share::of(layout, number),
             seat,
+            blamed: Blamed::new(),
         }
     }
 

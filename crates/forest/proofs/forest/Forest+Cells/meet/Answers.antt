@@ -2,7 +2,7 @@ use Rattle.std.proofs.Common.{◌∙◌, sym, ap}
 use Rattle.arena.proofs.Values.{ends_trans}
 use Rattle.forest.specs.Passes.{Sight}
 use Rattle.forest.proofs.Passes.{called_pass, called_later, called_done, called_usable}
-use Rattle.forest.proofs.Meets.{HaveMet, have_met}
+use Rattle.forest.proofs.Meets.{HaveMet, have_met, met_left}
 use Rattle.forest.proofs.forest.Forest+Cells.meet.Goals as goal
 
 pub meet-requires-clause-first : goal.meet-requires-clause-first
@@ -34,6 +34,9 @@ returns-clause-one_knows c = let m = met c in ends_trans _ _ _ m.one.answers m.g
 
 pub returns-clause-other_knows : goal.returns-clause-other_knows
 returns-clause-other_knows c = let m = met c in rw (← c.one.view_is) (ends_trans _ _ _ m.other.answers m.knew)
+
+pub returns-clause-left : goal.returns-clause-left
+returns-clause-left c = met_left c.one.inside c.other.inside c.one.invariant c.other.invariant c.meet.new.one c.meet.new.other (ap (λ (v : Sight). v.layout) c.one.view_is ∙ c.requires.one.1 ∙ sym (ap (λ (v : Sight). v.layout) c.other.view_is ∙ c.requires.other.1)) (met c)
 
 pub returns-clause-done : goal.returns-clause-done
 returns-clause-done c = let m = met c in rw (← c.one.view_is, ← c.other.view_is) (called_done c.one.inside c.meet.new.one _ m.one, called_done c.other.inside c.meet.new.other _ m.other)

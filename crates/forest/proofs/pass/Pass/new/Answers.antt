@@ -1,4 +1,5 @@
 use Rattle.std.proofs.Common.{refl}
+use Rattle.forest.proofs.Blames.{blamed_nobody}
 use Rattle.forest.proofs.Passes.{begins_at_rest, begins_sound}
 use Rattle.forest.proofs.pass.Pass.new.Goals as goal
 
@@ -10,4 +11,5 @@ invariant_of-result c = record {
   is_pass = c.requires.pass;
   sound = rw c.requires.seat.0 (begins_sound c.args.layout.now);
   rest = rw (c.requires.seat.0, c.of.ensures.whole) (begins_at_rest c.args.layout.now c.args.number.0);
+  blamed = blamed_nobody _ c.new.ensures;
 }

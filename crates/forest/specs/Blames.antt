@@ -1,0 +1,9 @@
+-- A blame list by its names.
+use Rattle.std.specs.Prelude.{ℕ, List, [], ◌∷◌}
+use Rattle.forest.specs.declared.blamed.Names.{Names}
+use Rattle.forest.specs.declared.blamed.Names.TheVariants.{Nobody, One'}
+
+-- the SCX-records that are named, the last one first
+abbrev pub names_in : Names → List ℕ
+names_in Nobody = []
+names_in (One' scx marker before) = scx.0 ∷ names_in before

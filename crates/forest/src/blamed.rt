@@ -1,0 +1,63 @@
+//! The SCX-records that the calls of a pass have blamed. Only proofs read them: no bytes are kept.
+ghost use Rattle.std.specs.Prelude.{◌≡◌, [], ◌∷◌};
+
+use arena::ScxNo;
+use prims::Llx;
+use std::marker::Model;
+use std::mem::replace;
+use std::snapshot::Snapshot;
+
+/// A blame list, the last blamed first.
+#[derive(Drop)]
+pub(crate) struct Blamed {
+    names: Snapshot<Names>,
+}
+
+/// The names of a blame list. One value is made where one more is blamed, and none is kept.
+#[derive(Drop)]
+enum Names {
+    Nobody,
+    One(ScxNo, Snapshot<Names>),
+}
+
+impl Model for Blamed {
+    ghost use Rattle.std.specs.Prelude.{List, ℕ};
+
+    ghost Value = { List ℕ };
+
+    ghost use Rattle.forest.specs.Blames.{names_in};
+
+    ghost view = { λ b. names_in b.names.value };
+}
+
+impl Blamed {
+    /// Nobody is blamed.
+    pub(crate) fn new() -> Blamed
+        ensures { result ≡ [] }
+    {
+        Blamed {
+            names: Snapshot::of(&Names::Nobody),
+        }
+    }
+
+    /// This one is blamed too.
+    fn name(&mut self, scx: ScxNo)
+        ensures { self.new ≡ scx.0 ∷ self.old }
+    {
+        let Blamed { names } = replace(self, Blamed::new());
+        self.names = Snapshot::of(&Names::One(scx, names));
+    }
+}
+
+impl Blamed {
+    ghost use Rattle.forest.specs.Passes.{blamed_by};
+
+    /// Takes in what an answer of `llx` blames.
+    pub(crate) fn hear(&mut self, answer: &Llx)
+        ensures { self.new ≡ blamed_by answer.now self.old }
+    {
+        if let Llx::Fail { node: _, scx } = answer {
+            self.name(*scx);
+        }
+    }
+}
