@@ -1,4 +1,3 @@
-use Rattle.std.proofs.Common.{◌×◌}
 use Rattle.std.specs.List.{All}
 use Rattle.forest.specs.Passes.{IsOf}
 use Rattle.forest.proofs.tests.threads.look_all.Given as goal
