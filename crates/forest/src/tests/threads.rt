@@ -229,27 +229,38 @@ impl Ended {
         ]
     }
 
-    /// A field is as at the start, or holds a node of the share of a thread that had a Done.
-    fn is_of_winner(&self, field: u64) -> bool {
-        if field == 0 {
-            return true;
-        }
-        let pass = field.saturating_sub(9) / u64::from(ROUNDS);
+    /// Each thread's counts agree with what is left of its share.
+    fn counts_agree(&self) -> bool {
+        self.tallies.iter().all(|tally| tally.agrees())
+    }
+
+    /// Each pass found what the words say.
+    fn found_agree(&self) -> bool {
+        let cells = self.cells();
+        self.found.iter().all(|found| *found == cells)
+    }
+
+    fn has_done(&self, pass: u64) -> bool {
         match self.tallies.get(pass as usize) {
-            Some(tally) => field >= 9 && tally.done > 0,
+            Some(tally) => tally.done > 0,
             None => false,
         }
     }
 
-    /// Each thread counted right, each pass found what the words say, and that is what winners put.
-    fn agrees(&self) -> bool {
-        let cells = self.cells();
-        self.tallies.iter().all(|tally| tally.agrees())
-            && self.found.iter().all(|found| *found == cells)
-            && cells.iter().all(|cell| match cell {
-                Some((left, right)) => self.is_of_winner(*left) && self.is_of_winner(*right),
-                None => false,
-            })
+    /// Whether a field is as at the start, or holds a node of the share of a thread that had a Done.
+    fn is_of_winner(&self, field: u64) -> bool {
+        match field.checked_sub(9) {
+            Some(taken) => self.has_done(taken / u64::from(ROUNDS)),
+            None => field == 0,
+        }
+    }
+
+    /// Each field of the four cells is such a one.
+    fn are_of_winners(&self) -> bool {
+        self.cells().iter().all(|cell| match cell {
+            Some((left, right)) => self.is_of_winner(*left) && self.is_of_winner(*right),
+            None => false,
+        })
     }
 }
 
@@ -284,7 +295,9 @@ fn two_threads_on_one_cell(rt: HostRuntime) -> Result<(), Fail> {
         return Ok(());
     };
     assert_eq!(rt; (ended.tallies.len(), ended.found.len()), (2, 2));
-    assert!(rt; ended.agrees());
+    assert!(rt; ended.counts_agree());
+    assert!(rt; ended.found_agree());
+    assert!(rt; ended.are_of_winners());
     let cells = ended.cells();
     assert!(rt; matches!(cells[0], Some((left, 0)) if left > 0));
     for cell in [cells[1], cells[2], cells[3]] {
@@ -300,6 +313,8 @@ fn eight_threads_on_four_cells(rt: HostRuntime) -> Result<(), Fail> {
         return Ok(());
     };
     assert_eq!(rt; (ended.tallies.len(), ended.found.len()), (8, 8));
-    assert!(rt; ended.agrees());
+    assert!(rt; ended.counts_agree());
+    assert!(rt; ended.found_agree());
+    assert!(rt; ended.are_of_winners());
     Ok(())
 }

@@ -13,5 +13,5 @@ loop-pass-preserved c =
       tt,
       All-rest (λ (w : Sight × Tally). P w.0) (c.in-Some.pass, c.in-Some.tally) c.next.new.self.rest.items c.loop-pass.pass-iterator.rest.items c.in-Some.ensures.steps.0 inv.2,
       All-same P c.push.new.self.items (c.loop-pass.passes.items ++ c.in-Some.pass ∷ []) c.in_ok-push.ensures.items (All-push P c.loop-pass.passes.items c.in-Some.pass inv.3
-      (All-head (λ (w : Sight × Tally). P w.0) (c.in-Some.pass, c.in-Some.tally) c.next.new.self.rest.items (All-same (λ (w : Sight × Tally). P w.0) _ _ (sym c.in-Some.ensures.steps.0) inv.2))),
+          (All-head (λ (w : Sight × Tally). P w.0) (c.in-Some.pass, c.in-Some.tally) c.next.new.self.rest.items (All-same (λ (w : Sight × Tally). P w.0) _ _ (sym c.in-Some.ensures.steps.0) inv.2))),
     )
