@@ -11,3 +11,5 @@ pub mod ScxCalls
 pub mod Meets
 pub mod Openings
 pub mod Closes
+pub mod AllBack
+pub mod Crowds

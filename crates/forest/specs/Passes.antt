@@ -220,9 +220,13 @@ abbrev pub AreOf : TableId → Layout → List Sight → Type 0
 AreOf table lay [] = Unit {0}
 AreOf table lay (p ∷ ps) = IsOf table lay p × AreOf table lay ps
 
+-- one of them has this number
+abbrev pub HasPass : List Sight → ℕ → Type 0
+HasPass passes n = Contains (map (λ (p : Sight). p.number) passes) n
+
 -- each pass of the layout is among them
 abbrev pub AreAllBack : Layout → List Sight → Type 0
-AreAllBack lay passes = (n : ℕ) → n < lay.passes → Contains (map (λ (p : Sight). p.number) passes) n
+AreAllBack lay passes = (n : ℕ) → n < lay.passes → HasPass passes n
 
 -- the run begins with what each of them knew, and its entries of each are those of its done list
 abbrev pub AreBegun : List Sight → History → Type 0

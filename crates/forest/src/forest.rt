@@ -1,5 +1,6 @@
 //! A forest: cells that threads share.
-ghost use Rattle.std.specs.Prelude.{◌≡◌, ◌<◌, ◌≤◌, ◌+◌, true, length, IfOk, IfErr, OnOk, Ok, Err, suc, [], ◌∷◌, ◌≢◌};
+ghost use Rattle.std.specs.Prelude.{◌≡◌, ◌<◌, ◌≤◌, ◌+◌, true, length, IfOk, IfErr, IsTrue, OnOk, Ok, Err, suc, [], ◌∷◌, ◌≢◌, ◌↔◌, ◌==◌};
+ghost use Rattle.std.specs.List.{list_any};
 ghost use Rattle.arena.specs.History.{EndsWith};
 ghost use Rattle.arena.specs.Limits.{IsAccepted, IsLayoutOf};
 ghost use Rattle.arena.specs.declared.limits.Mode.TheVariants.{Records};
@@ -9,7 +10,7 @@ ghost use Rattle.forest.specs.Kept.{IsTableOf, beginners};
 ghost use Rattle.prims.specs.Shares.{taken};
 ghost use Rattle.prims.specs.Snaps.{IsAmong};
 ghost use Rattle.forest.specs.Puts.{IsPutOf, IsUnbegun};
-ghost use Rattle.forest.specs.Passes.{IsOf, AreNew, IsLater, CanUse, Each, AreApart, HasNodeOf, LlxSays, VlxSays, ScxSays, IsFinalizedAnswer, HasBlamed, HaveLeftShares, blamed_by, IsFull, IsUsedUp, run_of, seen_of, done_of, steps_of};
+ghost use Rattle.forest.specs.Passes.{Sight, IsOf, AreNew, AreAllBack, IsLater, CanUse, Each, AreApart, HasNodeOf, LlxSays, VlxSays, ScxSays, IsFinalizedAnswer, HasBlamed, HaveLeftShares, blamed_by, IsFull, IsUsedUp, run_of, seen_of, done_of, steps_of};
 
 use crate::deal::{deal, meet};
 use crate::fault::{Full, NewFault, Resource};
@@ -145,7 +146,9 @@ impl Forest<Cells> {
     }
 
     /// Whether all passes are there, of passes of this forest.
-    pub fn all_back(&self, passes: &[Pass]) -> bool {
+    pub fn all_back(&self, passes: &[Pass]) -> bool
+        ensures { IsTrue result ↔ AreAllBack self.now.layout passes.now }
+    {
         for number in 0..self.layout.passes {
             if !has_pass(passes, PassNo(number)) {
                 return false;
@@ -264,6 +267,8 @@ fn put(
 }
 
 /// Whether the pass of this number is among some.
-fn has_pass(passes: &[Pass], number: PassNo) -> bool {
-    passes.iter().any(|pass| pass.number() == number)
+fn has_pass(passes: &[Pass], number: PassNo) -> bool
+    ensures { result ≡ list_any (λ (p : Sight). number.0 == p.number) passes.now }
+{
+    passes.iter().any(|pass| number == pass.number())
 }

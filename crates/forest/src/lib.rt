@@ -15,3 +15,6 @@ pub use close::Closed;
 pub use fault::{Full, NewFault, Resource};
 pub use forest::Forest;
 pub use pass::Pass;
+
+#[cfg(test)]
+mod tests;
