@@ -22,6 +22,3 @@ mod write;
 pub use fault::{ReportFault, WriteFault};
 pub use read::read_record;
 pub use write::write_record;
-
-#[cfg(test)]
-mod tests;
