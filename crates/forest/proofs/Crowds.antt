@@ -1,5 +1,5 @@
 -- Passes of one forest.
-use Rattle.std.proofs.Common.{◌≡◌, List, [], ◌∷◌, ◌<◌, ◌∙◌, sym, refl, ap, length, get_or}
+use Rattle.std.proofs.Common.{List, [], ◌∷◌, ap, get_or}
 use Rattle.std.specs.List.{All}
 use Rattle.std.proofs.lemmas.List.Elements.{All-head, All-tail}
 use Rattle.std.proofs.lemmas.Option.{slice_get-get_or}

@@ -56,7 +56,8 @@ impl Forest<Cells> {
         }
     }
 
-    /// LLX of a cell. The pass blames the SCX-record that `Fail` names.
+    /// LLX of a cell, in 64 atomic steps at most. The pass blames the SCX-record that `Fail` names. From
+    /// Brown, Ellen and Ruppert (PODC 2013), as are `vlx` and `scx`.
     pub fn llx(&self, pass: &mut Pass, node: NodeNo) -> Llx
         requires pass { IsOf self.now.table.shared.table_id self.now.layout pass.old }
         requires cell { node.0 ≤ 8 }
@@ -83,7 +84,7 @@ impl Forest<Cells> {
         answer
     }
 
-    /// VLX of 1 to 4 snapshots of the pass.
+    /// VLX of 1 to 4 snapshots of the pass, in one atomic step each at most.
     pub fn vlx(&self, pass: &mut Pass, snaps: &[Snap]) -> Vlx
         requires pass { IsOf self.now.table.shared.table_id self.now.layout pass.old }
         requires some { 0 < length snaps.now }
@@ -108,8 +109,9 @@ impl Forest<Cells> {
         )
     }
 
-    /// SCX of 1 to 4 snapshots of different cells of the pass: finalizes those in `finalize`, and puts
-    /// a fresh cell of this value into the field. It takes a node and an SCX-record of the pass's share.
+    /// SCX of 1 to 4 snapshots of different cells of the pass, in 40 atomic steps at most: finalizes
+    /// those in `finalize`, and puts a fresh cell of this value into the field. It takes a node and an
+    /// SCX-record of the pass's share; where one is lacking it is refused, and the pass is as it was.
     pub fn scx(
         &self,
         pass: &mut Pass,

@@ -1,4 +1,4 @@
-use Rattle.std.proofs.Common.{List, sym, subst}
+use Rattle.std.proofs.Common.{List, subst}
 use Rattle.forest.specs.Passes.{Sight, AreAllBack}
 use Rattle.forest.proofs.Crowds.{all_are_of}
 use Rattle.forest.proofs.tests.end.Goals as goal

@@ -1,6 +1,5 @@
-use Rattle.std.proofs.Common.{◌≡◌, ◌<◌, ◌⊎◌, ⊎_elim, ℕ, false, sym, ◌∙◌, subst, rules}
+use Rattle.std.proofs.Common.{sym, ◌∙◌}
 use Rattle.std.proofs.lemmas.Bool.{false≢true}
-use Rattle.forest.specs.Passes.{HasPass}
 use Rattle.forest.proofs.AllBack.{has_pass, finds_pass, has_more}
 use Rattle.forest.proofs.forest.Forest+Cells.all_back.Goals as goal
 

@@ -1,5 +1,4 @@
-use Rattle.std.proofs.Common.{◌≡◌, List, [], ◌∷◌, ◌++◌}
-use Rattle.std.specs.List.{All}
+use Rattle.std.proofs.Common.{[], ◌∷◌, ◌++◌}
 use Rattle.std.proofs.lemmas.List.Elements.{All-rest, All-same, All-push}
 use Rattle.forest.specs.Passes.{Sight, IsOf}
 use Rattle.forest.proofs.tests.threads.meet_each.Goals as goal
