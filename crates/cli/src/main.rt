@@ -23,8 +23,4 @@ fn main(rt: HostRuntime) -> ExitCode {
 #[cfg(test)]
 mod read_tests;
 #[cfg(test)]
-mod report_tests;
-#[cfg(test)]
-mod script_tests;
-#[cfg(test)]
 mod tests;

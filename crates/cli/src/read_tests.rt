@@ -1,6 +1,5 @@
 //! Reports that are read back, and texts that are no reports.
 use crate::fault::Fault;
-use crate::report_tests::EACH_FORM;
 use crate::run::run;
 use crate::tests::{IN_TURN, SET, SET_REPORT, UNTOUCHED_REPORT};
 use arena::Mode;
@@ -41,7 +40,7 @@ fn with_ends(alloc: Global, text: &str, end: &str) -> Result<String, Fail> {
 
 #[test]
 fn whole_reports_are_read_back(rt: HostRuntime) -> Result<(), Fail> {
-    for report in [SET_REPORT, UNTOUCHED_REPORT, TREE_REPORT, EACH_FORM] {
+    for report in [SET_REPORT, UNTOUCHED_REPORT, TREE_REPORT] {
         let record = read(rt.alloc(), report.as_bytes())?;
         let text = written(rt.alloc(), &record)?;
         assert_eq!(rt; text.as_slice(), report.as_bytes());

@@ -22,3 +22,6 @@ mod write;
 pub use fault::{ReportFault, WriteFault};
 pub use read::read_record;
 pub use write::write_record;
+
+#[cfg(test)]
+mod tests;

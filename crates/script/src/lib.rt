@@ -24,3 +24,6 @@ pub use number::{is_number, number_of};
 pub use rows::{Rows, settled};
 pub use schedule::{Order, Schedule, read_schedule};
 pub use script::{Script, read_script};
+
+#[cfg(test)]
+mod tests;

@@ -1,11 +1,25 @@
-//! Records that are written, with a line of each form.
-use crate::tests::UNTOUCHED_REPORT;
+use crate::{WriteFault, read_record, write_record};
 use arena::{Kind, Mode, NodeNo, NodeWord, PassNo, ScxNo, ScxWord, Side, Word};
 use player::{Answer, Entry, Line, Record, Reply, Resource, Row};
-use report::{WriteFault, write_record};
 use script::{FailAt, Metered, read_script};
 use std::alloc::Global;
 use std::test::Fail;
+
+/// The report of a client that takes a snapshot of a cell that no one has changed.
+const UNTOUCHED: &str = "\
+report,1,records,,,,
+limits,1,0,0,1,,
+call,0,0,llx,8,,
+step,1,0,marked,n8.marked,0,0
+step,2,0,info,n8.info,0,0
+step,3,0,state,s0.state,2,2
+step,4,0,marked,n8.marked,0,0
+step,5,0,child,n8.left,0,0
+step,6,0,child,n8.right,0,0
+step,7,0,info,n8.info,0,0
+reply,0,0,1,7,7,snap 0 0
+end,7,1,0,,,
+";
 
 /// A script with each command.
 const SCRIPT: &str = "\
@@ -19,7 +33,7 @@ end,5,,,
 ";
 
 /// Its rows, and those of the lines that `each_line` gives.
-pub(crate) const EACH_FORM: &str = "\
+const EACH_FORM: &str = "\
 report,1,records,,,,
 limits,32,10,32768,1000,,
 call,0,0,set,1,left,70
@@ -223,10 +237,7 @@ fn written(alloc: Global, record: &Record, bytes: usize) -> (Vec<u8>, Result<(),
 #[test]
 fn whole_reports(rt: HostRuntime) -> Result<(), Fail> {
     let each = record(rt.alloc(), SCRIPT, each_line(rt.alloc())?)?;
-    for (record, want) in [
-        (untouched(rt.alloc())?, UNTOUCHED_REPORT),
-        (each, EACH_FORM),
-    ] {
+    for (record, want) in [(untouched(rt.alloc())?, UNTOUCHED), (each, EACH_FORM)] {
         let (text, result) = written(rt.alloc(), &record, 10000);
         assert_eq!(rt; result, Ok(()));
         assert_eq!(rt; text.as_slice(), want.as_bytes());
@@ -234,10 +245,22 @@ fn whole_reports(rt: HostRuntime) -> Result<(), Fail> {
     Ok(())
 }
 
+/// Read back, and written again.
+#[test]
+fn reports_that_are_read_back(rt: HostRuntime) -> Result<(), Fail> {
+    for report in [UNTOUCHED, EACH_FORM] {
+        let record = read_record(rt.alloc(), &mut Metered::new(report.as_bytes()))?;
+        let (text, result) = written(rt.alloc(), &record, 10000);
+        assert_eq!(rt; result, Ok(()));
+        assert_eq!(rt; text.as_slice(), report.as_bytes());
+    }
+    Ok(())
+}
+
 #[test]
 fn writer_fails_at_each_byte(rt: HostRuntime) -> Result<(), Fail> {
     let record = untouched(rt.alloc())?;
-    let whole = UNTOUCHED_REPORT.as_bytes();
+    let whole = UNTOUCHED.as_bytes();
     for bytes in 0..=whole.len() {
         let (text, result) = written(rt.alloc(), &record, bytes);
         let fails = bytes < whole.len();

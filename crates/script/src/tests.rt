@@ -1,10 +1,9 @@
-//! Scripts and schedules that are read, texts that are none, and readers and writers that fail.
-use arena::{Kind, Limits, Mode, PassNo, Side};
-use script::{
-    Call, Cell, Cells, Command, FailAt, Metered, Order, Schedule, ScheduleCause, ScheduleFault,
-    Script, ScriptCause, ScriptFault, Update, kind_name, kind_of, number_of, read_schedule,
-    read_script,
+use crate::fault::{ScheduleCause, ScheduleFault, ScriptCause, ScriptFault};
+use crate::{
+    Call, Cell, Cells, Command, FailAt, Metered, Order, Schedule, Script, Update, kind_name,
+    kind_of, number_of, read_schedule, read_script,
 };
+use arena::{Kind, Limits, Mode, PassNo, Side};
 use std::alloc::{AllocError, Global};
 use std::io::{Read, Write};
 use std::test::Fail;
