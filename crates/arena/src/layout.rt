@@ -22,6 +22,7 @@ impl Layout {
     ghost use Rattle.arena.specs.declared.word.Word.{Word};
 
     /// How many nodes there are from the start: the tree's first three, or node 0 and the cells 1 to 8.
+    #[inline(always)]
     pub fn opening(&self) -> u32
         ensures { result ≡ opening_nodes self.now.mode }
     {
@@ -32,6 +33,7 @@ impl Layout {
     }
 
     /// How many nodes there are in all.
+    #[inline(always)]
     pub fn all_nodes(&self) -> u32
         ensures nodes { result ≡ all_nodes self.now }
         ensures fits { result ≤ 1048585 }
@@ -40,6 +42,7 @@ impl Layout {
     }
 
     /// How many SCX-records there are in all, with the dummy.
+    #[inline(always)]
     pub fn all_scx(&self) -> u32
         ensures scx { result ≡ all_scx self.now }
         ensures fits { result ≤ 1048577 }
@@ -99,6 +102,7 @@ impl Layout {
     }
 
     /// The place of a word in the table. No other word has it.
+    #[inline(always)]
     pub fn place(&self, word: Word) -> usize
         requires { IsWord self.now word }
         ensures place { result ≡ place self.now word }
@@ -117,6 +121,7 @@ impl Layout {
 ghost use Rattle.arena.specs.Words.{node_place, scx_place, IsScxWord};
 
 /// The place of a word within its node.
+#[inline(always)]
 fn node_place(part: NodeWord) -> usize
     ensures { result ≡ node_place part }
 {
@@ -132,6 +137,7 @@ fn node_place(part: NodeWord) -> usize
 }
 
 /// The place of a word within its SCX-record.
+#[inline(always)]
 fn scx_place(part: ScxWord) -> usize
     requires { IsScxWord part }
     ensures { result ≡ scx_place part }

@@ -6,3 +6,6 @@ pub mod Puts
 pub mod Held
 pub mod Gathered
 pub mod Blames
+pub mod InLine
+pub mod HelpLine
+pub mod PutLine

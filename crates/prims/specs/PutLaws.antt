@@ -29,7 +29,7 @@ use Rattle.prims.specs.declared.put.PutRun.{PutRun}
 use Rattle.prims.specs.declared.put.PutAt.{PutAt}
 use Rattle.prims.specs.declared.put.PutAt.TheVariants.{Start, Fill as AtFill, Scx}
 
-value_more : (c : Call) (h : History) (r : Row) (m : PutRun) → value (r ⊳ h) (node m.scx.update.fresh Value) ≡ value h (node m.scx.update.fresh Value) → HasValue c h m → HasValue c (r ⊳ h) m
+pub value_more : (c : Call) (h : History) (r : Row) (m : PutRun) → value (r ⊳ h) (node m.scx.update.fresh Value) ≡ value h (node m.scx.update.fresh Value) → HasValue c h m → HasValue c (r ⊳ h) m
 value_more c h r m e x = record { own = x.own; taken = taken_node_more r h m.scx.update.fresh x.taken; value = e ∙ x.value }
 
 kept_at : (allows : Layout → History → ℕ → Type 0) (m : PutRun) (c : Call) (h : History) (at : PutAt) (s : Step) (r : Row) → IsRun allows c.layout (r ⊳ h) → r.pass.0 ≢ c.pass → put_waits_at allows c h m at s → put_waits_at allows c (r ⊳ h) m at s

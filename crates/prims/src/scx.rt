@@ -79,7 +79,8 @@ impl ScxRun {
     }
 
     /// What the snapshot at a place says.
-    fn snap(&self, j: MemberNo) -> Snap
+    #[inline(always)]
+    pub fn snap(&self, j: MemberNo) -> Snap
         ensures { result ≡ snap_at self.now.update.snaps.items (index_of j) }
     {
         self.update
