@@ -34,6 +34,10 @@ pub same_knower : (ps : List Knower) (p q : Knower) → ps ≡ p ∷ [] → ps �
 unfolding first_or
 same_knower ps p q a b = ap (first_or p) (sym a ∙ b)
 
+-- what is so beside something else is so
+pub called_so : {allows : Layout → History → ℕ → Type 0} {ps : List Knower} {c : Call} {P Q : History → Type 0} → IsCalled allows ps c (λ h. P h × Q h) → IsCalled allows ps c P
+called_so x = record { known = x.known; is = x.is; sound = x.sound; so = x.so.0 }
+
 module _ (allows : Layout → History → ℕ → Type 0) (c : Call) (said : Asked) (called : c.number ≡ said.call) where
   -- the row of the step is that of the call
   row_is : (h : History) → row_of c said.step h ≡ row c.pass said h

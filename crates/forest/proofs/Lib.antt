@@ -13,7 +13,7 @@ pub mod Openings
 pub mod Closes
 pub mod AllBack
 pub mod Crowds
-mod Stands
-mod InLine
-mod HelpLine
-mod PutLine
+mod Places
+mod StraightLlx
+mod StraightHelp
+mod StraightScx

@@ -6,6 +6,7 @@ pub mod Puts
 pub mod Held
 pub mod Gathered
 pub mod Blames
-pub mod InLine
-pub mod HelpLine
-pub mod PutLine
+pub mod StraightLlx
+pub mod StraightHelp
+pub mod StraightScx
+pub mod StraightVlx

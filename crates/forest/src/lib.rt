@@ -4,14 +4,12 @@
 mod blamed;
 mod close;
 mod deal;
-mod direct;
 mod fault;
 mod forest;
-mod help_line;
 mod pass;
-mod put_line;
 mod rule;
 mod steps;
+mod straight;
 mod view;
 
 pub use close::Closed;

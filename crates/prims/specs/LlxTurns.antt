@@ -7,7 +7,7 @@ use Rattle.arena.specs.declared.number.ScxNo.{ScxNo}
 use Rattle.arena.specs.declared.machine.Turn.{Turn}
 use Rattle.arena.specs.declared.machine.Turn.TheVariants.{Done}
 use Rattle.arena.specs.declared.step.Step.{Step}
-use Rattle.arena.specs.declared.step.Kind.TheVariants.{LoadInfo, LoadState, LoadMarked}
+use Rattle.arena.specs.declared.step.Kind.TheVariants.{LoadInfo, LoadState, LoadMarked, LoadChild}
 use Rattle.arena.specs.declared.word.Side.{Side}
 use Rattle.arena.specs.declared.word.Side.TheVariants.{Left, Right}
 use Rattle.arena.specs.Words.{info, marked, child, state}
@@ -32,7 +32,7 @@ use Rattle.prims.specs.declared.llx.Llx.{Llx}
 use Rattle.prims.specs.declared.llx.Llx.TheVariants.{Fail}
 use Rattle.prims.specs.declared.llx.LlxRun.{LlxRun}
 use Rattle.prims.specs.declared.llx.LlxAt.{LlxAt}
-use Rattle.prims.specs.declared.llx.LlxAt.TheVariants.{Start, Marked, Info, State, MarkedAgain, Left as AtLeft, InfoAgain, StateAgain, Help, LastInfo, LastState, LastHelp}
+use Rattle.prims.specs.declared.llx.LlxAt.TheVariants.{Start, Marked, Info, State, MarkedAgain, Left as AtLeft, Right as AtRight, InfoAgain, StateAgain, Help, LastInfo, LastState, LastHelp}
 
 -- what a run knows, and what it has been told, at the place where it stands
 pub record Knows (allows : Layout → History → ℕ → Type 0) (c : Call) (h : History) (n : ℕ) (at : LlxAt) (found : ℕ) : Type 0 where
@@ -72,6 +72,10 @@ module _ (allows : Layout → History → ℕ → Type 0) (c : Call) (h : Histor
     quiet = w;
     ready = (z, inl (rw q record { real = λ y. (let d = (facts c.layout h run.lawful).dummy in let w : value h (state 0) ≡ 0 = rw y at e in omega arith); named = (n, p) }));
   }
+
+  -- it begins with the mark
+  pub turn_first : (m now : LlxRun) (turn : Turn Llx) → llx_ready allows m c h None → Asks m now turn Marked (load LoadMarked (marked m.node.0)) → llx_turn allows c h now turn
+  turn_first m now turn r a = waits_at m now turn Marked _ a r.opened r.since r.quiet tt refl
 
   -- after the first mark it reads the info
   pub turn_info : (m now : LlxRun) (turn : Turn Llx) (b : Bool) (v : ℕ) → Knows allows c h m.node.0 Marked v → (b ≡ true → v ≢ 0) → (b ≡ false → v ≡ 0) → Asks m now turn (Info b) (load LoadInfo (info m.node.0)) → llx_turn allows c h now turn
@@ -117,6 +121,14 @@ module _ (allows : Layout → History → ℕ → Type 0) (c : Call) (h : Histor
       go : (v ≡ 2) ⊎ ((v ≡ 1) × (again ≡ false)) → IsAtRest h m.node.0 s.0
       go (inl e) = let q = k.known.1 (λ z. omega arith) in record { rest = λ z. omega arith; unmarked = λ i. aborted_unmarked c.layout h m.node.0 s.0 run.lawful i (q ∙ e) }
       go (inr e) = let q = k.known.1 (λ z. let y = e.0 in omega arith) in record { rest = λ z. let y = e.0 in omega arith; unmarked = λ i. k.told ∙ d e.1 }
+
+  -- after the left field the right one
+  pub turn_right : (m now : LlxRun) (turn : Turn Llx) (b : Bool) (s : ScxNo) (v : ℕ) → Knows allows c h m.node.0 (AtLeft b s) v → Asks m now turn (AtRight b s v) (load LoadChild (child m.node.0 Right)) → llx_turn allows c h now turn
+  turn_right m now turn b s v k a = waits_at m now turn (AtRight b s v) _ a k.opened k.since k.quiet (k.known.0, k.known.1, λ e. k.told) refl
+
+  -- after the fields the info once more
+  pub turn_again : (m now : LlxRun) (turn : Turn Llx) (b : Bool) (s : ScxNo) (x v : ℕ) → Knows allows c h m.node.0 (AtRight b s x) v → Asks m now turn (InfoAgain b s x v) (load LoadInfo (info m.node.0)) → llx_turn allows c h now turn
+  turn_again m now turn b s x v k a = waits_at m now turn (InfoAgain b s x v) _ a k.opened k.since k.quiet (k.known.0, k.known.1, k.known.2, λ e. k.told) refl
 
   -- fields that were read while the info was that finished SCX-record are the snapshot's
   snapshot : (n : ℕ) (b : Bool) (s : ScxNo) (x y : ℕ) → IsOpened c.layout h n → llx_known c h n (InfoAgain b s x y) → value h (info n) ≡ s.0 → IsSnapshot c.layout h n record { node = record { 0 = n }; scx = s; left = record { 0 = x }; right = record { 0 = y } }

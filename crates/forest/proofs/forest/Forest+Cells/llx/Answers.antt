@@ -8,43 +8,43 @@ use Rattle.prims.specs.Cells.{allows_all}
 use Rattle.prims.specs.declared.llx.LlxAt.TheVariants.{Start as LlxStart}
 use Rattle.arena.specs.declared.number.NodeNo.{NodeNo}
 use Rattle.forest.specs.declared.pass.Pass.TheInside.{Inside}
-use Rattle.forest.specs.InLine.{run_at, LlxBegins}
+use Rattle.forest.specs.StraightLlx.{run_at, LlxBegins}
 use Rattle.forest.proofs.forest.Forest+Cells.llx.Goals as goal
 
 -- the call may begin
 begins : (p : Inside) (x : IsPass p) (node : NodeNo) → node.0 ≤ 8 → LlxBegins allows_all (call_of p x 0) p.seat.me.0.passes node
 begins p x node small = llx_begins p x (run_at node LlxStart) refl small
 
-pub llx-answer-requires-clause-begins : goal.llx-answer-requires-clause-begins
-llx-answer-requires-clause-begins c = let p = c.pass.inside in let x = c.pass.invariant in
+pub call-answer-requires-clause-begins : goal.call-answer-requires-clause-begins
+call-answer-requires-clause-begins c = let p = c.pass.inside in let x = c.pass.invariant in
     (call_of p x 0, ap (λ (v : Sight). v.layout) c.pass.view_is ∙ c.requires.pass.1, refl, begins p x c.args.node c.requires.cell)
 
 -- what the call leaves
-ended : (c : goal.After-hear) → HasCalled c.pass.inside c.llx-answer.new.seat (Answered c.pass.inside c.pass.invariant c.args.node c.llx-answer.result)
+ended : (c : goal.After-hear) → HasCalled c.pass.inside c.call-answer.new.seat (Answered c.pass.inside c.pass.invariant c.args.node c.call-answer.result)
 ended c = let p = c.pass.inside in let x = c.pass.invariant in
-    let y = c.llx-answer.ensures.ends (call_of p x 0) (ap (λ (v : Sight). v.layout) c.pass.view_is ∙ c.requires.pass.1) refl (begins p x c.args.node c.requires.cell) in
-    llx_called p x c.llx-answer.new.seat (run_at c.args.node LlxStart) y.0 c.args.node c.llx-answer.result refl y.1
+    let y = c.call-answer.ensures.ends (call_of p x 0) (ap (λ (v : Sight). v.layout) c.pass.view_is ∙ c.requires.pass.1) refl (begins p x c.args.node c.requires.cell) in
+    llx_called p x c.call-answer.new.seat (run_at c.args.node LlxStart) y.0 c.args.node c.call-answer.result refl y.1
 
 pub invariant_of-pass : goal.invariant_of-pass
-invariant_of-pass c = llx_pass c.pass.inside c.pass.invariant c.llx-answer.new.seat c.args.node c.llx-answer.result _ c.hear.ensures c.llx-answer.ensures.table.1 (ended c)
+invariant_of-pass c = llx_pass c.pass.inside c.pass.invariant c.call-answer.new.seat c.args.node c.call-answer.result _ c.hear.ensures c.call-answer.ensures.table.1 (ended c)
 
 pub returns-clause-later : goal.returns-clause-later
-returns-clause-later c = rw (← c.pass.view_is) (llx_later c.pass.inside c.pass.invariant c.llx-answer.new.seat c.args.node c.hear.new.self c.llx-answer.result c.llx-answer.ensures.table.0 (ended c))
+returns-clause-later c = rw (← c.pass.view_is) (llx_later c.pass.inside c.pass.invariant c.call-answer.new.seat c.args.node c.hear.new.self c.call-answer.result c.call-answer.ensures.table.0 (ended c))
 
 pub returns-clause-says : goal.returns-clause-says
-returns-clause-says c = rw (← c.pass.view_is) (llx_says c.pass.inside c.pass.invariant c.llx-answer.new.seat c.args.node c.hear.new.self c.llx-answer.result (ended c))
+returns-clause-says c = rw (← c.pass.view_is) (llx_says c.pass.inside c.pass.invariant c.call-answer.new.seat c.args.node c.hear.new.self c.call-answer.result (ended c))
 
 pub returns-clause-finalized : goal.returns-clause-finalized
-returns-clause-finalized c = λ final. llx_finalized c.pass.inside c.pass.invariant c.llx-answer.new.seat c.args.node c.llx-answer.result (ended c) (subst (λ (v : Sight). is_final (seen_of v) c.args.node.0 ≡ true) (sym c.pass.view_is) final)
+returns-clause-finalized c = λ final. llx_finalized c.pass.inside c.pass.invariant c.call-answer.new.seat c.args.node c.call-answer.result (ended c) (subst (λ (v : Sight). is_final (seen_of v) c.args.node.0 ≡ true) (sym c.pass.view_is) final)
 
 pub returns-clause-blames : goal.returns-clause-blames
 returns-clause-blames c = (invariant_of-pass c).blamed
 
 pub returns-clause-done : goal.returns-clause-done
-returns-clause-done c = subst (λ (v : Sight). done_of (sight (seated c.pass.inside c.llx-answer.new.seat)) ≡ done_of v) c.pass.view_is (called_done c.pass.inside c.llx-answer.new.seat _ (ended c))
+returns-clause-done c = subst (λ (v : Sight). done_of (sight (seated c.pass.inside c.call-answer.new.seat)) ≡ done_of v) c.pass.view_is (called_done c.pass.inside c.call-answer.new.seat _ (ended c))
 
 pub returns-clause-usable : goal.returns-clause-usable
-returns-clause-usable c = rw (← c.pass.view_is) (called_usable c.pass.inside c.llx-answer.new.seat _ (ended c))
+returns-clause-usable c = rw (← c.pass.view_is) (called_usable c.pass.inside c.call-answer.new.seat _ (ended c))
 
 pub returns-clause-steps : goal.returns-clause-steps
-returns-clause-steps c = rw (← c.pass.view_is) (called_steps c.pass.inside c.pass.invariant c.llx-answer.new.seat _ 64 64 (ended c) c.llx-answer.ensures.steps (omega arith))
+returns-clause-steps c = rw (← c.pass.view_is) (called_steps c.pass.inside c.pass.invariant c.call-answer.new.seat _ 64 64 (ended c) c.call-answer.ensures.steps (omega arith))

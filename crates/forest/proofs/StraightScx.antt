@@ -1,0 +1,178 @@
+-- From place to place of an SCX with a fresh cell, in line.
+use Rattle.std.proofs.Common.{◌≡◌, ℕ, suc, ◌+◌, ◌<◌, length, List, [], Bool, true, false, refl, sym, subst, ◌∙◌, ap, None, Some, arith, inl, inr}
+use Rattle.arena.specs.declared.layout.Layout.{Layout}
+use Rattle.arena.specs.declared.number.MemberNo.{MemberNo}
+use Rattle.arena.specs.declared.number.MemberNo.TheVariants.{First}
+use Rattle.arena.specs.declared.number.NodeNo.{NodeNo}
+use Rattle.arena.specs.declared.machine.Turn.TheVariants.{Ask, Done as End}
+use Rattle.arena.specs.declared.step.Step.{Step}
+use Rattle.arena.specs.declared.step.Row.{Row}
+use Rattle.arena.specs.declared.step.Deed.TheVariants.{Load, Store, Exchange}
+use Rattle.arena.specs.declared.step.Deed.{Deed}
+use Rattle.arena.specs.declared.step.Kind.TheVariants.{Fill}
+use Rattle.arena.specs.declared.word.Word.TheVariants.{Node}
+use Rattle.arena.specs.declared.word.NodeWord.TheVariants.{Value}
+use Rattle.arena.specs.declared.word.ScxWord.{ScxWord}
+use Rattle.arena.specs.declared.word.ScxWord.TheVariants.{Plan, New, Old, Member, Seen, Call as CallWord}
+use Rattle.arena.specs.MemberNo.{index_of}
+use Rattle.arena.specs.History.{History, ◌⊳◌, value}
+use Rattle.arena.specs.Machines.{Call, IsRun, IsTold, row_of}
+use Rattle.help.specs.Plan.{count as planned}
+use Rattle.help.specs.HelpKnown.{help_waits, help_answers, blocked_at}
+use Rattle.help.specs.declared.state.HelpAt.TheVariants.{Start as HelpStart}
+use Rattle.help.specs.declared.state.HelpRun.{HelpRun}
+use Rattle.prims.specs.VlxKnown.{snap_at}
+use Rattle.prims.specs.Unfilled.{own_words_unfilled, own_value_unfilled}
+use Rattle.prims.specs.Begun.{takes_by_others, filled_more}
+use Rattle.prims.specs.ScxKnown.{FillMade, HasFilled, scx_answers, IsFilled, IsFilledThen, scx_turn, scx_told_at, fill_step, part_at}
+use Rattle.prims.specs.ScxTurns.{turn_fill, turn_member, turn_seen, begin_help, done_at, lost_at}
+use Rattle.prims.specs.PutKnown.{HasValue, IsFirstPut, put_step, put_waits, put_waits_at, put_answers}
+use Rattle.prims.specs.PutTurns.{turn_start, turn_scx}
+use Rattle.prims.specs.PutLaws.{put_made, value_more}
+use Rattle.prims.specs.declared.put.PutRun.{PutRun}
+use Rattle.prims.specs.declared.put.PutAt.TheVariants.{Start, Fill as AtFill, Scx as AtScx}
+use Rattle.prims.specs.declared.scx.Scx.{Scx as Answer}
+use Rattle.prims.specs.declared.scx.Scx.TheVariants.{Done, Lost}
+use Rattle.prims.specs.declared.scx.ScxRun.{ScxRun}
+use Rattle.prims.specs.declared.scx.ScxAt.{ScxAt}
+use Rattle.prims.specs.declared.scx.ScxAt.TheVariants.{Start as ScxStart, Plan as AtPlan, New as AtNew, Old as AtOld, Member as AtMember, Seen as AtSeen, Call as AtCall, Help}
+use Rattle.forest.specs.declared.view.Knower.{Knower}
+use Rattle.forest.specs.Kept.{past}
+use Rattle.forest.specs.Courses.{Course, IsCalled, begins, others, makes, goes_on}
+use Rattle.forest.specs.StraightHelp.{same_record, HelpBegins, HelpEnds}
+use Rattle.forest.specs.StraightScx.{put_same, scx_at, fill_of, PutBegins, PutWaits, PutTold, PutEnds}
+
+-- the value of the fresh cell does not ask where the run stands
+value_of : (c : Call) (h : History) (m now : PutRun) → now.value ≡ m.value → now.scx.update ≡ m.scx.update → HasValue c h m → HasValue c h now
+value_of c h m now e f x = record { own = rw f x.own; taken = rw f x.taken; value = rw (e, f) x.value }
+
+module _ (allows : Layout → History → ℕ → Type 0) (c : Call) (ps : List Knower) (first : PutRun) where
+  -- it fills the value, and then the plan
+  pub to_value : (n : NodeNo) → n.0 ≡ first.scx.update.fresh → PutBegins allows c ps first → PutWaits allows c ps first (record first { at = AtFill }) record { kind = Fill; word = Node n Value; deed = Store first.value }
+  to_value n e x = record { known = x.known; is = x.is; sound = x.sound; so = (turn_start allows first c _ n x.so.1 e, goes_on first (refl, refl, refl, refl) (begins refl (sym x.so.0))) }
+
+  pub to_plan : (v : ℕ) → PutTold allows c ps first (record first { at = AtFill }) v → PutWaits allows c ps first (scx_at first AtPlan) (fill_of first Plan first.scx.update.plan.0)
+  to_plan v x = let t = x.so.0 in record {
+    known = x.known;
+    is = x.is;
+    sound = x.sound;
+    so = (
+      (value_of c _ (record first { at = AtFill }) (scx_at first AtPlan) refl refl t.0, turn_fill allows c _ first.scx AtPlan (scx_at first AtPlan).scx (Ask _) t.2 t.3 tt (λ part p. absurd (none part p)) (λ s y. y) record { stands = refl; asked = refl }),
+      goes_on (record first { at = AtFill }) (refl, refl, refl, refl) x.so.1,
+    );
+  }
+    where
+      none : (part : ScxWord) → IsFilled (length first.scx.update.snaps.items) AtPlan part → ⊥
+      none part p = p
+
+  -- one fill after another
+  fills : (m : PutRun) (A B : ScxAt) (v : ℕ) (step : Step) → ((h : History) → scx_told_at allows c h (scx_at m A).scx A v → FillMade allows c h (scx_at m A).scx A) → ((h : History) → FillMade allows c h (scx_at m A).scx A → scx_turn allows c h (scx_at m B).scx (Ask step)) → PutTold allows c ps first (scx_at m A) v → PutWaits allows c ps first (scx_at m B) step
+  fills m A B v step made turn x = record {
+    known = x.known;
+    is = x.is;
+    sound = x.sound;
+    so = ((value_of c _ (scx_at m A) (scx_at m B) refl refl x.so.0.0, turn _ (made _ x.so.0.1)), goes_on (scx_at m A) (refl, refl, refl, refl) x.so.1);
+  }
+
+  pub to_new : (m : PutRun) (v : ℕ) → PutTold allows c ps first (scx_at m AtPlan) v → PutWaits allows c ps first (scx_at m AtNew) (fill_of m New m.scx.update.fresh)
+  to_new m v = fills m AtPlan AtNew v _ (λ h x. x) (λ h x. turn_fill allows c h (scx_at m AtPlan).scx AtNew (scx_at m AtNew).scx (Ask _) x.hand x.way tt (λ part p. x.filled part (filled part p)) (λ s y. y) record { stands = refl; asked = refl })
+    where
+      filled : (part : ScxWord) → IsFilled (length m.scx.update.snaps.items) AtNew part → IsFilledThen (length m.scx.update.snaps.items) AtPlan part
+      filled Plan p = tt
+      filled _ p = absurd p
+
+  pub to_old : (m : PutRun) (v : ℕ) → PutTold allows c ps first (scx_at m AtNew) v → PutWaits allows c ps first (scx_at m AtOld) (fill_of m Old m.scx.update.old.0)
+  to_old m v = fills m AtNew AtOld v _ (λ h x. x) (λ h x. turn_fill allows c h (scx_at m AtNew).scx AtOld (scx_at m AtOld).scx (Ask _) x.hand x.way tt (λ part p. x.filled part (filled part p)) (λ s y. y) record { stands = refl; asked = refl })
+    where
+      filled : (part : ScxWord) → IsFilled (length m.scx.update.snaps.items) AtOld part → IsFilledThen (length m.scx.update.snaps.items) AtNew part
+      filled Plan p = tt
+      filled New p = tt
+      filled _ p = absurd p
+
+  pub to_member : (m : PutRun) (v : ℕ) → PutTold allows c ps first (scx_at m AtOld) v → PutWaits allows c ps first (scx_at m (AtMember First)) (fill_of m (Member 0) (snap_at m.scx.update.snaps.items 0).node.0)
+  to_member m v = fills m AtOld (AtMember First) v _ (λ h x. x) (λ h x. turn_fill allows c h (scx_at m AtOld).scx (AtMember First) (scx_at m (AtMember First)).scx (Ask _) x.hand x.way (rw (sym x.hand.update.count) x.hand.update.planned.some) (λ part p. x.filled part (filled part p)) (λ s y. y) record { stands = refl; asked = refl })
+    where
+      filled : (part : ScxWord) → IsFilled (length m.scx.update.snaps.items) (AtMember First) part → IsFilledThen (length m.scx.update.snaps.items) AtOld part
+      filled Plan p = tt
+      filled New p = tt
+      filled Old p = tt
+      filled (Member i) p = absurd (omega arith)
+      filled _ p = absurd p
+
+  pub next_member : (m : PutRun) (j next : MemberNo) (v : ℕ) → index_of next ≡ suc (index_of j) → index_of next < planned m.scx.update.plan.0 → PutTold allows c ps first (scx_at m (AtMember j)) v → PutWaits allows c ps first (scx_at m (AtMember next)) (fill_of m (Member (index_of next)) (snap_at m.scx.update.snaps.items (index_of next)).node.0)
+  next_member m j next v is within = fills m (AtMember j) (AtMember next) v _ (λ h x. x) (λ h x. turn_member allows c h (scx_at m (AtMember j)).scx j (scx_at m (AtMember next)).scx (Ask _) x (inl record { next = next; is = is; within = within; fills = record { stands = refl; asked = refl } }))
+
+  pub to_seen : (m : PutRun) (j : MemberNo) (v : ℕ) → ((index_of j < 3) × (suc (index_of j) < planned m.scx.update.plan.0) → ⊥) → PutTold allows c ps first (scx_at m (AtMember j)) v → PutWaits allows c ps first (scx_at m (AtSeen First)) (fill_of m (Seen 0) (snap_at m.scx.update.snaps.items 0).scx.0)
+  to_seen m j v none = fills m (AtMember j) (AtSeen First) v _ (λ h x. x) (λ h x. turn_member allows c h (scx_at m (AtMember j)).scx j (scx_at m (AtSeen First)).scx (Ask _) x (inr record { none = none; fills = record { stands = refl; asked = refl } }))
+
+  pub next_seen : (m : PutRun) (j next : MemberNo) (v : ℕ) → index_of next ≡ suc (index_of j) → index_of next < planned m.scx.update.plan.0 → PutTold allows c ps first (scx_at m (AtSeen j)) v → PutWaits allows c ps first (scx_at m (AtSeen next)) (fill_of m (Seen (index_of next)) (snap_at m.scx.update.snaps.items (index_of next)).scx.0)
+  next_seen m j next v is within = fills m (AtSeen j) (AtSeen next) v _ (λ h x. x) (λ h x. turn_seen allows c h (scx_at m (AtSeen j)).scx j (scx_at m (AtSeen next)).scx (Ask _) x (inl record { next = next; is = is; within = within; fills = record { stands = refl; asked = refl } }))
+
+  pub to_call : (m : PutRun) (j : MemberNo) (v : ℕ) → ((index_of j < 3) × (suc (index_of j) < planned m.scx.update.plan.0) → ⊥) → PutTold allows c ps first (scx_at m (AtSeen j)) v → PutWaits allows c ps first (scx_at m AtCall) (fill_of m CallWord m.scx.call)
+  to_call m j v none = fills m (AtSeen j) AtCall v _ (λ h x. x) (λ h x. turn_seen allows c h (scx_at m (AtSeen j)).scx j (scx_at m AtCall).scx (Ask _) x (inr record { none = none; fills = record { stands = refl; asked = refl } }))
+
+-- HELP in a call of SCX
+
+told_found : (d : Deed) (found : ℕ) → IsTold d found found
+told_found Load found = refl
+told_found (Store new) found = tt
+told_found (Exchange expected new) found = refl
+
+-- the value and the words of the SCX-record are filled
+pub record Frame (c : Call) (h : History) (m : PutRun) : Type 0 where
+  pub value : HasValue c h m
+  pub filled : HasFilled c h m.scx.scx.0 m.scx.call m.scx.update
+
+-- what HELP comes to, the SCX has come to
+pub record Lifted (allows : Layout → History → ℕ → Type 0) (c : Call) (first m : PutRun) (k : HelpRun) (h : History) : Type 0 where
+  pub frame : Frame c h m
+  pub same : k.scx ≡ m.scx.scx
+  pub came : Course allows (put_waits allows) put_same c first (scx_at m (Help k)) h
+
+module _ (allows : Layout → History → ℕ → Type 0) (c : Call) (start : History) (first m : PutRun) (begun : HelpRun) (at_start : Lifted allows c first m begun start) where
+  pub lift : (k : HelpRun) (h : History) → Course allows (help_waits allows) same_record (record c { start = start }) begun k h → Lifted allows c first m k h
+  lift k h (begins e q) = subst (λ g. Lifted allows c first m k g) (sym q) (rw e at_start)
+  lift k h (others s r g e w other run x) =
+      let y = lift k g x in
+      let run' : IsRun allows c.layout (r ⊳ g) = rw e at run in
+      let frame : Frame c (r ⊳ g) m = record {
+        value = value_more c g r m (own_value_unfilled c.layout g r c.pass m.scx.update.fresh run'.lawful other y.frame.value.own) y.frame.value;
+        filled = filled_more c g r m.scx.scx.0 m.scx.call m.scx.update (takes_by_others c.layout c.pass m.scx.scx.0 g r run'.lawful other) (own_words_unfilled c.layout g r c.pass m.scx.scx.0 run'.lawful other y.frame.filled.own) y.frame.filled;
+      } in
+      let frame' : Frame c h m = rw e frame in
+      record { frame = frame'; same = y.same; came = others s r g e (value_of c h m (scx_at m (Help k)) refl refl frame'.value, (record { known = w.known; asked = w.asked }, y.same, frame'.filled)) other run y.came }
+  lift k h (makes s g e w run x) =
+      let y = lift k g x in
+      let run' : IsRun allows c.layout (row_of c s g ⊳ g) = rw e at run in
+      let waits : put_waits allows (scx_at m (Help k)) c g s = (value_of c g m (scx_at m (Help k)) refl refl y.frame.value, (record { known = w.known; asked = w.asked }, y.same, y.frame.filled)) in
+      let told = put_made allows (scx_at m (Help k)) c g s (value g s.word) run' (told_found s.deed (value g s.word)) waits in
+      let frame : Frame c (row_of c s g ⊳ g) m = record { value = value_of c _ (scx_at m (Help k)) m refl refl told.0; filled = told.1.2 } in
+      record { frame = rw e frame; same = y.same; came = makes s g e waits run y.came }
+  lift k h (goes_on old is x) =
+      let y = lift old h x in
+      record { frame = y.frame; same = is ∙ y.same; came = goes_on (scx_at m (Help old)) (refl, refl, refl, refl) y.came }
+
+module _ (allows : Layout → History → ℕ → Type 0) (c : Call) (ps qs : List Knower) (first m : PutRun) (v : ℕ) (begun : HelpRun) (same : begun.scx ≡ m.scx.scx) (unbegun : begun.at ≡ HelpStart) (x : PutTold allows c ps first (scx_at m AtCall) v) where
+  -- the call of HELP
+  abbrev pub inner : Call
+  inner = record c { start = past c.layout.mode x.known }
+
+  pub help_begins : HelpBegins allows inner ps begun
+  help_begins = let y = begin_help allows c _ (scx_at m AtCall).scx begun x.sound x.so.0.1 same unbegun in record { known = x.known; is = x.is; sound = x.sound; so = (refl, y.ready) }
+
+  lifted : Lifted allows c first m begun (past c.layout.mode x.known)
+  lifted = let y = begin_help allows c _ (scx_at m AtCall).scx begun x.sound x.so.0.1 same unbegun in record {
+    frame = record { value = value_of c _ (scx_at m AtCall) m refl refl x.so.0.0; filled = y.filled };
+    same = same;
+    came = goes_on (scx_at m AtCall) (refl, refl, refl, refl) x.so.1;
+  }
+
+  -- what HELP answers, the SCX does
+  pub put_ends : (now : HelpRun) (b : Bool) (a : Answer) → (b ≡ true → a ≡ Done) → (b ≡ false → a ≡ Lost (blocked_at now.members now.at).0 (blocked_at now.members now.at).1) → HelpEnds allows inner qs begun now b → PutEnds allows c qs first (scx_at m (Help now)) a
+  put_ends now b a done lost e =
+      let y = lift allows c (past c.layout.mode x.known) first m begun lifted now (past c.layout.mode e.known) e.so.1 in
+      record { known = e.known; is = e.is; sound = e.sound; so = (turn_scx allows c _ e.sound.lawful (scx_at m (Help now)) (scx_at m (Help now)) (End a) refl refl refl (value_of c _ m (scx_at m (Help now)) refl refl y.frame.value) (answers y b e.so.0 done lost), y.came) }
+    where
+      answers : Lifted allows c first m now (past c.layout.mode e.known) → (t : Bool) → help_answers now inner (past c.layout.mode e.known) t → (t ≡ true → a ≡ Done) → (t ≡ false → a ≡ Lost (blocked_at now.members now.at).0 (blocked_at now.members now.at).1) → scx_answers (scx_at m (Help now)).scx c (past c.layout.mode e.known) a
+      answers y true k f g = rw (f refl) (done_at c _ (scx_at m (Help now)).scx now e.sound.lawful y.frame.filled y.same true now k refl refl)
+      answers y false k f g = rw (g refl) (lost_at c _ (scx_at m (Help now)).scx now e.sound.lawful y.frame.filled y.same false now k refl refl)

@@ -1,0 +1,6 @@
+use Rattle.std.proofs.Common.{◌≡◌}
+use Rattle.forest.specs.Courses.{IsCalled}
+use Rattle.forest.proofs.straight.help.act.Goals as goal
+
+pub step_of-requires-clause-waits : goal.step_of-requires-clause-waits
+step_of-requires-clause-waits g c = c.requires.waits

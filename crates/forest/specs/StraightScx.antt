@@ -1,0 +1,40 @@
+-- Calls of an SCX with a fresh cell that stand at a place of its machine.
+use Rattle.std.specs.Prelude.{◌≡◌, ℕ, List}
+use Rattle.arena.specs.declared.layout.Layout.{Layout}
+use Rattle.arena.specs.declared.step.Step.{Step}
+use Rattle.arena.specs.declared.step.Deed.TheVariants.{Store}
+use Rattle.arena.specs.declared.step.Kind.TheVariants.{Fill}
+use Rattle.arena.specs.declared.word.ScxWord.{ScxWord}
+use Rattle.arena.specs.Words.{scx}
+use Rattle.arena.specs.History.{History}
+use Rattle.arena.specs.Machines.{Call}
+use Rattle.prims.specs.PutKnown.{put_ready, put_waits, put_answers}
+use Rattle.prims.specs.declared.put.PutRun.{PutRun}
+use Rattle.prims.specs.declared.put.PutAt.TheVariants.{Scx as AtScx}
+use Rattle.prims.specs.declared.scx.Scx.{Scx}
+use Rattle.prims.specs.declared.scx.ScxAt.{ScxAt}
+use Rattle.forest.specs.declared.view.Knower.{Knower}
+use Rattle.forest.specs.Courses.{Begins, Waits, Told, Ends}
+
+abbrev pub put_same : PutRun → PutRun → Type 0
+put_same old now = (now.scx.scx ≡ old.scx.scx) × (now.scx.update ≡ old.scx.update) × (now.scx.call ≡ old.scx.call) × (now.value ≡ old.value)
+
+-- the run with its SCX at a place
+abbrev pub scx_at : PutRun → ScxAt → PutRun
+scx_at m at = record { value = m.value; scx = record { scx = m.scx.scx; call = m.scx.call; update = m.scx.update; at = at }; at = AtScx }
+
+abbrev pub fill_of : PutRun → ScxWord → ℕ → Step
+fill_of m part v = record { kind = Fill; word = scx m.scx.scx.0 part; deed = Store v }
+
+module _ (allows : Layout → History → ℕ → Type 0) (c : Call) (ps : List Knower) (first : PutRun) where
+  abbrev pub PutBegins : Type 0
+  PutBegins = Begins allows (put_ready allows) c ps first
+
+  abbrev pub PutWaits : PutRun → Step → Type 0
+  PutWaits = Waits allows (put_waits allows) put_same c ps first
+
+  abbrev pub PutTold : PutRun → ℕ → Type 0
+  PutTold = Told allows (put_waits allows) put_same c ps first (put_ready allows)
+
+  abbrev pub PutEnds : PutRun → Scx → Type 0
+  PutEnds = Ends allows (put_waits allows) put_same c ps first put_answers

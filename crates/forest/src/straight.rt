@@ -1,0 +1,8 @@
+//! Whole calls as straight code. Each step is the one for which the call's machine waits at that
+//! place, so the machine's conditions say what is known there; the machine itself never runs, but
+//! where something is in the way: it goes on from that place.
+
+pub(crate) mod help;
+pub(crate) mod llx;
+pub(crate) mod scx;
+pub(crate) mod vlx;

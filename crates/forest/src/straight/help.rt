@@ -1,0 +1,246 @@
+//! HELP with its steps in line.
+ghost use Rattle.std.specs.Prelude.{◌≡◌, ◌≢◌, ◌+◌, ◌≤◌, ◌<◌, ◌⊎◌, ℕ, suc, true, false, IfSome, IfNone};
+ghost use Rattle.arena.specs.MemberNo.{index_of};
+ghost use Rattle.help.specs.Plan.{is_removed};
+ghost use Rattle.help.specs.HelpSteps.{help_left};
+ghost use Rattle.help.specs.HelpKnown.{first_place};
+ghost use Rattle.arena.specs.Machines.{Call};
+ghost use Rattle.help.specs.declared.state.HelpRun.{HelpRun};
+ghost use Rattle.forest.specs.Kept.{IsTableOf};
+ghost use Rattle.forest.specs.Courses.{steps_of};
+ghost use Rattle.forest.specs.StraightHelp.{HelpBegins, HelpWaits, HelpTold, HelpMarks, HelpEnds};
+
+use crate::steps::{Words, complete, step_of};
+use crate::view::View;
+use arena::{
+    COMMITTED, Deed, Kind, Layout, MemberNo, NodeNo, NodeWord, ScxNo, ScxWord, Shape, Step, Turn,
+    Word,
+};
+use atomic_table::Seat;
+use help::{HelpAt, HelpRun, Plan};
+
+/// Makes the step that a HELP waits for.
+#[inline(always)]
+fn act<S: Shape>(
+    words: &Words<S>,
+    layout: &Layout,
+    seat: &mut Seat<u8, View>,
+    number: u64,
+    run: &HelpRun,
+    at: HelpAt,
+    step: Step,
+) -> u64
+    requires table { IsTableOf words.now.table_id words.now.key layout.now × (seat.old.table_id ≡ words.now.table_id) }
+    requires waits { (c : Call) × (first : HelpRun) × (c.layout ≡ layout.now) × (c.number ≡ number) × HelpWaits S.allows c seat.old.me.0.passes first (record run.now { at = at }) step }
+    ensures table { (seat.new.table_id ≡ seat.old.table_id) × (seat.new.me.1 ≡ seat.old.me.1) }
+    ensures one { steps_of seat.new.me.0.passes ≡ suc (steps_of seat.old.me.0.passes) }
+    ensures told { (c : Call) (first : HelpRun) → c.layout ≡ layout.now → c.number ≡ number → HelpWaits S.allows c seat.old.me.0.passes first (record run.now { at = at }) step → HelpTold S.allows c seat.new.me.0.passes first (record run.now { at = at }) result }
+{
+    let here = HelpRun {
+        scx: run.scx,
+        plan: run.plan,
+        members: run.members,
+        at,
+    };
+    step_of::<S, HelpRun>(words, layout, seat, number, &here, step)
+}
+
+#[inline(always)]
+fn settled(scx: ScxNo, part: ScxWord) -> Step
+    ensures { result ≡ record { kind = Kind.LoadSettled; word = Word.Scx scx part; deed = Deed.Load } }
+{
+    let word = Word::Scx(scx, part);
+    Step {
+        kind: Kind::LoadSettled,
+        word,
+        deed: Deed::Load,
+    }
+}
+
+/// Whether an info that a freezing exchange found so is frozen now.
+#[inline(always)]
+fn is_frozen(found: u64, seen: u64, scx: ScxNo) -> bool
+    ensures frozen { result ≡ true → (found ≡ seen) ⊎ (found ≡ scx.0) }
+    ensures other { result ≡ false → (found ≢ seen) × (found ≢ scx.0) }
+{
+    found == seen || found == scx.0
+}
+
+/// Freezes the nodes of an SCX-record whose plan has been read.
+#[inline(always)]
+fn freeze_all<S: Shape>(
+    words: &Words<S>,
+    layout: &Layout,
+    seat: &mut Seat<u8, View>,
+    number: u64,
+    run: &mut HelpRun,
+) -> bool
+    requires table { IsTableOf words.now.table_id words.now.key layout.now × (seat.old.table_id ≡ words.now.table_id) }
+    requires waits { (c : Call) × (first : HelpRun) × (c.layout ≡ layout.now) × (c.number ≡ number) × HelpWaits S.allows c seat.old.me.0.passes first (record run.old { at = HelpAt.Member MemberNo.First }) record { kind = Kind.LoadSettled; word = Word.Scx run.old.scx (ScxWord.Member 0); deed = Deed.Load } }
+    ensures table { (seat.new.table_id ≡ seat.old.table_id) × (seat.new.me.1 ≡ seat.old.me.1) }
+    ensures steps { steps_of seat.new.me.0.passes ≤ steps_of seat.old.me.0.passes + 12 }
+    ensures left { result ≡ false → help_left run.new.at ≤ 2 }
+    ensures same { run.new.scx ≡ run.old.scx }
+    ensures frozen { result ≡ true → (c : Call) (first : HelpRun) → c.layout ≡ layout.now → c.number ≡ number
+        → HelpWaits S.allows c seat.old.me.0.passes first (record run.old { at = HelpAt.Member MemberNo.First }) record { kind = Kind.LoadSettled; word = Word.Scx run.old.scx (ScxWord.Member 0); deed = Deed.Load }
+        → HelpWaits S.allows c seat.new.me.0.passes first (record run.new { at = HelpAt.SetFrozen }) record { kind = Kind.SetFrozen; word = Word.Scx run.new.scx ScxWord.AllFrozen; deed = Deed.Store 1 } }
+    ensures blocked { result ≡ false → (c : Call) (first : HelpRun) → c.layout ≡ layout.now → c.number ≡ number
+        → HelpWaits S.allows c seat.old.me.0.passes first (record run.old { at = HelpAt.Member MemberNo.First }) record { kind = Kind.LoadSettled; word = Word.Scx run.old.scx (ScxWord.Member 0); deed = Deed.Load }
+        → HelpWaits S.allows c seat.new.me.0.passes first run.new record { kind = Kind.LoadAllFrozen; word = Word.Scx run.new.scx ScxWord.AllFrozen; deed = Deed.Load } }
+{
+    let mut j = MemberNo::First;
+    loop {
+        let asked = settled(run.scx, ScxWord::Member(j.number()));
+        let member = act(
+            words,
+            layout,
+            seat,
+            number,
+            &*run,
+            HelpAt::Member { j },
+            asked,
+        );
+        run.members[j.index()] = NodeNo(member);
+        let asked = settled(run.scx, ScxWord::Seen(j.number()));
+        let seen = act(
+            words,
+            layout,
+            seat,
+            number,
+            &*run,
+            HelpAt::Seen { j },
+            asked,
+        );
+        let freeze = Step {
+            kind: Kind::Freeze,
+            word: Word::Node(run.members[j.index()], NodeWord::Info),
+            deed: Deed::Exchange {
+                expected: seen,
+                new: run.scx.0,
+            },
+        };
+        let found = act(
+            words,
+            layout,
+            seat,
+            number,
+            &*run,
+            HelpAt::Freeze { j, seen },
+            freeze,
+        );
+        if !is_frozen(found, seen, run.scx) {
+            run.at = HelpAt::AllFrozen { j, found };
+            return false;
+        }
+        match run.plan.member_behind(j) {
+            Some(next) => j = next,
+            None => return true,
+        }
+    }
+}
+
+/// The first node to be finalized, from a place on.
+#[inline(always)]
+fn removed_behind(plan: Plan, from: Option<MemberNo>) -> Option<MemberNo>
+    ensures removed { IfSome result (λ k. (first_place from ≤ index_of k) × (is_removed plan.0 (index_of k) ≡ true) × ((i : ℕ) → first_place from ≤ i → i < index_of k → is_removed plan.0 i ≡ false)) }
+    ensures none { IfNone result ((i : ℕ) → first_place from ≤ i → i < 4 → is_removed plan.0 i ≡ false) }
+{
+    plan.removed_from(from?)
+}
+
+/// Marks those nodes of an SCX-record whose flag is set that it finalizes.
+#[inline(always)]
+fn mark_all<S: Shape>(
+    words: &Words<S>,
+    layout: &Layout,
+    seat: &mut Seat<u8, View>,
+    number: u64,
+    run: &HelpRun,
+)
+    requires table { IsTableOf words.now.table_id words.now.key layout.now × (seat.old.table_id ≡ words.now.table_id) }
+    requires marks { (c : Call) × (first : HelpRun) × (c.layout ≡ layout.now) × (c.number ≡ number) × HelpMarks S.allows c seat.old.me.0.passes first run.now 0 }
+    ensures table { (seat.new.table_id ≡ seat.old.table_id) × (seat.new.me.1 ≡ seat.old.me.1) }
+    ensures steps { steps_of seat.new.me.0.passes ≤ steps_of seat.old.me.0.passes + 4 }
+    ensures marked { (c : Call) (first : HelpRun) → c.layout ≡ layout.now → c.number ≡ number
+        → HelpMarks S.allows c seat.old.me.0.passes first run.now 0
+        → HelpWaits S.allows c seat.new.me.0.passes first (record run.now { at = HelpAt.New }) record { kind = Kind.LoadSettled; word = Word.Scx run.now.scx ScxWord.New; deed = Deed.Load } }
+{
+    let mut from = Some(MemberNo::First);
+    loop {
+        let Some(j) = removed_behind(run.plan, from) else {
+            return;
+        };
+        let mark = Step {
+            kind: Kind::Mark,
+            word: Word::Node(run.members[j.index()], NodeWord::Marked),
+            deed: Deed::Store(1),
+        };
+        act(words, layout, seat, number, run, HelpAt::Mark { j }, mark);
+        from = j.next();
+    }
+}
+
+/// HELP of an SCX-record by a run that has not begun: its steps in line; where a node cannot be frozen,
+/// the machine goes on.
+#[inline(always)]
+pub(crate) fn call<S: Shape>(
+    words: &Words<S>,
+    layout: &Layout,
+    seat: &mut Seat<u8, View>,
+    number: u64,
+    unbegun: HelpRun,
+) -> (HelpRun, bool)
+    requires table { IsTableOf words.now.table_id words.now.key layout.now × (seat.old.table_id ≡ words.now.table_id) }
+    requires start { unbegun.at ≡ HelpAt.Start }
+    requires begins { (c : Call) × (c.layout ≡ layout.now) × (c.number ≡ number) × HelpBegins S.allows c seat.old.me.0.passes unbegun }
+    ensures table { (seat.new.table_id ≡ seat.old.table_id) × (seat.new.me.1 ≡ seat.old.me.1) }
+    ensures steps { steps_of seat.new.me.0.passes ≤ steps_of seat.old.me.0.passes + 27 }
+    ensures ends { (c : Call) → c.layout ≡ layout.now → c.number ≡ number → HelpBegins S.allows c seat.old.me.0.passes unbegun → HelpEnds S.allows c seat.new.me.0.passes unbegun result.0 result.1 }
+{
+    let mut run = unbegun;
+    let asked = settled(run.scx, ScxWord::Plan);
+    let plan = act(words, layout, seat, number, &run, HelpAt::Plan, asked);
+    run.plan = Plan(plan);
+    if !freeze_all(words, layout, seat, number, &mut run) {
+        let turn = Turn::Ask(Step {
+            kind: Kind::LoadAllFrozen,
+            word: Word::Scx(run.scx, ScxWord::AllFrozen),
+            deed: Deed::Load,
+        });
+        return complete::<S, HelpRun>(words, layout, seat, number, run, turn);
+    }
+    let flag = Step {
+        kind: Kind::SetFrozen,
+        word: Word::Scx(run.scx, ScxWord::AllFrozen),
+        deed: Deed::Store(1),
+    };
+    act(words, layout, seat, number, &run, HelpAt::SetFrozen, flag);
+    mark_all(words, layout, seat, number, &run);
+    let asked = settled(run.scx, ScxWord::New);
+    let new = act(words, layout, seat, number, &run, HelpAt::New, asked);
+    let asked = settled(run.scx, ScxWord::Old);
+    let old = act(
+        words,
+        layout,
+        seat,
+        number,
+        &run,
+        HelpAt::Old { new },
+        asked,
+    );
+    let node = run.members[run.plan.at().index()];
+    let update = Step {
+        kind: Kind::Update,
+        word: Word::Node(node, NodeWord::Child(run.plan.side())),
+        deed: Deed::Exchange { expected: old, new },
+    };
+    act(words, layout, seat, number, &run, HelpAt::Update, update);
+    let commit = Step {
+        kind: Kind::Commit,
+        word: Word::Scx(run.scx, ScxWord::State),
+        deed: Deed::Store(COMMITTED),
+    };
+    act(words, layout, seat, number, &run, HelpAt::Commit, commit);
+    run.at = HelpAt::Commit;
+    (run, true)
+}

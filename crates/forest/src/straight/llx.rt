@@ -1,0 +1,100 @@
+//! LLX.
+ghost use Rattle.std.specs.Prelude.{◌≡◌, ◌≢◌, ◌≤◌, ◌+◌, ◌⊎◌, true, false};
+ghost use Rattle.arena.specs.Machines.{Call};
+ghost use Rattle.forest.specs.Kept.{IsTableOf};
+ghost use Rattle.forest.specs.Courses.{steps_of};
+ghost use Rattle.forest.specs.StraightLlx.{LlxBegins, LlxEnds};
+ghost use Rattle.prims.specs.LlxKnown.{load};
+
+use crate::steps::{Words, complete, step_of};
+use crate::view::View;
+use arena::{
+    ABORTED, COMMITTED, Deed, Kind, Layout, NodeNo, NodeWord, ScxNo, ScxWord, Shape, Side, Step,
+    Turn, Word,
+};
+use atomic_table::Seat;
+use prims::{Llx, LlxAt, LlxRun, Snap};
+
+/// A load of this word.
+#[inline(always)]
+fn load(kind: Kind, word: Word) -> Step
+    ensures { result ≡ load kind word }
+{
+    let deed = Deed::Load;
+    Step { kind, word, deed }
+}
+
+/// Whether an SCX-record in this state leaves the node in place.
+#[inline(always)]
+fn leaves(state: u64, marked: bool) -> bool
+    ensures in_place { result ≡ true → (state ≡ 2) ⊎ ((state ≡ 1) × (marked ≡ false)) }
+    ensures disturbs { result ≡ false → (state ≢ 2) × (state ≡ 1 → marked ≡ true) }
+{
+    state == ABORTED || state == COMMITTED && !marked
+}
+
+/// LLX of a node: the loads of a snapshot; where something is in the way, the machine goes on.
+#[inline(always)]
+pub(crate) fn call<S: Shape>(
+    words: &Words<S>,
+    layout: &Layout,
+    seat: &mut Seat<u8, View>,
+    number: u64,
+    node: NodeNo,
+) -> Llx
+    requires table { IsTableOf words.now.table_id words.now.key layout.now × (seat.old.table_id ≡ words.now.table_id) }
+    requires begins { (c : Call) × (c.layout ≡ layout.now) × (c.number ≡ number) × LlxBegins S.allows c seat.old.me.0.passes node }
+    ensures table { (seat.new.table_id ≡ seat.old.table_id) × (seat.new.me.1 ≡ seat.old.me.1) }
+    ensures ends { (c : Call) → c.layout ≡ layout.now → c.number ≡ number → LlxBegins S.allows c seat.old.me.0.passes node → LlxEnds S.allows c seat.new.me.0.passes node result }
+    ensures steps { steps_of seat.new.me.0.passes ≤ steps_of seat.old.me.0.passes + 64 }
+{
+    let layout = *layout;
+    let mark = load(Kind::LoadMarked, Word::Node(node, NodeWord::Marked));
+    let info = load(Kind::LoadInfo, Word::Node(node, NodeWord::Info));
+    let one = load(
+        Kind::LoadChild,
+        Word::Node(node, NodeWord::Child(Side::Left)),
+    );
+    let other = load(
+        Kind::LoadChild,
+        Word::Node(node, NodeWord::Child(Side::Right)),
+    );
+
+    let at = LlxAt::Marked;
+    let found = step_of::<S, LlxRun>(words, &layout, seat, number, &LlxRun { node, at }, mark);
+    let marked = found != 0;
+    let at = LlxAt::Info { marked };
+    let scx = step_of::<S, LlxRun>(words, &layout, seat, number, &LlxRun { node, at }, info);
+    let scx = ScxNo(scx);
+    let finished = load(Kind::LoadState, Word::Scx(scx, ScxWord::State));
+    let at = LlxAt::State { marked, scx };
+    let state = step_of::<S, LlxRun>(words, &layout, seat, number, &LlxRun { node, at }, finished);
+    let at = LlxAt::MarkedAgain { marked, scx, state };
+    let again = step_of::<S, LlxRun>(words, &layout, seat, number, &LlxRun { node, at }, mark);
+    let at = LlxAt::StateAgain { marked, scx };
+    let declined = LlxRun { node, at };
+    if !leaves(state, again != 0) {
+        return complete(words, &layout, seat, number, declined, Turn::Ask(finished)).1;
+    }
+    let at = LlxAt::Left { marked, scx };
+    let left = step_of::<S, LlxRun>(words, &layout, seat, number, &LlxRun { node, at }, one);
+    let at = LlxAt::Right { marked, scx, left };
+    let right = step_of::<S, LlxRun>(words, &layout, seat, number, &LlxRun { node, at }, other);
+    let at = LlxAt::InfoAgain {
+        marked,
+        scx,
+        left,
+        right,
+    };
+    let last = step_of::<S, LlxRun>(words, &layout, seat, number, &LlxRun { node, at }, info);
+    if last != scx.0 {
+        return complete(words, &layout, seat, number, declined, Turn::Ask(finished)).1;
+    }
+    let (left, right) = (NodeNo(left), NodeNo(right));
+    Llx::Snapshot(Snap {
+        node,
+        scx,
+        left,
+        right,
+    })
+}
