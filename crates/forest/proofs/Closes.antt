@@ -22,18 +22,18 @@ use Rattle.forest.specs.declared.view.Knower.{Knower}
 use Rattle.forest.specs.declared.view.View.{View}
 use Rattle.forest.specs.declared.pass.Pass.TheInside.{Inside}
 use Rattle.forest.specs.Kept.{past, knower, look, looked, Made, Kept, Owns, Behind, HasLooked}
-use Rattle.forest.specs.Courses.{known_of}
+use Rattle.forest.specs.Courses.{known_of, rows_of}
 use Rattle.prims.specs.Shares.{IsShare}
 use Rattle.forest.specs.Shares.{entries_of}
-use Rattle.forest.specs.Passes.{Sight, AreOf, Each, AreBegun, HasBlamed, HaveLeftShares, IsClosed, run_of, done_of}
+use Rattle.forest.specs.Passes.{Sight, AreOf, Each, AreBegun, HasBlamed, HaveLeftShares, IsClosed, run_of, done_of, steps_of}
 use Rattle.forest.specs.Gathered.{IsFrom, IsOneOf, AreIn}
 use Rattle.forest.specs.Held.{sight, IsPass}
-use Rattle.forest.proofs.Advances.{keeps_all, same_knower}
+use Rattle.forest.proofs.Advances.{keeps_all, rows_by_others, same_knower}
 use Rattle.prims.proofs.Shares.{next_unwon}
 use Rattle.forest.proofs.Calls.{IsQuiet, quiet_start, quiet_other}
 use Rattle.forest.proofs.Blames.{each_by, blames_left}
-use Rattle.forest.proofs.Passes.{HasCalled, seated, called_pass, called_done}
-use Rattle.forest.proofs.Meets.{look_called}
+use Rattle.forest.proofs.Passes.{HasCalled, seated, called_pass, called_nothing}
+use Rattle.forest.proofs.Meets.{look_called, look_steps}
 
 -- the element of a list, by either way to read it
 pub index_is : (l : List ℕ) (i a : ℕ) → get_elem? l i ≡ some a → slice_index l i ≡ a
@@ -54,7 +54,8 @@ looked_from p x s n bare m = (
     sound = z.sound;
     rest = z.rest;
     ends = y.goes.since;
-    done = called_done p s _ y;
+    done = (called_nothing p s 0 _ y).done;
+    steps = look_steps p s (m.others ++ known_of p.seat.me.0.passes) has_looked.behind are;
     blamed = x.blamed;
   },
 )
@@ -71,11 +72,11 @@ looked_from p x s n bare m = (
     are : s.me.0.passes ≡ looked me (m.others ++ known_of p.seat.me.0.passes) ∷ []
     are = subst (λ (k : Knower). s.me.0.passes ≡ looked k (m.others ++ k.known) ∷ []) same m.is
 
-    y : HasCalled p s (λ h. EndsWith h (past p.layout.mode (m.others ++ known_of p.seat.me.0.passes)))
+    y : HasCalled p s 0 (λ h. EndsWith h (past p.layout.mode (m.others ++ known_of p.seat.me.0.passes)))
     y = look_called p x s (m.others ++ known_of p.seat.me.0.passes) has_looked are
 
     z : IsPass (seated p s)
-    z = called_pass p x s _ bare y
+    z = called_pass p x s 0 _ bare y
 
 -- All of them
 
@@ -108,49 +109,62 @@ owned_behind lay run owner id k (p ∷ ps) o (inl e) = subst (λ (q : Knower). (
 owned_behind lay run owner id k (p ∷ ps) o (inr i) = owned_behind lay run owner id k ps o.4 i
 
 -- what is so of a pass at the end, whose run goes on from what the pass knew
-record IsAtEnd (lay : Layout) (run : History) (d : Sight) : Type 0 where
-  ends : EndsWith run (run_of d)
-  done : entries_of d.number (log d.layout run) ≡ done_of d
-  share : IsShare lay run d.number d.share d.share.next_node d.share.next_scx
+record IsAtEnd (lay : Layout) (rows : List Row) (d : Sight) : Type 0 where
+  ends : EndsWith (past d.layout.mode rows) (run_of d)
+  done : entries_of d.number (log d.layout (past d.layout.mode rows)) ≡ done_of d
+  steps : rows_of d.number rows ≡ suc (steps_of d)
+  same : d.layout ≡ lay
+  share : IsShare lay (past lay.mode rows) d.number d.share d.share.next_node d.share.next_scx
   blamed : HasBlamed d
 
 -- behind what it knows are rows of others alone
-one_ended : (d : Sight) (k : Knower) (lay : Layout) (run : List Row) → d.layout ≡ lay → IsFrom d k → IsRun allows_all lay (past lay.mode run) → Behind run k → IsAtEnd lay (past lay.mode run) d
+one_ended : (d : Sight) (k : Knower) (lay : Layout) (run : List Row) → d.layout ≡ lay → IsFrom d k → IsRun allows_all lay (past lay.mode run) → Behind run k → IsAtEnd lay run d
 one_ended d k lay run same f sound b =
     let h0 : History = past d.layout.mode k.known in
     let sound' : IsRun allows_all d.layout (past d.layout.mode (b.0 ++ k.known)) = subst (λ l. IsRun allows_all d.layout (past d.layout.mode l)) b.1 (subst (λ (l : Layout). IsRun allows_all l (past l.mode run)) (sym same) sound) in
     let mine = subst (λ (q : Knower). q.number.0 ≡ d.number) (sym f.is) refl in
     let goes = keeps_all allows_all d.layout d.number (IsQuiet d.layout d.number h0 d.share) (λ h r run other z. quiet_other d.layout d.number h0 d.share f.is_pass h r run other z) b.0 k.known (rw mine at b.2) sound' (quiet_start d.layout d.number h0 d.share f.sound f.rest) in
     let none = goes.unwon (λ w. next_unwon d.layout _ d.number d.share _ _ goes.sound.lawful goes.share w.0 w.1) in
-    subst (λ (l : Layout). IsAtEnd l (past l.mode run) d) same (subst (λ l. IsAtEnd d.layout (past d.layout.mode l) d) (sym b.1) record { ends = ends_trans _ _ _ goes.since f.ends; done = none ∙ f.done; share = goes.share; blamed = f.blamed })
+    subst (λ (l : Layout). IsAtEnd l run d) same (subst (λ l. IsAtEnd d.layout l d) (sym b.1) record {
+      ends = ends_trans _ _ _ goes.since f.ends;
+      done = none ∙ f.done;
+      steps = rows_by_others d.number b.0 k.known (rw mine at b.2) ∙ f.steps;
+      same = refl;
+      share = goes.share;
+      blamed = f.blamed;
+    })
 
-all_ended : (id : _) (lay : Layout) (run : List Row) (owner : ℕ → ℕ) (seat : ℕ) (ks : List Knower) → IsRun allows_all lay (past lay.mode run) → Owns lay run owner seat ks → (ds : List Sight) → AreOf id lay ds → AreIn ds ks → Each (IsAtEnd lay (past lay.mode run)) ds
+all_ended : (id : _) (lay : Layout) (run : List Row) (owner : ℕ → ℕ) (seat : ℕ) (ks : List Knower) → IsRun allows_all lay (past lay.mode run) → Owns lay run owner seat ks → (ds : List Sight) → AreOf id lay ds → AreIn ds ks → Each (IsAtEnd lay run) ds
 all_ended id lay run owner seat ks sound o [] of a = tt
 all_ended id lay run owner seat ks sound o (d ∷ ds) of a =
     let k = a.0.0 in
     let b = owned_behind lay run owner seat k ks o a.0.1 in
     (one_ended d k lay run of.0.1 a.0.2 sound b.1, all_ended id lay run owner seat ks sound o ds of.1 a.1)
 
-all_begun : (lay : Layout) (run : History) (ds : List Sight) → Each (IsAtEnd lay run) ds → AreBegun ds run
+all_begun : (lay : Layout) (run : List Row) (ds : List Sight) → Each (IsAtEnd lay run) ds → AreBegun ds run
 all_begun lay run [] a = tt
-all_begun lay run (d ∷ ds) a = (a.0.ends, a.0.done, all_begun lay run ds a.1)
+all_begun lay run (d ∷ ds) a = (a.0.ends, a.0.done, a.0.steps, all_begun lay run ds a.1)
 
 -- what they have blamed is taken, and their shares are not
-all_left : (lay : Layout) (run : History) (ds : List Sight) → Lawful lay run → Each (IsAtEnd lay run) ds → HaveLeftShares ds
-all_left lay run ds l all = each_by (IsAtEnd lay run) (λ p. Each (λ q. Each (λ s. ¬ HasScx q.share s) p.blamed) ds) ds
-    (λ p a. each_by (IsAtEnd lay run) (λ q. Each (λ s. ¬ HasScx q.share s) p.blamed) ds
-    (λ q b. blames_left lay run p q q.number _ _ (lawful_since lay run (run_of p) l a.ends) a.ends b.share a.blamed) all) all
+all_left : (lay : Layout) (rows : List Row) (ds : List Sight) → Lawful lay (past lay.mode rows) → Each (IsAtEnd lay rows) ds → HaveLeftShares ds
+all_left lay rows ds l all = let run : History = past lay.mode rows in each_by (IsAtEnd lay rows) (λ p. Each (λ q. Each (λ s. ¬ HasScx q.share s) p.blamed) ds) ds
+    (λ p a. each_by (IsAtEnd lay rows) (λ q. Each (λ s. ¬ HasScx q.share s) p.blamed) ds
+    (λ q b. blames_left lay run p q q.number _ _ (lawful_since lay run (run_of p) l (ends_at p a)) (ends_at p a) b.share a.blamed) all) all
+  where
+    ends_at : (p : Sight) → IsAtEnd lay rows p → EndsWith (past lay.mode rows) (run_of p)
+    ends_at p a = subst (λ (l : Layout). EndsWith (past l.mode rows) (run_of p)) a.same a.ends
+
 
 pub closes : (id : _) (lay : Layout) (ds : List Sight) (seat : ℕ) (v : View) (words : List ℕ) (slots : List ℕ) → AreOf id lay ds → AreIn ds v.passes → Final (Seen (Kept allows_all lay) seat v) words slots → IsClosed lay ds (record { layout = lay; words = words })
 closes id lay ds seat v words slots of a f =
     let kept : Kept allows_all lay f.0 = f.1.0 in
     let holds : (w : Word) → IsWord lay w → slice_index words (place lay w) ≡ value (past lay.mode kept.run) w = λ w i. rw (← f.2) (kept.holds w i) in
-    let all : Each (IsAtEnd lay (past lay.mode kept.run)) ds = all_ended id lay kept.run kept.owner seat v.passes kept.sound (kept.passes seat v f.1.1) ds of a in
+    let all : Each (IsAtEnd lay kept.run) ds = all_ended id lay kept.run kept.owner seat v.passes kept.sound (kept.passes seat v f.1.1) ds of a in
     record {
-      run = past lay.mode kept.run;
+      rows = kept.run;
       sound = kept.sound;
       holds = holds;
       fields = λ n side i. holds (child n side) i ∙ fields_are lay (past lay.mode kept.run) n side kept.sound.lawful;
-      begun = all_begun lay (past lay.mode kept.run) ds all;
-      blamed = all_left lay (past lay.mode kept.run) ds kept.sound.lawful all;
+      begun = all_begun lay kept.run ds all;
+      blamed = all_left lay kept.run ds kept.sound.lawful all;
     }

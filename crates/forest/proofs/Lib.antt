@@ -3,6 +3,7 @@ pub mod Advances
 pub mod Deals
 pub mod Frames
 pub mod Calls
+pub mod Called
 pub mod Blames
 pub mod Passes
 pub mod LlxCalls

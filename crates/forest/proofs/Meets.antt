@@ -1,5 +1,5 @@
 -- How two passes meet.
-use Rattle.std.proofs.Common.{◌≡◌, ◌≢◌, ℕ, suc, List, [], ◌∷◌, ◌++◌, refl, sym, ◌∙◌, ap, subst, eq-eqb, inr}
+use Rattle.std.proofs.Common.{◌≡◌, ◌≢◌, ℕ, suc, List, [], ◌∷◌, ◌++◌, refl, sym, ◌∙◌, ap, subst, eq-eqb, inr, arith}
 use Rattle.atomic_table.specs.declared.shared.Seat.{Seat}
 use Rattle.arena.specs.declared.layout.Layout.{Layout}
 use Rattle.arena.specs.declared.limits.Mode.{Mode}
@@ -14,12 +14,13 @@ use Rattle.forest.specs.declared.view.View.{View}
 use Rattle.forest.specs.declared.pass.Pass.TheInside.{Inside}
 use Rattle.forest.specs.Kept.{past, knower, row, look, Looked, HasLooked, Met, looked, Behind}
 use Rattle.forest.specs.Courses.{known_of, rows_of}
-use Rattle.forest.specs.Passes.{HaveLeftShares, run_of, steps_of}
+use Rattle.forest.specs.Passes.{AreOfCall, HasLookedOnce, HaveLeftShares, run_of, steps_of}
 use Rattle.forest.specs.Held.{sight, IsPass}
 use Rattle.forest.proofs.Advances.{keeps_all, rows_by_others, same_knower}
 use Rattle.forest.proofs.Calls.{IsQuiet, quiet_start, quiet_other, quiet_step}
 use Rattle.forest.proofs.Blames.{blames_left}
-use Rattle.forest.proofs.Passes.{HasCalled, seated}
+use Rattle.forest.proofs.Called.{calls_start, calls_more, calls_others}
+use Rattle.forest.proofs.Passes.{HasCalled, seated, called_pass, called_nothing}
 
 -- Two looks
 
@@ -49,7 +50,7 @@ pub behind_ends : (run : List Row) (p : Knower) → Behind run p → EndsWith (p
 behind_ends run p b = subst (λ rows. EndsWith (past p.layout.mode rows) (past p.layout.mode p.known)) (sym b.1) (ends_more p.layout.mode b.0 p.known)
 
 -- a pass that has looked knows what it knew, and its look
-pub look_called : (p : Inside) (x : IsPass p) (s : Seat ℕ View) (run : List Row) → HasLooked allows_all (knower p.number.0 p.layout (known_of p.seat.me.0.passes)) run → s.me.0.passes ≡ looked (knower p.number.0 p.layout (known_of p.seat.me.0.passes)) run ∷ [] → HasCalled p s (λ h. EndsWith h (past p.layout.mode run))
+pub look_called : (p : Inside) (x : IsPass p) (s : Seat ℕ View) (run : List Row) → HasLooked allows_all (knower p.number.0 p.layout (known_of p.seat.me.0.passes)) run → s.me.0.passes ≡ looked (knower p.number.0 p.layout (known_of p.seat.me.0.passes)) run ∷ [] → HasCalled p s 0 (λ h. EndsWith h (past p.layout.mode run))
 look_called p x s run y e =
     let mode = p.layout.mode in
     let start = past mode (known_of p.seat.me.0.passes) in
@@ -62,11 +63,27 @@ look_called p x s run y e =
       seat = rw known at e;
       answers = subst (λ l. EndsWith (past mode l) (past mode run)) known (inr (ends_self (past mode run)));
       goes = subst (λ l. IsQuiet p.layout p.number.0 start p.share (past mode l)) known (quiet_step p.layout p.number.0 start p.share (past mode run) r y.after (λ k. cc) (subst (λ l. IsQuiet p.layout p.number.0 start p.share (past mode l)) (sym y.behind.1) quiet));
+      calls = subst (λ l. AreOfCall p.number.0 0 start (past mode l)) known (calls_more p.number.0 0 start (past mode run) r (λ own. refl) (subst (λ l. AreOfCall p.number.0 0 start (past mode l)) (sym y.behind.1) (calls_others p.number.0 0 start mode rows (known_of p.seat.me.0.passes) y.behind.2 (calls_start p.number.0 0 start))));
     }
 
 -- and has made one step more
 pub look_steps : (p : Inside) (s : Seat ℕ View) (run : List Row) → Behind run (knower p.number.0 p.layout (known_of p.seat.me.0.passes)) → s.me.0.passes ≡ looked (knower p.number.0 p.layout (known_of p.seat.me.0.passes)) run ∷ [] → steps_of (sight (seated p s)) ≡ suc (steps_of (sight p))
 look_steps p s run b e = ap (λ l. rows_of p.number.0 (known_of l)) e ∙ rw (eq-eqb p.number.0 p.number.0 refl) (ap suc (ap (rows_of p.number.0) b.1 ∙ rows_by_others p.number.0 b.0 _ b.2))
+
+-- so it has looked once
+pub looked_once : (p : Inside) (x : IsPass p) (s : Seat ℕ View) (A : History → Type 0) → s.table_id ≡ p.seat.table_id → s.me.1 ≡ p.seat.me.1 → HasCalled p s 0 A → steps_of (sight (seated p s)) ≡ suc (steps_of (sight p)) → HasLookedOnce (sight p) (sight (seated p s))
+looked_once p x s A table bare y one = record {
+  goes_on = record {
+    later = record { table = table; layout = refl; number = refl; run = y.goes.since };
+    lawful = y.goes.sound;
+    calls = y.calls;
+    steps = omega arith;
+    blames = (called_pass p x s 0 A bare y).blamed;
+  };
+  takes_nothing = called_nothing p s 0 A y;
+  one_step = one;
+  blamed = refl;
+}
 
 -- What two passes have once they have met
 
@@ -74,8 +91,8 @@ pub record HaveMet (p q : Inside) (s t : Seat ℕ View) : Type 0 where
   pub early : List Row
   pub late : List Row
   pub apart : p.number.0 ≢ q.number.0
-  pub one : HasCalled p s (λ h. EndsWith h (past p.layout.mode late))
-  pub other : HasCalled q t (λ h. EndsWith h (past q.layout.mode early))
+  pub one : HasCalled p s 0 (λ h. EndsWith h (past p.layout.mode late))
+  pub other : HasCalled q t 0 (λ h. EndsWith h (past q.layout.mode early))
   pub goes_on : EndsWith (past p.layout.mode late) (run_of (sight (seated q t)))
   pub knew : EndsWith (past q.layout.mode early) (run_of (sight p))
   pub one_step : steps_of (sight (seated p s)) ≡ suc (steps_of (sight p))

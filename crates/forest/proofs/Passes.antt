@@ -17,11 +17,12 @@ use Rattle.forest.specs.declared.pass.Pass.TheInside.{Inside}
 use Rattle.forest.specs.Kept.{past, knower}
 use Rattle.forest.specs.Courses.{Course, IsCalled, known_of, rows_of, steps_of}
 use Rattle.forest.specs.Shares.{IsAtRest}
-use Rattle.forest.specs.Passes.{IsLater, CanUse, done_of, steps_of as steps_in}
+use Rattle.forest.specs.Passes.{AreOfCall, HasGoneOn, HasTakenNothing}
 use Rattle.forest.specs.Held.{sight, IsPass}
 use Rattle.prims.proofs.Shares.{whole_untouched, none_taken, next_unwon}
 use Rattle.forest.proofs.Frames.{Goes}
 use Rattle.forest.proofs.Calls.{quiet_goes}
+use Rattle.forest.proofs.Called.{course_calls}
 use Rattle.forest.proofs.Blames.{blamed_later}
 
 -- a pass with its whole share is at rest at the start
@@ -41,39 +42,44 @@ abbrev pub seated : Inside → Seat ℕ View → Inside
 seated p s = record { number = p.number; layout = p.layout; share = p.share; seat = s; blamed = p.blamed }
 
 -- what the pass has after a call that takes nothing
-pub record HasCalled (p : Inside) (s : Seat ℕ View) (A : History → Type 0) : Type 0 where
+pub record HasCalled (p : Inside) (s : Seat ℕ View) (number : ℕ) (A : History → Type 0) : Type 0 where
   pub seat : s.me.0.passes ≡ knower p.number.0 p.layout (known_of s.me.0.passes) ∷ []
   pub answers : A (past p.layout.mode (known_of s.me.0.passes))
   pub goes : Goes p.layout p.number.0 (past p.layout.mode (known_of p.seat.me.0.passes)) (past p.layout.mode (known_of s.me.0.passes)) p.share p.share.next_node p.share.next_scx []
+  pub calls : AreOfCall p.number.0 number (past p.layout.mode (known_of p.seat.me.0.passes)) (past p.layout.mode (known_of s.me.0.passes))
 
-pub called : (p : Inside) (x : IsPass p) (s : Seat ℕ View) (number : ℕ) {M : Type 0} (waits : M → Call → History → Step → Type 0) (same : M → M → Type 0) (first m : M) (A : History → Type 0) → ((m : M) (h : History) (t : Step) → waits m (call_of p x number) h t → t.kind ≢ Fill) → IsCalled allows_all s.me.0.passes (call_of p x number) (λ h. A h × Course allows_all waits same (call_of p x number) first m h) → HasCalled p s A
+pub called : (p : Inside) (x : IsPass p) (s : Seat ℕ View) (number : ℕ) {M : Type 0} (waits : M → Call → History → Step → Type 0) (same : M → M → Type 0) (first m : M) (A : History → Type 0) → ((m : M) (h : History) (t : Step) → waits m (call_of p x number) h t → t.kind ≢ Fill) → IsCalled allows_all s.me.0.passes (call_of p x number) (λ h. A h × Course allows_all waits same (call_of p x number) first m h) → HasCalled p s number A
 called p x s number waits same first m A fills_not y =
     let known : y.known ≡ known_of s.me.0.passes = sym (ap known_of y.is) in
     record {
       seat = rw known at y.is;
       answers = subst (λ rows. A (past p.layout.mode rows)) known y.so.0;
       goes = subst (λ rows. Goes p.layout p.number.0 (past p.layout.mode (known_of p.seat.me.0.passes)) (past p.layout.mode rows) p.share p.share.next_node p.share.next_scx []) known (quiet_goes waits same (call_of p x number) first p.share fills_not x.sound x.rest m _ y.so.1);
+      calls = subst (λ rows. AreOfCall p.number.0 number (past p.layout.mode (known_of p.seat.me.0.passes)) (past p.layout.mode rows)) known (course_calls (call_of p x number) m _ y.so.1);
     }
 
 -- it is a pass again
-pub called_pass : (p : Inside) (x : IsPass p) (s : Seat ℕ View) (A : History → Type 0) → s.me.1 ≡ p.seat.me.1 → HasCalled p s A → IsPass (seated p s)
-called_pass p x s A bare y = record { seat = y.seat; bare = bare ∙ x.bare; cells = x.cells; is_pass = x.is_pass; sound = y.goes.sound; rest = record { share = y.goes.share; over = y.goes.over }; blamed = blamed_later (sight p) (sight (seated p s)) refl refl refl y.goes.sound.lawful y.goes.since x.blamed }
+pub called_pass : (p : Inside) (x : IsPass p) (s : Seat ℕ View) (number : ℕ) (A : History → Type 0) → s.me.1 ≡ p.seat.me.1 → HasCalled p s number A → IsPass (seated p s)
+called_pass p x s number A bare y = record { seat = y.seat; bare = bare ∙ x.bare; cells = x.cells; is_pass = x.is_pass; sound = y.goes.sound; rest = record { share = y.goes.share; over = y.goes.over }; blamed = blamed_later (sight p) (sight (seated p s)) refl refl refl y.goes.sound.lawful y.goes.since x.blamed }
 
--- it has no entry more
-pub called_done : (p : Inside) (s : Seat ℕ View) (A : History → Type 0) → HasCalled p s A → done_of (sight (seated p s)) ≡ done_of (sight p)
-called_done p s A y = y.goes.unwon (λ w. next_unwon p.layout _ p.number.0 p.share _ _ y.goes.sound.lawful y.goes.share w.0 w.1)
-
--- and knows a longer run
-pub called_later : (p : Inside) (s : Seat ℕ View) (A : History → Type 0) → s.table_id ≡ p.seat.table_id → HasCalled p s A → IsLater (sight p) (sight (seated p s))
-called_later p s A table y = record { table = table; layout = refl; number = refl; run = y.goes.since }
-
--- its snapshots may still be used
-pub called_usable : (p : Inside) (s : Seat ℕ View) (A : History → Type 0) → HasCalled p s A → (snap : Snap) → CanUse (sight p) snap → CanUse (sight (seated p s)) snap
-called_usable p s A y snap u = (u.0, y.goes.usable snap u.0 (λ z. let i = z.within in omega arith) u.1)
+-- it has taken nothing
+pub called_nothing : (p : Inside) (s : Seat ℕ View) (number : ℕ) (A : History → Type 0) → HasCalled p s number A → HasTakenNothing (sight p) (sight (seated p s))
+called_nothing p s number A y = record {
+  share = refl;
+  done = y.goes.unwon (λ w. next_unwon p.layout _ p.number.0 p.share _ _ y.goes.sound.lawful y.goes.share w.0 w.1);
+  usable = λ snap u. (u.0, y.goes.usable snap u.0 (λ z. let i = z.within in omega arith) u.1);
+}
 
 -- its steps are those of its seat
 pub steps_are : (c : ℕ) (lay : Layout) (ps : List Knower) → ps ≡ knower c lay (known_of ps) ∷ [] → steps_of ps ≡ rows_of c (known_of ps)
 steps_are c lay ps e = ap steps_of e
 
-pub called_steps : (p : Inside) (x : IsPass p) (s : Seat ℕ View) (A : History → Type 0) (left bound : ℕ) → HasCalled p s A → steps_of s.me.0.passes ≤ steps_of p.seat.me.0.passes + left → left ≤ bound → steps_in (sight (seated p s)) ≤ steps_in (sight p) + bound
-called_steps p x s A left bound y few small = let a = steps_are p.number.0 p.layout s.me.0.passes y.seat in let b = steps_are p.number.0 p.layout p.seat.me.0.passes x.seat in omega arith
+-- and it has gone on
+pub called_goes_on : (p : Inside) (x : IsPass p) (s : Seat ℕ View) (number : ℕ) (A : History → Type 0) (left most : ℕ) → s.table_id ≡ p.seat.table_id → s.me.1 ≡ p.seat.me.1 → HasCalled p s number A → steps_of s.me.0.passes ≤ steps_of p.seat.me.0.passes + left → left ≤ most → HasGoneOn (sight p) (sight (seated p s)) number most
+called_goes_on p x s number A left most table bare y few small = record {
+  later = record { table = table; layout = refl; number = refl; run = y.goes.since };
+  lawful = y.goes.sound;
+  calls = y.calls;
+  steps = let a = steps_are p.number.0 p.layout s.me.0.passes y.seat in let b = steps_are p.number.0 p.layout p.seat.me.0.passes x.seat in omega arith;
+  blames = (called_pass p x s number A bare y).blamed;
+}

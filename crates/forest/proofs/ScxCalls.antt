@@ -4,7 +4,6 @@ use Rattle.atomic_table.specs.declared.shared.Seat.{Seat}
 use Rattle.arena.specs.declared.layout.Layout.{Layout}
 use Rattle.arena.specs.declared.number.NodeNo.{NodeNo}
 use Rattle.arena.specs.declared.word.Side.{Side}
-use Rattle.arena.specs.Layout.{first_scx}
 use Rattle.arena.specs.History.{History, Start, ◌⊳◌, EndsWith}
 use Rattle.arena.specs.Fills.{IsOwnNode, IsOwnScx, IsTakenScx}
 use Rattle.arena.specs.Lawful.{Lawful, HasWon}
@@ -40,10 +39,11 @@ use Rattle.forest.specs.Kept.{past, knower}
 use Rattle.forest.specs.Courses.{Course, IsCalled, known_of, steps_of}
 use Rattle.forest.specs.Shares.{entries_of}
 use Rattle.forest.specs.Puts.{IsPutOf}
-use Rattle.forest.specs.Passes.{IsLater, CanUse, Each, ScxSays, IsFull, IsFullOf, IsAllTaken, IsUsedUp, done_of, steps_of as steps_in}
+use Rattle.forest.specs.Passes.{AreOfCall, HasGoneOn, CanUse, Each, ScxSays, IsFull, IsFullOf, IsAllTaken, IsUsedUp, done_of, taken_of}
 use Rattle.forest.specs.Held.{sight, IsPass}
 use Rattle.forest.proofs.Frames.{Goes}
 use Rattle.forest.proofs.Calls.{HasHand, course_keeps, put_goes, put_rests}
+use Rattle.forest.proofs.Called.{course_calls}
 use Rattle.forest.proofs.Passes.{call_of, steps_are}
 use Rattle.forest.proofs.Blames.{blamed_later}
 use Rattle.forest.proofs.VlxCalls.{each_at, was_changed}
@@ -161,6 +161,7 @@ module _ (p : Inside) (x : IsPass p) (some_node : 0 < p.share.nodes) (some_scx :
     pub is_of : Is run
     pub answers : put_answers run (call_of p x number) (past p.layout.mode (known_of s.me.0.passes)) a
     pub goes : Goes p.layout p.number.0 start (past p.layout.mode (known_of s.me.0.passes)) (taken p.share) p.share.next_node p.share.next_scx snaps
+    pub calls : AreOfCall p.number.0 number start (past p.layout.mode (known_of s.me.0.passes))
 
   abbrev pub Same : PutRun → PutRun → Type 0
   Same old now = (now.scx.scx ≡ old.scx.scx) × (now.scx.update ≡ old.scx.update) × (now.scx.call ≡ old.scx.call) × (now.value ≡ old.value)
@@ -178,6 +179,7 @@ module _ (p : Inside) (x : IsPass p) (some_node : 0 < p.share.nodes) (some_scx :
             (λ old now e q. record { fresh = rw e.1 q.fresh; record_is = rw e.0 q.record_is; snaps_are = rw e.1 q.snaps_are })
             (omega arith) (omega arith) x.sound (taken_share p.layout start p.number.0 p.share some_node some_scx x.rest.share) x.rest.over
             (λ w. next_unwon p.layout start p.number.0 p.share _ _ x.sound.lawful x.rest.share own_scx w.1) m _ y.so.1).1;
+        calls = subst (λ rows. AreOfCall p.number.0 number start (past p.layout.mode rows)) known (course_calls (call_of p x number) m _ y.so.1);
       }
 
   -- the pass with what is left of its share, and its seat as it is now
@@ -195,8 +197,8 @@ module _ (p : Inside) (x : IsPass p) (some_node : 0 < p.share.nodes) (some_scx :
     blamed = blamed_later (sight p) (sight (spent s)) refl refl refl y.goes.sound.lawful y.goes.since x.blamed;
   }
 
-  pub put_says : (s : Seat ℕ View) (a : Scx) → first_scx p.layout p.number.0 + number ≡ p.share.next_scx → HasPut s a → ScxSays (sight p) (sight (spent s)) snaps finalize field v a
-  put_says s Done first y = (
+  pub put_says : (s : Seat ℕ View) (a : Scx) → number ≡ taken_of (sight p) → HasPut s a → ScxSays (sight p) (sight (spent s)) snaps finalize field v a
+  put_says s Done is y = (
     e,
     record {
       row = d.entry.row;
@@ -207,7 +209,7 @@ module _ (p : Inside) (x : IsPass p) (some_node : 0 < p.share.nodes) (some_scx :
       done = z.2 ∙ ap (λ k. k ∷ done_of (sight p)) same;
       of_pass = refl;
       of_record = y.is_of.record_is;
-      of_call = rw y.is_of.called first;
+      of_call = y.is_of.called ∙ is;
       members = ap nodes_of y.is_of.snaps_are;
       removed = λ n. subst (λ l. (has (removed_nodes m.scx.update.plan.0 l 0) n ≡ true) ↔ (IsAmong snaps n × HasNode finalize n)) (sym y.is_of.snaps_are) (removed_those m.scx.update.plan.0 snaps _ y.is_of.removed n);
       node = ap (λ l. (snap_at l (field_place m.scx.update)).node.0) y.is_of.snaps_are ∙ y.is_of.node_is;
@@ -239,7 +241,7 @@ module _ (p : Inside) (x : IsPass p) (some_node : 0 < p.share.nodes) (some_scx :
       same : z.0 ≡ e
       same = once_same z.0 e (log p.layout h) (once p.layout h y.goes.sound.lawful) (z.1 ∙ sym y.is_of.record_is) (in_entries p.number.0 z.0 (log p.layout h) (done_of (sight p)) z.2)
           (in_since p.layout h (d.entry.row ⊳ d.entry.before) e y.goes.sound.lawful at.within (subst (λ l. IsIn e l) (sym at.logged) (newest _)))
-  put_says s (Lost n u) first y = (
+  put_says s (Lost n u) is y = (
     was_changed (sight (spent s)) x.is_pass number start _ snaps y.is_of.snaps_are n.0 u.0 (put_changed y.run (call_of p x number) h n u y.answers),
     y.goes.unwon (λ w. aborted_never_won p.layout h y.run.scx.scx.0 y.goes.sound.lawful y.answers.1.aborted (rw y.is_of.record_is w.1)),
   )
@@ -251,12 +253,12 @@ module _ (p : Inside) (x : IsPass p) (some_node : 0 < p.share.nodes) (some_scx :
   pub put_usable : (s : Seat ℕ View) (a : Scx) → HasPut s a → (snap : Snap) → ¬ IsAmong snaps snap.node.0 → CanUse (sight p) snap → CanUse (sight (spent s)) snap
   put_usable s a y snap d u = (u.0, y.goes.usable snap u.0 d u.1)
 
-  pub put_later : (s : Seat ℕ View) (a : Scx) → s.table_id ≡ p.seat.table_id → HasPut s a → IsLater (sight p) (sight (spent s))
-  put_later s a table y = record { table = table; layout = refl; number = refl; run = y.goes.since }
-
-  pub put_steps : (s : Seat ℕ View) (a : Scx) (left bound : ℕ) → HasPut s a → steps_of s.me.0.passes ≤ steps_of p.seat.me.0.passes + left → left ≤ bound → steps_in (sight (spent s)) ≤ steps_in (sight p) + bound
-  put_steps s a left bound y few small = let a = steps_are p.number.0 p.layout s.me.0.passes y.seat in let b = steps_are p.number.0 p.layout p.seat.me.0.passes x.seat in omega arith
-
--- the number of the call: how many SCX-records its pass had taken
-pub first_and_taken : (p : Inside) (x : IsPass p) (from : ℕ) → first_scx p.layout p.number.0 ≡ from → first_scx p.layout p.number.0 + (p.share.next_scx - from) ≡ p.share.next_scx
-first_and_taken p x from e = let a = x.rest.share.from_scx in omega arith
+  -- it has gone on
+  pub put_goes_on : (s : Seat ℕ View) (a : Scx) (left most : ℕ) → s.table_id ≡ p.seat.table_id → s.me.1 ≡ p.seat.me.1 → HasPut s a → steps_of s.me.0.passes ≤ steps_of p.seat.me.0.passes + left → left ≤ most → HasGoneOn (sight p) (sight (spent s)) number most
+  put_goes_on s a left most table bare y few small = record {
+    later = record { table = table; layout = refl; number = refl; run = y.goes.since };
+    lawful = y.goes.sound;
+    calls = y.calls;
+    steps = let a = steps_are p.number.0 p.layout s.me.0.passes y.seat in let b = steps_are p.number.0 p.layout p.seat.me.0.passes x.seat in omega arith;
+    blames = (put_pass s a bare y).blamed;
+  }

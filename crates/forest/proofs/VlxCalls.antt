@@ -54,26 +54,26 @@ was_changed new is_pass number start items snaps is n s z = record {
 
 -- Calls
 
-pub vlx_begins : (p : Inside) (x : IsPass p) (m : VlxRun) (snaps : List Snap) → m.asked ≡ 0 → m.snaps.items ≡ snaps → 0 < length snaps → Each (CanUse (sight p)) snaps → IsCalled allows_all p.seat.me.0.passes (call_of p x 0) (λ h. ((call_of p x 0).start ≡ h) × vlx_ready m (call_of p x 0) h None)
-vlx_begins p x m snaps start is some usable = record {
+pub vlx_begins : (p : Inside) (x : IsPass p) (number : ℕ) (m : VlxRun) (snaps : List Snap) → m.asked ≡ 0 → m.snaps.items ≡ snaps → 0 < length snaps → Each (CanUse (sight p)) snaps → IsCalled allows_all p.seat.me.0.passes (call_of p x number) (λ h. ((call_of p x number).start ≡ h) × vlx_ready m (call_of p x number) h None)
+vlx_begins p x number m snaps start is some usable = record {
   known = known_of p.seat.me.0.passes;
   is = x.seat;
   sound = x.sound;
   so = (
     refl,
-    vlx_ready_first p.layout p.number.0 0 x.is_pass _ m start (rw is some) (rw is (each_at (CanUse (sight p)) snaps usable)) (all_over p.layout _ p.number.0 p.share _ _ x.rest.share x.rest.over),
+    vlx_ready_first p.layout p.number.0 number x.is_pass _ m start (rw is some) (rw is (each_at (CanUse (sight p)) snaps usable)) (all_over p.layout _ p.number.0 p.share _ _ x.rest.share x.rest.over),
   );
 }
 
-abbrev pub Looked : (p : Inside) → IsPass p → List Snap → Vlx → History → Type 0
-Looked p x snaps a h = (m : VlxRun) × (m.snaps.items ≡ snaps) × vlx_answers m (call_of p x 0) h a
+abbrev pub Looked : (p : Inside) → IsPass p → ℕ → List Snap → Vlx → History → Type 0
+Looked p x number snaps a h = (m : VlxRun) × (m.snaps.items ≡ snaps) × vlx_answers m (call_of p x number) h a
 
-pub vlx_called : (p : Inside) (x : IsPass p) (s : Seat ℕ View) (first m : VlxRun) (snaps : List Snap) (a : Vlx) → first.snaps.items ≡ snaps → IsCalled allows_all s.me.0.passes (call_of p x 0) (λ h. vlx_answers m (call_of p x 0) h a × Course allows_all vlx_waits (λ old now. now.snaps ≡ old.snaps) (call_of p x 0) first m h) → HasCalled p s (Looked p x snaps a)
-vlx_called p x s first m snaps a is y =
-    let z = called p x s 0 vlx_waits (λ old now. now.snaps ≡ old.snaps) first m (λ h. vlx_answers m (call_of p x 0) h a) (λ k h t w. vlx_fills_not k (call_of p x 0) h t w) y in
-    record { seat = z.seat; answers = (m, course_keeps (λ (k : VlxRun). k.snaps.items ≡ snaps) is (λ old now e q. ap (λ l. l.items) e ∙ q) m _ y.so.1, z.answers); goes = z.goes }
+pub vlx_called : (p : Inside) (x : IsPass p) (number : ℕ) (s : Seat ℕ View) (first m : VlxRun) (snaps : List Snap) (a : Vlx) → first.snaps.items ≡ snaps → IsCalled allows_all s.me.0.passes (call_of p x number) (λ h. vlx_answers m (call_of p x number) h a × Course allows_all vlx_waits (λ old now. now.snaps ≡ old.snaps) (call_of p x number) first m h) → HasCalled p s number (Looked p x number snaps a)
+vlx_called p x number s first m snaps a is y =
+    let z = called p x s number vlx_waits (λ old now. now.snaps ≡ old.snaps) first m (λ h. vlx_answers m (call_of p x number) h a) (λ k h t w. vlx_fills_not k (call_of p x number) h t w) y in
+    record { seat = z.seat; answers = (m, course_keeps (λ (k : VlxRun). k.snaps.items ≡ snaps) is (λ old now e q. ap (λ l. l.items) e ∙ q) m _ y.so.1, z.answers); goes = z.goes; calls = z.calls }
 
-module _ (p : Inside) (x : IsPass p) (s : Seat ℕ View) (snaps : List Snap) where
-  pub vlx_says : (a : Vlx) → HasCalled p s (Looked p x snaps a) → VlxSays (sight p) (sight (seated p s)) snaps a
+module _ (p : Inside) (x : IsPass p) (number : ℕ) (s : Seat ℕ View) (snaps : List Snap) where
+  pub vlx_says : (a : Vlx) → HasCalled p s number (Looked p x number snaps a) → VlxSays (sight p) (sight (seated p s)) snaps a
   vlx_says Same y = rw y.answers.1 at y.answers.2.found
-  vlx_says (Changed n u) y = (was_changed (sight (seated p s)) x.is_pass 0 _ _ snaps y.answers.1 n.0 u.0 (vlx_changed y.answers.0 (call_of p x 0) _ n u y.answers.2), rw y.answers.1 at y.answers.2.before)
+  vlx_says (Changed n u) y = (was_changed (sight (seated p s)) x.is_pass number _ _ snaps y.answers.1 n.0 u.0 (vlx_changed y.answers.0 (call_of p x number) _ n u y.answers.2), rw y.answers.1 at y.answers.2.before)

@@ -1,15 +1,16 @@
 -- Passes whose seats have been joined.
-use Rattle.std.specs.Prelude.{◌≡◌, ◌<◌, ◌⊎◌, List, [], ◌∷◌}
+use Rattle.std.specs.Prelude.{◌≡◌, ◌<◌, ◌⊎◌, suc, List, [], ◌∷◌}
 use Rattle.arena.specs.History.{EndsWith}
 use Rattle.arena.specs.Log.{log}
 use Rattle.arena.specs.Machines.{IsRun}
 use Rattle.prims.specs.Cells.{allows_all}
 use Rattle.forest.specs.declared.view.Knower.{Knower}
 use Rattle.forest.specs.Kept.{past, knower}
+use Rattle.forest.specs.Courses.{rows_of}
 use Rattle.forest.specs.Shares.{IsAtRest, entries_of}
-use Rattle.forest.specs.Passes.{Sight, HasBlamed, run_of, done_of}
+use Rattle.forest.specs.Passes.{Sight, HasBlamed, run_of, done_of, steps_of}
 
--- the pass, later on, with no entry more
+-- the pass, one step later, with no entry more
 pub record IsFrom (p : Sight) (k : Knower) : Type 0 where
   pub is : k ≡ knower p.number p.layout k.known
   pub is_pass : p.number < p.layout.passes
@@ -17,6 +18,7 @@ pub record IsFrom (p : Sight) (k : Knower) : Type 0 where
   pub rest : IsAtRest p.layout p.number (past p.layout.mode k.known) p.share
   pub ends : EndsWith (past p.layout.mode k.known) (run_of p)
   pub done : entries_of p.number (log p.layout (past p.layout.mode k.known)) ≡ done_of p
+  pub steps : rows_of p.number k.known ≡ suc (steps_of p)
   pub blamed : HasBlamed p
 
 abbrev pub IsOneOf : Knower → List Knower → Type 0

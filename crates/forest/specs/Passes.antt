@@ -1,5 +1,5 @@
 -- What contracts see of a pass, and what its calls say.
-use Rattle.std.specs.Prelude.{◌≡◌, ◌≢◌, ◌+◌, ◌<◌, ◌⊎◌, ◌↔◌, ℕ, false, true, List, [], ◌∷◌, length, slice_get, Some, map}
+use Rattle.std.specs.Prelude.{◌≡◌, ◌≢◌, ◌+◌, ◌-◌, ◌<◌, ◌≤◌, ◌⊎◌, ◌↔◌, ℕ, suc, false, true, List, [], ◌∷◌, length, slice_get, Some, map}
 use Rattle.std.specs.List.{Contains}
 use Rattle.atomic_table.specs.Seated.{TableId}
 use Rattle.arena.specs.declared.layout.Layout.{Layout}
@@ -9,7 +9,7 @@ use Rattle.arena.specs.declared.number.NodeNo.{NodeNo}
 use Rattle.arena.specs.declared.word.Side.{Side}
 use Rattle.arena.specs.declared.word.NodeWord.TheVariants.{Value}
 use Rattle.arena.specs.declared.word.Word.{Word}
-use Rattle.arena.specs.Layout.{first_scx, all_nodes, IsWord}
+use Rattle.arena.specs.Layout.{all_nodes, IsWord}
 use Rattle.arena.specs.Machines.{IsRun}
 use Rattle.arena.specs.PlainWords.{Contents, held}
 use Rattle.prims.specs.Cells.{allows_all}
@@ -74,6 +74,14 @@ pub record IsLater (old new : Sight) : Type 0 where
   pub number : new.number ≡ old.number
   pub run : EndsWith (run_of new) (run_of old)
 
+-- how many SCX-records it has taken, which is the number of its next call
+abbrev pub taken_of : Sight → ℕ
+taken_of p = p.layout.scx - p.share.scx
+
+-- behind the start, each row of the pass c is of its call of this number
+abbrev pub AreOfCall : ℕ → ℕ → History → History → Type 0
+AreOfCall c number start h = (r : Row) (before : History) → EndsWith h (r ⊳ before) → EndsWith before start → r.pass.0 ≡ c → r.call ≡ number
+
 -- the pass may use the snapshot: what it says of its node holds as long as the node's info is what it found, and since then no SCX-record of the pass has covered the node while in progress
 abbrev pub CanUse : Sight → Snap → Type 0
 CanUse p snap = (moment : History) × IsUsable p.layout p.number (run_of p) snap moment
@@ -82,6 +90,35 @@ CanUse p snap = (moment : History) × IsUsable p.layout p.number (run_of p) snap
 abbrev pub Each : {A : Type 0} → (A → Type 0) → List A → Type 0
 Each P [] = Unit {0}
 Each P (x ∷ xs) = P x × Each P xs
+
+-- Blame lists
+
+-- none of these stands twice
+abbrev pub AreDifferent : List ℕ → Type 0
+AreDifferent [] = Unit {0}
+AreDifferent (s ∷ ss) = Each (λ other. s ≢ other) ss × AreDifferent ss
+
+-- the blame list has SCX-records of other passes' shares, each finished in the run that the pass knows, and none of them twice
+pub record HasBlamed (p : Sight) : Type 0 where
+  pub others : Each (λ s. IsOthersScx p.layout p.number s) p.blamed
+  pub over : Each (λ s. value (run_of p) (state s) ≢ 0) p.blamed
+  pub different : AreDifferent p.blamed
+
+-- What every call leaves
+
+-- the call of this number has brought the pass further: the run that it knows goes on from what it knew, and is lawful; its own rows there are of the call, and no more than so many; whom it has blamed is finished
+pub record HasGoneOn (old new : Sight) (number most : ℕ) : Type 0 where
+  pub later : IsLater old new
+  pub lawful : IsRun allows_all new.layout (run_of new)
+  pub calls : AreOfCall new.number number (run_of old) (run_of new)
+  pub steps : steps_of new ≤ steps_of old + most
+  pub blames : HasBlamed new
+
+-- it has taken nothing of its share, made no entry, and may use each snapshot that it could use
+pub record HasTakenNothing (old new : Sight) : Type 0 where
+  pub share : new.share ≡ old.share
+  pub done : done_of new ≡ done_of old
+  pub usable : (snap : Snap) → CanUse old snap → CanUse new snap
 
 -- What `llx` says
 
@@ -104,17 +141,6 @@ abbrev pub blamed_by : Llx → List ℕ → List ℕ
 blamed_by (Snapshot snap) blamed = blamed
 blamed_by (Finalized node s) blamed = blamed
 blamed_by (Fail node s) blamed = s.0 ∷ blamed
-
--- none of these stands twice
-abbrev pub AreDifferent : List ℕ → Type 0
-AreDifferent [] = Unit {0}
-AreDifferent (s ∷ ss) = Each (λ other. s ≢ other) ss × AreDifferent ss
-
--- the blame list has SCX-records of other passes' shares, each finished in the run that the pass knows, and none of them twice
-pub record HasBlamed (p : Sight) : Type 0 where
-  pub others : Each (λ s. IsOthersScx p.layout p.number s) p.blamed
-  pub over : Each (λ s. value (run_of p) (state s) ≢ 0) p.blamed
-  pub different : AreDifferent p.blamed
 
 -- the answer is that the node is finalized
 abbrev pub IsFinalizedAnswer : Llx → Type 0
@@ -182,7 +208,7 @@ pub record IsDone (old new : Sight) (snaps : List Snap) (finalize : List NodeNo)
   pub done : done_of new ≡ e ∷ done_of old
   pub of_pass : e.owner ≡ old.number
   pub of_record : e.scx ≡ old.share.next_scx
-  pub of_call : first_scx old.layout old.number + e.call ≡ old.share.next_scx
+  pub of_call : e.call ≡ taken_of old
   pub members : e.members ≡ nodes_of snaps
   pub removed : (n : ℕ) → (has e.removed n ≡ true) ↔ (IsAmong snaps n × HasNode finalize n)
   pub node : e.node ≡ field.0
@@ -197,6 +223,13 @@ ScxSays old new snaps finalize field v Done = (e : Entry) × IsDone old new snap
 ScxSays old new snaps finalize field v (Lost node s) = WasChanged new snaps node.0 s.0 × (done_of new ≡ done_of old)
 
 -- Passes that come together
+
+-- by one step, which is of no call (its number is 0), the pass has learned more, and it has blamed nobody
+pub record HasLookedOnce (old new : Sight) : Type 0 where
+  pub goes_on : HasGoneOn old new 0 1
+  pub takes_nothing : HasTakenNothing old new
+  pub one_step : steps_of new ≡ suc (steps_of old)
+  pub blamed : new.blamed ≡ old.blamed
 
 -- what these passes have blamed is in no share of theirs any more
 abbrev pub HaveLeftShares : List Sight → Type 0
@@ -228,16 +261,16 @@ HasPass passes n = Contains (map (λ (p : Sight). p.number) passes) n
 abbrev pub AreAllBack : Layout → List Sight → Type 0
 AreAllBack lay passes = (n : ℕ) → n < lay.passes → HasPass passes n
 
--- the run begins with what each of them knew, and its entries of each are those of its done list
-abbrev pub AreBegun : List Sight → History → Type 0
-AreBegun [] run = Unit {0}
-AreBegun (p ∷ ps) run = EndsWith run (run_of p) × (entries_of p.number (log p.layout run) ≡ done_of p) × AreBegun ps run
+-- these rows go on from what each of them knew, by one row of its own; its entries in them are those of its done list
+abbrev pub AreBegun : List Sight → List Row → Type 0
+AreBegun [] rows = Unit {0}
+AreBegun (p ∷ ps) rows = EndsWith (past p.layout.mode rows) (run_of p) × (entries_of p.number (log p.layout (past p.layout.mode rows)) ≡ done_of p) × (rows_of p.number rows ≡ suc (steps_of p)) × AreBegun ps rows
 
 -- the words are those of one run of cells, in which the fields are what its log says, and which goes on from what these passes knew; what they have blamed has left their shares
 pub record IsClosed (lay : Layout) (passes : List Sight) (words : Contents) : Type 0 where
-  pub run : History
-  pub sound : IsRun allows_all lay run
-  pub holds : (w : Word) → IsWord lay w → held words w ≡ value run w
-  pub fields : (n : ℕ) (side : Side) → n < all_nodes lay → held words (child n side) ≡ fields lay run n side
-  pub begun : AreBegun passes run
+  pub rows : List Row
+  pub sound : IsRun allows_all lay (past lay.mode rows)
+  pub holds : (w : Word) → IsWord lay w → held words w ≡ value (past lay.mode rows) w
+  pub fields : (n : ℕ) (side : Side) → n < all_nodes lay → held words (child n side) ≡ fields lay (past lay.mode rows) n side
+  pub begun : AreBegun passes rows
   pub blamed : HaveLeftShares passes

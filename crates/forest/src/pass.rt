@@ -3,7 +3,7 @@ ghost use Rattle.std.specs.Prelude.{◌≡◌, ◌<◌, [], ◌∷◌};
 ghost use Rattle.arena.specs.declared.limits.Mode.TheVariants.{Records};
 ghost use Rattle.arena.specs.Share.{whole_share};
 ghost use Rattle.forest.specs.Kept.{knower};
-ghost use Rattle.forest.specs.Passes.{Sight};
+ghost use Rattle.forest.specs.Passes.{Sight, taken_of};
 
 use crate::blamed::Blamed;
 use crate::view::View;
@@ -23,7 +23,7 @@ pub struct Pass {
 }
 
 impl Model for Pass {
-    ghost use Rattle.forest.specs.Passes.{Sight};
+    ghost use Rattle.forest.specs.Passes.{Sight, taken_of};
 
     ghost Value = { Sight };
 
@@ -55,6 +55,13 @@ impl Pass {
         ensures { result.0 ≡ self.now.number }
     {
         self.number
+    }
+
+    /// How many SCX-records it has taken: the number of its next call.
+    pub(crate) fn taken(&self) -> u64
+        ensures { result ≡ taken_of self.now }
+    {
+        u64::from(self.layout.scx - self.share.left().1)
     }
 
     /// How many nodes and SCX-records are left of its share.

@@ -1,9 +1,9 @@
-use Rattle.std.proofs.Common.{◌≡◌, ◌≤◌, ◌∙◌, arith, true, refl, sym, ap, subst}
+use Rattle.std.proofs.Common.{◌≡◌, ◌≤◌, ◌∙◌, arith, ℕ, true, refl, sym, ap, subst}
 use Rattle.arena.specs.Log.{is_final}
-use Rattle.forest.specs.Passes.{Sight, seen_of, done_of}
+use Rattle.forest.specs.Passes.{Sight, seen_of, taken_of}
 use Rattle.forest.specs.Held.{sight, IsPass}
-use Rattle.forest.proofs.Passes.{HasCalled, call_of, seated, called_done, called_usable, called_steps}
-use Rattle.forest.proofs.LlxCalls.{Answered, llx_begins, llx_called, llx_later, llx_says, llx_finalized, llx_pass}
+use Rattle.forest.proofs.Passes.{HasCalled, call_of}
+use Rattle.forest.proofs.LlxCalls.{Answered, llx_begins, llx_called, llx_goes_on, llx_nothing, llx_says, llx_finalized, llx_pass}
 use Rattle.prims.specs.Cells.{allows_all}
 use Rattle.prims.specs.declared.llx.LlxAt.TheVariants.{Start as LlxStart}
 use Rattle.arena.specs.declared.number.NodeNo.{NodeNo}
@@ -11,40 +11,35 @@ use Rattle.forest.specs.declared.pass.Pass.TheInside.{Inside}
 use Rattle.forest.specs.StraightLlx.{run_at, LlxBegins}
 use Rattle.forest.proofs.forest.Forest+Cells.llx.Goals as goal
 
+-- the number of the call
+abbrev called : Inside → ℕ
+called p = taken_of (sight p)
+
 -- the call may begin
-begins : (p : Inside) (x : IsPass p) (node : NodeNo) → node.0 ≤ 8 → LlxBegins allows_all (call_of p x 0) p.seat.me.0.passes node
-begins p x node small = llx_begins p x (run_at node LlxStart) refl small
+begins : (p : Inside) (x : IsPass p) (node : NodeNo) → node.0 ≤ 8 → LlxBegins allows_all (call_of p x (called p)) p.seat.me.0.passes node
+begins p x node small = llx_begins p x (called p) (run_at node LlxStart) refl small
 
 pub call-answer-requires-clause-begins : goal.call-answer-requires-clause-begins
 call-answer-requires-clause-begins c = let p = c.pass.inside in let x = c.pass.invariant in
-    (call_of p x 0, ap (λ (v : Sight). v.layout) c.pass.view_is ∙ c.requires.pass.1, refl, begins p x c.args.node c.requires.cell)
+    (call_of p x (called p), ap (λ (v : Sight). v.layout) c.pass.view_is ∙ c.requires.pass.1, ap taken_of c.pass.view_is ∙ sym c.taken-number.ensures, begins p x c.args.node c.requires.cell)
 
 -- what the call leaves
-ended : (c : goal.After-hear) → HasCalled c.pass.inside c.call-answer.new.seat (Answered c.pass.inside c.pass.invariant c.args.node c.call-answer.result)
+ended : (c : goal.After-hear) → HasCalled c.pass.inside c.call-answer.new.seat (called c.pass.inside) (Answered c.pass.inside c.pass.invariant (called c.pass.inside) c.args.node c.call-answer.result)
 ended c = let p = c.pass.inside in let x = c.pass.invariant in
-    let y = c.call-answer.ensures.ends (call_of p x 0) (ap (λ (v : Sight). v.layout) c.pass.view_is ∙ c.requires.pass.1) refl (begins p x c.args.node c.requires.cell) in
-    llx_called p x c.call-answer.new.seat (run_at c.args.node LlxStart) y.0 c.args.node c.call-answer.result refl y.1
+    let y = c.call-answer.ensures.ends (call_of p x (called p)) (ap (λ (v : Sight). v.layout) c.pass.view_is ∙ c.requires.pass.1) (ap taken_of c.pass.view_is ∙ sym c.taken-number.ensures) (begins p x c.args.node c.requires.cell) in
+    llx_called p x (called p) c.call-answer.new.seat (run_at c.args.node LlxStart) y.0 c.args.node c.call-answer.result refl y.1
 
 pub invariant_of-pass : goal.invariant_of-pass
-invariant_of-pass c = llx_pass c.pass.inside c.pass.invariant c.call-answer.new.seat c.args.node c.call-answer.result _ c.hear.ensures c.call-answer.ensures.table.1 (ended c)
+invariant_of-pass c = llx_pass c.pass.inside c.pass.invariant _ c.call-answer.new.seat c.args.node c.call-answer.result _ c.hear.ensures c.call-answer.ensures.table.1 (ended c)
 
-pub returns-clause-later : goal.returns-clause-later
-returns-clause-later c = rw (← c.pass.view_is) (llx_later c.pass.inside c.pass.invariant c.call-answer.new.seat c.args.node c.hear.new.self c.call-answer.result c.call-answer.ensures.table.0 (ended c))
+pub returns-clause-goes_on : goal.returns-clause-goes_on
+returns-clause-goes_on c = rw (← c.pass.view_is) (llx_goes_on c.pass.inside c.pass.invariant _ c.call-answer.new.seat c.args.node c.call-answer.result c.hear.new.self 64 64 c.hear.ensures c.call-answer.ensures.table.0 c.call-answer.ensures.table.1 (ended c) c.call-answer.ensures.steps (omega arith))
+
+pub returns-clause-takes_nothing : goal.returns-clause-takes_nothing
+returns-clause-takes_nothing c = rw (← c.pass.view_is) (llx_nothing c.pass.inside c.pass.invariant _ c.call-answer.new.seat c.args.node c.call-answer.result c.hear.new.self (ended c))
 
 pub returns-clause-says : goal.returns-clause-says
-returns-clause-says c = rw (← c.pass.view_is) (llx_says c.pass.inside c.pass.invariant c.call-answer.new.seat c.args.node c.hear.new.self c.call-answer.result (ended c))
+returns-clause-says c = rw (← c.pass.view_is) (llx_says c.pass.inside c.pass.invariant _ c.call-answer.new.seat c.args.node c.hear.new.self c.call-answer.result (ended c))
 
 pub returns-clause-finalized : goal.returns-clause-finalized
-returns-clause-finalized c = λ final. llx_finalized c.pass.inside c.pass.invariant c.call-answer.new.seat c.args.node c.call-answer.result (ended c) (subst (λ (v : Sight). is_final (seen_of v) c.args.node.0 ≡ true) (sym c.pass.view_is) final)
-
-pub returns-clause-blames : goal.returns-clause-blames
-returns-clause-blames c = (invariant_of-pass c).blamed
-
-pub returns-clause-done : goal.returns-clause-done
-returns-clause-done c = subst (λ (v : Sight). done_of (sight (seated c.pass.inside c.call-answer.new.seat)) ≡ done_of v) c.pass.view_is (called_done c.pass.inside c.call-answer.new.seat _ (ended c))
-
-pub returns-clause-usable : goal.returns-clause-usable
-returns-clause-usable c = rw (← c.pass.view_is) (called_usable c.pass.inside c.call-answer.new.seat _ (ended c))
-
-pub returns-clause-steps : goal.returns-clause-steps
-returns-clause-steps c = rw (← c.pass.view_is) (called_steps c.pass.inside c.pass.invariant c.call-answer.new.seat _ 64 64 (ended c) c.call-answer.ensures.steps (omega arith))
+returns-clause-finalized c = λ final. llx_finalized c.pass.inside c.pass.invariant _ c.call-answer.new.seat c.args.node c.call-answer.result (ended c) (subst (λ (v : Sight). is_final (seen_of v) c.args.node.0 ≡ true) (sym c.pass.view_is) final)

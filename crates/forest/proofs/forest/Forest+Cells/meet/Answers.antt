@@ -1,8 +1,8 @@
 use Rattle.std.proofs.Common.{◌∙◌, sym, ap}
 use Rattle.arena.proofs.Values.{ends_trans}
 use Rattle.forest.specs.Passes.{Sight}
-use Rattle.forest.proofs.Passes.{called_pass, called_later, called_done, called_usable}
-use Rattle.forest.proofs.Meets.{HaveMet, have_met, met_left}
+use Rattle.forest.proofs.Passes.{called_pass}
+use Rattle.forest.proofs.Meets.{HaveMet, have_met, met_left, looked_once}
 use Rattle.forest.proofs.forest.Forest+Cells.meet.Goals as goal
 
 pub meet-requires-clause-first : goal.meet-requires-clause-first
@@ -15,19 +15,19 @@ met : (c : goal.After-meet) → HaveMet c.one.inside c.other.inside c.meet.new.o
 met c = have_met c.one.inside c.other.inside c.one.invariant c.other.invariant c.meet.new.one c.meet.new.other c.meet.ensures.met
 
 pub invariant_of-one : goal.invariant_of-one
-invariant_of-one c = called_pass c.one.inside c.one.invariant c.meet.new.one _ (c.meet.ensures.bare.0 ∙ sym c.one.invariant.bare) (met c).one
+invariant_of-one c = called_pass c.one.inside c.one.invariant c.meet.new.one _ _ (c.meet.ensures.bare.0 ∙ sym c.one.invariant.bare) (met c).one
 
 pub invariant_of-other : goal.invariant_of-other
-invariant_of-other c = called_pass c.other.inside c.other.invariant c.meet.new.other _ (c.meet.ensures.bare.1 ∙ sym c.other.invariant.bare) (met c).other
+invariant_of-other c = called_pass c.other.inside c.other.invariant c.meet.new.other _ _ (c.meet.ensures.bare.1 ∙ sym c.other.invariant.bare) (met c).other
 
 pub returns-clause-apart : goal.returns-clause-apart
 returns-clause-apart c = rw (← c.one.view_is, ← c.other.view_is) (met c).apart
 
-pub returns-clause-one_is_later : goal.returns-clause-one_is_later
-returns-clause-one_is_later c = rw (← c.one.view_is) (called_later c.one.inside c.meet.new.one _ c.meet.ensures.table.0 (met c).one)
+pub returns-clause-one_looks : goal.returns-clause-one_looks
+returns-clause-one_looks c = rw (← c.one.view_is) (looked_once c.one.inside c.one.invariant c.meet.new.one _ c.meet.ensures.table.0 (c.meet.ensures.bare.0 ∙ sym c.one.invariant.bare) (met c).one (met c).one_step)
 
-pub returns-clause-other_is_later : goal.returns-clause-other_is_later
-returns-clause-other_is_later c = rw (← c.other.view_is) (called_later c.other.inside c.meet.new.other _ c.meet.ensures.table.1 (met c).other)
+pub returns-clause-other_looks : goal.returns-clause-other_looks
+returns-clause-other_looks c = rw (← c.other.view_is) (looked_once c.other.inside c.other.invariant c.meet.new.other _ c.meet.ensures.table.1 (c.meet.ensures.bare.1 ∙ sym c.other.invariant.bare) (met c).other (met c).other_step)
 
 pub returns-clause-one_knows : goal.returns-clause-one_knows
 returns-clause-one_knows c = let m = met c in ends_trans _ _ _ m.one.answers m.goes_on
@@ -37,15 +37,3 @@ returns-clause-other_knows c = let m = met c in rw (← c.one.view_is) (ends_tra
 
 pub returns-clause-left : goal.returns-clause-left
 returns-clause-left c = met_left c.one.inside c.other.inside c.one.invariant c.other.invariant c.meet.new.one c.meet.new.other (ap (λ (v : Sight). v.layout) c.one.view_is ∙ c.requires.one.1 ∙ sym (ap (λ (v : Sight). v.layout) c.other.view_is ∙ c.requires.other.1)) (met c)
-
-pub returns-clause-done : goal.returns-clause-done
-returns-clause-done c = let m = met c in rw (← c.one.view_is, ← c.other.view_is) (called_done c.one.inside c.meet.new.one _ m.one, called_done c.other.inside c.meet.new.other _ m.other)
-
-pub returns-clause-one_usable : goal.returns-clause-one_usable
-returns-clause-one_usable c = rw (← c.one.view_is) (called_usable c.one.inside c.meet.new.one _ (met c).one)
-
-pub returns-clause-other_usable : goal.returns-clause-other_usable
-returns-clause-other_usable c = rw (← c.other.view_is) (called_usable c.other.inside c.meet.new.other _ (met c).other)
-
-pub returns-clause-steps : goal.returns-clause-steps
-returns-clause-steps c = let m = met c in rw (← c.one.view_is, ← c.other.view_is) (m.one_step, m.other_step)

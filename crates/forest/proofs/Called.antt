@@ -1,0 +1,47 @@
+-- The rows of a call carry its number.
+use Rattle.std.proofs.Common.{◌≡◌, ◌≢◌, ℕ, zero, suc, ◌<◌, ◌≤◌, inl, inr, List, [], ◌∷◌, ◌++◌, refl, sym, ap, subst, arith}
+use Rattle.arena.specs.declared.layout.Layout.{Layout}
+use Rattle.arena.specs.declared.step.Row.{Row}
+use Rattle.arena.specs.declared.step.Step.{Step}
+use Rattle.arena.specs.declared.limits.Mode.{Mode}
+use Rattle.arena.specs.History.{History, Start, ◌⊳◌, EndsWith}
+use Rattle.arena.specs.Machines.{Call}
+use Rattle.arena.proofs.Values.{ends_trans}
+use Rattle.forest.specs.Kept.{past, ByOthers}
+use Rattle.forest.specs.Courses.{Course, begins, others, makes, goes_on}
+use Rattle.forest.specs.Passes.{AreOfCall}
+
+-- no history ends with a longer one
+rows_in : History → ℕ
+rows_in (Start mode) = zero
+rows_in (r ⊳ h) = suc (rows_in h)
+
+shorter : (h m : History) → EndsWith h m → rows_in m ≤ rows_in h
+unfolding rows_in
+shorter (Start mode) m e = rw e (omega arith)
+shorter (r ⊳ h) m (inl e) = rw e (omega arith)
+shorter (r ⊳ h) m (inr e) = let z = shorter h m e in omega arith
+
+no_longer : (h : History) (r : Row) → ¬ EndsWith h (r ⊳ h)
+unfolding rows_in
+no_longer h r e = let z = shorter h (r ⊳ h) e in omega arith
+
+module _ (c number : ℕ) (start : History) where
+  pub calls_start : AreOfCall c number start start
+  calls_start r before e since own = absurd (no_longer before r (ends_trans before start (r ⊳ before) since e))
+
+  -- a row of the call, or of another pass
+  pub calls_more : (h : History) (r : Row) → (r.pass.0 ≡ c → r.call ≡ number) → AreOfCall c number start h → AreOfCall c number start (r ⊳ h)
+  calls_more h r is x q before (inl e) since own = let same : q ≡ r = cc in rw same (is (rw same at own))
+  calls_more h r is x q before (inr e) since own = x q before e since own
+
+  pub calls_others : (mode : Mode) (rows known : List Row) → ByOthers c rows → AreOfCall c number start (past mode known) → AreOfCall c number start (past mode (rows ++ known))
+  calls_others mode [] known by x = x
+  calls_others mode (r ∷ rs) known by x = calls_more (past mode (rs ++ known)) r (λ e. absurd (by.0 e)) (calls_others mode rs known by.1 x)
+
+-- what a call has come by
+pub course_calls : {M : Type 0} {allows : Layout → History → ℕ → Type 0} {waits : M → Call → History → Step → Type 0} {same : M → M → Type 0} (c : Call) {first : M} (m : M) (h : History) → Course allows waits same c first m h → AreOfCall c.pass c.number c.start h
+course_calls c m h (begins e k) = subst (AreOfCall c.pass c.number c.start) (sym k) (calls_start c.pass c.number c.start)
+course_calls c m h (others s r g e w other run x) = subst (AreOfCall c.pass c.number c.start) (sym e) (calls_more c.pass c.number c.start g r (λ own. absurd (other own)) (course_calls c m g x))
+course_calls c m h (makes s g e w run x) = subst (AreOfCall c.pass c.number c.start) (sym e) (calls_more c.pass c.number c.start g _ (λ own. refl) (course_calls c m g x))
+course_calls c m h (goes_on old is x) = course_calls c old h x
