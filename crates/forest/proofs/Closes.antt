@@ -154,7 +154,6 @@ all_left lay rows ds l all = let run : History = past lay.mode rows in each_by (
     ends_at : (p : Sight) → IsAtEnd lay rows p → EndsWith (past lay.mode rows) (run_of p)
     ends_at p a = subst (λ (l : Layout). EndsWith (past l.mode rows) (run_of p)) a.same a.ends
 
-
 pub closes : (id : _) (lay : Layout) (ds : List Sight) (seat : ℕ) (v : View) (words : List ℕ) (slots : List ℕ) → AreOf id lay ds → AreIn ds v.passes → Final (Seen (Kept allows_all lay) seat v) words slots → IsClosed lay ds (record { layout = lay; words = words })
 closes id lay ds seat v words slots of a f =
     let kept : Kept allows_all lay f.0 = f.1.0 in
