@@ -25,7 +25,7 @@ use Rattle.forest.specs.Kept.{past, knower, look, looked, Made, Kept, Owns, Behi
 use Rattle.forest.specs.Courses.{known_of, rows_of}
 use Rattle.prims.specs.Shares.{IsShare}
 use Rattle.forest.specs.Shares.{entries_of}
-use Rattle.forest.specs.Passes.{Sight, AreOf, Each, AreBegun, HasBlamed, HaveLeftShares, IsClosed, run_of, done_of, steps_of}
+use Rattle.forest.specs.Passes.{Sight, Ground, ground, AreOf, Each, AreBegun, HasBlamed, HaveLeftShares, IsClosed, run_of, done_of, steps_of}
 use Rattle.forest.specs.Gathered.{IsFrom, IsOneOf, AreIn}
 use Rattle.forest.specs.Held.{sight, IsPass}
 use Rattle.forest.proofs.Advances.{keeps_all, rows_by_others, same_knower}
@@ -97,9 +97,9 @@ in_left (d ∷ ds) ps qs a = ((a.0.0, one_left a.0.0 ps qs a.0.1, a.0.2), in_lef
 pub in_more : (d : Sight) (ds : List Sight) (all own joined : List Knower) (k : Knower) → own ≡ k ∷ [] → joined ≡ all ++ own → IsFrom d k → AreIn ds all → AreIn (d ∷ ds) joined
 in_more d ds all own joined k e j f a = rw (j, e) ((k, one_right k all (k ∷ []) (inl refl), f), in_left ds all (k ∷ []) a)
 
-pub of_append : (id : _) (lay : Layout) (xs ys : List Sight) → AreOf id lay (xs ++ ys) → AreOf id lay xs × AreOf id lay ys
-of_append id lay [] ys a = (tt, a)
-of_append id lay (x ∷ xs) ys a = let z = of_append id lay xs ys a.1 in ((a.0, z.0), z.1)
+pub of_append : (f : Ground) (xs ys : List Sight) → AreOf f (xs ++ ys) → AreOf f xs × AreOf f ys
+of_append f [] ys a = (tt, a)
+of_append f (x ∷ xs) ys a = let z = of_append f xs ys a.1 in ((a.0, z.0), z.1)
 
 -- The end
 
@@ -134,7 +134,7 @@ one_ended d k lay run same f sound b =
       blamed = f.blamed;
     })
 
-all_ended : (id : _) (lay : Layout) (run : List Row) (owner : ℕ → ℕ) (seat : ℕ) (ks : List Knower) → IsRun allows_all lay (past lay.mode run) → Owns lay run owner seat ks → (ds : List Sight) → AreOf id lay ds → AreIn ds ks → Each (IsAtEnd lay run) ds
+all_ended : (id : _) (lay : Layout) (run : List Row) (owner : ℕ → ℕ) (seat : ℕ) (ks : List Knower) → IsRun allows_all lay (past lay.mode run) → Owns lay run owner seat ks → (ds : List Sight) → AreOf (ground id lay) ds → AreIn ds ks → Each (IsAtEnd lay run) ds
 all_ended id lay run owner seat ks sound o [] of a = tt
 all_ended id lay run owner seat ks sound o (d ∷ ds) of a =
     let k = a.0.0 in
@@ -154,7 +154,7 @@ all_left lay rows ds l all = let run : History = past lay.mode rows in each_by (
     ends_at : (p : Sight) → IsAtEnd lay rows p → EndsWith (past lay.mode rows) (run_of p)
     ends_at p a = subst (λ (l : Layout). EndsWith (past l.mode rows) (run_of p)) a.same a.ends
 
-pub closes : (id : _) (lay : Layout) (ds : List Sight) (seat : ℕ) (v : View) (words : List ℕ) (slots : List ℕ) → AreOf id lay ds → AreIn ds v.passes → Final (Seen (Kept allows_all lay) seat v) words slots → IsClosed lay ds (record { layout = lay; words = words })
+pub closes : (id : _) (lay : Layout) (ds : List Sight) (seat : ℕ) (v : View) (words : List ℕ) (slots : List ℕ) → AreOf (ground id lay) ds → AreIn ds v.passes → Final (Seen (Kept allows_all lay) seat v) words slots → IsClosed lay ds (record { layout = lay; words = words })
 closes id lay ds seat v words slots of a f =
     let kept : Kept allows_all lay f.0 = f.1.0 in
     let holds : (w : Word) → IsWord lay w → slice_index words (place lay w) ≡ value (past lay.mode kept.run) w = λ w i. rw (← f.2) (kept.holds w i) in

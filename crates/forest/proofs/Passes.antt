@@ -17,7 +17,7 @@ use Rattle.forest.specs.declared.pass.Pass.TheInside.{Inside}
 use Rattle.forest.specs.Kept.{past, knower}
 use Rattle.forest.specs.Courses.{Course, IsCalled, known_of, rows_of, steps_of}
 use Rattle.forest.specs.Shares.{IsAtRest}
-use Rattle.forest.specs.Passes.{AreOfCall, HasGoneOn, HasTakenNothing}
+use Rattle.forest.specs.Passes.{Sight, Ground, IsOf, AreOfCall, HasGoneOn, HasTakenNothing}
 use Rattle.forest.specs.Held.{sight, IsPass}
 use Rattle.prims.proofs.Shares.{whole_untouched, none_taken, next_unwon}
 use Rattle.forest.proofs.Frames.{Goes}
@@ -32,6 +32,10 @@ begins_at_rest lay c = record { share = whole_untouched lay c; over = λ s own d
 pub begins_sound : (lay : Layout) → IsRun allows_all lay (Start lay.mode)
 unfolding Lawful Shaped
 begins_sound lay = record { lawful = refl; shaped = tt }
+
+-- the pass of a forest has its layout
+pub layout_of : {v w : Sight} {g f : Ground} → v ≡ w → g ≡ f → IsOf f w → v.layout ≡ g.layout
+layout_of e q of = ap (λ (s : Sight). s.layout) e ∙ of.1 ∙ sym (ap (λ (l : Ground). l.layout) q)
 
 -- the call of a pass
 abbrev pub call_of : (p : Inside) → IsPass p → ℕ → Call

@@ -63,9 +63,17 @@ done_of p = entries_of p.number (seen_of p)
 abbrev pub steps_of : Sight → ℕ
 steps_of p = rows_of p.number p.known
 
--- the pass is of the forest with this table and this layout
-abbrev pub IsOf : TableId → Layout → Sight → Type 0
-IsOf table lay p = (p.table ≡ table) × (p.layout ≡ lay)
+-- a forest: its table and layout
+pub record Ground : Type 0 where
+  pub table : TableId
+  pub layout : Layout
+
+abbrev pub ground : TableId → Layout → Ground
+ground table lay = record { table = table; layout = lay }
+
+-- the pass is of this forest
+abbrev pub IsOf : Ground → Sight → Type 0
+IsOf f p = (p.table ≡ f.table) × (p.layout ≡ f.layout)
 
 -- a pass later on: it knows a longer run
 pub record IsLater (old new : Sight) : Type 0 where
@@ -238,20 +246,20 @@ HaveLeftShares passes = Each (λ p. Each (λ q. Each (λ s. ¬ HasScx q.share s)
 -- New passes
 
 -- a pass that has made no step, with its whole share
-abbrev pub beginner : TableId → Layout → ℕ → Sight
-beginner table lay c = record { table = table; layout = lay; number = c; share = whole_share lay c; known = []; blamed = [] }
+abbrev pub beginner : Ground → ℕ → Sight
+beginner f c = record { table = f.table; layout = f.layout; number = c; share = whole_share f.layout c; known = []; blamed = [] }
 
 -- so many passes there are, and each is such a one, in order
-pub record AreNew (table : TableId) (lay : Layout) (passes : List Sight) : Type 0 where
-  pub count : length passes ≡ lay.passes
-  pub each : (j : ℕ) (d : Sight) → slice_get passes j ≡ Some d → d ≡ beginner table lay j
+pub record AreNew (f : Ground) (passes : List Sight) : Type 0 where
+  pub count : length passes ≡ f.layout.passes
+  pub each : (j : ℕ) (d : Sight) → slice_get passes j ≡ Some d → d ≡ beginner f j
 
 -- All passes
 
--- they are of the forest with this table and this layout
-abbrev pub AreOf : TableId → Layout → List Sight → Type 0
-AreOf table lay [] = Unit {0}
-AreOf table lay (p ∷ ps) = IsOf table lay p × AreOf table lay ps
+-- they are of this forest
+abbrev pub AreOf : Ground → List Sight → Type 0
+AreOf f [] = Unit {0}
+AreOf f (p ∷ ps) = IsOf f p × AreOf f ps
 
 -- one of them has this number
 abbrev pub HasPass : List Sight → ℕ → Type 0

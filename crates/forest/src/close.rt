@@ -7,15 +7,14 @@ ghost use Rattle.arena.specs.PlainWords.{Contents, held};
 ghost use Rattle.arena.specs.Words.{child};
 ghost use Rattle.forest.specs.declared.view.Knower.{Knower};
 ghost use Rattle.forest.specs.Kept.{IsTableOf};
-ghost use Rattle.forest.specs.Passes.{IsOf, AreOf, AreAllBack, IsClosed};
+ghost use Rattle.forest.specs.Passes.{ground, IsOf, AreOf, AreAllBack, IsClosed};
 ghost use Rattle.forest.specs.Gathered.{IsFrom, AreIn};
 
-use crate::deal::take_in;
 use crate::forest::Forest;
 use crate::pass::Pass;
 use crate::rule::Asked;
-use crate::steps::{Words, make};
 use crate::view::View;
+use crate::words::Words;
 use arena::{Deed, Kind, Layout, NodeNo, NodeWord, Side, Step, Word};
 use atomic_table::Seat;
 use prims::Cells;
@@ -69,15 +68,15 @@ impl Drop for Closed {
 impl Forest<Cells> {
     /// Ends the forest: each of its passes, which are all there, looks at the table once more.
     pub fn close(self, passes: Vec<Pass>) -> Closed
-        requires passes { AreOf self.table.shared.table_id self.layout passes.items }
+        requires passes { AreOf self passes.items }
         requires all { AreAllBack self.layout passes.items }
         ensures layout { result.layout ≡ self.layout }
         ensures closed { IsClosed self.layout passes.items result }
     {
-        let Forest { table, layout } = self;
-        match gather(&table.shared, &layout, passes) {
+        let Forest { words, layout } = self;
+        match gather(&words, &layout, passes) {
             Some(seat) => Closed {
-                words: table.close_with(seat),
+                words: words.close(seat),
                 layout,
             },
             None => unreachable!(),
@@ -87,25 +86,25 @@ impl Forest<Cells> {
 
 /// One seat with all these passes.
 fn gather(words: &Words<Cells>, layout: &Layout, mut passes: Vec<Pass>) -> Option<Seat<u8, View>>
-    requires table { IsTableOf words.now.table_id words.now.key layout.now }
-    requires passes { AreOf words.now.table_id layout.now passes.items }
+    requires table { IsTableOf words.now.table.shared.table_id words.now.table.shared.key layout.now }
+    requires passes { AreOf (ground words.now.table.shared.table_id layout.now) passes.items }
     ensures some { 0 < vec_len passes → IsSome result }
-    ensures table { IfSome result (λ s. s.table_id ≡ words.now.table_id) }
+    ensures table { IfSome result (λ s. s.table_id ≡ words.now.table.shared.table_id) }
     ensures all { IfSome result (λ s. AreIn passes.items s.me.0.passes) }
 {
     let mut all = seat_of(words, layout, passes.pop()?);
     while let Some(pass) = passes.pop() {
         let own = seat_of(words, layout, pass);
-        take_in(words, layout, &mut all, own);
+        words.take_in(layout, &mut all, own);
     }
     Some(all)
 }
 
 /// The seat of a pass, which has looked at the table once more.
 fn seat_of(words: &Words<Cells>, layout: &Layout, pass: Pass) -> Seat<u8, View>
-    requires table { IsTableOf words.now.table_id words.now.key layout.now }
-    requires pass { IsOf words.now.table_id layout.now pass }
-    ensures table { result.table_id ≡ words.now.table_id }
+    requires table { IsTableOf words.now.table.shared.table_id words.now.table.shared.key layout.now }
+    requires pass { IsOf (ground words.now.table.shared.table_id layout.now) pass }
+    ensures table { result.table_id ≡ words.now.table.shared.table_id }
     ensures bare { result.me.1 ≡ [] }
     ensures pass { (k : Knower) × (result.me.0.passes ≡ k ∷ []) × IsFrom pass k }
 {
@@ -123,6 +122,6 @@ fn seat_of(words: &Words<Cells>, layout: &Layout, pass: Pass) -> Seat<u8, View>
         deed: Deed::Load,
     };
     let asked = Asked { call: 0, step };
-    make::<Cells, Brand>(words, &mut seat, &asked, layout.place(step.word));
+    words.make::<Brand>(&mut seat, &asked, layout.place(step.word));
     seat
 }

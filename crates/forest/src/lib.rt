@@ -3,14 +3,15 @@
 
 mod blamed;
 mod close;
-mod deal;
 mod fault;
 mod forest;
+mod meet;
 mod pass;
 mod rule;
 mod steps;
 mod straight;
 mod view;
+mod words;
 
 pub use close::Closed;
 pub use fault::{Full, NewFault, Resource};

@@ -32,9 +32,9 @@ fn fields(llx: Llx) -> Fields {
 
 /// Puts a fresh cell into the left field of a cell, if an LLX gives a snapshot of it.
 fn put(forest: &Forest<Cells>, pass: &mut Pass, cell: NodeNo) -> Option<Result<Scx, Full>>
-    requires pass { IsOf forest.now.table.shared.table_id forest.now.layout pass.old }
+    requires pass { IsOf forest.now pass.old }
     requires cell { cell.0 ≤ 8 }
-    ensures { IsOf forest.now.table.shared.table_id forest.now.layout pass.new }
+    ensures { IsOf forest.now pass.new }
 {
     match forest.llx(pass, cell) {
         Llx::Snapshot(snap) => Some(forest.scx(pass, &[snap], &[], (cell, Side::Left), 1)),
@@ -44,7 +44,7 @@ fn put(forest: &Forest<Cells>, pass: &mut Pass, cell: NodeNo) -> Option<Result<S
 
 /// Ends the forest, if all its passes are there.
 fn end(forest: Forest<Cells>, passes: Vec<Pass>) -> Option<Closed>
-    requires { All (IsOf forest.table.shared.table_id forest.layout) passes.items }
+    requires { All (IsOf forest) passes.items }
 {
     if forest.all_back(&passes) {
         Some(forest.close(passes))

@@ -10,8 +10,9 @@ ghost use Rattle.forest.specs.Kept.{IsTableOf};
 ghost use Rattle.forest.specs.Courses.{steps_of};
 ghost use Rattle.forest.specs.StraightHelp.{HelpBegins, HelpWaits, HelpTold, HelpMarks, HelpEnds};
 
-use crate::steps::{Words, complete, step_of};
+use crate::steps::{complete, step_of};
 use crate::view::View;
+use crate::words::Words;
 use arena::{
     COMMITTED, Deed, Kind, Layout, MemberNo, NodeNo, NodeWord, ScxNo, ScxWord, Shape, Step, Turn,
     Word,
@@ -30,7 +31,7 @@ fn act<S: Shape>(
     at: HelpAt,
     step: Step,
 ) -> u64
-    requires table { IsTableOf words.now.table_id words.now.key layout.now × (seat.old.table_id ≡ words.now.table_id) }
+    requires table { IsTableOf words.now.table.shared.table_id words.now.table.shared.key layout.now × (seat.old.table_id ≡ words.now.table.shared.table_id) }
     requires waits { (c : Call) × (first : HelpRun) × (c.layout ≡ layout.now) × (c.number ≡ number) × HelpWaits S.allows c seat.old.me.0.passes first (record run.now { at = at }) step }
     ensures table { (seat.new.table_id ≡ seat.old.table_id) × (seat.new.me.1 ≡ seat.old.me.1) }
     ensures one { steps_of seat.new.me.0.passes ≡ suc (steps_of seat.old.me.0.passes) }
@@ -75,7 +76,7 @@ fn freeze_all<S: Shape>(
     number: u64,
     run: &mut HelpRun,
 ) -> bool
-    requires table { IsTableOf words.now.table_id words.now.key layout.now × (seat.old.table_id ≡ words.now.table_id) }
+    requires table { IsTableOf words.now.table.shared.table_id words.now.table.shared.key layout.now × (seat.old.table_id ≡ words.now.table.shared.table_id) }
     requires waits { (c : Call) × (first : HelpRun) × (c.layout ≡ layout.now) × (c.number ≡ number) × HelpWaits S.allows c seat.old.me.0.passes first (record run.old { at = HelpAt.Member MemberNo.First }) record { kind = Kind.LoadSettled; word = Word.Scx run.old.scx (ScxWord.Member 0); deed = Deed.Load } }
     ensures table { (seat.new.table_id ≡ seat.old.table_id) × (seat.new.me.1 ≡ seat.old.me.1) }
     ensures steps { steps_of seat.new.me.0.passes ≤ steps_of seat.old.me.0.passes + 12 }
@@ -157,7 +158,7 @@ fn mark_all<S: Shape>(
     number: u64,
     run: &HelpRun,
 )
-    requires table { IsTableOf words.now.table_id words.now.key layout.now × (seat.old.table_id ≡ words.now.table_id) }
+    requires table { IsTableOf words.now.table.shared.table_id words.now.table.shared.key layout.now × (seat.old.table_id ≡ words.now.table.shared.table_id) }
     requires marks { (c : Call) × (first : HelpRun) × (c.layout ≡ layout.now) × (c.number ≡ number) × HelpMarks S.allows c seat.old.me.0.passes first run.now 0 }
     ensures table { (seat.new.table_id ≡ seat.old.table_id) × (seat.new.me.1 ≡ seat.old.me.1) }
     ensures steps { steps_of seat.new.me.0.passes ≤ steps_of seat.old.me.0.passes + 4 }
@@ -190,7 +191,7 @@ pub(crate) fn call<S: Shape>(
     number: u64,
     unbegun: HelpRun,
 ) -> (HelpRun, bool)
-    requires table { IsTableOf words.now.table_id words.now.key layout.now × (seat.old.table_id ≡ words.now.table_id) }
+    requires table { IsTableOf words.now.table.shared.table_id words.now.table.shared.key layout.now × (seat.old.table_id ≡ words.now.table.shared.table_id) }
     requires start { unbegun.at ≡ HelpAt.Start }
     requires begins { (c : Call) × (c.layout ≡ layout.now) × (c.number ≡ number) × HelpBegins S.allows c seat.old.me.0.passes unbegun }
     ensures table { (seat.new.table_id ≡ seat.old.table_id) × (seat.new.me.1 ≡ seat.old.me.1) }

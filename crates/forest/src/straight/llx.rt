@@ -6,8 +6,9 @@ ghost use Rattle.forest.specs.Courses.{steps_of};
 ghost use Rattle.forest.specs.StraightLlx.{LlxBegins, LlxEnds};
 ghost use Rattle.prims.specs.LlxKnown.{load};
 
-use crate::steps::{Words, complete, step_of};
+use crate::steps::{complete, step_of};
 use crate::view::View;
+use crate::words::Words;
 use arena::{
     ABORTED, COMMITTED, Deed, Kind, Layout, NodeNo, NodeWord, ScxNo, ScxWord, Shape, Side, Step,
     Turn, Word,
@@ -42,7 +43,7 @@ pub(crate) fn call<S: Shape>(
     number: u64,
     node: NodeNo,
 ) -> Llx
-    requires table { IsTableOf words.now.table_id words.now.key layout.now × (seat.old.table_id ≡ words.now.table_id) }
+    requires table { IsTableOf words.now.table.shared.table_id words.now.table.shared.key layout.now × (seat.old.table_id ≡ words.now.table.shared.table_id) }
     requires begins { (c : Call) × (c.layout ≡ layout.now) × (c.number ≡ number) × LlxBegins S.allows c seat.old.me.0.passes node }
     ensures table { (seat.new.table_id ≡ seat.old.table_id) × (seat.new.me.1 ≡ seat.old.me.1) }
     ensures ends { (c : Call) → c.layout ≡ layout.now → c.number ≡ number → LlxBegins S.allows c seat.old.me.0.passes node → LlxEnds S.allows c seat.new.me.0.passes node result }

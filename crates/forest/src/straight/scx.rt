@@ -8,9 +8,10 @@ ghost use Rattle.forest.specs.Courses.{steps_of};
 ghost use Rattle.forest.specs.StraightScx.{PutBegins, PutWaits, PutTold, PutEnds, put_same, scx_at, fill_of};
 
 use crate::rule::Asked;
-use crate::steps::{Words, make, step_of};
+use crate::steps::step_of;
 use crate::straight;
 use crate::view::View;
+use crate::words::Words;
 use arena::{Deed, Kind, Layout, MemberNo, NodeWord, ScxWord, Shape, Step, Word};
 use atomic_table::Seat;
 use help::HelpRun;
@@ -29,7 +30,7 @@ fn fill<S: Shape>(
     part: ScxWord,
     value: u64,
 ) -> u64
-    requires table { IsTableOf words.now.table_id words.now.key layout.now × (seat.old.table_id ≡ words.now.table_id) }
+    requires table { IsTableOf words.now.table.shared.table_id words.now.table.shared.key layout.now × (seat.old.table_id ≡ words.now.table.shared.table_id) }
     requires waits { (c : Call) × (first : PutRun) × (c.layout ≡ layout.now) × (c.number ≡ number) × PutWaits S.allows c seat.old.me.0.passes first (scx_at run.now at) (fill_of run.now part value) }
     ensures table { (seat.new.table_id ≡ seat.old.table_id) × (seat.new.me.1 ≡ seat.old.me.1) }
     ensures one { steps_of seat.new.me.0.passes ≡ suc (steps_of seat.old.me.0.passes) }
@@ -42,7 +43,7 @@ fn fill<S: Shape>(
     };
     let place = layout.place(step.word);
     let asked = Asked { call: number, step };
-    make::<S, Brand>(words, seat, &asked, place)
+    words.make::<Brand>(seat, &asked, place)
 }
 
 /// Fills the nodes that the SCX-record covers.
@@ -54,7 +55,7 @@ fn fill_members<S: Shape>(
     number: u64,
     run: &PutRun,
 )
-    requires table { IsTableOf words.now.table_id words.now.key layout.now × (seat.old.table_id ≡ words.now.table_id) }
+    requires table { IsTableOf words.now.table.shared.table_id words.now.table.shared.key layout.now × (seat.old.table_id ≡ words.now.table.shared.table_id) }
     requires waits { (c : Call) × (first : PutRun) × (c.layout ≡ layout.now) × (c.number ≡ number) × PutWaits S.allows c seat.old.me.0.passes first (scx_at run.now (ScxAt.Member MemberNo.First)) (fill_of run.now (ScxWord.Member 0) (snap_at run.now.scx.update.snaps.items 0).node.0) }
     ensures table { (seat.new.table_id ≡ seat.old.table_id) × (seat.new.me.1 ≡ seat.old.me.1) }
     ensures steps { steps_of seat.new.me.0.passes ≤ steps_of seat.old.me.0.passes + 4 }
@@ -91,7 +92,7 @@ fn fill_seen<S: Shape>(
     number: u64,
     run: &PutRun,
 )
-    requires table { IsTableOf words.now.table_id words.now.key layout.now × (seat.old.table_id ≡ words.now.table_id) }
+    requires table { IsTableOf words.now.table.shared.table_id words.now.table.shared.key layout.now × (seat.old.table_id ≡ words.now.table.shared.table_id) }
     requires waits { (c : Call) × (first : PutRun) × (c.layout ≡ layout.now) × (c.number ≡ number) × PutWaits S.allows c seat.old.me.0.passes first (scx_at run.now (ScxAt.Seen MemberNo.First)) (fill_of run.now (ScxWord.Seen 0) (snap_at run.now.scx.update.snaps.items 0).scx.0) }
     ensures table { (seat.new.table_id ≡ seat.old.table_id) × (seat.new.me.1 ≡ seat.old.me.1) }
     ensures steps { steps_of seat.new.me.0.passes ≤ steps_of seat.old.me.0.passes + 4 }
@@ -128,7 +129,7 @@ pub(crate) fn call<S: Shape>(
     number: u64,
     unbegun: PutRun,
 ) -> Scx
-    requires table { IsTableOf words.now.table_id words.now.key layout.now × (seat.old.table_id ≡ words.now.table_id) }
+    requires table { IsTableOf words.now.table.shared.table_id words.now.table.shared.key layout.now × (seat.old.table_id ≡ words.now.table.shared.table_id) }
     requires begins { (c : Call) × (c.layout ≡ layout.now) × (c.number ≡ number) × PutBegins S.allows c seat.old.me.0.passes unbegun }
     ensures table { (seat.new.table_id ≡ seat.old.table_id) × (seat.new.me.1 ≡ seat.old.me.1) }
     ensures steps { steps_of seat.new.me.0.passes ≤ steps_of seat.old.me.0.passes + 40 }

@@ -6,8 +6,9 @@ ghost use Rattle.forest.specs.Kept.{IsTableOf};
 ghost use Rattle.forest.specs.Courses.{steps_of};
 ghost use Rattle.forest.specs.StraightVlx.{VlxBegins, VlxEnds};
 
-use crate::steps::{Words, complete};
+use crate::steps::complete;
 use crate::view::View;
+use crate::words::Words;
 use arena::{Layout, Machine, Shape};
 use atomic_table::Seat;
 use prims::{Vlx, VlxRun};
@@ -20,7 +21,7 @@ pub(crate) fn call<S: Shape>(
     number: u64,
     unbegun: VlxRun,
 ) -> Vlx
-    requires table { IsTableOf words.now.table_id words.now.key layout.now × (seat.old.table_id ≡ words.now.table_id) }
+    requires table { IsTableOf words.now.table.shared.table_id words.now.table.shared.key layout.now × (seat.old.table_id ≡ words.now.table.shared.table_id) }
     requires begins { (c : Call) × (c.layout ≡ layout.now) × (c.number ≡ number) × VlxBegins S.allows c seat.old.me.0.passes unbegun }
     ensures table { (seat.new.table_id ≡ seat.old.table_id) × (seat.new.me.1 ≡ seat.old.me.1) }
     ensures ends { (c : Call) → c.layout ≡ layout.now → c.number ≡ number → VlxBegins S.allows c seat.old.me.0.passes unbegun → VlxEnds S.allows c seat.new.me.0.passes unbegun result }

@@ -11,8 +11,8 @@ use std::test::Fail;
 
 /// A forest of two passes.
 fn two(alloc: Global) -> Option<(Forest<Cells>, Pass, Pass)>
-    ensures first { IfSome result (λ t. IsOf t.0.table.shared.table_id t.0.layout t.1) }
-    ensures second { IfSome result (λ t. IsOf t.0.table.shared.table_id t.0.layout t.2) }
+    ensures first { IfSome result (λ t. IsOf t.0 t.1) }
+    ensures second { IfSome result (λ t. IsOf t.0 t.2) }
 {
     let Ok((forest, mut passes)) = Forest::<Cells>::new(alloc, limits(2, 10, 10)) else {
         return None;
@@ -28,8 +28,8 @@ fn end_two(
     one: Pass,
     other: Pass,
 ) -> Result<Option<Closed>, AllocError>
-    requires one { IsOf forest.table.shared.table_id forest.layout one }
-    requires other { IsOf forest.table.shared.table_id forest.layout other }
+    requires one { IsOf forest one }
+    requires other { IsOf forest other }
 {
     let mut passes = Vec::new(alloc);
     passes.push(one)?;

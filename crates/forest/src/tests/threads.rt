@@ -62,10 +62,10 @@ fn put_in_two(
     cells: (NodeNo, NodeNo),
     side: Side,
 ) -> Option<Result<Scx, Full>>
-    requires pass { IsOf forest.now.table.shared.table_id forest.now.layout pass.old }
+    requires pass { IsOf forest.now pass.old }
     requires cells { (cells.0.0 ≤ 8) × (cells.1.0 ≤ 8) }
     requires apart { cells.0.0 ≢ cells.1.0 }
-    ensures { IsOf forest.now.table.shared.table_id forest.now.layout pass.new }
+    ensures { IsOf forest.now pass.new }
 {
     let one = forest.llx(pass, cells.0);
     let other = forest.llx(pass, cells.1);
@@ -79,8 +79,8 @@ fn put_in_two(
 
 /// A round at one of four cells, and the next of them.
 fn put_in_four(forest: &Forest<Cells>, pass: &mut Pass, round: u32) -> Option<Result<Scx, Full>>
-    requires { IsOf forest.now.table.shared.table_id forest.now.layout pass.old }
-    ensures { IsOf forest.now.table.shared.table_id forest.now.layout pass.new }
+    requires { IsOf forest.now pass.old }
+    ensures { IsOf forest.now pass.new }
 {
     let one = u64::from(round % 4);
     let next = (one + 1) % 4;
@@ -94,8 +94,8 @@ fn put_in_four(forest: &Forest<Cells>, pass: &mut Pass, round: u32) -> Option<Re
 
 /// The rounds of a thread.
 fn make_rounds(forest: &Forest<Cells>, kind: Work, mut pass: Pass) -> (Pass, Tally)
-    requires { IsOf forest.now.table.shared.table_id forest.now.layout pass }
-    ensures { IsOf forest.now.table.shared.table_id forest.now.layout result.0 }
+    requires { IsOf forest.now pass }
+    ensures { IsOf forest.now result.0 }
 {
     let first = pass.number().0;
     let mut tally = Tally::default();
@@ -117,8 +117,8 @@ fn crowd<R: Threads + Sync>(
     kind: Work,
     passes: Vec<Pass>,
 ) -> Result<Vec<(Pass, Tally)>, AllocError>
-    requires { All (IsOf forest.now.table.shared.table_id forest.now.layout) passes.items }
-    ensures { IfOk result (λ ws. All (λ w. IsOf forest.now.table.shared.table_id forest.now.layout w.0) ws.items) }
+    requires { All (IsOf forest.now) passes.items }
+    ensures { IfOk result (λ ws. All (λ w. IsOf forest.now w.0) ws.items) }
 {
     map_vec(rt, passes, &|pass| make_rounds(forest, kind, pass))
 }
@@ -129,8 +129,8 @@ fn part(
     forest: &Forest<Cells>,
     workers: Vec<(Pass, Tally)>,
 ) -> Result<(Vec<Pass>, Vec<Tally>), AllocError>
-    requires { All (λ w. IsOf forest.now.table.shared.table_id forest.now.layout w.0) workers.items }
-    ensures { IfOk result (λ r. All (IsOf forest.now.table.shared.table_id forest.now.layout) r.0.items) }
+    requires { All (λ w. IsOf forest.now w.0) workers.items }
+    ensures { IfOk result (λ r. All (IsOf forest.now) r.0.items) }
 {
     let mut passes = Vec::new(alloc);
     let mut tallies = Vec::new(alloc);
@@ -148,10 +148,10 @@ fn meet_each(
     one: &mut Pass,
     passes: Vec<Pass>,
 ) -> Result<Vec<Pass>, AllocError>
-    requires one { IsOf forest.now.table.shared.table_id forest.now.layout one.old }
-    requires passes { All (IsOf forest.now.table.shared.table_id forest.now.layout) passes.items }
-    ensures one { IsOf forest.now.table.shared.table_id forest.now.layout one.new }
-    ensures passes { IfOk result (λ ps. All (IsOf forest.now.table.shared.table_id forest.now.layout) ps.items) }
+    requires one { IsOf forest.now one.old }
+    requires passes { All (IsOf forest.now) passes.items }
+    ensures one { IsOf forest.now one.new }
+    ensures passes { IfOk result (λ ps. All (IsOf forest.now) ps.items) }
 {
     let mut met = Vec::new(alloc);
     for mut pass in passes {
@@ -167,8 +167,8 @@ fn meet_all(
     forest: &Forest<Cells>,
     mut passes: Vec<Pass>,
 ) -> Result<Vec<Pass>, AllocError>
-    requires { All (IsOf forest.now.table.shared.table_id forest.now.layout) passes.items }
-    ensures { IfOk result (λ ps. All (IsOf forest.now.table.shared.table_id forest.now.layout) ps.items) }
+    requires { All (IsOf forest.now) passes.items }
+    ensures { IfOk result (λ ps. All (IsOf forest.now) ps.items) }
 {
     let Some(mut last) = passes.pop() else {
         return Ok(passes);
@@ -181,8 +181,8 @@ fn meet_all(
 
 /// The fields of the four cells, as a pass finds them.
 fn look(forest: &Forest<Cells>, pass: &mut Pass) -> [Fields; 4]
-    requires { IsOf forest.now.table.shared.table_id forest.now.layout pass.old }
-    ensures { IsOf forest.now.table.shared.table_id forest.now.layout pass.new }
+    requires { IsOf forest.now pass.old }
+    ensures { IsOf forest.now pass.new }
 {
     [
         fields(forest.llx(pass, NodeNo(1))),
@@ -198,8 +198,8 @@ fn look_all(
     forest: &Forest<Cells>,
     passes: Vec<Pass>,
 ) -> Result<(Vec<Pass>, Vec<[Fields; 4]>), AllocError>
-    requires { All (IsOf forest.now.table.shared.table_id forest.now.layout) passes.items }
-    ensures { IfOk result (λ r. All (IsOf forest.now.table.shared.table_id forest.now.layout) r.0.items) }
+    requires { All (IsOf forest.now) passes.items }
+    ensures { IfOk result (λ r. All (IsOf forest.now) r.0.items) }
 {
     let mut back = Vec::new(alloc);
     let mut found = Vec::new(alloc);

@@ -1,5 +1,5 @@
 use Rattle.std.proofs.Common.{◌≡◌, ◌++◌, List, vec_len}
-use Rattle.forest.specs.Passes.{Sight, AreOf}
+use Rattle.forest.specs.Passes.{Sight, AreOf, ground}
 use Rattle.forest.specs.Gathered.{AreIn}
 use Rattle.forest.proofs.close.gather.Given as goal
 
@@ -8,8 +8,8 @@ invariant-loop-pass l = record {
   gone : List Sight;
   were : l.fn.passes.items ≡ l.passes.items ++ gone;
   are_in : AreIn gone l.all.me.0.passes;
-  left : AreOf l.words.table_id l.layout l.passes.items;
-  table : l.all.table_id ≡ l.words.table_id;
+  left : AreOf (ground l.words.table.shared.table_id l.layout) l.passes.items;
+  table : l.all.table_id ≡ l.words.table.shared.table_id;
 }
 
 abbrev pub decreases-loop-pass : goal.decreases-loop-pass

@@ -1,13 +1,13 @@
 use Rattle.std.proofs.Common.{◌≡◌, ◌-◌, ℕ, [], Some, slice_get, vec_len}
 use Rattle.forest.specs.Kept.{beginners}
-use Rattle.forest.specs.Passes.{Sight, beginner}
+use Rattle.forest.specs.Passes.{Sight, ground, beginner}
 use Rattle.forest.proofs.forest.pass_all.Given as goal
 
 abbrev pub invariant-loop-number : goal.invariant-loop-number
 invariant-loop-number l = record {
   count : vec_len l.passes ≡ l.number;
-  each : (j : ℕ) (d : Sight) → slice_get l.passes.items j ≡ Some d → d ≡ beginner l.words.table_id l.layout j;
-  table : l.seat.table_id ≡ l.words.table_id;
+  each : (j : ℕ) (d : Sight) → slice_get l.passes.items j ≡ Some d → d ≡ beginner (ground l.words.table.shared.table_id l.layout) j;
+  table : l.seat.table_id ≡ l.words.table.shared.table_id;
   bare : l.seat.me.1 ≡ [];
   left : l.seat.me.0.passes ≡ beginners l.layout l.number (l.layout.passes - l.number);
 }

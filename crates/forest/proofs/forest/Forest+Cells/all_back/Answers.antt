@@ -1,4 +1,5 @@
-use Rattle.std.proofs.Common.{sym, ◌∙◌}
+use Rattle.std.proofs.Common.{◌<◌, sym, ◌∙◌, subst}
+use Rattle.forest.specs.Passes.{Ground}
 use Rattle.std.proofs.lemmas.Bool.{false≢true}
 use Rattle.forest.proofs.AllBack.{has_pass, finds_pass, has_more}
 use Rattle.forest.proofs.forest.Forest+Cells.all_back.Goals as goal
@@ -6,7 +7,7 @@ use Rattle.forest.proofs.forest.Forest+Cells.all_back.Goals as goal
 pub returns-then-not-has_pass : goal.returns-then-not-has_pass
 returns-then-not-has_pass c = (
   λ e. absurd (false≢true e),
-  λ all. absurd (false≢true (sym (sym c.has_pass.ensures ∙ c.if-not-has_pass.true) ∙ finds_pass c.args.passes.now c.loop-number.number (all c.loop-number.number c.loop-number-test.true))),
+  λ all. absurd (false≢true (sym (sym c.has_pass.ensures ∙ c.if-not-has_pass.true) ∙ finds_pass c.args.passes.now c.loop-number.number (all c.loop-number.number (subst (λ (f : Ground). c.loop-number.number < f.layout.passes) c.self.view_is c.loop-number-test.true)))),
 )
 
 pub loop-number-preserved : goal.loop-number-preserved

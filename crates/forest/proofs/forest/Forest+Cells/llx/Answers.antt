@@ -2,7 +2,7 @@ use Rattle.std.proofs.Common.{◌≡◌, ◌≤◌, ◌∙◌, arith, ℕ, true,
 use Rattle.arena.specs.Log.{is_final}
 use Rattle.forest.specs.Passes.{Sight, seen_of, taken_of}
 use Rattle.forest.specs.Held.{sight, IsPass}
-use Rattle.forest.proofs.Passes.{HasCalled, call_of}
+use Rattle.forest.proofs.Passes.{HasCalled, layout_of, call_of}
 use Rattle.forest.proofs.LlxCalls.{Answered, llx_begins, llx_called, llx_goes_on, llx_nothing, llx_says, llx_finalized, llx_pass}
 use Rattle.prims.specs.Cells.{allows_all}
 use Rattle.prims.specs.declared.llx.LlxAt.TheVariants.{Start as LlxStart}
@@ -21,12 +21,12 @@ begins p x node small = llx_begins p x (called p) (run_at node LlxStart) refl sm
 
 pub call-answer-requires-clause-begins : goal.call-answer-requires-clause-begins
 call-answer-requires-clause-begins c = let p = c.pass.inside in let x = c.pass.invariant in
-    (call_of p x (called p), ap (λ (v : Sight). v.layout) c.pass.view_is ∙ c.requires.pass.1, ap taken_of c.pass.view_is ∙ sym c.taken-number.ensures, begins p x c.args.node c.requires.cell)
+    (call_of p x (called p), layout_of c.pass.view_is c.self.view_is c.requires.pass, ap taken_of c.pass.view_is ∙ sym c.taken-number.ensures, begins p x c.args.node c.requires.cell)
 
 -- what the call leaves
 ended : (c : goal.After-hear) → HasCalled c.pass.inside c.call-answer.new.seat (called c.pass.inside) (Answered c.pass.inside c.pass.invariant (called c.pass.inside) c.args.node c.call-answer.result)
 ended c = let p = c.pass.inside in let x = c.pass.invariant in
-    let y = c.call-answer.ensures.ends (call_of p x (called p)) (ap (λ (v : Sight). v.layout) c.pass.view_is ∙ c.requires.pass.1) (ap taken_of c.pass.view_is ∙ sym c.taken-number.ensures) (begins p x c.args.node c.requires.cell) in
+    let y = c.call-answer.ensures.ends (call_of p x (called p)) (layout_of c.pass.view_is c.self.view_is c.requires.pass) (ap taken_of c.pass.view_is ∙ sym c.taken-number.ensures) (begins p x c.args.node c.requires.cell) in
     llx_called p x (called p) c.call-answer.new.seat (run_at c.args.node LlxStart) y.0 c.args.node c.call-answer.result refl y.1
 
 pub invariant_of-pass : goal.invariant_of-pass

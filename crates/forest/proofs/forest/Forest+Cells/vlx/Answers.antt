@@ -1,7 +1,7 @@
 use Rattle.std.proofs.Common.{◌≡◌, ◌∙◌, ℕ, refl, sym, ap, subst, arith}
 use Rattle.forest.specs.Passes.{Sight, VlxSays, CanUse, Each, taken_of}
 use Rattle.forest.specs.Held.{sight}
-use Rattle.forest.proofs.Passes.{HasCalled, call_of, seated, called_pass, called_goes_on, called_nothing}
+use Rattle.forest.proofs.Passes.{HasCalled, layout_of, call_of, seated, called_pass, called_goes_on, called_nothing}
 use Rattle.forest.proofs.VlxCalls.{Looked, vlx_begins, vlx_called, vlx_says}
 use Rattle.prims.specs.Cells.{allows_all}
 use Rattle.forest.specs.declared.pass.Pass.TheInside.{Inside}
@@ -17,12 +17,12 @@ begins : (c : goal.After-new) → VlxBegins allows_all (call_of c.pass.inside c.
 begins c = vlx_begins c.pass.inside c.pass.invariant (called c.pass.inside) c.new.result c.args.snaps.now c.new.ensures.asked c.new.ensures.snaps c.requires.some (subst (λ (v : Sight). Each (CanUse v) c.args.snaps.now) (sym c.pass.view_is) c.requires.usable)
 
 pub call-requires-clause-begins : goal.call-requires-clause-begins
-call-requires-clause-begins c = (call_of c.pass.inside c.pass.invariant (called c.pass.inside), ap (λ (v : Sight). v.layout) c.pass.view_is ∙ c.requires.pass.1, ap taken_of c.pass.view_is ∙ sym c.taken-number.ensures, begins c)
+call-requires-clause-begins c = (call_of c.pass.inside c.pass.invariant (called c.pass.inside), layout_of c.pass.view_is c.self.view_is c.requires.pass, ap taken_of c.pass.view_is ∙ sym c.taken-number.ensures, begins c)
 
 -- what the call leaves
 ended : (c : goal.After-call) → HasCalled c.pass.inside c.call.new.seat (called c.pass.inside) (Looked c.pass.inside c.pass.invariant (called c.pass.inside) c.args.snaps.now c.call.result)
 ended c = let p = c.pass.inside in let x = c.pass.invariant in
-    let y = c.call.ensures.ends (call_of p x (called p)) (ap (λ (v : Sight). v.layout) c.pass.view_is ∙ c.requires.pass.1) (ap taken_of c.pass.view_is ∙ sym c.taken-number.ensures) (begins c.before) in
+    let y = c.call.ensures.ends (call_of p x (called p)) (layout_of c.pass.view_is c.self.view_is c.requires.pass) (ap taken_of c.pass.view_is ∙ sym c.taken-number.ensures) (begins c.before) in
     vlx_called p x (called p) c.call.new.seat c.new.result y.0 c.args.snaps.now c.call.result c.new.ensures.snaps y.1
 
 pub invariant_of-pass : goal.invariant_of-pass

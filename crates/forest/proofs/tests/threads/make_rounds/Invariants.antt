@@ -2,4 +2,4 @@ use Rattle.forest.specs.Passes.{IsOf}
 use Rattle.forest.proofs.tests.threads.make_rounds.Given as goal
 
 abbrev pub invariant-loop-round : goal.invariant-loop-round
-invariant-loop-round l = IsOf l.forest.table.shared.table_id l.forest.layout l.pass
+invariant-loop-round l = IsOf l.forest l.pass

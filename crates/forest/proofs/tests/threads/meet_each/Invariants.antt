@@ -6,6 +6,6 @@ abbrev pub invariant-loop-pass : goal.invariant-loop-pass
 invariant-loop-pass l =
     (goal.iterator-loop-pass).can_next l.pass-iterator ×
     (goal.iterator-loop-pass).is_finite l.pass-iterator ×
-    IsOf l.forest.table.shared.table_id l.forest.layout l.one ×
-    All (IsOf l.forest.table.shared.table_id l.forest.layout) l.pass-iterator.rest.items ×
-    All (IsOf l.forest.table.shared.table_id l.forest.layout) l.met.items
+    IsOf l.forest l.one ×
+    All (IsOf l.forest) l.pass-iterator.rest.items ×
+    All (IsOf l.forest) l.met.items

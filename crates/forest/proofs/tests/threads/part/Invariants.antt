@@ -6,5 +6,5 @@ abbrev pub invariant-loop-pass : goal.invariant-loop-pass
 invariant-loop-pass l =
     (goal.iterator-loop-pass).can_next l.pass-iterator ×
     (goal.iterator-loop-pass).is_finite l.pass-iterator ×
-    All (λ w. IsOf l.forest.table.shared.table_id l.forest.layout w.0) l.pass-iterator.rest.items ×
-    All (IsOf l.forest.table.shared.table_id l.forest.layout) l.passes.items
+    All (λ w. IsOf l.forest w.0) l.pass-iterator.rest.items ×
+    All (IsOf l.forest) l.passes.items

@@ -3,13 +3,12 @@ use Rattle.arena.specs.declared.layout.Layout.{Layout}
 use Rattle.arena.specs.declared.word.Word.{Word}
 use Rattle.arena.specs.Layout.{place, table_size, opening, IsWord}
 use Rattle.arena.specs.PlainWords.{Contents, IsOpening}
-use Rattle.prims.specs.Cells.{allows_all}
 use Rattle.forest.proofs.Deals.{opens}
-use Rattle.forest.proofs.forest.open.Goals as goal
+use Rattle.forest.proofs.words.Words.open.Goals as goal
 
 -- words as they are at the start, by their places
 placed : (c : Contents) (words : List ℕ) (lay : Layout) → c.layout ≡ lay → words ≡ c.words → IsOpening c → (w : Word) → IsWord lay w → slice_index words (place lay w) ≡ opening lay.mode w
 placed c words lay same is x w i = rw (is, ← same) (x w (rw same i))
 
 pub of_words-requires : goal.of_words-requires
-of_words-requires c = opens allows_all c.args.layout.now c.words-2.result.now _ (c.words-2.ensures.size ∙ ap table_size c.in_ok-words.ensures.layout) (placed c.in_ok-words.words c.words-2.result.now c.args.layout.now c.in_ok-words.ensures.layout c.words-2.ensures.words c.in_ok-words.ensures.opening)
+of_words-requires g c = opens g.S.Shape.allows c.args.layout.now c.words-2.result.now _ (c.words-2.ensures.size ∙ ap table_size c.in_ok-words.ensures.layout) (placed c.in_ok-words.words c.words-2.result.now c.args.layout.now c.in_ok-words.ensures.layout c.words-2.ensures.words c.in_ok-words.ensures.opening)

@@ -3,7 +3,7 @@ use Rattle.atomic_table.specs.declared.shared.Seat.{Seat}
 use Rattle.forest.specs.declared.view.View.{View}
 use Rattle.forest.specs.Kept.{looked, rest_of, first_of}
 use Rattle.forest.proofs.Meets.{looks_first}
-use Rattle.forest.proofs.deal.meet.Goals as goal
+use Rattle.forest.proofs.meet.meet.Goals as goal
 
 pub look-requires-clause-two : goal.look-requires-clause-two
 look-requires-clause-two g c = let p = c.requires.first in let q = c.requires.second in

@@ -1,6 +1,0 @@
-use Rattle.forest.proofs.Moves.{looks}
-use Rattle.forest.proofs.deal.look.Goals as goal
-
-pub load-requires : goal.load-requires
-load-requires g c = let t = c.requires.two in let key = c.requires.table.0.1 in
-    (c.requires.table.1, rw c.requires.table.0.0 c.place.ensures.inside, rw key (looks g.S.Shape.allows c.args.layout.now _ _ c.args.seat.now.me c.place.result c.place.ensures.place c.place.ensures.inside c.place.ensures.apart t.0 t.1 t.2 t.4))

@@ -1,0 +1,33 @@
+//! How two passes come to know what both knew.
+ghost use Rattle.std.specs.Prelude.{◌≡◌, []};
+ghost use Rattle.forest.specs.Kept.{IsTableOf, Met, IsAlone};
+
+use crate::view::View;
+use crate::words::Words;
+use arena::{Layout, Shape};
+use atomic_table::Seat;
+use std::mem::replace;
+
+/// Each of two passes looks at the table. Before that the first knows what both knew, with the
+/// other's look.
+pub(crate) fn meet<S: Shape>(
+    words: &Words<S>,
+    layout: &Layout,
+    one: &mut Seat<u8, View>,
+    other: &mut Seat<u8, View>,
+)
+    requires table { IsTableOf words.now.table.shared.table_id words.now.table.shared.key layout.now × (one.old.table_id ≡ words.now.table.shared.table_id) × (other.old.table_id ≡ words.now.table.shared.table_id) }
+    requires bare { (one.old.me.1 ≡ []) × (other.old.me.1 ≡ []) }
+    requires first { IsAlone layout.now one.old.me.0.passes }
+    requires second { IsAlone layout.now other.old.me.0.passes }
+    ensures table { (one.new.table_id ≡ one.old.table_id) × (other.new.table_id ≡ other.old.table_id) }
+    ensures bare { (one.new.me.1 ≡ []) × (other.new.me.1 ≡ []) }
+    ensures met { Met S.allows one.old.me.0.passes other.old.me.0.passes one.new.me.0.passes other.new.me.0.passes }
+{
+    let mine = words.deal(layout, one);
+    words.take_in(layout, other, mine);
+    words.look(layout, other);
+    words.look(layout, other);
+    let theirs = words.deal(layout, other);
+    *one = replace(other, theirs);
+}
