@@ -116,8 +116,8 @@ public:
         Word at = 0;
         for (Word index = count; index-- > 0;) {
             if (snaps[index].node == cell) at = index;
-            if (std::find(finalize, finalize + finalized, snaps[index].node) != finalize + finalized)
-                removed |= Word{1} << index;
+            for (Word other = 0; other < finalized; other++)
+                if (finalize[other] == snaps[index].node) removed |= Word{1} << index;
         }
         store(node(fresh, VALUE), value);
         store(scx(record, PLAN), Plan(count, removed, at, side).word);

@@ -1,6 +1,5 @@
 use Rattle.std.proofs.Common.{ℕ, sym, [], ◌∷◌, ◌++◌}
 use Rattle.std.proofs.lemmas.List.Elements.{All-head, All-rest, All-same, All-push}
-use Rattle.std.specs.List.{All}
 use Rattle.forest.specs.Passes.{Sight, IsOf}
 use Rattle.bench.proofs.crowd.numbered.Goals as goal
 

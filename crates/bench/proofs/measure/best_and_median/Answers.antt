@@ -1,4 +1,4 @@
-use Rattle.std.proofs.Common.{arith, length, rules}
+use Rattle.std.proofs.Common.{arith, rules}
 use Rattle.std.proofs.lemmas.List.Sorted.{IsNonDecreasingBy-from_sort_by_key}
 use Rattle.std.proofs.lemmas.Option.{slice_get-get_or}
 use Rattle.bench.specs.declared.crowd.Repetition.{Repetition}
