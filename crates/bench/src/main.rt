@@ -1,0 +1,25 @@
+//! Times whole calls of a forest: `bench WORK THREADS CALLS TIMES`.
+#![tactic(auto)]
+
+mod crowd;
+mod fault;
+mod measure;
+mod pair;
+mod program;
+mod round;
+mod tally;
+mod task;
+mod words;
+mod work;
+
+use std::process::ExitCode;
+
+fn main(rt: HostRuntime) -> ExitCode {
+    match program::bench(&rt) {
+        Ok(()) => ExitCode::SUCCESS,
+        Err(fault) => ExitCode::from(fault.tell(&mut rt.stderr())),
+    }
+}
+
+#[cfg(test)]
+mod tests;

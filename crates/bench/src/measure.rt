@@ -1,0 +1,99 @@
+//! A measurement.
+ghost use Rattle.std.specs.Prelude.{◌≡◌, ◌≤◌, ◌<◌, ◌/◌, length, slice_get, Some};
+ghost use Rattle.std.specs.List.Sorted.{IsNonDecreasingBy, IsPermutation};
+ghost use Rattle.bench.specs.declared.crowd.Repetition.{Repetition};
+
+use crate::crowd::{Repetition, run};
+use crate::fault::Fault;
+use crate::tally::Tally;
+use crate::task::Task;
+use std::fmt;
+use std::rt::Clock;
+use std::thread::Threads;
+
+/// The names of a row's fields.
+pub const HEADER: &str = "structure,work,threads,calls,times,median_ns,best_ns,done,lost,fail";
+
+/// What the repetitions of a task took, and how the rounds of the fastest ended.
+#[derive(Clone, Copy, Debug)]
+pub struct Measurement {
+    pub task: Task,
+    pub median: PerCall,
+    pub best: PerCall,
+    pub tally: Tally,
+}
+
+/// The time of a round in tenths of a nanosecond.
+#[derive(Clone, Copy, Debug, PartialEq, Eq)]
+pub struct PerCall(pub u128);
+
+impl PerCall {
+    fn of(nanos: u128, calls: u32) -> PerCall
+        requires { 1 ≤ calls }
+    {
+        PerCall(nanos.saturating_mul(10) / u128::from(calls))
+    }
+}
+
+impl fmt::Display for PerCall {
+    fn fmt<W: fmt::Write>(&self, f: &mut fmt::Formatter<W>) -> fmt::Result {
+        let whole = self.0 / 10;
+        let tenths = self.0 % 10;
+        write!(f, "{whole}.{tenths}")
+    }
+}
+
+/// The row of the measurement.
+impl fmt::Display for Measurement {
+    fn fmt<W: fmt::Write>(&self, f: &mut fmt::Formatter<W>) -> fmt::Result {
+        let Task {
+            work,
+            threads,
+            calls,
+            times,
+        } = self.task;
+        let Tally { done, lost, fail } = self.tally;
+        let (name, median, best) = (work.name(), self.median, self.best);
+        write!(
+            f,
+            "regnubas,{name},{threads},{calls},{times},{median},{best},{done},{lost},{fail}"
+        )
+    }
+}
+
+/// Measures a task.
+pub fn measure<R: Threads + Sync + Clock + AllocGlobal>(
+    rt: &R,
+    task: Task,
+) -> Result<Measurement, Fault> {
+    let mut runs = Vec::new(rt.alloc());
+    for _time in 0..task.times {
+        runs.push(run(rt, task)?)?;
+    }
+    Ok(summary(task, &mut runs))
+}
+
+/// The measurement that some runs of a task give. It puts them in order.
+fn summary(task: Task, runs: &mut [Repetition]) -> Measurement
+    requires { 0 < length runs.old }
+{
+    let (best, median) = best_and_median(runs);
+    Measurement {
+        task,
+        median: PerCall::of(median.nanos, task.calls),
+        best: PerCall::of(best.nanos, task.calls),
+        tally: best.tally,
+    }
+}
+
+/// Puts runs in order, and answers the fastest and the one in the middle.
+pub fn best_and_median(runs: &mut [Repetition]) -> (Repetition, Repetition)
+    requires { 0 < length runs.old }
+    ensures same { IsPermutation runs.old runs.new }
+    ensures order { IsNonDecreasingBy (λ (r : Repetition). r.nanos) runs.new }
+    ensures best { slice_get runs.new 0 ≡ Some result.0 }
+    ensures median { slice_get runs.new (length runs.new / 2) ≡ Some result.1 }
+{
+    runs.sort_unstable_by_key(|run| run.nanos);
+    (runs[0], runs[runs.len() / 2])
+}

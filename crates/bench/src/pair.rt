@@ -1,0 +1,30 @@
+//! The cells of a thread.
+ghost use Rattle.std.specs.Prelude.{◌≤◌, ◌≢◌};
+
+use crate::work::Work;
+use arena::NodeNo;
+
+/// The two cells of a thread. Most works take the first alone.
+#[derive(Clone, Copy, Debug)]
+pub struct Pair {
+    pub first: NodeNo,
+    pub second: NodeNo,
+    ghost cells: { (first.0 ≤ 8) × (second.0 ≤ 8) },
+    ghost apart: { first.0 ≢ second.0 },
+}
+
+impl Pair {
+    /// The cells of the thread with this number, of those that do the work.
+    pub fn of(work: Work, thread: u32) -> Pair {
+        let number = u64::from(thread);
+        let first = match work {
+            Work::Llx | Work::Own => 1 + number % 8,
+            Work::Two => 1 + 2 * (number % 4),
+            Work::Shared => 1,
+        };
+        Pair {
+            first: NodeNo(first),
+            second: NodeNo(1 + first % 8),
+        }
+    }
+}

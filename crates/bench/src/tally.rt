@@ -1,0 +1,43 @@
+//! How rounds ended.
+ghost use Rattle.std.specs.Prelude.{◌≡◌, ◌<◌, suc};
+ghost use Rattle.bench.specs.Tally.{total};
+
+/// How a round ended.
+#[derive(Clone, Copy, Debug, PartialEq, Eq)]
+pub enum End {
+    /// With what was to be done.
+    Done,
+    /// With an SCX that another thread's was in the way of.
+    Lost,
+    /// With no SCX: no LLX gave a snapshot, or the thread's share was used up.
+    Fail,
+}
+
+/// How many rounds ended in each way.
+#[derive(Clone, Copy, Debug, Default, PartialEq, Eq)]
+pub struct Tally {
+    pub done: u64,
+    pub lost: u64,
+    pub fail: u64,
+}
+
+impl Tally {
+    /// One round more has ended so.
+    pub fn count(&mut self, end: End)
+        requires { total self.old < u64.MAX }
+        ensures { total self.new ≡ suc (total self.old) }
+    {
+        match end {
+            End::Done => self.done += 1,
+            End::Lost => self.lost += 1,
+            End::Fail => self.fail += 1,
+        }
+    }
+
+    /// The rounds of another tally are counted too.
+    pub fn add(&mut self, other: Tally) {
+        self.done = self.done.saturating_add(other.done);
+        self.lost = self.lost.saturating_add(other.lost);
+        self.fail = self.fail.saturating_add(other.fail);
+    }
+}

@@ -1,0 +1,140 @@
+//! What no clause says: the words, the middle, the text of a row, and small runs.
+use crate::crowd::{Repetition, run};
+use crate::fault::Fault;
+use crate::measure::{Measurement, PerCall, best_and_median};
+use crate::tally::Tally;
+use crate::task::Task;
+use crate::words::tasks_of;
+use crate::work::Work;
+use std::alloc::{AllocError, Global};
+
+/// The tasks of words that stand behind the program's name, one space between two of them.
+fn asked(alloc: Global, words: &str) -> Result<Result<Vec<Task>, Fault>, AllocError> {
+    let mut all = Vec::new(alloc);
+    all.push(String::from_str(alloc, "bench")?)?;
+    for word in words.split(' ') {
+        all.push(String::from_str(alloc, word)?)?;
+    }
+    Ok(tasks_of(alloc, &all))
+}
+
+#[test]
+fn words_are_taken(rt: HostRuntime) -> Result<(), AllocError> {
+    let cases = [
+        ("llx", 1, (1, 1_000_000, 15)),
+        ("own", 1, (1, 30_000, 15)),
+        ("own 8 32768 1", 1, (8, 32_768, 1)),
+        ("two 4 7", 1, (4, 7, 15)),
+        ("shared 32 1 4294967295", 1, (32, 1, 4_294_967_295)),
+        ("llx 8 4294967295", 1, (8, 4_294_967_295, 15)),
+        ("all 4", 4, (4, 1_000_000, 15)),
+        ("all 2 10 3", 4, (2, 10, 3)),
+    ];
+    for (words, count, numbers) in cases {
+        let Ok(tasks) = asked(rt.alloc(), words)? else {
+            panic!(rt; "{words} is refused");
+        };
+        assert_eq!(rt; tasks.len(), count, "of {words}");
+        let first = tasks
+            .first()
+            .map(|task| (task.threads, task.calls, task.times));
+        assert_eq!(rt; first, Some(numbers), "of {words}");
+    }
+    Ok(())
+}
+
+#[test]
+fn words_are_refused(rt: HostRuntime) -> Result<(), AllocError> {
+    let cases = [
+        "",
+        "tree",
+        "own 0",
+        "own 9",
+        "two 5",
+        "shared 33",
+        "all 5",
+        "own 1 0",
+        "own 1 32769",
+        "all 1 32769",
+        "llx 1 4294967296",
+        "own 1 1 0",
+        "own 1 1 1 1",
+        "own one",
+        "own -1",
+        "own 1.5",
+    ];
+    for words in cases {
+        let refused = asked(rt.alloc(), words)?.err();
+        assert_eq!(rt; refused, Some(Fault::Usage), "of {words}");
+    }
+    Ok(())
+}
+
+fn repetition(nanos: u128, done: u64) -> Repetition {
+    let (lost, fail) = (0, 0);
+    Repetition {
+        nanos,
+        tally: Tally { done, lost, fail },
+    }
+}
+
+#[test]
+fn takes_the_best_and_the_middle(rt: HostRuntime) {
+    let mut five = [
+        repetition(50, 1),
+        repetition(20, 2),
+        repetition(90, 3),
+        repetition(30, 4),
+        repetition(40, 5),
+    ];
+    let (best, median) = best_and_median(&mut five);
+    assert_eq!(rt; (best.nanos, best.tally.done), (20, 2));
+    assert_eq!(rt; (median.nanos, median.tally.done), (40, 5));
+    let (best, median) = best_and_median(&mut five[..2]);
+    assert_eq!(rt; (best.nanos, median.nanos), (20, 30));
+}
+
+#[test]
+fn prints_a_row(rt: HostRuntime) -> Result<(), AllocError> {
+    let measurement = Measurement {
+        task: Task {
+            work: Work::Shared,
+            threads: 4,
+            calls: 30_000,
+            times: 15,
+        },
+        median: PerCall(1234),
+        best: PerCall(70),
+        tally: Tally {
+            done: 100_000,
+            lost: 19_000,
+            fail: 1_000,
+        },
+    };
+    let row = format!(in rt.alloc(); "{measurement}")?;
+    assert_eq!(rt;
+        row.as_str(),
+        "regnubas,shared,4,30000,15,123.4,7.0,100000,19000,1000"
+    );
+    Ok(())
+}
+
+#[test]
+fn each_round_is_counted(rt: HostRuntime) {
+    for work in Work::ALL {
+        let task = Task {
+            work,
+            threads: 2,
+            calls: 1000,
+            times: 1,
+        };
+        let Ok(made) = run(&rt, task) else {
+            panic!(rt; "no memory or no clock");
+        };
+        let Tally { done, lost, fail } = made.tally;
+        let all = done.saturating_add(lost).saturating_add(fail);
+        assert_eq!(rt; all, 2000, "{work:?}");
+        let alone = work != Work::Shared;
+        assert!(rt; !alone || done == 2000, "{work:?}");
+    }
+}

@@ -1,0 +1,86 @@
+//! The words of the command line.
+ghost use Rattle.std.specs.Prelude.{◌≤◌, IfOk};
+ghost use Rattle.std.specs.Result.{OkIff};
+ghost use Rattle.bench.specs.Words.{IsNumberUpTo, number_in};
+
+use crate::fault::Fault;
+use crate::task::Task;
+use crate::work::Work;
+use std::alloc::Global;
+use std::rt::Env;
+use std::{env, io};
+
+/// The most words that there may be, of which the first is the program's own name.
+const MOST_WORDS: usize = 5;
+
+/// How many threads there are, and how often all is done, where the words do not say it.
+const USUAL_THREADS: u32 = 1;
+
+const USUAL_TIMES: u32 = 15;
+
+/// The words that the program was given, of which the first is its own name.
+pub fn words_of<R: Env + AllocGlobal>(rt: &R) -> Result<Vec<String>, Fault> {
+    match env::args(rt) {
+        Ok(words) => Ok(words.collect(rt.alloc())?),
+        Err(error) if error.kind() == io::ErrorKind::OutOfMemory => Err(Fault::NoMemory),
+        Err(_) => Err(Fault::Usage),
+    }
+}
+
+/// The tasks that these words ask for: one, or one for each work.
+pub fn tasks_of(alloc: Global, words: &[String]) -> Result<Vec<Task>, Fault> {
+    let mut tasks = Vec::new(alloc);
+    for work in Work::ALL {
+        if asks_for(words, work) {
+            tasks.push(task_of(words, work)?)?;
+        }
+    }
+    if tasks.is_empty() {
+        return Err(Fault::Usage);
+    }
+    Ok(tasks)
+}
+
+fn asks_for(words: &[String], work: Work) -> bool {
+    match words.get(1) {
+        Some(word) => word.as_str() == "all" || word.as_str() == work.name(),
+        None => false,
+    }
+}
+
+/// The task of this work with the numbers that the words say.
+fn task_of(words: &[String], work: Work) -> Result<Task, Fault> {
+    if words.len() > MOST_WORDS {
+        return Err(Fault::Usage);
+    }
+    let bounds = work.bounds();
+    Ok(Task {
+        work,
+        threads: number_at(words, 2, bounds.threads, USUAL_THREADS)?,
+        calls: number_at(words, 3, bounds.calls, bounds.usual_calls)?,
+        times: number_at(words, 4, u32::MAX, USUAL_TIMES)?,
+    })
+}
+
+/// The number that the word at this place says, or the usual one where there is no such word.
+fn number_at(words: &[String], place: usize, most: u32, usual: u32) -> Result<u32, Fault>
+    requires some { 1 ≤ usual }
+    requires within { usual ≤ most }
+    ensures some { IfOk result (λ n. 1 ≤ n) }
+    ensures within { IfOk result (λ n. n ≤ most) }
+{
+    match words.get(place) {
+        Some(word) => number_of(word.as_str(), most),
+        None => Ok(usual),
+    }
+}
+
+/// The number from 1 to `most` that a word says in decimal digits.
+pub fn number_of(word: &str, most: u32) -> Result<u32, Fault>
+    ensures { OkIff result (IsNumberUpTo most word.now) (number_in word.now) }
+{
+    match word.parse::<u32>() {
+        Ok(number) if 1 <= number && number <= most => Ok(number),
+        _ => Err(Fault::Usage),
+    }
+}
