@@ -44,7 +44,7 @@ pub fn run<R: Threads + Sync + Clock + AllocGlobal>(
 fn open(alloc: Global, threads: u32) -> Result<(Forest<Cells>, Vec<Pass>), Fault>
     requires some { 1 ≤ threads }
     requires passes { threads ≤ 32 }
-    ensures { IfOk result (λ r. All (IsOf r.0.table.shared.table_id r.0.layout) r.1.items) }
+    ensures { IfOk result (λ r. All (IsOf r.0) r.1.items) }
 {
     let limits = Limits {
         passes: threads,
@@ -65,8 +65,8 @@ fn numbered(
     forest: &Forest<Cells>,
     passes: Vec<Pass>,
 ) -> Result<Vec<(u32, Pass)>, AllocError>
-    requires { All (IsOf forest.now.table.shared.table_id forest.now.layout) passes.items }
-    ensures { IfOk result (λ ps. All (λ p. IsOf forest.now.table.shared.table_id forest.now.layout p.1) ps.items) }
+    requires { All (IsOf forest.now) passes.items }
+    ensures { IfOk result (λ ps. All (λ p. IsOf forest.now p.1) ps.items) }
 {
     let mut all = Vec::new(alloc);
     let mut number: u32 = 0;
@@ -84,7 +84,7 @@ fn crowd<R: Threads + Sync>(
     task: Task,
     passes: Vec<(u32, Pass)>,
 ) -> Result<Vec<Tally>, AllocError>
-    requires { All (λ p. IsOf forest.now.table.shared.table_id forest.now.layout p.1) passes.items }
+    requires { All (λ p. IsOf forest.now p.1) passes.items }
 {
     map_vec(
         rt,

@@ -12,7 +12,7 @@ use prims::{Cells, Llx, Scx};
 
 /// All rounds of a thread.
 pub fn rounds(forest: &Forest<Cells>, work: Work, calls: u32, mut pass: Pass, pair: Pair) -> Tally
-    requires { IsOf forest.now.table.shared.table_id forest.now.layout pass }
+    requires { IsOf forest.now pass }
     ensures { total result ≡ calls }
 {
     let mut tally = Tally::default();
@@ -23,8 +23,8 @@ pub fn rounds(forest: &Forest<Cells>, work: Work, calls: u32, mut pass: Pass, pa
 }
 
 fn round(forest: &Forest<Cells>, work: Work, pass: &mut Pass, pair: Pair) -> End
-    requires { IsOf forest.now.table.shared.table_id forest.now.layout pass.old }
-    ensures { IsOf forest.now.table.shared.table_id forest.now.layout pass.new }
+    requires { IsOf forest.now pass.old }
+    ensures { IsOf forest.now pass.new }
 {
     match work {
         Work::Llx => look(forest, pass, pair.first),
@@ -35,9 +35,9 @@ fn round(forest: &Forest<Cells>, work: Work, pass: &mut Pass, pair: Pair) -> End
 
 /// Looks at a cell. The fields are read, so that no compiler leaves out what gives them.
 fn look(forest: &Forest<Cells>, pass: &mut Pass, cell: NodeNo) -> End
-    requires pass { IsOf forest.now.table.shared.table_id forest.now.layout pass.old }
+    requires pass { IsOf forest.now pass.old }
     requires cell { cell.0 ≤ 8 }
-    ensures { IsOf forest.now.table.shared.table_id forest.now.layout pass.new }
+    ensures { IsOf forest.now pass.new }
 {
     match forest.llx(pass, cell) {
         Llx::Snapshot(snap) if snap.left == snap.right => End::Done,
@@ -47,9 +47,9 @@ fn look(forest: &Forest<Cells>, pass: &mut Pass, cell: NodeNo) -> End
 
 /// Puts a fresh cell into the left field of a cell.
 fn put(forest: &Forest<Cells>, pass: &mut Pass, cell: NodeNo) -> End
-    requires pass { IsOf forest.now.table.shared.table_id forest.now.layout pass.old }
+    requires pass { IsOf forest.now pass.old }
     requires cell { cell.0 ≤ 8 }
-    ensures { IsOf forest.now.table.shared.table_id forest.now.layout pass.new }
+    ensures { IsOf forest.now pass.new }
 {
     match forest.llx(pass, cell) {
         Llx::Snapshot(snap) => end_of(forest.scx(pass, &[snap], &[], (cell, Side::Left), 1)),
@@ -59,8 +59,8 @@ fn put(forest: &Forest<Cells>, pass: &mut Pass, cell: NodeNo) -> End
 
 /// Puts a fresh cell into the left field of the first cell, where both are as found.
 fn put_in_first(forest: &Forest<Cells>, pass: &mut Pass, pair: Pair) -> End
-    requires { IsOf forest.now.table.shared.table_id forest.now.layout pass.old }
-    ensures { IsOf forest.now.table.shared.table_id forest.now.layout pass.new }
+    requires { IsOf forest.now pass.old }
+    ensures { IsOf forest.now pass.new }
 {
     let field = (pair.first, Side::Left);
     let first = forest.llx(pass, pair.first);

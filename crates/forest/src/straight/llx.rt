@@ -1,9 +1,10 @@
 //! LLX.
-ghost use Rattle.std.specs.Prelude.{◌≡◌, ◌≢◌, ◌≤◌, ◌+◌, ◌⊎◌, true, false};
+ghost use Rattle.std.specs.Prelude.{◌≡◌, ◌≢◌, ◌≤◌, ◌+◌, ◌⊎◌, suc, true, false};
 ghost use Rattle.arena.specs.Machines.{Call};
 ghost use Rattle.forest.specs.Kept.{IsTableOf};
 ghost use Rattle.forest.specs.Courses.{steps_of};
-ghost use Rattle.forest.specs.StraightLlx.{LlxBegins, LlxEnds};
+ghost use Rattle.forest.specs.StraightLlx.{LlxBegins, LlxWaits, LlxEnds};
+ghost use Rattle.prims.specs.LlxSteps.{llx_left};
 ghost use Rattle.prims.specs.LlxKnown.{load};
 
 use crate::steps::{complete, step_of};
@@ -34,6 +35,30 @@ fn leaves(state: u64, marked: bool) -> bool
     state == ABORTED || state == COMMITTED && !marked
 }
 
+/// Goes on by the machine, where something is in the way. Out of line, so that the machine takes no
+/// room in a call that meets nothing.
+#[cold]
+#[inline(never)]
+fn hand_over<S: Shape>(
+    words: &Words<S>,
+    layout: &Layout,
+    seat: &mut Seat<u8, View>,
+    number: u64,
+    node: NodeNo,
+    marked: bool,
+    scx: ScxNo,
+) -> Llx
+    requires table { IsTableOf words.now.table.shared.table_id words.now.table.shared.key layout.now × (seat.old.table_id ≡ words.now.table.shared.table_id) }
+    requires waits { (c : Call) × (c.layout ≡ layout.now) × (c.number ≡ number) × LlxWaits S.allows c seat.old.me.0.passes node (LlxAt.StateAgain marked scx) (load Kind.LoadState (Word.Scx scx ScxWord.State)) }
+    ensures table { (seat.new.table_id ≡ seat.old.table_id) × (seat.new.me.1 ≡ seat.old.me.1) }
+    ensures ends { (c : Call) → c.layout ≡ layout.now → c.number ≡ number → LlxWaits S.allows c seat.old.me.0.passes node (LlxAt.StateAgain marked scx) (load Kind.LoadState (Word.Scx scx ScxWord.State)) → LlxEnds S.allows c seat.new.me.0.passes node result }
+    ensures steps { steps_of seat.new.me.0.passes ≤ steps_of seat.old.me.0.passes + suc (llx_left (LlxAt.StateAgain marked scx)) }
+{
+    let at = LlxAt::StateAgain { marked, scx };
+    let turn = Turn::Ask(load(Kind::LoadState, Word::Scx(scx, ScxWord::State)));
+    complete(words, layout, seat, number, LlxRun { node, at }, turn).1
+}
+
 /// LLX of a node: the loads of a snapshot; where something is in the way, the machine goes on.
 #[inline(always)]
 pub(crate) fn call<S: Shape>(
@@ -49,7 +74,6 @@ pub(crate) fn call<S: Shape>(
     ensures ends { (c : Call) → c.layout ≡ layout.now → c.number ≡ number → LlxBegins S.allows c seat.old.me.0.passes node → LlxEnds S.allows c seat.new.me.0.passes node result }
     ensures steps { steps_of seat.new.me.0.passes ≤ steps_of seat.old.me.0.passes + 64 }
 {
-    let layout = *layout;
     let mark = load(Kind::LoadMarked, Word::Node(node, NodeWord::Marked));
     let info = load(Kind::LoadInfo, Word::Node(node, NodeWord::Info));
     let one = load(
@@ -62,34 +86,32 @@ pub(crate) fn call<S: Shape>(
     );
 
     let at = LlxAt::Marked;
-    let found = step_of::<S, LlxRun>(words, &layout, seat, number, &LlxRun { node, at }, mark);
+    let found = step_of::<S, LlxRun>(words, layout, seat, number, &LlxRun { node, at }, mark);
     let marked = found != 0;
     let at = LlxAt::Info { marked };
-    let scx = step_of::<S, LlxRun>(words, &layout, seat, number, &LlxRun { node, at }, info);
+    let scx = step_of::<S, LlxRun>(words, layout, seat, number, &LlxRun { node, at }, info);
     let scx = ScxNo(scx);
     let finished = load(Kind::LoadState, Word::Scx(scx, ScxWord::State));
     let at = LlxAt::State { marked, scx };
-    let state = step_of::<S, LlxRun>(words, &layout, seat, number, &LlxRun { node, at }, finished);
+    let state = step_of::<S, LlxRun>(words, layout, seat, number, &LlxRun { node, at }, finished);
     let at = LlxAt::MarkedAgain { marked, scx, state };
-    let again = step_of::<S, LlxRun>(words, &layout, seat, number, &LlxRun { node, at }, mark);
-    let at = LlxAt::StateAgain { marked, scx };
-    let declined = LlxRun { node, at };
+    let again = step_of::<S, LlxRun>(words, layout, seat, number, &LlxRun { node, at }, mark);
     if !leaves(state, again != 0) {
-        return complete(words, &layout, seat, number, declined, Turn::Ask(finished)).1;
+        return hand_over(words, layout, seat, number, node, marked, scx);
     }
     let at = LlxAt::Left { marked, scx };
-    let left = step_of::<S, LlxRun>(words, &layout, seat, number, &LlxRun { node, at }, one);
+    let left = step_of::<S, LlxRun>(words, layout, seat, number, &LlxRun { node, at }, one);
     let at = LlxAt::Right { marked, scx, left };
-    let right = step_of::<S, LlxRun>(words, &layout, seat, number, &LlxRun { node, at }, other);
+    let right = step_of::<S, LlxRun>(words, layout, seat, number, &LlxRun { node, at }, other);
     let at = LlxAt::InfoAgain {
         marked,
         scx,
         left,
         right,
     };
-    let last = step_of::<S, LlxRun>(words, &layout, seat, number, &LlxRun { node, at }, info);
+    let last = step_of::<S, LlxRun>(words, layout, seat, number, &LlxRun { node, at }, info);
     if last != scx.0 {
-        return complete(words, &layout, seat, number, declined, Turn::Ask(finished)).1;
+        return hand_over(words, layout, seat, number, node, marked, scx);
     }
     let (left, right) = (NodeNo(left), NodeNo(right));
     Llx::Snapshot(Snap {

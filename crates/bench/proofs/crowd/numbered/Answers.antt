@@ -5,7 +5,7 @@ use Rattle.bench.proofs.crowd.numbered.Goals as goal
 
 pub loop-pass-preserved : goal.loop-pass-preserved
 loop-pass-preserved c =
-    let P : Sight → Type 0 = IsOf c.args.forest.now.table.shared.table_id c.args.forest.now.layout in
+    let P : Sight → Type 0 = IsOf c.args.forest.now in
     let Q : ℕ × Sight → Type 0 = λ p. P p.1 in
     let inv = c.loop-pass.invariant in (
       tt,

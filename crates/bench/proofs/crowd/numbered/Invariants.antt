@@ -6,5 +6,5 @@ abbrev pub invariant-loop-pass : goal.invariant-loop-pass
 invariant-loop-pass l =
     (goal.iterator-loop-pass).can_next l.pass-iterator ×
     (goal.iterator-loop-pass).is_finite l.pass-iterator ×
-    All (IsOf l.forest.table.shared.table_id l.forest.layout) l.pass-iterator.rest.items ×
-    All (λ p. IsOf l.forest.table.shared.table_id l.forest.layout p.1) l.all.items
+    All (IsOf l.forest) l.pass-iterator.rest.items ×
+    All (λ p. IsOf l.forest p.1) l.all.items

@@ -4,4 +4,4 @@ use Rattle.bench.specs.Tally.{total}
 use Rattle.bench.proofs.round.rounds.Given as goal
 
 abbrev pub invariant-loop-call : goal.invariant-loop-call
-invariant-loop-call l = IsOf l.forest.table.shared.table_id l.forest.layout l.pass × (total l.tally ≡ l._call)
+invariant-loop-call l = IsOf l.forest l.pass × (total l.tally ≡ l._call)

@@ -61,14 +61,14 @@ step_of-last-requires-clause-waits g c = let r = c.requires.begins in let k = r.
     let t6 = c.step_of-right.ensures.told k first lay number (rw c.load-other.ensures (to_right g.S.Shape.allows k _ c.args.node _ _ c.step_of-left.result t5)) in
     (k, first, lay, number, rw c.load-info.ensures (to_info_again g.S.Shape.allows k _ c.args.node _ _ _ c.step_of-right.result t6))
 
-pub complete-requires-clause-stands : goal.complete-requires-clause-stands
-complete-requires-clause-stands g c = let r = c.requires.begins in let k = r.0 in let lay = r.1 in let number = r.2 in let x = r.3 in
+pub hand_over-requires-clause-waits : goal.hand_over-requires-clause-waits
+hand_over-requires-clause-waits g c = let r = c.requires.begins in let k = r.0 in let lay = r.1 in let number = r.2 in let x = r.3 in
     let first = run_at c.args.node Start in
     let t1 = c.step_of-found.ensures.told k first lay number (rw c.load-mark.ensures (to_mark g.S.Shape.allows k _ c.args.node x)) in
     let t2 = c.step_of-scx.ensures.told k first lay number (rw c.load-info.ensures (to_info g.S.Shape.allows k _ c.args.node c.step_of-found.result _ (not_zero c.step_of-found.result) (is_zero c.step_of-found.result) t1)) in
     let t3 = c.step_of-state.ensures.told k first lay number (rw c.load-finished.ensures (to_state g.S.Shape.allows k _ c.args.node _ c.step_of-scx.result t2)) in
     let t4 = c.step_of-again.ensures.told k first lay number (rw c.load-mark.ensures (to_mark_again g.S.Shape.allows k _ c.args.node _ _ c.step_of-state.result t3)) in
-    (k, first, lay, number, rw c.load-finished.ensures (declines g.S.Shape.allows k _ c.args.node _ _ c.step_of-state.result c.step_of-again.result _ (is_zero c.step_of-again.result) (not_zero c.step_of-again.result) (c.leaves.ensures.disturbs c.if-not-leaves.true).0 (c.leaves.ensures.disturbs c.if-not-leaves.true).1 t4))
+    (k, lay, number, declines g.S.Shape.allows k _ c.args.node _ _ c.step_of-state.result c.step_of-again.result _ (is_zero c.step_of-again.result) (not_zero c.step_of-again.result) (c.leaves.ensures.disturbs c.if-not-leaves.true).0 (c.leaves.ensures.disturbs c.if-not-leaves.true).1 t4)
 
 pub returns-then-not-leaves-clause-ends : goal.returns-then-not-leaves-clause-ends
 returns-then-not-leaves-clause-ends g c = λ k lay number x.
@@ -77,10 +77,10 @@ returns-then-not-leaves-clause-ends g c = λ k lay number x.
     let t2 = c.step_of-scx.ensures.told k first lay number (rw c.load-info.ensures (to_info g.S.Shape.allows k _ c.args.node c.step_of-found.result _ (not_zero c.step_of-found.result) (is_zero c.step_of-found.result) t1)) in
     let t3 = c.step_of-state.ensures.told k first lay number (rw c.load-finished.ensures (to_state g.S.Shape.allows k _ c.args.node _ c.step_of-scx.result t2)) in
     let t4 = c.step_of-again.ensures.told k first lay number (rw c.load-mark.ensures (to_mark_again g.S.Shape.allows k _ c.args.node _ _ c.step_of-state.result t3)) in
-    (c.complete.result.0, c.complete.ensures.ends k first lay number (rw c.load-finished.ensures (declines g.S.Shape.allows k _ c.args.node _ _ c.step_of-state.result c.step_of-again.result _ (is_zero c.step_of-again.result) (not_zero c.step_of-again.result) (c.leaves.ensures.disturbs c.if-not-leaves.true).0 (c.leaves.ensures.disturbs c.if-not-leaves.true).1 t4)))
+    c.hand_over.ensures.ends k lay number (declines g.S.Shape.allows k _ c.args.node _ _ c.step_of-state.result c.step_of-again.result _ (is_zero c.step_of-again.result) (not_zero c.step_of-again.result) (c.leaves.ensures.disturbs c.if-not-leaves.true).0 (c.leaves.ensures.disturbs c.if-not-leaves.true).1 t4)
 
-pub complete-requires-then-last-scx-clause-stands : goal.complete-requires-then-last-scx-clause-stands
-complete-requires-then-last-scx-clause-stands g c = let r = c.requires.begins in let k = r.0 in let lay = r.1 in let number = r.2 in let x = r.3 in
+pub hand_over-requires-then-last-scx-clause-waits : goal.hand_over-requires-then-last-scx-clause-waits
+hand_over-requires-then-last-scx-clause-waits g c = let r = c.requires.begins in let k = r.0 in let lay = r.1 in let number = r.2 in let x = r.3 in
     let first = run_at c.args.node Start in
     let t1 = c.step_of-found.ensures.told k first lay number (rw c.load-mark.ensures (to_mark g.S.Shape.allows k _ c.args.node x)) in
     let t2 = c.step_of-scx.ensures.told k first lay number (rw c.load-info.ensures (to_info g.S.Shape.allows k _ c.args.node c.step_of-found.result _ (not_zero c.step_of-found.result) (is_zero c.step_of-found.result) t1)) in
@@ -89,7 +89,7 @@ complete-requires-then-last-scx-clause-stands g c = let r = c.requires.begins in
     let t5 = c.step_of-left.ensures.told k first lay number (rw c.load-one.ensures (to_left g.S.Shape.allows k _ c.args.node _ _ c.step_of-state.result c.step_of-again.result _ (is_zero c.step_of-again.result) (not_zero c.step_of-again.result) (c.leaves.ensures.in_place c.if-not-leaves.false) t4)) in
     let t6 = c.step_of-right.ensures.told k first lay number (rw c.load-other.ensures (to_right g.S.Shape.allows k _ c.args.node _ _ c.step_of-left.result t5)) in
     let t7 = c.step_of-last.ensures.told k first lay number (rw c.load-info.ensures (to_info_again g.S.Shape.allows k _ c.args.node _ _ _ c.step_of-right.result t6)) in
-    (k, first, lay, number, rw c.load-finished.ensures (differs g.S.Shape.allows k _ c.args.node _ _ _ _ c.step_of-last.result c.if-last-scx.true t7))
+    (k, lay, number, differs g.S.Shape.allows k _ c.args.node _ _ _ _ c.step_of-last.result c.if-last-scx.true t7)
 
 pub returns-then-last-scx-clause-ends : goal.returns-then-last-scx-clause-ends
 returns-then-last-scx-clause-ends g c = λ k lay number x.
@@ -101,7 +101,7 @@ returns-then-last-scx-clause-ends g c = λ k lay number x.
     let t5 = c.step_of-left.ensures.told k first lay number (rw c.load-one.ensures (to_left g.S.Shape.allows k _ c.args.node _ _ c.step_of-state.result c.step_of-again.result _ (is_zero c.step_of-again.result) (not_zero c.step_of-again.result) (c.leaves.ensures.in_place c.if-not-leaves.false) t4)) in
     let t6 = c.step_of-right.ensures.told k first lay number (rw c.load-other.ensures (to_right g.S.Shape.allows k _ c.args.node _ _ c.step_of-left.result t5)) in
     let t7 = c.step_of-last.ensures.told k first lay number (rw c.load-info.ensures (to_info_again g.S.Shape.allows k _ c.args.node _ _ _ c.step_of-right.result t6)) in
-    (c.complete-then-last-scx.result.0, c.complete-then-last-scx.ensures.ends k first lay number (rw c.load-finished.ensures (differs g.S.Shape.allows k _ c.args.node _ _ _ _ c.step_of-last.result c.if-last-scx.true t7)))
+    c.hand_over-then-last-scx.ensures.ends k lay number (differs g.S.Shape.allows k _ c.args.node _ _ _ _ c.step_of-last.result c.if-last-scx.true t7)
 
 pub returns-clause-ends : goal.returns-clause-ends
 returns-clause-ends g c = λ k lay number x.
