@@ -18,7 +18,7 @@ use Rattle.arena.specs.MemberNo.{index_of}
 use Rattle.arena.specs.History.{History, ◌⊳◌, value}
 use Rattle.arena.specs.Machines.{Call, IsRun, IsTold, row_of}
 use Rattle.help.specs.Plan.{count as planned}
-use Rattle.help.specs.HelpKnown.{help_waits, help_answers, blocked_at}
+use Rattle.help.specs.HelpKnown.{blocked_at}
 use Rattle.help.specs.declared.state.HelpAt.TheVariants.{Start as HelpStart}
 use Rattle.help.specs.declared.state.HelpRun.{HelpRun}
 use Rattle.prims.specs.VlxKnown.{snap_at}
@@ -39,7 +39,7 @@ use Rattle.prims.specs.declared.scx.ScxAt.TheVariants.{Start as ScxStart, Plan a
 use Rattle.forest.specs.declared.view.Knower.{Knower}
 use Rattle.forest.specs.Kept.{past}
 use Rattle.forest.specs.Courses.{Course, IsCalled, begins, others, makes, goes_on}
-use Rattle.forest.specs.StraightHelp.{same_record, HelpBegins, HelpEnds}
+use Rattle.forest.specs.StraightHelp.{same_record, call_waits, call_answers, HelpBegins, HelpEnds}
 use Rattle.forest.specs.StraightScx.{put_same, scx_at, fill_of, PutBegins, PutWaits, PutTold, PutEnds}
 
 -- the value of the fresh cell does not ask where the run stands
@@ -130,7 +130,7 @@ pub record Lifted (allows : Layout → History → ℕ → Type 0) (c : Call) (f
   pub came : Course allows (put_waits allows) put_same c first (scx_at m (Help k)) h
 
 module _ (allows : Layout → History → ℕ → Type 0) (c : Call) (start : History) (first m : PutRun) (begun : HelpRun) (at_start : Lifted allows c first m begun start) where
-  pub lift : (k : HelpRun) (h : History) → Course allows (help_waits allows) same_record (record c { start = start }) begun k h → Lifted allows c first m k h
+  pub lift : (k : HelpRun) (h : History) → Course allows (call_waits allows) same_record (record c { start = start }) begun k h → Lifted allows c first m k h
   lift k h (begins e q) = subst (λ g. Lifted allows c first m k g) (sym q) (rw e at_start)
   lift k h (others s r g e w other run x) =
       let y = lift k g x in
@@ -173,6 +173,6 @@ module _ (allows : Layout → History → ℕ → Type 0) (c : Call) (ps qs : Li
       let y = lift allows c (past c.layout.mode x.known) first m begun lifted now (past c.layout.mode e.known) e.so.1 in
       record { known = e.known; is = e.is; sound = e.sound; so = (turn_scx allows c _ e.sound.lawful (scx_at m (Help now)) (scx_at m (Help now)) (End a) refl refl refl (value_of c _ m (scx_at m (Help now)) refl refl y.frame.value) (answers y b e.so.0 done lost), y.came) }
     where
-      answers : Lifted allows c first m now (past c.layout.mode e.known) → (t : Bool) → help_answers now inner (past c.layout.mode e.known) t → (t ≡ true → a ≡ Done) → (t ≡ false → a ≡ Lost (blocked_at now.members now.at).0 (blocked_at now.members now.at).1) → scx_answers (scx_at m (Help now)).scx c (past c.layout.mode e.known) a
+      answers : Lifted allows c first m now (past c.layout.mode e.known) → (t : Bool) → call_answers now inner (past c.layout.mode e.known) t → (t ≡ true → a ≡ Done) → (t ≡ false → a ≡ Lost (blocked_at now.members now.at).0 (blocked_at now.members now.at).1) → scx_answers (scx_at m (Help now)).scx c (past c.layout.mode e.known) a
       answers y true k f g = rw (f refl) (done_at c _ (scx_at m (Help now)).scx now e.sound.lawful y.frame.filled y.same true now k refl refl)
       answers y false k f g = rw (g refl) (lost_at c _ (scx_at m (Help now)).scx now e.sound.lawful y.frame.filled y.same false now k refl refl)

@@ -1,31 +1,43 @@
 -- Calls of HELP that stand at a place of its machine.
-use Rattle.std.specs.Prelude.{◌≡◌, ℕ, Bool, List}
+use Rattle.std.specs.Prelude.{◌≡◌, ℕ, Bool, List, Option}
 use Rattle.arena.specs.declared.layout.Layout.{Layout}
 use Rattle.arena.specs.declared.step.Step.{Step}
 use Rattle.arena.specs.History.{History}
 use Rattle.arena.specs.Machines.{Call}
-use Rattle.help.specs.HelpKnown.{Marks, help_ready, help_waits, help_answers}
-use Rattle.help.specs.declared.state.HelpAt.TheVariants.{New as AtNew}
+use Rattle.help.specs.HelpKnown.{Marks, reading, help_ready, help_waits, help_answers}
 use Rattle.help.specs.declared.state.HelpRun.{HelpRun}
 use Rattle.forest.specs.declared.view.Knower.{Knower}
-use Rattle.forest.specs.Courses.{Course, IsCalled, Begins, Waits, Told, Ends}
+use Rattle.forest.specs.Courses.{Begins, Waits, Told, Ends}
 
 abbrev pub same_record : HelpRun → HelpRun → Type 0
 same_record old now = now.scx ≡ old.scx
 
+-- the conditions of its machine, said of a call
+abbrev pub call_ready : (Layout → History → ℕ → Type 0) → HelpRun → Call → History → Option ℕ → Type 0
+call_ready allows m c = help_ready allows c.layout c.pass m
+
+abbrev pub call_waits : (Layout → History → ℕ → Type 0) → HelpRun → Call → History → Step → Type 0
+call_waits allows m c = help_waits allows c.layout c.pass m
+
+abbrev pub call_answers : HelpRun → Call → History → Bool → Type 0
+call_answers m c = help_answers c.layout m
+
+-- the flag is set, and those of the first p nodes that are finalized are marked
+abbrev pub call_marks : HelpRun → Call → History → ℕ → Type 0
+call_marks m c h p = Marks h (reading m) p
+
 module _ (allows : Layout → History → ℕ → Type 0) (c : Call) (ps : List Knower) (first : HelpRun) where
   abbrev pub HelpBegins : Type 0
-  HelpBegins = Begins allows (help_ready allows) c ps first
+  HelpBegins = Begins allows (call_ready allows) c ps first
 
   abbrev pub HelpWaits : HelpRun → Step → Type 0
-  HelpWaits = Waits allows (help_waits allows) same_record c ps first
+  HelpWaits = Waits allows (call_waits allows) same_record c ps first
 
   abbrev pub HelpTold : HelpRun → ℕ → Type 0
-  HelpTold = Told allows (help_waits allows) same_record c ps first (help_ready allows)
+  HelpTold = Told allows (call_waits allows) same_record c ps first (call_ready allows)
 
   abbrev pub HelpEnds : HelpRun → Bool → Type 0
-  HelpEnds = Ends allows (help_waits allows) same_record c ps first help_answers
+  HelpEnds = Ends allows (call_waits allows) same_record c ps first call_answers
 
-  -- its flag is set, and those of its first p nodes that it finalizes are marked
   abbrev pub HelpMarks : HelpRun → ℕ → Type 0
-  HelpMarks m p = IsCalled allows ps c (λ h. Marks h m p × Course allows (help_waits allows) same_record c first (record m { at = AtNew }) h)
+  HelpMarks = Ends allows (call_waits allows) same_record c ps first call_marks

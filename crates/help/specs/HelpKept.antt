@@ -18,26 +18,26 @@ use Rattle.histories.proofs.Helping.{IsStarted, started_more, over_stays, stuck_
 use Rattle.histories.proofs.Owners.{stays_free, own_words_stay}
 use Rattle.histories.proofs.Begins.{passed_stays}
 use Rattle.help.specs.AllowedLaws.{IsOutside, same_plan, same_member, same_seen, same_new, same_old, same_field, free_words, prepared_more, quiet_words, free_back}
-use Rattle.help.specs.HelpKnown.{IsServed, HasRead, Freezes, HasLost, IsBlocked, Blocked, Aborts, Frozen, Marks, help_known, help_step, help_waits}
+use Rattle.help.specs.HelpKnown.{IsServed, HasRead, Freezes, HasLost, IsBlocked, Blocked, Aborts, Frozen, Marks, Reading, reading, help_known, help_step, help_waits}
 use Rattle.help.specs.declared.state.HelpRun.{HelpRun}
 use Rattle.help.specs.declared.state.HelpAt.{HelpAt}
 use Rattle.help.specs.declared.state.HelpAt.TheVariants.{Start, Plan as AtPlan, Member as AtMember, Seen as AtSeen, Freeze as AtFreeze, AllFrozen as AtAllFrozen, Abort as AtAbort, SetFrozen as AtSetFrozen, Mark as AtMark, New as AtNew, Old as AtOld, Update as AtUpdate, Commit as AtCommit}
 
 -- Where the words of the SCX-record stay
 
-module _ (h k : History) (m : HelpRun) (e : descriptor k m.scx.0 ≡ descriptor h m.scx.0) where
-  pub fewer : (j : ℕ) → j < count k m.scx.0 → j < count h m.scx.0
-  fewer j i = rw (same_plan h k m.scx.0 e) at i
+module _ (h k : History) (m : Reading) (e : descriptor k m.scx ≡ descriptor h m.scx) where
+  pub fewer : (j : ℕ) → j < count k m.scx → j < count h m.scx
+  fewer j i = rw (same_plan h k m.scx e) at i
 
   pub read_more : (n : ℕ) → HasRead m h n → HasRead m k n
-  read_more n x i p = x i p ∙ sym (same_member h k m.scx.0 e i)
+  read_more n x i p = x i p ∙ sym (same_member h k m.scx e i)
 
-  pub blocked_same : (n v : ℕ) → EndsWith k h → IsBlocked h m.scx.0 n v → IsBlocked k m.scx.0 n v
+  pub blocked_same : (n v : ℕ) → EndsWith k h → IsBlocked h m.scx n v → IsBlocked k m.scx n v
   blocked_same n v p x = record {
     index = x.index;
-    within = rw (same_plan h k m.scx.0 e) x.within;
-    is = same_member h k m.scx.0 e x.index ∙ x.is;
-    other = λ q. x.other (q ∙ same_seen h k m.scx.0 e x.index);
+    within = rw (same_plan h k m.scx e) x.within;
+    is = same_member h k m.scx e x.index ∙ x.is;
+    other = λ q. x.other (q ∙ same_seen h k m.scx e x.index);
     not_own = x.not_own;
     moment = x.moment;
     since = ends_trans k h x.moment p x.since;
@@ -56,29 +56,29 @@ module _ (lay : Layout) (h : History) (r : Row) (l : Lawful lay (r ⊳ h)) where
       let q : HasHeld (r ⊳ h) (info (member h s i)) s = held_more r h (info (member h s i)) s (x i p) in
       rw (same_member h (r ⊳ h) s e i) q
 
-  pub frozen_more : (m : HelpRun) → Frozen h m → Frozen (r ⊳ h) m
+  pub frozen_more : (m : Reading) → Frozen h m → Frozen (r ⊳ h) m
   frozen_more m x =
-      let e = started_words m.scx.0 x.started in
+      let e = started_words m.scx x.started in
       record {
-        started = started_more r h m.scx.0 x.started;
-        plan = same_plan h (r ⊳ h) m.scx.0 e ∙ x.plan;
-        frozen = rw (same_plan h (r ⊳ h) m.scx.0 e) (are_frozen_more m.scx.0 e (count h m.scx.0) x.frozen);
-        read = rw (same_plan h (r ⊳ h) m.scx.0 e) (read_more h (r ⊳ h) m e (count h m.scx.0) x.read);
+        started = started_more r h m.scx x.started;
+        plan = same_plan h (r ⊳ h) m.scx e ∙ x.plan;
+        frozen = rw (same_plan h (r ⊳ h) m.scx e) (are_frozen_more m.scx e (count h m.scx) x.frozen);
+        read = rw (same_plan h (r ⊳ h) m.scx e) (read_more h (r ⊳ h) m e (count h m.scx) x.read);
       }
 
-  pub marks_more : (m : HelpRun) (j : ℕ) → Marks h m j → Marks (r ⊳ h) m j
+  pub marks_more : (m : Reading) (j : ℕ) → Marks h m j → Marks (r ⊳ h) m j
   marks_more m j x =
-      let e = started_words m.scx.0 x.started in
+      let e = started_words m.scx x.started in
       record {
-        started = started_more r h m.scx.0 x.started;
-        plan = same_plan h (r ⊳ h) m.scx.0 e ∙ x.plan;
-        read = rw (same_plan h (r ⊳ h) m.scx.0 e) (read_more h (r ⊳ h) m e (count h m.scx.0) x.read);
-        flag = all_frozen_stays lay h r m.scx.0 l x.flag;
-        marked = λ i p q t. rw (same_member h (r ⊳ h) m.scx.0 e i) (marked_stays lay h r (member h m.scx.0 i) l (x.marked i p (fewer h (r ⊳ h) m e i q) (rw (same_plan h (r ⊳ h) m.scx.0 e) at t)));
+        started = started_more r h m.scx x.started;
+        plan = same_plan h (r ⊳ h) m.scx e ∙ x.plan;
+        read = rw (same_plan h (r ⊳ h) m.scx e) (read_more h (r ⊳ h) m e (count h m.scx) x.read);
+        flag = all_frozen_stays lay h r m.scx l x.flag;
+        marked = λ i p q t. rw (same_member h (r ⊳ h) m.scx e i) (marked_stays lay h r (member h m.scx i) l (x.marked i p (fewer h (r ⊳ h) m e i q) (rw (same_plan h (r ⊳ h) m.scx e) at t)));
       }
 
-  pub all_marked_more : (m : HelpRun) → Marks h m (count h m.scx.0) → Marks (r ⊳ h) m (count (r ⊳ h) m.scx.0)
-  all_marked_more m x = rw (same_plan h (r ⊳ h) m.scx.0 (started_words m.scx.0 x.started)) (marks_more m (count h m.scx.0) x)
+  pub all_marked_more : (m : Reading) → Marks h m (count h m.scx) → Marks (r ⊳ h) m (count (r ⊳ h) m.scx)
+  all_marked_more m x = rw (same_plan h (r ⊳ h) m.scx (started_words m.scx x.started)) (marks_more m (count h m.scx) x)
 
 -- A row of another pass, or one that changes nothing
 
@@ -91,14 +91,14 @@ module _ (allows : Layout → History → ℕ → Type 0) (lay : Layout) (c : �
   served_more s (inl x) = inl (started_more r h s x)
   served_more s (inr x) = inr (prepared_more lay h r c s l allows is_pass o x)
 
-  pub freezes_more : (m : HelpRun) (j k : ℕ) → Freezes allows lay c h m j k → Freezes allows lay c (r ⊳ h) m j k
+  pub freezes_more : (m : Reading) (j k : ℕ) → Freezes allows lay c h m j k → Freezes allows lay c (r ⊳ h) m j k
   freezes_more m j k x =
-      let e = served_words m.scx.0 x.served in
+      let e = served_words m.scx x.served in
       record {
-        served = served_more m.scx.0 x.served;
-        plan = same_plan h (r ⊳ h) m.scx.0 e ∙ x.plan;
-        within = rw (same_plan h (r ⊳ h) m.scx.0 e) x.within;
-        frozen = are_frozen_more lay h r l m.scx.0 e j x.frozen;
+        served = served_more m.scx x.served;
+        plan = same_plan h (r ⊳ h) m.scx e ∙ x.plan;
+        within = rw (same_plan h (r ⊳ h) m.scx e) x.within;
+        frozen = are_frozen_more lay h r l m.scx e j x.frozen;
         read = read_more h (r ⊳ h) m e k x.read;
       }
 
@@ -125,58 +125,58 @@ module _ (allows : Layout → History → ℕ → Type 0) (lay : Layout) (c : �
       free (inl other) p = stays_free lay h r c s l other x.own x.free p
       free (inr q) p = x.free (free_back lay h r (lawful_row lay h r l).before q s p)
 
-  over_words : (m : HelpRun) (P : Type 0) → (IsStarted h m.scx.0 × P) ⊎ HasLost lay c h m.scx.0 → descriptor (r ⊳ h) m.scx.0 ≡ descriptor h m.scx.0
-  over_words m P (inl x) = started_words lay h r l m.scx.0 x.0
-  over_words m P (inr x) = lost_words m.scx.0 x
+  over_words : (m : Reading) (P : Type 0) → (IsStarted h m.scx × P) ⊎ HasLost lay c h m.scx → descriptor (r ⊳ h) m.scx ≡ descriptor h m.scx
+  over_words m P (inl x) = started_words lay h r l m.scx x.0
+  over_words m P (inr x) = lost_words m.scx x
 
-  blocked_more : (m : HelpRun) (j v : ℕ) → Blocked lay c h m j v → Blocked lay c (r ⊳ h) m j v
+  blocked_more : (m : Reading) (j v : ℕ) → Blocked lay c h m j v → Blocked lay c (r ⊳ h) m j v
   blocked_more m j v x = record {
-    over = ⊎_elim (λ y. inl (started_more r h m.scx.0 y.0, over_stays lay h r m.scx.0 l y.0 y.1)) (λ y. inr (lost_more m.scx.0 y)) x.over;
+    over = ⊎_elim (λ y. inl (started_more r h m.scx y.0, over_stays lay h r m.scx l y.0 y.1)) (λ y. inr (lost_more m.scx y)) x.over;
     blocked = blocked_same h (r ⊳ h) m (over_words m _ x.over) _ v (inr (ends_self h)) x.blocked;
   }
 
-  aborts_more : (m : HelpRun) (j v : ℕ) → Aborts lay c h m j v → Aborts lay c (r ⊳ h) m j v
+  aborts_more : (m : Reading) (j v : ℕ) → Aborts lay c h m j v → Aborts lay c (r ⊳ h) m j v
   aborts_more m j v x = record {
-    stuck = ⊎_elim (λ y. inl (started_more r h m.scx.0 y.0, subst (λ d. IsStuck d (r ⊳ h) m.scx.0) (sym (started_words lay h r l m.scx.0 y.0)) (stuck_stays lay h r m.scx.0 l y.0 y.1))) (λ y. inr (lost_more m.scx.0 y)) x.stuck;
+    stuck = ⊎_elim (λ y. inl (started_more r h m.scx y.0, subst (λ d. IsStuck d (r ⊳ h) m.scx) (sym (started_words lay h r l m.scx y.0)) (stuck_stays lay h r m.scx l y.0 y.1))) (λ y. inr (lost_more m.scx y)) x.stuck;
     blocked = blocked_same h (r ⊳ h) m (over_words m _ x.stuck) _ v (inr (ends_self h)) x.blocked;
   }
 
   -- so it keeps what is known at each place
-  pub known_more : (m : HelpRun) (at : HelpAt) → help_known allows lay c h m at → help_known allows lay c (r ⊳ h) m at
+  pub known_more : (m : Reading) (at : HelpAt) → help_known allows lay c h m at → help_known allows lay c (r ⊳ h) m at
   known_more m Start k = k
-  known_more m AtPlan k = served_more m.scx.0 k
+  known_more m AtPlan k = served_more m.scx k
   known_more m (AtMember j) k = freezes_more m (index_of j) (index_of j) k
   known_more m (AtSeen j) k = freezes_more m (index_of j) (suc (index_of j)) k
-  known_more m (AtFreeze j v) k = (freezes_more m (index_of j) (suc (index_of j)) k.0, same_seen h (r ⊳ h) m.scx.0 (served_words m.scx.0 k.0.served) (index_of j) ∙ k.1)
+  known_more m (AtFreeze j v) k = (freezes_more m (index_of j) (suc (index_of j)) k.0, same_seen h (r ⊳ h) m.scx (served_words m.scx k.0.served) (index_of j) ∙ k.1)
   known_more m (AtAllFrozen j v) k = blocked_more m (index_of j) v k
   known_more m (AtAbort j v) k = aborts_more m (index_of j) v k
   known_more m AtSetFrozen k = frozen_more lay h r l m k
   known_more m (AtMark j) k =
-      let e = started_words lay h r l m.scx.0 k.0.started in
-      (marks_more lay h r l m (index_of j) k.0, rw (same_plan h (r ⊳ h) m.scx.0 e) k.1, rw (same_plan h (r ⊳ h) m.scx.0 e) k.2)
+      let e = started_words lay h r l m.scx k.0.started in
+      (marks_more lay h r l m (index_of j) k.0, rw (same_plan h (r ⊳ h) m.scx e) k.1, rw (same_plan h (r ⊳ h) m.scx e) k.2)
   known_more m AtNew k = all_marked_more lay h r l m k
-  known_more m (AtOld v) k = (all_marked_more lay h r l m k.0, same_new h (r ⊳ h) m.scx.0 (started_words lay h r l m.scx.0 k.0.started) ∙ k.1)
+  known_more m (AtOld v) k = (all_marked_more lay h r l m k.0, same_new h (r ⊳ h) m.scx (started_words lay h r l m.scx k.0.started) ∙ k.1)
   known_more m AtUpdate k = all_marked_more lay h r l m k
-  known_more m AtCommit k = (started_more r h m.scx.0 k.0, won_more r h m.scx.0 k.1)
+  known_more m AtCommit k = (started_more r h m.scx k.0, won_more r h m.scx k.1)
 
   -- and the step that it waits for
-  step_more : (m : HelpRun) (at : HelpAt) → help_known allows lay c h m at → help_step (r ⊳ h) m.scx.0 at ≡ help_step h m.scx.0 at
+  step_more : (m : Reading) (at : HelpAt) → help_known allows lay c h m at → help_step (r ⊳ h) m.scx at ≡ help_step h m.scx at
   step_more m Start k = refl
   step_more m AtPlan k = refl
   step_more m (AtMember j) k = refl
   step_more m (AtSeen j) k = refl
-  step_more m (AtFreeze j v) k = let e = served_words m.scx.0 k.0.served in rw (same_member h (r ⊳ h) m.scx.0 e (index_of j), same_seen h (r ⊳ h) m.scx.0 e (index_of j)) refl
+  step_more m (AtFreeze j v) k = let e = served_words m.scx k.0.served in rw (same_member h (r ⊳ h) m.scx e (index_of j), same_seen h (r ⊳ h) m.scx e (index_of j)) refl
   step_more m (AtAllFrozen j v) k = refl
   step_more m (AtAbort j v) k = refl
   step_more m AtSetFrozen k = refl
-  step_more m (AtMark j) k = rw (same_member h (r ⊳ h) m.scx.0 (started_words lay h r l m.scx.0 k.0.started) (index_of j)) refl
+  step_more m (AtMark j) k = rw (same_member h (r ⊳ h) m.scx (started_words lay h r l m.scx k.0.started) (index_of j)) refl
   step_more m AtNew k = refl
   step_more m (AtOld v) k = refl
-  step_more m AtUpdate k = let e = started_words lay h r l m.scx.0 k.started in rw (same_field h (r ⊳ h) m.scx.0 e, same_old h (r ⊳ h) m.scx.0 e, same_new h (r ⊳ h) m.scx.0 e) refl
+  step_more m AtUpdate k = let e = started_words lay h r l m.scx k.started in rw (same_field h (r ⊳ h) m.scx e, same_old h (r ⊳ h) m.scx e, same_new h (r ⊳ h) m.scx e) refl
   step_more m AtCommit k = refl
 
-pub help_keeps : (allows : Layout → History → ℕ → Type 0) (m : HelpRun) (c : Call) (h : History) (s : Step) (r : Row) → IsRun allows c.layout (r ⊳ h) → r.pass.0 ≢ c.pass → help_waits allows m c h s → help_waits allows m c (r ⊳ h) s
+pub help_keeps : (allows : Layout → History → ℕ → Type 0) (m : HelpRun) (c : Call) (h : History) (s : Step) (r : Row) → IsRun allows c.layout (r ⊳ h) → r.pass.0 ≢ c.pass → help_waits allows c.layout c.pass m h s → help_waits allows c.layout c.pass m (r ⊳ h) s
 help_keeps allows m c h s r run other w = record {
-  known = known_more allows c.layout c.pass h r c.is_pass run.lawful (inl other) m m.at w.known;
-  asked = w.asked ∙ sym (step_more allows c.layout c.pass h r c.is_pass run.lawful (inl other) m m.at w.known);
+  known = known_more allows c.layout c.pass h r c.is_pass run.lawful (inl other) (reading m) m.at w.known;
+  asked = w.asked ∙ sym (step_more allows c.layout c.pass h r c.is_pass run.lawful (inl other) (reading m) m.at w.known);
 }

@@ -18,7 +18,6 @@ use Rattle.arena.specs.ScxRecords.{plan, member, seen, new, old, count, is_remov
 use Rattle.arena.specs.Fills.{IsNamed, IsNamedScx, IsOwnScx}
 use Rattle.arena.specs.Lawful.{AreFrozen, AllAreFrozen, HasWon}
 use Rattle.arena.specs.Log.{log, IsEntered}
-use Rattle.arena.specs.Machines.{Call}
 use Rattle.histories.proofs.Facts.{descriptor, IsStuck}
 use Rattle.histories.proofs.Helping.{IsStarted, IsOver}
 use Rattle.help.specs.Plan.{count as planned, is_removed as removed}
@@ -31,20 +30,30 @@ use Rattle.help.specs.declared.state.HelpAt.TheVariants.{Start, Plan as AtPlan, 
 abbrev pub IsServed : (Layout → History → ℕ → Type 0) → Layout → ℕ → History → ℕ → Type 0
 IsServed allows lay c h s = IsStarted h s ⊎ IsPrepared allows lay c h s
 
+-- what a run of HELP has read of its SCX-record: the plan, and the nodes, of which it reads one after the other
+pub record Reading : Type 0 where
+  pub scx : ℕ
+  pub plan : ℕ
+  pub members : List NodeNo
+
+-- it does not say where the run stands
+abbrev pub reading : HelpRun → Reading
+reading m = record { scx = m.scx.0; plan = m.plan.0; members = m.members }
+
 -- the number of a node in the list
 abbrev pub node_at : List NodeNo → ℕ → ℕ
 node_at nodes i = (get_or nodes i record { 0 = 0 }).0
 
 -- the run has read the first k nodes of its SCX-record
-abbrev pub HasRead : HelpRun → History → ℕ → Type 0
-HasRead m h k = (i : ℕ) → i < k → node_at m.members i ≡ member h m.scx.0 i
+abbrev pub HasRead : Reading → History → ℕ → Type 0
+HasRead m h k = (i : ℕ) → i < k → node_at m.members i ≡ member h m.scx i
 
 -- on its way to freeze the j-th node, the run has read the first k
-pub record Freezes (allows : Layout → History → ℕ → Type 0) (lay : Layout) (c : ℕ) (h : History) (m : HelpRun) (j k : ℕ) : Type 0 where
-  pub served : IsServed allows lay c h m.scx.0
-  pub plan : plan h m.scx.0 ≡ m.plan.0
-  pub within : j < count h m.scx.0
-  pub frozen : AreFrozen h m.scx.0 j
+pub record Freezes (allows : Layout → History → ℕ → Type 0) (lay : Layout) (c : ℕ) (h : History) (m : Reading) (j k : ℕ) : Type 0 where
+  pub served : IsServed allows lay c h m.scx
+  pub plan : plan h m.scx ≡ m.plan
+  pub within : j < count h m.scx
+  pub frozen : AreFrozen h m.scx j
   pub read : HasRead m h k
 
 -- the owner has lost its first freezing exchange
@@ -69,49 +78,49 @@ pub record IsBlocked (h : History) (s n v : ℕ) : Type 0 where
   pub held : value moment (info n) ≡ v
 
 -- what is known of it: that it is over, or that it never begins
-pub record Blocked (lay : Layout) (c : ℕ) (h : History) (m : HelpRun) (j v : ℕ) : Type 0 where
-  pub over : (IsStarted h m.scx.0 × IsOver h m.scx.0) ⊎ HasLost lay c h m.scx.0
-  pub blocked : IsBlocked h m.scx.0 (node_at m.members j) v
+pub record Blocked (lay : Layout) (c : ℕ) (h : History) (m : Reading) (j v : ℕ) : Type 0 where
+  pub over : (IsStarted h m.scx × IsOver h m.scx) ⊎ HasLost lay c h m.scx
+  pub blocked : IsBlocked h m.scx (node_at m.members j) v
 
 -- it can be aborted
-pub record Aborts (lay : Layout) (c : ℕ) (h : History) (m : HelpRun) (j v : ℕ) : Type 0 where
-  pub stuck : (IsStarted h m.scx.0 × IsStuck (descriptor h m.scx.0) h m.scx.0) ⊎ HasLost lay c h m.scx.0
-  pub blocked : IsBlocked h m.scx.0 (node_at m.members j) v
+pub record Aborts (lay : Layout) (c : ℕ) (h : History) (m : Reading) (j v : ℕ) : Type 0 where
+  pub stuck : (IsStarted h m.scx × IsStuck (descriptor h m.scx) h m.scx) ⊎ HasLost lay c h m.scx
+  pub blocked : IsBlocked h m.scx (node_at m.members j) v
 
 -- all its nodes are frozen
-pub record Frozen (h : History) (m : HelpRun) : Type 0 where
-  pub started : IsStarted h m.scx.0
-  pub plan : plan h m.scx.0 ≡ m.plan.0
-  pub frozen : AllAreFrozen h m.scx.0
-  pub read : HasRead m h (count h m.scx.0)
+pub record Frozen (h : History) (m : Reading) : Type 0 where
+  pub started : IsStarted h m.scx
+  pub plan : plan h m.scx ≡ m.plan
+  pub frozen : AllAreFrozen h m.scx
+  pub read : HasRead m h (count h m.scx)
 
 -- its flag is set, and those of its first j nodes that it finalizes are marked
-pub record Marks (h : History) (m : HelpRun) (j : ℕ) : Type 0 where
-  pub started : IsStarted h m.scx.0
-  pub plan : plan h m.scx.0 ≡ m.plan.0
-  pub read : HasRead m h (count h m.scx.0)
-  pub flag : value h (scx m.scx.0 AllFrozen) ≡ 1
-  pub marked : (i : ℕ) → i < j → i < count h m.scx.0 → is_removed h m.scx.0 i ≡ true → value h (marked (member h m.scx.0 i)) ≡ 1
+pub record Marks (h : History) (m : Reading) (j : ℕ) : Type 0 where
+  pub started : IsStarted h m.scx
+  pub plan : plan h m.scx ≡ m.plan
+  pub read : HasRead m h (count h m.scx)
+  pub flag : value h (scx m.scx AllFrozen) ≡ 1
+  pub marked : (i : ℕ) → i < j → i < count h m.scx → is_removed h m.scx i ≡ true → value h (marked (member h m.scx i)) ≡ 1
 
 -- all that it finalizes are marked
-abbrev pub Marked : History → HelpRun → Type 0
-Marked h m = Marks h m (count h m.scx.0)
+abbrev pub Marked : History → Reading → Type 0
+Marked h m = Marks h m (count h m.scx)
 
--- what is known while the run waits
-abbrev pub help_known : (Layout → History → ℕ → Type 0) → Layout → ℕ → History → HelpRun → HelpAt → Type 0
+-- what is known while the run waits at a place
+abbrev pub help_known : (Layout → History → ℕ → Type 0) → Layout → ℕ → History → Reading → HelpAt → Type 0
 help_known allows lay c h m Start = ⊥
-help_known allows lay c h m AtPlan = IsServed allows lay c h m.scx.0
+help_known allows lay c h m AtPlan = IsServed allows lay c h m.scx
 help_known allows lay c h m (AtMember j) = Freezes allows lay c h m (index_of j) (index_of j)
 help_known allows lay c h m (AtSeen j) = Freezes allows lay c h m (index_of j) (suc (index_of j))
-help_known allows lay c h m (AtFreeze j v) = Freezes allows lay c h m (index_of j) (suc (index_of j)) × (seen h m.scx.0 (index_of j) ≡ v)
+help_known allows lay c h m (AtFreeze j v) = Freezes allows lay c h m (index_of j) (suc (index_of j)) × (seen h m.scx (index_of j) ≡ v)
 help_known allows lay c h m (AtAllFrozen j v) = Blocked lay c h m (index_of j) v
 help_known allows lay c h m (AtAbort j v) = Aborts lay c h m (index_of j) v
 help_known allows lay c h m AtSetFrozen = Frozen h m
-help_known allows lay c h m (AtMark j) = Marks h m (index_of j) × (index_of j < count h m.scx.0) × (is_removed h m.scx.0 (index_of j) ≡ true)
+help_known allows lay c h m (AtMark j) = Marks h m (index_of j) × (index_of j < count h m.scx) × (is_removed h m.scx (index_of j) ≡ true)
 help_known allows lay c h m AtNew = Marked h m
-help_known allows lay c h m (AtOld v) = Marked h m × (new h m.scx.0 ≡ v)
+help_known allows lay c h m (AtOld v) = Marked h m × (new h m.scx ≡ v)
 help_known allows lay c h m AtUpdate = Marked h m
-help_known allows lay c h m AtCommit = IsStarted h m.scx.0 × HasWon h m.scx.0
+help_known allows lay c h m AtCommit = IsStarted h m.scx × HasWon h m.scx
 
 -- a load of a settled word of s
 abbrev pub settled_load : ℕ → ScxWord → Step
@@ -133,52 +142,56 @@ help_step h s (AtOld v) = settled_load s Old
 help_step h s AtUpdate = record { kind = Update; word = field h s; deed = Exchange (old h s) (new h s) }
 help_step h s AtCommit = record { kind = Commit; word = state s; deed = Store 1 }
 
-pub record help_waits (allows : Layout → History → ℕ → Type 0) (m : HelpRun) (c : Call) (h : History) (step : Step) : Type 0 where
-  pub known : help_known allows c.layout c.pass h m m.at
-  pub asked : step ≡ help_step h m.scx.0 m.at
+-- at this place it may wait for this step
+pub record help_waits_at (allows : Layout → History → ℕ → Type 0) (lay : Layout) (c : ℕ) (h : History) (m : Reading) (at : HelpAt) (step : Step) : Type 0 where
+  pub known : help_known allows lay c h m at
+  pub asked : step ≡ help_step h m.scx at
+
+abbrev pub help_waits : (Layout → History → ℕ → Type 0) → Layout → ℕ → HelpRun → History → Step → Type 0
+help_waits allows lay c m h step = help_waits_at allows lay c h (reading m) m.at step
 
 -- what is known once the freezing exchange of the j-th node has found v where `seen` is expected
-pub record HasTried (lay : Layout) (c : ℕ) (h : History) (m : HelpRun) (j v expected : ℕ) : Type 0 where
-  pub plan : plan h m.scx.0 ≡ m.plan.0
-  pub within : j < count h m.scx.0
+pub record HasTried (lay : Layout) (c : ℕ) (h : History) (m : Reading) (j v expected : ℕ) : Type 0 where
+  pub plan : plan h m.scx ≡ m.plan
+  pub within : j < count h m.scx
   pub read : HasRead m h (suc j)
-  pub won : (v ≡ expected) ⊎ (v ≡ m.scx.0) → IsStarted h m.scx.0 × AreFrozen h m.scx.0 (suc j)
-  pub lost : v ≢ expected → v ≢ m.scx.0 → Blocked lay c h m j v
+  pub won : (v ≡ expected) ⊎ (v ≡ m.scx) → IsStarted h m.scx × AreFrozen h m.scx (suc j)
+  pub lost : v ≢ expected → v ≢ m.scx → Blocked lay c h m j v
 
--- what is known once its step has told v
-abbrev pub help_told : (Layout → History → ℕ → Type 0) → Layout → ℕ → History → HelpRun → HelpAt → ℕ → Type 0
+-- what is known once the step of a place has told v
+abbrev pub help_told : (Layout → History → ℕ → Type 0) → Layout → ℕ → History → Reading → HelpAt → ℕ → Type 0
 help_told allows lay c h m Start v = ⊥
-help_told allows lay c h m AtPlan v = IsServed allows lay c h m.scx.0 × (plan h m.scx.0 ≡ v)
-help_told allows lay c h m (AtMember j) v = Freezes allows lay c h m (index_of j) (index_of j) × (member h m.scx.0 (index_of j) ≡ v)
-help_told allows lay c h m (AtSeen j) v = Freezes allows lay c h m (index_of j) (suc (index_of j)) × (seen h m.scx.0 (index_of j) ≡ v)
+help_told allows lay c h m AtPlan v = IsServed allows lay c h m.scx × (plan h m.scx ≡ v)
+help_told allows lay c h m (AtMember j) v = Freezes allows lay c h m (index_of j) (index_of j) × (member h m.scx (index_of j) ≡ v)
+help_told allows lay c h m (AtSeen j) v = Freezes allows lay c h m (index_of j) (suc (index_of j)) × (seen h m.scx (index_of j) ≡ v)
 help_told allows lay c h m (AtFreeze j expected) v = HasTried lay c h m (index_of j) v expected
-help_told allows lay c h m (AtAllFrozen j found) v = Blocked lay c h m (index_of j) found × (value h (scx m.scx.0 AllFrozen) ≡ v)
-help_told allows lay c h m (AtAbort j found) v = (value h (state m.scx.0) ≡ 2) × IsBlocked h m.scx.0 (node_at m.members (index_of j)) found
+help_told allows lay c h m (AtAllFrozen j found) v = Blocked lay c h m (index_of j) found × (value h (scx m.scx AllFrozen) ≡ v)
+help_told allows lay c h m (AtAbort j found) v = (value h (state m.scx) ≡ 2) × IsBlocked h m.scx (node_at m.members (index_of j)) found
 help_told allows lay c h m AtSetFrozen v = Marks h m 0
 help_told allows lay c h m (AtMark j) v = Marks h m (suc (index_of j))
-help_told allows lay c h m AtNew v = Marked h m × (new h m.scx.0 ≡ v)
-help_told allows lay c h m (AtOld found) v = Marked h m × (new h m.scx.0 ≡ found) × (old h m.scx.0 ≡ v)
-help_told allows lay c h m AtUpdate v = IsStarted h m.scx.0 × HasWon h m.scx.0
-help_told allows lay c h m AtCommit v = value h (state m.scx.0) ≡ 1
+help_told allows lay c h m AtNew v = Marked h m × (new h m.scx ≡ v)
+help_told allows lay c h m (AtOld found) v = Marked h m × (new h m.scx ≡ found) × (old h m.scx ≡ v)
+help_told allows lay c h m AtUpdate v = IsStarted h m.scx × HasWon h m.scx
+help_told allows lay c h m AtCommit v = value h (state m.scx) ≡ 1
 
-abbrev pub help_ready : (Layout → History → ℕ → Type 0) → HelpRun → Call → History → Option ℕ → Type 0
-help_ready allows m c h None = (m.at ≡ Start) × IsServed allows c.layout c.pass h m.scx.0
-help_ready allows m c h (Some v) = help_told allows c.layout c.pass h m m.at v
+abbrev pub help_ready : (Layout → History → ℕ → Type 0) → Layout → ℕ → HelpRun → History → Option ℕ → Type 0
+help_ready allows lay c m h None = (m.at ≡ Start) × IsServed allows lay c h m.scx.0
+help_ready allows lay c m h (Some v) = help_told allows lay c h (reading m) m.at v
 
 -- the run stands where it could not freeze a node
-abbrev pub HasNoted : History → HelpRun → HelpAt → Type 0
-HasNoted h m (AtAbort j found) = IsBlocked h m.scx.0 (node_at m.members (index_of j)) found
+abbrev pub HasNoted : History → Reading → HelpAt → Type 0
+HasNoted h m (AtAbort j found) = IsBlocked h m.scx (node_at m.members (index_of j)) found
 HasNoted h m _ = ⊥
 
 -- true: it is committed; false: it is aborted, has no entry, and a node was not as it had seen it
-pub record HasAborted (lay : Layout) (h : History) (m : HelpRun) : Type 0 where
-  pub aborted : value h (state m.scx.0) ≡ 2
-  pub no_entry : ¬ IsEntered (log lay h) m.scx.0
-  pub blocked : HasNoted h m m.at
+pub record HasAborted (lay : Layout) (h : History) (m : Reading) (at : HelpAt) : Type 0 where
+  pub aborted : value h (state m.scx) ≡ 2
+  pub no_entry : ¬ IsEntered (log lay h) m.scx
+  pub blocked : HasNoted h m at
 
-abbrev pub help_answers : HelpRun → Call → History → Bool → Type 0
-help_answers m c h true = value h (state m.scx.0) ≡ 1
-help_answers m c h false = HasAborted c.layout h m
+abbrev pub help_answers : Layout → HelpRun → History → Bool → Type 0
+help_answers lay m h true = value h (state m.scx.0) ≡ 1
+help_answers lay m h false = HasAborted lay h (reading m) m.at
 
 -- the node that could not be frozen, and what its info named
 abbrev pub blocked_at : List NodeNo → HelpAt → NodeNo × ScxNo

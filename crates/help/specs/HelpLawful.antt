@@ -28,7 +28,7 @@ use Rattle.histories.proofs.Begins.{owner_freezes, owner_aborts}
 use Rattle.histories.proofs.Shapes.{IsFirst, shaped_more}
 use Rattle.help.specs.Allowed.{IsPrepared}
 use Rattle.help.specs.AllowedLaws.{later_self}
-use Rattle.help.specs.HelpKnown.{IsServed, Freezes, HasLost, Aborts, Marks, help_known, help_step, help_waits}
+use Rattle.help.specs.HelpKnown.{IsServed, Freezes, HasLost, Aborts, Marks, Reading, reading, help_known, help_step, help_waits}
 use Rattle.help.specs.declared.state.HelpRun.{HelpRun}
 use Rattle.help.specs.declared.state.HelpAt.{HelpAt}
 use Rattle.help.specs.declared.state.HelpAt.TheVariants.{Start, Plan as AtPlan, Member as AtMember, Seen as AtSeen, Freeze as AtFreeze, AllFrozen as AtAllFrozen, Abort as AtAbort, SetFrozen as AtSetFrozen, Mark as AtMark, New as AtNew, Old as AtOld, Update as AtUpdate, Commit as AtCommit}
@@ -50,102 +50,102 @@ stuck_unset lay h s l x = go (ℕ_discrete (value h (scx s AllFrozen)) 0)
     go (yes e) = e
     go (no d) = absurd (x.unfrozen (((facts lay h l).flagged s d).frozen x.index x.within))
 
-module _ (allows : Layout → History → ℕ → Type 0) (c : Call) (h : History) (m : HelpRun) (l : Lawful c.layout h) where
-  started_inside : IsStarted h m.scx.0 → m.scx.0 < all_scx c.layout
-  started_inside x = named_scx_inside c.layout h m.scx.0 l x.named
+module _ (allows : Layout → History → ℕ → Type 0) (c : Call) (h : History) (m : Reading) (l : Lawful c.layout h) where
+  started_inside : IsStarted h m.scx → m.scx < all_scx c.layout
+  started_inside x = named_scx_inside c.layout h m.scx l x.named
 
-  served_inside : IsServed allows c.layout c.pass h m.scx.0 → m.scx.0 < all_scx c.layout
+  served_inside : IsServed allows c.layout c.pass h m.scx → m.scx < all_scx c.layout
   served_inside (inl x) = started_inside x
-  served_inside (inr x) = own_scx_inside c.layout c.pass m.scx.0 c.is_pass x.begins.own
+  served_inside (inr x) = own_scx_inside c.layout c.pass m.scx c.is_pass x.begins.own
 
-  over_inside : (P : Type 0) → (IsStarted h m.scx.0 × P) ⊎ HasLost c.layout c.pass h m.scx.0 → m.scx.0 < all_scx c.layout
+  over_inside : (P : Type 0) → (IsStarted h m.scx × P) ⊎ HasLost c.layout c.pass h m.scx → m.scx < all_scx c.layout
   over_inside P (inl x) = started_inside x.0
-  over_inside P (inr x) = own_scx_inside c.layout c.pass m.scx.0 c.is_pass x.own
+  over_inside P (inr x) = own_scx_inside c.layout c.pass m.scx c.is_pass x.own
 
-  node_inside : (j : ℕ) → IsServed allows c.layout c.pass h m.scx.0 → j < count h m.scx.0 → member h m.scx.0 j < all_nodes c.layout
-  node_inside j (inl x) i = (about c.layout h m.scx.0 l x).inside j i
+  node_inside : (j : ℕ) → IsServed allows c.layout c.pass h m.scx → j < count h m.scx → member h m.scx j < all_nodes c.layout
+  node_inside j (inl x) i = (about c.layout h m.scx l x).inside j i
   node_inside j (inr x) i = x.begins.inside j i
 
   -- an owner that has not begun freezes the first node
-  pub at_first : (j : ℕ) → IsPrepared allows c.layout c.pass h m.scx.0 → AreFrozen h m.scx.0 j → j ≡ 0
+  pub at_first : (j : ℕ) → IsPrepared allows c.layout c.pass h m.scx → AreFrozen h m.scx j → j ≡ 0
   at_first j x p = go (ℕ_discrete j 0)
     where
       go : Dec (j ≡ 0) → j ≡ 0
       go (yes e) = e
-      go (no d) = absurd (x.begins.free (member h m.scx.0 0, p 0 (omega arith)))
+      go (no d) = absurd (x.begins.free (member h m.scx 0, p 0 (omega arith)))
 
-  freeze_at : (j : MemberNo) (v k : ℕ) → Freezes allows c.layout c.pass h m (index_of j) k → IsFreeze c.layout h (row_of c (help_step h m.scx.0 (AtFreeze j v)) h) m.scx.0 (index_of j)
+  freeze_at : (j : MemberNo) (v k : ℕ) → Freezes allows c.layout c.pass h m (index_of j) k → IsFreeze c.layout h (row_of c (help_step h m.scx (AtFreeze j v)) h) m.scx (index_of j)
   freeze_at j v k x = go x.served
     where
       r : Row
-      r = row_of c (help_step h m.scx.0 (AtFreeze j v)) h
+      r = row_of c (help_step h m.scx (AtFreeze j v)) h
 
-      exchange : IsExchange r (seen h m.scx.0 (index_of j)) m.scx.0
-      exchange = exchange_of c h (help_step h m.scx.0 (AtFreeze j v)) (seen h m.scx.0 (index_of j)) m.scx.0 refl
+      exchange : IsExchange r (seen h m.scx (index_of j)) m.scx
+      exchange = exchange_of c h (help_step h m.scx (AtFreeze j v)) (seen h m.scx (index_of j)) m.scx refl
 
-      first : (i : ℕ) → i ≡ 0 → r.word ≡ info (member h m.scx.0 i) → IsExchange r (seen h m.scx.0 i) m.scx.0 → IsPrepared allows c.layout c.pass h m.scx.0 → IsFreeze c.layout h r m.scx.0 i
-      first i e w y p = rw e (owner_freezes c.layout h r m.scx.0 p.begins (rw e at w) (rw e at y))
+      first : (i : ℕ) → i ≡ 0 → r.word ≡ info (member h m.scx i) → IsExchange r (seen h m.scx i) m.scx → IsPrepared allows c.layout c.pass h m.scx → IsFreeze c.layout h r m.scx i
+      first i e w y p = rw e (owner_freezes c.layout h r m.scx p.begins (rw e at w) (rw e at y))
 
-      go : IsServed allows c.layout c.pass h m.scx.0 → IsFreeze c.layout h r m.scx.0 (index_of j)
-      go (inl s) = helper_freezes c.layout h r m.scx.0 (index_of j) l s x.within x.frozen refl refl exchange
+      go : IsServed allows c.layout c.pass h m.scx → IsFreeze c.layout h r m.scx (index_of j)
+      go (inl s) = helper_freezes c.layout h r m.scx (index_of j) l s x.within x.frozen refl refl exchange
       go (inr p) = first (index_of j) (at_first (index_of j) p x.frozen) refl exchange p
 
-  abort_at : (j : MemberNo) (v : ℕ) → Aborts c.layout c.pass h m (index_of j) v → (i : ℕ) × IsAbort c.layout h (row_of c (help_step h m.scx.0 (AtAbort j v)) h) m.scx.0 i
+  abort_at : (j : MemberNo) (v : ℕ) → Aborts c.layout c.pass h m (index_of j) v → (i : ℕ) × IsAbort c.layout h (row_of c (help_step h m.scx (AtAbort j v)) h) m.scx i
   abort_at j v x = go x.stuck
     where
       r : Row
-      r = row_of c (help_step h m.scx.0 (AtAbort j v)) h
+      r = row_of c (help_step h m.scx (AtAbort j v)) h
 
-      go : (IsStarted h m.scx.0 × IsStuck (descriptor h m.scx.0) h m.scx.0) ⊎ HasLost c.layout c.pass h m.scx.0 → (i : ℕ) × IsAbort c.layout h r m.scx.0 i
-      go (inl y) = over_aborts c.layout h r m.scx.0 l y.0 (inl y.1) (stuck_unset c.layout h m.scx.0 l y.1) refl refl
-      go (inr y) = (0, owner_aborts c.layout h r m.scx.0 l y.own y.free y.some y.passed refl refl)
+      go : (IsStarted h m.scx × IsStuck (descriptor h m.scx) h m.scx) ⊎ HasLost c.layout c.pass h m.scx → (i : ℕ) × IsAbort c.layout h r m.scx i
+      go (inl y) = over_aborts c.layout h r m.scx l y.0 (inl y.1) (stuck_unset c.layout h m.scx l y.1) refl refl
+      go (inr y) = (0, owner_aborts c.layout h r m.scx l y.own y.free y.some y.passed refl refl)
 
-  pub update_at : Marks h m (count h m.scx.0) → IsUpdate h (row_of c (help_step h m.scx.0 AtUpdate) h) m.scx.0
-  update_at x = record { word = refl; all_frozen = x.flag; all_marked = λ j i q. x.marked j i i q; exchange = exchange_of c h (help_step h m.scx.0 AtUpdate) (old h m.scx.0) (new h m.scx.0) refl }
+  pub update_at : Marks h m (count h m.scx) → IsUpdate h (row_of c (help_step h m.scx AtUpdate) h) m.scx
+  update_at x = record { word = refl; all_frozen = x.flag; all_marked = λ j i q. x.marked j i i q; exchange = exchange_of c h (help_step h m.scx AtUpdate) (old h m.scx) (new h m.scx) refl }
 
-  lawful_at : (at : HelpAt) → help_known allows c.layout c.pass h m at → IsLawful c.layout h (row_of c (help_step h m.scx.0 at) h)
+  lawful_at : (at : HelpAt) → help_known allows c.layout c.pass h m at → IsLawful c.layout h (row_of c (help_step h m.scx at) h)
   lawful_at Start k = absurd k
   lawful_at AtPlan k = record { before = refl; obeys = record { word = tt; same = refl }; pass = c.is_pass; word = (served_inside k, tt) }
   lawful_at (AtMember j) k = record { before = refl; obeys = record { word = tt; same = refl }; pass = c.is_pass; word = (served_inside k.served, index_small j) }
   lawful_at (AtSeen j) k = record { before = refl; obeys = record { word = tt; same = refl }; pass = c.is_pass; word = (served_inside k.served, index_small j) }
-  lawful_at (AtFreeze j v) k = record { before = refl; obeys = (m.scx.0, index_of j, freeze_at j v (suc (index_of j)) k.0); pass = c.is_pass; word = node_inside (index_of j) k.0.served k.0.within }
+  lawful_at (AtFreeze j v) k = record { before = refl; obeys = (m.scx, index_of j, freeze_at j v (suc (index_of j)) k.0); pass = c.is_pass; word = node_inside (index_of j) k.0.served k.0.within }
   lawful_at (AtAllFrozen j v) k = record { before = refl; obeys = record { word = tt; same = refl }; pass = c.is_pass; word = (over_inside _ k.over, tt) }
-  lawful_at (AtAbort j v) k = record { before = refl; obeys = (m.scx.0, (abort_at j v k).0, (abort_at j v k).1); pass = c.is_pass; word = (over_inside _ k.stuck, tt) }
-  lawful_at AtSetFrozen k = record { before = refl; obeys = (m.scx.0, helper_sets_frozen c.layout h (row_of c (help_step h m.scx.0 AtSetFrozen) h) m.scx.0 l k.started k.frozen refl refl); pass = c.is_pass; word = (started_inside k.started, tt) }
-  lawful_at (AtMark j) k = record { before = refl; obeys = (m.scx.0, index_of j, record { within = k.1; removed = k.2; word = refl; stored = refl; all_frozen = k.0.flag }); pass = c.is_pass; word = node_inside (index_of j) (inl k.0.started) k.1 }
+  lawful_at (AtAbort j v) k = record { before = refl; obeys = (m.scx, (abort_at j v k).0, (abort_at j v k).1); pass = c.is_pass; word = (over_inside _ k.stuck, tt) }
+  lawful_at AtSetFrozen k = record { before = refl; obeys = (m.scx, helper_sets_frozen c.layout h (row_of c (help_step h m.scx AtSetFrozen) h) m.scx l k.started k.frozen refl refl); pass = c.is_pass; word = (started_inside k.started, tt) }
+  lawful_at (AtMark j) k = record { before = refl; obeys = (m.scx, index_of j, record { within = k.1; removed = k.2; word = refl; stored = refl; all_frozen = k.0.flag }); pass = c.is_pass; word = node_inside (index_of j) (inl k.0.started) k.1 }
   lawful_at AtNew k = record { before = refl; obeys = record { word = tt; same = refl }; pass = c.is_pass; word = (started_inside k.started, tt) }
   lawful_at (AtOld v) k = record { before = refl; obeys = record { word = tt; same = refl }; pass = c.is_pass; word = (started_inside k.0.started, tt) }
-  lawful_at AtUpdate k = record { before = refl; obeys = (m.scx.0, update_at k); pass = c.is_pass; word = (about c.layout h m.scx.0 l k.started).inside (field_index h m.scx.0) (about c.layout h m.scx.0 l k.started).planned.field }
-  lawful_at AtCommit k = record { before = refl; obeys = (m.scx.0, record { word = refl; stored = refl; won = k.1 }); pass = c.is_pass; word = (started_inside k.0, tt) }
+  lawful_at AtUpdate k = record { before = refl; obeys = (m.scx, update_at k); pass = c.is_pass; word = (about c.layout h m.scx l k.started).inside (field_index h m.scx) (about c.layout h m.scx l k.started).planned.field }
+  lawful_at AtCommit k = record { before = refl; obeys = (m.scx, record { word = refl; stored = refl; won = k.1 }); pass = c.is_pass; word = (started_inside k.0, tt) }
 
   -- what it begins is its own, and allowed
-  begin_at : (j : MemberNo) (v k u : ℕ) → Shaped allows c.layout h → Freezes allows c.layout c.pass h m (index_of j) k → IsFirst c.layout h (row_of c (help_step h m.scx.0 (AtFreeze j v)) h) u → IsBegin h (row_of c (help_step h m.scx.0 (AtFreeze j v)) h) u → allows c.layout h u
+  begin_at : (j : MemberNo) (v k u : ℕ) → Shaped allows c.layout h → Freezes allows c.layout c.pass h m (index_of j) k → IsFirst c.layout h (row_of c (help_step h m.scx (AtFreeze j v)) h) u → IsBegin h (row_of c (help_step h m.scx (AtFreeze j v)) h) u → allows c.layout h u
   begin_at j v k u shaped x first g = go x.served
     where
       r : Row
-      r = row_of c (help_step h m.scx.0 (AtFreeze j v)) h
+      r = row_of c (help_step h m.scx (AtFreeze j v)) h
 
-      exchange : IsExchange r (seen h m.scx.0 (index_of j)) m.scx.0
-      exchange = exchange_of c h (help_step h m.scx.0 (AtFreeze j v)) (seen h m.scx.0 (index_of j)) m.scx.0 refl
+      exchange : IsExchange r (seen h m.scx (index_of j)) m.scx
+      exchange = exchange_of c h (help_step h m.scx (AtFreeze j v)) (seen h m.scx (index_of j)) m.scx refl
 
-      found : Dec (r.before ≡ seen h m.scx.0 (index_of j)) → r.before ≡ seen h m.scx.0 (index_of j)
+      found : Dec (r.before ≡ seen h m.scx (index_of j)) → r.before ≡ seen h m.scx (index_of j)
       found (yes e) = e
       found (no d) = absurd (g.changed (sym (exchange.lost d)))
 
-      is : u ≡ m.scx.0
-      is = sym g.stored ∙ exchange.won (found (ℕ_discrete r.before (seen h m.scx.0 (index_of j))))
+      is : u ≡ m.scx
+      is = sym g.stored ∙ exchange.won (found (ℕ_discrete r.before (seen h m.scx (index_of j))))
 
-      at_place : (i : ℕ) → i ≡ 0 → value h (info (member h m.scx.0 i)) ≡ seen h m.scx.0 i → IsPrepared allows c.layout c.pass h m.scx.0 → allows c.layout h m.scx.0
-      at_place i e y p = p.allowed h (later_self c.pass m.scx.0 h) record { lawful = l; shaped = shaped } refl p.begins (rw e at y)
+      at_place : (i : ℕ) → i ≡ 0 → value h (info (member h m.scx i)) ≡ seen h m.scx i → IsPrepared allows c.layout c.pass h m.scx → allows c.layout h m.scx
+      at_place i e y p = p.allowed h (later_self c.pass m.scx h) record { lawful = l; shaped = shaped } refl p.begins (rw e at y)
 
-      go : IsServed allows c.layout c.pass h m.scx.0 → allows c.layout h u
+      go : IsServed allows c.layout c.pass h m.scx → allows c.layout h u
       go (inl s) = absurd (first.never (rw is s.named))
-      go (inr p) = rw is (at_place (index_of j) (at_first (index_of j) p x.frozen) (found (ℕ_discrete r.before (seen h m.scx.0 (index_of j)))) p)
+      go (inr p) = rw is (at_place (index_of j) (at_first (index_of j) p x.frozen) (found (ℕ_discrete r.before (seen h m.scx (index_of j)))) p)
 
   no_begin : (r : Row) (k : Kind) (u : ℕ) → r.kind ≡ k → (k ≡ Freeze → ⊥) → IsBegin h r u → allows c.layout h u
   no_begin r k u e d g = absurd (d (sym e ∙ g.kind))
 
-  begins_at : (at : HelpAt) (u : ℕ) → Shaped allows c.layout h → help_known allows c.layout c.pass h m at → IsFirst c.layout h (row_of c (help_step h m.scx.0 at) h) u → IsBegin h (row_of c (help_step h m.scx.0 at) h) u → allows c.layout h u
+  begins_at : (at : HelpAt) (u : ℕ) → Shaped allows c.layout h → help_known allows c.layout c.pass h m at → IsFirst c.layout h (row_of c (help_step h m.scx at) h) u → IsBegin h (row_of c (help_step h m.scx at) h) u → allows c.layout h u
   begins_at Start u w k f g = absurd k
   begins_at AtPlan u w k f g = no_begin _ LoadSettled u refl (λ e. cc) g
   begins_at (AtMember j) u w k f g = no_begin _ LoadSettled u refl (λ e. cc) g
@@ -160,13 +160,13 @@ module _ (allows : Layout → History → ℕ → Type 0) (c : Call) (h : Histor
   begins_at AtUpdate u w k f g = no_begin _ Update u refl (λ e. cc) g
   begins_at AtCommit u w k f g = no_begin _ Commit u refl (λ e. cc) g
 
-  pub run_at : (at : HelpAt) → Shaped allows c.layout h → help_known allows c.layout c.pass h m at → IsRun allows c.layout (row_of c (help_step h m.scx.0 at) h ⊳ h)
+  pub run_at : (at : HelpAt) → Shaped allows c.layout h → help_known allows c.layout c.pass h m at → IsRun allows c.layout (row_of c (help_step h m.scx at) h ⊳ h)
   run_at at w k =
-      let x : Lawful c.layout (row_of c (help_step h m.scx.0 at) h ⊳ h) = lawful_more c.layout h (row_of c (help_step h m.scx.0 at) h) l (lawful_at at k) in
-      record { lawful = x; shaped = shaped_more allows c.layout h (row_of c (help_step h m.scx.0 at) h) x w (λ u f g. begins_at at u w k f g) }
+      let x : Lawful c.layout (row_of c (help_step h m.scx at) h ⊳ h) = lawful_more c.layout h (row_of c (help_step h m.scx at) h) l (lawful_at at k) in
+      record { lawful = x; shaped = shaped_more allows c.layout h (row_of c (help_step h m.scx at) h) x w (λ u f g. begins_at at u w k f g) }
 
-pub help_lawful : (allows : Layout → History → ℕ → Type 0) (m : HelpRun) (c : Call) (h : History) (s : Step) → IsRun allows c.layout h → help_waits allows m c h s → IsRun allows c.layout (row_of c s h ⊳ h)
-help_lawful allows m c h s run w = rw w.asked (run_at allows c h m run.lawful m.at run.shaped w.known)
+pub help_lawful : (allows : Layout → History → ℕ → Type 0) (m : HelpRun) (c : Call) (h : History) (s : Step) → IsRun allows c.layout h → help_waits allows c.layout c.pass m h s → IsRun allows c.layout (row_of c s h ⊳ h)
+help_lawful allows m c h s run w = rw w.asked (run_at allows c h (reading m) run.lawful m.at run.shaped w.known)
 
 -- HELP never asks for a fill
 fills_not_at : (h : History) (s : ℕ) (at : HelpAt) → (help_step h s at).kind ≢ Fill
@@ -184,5 +184,5 @@ fills_not_at h s (AtOld v) e = cc
 fills_not_at h s AtUpdate e = cc
 fills_not_at h s AtCommit e = cc
 
-pub help_fills_not : (allows : Layout → History → ℕ → Type 0) (m : HelpRun) (c : Call) (h : History) (s : Step) → help_waits allows m c h s → s.kind ≢ Fill
+pub help_fills_not : (allows : Layout → History → ℕ → Type 0) (m : HelpRun) (c : Call) (h : History) (s : Step) → help_waits allows c.layout c.pass m h s → s.kind ≢ Fill
 help_fills_not allows m c h s w e = fills_not_at h m.scx.0 m.at (ap (λ (t : Step). t.kind) (sym w.asked) ∙ e)

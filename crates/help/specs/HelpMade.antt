@@ -19,22 +19,22 @@ use Rattle.histories.proofs.Quiet.{not_state}
 use Rattle.histories.proofs.Helping.{IsStarted, started_more, IsOver, is_over, won_after}
 use Rattle.help.specs.Allowed.{IsPrepared, IsQuiet}
 use Rattle.help.specs.AllowedLaws.{IsOutside, same_plan, same_member, same_seen}
-use Rattle.help.specs.HelpKnown.{IsServed, node_at, Freezes, HasLost, Blocked, Marks, HasTried, help_known, help_step, help_told, help_ready, help_waits}
+use Rattle.help.specs.HelpKnown.{IsServed, node_at, Freezes, HasLost, Blocked, Marks, HasTried, Reading, reading, help_known, help_step, help_told, help_ready, help_waits}
 use Rattle.help.specs.HelpKept.{known_more, freezes_more, started_words, marks_more, frozen_more, read_more, blocked_same}
 use Rattle.help.specs.HelpLawful.{exchange_of, update_at, at_first}
 use Rattle.help.specs.declared.state.HelpRun.{HelpRun}
 use Rattle.help.specs.declared.state.HelpAt.{HelpAt}
 use Rattle.help.specs.declared.state.HelpAt.TheVariants.{Start, Plan as AtPlan, Member as AtMember, Seen as AtSeen, Freeze as AtFreeze, AllFrozen as AtAllFrozen, Abort as AtAbort, SetFrozen as AtSetFrozen, Mark as AtMark, New as AtNew, Old as AtOld, Update as AtUpdate, Commit as AtCommit}
 
-module _ (allows : Layout → History → ℕ → Type 0) (c : Call) (h : History) (m : HelpRun) where
+module _ (allows : Layout → History → ℕ → Type 0) (c : Call) (h : History) (m : Reading) where
   -- the SCX-record of a run is not the dummy
-  real : IsServed allows c.layout c.pass h m.scx.0 → m.scx.0 ≢ 0
+  real : IsServed allows c.layout c.pass h m.scx → m.scx ≢ 0
   real (inl x) e = x.real e
   real (inr x) e = let i = x.begins.own.from in omega arith
 
   -- the history once the step is made
   abbrev after : HelpAt → History
-  after at = row_of c (help_step h m.scx.0 at) h ⊳ h
+  after at = row_of c (help_step h m.scx at) h ⊳ h
 
   -- an exchange that finds `expected`, or what it stores, leaves what it stores
   stores : (e s before then : ℕ) → (before ≡ e → then ≡ s) → (before ≢ e → then ≡ before) → (before ≡ e) ⊎ (before ≡ s) → then ≡ s
@@ -45,30 +45,30 @@ module _ (allows : Layout → History → ℕ → Type 0) (c : Call) (h : Histor
       go (yes q) = won q
       go (no q) = lost q ∙ p
 
-  module _ (j : MemberNo) (x : Freezes allows c.layout c.pass h m (index_of j) (suc (index_of j))) (l : Lawful c.layout (row_of c (help_step h m.scx.0 (AtFreeze j (seen h m.scx.0 (index_of j)))) h ⊳ h)) where
+  module _ (j : MemberNo) (x : Freezes allows c.layout c.pass h m (index_of j) (suc (index_of j))) (l : Lawful c.layout (row_of c (help_step h m.scx (AtFreeze j (seen h m.scx (index_of j)))) h ⊳ h)) where
     abbrev r : Row
-    r = row_of c (help_step h m.scx.0 (AtFreeze j (seen h m.scx.0 (index_of j)))) h
+    r = row_of c (help_step h m.scx (AtFreeze j (seen h m.scx (index_of j)))) h
 
-    exchange : IsExchange r (seen h m.scx.0 (index_of j)) m.scx.0
-    exchange = exchange_of c h (help_step h m.scx.0 (AtFreeze j (seen h m.scx.0 (index_of j)))) (seen h m.scx.0 (index_of j)) m.scx.0 refl
+    exchange : IsExchange r (seen h m.scx (index_of j)) m.scx
+    exchange = exchange_of c h (help_step h m.scx (AtFreeze j (seen h m.scx (index_of j)))) (seen h m.scx (index_of j)) m.scx refl
 
-    words : descriptor (r ⊳ h) m.scx.0 ≡ descriptor h m.scx.0
-    words = descriptor_same h (r ⊳ h) m.scx.0 (λ a i. value_apart r h (info (member h m.scx.0 (index_of j))) (scx m.scx.0 a) refl refl)
+    words : descriptor (r ⊳ h) m.scx ≡ descriptor h m.scx
+    words = descriptor_same h (r ⊳ h) m.scx (λ a i. value_apart r h (info (member h m.scx (index_of j))) (scx m.scx a) refl refl)
 
-    frozen_by : (r.before ≡ seen h m.scx.0 (index_of j)) ⊎ (r.before ≡ m.scx.0) → HasHeld (r ⊳ h) (info (member h m.scx.0 (index_of j))) m.scx.0
-    frozen_by p = held_at (r ⊳ h) (info (member h m.scx.0 (index_of j))) m.scx.0 (value_at r h (info (member h m.scx.0 (index_of j))) refl ∙ stores (seen h m.scx.0 (index_of j)) m.scx.0 r.before r.after exchange.won exchange.lost p)
+    frozen_by : (r.before ≡ seen h m.scx (index_of j)) ⊎ (r.before ≡ m.scx) → HasHeld (r ⊳ h) (info (member h m.scx (index_of j))) m.scx
+    frozen_by p = held_at (r ⊳ h) (info (member h m.scx (index_of j))) m.scx (value_at r h (info (member h m.scx (index_of j))) refl ∙ stores (seen h m.scx (index_of j)) m.scx r.before r.after exchange.won exchange.lost p)
 
-    up_to : HasHeld (r ⊳ h) (info (member h m.scx.0 (index_of j))) m.scx.0 → (i : ℕ) → i < suc (index_of j) → Dec (i ≡ index_of j) → HasHeld (r ⊳ h) (info (member h m.scx.0 i)) m.scx.0
+    up_to : HasHeld (r ⊳ h) (info (member h m.scx (index_of j))) m.scx → (i : ℕ) → i < suc (index_of j) → Dec (i ≡ index_of j) → HasHeld (r ⊳ h) (info (member h m.scx i)) m.scx
     up_to p i q (yes e) = rw e p
-    up_to p i q (no d) = held_more r h (info (member h m.scx.0 i)) m.scx.0 (x.frozen i (omega arith))
+    up_to p i q (no d) = held_more r h (info (member h m.scx i)) m.scx (x.frozen i (omega arith))
 
-    all_up_to : HasHeld (r ⊳ h) (info (member h m.scx.0 (index_of j))) m.scx.0 → AreFrozen (r ⊳ h) m.scx.0 (suc (index_of j))
-    all_up_to p i q = rw (same_member h (r ⊳ h) m.scx.0 words i) (up_to p i q (ℕ_discrete i (index_of j)))
+    all_up_to : HasHeld (r ⊳ h) (info (member h m.scx (index_of j))) m.scx → AreFrozen (r ⊳ h) m.scx (suc (index_of j))
+    all_up_to p i q = rw (same_member h (r ⊳ h) m.scx words i) (up_to p i q (ℕ_discrete i (index_of j)))
 
-    started : HasHeld (r ⊳ h) (info (member h m.scx.0 (index_of j))) m.scx.0 → IsStarted (r ⊳ h) m.scx.0
-    started p = record { real = real x.served; named = (member h m.scx.0 (index_of j), p) }
+    started : HasHeld (r ⊳ h) (info (member h m.scx (index_of j))) m.scx → IsStarted (r ⊳ h) m.scx
+    started p = record { real = real x.served; named = (member h m.scx (index_of j), p) }
 
-    lost_at : (i : ℕ) → i ≡ 0 → value (r ⊳ h) (info (member (r ⊳ h) m.scx.0 i)) ≢ seen (r ⊳ h) m.scx.0 i → 0 < count (r ⊳ h) m.scx.0 → IsPrepared allows c.layout c.pass (r ⊳ h) m.scx.0 → HasLost c.layout c.pass (r ⊳ h) m.scx.0
+    lost_at : (i : ℕ) → i ≡ 0 → value (r ⊳ h) (info (member (r ⊳ h) m.scx i)) ≢ seen (r ⊳ h) m.scx i → 0 < count (r ⊳ h) m.scx → IsPrepared allows c.layout c.pass (r ⊳ h) m.scx → HasLost c.layout c.pass (r ⊳ h) m.scx
     lost_at i e d s p = record {
       own = p.begins.own;
       free = p.begins.free;
@@ -78,57 +78,57 @@ module _ (allows : Layout → History → ℕ → Type 0) (c : Call) (h : Histor
       passed = rw e at d;
     }
 
-    over_at : Freezes allows c.layout c.pass (r ⊳ h) m (index_of j) (suc (index_of j)) → value (r ⊳ h) (info (member (r ⊳ h) m.scx.0 (index_of j))) ≢ seen (r ⊳ h) m.scx.0 (index_of j) → value (r ⊳ h) (info (member (r ⊳ h) m.scx.0 (index_of j))) ≢ m.scx.0 → Blocked c.layout c.pass (r ⊳ h) m (index_of j) (value (r ⊳ h) (info (member (r ⊳ h) m.scx.0 (index_of j))))
+    over_at : Freezes allows c.layout c.pass (r ⊳ h) m (index_of j) (suc (index_of j)) → value (r ⊳ h) (info (member (r ⊳ h) m.scx (index_of j))) ≢ seen (r ⊳ h) m.scx (index_of j) → value (r ⊳ h) (info (member (r ⊳ h) m.scx (index_of j))) ≢ m.scx → Blocked c.layout c.pass (r ⊳ h) m (index_of j) (value (r ⊳ h) (info (member (r ⊳ h) m.scx (index_of j))))
     over_at y d n = record {
       over = go y.served;
       blocked = record { index = index_of j; within = y.within; is = sym read; other = d; not_own = n; moment = r ⊳ h; since = ends_self (r ⊳ h); covered = y.within; held = rw read refl };
     }
       where
-        read : node_at m.members (index_of j) ≡ member (r ⊳ h) m.scx.0 (index_of j)
+        read : node_at m.members (index_of j) ≡ member (r ⊳ h) m.scx (index_of j)
         read = y.read (index_of j) (omega arith)
 
-        go : IsServed allows c.layout c.pass (r ⊳ h) m.scx.0 → (IsStarted (r ⊳ h) m.scx.0 × IsOver (r ⊳ h) m.scx.0) ⊎ HasLost c.layout c.pass (r ⊳ h) m.scx.0
-        go (inl s) = inl (s, is_over c.layout (r ⊳ h) m.scx.0 (index_of j) l s y.within y.frozen d n)
+        go : IsServed allows c.layout c.pass (r ⊳ h) m.scx → (IsStarted (r ⊳ h) m.scx × IsOver (r ⊳ h) m.scx) ⊎ HasLost c.layout c.pass (r ⊳ h) m.scx
+        go (inl s) = inl (s, is_over c.layout (r ⊳ h) m.scx (index_of j) l s y.within y.frozen d n)
         go (inr p) =
             let e = y.frozen in
             inr (lost_at (index_of j) (at_first allows c (r ⊳ h) m l (index_of j) p e) d (let i = y.within in omega arith) p)
 
-    tried : HasTried c.layout c.pass (r ⊳ h) m (index_of j) (value h (info (member h m.scx.0 (index_of j)))) (seen h m.scx.0 (index_of j))
+    tried : HasTried c.layout c.pass (r ⊳ h) m (index_of j) (value h (info (member h m.scx (index_of j)))) (seen h m.scx (index_of j))
     tried = record {
-      plan = same_plan h (r ⊳ h) m.scx.0 words ∙ x.plan;
-      within = rw (same_plan h (r ⊳ h) m.scx.0 words) x.within;
+      plan = same_plan h (r ⊳ h) m.scx words ∙ x.plan;
+      within = rw (same_plan h (r ⊳ h) m.scx words) x.within;
       read = read_more h (r ⊳ h) m words (suc (index_of j)) x.read;
       won = λ p. (started (frozen_by p), all_up_to (frozen_by p));
       lost = λ d n.
           let q : IsOutside c.pass r = inr record { no_fill = refl; same = exchange.lost d } in
           let y : Freezes allows c.layout c.pass (r ⊳ h) m (index_of j) (suc (index_of j)) = freezes_more allows c.layout c.pass h r c.is_pass l q m (index_of j) (suc (index_of j)) x in
-          let e : value (r ⊳ h) (info (member (r ⊳ h) m.scx.0 (index_of j))) ≡ value h (info (member h m.scx.0 (index_of j))) = rw (same_member h (r ⊳ h) m.scx.0 words (index_of j)) (value_at r h (info (member h m.scx.0 (index_of j))) refl ∙ exchange.lost d) in
-          rw e at (over_at y (λ z. d (sym e ∙ z ∙ same_seen h (r ⊳ h) m.scx.0 words (index_of j))) (λ z. n (sym e ∙ z)));
+          let e : value (r ⊳ h) (info (member (r ⊳ h) m.scx (index_of j))) ≡ value h (info (member h m.scx (index_of j))) = rw (same_member h (r ⊳ h) m.scx words (index_of j)) (value_at r h (info (member h m.scx (index_of j))) refl ∙ exchange.lost d) in
+          rw e at (over_at y (λ z. d (sym e ∙ z ∙ same_seen h (r ⊳ h) m.scx words (index_of j))) (λ z. n (sym e ∙ z)));
     }
 
-  module _ (at : HelpAt) (l : Lawful c.layout (row_of c (help_step h m.scx.0 at) h ⊳ h)) (k : help_known allows c.layout c.pass h m at) where
+  module _ (at : HelpAt) (l : Lawful c.layout (row_of c (help_step h m.scx at) h ⊳ h)) (k : help_known allows c.layout c.pass h m at) where
     -- after a load the run knows what it knew
-    quiet_known : IsQuiet (row_of c (help_step h m.scx.0 at) h) → help_known allows c.layout c.pass (row_of c (help_step h m.scx.0 at) h ⊳ h) m at
-    quiet_known q = known_more allows c.layout c.pass h (row_of c (help_step h m.scx.0 at) h) c.is_pass l (inr q) m at k
+    quiet_known : IsQuiet (row_of c (help_step h m.scx at) h) → help_known allows c.layout c.pass (row_of c (help_step h m.scx at) h ⊳ h) m at
+    quiet_known q = known_more allows c.layout c.pass h (row_of c (help_step h m.scx at) h) c.is_pass l (inr q) m at k
 
     -- and the word holds what the load told
-    quiet_value : (v : ℕ) → v ≡ value h (help_step h m.scx.0 at).word → (row_of c (help_step h m.scx.0 at) h).after ≡ value h (help_step h m.scx.0 at).word → value (row_of c (help_step h m.scx.0 at) h ⊳ h) (help_step h m.scx.0 at).word ≡ v
-    quiet_value v e q = value_at (row_of c (help_step h m.scx.0 at) h) h (help_step h m.scx.0 at).word refl ∙ q ∙ sym e
+    quiet_value : (v : ℕ) → v ≡ value h (help_step h m.scx at).word → (row_of c (help_step h m.scx at) h).after ≡ value h (help_step h m.scx at).word → value (row_of c (help_step h m.scx at) h ⊳ h) (help_step h m.scx at).word ≡ v
+    quiet_value v e q = value_at (row_of c (help_step h m.scx at) h) h (help_step h m.scx at).word refl ∙ q ∙ sym e
 
-  abort_words : (j : MemberNo) (v : ℕ) → descriptor (after (AtAbort j v)) m.scx.0 ≡ descriptor h m.scx.0
-  abort_words j v = descriptor_same h (after (AtAbort j v)) m.scx.0 (λ a i. value_apart (row_of c (help_step h m.scx.0 (AtAbort j v)) h) h (state m.scx.0) (scx m.scx.0 a) refl (scx_word_apart m.scx.0 m.scx.0 State a (not_state a i)))
+  abort_words : (j : MemberNo) (v : ℕ) → descriptor (after (AtAbort j v)) m.scx ≡ descriptor h m.scx
+  abort_words j v = descriptor_same h (after (AtAbort j v)) m.scx (λ a i. value_apart (row_of c (help_step h m.scx (AtAbort j v)) h) h (state m.scx) (scx m.scx a) refl (scx_word_apart m.scx m.scx State a (not_state a i)))
 
   -- the mark of one more node
   one_more : (j i : ℕ) (P : ℕ → Type 0) → (i < j → P i) → P j → i < suc j → Dec (i ≡ j) → P i
   one_more j i P below here q (yes e) = rw e here
   one_more j i P below here q (no d) = below (omega arith)
 
-  module _ (j : MemberNo) (x : Marks h m (index_of j)) (l : Lawful c.layout (row_of c (help_step h m.scx.0 (AtMark j)) h ⊳ h)) where
+  module _ (j : MemberNo) (x : Marks h m (index_of j)) (l : Lawful c.layout (row_of c (help_step h m.scx (AtMark j)) h ⊳ h)) where
     abbrev q : Row
-    q = row_of c (help_step h m.scx.0 (AtMark j)) h
+    q = row_of c (help_step h m.scx (AtMark j)) h
 
-    marked_here : value (q ⊳ h) (marked (member (q ⊳ h) m.scx.0 (index_of j))) ≡ 1
-    marked_here = rw (same_member h (q ⊳ h) m.scx.0 (started_words c.layout h q l m.scx.0 x.started) (index_of j)) (value_at q h (marked (member h m.scx.0 (index_of j))) refl)
+    marked_here : value (q ⊳ h) (marked (member (q ⊳ h) m.scx (index_of j))) ≡ 1
+    marked_here = rw (same_member h (q ⊳ h) m.scx (started_words c.layout h q l m.scx x.started) (index_of j)) (value_at q h (marked (member h m.scx (index_of j))) refl)
 
     mark_made : Marks (q ⊳ h) m (suc (index_of j))
     mark_made =
@@ -138,11 +138,11 @@ module _ (allows : Layout → History → ℕ → Type 0) (c : Call) (h : Histor
           plan = y.plan;
           read = y.read;
           flag = y.flag;
-          marked = λ i p w d. one_more (index_of j) i (λ i. value (q ⊳ h) (marked (member (q ⊳ h) m.scx.0 i)) ≡ 1) (λ z. y.marked i z w d) marked_here p (ℕ_discrete i (index_of j));
+          marked = λ i p w d. one_more (index_of j) i (λ i. value (q ⊳ h) (marked (member (q ⊳ h) m.scx i)) ≡ 1) (λ z. y.marked i z w d) marked_here p (ℕ_discrete i (index_of j));
         }
 
-  made_at : (at : HelpAt) (v : ℕ) → Lawful c.layout (row_of c (help_step h m.scx.0 at) h ⊳ h) → IsTold (help_step h m.scx.0 at).deed (value h (help_step h m.scx.0 at).word) v → help_known allows c.layout c.pass h m at
-      → help_told allows c.layout c.pass (row_of c (help_step h m.scx.0 at) h ⊳ h) m at v
+  made_at : (at : HelpAt) (v : ℕ) → Lawful c.layout (row_of c (help_step h m.scx at) h ⊳ h) → IsTold (help_step h m.scx at).deed (value h (help_step h m.scx at).word) v → help_known allows c.layout c.pass h m at
+      → help_told allows c.layout c.pass (row_of c (help_step h m.scx at) h ⊳ h) m at v
   made_at Start v l t k = absurd k
   made_at AtPlan v l t k = (quiet_known AtPlan l k record { no_fill = refl; same = refl }, quiet_value AtPlan l k v t refl)
   made_at (AtMember j) v l t k = (quiet_known (AtMember j) l k record { no_fill = refl; same = refl }, quiet_value (AtMember j) l k v t refl)
@@ -150,22 +150,22 @@ module _ (allows : Layout → History → ℕ → Type 0) (c : Call) (h : Histor
   made_at (AtFreeze j e) v l t k = rw (t, sym k.1) (tried j k.0 l)
   made_at (AtAllFrozen j e) v l t k = (quiet_known (AtAllFrozen j e) l k record { no_fill = refl; same = refl }, quiet_value (AtAllFrozen j e) l k v t refl)
   made_at (AtAbort j e) v l t k = (
-    value_at (row_of c (help_step h m.scx.0 (AtAbort j e)) h) h (state m.scx.0) refl,
-    blocked_same h (row_of c (help_step h m.scx.0 (AtAbort j e)) h ⊳ h) m (abort_words j e) (node_at m.members (index_of j)) e (inr (ends_self h)) k.blocked,
+    value_at (row_of c (help_step h m.scx (AtAbort j e)) h) h (state m.scx) refl,
+    blocked_same h (row_of c (help_step h m.scx (AtAbort j e)) h ⊳ h) m (abort_words j e) (node_at m.members (index_of j)) e (inr (ends_self h)) k.blocked,
   )
   made_at AtSetFrozen v l t k =
-      let q = frozen_more c.layout h (row_of c (help_step h m.scx.0 AtSetFrozen) h) l m k in
-      record { started = q.started; plan = q.plan; read = q.read; flag = value_at (row_of c (help_step h m.scx.0 AtSetFrozen) h) h (scx m.scx.0 AllFrozen) refl; marked = λ i p. absurd (omega arith) }
+      let q = frozen_more c.layout h (row_of c (help_step h m.scx AtSetFrozen) h) l m k in
+      record { started = q.started; plan = q.plan; read = q.read; flag = value_at (row_of c (help_step h m.scx AtSetFrozen) h) h (scx m.scx AllFrozen) refl; marked = λ i p. absurd (omega arith) }
   made_at (AtMark j) v l t k = mark_made j k.0 l
   made_at AtNew v l t k = (quiet_known AtNew l k record { no_fill = refl; same = refl }, quiet_value AtNew l k v t refl)
   made_at (AtOld e) v l t k =
       let x = quiet_known (AtOld e) l k record { no_fill = refl; same = refl } in
       (x.0, x.1, quiet_value (AtOld e) l k v t refl)
-  made_at AtUpdate v l t k = (started_more (row_of c (help_step h m.scx.0 AtUpdate) h) h m.scx.0 k.started, won_after c.layout h (row_of c (help_step h m.scx.0 AtUpdate) h) m.scx.0 l refl (update_at allows c h m (lawful_tail c.layout h _ l) k))
-  made_at AtCommit v l t k = value_at (row_of c (help_step h m.scx.0 AtCommit) h) h (state m.scx.0) refl
+  made_at AtUpdate v l t k = (started_more (row_of c (help_step h m.scx AtUpdate) h) h m.scx k.started, won_after c.layout h (row_of c (help_step h m.scx AtUpdate) h) m.scx l refl (update_at allows c h m (lawful_tail c.layout h _ l) k))
+  made_at AtCommit v l t k = value_at (row_of c (help_step h m.scx AtCommit) h) h (state m.scx) refl
 
-pub help_made : (allows : Layout → History → ℕ → Type 0) (m : HelpRun) (c : Call) (h : History) (s : Step) (v : ℕ) → IsRun allows c.layout (row_of c s h ⊳ h) → IsTold s.deed (value h s.word) v → help_waits allows m c h s → help_ready allows m c (row_of c s h ⊳ h) (Some v)
+pub help_made : (allows : Layout → History → ℕ → Type 0) (m : HelpRun) (c : Call) (h : History) (s : Step) (v : ℕ) → IsRun allows c.layout (row_of c s h ⊳ h) → IsTold s.deed (value h s.word) v → help_waits allows c.layout c.pass m h s → help_ready allows c.layout c.pass m (row_of c s h ⊳ h) (Some v)
 help_made allows m c h s v run t w =
     let l : Lawful c.layout (row_of c (help_step h m.scx.0 m.at) h ⊳ h) = rw w.asked at run.lawful in
     let u : IsTold (help_step h m.scx.0 m.at).deed (value h (help_step h m.scx.0 m.at).word) v = rw w.asked at t in
-    rw w.asked (made_at allows c h m m.at v l u w.known)
+    rw w.asked (made_at allows c h (reading m) m.at v l u w.known)

@@ -1,36 +1,34 @@
--- What a run of HELP knows and waits for after each of its turns.
-use Rattle.std.proofs.Common.{◌≡◌, ◌≢◌, ℕ, suc, ◌<◌, ◌≤◌, zero, eqb-true, pow_mono, ◌+◌, ◌/◌, ◌%◌, ◌^◌, ◌↔◌, ◌⊎◌, inl, inr, ⊎_elim, refl, sym, ◌∙◌, ap, arith, Bool, true, false, Option, Some, None, IsSome, IfSome}
-use Rattle.std.specs.Prelude.{unwrap_or}
+-- From place to place of a run of HELP: what it has been told at one is what it must know at the next.
+use Rattle.std.proofs.Common.{◌≡◌, ◌≢◌, ℕ, suc, ◌<◌, ◌≤◌, zero, eqb-true, pow_mono, ◌+◌, ◌/◌, ◌%◌, ◌^◌, ◌⊎◌, inl, inr, ⊎_elim, refl, sym, ◌∙◌, ap, arith, false, true, length, ◌↔◌, Option, Some, None, IsSome, IfSome}
+use Rattle.std.proofs.lemmas.List.{get_or-set_same, get_or-set_other}
+use Rattle.std.specs.Prelude.{slice_set}
+use native.Mathlib.Decide.{ℕ_discrete}
 use Rattle.arena.specs.declared.layout.Layout.{Layout}
+use Rattle.arena.specs.declared.number.NodeNo.{NodeNo}
 use Rattle.arena.specs.declared.number.MemberNo.{MemberNo}
 use Rattle.arena.specs.declared.number.MemberNo.TheVariants.{First, Second, Third, Fourth}
-use Rattle.arena.specs.declared.machine.Turn.{Turn}
-use Rattle.arena.specs.declared.step.Step.{Step}
-use Rattle.arena.specs.declared.step.Deed.TheVariants.{Store, Exchange}
-use Rattle.arena.specs.declared.step.Kind.TheVariants.{Abort, Update}
-use Rattle.arena.specs.declared.word.ScxWord.{ScxWord}
-use Rattle.arena.specs.declared.word.ScxWord.TheVariants.{AllFrozen, Member}
+use Rattle.arena.specs.declared.step.Deed.TheVariants.{Load, Store, Exchange}
+use Rattle.arena.specs.declared.step.Kind.TheVariants.{LoadAllFrozen, Freeze, SetFrozen, Mark, Update, Commit, Abort}
+use Rattle.arena.specs.declared.word.ScxWord.TheVariants.{AllFrozen, Plan, New, Old, Member, Seen}
 use Rattle.arena.specs.MemberNo.{index_of}
-use Rattle.arena.specs.Words.{scx, state, marked, child}
+use Rattle.arena.specs.Words.{scx, info, marked, child, state}
 use Rattle.arena.specs.History.{History, value}
 use Rattle.arena.specs.ScxRecords.{IsPlan, count_of, removes, side_of, index_of as field_of, plan, member, count, is_removed, field_index}
 use Rattle.arena.specs.Lawful.{Lawful}
-use Rattle.arena.specs.Machines.{Call, MatchTurn}
 use Rattle.arena.proofs.Plans.{plan_counted}
 use Rattle.arena.proofs.Values.{ends_self}
 use Rattle.histories.proofs.Facts.{descriptor, IsStuck}
 use Rattle.histories.proofs.Always.{facts}
 use Rattle.histories.proofs.Helping.{IsOver, about, over_committed, committed_won, aborted_no_entry}
 use Rattle.histories.proofs.Begins.{free_unset}
-use Rattle.help.specs.HelpKnown.{IsServed, node_at, Marks, HasAborted, Asks, MarksNext, MarksNone, first_place, settled_load, help_known, help_step, help_told, help_ready, help_waits, help_answers}
+use Rattle.help.specs.Plan.{count as planned, is_removed as removed}
+use Rattle.help.specs.HelpKnown.{IsServed, Reading, HasRead, Marks, HasAborted, node_at, first_place, settled_load, help_told, help_waits_at}
 use Rattle.help.specs.HelpLawful.{index_small}
-use Rattle.help.specs.declared.state.HelpRun.{HelpRun}
-use Rattle.help.specs.declared.state.HelpAt.{HelpAt}
-use Rattle.help.specs.declared.state.HelpAt.TheVariants.{Start, Plan as AtPlan, Member as AtMember, AllFrozen as AtAllFrozen, Abort as AtAbort, Mark as AtMark, New as AtNew, Old as AtOld, Update as AtUpdate}
+use Rattle.help.specs.declared.state.HelpAt.TheVariants.{Plan as AtPlan, Member as AtMember, Seen as AtSeen, Freeze as AtFreeze, AllFrozen as AtAllFrozen, Abort as AtAbort, SetFrozen as AtSetFrozen, Mark as AtMark, New as AtNew, Old as AtOld, Update as AtUpdate, Commit as AtCommit}
 
 -- Plans
 
-pub either : (a b : ℕ) → (a < b) ⊎ (b ≤ a)
+either : (a b : ℕ) → (a < b) ⊎ (b ≤ a)
 either a b = grind arith
 
 bit_set : (q j : ℕ) → j < 4 → q / 2 ^ j % 2 ≡ 1 → 2 ^ j ≤ q % 16
@@ -51,77 +49,136 @@ removed_within p j x i e = go (either j (count_of p))
     go (inl y) = y
     go (inr d) = let y : 2 ^ count_of p ≤ 2 ^ j = pow_mono d in let z = x.removed in absurd (omega (arith, bit))
 
--- What it has been told
+-- a node with none behind it is the last
+no_more : (n p j : ℕ) → n ≡ p → p ≤ 4 → ((j < 3) × (suc j < p) → ⊥) → n ≤ suc j
+no_more n p j e few none = go (either (suc j) p)
+  where
+    go : (suc j < p) ⊎ (p ≤ suc j) → n ≤ suc j
+    go (inl y) = absurd (none (omega arith, y))
+    go (inr y) = omega arith
 
-pub told : (allows : Layout → History → ℕ → Type 0) (m : HelpRun) (c : Call) (h : History) (got : Option ℕ) (found : ℕ) (at : HelpAt) → m.at ≡ at → (at ≡ Start → ⊥) → found ≡ unwrap_or got 0 → help_ready allows m c h got → help_told allows c.layout c.pass h m at found
-told allows m c h None found at is d e r = absurd (d (sym is ∙ r.0))
-told allows m c h (Some v) found at is d e r = rw (e, sym is) r
+-- What it has read
 
--- Its turns
+module _ (h : History) (m : Reading) where
+  -- the nodes that it has read, with one more
+  read_one_more : (j v : ℕ) → j < length m.members → HasRead m h j → member h m.scx j ≡ v → HasRead (record m { members = slice_set m.members j record { 0 = v } }) h (suc j)
+  read_one_more j v inside x e i less = go (ℕ_discrete i j)
+    where
+      go : Dec (i ≡ j) → node_at (slice_set m.members j record { 0 = v }) i ≡ member h m.scx i
+      go (yes q) = rw q (ap (λ (n : NodeNo). n.0) (get_or-set_same m.members j record { 0 = v } record { 0 = 0 } inside) ∙ sym e)
+      go (no d) = ap (λ (n : NodeNo). n.0) (get_or-set_other m.members j i record { 0 = v } record { 0 = 0 } d) ∙ x i (omega arith)
 
-module _ (allows : Layout → History → ℕ → Type 0) (m : HelpRun) (c : Call) (h : History) (l : Lawful c.layout h) where
-  waits_at : (old now : HelpRun) (turn : Turn Bool) (at : HelpAt) (step : Step) → Asks old now turn at step → help_known allows c.layout c.pass h (record old { at = at }) at → step ≡ help_step h old.scx.0 at → MatchTurn turn (help_waits allows now c h) (help_answers now c h)
-  waits_at old now turn at step a k e = rw (a.asked, a.stands) record { known = k; asked = e }
+  counted : (j : ℕ) → plan h m.scx ≡ m.plan → j < count h m.scx → (count h m.scx ≡ planned m.plan) × (planned m.plan ≤ 4)
+  counted j e i = let a = plan_counted (plan h m.scx) (let z = i in omega arith) in (rw (← e) a.count, rw (← e) a.few)
 
-  -- what is known of a run does not ask where it stands
-  marks_of : (at : HelpAt) (p : ℕ) → Marks h m p → Marks h (record m { at = at }) p
-  marks_of at p x = record { started = x.started; plan = x.plan; read = x.read; flag = x.flag; marked = x.marked }
+  -- a node that it finalizes is marked where all those before a place are, and none stands between
+  marked_up_to : (p n : ℕ) → Marks h m p → ((i : ℕ) → p ≤ i → i < n → i < count h m.scx → removed m.plan i ≡ false) → Marks h m n
+  marked_up_to p n x none = record { started = x.started; plan = x.plan; read = x.read; flag = x.flag; marked = λ i q w t. at i q w t (either i p) }
+    where
+      at : (i : ℕ) → i < n → i < count h m.scx → is_removed h m.scx i ≡ true → (i < p) ⊎ (p ≤ i) → value h (marked (member h m.scx i)) ≡ 1
+      at i q w t (inl d) = x.marked i d w t
+      at i q w t (inr e) = let z : is_removed h m.scx i ≡ false = rw x.plan (none i e q w) in cc
 
-  planned_of : (p : ℕ) → Marks h m p → IsPlan (plan h m.scx.0)
-  planned_of p x = (about c.layout h m.scx.0 l x.started).planned
+module _ (lay : Layout) (h : History) (m : Reading) (l : Lawful lay h) where
+  planned_of : (p : ℕ) → Marks h m p → IsPlan (plan h m.scx)
+  planned_of p x = (about lay h m.scx l x.started).planned
 
-  some_node : IsServed allows c.layout c.pass h m.scx.0 → 0 < count h m.scx.0
-  some_node (inl x) = (about c.layout h m.scx.0 l x).planned.some
+  over_stuck : IsOver h m.scx → value h (scx m.scx AllFrozen) ≡ 0 → IsStuck (descriptor h m.scx) h m.scx
+  over_stuck (inl x) z = x
+  over_stuck (inr e) z = let w = (facts lay h l).winner m.scx (committed_won lay h m.scx l e) in absurd (omega arith)
+
+module _ (allows : Layout → History → ℕ → Type 0) (lay : Layout) (c : ℕ) (h : History) (m : Reading) (l : Lawful lay h) where
+  some_node : IsServed allows lay c h m.scx → 0 < count h m.scx
+  some_node (inl x) = (about lay h m.scx l x).planned.some
   some_node (inr x) = x.begins.planned.some
 
-  pub turn_plan : (found : ℕ) (now : HelpRun) (turn : Turn Bool) (part : ScxWord) → help_told allows c.layout c.pass h m AtPlan found → part ≡ Member 0 → Asks (record m { plan = record { 0 = found } }) now turn (AtMember First) (settled_load m.scx.0 part) → MatchTurn turn (help_waits allows now c h) (help_answers now c h)
-  turn_plan found now turn part t e a = waits_at (record m { plan = record { 0 = found } }) now turn (AtMember First) (settled_load m.scx.0 part) a
-      record { served = t.0; plan = t.1; within = some_node t.0; frozen = λ i p. absurd (omega arith); read = λ i p. absurd (omega arith) }
-      (ap (settled_load m.scx.0) e)
+  -- Its answers
 
-  over_stuck : IsOver h m.scx.0 → value h (scx m.scx.0 AllFrozen) ≡ 0 → IsStuck (descriptor h m.scx.0) h m.scx.0
-  over_stuck (inl x) z = x
-  over_stuck (inr e) z = let w = (facts c.layout h l).winner m.scx.0 (committed_won c.layout h m.scx.0 l e) in absurd (omega arith)
+  pub to_committed : (j : MemberNo) (found v : ℕ) → v ≢ 0 → help_told allows lay c h m (AtAllFrozen j found) v → value h (state m.scx) ≡ 1
+  to_committed j found v d t = ⊎_elim (λ x. over_committed lay h m.scx l x.1 (λ e. d (sym t.1 ∙ e))) (λ x. absurd (d (sym t.1 ∙ free_unset lay h m.scx l x.free))) t.0.over
 
-  pub turn_abort : (j : MemberNo) (other found : ℕ) (now : HelpRun) (turn : Turn Bool) → help_told allows c.layout c.pass h m (AtAllFrozen j other) found → found ≡ 0 → Asks m now turn (AtAbort j other) record { kind = Abort; word = state m.scx.0; deed = Store 2 } → MatchTurn turn (help_waits allows now c h) (help_answers now c h)
-  turn_abort j other found now turn t z a = waits_at m now turn (AtAbort j other) _ a
-      record { stuck = ⊎_elim (λ x. inl (x.0, over_stuck x.1 (t.1 ∙ z))) (λ x. inr x) t.0.over; blocked = t.0.blocked }
-      refl
+  pub to_aborted : (j : MemberNo) (found v : ℕ) → help_told allows lay c h m (AtAbort j found) v → HasAborted lay h m (AtAbort j found)
+  to_aborted j found v t = record { aborted = t.0; no_entry = aborted_no_entry lay h h m.scx l (ends_self h) t.0; blocked = t.1 }
 
-  pub turn_committed : (j : MemberNo) (other found : ℕ) → help_told allows c.layout c.pass h m (AtAllFrozen j other) found → found ≢ 0 → value h (state m.scx.0) ≡ 1
-  turn_committed j other found t d = ⊎_elim (λ x. over_committed c.layout h m.scx.0 l x.1 (λ e. d (sym t.1 ∙ e))) (λ x. absurd (d (sym t.1 ∙ free_unset c.layout h m.scx.0 l x.free))) t.0.over
+-- Its places
 
-  pub turn_aborted : (j : MemberNo) (other found : ℕ) → m.at ≡ AtAbort j other → help_told allows c.layout c.pass h m (AtAbort j other) found → HasAborted c.layout h m
-  turn_aborted j other found is t = record { aborted = t.0; no_entry = aborted_no_entry c.layout h h m.scx.0 l (ends_self h) t.0; blocked = rw is t.1 }
+module _ {allows : Layout → History → ℕ → Type 0} {lay : Layout} {c : ℕ} {h : History} (m : Reading) (l : Lawful lay h) where
+  -- The plan
 
-  pub turn_marks : (p : ℕ) (now : HelpRun) (turn : Turn Bool) → Marks h m p → MarksNext m now turn p ⊎ MarksNone m now turn p → MatchTurn turn (help_waits allows now c h) (help_answers now c h)
-  turn_marks p now turn x (inl y) = waits_at m now turn (AtMark y.next) _ y.asks
-      (marks_of (AtMark y.next) (index_of y.next) record { started = x.started; plan = x.plan; read = x.read; flag = x.flag; marked = λ i q w t. below i q w t (either i p) }, within, rw x.plan y.is)
-      (rw (x.read (index_of y.next) within) refl)
+  pub to_plan : IsServed allows lay c h m.scx → help_waits_at allows lay c h m AtPlan (settled_load m.scx Plan)
+  to_plan x = record { known = x; asked = refl }
+
+  pub to_member : (v : ℕ) → help_told allows lay c h m AtPlan v → help_waits_at allows lay c h (record m { plan = v }) (AtMember First) (settled_load m.scx (Member 0))
+  to_member v t = record { known = record { served = t.0; plan = t.1; within = some_node allows lay c h m l t.0; frozen = λ i p. absurd (omega arith); read = λ i p. absurd (omega arith) }; asked = refl }
+
+  -- A node is frozen
+
+  pub to_seen : (j : MemberNo) (v : ℕ) → index_of j < length m.members → help_told allows lay c h m (AtMember j) v → help_waits_at allows lay c h (record m { members = slice_set m.members (index_of j) record { 0 = v } }) (AtSeen j) (settled_load m.scx (Seen (index_of j)))
+  to_seen j v inside t = record { known = record { served = t.0.served; plan = t.0.plan; within = t.0.within; frozen = t.0.frozen; read = read_one_more h m (index_of j) v inside t.0.read t.1 }; asked = refl }
+
+  pub to_freeze : (j : MemberNo) (v : ℕ) → help_told allows lay c h m (AtSeen j) v → help_waits_at allows lay c h m (AtFreeze j v) record { kind = Freeze; word = info (node_at m.members (index_of j)); deed = Exchange v m.scx }
+  to_freeze j v t = record { known = t; asked = rw (t.0.read (index_of j) (omega arith), t.1) refl }
+
+  pub to_next : (j next : MemberNo) (expected v : ℕ) → (v ≡ expected) ⊎ (v ≡ m.scx) → index_of next ≡ suc (index_of j) → index_of next < planned m.plan → help_told allows lay c h m (AtFreeze j expected) v → help_waits_at allows lay c h m (AtMember next) (settled_load m.scx (Member (index_of next)))
+  to_next j next expected v won is within t =
+      let w = t.won won in
+      let n = counted h m (index_of j) t.plan t.within in
+      record {
+        known = record { served = inl w.0; plan = t.plan; within = (let e = n.0 in omega arith); frozen = λ i q. w.1 i (omega arith); read = λ i q. t.read i (omega arith) };
+        asked = refl;
+      }
+
+  pub to_set_frozen : (j : MemberNo) (expected v : ℕ) → (v ≡ expected) ⊎ (v ≡ m.scx) → ((index_of j < 3) × (suc (index_of j) < planned m.plan) → ⊥) → help_told allows lay c h m (AtFreeze j expected) v → help_waits_at allows lay c h m AtSetFrozen record { kind = SetFrozen; word = scx m.scx AllFrozen; deed = Store 1 }
+  to_set_frozen j expected v won last t =
+      let w = t.won won in
+      let n = counted h m (index_of j) t.plan t.within in
+      let few : count h m.scx ≤ suc (index_of j) = no_more (count h m.scx) (planned m.plan) (index_of j) n.0 n.1 last in
+      record {
+        known = record { started = w.0; plan = t.plan; frozen = λ i q. w.1 i (omega (arith, few)); read = λ i q. t.read i (omega (arith, few)) };
+        asked = refl;
+      }
+
+  -- It could not be frozen
+
+  pub to_all_frozen : (j : MemberNo) (expected v : ℕ) → v ≢ expected → v ≢ m.scx → help_told allows lay c h m (AtFreeze j expected) v → help_waits_at allows lay c h m (AtAllFrozen j v) record { kind = LoadAllFrozen; word = scx m.scx AllFrozen; deed = Load }
+  to_all_frozen j expected v other not_own t = record { known = t.lost other not_own; asked = refl }
+
+  pub to_abort : (j : MemberNo) (found v : ℕ) → v ≡ 0 → help_told allows lay c h m (AtAllFrozen j found) v → help_waits_at allows lay c h m (AtAbort j found) record { kind = Abort; word = state m.scx; deed = Store 2 }
+  to_abort j found v z t = record {
+    known = record { stuck = ⊎_elim (λ x. inl (x.0, over_stuck lay h m l x.1 (t.1 ∙ z))) (λ x. inr x) t.0.over; blocked = t.0.blocked };
+    asked = refl;
+  }
+
+  -- Those that it finalizes are marked
+
+  pub to_mark : (p : ℕ) (next : MemberNo) → removed m.plan (index_of next) ≡ true → ((i : ℕ) → p ≤ i → i < index_of next → removed m.plan i ≡ false) → Marks h m p → help_waits_at allows lay c h m (AtMark next) record { kind = Mark; word = marked (node_at m.members (index_of next)); deed = Store 1 }
+  to_mark p next is first x = record {
+    known = (marked_up_to h m p (index_of next) x (λ i e q w. first i e q), within, rw x.plan is);
+    asked = rw (x.read (index_of next) within) refl;
+  }
     where
-      within : index_of y.next < count h m.scx.0
-      within = removed_within (plan h m.scx.0) (index_of y.next) (planned_of p x) (index_small y.next) (rw x.plan y.is)
+      within : index_of next < count h m.scx
+      within = removed_within (plan h m.scx) (index_of next) (planned_of lay h m l p x) (index_small next) (rw x.plan is)
 
-      below : (i : ℕ) → i < index_of y.next → i < count h m.scx.0 → is_removed h m.scx.0 i ≡ true → (i < p) ⊎ (p ≤ i) → value h (marked (member h m.scx.0 i)) ≡ 1
-      below i q w t (inl d) = x.marked i d w t
-      below i q w t (inr e) = let z : is_removed h m.scx.0 i ≡ false = rw x.plan (y.first i e q) in cc
-  turn_marks p now turn x (inr y) = waits_at m now turn AtNew _ y.asks (marks_of AtNew (count h m.scx.0) record { started = x.started; plan = x.plan; read = x.read; flag = x.flag; marked = λ i q w t. below i w t (either i p) }) refl
+  pub to_new : (p : ℕ) → ((i : ℕ) → p ≤ i → i < 4 → removed m.plan i ≡ false) → Marks h m p → help_waits_at allows lay c h m AtNew (settled_load m.scx New)
+  to_new p none x = record { known = marked_up_to h m p (count h m.scx) x (λ i e q w. none i e (omega (arith, few))); asked = refl }
     where
-      few : count h m.scx.0 ≤ 4
-      few = let a = plan_counted (plan h m.scx.0) (planned_of p x).some in let b = a.count in let d = a.few in omega arith
+      few : count h m.scx ≤ 4
+      few = let a = plan_counted (plan h m.scx) (planned_of lay h m l p x).some in let b = a.count in let d = a.few in omega arith
 
-      below : (i : ℕ) → i < count h m.scx.0 → is_removed h m.scx.0 i ≡ true → (i < p) ⊎ (p ≤ i) → value h (marked (member h m.scx.0 i)) ≡ 1
-      below i w t (inl d) = x.marked i d w t
-      below i w t (inr e) = let z : is_removed h m.scx.0 i ≡ false = rw x.plan (y.none i e (omega (arith, few))) in cc
+  -- The field is changed
 
-  pub turn_update : (v found : ℕ) (now : HelpRun) (turn : Turn Bool) → help_told allows c.layout c.pass h m (AtOld v) found → Asks m now turn AtUpdate record { kind = Update; word = child (node_at m.members (field_of m.plan.0)) (side_of m.plan.0); deed = Exchange found v } → MatchTurn turn (help_waits allows now c h) (help_answers now c h)
-  turn_update v found now turn t a = waits_at m now turn AtUpdate _ a (marks_of AtUpdate (count h m.scx.0) t.0) (rw (t.2, t.1) (ap (λ w. record { kind = Update; word = w; deed = Exchange found v }) word))
+  pub to_old : (v : ℕ) → help_told allows lay c h m AtNew v → help_waits_at allows lay c h m (AtOld v) (settled_load m.scx Old)
+  to_old v t = record { known = t; asked = refl }
+
+  pub to_update : (new v : ℕ) → help_told allows lay c h m (AtOld new) v → help_waits_at allows lay c h m AtUpdate record { kind = Update; word = child (node_at m.members (field_of m.plan)) (side_of m.plan); deed = Exchange v new }
+  to_update new v t = record { known = t.0; asked = rw (t.2, t.1) (ap (λ w. record { kind = Update; word = w; deed = Exchange v new }) (word m.plan t.0.plan)) }
     where
-      at_place : (q : ℕ) → plan h m.scx.0 ≡ q → child (node_at m.members (field_of q)) (side_of q) ≡ child (member h m.scx.0 (field_index h m.scx.0)) (side_of (plan h m.scx.0))
-      at_place q e = rw (← e) (ap (λ n. child n (side_of (plan h m.scx.0))) (t.0.read (field_index h m.scx.0) (planned_of _ t.0).field))
+      word : (q : ℕ) → plan h m.scx ≡ q → child (node_at m.members (field_of q)) (side_of q) ≡ child (member h m.scx (field_index h m.scx)) (side_of (plan h m.scx))
+      word q e = rw (← e) (ap (λ n. child n (side_of (plan h m.scx))) (t.0.read (field_index h m.scx) (planned_of lay h m l _ t.0).field))
 
-      word : child (node_at m.members (field_of m.plan.0)) (side_of m.plan.0) ≡ child (member h m.scx.0 (field_index h m.scx.0)) (side_of (plan h m.scx.0))
-      word = at_place m.plan.0 t.0.plan
+  pub to_commit : (v : ℕ) → help_told allows lay c h m AtUpdate v → help_waits_at allows lay c h m AtCommit record { kind = Commit; word = state m.scx; deed = Store 1 }
+  to_commit v t = record { known = t; asked = refl }
 
 -- the place behind one of a node
 pub place_behind : (j : MemberNo) (next : Option MemberNo) → (IsSome next ↔ (index_of j < 3)) → IfSome next (λ k. index_of k ≡ index_of j + 1) → suc (index_of j) ≡ first_place next

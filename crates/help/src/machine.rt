@@ -111,11 +111,11 @@ impl<S: Shape> Machine<S> for HelpRun {
     ghost use Rattle.help.specs.HelpSteps.{help_left};
     ghost use Rattle.help.specs.HelpKnown.{help_ready, help_waits, help_answers};
 
-    ghost ready = { help_ready S.allows };
+    ghost ready = { λ m c. help_ready S.allows c.layout c.pass m };
 
-    ghost waits = { help_waits S.allows };
+    ghost waits = { λ m c. help_waits S.allows c.layout c.pass m };
 
-    ghost answers = { help_answers };
+    ghost answers = { λ m c. help_answers c.layout m };
 
     ghost use Rattle.help.specs.HelpKept.{help_keeps};
     ghost use Rattle.help.specs.HelpMade.{help_made};

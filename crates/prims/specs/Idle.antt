@@ -100,7 +100,7 @@ help_stores c h s n (AtFreeze j v) =
     exchange_stores (row_of c (help_step h s (AtFreeze j v)) h) h (member h s (index_of j)) n (seen h s (index_of j)) s refl refl (exchange_of c h (help_step h s (AtFreeze j v)) (seen h s (index_of j)) s refl)
 
 -- the row of a step of HELP of s starts none but perhaps s, and not s where an info word has named it
-pub out_by_help : (allows : Layout → History → ℕ → Type 0) (c : Call) (h : History) (m : HelpRun) (step : Step) (t : ℕ) → Lawful c.layout (row_of c step h ⊳ h) → help_waits allows m c h step → (t ≡ m.scx.0 → IsNamedScx h t) → ¬ IsInProgress h t → ¬ IsInProgress (row_of c step h ⊳ h) t
+pub out_by_help : (allows : Layout → History → ℕ → Type 0) (c : Call) (h : History) (m : HelpRun) (step : Step) (t : ℕ) → Lawful c.layout (row_of c step h ⊳ h) → help_waits allows c.layout c.pass m h step → (t ≡ m.scx.0 → IsNamedScx h t) → ¬ IsInProgress h t → ¬ IsInProgress (row_of c step h ⊳ h) t
 out_by_help allows c h m step t l w named = still_out c.layout h (row_of c step h) t l back
   where
     stores : (n : ℕ) → (value (row_of c step h ⊳ h) (info n) ≡ value h (info n)) ⊎ (value (row_of c step h ⊳ h) (info n) ≡ m.scx.0)
@@ -125,7 +125,7 @@ pub idle_by_no_freeze : (lay : Layout) (c : ℕ) (h : History) (r : Row) → Law
 idle_by_no_freeze lay c h r l d idle t own = out_by_no_freeze lay h r t l d (idle t own)
 
 -- by a row of HELP of an SCX-record that an info word has named
-pub idle_by_help : (allows : Layout → History → ℕ → Type 0) (c : Call) (h : History) (m : HelpRun) (step : Step) → Lawful c.layout (row_of c step h ⊳ h) → help_waits allows m c h step → IsNamedScx h m.scx.0 → IsIdle c.layout c.pass h → IsIdle c.layout c.pass (row_of c step h ⊳ h)
+pub idle_by_help : (allows : Layout → History → ℕ → Type 0) (c : Call) (h : History) (m : HelpRun) (step : Step) → Lawful c.layout (row_of c step h ⊳ h) → help_waits allows c.layout c.pass m h step → IsNamedScx h m.scx.0 → IsIdle c.layout c.pass h → IsIdle c.layout c.pass (row_of c step h ⊳ h)
 idle_by_help allows c h m step l w named idle t own = out_by_help allows c h m step t l w (λ e. rw e named) (idle t own)
 
 -- Moments

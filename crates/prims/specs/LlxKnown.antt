@@ -83,10 +83,10 @@ llx_asked allows c h n (AtLeft b s) step = step ≡ load LoadChild (child n Left
 llx_asked allows c h n (AtRight b s l) step = step ≡ load LoadChild (child n Right)
 llx_asked allows c h n (InfoAgain b s l r) step = step ≡ load LoadInfo (info n)
 llx_asked allows c h n (StateAgain b s) step = step ≡ load LoadState (state s.0)
-llx_asked allows c h n (Help b m) step = help_waits allows m c h step
+llx_asked allows c h n (Help b m) step = help_waits allows c.layout c.pass m h step
 llx_asked allows c h n LastInfo step = step ≡ load LoadInfo (info n)
 llx_asked allows c h n (LastState s) step = step ≡ load LoadState (state s.0)
-llx_asked allows c h n (LastHelp s m) step = help_waits allows m c h step
+llx_asked allows c h n (LastHelp s m) step = help_waits allows c.layout c.pass m h step
 
 -- the newest row is a load of the node's info in the call
 pub record HasJustLooked (c : Call) (h : History) (n : ℕ) : Type 0 where
@@ -109,10 +109,10 @@ llx_told allows c h n (AtLeft b s) v = value h (child n Left) ≡ v
 llx_told allows c h n (AtRight b s l) v = value h (child n Right) ≡ v
 llx_told allows c h n (InfoAgain b s l r) v = (value h (info n) ≡ v) × HasJustLooked c h n
 llx_told allows c h n (StateAgain b s) v = value h (state s.0) ≡ v
-llx_told allows c h n (Help b m) v = help_ready allows m c h (Some v)
+llx_told allows c h n (Help b m) v = help_ready allows c.layout c.pass m h (Some v)
 llx_told allows c h n LastInfo v = value h (info n) ≡ v
 llx_told allows c h n (LastState s) v = value h (state s.0) ≡ v
-llx_told allows c h n (LastHelp s m) v = help_ready allows m c h (Some v)
+llx_told allows c h n (LastHelp s m) v = help_ready allows c.layout c.pass m h (Some v)
 
 -- the node is one that the caller may look at: of the table, there from the start or named by a field
 pub record IsOpened (lay : Layout) (h : History) (n : ℕ) : Type 0 where
@@ -220,7 +220,7 @@ pub record Helps (allows : Layout → History → ℕ → Type 0) (c : Call) (h 
   pub opened : IsOpened c.layout h n
   pub since : EndsWith h c.start
   pub quiet : IsQuietSince c.layout c.pass c.start h
-  pub ready : help_ready allows help c h got
+  pub ready : help_ready allows c.layout c.pass help h got
 
 -- the state of an SCX-record that was met
 pub record Meets (allows : Layout → History → ℕ → Type 0) (c : Call) (h : History) (n : ℕ) (b : Bool) (s v : ℕ) : Type 0 where

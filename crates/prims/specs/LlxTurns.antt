@@ -180,17 +180,17 @@ module _ (allows : Layout → History → ℕ → Type 0) (c : Call) (h : Histor
   turn_fail m turn s q x d e = rw e (refl, record { held = x.held; others = way_others c.layout c.pass h c.start m.node.0 s.0 run.lawful q x.in_the_way; in_the_way = x.in_the_way; over = d; not_final = x.not_final })
 
 -- where HELP has answered true, its SCX-record is committed
-pub committed_state : (c : Call) (h : History) (b : Bool) (now help : HelpRun) → help_answers now c h b → now.scx ≡ help.scx → b ≡ true → value h (state help.scx.0) ≡ 1
+pub committed_state : (c : Call) (h : History) (b : Bool) (now help : HelpRun) → help_answers c.layout now h b → now.scx ≡ help.scx → b ≡ true → value h (state help.scx.0) ≡ 1
 committed_state c h true now help a e t = rw e at a
 committed_state c h false now help a e t = cc
 
 -- and where false, aborted
-pub aborted_state : (c : Call) (h : History) (b : Bool) (now help : HelpRun) → help_answers now c h b → now.scx ≡ help.scx → b ≡ false → value h (state help.scx.0) ≡ 2
+pub aborted_state : (c : Call) (h : History) (b : Bool) (now help : HelpRun) → help_answers c.layout now h b → now.scx ≡ help.scx → b ≡ false → value h (state help.scx.0) ≡ 2
 aborted_state c h false now help a e t = rw e at a.aborted
 aborted_state c h true now help a e t = cc
 
 -- so it is finished
-pub over_state : (c : Call) (h : History) (b : Bool) (now help : HelpRun) → help_answers now c h b → now.scx ≡ help.scx → value h (state help.scx.0) ≢ 0
+pub over_state : (c : Call) (h : History) (b : Bool) (now help : HelpRun) → help_answers c.layout now h b → now.scx ≡ help.scx → value h (state help.scx.0) ≢ 0
 over_state c h true now help a e z = let x = committed_state c h true now help a e refl in omega arith
 over_state c h false now help a e z = let x = aborted_state c h false now help a e refl in omega arith
 

@@ -177,12 +177,12 @@ pub record HasFilled (c : Call) (h : History) (s number : ℕ) (u : Update) : Ty
 
 abbrev pub scx_waits_at : (Layout → History → ℕ → Type 0) → Call → History → ScxRun → ScxAt → Step → Type 0
 scx_waits_at allows c h m Start step = ⊥
-scx_waits_at allows c h m (Help help) step = help_waits allows help c h step × (help.scx ≡ m.scx) × HasFilled c h m.scx.0 m.call m.update
+scx_waits_at allows c h m (Help help) step = help_waits allows c.layout c.pass help h step × (help.scx ≡ m.scx) × HasFilled c h m.scx.0 m.call m.update
 scx_waits_at allows c h m at step = FillWaits allows c h m at step
 
 abbrev pub scx_told_at : (Layout → History → ℕ → Type 0) → Call → History → ScxRun → ScxAt → ℕ → Type 0
 scx_told_at allows c h m Start v = ⊥
-scx_told_at allows c h m (Help help) v = help_ready allows help c h (Some v) × (help.scx ≡ m.scx) × HasFilled c h m.scx.0 m.call m.update
+scx_told_at allows c h m (Help help) v = help_ready allows c.layout c.pass help h (Some v) × (help.scx ≡ m.scx) × HasFilled c h m.scx.0 m.call m.update
 scx_told_at allows c h m at v = FillMade allows c h m at
 
 abbrev pub scx_waits : (Layout → History → ℕ → Type 0) → ScxRun → Call → History → Step → Type 0
@@ -273,6 +273,6 @@ scx_turn allows c h m turn = MatchTurn turn (scx_waits allows m c h) (scx_answer
 -- a run of HELP of its SCX-record that may be called
 pub record Helps (allows : Layout → History → ℕ → Type 0) (c : Call) (h : History) (m : ScxRun) (help : HelpRun) (got : Option ℕ) : Type 0 where
   pub run : IsRun allows c.layout h
-  pub ready : help_ready allows help c h got
+  pub ready : help_ready allows c.layout c.pass help h got
   pub same : help.scx ≡ m.scx
   pub filled : HasFilled c h m.scx.0 m.call m.update

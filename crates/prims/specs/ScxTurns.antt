@@ -20,7 +20,7 @@ use Rattle.histories.proofs.Begins.{Begins}
 use Rattle.histories.proofs.Helping.{committed_won, aborted_no_entry}
 use Rattle.arena.specs.Lawful.{Lawful}
 use Rattle.arena.proofs.Values.{ends_self}
-use Rattle.help.specs.HelpKnown.{IsBlocked, HasNoted, node_at, blocked_at, help_answers}
+use Rattle.help.specs.HelpKnown.{IsBlocked, HasNoted, node_at, blocked_at, reading, help_answers}
 use Rattle.prims.specs.LlxTurns.{committed_state}
 use Rattle.help.specs.declared.state.HelpRun.{HelpRun}
 use Rattle.help.specs.declared.state.HelpAt.{HelpAt}
@@ -196,7 +196,7 @@ made_then allows m c h (Some v) at is d f r = f v (subst (λ a. scx_told_at allo
 
 module _ (c : Call) (h : History) (m : ScxRun) (help : HelpRun) (l : Lawful c.layout h) (x : HasFilled c h m.scx.0 m.call m.update) (same : help.scx ≡ m.scx) where
   -- it is committed
-  pub done_at : (b : Bool) (now : HelpRun) → help_answers now c h b → b ≡ true → now.scx ≡ help.scx → IsDone c h m
+  pub done_at : (b : Bool) (now : HelpRun) → help_answers c.layout now h b → b ≡ true → now.scx ≡ help.scx → IsDone c h m
   done_at b now a t e =
       let s : value h (state m.scx.0) ≡ 1 = rw same at (committed_state c h b now help a e t) in
       let w = committed_won c.layout h m.scx.0 l s in
@@ -218,10 +218,10 @@ module _ (c : Call) (h : History) (m : ScxRun) (help : HelpRun) (l : Lawful c.la
       within = rw (ap count_of x.planned ∙ x.over.count) at b.within
 
   -- HELP stands where it has aborted
-  lost_with : (now : HelpRun) (at : HelpAt) → now.scx ≡ help.scx → value h (state now.scx.0) ≡ 2 → HasNoted h now at → IsLost c h m (blocked_at now.members at).0.0 (blocked_at now.members at).1.0
+  lost_with : (now : HelpRun) (at : HelpAt) → now.scx ≡ help.scx → value h (state now.scx.0) ≡ 2 → HasNoted h (reading now) at → IsLost c h m (blocked_at now.members at).0.0 (blocked_at now.members at).1.0
   lost_with now (AtAbort j found) e a k = lost_by (node_at now.members (index_of j)) found (rw (e, same) at a) (rw (e, same) at k)
   lost_with now _ e a k = absurd k
 
-  pub lost_at : (b : Bool) (now : HelpRun) → help_answers now c h b → b ≡ false → now.scx ≡ help.scx → IsLost c h m (blocked_at now.members now.at).0.0 (blocked_at now.members now.at).1.0
+  pub lost_at : (b : Bool) (now : HelpRun) → help_answers c.layout now h b → b ≡ false → now.scx ≡ help.scx → IsLost c h m (blocked_at now.members now.at).0.0 (blocked_at now.members now.at).1.0
   lost_at true now a t e = cc
   lost_at false now a t e = lost_with now now.at e a.aborted a.blocked

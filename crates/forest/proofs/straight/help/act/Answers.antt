@@ -1,5 +1,3 @@
-use Rattle.std.proofs.Common.{◌≡◌}
-use Rattle.forest.specs.Courses.{IsCalled}
 use Rattle.forest.proofs.straight.help.act.Goals as goal
 
 pub step_of-requires-clause-waits : goal.step_of-requires-clause-waits

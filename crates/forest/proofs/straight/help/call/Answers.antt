@@ -1,5 +1,3 @@
-use Rattle.std.proofs.Common.{◌≡◌, ap}
-use Rattle.help.specs.declared.state.HelpRun.{HelpRun}
 use Rattle.forest.proofs.StraightHelp.{to_plan, to_member, no_marks, to_old, to_update, to_commit, to_end}
 use Rattle.forest.proofs.straight.help.call.Goals as goal
 

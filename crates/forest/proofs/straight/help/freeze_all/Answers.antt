@@ -1,4 +1,4 @@
-use Rattle.std.proofs.Common.{◌≡◌, ◌∙◌, ◌+◌, sym, arith, refl}
+use Rattle.std.proofs.Common.{◌∙◌, arith, refl}
 use Rattle.std.specs.Prelude.{slice_set}
 use Rattle.forest.proofs.StraightHelp.{to_seen, to_freeze, to_next, to_set_frozen, to_all_frozen}
 use Rattle.forest.proofs.straight.help.freeze_all.Goals as goal
@@ -36,7 +36,7 @@ loop-j-preserved g c = record {
       let t2 = c.act-seen.ensures.told k first lay number (rw (c.settled-asked-in-loop-j.ensures, c.number-in-loop-j.ensures.value, c.index.ensures.value) (to_seen g.S.Shape.allows k _ first c.loop-j.run c.loop-j.j c.act-member.result (let i = c.index.ensures.small in let e = c.index.ensures.value in omega arith) t1)) in
       let m = record c.loop-j.run { members = slice_set c.loop-j.run.members c.index.result record { 0 = c.act-member.result } } in
       let t3 = c.act-found.ensures.told k first lay number (rw c.index-in-loop-j.ensures.value (to_freeze g.S.Shape.allows k _ first m c.loop-j.j c.act-seen.result t2)) in
-      to_next g.S.Shape.allows k _ first m c.loop-j.j c.in-Some.next c.act-seen.result c.act-found.result (c.is_frozen.ensures.frozen c.if-not-is_frozen.false) c.in-Some.ensures.value (let v = (c.in-Some.ensures.valid.0 refl).1 in let e = c.in-Some.ensures.value in omega arith) t3;
+      to_next g.S.Shape.allows k _ first m c.loop-j.j c.in-Some.next c.act-seen.result c.act-found.result (c.is_frozen.ensures.frozen c.if-not-is_frozen.false) (let e = c.in-Some.ensures.value in omega arith) (let v = (c.in-Some.ensures.valid.0 refl).1 in let e = c.in-Some.ensures.value in omega arith) t3;
 }
 
 pub returns-in-None-clause-frozen : goal.returns-in-None-clause-frozen
@@ -45,7 +45,7 @@ returns-in-None-clause-frozen g c = λ yes k first lay number x.
     let t2 = c.act-seen.ensures.told k first lay number (rw (c.settled-asked-in-loop-j.ensures, c.number-in-loop-j.ensures.value, c.index.ensures.value) (to_seen g.S.Shape.allows k _ first c.loop-j.run c.loop-j.j c.act-member.result (let i = c.index.ensures.small in let e = c.index.ensures.value in omega arith) t1)) in
     let m = record c.loop-j.run { members = slice_set c.loop-j.run.members c.index.result record { 0 = c.act-member.result } } in
     let t3 = c.act-found.ensures.told k first lay number (rw c.index-in-loop-j.ensures.value (to_freeze g.S.Shape.allows k _ first m c.loop-j.j c.act-seen.result t2)) in
-    to_set_frozen g.S.Shape.allows k _ first m c.loop-j.j c.act-seen.result c.act-found.result (c.is_frozen.ensures.frozen c.if-not-is_frozen.false) (λ y. let z = c.in-None.ensures.valid.1 y in cc) t3
+    to_set_frozen g.S.Shape.allows k _ first m c.loop-j.j c.act-seen.result c.act-found.result (c.is_frozen.ensures.frozen c.if-not-is_frozen.false) (λ y. let z = c.in-None.ensures.valid.1 (y.0, let s = y.1 in omega arith) in cc) t3
 
 pub returns-in-None-clause-steps : goal.returns-in-None-clause-steps
 returns-in-None-clause-steps g c = let o = c.act-member.ensures.one in let p = c.act-seen.ensures.one in let q = c.act-found.ensures.one in let i = c.loop-j.invariant.steps in let s = c.number.ensures.small in let e = c.number.ensures.value in omega arith

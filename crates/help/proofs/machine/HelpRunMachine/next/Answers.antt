@@ -1,48 +1,112 @@
-use Rattle.std.proofs.Common.{sym, ap}
-use Rattle.arena.specs.declared.word.ScxWord.TheVariants.{Member}
-use Rattle.help.specs.declared.state.HelpAt.TheVariants.{Plan, AllFrozen, Abort, SetFrozen, Mark, Old}
-use Rattle.help.specs.HelpTurns.{told, turn_plan, turn_abort, turn_committed, turn_aborted, turn_marks, turn_update, place_behind}
+use Rattle.std.proofs.Common.{◌≡◌, ◌≢◌, ℕ, eqb-true, eq-eqb, true, false, ◌⊎◌, inl, inr, Bool, Option, None, Some, sym, ◌∙◌, arith}
+use Rattle.std.specs.Prelude.{unwrap_or}
+use Rattle.arena.specs.declared.layout.Layout.{Layout}
+use Rattle.arena.specs.declared.machine.Turn.{Turn}
+use Rattle.arena.specs.declared.number.MemberNo.{MemberNo}
+use Rattle.arena.specs.declared.step.Step.{Step}
+use Rattle.arena.specs.History.{History}
+use Rattle.arena.specs.Lawful.{Lawful}
+use Rattle.arena.specs.Machines.{MatchTurn}
+use Rattle.help.specs.HelpKnown.{Marks, Asks, HasNext, IsLast, MarksNext, MarksNone, reading, help_told, help_ready, help_waits, help_waits_at, help_answers}
+use Rattle.help.specs.HelpTurns.{to_member, to_seen, to_freeze, to_next, to_set_frozen, to_all_frozen, to_abort, to_committed, to_aborted, to_mark, to_new, to_old, to_update, to_commit, place_behind}
+use Rattle.help.specs.declared.state.HelpRun.{HelpRun}
+use Rattle.help.specs.declared.state.HelpAt.{HelpAt}
+use Rattle.help.specs.declared.state.HelpAt.TheVariants.{Start, Plan, Member, Seen, Freeze, AllFrozen, Abort, SetFrozen, Mark, New, Old, Update}
+use Rattle.help.proofs.machine.HelpRunMachine.next.Goals.{then-found-seen, else-found-seen}
 use Rattle.help.proofs.machine.HelpRunMachine.next.Goals as goal
 
+clash : {b : Bool} → b ≡ true → b ≡ false → ⊥
+clash e f = cc
+
+module _ (allows : Layout → History → ℕ → Type 0) (lay : Layout) (c : ℕ) (h : History) where
+  -- what it has been told where it stands
+  told : (m : HelpRun) (got : Option ℕ) (found : ℕ) (at : HelpAt) → m.at ≡ at → (at ≡ Start → ⊥) → found ≡ unwrap_or got 0 → help_ready allows lay c m h got → help_told allows lay c h (reading m) at found
+  told m None found at is d e r = absurd (d (sym is ∙ r.0))
+  told m (Some v) found at is d e r = rw (e, sym is) r
+
+  -- it asks for a step at a place where it may wait for it
+  asks : {old now : HelpRun} {turn : Turn Bool} {at : HelpAt} {step : Step} → Asks old now turn at step → help_waits_at allows lay c h (reading old) at step → MatchTurn turn (help_waits allows lay c now h) (help_answers lay now h)
+  asks a w = rw (a.asked, a.stands) w
+
+  -- behind a frozen node
+  behind : {old now : HelpRun} {turn : Turn Bool} {j : MemberNo} {expected v : ℕ} → Lawful lay h → (v ≡ expected) ⊎ (v ≡ old.scx.0) → help_told allows lay c h (reading old) (Freeze j expected) v → HasNext old now turn j ⊎ IsLast old now turn j → MatchTurn turn (help_waits allows lay c now h) (help_answers lay now h)
+  behind {old} {j} {expected} {v} l won t (inl y) = asks y.asks (to_next (reading old) l j y.next expected v won y.is y.within t)
+  behind {old} {j} {expected} {v} l won t (inr y) = asks y.asks (to_set_frozen (reading old) l j expected v won y.none t)
+
+  -- behind the nodes that are marked
+  marks : {old now : HelpRun} {turn : Turn Bool} {p : ℕ} → Lawful lay h → Marks h (reading old) p → MarksNext old now turn p ⊎ MarksNone old now turn p → MatchTurn turn (help_waits allows lay c now h) (help_answers lay now h)
+  marks {old} {p} l x (inl y) = asks y.asks (to_mark (reading old) l p y.next y.is y.first x)
+  marks {old} {p} l x (inr y) = asks y.asks (to_new (reading old) l p y.none x)
+
 pub returns-in-Plan-clause-turn : goal.returns-in-Plan-clause-turn
-returns-in-Plan-clause-turn g c d h l r =
-    turn_plan g.S.Shape.allows c.args.self.now d h l.lawful c.unwrap_or-found.result c.load-in-Plan.new.self c.load-in-Plan.result (Member c.number.result)
-    (told g.S.Shape.allows c.args.self.now d h c.args.got c.unwrap_or-found.result Plan c.in-Plan.is (λ e. cc) c.unwrap_or-found.ensures r)
-    (ap Member c.number.ensures.value)
-    c.load-in-Plan.ensures
+returns-in-Plan-clause-turn g c d h run r =
+    let t = told g.S.Shape.allows d.layout d.pass h c.args.self.now c.args.got c.unwrap_or-found.result Plan c.in-Plan.is (λ e. cc) c.unwrap_or-found.ensures r in
+    asks g.S.Shape.allows d.layout d.pass h (rw c.number.ensures.value at c.load-in-Plan.ensures) (to_member (reading c.args.self.now) run.lawful c.unwrap_or-found.result t)
+
+pub returns-in-Member-clause-turn : goal.returns-in-Member-clause-turn
+returns-in-Member-clause-turn g c d h run r =
+    let t = told g.S.Shape.allows d.layout d.pass h c.args.self.now c.args.got c.unwrap_or-found.result (Member c.in-Member.j) c.in-Member.is (λ e. cc) c.unwrap_or-found.ensures r in
+    asks g.S.Shape.allows d.layout d.pass h c.load-in-Member.ensures (rw (c.number-in-Member.ensures.value, c.index.ensures.value) (to_seen (reading c.args.self.now) run.lawful c.in-Member.j c.unwrap_or-found.result (let i = c.index.ensures.small in let e = c.index.ensures.value in omega arith) t))
+
+pub returns-in-Seen-clause-turn : goal.returns-in-Seen-clause-turn
+returns-in-Seen-clause-turn g c d h run r =
+    let t = told g.S.Shape.allows d.layout d.pass h c.args.self.now c.args.got c.unwrap_or-found.result (Seen c.in-Seen.j) c.in-Seen.is (λ e. cc) c.unwrap_or-found.ensures r in
+    asks g.S.Shape.allows d.layout d.pass h c.freeze.ensures (to_freeze (reading c.args.self.now) run.lawful c.in-Seen.j c.unwrap_or-found.result t)
+
+pub returns-then-found-self-clause-turn : goal.returns-then-found-self-clause-turn
+returns-then-found-self-clause-turn g c d h run r =
+    let t = told g.S.Shape.allows d.layout d.pass h c.args.self.now c.args.got c.unwrap_or-found.result (Freeze c.in-Freeze.j c.in-Freeze.seen) c.in-Freeze.is (λ e. cc) c.unwrap_or-found.ensures r in
+    let won : (c.unwrap_or-found.result ≡ c.in-Freeze.seen) ⊎ (c.unwrap_or-found.result ≡ c.args.self.now.scx.0) = elim c.if-found-seen.branch [
+      | then-found-seen w ↦ inl w.if-found-seen.true
+      | else-found-seen w ↦ inr (eqb-true c.unwrap_or-found.result c.args.self.now.scx.0 (sym w.value-is ∙ c.if-found-self.true))
+    ] in
+    behind g.S.Shape.allows d.layout d.pass h run.lawful won t c.after_freeze.ensures.turn
+
+pub returns-else-found-self-clause-turn : goal.returns-else-found-self-clause-turn
+returns-else-found-self-clause-turn g c d h run r =
+    let t = told g.S.Shape.allows d.layout d.pass h c.args.self.now c.args.got c.unwrap_or-found.result (Freeze c.in-Freeze.j c.in-Freeze.seen) c.in-Freeze.is (λ e. cc) c.unwrap_or-found.ensures r in
+    let lost : (c.unwrap_or-found.result ≢ c.in-Freeze.seen) × (c.unwrap_or-found.result ≢ c.args.self.now.scx.0) = elim c.if-found-seen.branch [
+      | then-found-seen w ↦ absurd (clash (w.value-is ∙ eq-eqb c.unwrap_or-found.result c.in-Freeze.seen w.if-found-seen.true) c.if-found-self.false)
+      | else-found-seen w ↦ (w.if-found-seen.false, λ e. clash (w.value-is ∙ eq-eqb c.unwrap_or-found.result c.args.self.now.scx.0 e) c.if-found-self.false)
+    ] in
+    asks g.S.Shape.allows d.layout d.pass h c.load_all_frozen.ensures (to_all_frozen (reading c.args.self.now) run.lawful c.in-Freeze.j c.in-Freeze.seen c.unwrap_or-found.result lost.0 lost.1 t)
 
 pub returns-then-found-eq0-clause-turn : goal.returns-then-found-eq0-clause-turn
-returns-then-found-eq0-clause-turn g c d h l r =
-    turn_abort g.S.Shape.allows c.args.self.now d h l.lawful c.in-AllFrozen.j c.in-AllFrozen.other c.unwrap_or-found.result c.finish.new.self c.finish.result
-    (told g.S.Shape.allows c.args.self.now d h c.args.got c.unwrap_or-found.result (AllFrozen c.in-AllFrozen.j c.in-AllFrozen.other) c.in-AllFrozen.is (λ e. cc) c.unwrap_or-found.ensures r)
-    c.if-found-eq0.true
-    c.finish.ensures
+returns-then-found-eq0-clause-turn g c d h run r =
+    let t = told g.S.Shape.allows d.layout d.pass h c.args.self.now c.args.got c.unwrap_or-found.result (AllFrozen c.in-AllFrozen.j c.in-AllFrozen.other) c.in-AllFrozen.is (λ e. cc) c.unwrap_or-found.ensures r in
+    asks g.S.Shape.allows d.layout d.pass h c.finish.ensures (to_abort (reading c.args.self.now) run.lawful c.in-AllFrozen.j c.in-AllFrozen.other c.unwrap_or-found.result c.if-found-eq0.true t)
 
 pub returns-else-found-eq0-clause-turn : goal.returns-else-found-eq0-clause-turn
-returns-else-found-eq0-clause-turn g c d h l r =
-    turn_committed g.S.Shape.allows c.args.self.now d h l.lawful c.in-AllFrozen.j c.in-AllFrozen.other c.unwrap_or-found.result
-    (told g.S.Shape.allows c.args.self.now d h c.args.got c.unwrap_or-found.result (AllFrozen c.in-AllFrozen.j c.in-AllFrozen.other) c.in-AllFrozen.is (λ e. cc) c.unwrap_or-found.ensures r)
-    c.if-found-eq0.false
+returns-else-found-eq0-clause-turn g c d h run r =
+    let t = told g.S.Shape.allows d.layout d.pass h c.args.self.now c.args.got c.unwrap_or-found.result (AllFrozen c.in-AllFrozen.j c.in-AllFrozen.other) c.in-AllFrozen.is (λ e. cc) c.unwrap_or-found.ensures r in
+    to_committed g.S.Shape.allows d.layout d.pass h (reading c.args.self.now) run.lawful c.in-AllFrozen.j c.in-AllFrozen.other c.unwrap_or-found.result c.if-found-eq0.false t
 
 pub returns-in-Abort-clause-turn : goal.returns-in-Abort-clause-turn
-returns-in-Abort-clause-turn g c d h l r =
-    turn_aborted g.S.Shape.allows c.args.self.now d h l.lawful c.in-Abort.j c.in-Abort.found c.unwrap_or-found.result c.in-Abort.is
-    (told g.S.Shape.allows c.args.self.now d h c.args.got c.unwrap_or-found.result (Abort c.in-Abort.j c.in-Abort.found) c.in-Abort.is (λ e. cc) c.unwrap_or-found.ensures r)
+returns-in-Abort-clause-turn g c d h run r =
+    let t = told g.S.Shape.allows d.layout d.pass h c.args.self.now c.args.got c.unwrap_or-found.result (Abort c.in-Abort.j c.in-Abort.found) c.in-Abort.is (λ e. cc) c.unwrap_or-found.ensures r in
+    rw c.in-Abort.is (to_aborted g.S.Shape.allows d.layout d.pass h (reading c.args.self.now) run.lawful c.in-Abort.j c.in-Abort.found c.unwrap_or-found.result t)
 
 pub returns-in-SetFrozen-clause-turn : goal.returns-in-SetFrozen-clause-turn
-returns-in-SetFrozen-clause-turn g c d h l r =
-    turn_marks g.S.Shape.allows c.args.self.now d h l.lawful 0 c.mark_from.new.self c.mark_from.result
-    (told g.S.Shape.allows c.args.self.now d h c.args.got c.unwrap_or-found.result SetFrozen c.in-SetFrozen.is (λ e. cc) c.unwrap_or-found.ensures r)
-    c.mark_from.ensures.turn
+returns-in-SetFrozen-clause-turn g c d h run r =
+    let t = told g.S.Shape.allows d.layout d.pass h c.args.self.now c.args.got c.unwrap_or-found.result SetFrozen c.in-SetFrozen.is (λ e. cc) c.unwrap_or-found.ensures r in
+    marks g.S.Shape.allows d.layout d.pass h run.lawful t c.mark_from.ensures.turn
 
 pub returns-in-Mark-clause-turn : goal.returns-in-Mark-clause-turn
-returns-in-Mark-clause-turn g c d h l r =
-    turn_marks g.S.Shape.allows c.args.self.now d h l.lawful _ c.mark_from-in-Mark.new.self c.mark_from-in-Mark.result
-    (rw (sym (place_behind c.in-Mark.j c.next.result c.next.ensures.valid c.next.ensures.value)) (told g.S.Shape.allows c.args.self.now d h c.args.got c.unwrap_or-found.result (Mark c.in-Mark.j) c.in-Mark.is (λ e. cc) c.unwrap_or-found.ensures r))
-    c.mark_from-in-Mark.ensures.turn
+returns-in-Mark-clause-turn g c d h run r =
+    let t = told g.S.Shape.allows d.layout d.pass h c.args.self.now c.args.got c.unwrap_or-found.result (Mark c.in-Mark.j) c.in-Mark.is (λ e. cc) c.unwrap_or-found.ensures r in
+    marks g.S.Shape.allows d.layout d.pass h run.lawful (rw (sym (place_behind c.in-Mark.j c.next.result c.next.ensures.valid c.next.ensures.value)) t) c.mark_from-in-Mark.ensures.turn
+
+pub returns-in-New-clause-turn : goal.returns-in-New-clause-turn
+returns-in-New-clause-turn g c d h run r =
+    let t = told g.S.Shape.allows d.layout d.pass h c.args.self.now c.args.got c.unwrap_or-found.result New c.in-New.is (λ e. cc) c.unwrap_or-found.ensures r in
+    asks g.S.Shape.allows d.layout d.pass h c.load-in-New.ensures (to_old (reading c.args.self.now) run.lawful c.unwrap_or-found.result t)
 
 pub returns-in-Old-clause-turn : goal.returns-in-Old-clause-turn
-returns-in-Old-clause-turn g c d h l r =
-    turn_update g.S.Shape.allows c.args.self.now d h l.lawful c.in-Old.new c.unwrap_or-found.result c.update.new.self c.update.result
-    (told g.S.Shape.allows c.args.self.now d h c.args.got c.unwrap_or-found.result (Old c.in-Old.new) c.in-Old.is (λ e. cc) c.unwrap_or-found.ensures r)
-    c.update.ensures
+returns-in-Old-clause-turn g c d h run r =
+    let t = told g.S.Shape.allows d.layout d.pass h c.args.self.now c.args.got c.unwrap_or-found.result (Old c.in-Old.new) c.in-Old.is (λ e. cc) c.unwrap_or-found.ensures r in
+    asks g.S.Shape.allows d.layout d.pass h c.update.ensures (to_update (reading c.args.self.now) run.lawful c.in-Old.new c.unwrap_or-found.result t)
+
+pub returns-in-Update-clause-turn : goal.returns-in-Update-clause-turn
+returns-in-Update-clause-turn g c d h run r =
+    let t = told g.S.Shape.allows d.layout d.pass h c.args.self.now c.args.got c.unwrap_or-found.result Update c.in-Update.is (λ e. cc) c.unwrap_or-found.ensures r in
+    asks g.S.Shape.allows d.layout d.pass h c.finish-in-Update.ensures (to_commit (reading c.args.self.now) run.lawful c.unwrap_or-found.result t)
