@@ -1,5 +1,6 @@
 pub mod SameWords
 pub mod Openings
+pub mod Shapes
 pub mod Shares
 pub mod Values
 pub mod Plans

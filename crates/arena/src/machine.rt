@@ -1,7 +1,7 @@
 //! Calls that run step by step.
 ghost use Rattle.std.specs.Prelude.{◌≡◌, ◌≢◌, ℕ, ◌<◌, Option, Some, None};
 ghost use Rattle.arena.specs.declared.layout.Layout.{Layout};
-ghost use Rattle.arena.specs.History.{History, value, ◌⊳◌};
+ghost use Rattle.arena.specs.History.{History, Start, value, ◌⊳◌};
 ghost use Rattle.arena.specs.declared.step.Row.{Row};
 ghost use Rattle.arena.specs.declared.step.Step.{Step};
 ghost use Rattle.arena.specs.Machines.{MatchTurn, IsRun, Call, row_of, IsTold};
@@ -28,9 +28,19 @@ impl<A: Drop> Turn<A> {
     }
 }
 
-/// Which SCX-records the layer above lets begin, given the history before their first freeze.
+/// Which SCX-records the layer above lets begin, given the history before their first freeze, and
+/// what it knows of every lawful run in which no others begin.
 pub trait Shape {
     ghost allows: { Layout → History → ℕ → Type 0 };
+
+    /// What such a run keeps true.
+    ghost holds: { Layout → History → Type 0 };
+
+    /// It is true before the first row.
+    ghost opens: { (lay : Layout) → holds lay (Start lay.mode) };
+
+    /// Every row of such a run keeps it true.
+    ghost stays: { (lay : Layout) (h : History) (r : Row) → IsRun allows lay (r ⊳ h) → holds lay h → holds lay (r ⊳ h) };
 }
 
 /// A call that asks for one atomic step at a time, and is told what each found. It runs under the
@@ -54,11 +64,14 @@ pub trait Machine<S: Shape> {
     /// How many steps it may still ask for.
     ghost left: { Self → ℕ };
 
-    /// Goes on with what the last step found; with nothing at the first call, which asks for a step.
-    /// It is not called again after `Done`.
+    /// It never answers in place of its first step.
+    ghost asks_first: { Self → Type 0 };
+
+    /// Goes on with what the last step found; with nothing at the first call, which may answer at
+    /// once. It is not called again after `Done`.
     fn next(&mut self, got: Option<u64>) -> Turn<Self::Answer>
         ensures turn { (c : Call) (h : History) → IsRun S.allows c.layout h → ready self.old c h got → MatchTurn result (waits self.new c h) (answers self.new c h) }
-        ensures begins { got ≡ None → (c : Call) (h : History) → ready self.old c h None → MatchTurn result (λ _. Unit {0}) (λ _. ⊥) }
+        ensures begins { got ≡ None → asks_first self.old → (c : Call) (h : History) → ready self.old c h None → MatchTurn result (λ _. Unit {0}) (λ _. ⊥) }
         ensures same { same self.old self.new }
         ensures nearer { MatchTurn result (λ _. left self.new < left self.old) (λ _. Unit {0}) };
 

@@ -125,6 +125,8 @@ impl<S: Shape> Machine<S> for HelpRun {
 
     ghost left = { λ m. help_left m.at };
 
+    ghost asks_first = { λ _. Unit {0} };
+
     fn next(&mut self, got: Option<u64>) -> Turn<bool> {
         let found = got.unwrap_or(0);
         match self.at {

@@ -41,7 +41,7 @@ use Rattle.player.specs.declared.record.Answer.TheVariants.{Unlinked}
 use Rattle.player.specs.LawfulRun.{most_steps, AreLinked}
 use Rattle.player.specs.RunSteps.{then_left}
 use Rattle.prims.specs.ScxKnown.{nodes_of}
-use Rattle.player.specs.View.{View, no_hand, IsSound, Rests, Refuses, Starts, IsLlxOf, IsUnbegun, command_of, machine_call, GoesOn, CanPut, Puts, Begins, Stood}
+use Rattle.player.specs.View.{View, no_hand, IsSound, Rests, Refuses, Starts, IsLlxOf, IsUnbegun, command_of, machine_call, GoesOn, IsSameCall, CanPut, Puts, Begins, Stood}
 use Rattle.player.specs.declared.client.Standing.{Standing}
 use Rattle.player.specs.declared.client.Standing.TheVariants.{Finished, Answers, Asks}
 use Rattle.script.specs.declared.command.Call.{Call}
@@ -118,8 +118,16 @@ pub rests_at : (v : View) (c : Client) (turn : ℕ) → Rests v c → Rests v (r
 rests_at v c turn r = record { stands = record { is_pass = r.stands.is_pass; number = r.stands.number; place = r.stands.place; kept = r.stands.kept; unkept = r.stands.unkept; dropped = r.stands.dropped; share = r.stands.share; over = r.stands.over }; none = r.none }
 
 -- a call that runs has begun
-pub begins_run : (v : View) (old new : Client) (turn : ℕ) (answer : Option Answer) → (answer ≡ None) × GoesOn v (record old { begin = turn }) new → Begins v turn old new answer
-begins_run v old new turn answer x = rw x.0 (record { pass = x.1.same.pass; number = x.1.same.number; next = x.1.same.next }, x.1.begin, (x.1.running, x.1.is, x.1.waits))
+pub begins_so : (v : View) (old new : Client) → GoesOn v old new → Begins v old.begin old new None
+begins_so v old new x = (x.same, x.begin, (x.running, x.is, x.waits))
+
+same_call : (old new : Client) (turn : ℕ) → IsSameCall (record old { begin = turn }) new → IsSameCall old new
+same_call old new turn x = record { pass = x.pass; number = x.number; next = x.next }
+
+-- that a call begins does not ask when the call before it did
+pub begins_run : (v : View) (old new : Client) (turn : ℕ) (answer : Option Answer) → Begins v turn (record old { begin = turn }) new answer → Begins v turn old new answer
+begins_run v old new turn None x = (same_call old new turn x.0, x.1, x.2)
+begins_run v old new turn (Some answer) x = (same_call old new turn x.0, x.1, x.2)
 
 -- a client at rest keeps a snapshot of each cell of which one is said
 unkept_is : (v : View) (c : Client) → Rests v c → (n : ℕ) → n ≤ 8 → kept_of c.kept n ≡ None → v.linked n ≡ None

@@ -36,7 +36,7 @@ use Rattle.player.specs.declared.record.Resource.{Resource}
 use Rattle.player.specs.declared.record.Resource.TheVariants.{Nodes, Scx as ScxRecords}
 use Rattle.player.specs.Kept.{kept_of, node_of, found_of}
 use Rattle.player.specs.LawfulRun.{commands, IsLastLook, most_steps, IsEmpty}
-use Rattle.player.specs.View.{View, IsSound, IsLlxOf, IsPutOf, no_hand, Stands, Rests, Starts, Answered, GoesOn, Told, IsFull, CanPut, Puts}
+use Rattle.player.specs.View.{View, IsSound, IsLlxOf, IsPutOf, no_hand, Stands, Rests, Starts, Answered, Told, IsFull, CanPut, Puts, Begins}
 use Rattle.prims.specs.Idle.{no_row_behind}
 use Rattle.prims.specs.Begun.{taken_since}
 use Rattle.prims.proofs.UntakenNodes.{taken_node_since}
@@ -227,9 +227,12 @@ put_starts v linked c snaps removed field x kept m sound can some_node some_scx 
     unwon : ¬ HasWon v.past m.scx.scx.0
     unwon = (free_unnamed v.layout v.past c.pass.0 m.scx.scx.0 sound.lawful own free).1
 
-pub puts : (v : View) (linked : ℕ → Option History) (old : Client) (share : Left) (kept : Kept) (new : Client) (answer : Option Answer) → (answer ≡ None) × GoesOn v (record old { share = share; kept = kept }) new → Puts v linked old new answer
-puts v linked old share kept new answer x = rw x.0 record { same = record { pass = x.1.same.pass; number = x.1.same.number; next = x.1.same.next }; begin = x.1.begin; running = x.1.running; is = x.1.is; waits = x.1.waits }
+puts : (v : View) (linked : ℕ → Option History) (old : Client) (share : Left) (kept : Kept) (new : Client) (answer : Option Answer) → answer ≡ None → Begins v old.begin (record old { share = share; kept = kept }) new answer → Puts v linked old new answer
+puts v linked old share kept new None e x = record { same = record { pass = x.0.pass; number = x.0.number; next = x.0.next }; begin = x.1; running = x.2.0; is = x.2.1; waits = x.2.2 }
+puts v linked old share kept new (Some answer) e x = absurd cc
 
-pub put_runs : (v : View) (linked : ℕ → Option History) (old mid : Client) (kept : Kept) (new : Client) (m : PutRun) (answer : Option Answer) → mid ≡ record old { share = taken old.share } → (Starts v (record mid { kept = kept }) (Scx m) None → (answer ≡ None) × GoesOn v (record mid { kept = kept }) new) → Starts v (record old { share = taken old.share; kept = kept }) (Scx m) None → Puts v linked old new answer
+-- an SCX asks for a step first
+pub put_runs : (v : View) (linked : ℕ → Option History) (old mid : Client) (kept : Kept) (new : Client) (m : PutRun) (answer : Option Answer) → mid ≡ record old { share = taken old.share } → (Starts v (record mid { kept = kept }) (Scx m) None → (answer ≡ None) × Begins v mid.begin (record mid { kept = kept }) new answer) → Starts v (record old { share = taken old.share; kept = kept }) (Scx m) None → Puts v linked old new answer
 put_runs v linked old mid kept new m answer e f starts =
-    puts v linked old (taken old.share) kept new answer (subst (λ (n : Client). Starts v (record n { kept = kept }) (Scx m) None → (answer ≡ None) × GoesOn v (record n { kept = kept }) new) e f starts)
+    let x = subst (λ (n : Client). Starts v (record n { kept = kept }) (Scx m) None → (answer ≡ None) × Begins v n.begin (record n { kept = kept }) new answer) e f starts in
+    puts v linked old (taken old.share) kept new answer x.0 x.1

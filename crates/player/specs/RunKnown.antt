@@ -55,6 +55,10 @@ run_same (Scx old) (Scx now) = (now.scx.scx ≡ old.scx.scx) × (now.scx.update 
 run_same (Vlx old) (Vlx now) = now.snaps ≡ old.snaps
 run_same _ _ = ⊥
 
+-- which machines make a step before they answer: all those of cells
+abbrev pub run_asks_first : Run → Type 0
+run_asks_first m = Unit {0}
+
 pub run_keeps : (m : Run) (c : Call) (h : History) (s : Step) (r : Row) → IsRun allows_all c.layout (r ⊳ h) → r.pass.0 ≢ c.pass → run_waits m c h s → run_waits m c (r ⊳ h) s
 run_keeps (Llx m) c h s r run other w = llx_keeps allows_all m c h s r run other w
 run_keeps (Scx m) c h s r run other w = put_keeps allows_all m c h s r run other w

@@ -62,7 +62,8 @@ impl Client {
     ghost use Rattle.player.specs.declared.run.Ended.TheVariants.{Llx as LlxEnded};
     ghost use Rattle.player.specs.declared.client.Running.{Running};
     ghost use Rattle.player.specs.LawfulRun.{moment_of};
-    ghost use Rattle.player.specs.View.{View, view, IsSound, IsBehind, Rests, command_of, Starts, Hears, Answered, Told, GoesOn, CanPut, IsFull, Puts, Begins, Stood, IsUnbegun, IsClient};
+    ghost use Rattle.player.specs.RunKnown.{run_asks_first};
+    ghost use Rattle.player.specs.View.{View, view, IsSound, IsBehind, Rests, command_of, Starts, Hears, Answered, Told, CanPut, IsFull, Puts, Begins, Stood, IsUnbegun, IsClient};
 
     pub(crate) fn new(layout: &Layout, pass: PassNo, calls: &[Call]) -> Client
         requires { pass.0 < layout.now.passes }
@@ -216,9 +217,10 @@ impl Client {
         }
     }
 
-    /// Runs a machine from its start.
+    /// Runs a machine from its start. It may answer at once; the call then makes no step.
     fn run(&mut self, mut run: Run, then: Option<Put>) -> Option<Answer>
-        ensures { (v : View) → IsSound v → Starts v self.old run then → (result ≡ None) × GoesOn v self.old self.new }
+        ensures begins { (v : View) → IsSound v → Starts v self.old run then → Begins v self.old.begin self.old self.new result }
+        ensures asks { (v : View) → IsSound v → Starts v self.old run then → run_asks_first run → result ≡ None }
     {
         match Machine::<Cells>::next(&mut run, None) {
             Turn::Ask(step) => {

@@ -49,7 +49,7 @@ impl Machine<Cells> for Run {
 
     ghost use Rattle.std.specs.Prelude.{ℕ};
     ghost use Rattle.player.specs.RunSteps.{run_left};
-    ghost use Rattle.player.specs.RunKnown.{run_ready, run_waits, run_answers, run_same, run_keeps, run_lawful, run_made};
+    ghost use Rattle.player.specs.RunKnown.{run_ready, run_waits, run_answers, run_same, run_asks_first, run_keeps, run_lawful, run_made};
 
     ghost ready = { run_ready };
 
@@ -60,6 +60,8 @@ impl Machine<Cells> for Run {
     ghost same = { run_same };
 
     ghost left = { run_left };
+
+    ghost asks_first = { run_asks_first };
 
     fn next(&mut self, got: Option<u64>) -> Turn<Ended> {
         match self {

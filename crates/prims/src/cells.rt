@@ -3,10 +3,16 @@ ghost use Rattle.prims.specs.Cells.{allows_all};
 
 use arena::Shape;
 
-/// The shape of records mode: every SCX-record may begin.
+/// The shape of records mode: every SCX-record may begin, and nothing more is known of a run.
 #[derive(Debug, Drop)]
 pub struct Cells;
 
 impl Shape for Cells {
     ghost allows = { allows_all };
+
+    ghost holds = { λ lay h. Unit {0} };
+
+    ghost opens = { λ lay. tt };
+
+    ghost stays = { λ lay h r run held. tt };
 }

@@ -275,6 +275,8 @@ impl<S: Shape> Machine<S> for LlxRun {
 
     ghost left = { λ m. llx_left m.at };
 
+    ghost asks_first = { λ _. Unit {0} };
+
     fn next(&mut self, got: Option<u64>) -> Turn<Llx> {
         let found = got.unwrap_or(0);
         let at = self.at;

@@ -59,6 +59,8 @@ impl<S: Shape> Machine<S> for PutRun {
 
     ghost left = { put_left };
 
+    ghost asks_first = { λ _. Unit {0} };
+
     fn next(&mut self, got: Option<u64>) -> Turn<Scx> {
         match self.at {
             PutAt::Start => {

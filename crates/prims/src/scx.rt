@@ -169,6 +169,8 @@ impl<S: Shape> Machine<S> for ScxRun {
 
     ghost left = { λ m. scx_left m.at };
 
+    ghost asks_first = { λ _. Unit {0} };
+
     fn next(&mut self, got: Option<u64>) -> Turn<Scx> {
         let at = self.at;
         match at {

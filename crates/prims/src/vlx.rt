@@ -91,6 +91,8 @@ impl<S: Shape> Machine<S> for VlxRun {
 
     ghost left = { vlx_left };
 
+    ghost asks_first = { λ _. Unit {0} };
+
     fn next(&mut self, got: Option<u64>) -> Turn<Vlx> {
         let (Some(found), Some(last)) = (got, self.asked.checked_sub(1)) else {
             return self.ask_next();

@@ -7,19 +7,19 @@ use Rattle.player.proofs.client.Client.begin.Goals as goal
 pub returns-in-Llx : goal.returns-in-Llx
 returns-in-Llx c v began sound mode r u is =
     begins_run v c.args.self.now c.run.new.self c.args.turn c.run.result
-    (c.run.ensures v sound (llx_starts v began _ c.new.result None _ sound mode (rests_at v c.args.self.now c.args.turn r) u c.new.ensures.start (rw c.new.ensures.node c.node.ensures.to_eight) (is ∙ ap (λ (k : Command). Some k) c.in-Llx.is) (rw c.new.ensures.node c.node.ensures.node)))
+    (c.run.ensures.begins v sound (llx_starts v began _ c.new.result None _ sound mode (rests_at v c.args.self.now c.args.turn r) u c.new.ensures.start (rw c.new.ensures.node c.node.ensures.to_eight) (is ∙ ap (λ (k : Command). Some k) c.in-Llx.is) (rw c.new.ensures.node c.node.ensures.node)))
 
 pub returns-in-Set : goal.returns-in-Set
 returns-in-Set c v began sound mode r u is =
     begins_run v c.args.self.now c.run-in-Set.new.self c.args.turn c.run-in-Set.result
-    (c.run-in-Set.ensures v sound (llx_starts v began _ c.new-in-Set.result _ _ sound mode (rests_at v c.args.self.now c.args.turn r) u c.new-in-Set.ensures.start (rw c.new-in-Set.ensures.node c.node-in-Set.ensures.to_eight) (is ∙ ap (λ (k : Command). Some k) c.in-Set.is) (rw c.new-in-Set.ensures.node (c.node-in-Set.ensures.node, refl, refl))))
+    (c.run-in-Set.ensures.begins v sound (llx_starts v began _ c.new-in-Set.result _ _ sound mode (rests_at v c.args.self.now c.args.turn r) u c.new-in-Set.ensures.start (rw c.new-in-Set.ensures.node c.node-in-Set.ensures.to_eight) (is ∙ ap (λ (k : Command). Some k) c.in-Set.is) (rw c.new-in-Set.ensures.node (c.node-in-Set.ensures.node, refl, refl))))
 
 pub returns-in-Ok : goal.returns-in-Ok
 returns-in-Ok c v began sound mode r u is =
     let rests = rests_at v c.args.self.now c.args.turn r in
     let items = c.new-in-Ok.ensures.snaps ∙ c.deref.ensures.0 in
     begins_run v c.args.self.now c.run-in-Ok.new.self c.args.turn c.run-in-Ok.result
-    (c.run-in-Ok.ensures v sound (vlx_starts v began _ c.new-in-Ok.result c.in-Vlx.cells sound rests u c.new-in-Ok.ensures.asked
+    (c.run-in-Ok.ensures.begins v sound (vlx_starts v began _ c.new-in-Ok.result c.in-Vlx.cells sound rests u c.new-in-Ok.ensures.asked
     (rw items (some_snaps c.in-Ok.snaps.items c.as_slice.result.now c.in-Ok.ensures.nodes c.as_slice.ensures.some))
     (rw items (c.in-Ok.ensures.nodes ∙ c.as_slice.ensures.cells))
     (rw items (kept_linked v.layout c.args.self.now.pass.0 v.past v.linked c.args.self.now.kept c.in-Ok.snaps.items c.in-Ok.ensures.kept r.stands.kept))

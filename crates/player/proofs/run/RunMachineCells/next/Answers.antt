@@ -11,6 +11,6 @@ asks_still (Ask s) after Q e k = rw e tt
 asks_still (Done a) after Q e k = absurd k
 
 pub returns-in-Vlx-clause-begins : goal.returns-in-Vlx-clause-begins
-returns-in-Vlx-clause-begins c none d h r =
+returns-in-Vlx-clause-begins c none first d h r =
     let x : vlx_ready c.in-Vlx.run' d h None = rw c.in-Vlx.is at r in
-    asks_still c.next-in-Vlx.result c.map-in-Vlx.result _ c.map-in-Vlx.ensures (c.next-in-Vlx.ensures.begins none d h x)
+    asks_still c.next-in-Vlx.result c.map-in-Vlx.result _ c.map-in-Vlx.ensures (c.next-in-Vlx.ensures.begins none tt d h x)

@@ -19,7 +19,7 @@ returns-then-snap-found-clause-turn g c d h run r =
     (λ i. ap (λ (s : Snap). s.scx.0) (sym c.snap-snap.ensures) ∙ c.if-snap-found.true) c.ask_next-then-snap-found.ensures.turn
 
 pub returns-in_default-clause-begins : goal.returns-in_default-clause-begins
-returns-in_default-clause-begins g c none d h r = first_asks d h c.args.self.now c.ask_next.new.self c.ask_next.result r c.ask_next.ensures.turn
+returns-in_default-clause-begins g c none first d h r = first_asks d h c.args.self.now c.ask_next.new.self c.ask_next.result r c.ask_next.ensures.turn
 
 pub returns-clause-turn : goal.returns-clause-turn
 returns-clause-turn g c d h run r =
