@@ -1,6 +1,7 @@
 //! Calls that run step by step.
 ghost use Rattle.std.specs.Prelude.{◌≡◌, ◌≢◌, ℕ, ◌<◌, Option, Some, None};
 ghost use Rattle.arena.specs.declared.layout.Layout.{Layout};
+ghost use Rattle.arena.specs.declared.limits.Mode.{Mode};
 ghost use Rattle.arena.specs.History.{History, Start, value, ◌⊳◌};
 ghost use Rattle.arena.specs.declared.step.Row.{Row};
 ghost use Rattle.arena.specs.declared.step.Step.{Step};
@@ -31,6 +32,9 @@ impl<A: Drop> Turn<A> {
 /// Which SCX-records the layer above lets begin, given the history before their first freeze, and
 /// what it knows of every lawful run in which no others begin.
 pub trait Shape {
+    /// The mode of the tables that have it.
+    ghost mode: { Mode };
+
     ghost allows: { Layout → History → ℕ → Type 0 };
 
     /// What such a run keeps true.

@@ -41,7 +41,7 @@ pub fn run<R: Threads + Sync + Clock + AllocGlobal>(
 
 /// A forest with a pass for each thread. Shares are whole ones whatever the calls, so that runs of
 /// different length differ by their rounds alone.
-fn open(alloc: Global, threads: u32) -> Result<(Forest<Cells>, Vec<Pass>), Fault>
+fn open(alloc: Global, threads: u32) -> Result<(Forest<Cells>, Vec<Pass<Cells>>), Fault>
     requires some { 1 ≤ threads }
     requires passes { threads ≤ 32 }
     ensures { IfOk result (λ r. All (IsOf r.0) r.1.items) }
@@ -63,8 +63,8 @@ fn open(alloc: Global, threads: u32) -> Result<(Forest<Cells>, Vec<Pass>), Fault
 fn numbered(
     alloc: Global,
     forest: &Forest<Cells>,
-    passes: Vec<Pass>,
-) -> Result<Vec<(u32, Pass)>, AllocError>
+    passes: Vec<Pass<Cells>>,
+) -> Result<Vec<(u32, Pass<Cells>)>, AllocError>
     requires { All (IsOf forest.now) passes.items }
     ensures { IfOk result (λ ps. All (λ p. IsOf forest.now p.1) ps.items) }
 {
@@ -82,14 +82,14 @@ fn crowd<R: Threads + Sync>(
     rt: &R,
     forest: &Forest<Cells>,
     task: Task,
-    passes: Vec<(u32, Pass)>,
+    passes: Vec<(u32, Pass<Cells>)>,
 ) -> Result<Vec<Tally>, AllocError>
     requires { All (λ p. IsOf forest.now p.1) passes.items }
 {
     map_vec(
         rt,
         passes,
-        &|(number, pass): (u32, Pass)| {
+        &|(number, pass): (u32, Pass<Cells>)| {
             rounds(
                 forest,
                 task.work,

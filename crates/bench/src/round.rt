@@ -11,7 +11,7 @@ use forest::{Forest, Full, Pass};
 use prims::{Cells, Llx, Scx};
 
 /// All rounds of a thread.
-pub fn rounds(forest: &Forest<Cells>, work: Work, calls: u32, mut pass: Pass, pair: Pair) -> Tally
+pub fn rounds(forest: &Forest<Cells>, work: Work, calls: u32, mut pass: Pass<Cells>, pair: Pair) -> Tally
     requires { IsOf forest.now pass }
     ensures { total result ≡ calls }
 {
@@ -22,7 +22,7 @@ pub fn rounds(forest: &Forest<Cells>, work: Work, calls: u32, mut pass: Pass, pa
     tally
 }
 
-fn round(forest: &Forest<Cells>, work: Work, pass: &mut Pass, pair: Pair) -> End
+fn round(forest: &Forest<Cells>, work: Work, pass: &mut Pass<Cells>, pair: Pair) -> End
     requires { IsOf forest.now pass.old }
     ensures { IsOf forest.now pass.new }
 {
@@ -34,7 +34,7 @@ fn round(forest: &Forest<Cells>, work: Work, pass: &mut Pass, pair: Pair) -> End
 }
 
 /// Looks at a cell. The fields are read, so that no compiler leaves out what gives them.
-fn look(forest: &Forest<Cells>, pass: &mut Pass, cell: NodeNo) -> End
+fn look(forest: &Forest<Cells>, pass: &mut Pass<Cells>, cell: NodeNo) -> End
     requires pass { IsOf forest.now pass.old }
     requires cell { cell.0 ≤ 8 }
     ensures { IsOf forest.now pass.new }
@@ -46,7 +46,7 @@ fn look(forest: &Forest<Cells>, pass: &mut Pass, cell: NodeNo) -> End
 }
 
 /// Puts a fresh cell into the left field of a cell.
-fn put(forest: &Forest<Cells>, pass: &mut Pass, cell: NodeNo) -> End
+fn put(forest: &Forest<Cells>, pass: &mut Pass<Cells>, cell: NodeNo) -> End
     requires pass { IsOf forest.now pass.old }
     requires cell { cell.0 ≤ 8 }
     ensures { IsOf forest.now pass.new }
@@ -58,7 +58,7 @@ fn put(forest: &Forest<Cells>, pass: &mut Pass, cell: NodeNo) -> End
 }
 
 /// Puts a fresh cell into the left field of the first cell, where both are as found.
-fn put_in_first(forest: &Forest<Cells>, pass: &mut Pass, pair: Pair) -> End
+fn put_in_first(forest: &Forest<Cells>, pass: &mut Pass<Cells>, pair: Pair) -> End
     requires { IsOf forest.now pass.old }
     ensures { IsOf forest.now pass.new }
 {

@@ -17,6 +17,7 @@ use Rattle.arena.specs.Machines.{IsRun}
 use Rattle.arena.proofs.Values.{ends_trans}
 use Rattle.histories.proofs.Fields.{fields_are}
 use Rattle.histories.proofs.Moments.{lawful_since}
+use Rattle.arena.specs.declared.limits.Mode.TheVariants.{Records}
 use Rattle.prims.specs.Cells.{allows_all}
 use Rattle.forest.specs.declared.view.Knower.{Knower}
 use Rattle.forest.specs.declared.view.View.{View}
@@ -44,7 +45,7 @@ index_is (x ∷ xs) (suc i) a e = index_is xs i a e
 -- One pass
 
 -- a pass that has looked at the table once more
-pub looked_from : (p : Inside) (x : IsPass p) (s : Seat ℕ View) (n : ℕ) → s.me.1 ≡ p.seat.me.1 → Made allows_all look p.seat.me.0.passes n s.me.0.passes → (k : Knower) × (s.me.0.passes ≡ k ∷ []) × IsFrom (sight p) k
+pub looked_from : {T : Type 0} (p : Inside T) (x : IsPass allows_all Records p) (s : Seat ℕ View) (n : ℕ) → s.me.1 ≡ p.seat.me.1 → Made allows_all look p.seat.me.0.passes n s.me.0.passes → (k : Knower) × (s.me.0.passes ≡ k ∷ []) × IsFrom (sight p) k
 looked_from p x s n bare m = (
   knower p.number.0 p.layout (known_of s.me.0.passes),
   y.seat,
@@ -75,7 +76,7 @@ looked_from p x s n bare m = (
     y : HasCalled p s 0 (λ h. EndsWith h (past p.layout.mode (m.others ++ known_of p.seat.me.0.passes)))
     y = look_called p x s (m.others ++ known_of p.seat.me.0.passes) has_looked are
 
-    z : IsPass (seated p s)
+    z : IsPass allows_all Records (seated p s)
     z = called_pass p x s 0 _ bare y
 
 -- All of them

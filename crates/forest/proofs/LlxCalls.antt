@@ -4,6 +4,7 @@ use Rattle.atomic_table.specs.declared.shared.Seat.{Seat}
 use Rattle.arena.specs.declared.number.NodeNo.{NodeNo}
 use Rattle.arena.specs.History.{History}
 use Rattle.arena.specs.Log.{is_final}
+use Rattle.arena.specs.declared.limits.Mode.TheVariants.{Records}
 use Rattle.prims.specs.Cells.{allows_all}
 use Rattle.prims.specs.LlxKnown.{IsSnapshot, llx_ready, llx_waits, llx_answers}
 use Rattle.prims.proofs.FillsNot.{llx_fills_not}
@@ -24,27 +25,27 @@ use Rattle.forest.proofs.Blames.{blamed_more}
 use Rattle.forest.proofs.Passes.{HasCalled, called_pass, called_goes_on, called_nothing, call_of, seated, called}
 
 -- a run of a cell that has not begun may begin
-pub llx_begins : (p : Inside) (x : IsPass p) (number : ℕ) (m : LlxRun) → m.at ≡ Start → m.node.0 ≤ 8 → IsCalled allows_all p.seat.me.0.passes (call_of p x number) (λ h. ((call_of p x number).start ≡ h) × llx_ready allows_all m (call_of p x number) h None)
+pub llx_begins : {T : Type 0} (p : Inside T) (x : IsPass allows_all Records p) (number : ℕ) (m : LlxRun) → m.at ≡ Start → m.node.0 ≤ 8 → IsCalled allows_all p.seat.me.0.passes (call_of p x number) (λ h. ((call_of p x number).start ≡ h) × llx_ready allows_all m (call_of p x number) h None)
 llx_begins p x number m start small = record {
   known = known_of p.seat.me.0.passes;
   is = x.seat;
   sound = x.sound;
-  so = (refl, ready_at_start allows_all m (call_of p x number) _ refl start (cell_opened p.layout _ m.node.0 x.cells small) (all_idle p.layout _ p.number.0 p.share _ _ x.sound.lawful x.rest.share x.rest.over));
+  so = (refl, ready_at_start allows_all m (call_of p x number) _ refl start (cell_opened p.layout _ m.node.0 x.is_mode small) (all_idle p.layout _ p.number.0 p.share _ _ x.sound.lawful x.rest.share x.rest.over));
 }
 
 -- what its answer says
-abbrev pub Answered : (p : Inside) → IsPass p → ℕ → NodeNo → Llx → History → Type 0
+abbrev pub Answered : {T : Type 0} (p : Inside T) → IsPass allows_all Records p → ℕ → NodeNo → Llx → History → Type 0
 Answered p x number node a h = (m : LlxRun) × (m.node ≡ node) × llx_answers m (call_of p x number) h a
 
-pub llx_called : (p : Inside) (x : IsPass p) (number : ℕ) (s : Seat ℕ View) (first m : LlxRun) (node : NodeNo) (a : Llx) → first.node ≡ node → IsCalled allows_all s.me.0.passes (call_of p x number) (λ h. llx_answers m (call_of p x number) h a × Course allows_all (llx_waits allows_all) (λ old now. now.node ≡ old.node) (call_of p x number) first m h) → HasCalled p s number (Answered p x number node a)
+pub llx_called : {T : Type 0} (p : Inside T) (x : IsPass allows_all Records p) (number : ℕ) (s : Seat ℕ View) (first m : LlxRun) (node : NodeNo) (a : Llx) → first.node ≡ node → IsCalled allows_all s.me.0.passes (call_of p x number) (λ h. llx_answers m (call_of p x number) h a × Course allows_all (llx_waits allows_all) (λ old now. now.node ≡ old.node) (call_of p x number) first m h) → HasCalled p s number (Answered p x number node a)
 llx_called p x number s first m node a is y =
     let z = called p x s number (llx_waits allows_all) (λ old now. now.node ≡ old.node) first m (λ h. llx_answers m (call_of p x number) h a) (λ k h t w. llx_fills_not allows_all k (call_of p x number) h t w) y in
     record { seat = z.seat; answers = (m, course_keeps (λ (k : LlxRun). k.node ≡ node) is (λ old now e q. e ∙ q) m _ y.so.1, z.answers); goes = z.goes; calls = z.calls }
 
-module _ (p : Inside) (x : IsPass p) (number : ℕ) (s : Seat ℕ View) (node : NodeNo) where
+module _ {T : Type 0} (p : Inside T) (x : IsPass allows_all Records p) (number : ℕ) (s : Seat ℕ View) (node : NodeNo) where
   -- the pass with its seat and its blame list as they are now
-  abbrev pub heard : List ℕ → Inside
-  heard blamed = record { number = p.number; layout = p.layout; share = p.share; seat = s; blamed = blamed }
+  abbrev pub heard : List ℕ → Inside T
+  heard blamed = record p { seat = s; blamed = blamed }
 
   pub llx_says : (blamed : List ℕ) (a : Llx) → HasCalled p s number (Answered p x number node a) → LlxSays (sight p) (sight (heard blamed)) node.0 a
   llx_says blamed (Snapshot snap) y =
@@ -62,10 +63,10 @@ module _ (p : Inside) (x : IsPass p) (number : ℕ) (s : Seat ℕ View) (node : 
       subst IsFinalizedAnswer (sym z.1) tt
 
   -- it is a pass again
-  pub llx_pass : (a : Llx) (blamed : List ℕ) → blamed ≡ blamed_by a p.blamed → s.me.1 ≡ p.seat.me.1 → HasCalled p s number (Answered p x number node a) → IsPass (heard blamed)
-  llx_pass a blamed e bare y = subst (λ l. IsPass (heard l)) (sym e) (go a y)
+  pub llx_pass : (a : Llx) (blamed : List ℕ) → blamed ≡ blamed_by a p.blamed → s.me.1 ≡ p.seat.me.1 → HasCalled p s number (Answered p x number node a) → IsPass allows_all Records (heard blamed)
+  llx_pass a blamed e bare y = subst (λ l. IsPass allows_all Records (heard l)) (sym e) (go a y)
     where
-      go : (b : Llx) → HasCalled p s number (Answered p x number node b) → IsPass (heard (blamed_by b p.blamed))
+      go : (b : Llx) → HasCalled p s number (Answered p x number node b) → IsPass allows_all Records (heard (blamed_by b p.blamed))
       go (Snapshot snap) z = called_pass p x s number _ bare z
       go (Finalized n u) z = called_pass p x s number _ bare z
       go (Fail n u) z =
@@ -73,7 +74,7 @@ module _ (p : Inside) (x : IsPass p) (number : ℕ) (s : Seat ℕ View) (node : 
           record {
             seat = w.seat;
             bare = w.bare;
-            cells = w.cells;
+            is_mode = w.is_mode;
             is_pass = w.is_pass;
             sound = w.sound;
             rest = w.rest;

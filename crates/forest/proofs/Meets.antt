@@ -8,6 +8,7 @@ use Rattle.arena.specs.History.{History, EndsWith}
 use Rattle.arena.specs.Lawful.{Lawful}
 use Rattle.arena.specs.Machines.{IsRun}
 use Rattle.arena.proofs.Values.{ends_self, ends_trans}
+use Rattle.arena.specs.declared.limits.Mode.TheVariants.{Records}
 use Rattle.prims.specs.Cells.{allows_all}
 use Rattle.forest.specs.declared.view.Knower.{Knower}
 use Rattle.forest.specs.declared.view.View.{View}
@@ -50,7 +51,7 @@ pub behind_ends : (run : List Row) (p : Knower) → Behind run p → EndsWith (p
 behind_ends run p b = subst (λ rows. EndsWith (past p.layout.mode rows) (past p.layout.mode p.known)) (sym b.1) (ends_more p.layout.mode b.0 p.known)
 
 -- a pass that has looked knows what it knew, and its look
-pub look_called : (p : Inside) (x : IsPass p) (s : Seat ℕ View) (run : List Row) → HasLooked allows_all (knower p.number.0 p.layout (known_of p.seat.me.0.passes)) run → s.me.0.passes ≡ looked (knower p.number.0 p.layout (known_of p.seat.me.0.passes)) run ∷ [] → HasCalled p s 0 (λ h. EndsWith h (past p.layout.mode run))
+pub look_called : {T : Type 0} (p : Inside T) (x : IsPass allows_all Records p) (s : Seat ℕ View) (run : List Row) → HasLooked allows_all (knower p.number.0 p.layout (known_of p.seat.me.0.passes)) run → s.me.0.passes ≡ looked (knower p.number.0 p.layout (known_of p.seat.me.0.passes)) run ∷ [] → HasCalled p s 0 (λ h. EndsWith h (past p.layout.mode run))
 look_called p x s run y e =
     let mode = p.layout.mode in
     let start = past mode (known_of p.seat.me.0.passes) in
@@ -67,11 +68,11 @@ look_called p x s run y e =
     }
 
 -- and has made one step more
-pub look_steps : (p : Inside) (s : Seat ℕ View) (run : List Row) → Behind run (knower p.number.0 p.layout (known_of p.seat.me.0.passes)) → s.me.0.passes ≡ looked (knower p.number.0 p.layout (known_of p.seat.me.0.passes)) run ∷ [] → steps_of (sight (seated p s)) ≡ suc (steps_of (sight p))
+pub look_steps : {T : Type 0} (p : Inside T) (s : Seat ℕ View) (run : List Row) → Behind run (knower p.number.0 p.layout (known_of p.seat.me.0.passes)) → s.me.0.passes ≡ looked (knower p.number.0 p.layout (known_of p.seat.me.0.passes)) run ∷ [] → steps_of (sight (seated p s)) ≡ suc (steps_of (sight p))
 look_steps p s run b e = ap (λ l. rows_of p.number.0 (known_of l)) e ∙ rw (eq-eqb p.number.0 p.number.0 refl) (ap suc (ap (rows_of p.number.0) b.1 ∙ rows_by_others p.number.0 b.0 _ b.2))
 
 -- so it has looked once
-pub looked_once : (p : Inside) (x : IsPass p) (s : Seat ℕ View) (A : History → Type 0) → s.table_id ≡ p.seat.table_id → s.me.1 ≡ p.seat.me.1 → HasCalled p s 0 A → steps_of (sight (seated p s)) ≡ suc (steps_of (sight p)) → HasLookedOnce (sight p) (sight (seated p s))
+pub looked_once : {T : Type 0} (p : Inside T) (x : IsPass allows_all Records p) (s : Seat ℕ View) (A : History → Type 0) → s.table_id ≡ p.seat.table_id → s.me.1 ≡ p.seat.me.1 → HasCalled p s 0 A → steps_of (sight (seated p s)) ≡ suc (steps_of (sight p)) → HasLookedOnce (sight p) (sight (seated p s))
 looked_once p x s A table bare y one = record {
   goes_on = record {
     later = record { table = table; layout = refl; number = refl; run = y.goes.since };
@@ -87,7 +88,7 @@ looked_once p x s A table bare y one = record {
 
 -- What two passes have once they have met
 
-pub record HaveMet (p q : Inside) (s t : Seat ℕ View) : Type 0 where
+pub record HaveMet {T : Type 0} (p q : Inside T) (s t : Seat ℕ View) : Type 0 where
   pub early : List Row
   pub late : List Row
   pub apart : p.number.0 ≢ q.number.0
@@ -98,7 +99,7 @@ pub record HaveMet (p q : Inside) (s t : Seat ℕ View) : Type 0 where
   pub one_step : steps_of (sight (seated p s)) ≡ suc (steps_of (sight p))
   pub other_step : steps_of (sight (seated q t)) ≡ suc (steps_of (sight q))
 
-pub have_met : (p q : Inside) (x : IsPass p) (y : IsPass q) (s t : Seat ℕ View) → Met allows_all p.seat.me.0.passes q.seat.me.0.passes s.me.0.passes t.me.0.passes → HaveMet p q s t
+pub have_met : {T : Type 0} (p q : Inside T) (x : IsPass allows_all Records p) (y : IsPass allows_all Records q) (s t : Seat ℕ View) → Met allows_all p.seat.me.0.passes q.seat.me.0.passes s.me.0.passes t.me.0.passes → HaveMet p q s t
 have_met p q x y s t m = record {
   early = m.early;
   late = m.late;
@@ -142,7 +143,7 @@ have_met p q x y s t m = record {
     goes_on = subst (λ (k : Knower). Behind m.late (looked k m.early)) other m.goes_on
 
 -- what either has blamed has left both shares
-pub met_left : (p q : Inside) (x : IsPass p) (y : IsPass q) (s t : Seat ℕ View) → p.layout ≡ q.layout → HaveMet p q s t → HaveLeftShares (sight (seated p s) ∷ sight (seated q t) ∷ [])
+pub met_left : {T : Type 0} (p q : Inside T) (x : IsPass allows_all Records p) (y : IsPass allows_all Records q) (s t : Seat ℕ View) → p.layout ≡ q.layout → HaveMet p q s t → HaveLeftShares (sight (seated p s) ∷ sight (seated q t) ∷ [])
 met_left p q x y s t same m = (
   (
     blames_left p.layout _ (sight p) (sight (seated p s)) p.number.0 _ _ x.sound.lawful m.one.goes.since m.one.goes.share x.blamed,

@@ -12,6 +12,7 @@ use Rattle.histories.proofs.Changes.{lawful_tail}
 use Rattle.histories.proofs.Entries.{IsIn, newest, older, once}
 use Rattle.histories.proofs.Fields.{Logs, same as log_same, wins as log_wins, logs}
 use Rattle.histories.proofs.Helping.{aborted_never_won}
+use Rattle.arena.specs.declared.limits.Mode.TheVariants.{Records}
 use Rattle.prims.specs.Cells.{allows_all}
 use Rattle.prims.specs.Moments.{IsAsFound}
 use Rattle.prims.specs.Snaps.{IsAmong, HasNode}
@@ -96,7 +97,7 @@ in_entries c e (x ∷ es) rest q = go (eqb x.owner c) q (in_entries c e es rest)
 
 -- A share that is used up
 
-pub used_up : (p : Inside) (x : IsPass p) (f : Full) → IsFull p.share f → IsUsedUp (sight p) f
+pub used_up : {T : Type 0} (p : Inside T) (x : IsPass allows_all Records p) (f : Full) → IsFull p.share f → IsUsedUp (sight p) f
 used_up p x f full = (full, go f.what full)
   where
     go : (what : Resource) → IsFullOf p.share what f.left → IsAllTaken (sight p) what
@@ -123,7 +124,7 @@ put_same old now snaps finalize field v node scx number s x = record {
 put_hand : (m : PutRun) (snaps : List Snap) (finalize : List NodeNo) (field : ℕ × Side) (v node scx number : ℕ) → IsPutOf m snaps finalize field v node scx number → HasHand m node scx snaps
 put_hand m snaps finalize field v node scx number x = record { fresh = x.fresh; record_is = x.record_is; snaps_are = x.snaps_are }
 
-module _ (p : Inside) (x : IsPass p) (some_node : 0 < p.share.nodes) (some_scx : 0 < p.share.scx) (snaps : List Snap) (finalize : List NodeNo) (field : ℕ × Side) (v number : ℕ) where
+module _ {T : Type 0} (p : Inside T) (x : IsPass allows_all Records p) (some_node : 0 < p.share.nodes) (some_scx : 0 < p.share.scx) (snaps : List Snap) (finalize : List NodeNo) (field : ℕ × Side) (v number : ℕ) where
   -- a run of this call
   abbrev pub Is : PutRun → Type 0
   Is m = IsPutOf m snaps finalize field v p.share.next_node p.share.next_scx number
@@ -183,14 +184,14 @@ module _ (p : Inside) (x : IsPass p) (some_node : 0 < p.share.nodes) (some_scx :
       }
 
   -- the pass with what is left of its share, and its seat as it is now
-  abbrev pub spent : Seat ℕ View → Inside
-  spent s = record { number = p.number; layout = p.layout; share = taken p.share; seat = s; blamed = p.blamed }
+  abbrev pub spent : Seat ℕ View → Inside T
+  spent s = record p { share = taken p.share; seat = s }
 
-  pub put_pass : (s : Seat ℕ View) (a : Scx) → s.me.1 ≡ p.seat.me.1 → HasPut s a → IsPass (spent s)
+  pub put_pass : (s : Seat ℕ View) (a : Scx) → s.me.1 ≡ p.seat.me.1 → HasPut s a → IsPass allows_all Records (spent s)
   put_pass s a bare y = record {
     seat = y.seat;
     bare = bare ∙ x.bare;
-    cells = x.cells;
+    is_mode = x.is_mode;
     is_pass = x.is_pass;
     sound = y.goes.sound;
     rest = put_rests (call_of p x number) y.run _ a (taken p.share) p.share.next_node p.share.next_scx snaps (put_hand y.run snaps finalize field v p.share.next_node p.share.next_scx number y.is_of) (omega arith) (omega arith) (λ e. let q = own_scx.from in omega arith) y.answers y.goes;

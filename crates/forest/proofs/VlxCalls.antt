@@ -3,6 +3,7 @@ use Rattle.std.proofs.Common.{◌≡◌, ◌≢◌, ◌<◌, ℕ, zero, suc, inl
 use Rattle.atomic_table.specs.declared.shared.Seat.{Seat}
 use Rattle.arena.specs.History.{History}
 use Rattle.arena.specs.Blame.{WasInTheWay}
+use Rattle.arena.specs.declared.limits.Mode.TheVariants.{Records}
 use Rattle.prims.specs.Cells.{allows_all}
 use Rattle.prims.specs.Snaps.{AreDistinct, IsAmong}
 use Rattle.prims.specs.VlxKnown.{snap_at, vlx_ready, vlx_waits, vlx_answers}
@@ -54,7 +55,7 @@ was_changed new is_pass number start items snaps is n s z = record {
 
 -- Calls
 
-pub vlx_begins : (p : Inside) (x : IsPass p) (number : ℕ) (m : VlxRun) (snaps : List Snap) → m.asked ≡ 0 → m.snaps.items ≡ snaps → 0 < length snaps → Each (CanUse (sight p)) snaps → IsCalled allows_all p.seat.me.0.passes (call_of p x number) (λ h. ((call_of p x number).start ≡ h) × vlx_ready m (call_of p x number) h None)
+pub vlx_begins : {T : Type 0} (p : Inside T) (x : IsPass allows_all Records p) (number : ℕ) (m : VlxRun) (snaps : List Snap) → m.asked ≡ 0 → m.snaps.items ≡ snaps → 0 < length snaps → Each (CanUse (sight p)) snaps → IsCalled allows_all p.seat.me.0.passes (call_of p x number) (λ h. ((call_of p x number).start ≡ h) × vlx_ready m (call_of p x number) h None)
 vlx_begins p x number m snaps start is some usable = record {
   known = known_of p.seat.me.0.passes;
   is = x.seat;
@@ -65,15 +66,15 @@ vlx_begins p x number m snaps start is some usable = record {
   );
 }
 
-abbrev pub Looked : (p : Inside) → IsPass p → ℕ → List Snap → Vlx → History → Type 0
+abbrev pub Looked : {T : Type 0} (p : Inside T) → IsPass allows_all Records p → ℕ → List Snap → Vlx → History → Type 0
 Looked p x number snaps a h = (m : VlxRun) × (m.snaps.items ≡ snaps) × vlx_answers m (call_of p x number) h a
 
-pub vlx_called : (p : Inside) (x : IsPass p) (number : ℕ) (s : Seat ℕ View) (first m : VlxRun) (snaps : List Snap) (a : Vlx) → first.snaps.items ≡ snaps → IsCalled allows_all s.me.0.passes (call_of p x number) (λ h. vlx_answers m (call_of p x number) h a × Course allows_all vlx_waits (λ old now. now.snaps ≡ old.snaps) (call_of p x number) first m h) → HasCalled p s number (Looked p x number snaps a)
+pub vlx_called : {T : Type 0} (p : Inside T) (x : IsPass allows_all Records p) (number : ℕ) (s : Seat ℕ View) (first m : VlxRun) (snaps : List Snap) (a : Vlx) → first.snaps.items ≡ snaps → IsCalled allows_all s.me.0.passes (call_of p x number) (λ h. vlx_answers m (call_of p x number) h a × Course allows_all vlx_waits (λ old now. now.snaps ≡ old.snaps) (call_of p x number) first m h) → HasCalled p s number (Looked p x number snaps a)
 vlx_called p x number s first m snaps a is y =
     let z = called p x s number vlx_waits (λ old now. now.snaps ≡ old.snaps) first m (λ h. vlx_answers m (call_of p x number) h a) (λ k h t w. vlx_fills_not k (call_of p x number) h t w) y in
     record { seat = z.seat; answers = (m, course_keeps (λ (k : VlxRun). k.snaps.items ≡ snaps) is (λ old now e q. ap (λ l. l.items) e ∙ q) m _ y.so.1, z.answers); goes = z.goes; calls = z.calls }
 
-module _ (p : Inside) (x : IsPass p) (number : ℕ) (s : Seat ℕ View) (snaps : List Snap) where
+module _ {T : Type 0} (p : Inside T) (x : IsPass allows_all Records p) (number : ℕ) (s : Seat ℕ View) (snaps : List Snap) where
   pub vlx_says : (a : Vlx) → HasCalled p s number (Looked p x number snaps a) → VlxSays (sight p) (sight (seated p s)) snaps a
   vlx_says Same y = rw y.answers.1 at y.answers.2.found
   vlx_says (Changed n u) y = (was_changed (sight (seated p s)) x.is_pass number _ _ snaps y.answers.1 n.0 u.0 (vlx_changed y.answers.0 (call_of p x number) _ n u y.answers.2), rw y.answers.1 at y.answers.2.before)

@@ -67,7 +67,7 @@ impl Drop for Closed {
 
 impl Forest<Cells> {
     /// Ends the forest: each of its passes, which are all there, looks at the table once more.
-    pub fn close(self, passes: Vec<Pass>) -> Closed
+    pub fn close(self, passes: Vec<Pass<Cells>>) -> Closed
         requires passes { AreOf self passes.items }
         requires all { AreAllBack self.layout passes.items }
         ensures layout { result.layout ≡ self.layout }
@@ -85,7 +85,7 @@ impl Forest<Cells> {
 }
 
 /// One seat with all these passes.
-fn gather(words: &Words<Cells>, layout: &Layout, mut passes: Vec<Pass>) -> Option<Seat<u8, View>>
+fn gather(words: &Words<Cells>, layout: &Layout, mut passes: Vec<Pass<Cells>>) -> Option<Seat<u8, View>>
     requires table { IsTableOf words.now.table.shared.table_id words.now.table.shared.key layout.now }
     requires passes { AreOf (ground words.now.table.shared.table_id layout.now) passes.items }
     ensures some { 0 < vec_len passes → IsSome result }
@@ -101,7 +101,7 @@ fn gather(words: &Words<Cells>, layout: &Layout, mut passes: Vec<Pass>) -> Optio
 }
 
 /// The seat of a pass, which has looked at the table once more.
-fn seat_of(words: &Words<Cells>, layout: &Layout, pass: Pass) -> Seat<u8, View>
+fn seat_of(words: &Words<Cells>, layout: &Layout, pass: Pass<Cells>) -> Seat<u8, View>
     requires table { IsTableOf words.now.table.shared.table_id words.now.table.shared.key layout.now }
     requires pass { IsOf (ground words.now.table.shared.table_id layout.now) pass }
     ensures table { result.table_id ≡ words.now.table.shared.table_id }
@@ -114,6 +114,7 @@ fn seat_of(words: &Words<Cells>, layout: &Layout, pass: Pass) -> Seat<u8, View>
         share: _,
         seat,
         blamed: _,
+        shape: _,
     } = pass;
     let mut seat = seat;
     let step = Step {

@@ -1,28 +1,28 @@
 //! What a thread needs to make calls.
 ghost use Rattle.std.specs.Prelude.{◌≡◌, ◌<◌, [], ◌∷◌};
-ghost use Rattle.arena.specs.declared.limits.Mode.TheVariants.{Records};
 ghost use Rattle.arena.specs.Share.{whole_share};
 ghost use Rattle.forest.specs.Kept.{knower};
 ghost use Rattle.forest.specs.Passes.{Sight, taken_of};
 
 use crate::blamed::Blamed;
 use crate::view::View;
-use arena::{Layout, PassNo, Share};
+use arena::{Layout, PassNo, Shape, Share};
 use atomic_table::Seat;
-use std::marker::Model;
+use std::marker::{Model, PhantomData};
 
 /// A part in a forest: a number, a share of the nodes and SCX-records, the run that it knows, and whom
 /// its calls have blamed.
 #[derive(Drop)]
-pub struct Pass {
+pub struct Pass<S: Shape> {
     pub(crate) number: PassNo,
     pub(crate) layout: Layout,
     pub(crate) share: Share,
     pub(crate) seat: Seat<u8, View>,
     pub(crate) blamed: Blamed,
+    pub(crate) shape: PhantomData<S>,
 }
 
-impl Model for Pass {
+impl<S: Shape> Model for Pass<S> {
     ghost use Rattle.forest.specs.Passes.{Sight, taken_of};
 
     ghost Value = { Sight };
@@ -31,15 +31,15 @@ impl Model for Pass {
 
     ghost view = { sight };
 
-    ghost invariant = { IsPass };
+    ghost invariant = { IsPass S.allows S.mode };
 }
 
-impl Pass {
+impl<S: Shape> Pass<S> {
     /// A pass that has made no step, at a seat of its own.
-    pub(crate) fn new(layout: &Layout, number: PassNo, seat: Seat<u8, View>) -> Pass
+    pub(crate) fn new(layout: &Layout, number: PassNo, seat: Seat<u8, View>) -> Pass<S>
         requires seat { (seat.me.0.passes ≡ knower number.0 layout.now [] ∷ []) × (seat.me.1 ≡ []) }
         requires pass { number.0 < layout.now.passes }
-        requires cells { layout.now.mode ≡ Records }
+        requires mode { layout.now.mode ≡ S.mode }
         ensures { result ≡ record { table = seat.table_id; layout = layout.now; number = number.0; share = whole_share layout.now number.0; known = []; blamed = [] } }
     {
         Pass {
@@ -48,6 +48,7 @@ impl Pass {
             share: Share::of(layout, number),
             seat,
             blamed: Blamed::new(),
+            shape: PhantomData,
         }
     }
 

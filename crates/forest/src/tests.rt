@@ -31,7 +31,7 @@ fn fields(llx: Llx) -> Fields {
 }
 
 /// Puts a fresh cell into the left field of a cell, if an LLX gives a snapshot of it.
-fn put(forest: &Forest<Cells>, pass: &mut Pass, cell: NodeNo) -> Option<Result<Scx, Full>>
+fn put(forest: &Forest<Cells>, pass: &mut Pass<Cells>, cell: NodeNo) -> Option<Result<Scx, Full>>
     requires pass { IsOf forest.now pass.old }
     requires cell { cell.0 ≤ 8 }
     ensures { IsOf forest.now pass.new }
@@ -43,7 +43,7 @@ fn put(forest: &Forest<Cells>, pass: &mut Pass, cell: NodeNo) -> Option<Result<S
 }
 
 /// Ends the forest, if all its passes are there.
-fn end(forest: Forest<Cells>, passes: Vec<Pass>) -> Option<Closed>
+fn end(forest: Forest<Cells>, passes: Vec<Pass<Cells>>) -> Option<Closed>
     requires { All (IsOf forest) passes.items }
 {
     if forest.all_back(&passes) {

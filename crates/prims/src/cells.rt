@@ -1,4 +1,5 @@
 //! The shape of cells.
+ghost use Rattle.arena.specs.declared.limits.Mode.TheVariants.{Records};
 ghost use Rattle.prims.specs.Cells.{allows_all};
 
 use arena::Shape;
@@ -8,6 +9,8 @@ use arena::Shape;
 pub struct Cells;
 
 impl Shape for Cells {
+    ghost mode = { Records };
+
     ghost allows = { allows_all };
 
     ghost holds = { λ lay h. Unit {0} };

@@ -10,7 +10,7 @@ use std::alloc::{AllocError, Global};
 use std::test::Fail;
 
 /// A forest of two passes.
-fn two(alloc: Global) -> Option<(Forest<Cells>, Pass, Pass)>
+fn two(alloc: Global) -> Option<(Forest<Cells>, Pass<Cells>, Pass<Cells>)>
     ensures first { IfSome result (λ t. IsOf t.0 t.1) }
     ensures second { IfSome result (λ t. IsOf t.0 t.2) }
 {
@@ -25,8 +25,8 @@ fn two(alloc: Global) -> Option<(Forest<Cells>, Pass, Pass)>
 fn end_two(
     alloc: Global,
     forest: Forest<Cells>,
-    one: Pass,
-    other: Pass,
+    one: Pass<Cells>,
+    other: Pass<Cells>,
 ) -> Result<Option<Closed>, AllocError>
     requires one { IsOf forest one }
     requires other { IsOf forest other }

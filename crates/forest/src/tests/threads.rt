@@ -58,7 +58,7 @@ impl Tally {
 /// Puts a fresh cell into a field of the first of two cells, if LLXs give snapshots of both.
 fn put_in_two(
     forest: &Forest<Cells>,
-    pass: &mut Pass,
+    pass: &mut Pass<Cells>,
     cells: (NodeNo, NodeNo),
     side: Side,
 ) -> Option<Result<Scx, Full>>
@@ -78,7 +78,7 @@ fn put_in_two(
 }
 
 /// A round at one of four cells, and the next of them.
-fn put_in_four(forest: &Forest<Cells>, pass: &mut Pass, round: u32) -> Option<Result<Scx, Full>>
+fn put_in_four(forest: &Forest<Cells>, pass: &mut Pass<Cells>, round: u32) -> Option<Result<Scx, Full>>
     requires { IsOf forest.now pass.old }
     ensures { IsOf forest.now pass.new }
 {
@@ -93,7 +93,7 @@ fn put_in_four(forest: &Forest<Cells>, pass: &mut Pass, round: u32) -> Option<Re
 }
 
 /// The rounds of a thread.
-fn make_rounds(forest: &Forest<Cells>, kind: Work, mut pass: Pass) -> (Pass, Tally)
+fn make_rounds(forest: &Forest<Cells>, kind: Work, mut pass: Pass<Cells>) -> (Pass<Cells>, Tally)
     requires { IsOf forest.now pass }
     ensures { IsOf forest.now result.0 }
 {
@@ -115,8 +115,8 @@ fn crowd<R: Threads + Sync>(
     rt: &R,
     forest: &Forest<Cells>,
     kind: Work,
-    passes: Vec<Pass>,
-) -> Result<Vec<(Pass, Tally)>, AllocError>
+    passes: Vec<Pass<Cells>>,
+) -> Result<Vec<(Pass<Cells>, Tally)>, AllocError>
     requires { All (IsOf forest.now) passes.items }
     ensures { IfOk result (λ ws. All (λ w. IsOf forest.now w.0) ws.items) }
 {
@@ -127,8 +127,8 @@ fn crowd<R: Threads + Sync>(
 fn part(
     alloc: Global,
     forest: &Forest<Cells>,
-    workers: Vec<(Pass, Tally)>,
-) -> Result<(Vec<Pass>, Vec<Tally>), AllocError>
+    workers: Vec<(Pass<Cells>, Tally)>,
+) -> Result<(Vec<Pass<Cells>>, Vec<Tally>), AllocError>
     requires { All (λ w. IsOf forest.now w.0) workers.items }
     ensures { IfOk result (λ r. All (IsOf forest.now) r.0.items) }
 {
@@ -145,9 +145,9 @@ fn part(
 fn meet_each(
     alloc: Global,
     forest: &Forest<Cells>,
-    one: &mut Pass,
-    passes: Vec<Pass>,
-) -> Result<Vec<Pass>, AllocError>
+    one: &mut Pass<Cells>,
+    passes: Vec<Pass<Cells>>,
+) -> Result<Vec<Pass<Cells>>, AllocError>
     requires one { IsOf forest.now one.old }
     requires passes { All (IsOf forest.now) passes.items }
     ensures one { IsOf forest.now one.new }
@@ -165,8 +165,8 @@ fn meet_each(
 fn meet_all(
     alloc: Global,
     forest: &Forest<Cells>,
-    mut passes: Vec<Pass>,
-) -> Result<Vec<Pass>, AllocError>
+    mut passes: Vec<Pass<Cells>>,
+) -> Result<Vec<Pass<Cells>>, AllocError>
     requires { All (IsOf forest.now) passes.items }
     ensures { IfOk result (λ ps. All (IsOf forest.now) ps.items) }
 {
@@ -180,7 +180,7 @@ fn meet_all(
 }
 
 /// The fields of the four cells, as a pass finds them.
-fn look(forest: &Forest<Cells>, pass: &mut Pass) -> [Fields; 4]
+fn look(forest: &Forest<Cells>, pass: &mut Pass<Cells>) -> [Fields; 4]
     requires { IsOf forest.now pass.old }
     ensures { IsOf forest.now pass.new }
 {
@@ -196,8 +196,8 @@ fn look(forest: &Forest<Cells>, pass: &mut Pass) -> [Fields; 4]
 fn look_all(
     alloc: Global,
     forest: &Forest<Cells>,
-    passes: Vec<Pass>,
-) -> Result<(Vec<Pass>, Vec<[Fields; 4]>), AllocError>
+    passes: Vec<Pass<Cells>>,
+) -> Result<(Vec<Pass<Cells>>, Vec<[Fields; 4]>), AllocError>
     requires { All (IsOf forest.now) passes.items }
     ensures { IfOk result (λ r. All (IsOf forest.now) r.0.items) }
 {

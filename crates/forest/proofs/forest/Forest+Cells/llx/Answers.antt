@@ -4,6 +4,7 @@ use Rattle.forest.specs.Passes.{Sight, seen_of, taken_of}
 use Rattle.forest.specs.Held.{sight, IsPass}
 use Rattle.forest.proofs.Passes.{HasCalled, layout_of, call_of}
 use Rattle.forest.proofs.LlxCalls.{Answered, llx_begins, llx_called, llx_goes_on, llx_nothing, llx_says, llx_finalized, llx_pass}
+use Rattle.arena.specs.declared.limits.Mode.TheVariants.{Records}
 use Rattle.prims.specs.Cells.{allows_all}
 use Rattle.prims.specs.declared.llx.LlxAt.TheVariants.{Start as LlxStart}
 use Rattle.arena.specs.declared.number.NodeNo.{NodeNo}
@@ -12,11 +13,11 @@ use Rattle.forest.specs.StraightLlx.{run_at, LlxBegins}
 use Rattle.forest.proofs.forest.Forest+Cells.llx.Goals as goal
 
 -- the number of the call
-abbrev called : Inside → ℕ
+abbrev called : {T : Type 0} → Inside T → ℕ
 called p = taken_of (sight p)
 
 -- the call may begin
-begins : (p : Inside) (x : IsPass p) (node : NodeNo) → node.0 ≤ 8 → LlxBegins allows_all (call_of p x (called p)) p.seat.me.0.passes node
+begins : {T : Type 0} (p : Inside T) (x : IsPass allows_all Records p) (node : NodeNo) → node.0 ≤ 8 → LlxBegins allows_all (call_of p x (called p)) p.seat.me.0.passes node
 begins p x node small = llx_begins p x (called p) (run_at node LlxStart) refl small
 
 pub call-answer-requires-clause-begins : goal.call-answer-requires-clause-begins

@@ -8,7 +8,7 @@ use Rattle.forest.proofs.ScxCalls.{HasPut, put_begins, put_called, put_pass, put
 use Rattle.forest.proofs.forest.Forest+Cells.scx.Goals as goal
 
 -- the number of the call
-abbrev called : Inside → ℕ
+abbrev called : {T : Type 0} → Inside T → ℕ
 called p = taken_of (sight p)
 
 -- the run is one of this call

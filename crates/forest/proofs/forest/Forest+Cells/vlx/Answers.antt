@@ -9,7 +9,7 @@ use Rattle.forest.specs.StraightVlx.{VlxBegins}
 use Rattle.forest.proofs.forest.Forest+Cells.vlx.Goals as goal
 
 -- the number of the call
-abbrev called : Inside → ℕ
+abbrev called : {T : Type 0} → Inside T → ℕ
 called p = taken_of (sight p)
 
 -- the call may begin
