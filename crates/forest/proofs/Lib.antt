@@ -17,3 +17,4 @@ mod Places
 mod StraightLlx
 mod StraightHelp
 mod StraightScx
+mod StraightVlx
