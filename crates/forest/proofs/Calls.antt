@@ -86,9 +86,9 @@ told_found (Exchange expected new) found = refl
 
 -- the run has this node, this SCX-record and these snapshots in hand
 pub record HasHand (m : PutRun) (node scx : ℕ) (snaps : List Snap) : Type 0 where
-  pub fresh : m.scx.update.fresh ≡ node
+  pub fresh : m.scx.update.fresh.0 ≡ node
   pub record_is : m.scx.scx.0 ≡ scx
-  pub snaps_are : m.scx.update.snaps.items ≡ snaps
+  pub snaps_are : m.scx.update.snaps ≡ snaps
 
 module _ (same : PutRun → PutRun → Type 0) (c : Call) (first : PutRun) (left : Left) (node scx : ℕ) (snaps : List Snap) (hand : HasHand first node scx snaps) (keeps : (old now : PutRun) → same old now → HasHand old node scx snaps → HasHand now node scx snaps) (next_node : left.next_node ≡ suc node) (next_scx : left.next_scx ≡ suc scx) (run : IsRun allows_all c.layout c.start) (share : IsShare c.layout c.start c.pass left node scx) (over : AreOver c.layout c.pass scx c.start) (free : ¬ HasOwnWon c.layout c.pass c.start scx) where
   abbrev Is : PutRun → History → Type 0

@@ -18,3 +18,4 @@ mod Places
 mod StraightLlx
 mod StraightHelp
 mod StraightScx
+mod StraightVlx

@@ -17,7 +17,7 @@ use Rattle.prims.specs.Cells.{allows_all}
 use Rattle.prims.specs.Moments.{IsAsFound}
 use Rattle.prims.specs.Snaps.{IsAmong, HasNode}
 use Rattle.prims.specs.Updates.{field_place}
-use Rattle.prims.specs.VlxKnown.{snap_at}
+use Rattle.prims.specs.Snap.{snap_at}
 use Rattle.prims.specs.ScxKnown.{IsEntryAt, IsDone as IsScxDone, removed_nodes, nodes_of, update_entry}
 use Rattle.prims.specs.PutKnown.{put_ready, put_waits, put_answers}
 use Rattle.prims.proofs.Changed.{put_changed}

@@ -21,7 +21,7 @@ use Rattle.help.specs.Plan.{count as planned}
 use Rattle.help.specs.HelpKnown.{blocked_at}
 use Rattle.help.specs.declared.state.HelpAt.TheVariants.{Start as HelpStart}
 use Rattle.help.specs.declared.state.HelpRun.{HelpRun}
-use Rattle.prims.specs.VlxKnown.{snap_at}
+use Rattle.prims.specs.Snap.{snap_at}
 use Rattle.prims.specs.Unfilled.{own_words_unfilled, own_value_unfilled}
 use Rattle.prims.specs.Begun.{takes_by_others, filled_more}
 use Rattle.prims.specs.ScxKnown.{FillMade, HasFilled, scx_answers, IsFilled, IsFilledThen, scx_turn, scx_told_at, fill_step, part_at}
@@ -48,8 +48,8 @@ value_of c h m now e f x = record { own = rw f x.own; taken = rw f x.taken; valu
 
 module _ (allows : Layout → History → ℕ → Type 0) (c : Call) (ps : List Knower) (first : PutRun) where
   -- it fills the value, and then the plan
-  pub to_value : (n : NodeNo) → n.0 ≡ first.scx.update.fresh → PutBegins allows c ps first → PutWaits allows c ps first (record first { at = AtFill }) record { kind = Fill; word = Node n Value; deed = Store first.value }
-  to_value n e x = record { known = x.known; is = x.is; sound = x.sound; so = (turn_start allows first c _ n x.so.1 e, goes_on first (refl, refl, refl, refl) (begins refl (sym x.so.0))) }
+  pub to_value : PutBegins allows c ps first → PutWaits allows c ps first (record first { at = AtFill }) (put_step first)
+  to_value x = record { known = x.known; is = x.is; sound = x.sound; so = (turn_start allows first c _ x.so.1, goes_on first (refl, refl, refl, refl) (begins refl (sym x.so.0))) }
 
   pub to_plan : (v : ℕ) → PutTold allows c ps first (record first { at = AtFill }) v → PutWaits allows c ps first (scx_at first AtPlan) (fill_of first Plan first.scx.update.plan.0)
   to_plan v x = let t = x.so.0 in record {
@@ -62,7 +62,7 @@ module _ (allows : Layout → History → ℕ → Type 0) (c : Call) (ps : List 
     );
   }
     where
-      none : (part : ScxWord) → IsFilled (length first.scx.update.snaps.items) AtPlan part → ⊥
+      none : (part : ScxWord) → IsFilled (length first.scx.update.snaps) AtPlan part → ⊥
       none part p = p
 
   -- one fill after another
@@ -74,38 +74,38 @@ module _ (allows : Layout → History → ℕ → Type 0) (c : Call) (ps : List 
     so = ((value_of c _ (scx_at m A) (scx_at m B) refl refl x.so.0.0, turn _ (made _ x.so.0.1)), goes_on (scx_at m A) (refl, refl, refl, refl) x.so.1);
   }
 
-  pub to_new : (m : PutRun) (v : ℕ) → PutTold allows c ps first (scx_at m AtPlan) v → PutWaits allows c ps first (scx_at m AtNew) (fill_of m New m.scx.update.fresh)
+  pub to_new : (m : PutRun) (v : ℕ) → PutTold allows c ps first (scx_at m AtPlan) v → PutWaits allows c ps first (scx_at m AtNew) (fill_of m New m.scx.update.fresh.0)
   to_new m v = fills m AtPlan AtNew v _ (λ h x. x) (λ h x. turn_fill allows c h (scx_at m AtPlan).scx AtNew (scx_at m AtNew).scx (Ask _) x.hand x.way tt (λ part p. x.filled part (filled part p)) (λ s y. y) record { stands = refl; asked = refl })
     where
-      filled : (part : ScxWord) → IsFilled (length m.scx.update.snaps.items) AtNew part → IsFilledThen (length m.scx.update.snaps.items) AtPlan part
+      filled : (part : ScxWord) → IsFilled (length m.scx.update.snaps) AtNew part → IsFilledThen (length m.scx.update.snaps) AtPlan part
       filled Plan p = tt
       filled _ p = absurd p
 
   pub to_old : (m : PutRun) (v : ℕ) → PutTold allows c ps first (scx_at m AtNew) v → PutWaits allows c ps first (scx_at m AtOld) (fill_of m Old m.scx.update.old.0)
   to_old m v = fills m AtNew AtOld v _ (λ h x. x) (λ h x. turn_fill allows c h (scx_at m AtNew).scx AtOld (scx_at m AtOld).scx (Ask _) x.hand x.way tt (λ part p. x.filled part (filled part p)) (λ s y. y) record { stands = refl; asked = refl })
     where
-      filled : (part : ScxWord) → IsFilled (length m.scx.update.snaps.items) AtOld part → IsFilledThen (length m.scx.update.snaps.items) AtNew part
+      filled : (part : ScxWord) → IsFilled (length m.scx.update.snaps) AtOld part → IsFilledThen (length m.scx.update.snaps) AtNew part
       filled Plan p = tt
       filled New p = tt
       filled _ p = absurd p
 
-  pub to_member : (m : PutRun) (v : ℕ) → PutTold allows c ps first (scx_at m AtOld) v → PutWaits allows c ps first (scx_at m (AtMember First)) (fill_of m (Member 0) (snap_at m.scx.update.snaps.items 0).node.0)
+  pub to_member : (m : PutRun) (v : ℕ) → PutTold allows c ps first (scx_at m AtOld) v → PutWaits allows c ps first (scx_at m (AtMember First)) (fill_of m (Member 0) (snap_at m.scx.update.snaps 0).node.0)
   to_member m v = fills m AtOld (AtMember First) v _ (λ h x. x) (λ h x. turn_fill allows c h (scx_at m AtOld).scx (AtMember First) (scx_at m (AtMember First)).scx (Ask _) x.hand x.way (rw (sym x.hand.update.count) x.hand.update.planned.some) (λ part p. x.filled part (filled part p)) (λ s y. y) record { stands = refl; asked = refl })
     where
-      filled : (part : ScxWord) → IsFilled (length m.scx.update.snaps.items) (AtMember First) part → IsFilledThen (length m.scx.update.snaps.items) AtOld part
+      filled : (part : ScxWord) → IsFilled (length m.scx.update.snaps) (AtMember First) part → IsFilledThen (length m.scx.update.snaps) AtOld part
       filled Plan p = tt
       filled New p = tt
       filled Old p = tt
       filled (Member i) p = absurd (omega arith)
       filled _ p = absurd p
 
-  pub next_member : (m : PutRun) (j next : MemberNo) (v : ℕ) → index_of next ≡ suc (index_of j) → index_of next < planned m.scx.update.plan.0 → PutTold allows c ps first (scx_at m (AtMember j)) v → PutWaits allows c ps first (scx_at m (AtMember next)) (fill_of m (Member (index_of next)) (snap_at m.scx.update.snaps.items (index_of next)).node.0)
+  pub next_member : (m : PutRun) (j next : MemberNo) (v : ℕ) → index_of next ≡ suc (index_of j) → index_of next < planned m.scx.update.plan.0 → PutTold allows c ps first (scx_at m (AtMember j)) v → PutWaits allows c ps first (scx_at m (AtMember next)) (fill_of m (Member (index_of next)) (snap_at m.scx.update.snaps (index_of next)).node.0)
   next_member m j next v is within = fills m (AtMember j) (AtMember next) v _ (λ h x. x) (λ h x. turn_member allows c h (scx_at m (AtMember j)).scx j (scx_at m (AtMember next)).scx (Ask _) x (inl record { next = next; is = is; within = within; fills = record { stands = refl; asked = refl } }))
 
-  pub to_seen : (m : PutRun) (j : MemberNo) (v : ℕ) → ((index_of j < 3) × (suc (index_of j) < planned m.scx.update.plan.0) → ⊥) → PutTold allows c ps first (scx_at m (AtMember j)) v → PutWaits allows c ps first (scx_at m (AtSeen First)) (fill_of m (Seen 0) (snap_at m.scx.update.snaps.items 0).scx.0)
+  pub to_seen : (m : PutRun) (j : MemberNo) (v : ℕ) → ((index_of j < 3) × (suc (index_of j) < planned m.scx.update.plan.0) → ⊥) → PutTold allows c ps first (scx_at m (AtMember j)) v → PutWaits allows c ps first (scx_at m (AtSeen First)) (fill_of m (Seen 0) (snap_at m.scx.update.snaps 0).scx.0)
   to_seen m j v none = fills m (AtMember j) (AtSeen First) v _ (λ h x. x) (λ h x. turn_member allows c h (scx_at m (AtMember j)).scx j (scx_at m (AtSeen First)).scx (Ask _) x (inr record { none = none; fills = record { stands = refl; asked = refl } }))
 
-  pub next_seen : (m : PutRun) (j next : MemberNo) (v : ℕ) → index_of next ≡ suc (index_of j) → index_of next < planned m.scx.update.plan.0 → PutTold allows c ps first (scx_at m (AtSeen j)) v → PutWaits allows c ps first (scx_at m (AtSeen next)) (fill_of m (Seen (index_of next)) (snap_at m.scx.update.snaps.items (index_of next)).scx.0)
+  pub next_seen : (m : PutRun) (j next : MemberNo) (v : ℕ) → index_of next ≡ suc (index_of j) → index_of next < planned m.scx.update.plan.0 → PutTold allows c ps first (scx_at m (AtSeen j)) v → PutWaits allows c ps first (scx_at m (AtSeen next)) (fill_of m (Seen (index_of next)) (snap_at m.scx.update.snaps (index_of next)).scx.0)
   next_seen m j next v is within = fills m (AtSeen j) (AtSeen next) v _ (λ h x. x) (λ h x. turn_seen allows c h (scx_at m (AtSeen j)).scx j (scx_at m (AtSeen next)).scx (Ask _) x (inl record { next = next; is = is; within = within; fills = record { stands = refl; asked = refl } }))
 
   pub to_call : (m : PutRun) (j : MemberNo) (v : ℕ) → ((index_of j < 3) × (suc (index_of j) < planned m.scx.update.plan.0) → ⊥) → PutTold allows c ps first (scx_at m (AtSeen j)) v → PutWaits allows c ps first (scx_at m AtCall) (fill_of m CallWord m.scx.call)
@@ -136,7 +136,7 @@ module _ (allows : Layout → History → ℕ → Type 0) (c : Call) (start : Hi
       let y = lift k g x in
       let run' : IsRun allows c.layout (r ⊳ g) = rw e at run in
       let frame : Frame c (r ⊳ g) m = record {
-        value = value_more c g r m (own_value_unfilled c.layout g r c.pass m.scx.update.fresh run'.lawful other y.frame.value.own) y.frame.value;
+        value = value_more c g r m (own_value_unfilled c.layout g r c.pass m.scx.update.fresh.0 run'.lawful other y.frame.value.own) y.frame.value;
         filled = filled_more c g r m.scx.scx.0 m.scx.call m.scx.update (takes_by_others c.layout c.pass m.scx.scx.0 g r run'.lawful other) (own_words_unfilled c.layout g r c.pass m.scx.scx.0 run'.lawful other y.frame.filled.own) y.frame.filled;
       } in
       let frame' : Frame c h m = rw e frame in

@@ -6,7 +6,8 @@ use Rattle.arena.specs.Blame.{WasInTheWay}
 use Rattle.arena.specs.declared.limits.Mode.TheVariants.{Records}
 use Rattle.prims.specs.Cells.{allows_all}
 use Rattle.prims.specs.Snaps.{AreDistinct, IsAmong}
-use Rattle.prims.specs.VlxKnown.{snap_at, vlx_ready, vlx_waits, vlx_answers}
+use Rattle.prims.specs.Snap.{snap_at}
+use Rattle.prims.specs.VlxKnown.{vlx_answers}
 use Rattle.prims.proofs.FillsNot.{vlx_fills_not}
 use Rattle.prims.proofs.Changed.{IsChanged, vlx_changed}
 use Rattle.prims.proofs.Shares.{all_over}
@@ -17,7 +18,8 @@ use Rattle.prims.specs.declared.vlx.Vlx.TheVariants.{Same, Changed}
 use Rattle.prims.specs.declared.vlx.VlxRun.{VlxRun}
 use Rattle.forest.specs.declared.view.View.{View}
 use Rattle.forest.specs.declared.pass.Pass.TheInside.{Inside}
-use Rattle.forest.specs.Courses.{Course, IsCalled, known_of}
+use Rattle.forest.specs.Courses.{known_of}
+use Rattle.forest.specs.StraightVlx.{run_at, same_snaps, waits_over, VlxBegins, VlxEnds}
 use Rattle.forest.specs.Passes.{Sight, CanUse, Each, AreApart, HasNodeOf, WasChanged, VlxSays, run_of}
 use Rattle.forest.specs.Held.{sight, IsPass}
 use Rattle.forest.proofs.Calls.{course_keeps}
@@ -55,26 +57,27 @@ was_changed new is_pass number start items snaps is n s z = record {
 
 -- Calls
 
-pub vlx_begins : {T : Type 0} (p : Inside T) (x : IsPass allows_all Records p) (number : ℕ) (m : VlxRun) (snaps : List Snap) → m.asked ≡ 0 → m.snaps.items ≡ snaps → 0 < length snaps → Each (CanUse (sight p)) snaps → IsCalled allows_all p.seat.me.0.passes (call_of p x number) (λ h. ((call_of p x number).start ≡ h) × vlx_ready m (call_of p x number) h None)
-vlx_begins p x number m snaps start is some usable = record {
-  known = known_of p.seat.me.0.passes;
-  is = x.seat;
-  sound = x.sound;
-  so = (
-    refl,
-    vlx_ready_first p.layout p.number.0 number x.is_pass _ m start (rw is some) (rw is (each_at (CanUse (sight p)) snaps usable)) (all_over p.layout _ p.number.0 p.share _ _ x.rest.share x.rest.over),
-  );
-}
+module _ {L : Type 0} (list : L → List Snap) {T : Type 0} (p : Inside T) (x : IsPass allows_all Records p) (number : ℕ) where
+  pub vlx_begins : (snaps : L) → 0 < length (list snaps) → Each (CanUse (sight p)) (list snaps) → VlxBegins list allows_all (call_of p x number) p.seat.me.0.passes snaps
+  vlx_begins snaps some usable = record {
+    known = known_of p.seat.me.0.passes;
+    is = x.seat;
+    sound = x.sound;
+    so = (
+      refl,
+      vlx_ready_first p.layout p.number.0 number x.is_pass _ (list snaps) 0 refl some (each_at (CanUse (sight p)) (list snaps) usable) (all_over p.layout _ p.number.0 p.share _ _ x.rest.share x.rest.over),
+    );
+  }
 
-abbrev pub Looked : {T : Type 0} (p : Inside T) → IsPass allows_all Records p → ℕ → List Snap → Vlx → History → Type 0
-Looked p x number snaps a h = (m : VlxRun) × (m.snaps.items ≡ snaps) × vlx_answers m (call_of p x number) h a
+  abbrev pub Looked : L → Vlx → History → Type 0
+  Looked snaps a h = vlx_answers (list snaps) (call_of p x number) h a
 
-pub vlx_called : {T : Type 0} (p : Inside T) (x : IsPass allows_all Records p) (number : ℕ) (s : Seat ℕ View) (first m : VlxRun) (snaps : List Snap) (a : Vlx) → first.snaps.items ≡ snaps → IsCalled allows_all s.me.0.passes (call_of p x number) (λ h. vlx_answers m (call_of p x number) h a × Course allows_all vlx_waits (λ old now. now.snaps ≡ old.snaps) (call_of p x number) first m h) → HasCalled p s number (Looked p x number snaps a)
-vlx_called p x number s first m snaps a is y =
-    let z = called p x s number vlx_waits (λ old now. now.snaps ≡ old.snaps) first m (λ h. vlx_answers m (call_of p x number) h a) (λ k h t w. vlx_fills_not k (call_of p x number) h t w) y in
-    record { seat = z.seat; answers = (m, course_keeps (λ (k : VlxRun). k.snaps.items ≡ snaps) is (λ old now e q. ap (λ l. l.items) e ∙ q) m _ y.so.1, z.answers); goes = z.goes; calls = z.calls }
+  pub vlx_called : (s : Seat ℕ View) (snaps : L) (a : Vlx) → VlxEnds list allows_all (call_of p x number) s.me.0.passes snaps a → HasCalled p s number (Looked snaps a)
+  vlx_called s snaps a y =
+      let z = called p x s number (waits_over list) same_snaps (run_at snaps 0) y.0 (λ h. vlx_answers (list y.0.snaps) (call_of p x number) h a) (λ k h t w. vlx_fills_not (list k.snaps) k.asked (call_of p x number) h t w) y.1 in
+      let is : y.0.snaps ≡ snaps = course_keeps (λ (k : VlxRun L). k.snaps ≡ snaps) refl (λ old now e q. e ∙ q) y.0 _ y.1.so.1 in
+      record { seat = z.seat; answers = rw is at z.answers; goes = z.goes; calls = z.calls }
 
-module _ {T : Type 0} (p : Inside T) (x : IsPass allows_all Records p) (number : ℕ) (s : Seat ℕ View) (snaps : List Snap) where
-  pub vlx_says : (a : Vlx) → HasCalled p s number (Looked p x number snaps a) → VlxSays (sight p) (sight (seated p s)) snaps a
-  vlx_says Same y = rw y.answers.1 at y.answers.2.found
-  vlx_says (Changed n u) y = (was_changed (sight (seated p s)) x.is_pass number _ _ snaps y.answers.1 n.0 u.0 (vlx_changed y.answers.0 (call_of p x number) _ n u y.answers.2), rw y.answers.1 at y.answers.2.before)
+  pub vlx_says : (s : Seat ℕ View) (snaps : L) (a : Vlx) → HasCalled p s number (Looked snaps a) → VlxSays (sight p) (sight (seated p s)) (list snaps) a
+  vlx_says s snaps Same y = y.answers.found
+  vlx_says s snaps (Changed n u) y = (was_changed (sight (seated p s)) x.is_pass number _ _ (list snaps) refl n.0 u.0 (vlx_changed (list snaps) (call_of p x number) _ n u y.answers), y.answers.before)

@@ -26,7 +26,7 @@ use Rattle.prims.specs.Moments.{IsMoment, IsAsFound}
 use Rattle.prims.specs.ScxKnown.{nodes_of}
 use Rattle.prims.specs.Shares.{IsUsable}
 use Rattle.prims.specs.Snaps.{IsAmong, HasNode}
-use Rattle.prims.specs.VlxKnown.{snap_at}
+use Rattle.prims.specs.Snap.{snap_at}
 use Rattle.prims.specs.declared.scx.Scx.{Scx}
 use Rattle.prims.specs.declared.scx.Scx.TheVariants.{Done, Lost}
 use Rattle.prims.specs.declared.vlx.Vlx.{Vlx}

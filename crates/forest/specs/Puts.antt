@@ -6,7 +6,7 @@ use Rattle.arena.specs.ScxRecords.{removes, side_of}
 use Rattle.prims.specs.ScxKnown.{IsUpdateOver}
 use Rattle.prims.specs.Snaps.{HasNode}
 use Rattle.prims.specs.Updates.{field_place}
-use Rattle.prims.specs.VlxKnown.{snap_at}
+use Rattle.prims.specs.Snap.{snap_at}
 use Rattle.prims.specs.PutSteps.{put_left}
 use Rattle.prims.specs.declared.snap.Snap.{Snap}
 use Rattle.prims.specs.declared.put.PutRun.{PutRun}
@@ -16,8 +16,8 @@ use Rattle.prims.specs.declared.scx.ScxAt.TheVariants.{Start as ScxStart}
 -- it covers the nodes of these snapshots, finalizes those that are in the list, and puts this node, with this value, into the field, by this SCX-record, in the call of this number
 pub record IsPutOf (m : PutRun) (snaps : List Snap) (finalize : List NodeNo) (field : ℕ × Side) (v node scx number : ℕ) : Type 0 where
   pub over : IsUpdateOver m.scx.update
-  pub snaps_are : m.scx.update.snaps.items ≡ snaps
-  pub fresh : m.scx.update.fresh ≡ node
+  pub snaps_are : m.scx.update.snaps ≡ snaps
+  pub fresh : m.scx.update.fresh.0 ≡ node
   pub record_is : m.scx.scx.0 ≡ scx
   pub called : m.scx.call ≡ number
   pub removed : (j : ℕ) → j < length snaps → (removes m.scx.update.plan.0 j ≡ true) ↔ HasNode finalize (snap_at snaps j).node.0

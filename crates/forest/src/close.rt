@@ -85,7 +85,11 @@ impl Forest<Cells> {
 }
 
 /// One seat with all these passes.
-fn gather(words: &Words<Cells>, layout: &Layout, mut passes: Vec<Pass<Cells>>) -> Option<Seat<u8, View>>
+fn gather(
+    words: &Words<Cells>,
+    layout: &Layout,
+    mut passes: Vec<Pass<Cells>>,
+) -> Option<Seat<u8, View>>
     requires table { IsTableOf words.now.table.shared.table_id words.now.table.shared.key layout.now }
     requires passes { AreOf (ground words.now.table.shared.table_id layout.now) passes.items }
     ensures some { 0 < vec_len passes → IsSome result }

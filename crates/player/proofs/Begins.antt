@@ -27,7 +27,7 @@ use Rattle.std.proofs.Math.Logic.{∥∥₁_elim}
 use Rattle.std.proofs.lemmas.List.{length-map}
 use Rattle.prims.proofs.Snapshots.{among}
 use Rattle.player.proofs.Snapshots.{has_snap, snap_there, snap_found, kept_linked, first_unlinked}
-use Rattle.prims.specs.VlxKnown.{snap_at}
+use Rattle.prims.specs.Snap.{snap_at}
 use Rattle.prims.specs.declared.llx.LlxRun.{LlxRun}
 use Rattle.prims.specs.declared.llx.LlxAt.TheVariants.{Start}
 use Rattle.prims.specs.declared.vlx.VlxRun.{VlxRun}
@@ -74,11 +74,11 @@ llx_starts v began c m then command sound mode r u start i is f = record {
 }
 
 -- a VLX of usable snapshots
-pub vlx_starts : (v : View) (began : Option ℕ) (c : Client) (m : VlxRun) (cells : _) → IsSound v → Rests v c → IsUnbegun v began → m.asked ≡ 0 → 0 < length m.snaps.items → nodes_of m.snaps.items ≡ cells_of cells → ((i : ℕ) → i < length m.snaps.items → (moment : History) × (v.linked (snap_at m.snaps.items i).node.0 ≡ Some moment) × IsUsable v.layout c.pass.0 v.past (snap_at m.snaps.items i) moment) → command_of v c ≡ Some (VlxCommand cells) → vlx_left m ≡ length (cells_of cells) → Starts v c (Vlx m) None
+pub vlx_starts : (v : View) (began : Option ℕ) (c : Client) (m : VlxRun (List Snap)) (cells : _) → IsSound v → Rests v c → IsUnbegun v began → m.asked ≡ 0 → 0 < length m.snaps → nodes_of m.snaps ≡ cells_of cells → ((i : ℕ) → i < length m.snaps → (moment : History) × (v.linked (snap_at m.snaps i).node.0 ≡ Some moment) × IsUsable v.layout c.pass.0 v.past (snap_at m.snaps i) moment) → command_of v c ≡ Some (VlxCommand cells) → vlx_left m.snaps m.asked ≡ length (cells_of cells) → Starts v c (Vlx m) None
 vlx_starts v began c m cells sound r u start some nodes l is left = record {
   works = record { stands = r.stands; newest = tt; command = VlxCommand cells; is = is; run_of = nodes; is_pass = r.stands.is_pass; start = v.past; since = ends_self v.past; begun = sym u.start; moments = λ i p. let x = l i p in record { moment = x.0; found = x.2.found; source = x.1 }; room = tt; took = taken_none v c.pass.0 (no_hand c.share) u.start; won = u.won; late = λ turn e. none_late v.won turn c.begin u.won e };
   none = r.none;
-  ready = vlx_ready_first v.layout c.pass.0 c.number r.stands.is_pass v.past m start some (λ i p. let x = l i p in (x.0, x.2)) (all_over v.layout v.past c.pass.0 c.share _ _ r.stands.share r.stands.over);
+  ready = vlx_ready_first v.layout c.pass.0 c.number r.stands.is_pass v.past m.snaps m.asked start some (λ i p. let x = l i p in (x.0, x.2)) (all_over v.layout v.past c.pass.0 c.share _ _ r.stands.share r.stands.over);
   few = omega (arith, u.steps, left);
 }
 

@@ -17,7 +17,8 @@ use Rattle.prims.proofs.Shares.{share_ends, all_idle}
 use Rattle.prims.proofs.Usable.{usable_now}
 use Rattle.prims.specs.Shares.{IsUsable}
 use Rattle.prims.specs.PutKnown.{put_answers}
-use Rattle.prims.specs.VlxKnown.{snap_at, vlx_answers}
+use Rattle.prims.specs.Snap.{snap_at}
+use Rattle.prims.specs.VlxKnown.{vlx_answers}
 use Rattle.prims.proofs.Snapshots.{among}
 use Rattle.prims.specs.declared.snap.Snap.{Snap}
 use Rattle.prims.specs.declared.llx.LlxRun.{LlxRun}
@@ -157,41 +158,41 @@ are_linked v c command snaps nodes e f n q =
     subst (λ (m : Option History). IsSome m) (sym (subst (λ (k : ℕ). v.linked k ≡ Some z.0) i.is z.1)) refl
 
 -- what the answer of an SCX says
-scx_outcome : (v : View) (c : Client) (command : Command) (m : PutRun) (then : Option Put) (a : ScxAnswer) (start : History) (is_pass : c.pass.0 < v.layout.passes) → IsScxOf command c.number m then → HaveMoments v c.pass.0 command m.scx.update.snaps.items → HasRoom v.layout c.pass.0 v.start → (a ≡ ScxDone → (turn : ℕ) × (v.won ≡ Some turn)) → (a ≢ ScxDone → v.won ≡ None) → put_answers m (machine_call v c is_pass start) v.past a → IsOutcome v c.pass.0 m.scx.update.snaps.items command (answer_of (ended.Scx a))
+scx_outcome : (v : View) (c : Client) (command : Command) (m : PutRun) (then : Option Put) (a : ScxAnswer) (start : History) (is_pass : c.pass.0 < v.layout.passes) → IsScxOf command c.number m then → HaveMoments v c.pass.0 command m.scx.update.snaps → HasRoom v.layout c.pass.0 v.start → (a ≡ ScxDone → (turn : ℕ) × (v.won ≡ Some turn)) → (a ≢ ScxDone → v.won ≡ None) → put_answers m (machine_call v c is_pass start) v.past a → IsOutcome v c.pass.0 m.scx.update.snaps command (answer_of (ended.Scx a))
 scx_outcome v c (ScxOf update) m None ScxDone start is_pass x moments room done lost y = record {
   answers = tt;
   right = room;
   entry = entered_some v.won (done refl).0 (done refl).1;
-  drops = drop_nodes m.scx.update.snaps.items (update_cells update) v.linked x.covers;
+  drops = drop_nodes m.scx.update.snaps (update_cells update) v.linked x.covers;
 }
 scx_outcome v c (SetOf field value) m None ScxDone start is_pass x moments room done lost y = record {
   answers = tt;
   right = room;
   entry = entered_some v.won (done refl).0 (done refl).1;
-  drops = drop_one m.scx.update.snaps.items field.0 v.linked x.covers;
+  drops = drop_one m.scx.update.snaps field.0 v.linked x.covers;
 }
 scx_outcome v c (ScxOf update) m None (ScxLost node scx) start is_pass x moments room done lost y = record {
   answers = tt;
   right = (
-    are_linked v c (ScxOf update) m.scx.update.snaps.items (update_cells update) x.covers (λ i p. let z = moments i p in (z.moment, z.source)),
+    are_linked v c (ScxOf update) m.scx.update.snaps (update_cells update) x.covers (λ i p. let z = moments i p in (z.moment, z.source)),
     room,
-    blamed_is v c (ScxOf update) m.scx.update.snaps.items (update_cells update) start is_pass node.0 scx.0 (λ moment. v.linked node.0 ≡ Some moment) x.covers moments
+    blamed_is v c (ScxOf update) m.scx.update.snaps (update_cells update) start is_pass node.0 scx.0 (λ moment. v.linked node.0 ≡ Some moment) x.covers moments
         (λ i p e. let z = moments i p in (z.moment, z.found, subst (λ (n : ℕ). v.linked n ≡ Some z.moment) e z.source))
         (put_changed m (machine_call v c is_pass start) v.past node scx y),
   );
   entry = entered_none (Lost node scx) v.won (lost (λ e. cc)) (λ e. cc);
-  drops = drop_nodes m.scx.update.snaps.items (update_cells update) v.linked x.covers;
+  drops = drop_nodes m.scx.update.snaps (update_cells update) v.linked x.covers;
 }
 scx_outcome v c (SetOf field value) m None (ScxLost node scx) start is_pass x moments room done lost y = record {
   answers = tt;
   right = (
     room,
-    blamed_is v c (SetOf field value) m.scx.update.snaps.items (field.0 ∷ []) start is_pass node.0 scx.0 (λ moment. IsLastLook c.pass.0 v.past v.start moment field.0 × (is_final (log v.layout moment) field.0 ≡ false)) x.covers moments
-        (λ i p e. let z = moments i p in (z.moment, z.found, subst (λ (n : ℕ). IsLastLook c.pass.0 v.past v.start z.moment n × (is_final (log v.layout z.moment) n ≡ false)) (only_node m.scx.update.snaps.items field.0 i x.covers p) (z.source, z.found.not_final)))
+    blamed_is v c (SetOf field value) m.scx.update.snaps (field.0 ∷ []) start is_pass node.0 scx.0 (λ moment. IsLastLook c.pass.0 v.past v.start moment field.0 × (is_final (log v.layout moment) field.0 ≡ false)) x.covers moments
+        (λ i p e. let z = moments i p in (z.moment, z.found, subst (λ (n : ℕ). IsLastLook c.pass.0 v.past v.start z.moment n × (is_final (log v.layout z.moment) n ≡ false)) (only_node m.scx.update.snaps field.0 i x.covers p) (z.source, z.found.not_final)))
         (put_changed m (machine_call v c is_pass start) v.past node scx y),
   );
   entry = entered_none (Lost node scx) v.won (lost (λ e. cc)) (λ e. cc);
-  drops = drop_one m.scx.update.snaps.items field.0 v.linked x.covers;
+  drops = drop_one m.scx.update.snaps field.0 v.linked x.covers;
 }
 scx_outcome v c (ScxOf update) m (Some put) a start is_pass x moments room done lost y = absurd x
 scx_outcome v c (SetOf field value) m (Some put) a start is_pass x moments room done lost y = absurd x
@@ -199,7 +200,7 @@ scx_outcome v c (LlxOf cell) m then a start is_pass x moments room done lost y =
 scx_outcome v c (VlxOf cells) m then a start is_pass x moments room done lost y = absurd x
 
 -- a client whose SCX has ended has taken what it had in hand, and drops its snapshots
-rests_scx : (v : View) (c : Client) (m : PutRun) (then : Option Put) (a : ScxAnswer) (linked : ℕ → Option History) → IsSound v → IsDropped m.scx.update.snaps.items v.linked linked → Answered v c (Scx m) then (ended.Scx a) → Stands (record v { linked = linked }) c (no_hand c.share)
+rests_scx : (v : View) (c : Client) (m : PutRun) (then : Option Put) (a : ScxAnswer) (linked : ℕ → Option History) → IsSound v → IsDropped m.scx.update.snaps v.linked linked → Answered v c (Scx m) then (ended.Scx a) → Stands (record v { linked = linked }) c (no_hand c.share)
 rests_scx v c m then a linked sound drops x = record {
   is_pass = y.is_pass;
   number = y.number;
@@ -207,7 +208,7 @@ rests_scx v c m then a linked sound drops x = record {
   kept = λ n found e. kept n found e;
   unkept = λ n i e. ⊎_elim (λ z. inr (drops.gone n z)) (λ z. inr (unkept n i e z)) (y.unkept n i e);
   dropped = λ n z. absurd (among_none n z);
-  share = share_ends v.layout v.past c.pass.0 c.share m.scx.update.fresh m.scx.scx.0 x.works.newest.0 x.works.newest.1 x.answers.0.taken (finished_taken v.layout v.past m.scx.scx.0 sound.lawful x.works.newest.2 finished) y.share;
+  share = share_ends v.layout v.past c.pass.0 c.share m.scx.update.fresh.0 m.scx.scx.0 x.works.newest.0 x.works.newest.1 x.answers.0.taken (finished_taken v.layout v.past m.scx.scx.0 sound.lawful x.works.newest.2 finished) y.share;
   over = over_begins v.layout c.pass.0 c.share.next_scx v.past (over_ends v.layout c.pass.0 m.scx.scx.0 v.past y.over finished);
 }
   where
@@ -218,18 +219,18 @@ rests_scx v c m then a linked sound drops x = record {
     finished = put_finished m (machine_call v c x.works.is_pass x.works.start) v.past a x.answers
 
     -- what is still kept is not of those snapshots
-    other : (n : ℕ) (found : Found) → kept_of c.kept n ≡ Some found → IsAmong m.scx.update.snaps.items n → ⊥
+    other : (n : ℕ) (found : Found) → kept_of c.kept n ≡ Some found → IsAmong m.scx.update.snaps n → ⊥
     other n found e z = let none : kept_of c.kept n ≡ None = y.dropped n z in let some : kept_of c.kept n ≡ Some found = e in cc
 
     kept : (n : ℕ) (found : Found) → kept_of c.kept n ≡ Some found → (moment : History) × (linked n ≡ Some moment) × IsUsable v.layout c.pass.0 v.past (snap_of n found) moment
     kept n found e = let z = y.kept n found e in (z.0, drops.others n (other n found e) ∙ z.1, z.2)
 
     unkept : (n : ℕ) → n ≤ 8 → kept_of c.kept n ≡ None → v.linked n ≡ None → linked n ≡ None
-    unkept n i e z = go (has_snap m.scx.update.snaps.items n) refl
+    unkept n i e z = go (has_snap m.scx.update.snaps n) refl
       where
-        go : (b : Bool) → has_snap m.scx.update.snaps.items n ≡ b → linked n ≡ None
-        go true q = drops.gone n (snap_there m.scx.update.snaps.items n q)
-        go false q = drops.others n (λ w. let t : has_snap m.scx.update.snaps.items n ≡ true = snap_found m.scx.update.snaps.items n w.at w.within w.is in cc) ∙ z
+        go : (b : Bool) → has_snap m.scx.update.snaps n ≡ b → linked n ≡ None
+        go true q = drops.gone n (snap_there m.scx.update.snaps n q)
+        go false q = drops.others n (λ w. let t : has_snap m.scx.update.snaps n ≡ true = snap_found m.scx.update.snaps n w.at w.within w.is in cc) ∙ z
 
 -- the call of an SCX ends with its answer
 ends_scx : (v : View) (c : Client) (run : Run) (then : Option Put) (a : ScxAnswer) → IsSound v → Answered v c run then (ended.Scx a) → Ends v c c (answer_of (ended.Scx a))
@@ -255,7 +256,7 @@ ends_scx v c (Scx m) then a sound x =
     lost ScxDone y d = absurd (d refl)
     lost (ScxLost node scx) y d = x.works.won.no (aborted_never_won v.layout v.past m.scx.scx.0 sound.lawful (put_aborted m (machine_call v c x.works.is_pass x.works.start) v.past node scx y))
 
-    o : IsOutcome v c.pass.0 m.scx.update.snaps.items x.works.command (answer_of (ended.Scx a))
+    o : IsOutcome v c.pass.0 m.scx.update.snaps x.works.command (answer_of (ended.Scx a))
     o = scx_outcome v c x.works.command m then a x.works.start x.works.is_pass x.works.run_of x.works.moments x.works.room (done a x.answers) (lost a x.answers) x.answers
 ends_scx v c (Llx m) then a sound x = absurd x.answers
 ends_scx v c (Vlx m) then a sound x = absurd x.answers
@@ -286,7 +287,7 @@ first_changed v c cells snaps node index e moments within is found =
         subst (λ (k : ℕ). (moment : History) × (v.linked k ≡ Some moment) × IsUnchanged v.layout v.start moment k) (sym (cell_is snaps i (omega (arith, within)))) (z.moment, z.source, record { same = w.last z.moment z.found; not_final = w.not_final })
 
 -- what the answer of a VLX says: it leaves the snapshots
-vlx_outcome : (v : View) (c : Client) (command : Command) (m : VlxRun) (then : Option Put) (a : VlxAnswer) → IsVlxOf command m.snaps.items then → HaveMoments v c.pass.0 command m.snaps.items → v.won ≡ None → (is_pass : c.pass.0 < v.layout.passes) → vlx_answers m (machine_call v c is_pass v.start) v.past a → IsOutcome v c.pass.0 [] command (answer_of (ended.Vlx a))
+vlx_outcome : (v : View) (c : Client) (command : Command) (m : VlxRun (List Snap)) (then : Option Put) (a : VlxAnswer) → IsVlxOf command m.snaps then → HaveMoments v c.pass.0 command m.snaps → v.won ≡ None → (is_pass : c.pass.0 < v.layout.passes) → vlx_answers m.snaps (machine_call v c is_pass v.start) v.past a → IsOutcome v c.pass.0 [] command (answer_of (ended.Vlx a))
 vlx_outcome v c (VlxOf cells) m None VlxSame x moments won is_pass y = record {
   answers = tt;
   right = λ n q. same n (rw (sym x) at q);
@@ -294,20 +295,20 @@ vlx_outcome v c (VlxOf cells) m None VlxSame x moments won is_pass y = record {
   drops = record { gone = λ n z. absurd (among_none n z); others = λ n z. refl };
 }
   where
-    same : (n : ℕ) → Contains (nodes_of m.snaps.items) n → (moment : History) × (v.linked n ≡ Some moment) × IsUnchanged v.layout v.start moment n
+    same : (n : ℕ) → Contains (nodes_of m.snaps) n → (moment : History) × (v.linked n ≡ Some moment) × IsUnchanged v.layout v.start moment n
     same n q =
-        let i = among m.snaps.items n q in
+        let i = among m.snaps n q in
         let z = moments i.at i.within in
         let w = y.found i.at i.within in
         subst (λ (k : ℕ). (moment : History) × (v.linked k ≡ Some moment) × IsUnchanged v.layout v.start moment k) i.is (z.moment, z.source, record { same = w.last z.moment z.found; not_final = w.not_final })
 vlx_outcome v c (VlxOf cells) m None (VlxChanged node scx) x moments won is_pass y = record {
   answers = tt;
   right = (
-    are_linked v c (VlxOf cells) m.snaps.items (cells_of cells) x (λ i p. let z = moments i p in (z.moment, z.source)),
-    blamed_is v c (VlxOf cells) m.snaps.items (cells_of cells) v.start is_pass node.0 scx.0 (λ moment. v.linked node.0 ≡ Some moment) x moments
+    are_linked v c (VlxOf cells) m.snaps (cells_of cells) x (λ i p. let z = moments i p in (z.moment, z.source)),
+    blamed_is v c (VlxOf cells) m.snaps (cells_of cells) v.start is_pass node.0 scx.0 (λ moment. v.linked node.0 ≡ Some moment) x moments
         (λ i p e. let z = moments i p in (z.moment, z.found, subst (λ (n : ℕ). v.linked n ≡ Some z.moment) e z.source))
-        (vlx_changed m (machine_call v c is_pass v.start) v.past node scx y),
-    first_changed v c.pass.0 cells m.snaps.items node.0 y.index x moments y.within y.node y.before,
+        (vlx_changed m.snaps (machine_call v c is_pass v.start) v.past node scx y),
+    first_changed v c.pass.0 cells m.snaps node.0 y.index x moments y.within y.node y.before,
   );
   entry = entered_none (Changed node scx) v.won won (λ e. cc);
   drops = record { gone = λ n z. absurd (among_none n z); others = λ n z. refl };
@@ -332,7 +333,7 @@ rests_as v c linked drops x = record {
 
 ends_vlx : (v : View) (c : Client) (run : Run) (then : Option Put) (a : VlxAnswer) → Answered v c run then (ended.Vlx a) → Ends v c c (answer_of (ended.Vlx a))
 ends_vlx v c (Vlx m) then a x =
-    let y = subst (λ (k : History). vlx_answers m (machine_call v c x.works.is_pass k) v.past a) x.works.begun x.answers in
+    let y = subst (λ (k : History). vlx_answers m.snaps (machine_call v c x.works.is_pass k) v.past a) x.works.begun x.answers in
     let o = vlx_outcome v c x.works.command m then a x.works.run_of x.works.moments x.works.won x.works.is_pass y in
     record {
       same = record { pass = refl; number = refl; next = refl };

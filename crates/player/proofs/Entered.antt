@@ -20,7 +20,7 @@ use Rattle.prims.specs.Cells.{allows_all}
 use Rattle.prims.specs.PutKnown.{put_waits, put_ready}
 use Rattle.prims.specs.Snaps.{IsAmong}
 use Rattle.prims.specs.ScxKnown.{IsEntryAt, update_entry, removed_nodes, nodes_of}
-use Rattle.prims.specs.VlxKnown.{snap_at}
+use Rattle.prims.specs.Snap.{snap_at}
 use Rattle.prims.specs.declared.snap.Snap.{Snap}
 use Rattle.prims.specs.declared.put.PutRun.{PutRun}
 use Rattle.prims.proofs.Alone.{moment_more}
@@ -73,11 +73,11 @@ same_test true false f g = sym (f refl)
 same_test false true f g = g refl
 
 -- an SCX finalizes the nodes that it is to
-removes_those : (m : PutRun) (number : ℕ) (nodes removed : List ℕ) (field : _) (x n : ℕ) → IsPutOf m number nodes removed field x → ((k : ℕ) → has removed k ≡ true → has nodes k ≡ true) → has (removed_nodes m.scx.update.plan.0 m.scx.update.snaps.items 0) n ≡ has removed n
+removes_those : (m : PutRun) (number : ℕ) (nodes removed : List ℕ) (field : _) (x n : ℕ) → IsPutOf m number nodes removed field x → ((k : ℕ) → has removed k ≡ true → has nodes k ≡ true) → has (removed_nodes m.scx.update.plan.0 m.scx.update.snaps 0) n ≡ has removed n
 removes_those m number nodes removed field x n p inside = same_test _ _ to from
   where
     snaps : List Snap
-    snaps = m.scx.update.snaps.items
+    snaps = m.scx.update.snaps
 
     those : (has (removed_nodes m.scx.update.plan.0 snaps 0) n ≡ true) ↔ (IsAmong snaps n × Contains removed n)
     those = removed_those m.scx.update.plan.0 snaps removed p.finalizes n
@@ -109,8 +109,8 @@ pub record IsEntryFrom (v : View) (c : Client) (row : Row) (s : ℕ) : Type 0 wh
 -- the entry of an SCX, and what its SCX-record says of its call
 record IsOfPut (v : View) (c : Client) (row : Row) (m : PutRun) (start : History) (is_pass : c.pass.0 < v.layout.passes) : Type 0 where
   at : IsEntryAt (machine_call v c is_pass start) (row ⊳ v.past) m.scx row v.past
-  fresh : IsOwnNode v.layout c.pass.0 m.scx.update.fresh
-  value_is : value v.past (node m.scx.update.fresh Value) ≡ m.value
+  fresh : IsOwnNode v.layout c.pass.0 m.scx.update.fresh.0
+  value_is : value v.past (node m.scx.update.fresh.0 Value) ≡ m.value
   called : value v.past (scx m.scx.scx.0 CallWord) ≡ m.scx.call
 
 module _ (v : View) (c : Client) (row : Row) (m : PutRun) (start : History) (is_pass : c.pass.0 < v.layout.passes) (x : IsOfPut v c row m start is_pass) where
@@ -124,21 +124,21 @@ module _ (v : View) (c : Client) (row : Row) (m : PutRun) (start : History) (is_
     value_is = x.value_is ∙ p.value;
   }
 
-  unchanged : (command : Command) (i : ℕ) → i < length m.scx.update.snaps.items → (z : HaveMoments v c.pass.0 command m.scx.update.snaps.items) → (p : i < length m.scx.update.snaps.items) → IsUnchanged v.layout v.past (z i p).moment (snap_at m.scx.update.snaps.items i).node.0
+  unchanged : (command : Command) (i : ℕ) → i < length m.scx.update.snaps → (z : HaveMoments v c.pass.0 command m.scx.update.snaps) → (p : i < length m.scx.update.snaps) → IsUnchanged v.layout v.past (z i p).moment (snap_at m.scx.update.snaps i).node.0
   unchanged command i within z p =
       let y = x.at.found i p in
-      record { same = y.last (z i p).moment (moment_more v.layout v.past row (snap_at m.scx.update.snaps.items i) (z i p).moment (z i p).found); not_final = y.not_final }
+      record { same = y.last (z i p).moment (moment_more v.layout v.past row (snap_at m.scx.update.snaps i) (z i p).moment (z i p).found); not_final = y.not_final }
 
-  does : (command : Command) → IsScxOf command c.number m None → HaveMoments v c.pass.0 command m.scx.update.snaps.items → IsEntryFor v.layout c.pass.0 v.past v.start v.linked (update_entry c.pass.0 m.scx) command
+  does : (command : Command) → IsScxOf command c.number m None → HaveMoments v c.pass.0 command m.scx.update.snaps → IsEntryFor v.layout c.pass.0 v.past v.start v.linked (update_entry c.pass.0 m.scx) command
   does (ScxOf update) p z = (over_nodes (update_cells update) (update_finalize update) (update_field update) (update_value update) (λ k e. part_inside (update_finalize update) (update_cells update) k update.part e) p, all)
     where
       all : AreUnchanged v.layout v.past v.linked (update_cells update)
       all n q =
-          let i = among m.scx.update.snaps.items n (rw (sym p.covers) at q) in
+          let i = among m.scx.update.snaps n (rw (sym p.covers) at q) in
           subst (λ (k : ℕ). (moment : History) × (v.linked k ≡ Some moment) × IsUnchanged v.layout v.past moment k) i.is ((z i.at i.within).moment, (z i.at i.within).source, unchanged (ScxOf update) i.at i.within z i.within)
   does (SetOf field y) p z =
-      let one : has (nodes_of m.scx.update.snaps.items) field.0 ≡ true = rw p.covers (or_left (eqb field.0 field.0) false (eq-eqb field.0 field.0 refl)) in
-      let i : IsAmong m.scx.update.snaps.items field.0 = snap_there m.scx.update.snaps.items field.0 (sym (has_nodes m.scx.update.snaps.items field.0) ∙ one) in (
+      let one : has (nodes_of m.scx.update.snaps) field.0 ≡ true = rw p.covers (or_left (eqb field.0 field.0) false (eq-eqb field.0 field.0 refl)) in
+      let i : IsAmong m.scx.update.snaps field.0 = snap_there m.scx.update.snaps field.0 (sym (has_nodes m.scx.update.snaps field.0) ∙ one) in (
         over_nodes (field.0 ∷ []) [] field y (λ k e. cc) p,
         ((z i.at i.within).moment, (z i.at i.within).found.within, subst (λ (k : ℕ). IsLastLook c.pass.0 v.past v.start (z i.at i.within).moment k) i.is (z i.at i.within).source, subst (λ (k : ℕ). IsUnchanged v.layout v.past (z i.at i.within).moment k) i.is (unchanged (SetOf field y) i.at i.within z i.within)),
       )
@@ -185,7 +185,7 @@ module _ (v : View) (c : Client) (sound : IsSound v) (row : Row) (s : ℕ) (l : 
       called (LlxOf cell) then p = absurd p
       called (VlxOf cells) then p = absurd p
 
-      by_then : (then : Option Put) → IsScxOf x.command c.number m then → HaveMoments v c.pass.0 x.command m.scx.update.snaps.items → IsOfPut v c row m x.start x.is_pass → IsEntryFor v.layout c.pass.0 v.past v.start v.linked (update_entry c.pass.0 m.scx) x.command
+      by_then : (then : Option Put) → IsScxOf x.command c.number m then → HaveMoments v c.pass.0 x.command m.scx.update.snaps → IsOfPut v c row m x.start x.is_pass → IsEntryFor v.layout c.pass.0 v.past v.start v.linked (update_entry c.pass.0 m.scx) x.command
       by_then None p z y = does v c row m x.start x.is_pass y x.command p z
       by_then (Some put) p z y = absurd (none_then x.command put p)
         where

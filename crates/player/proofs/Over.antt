@@ -19,12 +19,12 @@ use Rattle.player.specs.View.{View, Hand, HasTaken, in_hand}
 -- its own machine takes none but the one in hand
 pub takes_by_own : (run : Run) (call : Call) (left : Left) (h : History) (step : Ask) → run_waits run call h step → TakesOnly call.layout call.pass (in_hand left run).scx h (row_of call step h)
 takes_by_own (Llx m) call left h step w = takes_by_step call.layout call.pass left.next_scx h (row_of call step h) (llx_fills_not allows_all m call h step w)
-takes_by_own (Vlx m) call left h step w = takes_by_step call.layout call.pass left.next_scx h (row_of call step h) (vlx_fills_not m call h step w)
+takes_by_own (Vlx m) call left h step w = takes_by_step call.layout call.pass left.next_scx h (row_of call step h) (vlx_fills_not m.snaps m.asked call h step w)
 takes_by_own (Scx m) call left h step w = put_takes allows_all m call h step w
 
 pub nodes_by_own : (run : Run) (call : Call) (left : Left) (h : History) (step : Ask) → run_waits run call h step → (n : ℕ) → n ≢ (in_hand left run).node → ¬ IsTakenNode h n → ¬ IsTakenNode (row_of call step h ⊳ h) n
 nodes_by_own (Llx m) call left h step w n other = untaken_node_by_step h (row_of call step h) n (llx_fills_not allows_all m call h step w)
-nodes_by_own (Vlx m) call left h step w n other = untaken_node_by_step h (row_of call step h) n (vlx_fills_not m call h step w)
+nodes_by_own (Vlx m) call left h step w n other = untaken_node_by_step h (row_of call step h) n (vlx_fills_not m.snaps m.asked call h step w)
 nodes_by_own (Scx m) call left h step w n other = put_untaken_node allows_all m call h step n w other
 
 -- what a client has in hand is all that it has taken in its call

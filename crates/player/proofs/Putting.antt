@@ -14,7 +14,7 @@ use Rattle.prims.specs.Updates.{field_place}
 use Rattle.prims.specs.declared.update.Update.{Update}
 use Rattle.prims.specs.Snaps.{HasNode}
 use Rattle.prims.specs.ScxKnown.{IsUpdateOver, nodes_of}
-use Rattle.prims.specs.VlxKnown.{snap_at}
+use Rattle.prims.specs.Snap.{snap_at}
 use Rattle.prims.specs.PutSteps.{put_left}
 use Rattle.prims.specs.declared.snap.Snap.{Snap}
 use Rattle.prims.specs.declared.llx.LlxRun.{LlxRun}
@@ -153,7 +153,7 @@ answered_put v c m next put a snap e d x = subst (λ t. Answered v c (Llx m) t (
 -- An SCX takes the next records of the share
 
 -- an SCX over an update of these snapshots
-pub put_of : (m : PutRun) (u : Update) (number : ℕ) (snaps : List Snap) (finalize : List NodeNo) (field : NodeNo × Side) (x : ℕ) → m.scx.update ≡ u → m.scx.call ≡ number → m.value ≡ x → u.snaps.items ≡ snaps → (snap_at snaps (field_place u)).node.0 ≡ field.0.0 → side_of u.plan.0 ≡ field.1 → ((j : ℕ) → j < length snaps → (removes u.plan.0 j ≡ true) ↔ HasNode finalize (snap_at snaps j).node.0) → IsPutOf m number (nodes_of snaps) (map (λ (n : NodeNo). n.0) finalize) (field.0.0, field.1) x
+pub put_of : (m : PutRun) (u : Update) (number : ℕ) (snaps : List Snap) (finalize : List NodeNo) (field : NodeNo × Side) (x : ℕ) → m.scx.update ≡ u → m.scx.call ≡ number → m.value ≡ x → u.snaps ≡ snaps → (snap_at snaps (field_place u)).node.0 ≡ field.0.0 → side_of u.plan.0 ≡ field.1 → ((j : ℕ) → j < length snaps → (removes u.plan.0 j ≡ true) ↔ HasNode finalize (snap_at snaps j).node.0) → IsPutOf m number (nodes_of snaps) (map (λ (n : NodeNo). n.0) finalize) (field.0.0, field.1) x
 put_of m u number snaps finalize field x e k w is at side removed = record {
   called = k;
   covers = rw (e, is) refl;
@@ -164,7 +164,7 @@ put_of m u number snaps finalize field x e k w is at side removed = record {
 }
 
 -- with them the SCX may begin
-pub put_starts : (v : View) (linked : ℕ → Option History) (c : Client) (snaps : List Snap) (removed : List ℕ) (field : ℕ × Side) (x : ℕ) (kept : Kept) (m : PutRun) → IsSound v → CanPut v linked c snaps removed field x → 0 < c.share.nodes → 0 < c.share.scx → ((n : ℕ) → kept_of kept n ≡ (if has_snap snaps n then None else kept_of c.kept n)) → IsUpdateOver m.scx.update → m.scx.update.snaps.items ≡ snaps → m.scx.update.fresh ≡ c.share.next_node → m.scx.scx.0 ≡ c.share.next_scx → m.scx.at ≡ ScxStart → m.at ≡ PutStart → IsPutOf m c.number (nodes_of snaps) removed field x → put_left m ≤ 40 → Starts v (record c { share = taken c.share; kept = kept }) (Scx m) None
+pub put_starts : (v : View) (linked : ℕ → Option History) (c : Client) (snaps : List Snap) (removed : List ℕ) (field : ℕ × Side) (x : ℕ) (kept : Kept) (m : PutRun) → IsSound v → CanPut v linked c snaps removed field x → 0 < c.share.nodes → 0 < c.share.scx → ((n : ℕ) → kept_of kept n ≡ (if has_snap snaps n then None else kept_of c.kept n)) → IsUpdateOver m.scx.update → m.scx.update.snaps ≡ snaps → m.scx.update.fresh.0 ≡ c.share.next_node → m.scx.scx.0 ≡ c.share.next_scx → m.scx.at ≡ ScxStart → m.at ≡ PutStart → IsPutOf m c.number (nodes_of snaps) removed field x → put_left m ≤ 40 → Starts v (record c { share = taken c.share; kept = kept }) (Scx m) None
 put_starts v linked c snaps removed field x kept m sound can some_node some_scx left over is fresh scx start at of bound = record {
   works = record {
     stands = record {

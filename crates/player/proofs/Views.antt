@@ -20,7 +20,7 @@ use Rattle.prims.specs.Moments.{AreOver}
 use Rattle.prims.specs.Begun.{TakesOnly, takes_by_others}
 use Rattle.prims.proofs.Alone.{moment_more, over_more}
 use Rattle.prims.specs.Snaps.{IsAmong}
-use Rattle.prims.specs.VlxKnown.{snap_at}
+use Rattle.prims.specs.Snap.{snap_at}
 use Rattle.prims.specs.declared.snap.Snap.{Snap}
 use Rattle.script.specs.declared.command.Command.{Command}
 use Rattle.script.specs.declared.command.Command.TheVariants.{Llx as LlxOf, Scx as ScxOf, Vlx as VlxOf, Set as SetOf}
@@ -52,7 +52,7 @@ some_number a b e = cc
 
 pub share_by_own : (run : Run) (call : Call) (h : History) (step : Ask) (left : Left) (node scx : ℕ) → Lawful call.layout (row_of call step h ⊳ h) → run_waits run call h step → HasNewest left run → IsShare call.layout h call.pass left node scx → IsShare call.layout (row_of call step h ⊳ h) call.pass left node scx
 share_by_own (Llx m) call h step left node scx l w newest x = share_by_step call.layout h (row_of call step h) call.pass left node scx l (llx_fills_not allows_all m call h step w) x
-share_by_own (Vlx m) call h step left node scx l w newest x = share_by_step call.layout h (row_of call step h) call.pass left node scx l (vlx_fills_not m call h step w) x
+share_by_own (Vlx m) call h step left node scx l w newest x = share_by_step call.layout h (row_of call step h) call.pass left node scx l (vlx_fills_not m.snaps m.asked call h step w) x
 share_by_own (Scx m) call h step left node scx l w newest x = share_by_put allows_all m call h step left node scx l w newest.0 newest.1 x
 
 -- the view with one row more, with this begin of the call, so many steps of its own, and this turn of its update
@@ -181,8 +181,8 @@ module _ (v : View) (c : Client) (r : Row) (number : ℕ) (start : History) (ste
   -- an LLX has no snapshots yet, and those of a VLX are kept ones
   moments_by : (q : Run) (then : Option Put) (command : Command) → start ≡ v.start → ((m : PutRun) → q ≡ Scx m → r.pass.0 ≡ c.pass.0 → r.kind ≢ LoadInfo) → IsRunOf command c.number q then → HaveMoments v c.pass.0 command (snaps_of q) → HaveMoments (after_row v r start steps won) c.pass.0 command (snaps_of q)
   moments_by (Llx m) then command since looks of x = λ i p. absurd (omega arith)
-  moments_by (Scx m) then command since looks of x = moments_more command m.scx.update.snaps.items since (looks m refl) x
-  moments_by (Vlx m) then (VlxOf cells) since looks of x = λ i p. let y = x i p in record { moment = y.moment; found = moment_more v.layout v.past r (snap_at m.snaps.items i) y.moment y.found; source = y.source }
+  moments_by (Scx m) then command since looks of x = moments_more command m.scx.update.snaps since (looks m refl) x
+  moments_by (Vlx m) then (VlxOf cells) since looks of x = λ i p. let y = x i p in record { moment = y.moment; found = moment_more v.layout v.past r (snap_at m.snaps i) y.moment y.found; source = y.source }
   moments_by (Vlx m) then (LlxOf cell) since looks of x = absurd of
   moments_by (Vlx m) then (ScxOf update) since looks of x = absurd of
   moments_by (Vlx m) then (SetOf field x) since looks of y = absurd of

@@ -24,18 +24,18 @@ use Rattle.player.specs.declared.run.Ended.TheVariants as ended
 abbrev pub run_ready : Run → Call → History → Option ℕ → Type 0
 run_ready (Llx m) c h got = llx_ready allows_all m c h got
 run_ready (Scx m) c h got = put_ready allows_all m c h got
-run_ready (Vlx m) c h got = vlx_ready m c h got
+run_ready (Vlx m) c h got = vlx_ready m.snaps m.asked c h got
 
 abbrev pub run_waits : Run → Call → History → Step → Type 0
 run_waits (Llx m) c h s = llx_waits allows_all m c h s
 run_waits (Scx m) c h s = put_waits allows_all m c h s
-run_waits (Vlx m) c h s = vlx_waits m c h s
+run_waits (Vlx m) c h s = vlx_waits m.snaps m.asked c h s
 
 -- a machine answers of its own kind
 abbrev pub run_answers : Run → Call → History → Ended → Type 0
 run_answers (Llx m) c h (ended.Llx a) = llx_answers m c h a
 run_answers (Scx m) c h (ended.Scx a) = put_answers m c h a
-run_answers (Vlx m) c h (ended.Vlx a) = vlx_answers m c h a
+run_answers (Vlx m) c h (ended.Vlx a) = vlx_answers m.snaps c h a
 run_answers _ c h _ = ⊥
 
 -- what the record says of it
@@ -62,14 +62,14 @@ run_asks_first m = Unit {0}
 pub run_keeps : (m : Run) (c : Call) (h : History) (s : Step) (r : Row) → IsRun allows_all c.layout (r ⊳ h) → r.pass.0 ≢ c.pass → run_waits m c h s → run_waits m c (r ⊳ h) s
 run_keeps (Llx m) c h s r run other w = llx_keeps allows_all m c h s r run other w
 run_keeps (Scx m) c h s r run other w = put_keeps allows_all m c h s r run other w
-run_keeps (Vlx m) c h s r run other w = vlx_keeps allows_all m c h s r run other w
+run_keeps (Vlx m) c h s r run other w = vlx_keeps allows_all m.snaps m.asked c h s r run other w
 
 pub run_lawful : (m : Run) (c : Call) (h : History) (s : Step) → IsRun allows_all c.layout h → run_waits m c h s → IsRun allows_all c.layout (row_of c s h ⊳ h)
 run_lawful (Llx m) c h s run w = llx_lawful allows_all m c h s run w
 run_lawful (Scx m) c h s run w = put_lawful allows_all m c h s run w
-run_lawful (Vlx m) c h s run w = vlx_lawful allows_all m c h s run w
+run_lawful (Vlx m) c h s run w = vlx_lawful allows_all m.snaps m.asked c h s run w
 
 pub run_made : (m : Run) (c : Call) (h : History) (s : Step) (v : ℕ) → IsRun allows_all c.layout (row_of c s h ⊳ h) → IsTold s.deed (value h s.word) v → run_waits m c h s → run_ready m c (row_of c s h ⊳ h) (Some v)
 run_made (Llx m) c h s v run told w = llx_made allows_all m c h s v run told w
 run_made (Scx m) c h s v run told w = put_made allows_all m c h s v run told w
-run_made (Vlx m) c h s v run told w = vlx_made allows_all m c h s v run told w
+run_made (Vlx m) c h s v run told w = vlx_made allows_all m.snaps m.asked c h s v run told w

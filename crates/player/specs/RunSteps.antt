@@ -10,7 +10,7 @@ use Rattle.player.specs.declared.run.Run.TheVariants.{Llx, Scx, Vlx}
 abbrev pub run_left : Run → ℕ
 run_left (Llx run) = llx_left run.at
 run_left (Scx run) = put_left run
-run_left (Vlx run) = vlx_left run
+run_left (Vlx run) = vlx_left run.snaps run.asked
 
 -- how many steps what follows it may ask for: the SCX of a set
 abbrev pub then_left : Option Put → ℕ

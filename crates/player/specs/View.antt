@@ -13,7 +13,7 @@ use Rattle.prims.specs.Cells.{allows_all}
 use Rattle.prims.specs.Moments.{IsMoment, AreOver, HasTakenOnly}
 use Rattle.prims.specs.ScxKnown.{nodes_of}
 use Rattle.prims.specs.Shares.{IsShare, IsUsable}
-use Rattle.prims.specs.VlxKnown.{snap_at}
+use Rattle.prims.specs.Snap.{snap_at}
 use Rattle.prims.specs.Snaps.{IsAmong}
 use Rattle.prims.specs.Updates.{field_place}
 use Rattle.prims.specs.declared.put.PutRun.{PutRun}
@@ -74,12 +74,12 @@ abbrev pub no_hand : Left → Hand
 no_hand left = record { node = left.next_node; scx = left.next_scx; snaps = [] }
 
 abbrev pub in_hand : Left → Run → Hand
-in_hand left (Scx m) = record { node = m.scx.update.fresh; scx = m.scx.scx.0; snaps = m.scx.update.snaps.items }
+in_hand left (Scx m) = record { node = m.scx.update.fresh.0; scx = m.scx.scx.0; snaps = m.scx.update.snaps }
 in_hand left _ = no_hand left
 
 -- an SCX has the newest records of the share in hand
 abbrev pub HasNewest : Left → Run → Type 0
-HasNewest left (Scx m) = (left.next_node ≡ suc m.scx.update.fresh) × (left.next_scx ≡ suc m.scx.scx.0) × (m.scx.scx.0 ≢ 0)
+HasNewest left (Scx m) = (left.next_node ≡ suc m.scx.update.fresh.0) × (left.next_scx ≡ suc m.scx.scx.0) × (m.scx.scx.0 ≢ 0)
 HasNewest left _ = Unit {0}
 
 -- the machine, and what follows it, are those of the command
@@ -91,9 +91,9 @@ IsLlxOf _ n _ = ⊥
 -- an SCX of the client's call of this number covers these nodes, finalizes those in the second list, and puts a node of this value into that field
 pub record IsPutOf (m : PutRun) (number : ℕ) (nodes removed : List ℕ) (field : ℕ × Side) (x : ℕ) : Type 0 where
   pub called : m.scx.call ≡ number
-  pub covers : nodes_of m.scx.update.snaps.items ≡ nodes
-  pub finalizes : (j : ℕ) → j < length m.scx.update.snaps.items → (removes m.scx.update.plan.0 j ≡ true) ↔ Contains removed (snap_at m.scx.update.snaps.items j).node.0
-  pub node : (snap_at m.scx.update.snaps.items (field_place m.scx.update)).node.0 ≡ field.0
+  pub covers : nodes_of m.scx.update.snaps ≡ nodes
+  pub finalizes : (j : ℕ) → j < length m.scx.update.snaps → (removes m.scx.update.plan.0 j ≡ true) ↔ Contains removed (snap_at m.scx.update.snaps j).node.0
+  pub node : (snap_at m.scx.update.snaps (field_place m.scx.update)).node.0 ≡ field.0
   pub side : side_of m.scx.update.plan.0 ≡ field.1
   pub value : m.value ≡ x
 
@@ -109,7 +109,7 @@ IsVlxOf _ snaps _ = ⊥
 abbrev pub IsRunOf : Command → ℕ → Run → Option Put → Type 0
 IsRunOf command number (Llx m) then = (m.node.0 ≤ 8) × IsLlxOf command m.node.0 then
 IsRunOf command number (Scx m) then = IsScxOf command number m then
-IsRunOf command number (Vlx m) then = IsVlxOf command m.snaps.items then
+IsRunOf command number (Vlx m) then = IsVlxOf command m.snaps then
 
 -- a client between two turns, but for its machine; its next call is the first that is not answered; the SCX-records that it has taken are finished, but for the one that it may have in hand;
 -- what it keeps are the snapshots that the lines say, but for those that it has in hand
@@ -142,8 +142,8 @@ IsStart _ start begun = start ≡ begun
 -- the snapshots of a machine
 abbrev pub snaps_of : Run → List Snap
 snaps_of (Llx m) = []
-snaps_of (Scx m) = m.scx.update.snaps.items
-snaps_of (Vlx m) = m.snaps.items
+snaps_of (Scx m) = m.scx.update.snaps
+snaps_of (Vlx m) = m.snaps
 
 -- the moment is that of the snapshot of the node: for a `set` one of the call itself, else that of the snapshot which the client keeps
 abbrev pub IsSource : View → ℕ → Command → ℕ → History → Type 0

@@ -7,7 +7,7 @@ use crate::record::{Answer, Reply, Resource};
 use crate::run::{Ended, Run};
 use arena::{Fresh, Layout, Machine, NodeNo, PassNo, ScxNo, Share, Side, Step, Turn};
 use arrayvec::ArrayVec;
-use prims::{Cells, Llx, LlxRun, PutRun, ScxRun, Snap, Update, VlxRun};
+use prims::{Cells, Llx, LlxRun, PutRun, ScxRun, Snap, Snaps, Update, VlxRun};
 use script::{Call, Cell, Command};
 
 /// What a `set` does once its LLX has given a snapshot.
@@ -146,7 +146,7 @@ impl Client {
             }
             Command::Scx(update) => self.begin_scx(&update),
             Command::Vlx { cells } => match self.kept.linked(cells.as_slice()) {
-                Ok(snaps) => self.run(Run::Vlx(VlxRun::new(&snaps)), None),
+                Ok(snaps) => self.run(Run::Vlx(VlxRun::new(Snaps::new(&snaps))), None),
                 Err(node) => Some(Answer::Unlinked { node }),
             },
         }

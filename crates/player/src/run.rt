@@ -3,14 +3,14 @@ ghost use Rattle.std.specs.Prelude.{◌≡◌, ℕ};
 
 use crate::record::Answer;
 use arena::{Machine, Turn};
-use prims::{Cells, Llx, LlxRun, PutRun, Scx, Vlx, VlxRun};
+use prims::{Cells, Llx, LlxRun, PutRun, Scx, Snaps, Vlx, VlxRun};
 
 /// A call that has begun. A `set` is first an LLX and then an SCX.
 #[derive(Debug, Drop)]
 pub(crate) enum Run {
     Llx(LlxRun),
     Scx(PutRun),
-    Vlx(VlxRun),
+    Vlx(VlxRun<Snaps>),
 }
 
 /// What a machine answered.

@@ -1,5 +1,5 @@
 -- LLX and VLX never ask for a fill.
-use Rattle.std.proofs.Common.{◌≡◌, ◌≢◌, ℕ, ap}
+use Rattle.std.proofs.Common.{◌≡◌, ◌≢◌, ℕ, List, ap}
 use Rattle.arena.specs.declared.layout.Layout.{Layout}
 use Rattle.arena.specs.declared.step.Step.{Step}
 use Rattle.arena.specs.declared.step.Kind.{Kind}
@@ -15,7 +15,7 @@ use Rattle.prims.specs.VlxKnown.{vlx_waits}
 use Rattle.prims.specs.declared.llx.LlxRun.{LlxRun}
 use Rattle.prims.specs.declared.llx.LlxAt.{LlxAt}
 use Rattle.prims.specs.declared.llx.LlxAt.TheVariants.{Start, Marked, Info, State, MarkedAgain, Left as AtLeft, Right as AtRight, InfoAgain, StateAgain, Help, LastInfo, LastState, LastHelp}
-use Rattle.prims.specs.declared.vlx.VlxRun.{VlxRun}
+use Rattle.prims.specs.declared.snap.Snap.{Snap}
 
 -- a load is of its own kind
 load_kind : (k : Kind) (w : Word) (s : Step) → s ≡ load k w → s.kind ≡ k
@@ -42,5 +42,5 @@ pub llx_fills_not : (allows : Layout → History → ℕ → Type 0) (m : LlxRun
 llx_fills_not allows m c h s w = fills_not_at allows c h m.node.0 m.at s w.asked
 
 -- VLX
-pub vlx_fills_not : (m : VlxRun) (c : Call) (h : History) (s : Step) → vlx_waits m c h s → s.kind ≢ Fill
-vlx_fills_not m c h s w f = let e = load_kind LoadInfo _ s w.asked in cc
+pub vlx_fills_not : (snaps : List Snap) (asked : ℕ) (c : Call) (h : History) (s : Step) → vlx_waits snaps asked c h s → s.kind ≢ Fill
+vlx_fills_not snaps asked c h s w f = let e = load_kind LoadInfo _ s w.asked in cc

@@ -1,5 +1,5 @@
 -- Which of its own rows leave a pass idle: those of an LLX and of a VLX, and those of an SCX but for its own SCX-record.
-use Rattle.std.proofs.Common.{◌≡◌, ◌≢◌, ℕ, sym, ◌∙◌, ap, arith}
+use Rattle.std.proofs.Common.{◌≡◌, ◌≢◌, ℕ, sym, ◌∙◌, ap, arith, List}
 use native.Mathlib.Decide.{ℕ_discrete}
 use Rattle.arena.specs.declared.limits.Mode.{Mode}
 use Rattle.arena.specs.declared.layout.Layout.{Layout}
@@ -23,7 +23,7 @@ use Rattle.prims.specs.declared.put.PutRun.{PutRun}
 use Rattle.prims.specs.declared.put.PutAt.{PutAt}
 use Rattle.prims.specs.declared.put.PutAt.TheVariants.{Start as PutStart, Fill as AtFill, Scx as AtScx}
 use Rattle.prims.specs.declared.llx.LlxRun.{LlxRun}
-use Rattle.prims.specs.declared.vlx.VlxRun.{VlxRun}
+use Rattle.prims.specs.declared.snap.Snap.{Snap}
 use Rattle.prims.specs.declared.scx.ScxRun.{ScxRun}
 use Rattle.prims.specs.declared.scx.Scx.{Scx}
 use Rattle.prims.specs.declared.scx.Scx.TheVariants.{Done, Lost}
@@ -44,8 +44,8 @@ pub idle_by_llx : (allows : Layout → History → ℕ → Type 0) (m : LlxRun) 
 idle_by_llx allows m c h step l w = idle_at allows c h m.node.0 m.at step l w.known w.asked (w.quiet h (ends_self h) w.since)
 
 -- so does a row of a VLX
-pub idle_by_vlx : (m : VlxRun) (c : Call) (h : History) (step : Step) → Lawful c.layout (row_of c step h ⊳ h) → vlx_waits m c h step → IsIdle c.layout c.pass h → IsIdle c.layout c.pass (row_of c step h ⊳ h)
-idle_by_vlx m c h step l w idle = idle_by_no_freeze c.layout c.pass h (row_of c step h) l (λ f. let e = ap (λ (t : Step). t.kind) w.asked in cc) idle
+pub idle_by_vlx : (snaps : List Snap) (asked : ℕ) (c : Call) (h : History) (step : Step) → Lawful c.layout (row_of c step h ⊳ h) → vlx_waits snaps asked c h step → IsIdle c.layout c.pass h → IsIdle c.layout c.pass (row_of c step h ⊳ h)
+idle_by_vlx snaps asked c h step l w idle = idle_by_no_freeze c.layout c.pass h (row_of c step h) l (λ f. let e = ap (λ (t : Step). t.kind) w.asked in cc) idle
 
 -- SCX
 

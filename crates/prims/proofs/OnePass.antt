@@ -1,5 +1,5 @@
 -- Where there is one pass, nothing is ever in its way.
-use Rattle.std.proofs.Common.{◌≡◌, ℕ, ◌<◌, arith}
+use Rattle.std.proofs.Common.{◌≡◌, ℕ, ◌<◌, arith, List}
 use Rattle.arena.specs.declared.layout.Layout.{Layout}
 use Rattle.arena.specs.declared.number.NodeNo.{NodeNo}
 use Rattle.arena.specs.declared.number.ScxNo.{ScxNo}
@@ -13,7 +13,7 @@ use Rattle.prims.specs.declared.llx.LlxRun.{LlxRun}
 use Rattle.prims.specs.declared.llx.Llx.TheVariants.{Fail}
 use Rattle.prims.specs.declared.put.PutRun.{PutRun}
 use Rattle.prims.specs.declared.scx.Scx.TheVariants.{Lost}
-use Rattle.prims.specs.declared.vlx.VlxRun.{VlxRun}
+use Rattle.prims.specs.declared.snap.Snap.{Snap}
 use Rattle.prims.specs.declared.vlx.Vlx.TheVariants.{Changed}
 
 -- no SCX-record is another pass's
@@ -27,5 +27,5 @@ alone_never_fails m c h node s one x = no_others c.layout c.pass s.0 one c.is_pa
 pub alone_never_loses : (m : PutRun) (c : Call) (h : History) (node : NodeNo) (s : ScxNo) → c.layout.passes ≡ 1 → put_answers m c h (Lost node s) → ⊥
 alone_never_loses m c h node s one x = no_others c.layout c.pass s.0 one c.is_pass x.1.blamed.others
 
-pub alone_never_changes : (m : VlxRun) (c : Call) (h : History) (node : NodeNo) (s : ScxNo) → c.layout.passes ≡ 1 → vlx_answers m c h (Changed node s) → ⊥
-alone_never_changes m c h node s one x = no_others c.layout c.pass s.0 one c.is_pass x.blamed.others
+pub alone_never_changes : (snaps : List Snap) (c : Call) (h : History) (node : NodeNo) (s : ScxNo) → c.layout.passes ≡ 1 → vlx_answers snaps c h (Changed node s) → ⊥
+alone_never_changes snaps c h node s one x = no_others c.layout c.pass s.0 one c.is_pass x.blamed.others

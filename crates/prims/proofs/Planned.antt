@@ -9,10 +9,9 @@ use Rattle.arena.specs.ScxRecords.{IsPlan, count_of, removes, index_of, side_of}
 use Rattle.histories.proofs.Helds.{or_split, or_right}
 use Rattle.help.specs.Plan.{side_no, removed_bits}
 use Rattle.help.proofs.Packed.{packed_count, packed_field, packed_side, packed_within, packed_removes}
-use Rattle.prims.specs.Snap.{child_of}
+use Rattle.prims.specs.Snap.{child_of, snap_at}
 use Rattle.prims.specs.Snaps.{AreDistinct, IsAmong, HasNode, has_node, finalizes}
 use Rattle.prims.specs.ScxKnown.{IsUpdateOver, removed_nodes}
-use Rattle.prims.specs.VlxKnown.{snap_at}
 use Rattle.prims.proofs.Snapshots.{has_from, has_to}
 use Rattle.prims.specs.declared.snap.Snap.{Snap}
 use Rattle.prims.specs.declared.update.Update.{Update}
@@ -61,12 +60,12 @@ module _ (snaps : List Snap) (nodes : List NodeNo) (at : ℕ) (side : Side) (bs 
       (λ q. has_from nodes (snap_at snaps j).node.0 (sym e ∙ q), λ x. e ∙ has_to nodes (snap_at snaps j).node.0 x)
 
   -- an update with that plan is over the snapshots
-  pub update_over : (u : Update) → u.plan.0 ≡ p → u.snaps.items ≡ snaps → AreDistinct snaps → u.old ≡ child_of (snap_at snaps at) side → IsUpdateOver u
+  pub update_over : (u : Update) → u.plan.0 ≡ p → u.snaps ≡ snaps → AreDistinct snaps → u.old ≡ child_of (snap_at snaps at) side → IsUpdateOver u
   update_over u e f d o = record {
     planned = rw e plan_is;
     count = rw (e, f) counts;
     distinct = rw f d;
-    old = old_is u.snaps.items snaps (index_of u.plan.0) at (side_of u.plan.0) side u.old f (ap index_of e ∙ field_is) (ap side_of e ∙ side_is) o;
+    old = old_is u.snaps snaps (index_of u.plan.0) at (side_of u.plan.0) side u.old f (ap index_of e ∙ field_is) (ap side_of e ∙ side_is) o;
   }
 
 -- The nodes that it finalizes

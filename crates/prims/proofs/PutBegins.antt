@@ -17,9 +17,9 @@ use Rattle.prims.specs.declared.scx.ScxRun.{ScxRun}
 use Rattle.prims.specs.declared.scx.ScxAt.TheVariants.{Start}
 
 -- an update over usable snapshots, and the next SCX-record and the next node of the pass's share, which nothing mentions
-pub put_begin : (lay : Layout) (c : ℕ) (h : History) (m : ScxRun) → Lawful lay h → IsUpdateOver m.update → AllLinked lay h m.update.snaps.items → m.at ≡ Start
+pub put_begin : (lay : Layout) (c : ℕ) (h : History) (m : ScxRun) → Lawful lay h → IsUpdateOver m.update → AllLinked lay h m.update.snaps → m.at ≡ Start
     → IsOwnScx lay c m.scx.0 → ((t : ℕ) → IsOwnScx lay c t → t < m.scx.0 → IsTakenScx h t) → ¬ IsTakenScx h m.scx.0
-    → IsOwnNode lay c m.update.fresh → ((n : ℕ) → IsOwnNode lay c n → n < m.update.fresh → IsTakenNode h n) → IsUnmentioned h m.update.fresh
+    → IsOwnNode lay c m.update.fresh.0 → ((n : ℕ) → IsOwnNode lay c n → n < m.update.fresh.0 → IsTakenNode h n) → IsUnmentioned h m.update.fresh.0
     → PutHand allows_all lay c h m
 put_begin lay c h m l over linked start own_scx scx_in_order free own_node node_in_order u = record { hand = hand; start = start; in_order = node_in_order; allowed = λ k r d later f y n later_n run e b w. tt }
   where
@@ -37,7 +37,7 @@ put_begin lay c h m l over linked start own_scx scx_in_order free own_node node_
       is_open = record { own = own_scx; in_order = scx_in_order; unnamed = λ p. free (named_scx_taken lay h m.scx.0 l real p) };
       unfinished = unfinished (ℕ_discrete (value h (state m.scx.0)) 0);
       fresh = own_node;
-      unnamed = unmentioned_unnamed lay h c m.update.fresh own_node u;
+      unnamed = unmentioned_unnamed lay h c m.update.fresh.0 own_node u;
       in_no_field = u.in_no_field;
       in_no_other = λ t d p. u.in_no_scx t New tt p;
       allowed = λ d y k later run e b w. tt;

@@ -31,10 +31,10 @@ use Rattle.prims.specs.declared.put.PutAt.{PutAt}
 use Rattle.prims.specs.declared.put.PutAt.TheVariants.{Start, Fill as AtFill, Scx}
 
 -- an SCX-record that is filled covers the nodes of the snapshots
-pub filled_covers : (c : Call) (h : History) (s number n : ℕ) (u : Update) → HasFilled c h s number u → IsMember h s n → IsAmong u.snaps.items n
+pub filled_covers : (c : Call) (h : History) (s number n : ℕ) (u : Update) → HasFilled c h s number u → IsMember h s n → IsAmong u.snaps n
 filled_covers c h s number n u x y = record { at = y.index; within = within; is = sym (x.members y.index within) ∙ y.is }
   where
-    within : y.index < length u.snaps.items
+    within : y.index < length u.snaps
     within = rw (ap count_of x.planned ∙ x.over.count) at y.within
 
 -- What it knows
@@ -86,15 +86,15 @@ module _ (allows : Layout → History → ℕ → Type 0) (m : PutRun) (c : Call
   put_full_then v p w = full_then m.at v p w
 
   -- while it is in progress it covers only nodes of its snapshots
-  pub put_covers : (s : Step) (n : ℕ) → put_waits allows m c h s → IsInProgress h m.scx.scx.0 → IsMember h m.scx.scx.0 n → IsAmong m.scx.update.snaps.items n
+  pub put_covers : (s : Step) (n : ℕ) → put_waits allows m c h s → IsInProgress h m.scx.scx.0 → IsMember h m.scx.scx.0 n → IsAmong m.scx.update.snaps n
   put_covers s n w p x = filled_covers c h m.scx.scx.0 m.scx.call n m.scx.update (put_full s p.named w).0 x
 
-  pub put_covers_then : (v n : ℕ) → put_ready allows m c h (Some v) → IsInProgress h m.scx.scx.0 → IsMember h m.scx.scx.0 n → IsAmong m.scx.update.snaps.items n
+  pub put_covers_then : (v n : ℕ) → put_ready allows m c h (Some v) → IsInProgress h m.scx.scx.0 → IsMember h m.scx.scx.0 n → IsAmong m.scx.update.snaps n
   put_covers_then v n w p x = filled_covers c h m.scx.scx.0 m.scx.call n m.scx.update (put_full_then v p.named w).0 x
 
   -- the entry of the row at which its update has won
   abbrev pub IsFullEntry : Row → History → Type 0
-  IsFullEntry row before = IsEntryAt c h m.scx row before × (value before (node m.scx.update.fresh Value) ≡ m.value)
+  IsFullEntry row before = IsEntryAt c h m.scx row before × (value before (node m.scx.update.fresh.0 Value) ≡ m.value)
 
   -- it is that of an SCX-record that is filled
   full_entry : (row : Row) (before : History) → Lawful c.layout h → EndsWith h (row ⊳ before) → IsWin before row m.scx.scx.0 → IsFull → IsFullEntry row before

@@ -14,7 +14,7 @@ use Rattle.arena.specs.Machines.{Call, row_of}
 use Rattle.histories.proofs.Unmentioned.{IsUnmentioned, IsMention, unmentioned_by_fill, unmentioned_by_step}
 use Rattle.histories.proofs.Taking.{untaken_by_step, untaken_by_node, untaken_by_other_fill}
 use Rattle.help.specs.HelpLawful.{help_fills_not}
-use Rattle.prims.specs.VlxKnown.{snap_at}
+use Rattle.prims.specs.Snap.{snap_at}
 use Rattle.prims.specs.ScxKnown.{wanted, part_at, IsWithin, Fills, FillWaits, fill_step, scx_waits_at}
 use Rattle.prims.specs.PutKnown.{put_step, put_waits_at, put_waits}
 use Rattle.prims.specs.declared.scx.ScxRun.{ScxRun}
@@ -26,21 +26,21 @@ use Rattle.prims.specs.declared.put.PutAt.TheVariants.{Start, Fill as AtFill, Sc
 
 -- Nodes that nothing mentions
 
-module _ (allows : Layout → History → ℕ → Type 0) (m : ScxRun) (c : Call) (h : History) (n : ℕ) (late : opening_nodes c.layout.mode ≤ n) (other : n ≢ m.update.fresh) (u : IsUnmentioned h n) where
+module _ (allows : Layout → History → ℕ → Type 0) (m : ScxRun) (c : Call) (h : History) (n : ℕ) (late : opening_nodes c.layout.mode ≤ n) (other : n ≢ m.update.fresh.0) (u : IsUnmentioned h n) where
   -- what a word that names nodes is to hold is another node: the fresh one, or one that a field has held
   not_wanted : (at : ScxAt) → Fills allows c h m at → IsMention (scx m.scx.0 (part_at at)) → wanted m (part_at at) ≢ n
   not_wanted at x = go at x.within
     where
-      old_held : HasHeld h (child (snap_at m.update.snaps.items (field_of m.update.plan.0)).node.0 (side_of m.update.plan.0)) m.update.old.0
+      old_held : HasHeld h (child (snap_at m.update.snaps (field_of m.update.plan.0)).node.0 (side_of m.update.plan.0)) m.update.old.0
       old_held = rw x.hand.update.old ((x.hand.linked (field_of m.update.plan.0) (rw x.hand.update.count at x.hand.update.planned.field)).had (side_of m.update.plan.0))
 
       in_field : (k : ℕ) → IsInField c.layout h k → k ≢ n
       in_field k (inl i) e = omega arith
       in_field k (inr y) e = u.in_no_field y.0 y.1 (subst (λ v. HasHeld h (child y.0 y.1) v) e y.3)
 
-      go : (at : ScxAt) → IsWithin (length m.update.snaps.items) at → IsMention (scx m.scx.0 (part_at at)) → wanted m (part_at at) ≢ n
+      go : (at : ScxAt) → IsWithin (length m.update.snaps) at → IsMention (scx m.scx.0 (part_at at)) → wanted m (part_at at) ≢ n
       go AtNew i k e = other (sym e)
-      go AtOld i k e = u.in_no_field _ _ (subst (λ v. HasHeld h (child (snap_at m.update.snaps.items (field_of m.update.plan.0)).node.0 (side_of m.update.plan.0)) v) e old_held)
+      go AtOld i k e = u.in_no_field _ _ (subst (λ v. HasHeld h (child (snap_at m.update.snaps (field_of m.update.plan.0)).node.0 (side_of m.update.plan.0)) v) e old_held)
       go (AtMember j) i k e = in_field _ (x.hand.linked (index_of j) i).in_field e
       go (AtSeen j) i k e = absurd k
       go AtCall i k e = absurd k
@@ -64,13 +64,13 @@ module _ (allows : Layout → History → ℕ → Type 0) (m : ScxRun) (c : Call
   unmentioned_at AtCall s l w = unmentioned_fill AtCall s w
 
 -- a row at a place
-unmentioned_put : (allows : Layout → History → ℕ → Type 0) (m : PutRun) (c : Call) (h : History) (s : Step) (n : ℕ) (at : PutAt) → Lawful c.layout (row_of c s h ⊳ h) → put_waits_at allows c h m at s → opening_nodes c.layout.mode ≤ n → n ≢ m.scx.update.fresh → IsUnmentioned h n → IsUnmentioned (row_of c s h ⊳ h) n
+unmentioned_put : (allows : Layout → History → ℕ → Type 0) (m : PutRun) (c : Call) (h : History) (s : Step) (n : ℕ) (at : PutAt) → Lawful c.layout (row_of c s h ⊳ h) → put_waits_at allows c h m at s → opening_nodes c.layout.mode ≤ n → n ≢ m.scx.update.fresh.0 → IsUnmentioned h n → IsUnmentioned (row_of c s h ⊳ h) n
 unmentioned_put allows m c h s n Start l w late other u = absurd w
 unmentioned_put allows m c h s n AtFill l w late other u = rw w.2 (unmentioned_by_fill h (row_of c (put_step m) h) n (λ i. absurd i) u)
 unmentioned_put allows m c h s n Scx l w late other u = unmentioned_at allows m.scx c h n late other u m.scx.at s l w.1
 
 -- a row of its leaves every node but its own that nothing mentions so
-pub put_unmentioned : (allows : Layout → History → ℕ → Type 0) (m : PutRun) (c : Call) (h : History) (s : Step) (n : ℕ) → Lawful c.layout (row_of c s h ⊳ h) → put_waits allows m c h s → opening_nodes c.layout.mode ≤ n → n ≢ m.scx.update.fresh → IsUnmentioned h n → IsUnmentioned (row_of c s h ⊳ h) n
+pub put_unmentioned : (allows : Layout → History → ℕ → Type 0) (m : PutRun) (c : Call) (h : History) (s : Step) (n : ℕ) → Lawful c.layout (row_of c s h ⊳ h) → put_waits allows m c h s → opening_nodes c.layout.mode ≤ n → n ≢ m.scx.update.fresh.0 → IsUnmentioned h n → IsUnmentioned (row_of c s h ⊳ h) n
 put_unmentioned allows m c h s n l w late other u = unmentioned_put allows m c h s n m.at l w late other u
 
 -- SCX-records that are not taken
@@ -93,7 +93,7 @@ untaken_at allows m c h AtCall s t w other free = untaken_fill allows m c h AtCa
 -- nor a row at a place
 untaken_put : (allows : Layout → History → ℕ → Type 0) (m : PutRun) (c : Call) (h : History) (s : Step) (t : ℕ) (at : PutAt) → put_waits_at allows c h m at s → t ≢ m.scx.scx.0 → ¬ IsTakenScx h t → ¬ IsTakenScx (row_of c s h ⊳ h) t
 untaken_put allows m c h s t Start w other free = absurd w
-untaken_put allows m c h s t AtFill w other free = rw w.2 (untaken_by_node h (row_of c (put_step m) h) m.scx.update.fresh t Value refl free)
+untaken_put allows m c h s t AtFill w other free = rw w.2 (untaken_by_node h (row_of c (put_step m) h) m.scx.update.fresh.0 t Value refl free)
 untaken_put allows m c h s t Scx w other free = untaken_at allows m.scx c h m.scx.at s t w.1 other free
 
 -- a row of its takes no SCX-record but its own

@@ -86,7 +86,7 @@ pub share_by_step : (lay : Layout) (h : History) (r : Row) (c : ℕ) (left : Lef
 share_by_step lay h r c left node scx l no_fill x = share_kept lay h r c left node scx (λ n p i u. unmentioned_by_step lay h r n l no_fill u) (λ n p u. untaken_node_by_step h r n no_fill u) (λ s p u. untaken_by_step h r s no_fill u) x
 
 -- one of an SCX that has the newest records of the share in hand
-pub share_by_put : (allows : Layout → History → ℕ → Type 0) (m : PutRun) (call : Call) (h : History) (step : Step) (left : Left) (node scx : ℕ) → Lawful call.layout (row_of call step h ⊳ h) → put_waits allows m call h step → left.next_node ≡ suc m.scx.update.fresh → left.next_scx ≡ suc m.scx.scx.0 → IsShare call.layout h call.pass left node scx → IsShare call.layout (row_of call step h ⊳ h) call.pass left node scx
+pub share_by_put : (allows : Layout → History → ℕ → Type 0) (m : PutRun) (call : Call) (h : History) (step : Step) (left : Left) (node scx : ℕ) → Lawful call.layout (row_of call step h ⊳ h) → put_waits allows m call h step → left.next_node ≡ suc m.scx.update.fresh.0 → left.next_scx ≡ suc m.scx.scx.0 → IsShare call.layout h call.pass left node scx → IsShare call.layout (row_of call step h ⊳ h) call.pass left node scx
 share_by_put allows m call h step left node scx l w next_node next_scx x = share_kept call.layout h (row_of call step h) call.pass left node scx
     (λ n p i u. put_unmentioned allows m call h step n l w i (λ e. let a = p.from in omega arith) u)
     (λ n p u. put_untaken_node allows m call h step n w (λ e. let a = p.from in omega arith) u)

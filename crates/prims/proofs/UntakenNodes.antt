@@ -82,11 +82,11 @@ node_number (Node n part) = n.0
 node_number (ScxOf s part) = 0
 
 -- nor a row at a place, but of its fresh node
-fills_no_other : (allows : Layout → History → ℕ → Type 0) (m : PutRun) (c : Call) (h : History) (at : PutAt) (s : Step) (n : ℕ) → put_waits_at allows c h m at s → n ≢ m.scx.update.fresh → ¬ IsFillOfNode n (row_of c s h)
+fills_no_other : (allows : Layout → History → ℕ → Type 0) (m : PutRun) (c : Call) (h : History) (at : PutAt) (s : Step) (n : ℕ) → put_waits_at allows c h m at s → n ≢ m.scx.update.fresh.0 → ¬ IsFillOfNode n (row_of c s h)
 fills_no_other allows m c h Start s n w other = absurd w
-fills_no_other allows m c h AtFill s n w other = λ x. (let e : node m.scx.update.fresh Value ≡ node n x.0 = rw w.2 at x.2 in other (λ i. node_number (sym e i)))
+fills_no_other allows m c h AtFill s n w other = λ x. (let e : node m.scx.update.fresh.0 Value ≡ node n x.0 = rw w.2 at x.2 in other (λ i. node_number (sym e i)))
 fills_no_other allows m c h Scx s n w other = fills_no_node allows m.scx c h m.scx.at s n w.1
 
 -- it takes no node but its own
-pub put_untaken_node : (allows : Layout → History → ℕ → Type 0) (m : PutRun) (c : Call) (h : History) (s : Step) (n : ℕ) → put_waits allows m c h s → n ≢ m.scx.update.fresh → ¬ IsTakenNode h n → ¬ IsTakenNode (row_of c s h ⊳ h) n
+pub put_untaken_node : (allows : Layout → History → ℕ → Type 0) (m : PutRun) (c : Call) (h : History) (s : Step) (n : ℕ) → put_waits allows m c h s → n ≢ m.scx.update.fresh.0 → ¬ IsTakenNode h n → ¬ IsTakenNode (row_of c s h ⊳ h) n
 put_untaken_node allows m c h s n w other = not_filled h (row_of c s h) n (fills_no_other allows m c h m.at s n w other)

@@ -55,7 +55,7 @@ way_more c h r s snaps takes x = record { begun = begun_more c h r s snaps takes
 pub filled_more : (c : Call) (h : History) (r : Row) (s number : ℕ) (u : Update) → TakesOnly c.layout c.pass s h r → ((a : ScxWord) → IsScxFill a → value (r ⊳ h) (scx s a) ≡ value h (scx s a)) → HasFilled c h s number u → HasFilled c (r ⊳ h) s number u
 filled_more c h r s number u takes same x = record {
   own = x.own;
-  way = way_more c h r s u.snaps.items takes x.way;
+  way = way_more c h r s u.snaps takes x.way;
   over = x.over;
   planned = same Plan tt ∙ x.planned;
   fresh = same New tt ∙ x.fresh;

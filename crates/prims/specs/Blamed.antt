@@ -14,7 +14,8 @@ use Rattle.histories.proofs.Moments.{lawful_since, named_since, state_since, sti
 use Rattle.histories.proofs.Blames.{blame_info}
 use Rattle.histories.proofs.Taking.{named_scx_taken, planned_taken}
 use Rattle.prims.specs.Moments.{IsMoment, IsLeftAlone, IsBlamed}
-use Rattle.prims.specs.VlxKnown.{snap_at, HasBegun}
+use Rattle.prims.specs.Snap.{snap_at}
+use Rattle.prims.specs.VlxKnown.{HasBegun}
 use Rattle.prims.specs.declared.snap.Snap.{Snap}
 use Rattle.prims.specs.Wins.{ends_either}
 use Rattle.prims.specs.Begun.{taken_since}

@@ -17,7 +17,7 @@ use Rattle.histories.proofs.Moments.{lawful_since}
 use Rattle.histories.proofs.Entries.{won_named, won_real}
 use Rattle.histories.proofs.Taking.{named_scx_taken}
 use Rattle.prims.specs.Moments.{IsAsFound}
-use Rattle.prims.specs.VlxKnown.{snap_at}
+use Rattle.prims.specs.Snap.{snap_at}
 use Rattle.prims.specs.ScxKnown.{HasFilled, IsEntryAt, HasEntry, nodes_of, removed_nodes, update_entry}
 use Rattle.prims.specs.declared.snap.Snap.{Snap}
 use Rattle.prims.specs.declared.scx.ScxRun.{ScxRun}
@@ -53,7 +53,7 @@ filled_entry_at c h m row before l x e w = record {
   since = won_since_start c.layout h m.scx.0 l y c.start x.way.begun.since not_won;
   wins = w;
   logged = rw (← entry) (won_logged c.layout h m.scx.0 l y);
-  found = λ i p. as_found c.layout h before (snap_at m.update.snaps.items i) (member before m.scx.0 i) (seen before m.scx.0 i) (members i p) (sym (won_words c.layout h m.scx.0 l y (Seen i) tt) ∙ x.found i p) (won_not_final c.layout h m.scx.0 l y i (within i p)) (won_last c.layout h m.scx.0 l y i (within i p));
+  found = λ i p. as_found c.layout h before (snap_at m.update.snaps i) (member before m.scx.0 i) (seen before m.scx.0 i) (members i p) (sym (won_words c.layout h m.scx.0 l y (Seen i) tt) ∙ x.found i p) (won_not_final c.layout h m.scx.0 l y i (within i p)) (won_last c.layout h m.scx.0 l y i (within i p));
 }
   where
     y : IsWonAt c.layout h m.scx.0
@@ -67,19 +67,19 @@ filled_entry_at c h m row before l x e w = record {
     planned : plan before m.scx.0 ≡ m.update.plan.0
     planned = sym (won_words c.layout h m.scx.0 l y Plan tt) ∙ x.planned
 
-    counts : count before m.scx.0 ≡ length m.update.snaps.items
+    counts : count before m.scx.0 ≡ length m.update.snaps
     counts = ap count_of planned ∙ x.over.count
 
-    within : (i : ℕ) → i < length m.update.snaps.items → i < count before m.scx.0
+    within : (i : ℕ) → i < length m.update.snaps → i < count before m.scx.0
     within i p = rw counts p
 
-    members : (i : ℕ) → i < length m.update.snaps.items → member before m.scx.0 i ≡ (snap_at m.update.snaps.items i).node.0
+    members : (i : ℕ) → i < length m.update.snaps → member before m.scx.0 i ≡ (snap_at m.update.snaps i).node.0
     members i p = sym (won_words c.layout h m.scx.0 l y (Member i) tt) ∙ x.members i p
 
-    members_at : (i k : ℕ) → k ≡ 0 + i → i < length m.update.snaps.items → member before m.scx.0 k ≡ (snap_at m.update.snaps.items i).node.0
+    members_at : (i k : ℕ) → k ≡ 0 + i → i < length m.update.snaps → member before m.scx.0 k ≡ (snap_at m.update.snaps i).node.0
     members_at i k e p = let q : k ≡ i = omega arith in rw q (members i p)
 
-    node_at : (q : ℕ) → q ≡ m.update.plan.0 → member before m.scx.0 (field_of q) ≡ (snap_at m.update.snaps.items (field_of m.update.plan.0)).node.0
+    node_at : (q : ℕ) → q ≡ m.update.plan.0 → member before m.scx.0 (field_of q) ≡ (snap_at m.update.snaps (field_of m.update.plan.0)).node.0
     node_at q e = rw e (members (field_of m.update.plan.0) (rw x.over.count at x.over.planned.field))
 
     entry : entry_of c.layout before m.scx.0 ≡ update_entry c.pass m
@@ -87,8 +87,8 @@ filled_entry_at c h m row before l x e w = record {
         refl
         (owner_is c.layout c.pass m.scx.0 x.own)
         (sym (won_words c.layout h m.scx.0 l y CallWord tt) ∙ x.called)
-        (rw counts (members_are before m.scx.0 0 m.update.snaps.items members_at))
-        (rw counts (removed_are before m.scx.0 m.update.plan.0 0 m.update.snaps.items planned members_at))
+        (rw counts (members_are before m.scx.0 0 m.update.snaps members_at))
+        (rw counts (removed_are before m.scx.0 m.update.plan.0 0 m.update.snaps planned members_at))
         (node_at (plan before m.scx.0) planned)
         (ap side_of planned)
         (sym (won_words c.layout h m.scx.0 l y New tt) ∙ x.fresh)

@@ -1,5 +1,6 @@
 pub mod Cells
 pub mod Snap
+pub mod Slots
 pub mod Linked
 pub mod Moments
 pub mod Idle

@@ -27,26 +27,26 @@ use Rattle.prims.specs.declared.put.PutAt.TheVariants.{Start, Fill as AtFill, Sc
 pub record PutHand (allows : Layout → History → ℕ → Type 0) (lay : Layout) (c : ℕ) (h : History) (m : ScxRun) : Type 0 where
   pub hand : InHand allows_all lay c h m
   pub start : m.at ≡ ScxStart
-  pub in_order : (n : ℕ) → IsOwnNode lay c n → n < m.update.fresh → IsTakenNode h n
-  pub allowed : (k : History) (r : Row) (d : Descriptor) → IsLater c m.scx.0 h k → IsFillOfNode m.update.fresh r → Says d m → IsAllowed allows lay c (r ⊳ k) m.scx.0 d
+  pub in_order : (n : ℕ) → IsOwnNode lay c n → n < m.update.fresh.0 → IsTakenNode h n
+  pub allowed : (k : History) (r : Row) (d : Descriptor) → IsLater c m.scx.0 h k → IsFillOfNode m.update.fresh.0 r → Says d m → IsAllowed allows lay c (r ⊳ k) m.scx.0 d
 
 abbrev pub put_step : PutRun → Step
-put_step m = record { kind = Fill; word = node m.scx.update.fresh Value; deed = Store m.value }
+put_step m = record { kind = Fill; word = node m.scx.update.fresh.0 Value; deed = Store m.value }
 
 -- the fresh node is of the pass's share, is taken, and has its value
 pub record HasValue (c : Call) (h : History) (m : PutRun) : Type 0 where
-  pub own : IsOwnNode c.layout c.pass m.scx.update.fresh
-  pub taken : IsTakenNode h m.scx.update.fresh
-  pub value : value h (node m.scx.update.fresh Value) ≡ m.value
+  pub own : IsOwnNode c.layout c.pass m.scx.update.fresh.0
+  pub taken : IsTakenNode h m.scx.update.fresh.0
+  pub value : value h (node m.scx.update.fresh.0 Value) ≡ m.value
 
 abbrev pub put_waits_at : (Layout → History → ℕ → Type 0) → Call → History → PutRun → PutAt → Step → Type 0
 put_waits_at allows c h m Start step = ⊥
-put_waits_at allows c h m AtFill step = PutHand allows c.layout c.pass h m.scx × IsUnderWay c h m.scx.scx.0 m.scx.update.snaps.items × (step ≡ put_step m)
+put_waits_at allows c h m AtFill step = PutHand allows c.layout c.pass h m.scx × IsUnderWay c h m.scx.scx.0 m.scx.update.snaps × (step ≡ put_step m)
 put_waits_at allows c h m Scx step = HasValue c h m × scx_waits allows m.scx c h step
 
 abbrev pub put_told_at : (Layout → History → ℕ → Type 0) → Call → History → PutRun → PutAt → ℕ → Type 0
 put_told_at allows c h m Start v = ⊥
-put_told_at allows c h m AtFill v = HasValue c h m × (m.scx.at ≡ ScxStart) × InHand allows c.layout c.pass h m.scx × IsUnderWay c h m.scx.scx.0 m.scx.update.snaps.items
+put_told_at allows c h m AtFill v = HasValue c h m × (m.scx.at ≡ ScxStart) × InHand allows c.layout c.pass h m.scx × IsUnderWay c h m.scx.scx.0 m.scx.update.snaps
 put_told_at allows c h m Scx v = HasValue c h m × scx_ready allows m.scx c h (Some v)
 
 abbrev pub put_waits : (Layout → History → ℕ → Type 0) → PutRun → Call → History → Step → Type 0
@@ -57,7 +57,7 @@ pub record IsFirstPut (allows : Layout → History → ℕ → Type 0) (m : PutR
   pub stands : m.at ≡ Start
   pub hand : PutHand allows c.layout c.pass h m.scx
   pub begins : h ≡ c.start
-  pub clear : IsClear c.layout c.pass h m.scx.update.snaps.items
+  pub clear : IsClear c.layout c.pass h m.scx.update.snaps
   pub free : ¬ IsTakenScx h m.scx.scx.0
 
 abbrev pub put_ready : (Layout → History → ℕ → Type 0) → PutRun → Call → History → Option ℕ → Type 0
@@ -67,7 +67,7 @@ put_ready allows m c h (Some v) = put_told_at allows c h m m.at v
 -- the update has its entry, and before that the fresh node had its value
 pub record IsPut (c : Call) (h : History) (m : PutRun) : Type 0 where
   pub done : IsDone c h m.scx
-  pub value : value done.entry.before (node m.scx.update.fresh Value) ≡ m.value
+  pub value : value done.entry.before (node m.scx.update.fresh.0 Value) ≡ m.value
 
 -- how it ends: the update has its entry, or it is lost
 abbrev pub put_ends : PutRun → Call → History → Answer → Type 0

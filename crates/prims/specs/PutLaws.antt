@@ -18,7 +18,7 @@ use Rattle.histories.proofs.Shapes.{shaped_more}
 use Rattle.help.specs.AllowedLaws.{later_self, later_trans}
 use Rattle.prims.specs.Cells.{allows_all}
 use Rattle.prims.specs.Linked.{linked_more}
-use Rattle.prims.specs.VlxKnown.{snap_at}
+use Rattle.prims.specs.Snap.{snap_at}
 use Rattle.prims.specs.Unfilled.{own_value_unfilled}
 use Rattle.prims.specs.Begun.{takes_by_others, takes_by_node, way_more}
 use Rattle.prims.specs.ScxKnown.{InHand}
@@ -29,13 +29,13 @@ use Rattle.prims.specs.declared.put.PutRun.{PutRun}
 use Rattle.prims.specs.declared.put.PutAt.{PutAt}
 use Rattle.prims.specs.declared.put.PutAt.TheVariants.{Start, Fill as AtFill, Scx}
 
-pub value_more : (c : Call) (h : History) (r : Row) (m : PutRun) → value (r ⊳ h) (node m.scx.update.fresh Value) ≡ value h (node m.scx.update.fresh Value) → HasValue c h m → HasValue c (r ⊳ h) m
-value_more c h r m e x = record { own = x.own; taken = taken_node_more r h m.scx.update.fresh x.taken; value = e ∙ x.value }
+pub value_more : (c : Call) (h : History) (r : Row) (m : PutRun) → value (r ⊳ h) (node m.scx.update.fresh.0 Value) ≡ value h (node m.scx.update.fresh.0 Value) → HasValue c h m → HasValue c (r ⊳ h) m
+value_more c h r m e x = record { own = x.own; taken = taken_node_more r h m.scx.update.fresh.0 x.taken; value = e ∙ x.value }
 
 kept_at : (allows : Layout → History → ℕ → Type 0) (m : PutRun) (c : Call) (h : History) (at : PutAt) (s : Step) (r : Row) → IsRun allows c.layout (r ⊳ h) → r.pass.0 ≢ c.pass → put_waits_at allows c h m at s → put_waits_at allows c (r ⊳ h) m at s
 kept_at allows m c h Start s r run other w = w
 kept_at allows m c h Scx s r run other w = (
-  value_more c h r m (own_value_unfilled c.layout h r c.pass m.scx.update.fresh run.lawful other w.0.own) w.0,
+  value_more c h r m (own_value_unfilled c.layout h r c.pass m.scx.update.fresh.0 run.lawful other w.0.own) w.0,
   scx_keeps allows m.scx c h s r run other w.1,
 )
 kept_at allows m c h AtFill s r run other w = (
@@ -45,7 +45,7 @@ kept_at allows m c h AtFill s r run other w = (
     in_order = λ n o p. taken_node_more r h n (w.0.in_order n o p);
     allowed = λ k q d later f y. w.0.allowed k q d (later_trans c.pass m.scx.scx.0 h (r ⊳ h) k later (inr (inl other, later_self c.pass m.scx.scx.0 h))) f y;
   },
-  way_more c h r m.scx.scx.0 m.scx.update.snaps.items (takes_by_others c.layout c.pass m.scx.scx.0 h r run.lawful other) w.1,
+  way_more c h r m.scx.scx.0 m.scx.update.snaps (takes_by_others c.layout c.pass m.scx.scx.0 h r run.lawful other) w.1,
   w.2,
 )
 
@@ -58,7 +58,7 @@ lawful_at allows m c h Scx s run w = scx_lawful allows m.scx c h s run w.1
 lawful_at allows m c h AtFill s run w = rw w.2 record { lawful = x; shaped = shaped_more allows c.layout h (row_of c (put_step m) h) x run.shaped (λ u f g. absurd (let e = g.kind in cc)) }
   where
     x : Lawful c.layout (row_of c (put_step m) h ⊳ h)
-    x = lawful_more c.layout h (row_of c (put_step m) h) run.lawful record { before = refl; obeys = record { own = w.0.hand.fresh; in_order = w.0.in_order; unnamed = w.0.hand.unnamed }; pass = c.is_pass; word = own_node_inside c.layout c.pass m.scx.update.fresh c.is_pass w.0.hand.fresh }
+    x = lawful_more c.layout h (row_of c (put_step m) h) run.lawful record { before = refl; obeys = record { own = w.0.hand.fresh; in_order = w.0.in_order; unnamed = w.0.hand.unnamed }; pass = c.is_pass; word = own_node_inside c.layout c.pass m.scx.update.fresh.0 c.is_pass w.0.hand.fresh }
 
 pub put_lawful : (allows : Layout → History → ℕ → Type 0) (m : PutRun) (c : Call) (h : History) (s : Step) → IsRun allows c.layout h → put_waits allows m c h s → IsRun allows c.layout (row_of c s h ⊳ h)
 put_lawful allows m c h s run w = lawful_at allows m c h m.at s run w
@@ -70,36 +70,36 @@ module _ (allows : Layout → History → ℕ → Type 0) (m : PutRun) (c : Call
   r = row_of c (put_step m) h
 
   free_back : (s : ℕ) → IsNamedScx (r ⊳ h) s → IsNamedScx h s
-  free_back s p = (p.0, held_back r h (info p.0) s (value_apart r h (node m.scx.update.fresh Value) (info p.0) refl (node_word_apart m.scx.update.fresh p.0 Value Info refl)) p.1)
+  free_back s p = (p.0, held_back r h (info p.0) s (value_apart r h (node m.scx.update.fresh.0 Value) (info p.0) refl (node_word_apart m.scx.update.fresh.0 p.0 Value Info refl)) p.1)
 
   unnamed_back : {n : ℕ} → IsNamed c.layout (r ⊳ h) n → IsNamed c.layout h n
   unnamed_back (opening_node i) = opening_node i
-  unnamed_back (by_field k side p q) = by_field k side (unnamed_back p) (held_back r h (child k side) _ (value_apart r h (node m.scx.update.fresh Value) (child k side) refl (node_word_apart m.scx.update.fresh k Value (Child side) refl)) q)
-  unnamed_back (by_scx u part p i q) = by_scx u part (free_back u p) i (held_back r h (scx u part) _ (value_apart r h (node m.scx.update.fresh Value) (scx u part) refl refl) q)
+  unnamed_back (by_field k side p q) = by_field k side (unnamed_back p) (held_back r h (child k side) _ (value_apart r h (node m.scx.update.fresh.0 Value) (child k side) refl (node_word_apart m.scx.update.fresh.0 k Value (Child side) refl)) q)
+  unnamed_back (by_scx u part p i q) = by_scx u part (free_back u p) i (held_back r h (scx u part) _ (value_apart r h (node m.scx.update.fresh.0 Value) (scx u part) refl refl) q)
 
   hand_put : Lawful c.layout (r ⊳ h) → PutHand allows c.layout c.pass h m.scx → InHand allows c.layout c.pass (r ⊳ h) m.scx
   hand_put l y = record {
     update = y.hand.update;
-    linked = λ j p. linked_more c.layout h r (snap_at m.scx.update.snaps.items j) l (y.hand.linked j p);
+    linked = λ j p. linked_more c.layout h r (snap_at m.scx.update.snaps j) l (y.hand.linked j p);
     is_open = record { own = y.hand.is_open.own; in_order = λ t o p. taken_more r h t (y.hand.is_open.in_order t o p); unnamed = λ p. y.hand.is_open.unnamed (free_back m.scx.scx.0 p) };
-    unfinished = value_apart r h (node m.scx.update.fresh Value) (state m.scx.scx.0) refl refl ∙ y.hand.unfinished;
+    unfinished = value_apart r h (node m.scx.update.fresh.0 Value) (state m.scx.scx.0) refl refl ∙ y.hand.unfinished;
     fresh = y.hand.fresh;
     unnamed = λ p. y.hand.unnamed (unnamed_back p);
-    in_no_field = λ n side p. y.hand.in_no_field n side (held_back r h (child n side) m.scx.update.fresh (value_apart r h (node m.scx.update.fresh Value) (child n side) refl (node_word_apart m.scx.update.fresh n Value (Child side) refl)) p);
-    in_no_other = λ u d p. y.hand.in_no_other u d (held_back r h (scx u New) m.scx.update.fresh (value_apart r h (node m.scx.update.fresh Value) (scx u New) refl refl) p);
+    in_no_field = λ n side p. y.hand.in_no_field n side (held_back r h (child n side) m.scx.update.fresh.0 (value_apart r h (node m.scx.update.fresh.0 Value) (child n side) refl (node_word_apart m.scx.update.fresh.0 n Value (Child side) refl)) p);
+    in_no_other = λ u d p. y.hand.in_no_other u d (held_back r h (scx u New) m.scx.update.fresh.0 (value_apart r h (node m.scx.update.fresh.0 Value) (scx u New) refl refl) p);
     allowed = λ d z. y.allowed h r d (later_self c.pass m.scx.scx.0 h) (Value, refl, refl) z;
   }
 
 made_at : (allows : Layout → History → ℕ → Type 0) (m : PutRun) (c : Call) (h : History) (at : PutAt) (s : Step) (v : ℕ) → IsRun allows c.layout (row_of c s h ⊳ h) → IsTold s.deed (value h s.word) v → put_waits_at allows c h m at s → put_told_at allows c (row_of c s h ⊳ h) m at v
 made_at allows m c h Start s v run t w = absurd w
-made_at allows m c h Scx s v run t w = (value_more c h (row_of c s h) m (scx_value allows m.scx c h s m.scx.update.fresh run.lawful w.1) w.0, scx_made allows m.scx c h s v run t w.1)
+made_at allows m c h Scx s v run t w = (value_more c h (row_of c s h) m (scx_value allows m.scx c h s m.scx.update.fresh.0 run.lawful w.1) w.0, scx_made allows m.scx c h s v run t w.1)
 made_at allows m c h AtFill s v run t w =
     let l : Lawful c.layout (row_of c (put_step m) h ⊳ h) = rw w.2 at run.lawful in
     rw w.2 (
-      record { own = w.0.hand.fresh; taken = fill_takes_node (row_of c (put_step m) h) h m.scx.update.fresh Value refl refl; value = value_at (row_of c (put_step m) h) h (node m.scx.update.fresh Value) refl },
+      record { own = w.0.hand.fresh; taken = fill_takes_node (row_of c (put_step m) h) h m.scx.update.fresh.0 Value refl refl; value = value_at (row_of c (put_step m) h) h (node m.scx.update.fresh.0 Value) refl },
       w.0.start,
       hand_put allows m c h l w.0,
-      way_more c h (row_of c (put_step m) h) m.scx.scx.0 m.scx.update.snaps.items (takes_by_node c.layout c.pass m.scx.scx.0 h (row_of c (put_step m) h) m.scx.update.fresh Value refl) w.1,
+      way_more c h (row_of c (put_step m) h) m.scx.scx.0 m.scx.update.snaps (takes_by_node c.layout c.pass m.scx.scx.0 h (row_of c (put_step m) h) m.scx.update.fresh.0 Value refl) w.1,
     )
 
 pub put_made : (allows : Layout → History → ℕ → Type 0) (m : PutRun) (c : Call) (h : History) (s : Step) (v : ℕ) → IsRun allows c.layout (row_of c s h ⊳ h) → IsTold s.deed (value h s.word) v → put_waits allows m c h s → put_ready allows m c (row_of c s h ⊳ h) (Some v)

@@ -1,5 +1,5 @@
 -- What a run of SCX with a fresh cell knows and waits for after each of its turns.
-use Rattle.std.proofs.Common.{◌≡◌, ℕ, Option, Some, None, List, [], ◌∷◌, inr, sym, ◌∙◌, ap, subst}
+use Rattle.std.proofs.Common.{◌≡◌, ℕ, Option, Some, None, List, [], ◌∷◌, inr, refl, sym, ◌∙◌, ap, subst}
 use Rattle.arena.specs.declared.layout.Layout.{Layout}
 use Rattle.arena.specs.declared.machine.Turn.{Turn}
 use Rattle.arena.specs.declared.machine.Turn.TheVariants.{Ask, Done as End}
@@ -21,7 +21,7 @@ use Rattle.arena.proofs.Values.{ends_self, ends_trans, held_now}
 use Rattle.histories.proofs.Moments.{node_since}
 use Rattle.prims.specs.Wins.{IsWonAt, won_logged, won_was_named}
 use Rattle.prims.specs.ScxKnown.{IsUnderWay, IsEntryAt, scx_ready, scx_waits, scx_answers}
-use Rattle.prims.specs.PutKnown.{HasValue, IsFirstPut, put_waits_at, put_waits, put_told_at, put_ready, put_answers}
+use Rattle.prims.specs.PutKnown.{HasValue, IsFirstPut, put_step, put_waits_at, put_waits, put_told_at, put_ready, put_answers}
 use Rattle.prims.specs.declared.scx.ScxRun.{ScxRun}
 use Rattle.prims.specs.declared.scx.Scx.{Scx as Answer}
 use Rattle.prims.specs.declared.scx.Scx.TheVariants.{Done, Lost}
@@ -29,7 +29,7 @@ use Rattle.prims.specs.declared.put.PutRun.{PutRun}
 use Rattle.prims.specs.declared.put.PutAt.TheVariants.{Start, Fill as AtFill, Scx}
 
 -- a call that begins now
-pub first_way : (allows : Layout → History → ℕ → Type 0) (m : PutRun) (c : Call) (h : History) → IsFirstPut allows m c h → IsUnderWay c h m.scx.scx.0 m.scx.update.snaps.items
+pub first_way : (allows : Layout → History → ℕ → Type 0) (m : PutRun) (c : Call) (h : History) → IsFirstPut allows m c h → IsUnderWay c h m.scx.scx.0 m.scx.update.snaps
 first_way allows m c h x = record {
   begun = record { since = rw x.begins (ends_self c.start); clear = rw x.begins at x.clear; only = λ t own d free. rw x.begins free };
   free = rw x.begins at x.free;
@@ -46,8 +46,8 @@ told_scx allows m c h None is r = absurd (let e : Scx ≡ Start = sym is ∙ r.s
 told_scx allows m c h (Some v) is r = subst (λ at. put_told_at allows c h m at v) is r
 
 -- it fills its fresh node
-pub turn_start : (allows : Layout → History → ℕ → Type 0) (m : PutRun) (c : Call) (h : History) (n : NodeNo) → IsFirstPut allows m c h → n.0 ≡ m.scx.update.fresh → put_waits_at allows c h (record m { at = AtFill }) AtFill record { kind = Fill; word = Node n Value; deed = Store m.value }
-turn_start allows m c h n x e = (x.hand, first_way allows m c h x, ap (λ (k : ℕ). record { kind = Fill; word = node k Value; deed = Store m.value }) e)
+pub turn_start : (allows : Layout → History → ℕ → Type 0) (m : PutRun) (c : Call) (h : History) → IsFirstPut allows m c h → put_waits_at allows c h (record m { at = AtFill }) AtFill (put_step m)
+turn_start allows m c h x = (x.hand, first_way allows m c h x, refl)
 
 -- the fresh node of the newest entry
 newest_fresh : List Entry → ℕ
@@ -55,9 +55,9 @@ newest_fresh [] = 0
 newest_fresh (e ∷ es) = e.new
 
 -- before the entry the fresh node had the value that it has
-pub value_before : (c : Call) (h : History) (m : ScxRun) (v : ℕ) (row : Row) (before : History) → Lawful c.layout h → IsEntryAt c h m row before → value h (node m.update.fresh Value) ≡ v → value before (node m.update.fresh Value) ≡ v
+pub value_before : (c : Call) (h : History) (m : ScxRun) (v : ℕ) (row : Row) (before : History) → Lawful c.layout h → IsEntryAt c h m row before → value h (node m.update.fresh.0 Value) ≡ v → value before (node m.update.fresh.0 Value) ≡ v
 unfolding newest_fresh
-value_before c h m v row before l x e = sym (node_since c.layout h before m.update.fresh Value l before_ends tt named) ∙ e
+value_before c h m v row before l x e = sym (node_since c.layout h before m.update.fresh.0 Value l before_ends tt named) ∙ e
   where
     y : IsWonAt c.layout h m.scx.0
     y = record { row = row; before = before; within = x.within; wins = x.wins }
@@ -65,10 +65,10 @@ value_before c h m v row before l x e = sym (node_since c.layout h before m.upda
     before_ends : EndsWith h before
     before_ends = ends_trans h (row ⊳ before) before x.within (inr (ends_self before))
 
-    fresh : new before m.scx.0 ≡ m.update.fresh
+    fresh : new before m.scx.0 ≡ m.update.fresh.0
     fresh = ap newest_fresh (sym (won_logged c.layout h m.scx.0 l y) ∙ x.logged)
 
-    named : IsNamed c.layout before m.update.fresh
+    named : IsNamed c.layout before m.update.fresh.0
     named = subst (IsNamed c.layout before) fresh (by_scx m.scx.0 New (won_was_named c.layout h m.scx.0 l y) tt (held_now before (scx m.scx.0 New)))
 
 module _ (allows : Layout → History → ℕ → Type 0) (c : Call) (h : History) (l : Lawful c.layout h) where

@@ -24,9 +24,9 @@ use Rattle.arena.specs.Machines.{Call, IsRun, MatchTurn}
 use Rattle.histories.proofs.Facts.{Descriptor}
 use Rattle.help.specs.Allowed.{IsAllowed}
 use Rattle.help.specs.HelpKnown.{IsBlocked, help_ready, help_waits}
-use Rattle.prims.specs.Snap.{child_of}
+use Rattle.prims.specs.Snap.{child_of, snap_at}
 use Rattle.prims.specs.Moments.{IsAsFound, IsBlamed}
-use Rattle.prims.specs.VlxKnown.{snap_at, AllLinked, HasBegun}
+use Rattle.prims.specs.VlxKnown.{AllLinked, HasBegun}
 use Rattle.prims.specs.declared.snap.Snap.{Snap}
 use Rattle.prims.specs.declared.scx.ScxRun.{ScxRun}
 use Rattle.prims.specs.declared.scx.Scx.{Scx}
@@ -38,39 +38,39 @@ use Rattle.prims.specs.declared.update.Update.{Update}
 -- an update over different nodes, by a plan of them, with what its field holds
 pub record IsUpdateOver (u : Update) : Type 0 where
   pub planned : IsPlan u.plan.0
-  pub count : count_of u.plan.0 ≡ length u.snaps.items
-  pub distinct : (i j : ℕ) → i < length u.snaps.items → j < length u.snaps.items → i ≢ j → (snap_at u.snaps.items i).node.0 ≢ (snap_at u.snaps.items j).node.0
-  pub old : u.old.0 ≡ (child_of (snap_at u.snaps.items (field_of u.plan.0)) (side_of u.plan.0)).0
+  pub count : count_of u.plan.0 ≡ length u.snaps
+  pub distinct : (i j : ℕ) → i < length u.snaps → j < length u.snaps → i ≢ j → (snap_at u.snaps i).node.0 ≢ (snap_at u.snaps j).node.0
+  pub old : u.old.0 ≡ (child_of (snap_at u.snaps (field_of u.plan.0)) (side_of u.plan.0)).0
 
 -- what each word of the SCX-record is to hold
 abbrev pub wanted : ScxRun → ScxWord → ℕ
 wanted m Plan = m.update.plan.0
-wanted m New = m.update.fresh
+wanted m New = m.update.fresh.0
 wanted m Old = m.update.old.0
-wanted m (Member j) = (snap_at m.update.snaps.items j).node.0
-wanted m (Seen j) = (snap_at m.update.snaps.items j).scx.0
+wanted m (Member j) = (snap_at m.update.snaps j).node.0
+wanted m (Seen j) = (snap_at m.update.snaps j).scx.0
 wanted m CallWord = m.call
 wanted m _ = 0
 
 -- a descriptor says what the words are to hold
 pub record Says (d : Descriptor) (m : ScxRun) : Type 0 where
   pub plan : d.plan ≡ m.update.plan.0
-  pub new : d.new ≡ m.update.fresh
+  pub new : d.new ≡ m.update.fresh.0
   pub old : d.old ≡ m.update.old.0
-  pub member : (j : ℕ) → j < length m.update.snaps.items → d.member j ≡ (snap_at m.update.snaps.items j).node.0
-  pub seen : (j : ℕ) → j < length m.update.snaps.items → d.seen j ≡ (snap_at m.update.snaps.items j).scx.0
+  pub member : (j : ℕ) → j < length m.update.snaps → d.member j ≡ (snap_at m.update.snaps j).node.0
+  pub seen : (j : ℕ) → j < length m.update.snaps → d.seen j ≡ (snap_at m.update.snaps j).scx.0
   pub call : d.call ≡ m.call
 
 -- what the pass has in hand: usable snapshots, an SCX-record and a node of its own that nothing names, and an update that is allowed
 pub record InHand (allows : Layout → History → ℕ → Type 0) (lay : Layout) (c : ℕ) (h : History) (m : ScxRun) : Type 0 where
   pub update : IsUpdateOver m.update
-  pub linked : AllLinked lay h m.update.snaps.items
+  pub linked : AllLinked lay h m.update.snaps
   pub is_open : IsOpenScx lay h c m.scx.0
   pub unfinished : value h (state m.scx.0) ≡ 0
-  pub fresh : IsOwnNode lay c m.update.fresh
-  pub unnamed : ¬ IsNamed lay h m.update.fresh
-  pub in_no_field : (n : ℕ) (side : Side) → ¬ HasHeld h (child n side) m.update.fresh
-  pub in_no_other : (u : ℕ) → u ≢ m.scx.0 → ¬ HasHeld h (scx u New) m.update.fresh
+  pub fresh : IsOwnNode lay c m.update.fresh.0
+  pub unnamed : ¬ IsNamed lay h m.update.fresh.0
+  pub in_no_field : (n : ℕ) (side : Side) → ¬ HasHeld h (child n side) m.update.fresh.0
+  pub in_no_other : (u : ℕ) → u ≢ m.scx.0 → ¬ HasHeld h (scx u New) m.update.fresh.0
   pub allowed : (d : Descriptor) → Says d m → IsAllowed allows lay c h m.scx.0 d
 
 -- a call on the SCX-record s has come so far; s was not taken as it began
@@ -147,9 +147,9 @@ IsWithin k _ = Unit {0}
 -- a run that fills a word
 pub record Fills (allows : Layout → History → ℕ → Type 0) (c : Call) (h : History) (m : ScxRun) (at : ScxAt) : Type 0 where
   pub hand : InHand allows c.layout c.pass h m
-  pub way : IsUnderWay c h m.scx.0 m.update.snaps.items
-  pub within : IsWithin (length m.update.snaps.items) at
-  pub filled : Holds h m (IsFilled (length m.update.snaps.items) at)
+  pub way : IsUnderWay c h m.scx.0 m.update.snaps
+  pub within : IsWithin (length m.update.snaps) at
+  pub filled : Holds h m (IsFilled (length m.update.snaps) at)
 
 abbrev pub fill_step : ScxRun → ScxWord → Step
 fill_step m part = record { kind = Fill; word = scx m.scx.0 part; deed = Store (wanted m part) }
@@ -160,19 +160,19 @@ pub record FillWaits (allows : Layout → History → ℕ → Type 0) (c : Call)
 
 pub record FillMade (allows : Layout → History → ℕ → Type 0) (c : Call) (h : History) (m : ScxRun) (at : ScxAt) : Type 0 where
   pub hand : InHand allows c.layout c.pass h m
-  pub way : IsUnderWay c h m.scx.0 m.update.snaps.items
-  pub within : IsWithin (length m.update.snaps.items) at
-  pub filled : Holds h m (IsFilledThen (length m.update.snaps.items) at)
+  pub way : IsUnderWay c h m.scx.0 m.update.snaps
+  pub within : IsWithin (length m.update.snaps) at
+  pub filled : Holds h m (IsFilledThen (length m.update.snaps) at)
 
 -- the words of the pass's SCX-record s hold what the update wants
 pub record HasFilled (c : Call) (h : History) (s number : ℕ) (u : Update) : Type 0 where
   pub own : IsOwnScx c.layout c.pass s
-  pub way : IsUnderWay c h s u.snaps.items
+  pub way : IsUnderWay c h s u.snaps
   pub over : IsUpdateOver u
   pub planned : plan h s ≡ u.plan.0
-  pub fresh : new h s ≡ u.fresh
-  pub members : (j : ℕ) → j < length u.snaps.items → member h s j ≡ (snap_at u.snaps.items j).node.0
-  pub found : (j : ℕ) → j < length u.snaps.items → seen h s j ≡ (snap_at u.snaps.items j).scx.0
+  pub fresh : new h s ≡ u.fresh.0
+  pub members : (j : ℕ) → j < length u.snaps → member h s j ≡ (snap_at u.snaps j).node.0
+  pub found : (j : ℕ) → j < length u.snaps → seen h s j ≡ (snap_at u.snaps j).scx.0
   pub called : value h (scx s CallWord) ≡ number
 
 abbrev pub scx_waits_at : (Layout → History → ℕ → Type 0) → Call → History → ScxRun → ScxAt → Step → Type 0
@@ -189,7 +189,7 @@ abbrev pub scx_waits : (Layout → History → ℕ → Type 0) → ScxRun → Ca
 scx_waits allows m c h step = scx_waits_at allows c h m m.at step
 
 abbrev pub scx_ready : (Layout → History → ℕ → Type 0) → ScxRun → Call → History → Option ℕ → Type 0
-scx_ready allows m c h None = (m.at ≡ Start) × InHand allows c.layout c.pass h m × IsUnderWay c h m.scx.0 m.update.snaps.items
+scx_ready allows m c h None = (m.at ≡ Start) × InHand allows c.layout c.pass h m × IsUnderWay c h m.scx.0 m.update.snaps
 scx_ready allows m c h (Some v) = scx_told_at allows c h m m.at v
 
 -- the nodes of snapshots, and those that a plan finalizes, where the first of the snapshots has the place j in it
@@ -207,11 +207,11 @@ update_entry c m =
       scx = m.scx.0;
       owner = c;
       call = m.call;
-      members = nodes_of m.update.snaps.items;
-      removed = removed_nodes m.update.plan.0 m.update.snaps.items 0;
-      node = (snap_at m.update.snaps.items (field_of m.update.plan.0)).node.0;
+      members = nodes_of m.update.snaps;
+      removed = removed_nodes m.update.plan.0 m.update.snaps 0;
+      node = (snap_at m.update.snaps (field_of m.update.plan.0)).node.0;
       side = side_of m.update.plan.0;
-      new = m.update.fresh;
+      new = m.update.fresh.0;
     }
 
 -- this row, behind the call's begin, has put the update's entry into the log, and before it each node was as its snapshot found it
@@ -220,7 +220,7 @@ pub record IsEntryAt (c : Call) (h : History) (m : ScxRun) (row : Row) (before :
   pub since : EndsWith before c.start
   pub wins : IsWin before row m.scx.0
   pub logged : log c.layout (row ⊳ before) ≡ update_entry c.pass m ∷ log c.layout before
-  pub found : (i : ℕ) → i < length m.update.snaps.items → IsAsFound c.layout h before (snap_at m.update.snaps.items i)
+  pub found : (i : ℕ) → i < length m.update.snaps → IsAsFound c.layout h before (snap_at m.update.snaps i)
 
 -- the update has its entry
 pub record HasEntry (c : Call) (h : History) (m : ScxRun) : Type 0 where
@@ -240,9 +240,9 @@ pub record IsLost (c : Call) (h : History) (m : ScxRun) (n v : ℕ) : Type 0 whe
   pub no_entry : ¬ IsEntered (log c.layout h) m.scx.0
   pub blocked : IsBlocked h m.scx.0 n v
   pub index : ℕ
-  pub within : index < length m.update.snaps.items
-  pub node : (snap_at m.update.snaps.items index).node.0 ≡ n
-  pub blamed : IsBlamed c h (snap_at m.update.snaps.items index) v
+  pub within : index < length m.update.snaps
+  pub node : (snap_at m.update.snaps index).node.0 ≡ n
+  pub blamed : IsBlamed c h (snap_at m.update.snaps index) v
 
 abbrev pub scx_answers : ScxRun → Call → History → Scx → Type 0
 scx_answers m c h Done = IsDone c h m

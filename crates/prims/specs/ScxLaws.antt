@@ -21,8 +21,7 @@ use Rattle.help.specs.HelpKept.{help_keeps}
 use Rattle.help.specs.HelpLawful.{help_lawful, index_small}
 use Rattle.prims.specs.Linked.{linked_more, in_field_named}
 use Rattle.arena.specs.declared.word.Side.{Side}
-use Rattle.prims.specs.Snap.{child_of}
-use Rattle.prims.specs.VlxKnown.{snap_at}
+use Rattle.prims.specs.Snap.{child_of, snap_at}
 use Rattle.prims.specs.Unfilled.{own_words_unfilled}
 use Rattle.prims.specs.Begun.{takes_by_others, way_more, filled_more}
 use Rattle.prims.specs.ScxKnown.{wanted, InHand, part_at, IsWithin, Fills, FillWaits, fill_step, scx_waits_at, scx_waits}
@@ -40,13 +39,13 @@ module _ (allows : Layout → History → ℕ → Type 0) (lay : Layout) (c : �
   pub hand_kept : c < lay.passes → r.pass.0 ≢ c → InHand allows lay c h m → InHand allows lay c (r ⊳ h) m
   hand_kept i other x = record {
     update = x.update;
-    linked = λ j p. linked_more lay h r (snap_at m.update.snaps.items j) l (x.linked j p);
+    linked = λ j p. linked_more lay h r (snap_at m.update.snaps j) l (x.linked j p);
     is_open = record { own = x.is_open.own; in_order = λ t o p. taken_more r h t (x.is_open.in_order t o p); unnamed = stays_free lay h r c m.scx.0 l other x.is_open.own x.is_open.unnamed };
     unfinished = own_words_stay lay h r c m.scx.0 l other x.is_open.own x.is_open.unnamed State ∙ x.unfinished;
     fresh = x.fresh;
-    unnamed = stays_unnamed lay h r c l i other m.update.fresh x.fresh x.unnamed;
-    in_no_field = λ n side p. ⊎_elim x.unnamed (x.in_no_field n side) (field_back lay h r c l i other n side m.update.fresh x.fresh p);
-    in_no_other = λ u d p. ⊎_elim x.unnamed (x.in_no_other u d) (word_back lay h r c l i other u New m.update.fresh tt x.fresh p);
+    unnamed = stays_unnamed lay h r c l i other m.update.fresh.0 x.fresh x.unnamed;
+    in_no_field = λ n side p. ⊎_elim x.unnamed (x.in_no_field n side) (field_back lay h r c l i other n side m.update.fresh.0 x.fresh p);
+    in_no_other = λ u d p. ⊎_elim x.unnamed (x.in_no_other u d) (word_back lay h r c l i other u New m.update.fresh.0 tt x.fresh p);
     allowed = λ d y. allowed_more allows lay c h r m.scx.0 d (inl other) (x.allowed d y);
   }
 
@@ -56,7 +55,7 @@ module _ (allows : Layout → History → ℕ → Type 0) (lay : Layout) (c : �
 fills_kept : (allows : Layout → History → ℕ → Type 0) (m : ScxRun) (c : Call) (h : History) (at : ScxAt) (r : Row) → IsRun allows c.layout (r ⊳ h) → r.pass.0 ≢ c.pass → Fills allows c h m at → Fills allows c (r ⊳ h) m at
 fills_kept allows m c h at r run other x = record {
   hand = hand_kept allows c.layout c.pass h r m run.lawful c.is_pass other x.hand;
-  way = way_more c h r m.scx.0 m.update.snaps.items (takes_by_others c.layout c.pass m.scx.0 h r run.lawful other) x.way;
+  way = way_more c h r m.scx.0 m.update.snaps (takes_by_others c.layout c.pass m.scx.0 h r run.lawful other) x.way;
   within = x.within;
   filled = λ part p. words_kept allows c.layout c.pass h r m run.lawful other x.hand part ∙ x.filled part p;
 }
@@ -77,10 +76,10 @@ scx_keeps allows m c h s r run other w = kept_at allows m c h m.at s r run other
 -- Its own fills
 
 -- the fields of a snapshot are named
-old_named : (allows : Layout → History → ℕ → Type 0) (c : Call) (h : History) (m : ScxRun) → InHand allows c.layout c.pass h m → (j : ℕ) → j < length m.update.snaps.items → (side : Side) → IsInField c.layout h (child_of (snap_at m.update.snaps.items j) side).0
+old_named : (allows : Layout → History → ℕ → Type 0) (c : Call) (h : History) (m : ScxRun) → InHand allows c.layout c.pass h m → (j : ℕ) → j < length m.update.snaps → (side : Side) → IsInField c.layout h (child_of (snap_at m.update.snaps j) side).0
 old_named allows c h m x j i side =
     let y = x.linked j i in
-    inr ((snap_at m.update.snaps.items j).node.0, side, in_field_named (snap_at m.update.snaps.items j).node.0 y.in_field, y.had side)
+    inr ((snap_at m.update.snaps j).node.0, side, in_field_named (snap_at m.update.snaps j).node.0 y.in_field, y.had side)
 
 -- the pass may fill each word as it is wanted
 may_fill : (allows : Layout → History → ℕ → Type 0) (c : Call) (h : History) (m : ScxRun) (at : ScxAt) → Fills allows c h m at → MayFill c.layout h c.pass (scx m.scx.0 (part_at at)) (wanted m (part_at at))
@@ -89,11 +88,11 @@ may_fill allows c h m at x = go at x.within
     old_in_field : IsInField c.layout h m.update.old.0
     old_in_field = rw x.hand.update.old (old_named allows c h m x.hand (field_of m.update.plan.0) (rw x.hand.update.count at x.hand.update.planned.field) (side_of m.update.plan.0))
 
-    go : (at : ScxAt) → IsWithin (length m.update.snaps.items) at → MayFill c.layout h c.pass (scx m.scx.0 (part_at at)) (wanted m (part_at at))
-    go AtNew i = (x.hand.is_open, λ o. o.is_other (one_node_owner c.layout o.pass c.pass m.update.fresh o.owns x.hand.fresh))
+    go : (at : ScxAt) → IsWithin (length m.update.snaps) at → MayFill c.layout h c.pass (scx m.scx.0 (part_at at)) (wanted m (part_at at))
+    go AtNew i = (x.hand.is_open, λ o. o.is_other (one_node_owner c.layout o.pass c.pass m.update.fresh.0 o.owns x.hand.fresh))
     go AtOld i = (x.hand.is_open, λ o. old_in_field)
     go (AtMember j) i = (x.hand.is_open, λ o. (x.hand.linked (index_of j) i).in_field)
-    go (AtSeen j) i = (x.hand.is_open, λ o. ((snap_at m.update.snaps.items (index_of j)).node.0, (x.hand.linked (index_of j) i).held))
+    go (AtSeen j) i = (x.hand.is_open, λ o. ((snap_at m.update.snaps (index_of j)).node.0, (x.hand.linked (index_of j) i).held))
     go AtCall i = x.hand.is_open
     go _ i = x.hand.is_open
 

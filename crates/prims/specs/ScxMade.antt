@@ -21,7 +21,7 @@ use Rattle.help.specs.AllowedLaws.{allowed_more}
 use Rattle.help.specs.HelpLawful.{help_fills_not}
 use Rattle.help.specs.HelpMade.{help_made}
 use Rattle.prims.specs.Linked.{linked_more}
-use Rattle.prims.specs.VlxKnown.{snap_at}
+use Rattle.prims.specs.Snap.{snap_at}
 use Rattle.prims.specs.Unfilled.{step_words, step_value}
 use Rattle.prims.specs.Begun.{takes_by_fill, takes_by_step, way_more, filled_more}
 use Rattle.prims.specs.ScxKnown.{wanted, InHand, part_at, IsFilled, IsFilledThen, Holds, Fills, FillWaits, FillMade, fill_step, scx_waits_at, scx_told_at, scx_waits, scx_ready}
@@ -102,29 +102,29 @@ module _ (allows : Layout → History → ℕ → Type 0) (m : ScxRun) (c : Call
   hand_filled : Lawful c.layout (r ⊳ h) → InHand allows c.layout c.pass h m → InHand allows c.layout c.pass (r ⊳ h) m
   hand_filled l x = record {
     update = x.update;
-    linked = λ j p. linked_more c.layout h r (snap_at m.update.snaps.items j) l (x.linked j p);
+    linked = λ j p. linked_more c.layout h r (snap_at m.update.snaps j) l (x.linked j p);
     is_open = record { own = x.is_open.own; in_order = λ t o p. taken_more r h t (x.is_open.in_order t o p); unnamed = λ p. x.is_open.unnamed (free_back m.scx.0 p) };
     unfinished = value_apart r h (scx m.scx.0 (part_at at)) (state m.scx.0) refl (scx_word_apart m.scx.0 m.scx.0 (part_at at) State (never_state (part_at at) (part_fill at))) ∙ x.unfinished;
     fresh = x.fresh;
     unnamed = λ p. x.unnamed (unnamed_back x.is_open.unnamed p);
-    in_no_field = λ n side p. x.in_no_field n side (held_back r h (child n side) m.update.fresh (value_apart r h (scx m.scx.0 (part_at at)) (child n side) refl refl) p);
-    in_no_other = λ u d p. x.in_no_other u d (held_back r h (scx u New) m.update.fresh (other_word u New d) p);
+    in_no_field = λ n side p. x.in_no_field n side (held_back r h (child n side) m.update.fresh.0 (value_apart r h (scx m.scx.0 (part_at at)) (child n side) refl refl) p);
+    in_no_other = λ u d p. x.in_no_other u d (held_back r h (scx u New) m.update.fresh.0 (other_word u New d) p);
     allowed = λ d y. allowed_more allows c.layout c.pass h r m.scx.0 d (inr (inl (part_at at, refl, refl))) (x.allowed d y);
   }
 
-  holds_then : Holds h m (IsFilled (length m.update.snaps.items) at) → Holds (r ⊳ h) m (IsFilledThen (length m.update.snaps.items) at)
-  holds_then x part p = test (same_word (scx m.scx.0 (part_at at)) (scx m.scx.0 part)) refl (split (length m.update.snaps.items) at part p)
+  holds_then : Holds h m (IsFilled (length m.update.snaps) at) → Holds (r ⊳ h) m (IsFilledThen (length m.update.snaps) at)
+  holds_then x part p = test (same_word (scx m.scx.0 (part_at at)) (scx m.scx.0 part)) refl (split (length m.update.snaps) at part p)
     where
       here : part_at at ≡ part → value (r ⊳ h) (scx m.scx.0 part) ≡ wanted m part
       here e = value_at r h (scx m.scx.0 part) (ap (scx m.scx.0) e) ∙ ap (wanted m) e
 
-      test : (t : Bool) → same_word (scx m.scx.0 (part_at at)) (scx m.scx.0 part) ≡ t → IsFilled (length m.update.snaps.items) at part ⊎ (part_at at ≡ part) → value (r ⊳ h) (scx m.scx.0 part) ≡ wanted m part
+      test : (t : Bool) → same_word (scx m.scx.0 (part_at at)) (scx m.scx.0 part) ≡ t → IsFilled (length m.update.snaps) at part ⊎ (part_at at ≡ part) → value (r ⊳ h) (scx m.scx.0 part) ≡ wanted m part
       test t e (inr q) = here q
       test true e (inl q) = here (ap part_of (word_same (scx m.scx.0 (part_at at)) (scx m.scx.0 part) e))
       test false e (inl q) = value_other r h (scx m.scx.0 part) e ∙ x part q
 
   fill_made : Lawful c.layout (r ⊳ h) → Fills allows c h m at → FillMade allows c (r ⊳ h) m at
-  fill_made l x = record { hand = hand_filled l x.hand; way = way_more c h r m.scx.0 m.update.snaps.items (takes_by_fill c.layout c.pass m.scx.0 h r (part_at at) refl) x.way; within = x.within; filled = holds_then x.filled }
+  fill_made l x = record { hand = hand_filled l x.hand; way = way_more c h r m.scx.0 m.update.snaps (takes_by_fill c.layout c.pass m.scx.0 h r (part_at at) refl) x.way; within = x.within; filled = holds_then x.filled }
 
 made_by : (allows : Layout → History → ℕ → Type 0) (m : ScxRun) (c : Call) (h : History) (at : ScxAt) (s : Step) → IsRun allows c.layout (row_of c s h ⊳ h) → FillWaits allows c h m at s → FillMade allows c (row_of c s h ⊳ h) m at
 made_by allows m c h at s run w =

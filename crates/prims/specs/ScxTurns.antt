@@ -28,7 +28,7 @@ use Rattle.help.specs.declared.state.HelpAt.TheVariants.{Start as HelpStart, Abo
 use Rattle.help.specs.Plan.{count as planned}
 use Rattle.help.specs.Allowed.{IsPrepared}
 use Rattle.prims.specs.Linked.{in_field_named}
-use Rattle.prims.specs.VlxKnown.{snap_at}
+use Rattle.prims.specs.Snap.{snap_at}
 use Rattle.prims.specs.Entered.{filled_entry}
 use Rattle.prims.specs.Blamed.{blamed_then}
 use Rattle.prims.specs.ScxKnown.{IsUpdateOver, IsUnderWay, HasFilled, IsDone, IsLost, Helps, scx_ready, scx_told_at, Says, wanted, InHand, part_at, IsFilled, IsFilledThen, Holds, IsWithin, FillWaits, FillMade, FillsAt, FillsNext, FillsLast, scx_turn, scx_waits_at}
@@ -65,31 +65,31 @@ module _ (allows : Layout → History → ℕ → Type 0) (c : Call) (h : Histor
   step_of part v = record { kind = Fill; word = scx m.scx.0 part; deed = Store v }
 
   -- the next word is filled
-  pub turn_fill : (at : ScxAt) (now : ScxRun) (turn : Turn Scx) → InHand allows c.layout c.pass h m → IsUnderWay c h m.scx.0 m.update.snaps.items → IsWithin (length m.update.snaps.items) at → Holds h m (IsFilled (length m.update.snaps.items) at)
+  pub turn_fill : (at : ScxAt) (now : ScxRun) (turn : Turn Scx) → InHand allows c.layout c.pass h m → IsUnderWay c h m.scx.0 m.update.snaps → IsWithin (length m.update.snaps) at → Holds h m (IsFilled (length m.update.snaps) at)
       → ((s : _) → FillWaits allows c h (record m { at = at }) at s → scx_waits_at allows c h (record m { at = at }) at s) → FillsAt m now turn at → scx_turn allows c h now turn
   turn_fill at now turn x y i f w a = rw (a.asked, a.stands) (w _ record { fills = record { hand = hand_of at x; way = y; within = i; filled = λ part p. f part p ∙ word_of at part }; asked = ap (λ (v : ℕ). step_of (part_at at) v) (word_of at (part_at at)) })
 
-  fewer : IsUpdateOver m.update → (j : ℕ) → j < count_of m.update.plan.0 → j < length m.update.snaps.items
+  fewer : IsUpdateOver m.update → (j : ℕ) → j < count_of m.update.plan.0 → j < length m.update.snaps
   fewer u j i = rw u.count at i
 
   -- a place of the plan, or what is behind the last
-  next_within : IsUpdateOver m.update → (j : MemberNo) → index_of j < planned m.update.plan.0 → index_of j < length m.update.snaps.items
+  next_within : IsUpdateOver m.update → (j : MemberNo) → index_of j < planned m.update.plan.0 → index_of j < length m.update.snaps
   next_within u j i = let a = plan_counted m.update.plan.0 u.planned.some in let b = a.count in fewer u (index_of j) (omega arith)
 
-  last_covers : IsUpdateOver m.update → (j : MemberNo) → ((index_of j < 3) × (suc (index_of j) < planned m.update.plan.0) → ⊥) → length m.update.snaps.items ≤ suc (index_of j)
+  last_covers : IsUpdateOver m.update → (j : MemberNo) → ((index_of j < 3) × (suc (index_of j) < planned m.update.plan.0) → ⊥) → length m.update.snaps ≤ suc (index_of j)
   last_covers u j d = go (three (index_of j))
     where
-      e : length m.update.snaps.items ≡ m.update.plan.0 % 8
+      e : length m.update.snaps ≡ m.update.plan.0 % 8
       e = sym u.count ∙ (plan_counted m.update.plan.0 u.planned.some).count
 
-      go : (index_of j < 3) ⊎ (3 ≤ index_of j) → length m.update.snaps.items ≤ suc (index_of j)
+      go : (index_of j < 3) ⊎ (3 ≤ index_of j) → length m.update.snaps ≤ suc (index_of j)
       go (inr p) = let f = (plan_counted m.update.plan.0 u.planned.some).few in omega (arith, e)
       go (inl p) = rw e (not_less (suc (index_of j)) (m.update.plan.0 % 8) (λ q. d (p, q)))
 
   pub turn_member : (j : MemberNo) (now : ScxRun) (turn : Turn Scx) → FillMade allows c h m (AtMember j) → FillsNext m now turn j (λ k. AtMember k) ⊎ FillsLast m now turn j (AtSeen First) → scx_turn allows c h now turn
   turn_member j now turn x (inl a) = turn_fill (AtMember a.next) now turn x.hand x.way (next_within x.hand.update a.next a.within) (λ part p. x.filled part (filled part p)) (λ s y. y) a.fills
     where
-      filled : (part : ScxWord) → IsFilled (length m.update.snaps.items) (AtMember a.next) part → IsFilledThen (length m.update.snaps.items) (AtMember j) part
+      filled : (part : ScxWord) → IsFilled (length m.update.snaps) (AtMember a.next) part → IsFilledThen (length m.update.snaps) (AtMember j) part
       filled Plan p = tt
       filled New p = tt
       filled Old p = tt
@@ -97,7 +97,7 @@ module _ (allows : Layout → History → ℕ → Type 0) (c : Call) (h : Histor
       filled _ p = absurd p
   turn_member j now turn x (inr a) = turn_fill (AtSeen First) now turn x.hand x.way (fewer x.hand.update 0 x.hand.update.planned.some) (λ part p. x.filled part (filled part p)) (λ s y. y) a.fills
     where
-      filled : (part : ScxWord) → IsFilled (length m.update.snaps.items) (AtSeen First) part → IsFilledThen (length m.update.snaps.items) (AtMember j) part
+      filled : (part : ScxWord) → IsFilled (length m.update.snaps) (AtSeen First) part → IsFilledThen (length m.update.snaps) (AtMember j) part
       filled Plan p = tt
       filled New p = tt
       filled Old p = tt
@@ -108,7 +108,7 @@ module _ (allows : Layout → History → ℕ → Type 0) (c : Call) (h : Histor
   pub turn_seen : (j : MemberNo) (now : ScxRun) (turn : Turn Scx) → FillMade allows c h m (AtSeen j) → FillsNext m now turn j (λ k. AtSeen k) ⊎ FillsLast m now turn j AtCall → scx_turn allows c h now turn
   turn_seen j now turn x (inl a) = turn_fill (AtSeen a.next) now turn x.hand x.way (next_within x.hand.update a.next a.within) (λ part p. x.filled part (filled part p)) (λ s y. y) a.fills
     where
-      filled : (part : ScxWord) → IsFilled (length m.update.snaps.items) (AtSeen a.next) part → IsFilledThen (length m.update.snaps.items) (AtSeen j) part
+      filled : (part : ScxWord) → IsFilled (length m.update.snaps) (AtSeen a.next) part → IsFilledThen (length m.update.snaps) (AtSeen j) part
       filled Plan p = tt
       filled New p = tt
       filled Old p = tt
@@ -117,7 +117,7 @@ module _ (allows : Layout → History → ℕ → Type 0) (c : Call) (h : Histor
       filled _ p = absurd p
   turn_seen j now turn x (inr a) = turn_fill AtCall now turn x.hand x.way tt (λ part p. x.filled part (filled part p)) (λ s y. y) a.fills
     where
-      filled : (part : ScxWord) → IsFilled (length m.update.snaps.items) AtCall part → IsFilledThen (length m.update.snaps.items) (AtSeen j) part
+      filled : (part : ScxWord) → IsFilled (length m.update.snaps) AtCall part → IsFilledThen (length m.update.snaps) (AtSeen j) part
       filled Plan p = tt
       filled New p = tt
       filled Old p = tt
@@ -132,25 +132,25 @@ module _ (allows : Layout → History → ℕ → Type 0) (c : Call) (h : Histor
       ep : plan h m.scx.0 ≡ m.update.plan.0
       ep = x.filled Plan tt
 
-      en : new h m.scx.0 ≡ m.update.fresh
+      en : new h m.scx.0 ≡ m.update.fresh.0
       en = x.filled New tt
 
       eo : old h m.scx.0 ≡ m.update.old.0
       eo = x.filled Old tt
 
-      em : (j : ℕ) → j < length m.update.snaps.items → member h m.scx.0 j ≡ (snap_at m.update.snaps.items j).node.0
+      em : (j : ℕ) → j < length m.update.snaps → member h m.scx.0 j ≡ (snap_at m.update.snaps j).node.0
       em j i = x.filled (Member j) i
 
-      es : (j : ℕ) → j < length m.update.snaps.items → seen h m.scx.0 j ≡ (snap_at m.update.snaps.items j).scx.0
+      es : (j : ℕ) → j < length m.update.snaps → seen h m.scx.0 j ≡ (snap_at m.update.snaps j).scx.0
       es j i = x.filled (Seen j) i
 
-      less : (j : ℕ) → j < count h m.scx.0 → j < length m.update.snaps.items
+      less : (j : ℕ) → j < count h m.scx.0 → j < length m.update.snaps
       less j i = fewer x.hand.update j (rw ep at i)
 
       at_field : (q : ℕ) → plan h m.scx.0 ≡ q → q ≡ m.update.plan.0 → value h (info (member h m.scx.0 (field_of q))) ≡ seen h m.scx.0 (field_of q) → value h (child (member h m.scx.0 (field_of q)) (side_of q)) ≡ old h m.scx.0
       at_field q e f y =
-          let i : field_of m.update.plan.0 < length m.update.snaps.items = fewer x.hand.update (field_of m.update.plan.0) x.hand.update.planned.field in
-          let z : value h (info (snap_at m.update.snaps.items (field_of m.update.plan.0)).node.0) ≡ (snap_at m.update.snaps.items (field_of m.update.plan.0)).scx.0 = rw (f, em (field_of m.update.plan.0) i, es (field_of m.update.plan.0) i) at y in
+          let i : field_of m.update.plan.0 < length m.update.snaps = fewer x.hand.update (field_of m.update.plan.0) x.hand.update.planned.field in
+          let z : value h (info (snap_at m.update.snaps (field_of m.update.plan.0)).node.0) ≡ (snap_at m.update.snaps (field_of m.update.plan.0)).scx.0 = rw (f, em (field_of m.update.plan.0) i, es (field_of m.update.plan.0) i) at y in
           rw (f, em (field_of m.update.plan.0) i, eo, x.hand.update.old) ((x.hand.linked (field_of m.update.plan.0) i).fields (side_of m.update.plan.0) z)
 
       begins : Begins c.layout (descriptor h m.scx.0) h c.pass m.scx.0
@@ -161,7 +161,7 @@ module _ (allows : Layout → History → ℕ → Type 0) (c : Call) (h : Histor
         planned = rw ep x.hand.update.planned;
         inside = λ j i. rw (em j (less j i)) (x.hand.linked j (less j i)).inside;
         distinct = λ j k p q d. rw (em j (less j p), em k (less k q)) (x.hand.update.distinct j k (less j p) (less k q) d);
-        named = λ j i. rw (em j (less j i)) (in_field_named (snap_at m.update.snaps.items j).node.0 (x.hand.linked j (less j i)).in_field);
+        named = λ j i. rw (em j (less j i)) (in_field_named (snap_at m.update.snaps j).node.0 (x.hand.linked j (less j i)).in_field);
         rest = λ j i. rw (es j (less j i)) (x.hand.linked j (less j i)).rest;
         unmarked = λ j i. rw (em j (less j i), es j (less j i)) (x.hand.linked j (less j i)).unmarked;
         shows = at_field (plan h m.scx.0) refl ep;
@@ -211,10 +211,10 @@ module _ (c : Call) (h : History) (m : ScxRun) (help : HelpRun) (l : Lawful c.la
     index = b.index;
     within = within;
     node = sym (x.members b.index within) ∙ b.is;
-    blamed = blamed_then c h m.scx.0 m.update.snaps.items l x.way.begun b.index within x.way.free b.moment v b.not_own b.since (let i = b.covered in omega arith) (rw (sym b.is ∙ x.members b.index within) at b.held) (λ e. b.other (sym e ∙ sym (x.found b.index within)));
+    blamed = blamed_then c h m.scx.0 m.update.snaps l x.way.begun b.index within x.way.free b.moment v b.not_own b.since (let i = b.covered in omega arith) (rw (sym b.is ∙ x.members b.index within) at b.held) (λ e. b.other (sym e ∙ sym (x.found b.index within)));
   }
     where
-      within : b.index < length m.update.snaps.items
+      within : b.index < length m.update.snaps
       within = rw (ap count_of x.planned ∙ x.over.count) at b.within
 
   -- HELP stands where it has aborted

@@ -1,4 +1,5 @@
--- The fields of a snapshot.
+-- Snapshots: their fields, and lists of them.
+use Rattle.std.specs.Prelude.{ℕ, List, get_or}
 use Rattle.arena.specs.declared.number.NodeNo.{NodeNo}
 use Rattle.arena.specs.declared.word.Side.{Side}
 use Rattle.arena.specs.declared.word.Side.TheVariants.{Left, Right}
@@ -7,3 +8,7 @@ use Rattle.prims.specs.declared.snap.Snap.{Snap}
 abbrev pub child_of : Snap → Side → NodeNo
 child_of snap Left = snap.left
 child_of snap Right = snap.right
+
+-- a snapshot of the list
+abbrev pub snap_at : List Snap → ℕ → Snap
+snap_at snaps i = get_or snaps i record { node = record { 0 = 0 }; scx = record { 0 = 0 }; left = record { 0 = 0 }; right = record { 0 = 0 } }

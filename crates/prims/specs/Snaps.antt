@@ -2,7 +2,7 @@
 use Rattle.std.specs.Prelude.{◌≡◌, ◌≢◌, ℕ, ◌<◌, Bool, ◌&&◌, ltb, eqb, List, length, map}
 use Rattle.std.specs.List.{Contains, list_any}
 use Rattle.arena.specs.declared.number.NodeNo.{NodeNo}
-use Rattle.prims.specs.VlxKnown.{snap_at}
+use Rattle.prims.specs.Snap.{snap_at}
 use Rattle.prims.specs.declared.snap.Snap.{Snap}
 
 -- no two are of one node

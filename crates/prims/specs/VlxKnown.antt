@@ -1,5 +1,5 @@
 -- When a run of VLX may go on, what it waits for, and what its answer says.
-use Rattle.std.specs.Prelude.{◌≡◌, ◌≢◌, ℕ, suc, ◌<◌, ◌≤◌, List, length, get_or, Option, Some, None}
+use Rattle.std.specs.Prelude.{◌≡◌, ◌≢◌, ℕ, suc, ◌<◌, ◌≤◌, List, length, Option, Some, None}
 use Rattle.arena.specs.declared.layout.Layout.{Layout}
 use Rattle.arena.specs.declared.step.Step.{Step}
 use Rattle.arena.specs.declared.step.Kind.TheVariants.{LoadInfo}
@@ -9,16 +9,12 @@ use Rattle.arena.specs.Words.{info}
 use Rattle.arena.specs.History.{History, value, EndsWith}
 use Rattle.arena.specs.Machines.{Call}
 use Rattle.prims.specs.Linked.{IsLinked}
+use Rattle.prims.specs.Snap.{snap_at}
 use Rattle.prims.specs.Moments.{IsAsFound, IsLeftAlone, AreOver, HasTakenOnly, IsBlamed}
 use Rattle.prims.specs.LlxKnown.{load}
 use Rattle.prims.specs.declared.snap.Snap.{Snap}
 use Rattle.prims.specs.declared.vlx.Vlx.{Vlx}
 use Rattle.prims.specs.declared.vlx.Vlx.TheVariants.{Same, Changed}
-use Rattle.prims.specs.declared.vlx.VlxRun.{VlxRun}
-
--- a snapshot of the list
-abbrev pub snap_at : List Snap → ℕ → Snap
-snap_at snaps i = get_or snaps i record { node = record { 0 = 0 }; scx = record { 0 = 0 }; left = record { 0 = 0 }; right = record { 0 = 0 } }
 
 abbrev pub AllLinked : Layout → History → List Snap → Type 0
 AllLinked lay h snaps = (i : ℕ) → i < length snaps → IsLinked lay h (snap_at snaps i)
@@ -40,33 +36,33 @@ pub record HasLooked (c : Call) (h : History) (snaps : List Snap) (k : ℕ) : Ty
   pub linked : AllLinked c.layout c.start snaps
   pub same : (i : ℕ) → i < k → value c.start (info (snap_at snaps i).node.0) ≡ (snap_at snaps i).scx.0
 
--- the run has asked for the info of its k-th snapshot
-pub record Looks (c : Call) (h : History) (m : VlxRun) (k : ℕ) : Type 0 where
-  pub looked : HasLooked c h m.snaps.items k
-  pub within : k < length m.snaps.items
-  pub is : m.asked ≡ suc k
+-- a run over these snapshots that has asked for n infos has asked for that of the k-th
+pub record Looks (c : Call) (h : History) (snaps : List Snap) (n k : ℕ) : Type 0 where
+  pub looked : HasLooked c h snaps k
+  pub within : k < length snaps
+  pub is : n ≡ suc k
 
-pub record vlx_waits (m : VlxRun) (c : Call) (h : History) (step : Step) : Type 0 where
+pub record vlx_waits (snaps : List Snap) (n : ℕ) (c : Call) (h : History) (step : Step) : Type 0 where
   pub index : ℕ
-  pub looks : Looks c h m index
-  pub asked : step ≡ load LoadInfo (info (snap_at m.snaps.items index).node.0)
+  pub looks : Looks c h snaps n index
+  pub asked : step ≡ load LoadInfo (info (snap_at snaps index).node.0)
 
-pub record vlx_told (m : VlxRun) (c : Call) (h : History) (v : ℕ) : Type 0 where
+pub record vlx_told (snaps : List Snap) (n : ℕ) (c : Call) (h : History) (v : ℕ) : Type 0 where
   pub index : ℕ
-  pub looks : Looks c h m index
-  pub told : value h (info (snap_at m.snaps.items index).node.0) ≡ v
+  pub looks : Looks c h snaps n index
+  pub told : value h (info (snap_at snaps index).node.0) ≡ v
 
 -- it begins at this moment, over usable snapshots
-pub record IsFirstLook (m : VlxRun) (c : Call) (h : History) : Type 0 where
-  pub asked : m.asked ≡ 0
-  pub some : 0 < length m.snaps.items
-  pub linked : AllLinked c.layout h m.snaps.items
+pub record IsFirstLook (snaps : List Snap) (n : ℕ) (c : Call) (h : History) : Type 0 where
+  pub asked : n ≡ 0
+  pub some : 0 < length snaps
+  pub linked : AllLinked c.layout h snaps
   pub begins : h ≡ c.start
-  pub clear : IsClear c.layout c.pass h m.snaps.items
+  pub clear : IsClear c.layout c.pass h snaps
 
-abbrev pub vlx_ready : VlxRun → Call → History → Option ℕ → Type 0
-vlx_ready m c h None = IsFirstLook m c h
-vlx_ready m c h (Some v) = vlx_told m c h v
+abbrev pub vlx_ready : List Snap → ℕ → Call → History → Option ℕ → Type 0
+vlx_ready snaps n c h None = IsFirstLook snaps n c h
+vlx_ready snaps n c h (Some v) = vlx_told snaps n c h v
 
 -- as the call began, all snapshots were usable, and each node was as its snapshot found it
 pub record IsSame (c : Call) (h : History) (snaps : List Snap) : Type 0 where
@@ -85,17 +81,17 @@ pub record HasChanged (c : Call) (h : History) (snaps : List Snap) (n v : ℕ) :
   pub blamed : IsBlamed c h (snap_at snaps index) v
   pub before : (i : ℕ) → i < index → IsAsFound c.layout h c.start (snap_at snaps i)
 
-abbrev pub vlx_answers : VlxRun → Call → History → Vlx → Type 0
-vlx_answers m c h Same = IsSame c h m.snaps.items
-vlx_answers m c h (Changed node s) = HasChanged c h m.snaps.items node.0 s.0
+abbrev pub vlx_answers : List Snap → Call → History → Vlx → Type 0
+vlx_answers snaps c h Same = IsSame c h snaps
+vlx_answers snaps c h (Changed node s) = HasChanged c h snaps node.0 s.0
 
--- it asks for the next info, or ends behind the last
-pub record AsksNext (old now : VlxRun) (turn : Turn Vlx) : Type 0 where
-  pub within : old.asked < length old.snaps.items
-  pub stands : now ≡ record old { asked = suc old.asked }
-  pub asked : turn ≡ Ask (load LoadInfo (info (snap_at old.snaps.items old.asked).node.0))
+-- the run asks for the next info, or ends behind the last
+pub record AsksNext (snaps : List Snap) (old now : ℕ) (turn : Turn Vlx) : Type 0 where
+  pub within : old < length snaps
+  pub stands : now ≡ suc old
+  pub asked : turn ≡ Ask (load LoadInfo (info (snap_at snaps old).node.0))
 
-pub record IsThrough (old now : VlxRun) (turn : Turn Vlx) : Type 0 where
-  pub through : length old.snaps.items ≤ old.asked
+pub record IsThrough (snaps : List Snap) (old now : ℕ) (turn : Turn Vlx) : Type 0 where
+  pub through : length snaps ≤ old
   pub stands : now ≡ old
   pub done : turn ≡ Done Same

@@ -19,29 +19,30 @@ use Rattle.prims.specs.Begun.{TakesOnly, takes_by_others, takes_by_step, begun_m
 use Rattle.prims.specs.Blamed.{blamed_now}
 use Rattle.prims.specs.Looked.{found_at}
 use Rattle.prims.specs.declared.snap.Snap.{Snap}
-use Rattle.prims.specs.VlxKnown.{snap_at, IsSame, HasLooked, Looks, vlx_waits, vlx_told, vlx_ready, vlx_answers, HasChanged, AsksNext, IsThrough}
+use Rattle.prims.specs.Snap.{snap_at}
+use Rattle.prims.specs.LlxKnown.{load}
+use Rattle.prims.specs.VlxKnown.{IsSame, HasLooked, Looks, vlx_waits, vlx_told, vlx_ready, vlx_answers, HasChanged, AsksNext, IsThrough}
 use Rattle.prims.specs.declared.vlx.Vlx.{Vlx}
-use Rattle.prims.specs.declared.vlx.VlxRun.{VlxRun}
 
-looks_more : (c : Call) (h : History) (r : Row) (m : VlxRun) (k : ℕ) → TakesOnly c.layout c.pass 0 h r → Looks c h m k → Looks c (r ⊳ h) m k
-looks_more c h r m k takes x = record { looked = record { begun = begun_more c h r 0 m.snaps.items takes x.looked.begun; linked = x.looked.linked; same = x.looked.same }; within = x.within; is = x.is }
+looks_more : (c : Call) (h : History) (r : Row) (snaps : List Snap) (asked k : ℕ) → TakesOnly c.layout c.pass 0 h r → Looks c h snaps asked k → Looks c (r ⊳ h) snaps asked k
+looks_more c h r snaps asked k takes x = record { looked = record { begun = begun_more c h r 0 snaps takes x.looked.begun; linked = x.looked.linked; same = x.looked.same }; within = x.within; is = x.is }
 
-pub vlx_keeps : (allows : Layout → History → ℕ → Type 0) (m : VlxRun) (c : Call) (h : History) (s : Step) (r : Row) → IsRun allows c.layout (r ⊳ h) → r.pass.0 ≢ c.pass → vlx_waits m c h s → vlx_waits m c (r ⊳ h) s
-vlx_keeps allows m c h s r run other w = record { index = w.index; looks = looks_more c h r m w.index (takes_by_others c.layout c.pass 0 h r run.lawful other) w.looks; asked = w.asked }
+pub vlx_keeps : (allows : Layout → History → ℕ → Type 0) (snaps : List Snap) (asked : ℕ) (c : Call) (h : History) (s : Step) (r : Row) → IsRun allows c.layout (r ⊳ h) → r.pass.0 ≢ c.pass → vlx_waits snaps asked c h s → vlx_waits snaps asked c (r ⊳ h) s
+vlx_keeps allows snaps asked c h s r run other w = record { index = w.index; looks = looks_more c h r snaps asked w.index (takes_by_others c.layout c.pass 0 h r run.lawful other) w.looks; asked = w.asked }
 
-pub vlx_lawful : (allows : Layout → History → ℕ → Type 0) (m : VlxRun) (c : Call) (h : History) (s : Step) → IsRun allows c.layout h → vlx_waits m c h s → IsRun allows c.layout (row_of c s h ⊳ h)
-vlx_lawful allows m c h s run w = load_lawful allows c h LoadInfo (info (snap_at m.snaps.items w.index).node.0) s run w.asked record { word = tt; same = refl } (λ e. cc) (w.looks.looked.linked w.index w.looks.within).inside
+pub vlx_lawful : (allows : Layout → History → ℕ → Type 0) (snaps : List Snap) (asked : ℕ) (c : Call) (h : History) (s : Step) → IsRun allows c.layout h → vlx_waits snaps asked c h s → IsRun allows c.layout (row_of c s h ⊳ h)
+vlx_lawful allows snaps asked c h s run w = load_lawful allows c h LoadInfo (info (snap_at snaps w.index).node.0) s run w.asked record { word = tt; same = refl } (λ e. cc) (w.looks.looked.linked w.index w.looks.within).inside
 
-pub vlx_made : (allows : Layout → History → ℕ → Type 0) (m : VlxRun) (c : Call) (h : History) (s : Step) (v : ℕ) → IsRun allows c.layout (row_of c s h ⊳ h) → IsTold s.deed (value h s.word) v → vlx_waits m c h s → vlx_ready m c (row_of c s h ⊳ h) (Some v)
-vlx_made allows m c h s v run t w = record { index = w.index; looks = looks_more c h (row_of c s h) m w.index (takes_by_step c.layout c.pass 0 h (row_of c s h) (λ f. let e : s.kind ≡ LoadInfo = ap (λ (t : Step). t.kind) w.asked in let z : LoadInfo ≡ Fill = sym e ∙ f in cc)) w.looks; told = load_told c h LoadInfo (info (snap_at m.snaps.items w.index).node.0) s v w.asked t }
+pub vlx_made : (allows : Layout → History → ℕ → Type 0) (snaps : List Snap) (asked : ℕ) (c : Call) (h : History) (s : Step) (v : ℕ) → IsRun allows c.layout (row_of c s h ⊳ h) → IsTold s.deed (value h s.word) v → vlx_waits snaps asked c h s → vlx_ready snaps asked c (row_of c s h ⊳ h) (Some v)
+vlx_made allows snaps asked c h s v run t w = record { index = w.index; looks = looks_more c h (row_of c s h) snaps asked w.index (takes_by_step c.layout c.pass 0 h (row_of c s h) (λ f. let e : s.kind ≡ LoadInfo = ap (λ (t : Step). t.kind) w.asked in let z : LoadInfo ≡ Fill = sym e ∙ f in cc)) w.looks; told = load_told c h LoadInfo (info (snap_at snaps w.index).node.0) s v w.asked t }
 
 -- Its turns
 
-abbrev pub vlx_turn : Call → History → VlxRun → Turn Vlx → Type 0
-vlx_turn c h m turn = MatchTurn turn (vlx_waits m c h) (vlx_answers m c h)
+abbrev pub vlx_turn : List Snap → ℕ → Call → History → Turn Vlx → Type 0
+vlx_turn snaps asked c h turn = MatchTurn turn (vlx_waits snaps asked c h) (vlx_answers snaps c h)
 
 -- all were looked at
-all_same : (c : Call) (h : History) (snaps : List Snap) → Lawful c.layout h → HasLooked c h snaps (length snaps) → IsSame c h snaps
+pub all_same : (c : Call) (h : History) (snaps : List Snap) → Lawful c.layout h → HasLooked c h snaps (length snaps) → IsSame c h snaps
 all_same c h snaps l x = record { since = x.begun.since; linked = x.linked; info = x.same; found = λ i w. found i w }
   where
     ls : Lawful c.layout c.start
@@ -50,68 +51,74 @@ all_same c h snaps l x = record { since = x.begun.since; linked = x.linked; info
     found : (i : ℕ) → i < length snaps → IsAsFound c.layout h c.start (snap_at snaps i)
     found i w = found_at c h (snap_at snaps i) l x.begun.since (x.linked i w) (x.same i w)
 
-pub turn_next : (c : Call) (h : History) (old now : VlxRun) (turn : Turn Vlx) → Lawful c.layout h → HasLooked c h old.snaps.items old.asked → old.asked ≤ length old.snaps.items → AsksNext old now turn ⊎ IsThrough old now turn → vlx_turn c h now turn
-turn_next c h old now turn l x i (inl a) = rw (a.asked, a.stands) record { index = old.asked; looks = record { looked = x; within = a.within; is = refl }; asked = refl }
-turn_next c h old now turn l x i (inr a) =
-    let e : length old.snaps.items ≡ old.asked = let y = a.through in omega arith in
-    rw (a.done, a.stands) (all_same c h old.snaps.items l (rw e x))
+-- it asks for the next info
+pub looks_next : (c : Call) (h : History) (snaps : List Snap) (n : ℕ) → HasLooked c h snaps n → n < length snaps → vlx_waits snaps (suc n) c h (load LoadInfo (info (snap_at snaps n).node.0))
+looks_next c h snaps n x i = record { index = n; looks = record { looked = x; within = i; is = refl }; asked = refl }
+
+turn_next : (c : Call) (h : History) (snaps : List Snap) (old now : ℕ) (turn : Turn Vlx) → Lawful c.layout h → HasLooked c h snaps old → old ≤ length snaps → AsksNext snaps old now turn ⊎ IsThrough snaps old now turn → vlx_turn snaps now c h turn
+turn_next c h snaps old now turn l x i (inl a) = rw (a.asked, a.stands) (looks_next c h snaps old x a.within)
+turn_next c h snaps old now turn l x i (inr a) =
+    let e : length snaps ≡ old = let y = a.through in omega arith in
+    rw a.done (all_same c h snaps l (rw e x))
 
 -- the first turn
-pub first_looked : (c : Call) (h : History) (m : VlxRun) → vlx_ready m c h None → HasLooked c h m.snaps.items m.asked
-first_looked c h m r = record {
+pub first_looked : (c : Call) (h : History) (snaps : List Snap) (asked : ℕ) → vlx_ready snaps asked c h None → HasLooked c h snaps asked
+first_looked c h snaps asked r = record {
   begun = record { since = rw r.begins (ends_self c.start); clear = rw r.begins at r.clear; only = λ t own d free. rw r.begins free };
   linked = rw r.begins at r.linked;
   same = λ i p. let e = r.asked in absurd (omega arith);
 }
 
 -- there is a snapshot, so it asks for the first
-pub first_asks : (c : Call) (h : History) (old now : VlxRun) (turn : Turn Vlx) → vlx_ready old c h None → AsksNext old now turn ⊎ IsThrough old now turn → MatchTurn turn (λ _. Unit {0}) (λ _. ⊥)
-first_asks c h old now turn r (inl a) = rw a.asked tt
-first_asks c h old now turn r (inr a) = let x = a.through in let e = r.asked in let i = r.some in absurd (omega arith)
+pub first_asks : (c : Call) (h : History) (snaps : List Snap) (old now : ℕ) (turn : Turn Vlx) → vlx_ready snaps old c h None → AsksNext snaps old now turn ⊎ IsThrough snaps old now turn → MatchTurn turn (λ _. Unit {0}) (λ _. ⊥)
+first_asks c h snaps old now turn r (inl a) = rw a.asked tt
+first_asks c h snaps old now turn r (inr a) = let x = a.through in let e = r.asked in let i = r.some in absurd (omega arith)
 
 -- one more snapshot is still what the info names, so it was at the moment
-pub one_more : (c : Call) (h : History) (m : VlxRun) (v : ℕ) → Lawful c.layout h → (x : vlx_told m c h v) → (snap_at m.snaps.items x.index).scx.0 ≡ v → HasLooked c h m.snaps.items m.asked
-one_more c h m v l x e = record { begun = y.begun; linked = y.linked; same = λ i p. go i p (ℕ_discrete i x.index) }
+one_more : (c : Call) (h : History) (snaps : List Snap) (asked : ℕ) (v : ℕ) → Lawful c.layout h → (x : vlx_told snaps asked c h v) → (snap_at snaps x.index).scx.0 ≡ v → HasLooked c h snaps asked
+one_more c h snaps asked v l x e = record { begun = y.begun; linked = y.linked; same = λ i p. go i p (ℕ_discrete i x.index) }
   where
-    y : HasLooked c h m.snaps.items x.index
+    y : HasLooked c h snaps x.index
     y = x.looks.looked
 
-    here : value c.start (info (snap_at m.snaps.items x.index).node.0) ≡ (snap_at m.snaps.items x.index).scx.0
+    here : value c.start (info (snap_at snaps x.index).node.0) ≡ (snap_at snaps x.index).scx.0
     here =
         let z = y.linked x.index x.looks.within in
-        (still_since c.layout h c.start (snap_at m.snaps.items x.index).node.0 (snap_at m.snaps.items x.index).scx.0 l y.begun.since (in_field_named (snap_at m.snaps.items x.index).node.0 z.in_field) z.rest (x.told ∙ sym e)).info
+        (still_since c.layout h c.start (snap_at snaps x.index).node.0 (snap_at snaps x.index).scx.0 l y.begun.since (in_field_named (snap_at snaps x.index).node.0 z.in_field) z.rest (x.told ∙ sym e)).info
 
-    go : (i : ℕ) → i < m.asked → Dec (i ≡ x.index) → value c.start (info (snap_at m.snaps.items i).node.0) ≡ (snap_at m.snaps.items i).scx.0
+    go : (i : ℕ) → i < asked → Dec (i ≡ x.index) → value c.start (info (snap_at snaps i).node.0) ≡ (snap_at snaps i).scx.0
     go i p (yes q) = rw q here
     go i p (no d) = let z = x.looks.is in y.same i (omega arith)
 
-pub changed : (c : Call) (h : History) (m : VlxRun) (v : ℕ) → Lawful c.layout h → (x : vlx_told m c h v) → (snap_at m.snaps.items x.index).scx.0 ≢ v → HasChanged c h m.snaps.items (snap_at m.snaps.items x.index).node.0 v
-changed c h m v l x d = record { index = x.index; within = x.looks.within; node = refl; info = x.told; other = d; blamed = blamed_now c h 0 m.snaps.items l x.looks.looked.begun x.index x.looks.within v (λ own e. let f = own.from in omega arith) x.told d; before = before }
+changed : (c : Call) (h : History) (snaps : List Snap) (asked : ℕ) (v : ℕ) → Lawful c.layout h → (x : vlx_told snaps asked c h v) → (snap_at snaps x.index).scx.0 ≢ v → HasChanged c h snaps (snap_at snaps x.index).node.0 v
+changed c h snaps asked v l x d = record { index = x.index; within = x.looks.within; node = refl; info = x.told; other = d; blamed = blamed_now c h 0 snaps l x.looks.looked.begun x.index x.looks.within v (λ own e. let f = own.from in omega arith) x.told d; before = before }
   where
-    before : (i : ℕ) → i < x.index → IsAsFound c.layout h c.start (snap_at m.snaps.items i)
-    before i p = let y = x.looks.looked in found_at c h (snap_at m.snaps.items i) l y.begun.since (y.linked i (let w = x.looks.within in omega arith)) (y.same i p)
+    before : (i : ℕ) → i < x.index → IsAsFound c.layout h c.start (snap_at snaps i)
+    before i p = let y = x.looks.looked in found_at c h (snap_at snaps i) l y.begun.since (y.linked i (let w = x.looks.within in omega arith)) (y.same i p)
 
 -- it ends where the info is something else
-pub turn_changed : (c : Call) (h : History) (m : VlxRun) (k v : ℕ) (snap : Snap) → Lawful c.layout h → vlx_told m c h v → suc k ≡ m.asked → snap ≡ snap_at m.snaps.items k → snap.scx.0 ≢ v → HasChanged c h m.snaps.items snap.node.0 v
-turn_changed c h m k v snap l x e q d =
+pub turn_changed : (c : Call) (h : History) (snaps : List Snap) (asked : ℕ) (k v : ℕ) (snap : Snap) → Lawful c.layout h → vlx_told snaps asked c h v → suc k ≡ asked → snap ≡ snap_at snaps k → snap.scx.0 ≢ v → HasChanged c h snaps snap.node.0 v
+turn_changed c h snaps asked k v snap l x e q d =
     let i : k ≡ x.index = let y = x.looks.is in omega arith in
-    let a : snap ≡ snap_at m.snaps.items x.index = q ∙ ap (snap_at m.snaps.items) i in
-    rw a (changed c h m v l x (rw a at d))
+    let a : snap ≡ snap_at snaps x.index = q ∙ ap (snap_at snaps) i in
+    rw a (changed c h snaps asked v l x (rw a at d))
 
 -- what it has been told
-pub told_some : (c : Call) (h : History) (m : VlxRun) (got : Option ℕ) (v : ℕ) → got ≡ Some v → vlx_ready m c h got → vlx_told m c h v
-told_some c h m got v e r = rw e at r
+pub told_some : (c : Call) (h : History) (snaps : List Snap) (asked : ℕ) (got : Option ℕ) (v : ℕ) → got ≡ Some v → vlx_ready snaps asked c h got → vlx_told snaps asked c h v
+told_some c h snaps asked got v e r = rw e at r
 
-pub told_none : (c : Call) (h : History) (m : VlxRun) (got : Option ℕ) → got ≡ None → vlx_ready m c h got → vlx_ready m c h None
-told_none c h m got e r = rw e at r
+pub told_none : (c : Call) (h : History) (snaps : List Snap) (asked : ℕ) (got : Option ℕ) → got ≡ None → vlx_ready snaps asked c h got → vlx_ready snaps asked c h None
+told_none c h snaps asked got e r = rw e at r
 
-pub turn_first : (c : Call) (h : History) (old now : VlxRun) (turn : Turn Vlx) → Lawful c.layout h → vlx_ready old c h None → AsksNext old now turn ⊎ IsThrough old now turn → vlx_turn c h now turn
-turn_first c h old now turn l r a = turn_next c h old now turn l (first_looked c h old r) (let e = r.asked in omega arith) a
+pub turn_first : (c : Call) (h : History) (snaps : List Snap) (old now : ℕ) (turn : Turn Vlx) → Lawful c.layout h → vlx_ready snaps old c h None → AsksNext snaps old now turn ⊎ IsThrough snaps old now turn → vlx_turn snaps now c h turn
+turn_first c h snaps old now turn l r a = turn_next c h snaps old now turn l (first_looked c h snaps old r) (let e = r.asked in omega arith) a
 
--- it goes on where the info is what the snapshot found
-pub turn_on : (c : Call) (h : History) (old now : VlxRun) (turn : Turn Vlx) (k v : ℕ) → Lawful c.layout h → vlx_told old c h v → suc k ≡ old.asked → (k < length old.snaps.items → (snap_at old.snaps.items k).scx.0 ≡ v) → AsksNext old now turn ⊎ IsThrough old now turn → vlx_turn c h now turn
-turn_on c h old now turn k v l x e q a =
+-- where the info is what the snapshot found, one more was looked at
+pub looked_on : (c : Call) (h : History) (snaps : List Snap) (asked k v : ℕ) → Lawful c.layout h → vlx_told snaps asked c h v → suc k ≡ asked → (snap_at snaps k).scx.0 ≡ v → HasLooked c h snaps asked
+looked_on c h snaps asked k v l x e q =
     let i : k ≡ x.index = let y = x.looks.is in omega arith in
-    let w : k < length old.snaps.items = let y = x.looks.within in omega arith in
-    let z : (snap_at old.snaps.items x.index).scx.0 ≡ v = rw i at (q w) in
-    turn_next c h old now turn l (one_more c h old v l x z) (let y = x.looks.is in let u = x.looks.within in omega arith) a
+    one_more c h snaps asked v l x (rw i at q)
+
+-- so it goes on
+pub turn_on : (c : Call) (h : History) (snaps : List Snap) (old now : ℕ) (turn : Turn Vlx) (k v : ℕ) → Lawful c.layout h → vlx_told snaps old c h v → suc k ≡ old → (snap_at snaps k).scx.0 ≡ v → AsksNext snaps old now turn ⊎ IsThrough snaps old now turn → vlx_turn snaps now c h turn
+turn_on c h snaps old now turn k v l x e q a = turn_next c h snaps old now turn l (looked_on c h snaps old k v l x e q) (let y = x.looks.is in let u = x.looks.within in omega arith) a

@@ -1,6 +1,7 @@
 -- How many steps a run of VLX may still ask for.
-use Rattle.std.specs.Prelude.{ℕ, ◌-◌, length}
-use Rattle.prims.specs.declared.vlx.VlxRun.{VlxRun}
+use Rattle.std.specs.Prelude.{ℕ, ◌-◌, List, length}
+use Rattle.prims.specs.declared.snap.Snap.{Snap}
 
-abbrev pub vlx_left : VlxRun → ℕ
-vlx_left m = length m.snaps.items - m.asked
+-- one for each snapshot whose info it has not asked for
+abbrev pub vlx_left : List Snap → ℕ → ℕ
+vlx_left snaps asked = length snaps - asked

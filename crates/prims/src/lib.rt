@@ -6,6 +6,7 @@ mod llx;
 mod put;
 mod scx;
 mod snap;
+mod snaps;
 mod update;
 mod vlx;
 
@@ -14,5 +15,6 @@ pub use llx::{Llx, LlxAt, LlxRun};
 pub use put::{PutAt, PutRun};
 pub use scx::{Scx, ScxAt, ScxRun};
 pub use snap::Snap;
+pub use snaps::{SnapList, Snaps};
 pub use update::Update;
 pub use vlx::{Vlx, VlxRun};

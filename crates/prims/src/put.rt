@@ -12,7 +12,7 @@ pub enum PutAt {
 }
 
 /// Fills the value of the fresh cell of an SCX, and then runs it.
-#[derive(Debug, Drop)]
+#[derive(Clone, Copy, Debug)]
 pub struct PutRun {
     pub value: u64,
     pub scx: ScxRun,
@@ -67,7 +67,7 @@ impl<S: Shape> Machine<S> for PutRun {
                 self.at = PutAt::Fill;
                 Turn::Ask(Step {
                     kind: Kind::Fill,
-                    word: Word::Node(self.scx.update.fresh.node(), NodeWord::Value),
+                    word: Word::Node(self.scx.update.fresh, NodeWord::Value),
                     deed: Deed::Store(self.value),
                 })
             }

@@ -1,7 +1,6 @@
 //! SCX of nodes.
 ghost use Rattle.std.specs.Prelude.{◌≡◌, ℕ, ◌+◌, ◌<◌, ◌≤◌};
 
-use crate::snap::Snap;
 use crate::update::Update;
 use arena::{Deed, Kind, Machine, MemberNo, NodeNo, ScxNo, ScxWord, Shape, Step, Turn, Word};
 use help::HelpRun;
@@ -30,7 +29,7 @@ pub enum ScxAt {
 
 /// SCX, step by step: fills an SCX-record of its own and completes it by HELP. From Brown, Ellen and
 /// Ruppert (PODC 2013).
-#[derive(Debug, Drop)]
+#[derive(Clone, Copy, Debug)]
 pub struct ScxRun {
     pub scx: ScxNo,
     pub call: u64,
@@ -43,7 +42,7 @@ impl ScxRun {
     ghost use Rattle.arena.specs.MemberNo.{index_of};
     ghost use Rattle.arena.specs.History.{History};
     ghost use Rattle.arena.specs.Machines.{MatchTurn, Call};
-    ghost use Rattle.prims.specs.VlxKnown.{snap_at};
+    ghost use Rattle.prims.specs.Snap.{snap_at};
     ghost use Rattle.prims.specs.ScxKnown.{FillsAt, FillsNext, FillsLast, Helps, scx_turn};
     ghost use Rattle.help.specs.HelpSteps.{help_left};
     ghost use Rattle.prims.specs.ScxSteps.{scx_left};
@@ -78,23 +77,11 @@ impl ScxRun {
         })
     }
 
-    /// What the snapshot at a place says.
-    #[inline(always)]
-    pub fn snap(&self, j: MemberNo) -> Snap
-        ensures { result ≡ snap_at self.now.update.snaps.items (index_of j) }
-    {
-        self.update
-            .snaps
-            .get(j.index())
-            .copied()
-            .unwrap_or_default()
-    }
-
     /// Fills the j-th node.
     fn fill_member(&mut self, j: MemberNo) -> Turn<Scx>
         ensures { FillsAt self.old self.new result (ScxAt.Member j) }
     {
-        let node = self.snap(j).node.0;
+        let node = self.update.snaps.at(j).node.0;
         self.fill(ScxAt::Member { j }, ScxWord::Member(j.number()), node)
     }
 
@@ -102,7 +89,7 @@ impl ScxRun {
     fn fill_seen(&mut self, j: MemberNo) -> Turn<Scx>
         ensures { FillsAt self.old self.new result (ScxAt.Seen j) }
     {
-        let seen = self.snap(j).scx.0;
+        let seen = self.update.snaps.at(j).scx.0;
         self.fill(ScxAt::Seen { j }, ScxWord::Seen(j.number()), seen)
     }
 
@@ -179,7 +166,7 @@ impl<S: Shape> Machine<S> for ScxRun {
                 self.fill(ScxAt::Plan, ScxWord::Plan, plan)
             }
             ScxAt::Plan => {
-                let new = self.update.fresh.node().0;
+                let new = self.update.fresh.0;
                 self.fill(ScxAt::New, ScxWord::New, new)
             }
             ScxAt::New => {

@@ -1,31 +1,30 @@
 //! What an SCX is to do.
 ghost use Rattle.std.specs.Prelude.{◌≡◌, ℕ, ◌+◌, ◌*◌, ◌<◌, ◌≤◌, ◌^◌, false, length, slice_index_or};
 ghost use Rattle.arena.specs.MemberNo.{index_of};
-ghost use Rattle.prims.specs.VlxKnown.{snap_at};
+ghost use Rattle.prims.specs.Snap.{snap_at};
 ghost use Rattle.prims.specs.Snaps.{IsAmong, finalizes};
-ghost use Rattle.arrayvec.specs.ArrayVec.{array_vec_len};
 
 use crate::snap::Snap;
+use crate::snaps::Snaps;
 use arena::{Fresh, MemberNo, NodeNo, Side};
-use arrayvec::ArrayVec;
 use help::Plan;
 
 /// The nodes that an SCX covers, as their snapshots found them, which of them it finalizes, and the
 /// field of one of them that gets the fresh node.
-#[derive(Debug, Drop)]
+#[derive(Clone, Copy, Debug)]
 pub struct Update {
-    pub snaps: ArrayVec<Snap, 4>,
+    pub snaps: Snaps,
     pub plan: Plan,
     /// What the field holds until then.
     pub old: NodeNo,
-    pub fresh: Fresh,
+    pub fresh: NodeNo,
 }
 
 impl Update {
     ghost use Rattle.std.specs.Prelude.{◌≡◌, ℕ, ◌<◌, ◌≤◌, ◌↔◌, true, length};
     ghost use Rattle.arena.specs.ScxRecords.{removes, side_of};
     ghost use Rattle.prims.specs.ScxKnown.{IsUpdateOver};
-    ghost use Rattle.prims.specs.VlxKnown.{snap_at};
+    ghost use Rattle.prims.specs.Snap.{snap_at};
     ghost use Rattle.prims.specs.Snaps.{AreDistinct, IsAmong, HasNode};
     ghost use Rattle.prims.specs.Updates.{field_place};
 
@@ -39,17 +38,15 @@ impl Update {
         ensures field { (snap_at snaps.now (field_place result)).node.0 ≡ field.0.0 }
         ensures side { side_of result.plan.0 ≡ field.1 }
         ensures removed { (j : ℕ) → j < length snaps.now → (removes result.plan.0 j ≡ true) ↔ HasNode finalize.now (snap_at snaps.now j).node.0 }
-        ensures snaps { result.snaps.items ≡ snaps.now }
-        ensures fresh { result.fresh ≡ fresh }
+        ensures snaps { result.snaps ≡ snaps.now }
+        ensures fresh { result.fresh.0 ≡ fresh }
     {
-        let mut covered = ArrayVec::new();
-        let _fits = covered.try_extend_from_slice(snaps);
         let at = place_of(field.0, snaps);
         Update {
-            snaps: covered,
+            snaps: Snaps::new(snaps),
             plan: Plan::new(snaps.len(), removed(snaps, finalize), at, field.1),
             old: snaps[at.index()].child(field.1),
-            fresh,
+            fresh: fresh.node(),
         }
     }
 }

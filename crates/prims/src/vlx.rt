@@ -1,10 +1,8 @@
 //! VLX of nodes.
-ghost use Rattle.std.specs.Prelude.{◌≡◌, ℕ, ◌+◌, ◌<◌, ◌≤◌, length};
-ghost use Rattle.arrayvec.specs.ArrayVec.{array_vec_len};
+ghost use Rattle.std.specs.Prelude.{◌≡◌, ℕ, ◌+◌, ◌<◌, ◌≤◌};
 
-use crate::snap::Snap;
+use crate::snaps::SnapList;
 use arena::{Deed, Kind, Machine, NodeNo, NodeWord, ScxNo, Shape, Step, Turn, Word};
-use arrayvec::ArrayVec;
 
 /// What a VLX answers.
 #[derive(Clone, Copy, Debug, PartialEq, Eq)]
@@ -18,62 +16,46 @@ pub enum Vlx {
 /// VLX, step by step: looks at the info of each node, up to the first that is not what its snapshot
 /// found. From Brown, Ellen and Ruppert (PODC 2013).
 #[derive(Debug, Drop)]
-pub struct VlxRun {
-    pub snaps: ArrayVec<Snap, 4>,
+pub struct VlxRun<L> {
+    pub snaps: L,
     /// How many infos it has asked for.
     pub asked: usize,
 }
 
-impl VlxRun {
+impl<L: SnapList> VlxRun<L> {
     ghost use Rattle.std.specs.Prelude.{◌≡◌, ◌+◌, ◌-◌, ◌<◌, ◌≤◌, ◌⊎◌, length};
     ghost use Rattle.arena.specs.Machines.{MatchTurn};
-    ghost use Rattle.arrayvec.specs.ArrayVec.{array_vec_len};
     ghost use Rattle.prims.specs.VlxSteps.{vlx_left};
-    ghost use Rattle.prims.specs.VlxKnown.{AsksNext, IsThrough, snap_at};
+    ghost use Rattle.prims.specs.VlxKnown.{AsksNext, IsThrough};
 
-    /// A run that has not begun, over 1 to 4 snapshots. It asks for as many steps at most.
-    pub fn new(snaps: &[Snap]) -> VlxRun
-        requires { length snaps.now ≤ 4 }
-        ensures snaps { result.snaps.items ≡ snaps.now }
+    /// A run that has not begun, over some snapshots. It asks for a step a snapshot at most.
+    pub fn new(snaps: L) -> VlxRun<L>
+        ensures snaps { result.snaps ≡ snaps }
         ensures asked { result.asked ≡ 0 }
-        ensures bound { vlx_left result ≡ length snaps.now }
     {
-        let mut list = ArrayVec::new();
-        let _fits = list.try_extend_from_slice(snaps);
-        VlxRun {
-            snaps: list,
-            asked: 0,
-        }
-    }
-
-    /// The snapshot at a place.
-    fn snap(&self, index: usize) -> Snap
-        ensures { result ≡ snap_at self.now.snaps.items index }
-    {
-        self.snaps.get(index).copied().unwrap_or_default()
+        VlxRun { snaps, asked: 0 }
     }
 
     /// Asks for the info of the next node.
     fn ask_next(&mut self) -> Turn<Vlx>
-        ensures turn { AsksNext self.old self.new result ⊎ IsThrough self.old self.new result }
-        ensures nearer { MatchTurn result (λ _. vlx_left self.new < vlx_left self.old) (λ _. Unit {0}) }
+        ensures turn { AsksNext (L.list self.old.snaps) self.old.asked self.new.asked result ⊎ IsThrough (L.list self.old.snaps) self.old.asked self.new.asked result }
+        ensures same { self.new.snaps ≡ self.old.snaps }
+        ensures nearer { MatchTurn result (λ _. vlx_left (L.list self.old.snaps) self.new.asked < vlx_left (L.list self.old.snaps) self.old.asked) (λ _. Unit {0}) }
     {
-        match self.snaps.get(self.asked) {
-            None => Turn::Done(Vlx::Same),
-            Some(snap) => {
-                let info = Word::Node(snap.node, NodeWord::Info);
-                self.asked += 1;
-                Turn::Ask(Step {
-                    kind: Kind::LoadInfo,
-                    word: info,
-                    deed: Deed::Load,
-                })
-            }
+        if self.asked >= self.snaps.len() {
+            return Turn::Done(Vlx::Same);
         }
+        let info = Word::Node(self.snaps.get(self.asked).node, NodeWord::Info);
+        self.asked += 1;
+        Turn::Ask(Step {
+            kind: Kind::LoadInfo,
+            word: info,
+            deed: Deed::Load,
+        })
     }
 }
 
-impl<S: Shape> Machine<S> for VlxRun {
+impl<S: Shape, L: SnapList> Machine<S> for VlxRun<L> {
     type Answer = Vlx;
 
     ghost use Rattle.std.specs.Prelude.{◌≡◌, ℕ};
@@ -81,15 +63,15 @@ impl<S: Shape> Machine<S> for VlxRun {
     ghost use Rattle.prims.specs.VlxKnown.{vlx_ready, vlx_waits, vlx_answers};
     ghost use Rattle.prims.specs.VlxLaws.{vlx_keeps, vlx_lawful, vlx_made};
 
-    ghost ready = { vlx_ready };
+    ghost ready = { λ m. vlx_ready (L.list m.snaps) m.asked };
 
-    ghost waits = { vlx_waits };
+    ghost waits = { λ m. vlx_waits (L.list m.snaps) m.asked };
 
-    ghost answers = { vlx_answers };
+    ghost answers = { λ m. vlx_answers (L.list m.snaps) };
 
     ghost same = { λ old now. now.snaps ≡ old.snaps };
 
-    ghost left = { vlx_left };
+    ghost left = { λ m. vlx_left (L.list m.snaps) m.asked };
 
     ghost asks_first = { λ _. Unit {0} };
 
@@ -97,7 +79,7 @@ impl<S: Shape> Machine<S> for VlxRun {
         let (Some(found), Some(last)) = (got, self.asked.checked_sub(1)) else {
             return self.ask_next();
         };
-        let snap = self.snap(last);
+        let snap = self.snaps.get(last);
         if snap.scx.0 == found {
             return self.ask_next();
         }
@@ -106,9 +88,9 @@ impl<S: Shape> Machine<S> for VlxRun {
         Turn::Done(Vlx::Changed { node, scx })
     }
 
-    ghost keeps = { vlx_keeps S.allows };
+    ghost keeps = { λ m. vlx_keeps S.allows (L.list m.snaps) m.asked };
 
-    ghost lawful = { vlx_lawful S.allows };
+    ghost lawful = { λ m. vlx_lawful S.allows (L.list m.snaps) m.asked };
 
-    ghost made = { vlx_made S.allows };
+    ghost made = { λ m. vlx_made S.allows (L.list m.snaps) m.asked };
 }

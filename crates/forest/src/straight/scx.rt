@@ -2,7 +2,7 @@
 ghost use Rattle.std.specs.Prelude.{◌≡◌, ◌≤◌, ◌+◌, suc};
 ghost use Rattle.arena.specs.Machines.{Call};
 ghost use Rattle.prims.specs.declared.put.PutRun.{PutRun};
-ghost use Rattle.prims.specs.VlxKnown.{snap_at};
+ghost use Rattle.prims.specs.Snap.{snap_at};
 ghost use Rattle.forest.specs.Kept.{IsTableOf};
 ghost use Rattle.forest.specs.Courses.{steps_of};
 ghost use Rattle.forest.specs.StraightScx.{PutBegins, PutWaits, PutTold, PutEnds, put_same, scx_at, fill_of};
@@ -56,16 +56,16 @@ fn fill_members<S: Shape>(
     run: &PutRun,
 )
     requires table { IsTableOf words.now.table.shared.table_id words.now.table.shared.key layout.now × (seat.old.table_id ≡ words.now.table.shared.table_id) }
-    requires waits { (c : Call) × (first : PutRun) × (c.layout ≡ layout.now) × (c.number ≡ number) × PutWaits S.allows c seat.old.me.0.passes first (scx_at run.now (ScxAt.Member MemberNo.First)) (fill_of run.now (ScxWord.Member 0) (snap_at run.now.scx.update.snaps.items 0).node.0) }
+    requires waits { (c : Call) × (first : PutRun) × (c.layout ≡ layout.now) × (c.number ≡ number) × PutWaits S.allows c seat.old.me.0.passes first (scx_at run.now (ScxAt.Member MemberNo.First)) (fill_of run.now (ScxWord.Member 0) (snap_at run.now.scx.update.snaps 0).node.0) }
     ensures table { (seat.new.table_id ≡ seat.old.table_id) × (seat.new.me.1 ≡ seat.old.me.1) }
     ensures steps { steps_of seat.new.me.0.passes ≤ steps_of seat.old.me.0.passes + 4 }
     ensures waits { (c : Call) (first : PutRun) → c.layout ≡ layout.now → c.number ≡ number
-        → PutWaits S.allows c seat.old.me.0.passes first (scx_at run.now (ScxAt.Member MemberNo.First)) (fill_of run.now (ScxWord.Member 0) (snap_at run.now.scx.update.snaps.items 0).node.0)
-        → PutWaits S.allows c seat.new.me.0.passes first (scx_at run.now (ScxAt.Seen MemberNo.First)) (fill_of run.now (ScxWord.Seen 0) (snap_at run.now.scx.update.snaps.items 0).scx.0) }
+        → PutWaits S.allows c seat.old.me.0.passes first (scx_at run.now (ScxAt.Member MemberNo.First)) (fill_of run.now (ScxWord.Member 0) (snap_at run.now.scx.update.snaps 0).node.0)
+        → PutWaits S.allows c seat.new.me.0.passes first (scx_at run.now (ScxAt.Seen MemberNo.First)) (fill_of run.now (ScxWord.Seen 0) (snap_at run.now.scx.update.snaps 0).scx.0) }
 {
     let mut j = MemberNo::First;
     loop {
-        let value = run.scx.snap(j).node.0;
+        let value = run.scx.update.snaps.at(j).node.0;
         fill(
             words,
             layout,
@@ -93,16 +93,16 @@ fn fill_seen<S: Shape>(
     run: &PutRun,
 )
     requires table { IsTableOf words.now.table.shared.table_id words.now.table.shared.key layout.now × (seat.old.table_id ≡ words.now.table.shared.table_id) }
-    requires waits { (c : Call) × (first : PutRun) × (c.layout ≡ layout.now) × (c.number ≡ number) × PutWaits S.allows c seat.old.me.0.passes first (scx_at run.now (ScxAt.Seen MemberNo.First)) (fill_of run.now (ScxWord.Seen 0) (snap_at run.now.scx.update.snaps.items 0).scx.0) }
+    requires waits { (c : Call) × (first : PutRun) × (c.layout ≡ layout.now) × (c.number ≡ number) × PutWaits S.allows c seat.old.me.0.passes first (scx_at run.now (ScxAt.Seen MemberNo.First)) (fill_of run.now (ScxWord.Seen 0) (snap_at run.now.scx.update.snaps 0).scx.0) }
     ensures table { (seat.new.table_id ≡ seat.old.table_id) × (seat.new.me.1 ≡ seat.old.me.1) }
     ensures steps { steps_of seat.new.me.0.passes ≤ steps_of seat.old.me.0.passes + 4 }
     ensures waits { (c : Call) (first : PutRun) → c.layout ≡ layout.now → c.number ≡ number
-        → PutWaits S.allows c seat.old.me.0.passes first (scx_at run.now (ScxAt.Seen MemberNo.First)) (fill_of run.now (ScxWord.Seen 0) (snap_at run.now.scx.update.snaps.items 0).scx.0)
+        → PutWaits S.allows c seat.old.me.0.passes first (scx_at run.now (ScxAt.Seen MemberNo.First)) (fill_of run.now (ScxWord.Seen 0) (snap_at run.now.scx.update.snaps 0).scx.0)
         → PutWaits S.allows c seat.new.me.0.passes first (scx_at run.now (ScxAt.Call)) (fill_of run.now (ScxWord.Call) run.now.scx.call) }
 {
     let mut j = MemberNo::First;
     loop {
-        let value = run.scx.snap(j).scx.0;
+        let value = run.scx.update.snaps.at(j).scx.0;
         fill(
             words,
             layout,
@@ -137,7 +137,7 @@ pub(crate) fn call<S: Shape>(
 {
     let mut run = unbegun;
     run.at = PutAt::Fill;
-    let cell = run.scx.update.fresh.node();
+    let cell = run.scx.update.fresh;
     let value = Step {
         kind: Kind::Fill,
         word: Word::Node(cell, NodeWord::Value),

@@ -1,33 +1,47 @@
 //! VLX.
-ghost use Rattle.std.specs.Prelude.{◌≡◌, ◌≤◌, ◌+◌};
+ghost use Rattle.std.specs.Prelude.{◌≡◌, ◌≤◌, ◌+◌, length};
 ghost use Rattle.arena.specs.Machines.{Call};
-ghost use Rattle.prims.specs.VlxSteps.{vlx_left};
 ghost use Rattle.forest.specs.Kept.{IsTableOf};
 ghost use Rattle.forest.specs.Courses.{steps_of};
 ghost use Rattle.forest.specs.StraightVlx.{VlxBegins, VlxEnds};
 
-use crate::steps::complete;
+use crate::steps::step_of;
 use crate::view::View;
 use crate::words::Words;
-use arena::{Layout, Machine, Shape};
+use arena::{Deed, Kind, Layout, NodeWord, ScxNo, Shape, Step, Word};
 use atomic_table::Seat;
-use prims::{Vlx, VlxRun};
+use prims::{SnapList, Vlx, VlxRun};
 
-/// VLX by a run that has not begun.
-pub(crate) fn call<S: Shape>(
+/// VLX: loads the infos of the snapshots' nodes, up to the first that is not what its snapshot found.
+#[inline(always)]
+pub(crate) fn call<S: Shape, L: SnapList + Copy>(
     words: &Words<S>,
     layout: &Layout,
     seat: &mut Seat<u8, View>,
     number: u64,
-    unbegun: VlxRun,
+    snaps: L,
 ) -> Vlx
     requires table { IsTableOf words.now.table.shared.table_id words.now.table.shared.key layout.now × (seat.old.table_id ≡ words.now.table.shared.table_id) }
-    requires begins { (c : Call) × (c.layout ≡ layout.now) × (c.number ≡ number) × VlxBegins S.allows c seat.old.me.0.passes unbegun }
+    requires begins { (c : Call) × (c.layout ≡ layout.now) × (c.number ≡ number) × VlxBegins L.list S.allows c seat.old.me.0.passes snaps }
     ensures table { (seat.new.table_id ≡ seat.old.table_id) × (seat.new.me.1 ≡ seat.old.me.1) }
-    ensures ends { (c : Call) → c.layout ≡ layout.now → c.number ≡ number → VlxBegins S.allows c seat.old.me.0.passes unbegun → VlxEnds S.allows c seat.new.me.0.passes unbegun result }
-    ensures steps { steps_of seat.new.me.0.passes ≤ steps_of seat.old.me.0.passes + vlx_left unbegun }
+    ensures ends { (c : Call) → c.layout ≡ layout.now → c.number ≡ number → VlxBegins L.list S.allows c seat.old.me.0.passes snaps → VlxEnds L.list S.allows c seat.new.me.0.passes snaps result }
+    ensures steps { steps_of seat.new.me.0.passes ≤ steps_of seat.old.me.0.passes + length (L.list snaps) }
 {
-    let mut run = unbegun;
-    let turn = Machine::<S>::next(&mut run, None);
-    complete(words, layout, seat, number, run, turn).1
+    let layout = *layout;
+    for index in 0..snaps.len() {
+        let snap = snaps.get(index);
+        let step = Step {
+            kind: Kind::LoadInfo,
+            word: Word::Node(snap.node, NodeWord::Info),
+            deed: Deed::Load,
+        };
+        let asked = index + 1;
+        let run = VlxRun { snaps, asked };
+        let found = step_of::<S, VlxRun<L>>(words, &layout, seat, number, &run, step);
+        if found != snap.scx.0 {
+            let (node, scx) = (snap.node, ScxNo(found));
+            return Vlx::Changed { node, scx };
+        }
+    }
+    Vlx::Same
 }

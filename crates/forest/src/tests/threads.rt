@@ -78,7 +78,11 @@ fn put_in_two(
 }
 
 /// A round at one of four cells, and the next of them.
-fn put_in_four(forest: &Forest<Cells>, pass: &mut Pass<Cells>, round: u32) -> Option<Result<Scx, Full>>
+fn put_in_four(
+    forest: &Forest<Cells>,
+    pass: &mut Pass<Cells>,
+    round: u32,
+) -> Option<Result<Scx, Full>>
     requires { IsOf forest.now pass.old }
     ensures { IsOf forest.now pass.new }
 {

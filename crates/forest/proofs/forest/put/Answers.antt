@@ -18,8 +18,8 @@ returns-clause-put c =
     let u = c.new-update.ensures in
     record {
       over = rw update u.over;
-      snaps_are = ap (λ (k : Update). k.snaps.items) update ∙ u.snaps;
-      fresh = ap (λ (k : Update). k.fresh) update ∙ u.fresh;
+      snaps_are = ap (λ (k : Update). k.snaps) update ∙ u.snaps;
+      fresh = ap (λ (k : Update). k.fresh.0) update ∙ u.fresh;
       record_is = ap (λ (r : ScxRun). r.scx.0) run ∙ ap (λ (n : ScxNo). n.0) c.new.ensures.scx;
       called = ap (λ (r : ScxRun). r.call) run ∙ c.new.ensures.call;
       removed = rw update u.removed;

@@ -1,38 +1,43 @@
-use Rattle.std.proofs.Common.{◌≡◌, ◌∙◌, ℕ, refl, sym, ap, subst, arith}
+use Rattle.std.proofs.Common.{◌≡◌, ◌∙◌, ℕ, List, refl, sym, ap, subst, arith}
+use denote.Bor.{Bor}
+use Rattle.prims.specs.Cells.{allows_all}
+use Rattle.prims.specs.declared.snap.Snap.{Snap}
 use Rattle.forest.specs.Passes.{Sight, VlxSays, CanUse, Each, taken_of}
 use Rattle.forest.specs.Held.{sight}
+use Rattle.forest.specs.StraightVlx.{VlxBegins}
+use Rattle.forest.specs.declared.pass.Pass.TheInside.{Inside}
 use Rattle.forest.proofs.Passes.{HasCalled, layout_of, call_of, seated, called_pass, called_goes_on, called_nothing}
 use Rattle.forest.proofs.VlxCalls.{Looked, vlx_begins, vlx_called, vlx_says}
-use Rattle.prims.specs.Cells.{allows_all}
-use Rattle.forest.specs.declared.pass.Pass.TheInside.{Inside}
-use Rattle.forest.specs.StraightVlx.{VlxBegins}
 use Rattle.forest.proofs.forest.Forest+Cells.vlx.Goals as goal
+
+-- the list that a slice is
+abbrev list : Bor (List Snap) → List Snap
+list snaps = snaps.now
 
 -- the number of the call
 abbrev called : {T : Type 0} → Inside T → ℕ
 called p = taken_of (sight p)
 
 -- the call may begin
-begins : (c : goal.After-new) → VlxBegins allows_all (call_of c.pass.inside c.pass.invariant (called c.pass.inside)) c.pass.inside.seat.me.0.passes c.new.result
-begins c = vlx_begins c.pass.inside c.pass.invariant (called c.pass.inside) c.new.result c.args.snaps.now c.new.ensures.asked c.new.ensures.snaps c.requires.some (subst (λ (v : Sight). Each (CanUse v) c.args.snaps.now) (sym c.pass.view_is) c.requires.usable)
+begins : (c : goal.After-call-arg-1) → VlxBegins list allows_all (call_of c.pass.inside c.pass.invariant (called c.pass.inside)) c.pass.inside.seat.me.0.passes c.args.snaps
+begins c = vlx_begins list c.pass.inside c.pass.invariant (called c.pass.inside) c.args.snaps c.requires.some (subst (λ (v : Sight). Each (CanUse v) c.args.snaps.now) (sym c.pass.view_is) c.requires.usable)
 
 pub call-requires-clause-begins : goal.call-requires-clause-begins
 call-requires-clause-begins c = (call_of c.pass.inside c.pass.invariant (called c.pass.inside), layout_of c.pass.view_is c.self.view_is c.requires.pass, ap taken_of c.pass.view_is ∙ sym c.taken-number.ensures, begins c)
 
 -- what the call leaves
-ended : (c : goal.After-call) → HasCalled c.pass.inside c.call.new.seat (called c.pass.inside) (Looked c.pass.inside c.pass.invariant (called c.pass.inside) c.args.snaps.now c.call.result)
+ended : (c : goal.After-call) → HasCalled c.pass.inside c.call.new.seat (called c.pass.inside) (Looked list c.pass.inside c.pass.invariant (called c.pass.inside) c.args.snaps c.call.result)
 ended c = let p = c.pass.inside in let x = c.pass.invariant in
-    let y = c.call.ensures.ends (call_of p x (called p)) (layout_of c.pass.view_is c.self.view_is c.requires.pass) (ap taken_of c.pass.view_is ∙ sym c.taken-number.ensures) (begins c.before) in
-    vlx_called p x (called p) c.call.new.seat c.new.result y.0 c.args.snaps.now c.call.result c.new.ensures.snaps y.1
+    vlx_called list p x (called p) c.call.new.seat c.args.snaps c.call.result (c.call.ensures.ends (call_of p x (called p)) (layout_of c.pass.view_is c.self.view_is c.requires.pass) (ap taken_of c.pass.view_is ∙ sym c.taken-number.ensures) (begins c.before))
 
 pub invariant_of-pass : goal.invariant_of-pass
 invariant_of-pass c = called_pass c.pass.inside c.pass.invariant c.call.new.seat _ _ c.call.ensures.table.1 (ended c)
 
 pub returns-clause-goes_on : goal.returns-clause-goes_on
-returns-clause-goes_on c = rw (← c.pass.view_is) (called_goes_on c.pass.inside c.pass.invariant c.call.new.seat _ _ _ _ c.call.ensures.table.0 c.call.ensures.table.1 (ended c) c.call.ensures.steps (let b = c.new.ensures.bound in omega arith))
+returns-clause-goes_on c = rw (← c.pass.view_is) (called_goes_on c.pass.inside c.pass.invariant c.call.new.seat _ _ _ _ c.call.ensures.table.0 c.call.ensures.table.1 (ended c) c.call.ensures.steps (omega arith))
 
 pub returns-clause-takes_nothing : goal.returns-clause-takes_nothing
 returns-clause-takes_nothing c = rw (← c.pass.view_is) (called_nothing c.pass.inside c.call.new.seat _ _ (ended c))
 
 pub returns-clause-says : goal.returns-clause-says
-returns-clause-says c = subst (λ (v : Sight). VlxSays v (sight (seated c.pass.inside c.call.new.seat)) c.args.snaps.now c.call.result) c.pass.view_is (vlx_says c.pass.inside c.pass.invariant _ c.call.new.seat c.args.snaps.now c.call.result (ended c))
+returns-clause-says c = subst (λ (v : Sight). VlxSays v (sight (seated c.pass.inside c.call.new.seat)) c.args.snaps.now c.call.result) c.pass.view_is (vlx_says list c.pass.inside c.pass.invariant (called c.pass.inside) c.call.new.seat c.args.snaps c.call.result (ended c))

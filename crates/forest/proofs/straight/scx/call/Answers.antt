@@ -9,13 +9,13 @@ use Rattle.forest.proofs.straight.scx.call.Goals as goal
 pub step_of-requires-clause-waits : goal.step_of-requires-clause-waits
 step_of-requires-clause-waits g c = let u = c.args.unbegun in
     let r = c.requires.begins in let k = r.0 in let lay = r.1 in let number = r.2 in let x = r.3 in
-    let w0 = to_value g.S.Shape.allows k _ u c.node-cell.result c.node-cell.ensures x in
+    let w0 = to_value g.S.Shape.allows k _ u x in
     (k, u, lay, number, w0)
 
 pub fill-requires-clause-waits : goal.fill-requires-clause-waits
 fill-requires-clause-waits g c = let u = c.args.unbegun in
     let r = c.requires.begins in let k = r.0 in let lay = r.1 in let number = r.2 in let x = r.3 in
-    let w0 = to_value g.S.Shape.allows k _ u c.node-cell.result c.node-cell.ensures x in
+    let w0 = to_value g.S.Shape.allows k _ u x in
     let t0 = c.step_of.ensures.told k u lay number w0 in
     let w1 = to_plan g.S.Shape.allows k _ u c.step_of.result t0 in
     (k, u, lay, number, w1)
@@ -23,34 +23,34 @@ fill-requires-clause-waits g c = let u = c.args.unbegun in
 pub fill-requires-2-clause-waits : goal.fill-requires-2-clause-waits
 fill-requires-2-clause-waits g c = let u = c.args.unbegun in
     let r = c.requires.begins in let k = r.0 in let lay = r.1 in let number = r.2 in let x = r.3 in
-    let w0 = to_value g.S.Shape.allows k _ u c.node-cell.result c.node-cell.ensures x in
+    let w0 = to_value g.S.Shape.allows k _ u x in
     let t0 = c.step_of.ensures.told k u lay number w0 in
     let w1 = to_plan g.S.Shape.allows k _ u c.step_of.result t0 in
     let t1 = c.fill.ensures.told k u lay number w1 in
     let w2 = to_new g.S.Shape.allows k _ u u c.fill.result t1 in
-    (k, u, lay, number, rw c.node-cell.ensures w2)
+    (k, u, lay, number, w2)
 
 pub fill-requires-3-clause-waits : goal.fill-requires-3-clause-waits
 fill-requires-3-clause-waits g c = let u = c.args.unbegun in
     let r = c.requires.begins in let k = r.0 in let lay = r.1 in let number = r.2 in let x = r.3 in
-    let w0 = to_value g.S.Shape.allows k _ u c.node-cell.result c.node-cell.ensures x in
+    let w0 = to_value g.S.Shape.allows k _ u x in
     let t0 = c.step_of.ensures.told k u lay number w0 in
     let w1 = to_plan g.S.Shape.allows k _ u c.step_of.result t0 in
     let t1 = c.fill.ensures.told k u lay number w1 in
     let w2 = to_new g.S.Shape.allows k _ u u c.fill.result t1 in
-    let t2 = c.fill-2.ensures.told k u lay number (rw c.node-cell.ensures w2) in
+    let t2 = c.fill-2.ensures.told k u lay number w2 in
     let w3 = to_old g.S.Shape.allows k _ u u c.fill-2.result t2 in
     (k, u, lay, number, w3)
 
 pub fill_members-requires-clause-waits : goal.fill_members-requires-clause-waits
 fill_members-requires-clause-waits g c = let u = c.args.unbegun in
     let r = c.requires.begins in let k = r.0 in let lay = r.1 in let number = r.2 in let x = r.3 in
-    let w0 = to_value g.S.Shape.allows k _ u c.node-cell.result c.node-cell.ensures x in
+    let w0 = to_value g.S.Shape.allows k _ u x in
     let t0 = c.step_of.ensures.told k u lay number w0 in
     let w1 = to_plan g.S.Shape.allows k _ u c.step_of.result t0 in
     let t1 = c.fill.ensures.told k u lay number w1 in
     let w2 = to_new g.S.Shape.allows k _ u u c.fill.result t1 in
-    let t2 = c.fill-2.ensures.told k u lay number (rw c.node-cell.ensures w2) in
+    let t2 = c.fill-2.ensures.told k u lay number w2 in
     let w3 = to_old g.S.Shape.allows k _ u u c.fill-2.result t2 in
     let t3 = c.fill-3.ensures.told k u lay number w3 in
     let w4 = to_member g.S.Shape.allows k _ u u c.fill-3.result t3 in
@@ -59,12 +59,12 @@ fill_members-requires-clause-waits g c = let u = c.args.unbegun in
 pub fill_seen-requires-clause-waits : goal.fill_seen-requires-clause-waits
 fill_seen-requires-clause-waits g c = let u = c.args.unbegun in
     let r = c.requires.begins in let k = r.0 in let lay = r.1 in let number = r.2 in let x = r.3 in
-    let w0 = to_value g.S.Shape.allows k _ u c.node-cell.result c.node-cell.ensures x in
+    let w0 = to_value g.S.Shape.allows k _ u x in
     let t0 = c.step_of.ensures.told k u lay number w0 in
     let w1 = to_plan g.S.Shape.allows k _ u c.step_of.result t0 in
     let t1 = c.fill.ensures.told k u lay number w1 in
     let w2 = to_new g.S.Shape.allows k _ u u c.fill.result t1 in
-    let t2 = c.fill-2.ensures.told k u lay number (rw c.node-cell.ensures w2) in
+    let t2 = c.fill-2.ensures.told k u lay number w2 in
     let w3 = to_old g.S.Shape.allows k _ u u c.fill-2.result t2 in
     let t3 = c.fill-3.ensures.told k u lay number w3 in
     let w4 = to_member g.S.Shape.allows k _ u u c.fill-3.result t3 in
@@ -74,12 +74,12 @@ fill_seen-requires-clause-waits g c = let u = c.args.unbegun in
 pub fill-requires-4-clause-waits : goal.fill-requires-4-clause-waits
 fill-requires-4-clause-waits g c = let u = c.args.unbegun in
     let r = c.requires.begins in let k = r.0 in let lay = r.1 in let number = r.2 in let x = r.3 in
-    let w0 = to_value g.S.Shape.allows k _ u c.node-cell.result c.node-cell.ensures x in
+    let w0 = to_value g.S.Shape.allows k _ u x in
     let t0 = c.step_of.ensures.told k u lay number w0 in
     let w1 = to_plan g.S.Shape.allows k _ u c.step_of.result t0 in
     let t1 = c.fill.ensures.told k u lay number w1 in
     let w2 = to_new g.S.Shape.allows k _ u u c.fill.result t1 in
-    let t2 = c.fill-2.ensures.told k u lay number (rw c.node-cell.ensures w2) in
+    let t2 = c.fill-2.ensures.told k u lay number w2 in
     let w3 = to_old g.S.Shape.allows k _ u u c.fill-2.result t2 in
     let t3 = c.fill-3.ensures.told k u lay number w3 in
     let w4 = to_member g.S.Shape.allows k _ u u c.fill-3.result t3 in
@@ -90,12 +90,12 @@ fill-requires-4-clause-waits g c = let u = c.args.unbegun in
 pub call-committed-requires-clause-begins : goal.call-committed-requires-clause-begins
 call-committed-requires-clause-begins g c = let u = c.args.unbegun in
     let r = c.requires.begins in let k = r.0 in let lay = r.1 in let number = r.2 in let x = r.3 in
-    let w0 = to_value g.S.Shape.allows k _ u c.node-cell.result c.node-cell.ensures x in
+    let w0 = to_value g.S.Shape.allows k _ u x in
     let t0 = c.step_of.ensures.told k u lay number w0 in
     let w1 = to_plan g.S.Shape.allows k _ u c.step_of.result t0 in
     let t1 = c.fill.ensures.told k u lay number w1 in
     let w2 = to_new g.S.Shape.allows k _ u u c.fill.result t1 in
-    let t2 = c.fill-2.ensures.told k u lay number (rw c.node-cell.ensures w2) in
+    let t2 = c.fill-2.ensures.told k u lay number w2 in
     let w3 = to_old g.S.Shape.allows k _ u u c.fill-2.result t2 in
     let t3 = c.fill-3.ensures.told k u lay number w3 in
     let w4 = to_member g.S.Shape.allows k _ u u c.fill-3.result t3 in
@@ -107,12 +107,12 @@ call-committed-requires-clause-begins g c = let u = c.args.unbegun in
 pub returns-then-committed-clause-ends : goal.returns-then-committed-clause-ends
 returns-then-committed-clause-ends g c = let u = c.args.unbegun in
     λ k lay number x.
-    let w0 = to_value g.S.Shape.allows k _ u c.node-cell.result c.node-cell.ensures x in
+    let w0 = to_value g.S.Shape.allows k _ u x in
     let t0 = c.step_of.ensures.told k u lay number w0 in
     let w1 = to_plan g.S.Shape.allows k _ u c.step_of.result t0 in
     let t1 = c.fill.ensures.told k u lay number w1 in
     let w2 = to_new g.S.Shape.allows k _ u u c.fill.result t1 in
-    let t2 = c.fill-2.ensures.told k u lay number (rw c.node-cell.ensures w2) in
+    let t2 = c.fill-2.ensures.told k u lay number w2 in
     let w3 = to_old g.S.Shape.allows k _ u u c.fill-2.result t2 in
     let t3 = c.fill-3.ensures.told k u lay number w3 in
     let w4 = to_member g.S.Shape.allows k _ u u c.fill-3.result t3 in
@@ -124,12 +124,12 @@ returns-then-committed-clause-ends g c = let u = c.args.unbegun in
 pub returns-else-committed-clause-ends : goal.returns-else-committed-clause-ends
 returns-else-committed-clause-ends g c = let u = c.args.unbegun in
     λ k lay number x.
-    let w0 = to_value g.S.Shape.allows k _ u c.node-cell.result c.node-cell.ensures x in
+    let w0 = to_value g.S.Shape.allows k _ u x in
     let t0 = c.step_of.ensures.told k u lay number w0 in
     let w1 = to_plan g.S.Shape.allows k _ u c.step_of.result t0 in
     let t1 = c.fill.ensures.told k u lay number w1 in
     let w2 = to_new g.S.Shape.allows k _ u u c.fill.result t1 in
-    let t2 = c.fill-2.ensures.told k u lay number (rw c.node-cell.ensures w2) in
+    let t2 = c.fill-2.ensures.told k u lay number w2 in
     let w3 = to_old g.S.Shape.allows k _ u u c.fill-2.result t2 in
     let t3 = c.fill-3.ensures.told k u lay number w3 in
     let w4 = to_member g.S.Shape.allows k _ u u c.fill-3.result t3 in

@@ -1,17 +1,30 @@
-use Rattle.std.proofs.Common.{◌≡◌, arith}
-use Rattle.prims.specs.VlxKnown.{vlx_ready, vlx_waits, vlx_answers}
-use Rattle.forest.specs.StraightVlx.{same_snaps}
-use Rattle.forest.proofs.Places.{stands}
-use Rattle.forest.proofs.Advances.{weighs}
+use Rattle.std.proofs.Common.{◌≡◌, ◌+◌, ◌∙◌, ℕ, refl, sym, ap, subst, arith}
+use Rattle.prims.specs.declared.snap.Snap.{Snap}
+use Rattle.forest.specs.StraightVlx.{VlxLooked}
+use Rattle.forest.proofs.StraightVlx.{to_none, to_info, to_next, to_changed, to_same}
 use Rattle.forest.proofs.straight.vlx.call.Goals as goal
 
-pub complete-requires-clause-stands : goal.complete-requires-clause-stands
-complete-requires-clause-stands g c = let r = c.requires.begins in
-    (r.0, c.args.unbegun, r.1, r.2, stands g.S.Shape.allows vlx_ready vlx_waits same_snaps r.0 _ c.args.unbegun c.next-turn.new.self c.next-turn.result vlx_answers c.next-turn.ensures.same (λ h run x. c.next-turn.ensures.turn r.0 h run x) r.3)
+pub loop-index-init : goal.loop-index-init
+loop-index-init g c = record { here = (refl, refl); steps = omega arith; looked = λ k lay number x. to_none g.L.SnapList.list g.S.Shape.allows k _ c.args.snaps x }
+
+pub step_of-found-requires-clause-table : goal.step_of-found-requires-clause-table
+step_of-found-requires-clause-table g c = (c.requires.table.0, c.loop-index.invariant.here.0 ∙ c.requires.table.1)
+
+pub step_of-found-requires-clause-waits : goal.step_of-found-requires-clause-waits
+step_of-found-requires-clause-waits g c = let r = c.requires.begins in
+    (r.0, record { snaps = c.args.snaps; asked = 0 }, r.1, r.2, rw c.get-snap.ensures (to_info g.L.SnapList.list g.S.Shape.allows r.0 _ c.args.snaps c.loop-index.index _ (omega arith) (let e = c.len-index-end.ensures in omega arith) (c.loop-index.invariant.looked r.0 r.1 r.2 r.3)))
+
+pub loop-index-preserved : goal.loop-index-preserved
+loop-index-preserved g c = record {
+  here = (c.step_of-found.ensures.table.0 ∙ c.loop-index.invariant.here.0, c.step_of-found.ensures.table.1 ∙ c.loop-index.invariant.here.1);
+  steps = (let i = c.loop-index.invariant.steps in let o = c.step_of-found.ensures.one in omega arith);
+  looked = λ k lay number x. to_next g.L.SnapList.list g.S.Shape.allows k _ c.args.snaps c.loop-index.index (c.loop-index.index + 1) c.step_of-found.result (omega arith) (ap (λ (s : Snap). s.scx.0) (sym c.get-snap.ensures) ∙ sym c.if-found-snap.false)
+      (c.step_of-found.ensures.told k record { snaps = c.args.snaps; asked = 0 } lay number (rw c.get-snap.ensures (to_info g.L.SnapList.list g.S.Shape.allows k _ c.args.snaps c.loop-index.index (c.loop-index.index + 1) (omega arith) (let e = c.len-index-end.ensures in omega arith) (c.loop-index.invariant.looked k lay number x))));
+}
+
+pub returns-then-found-snap-clause-ends : goal.returns-then-found-snap-clause-ends
+returns-then-found-snap-clause-ends g c = λ k lay number x. rw c.get-snap.ensures (to_changed g.L.SnapList.list g.S.Shape.allows k _ c.args.snaps c.loop-index.index (c.loop-index.index + 1) c.step_of-found.result (omega arith) (λ e. c.if-found-snap.true (sym e ∙ ap (λ (s : Snap). s.scx.0) (sym c.get-snap.ensures)))
+    (c.step_of-found.ensures.told k record { snaps = c.args.snaps; asked = 0 } lay number (rw c.get-snap.ensures (to_info g.L.SnapList.list g.S.Shape.allows k _ c.args.snaps c.loop-index.index (c.loop-index.index + 1) (omega arith) (let e = c.len-index-end.ensures in omega arith) (c.loop-index.invariant.looked k lay number x)))))
 
 pub returns-clause-ends : goal.returns-clause-ends
-returns-clause-ends g c = λ k lay number x.
-    (c.complete.result.0, c.complete.ensures.ends k c.args.unbegun lay number (stands g.S.Shape.allows vlx_ready vlx_waits same_snaps k _ c.args.unbegun c.next-turn.new.self c.next-turn.result vlx_answers c.next-turn.ensures.same (λ h run y. c.next-turn.ensures.turn k h run y) x))
-
-pub returns-clause-steps : goal.returns-clause-steps
-returns-clause-steps g c = let w = weighs c.next-turn.result _ _ c.next-turn.ensures.nearer in let s = c.complete.ensures.steps in omega arith
+returns-clause-ends g c = λ k lay number x. to_same g.L.SnapList.list g.S.Shape.allows k _ c.args.snaps (subst (λ (n : ℕ). VlxLooked g.L.SnapList.list g.S.Shape.allows k c.loop-index.seat.me.0.passes c.args.snaps n) (let e = c.len-index-end.ensures in omega arith) (c.loop-index.invariant.looked k lay number x))

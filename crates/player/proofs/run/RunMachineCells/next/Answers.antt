@@ -12,5 +12,5 @@ asks_still (Done a) after Q e k = absurd k
 
 pub returns-in-Vlx-clause-begins : goal.returns-in-Vlx-clause-begins
 returns-in-Vlx-clause-begins c none first d h r =
-    let x : vlx_ready c.in-Vlx.run' d h None = rw c.in-Vlx.is at r in
+    let x : vlx_ready c.in-Vlx.run'.snaps c.in-Vlx.run'.asked d h None = rw c.in-Vlx.is at r in
     asks_still c.next-in-Vlx.result c.map-in-Vlx.result _ c.map-in-Vlx.ensures (c.next-in-Vlx.ensures.begins none tt d h x)

@@ -1,0 +1,34 @@
+-- Up to four snapshots in four slots.
+use Rattle.std.proofs.Common.{◌≡◌, ℕ, zero, suc, ◌<◌, ◌≤◌, List, [], ◌∷◌, length, take, refl, sym, ◌∙◌, ap, arith}
+use Rattle.std.proofs.lemmas.List.{length-take-le}
+use Rattle.prims.specs.declared.snap.Snap.{Snap}
+use Rattle.prims.specs.declared.snaps.Snaps.TheInside.{Inside}
+use Rattle.prims.specs.Snap.{snap_at}
+
+-- the four slots of a list of at most four: those behind the last are blank
+abbrev pub slots_of : List Snap → List Snap
+slots_of snaps = snap_at snaps 0 ∷ snap_at snaps 1 ∷ snap_at snaps 2 ∷ snap_at snaps 3 ∷ []
+
+-- they hold the list
+pub slots_hold : (snaps : List Snap) → length snaps ≤ 4 → take (length snaps) (slots_of snaps) ≡ snaps
+slots_hold [] few = refl
+slots_hold (a ∷ []) few = refl
+slots_hold (a ∷ b ∷ []) few = refl
+slots_hold (a ∷ b ∷ c ∷ []) few = refl
+slots_hold (a ∷ b ∷ c ∷ d ∷ []) few = refl
+slots_hold (a ∷ b ∷ c ∷ d ∷ e ∷ more) few = absurd (omega arith)
+
+-- a place of them has the snapshot of the list there
+pub slot_is : (snaps : List Snap) (i : ℕ) → i < 4 → snap_at (slots_of snaps) i ≡ snap_at snaps i
+slot_is snaps zero few = refl
+slot_is snaps (suc zero) few = refl
+slot_is snaps (suc (suc zero)) few = refl
+slot_is snaps (suc (suc (suc zero))) few = refl
+slot_is snaps (suc (suc (suc (suc i)))) few = absurd (omega arith)
+
+-- and they are given by it
+pub slots_back : (s : Inside) → (s.count ≤ 4) × (s.slots ≡ slots_of (take s.count s.slots)) → record { slots = slots_of (take s.count s.slots); count = length (take s.count s.slots) } ≡ s
+slots_back s x =
+    let four : length s.slots ≡ 4 = ap length x.1 in
+    let count : length (take s.count s.slots) ≡ s.count = length-take-le s.count s.slots (omega (arith, x.0)) in
+    λ i. record { slots = sym x.1 i; count = count i }
