@@ -1,47 +1,71 @@
-use Rattle.std.proofs.Common.{◌≡◌, ◌-◌, ◌≤◌, ◌∙◌, arith, ℕ, sym, ap, subst}
+use Rattle.std.proofs.Common.{◌≡◌, ◌-◌, ◌≤◌, ◌∙◌, arith, ℕ, sym, ap, subst, refl}
 use Rattle.arena.specs.declared.layout.Layout.{Layout}
 use Rattle.arena.specs.Layout.{first_scx}
 use Rattle.forest.specs.Passes.{Sight, CanUse, Each}
+use Rattle.prims.specs.Cells.{allows_all}
+use Rattle.forest.specs.Puts.{IsPutOf}
+use Rattle.forest.specs.StraightScx.{run_of, PutBegins}
 use Rattle.forest.proofs.Passes.{call_of}
+use Rattle.forest.proofs.VlxCalls.{apart_at, among_at}
 use Rattle.forest.proofs.ScxCalls.{HasPut, put_begins, put_called, put_pass, put_says, put_usable, put_later, put_steps, first_and_taken}
 use Rattle.forest.proofs.forest.Forest+Cells.scx.Goals as goal
 
-pub call-answer-requires-clause-begins : goal.call-answer-requires-clause-begins
-call-answer-requires-clause-begins c = let p = c.pass.inside in let x = c.pass.invariant in let some = c.in_ok-records.ensures.some in let records = c.in_ok-records.ensures.records in
-    let number = p.share.next_scx - c.from.result in (
-      call_of p x number,
-      ap (λ (v : Sight). v.layout) c.pass.view_is ∙ c.requires.pass.1,
-      ap (λ (k : ℕ). k - c.from.result) (sym records.1),
-      put_begins p x some.0 some.1 c.args.snaps.now c.args.finalize.now (c.args.field.0.0, c.args.field.1) c.args.value number c.put-run.result (rw (records.0, records.1) at c.put-run.ensures.put)
-          c.put-run.ensures.unbegun.at c.put-run.ensures.unbegun.scx_at (subst (λ (v : Sight). Each (CanUse v) c.args.snaps.now) (sym c.pass.view_is) c.requires.usable),
-    )
+pub new-update-requires-clause-distinct : goal.new-update-requires-clause-distinct
+new-update-requires-clause-distinct c = apart_at c.args.snaps.now c.requires.apart
+
+pub new-update-requires-clause-among : goal.new-update-requires-clause-among
+new-update-requires-clause-among c = among_at c.args.snaps.now c.args.field.0.0 c.requires.among
+
+-- the run that the call makes
+is_of : (c : goal.After-update-1) (number : ℕ) → IsPutOf (run_of c.new-update.result c.args.value c.in_ok-fresh.scx number) c.args.snaps.now c.args.finalize.now (c.args.field.0.0, c.args.field.1) c.args.value c.pass.inside.share.next_node c.pass.inside.share.next_scx number
+is_of c number = let u = c.new-update.ensures in let records = c.in_ok-fresh.ensures.records in record {
+  over = u.over;
+  snaps_are = u.snaps;
+  fresh = u.fresh ∙ records.0;
+  record_is = records.1;
+  called = refl;
+  removed = u.removed;
+  node_is = u.field;
+  side = u.side;
+  is_value = refl;
+}
+
+-- the call may begin
+begins : (c : goal.After-update-1) (number : ℕ) → PutBegins allows_all (call_of c.pass.inside c.pass.invariant number) c.pass.inside.seat.me.0.passes (run_of c.new-update.result c.args.value c.in_ok-fresh.scx number)
+begins c number = let some = c.in_ok-fresh.ensures.some in
+    put_begins c.pass.inside c.pass.invariant some.0 some.1 c.args.snaps.now c.args.finalize.now (c.args.field.0.0, c.args.field.1) c.args.value number _ (is_of c number) refl refl (subst (λ (v : Sight). Each (CanUse v) c.args.snaps.now) (sym c.pass.view_is) c.requires.usable)
+
+pub call-requires-clause-begins : goal.call-requires-clause-begins
+call-requires-clause-begins c = (
+  call_of c.pass.inside c.pass.invariant _,
+  ap (λ (v : Sight). v.layout) c.pass.view_is ∙ c.requires.pass.1,
+  refl,
+  begins c _,
+)
 
 -- what the call leaves
-ended : (c : goal.After-call-answer) → HasPut c.pass.inside c.pass.invariant c.in_ok-records.ensures.some.0 c.in_ok-records.ensures.some.1 c.args.snaps.now c.args.finalize.now (c.args.field.0.0, c.args.field.1) c.args.value (c.pass.inside.share.next_scx - c.from.result) c.call-answer.new.seat c.call-answer.result
-ended c = let p = c.pass.inside in let x = c.pass.invariant in let some = c.in_ok-records.ensures.some in let records = c.in_ok-records.ensures.records in
-    let number = p.share.next_scx - c.from.result in
-    let ends = c.call-answer.ensures.ends (call_of p x number) (ap (λ (v : Sight). v.layout) c.pass.view_is ∙ c.requires.pass.1) (ap (λ (k : ℕ). k - c.from.result) (sym records.1))
-    (put_begins p x some.0 some.1 c.args.snaps.now c.args.finalize.now (c.args.field.0.0, c.args.field.1) c.args.value number c.put-run.result (rw (records.0, records.1) at c.put-run.ensures.put)
-    c.put-run.ensures.unbegun.at c.put-run.ensures.unbegun.scx_at (subst (λ (v : Sight). Each (CanUse v) c.args.snaps.now) (sym c.pass.view_is) c.requires.usable)) in
-    put_called p x some.0 some.1 c.args.snaps.now c.args.finalize.now (c.args.field.0.0, c.args.field.1) c.args.value number c.call-answer.new.seat c.put-run.result ends.0 c.call-answer.result (rw (records.0, records.1) at c.put-run.ensures.put) ends.1
+ended : (c : goal.After-call) → HasPut c.pass.inside c.pass.invariant c.in_ok-fresh.ensures.some.0 c.in_ok-fresh.ensures.some.1 c.args.snaps.now c.args.finalize.now (c.args.field.0.0, c.args.field.1) c.args.value (c.in_ok-fresh.scx.0 - c.from.result) c.call.new.seat c.call.result
+ended c = let p = c.pass.inside in let x = c.pass.invariant in let some = c.in_ok-fresh.ensures.some in let number = c.in_ok-fresh.scx.0 - c.from.result in
+    let ends = c.call.ensures.ends (call_of p x number) (ap (λ (v : Sight). v.layout) c.pass.view_is ∙ c.requires.pass.1) refl (begins c.before number) in
+    put_called p x some.0 some.1 c.args.snaps.now c.args.finalize.now (c.args.field.0.0, c.args.field.1) c.args.value number c.call.new.seat _ ends.0 c.call.result (is_of c.before number) ends.1
 
 pub invariant_of-pass-2 : goal.invariant_of-pass-2
-invariant_of-pass-2 c = let some = c.in_ok-records.ensures.some in
-    rw c.in_ok-records.ensures.left (put_pass c.pass.inside c.pass.invariant some.0 some.1 c.args.snaps.now c.args.finalize.now (c.args.field.0.0, c.args.field.1) c.args.value _ c.call-answer.new.seat c.call-answer.result c.call-answer.ensures.table.1 (ended c))
+invariant_of-pass-2 c = let some = c.in_ok-fresh.ensures.some in
+    rw c.in_ok-fresh.ensures.left (put_pass c.pass.inside c.pass.invariant some.0 some.1 c.args.snaps.now c.args.finalize.now (c.args.field.0.0, c.args.field.1) c.args.value _ c.call.new.seat c.call.result c.call.ensures.table.1 (ended c))
 
 pub returns-clause-later : goal.returns-clause-later
-returns-clause-later c = let some = c.in_ok-records.ensures.some in
-    rw (← c.pass.view_is, c.in_ok-records.ensures.left) (put_later c.pass.inside c.pass.invariant some.0 some.1 c.args.snaps.now c.args.finalize.now (c.args.field.0.0, c.args.field.1) c.args.value _ c.call-answer.new.seat c.call-answer.result c.call-answer.ensures.table.0 (ended c))
+returns-clause-later c = let some = c.in_ok-fresh.ensures.some in
+    rw (← c.pass.view_is, c.in_ok-fresh.ensures.left) (put_later c.pass.inside c.pass.invariant some.0 some.1 c.args.snaps.now c.args.finalize.now (c.args.field.0.0, c.args.field.1) c.args.value _ c.call.new.seat c.call.result c.call.ensures.table.0 (ended c))
 
 pub returns-clause-says : goal.returns-clause-says
-returns-clause-says c = let some = c.in_ok-records.ensures.some in let p = c.pass.inside in
+returns-clause-says c = let some = c.in_ok-fresh.ensures.some in let p = c.pass.inside in
     let first : first_scx p.layout p.number.0 ≡ c.from.result = ap (λ (l : Layout). first_scx l p.number.0) (ap (λ (v : Sight). v.layout) c.pass.view_is ∙ c.requires.pass.1) ∙ sym (c.from.ensures ∙ c.first_scx.ensures) in
-    rw (← c.pass.view_is, c.in_ok-records.ensures.left) (put_says p c.pass.invariant some.0 some.1 c.args.snaps.now c.args.finalize.now (c.args.field.0.0, c.args.field.1) c.args.value _ c.call-answer.new.seat c.call-answer.result (first_and_taken p c.pass.invariant c.from.result first) (ended c))
+    rw (← c.pass.view_is, c.in_ok-fresh.ensures.left) (put_says p c.pass.invariant some.0 some.1 c.args.snaps.now c.args.finalize.now (c.args.field.0.0, c.args.field.1) c.args.value _ c.call.new.seat c.call.result (rw c.in_ok-fresh.ensures.records.1 (first_and_taken p c.pass.invariant c.from.result first)) (ended c))
 
 pub returns-clause-usable : goal.returns-clause-usable
-returns-clause-usable c = let some = c.in_ok-records.ensures.some in
-    rw (← c.pass.view_is) (put_usable c.pass.inside c.pass.invariant some.0 some.1 c.args.snaps.now c.args.finalize.now (c.args.field.0.0, c.args.field.1) c.args.value _ c.call-answer.new.seat c.call-answer.result (ended c))
+returns-clause-usable c = let some = c.in_ok-fresh.ensures.some in
+    rw (← c.pass.view_is) (put_usable c.pass.inside c.pass.invariant some.0 some.1 c.args.snaps.now c.args.finalize.now (c.args.field.0.0, c.args.field.1) c.args.value _ c.call.new.seat c.call.result (ended c))
 
 pub returns-clause-steps : goal.returns-clause-steps
-returns-clause-steps c = let some = c.in_ok-records.ensures.some in
-    rw (← c.pass.view_is) (put_steps c.pass.inside c.pass.invariant some.0 some.1 c.args.snaps.now c.args.finalize.now (c.args.field.0.0, c.args.field.1) c.args.value _ c.call-answer.new.seat c.call-answer.result 40 40 (ended c) c.call-answer.ensures.steps (omega arith))
+returns-clause-steps c = let some = c.in_ok-fresh.ensures.some in
+    rw (← c.pass.view_is) (put_steps c.pass.inside c.pass.invariant some.0 some.1 c.args.snaps.now c.args.finalize.now (c.args.field.0.0, c.args.field.1) c.args.value _ c.call.new.seat c.call.result 40 40 (ended c) c.call.ensures.steps (omega arith))
