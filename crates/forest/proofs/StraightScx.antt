@@ -24,7 +24,7 @@ use Rattle.help.specs.declared.state.HelpRun.{HelpRun}
 use Rattle.prims.specs.Snap.{snap_at}
 use Rattle.prims.specs.Unfilled.{own_words_unfilled, own_value_unfilled}
 use Rattle.prims.specs.Begun.{takes_by_others, filled_more}
-use Rattle.prims.specs.ScxKnown.{FillMade, HasFilled, scx_answers, IsFilled, IsFilledThen, scx_turn, scx_told_at, fill_step, part_at}
+use Rattle.prims.specs.ScxKnown.{job_of, FillMade, HasFilled, scx_answers, IsFilled, IsFilledThen, scx_turn, scx_told_at, fill_step, part_at}
 use Rattle.prims.specs.ScxTurns.{turn_fill, turn_member, turn_seen, begin_help, done_at, lost_at}
 use Rattle.prims.specs.PutKnown.{HasValue, IsFirstPut, put_step, put_waits, put_waits_at, put_answers}
 use Rattle.prims.specs.PutTurns.{turn_start, turn_scx}
@@ -42,10 +42,6 @@ use Rattle.forest.specs.Courses.{Course, IsCalled, begins, others, makes, goes_o
 use Rattle.forest.specs.StraightHelp.{same_record, call_waits, call_answers, HelpBegins, HelpEnds}
 use Rattle.forest.specs.StraightScx.{put_same, scx_at, fill_of, PutBegins, PutWaits, PutTold, PutEnds}
 
--- the value of the fresh cell does not ask where the run stands
-value_of : (c : Call) (h : History) (m now : PutRun) → now.value ≡ m.value → now.scx.update ≡ m.scx.update → HasValue c h m → HasValue c h now
-value_of c h m now e f x = record { own = rw f x.own; taken = rw f x.taken; value = rw (e, f) x.value }
-
 module _ (allows : Layout → History → ℕ → Type 0) (c : Call) (ps : List Knower) (first : PutRun) where
   -- it fills the value, and then the plan
   pub to_value : PutBegins allows c ps first → PutWaits allows c ps first (record first { at = AtFill }) (put_step first)
@@ -57,7 +53,7 @@ module _ (allows : Layout → History → ℕ → Type 0) (c : Call) (ps : List 
     is = x.is;
     sound = x.sound;
     so = (
-      (value_of c _ (record first { at = AtFill }) (scx_at first AtPlan) refl refl t.0, turn_fill allows c _ first.scx AtPlan (scx_at first AtPlan).scx (Ask _) t.2 t.3 tt (λ part p. absurd (none part p)) (λ s y. y) record { stands = refl; asked = refl }),
+      (t.0, turn_fill allows c _ first.scx AtPlan (scx_at first AtPlan).scx (Ask _) t.2 t.3 tt (λ part p. absurd (none part p)) (λ s y. y) record { stands = refl; asked = refl }),
       goes_on (record first { at = AtFill }) (refl, refl, refl, refl) x.so.1,
     );
   }
@@ -66,12 +62,12 @@ module _ (allows : Layout → History → ℕ → Type 0) (c : Call) (ps : List 
       none part p = p
 
   -- one fill after another
-  fills : (m : PutRun) (A B : ScxAt) (v : ℕ) (step : Step) → ((h : History) → scx_told_at allows c h (scx_at m A).scx A v → FillMade allows c h (scx_at m A).scx A) → ((h : History) → FillMade allows c h (scx_at m A).scx A → scx_turn allows c h (scx_at m B).scx (Ask step)) → PutTold allows c ps first (scx_at m A) v → PutWaits allows c ps first (scx_at m B) step
+  fills : (m : PutRun) (A B : ScxAt) (v : ℕ) (step : Step) → ((h : History) → scx_told_at allows c h (job_of m.scx) A v → FillMade allows c h (job_of m.scx) A) → ((h : History) → FillMade allows c h (job_of m.scx) A → scx_turn allows c h (scx_at m B).scx (Ask step)) → PutTold allows c ps first (scx_at m A) v → PutWaits allows c ps first (scx_at m B) step
   fills m A B v step made turn x = record {
     known = x.known;
     is = x.is;
     sound = x.sound;
-    so = ((value_of c _ (scx_at m A) (scx_at m B) refl refl x.so.0.0, turn _ (made _ x.so.0.1)), goes_on (scx_at m A) (refl, refl, refl, refl) x.so.1);
+    so = ((x.so.0.0, turn _ (made _ x.so.0.1)), goes_on (scx_at m A) (refl, refl, refl, refl) x.so.1);
   }
 
   pub to_new : (m : PutRun) (v : ℕ) → PutTold allows c ps first (scx_at m AtPlan) v → PutWaits allows c ps first (scx_at m AtNew) (fill_of m New m.scx.update.fresh.0)
@@ -120,7 +116,7 @@ told_found (Exchange expected new) found = refl
 
 -- the value and the words of the SCX-record are filled
 pub record Frame (c : Call) (h : History) (m : PutRun) : Type 0 where
-  pub value : HasValue c h m
+  pub value : HasValue c h m.scx.update.fresh.0 m.value
   pub filled : HasFilled c h m.scx.scx.0 m.scx.call m.scx.update
 
 -- what HELP comes to, the SCX has come to
@@ -136,17 +132,17 @@ module _ (allows : Layout → History → ℕ → Type 0) (c : Call) (start : Hi
       let y = lift k g x in
       let run' : IsRun allows c.layout (r ⊳ g) = rw e at run in
       let frame : Frame c (r ⊳ g) m = record {
-        value = value_more c g r m (own_value_unfilled c.layout g r c.pass m.scx.update.fresh.0 run'.lawful other y.frame.value.own) y.frame.value;
+        value = value_more c g r m.scx.update.fresh.0 m.value (own_value_unfilled c.layout g r c.pass m.scx.update.fresh.0 run'.lawful other y.frame.value.own) y.frame.value;
         filled = filled_more c g r m.scx.scx.0 m.scx.call m.scx.update (takes_by_others c.layout c.pass m.scx.scx.0 g r run'.lawful other) (own_words_unfilled c.layout g r c.pass m.scx.scx.0 run'.lawful other y.frame.filled.own) y.frame.filled;
       } in
       let frame' : Frame c h m = rw e frame in
-      record { frame = frame'; same = y.same; came = others s r g e (value_of c h m (scx_at m (Help k)) refl refl frame'.value, (record { known = w.known; asked = w.asked }, y.same, frame'.filled)) other run y.came }
+      record { frame = frame'; same = y.same; came = others s r g e (frame'.value, (record { known = w.known; asked = w.asked }, y.same, frame'.filled)) other run y.came }
   lift k h (makes s g e w run x) =
       let y = lift k g x in
       let run' : IsRun allows c.layout (row_of c s g ⊳ g) = rw e at run in
-      let waits : put_waits allows (scx_at m (Help k)) c g s = (value_of c g m (scx_at m (Help k)) refl refl y.frame.value, (record { known = w.known; asked = w.asked }, y.same, y.frame.filled)) in
+      let waits : put_waits allows (scx_at m (Help k)) c g s = (y.frame.value, (record { known = w.known; asked = w.asked }, y.same, y.frame.filled)) in
       let told = put_made allows (scx_at m (Help k)) c g s (value g s.word) run' (told_found s.deed (value g s.word)) waits in
-      let frame : Frame c (row_of c s g ⊳ g) m = record { value = value_of c _ (scx_at m (Help k)) m refl refl told.0; filled = told.1.2 } in
+      let frame : Frame c (row_of c s g ⊳ g) m = record { value = told.0; filled = told.1.2 } in
       record { frame = rw e frame; same = y.same; came = makes s g e waits run y.came }
   lift k h (goes_on old is x) =
       let y = lift old h x in
@@ -162,7 +158,7 @@ module _ (allows : Layout → History → ℕ → Type 0) (c : Call) (ps qs : Li
 
   lifted : Lifted allows c first m begun (past c.layout.mode x.known)
   lifted = let y = begin_help allows c _ (scx_at m AtCall).scx begun x.sound x.so.0.1 same unbegun in record {
-    frame = record { value = value_of c _ (scx_at m AtCall) m refl refl x.so.0.0; filled = y.filled };
+    frame = record { value = x.so.0.0; filled = y.filled };
     same = same;
     came = goes_on (scx_at m AtCall) (refl, refl, refl, refl) x.so.1;
   }
@@ -171,7 +167,7 @@ module _ (allows : Layout → History → ℕ → Type 0) (c : Call) (ps qs : Li
   pub put_ends : (now : HelpRun) (b : Bool) (a : Answer) → (b ≡ true → a ≡ Done) → (b ≡ false → a ≡ Lost (blocked_at now.members now.at).0 (blocked_at now.members now.at).1) → HelpEnds allows inner qs begun now b → PutEnds allows c qs first (scx_at m (Help now)) a
   put_ends now b a done lost e =
       let y = lift allows c (past c.layout.mode x.known) first m begun lifted now (past c.layout.mode e.known) e.so.1 in
-      record { known = e.known; is = e.is; sound = e.sound; so = (turn_scx allows c _ e.sound.lawful (scx_at m (Help now)) (scx_at m (Help now)) (End a) refl refl refl (value_of c _ m (scx_at m (Help now)) refl refl y.frame.value) (answers y b e.so.0 done lost), y.came) }
+      record { known = e.known; is = e.is; sound = e.sound; so = (turn_scx allows c _ e.sound.lawful (scx_at m (Help now)) (scx_at m (Help now)) (End a) refl refl refl y.frame.value (answers y b e.so.0 done lost), y.came) }
     where
       answers : Lifted allows c first m now (past c.layout.mode e.known) → (t : Bool) → call_answers now inner (past c.layout.mode e.known) t → (t ≡ true → a ≡ Done) → (t ≡ false → a ≡ Lost (blocked_at now.members now.at).0 (blocked_at now.members now.at).1) → scx_answers (scx_at m (Help now)).scx c (past c.layout.mode e.known) a
       answers y true k f g = rw (f refl) (done_at c _ (scx_at m (Help now)).scx now e.sound.lawful y.frame.filled y.same true now k refl refl)

@@ -24,9 +24,3 @@ pub record IsPutOf (m : PutRun) (snaps : List Snap) (finalize : List NodeNo) (fi
   pub node_is : (snap_at snaps (field_place m.scx.update)).node.0 ≡ field.0
   pub side : side_of m.scx.update.plan.0 ≡ field.1
   pub is_value : m.value ≡ v
-
--- it has not begun
-pub record IsUnbegun (m : PutRun) : Type 0 where
-  pub at : m.at ≡ Start
-  pub scx_at : m.scx.at ≡ ScxStart
-  pub few : put_left m ≤ 40

@@ -1,6 +1,7 @@
 -- Calls of an SCX with a fresh cell that stand at a place of its machine.
 use Rattle.std.specs.Prelude.{◌≡◌, ℕ, List}
 use Rattle.arena.specs.declared.layout.Layout.{Layout}
+use Rattle.arena.specs.declared.number.ScxNo.{ScxNo}
 use Rattle.arena.specs.declared.step.Step.{Step}
 use Rattle.arena.specs.declared.step.Deed.TheVariants.{Store}
 use Rattle.arena.specs.declared.step.Kind.TheVariants.{Fill}
@@ -10,16 +11,22 @@ use Rattle.arena.specs.History.{History}
 use Rattle.arena.specs.Machines.{Call}
 use Rattle.prims.specs.PutKnown.{put_ready, put_waits, put_answers}
 use Rattle.prims.specs.declared.put.PutRun.{PutRun}
-use Rattle.prims.specs.declared.put.PutAt.TheVariants.{Scx as AtScx}
+use Rattle.prims.specs.declared.put.PutAt.TheVariants.{Start, Scx as AtScx}
 use Rattle.prims.specs.declared.scx.Scx.{Scx}
 use Rattle.prims.specs.declared.scx.ScxAt.{ScxAt}
+use Rattle.prims.specs.declared.scx.ScxAt.TheVariants.{Start as ScxStart}
+use Rattle.prims.specs.declared.update.Update.{Update}
 use Rattle.forest.specs.declared.view.Knower.{Knower}
 use Rattle.forest.specs.Courses.{Begins, Waits, Told, Ends}
 
 abbrev pub put_same : PutRun → PutRun → Type 0
 put_same old now = (now.scx.scx ≡ old.scx.scx) × (now.scx.update ≡ old.scx.update) × (now.scx.call ≡ old.scx.call) × (now.value ≡ old.value)
 
--- the run with its SCX at a place
+-- the run of this update, cell's value, SCX-record and call's number that has not begun
+abbrev pub run_of : Update → ℕ → ScxNo → ℕ → PutRun
+run_of update value scx number = record { value = value; scx = record { scx = scx; call = number; update = update; at = ScxStart }; at = Start }
+
+-- a run with its SCX at a place
 abbrev pub scx_at : PutRun → ScxAt → PutRun
 scx_at m at = record { value = m.value; scx = record { scx = m.scx.scx; call = m.scx.call; update = m.scx.update; at = at }; at = AtScx }
 

@@ -17,7 +17,7 @@ use Rattle.prims.specs.Idle.{IsIdle, IsIdleBut, out_by_others, out_by_no_freeze,
 use Rattle.prims.specs.LlxKnown.{llx_waits}
 use Rattle.prims.specs.LlxLaws.{idle_at}
 use Rattle.prims.specs.VlxKnown.{vlx_waits}
-use Rattle.prims.specs.ScxKnown.{FillWaits, scx_waits_at, scx_answers}
+use Rattle.prims.specs.ScxKnown.{Job, job_of, FillWaits, scx_waits_at, scx_answers}
 use Rattle.prims.specs.PutKnown.{put_step, put_waits_at}
 use Rattle.prims.specs.declared.put.PutRun.{PutRun}
 use Rattle.prims.specs.declared.put.PutAt.{PutAt}
@@ -70,7 +70,7 @@ pub idle_but_by_no_freeze : (lay : Layout) (c s : ℕ) (h : History) (r : Row) �
 idle_but_by_no_freeze lay c s h r l d idle t own e = out_by_no_freeze lay h r t l d (idle t own e)
 
 -- a row of an SCX starts no other SCX-record than its own
-module _ (allows : Layout → History → ℕ → Type 0) (c : Call) (h : History) (m : ScxRun) (step : Step) (t : ℕ) (l : Lawful c.layout (row_of c step h ⊳ h)) (other : t ≢ m.scx.0) (out : ¬ IsInProgress h t) where
+module _ (allows : Layout → History → ℕ → Type 0) (c : Call) (h : History) (m : Job) (step : Step) (t : ℕ) (l : Lawful c.layout (row_of c step h ⊳ h)) (other : t ≢ m.scx.0) (out : ¬ IsInProgress h t) where
   -- a fill
   by_fill : (at : ScxAt) → FillWaits allows c h m at step → ¬ IsInProgress (row_of c step h ⊳ h) t
   by_fill at w = out_by_no_freeze c.layout h (row_of c step h) t l (λ f. let e = ap (λ (u : Step). u.kind) w.asked in cc) out
@@ -87,7 +87,7 @@ module _ (allows : Layout → History → ℕ → Type 0) (c : Call) (h : Histor
   out_by_scx (Help help) w = out_by_help allows c h help step t l w.0 (λ e. absurd (other (e ∙ ap (λ (u : ScxNo). u.0) w.1))) out
 
 -- so the pass stays idle but for that
-pub idle_but_by_scx : (allows : Layout → History → ℕ → Type 0) (m : ScxRun) (c : Call) (h : History) (step : Step) (at : ScxAt) → Lawful c.layout (row_of c step h ⊳ h) → scx_waits_at allows c h m at step → IsIdleBut c.layout c.pass m.scx.0 h → IsIdleBut c.layout c.pass m.scx.0 (row_of c step h ⊳ h)
+pub idle_but_by_scx : (allows : Layout → History → ℕ → Type 0) (m : Job) (c : Call) (h : History) (step : Step) (at : ScxAt) → Lawful c.layout (row_of c step h ⊳ h) → scx_waits_at allows c h m at step → IsIdleBut c.layout c.pass m.scx.0 h → IsIdleBut c.layout c.pass m.scx.0 (row_of c step h ⊳ h)
 idle_but_by_scx allows m c h step at l w idle t own d = out_by_scx allows c h m step t l d (idle t own d) at w
 
 -- as it stays by the rows of an SCX with a fresh node
@@ -96,7 +96,7 @@ idle_but_by_put allows m c h step PutStart l w idle = absurd w
 idle_but_by_put allows m c h step AtFill l w idle =
     let e : step ≡ put_step m = assumption in
     idle_but_by_no_freeze c.layout c.pass m.scx.scx.0 h (row_of c step h) l (λ f. let k = ap (λ (u : Step). u.kind) e in cc) idle
-idle_but_by_put allows m c h step AtScx l w idle = idle_but_by_scx allows m.scx c h step m.scx.at l w.1 idle
+idle_but_by_put allows m c h step AtScx l w idle = idle_but_by_scx allows (job_of m.scx) c h step m.scx.at l w.1 idle
 
 -- when it answers, its own SCX-record is finished, and the pass is idle
 pub idle_by_answer : (m : ScxRun) (c : Call) (h : History) (a : Scx) → scx_answers m c h a → IsIdleBut c.layout c.pass m.scx.0 h → IsIdle c.layout c.pass h

@@ -11,7 +11,7 @@ use Rattle.histories.proofs.Unmentioned.{IsUnmentioned, unmentioned_unnamed}
 use Rattle.histories.proofs.Taking.{named_scx_taken, finished_taken}
 use Rattle.prims.specs.Cells.{allows_all}
 use Rattle.prims.specs.VlxKnown.{AllLinked}
-use Rattle.prims.specs.ScxKnown.{IsUpdateOver, InHand}
+use Rattle.prims.specs.ScxKnown.{job_of, IsUpdateOver, InHand}
 use Rattle.prims.specs.PutKnown.{PutHand}
 use Rattle.prims.specs.declared.scx.ScxRun.{ScxRun}
 use Rattle.prims.specs.declared.scx.ScxAt.TheVariants.{Start}
@@ -30,7 +30,7 @@ put_begin lay c h m l over linked start own_scx scx_in_order free own_node node_
     unfinished (yes e) = e
     unfinished (no d) = absurd (free (finished_taken lay h m.scx.0 l real d))
 
-    hand : InHand allows_all lay c h m
+    hand : InHand allows_all lay c h (job_of m)
     hand = record {
       update = over;
       linked = linked;

@@ -17,7 +17,7 @@ use Rattle.histories.proofs.Entries.{won_named}
 use Rattle.prims.specs.Snaps.{IsAmong}
 use Rattle.prims.specs.Wins.{won_by}
 use Rattle.prims.specs.Entered.{filled_entry_at}
-use Rattle.prims.specs.ScxKnown.{HasFilled, IsEntryAt, scx_waits_at, scx_told_at}
+use Rattle.prims.specs.ScxKnown.{Job, job_of, HasFilled, IsEntryAt, scx_waits_at, scx_told_at}
 use Rattle.prims.specs.PutKnown.{HasValue, put_waits_at, put_told_at, put_waits, put_ready, put_answers}
 use Rattle.prims.specs.PutTurns.{value_before}
 use Rattle.prims.specs.declared.scx.ScxRun.{ScxRun}
@@ -39,7 +39,7 @@ filled_covers c h s number n u x y = record { at = y.index; within = within; is 
 
 -- What it knows
 
-module _ (allows : Layout → History → ℕ → Type 0) (m : ScxRun) (c : Call) (h : History) (p : IsNamedScx h m.scx.0) where
+module _ (allows : Layout → History → ℕ → Type 0) (m : Job) (c : Call) (h : History) (p : IsNamedScx h m.scx.0) where
   -- a run of SCX that waits
   scx_filled : (at : ScxAt) (s : Step) → scx_waits_at allows c h m at s → HasFilled c h m.scx.0 m.call m.update
   scx_filled ScxStart s w = absurd w
@@ -65,18 +65,18 @@ module _ (allows : Layout → History → ℕ → Type 0) (m : ScxRun) (c : Call
 module _ (allows : Layout → History → ℕ → Type 0) (m : PutRun) (c : Call) (h : History) where
   -- its words are filled, and its fresh node has its value
   abbrev pub IsFull : Type 0
-  IsFull = HasFilled c h m.scx.scx.0 m.scx.call m.scx.update × HasValue c h m
+  IsFull = HasFilled c h m.scx.scx.0 m.scx.call m.scx.update × HasValue c h m.scx.update.fresh.0 m.value
 
   -- at each place
   full_at : (at : PutAt) (s : Step) → IsNamedScx h m.scx.scx.0 → put_waits_at allows c h m at s → IsFull
   full_at Start s p w = absurd w
   full_at AtFill s p w = absurd (w.0.hand.is_open.unnamed p)
-  full_at Scx s p w = (scx_filled allows m.scx c h p m.scx.at s w.1, w.0)
+  full_at Scx s p w = (scx_filled allows (job_of m.scx) c h p m.scx.at s w.1, w.0)
 
   full_then : (at : PutAt) (v : ℕ) → IsNamedScx h m.scx.scx.0 → put_told_at allows c h m at v → IsFull
   full_then Start v p w = absurd w
   full_then AtFill v p w = absurd (w.2.is_open.unnamed p)
-  full_then Scx v p w = (scx_filled_then allows m.scx c h p m.scx.at v w.1, w.0)
+  full_then Scx v p w = (scx_filled_then allows (job_of m.scx) c h p m.scx.at v w.1, w.0)
 
   -- while it waits, and once its step is made
   pub put_full : (s : Step) → IsNamedScx h m.scx.scx.0 → put_waits allows m c h s → IsFull

@@ -15,9 +15,8 @@ use Rattle.histories.proofs.Unmentioned.{IsUnmentioned, IsMention, unmentioned_b
 use Rattle.histories.proofs.Taking.{untaken_by_step, untaken_by_node, untaken_by_other_fill}
 use Rattle.help.specs.HelpLawful.{help_fills_not}
 use Rattle.prims.specs.Snap.{snap_at}
-use Rattle.prims.specs.ScxKnown.{wanted, part_at, IsWithin, Fills, FillWaits, fill_step, scx_waits_at}
+use Rattle.prims.specs.ScxKnown.{Job, job_of, wanted, part_at, IsWithin, Fills, FillWaits, fill_step, scx_waits_at}
 use Rattle.prims.specs.PutKnown.{put_step, put_waits_at, put_waits}
-use Rattle.prims.specs.declared.scx.ScxRun.{ScxRun}
 use Rattle.prims.specs.declared.scx.ScxAt.{ScxAt}
 use Rattle.prims.specs.declared.scx.ScxAt.TheVariants.{Start as ScxStart, Plan as AtPlan, New as AtNew, Old as AtOld, Member as AtMember, Seen as AtSeen, Call as AtCall, Help}
 use Rattle.prims.specs.declared.put.PutRun.{PutRun}
@@ -26,7 +25,7 @@ use Rattle.prims.specs.declared.put.PutAt.TheVariants.{Start, Fill as AtFill, Sc
 
 -- Nodes that nothing mentions
 
-module _ (allows : Layout → History → ℕ → Type 0) (m : ScxRun) (c : Call) (h : History) (n : ℕ) (late : opening_nodes c.layout.mode ≤ n) (other : n ≢ m.update.fresh.0) (u : IsUnmentioned h n) where
+module _ (allows : Layout → History → ℕ → Type 0) (m : Job) (c : Call) (h : History) (n : ℕ) (late : opening_nodes c.layout.mode ≤ n) (other : n ≢ m.update.fresh.0) (u : IsUnmentioned h n) where
   -- what a word that names nodes is to hold is another node: the fresh one, or one that a field has held
   not_wanted : (at : ScxAt) → Fills allows c h m at → IsMention (scx m.scx.0 (part_at at)) → wanted m (part_at at) ≢ n
   not_wanted at x = go at x.within
@@ -67,7 +66,7 @@ module _ (allows : Layout → History → ℕ → Type 0) (m : ScxRun) (c : Call
 unmentioned_put : (allows : Layout → History → ℕ → Type 0) (m : PutRun) (c : Call) (h : History) (s : Step) (n : ℕ) (at : PutAt) → Lawful c.layout (row_of c s h ⊳ h) → put_waits_at allows c h m at s → opening_nodes c.layout.mode ≤ n → n ≢ m.scx.update.fresh.0 → IsUnmentioned h n → IsUnmentioned (row_of c s h ⊳ h) n
 unmentioned_put allows m c h s n Start l w late other u = absurd w
 unmentioned_put allows m c h s n AtFill l w late other u = rw w.2 (unmentioned_by_fill h (row_of c (put_step m) h) n (λ i. absurd i) u)
-unmentioned_put allows m c h s n Scx l w late other u = unmentioned_at allows m.scx c h n late other u m.scx.at s l w.1
+unmentioned_put allows m c h s n Scx l w late other u = unmentioned_at allows (job_of m.scx) c h n late other u m.scx.at s l w.1
 
 -- a row of its leaves every node but its own that nothing mentions so
 pub put_unmentioned : (allows : Layout → History → ℕ → Type 0) (m : PutRun) (c : Call) (h : History) (s : Step) (n : ℕ) → Lawful c.layout (row_of c s h ⊳ h) → put_waits allows m c h s → opening_nodes c.layout.mode ≤ n → n ≢ m.scx.update.fresh.0 → IsUnmentioned h n → IsUnmentioned (row_of c s h ⊳ h) n
@@ -76,11 +75,11 @@ put_unmentioned allows m c h s n l w late other u = unmentioned_put allows m c h
 -- SCX-records that are not taken
 
 -- a fill of its SCX-record takes no other
-untaken_fill : (allows : Layout → History → ℕ → Type 0) (m : ScxRun) (c : Call) (h : History) (at : ScxAt) (s : Step) (t : ℕ) → FillWaits allows c h m at s → t ≢ m.scx.0 → ¬ IsTakenScx h t → ¬ IsTakenScx (row_of c s h ⊳ h) t
+untaken_fill : (allows : Layout → History → ℕ → Type 0) (m : Job) (c : Call) (h : History) (at : ScxAt) (s : Step) (t : ℕ) → FillWaits allows c h m at s → t ≢ m.scx.0 → ¬ IsTakenScx h t → ¬ IsTakenScx (row_of c s h ⊳ h) t
 untaken_fill allows m c h at s t w other free = rw w.asked (untaken_by_other_fill h (row_of c (fill_step m (part_at at)) h) m.scx.0 t (part_at at) refl other free)
 
 -- nor does a row of the SCX
-untaken_at : (allows : Layout → History → ℕ → Type 0) (m : ScxRun) (c : Call) (h : History) (at : ScxAt) (s : Step) (t : ℕ) → scx_waits_at allows c h m at s → t ≢ m.scx.0 → ¬ IsTakenScx h t → ¬ IsTakenScx (row_of c s h ⊳ h) t
+untaken_at : (allows : Layout → History → ℕ → Type 0) (m : Job) (c : Call) (h : History) (at : ScxAt) (s : Step) (t : ℕ) → scx_waits_at allows c h m at s → t ≢ m.scx.0 → ¬ IsTakenScx h t → ¬ IsTakenScx (row_of c s h ⊳ h) t
 untaken_at allows m c h ScxStart s t w other free = absurd w
 untaken_at allows m c h (Help help) s t w other free = untaken_by_step h (row_of c s h) t (help_fills_not allows help c h s w.0) free
 untaken_at allows m c h AtPlan s t w other free = untaken_fill allows m c h AtPlan s t w other free
@@ -94,7 +93,7 @@ untaken_at allows m c h AtCall s t w other free = untaken_fill allows m c h AtCa
 untaken_put : (allows : Layout → History → ℕ → Type 0) (m : PutRun) (c : Call) (h : History) (s : Step) (t : ℕ) (at : PutAt) → put_waits_at allows c h m at s → t ≢ m.scx.scx.0 → ¬ IsTakenScx h t → ¬ IsTakenScx (row_of c s h ⊳ h) t
 untaken_put allows m c h s t Start w other free = absurd w
 untaken_put allows m c h s t AtFill w other free = rw w.2 (untaken_by_node h (row_of c (put_step m) h) m.scx.update.fresh.0 t Value refl free)
-untaken_put allows m c h s t Scx w other free = untaken_at allows m.scx c h m.scx.at s t w.1 other free
+untaken_put allows m c h s t Scx w other free = untaken_at allows (job_of m.scx) c h m.scx.at s t w.1 other free
 
 -- a row of its takes no SCX-record but its own
 pub put_untaken : (allows : Layout → History → ℕ → Type 0) (m : PutRun) (c : Call) (h : History) (s : Step) (t : ℕ) → put_waits allows m c h s → t ≢ m.scx.scx.0 → ¬ IsTakenScx h t → ¬ IsTakenScx (row_of c s h ⊳ h) t

@@ -17,9 +17,8 @@ use Rattle.arena.proofs.Taken.{taken_node_more}
 use Rattle.histories.proofs.Changes.{lawful_row}
 use Rattle.histories.proofs.Owners.{one_node_owner}
 use Rattle.help.specs.HelpLawful.{help_fills_not}
-use Rattle.prims.specs.ScxKnown.{part_at, FillWaits, scx_waits_at}
+use Rattle.prims.specs.ScxKnown.{Job, job_of, part_at, FillWaits, scx_waits_at}
 use Rattle.prims.specs.PutKnown.{put_waits_at, put_waits}
-use Rattle.prims.specs.declared.scx.ScxRun.{ScxRun}
 use Rattle.prims.specs.declared.scx.ScxAt.{ScxAt}
 use Rattle.prims.specs.declared.scx.ScxAt.TheVariants.{Start as ScxStart, Plan as AtPlan, New as AtNew, Old as AtOld, Member as AtMember, Seen as AtSeen, Call as AtCall, Help}
 use Rattle.prims.specs.declared.put.PutRun.{PutRun}
@@ -63,11 +62,11 @@ untaken_node_by_step h r n no_fill = not_filled h r n (λ x. no_fill x.1)
 -- A row of an SCX with a fresh cell
 
 -- a fill of its SCX-record fills no node
-of_scx : (allows : Layout → History → ℕ → Type 0) (m : ScxRun) (c : Call) (h : History) (at : ScxAt) (s : Step) (n : ℕ) → FillWaits allows c h m at s → ¬ IsFillOfNode n (row_of c s h)
+of_scx : (allows : Layout → History → ℕ → Type 0) (m : Job) (c : Call) (h : History) (at : ScxAt) (s : Step) (n : ℕ) → FillWaits allows c h m at s → ¬ IsFillOfNode n (row_of c s h)
 of_scx allows m c h at s n w x = let e : scx m.scx.0 (part_at at) ≡ node n x.0 = rw w.asked at x.2 in cc
 
 -- nor does a row of the SCX
-fills_no_node : (allows : Layout → History → ℕ → Type 0) (m : ScxRun) (c : Call) (h : History) (at : ScxAt) (s : Step) (n : ℕ) → scx_waits_at allows c h m at s → ¬ IsFillOfNode n (row_of c s h)
+fills_no_node : (allows : Layout → History → ℕ → Type 0) (m : Job) (c : Call) (h : History) (at : ScxAt) (s : Step) (n : ℕ) → scx_waits_at allows c h m at s → ¬ IsFillOfNode n (row_of c s h)
 fills_no_node allows m c h ScxStart s n w = absurd w
 fills_no_node allows m c h (Help help) s n w = λ x. help_fills_not allows help c h s w.0 x.1
 fills_no_node allows m c h AtPlan s n w = of_scx allows m c h AtPlan s n w
@@ -85,7 +84,7 @@ node_number (ScxOf s part) = 0
 fills_no_other : (allows : Layout → History → ℕ → Type 0) (m : PutRun) (c : Call) (h : History) (at : PutAt) (s : Step) (n : ℕ) → put_waits_at allows c h m at s → n ≢ m.scx.update.fresh.0 → ¬ IsFillOfNode n (row_of c s h)
 fills_no_other allows m c h Start s n w other = absurd w
 fills_no_other allows m c h AtFill s n w other = λ x. (let e : node m.scx.update.fresh.0 Value ≡ node n x.0 = rw w.2 at x.2 in other (λ i. node_number (sym e i)))
-fills_no_other allows m c h Scx s n w other = fills_no_node allows m.scx c h m.scx.at s n w.1
+fills_no_other allows m c h Scx s n w other = fills_no_node allows (job_of m.scx) c h m.scx.at s n w.1
 
 -- it takes no node but its own
 pub put_untaken_node : (allows : Layout → History → ℕ → Type 0) (m : PutRun) (c : Call) (h : History) (s : Step) (n : ℕ) → put_waits allows m c h s → n ≢ m.scx.update.fresh.0 → ¬ IsTakenNode h n → ¬ IsTakenNode (row_of c s h ⊳ h) n

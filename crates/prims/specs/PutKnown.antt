@@ -14,7 +14,7 @@ use Rattle.histories.proofs.Facts.{Descriptor}
 use Rattle.help.specs.Allowed.{IsLater, IsAllowed}
 use Rattle.prims.specs.Cells.{allows_all}
 use Rattle.prims.specs.VlxKnown.{IsClear}
-use Rattle.prims.specs.ScxKnown.{InHand, Says, IsUnderWay, IsDone, IsLost, scx_ready, scx_waits}
+use Rattle.prims.specs.ScxKnown.{job_of, InHand, Says, IsUnderWay, IsDone, IsLost, scx_ready, scx_waits}
 use Rattle.prims.specs.declared.scx.ScxRun.{ScxRun}
 use Rattle.prims.specs.declared.scx.Scx.{Scx as Answer}
 use Rattle.prims.specs.declared.scx.Scx.TheVariants.{Done, Lost}
@@ -25,29 +25,29 @@ use Rattle.prims.specs.declared.put.PutAt.TheVariants.{Start, Fill as AtFill, Sc
 
 -- what the pass has in hand before it fills its fresh node; once that is filled, the update is allowed
 pub record PutHand (allows : Layout → History → ℕ → Type 0) (lay : Layout) (c : ℕ) (h : History) (m : ScxRun) : Type 0 where
-  pub hand : InHand allows_all lay c h m
+  pub hand : InHand allows_all lay c h (job_of m)
   pub start : m.at ≡ ScxStart
   pub in_order : (n : ℕ) → IsOwnNode lay c n → n < m.update.fresh.0 → IsTakenNode h n
-  pub allowed : (k : History) (r : Row) (d : Descriptor) → IsLater c m.scx.0 h k → IsFillOfNode m.update.fresh.0 r → Says d m → IsAllowed allows lay c (r ⊳ k) m.scx.0 d
+  pub allowed : (k : History) (r : Row) (d : Descriptor) → IsLater c m.scx.0 h k → IsFillOfNode m.update.fresh.0 r → Says d (job_of m) → IsAllowed allows lay c (r ⊳ k) m.scx.0 d
 
 abbrev pub put_step : PutRun → Step
 put_step m = record { kind = Fill; word = node m.scx.update.fresh.0 Value; deed = Store m.value }
 
--- the fresh node is of the pass's share, is taken, and has its value
-pub record HasValue (c : Call) (h : History) (m : PutRun) : Type 0 where
-  pub own : IsOwnNode c.layout c.pass m.scx.update.fresh.0
-  pub taken : IsTakenNode h m.scx.update.fresh.0
-  pub value : value h (node m.scx.update.fresh.0 Value) ≡ m.value
+-- the fresh node n is of the pass's share, is taken, and has its value
+pub record HasValue (c : Call) (h : History) (n v : ℕ) : Type 0 where
+  pub own : IsOwnNode c.layout c.pass n
+  pub taken : IsTakenNode h n
+  pub value : value h (node n Value) ≡ v
 
 abbrev pub put_waits_at : (Layout → History → ℕ → Type 0) → Call → History → PutRun → PutAt → Step → Type 0
 put_waits_at allows c h m Start step = ⊥
 put_waits_at allows c h m AtFill step = PutHand allows c.layout c.pass h m.scx × IsUnderWay c h m.scx.scx.0 m.scx.update.snaps × (step ≡ put_step m)
-put_waits_at allows c h m Scx step = HasValue c h m × scx_waits allows m.scx c h step
+put_waits_at allows c h m Scx step = HasValue c h m.scx.update.fresh.0 m.value × scx_waits allows m.scx c h step
 
 abbrev pub put_told_at : (Layout → History → ℕ → Type 0) → Call → History → PutRun → PutAt → ℕ → Type 0
 put_told_at allows c h m Start v = ⊥
-put_told_at allows c h m AtFill v = HasValue c h m × (m.scx.at ≡ ScxStart) × InHand allows c.layout c.pass h m.scx × IsUnderWay c h m.scx.scx.0 m.scx.update.snaps
-put_told_at allows c h m Scx v = HasValue c h m × scx_ready allows m.scx c h (Some v)
+put_told_at allows c h m AtFill v = HasValue c h m.scx.update.fresh.0 m.value × (m.scx.at ≡ ScxStart) × InHand allows c.layout c.pass h (job_of m.scx) × IsUnderWay c h m.scx.scx.0 m.scx.update.snaps
+put_told_at allows c h m Scx v = HasValue c h m.scx.update.fresh.0 m.value × scx_ready allows m.scx c h (Some v)
 
 abbrev pub put_waits : (Layout → History → ℕ → Type 0) → PutRun → Call → History → Step → Type 0
 put_waits allows m c h step = put_waits_at allows c h m m.at step
@@ -76,4 +76,4 @@ put_ends m c h (Lost node found) = IsLost c h m.scx node.0 found.0
 
 -- the fresh node is taken and has its value, and the answer is that of the SCX
 abbrev pub put_answers : PutRun → Call → History → Answer → Type 0
-put_answers m c h a = HasValue c h m × put_ends m c h a
+put_answers m c h a = HasValue c h m.scx.update.fresh.0 m.value × put_ends m c h a

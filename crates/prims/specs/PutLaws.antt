@@ -21,7 +21,7 @@ use Rattle.prims.specs.Linked.{linked_more}
 use Rattle.prims.specs.Snap.{snap_at}
 use Rattle.prims.specs.Unfilled.{own_value_unfilled}
 use Rattle.prims.specs.Begun.{takes_by_others, takes_by_node, way_more}
-use Rattle.prims.specs.ScxKnown.{InHand}
+use Rattle.prims.specs.ScxKnown.{job_of, InHand}
 use Rattle.prims.specs.ScxLaws.{taken_more, hand_kept, scx_keeps, scx_lawful}
 use Rattle.prims.specs.ScxMade.{scx_made, scx_value}
 use Rattle.prims.specs.PutKnown.{PutHand, HasValue, put_step, put_waits_at, put_told_at, put_waits, put_ready}
@@ -29,18 +29,18 @@ use Rattle.prims.specs.declared.put.PutRun.{PutRun}
 use Rattle.prims.specs.declared.put.PutAt.{PutAt}
 use Rattle.prims.specs.declared.put.PutAt.TheVariants.{Start, Fill as AtFill, Scx}
 
-pub value_more : (c : Call) (h : History) (r : Row) (m : PutRun) → value (r ⊳ h) (node m.scx.update.fresh.0 Value) ≡ value h (node m.scx.update.fresh.0 Value) → HasValue c h m → HasValue c (r ⊳ h) m
-value_more c h r m e x = record { own = x.own; taken = taken_node_more r h m.scx.update.fresh.0 x.taken; value = e ∙ x.value }
+pub value_more : (c : Call) (h : History) (r : Row) (n v : ℕ) → value (r ⊳ h) (node n Value) ≡ value h (node n Value) → HasValue c h n v → HasValue c (r ⊳ h) n v
+value_more c h r n v e x = record { own = x.own; taken = taken_node_more r h n x.taken; value = e ∙ x.value }
 
 kept_at : (allows : Layout → History → ℕ → Type 0) (m : PutRun) (c : Call) (h : History) (at : PutAt) (s : Step) (r : Row) → IsRun allows c.layout (r ⊳ h) → r.pass.0 ≢ c.pass → put_waits_at allows c h m at s → put_waits_at allows c (r ⊳ h) m at s
 kept_at allows m c h Start s r run other w = w
 kept_at allows m c h Scx s r run other w = (
-  value_more c h r m (own_value_unfilled c.layout h r c.pass m.scx.update.fresh.0 run.lawful other w.0.own) w.0,
+  value_more c h r m.scx.update.fresh.0 m.value (own_value_unfilled c.layout h r c.pass m.scx.update.fresh.0 run.lawful other w.0.own) w.0,
   scx_keeps allows m.scx c h s r run other w.1,
 )
 kept_at allows m c h AtFill s r run other w = (
   record {
-    hand = hand_kept allows_all c.layout c.pass h r m.scx run.lawful c.is_pass other w.0.hand;
+    hand = hand_kept allows_all c.layout c.pass h r (job_of m.scx) run.lawful c.is_pass other w.0.hand;
     start = w.0.start;
     in_order = λ n o p. taken_node_more r h n (w.0.in_order n o p);
     allowed = λ k q d later f y. w.0.allowed k q d (later_trans c.pass m.scx.scx.0 h (r ⊳ h) k later (inr (inl other, later_self c.pass m.scx.scx.0 h))) f y;
@@ -77,7 +77,7 @@ module _ (allows : Layout → History → ℕ → Type 0) (m : PutRun) (c : Call
   unnamed_back (by_field k side p q) = by_field k side (unnamed_back p) (held_back r h (child k side) _ (value_apart r h (node m.scx.update.fresh.0 Value) (child k side) refl (node_word_apart m.scx.update.fresh.0 k Value (Child side) refl)) q)
   unnamed_back (by_scx u part p i q) = by_scx u part (free_back u p) i (held_back r h (scx u part) _ (value_apart r h (node m.scx.update.fresh.0 Value) (scx u part) refl refl) q)
 
-  hand_put : Lawful c.layout (r ⊳ h) → PutHand allows c.layout c.pass h m.scx → InHand allows c.layout c.pass (r ⊳ h) m.scx
+  hand_put : Lawful c.layout (r ⊳ h) → PutHand allows c.layout c.pass h m.scx → InHand allows c.layout c.pass (r ⊳ h) (job_of m.scx)
   hand_put l y = record {
     update = y.hand.update;
     linked = λ j p. linked_more c.layout h r (snap_at m.scx.update.snaps j) l (y.hand.linked j p);
@@ -92,7 +92,7 @@ module _ (allows : Layout → History → ℕ → Type 0) (m : PutRun) (c : Call
 
 made_at : (allows : Layout → History → ℕ → Type 0) (m : PutRun) (c : Call) (h : History) (at : PutAt) (s : Step) (v : ℕ) → IsRun allows c.layout (row_of c s h ⊳ h) → IsTold s.deed (value h s.word) v → put_waits_at allows c h m at s → put_told_at allows c (row_of c s h ⊳ h) m at v
 made_at allows m c h Start s v run t w = absurd w
-made_at allows m c h Scx s v run t w = (value_more c h (row_of c s h) m (scx_value allows m.scx c h s m.scx.update.fresh.0 run.lawful w.1) w.0, scx_made allows m.scx c h s v run t w.1)
+made_at allows m c h Scx s v run t w = (value_more c h (row_of c s h) m.scx.update.fresh.0 m.value (scx_value allows m.scx c h s m.scx.update.fresh.0 run.lawful w.1) w.0, scx_made allows m.scx c h s v run t w.1)
 made_at allows m c h AtFill s v run t w =
     let l : Lawful c.layout (row_of c (put_step m) h ⊳ h) = rw w.2 at run.lawful in
     rw w.2 (

@@ -41,7 +41,7 @@ pub told_first : (allows : Layout → History → ℕ → Type 0) (m : PutRun) (
 told_first allows m c h None is r = r
 told_first allows m c h (Some v) is r = absurd (rw is at r)
 
-pub told_scx : (allows : Layout → History → ℕ → Type 0) (m : PutRun) (c : Call) (h : History) (got : Option ℕ) → m.at ≡ Scx → put_ready allows m c h got → HasValue c h m × scx_ready allows m.scx c h got
+pub told_scx : (allows : Layout → History → ℕ → Type 0) (m : PutRun) (c : Call) (h : History) (got : Option ℕ) → m.at ≡ Scx → put_ready allows m c h got → HasValue c h m.scx.update.fresh.0 m.value × scx_ready allows m.scx c h got
 told_scx allows m c h None is r = absurd (let e : Scx ≡ Start = sym is ∙ r.stands in cc)
 told_scx allows m c h (Some v) is r = subst (λ at. put_told_at allows c h m at v) is r
 
@@ -72,14 +72,14 @@ value_before c h m v row before l x e = sym (node_since c.layout h before m.upda
     named = subst (IsNamed c.layout before) fresh (by_scx m.scx.0 New (won_was_named c.layout h m.scx.0 l y) tt (held_now before (scx m.scx.0 New)))
 
 module _ (allows : Layout → History → ℕ → Type 0) (c : Call) (h : History) (l : Lawful c.layout h) where
-  -- the value of its fresh node
-  value_of : (old now : PutRun) → now.value ≡ old.value → now.scx.update ≡ old.scx.update → HasValue c h old → HasValue c h now
-  value_of old now e f x = record { own = rw f x.own; taken = rw f x.taken; value = rw (e, f) x.value }
-
   -- its SCX goes on, or has answered
-  pub turn_scx : (old now : PutRun) (turn : Turn Answer) → now.at ≡ Scx → now.value ≡ old.value → now.scx.update ≡ old.scx.update → HasValue c h old → MatchTurn turn (scx_waits allows now.scx c h) (scx_answers now.scx c h) → MatchTurn turn (put_waits allows now c h) (put_answers now c h)
-  turn_scx old now (Ask s) is e f x w = subst (λ at. put_waits_at allows c h now at s) (sym is) (value_of old now e f x, w)
-  turn_scx old now (End Done) is e f x a =
-      let y : HasValue c h now = value_of old now e f x in
-      (y, record { done = a; value = value_before c h now.scx now.value a.entry.row a.entry.before l a.entry.is y.value })
-  turn_scx old now (End (Lost n s)) is e f x a = (value_of old now e f x, a)
+  pub turn_scx : (old now : PutRun) (turn : Turn Answer) → now.at ≡ Scx → now.value ≡ old.value → now.scx.update ≡ old.scx.update → HasValue c h old.scx.update.fresh.0 old.value → MatchTurn turn (scx_waits allows now.scx c h) (scx_answers now.scx c h) → MatchTurn turn (put_waits allows now c h) (put_answers now c h)
+  turn_scx old now turn is e f x = go turn
+    where
+      y : HasValue c h now.scx.update.fresh.0 now.value
+      y = rw (e, f) x
+
+      go : (turn : Turn Answer) → MatchTurn turn (scx_waits allows now.scx c h) (scx_answers now.scx c h) → MatchTurn turn (put_waits allows now c h) (put_answers now c h)
+      go (Ask s) w = subst (λ at. put_waits_at allows c h now at s) (sym is) (y, w)
+      go (End Done) a = (y, record { done = a; value = value_before c h now.scx now.value a.entry.row a.entry.before l a.entry.is y.value })
+      go (End (Lost n s)) a = (y, a)

@@ -18,6 +18,7 @@ use Rattle.arena.specs.Log.{Entry, log, IsEntered}
 use Rattle.arena.specs.declared.machine.Turn.{Turn}
 use Rattle.arena.specs.declared.machine.Turn.TheVariants.{Ask}
 use Rattle.arena.specs.declared.number.MemberNo.{MemberNo}
+use Rattle.arena.specs.declared.number.ScxNo.{ScxNo}
 use Rattle.help.specs.Plan.{count as planned}
 use Rattle.help.specs.declared.state.HelpRun.{HelpRun}
 use Rattle.arena.specs.Machines.{Call, IsRun, MatchTurn}
@@ -35,6 +36,16 @@ use Rattle.prims.specs.declared.scx.ScxAt.{ScxAt}
 use Rattle.prims.specs.declared.scx.ScxAt.TheVariants.{Start, Plan as AtPlan, New as AtNew, Old as AtOld, Member as AtMember, Seen as AtSeen, Call as AtCall, Help}
 use Rattle.prims.specs.declared.update.Update.{Update}
 
+-- what an SCX is to do: its SCX-record, the number of its call, and the update
+pub record Job : Type 0 where
+  pub scx : ScxNo
+  pub call : ℕ
+  pub update : Update
+
+-- that of a run, wherever it stands
+abbrev pub job_of : ScxRun → Job
+job_of m = record { scx = m.scx; call = m.call; update = m.update }
+
 -- an update over different nodes, by a plan of them, with what its field holds
 pub record IsUpdateOver (u : Update) : Type 0 where
   pub planned : IsPlan u.plan.0
@@ -43,7 +54,7 @@ pub record IsUpdateOver (u : Update) : Type 0 where
   pub old : u.old.0 ≡ (child_of (snap_at u.snaps (field_of u.plan.0)) (side_of u.plan.0)).0
 
 -- what each word of the SCX-record is to hold
-abbrev pub wanted : ScxRun → ScxWord → ℕ
+abbrev pub wanted : Job → ScxWord → ℕ
 wanted m Plan = m.update.plan.0
 wanted m New = m.update.fresh.0
 wanted m Old = m.update.old.0
@@ -53,7 +64,7 @@ wanted m CallWord = m.call
 wanted m _ = 0
 
 -- a descriptor says what the words are to hold
-pub record Says (d : Descriptor) (m : ScxRun) : Type 0 where
+pub record Says (d : Descriptor) (m : Job) : Type 0 where
   pub plan : d.plan ≡ m.update.plan.0
   pub new : d.new ≡ m.update.fresh.0
   pub old : d.old ≡ m.update.old.0
@@ -62,7 +73,7 @@ pub record Says (d : Descriptor) (m : ScxRun) : Type 0 where
   pub call : d.call ≡ m.call
 
 -- what the pass has in hand: usable snapshots, an SCX-record and a node of its own that nothing names, and an update that is allowed
-pub record InHand (allows : Layout → History → ℕ → Type 0) (lay : Layout) (c : ℕ) (h : History) (m : ScxRun) : Type 0 where
+pub record InHand (allows : Layout → History → ℕ → Type 0) (lay : Layout) (c : ℕ) (h : History) (m : Job) : Type 0 where
   pub update : IsUpdateOver m.update
   pub linked : AllLinked lay h m.update.snaps
   pub is_open : IsOpenScx lay h c m.scx.0
@@ -135,7 +146,7 @@ IsFilledThen k AtCall CallWord = Unit {0}
 IsFilledThen k _ _ = ⊥
 
 -- the filled words hold what they are to hold
-abbrev pub Holds : History → ScxRun → (ScxWord → Type 0) → Type 0
+abbrev pub Holds : History → Job → (ScxWord → Type 0) → Type 0
 Holds h m P = (part : ScxWord) → P part → value h (scx m.scx.0 part) ≡ wanted m part
 
 -- the place lies within the nodes of the update
@@ -145,20 +156,20 @@ IsWithin k (AtSeen j) = index_of j < k
 IsWithin k _ = Unit {0}
 
 -- a run that fills a word
-pub record Fills (allows : Layout → History → ℕ → Type 0) (c : Call) (h : History) (m : ScxRun) (at : ScxAt) : Type 0 where
+pub record Fills (allows : Layout → History → ℕ → Type 0) (c : Call) (h : History) (m : Job) (at : ScxAt) : Type 0 where
   pub hand : InHand allows c.layout c.pass h m
   pub way : IsUnderWay c h m.scx.0 m.update.snaps
   pub within : IsWithin (length m.update.snaps) at
   pub filled : Holds h m (IsFilled (length m.update.snaps) at)
 
-abbrev pub fill_step : ScxRun → ScxWord → Step
+abbrev pub fill_step : Job → ScxWord → Step
 fill_step m part = record { kind = Fill; word = scx m.scx.0 part; deed = Store (wanted m part) }
 
-pub record FillWaits (allows : Layout → History → ℕ → Type 0) (c : Call) (h : History) (m : ScxRun) (at : ScxAt) (step : Step) : Type 0 where
+pub record FillWaits (allows : Layout → History → ℕ → Type 0) (c : Call) (h : History) (m : Job) (at : ScxAt) (step : Step) : Type 0 where
   pub fills : Fills allows c h m at
   pub asked : step ≡ fill_step m (part_at at)
 
-pub record FillMade (allows : Layout → History → ℕ → Type 0) (c : Call) (h : History) (m : ScxRun) (at : ScxAt) : Type 0 where
+pub record FillMade (allows : Layout → History → ℕ → Type 0) (c : Call) (h : History) (m : Job) (at : ScxAt) : Type 0 where
   pub hand : InHand allows c.layout c.pass h m
   pub way : IsUnderWay c h m.scx.0 m.update.snaps
   pub within : IsWithin (length m.update.snaps) at
@@ -175,22 +186,22 @@ pub record HasFilled (c : Call) (h : History) (s number : ℕ) (u : Update) : Ty
   pub found : (j : ℕ) → j < length u.snaps → seen h s j ≡ (snap_at u.snaps j).scx.0
   pub called : value h (scx s CallWord) ≡ number
 
-abbrev pub scx_waits_at : (Layout → History → ℕ → Type 0) → Call → History → ScxRun → ScxAt → Step → Type 0
+abbrev pub scx_waits_at : (Layout → History → ℕ → Type 0) → Call → History → Job → ScxAt → Step → Type 0
 scx_waits_at allows c h m Start step = ⊥
 scx_waits_at allows c h m (Help help) step = help_waits allows c.layout c.pass help h step × (help.scx ≡ m.scx) × HasFilled c h m.scx.0 m.call m.update
 scx_waits_at allows c h m at step = FillWaits allows c h m at step
 
-abbrev pub scx_told_at : (Layout → History → ℕ → Type 0) → Call → History → ScxRun → ScxAt → ℕ → Type 0
+abbrev pub scx_told_at : (Layout → History → ℕ → Type 0) → Call → History → Job → ScxAt → ℕ → Type 0
 scx_told_at allows c h m Start v = ⊥
 scx_told_at allows c h m (Help help) v = help_ready allows c.layout c.pass help h (Some v) × (help.scx ≡ m.scx) × HasFilled c h m.scx.0 m.call m.update
 scx_told_at allows c h m at v = FillMade allows c h m at
 
 abbrev pub scx_waits : (Layout → History → ℕ → Type 0) → ScxRun → Call → History → Step → Type 0
-scx_waits allows m c h step = scx_waits_at allows c h m m.at step
+scx_waits allows m c h step = scx_waits_at allows c h (job_of m) m.at step
 
 abbrev pub scx_ready : (Layout → History → ℕ → Type 0) → ScxRun → Call → History → Option ℕ → Type 0
-scx_ready allows m c h None = (m.at ≡ Start) × InHand allows c.layout c.pass h m × IsUnderWay c h m.scx.0 m.update.snaps
-scx_ready allows m c h (Some v) = scx_told_at allows c h m m.at v
+scx_ready allows m c h None = (m.at ≡ Start) × InHand allows c.layout c.pass h (job_of m) × IsUnderWay c h m.scx.0 m.update.snaps
+scx_ready allows m c h (Some v) = scx_told_at allows c h (job_of m) m.at v
 
 -- the nodes of snapshots, and those that a plan finalizes, where the first of the snapshots has the place j in it
 abbrev pub nodes_of : List Snap → List ℕ
@@ -253,7 +264,7 @@ scx_answers m c h (Lost node found) = IsLost c h m node.0 found.0
 -- the run stands at a place and fills the word there
 pub record FillsAt (old now : ScxRun) (turn : Turn Scx) (at : ScxAt) : Type 0 where
   pub stands : now ≡ record old { at = at }
-  pub asked : turn ≡ Ask (fill_step old (part_at at))
+  pub asked : turn ≡ Ask (fill_step (job_of old) (part_at at))
 
 -- it fills the next node, or goes on behind the last
 pub record FillsNext (old now : ScxRun) (turn : Turn Scx) (j : MemberNo) (place : MemberNo → ScxAt) : Type 0 where

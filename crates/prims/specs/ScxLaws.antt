@@ -24,7 +24,7 @@ use Rattle.arena.specs.declared.word.Side.{Side}
 use Rattle.prims.specs.Snap.{child_of, snap_at}
 use Rattle.prims.specs.Unfilled.{own_words_unfilled}
 use Rattle.prims.specs.Begun.{takes_by_others, way_more, filled_more}
-use Rattle.prims.specs.ScxKnown.{wanted, InHand, part_at, IsWithin, Fills, FillWaits, fill_step, scx_waits_at, scx_waits}
+use Rattle.prims.specs.ScxKnown.{Job, job_of, wanted, InHand, part_at, IsWithin, Fills, FillWaits, fill_step, scx_waits_at, scx_waits}
 use Rattle.prims.specs.declared.scx.ScxRun.{ScxRun}
 use Rattle.prims.specs.declared.scx.ScxAt.{ScxAt}
 use Rattle.prims.specs.declared.scx.ScxAt.TheVariants.{Start, Plan as AtPlan, New as AtNew, Old as AtOld, Member as AtMember, Seen as AtSeen, Call as AtCall, Help}
@@ -35,7 +35,7 @@ taken_more r h s p = inr p
 
 -- Rows of others
 
-module _ (allows : Layout → History → ℕ → Type 0) (lay : Layout) (c : ℕ) (h : History) (r : Row) (m : ScxRun) (l : Lawful lay (r ⊳ h)) where
+module _ (allows : Layout → History → ℕ → Type 0) (lay : Layout) (c : ℕ) (h : History) (r : Row) (m : Job) (l : Lawful lay (r ⊳ h)) where
   pub hand_kept : c < lay.passes → r.pass.0 ≢ c → InHand allows lay c h m → InHand allows lay c (r ⊳ h) m
   hand_kept i other x = record {
     update = x.update;
@@ -52,7 +52,7 @@ module _ (allows : Layout → History → ℕ → Type 0) (lay : Layout) (c : �
   words_kept : r.pass.0 ≢ c → InHand allows lay c h m → (part : ScxWord) → value (r ⊳ h) (scx m.scx.0 part) ≡ value h (scx m.scx.0 part)
   words_kept other x part = own_words_stay lay h r c m.scx.0 l other x.is_open.own x.is_open.unnamed part
 
-fills_kept : (allows : Layout → History → ℕ → Type 0) (m : ScxRun) (c : Call) (h : History) (at : ScxAt) (r : Row) → IsRun allows c.layout (r ⊳ h) → r.pass.0 ≢ c.pass → Fills allows c h m at → Fills allows c (r ⊳ h) m at
+fills_kept : (allows : Layout → History → ℕ → Type 0) (m : Job) (c : Call) (h : History) (at : ScxAt) (r : Row) → IsRun allows c.layout (r ⊳ h) → r.pass.0 ≢ c.pass → Fills allows c h m at → Fills allows c (r ⊳ h) m at
 fills_kept allows m c h at r run other x = record {
   hand = hand_kept allows c.layout c.pass h r m run.lawful c.is_pass other x.hand;
   way = way_more c h r m.scx.0 m.update.snaps (takes_by_others c.layout c.pass m.scx.0 h r run.lawful other) x.way;
@@ -60,7 +60,7 @@ fills_kept allows m c h at r run other x = record {
   filled = λ part p. words_kept allows c.layout c.pass h r m run.lawful other x.hand part ∙ x.filled part p;
 }
 
-kept_at : (allows : Layout → History → ℕ → Type 0) (m : ScxRun) (c : Call) (h : History) (at : ScxAt) (s : Step) (r : Row) → IsRun allows c.layout (r ⊳ h) → r.pass.0 ≢ c.pass → scx_waits_at allows c h m at s → scx_waits_at allows c (r ⊳ h) m at s
+kept_at : (allows : Layout → History → ℕ → Type 0) (m : Job) (c : Call) (h : History) (at : ScxAt) (s : Step) (r : Row) → IsRun allows c.layout (r ⊳ h) → r.pass.0 ≢ c.pass → scx_waits_at allows c h m at s → scx_waits_at allows c (r ⊳ h) m at s
 kept_at allows m c h Start s r run other w = w
 kept_at allows m c h (Help help) s r run other w = (help_keeps allows help c h s r run other w.0, w.1, filled_more c h r m.scx.0 m.call m.update (takes_by_others c.layout c.pass m.scx.0 h r run.lawful other) (own_words_unfilled c.layout h r c.pass m.scx.0 run.lawful other w.2.own) w.2)
 kept_at allows m c h AtPlan s r run other w = record { fills = fills_kept allows m c h AtPlan r run other w.fills; asked = w.asked }
@@ -71,18 +71,18 @@ kept_at allows m c h (AtSeen j) s r run other w = record { fills = fills_kept al
 kept_at allows m c h AtCall s r run other w = record { fills = fills_kept allows m c h AtCall r run other w.fills; asked = w.asked }
 
 pub scx_keeps : (allows : Layout → History → ℕ → Type 0) (m : ScxRun) (c : Call) (h : History) (s : Step) (r : Row) → IsRun allows c.layout (r ⊳ h) → r.pass.0 ≢ c.pass → scx_waits allows m c h s → scx_waits allows m c (r ⊳ h) s
-scx_keeps allows m c h s r run other w = kept_at allows m c h m.at s r run other w
+scx_keeps allows m c h s r run other w = kept_at allows (job_of m) c h m.at s r run other w
 
 -- Its own fills
 
 -- the fields of a snapshot are named
-old_named : (allows : Layout → History → ℕ → Type 0) (c : Call) (h : History) (m : ScxRun) → InHand allows c.layout c.pass h m → (j : ℕ) → j < length m.update.snaps → (side : Side) → IsInField c.layout h (child_of (snap_at m.update.snaps j) side).0
+old_named : (allows : Layout → History → ℕ → Type 0) (c : Call) (h : History) (m : Job) → InHand allows c.layout c.pass h m → (j : ℕ) → j < length m.update.snaps → (side : Side) → IsInField c.layout h (child_of (snap_at m.update.snaps j) side).0
 old_named allows c h m x j i side =
     let y = x.linked j i in
     inr ((snap_at m.update.snaps j).node.0, side, in_field_named (snap_at m.update.snaps j).node.0 y.in_field, y.had side)
 
 -- the pass may fill each word as it is wanted
-may_fill : (allows : Layout → History → ℕ → Type 0) (c : Call) (h : History) (m : ScxRun) (at : ScxAt) → Fills allows c h m at → MayFill c.layout h c.pass (scx m.scx.0 (part_at at)) (wanted m (part_at at))
+may_fill : (allows : Layout → History → ℕ → Type 0) (c : Call) (h : History) (m : Job) (at : ScxAt) → Fills allows c h m at → MayFill c.layout h c.pass (scx m.scx.0 (part_at at)) (wanted m (part_at at))
 may_fill allows c h m at x = go at x.within
   where
     old_in_field : IsInField c.layout h m.update.old.0
@@ -106,13 +106,13 @@ part_fill (AtMember j) = tt
 part_fill (AtSeen j) = tt
 part_fill _ = tt
 
-fill_lawful : (allows : Layout → History → ℕ → Type 0) (m : ScxRun) (c : Call) (h : History) (at : ScxAt) (s : Step) → IsRun allows c.layout h → FillWaits allows c h m at s → IsRun allows c.layout (row_of c s h ⊳ h)
+fill_lawful : (allows : Layout → History → ℕ → Type 0) (m : Job) (c : Call) (h : History) (at : ScxAt) (s : Step) → IsRun allows c.layout h → FillWaits allows c h m at s → IsRun allows c.layout (row_of c s h ⊳ h)
 fill_lawful allows m c h at s run w = rw w.asked record { lawful = x; shaped = shaped_more allows c.layout h (row_of c (fill_step m (part_at at)) h) x run.shaped (λ u f g. absurd (let e = g.kind in cc)) }
   where
     x : Lawful c.layout (row_of c (fill_step m (part_at at)) h ⊳ h)
     x = lawful_more c.layout h (row_of c (fill_step m (part_at at)) h) run.lawful record { before = refl; obeys = may_fill allows c h m at w.fills; pass = c.is_pass; word = (own_scx_inside c.layout c.pass m.scx.0 c.is_pass w.fills.hand.is_open.own, part_inside at) }
 
-lawful_at : (allows : Layout → History → ℕ → Type 0) (m : ScxRun) (c : Call) (h : History) (at : ScxAt) (s : Step) → IsRun allows c.layout h → scx_waits_at allows c h m at s → IsRun allows c.layout (row_of c s h ⊳ h)
+lawful_at : (allows : Layout → History → ℕ → Type 0) (m : Job) (c : Call) (h : History) (at : ScxAt) (s : Step) → IsRun allows c.layout h → scx_waits_at allows c h m at s → IsRun allows c.layout (row_of c s h ⊳ h)
 lawful_at allows m c h Start s run w = absurd w
 lawful_at allows m c h (Help help) s run w = help_lawful allows help c h s run w.0
 lawful_at allows m c h AtPlan s run w = fill_lawful allows m c h AtPlan s run w
@@ -123,4 +123,4 @@ lawful_at allows m c h (AtSeen j) s run w = fill_lawful allows m c h (AtSeen j) 
 lawful_at allows m c h AtCall s run w = fill_lawful allows m c h AtCall s run w
 
 pub scx_lawful : (allows : Layout → History → ℕ → Type 0) (m : ScxRun) (c : Call) (h : History) (s : Step) → IsRun allows c.layout h → scx_waits allows m c h s → IsRun allows c.layout (row_of c s h ⊳ h)
-scx_lawful allows m c h s run w = lawful_at allows m c h m.at s run w
+scx_lawful allows m c h s run w = lawful_at allows (job_of m) c h m.at s run w

@@ -24,7 +24,7 @@ use Rattle.prims.specs.Linked.{linked_more}
 use Rattle.prims.specs.Snap.{snap_at}
 use Rattle.prims.specs.Unfilled.{step_words, step_value}
 use Rattle.prims.specs.Begun.{takes_by_fill, takes_by_step, way_more, filled_more}
-use Rattle.prims.specs.ScxKnown.{wanted, InHand, part_at, IsFilled, IsFilledThen, Holds, Fills, FillWaits, FillMade, fill_step, scx_waits_at, scx_told_at, scx_waits, scx_ready}
+use Rattle.prims.specs.ScxKnown.{Job, job_of, wanted, InHand, part_at, IsFilled, IsFilledThen, Holds, Fills, FillWaits, FillMade, fill_step, scx_waits_at, scx_told_at, scx_waits, scx_ready}
 use Rattle.prims.specs.ScxLaws.{taken_more, part_fill}
 use Rattle.prims.specs.declared.scx.ScxRun.{ScxRun}
 use Rattle.prims.specs.declared.scx.ScxAt.{ScxAt}
@@ -77,7 +77,7 @@ split k AtCall _ p = absurd p
 split k Start _ p = absurd p
 split k (Help m) _ p = absurd p
 
-module _ (allows : Layout → History → ℕ → Type 0) (m : ScxRun) (c : Call) (h : History) (at : ScxAt) where
+module _ (allows : Layout → History → ℕ → Type 0) (m : Job) (c : Call) (h : History) (at : ScxAt) where
   abbrev r : Row
   r = row_of c (fill_step m (part_at at)) h
 
@@ -126,12 +126,12 @@ module _ (allows : Layout → History → ℕ → Type 0) (m : ScxRun) (c : Call
   fill_made : Lawful c.layout (r ⊳ h) → Fills allows c h m at → FillMade allows c (r ⊳ h) m at
   fill_made l x = record { hand = hand_filled l x.hand; way = way_more c h r m.scx.0 m.update.snaps (takes_by_fill c.layout c.pass m.scx.0 h r (part_at at) refl) x.way; within = x.within; filled = holds_then x.filled }
 
-made_by : (allows : Layout → History → ℕ → Type 0) (m : ScxRun) (c : Call) (h : History) (at : ScxAt) (s : Step) → IsRun allows c.layout (row_of c s h ⊳ h) → FillWaits allows c h m at s → FillMade allows c (row_of c s h ⊳ h) m at
+made_by : (allows : Layout → History → ℕ → Type 0) (m : Job) (c : Call) (h : History) (at : ScxAt) (s : Step) → IsRun allows c.layout (row_of c s h ⊳ h) → FillWaits allows c h m at s → FillMade allows c (row_of c s h ⊳ h) m at
 made_by allows m c h at s run w =
     let l : Lawful c.layout (row_of c (fill_step m (part_at at)) h ⊳ h) = rw w.asked at run.lawful in
     rw w.asked (fill_made allows m c h at l w.fills)
 
-made_at : (allows : Layout → History → ℕ → Type 0) (m : ScxRun) (c : Call) (h : History) (at : ScxAt) (s : Step) (v : ℕ) → IsRun allows c.layout (row_of c s h ⊳ h) → IsTold s.deed (value h s.word) v → scx_waits_at allows c h m at s → scx_told_at allows c (row_of c s h ⊳ h) m at v
+made_at : (allows : Layout → History → ℕ → Type 0) (m : Job) (c : Call) (h : History) (at : ScxAt) (s : Step) (v : ℕ) → IsRun allows c.layout (row_of c s h ⊳ h) → IsTold s.deed (value h s.word) v → scx_waits_at allows c h m at s → scx_told_at allows c (row_of c s h ⊳ h) m at v
 made_at allows m c h Start s v run t w = absurd w
 made_at allows m c h (Help help) s v run t w = (
   help_made allows help c h s v run t w.0,
@@ -146,14 +146,14 @@ made_at allows m c h (AtSeen j) s v run t w = made_by allows m c h (AtSeen j) s 
 made_at allows m c h AtCall s v run t w = made_by allows m c h AtCall s run w
 
 pub scx_made : (allows : Layout → History → ℕ → Type 0) (m : ScxRun) (c : Call) (h : History) (s : Step) (v : ℕ) → IsRun allows c.layout (row_of c s h ⊳ h) → IsTold s.deed (value h s.word) v → scx_waits allows m c h s → scx_ready allows m c (row_of c s h ⊳ h) (Some v)
-scx_made allows m c h s v run t w = made_at allows m c h m.at s v run t w
+scx_made allows m c h s v run t w = made_at allows (job_of m) c h m.at s v run t w
 
 -- its rows leave the value of every node
 
-fill_value : (allows : Layout → History → ℕ → Type 0) (m : ScxRun) (c : Call) (h : History) (at : ScxAt) (s : Step) (n : ℕ) → FillWaits allows c h m at s → value (row_of c s h ⊳ h) (node n Value) ≡ value h (node n Value)
+fill_value : (allows : Layout → History → ℕ → Type 0) (m : Job) (c : Call) (h : History) (at : ScxAt) (s : Step) (n : ℕ) → FillWaits allows c h m at s → value (row_of c s h ⊳ h) (node n Value) ≡ value h (node n Value)
 fill_value allows m c h at s n w = rw w.asked (value_apart (row_of c (fill_step m (part_at at)) h) h (scx m.scx.0 (part_at at)) (node n Value) refl refl)
 
-value_at_place : (allows : Layout → History → ℕ → Type 0) (m : ScxRun) (c : Call) (h : History) (at : ScxAt) (s : Step) (n : ℕ) → Lawful c.layout (row_of c s h ⊳ h) → scx_waits_at allows c h m at s → value (row_of c s h ⊳ h) (node n Value) ≡ value h (node n Value)
+value_at_place : (allows : Layout → History → ℕ → Type 0) (m : Job) (c : Call) (h : History) (at : ScxAt) (s : Step) (n : ℕ) → Lawful c.layout (row_of c s h ⊳ h) → scx_waits_at allows c h m at s → value (row_of c s h ⊳ h) (node n Value) ≡ value h (node n Value)
 value_at_place allows m c h Start s n l w = absurd w
 value_at_place allows m c h (Help help) s n l w = step_value c.layout h (row_of c s h) n l (help_fills_not allows help c h s w.0)
 value_at_place allows m c h AtPlan s n l w = fill_value allows m c h AtPlan s n w
@@ -164,4 +164,4 @@ value_at_place allows m c h (AtSeen j) s n l w = fill_value allows m c h (AtSeen
 value_at_place allows m c h AtCall s n l w = fill_value allows m c h AtCall s n w
 
 pub scx_value : (allows : Layout → History → ℕ → Type 0) (m : ScxRun) (c : Call) (h : History) (s : Step) (n : ℕ) → Lawful c.layout (row_of c s h ⊳ h) → scx_waits allows m c h s → value (row_of c s h ⊳ h) (node n Value) ≡ value h (node n Value)
-scx_value allows m c h s n l w = value_at_place allows m c h m.at s n l w
+scx_value allows m c h s n l w = value_at_place allows (job_of m) c h m.at s n l w

@@ -31,7 +31,7 @@ use Rattle.prims.specs.Linked.{in_field_named}
 use Rattle.prims.specs.Snap.{snap_at}
 use Rattle.prims.specs.Entered.{filled_entry}
 use Rattle.prims.specs.Blamed.{blamed_then}
-use Rattle.prims.specs.ScxKnown.{IsUpdateOver, IsUnderWay, HasFilled, IsDone, IsLost, Helps, scx_ready, scx_told_at, Says, wanted, InHand, part_at, IsFilled, IsFilledThen, Holds, IsWithin, FillWaits, FillMade, FillsAt, FillsNext, FillsLast, scx_turn, scx_waits_at}
+use Rattle.prims.specs.ScxKnown.{job_of, IsUpdateOver, IsUnderWay, HasFilled, IsDone, IsLost, Helps, scx_ready, scx_told_at, Says, wanted, InHand, part_at, IsFilled, IsFilledThen, Holds, IsWithin, FillWaits, FillMade, FillsAt, FillsNext, FillsLast, scx_turn, scx_waits_at}
 use Rattle.prims.specs.declared.scx.ScxRun.{ScxRun}
 use Rattle.prims.specs.declared.scx.Scx.{Scx}
 use Rattle.prims.specs.declared.scx.ScxAt.{ScxAt}
@@ -44,30 +44,10 @@ not_less : (a b : ℕ) → (a < b → ⊥) → b ≤ a
 not_less a b d = grind arith
 
 module _ (allows : Layout → History → ℕ → Type 0) (c : Call) (h : History) (m : ScxRun) where
-  -- what is in hand does not ask where the run stands
-  says_of : (at : ScxAt) (d : Descriptor) → Says d (record m { at = at }) → Says d m
-  says_of at d x = record { plan = x.plan; new = x.new; old = x.old; member = x.member; seen = x.seen; call = x.call }
-
-  hand_of : (at : ScxAt) → InHand allows c.layout c.pass h m → InHand allows c.layout c.pass h (record m { at = at })
-  hand_of at x = record { update = x.update; linked = x.linked; is_open = x.is_open; unfinished = x.unfinished; fresh = x.fresh; unnamed = x.unnamed; in_no_field = x.in_no_field; in_no_other = x.in_no_other; allowed = λ d y. x.allowed d (says_of at d y) }
-
-  word_of : (at : ScxAt) (part : ScxWord) → wanted m part ≡ wanted (record m { at = at }) part
-  word_of at State = refl
-  word_of at AllFrozen = refl
-  word_of at Plan = refl
-  word_of at New = refl
-  word_of at Old = refl
-  word_of at (Member j) = refl
-  word_of at (Seen j) = refl
-  word_of at CallWord = refl
-
-  abbrev step_of : ScxWord → ℕ → Step
-  step_of part v = record { kind = Fill; word = scx m.scx.0 part; deed = Store v }
-
   -- the next word is filled
-  pub turn_fill : (at : ScxAt) (now : ScxRun) (turn : Turn Scx) → InHand allows c.layout c.pass h m → IsUnderWay c h m.scx.0 m.update.snaps → IsWithin (length m.update.snaps) at → Holds h m (IsFilled (length m.update.snaps) at)
-      → ((s : _) → FillWaits allows c h (record m { at = at }) at s → scx_waits_at allows c h (record m { at = at }) at s) → FillsAt m now turn at → scx_turn allows c h now turn
-  turn_fill at now turn x y i f w a = rw (a.asked, a.stands) (w _ record { fills = record { hand = hand_of at x; way = y; within = i; filled = λ part p. f part p ∙ word_of at part }; asked = ap (λ (v : ℕ). step_of (part_at at) v) (word_of at (part_at at)) })
+  pub turn_fill : (at : ScxAt) (now : ScxRun) (turn : Turn Scx) → InHand allows c.layout c.pass h (job_of m) → IsUnderWay c h m.scx.0 m.update.snaps → IsWithin (length m.update.snaps) at → Holds h (job_of m) (IsFilled (length m.update.snaps) at)
+      → ((s : _) → FillWaits allows c h (job_of m) at s → scx_waits_at allows c h (job_of m) at s) → FillsAt m now turn at → scx_turn allows c h now turn
+  turn_fill at now turn x y i f w a = rw (a.asked, a.stands) (w _ record { fills = record { hand = x; way = y; within = i; filled = f }; asked = refl })
 
   fewer : IsUpdateOver m.update → (j : ℕ) → j < count_of m.update.plan.0 → j < length m.update.snaps
   fewer u j i = rw u.count at i
@@ -86,7 +66,7 @@ module _ (allows : Layout → History → ℕ → Type 0) (c : Call) (h : Histor
       go (inr p) = let f = (plan_counted m.update.plan.0 u.planned.some).few in omega (arith, e)
       go (inl p) = rw e (not_less (suc (index_of j)) (m.update.plan.0 % 8) (λ q. d (p, q)))
 
-  pub turn_member : (j : MemberNo) (now : ScxRun) (turn : Turn Scx) → FillMade allows c h m (AtMember j) → FillsNext m now turn j (λ k. AtMember k) ⊎ FillsLast m now turn j (AtSeen First) → scx_turn allows c h now turn
+  pub turn_member : (j : MemberNo) (now : ScxRun) (turn : Turn Scx) → FillMade allows c h (job_of m) (AtMember j) → FillsNext m now turn j (λ k. AtMember k) ⊎ FillsLast m now turn j (AtSeen First) → scx_turn allows c h now turn
   turn_member j now turn x (inl a) = turn_fill (AtMember a.next) now turn x.hand x.way (next_within x.hand.update a.next a.within) (λ part p. x.filled part (filled part p)) (λ s y. y) a.fills
     where
       filled : (part : ScxWord) → IsFilled (length m.update.snaps) (AtMember a.next) part → IsFilledThen (length m.update.snaps) (AtMember j) part
@@ -105,7 +85,7 @@ module _ (allows : Layout → History → ℕ → Type 0) (c : Call) (h : Histor
       filled (Seen i) p = absurd (omega arith)
       filled _ p = absurd p
 
-  pub turn_seen : (j : MemberNo) (now : ScxRun) (turn : Turn Scx) → FillMade allows c h m (AtSeen j) → FillsNext m now turn j (λ k. AtSeen k) ⊎ FillsLast m now turn j AtCall → scx_turn allows c h now turn
+  pub turn_seen : (j : MemberNo) (now : ScxRun) (turn : Turn Scx) → FillMade allows c h (job_of m) (AtSeen j) → FillsNext m now turn j (λ k. AtSeen k) ⊎ FillsLast m now turn j AtCall → scx_turn allows c h now turn
   turn_seen j now turn x (inl a) = turn_fill (AtSeen a.next) now turn x.hand x.way (next_within x.hand.update a.next a.within) (λ part p. x.filled part (filled part p)) (λ s y. y) a.fills
     where
       filled : (part : ScxWord) → IsFilled (length m.update.snaps) (AtSeen a.next) part → IsFilledThen (length m.update.snaps) (AtSeen j) part
@@ -126,7 +106,7 @@ module _ (allows : Layout → History → ℕ → Type 0) (c : Call) (h : Histor
       filled _ p = absurd p
 
   -- all is filled, so HELP may begin
-  prepared : FillMade allows c h m AtCall → IsPrepared allows c.layout c.pass h m.scx.0
+  prepared : FillMade allows c h (job_of m) AtCall → IsPrepared allows c.layout c.pass h m.scx.0
   prepared x = record { begins = begins; allowed = x.hand.allowed (descriptor h m.scx.0) record { plan = ep; new = en; old = eo; member = em; seen = es; call = x.filled CallWord tt } }
     where
       ep : plan h m.scx.0 ≡ m.update.plan.0
@@ -172,7 +152,7 @@ module _ (allows : Layout → History → ℕ → Type 0) (c : Call) (h : Histor
       }
 
   -- and its words hold what the update wants
-  filled : FillMade allows c h m AtCall → HasFilled c h m.scx.0 m.call m.update
+  filled : FillMade allows c h (job_of m) AtCall → HasFilled c h m.scx.0 m.call m.update
   filled x = record {
     own = x.hand.is_open.own;
     way = x.way;
@@ -184,13 +164,13 @@ module _ (allows : Layout → History → ℕ → Type 0) (c : Call) (h : Histor
     called = x.filled CallWord tt;
   }
 
-  pub begin_help : (help : HelpRun) → IsRun allows c.layout h → FillMade allows c h m AtCall → help.scx ≡ m.scx → help.at ≡ HelpStart → Helps allows c h m help None
+  pub begin_help : (help : HelpRun) → IsRun allows c.layout h → FillMade allows c h (job_of m) AtCall → help.scx ≡ m.scx → help.at ≡ HelpStart → Helps allows c h m help None
   begin_help help run x e z = record { run = run; ready = (z, inr (rw e (prepared x))); same = e; filled = filled x }
 
 -- where it has been told something, its words are filled
-pub made_then : (allows : Layout → History → ℕ → Type 0) (m : ScxRun) (c : Call) (h : History) (got : Option ℕ) (at : ScxAt) → m.at ≡ at → (at ≡ Start → ⊥) → ((v : ℕ) → scx_told_at allows c h m at v → FillMade allows c h m at) → scx_ready allows m c h got → FillMade allows c h m at
+pub made_then : (allows : Layout → History → ℕ → Type 0) (m : ScxRun) (c : Call) (h : History) (got : Option ℕ) (at : ScxAt) → m.at ≡ at → (at ≡ Start → ⊥) → ((v : ℕ) → scx_told_at allows c h (job_of m) at v → FillMade allows c h (job_of m) at) → scx_ready allows m c h got → FillMade allows c h (job_of m) at
 made_then allows m c h None at is d f r = absurd (d (sym is ∙ r.0))
-made_then allows m c h (Some v) at is d f r = f v (subst (λ a. scx_told_at allows c h m a v) is r)
+made_then allows m c h (Some v) at is d f r = f v (subst (λ a. scx_told_at allows c h (job_of m) a v) is r)
 
 -- HELP has answered
 

@@ -5,18 +5,16 @@ ghost use Rattle.prims.specs.declared.put.PutRun.{PutRun};
 ghost use Rattle.prims.specs.Snap.{snap_at};
 ghost use Rattle.forest.specs.Kept.{IsTableOf};
 ghost use Rattle.forest.specs.Courses.{steps_of};
-ghost use Rattle.forest.specs.StraightScx.{PutBegins, PutWaits, PutTold, PutEnds, put_same, scx_at, fill_of};
+ghost use Rattle.forest.specs.StraightScx.{PutBegins, PutWaits, PutTold, PutEnds, put_same, run_of, scx_at, fill_of};
 
-use crate::rule::Asked;
 use crate::steps::step_of;
 use crate::straight;
 use crate::view::View;
 use crate::words::Words;
-use arena::{Deed, Kind, Layout, MemberNo, NodeWord, ScxWord, Shape, Step, Word};
+use arena::{Deed, Kind, Layout, MemberNo, NodeWord, ScxNo, ScxWord, Shape, Step, Word};
 use atomic_table::Seat;
 use help::HelpRun;
-use prims::{PutAt, PutRun, Scx, ScxAt};
-use std::marker::Brand;
+use prims::{PutAt, PutRun, Scx, ScxAt, ScxRun, Update};
 
 /// Fills a word of the SCX-record, at this place.
 #[inline(always)]
@@ -25,25 +23,41 @@ fn fill<S: Shape>(
     layout: &Layout,
     seat: &mut Seat<u8, View>,
     number: u64,
-    run: &PutRun,
+    update: &Update,
+    value: u64,
+    scx: ScxNo,
     at: ScxAt,
     part: ScxWord,
-    value: u64,
+    wanted: u64,
 ) -> u64
     requires table { IsTableOf words.now.table.shared.table_id words.now.table.shared.key layout.now × (seat.old.table_id ≡ words.now.table.shared.table_id) }
-    requires waits { (c : Call) × (first : PutRun) × (c.layout ≡ layout.now) × (c.number ≡ number) × PutWaits S.allows c seat.old.me.0.passes first (scx_at run.now at) (fill_of run.now part value) }
+    requires waits { (c : Call) × (first : PutRun) × (c.layout ≡ layout.now) × (c.number ≡ number) × PutWaits S.allows c seat.old.me.0.passes first (scx_at (run_of update.now value scx number) at) (fill_of (run_of update.now value scx number) part wanted) }
     ensures table { (seat.new.table_id ≡ seat.old.table_id) × (seat.new.me.1 ≡ seat.old.me.1) }
     ensures one { steps_of seat.new.me.0.passes ≡ suc (steps_of seat.old.me.0.passes) }
-    ensures told { (c : Call) (first : PutRun) → c.layout ≡ layout.now → c.number ≡ number → PutWaits S.allows c seat.old.me.0.passes first (scx_at run.now at) (fill_of run.now part value) → PutTold S.allows c seat.new.me.0.passes first (scx_at run.now at) result }
+    ensures told { (c : Call) (first : PutRun) → c.layout ≡ layout.now → c.number ≡ number → PutWaits S.allows c seat.old.me.0.passes first (scx_at (run_of update.now value scx number) at) (fill_of (run_of update.now value scx number) part wanted) → PutTold S.allows c seat.new.me.0.passes first (scx_at (run_of update.now value scx number) at) result }
 {
     let step = Step {
         kind: Kind::Fill,
-        word: Word::Scx(run.scx.scx, part),
-        deed: Deed::Store(value),
+        word: Word::Scx(scx, part),
+        deed: Deed::Store(wanted),
     };
-    let place = layout.place(step.word);
-    let asked = Asked { call: number, step };
-    words.make::<Brand>(seat, &asked, place)
+    let call = number;
+    let update = *update;
+    let scx = ScxRun {
+        scx,
+        call,
+        update,
+        at,
+    };
+    let at = PutAt::Scx;
+    step_of::<S, PutRun>(
+        words,
+        layout,
+        seat,
+        number,
+        &PutRun { value, scx, at },
+        step,
+    )
 }
 
 /// Fills the nodes that the SCX-record covers.
@@ -53,30 +67,25 @@ fn fill_members<S: Shape>(
     layout: &Layout,
     seat: &mut Seat<u8, View>,
     number: u64,
-    run: &PutRun,
+    update: &Update,
+    value: u64,
+    scx: ScxNo,
 )
     requires table { IsTableOf words.now.table.shared.table_id words.now.table.shared.key layout.now × (seat.old.table_id ≡ words.now.table.shared.table_id) }
-    requires waits { (c : Call) × (first : PutRun) × (c.layout ≡ layout.now) × (c.number ≡ number) × PutWaits S.allows c seat.old.me.0.passes first (scx_at run.now (ScxAt.Member MemberNo.First)) (fill_of run.now (ScxWord.Member 0) (snap_at run.now.scx.update.snaps 0).node.0) }
+    requires waits { (c : Call) × (first : PutRun) × (c.layout ≡ layout.now) × (c.number ≡ number) × PutWaits S.allows c seat.old.me.0.passes first (scx_at (run_of update.now value scx number) (ScxAt.Member MemberNo.First)) (fill_of (run_of update.now value scx number) (ScxWord.Member 0) (snap_at update.now.snaps 0).node.0) }
     ensures table { (seat.new.table_id ≡ seat.old.table_id) × (seat.new.me.1 ≡ seat.old.me.1) }
     ensures steps { steps_of seat.new.me.0.passes ≤ steps_of seat.old.me.0.passes + 4 }
-    ensures waits { (c : Call) (first : PutRun) → c.layout ≡ layout.now → c.number ≡ number
-        → PutWaits S.allows c seat.old.me.0.passes first (scx_at run.now (ScxAt.Member MemberNo.First)) (fill_of run.now (ScxWord.Member 0) (snap_at run.now.scx.update.snaps 0).node.0)
-        → PutWaits S.allows c seat.new.me.0.passes first (scx_at run.now (ScxAt.Seen MemberNo.First)) (fill_of run.now (ScxWord.Seen 0) (snap_at run.now.scx.update.snaps 0).scx.0) }
+    ensures waits { (c : Call) (first : PutRun) → c.layout ≡ layout.now → c.number ≡ number → PutWaits S.allows c seat.old.me.0.passes first (scx_at (run_of update.now value scx number) (ScxAt.Member MemberNo.First)) (fill_of (run_of update.now value scx number) (ScxWord.Member 0) (snap_at update.now.snaps 0).node.0) → PutWaits S.allows c seat.new.me.0.passes first (scx_at (run_of update.now value scx number) (ScxAt.Seen MemberNo.First)) (fill_of (run_of update.now value scx number) (ScxWord.Seen 0) (snap_at update.now.snaps 0).scx.0) }
 {
     let mut j = MemberNo::First;
     loop {
-        let value = run.scx.update.snaps.at(j).node.0;
+        let at = ScxAt::Member { j };
+        let part = ScxWord::Member(j.number());
+        let wanted = update.snaps.at(j).node.0;
         fill(
-            words,
-            layout,
-            seat,
-            number,
-            run,
-            ScxAt::Member { j },
-            ScxWord::Member(j.number()),
-            value,
+            words, layout, seat, number, update, value, scx, at, part, wanted,
         );
-        match run.scx.update.plan.member_behind(j) {
+        match update.plan.member_behind(j) {
             Some(next) => j = next,
             None => return,
         }
@@ -90,107 +99,113 @@ fn fill_seen<S: Shape>(
     layout: &Layout,
     seat: &mut Seat<u8, View>,
     number: u64,
-    run: &PutRun,
+    update: &Update,
+    value: u64,
+    scx: ScxNo,
 )
     requires table { IsTableOf words.now.table.shared.table_id words.now.table.shared.key layout.now × (seat.old.table_id ≡ words.now.table.shared.table_id) }
-    requires waits { (c : Call) × (first : PutRun) × (c.layout ≡ layout.now) × (c.number ≡ number) × PutWaits S.allows c seat.old.me.0.passes first (scx_at run.now (ScxAt.Seen MemberNo.First)) (fill_of run.now (ScxWord.Seen 0) (snap_at run.now.scx.update.snaps 0).scx.0) }
+    requires waits { (c : Call) × (first : PutRun) × (c.layout ≡ layout.now) × (c.number ≡ number) × PutWaits S.allows c seat.old.me.0.passes first (scx_at (run_of update.now value scx number) (ScxAt.Seen MemberNo.First)) (fill_of (run_of update.now value scx number) (ScxWord.Seen 0) (snap_at update.now.snaps 0).scx.0) }
     ensures table { (seat.new.table_id ≡ seat.old.table_id) × (seat.new.me.1 ≡ seat.old.me.1) }
     ensures steps { steps_of seat.new.me.0.passes ≤ steps_of seat.old.me.0.passes + 4 }
-    ensures waits { (c : Call) (first : PutRun) → c.layout ≡ layout.now → c.number ≡ number
-        → PutWaits S.allows c seat.old.me.0.passes first (scx_at run.now (ScxAt.Seen MemberNo.First)) (fill_of run.now (ScxWord.Seen 0) (snap_at run.now.scx.update.snaps 0).scx.0)
-        → PutWaits S.allows c seat.new.me.0.passes first (scx_at run.now (ScxAt.Call)) (fill_of run.now (ScxWord.Call) run.now.scx.call) }
+    ensures waits { (c : Call) (first : PutRun) → c.layout ≡ layout.now → c.number ≡ number → PutWaits S.allows c seat.old.me.0.passes first (scx_at (run_of update.now value scx number) (ScxAt.Seen MemberNo.First)) (fill_of (run_of update.now value scx number) (ScxWord.Seen 0) (snap_at update.now.snaps 0).scx.0) → PutWaits S.allows c seat.new.me.0.passes first (scx_at (run_of update.now value scx number) ScxAt.Call) (fill_of (run_of update.now value scx number) ScxWord.Call number) }
 {
     let mut j = MemberNo::First;
     loop {
-        let value = run.scx.update.snaps.at(j).scx.0;
+        let at = ScxAt::Seen { j };
+        let part = ScxWord::Seen(j.number());
+        let wanted = update.snaps.at(j).scx.0;
         fill(
-            words,
-            layout,
-            seat,
-            number,
-            run,
-            ScxAt::Seen { j },
-            ScxWord::Seen(j.number()),
-            value,
+            words, layout, seat, number, update, value, scx, at, part, wanted,
         );
-        match run.scx.update.plan.member_behind(j) {
+        match update.plan.member_behind(j) {
             Some(next) => j = next,
             None => return,
         }
     }
 }
 
-/// SCX with a fresh cell, by a run that has not begun.
+/// Fills the value of the fresh cell.
+#[inline(always)]
+fn fill_value<S: Shape>(
+    words: &Words<S>,
+    layout: &Layout,
+    seat: &mut Seat<u8, View>,
+    number: u64,
+    update: &Update,
+    value: u64,
+    scx: ScxNo,
+)
+    requires table { IsTableOf words.now.table.shared.table_id words.now.table.shared.key layout.now × (seat.old.table_id ≡ words.now.table.shared.table_id) }
+    requires begins { (c : Call) × (c.layout ≡ layout.now) × (c.number ≡ number) × PutBegins S.allows c seat.old.me.0.passes (run_of update.now value scx number) }
+    ensures table { (seat.new.table_id ≡ seat.old.table_id) × (seat.new.me.1 ≡ seat.old.me.1) }
+    ensures one { steps_of seat.new.me.0.passes ≡ suc (steps_of seat.old.me.0.passes) }
+    ensures waits { (c : Call) → c.layout ≡ layout.now → c.number ≡ number → PutBegins S.allows c seat.old.me.0.passes (run_of update.now value scx number) → PutWaits S.allows c seat.new.me.0.passes (run_of update.now value scx number) (scx_at (run_of update.now value scx number) ScxAt.Plan) (fill_of (run_of update.now value scx number) ScxWord.Plan update.now.plan.0) }
+{
+    let step = Step {
+        kind: Kind::Fill,
+        word: Word::Node(update.fresh, NodeWord::Value),
+        deed: Deed::Store(value),
+    };
+    let (call, update) = (number, *update);
+    let at = ScxAt::Start;
+    let scx = ScxRun {
+        scx,
+        call,
+        update,
+        at,
+    };
+    let at = PutAt::Fill;
+    step_of::<S, PutRun>(
+        words,
+        layout,
+        seat,
+        number,
+        &PutRun { value, scx, at },
+        step,
+    );
+}
+
+/// SCX of an update by this SCX-record, whose fresh cell gets the value.
 #[inline(always)]
 pub(crate) fn call<S: Shape>(
     words: &Words<S>,
     layout: &Layout,
     seat: &mut Seat<u8, View>,
     number: u64,
-    unbegun: PutRun,
+    update: &Update,
+    value: u64,
+    scx: ScxNo,
 ) -> Scx
     requires table { IsTableOf words.now.table.shared.table_id words.now.table.shared.key layout.now × (seat.old.table_id ≡ words.now.table.shared.table_id) }
-    requires begins { (c : Call) × (c.layout ≡ layout.now) × (c.number ≡ number) × PutBegins S.allows c seat.old.me.0.passes unbegun }
+    requires begins { (c : Call) × (c.layout ≡ layout.now) × (c.number ≡ number) × PutBegins S.allows c seat.old.me.0.passes (run_of update.now value scx number) }
     ensures table { (seat.new.table_id ≡ seat.old.table_id) × (seat.new.me.1 ≡ seat.old.me.1) }
     ensures steps { steps_of seat.new.me.0.passes ≤ steps_of seat.old.me.0.passes + 40 }
-    ensures ends { (c : Call) → c.layout ≡ layout.now → c.number ≡ number → PutBegins S.allows c seat.old.me.0.passes unbegun → (m : PutRun) × PutEnds S.allows c seat.new.me.0.passes unbegun m result }
+    ensures ends { (c : Call) → c.layout ≡ layout.now → c.number ≡ number → PutBegins S.allows c seat.old.me.0.passes (run_of update.now value scx number) → (m : PutRun) × PutEnds S.allows c seat.new.me.0.passes (run_of update.now value scx number) m result }
 {
-    let mut run = unbegun;
-    run.at = PutAt::Fill;
-    let cell = run.scx.update.fresh;
-    let value = Step {
-        kind: Kind::Fill,
-        word: Word::Node(cell, NodeWord::Value),
-        deed: Deed::Store(run.value),
-    };
-    step_of::<S, PutRun>(words, layout, seat, number, &run, value);
-    let plan = run.scx.update.plan.0;
+    fill_value(words, layout, seat, number, update, value, scx);
+    let plan = update.plan.0;
+    let (at, part) = (ScxAt::Plan, ScxWord::Plan);
     fill(
-        words,
-        layout,
-        seat,
-        number,
-        &run,
-        ScxAt::Plan,
-        ScxWord::Plan,
-        plan,
+        words, layout, seat, number, update, value, scx, at, part, plan,
     );
+    let new = update.fresh.0;
+    let (at, part) = (ScxAt::New, ScxWord::New);
     fill(
-        words,
-        layout,
-        seat,
-        number,
-        &run,
-        ScxAt::New,
-        ScxWord::New,
-        cell.0,
+        words, layout, seat, number, update, value, scx, at, part, new,
     );
-    let old = run.scx.update.old.0;
+    let old = update.old.0;
+    let (at, part) = (ScxAt::Old, ScxWord::Old);
     fill(
-        words,
-        layout,
-        seat,
-        number,
-        &run,
-        ScxAt::Old,
-        ScxWord::Old,
-        old,
+        words, layout, seat, number, update, value, scx, at, part, old,
     );
-    fill_members(words, layout, seat, number, &run);
-    fill_seen(words, layout, seat, number, &run);
-    let call = run.scx.call;
+    fill_members(words, layout, seat, number, update, value, scx);
+    fill_seen(words, layout, seat, number, update, value, scx);
+    let (at, part) = (ScxAt::Call, ScxWord::Call);
     fill(
-        words,
-        layout,
-        seat,
-        number,
-        &run,
-        ScxAt::Call,
-        ScxWord::Call,
-        call,
+        words, layout, seat, number, update, value, scx, at, part, number,
     );
-    let begun = HelpRun::new(run.scx.scx);
-    let (run_of_help, committed) = straight::help::call(words, layout, seat, number, begun);
+    let begun = HelpRun::new(scx);
+    let (run_of_help, committed) = straight::helping::call(words, layout, seat, number, begun);
     if committed {
         Scx::Done
     } else {

@@ -1,49 +1,74 @@
 use Rattle.std.proofs.Common.{◌≡◌, ◌≤◌, ◌∙◌, arith, ℕ, refl, sym, ap, subst}
+use Rattle.prims.specs.Cells.{allows_all}
 use Rattle.forest.specs.Passes.{Sight, CanUse, Each, taken_of}
 use Rattle.forest.specs.Held.{sight}
 use Rattle.forest.specs.Puts.{IsPutOf}
+use Rattle.forest.specs.StraightScx.{run_of, PutBegins}
 use Rattle.forest.specs.declared.pass.Pass.TheInside.{Inside}
 use Rattle.forest.proofs.Passes.{layout_of, call_of}
+use Rattle.forest.proofs.VlxCalls.{apart_at, among_at}
 use Rattle.forest.proofs.ScxCalls.{HasPut, put_begins, put_called, put_pass, put_says, put_usable, put_goes_on}
 use Rattle.forest.proofs.forest.Forest+Cells.scx.Goals as goal
+
+pub new-update-requires-clause-distinct : goal.new-update-requires-clause-distinct
+new-update-requires-clause-distinct c = apart_at c.args.snaps.now c.requires.apart
+
+pub new-update-requires-clause-among : goal.new-update-requires-clause-among
+new-update-requires-clause-among c = among_at c.args.snaps.now c.args.field.0.0 c.requires.among
+
+-- the run that the call makes
+is_of : (c : goal.After-update-1) (number : ℕ) → IsPutOf (run_of c.new-update.result c.args.value c.in_ok-fresh.scx number) c.args.snaps.now c.args.finalize.now (c.args.field.0.0, c.args.field.1) c.args.value c.pass.inside.share.next_node c.pass.inside.share.next_scx number
+is_of c number = let u = c.new-update.ensures in let records = c.in_ok-fresh.ensures.records in record {
+  over = u.over;
+  snaps_are = u.snaps;
+  fresh = u.fresh ∙ records.0;
+  record_is = records.1;
+  called = refl;
+  removed = u.removed;
+  node_is = u.field;
+  side = u.side;
+  is_value = refl;
+}
 
 -- the number of the call
 abbrev called : {T : Type 0} → Inside T → ℕ
 called p = taken_of (sight p)
 
--- the run is one of this call
-is_put : (c : goal.After-call-answer) → IsPutOf c.put-run.result c.args.snaps.now c.args.finalize.now (c.args.field.0.0, c.args.field.1) c.args.value c.pass.inside.share.next_node c.pass.inside.share.next_scx (called c.pass.inside)
-is_put c = rw (c.in_ok-records.ensures.records.0, c.in_ok-records.ensures.records.1, c.taken-number.ensures, ← ap taken_of c.pass.view_is) at c.put-run.ensures.put
+-- the call may begin
+begins : (c : goal.After-update-1) (number : ℕ) → PutBegins allows_all (call_of c.pass.inside c.pass.invariant number) c.pass.inside.seat.me.0.passes (run_of c.new-update.result c.args.value c.in_ok-fresh.scx number)
+begins c number = let some = c.in_ok-fresh.ensures.some in
+    put_begins c.pass.inside c.pass.invariant some.0 some.1 c.args.snaps.now c.args.finalize.now (c.args.field.0.0, c.args.field.1) c.args.value number _ (is_of c number) refl refl (subst (λ (v : Sight). Each (CanUse v) c.args.snaps.now) (sym c.pass.view_is) c.requires.usable)
 
-pub call-answer-requires-clause-begins : goal.call-answer-requires-clause-begins
-call-answer-requires-clause-begins c = let p = c.pass.inside in let x = c.pass.invariant in let some = c.in_ok-records.ensures.some in (
-  call_of p x (called p),
+-- its number as the code has it
+named : (c : goal.After-update-1) → called c.pass.inside ≡ c.taken-number.result
+named c = ap taken_of c.pass.view_is ∙ sym c.taken-number.ensures
+
+pub call-requires-clause-begins : goal.call-requires-clause-begins
+call-requires-clause-begins c = (
+  call_of c.pass.inside c.pass.invariant (called c.pass.inside),
   layout_of c.pass.view_is c.self.view_is c.requires.pass,
-  ap taken_of c.pass.view_is ∙ sym c.taken-number.ensures,
-  put_begins p x some.0 some.1 c.args.snaps.now c.args.finalize.now (c.args.field.0.0, c.args.field.1) c.args.value (called p) c.put-run.result (rw (c.in_ok-records.ensures.records.0, c.in_ok-records.ensures.records.1, c.taken-number.ensures, ← ap taken_of c.pass.view_is) at c.put-run.ensures.put)
-      c.put-run.ensures.unbegun.at c.put-run.ensures.unbegun.scx_at (subst (λ (v : Sight). Each (CanUse v) c.args.snaps.now) (sym c.pass.view_is) c.requires.usable),
+  named c,
+  rw (← named c) (begins c (called c.pass.inside)),
 )
 
 -- what the call leaves
-ended : (c : goal.After-call-answer) → HasPut c.pass.inside c.pass.invariant c.in_ok-records.ensures.some.0 c.in_ok-records.ensures.some.1 c.args.snaps.now c.args.finalize.now (c.args.field.0.0, c.args.field.1) c.args.value (called c.pass.inside) c.call-answer.new.seat c.call-answer.result
-ended c = let p = c.pass.inside in let x = c.pass.invariant in let some = c.in_ok-records.ensures.some in
-    let ends = c.call-answer.ensures.ends (call_of p x (called p)) (layout_of c.pass.view_is c.self.view_is c.requires.pass) (ap taken_of c.pass.view_is ∙ sym c.taken-number.ensures)
-    (put_begins p x some.0 some.1 c.args.snaps.now c.args.finalize.now (c.args.field.0.0, c.args.field.1) c.args.value (called p) c.put-run.result (is_put c)
-    c.put-run.ensures.unbegun.at c.put-run.ensures.unbegun.scx_at (subst (λ (v : Sight). Each (CanUse v) c.args.snaps.now) (sym c.pass.view_is) c.requires.usable)) in
-    put_called p x some.0 some.1 c.args.snaps.now c.args.finalize.now (c.args.field.0.0, c.args.field.1) c.args.value (called p) c.call-answer.new.seat c.put-run.result ends.0 c.call-answer.result (is_put c) ends.1
+ended : (c : goal.After-call) → HasPut c.pass.inside c.pass.invariant c.in_ok-fresh.ensures.some.0 c.in_ok-fresh.ensures.some.1 c.args.snaps.now c.args.finalize.now (c.args.field.0.0, c.args.field.1) c.args.value (called c.pass.inside) c.call.new.seat c.call.result
+ended c = let p = c.pass.inside in let x = c.pass.invariant in let some = c.in_ok-fresh.ensures.some in
+    let ends = c.call.ensures.ends (call_of p x (called p)) (layout_of c.pass.view_is c.self.view_is c.requires.pass) (named c.before) (rw (← named c.before) (begins c.before (called p))) in
+    put_called p x some.0 some.1 c.args.snaps.now c.args.finalize.now (c.args.field.0.0, c.args.field.1) c.args.value (called p) c.call.new.seat _ ends.0 c.call.result (rw (← named c.before) (is_of c.before (called p))) ends.1
 
 pub invariant_of-pass-2 : goal.invariant_of-pass-2
-invariant_of-pass-2 c = let some = c.in_ok-records.ensures.some in
-    rw c.in_ok-records.ensures.left (put_pass c.pass.inside c.pass.invariant some.0 some.1 c.args.snaps.now c.args.finalize.now (c.args.field.0.0, c.args.field.1) c.args.value _ c.call-answer.new.seat c.call-answer.result c.call-answer.ensures.table.1 (ended c))
+invariant_of-pass-2 c = let some = c.in_ok-fresh.ensures.some in
+    rw c.in_ok-fresh.ensures.left (put_pass c.pass.inside c.pass.invariant some.0 some.1 c.args.snaps.now c.args.finalize.now (c.args.field.0.0, c.args.field.1) c.args.value _ c.call.new.seat c.call.result c.call.ensures.table.1 (ended c))
 
 pub returns-clause-goes_on : goal.returns-clause-goes_on
-returns-clause-goes_on c = let some = c.in_ok-records.ensures.some in
-    rw (← c.pass.view_is, c.in_ok-records.ensures.left) (put_goes_on c.pass.inside c.pass.invariant some.0 some.1 c.args.snaps.now c.args.finalize.now (c.args.field.0.0, c.args.field.1) c.args.value _ c.call-answer.new.seat c.call-answer.result 40 40 c.call-answer.ensures.table.0 c.call-answer.ensures.table.1 (ended c) c.call-answer.ensures.steps (omega arith))
+returns-clause-goes_on c = let some = c.in_ok-fresh.ensures.some in
+    rw (← c.pass.view_is, c.in_ok-fresh.ensures.left) (put_goes_on c.pass.inside c.pass.invariant some.0 some.1 c.args.snaps.now c.args.finalize.now (c.args.field.0.0, c.args.field.1) c.args.value _ c.call.new.seat c.call.result 40 40 c.call.ensures.table.0 c.call.ensures.table.1 (ended c) c.call.ensures.steps (omega arith))
 
 pub returns-clause-says : goal.returns-clause-says
-returns-clause-says c = let some = c.in_ok-records.ensures.some in
-    rw (← c.pass.view_is, c.in_ok-records.ensures.left) (put_says c.pass.inside c.pass.invariant some.0 some.1 c.args.snaps.now c.args.finalize.now (c.args.field.0.0, c.args.field.1) c.args.value (called c.pass.inside) c.call-answer.new.seat c.call-answer.result refl (ended c))
+returns-clause-says c = let some = c.in_ok-fresh.ensures.some in
+    rw (← c.pass.view_is, c.in_ok-fresh.ensures.left) (put_says c.pass.inside c.pass.invariant some.0 some.1 c.args.snaps.now c.args.finalize.now (c.args.field.0.0, c.args.field.1) c.args.value (called c.pass.inside) c.call.new.seat c.call.result refl (ended c))
 
 pub returns-clause-usable : goal.returns-clause-usable
-returns-clause-usable c = let some = c.in_ok-records.ensures.some in
-    rw (← c.pass.view_is) (put_usable c.pass.inside c.pass.invariant some.0 some.1 c.args.snaps.now c.args.finalize.now (c.args.field.0.0, c.args.field.1) c.args.value _ c.call-answer.new.seat c.call-answer.result (ended c))
+returns-clause-usable c = let some = c.in_ok-fresh.ensures.some in
+    rw (← c.pass.view_is) (put_usable c.pass.inside c.pass.invariant some.0 some.1 c.args.snaps.now c.args.finalize.now (c.args.field.0.0, c.args.field.1) c.args.value _ c.call.new.seat c.call.result (ended c))

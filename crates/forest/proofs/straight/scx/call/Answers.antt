@@ -1,41 +1,28 @@
 use Rattle.std.proofs.Common.{◌≡◌, [], refl, sym}
 use Rattle.prims.specs.declared.scx.Scx.TheVariants.{Done, Lost}
 use Rattle.prims.specs.declared.scx.ScxAt.TheVariants.{Help}
-use Rattle.prims.specs.declared.put.PutAt.TheVariants.{Fill as AtFill}
-use Rattle.forest.specs.StraightScx.{scx_at}
-use Rattle.forest.proofs.StraightScx.{to_value, to_plan, to_new, to_old, to_member, inner, help_begins, put_ends}
+use Rattle.forest.specs.StraightScx.{run_of, scx_at}
+use Rattle.forest.proofs.StraightScx.{to_new, to_old, to_member, inner, help_begins, put_ends}
 use Rattle.forest.proofs.straight.scx.call.Goals as goal
 
-pub step_of-requires-clause-waits : goal.step_of-requires-clause-waits
-step_of-requires-clause-waits g c = let u = c.args.unbegun in
-    let r = c.requires.begins in let k = r.0 in let lay = r.1 in let number = r.2 in let x = r.3 in
-    let w0 = to_value g.S.Shape.allows k _ u x in
-    (k, u, lay, number, w0)
-
 pub fill-requires-clause-waits : goal.fill-requires-clause-waits
-fill-requires-clause-waits g c = let u = c.args.unbegun in
+fill-requires-clause-waits g c = let u = run_of c.args.update.now c.args.value c.args.scx c.args.number in
     let r = c.requires.begins in let k = r.0 in let lay = r.1 in let number = r.2 in let x = r.3 in
-    let w0 = to_value g.S.Shape.allows k _ u x in
-    let t0 = c.step_of.ensures.told k u lay number w0 in
-    let w1 = to_plan g.S.Shape.allows k _ u c.step_of.result t0 in
+    let w1 = c.fill_value.ensures.waits k lay number x in
     (k, u, lay, number, w1)
 
 pub fill-requires-2-clause-waits : goal.fill-requires-2-clause-waits
-fill-requires-2-clause-waits g c = let u = c.args.unbegun in
+fill-requires-2-clause-waits g c = let u = run_of c.args.update.now c.args.value c.args.scx c.args.number in
     let r = c.requires.begins in let k = r.0 in let lay = r.1 in let number = r.2 in let x = r.3 in
-    let w0 = to_value g.S.Shape.allows k _ u x in
-    let t0 = c.step_of.ensures.told k u lay number w0 in
-    let w1 = to_plan g.S.Shape.allows k _ u c.step_of.result t0 in
+    let w1 = c.fill_value.ensures.waits k lay number x in
     let t1 = c.fill.ensures.told k u lay number w1 in
     let w2 = to_new g.S.Shape.allows k _ u u c.fill.result t1 in
     (k, u, lay, number, w2)
 
 pub fill-requires-3-clause-waits : goal.fill-requires-3-clause-waits
-fill-requires-3-clause-waits g c = let u = c.args.unbegun in
+fill-requires-3-clause-waits g c = let u = run_of c.args.update.now c.args.value c.args.scx c.args.number in
     let r = c.requires.begins in let k = r.0 in let lay = r.1 in let number = r.2 in let x = r.3 in
-    let w0 = to_value g.S.Shape.allows k _ u x in
-    let t0 = c.step_of.ensures.told k u lay number w0 in
-    let w1 = to_plan g.S.Shape.allows k _ u c.step_of.result t0 in
+    let w1 = c.fill_value.ensures.waits k lay number x in
     let t1 = c.fill.ensures.told k u lay number w1 in
     let w2 = to_new g.S.Shape.allows k _ u u c.fill.result t1 in
     let t2 = c.fill-2.ensures.told k u lay number w2 in
@@ -43,11 +30,9 @@ fill-requires-3-clause-waits g c = let u = c.args.unbegun in
     (k, u, lay, number, w3)
 
 pub fill_members-requires-clause-waits : goal.fill_members-requires-clause-waits
-fill_members-requires-clause-waits g c = let u = c.args.unbegun in
+fill_members-requires-clause-waits g c = let u = run_of c.args.update.now c.args.value c.args.scx c.args.number in
     let r = c.requires.begins in let k = r.0 in let lay = r.1 in let number = r.2 in let x = r.3 in
-    let w0 = to_value g.S.Shape.allows k _ u x in
-    let t0 = c.step_of.ensures.told k u lay number w0 in
-    let w1 = to_plan g.S.Shape.allows k _ u c.step_of.result t0 in
+    let w1 = c.fill_value.ensures.waits k lay number x in
     let t1 = c.fill.ensures.told k u lay number w1 in
     let w2 = to_new g.S.Shape.allows k _ u u c.fill.result t1 in
     let t2 = c.fill-2.ensures.told k u lay number w2 in
@@ -57,11 +42,9 @@ fill_members-requires-clause-waits g c = let u = c.args.unbegun in
     (k, u, lay, number, w4)
 
 pub fill_seen-requires-clause-waits : goal.fill_seen-requires-clause-waits
-fill_seen-requires-clause-waits g c = let u = c.args.unbegun in
+fill_seen-requires-clause-waits g c = let u = run_of c.args.update.now c.args.value c.args.scx c.args.number in
     let r = c.requires.begins in let k = r.0 in let lay = r.1 in let number = r.2 in let x = r.3 in
-    let w0 = to_value g.S.Shape.allows k _ u x in
-    let t0 = c.step_of.ensures.told k u lay number w0 in
-    let w1 = to_plan g.S.Shape.allows k _ u c.step_of.result t0 in
+    let w1 = c.fill_value.ensures.waits k lay number x in
     let t1 = c.fill.ensures.told k u lay number w1 in
     let w2 = to_new g.S.Shape.allows k _ u u c.fill.result t1 in
     let t2 = c.fill-2.ensures.told k u lay number w2 in
@@ -72,11 +55,9 @@ fill_seen-requires-clause-waits g c = let u = c.args.unbegun in
     (k, u, lay, number, w5)
 
 pub fill-requires-4-clause-waits : goal.fill-requires-4-clause-waits
-fill-requires-4-clause-waits g c = let u = c.args.unbegun in
+fill-requires-4-clause-waits g c = let u = run_of c.args.update.now c.args.value c.args.scx c.args.number in
     let r = c.requires.begins in let k = r.0 in let lay = r.1 in let number = r.2 in let x = r.3 in
-    let w0 = to_value g.S.Shape.allows k _ u x in
-    let t0 = c.step_of.ensures.told k u lay number w0 in
-    let w1 = to_plan g.S.Shape.allows k _ u c.step_of.result t0 in
+    let w1 = c.fill_value.ensures.waits k lay number x in
     let t1 = c.fill.ensures.told k u lay number w1 in
     let w2 = to_new g.S.Shape.allows k _ u u c.fill.result t1 in
     let t2 = c.fill-2.ensures.told k u lay number w2 in
@@ -88,11 +69,9 @@ fill-requires-4-clause-waits g c = let u = c.args.unbegun in
     (k, u, lay, number, w6)
 
 pub call-committed-requires-clause-begins : goal.call-committed-requires-clause-begins
-call-committed-requires-clause-begins g c = let u = c.args.unbegun in
+call-committed-requires-clause-begins g c = let u = run_of c.args.update.now c.args.value c.args.scx c.args.number in
     let r = c.requires.begins in let k = r.0 in let lay = r.1 in let number = r.2 in let x = r.3 in
-    let w0 = to_value g.S.Shape.allows k _ u x in
-    let t0 = c.step_of.ensures.told k u lay number w0 in
-    let w1 = to_plan g.S.Shape.allows k _ u c.step_of.result t0 in
+    let w1 = c.fill_value.ensures.waits k lay number x in
     let t1 = c.fill.ensures.told k u lay number w1 in
     let w2 = to_new g.S.Shape.allows k _ u u c.fill.result t1 in
     let t2 = c.fill-2.ensures.told k u lay number w2 in
@@ -102,14 +81,12 @@ call-committed-requires-clause-begins g c = let u = c.args.unbegun in
     let w5 = c.fill_members.ensures.waits k u lay number w4 in
     let w6 = c.fill_seen.ensures.waits k u lay number w5 in
     let t6 = c.fill-4.ensures.told k u lay number w6 in
-    (inner g.S.Shape.allows k _ [] u (record u { at = AtFill }) c.fill-4.result c.new-begun.result c.new-begun.ensures.scx c.new-begun.ensures.start t6, lay, number, help_begins g.S.Shape.allows k _ [] u (record u { at = AtFill }) c.fill-4.result c.new-begun.result c.new-begun.ensures.scx c.new-begun.ensures.start t6)
+    (inner g.S.Shape.allows k _ [] u u c.fill-4.result c.new-begun.result c.new-begun.ensures.scx c.new-begun.ensures.start t6, lay, number, help_begins g.S.Shape.allows k _ [] u u c.fill-4.result c.new-begun.result c.new-begun.ensures.scx c.new-begun.ensures.start t6)
 
 pub returns-then-committed-clause-ends : goal.returns-then-committed-clause-ends
-returns-then-committed-clause-ends g c = let u = c.args.unbegun in
+returns-then-committed-clause-ends g c = let u = run_of c.args.update.now c.args.value c.args.scx c.args.number in
     λ k lay number x.
-    let w0 = to_value g.S.Shape.allows k _ u x in
-    let t0 = c.step_of.ensures.told k u lay number w0 in
-    let w1 = to_plan g.S.Shape.allows k _ u c.step_of.result t0 in
+    let w1 = c.fill_value.ensures.waits k lay number x in
     let t1 = c.fill.ensures.told k u lay number w1 in
     let w2 = to_new g.S.Shape.allows k _ u u c.fill.result t1 in
     let t2 = c.fill-2.ensures.told k u lay number w2 in
@@ -119,14 +96,12 @@ returns-then-committed-clause-ends g c = let u = c.args.unbegun in
     let w5 = c.fill_members.ensures.waits k u lay number w4 in
     let w6 = c.fill_seen.ensures.waits k u lay number w5 in
     let t6 = c.fill-4.ensures.told k u lay number w6 in
-    (scx_at (record u { at = AtFill }) (Help c.call-committed.result.0), put_ends g.S.Shape.allows k _ _ u (record u { at = AtFill }) c.fill-4.result c.new-begun.result c.new-begun.ensures.scx c.new-begun.ensures.start t6 c.call-committed.result.0 c.call-committed.result.1 Done (λ e. refl) (λ e. absurd (let z = c.if-committed.true in let q = sym e in cc)) (c.call-committed.ensures.ends (inner g.S.Shape.allows k _ [] u (record u { at = AtFill }) c.fill-4.result c.new-begun.result c.new-begun.ensures.scx c.new-begun.ensures.start t6) lay number (help_begins g.S.Shape.allows k _ [] u (record u { at = AtFill }) c.fill-4.result c.new-begun.result c.new-begun.ensures.scx c.new-begun.ensures.start t6)))
+    (scx_at u (Help c.call-committed.result.0), put_ends g.S.Shape.allows k _ _ u u c.fill-4.result c.new-begun.result c.new-begun.ensures.scx c.new-begun.ensures.start t6 c.call-committed.result.0 c.call-committed.result.1 Done (λ e. refl) (λ e. absurd (let z = c.if-committed.true in let q = sym e in cc)) (c.call-committed.ensures.ends (inner g.S.Shape.allows k _ [] u u c.fill-4.result c.new-begun.result c.new-begun.ensures.scx c.new-begun.ensures.start t6) lay number (help_begins g.S.Shape.allows k _ [] u u c.fill-4.result c.new-begun.result c.new-begun.ensures.scx c.new-begun.ensures.start t6)))
 
 pub returns-else-committed-clause-ends : goal.returns-else-committed-clause-ends
-returns-else-committed-clause-ends g c = let u = c.args.unbegun in
+returns-else-committed-clause-ends g c = let u = run_of c.args.update.now c.args.value c.args.scx c.args.number in
     λ k lay number x.
-    let w0 = to_value g.S.Shape.allows k _ u x in
-    let t0 = c.step_of.ensures.told k u lay number w0 in
-    let w1 = to_plan g.S.Shape.allows k _ u c.step_of.result t0 in
+    let w1 = c.fill_value.ensures.waits k lay number x in
     let t1 = c.fill.ensures.told k u lay number w1 in
     let w2 = to_new g.S.Shape.allows k _ u u c.fill.result t1 in
     let t2 = c.fill-2.ensures.told k u lay number w2 in
@@ -136,4 +111,4 @@ returns-else-committed-clause-ends g c = let u = c.args.unbegun in
     let w5 = c.fill_members.ensures.waits k u lay number w4 in
     let w6 = c.fill_seen.ensures.waits k u lay number w5 in
     let t6 = c.fill-4.ensures.told k u lay number w6 in
-    (scx_at (record u { at = AtFill }) (Help c.call-committed.result.0), put_ends g.S.Shape.allows k _ _ u (record u { at = AtFill }) c.fill-4.result c.new-begun.result c.new-begun.ensures.scx c.new-begun.ensures.start t6 c.call-committed.result.0 c.call-committed.result.1 (Lost c.blocked.result.0 c.blocked.result.1) (λ e. absurd (let z = c.if-committed.false in let q = sym e in cc)) (λ e. rw c.blocked.ensures refl) (c.call-committed.ensures.ends (inner g.S.Shape.allows k _ [] u (record u { at = AtFill }) c.fill-4.result c.new-begun.result c.new-begun.ensures.scx c.new-begun.ensures.start t6) lay number (help_begins g.S.Shape.allows k _ [] u (record u { at = AtFill }) c.fill-4.result c.new-begun.result c.new-begun.ensures.scx c.new-begun.ensures.start t6)))
+    (scx_at u (Help c.call-committed.result.0), put_ends g.S.Shape.allows k _ _ u u c.fill-4.result c.new-begun.result c.new-begun.ensures.scx c.new-begun.ensures.start t6 c.call-committed.result.0 c.call-committed.result.1 (Lost c.blocked.result.0 c.blocked.result.1) (λ e. absurd (let z = c.if-committed.false in let q = sym e in cc)) (λ e. rw c.blocked.ensures refl) (c.call-committed.ensures.ends (inner g.S.Shape.allows k _ [] u u c.fill-4.result c.new-begun.result c.new-begun.ensures.scx c.new-begun.ensures.start t6) lay number (help_begins g.S.Shape.allows k _ [] u u c.fill-4.result c.new-begun.result c.new-begun.ensures.scx c.new-begun.ensures.start t6)))

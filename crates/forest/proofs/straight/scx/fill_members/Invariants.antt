@@ -7,7 +7,7 @@ use Rattle.prims.specs.Snap.{snap_at}
 use Rattle.prims.specs.declared.put.PutRun.{PutRun}
 use Rattle.prims.specs.declared.scx.ScxAt.TheVariants.{Member as AtMember}
 use Rattle.forest.specs.Courses.{steps_of}
-use Rattle.forest.specs.StraightScx.{PutWaits, scx_at, fill_of}
+use Rattle.forest.specs.StraightScx.{PutWaits, run_of, scx_at, fill_of}
 use Rattle.forest.proofs.straight.scx.fill_members.Given as goal
 
 abbrev pub invariant-loop-next : goal.invariant-loop-next
@@ -15,8 +15,8 @@ invariant-loop-next g l = record {
   here : (l.seat.table_id ≡ l.fn.seat.table_id) × (l.seat.me.1 ≡ l.fn.seat.me.1);
   steps : steps_of l.seat.me.0.passes + (4 - index_of l.j) ≤ steps_of l.fn.seat.me.0.passes + 4;
   waits : (c : Call) → (first : PutRun) → c.layout ≡ l.layout → c.number ≡ l.number
-      → PutWaits g.S.Shape.allows c l.fn.seat.me.0.passes first (scx_at l.fn.run (AtMember First)) (fill_of l.fn.run (Member 0) (snap_at l.fn.run.scx.update.snaps 0).node.0)
-      → PutWaits g.S.Shape.allows c l.seat.me.0.passes first (scx_at l.run (AtMember l.j)) (fill_of l.run (Member (index_of l.j)) (snap_at l.run.scx.update.snaps (index_of l.j)).node.0);
+      → PutWaits g.S.Shape.allows c l.fn.seat.me.0.passes first (scx_at (run_of l.fn.update l.fn.value l.fn.scx l.fn.number) (AtMember First)) (fill_of (run_of l.fn.update l.fn.value l.fn.scx l.fn.number) (Member 0) (snap_at l.fn.update.snaps 0).node.0)
+      → PutWaits g.S.Shape.allows c l.seat.me.0.passes first (scx_at (run_of l.update l.value l.scx l.number) (AtMember l.j)) (fill_of (run_of l.update l.value l.scx l.number) (Member (index_of l.j)) (snap_at l.update.snaps (index_of l.j)).node.0);
 }
 
 abbrev pub decreases-loop-next : goal.decreases-loop-next

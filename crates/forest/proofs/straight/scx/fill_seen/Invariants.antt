@@ -7,7 +7,7 @@ use Rattle.prims.specs.Snap.{snap_at}
 use Rattle.prims.specs.declared.put.PutRun.{PutRun}
 use Rattle.prims.specs.declared.scx.ScxAt.TheVariants.{Seen as AtSeen}
 use Rattle.forest.specs.Courses.{steps_of}
-use Rattle.forest.specs.StraightScx.{PutWaits, scx_at, fill_of}
+use Rattle.forest.specs.StraightScx.{PutWaits, run_of, scx_at, fill_of}
 use Rattle.forest.proofs.straight.scx.fill_seen.Given as goal
 
 abbrev pub invariant-loop-next : goal.invariant-loop-next
@@ -15,8 +15,8 @@ invariant-loop-next g l = record {
   here : (l.seat.table_id ≡ l.fn.seat.table_id) × (l.seat.me.1 ≡ l.fn.seat.me.1);
   steps : steps_of l.seat.me.0.passes + (4 - index_of l.j) ≤ steps_of l.fn.seat.me.0.passes + 4;
   waits : (c : Call) → (first : PutRun) → c.layout ≡ l.layout → c.number ≡ l.number
-      → PutWaits g.S.Shape.allows c l.fn.seat.me.0.passes first (scx_at l.fn.run (AtSeen First)) (fill_of l.fn.run (Seen 0) (snap_at l.fn.run.scx.update.snaps 0).scx.0)
-      → PutWaits g.S.Shape.allows c l.seat.me.0.passes first (scx_at l.run (AtSeen l.j)) (fill_of l.run (Seen (index_of l.j)) (snap_at l.run.scx.update.snaps (index_of l.j)).scx.0);
+      → PutWaits g.S.Shape.allows c l.fn.seat.me.0.passes first (scx_at (run_of l.fn.update l.fn.value l.fn.scx l.fn.number) (AtSeen First)) (fill_of (run_of l.fn.update l.fn.value l.fn.scx l.fn.number) (Seen 0) (snap_at l.fn.update.snaps 0).scx.0)
+      → PutWaits g.S.Shape.allows c l.seat.me.0.passes first (scx_at (run_of l.update l.value l.scx l.number) (AtSeen l.j)) (fill_of (run_of l.update l.value l.scx l.number) (Seen (index_of l.j)) (snap_at l.update.snaps (index_of l.j)).scx.0);
 }
 
 abbrev pub decreases-loop-next : goal.decreases-loop-next

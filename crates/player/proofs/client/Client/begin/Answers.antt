@@ -1,4 +1,4 @@
-use Rattle.std.proofs.Common.{ℕ, List, length, refl, ◌∙◌, ap, Some, None}
+use Rattle.std.proofs.Common.{arith, ℕ, List, length, refl, ◌∙◌, ap, Some, None}
 use Rattle.script.specs.declared.command.Command.{Command}
 use Rattle.player.proofs.Snapshots.{kept_linked}
 use Rattle.player.proofs.Begins.{llx_starts, vlx_starts, rests_at, begins_run, some_snaps, as_many_snaps}
@@ -25,4 +25,4 @@ returns-in-Ok c v began sound mode r u is =
     (rw items (c.in-Ok.ensures.nodes ∙ c.as_slice.ensures.cells))
     (rw items (kept_linked v.layout c.args.self.now.pass.0 v.past v.linked c.args.self.now.kept c.in-Ok.snaps.items c.in-Ok.ensures.kept r.stands.kept))
     (is ∙ ap (λ (k : Command). Some k) c.in-Vlx.is)
-    (rw (items, none) refl ∙ as_many_snaps c.in-Ok.snaps.items c.as_slice.result.now c.in-Ok.ensures.nodes ∙ ap (λ (l : List ℕ). length l) c.as_slice.ensures.cells)))
+    (rw (items, none) (omega (arith, as_many_snaps c.in-Ok.snaps.items c.as_slice.result.now c.in-Ok.ensures.nodes ∙ ap (λ (l : List ℕ). length l) c.as_slice.ensures.cells)))))

@@ -2,7 +2,7 @@ use Rattle.std.proofs.Common.{◌∙◌, sym, arith}
 use Rattle.help.specs.HelpKnown.{first_place}
 use Rattle.help.specs.HelpTurns.{place_behind}
 use Rattle.forest.proofs.StraightHelp.{to_mark, to_new, more_marks}
-use Rattle.forest.proofs.straight.help.mark_all.Goals as goal
+use Rattle.forest.proofs.straight.helping.mark_all.Goals as goal
 
 pub act-requires-clause-waits : goal.act-requires-clause-waits
 act-requires-clause-waits g c = let r = c.requires.marks in let m = c.args.run.now in let t = c.in-Some.ensures.removed in

@@ -8,7 +8,7 @@ use Rattle.help.specs.declared.state.HelpRun.{HelpRun}
 use Rattle.help.specs.declared.state.HelpAt.TheVariants.{Member as AtMember}
 use Rattle.forest.specs.Courses.{steps_of}
 use Rattle.forest.specs.StraightHelp.{HelpWaits}
-use Rattle.forest.proofs.straight.help.freeze_all.Given as goal
+use Rattle.forest.proofs.straight.helping.freeze_all.Given as goal
 
 abbrev pub invariant-loop-j : goal.invariant-loop-j
 invariant-loop-j g l = record {

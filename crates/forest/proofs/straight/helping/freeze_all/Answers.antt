@@ -1,7 +1,7 @@
 use Rattle.std.proofs.Common.{◌∙◌, arith, refl}
 use Rattle.std.specs.Prelude.{slice_set}
 use Rattle.forest.proofs.StraightHelp.{to_seen, to_freeze, to_next, to_set_frozen, to_all_frozen}
-use Rattle.forest.proofs.straight.help.freeze_all.Goals as goal
+use Rattle.forest.proofs.straight.helping.freeze_all.Goals as goal
 
 pub act-member-requires-clause-waits : goal.act-member-requires-clause-waits
 act-member-requires-clause-waits g c = let r = c.requires.waits in (r.0, r.1, r.2, r.3, rw (c.settled-asked.ensures, c.number.ensures.value) (c.loop-j.invariant.waits r.0 r.1 r.2 r.3 r.4))

@@ -1,5 +1,5 @@
 use Rattle.forest.proofs.StraightHelp.{to_plan, to_member, no_marks, to_old, to_update, to_commit, to_end}
-use Rattle.forest.proofs.straight.help.call.Goals as goal
+use Rattle.forest.proofs.straight.helping.call.Goals as goal
 
 pub act-plan-requires-clause-waits : goal.act-plan-requires-clause-waits
 act-plan-requires-clause-waits g c = let u = c.args.unbegun in

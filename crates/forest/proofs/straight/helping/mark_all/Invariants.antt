@@ -4,7 +4,7 @@ use Rattle.help.specs.HelpKnown.{first_place}
 use Rattle.help.specs.declared.state.HelpRun.{HelpRun}
 use Rattle.forest.specs.Courses.{steps_of}
 use Rattle.forest.specs.StraightHelp.{HelpMarks}
-use Rattle.forest.proofs.straight.help.mark_all.Given as goal
+use Rattle.forest.proofs.straight.helping.mark_all.Given as goal
 
 abbrev pub invariant-loop-j : goal.invariant-loop-j
 invariant-loop-j g l = record {
