@@ -25,7 +25,7 @@ use Rattle.prims.specs.Snap.{snap_at}
 use Rattle.prims.specs.Unfilled.{own_words_unfilled, own_value_unfilled}
 use Rattle.prims.specs.Begun.{takes_by_others, filled_more}
 use Rattle.prims.specs.ScxKnown.{job_of, FillMade, HasFilled, scx_answers, IsFilled, IsFilledThen, scx_turn, scx_told_at, fill_step, part_at}
-use Rattle.prims.specs.ScxTurns.{turn_fill, turn_member, turn_seen, begin_help, done_at, lost_at}
+use Rattle.prims.specs.ScxTurns.{turn_start as scx_start, turn_plan, turn_new, turn_old, turn_member, turn_seen, begin_help, done_at, lost_at}
 use Rattle.prims.specs.PutKnown.{HasValue, IsFirstPut, put_step, put_waits, put_waits_at, put_answers}
 use Rattle.prims.specs.PutTurns.{turn_start, turn_scx}
 use Rattle.prims.specs.PutLaws.{put_made, value_more}
@@ -53,13 +53,10 @@ module _ (allows : Layout → History → ℕ → Type 0) (c : Call) (ps : List 
     is = x.is;
     sound = x.sound;
     so = (
-      (t.0, turn_fill allows c _ first.scx AtPlan (scx_at first AtPlan).scx (Ask _) t.2 t.3 tt (λ part p. absurd (none part p)) (λ s y. y) record { stands = refl; asked = refl }),
+      (t.0, scx_start allows c _ first.scx (scx_at first AtPlan).scx (Ask _) t.2 t.3 record { stands = refl; asked = refl }),
       goes_on (record first { at = AtFill }) (refl, refl, refl, refl) x.so.1,
     );
   }
-    where
-      none : (part : ScxWord) → IsFilled (length first.scx.update.snaps) AtPlan part → ⊥
-      none part p = p
 
   -- one fill after another
   fills : (m : PutRun) (A B : ScxAt) (v : ℕ) (step : Step) → ((h : History) → scx_told_at allows c h (job_of m.scx) A v → FillMade allows c h (job_of m.scx) A) → ((h : History) → FillMade allows c h (job_of m.scx) A → scx_turn allows c h (scx_at m B).scx (Ask step)) → PutTold allows c ps first (scx_at m A) v → PutWaits allows c ps first (scx_at m B) step
@@ -71,29 +68,13 @@ module _ (allows : Layout → History → ℕ → Type 0) (c : Call) (ps : List 
   }
 
   pub to_new : (m : PutRun) (v : ℕ) → PutTold allows c ps first (scx_at m AtPlan) v → PutWaits allows c ps first (scx_at m AtNew) (fill_of m New m.scx.update.fresh.0)
-  to_new m v = fills m AtPlan AtNew v _ (λ h x. x) (λ h x. turn_fill allows c h (scx_at m AtPlan).scx AtNew (scx_at m AtNew).scx (Ask _) x.hand x.way tt (λ part p. x.filled part (filled part p)) (λ s y. y) record { stands = refl; asked = refl })
-    where
-      filled : (part : ScxWord) → IsFilled (length m.scx.update.snaps) AtNew part → IsFilledThen (length m.scx.update.snaps) AtPlan part
-      filled Plan p = tt
-      filled _ p = absurd p
+  to_new m v = fills m AtPlan AtNew v _ (λ h x. x) (λ h x. turn_plan allows c h (scx_at m AtPlan).scx (scx_at m AtNew).scx (Ask _) x record { stands = refl; asked = refl })
 
   pub to_old : (m : PutRun) (v : ℕ) → PutTold allows c ps first (scx_at m AtNew) v → PutWaits allows c ps first (scx_at m AtOld) (fill_of m Old m.scx.update.old.0)
-  to_old m v = fills m AtNew AtOld v _ (λ h x. x) (λ h x. turn_fill allows c h (scx_at m AtNew).scx AtOld (scx_at m AtOld).scx (Ask _) x.hand x.way tt (λ part p. x.filled part (filled part p)) (λ s y. y) record { stands = refl; asked = refl })
-    where
-      filled : (part : ScxWord) → IsFilled (length m.scx.update.snaps) AtOld part → IsFilledThen (length m.scx.update.snaps) AtNew part
-      filled Plan p = tt
-      filled New p = tt
-      filled _ p = absurd p
+  to_old m v = fills m AtNew AtOld v _ (λ h x. x) (λ h x. turn_new allows c h (scx_at m AtNew).scx (scx_at m AtOld).scx (Ask _) x record { stands = refl; asked = refl })
 
   pub to_member : (m : PutRun) (v : ℕ) → PutTold allows c ps first (scx_at m AtOld) v → PutWaits allows c ps first (scx_at m (AtMember First)) (fill_of m (Member 0) (snap_at m.scx.update.snaps 0).node.0)
-  to_member m v = fills m AtOld (AtMember First) v _ (λ h x. x) (λ h x. turn_fill allows c h (scx_at m AtOld).scx (AtMember First) (scx_at m (AtMember First)).scx (Ask _) x.hand x.way (rw (sym x.hand.update.count) x.hand.update.planned.some) (λ part p. x.filled part (filled part p)) (λ s y. y) record { stands = refl; asked = refl })
-    where
-      filled : (part : ScxWord) → IsFilled (length m.scx.update.snaps) (AtMember First) part → IsFilledThen (length m.scx.update.snaps) AtOld part
-      filled Plan p = tt
-      filled New p = tt
-      filled Old p = tt
-      filled (Member i) p = absurd (omega arith)
-      filled _ p = absurd p
+  to_member m v = fills m AtOld (AtMember First) v _ (λ h x. x) (λ h x. turn_old allows c h (scx_at m AtOld).scx (scx_at m (AtMember First)).scx (Ask _) x record { stands = refl; asked = refl })
 
   pub next_member : (m : PutRun) (j next : MemberNo) (v : ℕ) → index_of next ≡ suc (index_of j) → index_of next < planned m.scx.update.plan.0 → PutTold allows c ps first (scx_at m (AtMember j)) v → PutWaits allows c ps first (scx_at m (AtMember next)) (fill_of m (Member (index_of next)) (snap_at m.scx.update.snaps (index_of next)).node.0)
   next_member m j next v is within = fills m (AtMember j) (AtMember next) v _ (λ h x. x) (λ h x. turn_member allows c h (scx_at m (AtMember j)).scx j (scx_at m (AtMember next)).scx (Ask _) x (inl record { next = next; is = is; within = within; fills = record { stands = refl; asked = refl } }))

@@ -35,7 +35,7 @@ use Rattle.prims.specs.ScxKnown.{job_of, IsUpdateOver, IsUnderWay, HasFilled, Is
 use Rattle.prims.specs.declared.scx.ScxRun.{ScxRun}
 use Rattle.prims.specs.declared.scx.Scx.{Scx}
 use Rattle.prims.specs.declared.scx.ScxAt.{ScxAt}
-use Rattle.prims.specs.declared.scx.ScxAt.TheVariants.{Start, Member as AtMember, Seen as AtSeen, Call as AtCall}
+use Rattle.prims.specs.declared.scx.ScxAt.TheVariants.{Start, Plan as AtPlan, New as AtNew, Old as AtOld, Member as AtMember, Seen as AtSeen, Call as AtCall}
 
 three : (a : ℕ) → (a < 3) ⊎ (3 ≤ a)
 three a = grind arith
@@ -45,9 +45,41 @@ not_less a b d = grind arith
 
 module _ (allows : Layout → History → ℕ → Type 0) (c : Call) (h : History) (m : ScxRun) where
   -- the next word is filled
-  pub turn_fill : (at : ScxAt) (now : ScxRun) (turn : Turn Scx) → InHand allows c.layout c.pass h (job_of m) → IsUnderWay c h m.scx.0 m.update.snaps → IsWithin (length m.update.snaps) at → Holds h (job_of m) (IsFilled (length m.update.snaps) at)
+  turn_fill : (at : ScxAt) (now : ScxRun) (turn : Turn Scx) → InHand allows c.layout c.pass h (job_of m) → IsUnderWay c h m.scx.0 m.update.snaps → IsWithin (length m.update.snaps) at → Holds h (job_of m) (IsFilled (length m.update.snaps) at)
       → ((s : _) → FillWaits allows c h (job_of m) at s → scx_waits_at allows c h (job_of m) at s) → FillsAt m now turn at → scx_turn allows c h now turn
   turn_fill at now turn x y i f w a = rw (a.asked, a.stands) (w _ record { fills = record { hand = x; way = y; within = i; filled = f }; asked = refl })
+
+  -- the plan, the fresh node and what the field holds are filled first, and then the nodes
+  pub turn_start : (now : ScxRun) (turn : Turn Scx) → InHand allows c.layout c.pass h (job_of m) → IsUnderWay c h m.scx.0 m.update.snaps → FillsAt m now turn AtPlan → scx_turn allows c h now turn
+  turn_start now turn x y a = turn_fill AtPlan now turn x y tt (λ part p. absurd (none part p)) (λ s y. y) a
+    where
+      none : (part : ScxWord) → IsFilled (length m.update.snaps) AtPlan part → ⊥
+      none part p = p
+
+  pub turn_plan : (now : ScxRun) (turn : Turn Scx) → FillMade allows c h (job_of m) AtPlan → FillsAt m now turn AtNew → scx_turn allows c h now turn
+  turn_plan now turn x a = turn_fill AtNew now turn x.hand x.way tt (λ part p. x.filled part (filled part p)) (λ s y. y) a
+    where
+      filled : (part : ScxWord) → IsFilled (length m.update.snaps) AtNew part → IsFilledThen (length m.update.snaps) AtPlan part
+      filled Plan p = tt
+      filled _ p = absurd p
+
+  pub turn_new : (now : ScxRun) (turn : Turn Scx) → FillMade allows c h (job_of m) AtNew → FillsAt m now turn AtOld → scx_turn allows c h now turn
+  turn_new now turn x a = turn_fill AtOld now turn x.hand x.way tt (λ part p. x.filled part (filled part p)) (λ s y. y) a
+    where
+      filled : (part : ScxWord) → IsFilled (length m.update.snaps) AtOld part → IsFilledThen (length m.update.snaps) AtNew part
+      filled Plan p = tt
+      filled New p = tt
+      filled _ p = absurd p
+
+  pub turn_old : (now : ScxRun) (turn : Turn Scx) → FillMade allows c h (job_of m) AtOld → FillsAt m now turn (AtMember First) → scx_turn allows c h now turn
+  turn_old now turn x a = turn_fill (AtMember First) now turn x.hand x.way (rw (sym x.hand.update.count) x.hand.update.planned.some) (λ part p. x.filled part (filled part p)) (λ s y. y) a
+    where
+      filled : (part : ScxWord) → IsFilled (length m.update.snaps) (AtMember First) part → IsFilledThen (length m.update.snaps) AtOld part
+      filled Plan p = tt
+      filled New p = tt
+      filled Old p = tt
+      filled (Member i) p = absurd (omega arith)
+      filled _ p = absurd p
 
   fewer : IsUpdateOver m.update → (j : ℕ) → j < count_of m.update.plan.0 → j < length m.update.snaps
   fewer u j i = rw u.count at i
