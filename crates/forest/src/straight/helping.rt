@@ -208,7 +208,9 @@ pub(crate) fn call<S: Shape>(
             word: Word::Scx(run.scx, ScxWord::AllFrozen),
             deed: Deed::Load,
         });
-        return complete::<S, HelpRun>(words, layout, seat, number, run, turn);
+        // A copy, so that the layout above, which is not handed out of line, stays in registers.
+        let layout = *layout;
+        return complete::<S, HelpRun>(words, &layout, seat, number, run, turn);
     }
     let flag = Step {
         kind: Kind::SetFrozen,

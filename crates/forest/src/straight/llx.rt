@@ -113,11 +113,10 @@ pub(crate) fn call<S: Shape>(
     if last != scx.0 {
         return hand_over(words, layout, seat, number, node, marked, scx);
     }
-    let (left, right) = (NodeNo(left), NodeNo(right));
     Llx::Snapshot(Snap {
         node,
         scx,
-        left,
-        right,
+        left: NodeNo(left),
+        right: NodeNo(right),
     })
 }
