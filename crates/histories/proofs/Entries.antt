@@ -8,12 +8,14 @@ use Rattle.arena.specs.ScxRecords.{plan, removes, side_of, count, member}
 use Rattle.arena.specs.Fills.{IsNamedScx}
 use Rattle.arena.specs.Lawful.{HasWon, Lawful}
 use Rattle.arena.specs.Log.{Entry, owner, log, members_from, removed_from, has, is_final, IsEntered, AreOnce}
+use Rattle.histories.specs.Descriptor.{Descriptor, descriptor, many, place}
+use Rattle.histories.specs.Finalizing.{IsRemoved}
 use Rattle.histories.proofs.Changes.{lawful_tail}
-use Rattle.histories.proofs.Facts.{Descriptor, descriptor, many, place, IsFlagged, Facts, won_more, some_is_real}
+use Rattle.histories.proofs.Facts.{IsFlagged, Facts, won_more, some_is_real}
 use Rattle.histories.proofs.Updates.{update_is_first, update_split, update_won, update_flagged}
 use Rattle.histories.proofs.Always.{facts_before}
 use Rattle.histories.proofs.Moments.{descriptor_stays}
-use Rattle.histories.proofs.Members.{IsRemoved, has_removed, is_removed_of}
+use Rattle.histories.proofs.Members.{has_removed, is_removed_of}
 use Rattle.histories.proofs.Fields.{entry_of, Logs, same, wins, logs}
 
 -- an SCX-record whose update has won is named

@@ -13,13 +13,14 @@ use Rattle.arena.specs.Lawful.{HasWon, Lawful}
 use Rattle.arena.specs.Log.{log, is_final}
 use Rattle.arena.specs.Finalized.{IsFinalized}
 use Rattle.arena.specs.Blame.{IsMember}
+use Rattle.histories.specs.Finalizing.{IsFinalizing, IsRemoved}
+use Rattle.histories.specs.Descriptor.{descriptor}
 use Rattle.histories.proofs.Changes.{UpdateWins, lawful_tail}
 use Rattle.histories.proofs.Updates.{update_is_first}
 use Rattle.histories.proofs.Lasts.{holds_member}
-use Rattle.histories.proofs.Facts.{descriptor, IsEnded, IsFlagged, IsMarker, Facts, member_named, flagged_about}
+use Rattle.histories.proofs.Facts.{IsEnded, IsFlagged, IsMarker, Facts, member_named, flagged_about}
 use Rattle.histories.proofs.Always.{facts, facts_before}
 use Rattle.histories.proofs.Moments.{state_stays, marked_stays, node_stays, still, sealed, since}
-use Rattle.histories.proofs.Members.{IsRemoved}
 use Rattle.histories.proofs.Entries.{won_named, IsFinalizedBy, finalized_by_stays, final_by, by_final}
 
 flag_set : {lay : Layout} {h : History} (s : ℕ) → Facts lay h → HasWon h s → value h (scx s AllFrozen) ≢ 0
@@ -37,10 +38,6 @@ pub one_finalizer : {lay : Layout} {h : History} {n s u : ℕ} → Facts lay h �
 one_finalizer f x y = sym (finalizer_holds f x) ∙ finalizer_holds f y
 
 -- an SCX-record whose flag is set holds what it finalizes, so a node has one of them too
-pub record IsFinalizing (h : History) (n s : ℕ) : Type 0 where
-  pub flag : value h (scx s AllFrozen) ≡ 1
-  pub removed : IsRemoved h s n
-
 pub finalizing_holds : {lay : Layout} {h : History} {n s : ℕ} → Facts lay h → IsFinalizing h n s → value h (info n) ≡ s
 finalizing_holds {lay} {h} {n} {s} f x = rw x.removed.is at (f.finalizes s (λ e. let y = x.flag in omega arith) x.removed.index x.removed.within x.removed.removed)
 
