@@ -114,6 +114,14 @@ entered_won lay (r ⊳ h) s l i = go (logs lay h r l) (entered_won lay h s (lawf
         split (inl q) = rw q at (update_won (facts_before lay h r l) x)
         split (inr j) = won_more r h s (more j)
 
+-- an SCX-record whose update has won has an entry
+pub won_entered : (lay : Layout) (h : History) (s : ℕ) → Lawful lay h → HasWon h s → IsEntered (log lay h) s
+won_entered lay h s l w = entered (entry_of lay h s) (log lay h) (won_is_in lay h s l w)
+  where
+    entered : (e : Entry) (es : List Entry) → IsIn e es → IsEntered es e.scx
+    entered e _ (newest es) = inl refl
+    entered e _ (older x es i) = inr (entered e es i)
+
 -- no SCX-record has two entries
 pub once : (lay : Layout) (h : History) → Lawful lay h → AreOnce (log lay h)
 once lay (Start mode) l = rw (empty_log lay mode) tt

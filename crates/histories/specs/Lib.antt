@@ -6,3 +6,4 @@ pub mod Progress
 pub mod Begins
 pub mod Finalizing
 pub mod Unmentioned
+pub mod Laws
