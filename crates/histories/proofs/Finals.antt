@@ -1,4 +1,4 @@
--- Finalized nodes: they never change; at rest a node is final where it is marked, and only there.
+-- Final nodes: at rest a node is final where it is marked, and only there; it stays final, and never changes again.
 use Rattle.std.proofs.Common.{◌≡◌, ◌≢◌, ℕ, Bool, true, false, inl, inr, ⊎_elim, refl, sym, ◌∙◌, arith}
 use native.Mathlib.Decide.{ℕ_discrete}
 use Rattle.arena.specs.declared.layout.Layout.{Layout}
@@ -117,7 +117,15 @@ win_not_final lay h r u n l w x = go (is_final (log lay h) n) refl
         let q : y.0 ≡ u = sym (finalizer_holds f y.1) ∙ holds_member f w x in
         absurd (update_is_first f w (rw q at y.1.won))
 
--- Final nodes never change
+-- Final nodes stay final, and never change
+
+pub final_stays : (lay : Layout) (h : History) (r : Row) (n : ℕ) → Lawful lay (r ⊳ h) → is_final (log lay h) n ≡ true → is_final (log lay (r ⊳ h)) n ≡ true
+final_stays lay h r n l e =
+    let by : (s : ℕ) × IsFinalizedBy h n s = final_by lay h n (lawful_tail lay h r l) e in
+    by_final lay (r ⊳ h) n by.0 l (finalized_by_stays lay h r n by.0 l by.1)
+
+pub final_since : (lay : Layout) (h m : History) (n : ℕ) → Lawful lay h → EndsWith h m → is_final (log lay m) n ≡ true → is_final (log lay h) n ≡ true
+final_since lay h m n = since (λ k. is_final (log lay k) n ≡ true) lay (λ h r l e. final_stays lay h r n l e) h m
 
 -- no lawful row changes a word of a final node
 pub final_unchanged : (lay : Layout) (h : History) (r : Row) (n : ℕ) (part : NodeWord) → Lawful lay (r ⊳ h) → is_final (log lay h) n ≡ true → value (r ⊳ h) (node n part) ≡ value h (node n part)
@@ -157,14 +165,9 @@ final_unchanged lay h r n part l e = go part
     go Info = sealed lay h r n by.0 l (λ z. let y = mark in omega arith) held ∙ sym held
     go Marked = marked_stays lay h r n l mark ∙ sym mark
 
-pub final_stays : (lay : Layout) (h : History) (r : Row) (n : ℕ) → Lawful lay (r ⊳ h) → is_final (log lay h) n ≡ true → is_final (log lay (r ⊳ h)) n ≡ true
-final_stays lay h r n l e =
-    let by : (s : ℕ) × IsFinalizedBy h n s = final_by lay h n (lawful_tail lay h r l) e in
-    by_final lay (r ⊳ h) n by.0 l (finalized_by_stays lay h r n by.0 l by.1)
-
 -- nor do any later rows
-pub final_since : (lay : Layout) (h m : History) (n : ℕ) (part : NodeWord) → Lawful lay h → EndsWith h m → is_final (log lay m) n ≡ true → value h (node n part) ≡ value m (node n part)
-final_since lay h m n part l e x =
+pub final_unchanged_since : (lay : Layout) (h m : History) (n : ℕ) (part : NodeWord) → Lawful lay h → EndsWith h m → is_final (log lay m) n ≡ true → value h (node n part) ≡ value m (node n part)
+final_unchanged_since lay h m n part l e x =
     (since (λ k. (is_final (log lay k) n ≡ true) × (value k (node n part) ≡ value m (node n part))) lay (λ h r l y. (final_stays lay h r n l y.0, final_unchanged lay h r n part l y.0 ∙ y.1)) h m l e (x, refl)).1
 
 -- a node that a committed SCX-record finalizes is final
@@ -179,4 +182,4 @@ finalized_final lay h n l x = go (f.ended x.scx (λ e. let y = x.committed in om
     go (inr y) = absurd (let a = y.0 in let b = x.committed in omega arith)
 
 pub finalized_since : (lay : Layout) (h m : History) (n : ℕ) (part : NodeWord) → Lawful lay h → EndsWith h m → IsFinalized m n → value h (node n part) ≡ value m (node n part)
-finalized_since lay h m n part l e x = final_since lay h m n part l e (finalized_final lay m n (lawful_since lay h m l e) x)
+finalized_since lay h m n part l e x = final_unchanged_since lay h m n part l e (finalized_final lay m n (lawful_since lay h m l e) x)
