@@ -2,38 +2,21 @@
 use Rattle.std.proofs.Common.{◌≡◌, ◌≢◌, ℕ, ◌<◌, inl, ⊎_elim, sym, ◌∙◌, arith, subst}
 use native.Mathlib.Decide.{ℕ_discrete}
 use Rattle.arena.specs.declared.layout.Layout.{Layout}
-use Rattle.arena.specs.declared.word.Side.{Side}
 use Rattle.arena.specs.declared.word.ScxWord.{ScxWord}
 use Rattle.arena.specs.declared.word.ScxWord.TheVariants.{State, AllFrozen, New}
 use Rattle.arena.specs.declared.step.Row.{Row}
-use Rattle.arena.specs.Layout.{all_nodes}
-use Rattle.arena.specs.Words.{scx, info, marked, child, state}
-use Rattle.arena.specs.History.{History, ◌⊳◌, value, HasHeld}
-use Rattle.arena.specs.ScxRecords.{IsPlan, count, member, seen, new}
-use Rattle.arena.specs.Fills.{IsOwnNode, IsOwnScx, IsNamed, IsNamedScx}
+use Rattle.arena.specs.Words.{scx, info, state}
+use Rattle.arena.specs.History.{History, ◌⊳◌, value}
+use Rattle.arena.specs.ScxRecords.{count, member, seen, new}
+use Rattle.arena.specs.Fills.{IsOwnScx, IsNamed, IsNamedScx}
 use Rattle.arena.specs.Lawful.{IsExchange, MayBegin, IsFreeze, IsAbort, Lawful}
-use Rattle.histories.proofs.Facts.{Descriptor, descriptor, many, place, spot, IsFlagged, descriptor_same}
+use Rattle.histories.specs.Begins.{Begins}
+use Rattle.histories.specs.Descriptor.{descriptor, place}
+use Rattle.histories.proofs.Facts.{IsFlagged, descriptor_same}
 use Rattle.histories.proofs.Always.{facts}
 use Rattle.histories.proofs.Moments.{Still, still, finished_stays, named_more}
 use Rattle.histories.proofs.Owners.{stays_free, own_words_stay}
 use Rattle.histories.proofs.Unnamed.{stays_unnamed, field_back, word_back}
-
--- s is ready for its first freezing exchange, by its owner c
-pub record Begins (lay : Layout) (d : Descriptor) (h : History) (c s : ℕ) : Type 0 where
-  pub own : IsOwnScx lay c s
-  pub free : ¬ IsNamedScx h s
-  pub unfinished : value h (state s) ≡ 0
-  pub planned : IsPlan d.plan
-  pub inside : (j : ℕ) → j < many d → d.member j < all_nodes lay
-  pub distinct : (j k : ℕ) → j < many d → k < many d → j ≢ k → d.member j ≢ d.member k
-  pub named : (j : ℕ) → j < many d → IsNamed lay h (d.member j)
-  pub rest : (j : ℕ) → j < many d → value h (state (d.seen j)) ≢ 0
-  pub unmarked : (j : ℕ) → j < many d → value h (info (d.member j)) ≡ d.seen j → value h (marked (d.member j)) ≡ 0
-  pub shows : value h (info (d.member (place d))) ≡ d.seen (place d) → value h (spot d) ≡ d.old
-  pub new_own : IsOwnNode lay c d.new
-  pub new_unnamed : ¬ IsNamed lay h d.new
-  pub new_in_no_field : (n : ℕ) (side : Side) → ¬ HasHeld h (child n side) d.new
-  pub new_in_no_other : (u : ℕ) → u ≢ s → ¬ HasHeld h (scx u New) d.new
 
 pub begins_kept : (lay : Layout) (h : History) (r : Row) (c s : ℕ) → Lawful lay (r ⊳ h) → c < lay.passes → r.pass.0 ≢ c → Begins lay (descriptor h s) h c s → Begins lay (descriptor (r ⊳ h) s) (r ⊳ h) c s
 begins_kept lay h r c s l is_pass other b = subst (λ d. Begins lay d (r ⊳ h) c s) (sym same) record {

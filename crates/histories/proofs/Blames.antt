@@ -14,14 +14,16 @@ use Rattle.arena.specs.Log.{log, is_final, has}
 use Rattle.arena.specs.Blame.{IsMember, WasInTheWay}
 use Rattle.arena.proofs.Values.{value_apart, value_other, held_at, held_now, held_more}
 use Rattle.arena.proofs.SameWords.{word_same}
+use Rattle.histories.specs.Descriptor.{descriptor}
+use Rattle.histories.specs.Finalizing.{IsRemoved}
 use Rattle.histories.proofs.Changes.{lawful_tail}
-use Rattle.histories.proofs.Facts.{descriptor, IsCell, Facts, some_is_real}
+use Rattle.histories.proofs.Facts.{IsCell, Facts, some_is_real}
 use Rattle.histories.proofs.Keeps.{Marks}
 use Rattle.histories.proofs.Freezes.{freeze_in_progress, freeze_keeps_scx, freeze_keeps_info, freeze_keeps_mark, freeze_stores, freeze_real}
 use Rattle.histories.proofs.Updates.{update_in_progress, update_keeps_scx, update_keeps_info, update_keeps_mark, update_flagged}
 use Rattle.histories.proofs.Always.{Effect, quiet, freeze, update, effect, facts, facts_before}
 use Rattle.histories.proofs.Moments.{descriptor_stays, named_scx_more, sealed}
-use Rattle.histories.proofs.Members.{IsRemoved, is_removed_of}
+use Rattle.histories.proofs.Members.{is_removed_of}
 use Rattle.histories.proofs.Fields.{entry_of, Logs, same, wins, logs}
 use Rattle.histories.proofs.Entries.{removed_stays}
 

@@ -8,12 +8,14 @@ use Rattle.arena.specs.ScxRecords.{plan, removes, side_of, count, member}
 use Rattle.arena.specs.Fills.{IsNamedScx}
 use Rattle.arena.specs.Lawful.{HasWon, Lawful}
 use Rattle.arena.specs.Log.{Entry, owner, log, members_from, removed_from, has, is_final, IsEntered, AreOnce}
+use Rattle.histories.specs.Descriptor.{Descriptor, descriptor, many, place}
+use Rattle.histories.specs.Finalizing.{IsRemoved}
 use Rattle.histories.proofs.Changes.{lawful_tail}
-use Rattle.histories.proofs.Facts.{Descriptor, descriptor, many, place, IsFlagged, Facts, won_more, some_is_real}
+use Rattle.histories.proofs.Facts.{IsFlagged, Facts, won_more, some_is_real}
 use Rattle.histories.proofs.Updates.{update_is_first, update_split, update_won, update_flagged}
 use Rattle.histories.proofs.Always.{facts_before}
 use Rattle.histories.proofs.Moments.{descriptor_stays}
-use Rattle.histories.proofs.Members.{IsRemoved, has_removed, is_removed_of}
+use Rattle.histories.proofs.Members.{has_removed, is_removed_of}
 use Rattle.histories.proofs.Fields.{entry_of, Logs, same, wins, logs}
 
 -- an SCX-record whose update has won is named
@@ -111,6 +113,14 @@ entered_won lay (r ⊳ h) s l i = go (logs lay h r l) (entered_won lay h s (lawf
         split : (u ≡ s) ⊎ IsEntered (log lay h) s → HasWon (r ⊳ h) s
         split (inl q) = rw q at (update_won (facts_before lay h r l) x)
         split (inr j) = won_more r h s (more j)
+
+-- an SCX-record whose update has won has an entry
+pub won_entered : (lay : Layout) (h : History) (s : ℕ) → Lawful lay h → HasWon h s → IsEntered (log lay h) s
+won_entered lay h s l w = entered (entry_of lay h s) (log lay h) (won_is_in lay h s l w)
+  where
+    entered : (e : Entry) (es : List Entry) → IsIn e es → IsEntered es e.scx
+    entered e _ (newest es) = inl refl
+    entered e _ (older x es i) = inr (entered e es i)
 
 -- no SCX-record has two entries
 pub once : (lay : Layout) (h : History) → Lawful lay h → AreOnce (log lay h)

@@ -10,49 +10,17 @@ use Rattle.arena.specs.declared.step.Row.{Row}
 use Rattle.arena.specs.Layout.{all_nodes}
 use Rattle.arena.specs.Words.{scx, info, marked, child, state}
 use Rattle.arena.specs.History.{History, ◌⊳◌, value, HasHeld}
-use Rattle.arena.specs.ScxRecords.{IsPlan, count_of, removes, index_of, side_of, plan, member, seen, new, old}
+use Rattle.arena.specs.ScxRecords.{IsPlan, removes, plan, member}
 use Rattle.arena.specs.Fills.{IsOwnNode, IsOwnScx, IsNamed, by_scx}
 use Rattle.arena.specs.Lawful.{IsWin, HasWon}
 use Rattle.arena.proofs.Values.{held_now}
+use Rattle.histories.specs.Descriptor.{Descriptor, descriptor, many, place, spot}
+use Rattle.histories.specs.Progress.{Froze, IsStuck}
 use Rattle.histories.proofs.Changes.{IsScxFill}
-
--- the settled words of an SCX-record, apart from the history that they are read from
-pub record Descriptor : Type 0 where
-  pub plan : ℕ
-  pub member : ℕ → ℕ
-  pub seen : ℕ → ℕ
-  pub new : ℕ
-  pub old : ℕ
-  pub call : ℕ
-
-abbrev pub descriptor : History → ℕ → Descriptor
-descriptor h s = record { plan = plan h s; member = λ j. member h s j; seen = λ j. seen h s j; new = new h s; old = old h s; call = value h (scx s Call) }
-
-abbrev pub many : Descriptor → ℕ
-many d = count_of d.plan
-
--- which of its nodes has the field, and the field
-abbrev pub place : Descriptor → ℕ
-place d = index_of d.plan
-
-abbrev pub spot : Descriptor → Word
-spot d = child (d.member (place d)) (side_of d.plan)
-
--- s has frozen its j-th node
-abbrev pub Froze : Descriptor → History → ℕ → ℕ → Type 0
-Froze d h s j = HasHeld h (info (d.member j)) s
 
 -- it may still freeze its field's node, or holds it and is in progress
 abbrev pub IsLive : Descriptor → History → ℕ → Type 0
 IsLive d h s = (value h (info (d.member (place d))) ≡ d.seen (place d)) ⊎ (Froze d h s (place d) × (value h (state s) ≡ 0))
-
--- an SCX-record that can never freeze one of its nodes
-pub record IsStuck (d : Descriptor) (h : History) (s : ℕ) : Type 0 where
-  pub index : ℕ
-  pub within : index < many d
-  pub earlier : (i : ℕ) → i < index → Froze d h s i
-  pub unfrozen : ¬ Froze d h s index
-  pub passed : value h (info (d.member index)) ≢ d.seen index
 
 -- the pass whose share has the SCX-record and its new node
 pub record IsOwned (lay : Layout) (d : Descriptor) (s : ℕ) : Type 0 where

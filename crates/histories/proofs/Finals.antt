@@ -1,25 +1,30 @@
--- Finalized nodes: they never change; at rest a node is final where it is marked, and only there.
+-- Final nodes: at rest a node is final where it is marked, and only there; it stays final, and never changes again.
 use Rattle.std.proofs.Common.{◌≡◌, ◌≢◌, ℕ, Bool, true, false, inl, inr, ⊎_elim, refl, sym, ◌∙◌, arith}
 use native.Mathlib.Decide.{ℕ_discrete}
 use Rattle.arena.specs.declared.layout.Layout.{Layout}
+use Rattle.arena.specs.declared.word.Side.{Side}
 use Rattle.arena.specs.declared.word.NodeWord.{NodeWord}
 use Rattle.arena.specs.declared.word.NodeWord.TheVariants.{Head, Key, Value, Child, Info, Marked}
 use Rattle.arena.specs.declared.word.ScxWord.TheVariants.{AllFrozen}
 use Rattle.arena.specs.declared.step.Row.{Row}
-use Rattle.arena.specs.Words.{node, info, marked, scx, state}
+use Rattle.arena.specs.Words.{node, info, marked, scx, state, child}
 use Rattle.arena.specs.History.{History, ◌⊳◌, value, EndsWith}
 use Rattle.arena.specs.Fills.{IsNamed}
 use Rattle.arena.specs.Lawful.{HasWon, Lawful}
 use Rattle.arena.specs.Log.{log, is_final}
 use Rattle.arena.specs.Finalized.{IsFinalized}
 use Rattle.arena.specs.Blame.{IsMember}
+use Rattle.arena.specs.ScxRecords.{plan, side_of, field_index, member}
+use Rattle.arena.proofs.Values.{node_apart}
+use Rattle.histories.proofs.Freezes.{freeze_keeps_field}
+use Rattle.histories.specs.Finalizing.{IsFinalizing, IsRemoved}
+use Rattle.histories.specs.Descriptor.{descriptor}
 use Rattle.histories.proofs.Changes.{UpdateWins, lawful_tail}
-use Rattle.histories.proofs.Updates.{update_is_first}
+use Rattle.histories.proofs.Updates.{update_is_first, update_holds, update_keeps_other}
 use Rattle.histories.proofs.Lasts.{holds_member}
-use Rattle.histories.proofs.Facts.{descriptor, IsEnded, IsFlagged, IsMarker, Facts, member_named, flagged_about}
-use Rattle.histories.proofs.Always.{facts, facts_before}
-use Rattle.histories.proofs.Moments.{state_stays, marked_stays, node_stays, still, sealed, since}
-use Rattle.histories.proofs.Members.{IsRemoved}
+use Rattle.histories.proofs.Facts.{IsEnded, IsFlagged, IsMarker, Facts, member_named, flagged_about}
+use Rattle.histories.proofs.Always.{facts, facts_before, Effect, quiet, freeze, update, effect}
+use Rattle.histories.proofs.Moments.{lawful_since, marked_stays, node_stays, sealed, since}
 use Rattle.histories.proofs.Entries.{won_named, IsFinalizedBy, finalized_by_stays, final_by, by_final}
 
 flag_set : {lay : Layout} {h : History} (s : ℕ) → Facts lay h → HasWon h s → value h (scx s AllFrozen) ≢ 0
@@ -37,10 +42,6 @@ pub one_finalizer : {lay : Layout} {h : History} {n s u : ℕ} → Facts lay h �
 one_finalizer f x y = sym (finalizer_holds f x) ∙ finalizer_holds f y
 
 -- an SCX-record whose flag is set holds what it finalizes, so a node has one of them too
-pub record IsFinalizing (h : History) (n s : ℕ) : Type 0 where
-  pub flag : value h (scx s AllFrozen) ≡ 1
-  pub removed : IsRemoved h s n
-
 pub finalizing_holds : {lay : Layout} {h : History} {n s : ℕ} → Facts lay h → IsFinalizing h n s → value h (info n) ≡ s
 finalizing_holds {lay} {h} {n} {s} f x = rw x.removed.is at (f.finalizes s (λ e. let y = x.flag in omega arith) x.removed.index x.removed.within x.removed.removed)
 
@@ -116,59 +117,69 @@ win_not_final lay h r u n l w x = go (is_final (log lay h) n) refl
         let q : y.0 ≡ u = sym (finalizer_holds f y.1) ∙ holds_member f w x in
         absurd (update_is_first f w (rw q at y.1.won))
 
--- Finalized nodes never change
+-- Final nodes stay final, and never change
 
-finalized_by : {lay : Layout} {h : History} {n : ℕ} → Facts lay h → (x : IsFinalized h n) → IsFinalizedBy h n x.scx
-finalized_by {lay} {h} {n} f x = go (f.ended x.scx (λ e. let y = x.committed in omega arith))
-  where
-    go : IsEnded h x.scx (value h (state x.scx)) → IsFinalizedBy h n x.scx
-    go (inl y) = record { won = y.1; removed = record { index = x.index; within = x.within; is = x.is; removed = x.removed } }
-    go (inr y) = absurd (let a = y.0 in let b = x.committed in omega arith)
+pub final_stays : (lay : Layout) (h : History) (r : Row) (n : ℕ) → Lawful lay (r ⊳ h) → is_final (log lay h) n ≡ true → is_final (log lay (r ⊳ h)) n ≡ true
+final_stays lay h r n l e =
+    let by : (s : ℕ) × IsFinalizedBy h n s = final_by lay h n (lawful_tail lay h r l) e in
+    by_final lay (r ⊳ h) n by.0 l (finalized_by_stays lay h r n by.0 l by.1)
 
-pub finalized_stays : (lay : Layout) (h : History) (r : Row) (n : ℕ) → Lawful lay (r ⊳ h) → IsFinalized h n → IsFinalized (r ⊳ h) n
-finalized_stays lay h r n l x =
-    let f : Facts lay h = facts_before lay h r l in
-    let y : IsFinalizedBy (r ⊳ h) n x.scx = finalized_by_stays lay h r n x.scx l (finalized_by f x) in
-    record {
-      scx = x.scx;
-      committed = state_stays lay h r x.scx l (λ e. let a = x.committed in omega arith) ∙ x.committed;
-      index = y.removed.index;
-      within = y.removed.within;
-      is = y.removed.is;
-      removed = y.removed.removed;
-    }
+pub final_since : (lay : Layout) (h m : History) (n : ℕ) → Lawful lay h → EndsWith h m → is_final (log lay m) n ≡ true → is_final (log lay h) n ≡ true
+final_since lay h m n = since (λ k. is_final (log lay k) n ≡ true) lay (λ h r l e. final_stays lay h r n l e) h m
 
--- no lawful row changes a word of a finalized node
-pub finalized_unchanged : (lay : Layout) (h : History) (r : Row) (n : ℕ) (part : NodeWord) → Lawful lay (r ⊳ h) → IsFinalized h n → value (r ⊳ h) (node n part) ≡ value h (node n part)
-finalized_unchanged lay h r n part l x = go part
+-- no lawful row changes a word of a final node
+pub final_unchanged : (lay : Layout) (h : History) (r : Row) (n : ℕ) (part : NodeWord) → Lawful lay (r ⊳ h) → is_final (log lay h) n ≡ true → value (r ⊳ h) (node n part) ≡ value h (node n part)
+final_unchanged lay h r n part l e = go part
   where
     f : Facts lay h
     f = facts_before lay h r l
 
-    by : IsFinalizedBy h n x.scx
-    by = finalized_by f x
+    by : (s : ℕ) × IsFinalizedBy h n s
+    by = final_by lay h n (lawful_tail lay h r l) e
 
     mark : value h (marked n) ≡ 1
-    mark = finalized_marked f by
+    mark = finalized_marked f by.1
 
-    held : value h (info n) ≡ x.scx
-    held = finalizer_holds f by
-
-    held_then : value (r ⊳ h) (info n) ≡ x.scx
-    held_then = sealed lay h r n x.scx l (λ e. let y = mark in omega arith) held
+    held : value h (info n) ≡ by.0
+    held = finalizer_holds f by.1
 
     named : IsNamed lay h n
-    named = rw x.is at (member_named lay h x.scx _ x.index (won_named x.scx f by.won).1)
+    named = rw by.1.removed.is at (member_named lay h by.0 _ by.1.removed.index (won_named by.0 f by.1.won).1)
+
+    field : (side : Side) → Effect lay h r → value (r ⊳ h) (child n side) ≡ value h (child n side)
+    field side (quiet k) = k.node n (Child side) tt named
+    field side (freeze u j w) = freeze_keeps_field f w n side
+    field side (update u w) = other (ℕ_discrete (member h u (field_index h u)) n)
+      where
+        other : Dec (member h u (field_index h u) ≡ n) → value (r ⊳ h) (child n side) ≡ value h (child n side)
+        other (no p) = update_keeps_other f w (child n side) (node_apart (member h u (field_index h u)) n (Child (side_of (plan h u))) (Child side) p)
+        other (yes p) =
+            let q : by.0 ≡ u = sym held ∙ rw p at (update_holds f w) in
+            absurd (update_is_first f w (rw q at by.1.won))
 
     go : (part : NodeWord) → value (r ⊳ h) (node n part) ≡ value h (node n part)
     go Head = node_stays lay h r n Head l tt named
     go Key = node_stays lay h r n Key l tt named
     go Value = node_stays lay h r n Value l tt named
-    go (Child side) = (still lay h r n x.scx l named (λ e. let a = x.committed in omega arith) held_then).fields side
-    go Info = held_then ∙ sym held
+    go (Child side) = field side (effect lay h r l)
+    go Info = sealed lay h r n by.0 l (λ z. let y = mark in omega arith) held ∙ sym held
     go Marked = marked_stays lay h r n l mark ∙ sym mark
 
 -- nor do any later rows
+pub final_unchanged_since : (lay : Layout) (h m : History) (n : ℕ) (part : NodeWord) → Lawful lay h → EndsWith h m → is_final (log lay m) n ≡ true → value h (node n part) ≡ value m (node n part)
+final_unchanged_since lay h m n part l e x =
+    (since (λ k. (is_final (log lay k) n ≡ true) × (value k (node n part) ≡ value m (node n part))) lay (λ h r l y. (final_stays lay h r n l y.0, final_unchanged lay h r n part l y.0 ∙ y.1)) h m l e (x, refl)).1
+
+-- a node that a committed SCX-record finalizes is final
+pub finalized_final : (lay : Layout) (h : History) (n : ℕ) → Lawful lay h → IsFinalized h n → is_final (log lay h) n ≡ true
+finalized_final lay h n l x = go (f.ended x.scx (λ e. let y = x.committed in omega arith))
+  where
+    f : Facts lay h
+    f = facts lay h l
+
+    go : IsEnded h x.scx (value h (state x.scx)) → is_final (log lay h) n ≡ true
+    go (inl y) = by_final lay h n x.scx l record { won = y.1; removed = record { index = x.index; within = x.within; is = x.is; removed = x.removed } }
+    go (inr y) = absurd (let a = y.0 in let b = x.committed in omega arith)
+
 pub finalized_since : (lay : Layout) (h m : History) (n : ℕ) (part : NodeWord) → Lawful lay h → EndsWith h m → IsFinalized m n → value h (node n part) ≡ value m (node n part)
-finalized_since lay h m n part l e x =
-    (since (λ k. IsFinalized k n × (value k (node n part) ≡ value m (node n part))) lay (λ h r l y. (finalized_stays lay h r n l y.0, finalized_unchanged lay h r n part l y.0 ∙ y.1)) h m l e (x, refl)).1
+finalized_since lay h m n part l e x = final_unchanged_since lay h m n part l e (finalized_final lay m n (lawful_since lay h m l e) x)

@@ -14,8 +14,10 @@ use Rattle.arena.specs.History.{History, ◌⊳◌, value, HasHeld}
 use Rattle.arena.specs.ScxRecords.{IsPlan, removes, plan, count, field_index, member, seen, new, old, field}
 use Rattle.arena.specs.Lawful.{IsFrozen, MayBegin, HasWon}
 use Rattle.arena.proofs.Values.{value_at, value_apart, held_at, held_more, held_split, held_back, node_word_apart, node_apart}
+use Rattle.histories.specs.Descriptor.{descriptor, many}
+use Rattle.histories.specs.Progress.{IsStuck}
 use Rattle.histories.proofs.Changes.{FreezeWins}
-use Rattle.histories.proofs.Facts.{descriptor, many, IsLive, IsStuck, IsOwned, About, IsCell, IsFlagged, IsMarker, Holds, AllMarked, IsEnded, Facts, descriptor_same, won_more, won_back, flagged_about}
+use Rattle.histories.proofs.Facts.{IsLive, IsOwned, About, IsCell, IsFlagged, IsMarker, Holds, AllMarked, IsEnded, Facts, descriptor_same, won_more, won_back, flagged_about}
 
 -- the first node of an SCX-record that has frozen any is frozen
 pub first_frozen : (h : History) (u n : ℕ) → HasHeld h (info n) u → IsCell (descriptor h u) h u n → IsFrozen h u 0

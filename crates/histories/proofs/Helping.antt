@@ -12,18 +12,15 @@ use Rattle.arena.specs.Fills.{IsNamedScx}
 use Rattle.arena.specs.Log.{log, IsEntered}
 use Rattle.arena.specs.Lawful.{IsExchange, IsFrozen, AreFrozen, AllAreFrozen, IsFreeze, IsSetFrozen, IsUpdate, IsAbort, HasWon, Lawful}
 use Rattle.arena.proofs.Values.{value_at, held_more, held_at, held_back}
+use Rattle.histories.specs.Progress.{IsStarted, IsOver, IsStuck}
+use Rattle.histories.specs.Descriptor.{descriptor}
 use Rattle.histories.proofs.Changes.{lawful_tail, lawful_row}
-use Rattle.histories.proofs.Facts.{descriptor, IsStuck, IsFlagged, IsEnded, About, Facts, won_more, flagged_about}
+use Rattle.histories.proofs.Facts.{IsFlagged, IsEnded, About, Facts, won_more, flagged_about}
 use Rattle.histories.proofs.Freezes.{first_frozen, freeze_stuck, freeze_is_new, freeze_finds}
 use Rattle.histories.proofs.Updates.{update_won, update_keeps_info, update_held}
 use Rattle.histories.proofs.Always.{Effect, quiet, freeze, update, effect, facts, facts_before}
 use Rattle.histories.proofs.Moments.{descriptor_stays, named_scx_more, state_stays, state_since}
 use Rattle.histories.proofs.Entries.{won_named, entered_won}
-
--- an SCX-record that an info word names, other than the dummy
-pub record IsStarted (h : History) (s : ℕ) : Type 0 where
-  pub real : s ≢ 0
-  pub named : IsNamedScx h s
 
 pub started_more : (r : Row) (h : History) (s : ℕ) → IsStarted h s → IsStarted (r ⊳ h) s
 started_more r h s x = record { real = x.real; named = named_scx_more r h s x.named }
@@ -86,10 +83,6 @@ frozen_after lay h r s j l started w a =
     rw same here
 
 -- Once a freezing exchange has found neither value
-
--- it can never freeze one of its nodes, or it is committed
-abbrev pub IsOver : History → ℕ → Type 0
-IsOver h s = IsStuck (descriptor h s) h s ⊎ (value h (state s) ≡ 1)
 
 -- a node of V, all earlier ones being frozen, whose info names neither s nor what s has seen there
 pub is_over : (lay : Layout) (h : History) (s j : ℕ) → Lawful lay h → IsStarted h s → j < count h s → AreFrozen h s j → value h (info (member h s j)) ≢ seen h s j → value h (info (member h s j)) ≢ s → IsOver h s

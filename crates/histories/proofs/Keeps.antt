@@ -13,8 +13,10 @@ use Rattle.arena.specs.ScxRecords.{side_of, plan, member, seen}
 use Rattle.arena.specs.Fills.{IsNamed, IsNamedScx}
 use Rattle.arena.specs.Lawful.{HasWon}
 use Rattle.arena.proofs.Values.{held_more, held_back}
+use Rattle.histories.specs.Descriptor.{descriptor, many, spot}
+use Rattle.histories.specs.Progress.{IsStuck}
 use Rattle.histories.proofs.Changes.{IsNodeFill, IsScxFill}
-use Rattle.histories.proofs.Facts.{descriptor, many, spot, IsLive, IsStuck, About, IsCell, IsFlagged, IsMarker, Holds, AllMarked, IsEnded, Facts, descriptor_same, won_more, member_named, some_is_real, flagged_about}
+use Rattle.histories.proofs.Facts.{IsLive, About, IsCell, IsFlagged, IsMarker, Holds, AllMarked, IsEnded, Facts, descriptor_same, won_more, member_named, some_is_real, flagged_about}
 
 -- the row ends s: by a commit, or by an abort
 abbrev pub Ends : History → ℕ → ℕ → Type 0

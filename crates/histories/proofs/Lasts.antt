@@ -8,12 +8,13 @@ use Rattle.arena.specs.Fills.{IsNamed}
 use Rattle.arena.specs.Lawful.{HasWon, Lawful}
 use Rattle.arena.specs.Blame.{IsMember}
 use Rattle.arena.specs.Log.{Entry, log, last, is_final, has}
+use Rattle.histories.specs.Finalizing.{IsRemoved}
 use Rattle.histories.proofs.Changes.{UpdateWins, lawful_tail}
 use Rattle.histories.proofs.Facts.{Facts}
 use Rattle.histories.proofs.Updates.{update_about, update_flagged, update_in_progress, update_keeps_info, update_won}
 use Rattle.histories.proofs.Always.{facts_before}
 use Rattle.histories.proofs.Moments.{Still, still, named_since, state_since}
-use Rattle.histories.proofs.Members.{is_member, IsRemoved, is_removed_of, has_member}
+use Rattle.histories.proofs.Members.{is_member, is_removed_of, has_member}
 use Rattle.histories.proofs.Fields.{entry_of, Logs, same, wins, logs}
 
 -- before its update wins, an SCX-record holds each of its nodes

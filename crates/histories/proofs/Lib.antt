@@ -1,29 +1,30 @@
-pub mod Changes
-pub mod Facts
-pub mod Keeps
-pub mod Quiet
-pub mod Freezes
-pub mod Updates
-pub mod Always
-pub mod Moments
-pub mod Members
-pub mod Fields
-pub mod Lasts
-pub mod Entries
-pub mod Finals
-pub mod Helping
-pub mod Blames
-pub mod Owners
-pub mod Unnamed
-pub mod Begins
-pub mod Shapes
+mod Changes
+mod Facts
+mod Keeps
+mod Quiet
+mod Freezes
+mod Updates
+mod Always
+mod Moments
+mod Members
+mod Fields
+mod Lasts
+mod Entries
+mod Finals
+mod Helping
+mod Blames
+mod Owners
+mod Unnamed
+mod Begins
+mod Shapes
 mod Examples
-pub mod Unmentioned
-pub mod Taking
-pub mod Steps
-pub mod Helds
-pub mod Mentions
-pub mod Wins
-pub mod Flags
-pub mod Filled
-pub mod Judged
+mod Unmentioned
+mod Taking
+mod Steps
+mod Helds
+mod Mentions
+mod Wins
+mod Flags
+mod Filled
+mod Judged
+pub mod Lemmas

@@ -4,6 +4,7 @@ use Rattle.arena.specs.History.{History}
 use Rattle.arena.specs.ScxRecords.{count, member, is_removed}
 use Rattle.arena.specs.Log.{members_from, removed_from, has}
 use Rattle.arena.specs.Blame.{IsMember}
+use Rattle.histories.specs.Finalizing.{IsRemoved}
 
 either : (a b : Bool) → a || b ≡ true → (a ≡ true) ⊎ (b ≡ true)
 either true b e = inl refl
@@ -50,13 +51,7 @@ has_member h s n j i e = has_among h s 0 (count h s) n j (omega arith) (omega ar
 pub is_member : (h : History) (s n : ℕ) → has (members_from h s 0 (count h s)) n ≡ true → IsMember h s n
 is_member h s n e = let x : IsAmong h s 0 (count h s) n = among h s 0 (count h s) n e in record { index = x.index; within = let a = x.below in omega arith; is = x.is }
 
--- n is one of the nodes that s finalizes
-pub record IsRemoved (h : History) (s n : ℕ) : Type 0 where
-  pub index : ℕ
-  pub within : index < count h s
-  pub is : member h s index ≡ n
-  pub removed : is_removed h s index ≡ true
-
+-- n is one of those of them that s finalizes
 record IsRemovedAmong (h : History) (s j k n : ℕ) : Type 0 where
   index : ℕ
   from : j ≤ index

@@ -14,8 +14,9 @@ use Rattle.arena.specs.ScxRecords.{plan, side_of, field_index, member}
 use Rattle.arena.specs.Fills.{IsNamed, opening_node, by_field, by_scx, IsNamedScx}
 use Rattle.arena.specs.Lawful.{IsSettled, HasWon, Lawful}
 use Rattle.arena.proofs.Values.{value_apart, held_more, node_word_apart, node_apart}
+use Rattle.histories.specs.Descriptor.{descriptor}
 use Rattle.histories.proofs.Changes.{IsNodeFill, IsScxFill, lawful_tail}
-use Rattle.histories.proofs.Facts.{descriptor, Facts, descriptor_same, won_more}
+use Rattle.histories.proofs.Facts.{Facts, descriptor_same, won_more}
 use Rattle.histories.proofs.Keeps.{Marks, flag_stays, mark_stays, same_end}
 use Rattle.histories.proofs.Freezes.{freeze_in_progress, freeze_keeps_scx, freeze_keeps_field, freeze_keeps_mark, freeze_keeps_info, freeze_stores, freeze_clean, freeze_finds}
 use Rattle.histories.proofs.Updates.{update_in_progress, update_holds, update_keeps_scx, update_keeps_info, update_keeps_other, update_keeps_mark}

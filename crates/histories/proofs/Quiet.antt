@@ -14,8 +14,10 @@ use Rattle.arena.specs.History.{History, ◌⊳◌, value}
 use Rattle.arena.specs.ScxRecords.{member}
 use Rattle.arena.specs.Lawful.{IsSetFrozen, IsMark, IsCommit, IsAbort, IsWin, HasWon}
 use Rattle.arena.proofs.Values.{value_at, value_quiet, value_apart, node_word_apart, scx_word_apart, node_apart, scx_apart}
+use Rattle.histories.specs.Descriptor.{descriptor}
+use Rattle.histories.specs.Progress.{IsStuck}
 use Rattle.histories.proofs.Changes.{IsNodeFill, IsScxFill, FillsNode, FillsScx}
-use Rattle.histories.proofs.Facts.{descriptor, IsFlagged, IsStuck, About, Facts, won_back, flagged_about}
+use Rattle.histories.proofs.Facts.{IsFlagged, About, Facts, won_back, flagged_about}
 use Rattle.histories.proofs.Keeps.{Kept, Ends, Marks}
 
 never_info : (a : NodeWord) → IsNodeFill a → same_node_word a Info ≡ false

@@ -18,14 +18,11 @@ use Rattle.arena.specs.Fills.{IsOwnNode, NamesNode, IsNamed, opening_node, by_fi
 use Rattle.arena.specs.Lawful.{Lawful}
 use Rattle.arena.proofs.SameWords.{word_same}
 use Rattle.arena.proofs.Values.{value_at, value_quiet, value_apart, value_other, held_at, held_now, held_split, held_back, held_start, opening_scx, node_word_apart, scx_word_apart}
+use Rattle.histories.specs.Unmentioned.{IsUnmentioned}
 use Rattle.histories.proofs.Changes.{Change, nothing, fills_node, fills_scx, freezes, sets_frozen, marks, updates, commits, aborts, change, lawful_row}
 use Rattle.histories.proofs.Mentions.{opening_field, some_open}
 use Rattle.histories.proofs.Steps.{value_start}
 use Rattle.histories.proofs.Unnamed.{field_back, word_back}
-
-pub record IsUnmentioned (h : History) (n : ℕ) : Type 0 where
-  pub in_no_field : (m : ℕ) (side : Side) → ¬ HasHeld h (child m side) n
-  pub in_no_scx : (s : ℕ) (part : ScxWord) → NamesNode part → ¬ HasHeld h (scx s part) n
 
 -- such a node of a share is not named
 pub unmentioned_unnamed : (lay : Layout) (h : History) (c n : ℕ) → IsOwnNode lay c n → IsUnmentioned h n → ¬ IsNamed lay h n

@@ -13,8 +13,10 @@ use Rattle.arena.specs.ScxRecords.{side_of, plan, field_index, member, new, old,
 use Rattle.arena.specs.Lawful.{IsUpdate, IsWin, HasWon}
 use Rattle.arena.proofs.Values.{value_at, value_apart, held_at, held_more, held_back, node_word_apart}
 use Rattle.arena.proofs.SameWords.{word_same, word_refl}
+use Rattle.histories.specs.Descriptor.{descriptor}
+use Rattle.histories.specs.Progress.{Froze, IsStuck}
 use Rattle.histories.proofs.Changes.{UpdateWins}
-use Rattle.histories.proofs.Facts.{descriptor, Froze, IsLive, IsStuck, About, IsCell, IsFlagged, IsMarker, Holds, AllMarked, IsEnded, Facts, descriptor_same, won_more, won_split, flagged_about, child_node}
+use Rattle.histories.proofs.Facts.{IsLive, About, IsCell, IsFlagged, IsMarker, Holds, AllMarked, IsEnded, Facts, descriptor_same, won_more, won_split, flagged_about, child_node}
 
 -- an SCX-record whose update finds `old` is in progress and holds its field's node
 module _ {lay : Layout} {h : History} {r : Row} {s : ℕ} (f : Facts lay h) (v : r.before ≡ value h r.word) (y : IsUpdate h r s) (e : r.before ≡ old h s) where

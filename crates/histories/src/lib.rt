@@ -5,12 +5,14 @@ mod beginning;
 mod exchanges;
 mod filling;
 mod judge;
+mod laws;
 mod loads;
 mod naming;
 mod records;
 mod words;
 
 pub use judge::first_unlawful;
+pub use laws::laws_hold;
 
 #[cfg(test)]
 mod tests;

@@ -1,0 +1,28 @@
+-- What stands before an SCX-record begins, which it does by its owner's first freezing exchange.
+use Rattle.std.specs.Prelude.{◌≡◌, ◌≢◌, ℕ, ◌<◌}
+use Rattle.arena.specs.declared.layout.Layout.{Layout}
+use Rattle.arena.specs.declared.word.Side.{Side}
+use Rattle.arena.specs.declared.word.ScxWord.TheVariants.{New}
+use Rattle.arena.specs.Layout.{all_nodes}
+use Rattle.arena.specs.Words.{scx, info, marked, child, state}
+use Rattle.arena.specs.History.{History, value, HasHeld}
+use Rattle.arena.specs.ScxRecords.{IsPlan}
+use Rattle.arena.specs.Fills.{IsOwnNode, IsOwnScx, IsNamed, IsNamedScx}
+use Rattle.histories.specs.Descriptor.{Descriptor, many, place, spot}
+
+-- s is ready for its first freezing exchange, by its owner c
+pub record Begins (lay : Layout) (d : Descriptor) (h : History) (c s : ℕ) : Type 0 where
+  pub own : IsOwnScx lay c s
+  pub free : ¬ IsNamedScx h s
+  pub unfinished : value h (state s) ≡ 0
+  pub planned : IsPlan d.plan
+  pub inside : (j : ℕ) → j < many d → d.member j < all_nodes lay
+  pub distinct : (j k : ℕ) → j < many d → k < many d → j ≢ k → d.member j ≢ d.member k
+  pub named : (j : ℕ) → j < many d → IsNamed lay h (d.member j)
+  pub rest : (j : ℕ) → j < many d → value h (state (d.seen j)) ≢ 0
+  pub unmarked : (j : ℕ) → j < many d → value h (info (d.member j)) ≡ d.seen j → value h (marked (d.member j)) ≡ 0
+  pub shows : value h (info (d.member (place d))) ≡ d.seen (place d) → value h (spot d) ≡ d.old
+  pub new_own : IsOwnNode lay c d.new
+  pub new_unnamed : ¬ IsNamed lay h d.new
+  pub new_in_no_field : (n : ℕ) (side : Side) → ¬ HasHeld h (child n side) d.new
+  pub new_in_no_other : (u : ℕ) → u ≢ s → ¬ HasHeld h (scx u New) d.new

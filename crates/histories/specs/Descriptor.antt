@@ -1,0 +1,32 @@
+-- What an SCX-record says, apart from the history that its words are read from.
+use Rattle.std.specs.Prelude.{ℕ}
+use Rattle.arena.specs.declared.word.ScxWord.TheVariants.{Call}
+use Rattle.arena.specs.declared.word.Word.{Word}
+use Rattle.arena.specs.Words.{scx, child}
+use Rattle.arena.specs.History.{History, value}
+use Rattle.arena.specs.ScxRecords.{count_of, index_of, side_of, plan, member, seen, new, old}
+
+-- the settled words of an SCX-record: those that do not change once an info word has named it
+pub record Descriptor : Type 0 where
+  pub plan : ℕ
+  pub member : ℕ → ℕ
+  pub seen : ℕ → ℕ
+  pub new : ℕ
+  pub old : ℕ
+  pub call : ℕ
+
+-- the settled words of s after a history
+abbrev pub descriptor : History → ℕ → Descriptor
+descriptor h s = record { plan = plan h s; member = λ j. member h s j; seen = λ j. seen h s j; new = new h s; old = old h s; call = value h (scx s Call) }
+
+-- how many nodes it covers
+abbrev pub many : Descriptor → ℕ
+many d = count_of d.plan
+
+-- which of its nodes has the field
+abbrev pub place : Descriptor → ℕ
+place d = index_of d.plan
+
+-- the field that it changes
+abbrev pub spot : Descriptor → Word
+spot d = child (d.member (place d)) (side_of d.plan)
