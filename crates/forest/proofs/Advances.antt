@@ -10,7 +10,7 @@ use Rattle.arena.specs.History.{History, ◌⊳◌, value}
 use Rattle.arena.specs.Lawful.{Lawful}
 use Rattle.arena.specs.Machines.{Call, IsRun, IsTold, MatchTurn, row_of}
 use Rattle.arena.specs.Shape.{Shaped}
-use Rattle.histories.proofs.Changes.{lawful_row}
+use Rattle.histories.proofs.Lemmas.{lawful_row}
 use Rattle.forest.specs.declared.rule.Asked.{Asked}
 use Rattle.forest.specs.declared.view.Knower.{Knower}
 use Rattle.forest.specs.Kept.{past, past_of, knower, ByOthers, MayMake, Made, row}

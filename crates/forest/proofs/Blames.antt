@@ -7,8 +7,7 @@ use Rattle.arena.specs.History.{History, ◌⊳◌, value, EndsWith}
 use Rattle.arena.specs.Blame.{WasInTheWay}
 use Rattle.arena.specs.Fills.{IsOthersScx}
 use Rattle.arena.specs.Lawful.{Lawful}
-use Rattle.histories.proofs.Moments.{state_since, lawful_since}
-use Rattle.histories.proofs.Taking.{finished_taken}
+use Rattle.histories.proofs.Lemmas.{finished_taken, lawful_since, state_since}
 use Rattle.prims.specs.Begun.{taken_since}
 use Rattle.prims.specs.Shares.{IsShare}
 use Rattle.forest.specs.Passes.{Sight, Each, HasBlamed, HasFailed, run_of}

@@ -12,7 +12,7 @@ use Rattle.arena.specs.History.{History, ◌⊳◌, value}
 use Rattle.arena.specs.Blame.{IsMember, IsInProgress}
 use Rattle.arena.specs.Fills.{IsOwnScx}
 use Rattle.arena.specs.Machines.{Call, IsRun, IsTold, row_of}
-use Rattle.histories.proofs.Taking.{finished_taken}
+use Rattle.histories.proofs.Lemmas.{finished_taken}
 use Rattle.prims.specs.Cells.{allows_all}
 use Rattle.prims.specs.Moments.{AreOver}
 use Rattle.prims.specs.Begun.{TakesOnly, takes_by_others, takes_by_step}

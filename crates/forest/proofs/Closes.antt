@@ -15,8 +15,7 @@ use Rattle.arena.specs.Share.{HasScx}
 use Rattle.arena.specs.Lawful.{Lawful}
 use Rattle.arena.specs.Machines.{IsRun}
 use Rattle.arena.proofs.Values.{ends_trans}
-use Rattle.histories.proofs.Fields.{fields_are}
-use Rattle.histories.proofs.Moments.{lawful_since}
+use Rattle.histories.proofs.Lemmas.{fields_are, lawful_since}
 use Rattle.arena.specs.declared.limits.Mode.TheVariants.{Records}
 use Rattle.prims.specs.Cells.{allows_all}
 use Rattle.forest.specs.declared.view.Knower.{Knower}

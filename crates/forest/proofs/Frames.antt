@@ -12,12 +12,8 @@ use Rattle.arena.specs.Log.{Entry, log, owner}
 use Rattle.arena.specs.Machines.{IsRun}
 use Rattle.arena.proofs.Values.{ends_self}
 use Rattle.arena.proofs.Plans.{owner_is}
-use Rattle.histories.proofs.Changes.{UpdateWins}
-use Rattle.histories.proofs.Facts.{Facts, descriptor, IsOwned, won_more}
-use Rattle.histories.proofs.Updates.{update_won, update_split, update_is_first, update_about}
-use Rattle.histories.proofs.Always.{facts_before}
-use Rattle.histories.proofs.Fields.{Logs, same as log_same, wins as log_wins, logs, entry_of}
-use Rattle.histories.proofs.Owners.{one_scx_owner}
+use Rattle.histories.specs.Descriptor.{descriptor}
+use Rattle.histories.proofs.Lemmas.{Facts, IsOwned, Logs, UpdateWins, entry_of, facts_before, logs, one_scx_owner, same as log_same, update_about, update_is_first, update_split, update_won, wins as log_wins, won_more}
 use Rattle.prims.specs.Cells.{allows_all}
 use Rattle.prims.specs.Moments.{AreOver}
 use Rattle.prims.specs.Begun.{TakesOnly}

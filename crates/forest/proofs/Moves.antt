@@ -15,7 +15,7 @@ use Rattle.arena.specs.Lawful.{Lawful}
 use Rattle.arena.specs.Shape.{Shaped}
 use Rattle.arena.specs.History.{History, ◌⊳◌, value}
 use Rattle.arena.specs.Machines.{IsRun, IsTold}
-use Rattle.histories.proofs.Mentions.{some_open}
+use Rattle.histories.proofs.Lemmas.{some_open}
 use Rattle.arena.proofs.SameWords.{word_same, word_apart}
 use Rattle.arena.proofs.Values.{value_at, value_other}
 use Rattle.forest.specs.declared.rule.Asked.{Asked}

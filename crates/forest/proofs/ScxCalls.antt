@@ -8,10 +8,7 @@ use Rattle.arena.specs.History.{History, Start, ◌⊳◌, EndsWith}
 use Rattle.arena.specs.Fills.{IsOwnNode, IsOwnScx, IsTakenScx}
 use Rattle.arena.specs.Lawful.{Lawful, HasWon}
 use Rattle.arena.specs.Log.{Entry, log, has, IsEntered, AreOnce}
-use Rattle.histories.proofs.Changes.{lawful_tail}
-use Rattle.histories.proofs.Entries.{IsIn, newest, older, once}
-use Rattle.histories.proofs.Fields.{Logs, same as log_same, wins as log_wins, logs}
-use Rattle.histories.proofs.Helping.{aborted_never_won}
+use Rattle.histories.proofs.Lemmas.{IsIn, Logs, aborted_never_won, lawful_tail, logs, newest, older, once, same as log_same, wins as log_wins}
 use Rattle.arena.specs.declared.limits.Mode.TheVariants.{Records}
 use Rattle.prims.specs.Cells.{allows_all}
 use Rattle.prims.specs.Moments.{IsAsFound}

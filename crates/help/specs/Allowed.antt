@@ -8,8 +8,8 @@ use Rattle.arena.specs.ScxRecords.{member, seen}
 use Rattle.arena.specs.Fills.{IsFillOfScx}
 use Rattle.arena.specs.Log.{is_fill}
 use Rattle.arena.specs.Machines.{IsRun}
-use Rattle.histories.proofs.Facts.{Descriptor, descriptor}
-use Rattle.histories.proofs.Begins.{Begins}
+use Rattle.histories.specs.Begins.{Begins}
+use Rattle.histories.specs.Descriptor.{Descriptor, descriptor}
 
 -- a row that changes nothing
 pub record IsQuiet (r : Row) : Type 0 where

@@ -9,11 +9,9 @@ use Rattle.arena.specs.ScxRecords.{plan, member, seen, new, old, field}
 use Rattle.arena.specs.Fills.{IsNamed, opening_node, by_field, by_scx, IsNamedScx}
 use Rattle.arena.specs.Lawful.{Lawful}
 use Rattle.arena.proofs.Values.{value_quiet, held_back}
-use Rattle.histories.proofs.Changes.{lawful_row}
-use Rattle.histories.proofs.Facts.{Descriptor, descriptor, spot, descriptor_same}
-use Rattle.histories.proofs.Moments.{named_more}
-use Rattle.histories.proofs.Owners.{own_words_stay}
-use Rattle.histories.proofs.Begins.{Begins, begins_kept}
+use Rattle.histories.specs.Begins.{Begins}
+use Rattle.histories.specs.Descriptor.{Descriptor, descriptor, spot}
+use Rattle.histories.proofs.Lemmas.{begins_kept, descriptor_same, lawful_row, named_more, own_words_stay}
 use Rattle.help.specs.Allowed.{IsQuiet, IsBetween, IsLater, IsAllowed, IsPrepared}
 
 -- Later histories

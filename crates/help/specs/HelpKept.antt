@@ -11,12 +11,9 @@ use Rattle.arena.specs.Fills.{IsNamedScx}
 use Rattle.arena.specs.Lawful.{Lawful, AreFrozen}
 use Rattle.arena.specs.Machines.{IsRun, Call}
 use Rattle.arena.proofs.Values.{held_more, ends_self, ends_trans}
-use Rattle.histories.proofs.Changes.{lawful_row}
-use Rattle.histories.proofs.Facts.{descriptor, IsStuck, descriptor_same, won_more}
-use Rattle.histories.proofs.Moments.{descriptor_stays, named_more, finished_stays, all_frozen_stays, marked_stays}
-use Rattle.histories.proofs.Helping.{IsStarted, started_more, over_stays, stuck_stays}
-use Rattle.histories.proofs.Owners.{stays_free, own_words_stay}
-use Rattle.histories.proofs.Begins.{passed_stays}
+use Rattle.histories.specs.Descriptor.{descriptor}
+use Rattle.histories.specs.Progress.{IsStarted, IsStuck}
+use Rattle.histories.proofs.Lemmas.{all_frozen_stays, descriptor_same, descriptor_stays, finished_stays, lawful_row, marked_stays, named_more, over_stays, own_words_stay, passed_stays, started_more, stays_free, stuck_stays, won_more}
 use Rattle.help.specs.AllowedLaws.{IsOutside, same_plan, same_member, same_seen, same_new, same_old, same_field, free_words, prepared_more, quiet_words, free_back}
 use Rattle.help.specs.HelpKnown.{IsServed, HasRead, Freezes, HasLost, IsBlocked, Blocked, Aborts, Frozen, Marks, Reading, reading, help_known, help_step, help_waits}
 use Rattle.help.specs.declared.state.HelpRun.{HelpRun}

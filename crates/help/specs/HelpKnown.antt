@@ -18,8 +18,8 @@ use Rattle.arena.specs.ScxRecords.{plan, member, seen, new, old, count, is_remov
 use Rattle.arena.specs.Fills.{IsNamed, IsNamedScx, IsOwnScx}
 use Rattle.arena.specs.Lawful.{AreFrozen, AllAreFrozen, HasWon}
 use Rattle.arena.specs.Log.{log, IsEntered}
-use Rattle.histories.proofs.Facts.{descriptor, IsStuck}
-use Rattle.histories.proofs.Helping.{IsStarted, IsOver}
+use Rattle.histories.specs.Descriptor.{descriptor}
+use Rattle.histories.specs.Progress.{IsOver, IsStarted, IsStuck}
 use Rattle.help.specs.Plan.{count as planned, is_removed as removed}
 use Rattle.help.specs.Allowed.{IsPrepared}
 use Rattle.help.specs.declared.state.HelpRun.{HelpRun}

@@ -19,13 +19,9 @@ use Rattle.arena.specs.Lawful.{Lawful, IsLawful, IsExchange, IsFreeze, IsUpdate,
 use Rattle.arena.specs.Machines.{IsRun, Call, row_of}
 use Rattle.arena.specs.Shape.{IsBegin, Shaped}
 use Rattle.arena.proofs.Values.{exchange_won, exchange_lost}
-use Rattle.histories.proofs.Changes.{lawful_more}
-use Rattle.histories.proofs.Facts.{descriptor, IsStuck}
-use Rattle.histories.proofs.Always.{facts}
-use Rattle.histories.proofs.Helping.{IsStarted, about, helper_freezes, helper_sets_frozen, over_aborts}
-use Rattle.histories.proofs.Owners.{named_scx_inside, own_scx_inside}
-use Rattle.histories.proofs.Begins.{owner_freezes, owner_aborts}
-use Rattle.histories.proofs.Shapes.{IsFirst, shaped_more}
+use Rattle.histories.specs.Descriptor.{descriptor}
+use Rattle.histories.specs.Progress.{IsStarted, IsStuck}
+use Rattle.histories.proofs.Lemmas.{IsFirst, about, facts, helper_freezes, helper_sets_frozen, lawful_more, named_scx_inside, over_aborts, own_scx_inside, owner_aborts, owner_freezes, shaped_more}
 use Rattle.help.specs.Allowed.{IsPrepared}
 use Rattle.help.specs.AllowedLaws.{later_self}
 use Rattle.help.specs.HelpKnown.{IsServed, Freezes, HasLost, Aborts, Marks, Reading, reading, help_known, help_step, help_waits}

@@ -13,10 +13,9 @@ use Rattle.arena.specs.ScxRecords.{member, seen, count}
 use Rattle.arena.specs.Lawful.{Lawful, IsExchange, AreFrozen}
 use Rattle.arena.specs.Machines.{IsRun, Call, row_of, IsTold}
 use Rattle.arena.proofs.Values.{value_at, value_apart, held_at, held_more, scx_word_apart, ends_self}
-use Rattle.histories.proofs.Changes.{lawful_tail}
-use Rattle.histories.proofs.Facts.{descriptor, descriptor_same}
-use Rattle.histories.proofs.Quiet.{not_state}
-use Rattle.histories.proofs.Helping.{IsStarted, started_more, IsOver, is_over, won_after}
+use Rattle.histories.specs.Descriptor.{descriptor}
+use Rattle.histories.specs.Progress.{IsOver, IsStarted}
+use Rattle.histories.proofs.Lemmas.{descriptor_same, is_over, lawful_tail, not_state, started_more, won_after}
 use Rattle.help.specs.Allowed.{IsPrepared, IsQuiet}
 use Rattle.help.specs.AllowedLaws.{IsOutside, same_plan, same_member, same_seen}
 use Rattle.help.specs.HelpKnown.{IsServed, node_at, Freezes, HasLost, Blocked, Marks, HasTried, Reading, reading, help_known, help_step, help_told, help_ready, help_waits}

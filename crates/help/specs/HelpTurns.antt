@@ -17,10 +17,9 @@ use Rattle.arena.specs.ScxRecords.{IsPlan, count_of, removes, side_of, index_of 
 use Rattle.arena.specs.Lawful.{Lawful}
 use Rattle.arena.proofs.Plans.{plan_counted}
 use Rattle.arena.proofs.Values.{ends_self}
-use Rattle.histories.proofs.Facts.{descriptor, IsStuck}
-use Rattle.histories.proofs.Always.{facts}
-use Rattle.histories.proofs.Helping.{IsOver, about, over_committed, committed_won, aborted_no_entry}
-use Rattle.histories.proofs.Begins.{free_unset}
+use Rattle.histories.specs.Descriptor.{descriptor}
+use Rattle.histories.specs.Progress.{IsOver, IsStuck}
+use Rattle.histories.proofs.Lemmas.{aborted_no_entry, about, committed_won, facts, free_unset, over_committed}
 use Rattle.help.specs.Plan.{count as planned, is_removed as removed}
 use Rattle.help.specs.HelpKnown.{IsServed, Reading, HasRead, Marks, HasAborted, node_at, first_place, settled_load, help_told, help_waits_at}
 use Rattle.help.specs.HelpLawful.{index_small}

@@ -8,8 +8,7 @@ use Rattle.arena.specs.Words.{state}
 use Rattle.arena.specs.History.{History, value}
 use Rattle.arena.specs.Blame.{WasInTheWay}
 use Rattle.arena.specs.Log.{log, is_final, has}
-use Rattle.histories.proofs.Helping.{aborted_never_won, committed_won}
-use Rattle.histories.proofs.Taking.{finished_taken}
+use Rattle.histories.proofs.Lemmas.{aborted_never_won, committed_won, finished_taken}
 use Rattle.prims.specs.Moments.{IsMoment, IsAsFound}
 use Rattle.prims.specs.Snaps.{IsAmong}
 use Rattle.prims.proofs.Alone.{over_begins, over_ends}

@@ -17,7 +17,7 @@ use Rattle.arena.specs.declared.word.Word.TheVariants.{Node}
 use Rattle.arena.specs.declared.step.Kind.TheVariants.{Update}
 use Rattle.arena.specs.Lawful.{IsLawful}
 use Rattle.arena.specs.Log.{owner}
-use Rattle.histories.proofs.Changes.{lawful_row}
+use Rattle.histories.proofs.Lemmas.{lawful_row}
 use Rattle.player.proofs.Winners.{tells_won, winner_holds, owner_is, info_kept, call_kept}
 use Rattle.player.specs.declared.player.Player.{Player}
 use Rattle.arena.specs.Words.{same_word, info, scx as scx_word}

@@ -6,10 +6,7 @@ use Rattle.arena.specs.PlainWords.{Contents, IsOpening}
 use Rattle.arena.specs.History.{value}
 use Rattle.arena.specs.Lawful.{Lawful}
 use Rattle.arena.specs.Shape.{Shaped}
-use Rattle.histories.proofs.Entries.{once}
-use Rattle.histories.proofs.Fields.{fields_are}
-use Rattle.histories.proofs.Moments.{lawful_since}
-use Rattle.histories.proofs.Finals.{finalized_since}
+use Rattle.histories.proofs.Lemmas.{fields_are, finalized_since, lawful_since, once}
 use Rattle.script.specs.declared.command.Call.{Call}
 use Rattle.player.specs.declared.client.Client.{Client}
 use Rattle.player.specs.declared.player.Player.{Player}

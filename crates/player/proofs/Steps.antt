@@ -16,7 +16,7 @@ use Rattle.arena.specs.PlainWords.{Contents, held, IsChanged}
 use Rattle.arena.specs.History.{◌⊳◌, value}
 use Rattle.arena.specs.Lawful.{IsLawful}
 use Rattle.arena.specs.Machines.{IsRun, IsTold}
-use Rattle.histories.proofs.Changes.{lawful_row}
+use Rattle.histories.proofs.Lemmas.{lawful_row}
 use Rattle.prims.specs.Cells.{allows_all}
 use Rattle.script.specs.declared.command.Call.{Call}
 use Rattle.script.specs.declared.command.Command.{Command}

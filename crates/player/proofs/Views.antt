@@ -10,11 +10,7 @@ use Rattle.arena.specs.Blame.{IsMember, IsInProgress}
 use Rattle.arena.specs.Fills.{IsOwnNode, IsOwnScx, IsTakenNode, IsTakenScx}
 use Rattle.arena.specs.Lawful.{Lawful, HasWon}
 use Rattle.arena.specs.Machines.{Call, IsTold, row_of}
-use Rattle.histories.proofs.Changes.{UpdateWins}
-use Rattle.histories.proofs.Facts.{won_more}
-use Rattle.histories.proofs.Updates.{update_won, update_split}
-use Rattle.histories.proofs.Always.{facts_before}
-use Rattle.histories.proofs.Fields.{Logs, same as log_same, wins as log_wins, logs}
+use Rattle.histories.proofs.Lemmas.{Logs, UpdateWins, facts_before, logs, same as log_same, update_split, update_won, wins as log_wins, won_more}
 use Rattle.prims.specs.Cells.{allows_all}
 use Rattle.prims.specs.Moments.{AreOver}
 use Rattle.prims.specs.Begun.{TakesOnly, takes_by_others}

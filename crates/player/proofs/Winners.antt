@@ -17,12 +17,9 @@ use Rattle.arena.specs.ScxRecords.{plan, side_of, field_index, member}
 use Rattle.arena.specs.Lawful.{Lawful}
 use Rattle.arena.specs.Log.{owner}
 use Rattle.arena.proofs.Values.{value_apart, node_word_apart}
-use Rattle.histories.proofs.Changes.{Change, nothing, fills_node, fills_scx, freezes, sets_frozen, marks, updates, commits, aborts, UpdateWins, change, lawful_tail}
-use Rattle.histories.proofs.Facts.{Facts, IsFlagged, IsOwned, descriptor, child_node, some_is_real}
-use Rattle.histories.proofs.Updates.{update_flagged, update_holds, update_changes}
-use Rattle.histories.proofs.Always.{facts, facts_before}
-use Rattle.histories.proofs.Owners.{named_scx_inside, one_scx_owner}
-use Rattle.histories.proofs.Helping.{IsStarted}
+use Rattle.histories.specs.Descriptor.{descriptor}
+use Rattle.histories.specs.Progress.{IsStarted}
+use Rattle.histories.proofs.Lemmas.{Change, Facts, IsFlagged, IsOwned, UpdateWins, aborts, change, child_node, commits, facts, facts_before, fills_node, fills_scx, freezes, lawful_tail, marks, named_scx_inside, nothing, one_scx_owner, sets_frozen, some_is_real, update_changes, update_flagged, update_holds, updates}
 use Rattle.script.specs.declared.command.Call.{Call as CallOf}
 use Rattle.player.specs.declared.record.Line.{Line}
 use Rattle.player.specs.declared.record.Line.TheVariants.{Step}

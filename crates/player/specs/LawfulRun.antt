@@ -323,14 +323,6 @@ unfoldable pub AreLines : Layout → List Call → List Line → Type 0
 AreLines lay calls [] = Unit {0}
 AreLines lay calls (line ∷ lines) = AreLines lay calls lines × IsNext lay calls lines line
 
--- each word of a node holds what it held at any moment at which the node was finalized
-abbrev pub StaysFinalized : History → Type 0
-StaysFinalized h = (past : History) (n : ℕ) (part : NodeWord) → EndsWith h past → IsFinalized past n → value h (node n part) ≡ value past (node n part)
-
--- after each step every field of a node holds what the log so far says: what it was filled with, changed by the entries in order
-abbrev pub SpellFields : Layout → History → Type 0
-SpellFields lay h = (past : History) (n : ℕ) (side : Side) → EndsWith h past → value past (child n side) ≡ fields lay past n side
-
 -- The main statement: the lines, of which the first comes first, are a lawful run of the calls, in which turn i was made by the i-th of these clients.
 -- That the steps are a lawful history is said of each step in `in_order`, and once more of all in `lawful`.
 pub record IsLawfulRun (lay : Layout) (calls : List Call) (passes : List ℕ) (lines : List Line) : Type 0 where

@@ -12,9 +12,7 @@ use Rattle.arena.specs.Lawful.{Lawful}
 use Rattle.arena.specs.Blame.{IsMember, IsInProgress}
 use Rattle.arena.specs.Machines.{Call, row_of}
 use Rattle.arena.proofs.Values.{ends_self}
-use Rattle.histories.proofs.Always.{facts}
-use Rattle.histories.proofs.Moments.{finished_stays, lawful_since, state_since}
-use Rattle.histories.proofs.Taking.{named_scx_taken}
+use Rattle.histories.proofs.Lemmas.{facts, finished_stays, lawful_since, named_scx_taken, state_since}
 use Rattle.prims.specs.Moments.{IsMoment, IsLeftAlone, AreOver}
 use Rattle.prims.specs.Linked.{in_field_named}
 use Rattle.prims.specs.Begun.{TakesOnly, taken_since}

@@ -10,7 +10,7 @@ use Rattle.arena.specs.Lawful.{Lawful}
 use Rattle.arena.specs.Log.{log, is_final}
 use Rattle.arena.specs.Machines.{Call}
 use Rattle.arena.proofs.Values.{ends_self}
-use Rattle.histories.proofs.Moments.{lawful_since}
+use Rattle.histories.proofs.Lemmas.{lawful_since}
 use Rattle.prims.specs.Idle.{IsIdle, IsQuietSince, quiet_at_start}
 use Rattle.prims.specs.InTheWay.{final_since, open_before}
 use Rattle.prims.specs.LlxKnown.{IsOpened, IsSnapshot, IsFinalBy, llx_known, llx_waits, llx_ready, llx_answers}

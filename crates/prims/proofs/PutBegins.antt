@@ -7,8 +7,8 @@ use Rattle.arena.specs.Words.{state}
 use Rattle.arena.specs.History.{History, value}
 use Rattle.arena.specs.Fills.{IsOwnNode, IsOwnScx, IsTakenNode, IsTakenScx}
 use Rattle.arena.specs.Lawful.{Lawful}
-use Rattle.histories.proofs.Unmentioned.{IsUnmentioned, unmentioned_unnamed}
-use Rattle.histories.proofs.Taking.{named_scx_taken, finished_taken}
+use Rattle.histories.specs.Unmentioned.{IsUnmentioned}
+use Rattle.histories.proofs.Lemmas.{finished_taken, named_scx_taken, unmentioned_unnamed}
 use Rattle.prims.specs.Cells.{allows_all}
 use Rattle.prims.specs.VlxKnown.{AllLinked}
 use Rattle.prims.specs.ScxKnown.{job_of, IsUpdateOver, InHand}

@@ -11,9 +11,7 @@ use Rattle.arena.specs.Fills.{IsNamedScx}
 use Rattle.arena.specs.Lawful.{IsWin, Lawful}
 use Rattle.arena.specs.Blame.{IsMember, IsInProgress}
 use Rattle.arena.specs.Machines.{Call}
-use Rattle.histories.proofs.Always.{facts}
-use Rattle.histories.proofs.Moments.{won_since}
-use Rattle.histories.proofs.Entries.{won_named}
+use Rattle.histories.proofs.Lemmas.{facts, won_named, won_since}
 use Rattle.prims.specs.Snaps.{IsAmong}
 use Rattle.prims.specs.Wins.{won_by}
 use Rattle.prims.specs.Entered.{filled_entry_at}

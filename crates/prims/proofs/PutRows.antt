@@ -11,8 +11,8 @@ use Rattle.arena.specs.ScxRecords.{index_of as field_of, side_of}
 use Rattle.arena.specs.Fills.{IsInField, IsTakenScx}
 use Rattle.arena.specs.Lawful.{Lawful}
 use Rattle.arena.specs.Machines.{Call, row_of}
-use Rattle.histories.proofs.Unmentioned.{IsUnmentioned, IsMention, unmentioned_by_fill, unmentioned_by_step}
-use Rattle.histories.proofs.Taking.{untaken_by_step, untaken_by_node, untaken_by_other_fill}
+use Rattle.histories.specs.Unmentioned.{IsUnmentioned}
+use Rattle.histories.proofs.Lemmas.{IsMention, unmentioned_by_fill, unmentioned_by_step, untaken_by_node, untaken_by_other_fill, untaken_by_step}
 use Rattle.help.specs.HelpLawful.{help_fills_not}
 use Rattle.prims.specs.Snap.{snap_at}
 use Rattle.prims.specs.ScxKnown.{Job, job_of, wanted, part_at, IsWithin, Fills, FillWaits, fill_step, scx_waits_at}

@@ -15,13 +15,8 @@ use Rattle.arena.specs.Fills.{IsOwnNode, IsOwnScx, IsTakenNode, IsTakenScx}
 use Rattle.arena.specs.Lawful.{Lawful, HasWon}
 use Rattle.arena.specs.Machines.{Call, row_of}
 use Rattle.arena.proofs.Taken.{taken_node_more, taken_scx_more}
-use Rattle.histories.proofs.Changes.{UpdateWins}
-use Rattle.histories.proofs.Facts.{Facts}
-use Rattle.histories.proofs.Updates.{update_in_progress, update_flagged}
-use Rattle.histories.proofs.Always.{facts, facts_before}
-use Rattle.histories.proofs.Entries.{won_named}
-use Rattle.histories.proofs.Taking.{named_scx_taken, untaken_by_others, untaken_by_step}
-use Rattle.histories.proofs.Unmentioned.{IsUnmentioned, unmentioned_start, unmentioned_by_step, unmentioned_by_others}
+use Rattle.histories.specs.Unmentioned.{IsUnmentioned}
+use Rattle.histories.proofs.Lemmas.{Facts, UpdateWins, facts, facts_before, named_scx_taken, unmentioned_by_others, unmentioned_by_step, unmentioned_start, untaken_by_others, untaken_by_step, update_flagged, update_in_progress, won_named}
 use Rattle.prims.specs.Idle.{IsIdle, idle_if_over}
 use Rattle.prims.specs.Moments.{AreOver}
 use Rattle.prims.specs.PutKnown.{put_waits}

@@ -14,8 +14,7 @@ use Rattle.arena.specs.Fills.{IsOwnNode, IsFillOfNode, IsTakenNode, MayFill}
 use Rattle.arena.specs.Lawful.{Lawful, Obeys}
 use Rattle.arena.specs.Machines.{Call, row_of}
 use Rattle.arena.proofs.Taken.{taken_node_more}
-use Rattle.histories.proofs.Changes.{lawful_row}
-use Rattle.histories.proofs.Owners.{one_node_owner}
+use Rattle.histories.proofs.Lemmas.{lawful_row, one_node_owner}
 use Rattle.help.specs.HelpLawful.{help_fills_not}
 use Rattle.prims.specs.ScxKnown.{Job, job_of, part_at, FillWaits, scx_waits_at}
 use Rattle.prims.specs.PutKnown.{put_waits_at, put_waits}

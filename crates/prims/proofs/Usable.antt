@@ -6,7 +6,7 @@ use Rattle.arena.specs.History.{History, ◌⊳◌, EndsWith}
 use Rattle.arena.specs.Blame.{IsMember, IsInProgress}
 use Rattle.arena.specs.Fills.{IsOwnNode, IsOwnScx, IsTakenNode, IsTakenScx}
 use Rattle.arena.specs.Lawful.{Lawful}
-use Rattle.histories.proofs.Unmentioned.{IsUnmentioned}
+use Rattle.histories.specs.Unmentioned.{IsUnmentioned}
 use Rattle.prims.specs.Cells.{allows_all}
 use Rattle.prims.specs.Idle.{IsIdle, same_moment}
 use Rattle.prims.specs.Linked.{linked_more}

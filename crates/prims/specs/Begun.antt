@@ -12,8 +12,7 @@ use Rattle.arena.specs.Fills.{IsOwnScx, IsTakenScx}
 use Rattle.arena.specs.Lawful.{Lawful}
 use Rattle.arena.specs.Machines.{Call}
 use Rattle.arena.proofs.Taken.{taken_scx_more}
-use Rattle.histories.proofs.Changes.{IsScxFill}
-use Rattle.histories.proofs.Taking.{untaken_by_others, untaken_by_step, untaken_by_node, untaken_by_other_fill}
+use Rattle.histories.proofs.Lemmas.{IsScxFill, untaken_by_node, untaken_by_other_fill, untaken_by_others, untaken_by_step}
 use Rattle.prims.specs.VlxKnown.{HasBegun}
 use Rattle.prims.specs.ScxKnown.{IsUnderWay, HasFilled}
 use Rattle.prims.specs.declared.snap.Snap.{Snap}

@@ -9,10 +9,7 @@ use Rattle.arena.specs.Lawful.{Lawful}
 use Rattle.arena.specs.Blame.{IsInProgress, WasInTheWay}
 use Rattle.arena.specs.Machines.{Call}
 use Rattle.arena.proofs.Values.{ends_trans}
-use Rattle.histories.proofs.Always.{facts}
-use Rattle.histories.proofs.Moments.{lawful_since, named_since, state_since, still_since}
-use Rattle.histories.proofs.Blames.{blame_info}
-use Rattle.histories.proofs.Taking.{named_scx_taken, planned_taken}
+use Rattle.histories.proofs.Lemmas.{blame_info, facts, lawful_since, named_scx_taken, named_since, planned_taken, state_since, still_since}
 use Rattle.prims.specs.Moments.{IsMoment, IsLeftAlone, IsBlamed}
 use Rattle.prims.specs.Snap.{snap_at}
 use Rattle.prims.specs.VlxKnown.{HasBegun}

@@ -11,11 +11,7 @@ use Rattle.arena.specs.Lawful.{IsWin, HasWon, Lawful}
 use Rattle.arena.specs.Log.{Entry, log, last, is_final, members_from, removed_from}
 use Rattle.arena.specs.Machines.{Call}
 use Rattle.arena.proofs.Plans.{owner_is}
-use Rattle.histories.proofs.Fields.{entry_of}
-use Rattle.histories.proofs.Always.{facts}
-use Rattle.histories.proofs.Moments.{lawful_since}
-use Rattle.histories.proofs.Entries.{won_named, won_real}
-use Rattle.histories.proofs.Taking.{named_scx_taken}
+use Rattle.histories.proofs.Lemmas.{entry_of, facts, lawful_since, named_scx_taken, won_named, won_real}
 use Rattle.prims.specs.Moments.{IsAsFound}
 use Rattle.prims.specs.Snap.{snap_at}
 use Rattle.prims.specs.ScxKnown.{HasFilled, IsEntryAt, HasEntry, nodes_of, removed_nodes, update_entry}

@@ -16,11 +16,7 @@ use Rattle.arena.specs.Lawful.{IsExchange, Lawful}
 use Rattle.arena.specs.Blame.{IsInProgress}
 use Rattle.arena.specs.Machines.{Call, row_of}
 use Rattle.arena.proofs.Values.{value_at, value_apart, node_apart, node_word_apart, held_at, held_split, held_back}
-use Rattle.histories.proofs.Updates.{update_keeps_info}
-use Rattle.histories.proofs.Always.{Effect, quiet, freeze, update, effect, facts_before}
-use Rattle.histories.proofs.Moments.{finished_stays}
-use Rattle.histories.proofs.Owners.{one_scx_owner, named_scx_back}
-use Rattle.histories.proofs.Taking.{named_scx_taken}
+use Rattle.histories.proofs.Lemmas.{Effect, effect, facts_before, finished_stays, freeze, named_scx_back, named_scx_taken, one_scx_owner, quiet, update, update_keeps_info}
 use Rattle.help.specs.HelpKnown.{help_step, help_waits}
 use Rattle.help.specs.HelpLawful.{exchange_of}
 use Rattle.help.specs.declared.state.HelpRun.{HelpRun}

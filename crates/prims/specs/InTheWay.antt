@@ -10,13 +10,9 @@ use Rattle.arena.specs.Lawful.{Lawful}
 use Rattle.arena.specs.Log.{log, is_final}
 use Rattle.arena.specs.Blame.{IsMember, WasInTheWay}
 use Rattle.arena.proofs.Values.{ends_self, ends_trans}
-use Rattle.histories.proofs.Changes.{lawful_tail}
-use Rattle.histories.proofs.Facts.{descriptor, IsFlagged, IsEnded, IsOwned, Facts, flagged_about}
-use Rattle.histories.proofs.Always.{facts}
-use Rattle.histories.proofs.Moments.{still, since, lawful_since, marked_stays, finished_stays}
-use Rattle.histories.proofs.Entries.{IsFinalizedBy, finalized_by_stays, final_by, by_final}
-use Rattle.histories.proofs.Finals.{IsFinalizing, not_final}
-use Rattle.histories.proofs.Blames.{earlier, member_of, blame_info, blame_mark}
+use Rattle.histories.specs.Descriptor.{descriptor}
+use Rattle.histories.specs.Finalizing.{IsFinalizing}
+use Rattle.histories.proofs.Lemmas.{Facts, IsEnded, IsFinalizedBy, IsFlagged, IsOwned, blame_info, blame_mark, by_final, earlier, facts, final_by, finalized_by_stays, finished_stays, flagged_about, lawful_since, lawful_tail, marked_stays, member_of, not_final, since, still}
 use Rattle.prims.specs.Idle.{IsQuietSince}
 
 -- Moments of a call

@@ -9,11 +9,8 @@ use Rattle.arena.specs.History.{History, ◌⊳◌, value, HasHeld, EndsWith}
 use Rattle.arena.specs.Fills.{IsNamed, opening_node, by_field, IsInField}
 use Rattle.arena.specs.Lawful.{Lawful}
 use Rattle.arena.proofs.Values.{held_more}
-use Rattle.histories.proofs.Moments.{Still, still, since, named_more, finished_stays, all_frozen_stays, descriptor_stays}
-use Rattle.histories.proofs.Entries.{removed_stays}
-use Rattle.histories.proofs.Finals.{IsFinalizing}
-use Rattle.histories.proofs.Facts.{Facts, some_is_real}
-use Rattle.histories.proofs.Always.{facts, facts_before}
+use Rattle.histories.specs.Finalizing.{IsFinalizing}
+use Rattle.histories.proofs.Lemmas.{Facts, Still, all_frozen_stays, descriptor_stays, facts, facts_before, finished_stays, named_more, removed_stays, since, some_is_real, still}
 use Rattle.prims.specs.Snap.{child_of}
 use Rattle.prims.specs.declared.snap.Snap.{Snap}
 

@@ -19,7 +19,7 @@ use Rattle.arena.specs.declared.machine.Turn.{Turn}
 use Rattle.arena.specs.declared.machine.Turn.TheVariants.{Ask, Done}
 use Rattle.arena.specs.declared.number.ScxNo.{ScxNo}
 use Rattle.help.specs.declared.state.HelpRun.{HelpRun}
-use Rattle.histories.proofs.Finals.{IsFinalizing}
+use Rattle.histories.specs.Finalizing.{IsFinalizing}
 use Rattle.help.specs.HelpKnown.{help_ready, help_waits}
 use Rattle.prims.specs.Idle.{IsQuietSince}
 use Rattle.prims.specs.InTheWay.{HasBeen, IsBehind, IsDisturbed}

@@ -14,11 +14,7 @@ use Rattle.arena.specs.Fills.{IsNamed}
 use Rattle.arena.specs.Lawful.{Lawful, Obeys}
 use Rattle.arena.specs.Machines.{IsRun, Call, row_of, IsTold}
 use Rattle.arena.proofs.Values.{value_at, held_more, ends_self}
-use Rattle.histories.proofs.Blames.{earlier}
-use Rattle.histories.proofs.Changes.{lawful_more}
-use Rattle.histories.proofs.Moments.{finished_stays, state_stays, marked_stays}
-use Rattle.histories.proofs.Owners.{named_scx_inside}
-use Rattle.histories.proofs.Shapes.{shaped_more}
+use Rattle.histories.proofs.Lemmas.{earlier, finished_stays, lawful_more, marked_stays, named_scx_inside, shaped_more, state_stays}
 use Rattle.help.specs.HelpKept.{help_keeps}
 use Rattle.help.specs.HelpLawful.{help_lawful}
 use Rattle.help.specs.HelpMade.{help_made}

@@ -14,12 +14,7 @@ use Rattle.arena.specs.Words.{info, marked, child, state}
 use Rattle.arena.specs.History.{History, value, HasHeld, EndsWith}
 use Rattle.arena.specs.Machines.{IsRun, Call}
 use Rattle.arena.proofs.Values.{held_at}
-use Rattle.histories.proofs.Facts.{IsEnded, Facts}
-use Rattle.histories.proofs.Always.{facts}
-use Rattle.histories.proofs.Fields.{fields_are}
-use Rattle.histories.proofs.Entries.{by_final}
-use Rattle.histories.proofs.Helping.{committed_won}
-use Rattle.histories.proofs.Finals.{not_final, aborted_unmarked}
+use Rattle.histories.proofs.Lemmas.{Facts, IsEnded, aborted_unmarked, by_final, committed_won, facts, fields_are, not_final}
 use Rattle.help.specs.HelpKnown.{help_answers}
 use Rattle.help.specs.declared.state.HelpRun.{HelpRun}
 use Rattle.help.specs.declared.state.HelpAt.TheVariants.{Start as HelpStart}

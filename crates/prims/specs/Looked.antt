@@ -5,9 +5,7 @@ use Rattle.arena.specs.History.{History, value, EndsWith}
 use Rattle.arena.specs.Lawful.{Lawful}
 use Rattle.arena.specs.Log.{log, last}
 use Rattle.arena.specs.Machines.{Call}
-use Rattle.histories.proofs.Moments.{lawful_since}
-use Rattle.histories.proofs.Lasts.{last_since}
-use Rattle.histories.proofs.Finals.{not_final}
+use Rattle.histories.proofs.Lemmas.{last_since, lawful_since, not_final}
 use Rattle.prims.specs.Moments.{IsMoment, IsAsFound}
 use Rattle.prims.specs.Linked.{IsLinked, in_field_named}
 use Rattle.prims.specs.declared.snap.Snap.{Snap}

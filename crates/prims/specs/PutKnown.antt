@@ -10,7 +10,7 @@ use Rattle.arena.specs.Words.{node}
 use Rattle.arena.specs.History.{History, ◌⊳◌, value}
 use Rattle.arena.specs.Fills.{IsOwnNode, IsTakenNode, IsTakenScx, IsFillOfNode}
 use Rattle.arena.specs.Machines.{Call}
-use Rattle.histories.proofs.Facts.{Descriptor}
+use Rattle.histories.specs.Descriptor.{Descriptor}
 use Rattle.help.specs.Allowed.{IsLater, IsAllowed}
 use Rattle.prims.specs.Cells.{allows_all}
 use Rattle.prims.specs.VlxKnown.{IsClear}

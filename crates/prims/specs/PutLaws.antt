@@ -12,9 +12,7 @@ use Rattle.arena.specs.Lawful.{Lawful}
 use Rattle.arena.specs.Machines.{IsRun, Call, row_of, IsTold}
 use Rattle.arena.proofs.Values.{value_at, value_apart, held_back, node_word_apart}
 use Rattle.arena.proofs.Taken.{taken_node_more, fill_takes_node}
-use Rattle.histories.proofs.Changes.{lawful_more}
-use Rattle.histories.proofs.Owners.{own_node_inside}
-use Rattle.histories.proofs.Shapes.{shaped_more}
+use Rattle.histories.proofs.Lemmas.{lawful_more, own_node_inside, shaped_more}
 use Rattle.help.specs.AllowedLaws.{later_self, later_trans}
 use Rattle.prims.specs.Cells.{allows_all}
 use Rattle.prims.specs.Linked.{linked_more}

@@ -18,7 +18,7 @@ use Rattle.arena.specs.Lawful.{Lawful}
 use Rattle.arena.specs.Log.{Entry}
 use Rattle.arena.specs.Machines.{Call, MatchTurn}
 use Rattle.arena.proofs.Values.{ends_self, ends_trans, held_now}
-use Rattle.histories.proofs.Moments.{node_since}
+use Rattle.histories.proofs.Lemmas.{node_since}
 use Rattle.prims.specs.Wins.{IsWonAt, won_logged, won_was_named}
 use Rattle.prims.specs.ScxKnown.{IsUnderWay, IsEntryAt, scx_ready, scx_waits, scx_answers}
 use Rattle.prims.specs.PutKnown.{HasValue, IsFirstPut, put_step, put_waits_at, put_waits, put_told_at, put_ready, put_answers}

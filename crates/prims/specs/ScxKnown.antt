@@ -22,7 +22,7 @@ use Rattle.arena.specs.declared.number.ScxNo.{ScxNo}
 use Rattle.help.specs.Plan.{count as planned}
 use Rattle.help.specs.declared.state.HelpRun.{HelpRun}
 use Rattle.arena.specs.Machines.{Call, IsRun, MatchTurn}
-use Rattle.histories.proofs.Facts.{Descriptor}
+use Rattle.histories.specs.Descriptor.{Descriptor}
 use Rattle.help.specs.Allowed.{IsAllowed}
 use Rattle.help.specs.HelpKnown.{IsBlocked, help_ready, help_waits}
 use Rattle.prims.specs.Snap.{child_of, snap_at}

@@ -12,10 +12,7 @@ use Rattle.arena.specs.ScxRecords.{index_of as field_of, side_of}
 use Rattle.arena.specs.Fills.{IsInField, IsTakenScx, MayFill}
 use Rattle.arena.specs.Lawful.{Lawful}
 use Rattle.arena.specs.Machines.{IsRun, Call, row_of}
-use Rattle.histories.proofs.Changes.{IsScxFill, lawful_more}
-use Rattle.histories.proofs.Owners.{one_node_owner, own_scx_inside, own_words_stay, stays_free}
-use Rattle.histories.proofs.Unnamed.{stays_unnamed, field_back, word_back}
-use Rattle.histories.proofs.Shapes.{shaped_more}
+use Rattle.histories.proofs.Lemmas.{IsScxFill, field_back, lawful_more, one_node_owner, own_scx_inside, own_words_stay, shaped_more, stays_free, stays_unnamed, word_back}
 use Rattle.help.specs.AllowedLaws.{allowed_more}
 use Rattle.help.specs.HelpKept.{help_keeps}
 use Rattle.help.specs.HelpLawful.{help_lawful, index_small}

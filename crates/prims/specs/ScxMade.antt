@@ -16,7 +16,7 @@ use Rattle.arena.specs.Lawful.{Lawful}
 use Rattle.arena.specs.Machines.{IsRun, Call, row_of, IsTold}
 use Rattle.arena.proofs.SameWords.{word_same}
 use Rattle.arena.proofs.Values.{value_at, value_other, value_apart, held_back, scx_apart, scx_word_apart}
-use Rattle.histories.proofs.Quiet.{never_state}
+use Rattle.histories.proofs.Lemmas.{never_state}
 use Rattle.help.specs.AllowedLaws.{allowed_more}
 use Rattle.help.specs.HelpLawful.{help_fills_not}
 use Rattle.help.specs.HelpMade.{help_made}

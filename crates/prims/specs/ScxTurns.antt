@@ -15,9 +15,9 @@ use Rattle.arena.specs.History.{History, value}
 use Rattle.arena.specs.ScxRecords.{count_of, index_of as field_of, side_of, plan, member, seen, new, old, count}
 use Rattle.arena.specs.Machines.{IsRun, Call}
 use Rattle.arena.proofs.Plans.{plan_counted}
-use Rattle.histories.proofs.Facts.{Descriptor, descriptor}
-use Rattle.histories.proofs.Begins.{Begins}
-use Rattle.histories.proofs.Helping.{committed_won, aborted_no_entry}
+use Rattle.histories.specs.Begins.{Begins}
+use Rattle.histories.specs.Descriptor.{Descriptor, descriptor}
+use Rattle.histories.proofs.Lemmas.{aborted_no_entry, committed_won}
 use Rattle.arena.specs.Lawful.{Lawful}
 use Rattle.arena.proofs.Values.{ends_self}
 use Rattle.help.specs.HelpKnown.{IsBlocked, HasNoted, node_at, blocked_at, reading, help_answers}

@@ -6,7 +6,7 @@ use Rattle.arena.specs.Share.{Left, HasNode, HasScx}
 use Rattle.arena.specs.History.{History, EndsWith}
 use Rattle.arena.specs.Blame.{IsMember, IsInProgress}
 use Rattle.arena.specs.Fills.{IsOwnNode, IsOwnScx, IsTakenNode, IsTakenScx}
-use Rattle.histories.proofs.Unmentioned.{IsUnmentioned}
+use Rattle.histories.specs.Unmentioned.{IsUnmentioned}
 use Rattle.prims.specs.Linked.{IsLinked}
 use Rattle.prims.specs.Moments.{IsMoment}
 use Rattle.prims.specs.declared.snap.Snap.{Snap}

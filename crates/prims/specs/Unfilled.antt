@@ -14,9 +14,7 @@ use Rattle.arena.specs.History.{History, ◌⊳◌, value}
 use Rattle.arena.specs.Fills.{IsOwnNode, IsOwnScx}
 use Rattle.arena.specs.Lawful.{Lawful}
 use Rattle.arena.proofs.Values.{value_quiet, value_apart, node_apart, node_word_apart, scx_apart, scx_word_apart}
-use Rattle.histories.proofs.Changes.{IsScxFill, FillsNode, FillsScx, Change, nothing, fills_node, fills_scx, freezes, sets_frozen, marks, updates, commits, aborts, change, lawful_row}
-use Rattle.histories.proofs.Owners.{one_scx_owner, one_node_owner}
-use Rattle.histories.proofs.Quiet.{not_state, not_flag}
+use Rattle.histories.proofs.Lemmas.{Change, FillsNode, FillsScx, IsScxFill, aborts, change, commits, fills_node, fills_scx, freezes, lawful_row, marks, not_flag, not_state, nothing, one_node_owner, one_scx_owner, sets_frozen, updates}
 
 -- the settled words of an SCX-record
 pub words_unfilled : (lay : Layout) (h : History) (r : Row) (s : ℕ) → Lawful lay (r ⊳ h) → ((part : ScxWord) → ¬ FillsScx lay h r s part) → (a : ScxWord) → IsScxFill a → value (r ⊳ h) (scx s a) ≡ value h (scx s a)

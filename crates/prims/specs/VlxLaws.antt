@@ -11,7 +11,7 @@ use Rattle.arena.specs.History.{History, ◌⊳◌, value}
 use Rattle.arena.specs.Lawful.{Lawful}
 use Rattle.arena.specs.Machines.{IsRun, Call, row_of, IsTold, MatchTurn}
 use Rattle.arena.proofs.Values.{ends_self}
-use Rattle.histories.proofs.Moments.{still_since, lawful_since}
+use Rattle.histories.proofs.Lemmas.{lawful_since, still_since}
 use Rattle.prims.specs.Linked.{in_field_named}
 use Rattle.prims.specs.LlxLaws.{load_lawful, load_told}
 use Rattle.prims.specs.Moments.{IsAsFound}

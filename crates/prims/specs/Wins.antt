@@ -14,15 +14,8 @@ use Rattle.arena.specs.Lawful.{IsWin, HasWon, Lawful}
 use Rattle.arena.specs.Blame.{IsMember}
 use Rattle.arena.specs.Log.{log, last, is_final}
 use Rattle.arena.proofs.Values.{ends_self, ends_trans, held_at, held_since}
-use Rattle.histories.proofs.Changes.{IsScxFill, FreezeWins, UpdateWins, lawful_tail, lawful_row}
-use Rattle.histories.proofs.Facts.{Facts, descriptor, About, won_more, some_is_real}
-use Rattle.histories.proofs.Freezes.{freeze_keeps_scx, freeze_keeps_info, freeze_stores, freeze_finds}
-use Rattle.histories.proofs.Updates.{update_flagged, update_is_first, update_keeps_info}
-use Rattle.histories.proofs.Always.{Effect, quiet, freeze, update, effect, facts, facts_before}
-use Rattle.histories.proofs.Moments.{scx_stays, scx_since, lawful_since, won_since}
-use Rattle.histories.proofs.Fields.{entry_of, log_same, log_wins}
-use Rattle.histories.proofs.Lasts.{holds_member, last_waits, last_since}
-use Rattle.histories.proofs.Finals.{win_not_final}
+use Rattle.histories.specs.Descriptor.{descriptor}
+use Rattle.histories.proofs.Lemmas.{About, Effect, Facts, FreezeWins, IsScxFill, UpdateWins, effect, entry_of, facts, facts_before, freeze, freeze_finds, freeze_keeps_info, freeze_keeps_scx, freeze_stores, holds_member, last_since, last_waits, lawful_row, lawful_since, lawful_tail, log_same, log_wins, quiet, scx_since, scx_stays, some_is_real, update, update_flagged, update_is_first, update_keeps_info, win_not_final, won_more, won_since}
 
 -- Moments
 
