@@ -203,6 +203,7 @@ module _ {T : Type 0} (p : Inside T) (x : IsPass allows_all Records p) (some_nod
       before = d.entry.before;
       within = at.within;
       since = at.since;
+      wins = at.wins;
       logged = at.logged;
       done = z.2 ∙ ap (λ k. k ∷ done_of (sight p)) same;
       of_pass = refl;

@@ -17,6 +17,7 @@ use Rattle.arena.specs.Words.{info, state, child, node as node_word}
 use Rattle.arena.specs.History.{History, ◌⊳◌, value, HasHeld, EndsWith}
 use Rattle.arena.specs.Fills.{IsOthersScx, IsOwnNode, IsOwnScx, IsTakenNode, IsTakenScx}
 use Rattle.arena.specs.Blame.{WasInTheWay}
+use Rattle.arena.specs.Lawful.{IsWin}
 use Rattle.arena.specs.Log.{Entry, log, is_final, has, fields}
 use Rattle.prims.specs.LlxKnown.{IsSnapshot, IsFinalBy}
 use Rattle.prims.specs.declared.snap.Snap.{Snap}
@@ -212,6 +213,7 @@ pub record IsDone (old new : Sight) (snaps : List Snap) (finalize : List NodeNo)
   pub before : History
   pub within : EndsWith (run_of new) (row ⊳ before)
   pub since : EndsWith before (run_of old)
+  pub wins : IsWin before row e.scx
   pub logged : log new.layout (row ⊳ before) ≡ e ∷ log new.layout before
   pub done : done_of new ≡ e ∷ done_of old
   pub of_pass : e.owner ≡ old.number

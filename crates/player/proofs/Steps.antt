@@ -14,9 +14,9 @@ use Rattle.arena.specs.declared.step.Deed.TheVariants.{Load, Store, Exchange}
 use Rattle.arena.specs.Layout.{IsWord}
 use Rattle.arena.specs.PlainWords.{Contents, held, IsChanged}
 use Rattle.arena.specs.History.{◌⊳◌, value}
-use Rattle.arena.specs.Lawful.{IsLawful}
+use Rattle.arena.specs.Lawful.{IsLawful, IsWin}
 use Rattle.arena.specs.Machines.{IsRun, IsTold}
-use Rattle.histories.proofs.Lemmas.{lawful_row}
+use Rattle.histories.proofs.Lemmas.{facts_before, lawful_row, update_win}
 use Rattle.prims.specs.Cells.{allows_all}
 use Rattle.script.specs.declared.command.Call.{Call}
 use Rattle.script.specs.declared.command.Command.{Command}
@@ -129,6 +129,7 @@ module _ (p : Player) (i number : ℕ) (step : Ask) (a : IsAsked p i number step
   win_of : (entry : Entry) (s : ℕ) → IsEntryOfWin lay (history lay.mode lines) made entry s → (c : Client) → c.pass.0 ≡ entry.client.0 → IsEntryFrom (view lay calls lines entry.client.0) c made s → (made.pass.0 ≢ entry.client.0 → IsSome (begin lines entry.client.0)) → IsWinOf lay calls lines made entry
   win_of entry s w c is x begun = record {
     begun = begun;
+    wins = subst (λ (k : ℕ). IsWin (history lay.mode lines) made k) (sym w.scx_is) (update_win (facts_before lay (history lay.mode lines) made sound.lawful) w.wins);
     first = x.first;
     call = w.call_is ∙ x.called ∙ x.number;
     command = x.command;

@@ -12,11 +12,12 @@ use Rattle.arena.specs.declared.word.NodeWord.{NodeWord}
 use Rattle.arena.specs.declared.word.NodeWord.TheVariants.{Value}
 use Rattle.arena.specs.Words.{node, info, state, child}
 use Rattle.arena.specs.History.{History, ◌⊳◌, value, HasHeld, EndsWith}
-use Rattle.arena.specs.Lawful.{Lawful, IsLawful}
+use Rattle.arena.specs.Lawful.{Lawful, IsLawful, IsWin}
 use Rattle.arena.specs.Finalized.{IsFinalized}
 use Rattle.arena.specs.Fills.{IsOwnNode, IsOwnScx, IsOthersScx, IsTakenNode, IsTakenScx}
 use Rattle.arena.specs.Blame.{WasInTheWay}
 use Rattle.arena.specs.Log.{Entry as Entered, log, fields, last, is_final, has, AreOnce}
+use Rattle.histories.specs.Laws.{SpellFields, StaysFinalized}
 use Rattle.script.specs.Cells.{cells_of}
 use Rattle.script.specs.Update.{update_cells, update_finalize, update_field, update_value}
 use Rattle.script.specs.declared.command.Call.{Call}
@@ -239,6 +240,7 @@ IsEntryFor lay c before start linked e _ = ⊥
 
 -- a row that wins enters its update into the log: the only one of a call of its SCX-record's owner that is not answered yet
 pub record IsWinOf (lay : Layout) (calls : List Call) (lines : List Line) (row : StepRow) (entry : Entry) : Type 0 where
+  pub wins : IsWin (history lay.mode lines) row entry.scx.0
   pub first : won lay lines entry.client.0 ≡ None
   pub call : entry.call ≡ answered lines entry.client.0
   pub command : Command
