@@ -89,7 +89,9 @@ impl<S: Shape> Machine<S> for VlxRun {
 
     ghost same = { λ old now. now.snaps ≡ old.snaps };
 
-    ghost left = { vlx_left };
+    ghost left = { λ m nodes. vlx_left m };
+
+    ghost fits = { λ m got nodes. Unit {0} };
 
     ghost asks_first = { λ _. Unit {0} };
 
@@ -111,4 +113,6 @@ impl<S: Shape> Machine<S> for VlxRun {
     ghost lawful = { vlx_lawful S.allows };
 
     ghost made = { vlx_made S.allows };
+
+    ghost told = { λ m c h got nodes run ready few. tt };
 }

@@ -14,4 +14,4 @@ returns-clause-ends g c = λ k lay number x.
     (c.complete.result.0, c.complete.ensures.ends k c.args.unbegun lay number (stands g.S.Shape.allows vlx_ready vlx_waits same_snaps k _ c.args.unbegun c.next-turn.new.self c.next-turn.result vlx_answers c.next-turn.ensures.same (λ h run y. c.next-turn.ensures.turn k h run y) x))
 
 pub returns-clause-steps : goal.returns-clause-steps
-returns-clause-steps g c = let w = weighs c.next-turn.result _ _ c.next-turn.ensures.nearer in let s = c.complete.ensures.steps in omega arith
+returns-clause-steps g c = let w = weighs c.next-turn.result _ _ (c.next-turn.ensures.nearer 0 tt) in let s = c.complete.ensures.steps in omega arith
