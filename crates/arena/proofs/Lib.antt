@@ -5,3 +5,4 @@ pub mod Shares
 pub mod Values
 pub mod Plans
 pub mod Taken
+pub mod TakenNodes

@@ -6,7 +6,7 @@ use Rattle.std.proofs.Math.Nat.{mul-le-mul_right}
 apart_is_below : (c d : ℕ) → c ≢ d → (c + 1 ≤ d) ⊎ (d + 1 ≤ c)
 apart_is_below c d apart = grind arith
 
-below_is_whole : (size c d : ℕ) → c + 1 ≤ d → c * size + size ≤ d * size
+pub below_is_whole : (size c d : ℕ) → c + 1 ≤ d → c * size + size ≤ d * size
 below_is_whole size c d less =
     let product : (c + 1) * size ≤ d * size = mul-le-mul_right size less in
     omega (arith, product)

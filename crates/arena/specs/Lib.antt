@@ -13,3 +13,4 @@ pub mod Blame
 pub mod Log
 pub mod Shape
 pub mod Finalized
+pub mod TakenNodes

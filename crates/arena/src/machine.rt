@@ -1,10 +1,11 @@
 //! Calls that run step by step.
-ghost use Rattle.std.specs.Prelude.{◌≡◌, ◌≢◌, ℕ, ◌<◌, Option, Some, None};
+ghost use Rattle.std.specs.Prelude.{◌≡◌, ◌≢◌, ℕ, ◌<◌, ◌≤◌, length, Option, Some, None};
 ghost use Rattle.arena.specs.declared.layout.Layout.{Layout};
 ghost use Rattle.arena.specs.declared.limits.Mode.{Mode};
 ghost use Rattle.arena.specs.History.{History, Start, value, ◌⊳◌};
 ghost use Rattle.arena.specs.declared.step.Row.{Row};
 ghost use Rattle.arena.specs.declared.step.Step.{Step};
+ghost use Rattle.arena.specs.TakenNodes.{taken_nodes};
 ghost use Rattle.arena.specs.Machines.{MatchTurn, IsRun, Call, row_of, IsTold};
 
 use crate::step::Step;
@@ -65,8 +66,11 @@ pub trait Machine<S: Shape> {
     /// The second is the first, further on: what it is a call of has not changed.
     ghost same: { Self → Self → Type 0 };
 
-    /// How many steps it may still ask for.
-    ghost left: { Self → ℕ };
+    /// How many steps it may still ask for, in a run in which no more nodes than these are taken.
+    ghost left: { Self → ℕ → ℕ };
+
+    /// What it is told is of such a run.
+    ghost fits: { Self → Option ℕ → ℕ → Type 0 };
 
     /// It never answers in place of its first step.
     ghost asks_first: { Self → Type 0 };
@@ -77,7 +81,7 @@ pub trait Machine<S: Shape> {
         ensures turn { (c : Call) (h : History) → IsRun S.allows c.layout h → ready self.old c h got → MatchTurn result (waits self.new c h) (answers self.new c h) }
         ensures begins { got ≡ None → asks_first self.old → (c : Call) (h : History) → ready self.old c h None → MatchTurn result (λ _. Unit {0}) (λ _. ⊥) }
         ensures same { same self.old self.new }
-        ensures nearer { MatchTurn result (λ _. left self.new < left self.old) (λ _. Unit {0}) };
+        ensures nearer { (nodes : ℕ) → fits self.old got nodes → MatchTurn result (λ _. left self.new nodes < left self.old nodes) (λ _. Unit {0}) };
 
     /// Rows of others leave it waiting.
     ghost keeps: { (m : Self) (c : Call) (h : History) (s : Step) (r : Row) → IsRun S.allows c.layout (r ⊳ h) → r.pass.0 ≢ c.pass → waits m c h s → waits m c (r ⊳ h) s };
@@ -87,4 +91,7 @@ pub trait Machine<S: Shape> {
 
     /// Once the step is made, it may be called with what that told.
     ghost made: { (m : Self) (c : Call) (h : History) (s : Step) (v : ℕ) → IsRun S.allows c.layout (row_of c s h ⊳ h) → IsTold s.deed (value h s.word) v → waits m c h s → ready m c (row_of c s h ⊳ h) (Some v) };
+
+    /// What it may be told fits the nodes that are taken by then.
+    ghost told: { (m : Self) (c : Call) (h : History) (got : Option ℕ) (nodes : ℕ) → IsRun S.allows c.layout h → ready m c h got → length (taken_nodes h) ≤ nodes → fits m got nodes };
 }

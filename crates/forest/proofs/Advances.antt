@@ -1,5 +1,5 @@
 -- What a machine's laws make of a step under the rule.
-use Rattle.std.proofs.Common.{◌≡◌, ◌≢◌, ◌<◌, ◌≤◌, ℕ, suc, List, [], ◌∷◌, ◌++◌, sym, ap, refl, ◌∙◌, subst, eq-eqb, ne_eqb, arith}
+use Rattle.std.proofs.Common.{◌≡◌, ◌≢◌, ◌<◌, ◌≤◌, ℕ, suc, List, [], ◌∷◌, ◌++◌, length, sym, ap, refl, ◌∙◌, subst, eq-eqb, ne_eqb, arith}
 use Rattle.arena.specs.declared.layout.Layout.{Layout}
 use Rattle.arena.specs.declared.step.Row.{Row}
 use Rattle.arena.specs.declared.step.Step.{Step}
@@ -10,11 +10,13 @@ use Rattle.arena.specs.History.{History, ◌⊳◌, value}
 use Rattle.arena.specs.Lawful.{Lawful}
 use Rattle.arena.specs.Machines.{Call, IsRun, IsTold, MatchTurn, row_of}
 use Rattle.arena.specs.Shape.{Shaped}
+use Rattle.arena.specs.TakenNodes.{taken_nodes}
+use Rattle.arena.proofs.TakenNodes.{taken_few}
 use Rattle.histories.proofs.Lemmas.{lawful_row}
 use Rattle.forest.specs.declared.rule.Asked.{Asked}
 use Rattle.forest.specs.declared.view.Knower.{Knower}
 use Rattle.forest.specs.Kept.{past, past_of, knower, ByOthers, MayMake, Made, row}
-use Rattle.forest.specs.Courses.{IsCalled, rows_of, steps_of, weight}
+use Rattle.forest.specs.Courses.{IsCalled, rows_of, steps_of, shared_nodes, weight}
 
 -- a run without its last row is a run
 pub run_before : (allows : Layout → History → ℕ → Type 0) (lay : Layout) (h : History) (r : Row) → IsRun allows lay (r ⊳ h) → IsRun allows lay h
@@ -85,3 +87,7 @@ one_step allows said ps qs n m = ap steps_of m.is ∙ rw (eq-eqb m.pass.number.0
 pub weighs : {A : Type 0} (t : Turn A) (n m : ℕ) → MatchTurn t (λ s. n < m) (λ a. Unit {0}) → weight t n ≤ m
 weighs (Ask s) n m h = omega arith
 weighs (Done a) n m h = omega arith
+
+-- a run takes no more nodes than all shares have
+pub few_taken : (allows : Layout → History → ℕ → Type 0) (lay : Layout) (c : Call) (h : History) → c.layout ≡ lay → IsRun allows c.layout h → length (taken_nodes h) ≤ shared_nodes lay
+few_taken allows lay c h e run = subst (λ (l : Layout). length (taken_nodes h) ≤ shared_nodes l) e (taken_few c.layout h run.lawful)

@@ -123,7 +123,9 @@ impl<S: Shape> Machine<S> for HelpRun {
 
     ghost same = { λ old now. now.scx ≡ old.scx };
 
-    ghost left = { λ m. help_left m.at };
+    ghost left = { λ m nodes. help_left m.at };
+
+    ghost fits = { λ m got nodes. Unit {0} };
 
     ghost asks_first = { λ _. Unit {0} };
 
@@ -170,4 +172,6 @@ impl<S: Shape> Machine<S> for HelpRun {
     ghost lawful = { help_lawful S.allows };
 
     ghost made = { help_made S.allows };
+
+    ghost told = { λ m c h got nodes run ready few. tt };
 }

@@ -59,7 +59,9 @@ impl Machine<Cells> for Run {
 
     ghost same = { run_same };
 
-    ghost left = { run_left };
+    ghost left = { λ m nodes. run_left m };
+
+    ghost fits = { λ m got nodes. Unit {0} };
 
     ghost asks_first = { run_asks_first };
 
@@ -76,4 +78,6 @@ impl Machine<Cells> for Run {
     ghost lawful = { run_lawful };
 
     ghost made = { run_made };
+
+    ghost told = { λ m c h got nodes run ready few. tt };
 }

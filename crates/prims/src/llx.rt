@@ -273,7 +273,9 @@ impl<S: Shape> Machine<S> for LlxRun {
 
     ghost same = { λ old now. now.node ≡ old.node };
 
-    ghost left = { λ m. llx_left m.at };
+    ghost left = { λ m nodes. llx_left m.at };
+
+    ghost fits = { λ m got nodes. Unit {0} };
 
     ghost asks_first = { λ _. Unit {0} };
 
@@ -321,4 +323,6 @@ impl<S: Shape> Machine<S> for LlxRun {
     ghost lawful = { llx_lawful S.allows };
 
     ghost made = { llx_made S.allows };
+
+    ghost told = { λ m c h got nodes run ready few. tt };
 }

@@ -57,7 +57,9 @@ impl<S: Shape> Machine<S> for PutRun {
 
     ghost same = { λ old now. (now.scx.scx ≡ old.scx.scx) × (now.scx.update ≡ old.scx.update) × (now.scx.call ≡ old.scx.call) × (now.value ≡ old.value) };
 
-    ghost left = { put_left };
+    ghost left = { λ m nodes. put_left m };
+
+    ghost fits = { λ m got nodes. Unit {0} };
 
     ghost asks_first = { λ _. Unit {0} };
 
@@ -84,4 +86,6 @@ impl<S: Shape> Machine<S> for PutRun {
     ghost lawful = { put_lawful S.allows };
 
     ghost made = { put_made S.allows };
+
+    ghost told = { λ m c h got nodes run ready few. tt };
 }

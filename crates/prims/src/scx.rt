@@ -154,7 +154,9 @@ impl<S: Shape> Machine<S> for ScxRun {
 
     ghost same = { λ old now. (now.scx ≡ old.scx) × (now.update ≡ old.update) × (now.call ≡ old.call) };
 
-    ghost left = { λ m. scx_left m.at };
+    ghost left = { λ m nodes. scx_left m.at };
+
+    ghost fits = { λ m got nodes. Unit {0} };
 
     ghost asks_first = { λ _. Unit {0} };
 
@@ -186,4 +188,6 @@ impl<S: Shape> Machine<S> for ScxRun {
     ghost lawful = { scx_lawful S.allows };
 
     ghost made = { scx_made S.allows };
+
+    ghost told = { λ m c h got nodes run ready few. tt };
 }

@@ -71,7 +71,9 @@ impl<S: Shape, L: SnapList> Machine<S> for VlxRun<L> {
 
     ghost same = { λ old now. now.snaps ≡ old.snaps };
 
-    ghost left = { λ m. vlx_left (L.list m.snaps) m.asked };
+    ghost left = { λ m nodes. vlx_left (L.list m.snaps) m.asked };
+
+    ghost fits = { λ m got nodes. Unit {0} };
 
     ghost asks_first = { λ _. Unit {0} };
 
@@ -93,4 +95,6 @@ impl<S: Shape, L: SnapList> Machine<S> for VlxRun<L> {
     ghost lawful = { λ m. vlx_lawful S.allows (L.list m.snaps) m.asked };
 
     ghost made = { λ m. vlx_made S.allows (L.list m.snaps) m.asked };
+
+    ghost told = { λ m c h got nodes run ready few. tt };
 }

@@ -19,3 +19,6 @@ returns-after-marked-clause-turn g c d h x met =
       | else-marked w ↦ w.if-marked.false
     ])
     c.helped.ensures.turn
+
+pub returns-in-Ask-clause-nearer : goal.returns-in-Ask-clause-nearer
+returns-in-Ask-clause-nearer g c = let i = c.in-Ask.ensures.nearer 0 tt in omega (arith, i)

@@ -1,4 +1,4 @@
-use Rattle.std.proofs.Common.{sym, subst}
+use Rattle.std.proofs.Common.{sym, subst, arith}
 use Rattle.arena.specs.declared.number.NodeNo.{NodeNo}
 use Rattle.arena.specs.declared.number.ScxNo.{ScxNo}
 use Rattle.prims.specs.ScxKnown.{IsLost}
@@ -10,3 +10,6 @@ returns-in-Done-true-clause-turn g c d h x = done_at d h c.args.self.now c.args.
 
 pub returns-in-Done-false-clause-turn : goal.returns-in-Done-false-clause-turn
 returns-in-Done-false-clause-turn g c d h x = subst (λ (p : NodeNo × ScxNo). IsLost d h c.args.self.now p.0.0 p.1.0) (sym c.blocked.ensures) (lost_at d h c.args.self.now c.args.help x.run.lawful x.filled x.same c.in-Done-false.field-0 c.next.new.self (c.in-Done-false.ensures.turn d h x.run x.ready) c.in-Done-false.field-0-test c.next.ensures.same)
+
+pub returns-in-Ask-clause-nearer : goal.returns-in-Ask-clause-nearer
+returns-in-Ask-clause-nearer g c = let i = c.in-Ask.ensures.nearer 0 tt in omega (arith, i)

@@ -1,0 +1,17 @@
+-- Which nodes have been taken, by whatever pass.
+use Rattle.std.specs.Prelude.{ℕ, cond, List, [], ◌∷◌}
+use Rattle.arena.specs.declared.word.Word.{Word}
+use Rattle.arena.specs.declared.word.Word.TheVariants.{Node}
+use Rattle.arena.specs.declared.step.Kind.{Kind}
+use Rattle.arena.specs.declared.step.Kind.TheVariants.{Fill}
+use Rattle.arena.specs.History.{History, Start, ◌⊳◌}
+use Rattle.arena.specs.Log.{has}
+
+-- the nodes of which a word was filled, the newest first, each once
+abbrev pub with_fill : Kind → Word → List ℕ → List ℕ
+with_fill Fill (Node n part) ns = cond (has ns n.0) ns (n.0 ∷ ns)
+with_fill _ _ ns = ns
+
+unfoldable pub taken_nodes : History → List ℕ
+taken_nodes (Start mode) = []
+taken_nodes (r ⊳ h) = with_fill r.kind r.word (taken_nodes h)
