@@ -11,7 +11,13 @@ use forest::{Forest, Full, Pass};
 use prims::{Cells, Llx, Scx};
 
 /// All rounds of a thread.
-pub fn rounds(forest: &Forest<Cells>, work: Work, calls: u32, mut pass: Pass<Cells>, pair: Pair) -> Tally
+pub fn rounds(
+    forest: &Forest<Cells>,
+    work: Work,
+    calls: u32,
+    mut pass: Pass<Cells>,
+    pair: Pair,
+) -> Tally
     requires { IsOf forest.now pass }
     ensures { total result ≡ calls }
 {
