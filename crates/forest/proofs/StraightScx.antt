@@ -43,6 +43,13 @@ use Rattle.forest.specs.StraightHelp.{same_record, call_waits, call_answers, Hel
 use Rattle.forest.specs.StraightScx.{put_same, scx_at, fill_of, PutBegins, PutWaits, PutTold, PutEnds}
 
 module _ (allows : Layout → History → ℕ → Type 0) (c : Call) (ps : List Knower) (first : PutRun) where
+  -- what holds of a run holds of its equal
+  pub waits_as : (m same : PutRun) (step : Step) → same ≡ m → PutWaits allows c ps first m step → PutWaits allows c ps first same step
+  waits_as m same step is x = subst (λ n. PutWaits allows c ps first n step) (sym is) x
+
+  pub told_as : (m same : PutRun) (v : ℕ) → same ≡ m → PutTold allows c ps first same v → PutTold allows c ps first m v
+  told_as m same v is x = subst (λ n. PutTold allows c ps first n v) is x
+
   -- it fills the value, and then the plan
   pub to_value : PutBegins allows c ps first → PutWaits allows c ps first (record first { at = AtFill }) (put_step first)
   to_value x = record { known = x.known; is = x.is; sound = x.sound; so = (turn_start allows first c _ x.so.1, goes_on first (refl, refl, refl, refl) (begins refl (sym x.so.0))) }
@@ -76,11 +83,18 @@ module _ (allows : Layout → History → ℕ → Type 0) (c : Call) (ps : List 
   pub to_member : (m : PutRun) (v : ℕ) → PutTold allows c ps first (scx_at m AtOld) v → PutWaits allows c ps first (scx_at m (AtMember First)) (fill_of m (Member 0) (snap_at m.scx.update.snaps 0).node.0)
   to_member m v = fills m AtOld (AtMember First) v _ (λ h x. x) (λ h x. turn_old allows c h (scx_at m AtOld).scx (scx_at m (AtMember First)).scx (Ask _) x record { stands = refl; asked = refl })
 
+  -- the place lies within the nodes
+  pub within_member : (m : PutRun) (j : MemberNo) (step : Step) → PutWaits allows c ps first (scx_at m (AtMember j)) step → index_of j < length m.scx.update.snaps
+  within_member m j step x = x.so.0.1.fills.within
+
   pub next_member : (m : PutRun) (j next : MemberNo) (v : ℕ) → index_of next ≡ suc (index_of j) → index_of next < planned m.scx.update.plan.0 → PutTold allows c ps first (scx_at m (AtMember j)) v → PutWaits allows c ps first (scx_at m (AtMember next)) (fill_of m (Member (index_of next)) (snap_at m.scx.update.snaps (index_of next)).node.0)
   next_member m j next v is within = fills m (AtMember j) (AtMember next) v _ (λ h x. x) (λ h x. turn_member allows c h (scx_at m (AtMember j)).scx j (scx_at m (AtMember next)).scx (Ask _) x (inl record { next = next; is = is; within = within; fills = record { stands = refl; asked = refl } }))
 
   pub to_seen : (m : PutRun) (j : MemberNo) (v : ℕ) → ((index_of j < 3) × (suc (index_of j) < planned m.scx.update.plan.0) → ⊥) → PutTold allows c ps first (scx_at m (AtMember j)) v → PutWaits allows c ps first (scx_at m (AtSeen First)) (fill_of m (Seen 0) (snap_at m.scx.update.snaps 0).scx.0)
   to_seen m j v none = fills m (AtMember j) (AtSeen First) v _ (λ h x. x) (λ h x. turn_member allows c h (scx_at m (AtMember j)).scx j (scx_at m (AtSeen First)).scx (Ask _) x (inr record { none = none; fills = record { stands = refl; asked = refl } }))
+
+  pub within_seen : (m : PutRun) (j : MemberNo) (step : Step) → PutWaits allows c ps first (scx_at m (AtSeen j)) step → index_of j < length m.scx.update.snaps
+  within_seen m j step x = x.so.0.1.fills.within
 
   pub next_seen : (m : PutRun) (j next : MemberNo) (v : ℕ) → index_of next ≡ suc (index_of j) → index_of next < planned m.scx.update.plan.0 → PutTold allows c ps first (scx_at m (AtSeen j)) v → PutWaits allows c ps first (scx_at m (AtSeen next)) (fill_of m (Seen (index_of next)) (snap_at m.scx.update.snaps (index_of next)).scx.0)
   next_seen m j next v is within = fills m (AtSeen j) (AtSeen next) v _ (λ h x. x) (λ h x. turn_seen allows c h (scx_at m (AtSeen j)).scx j (scx_at m (AtSeen next)).scx (Ask _) x (inl record { next = next; is = is; within = within; fills = record { stands = refl; asked = refl } }))

@@ -1,7 +1,6 @@
 -- Calls of an SCX with a fresh cell that stand at a place of its machine.
 use Rattle.std.specs.Prelude.{◌≡◌, ℕ, List}
 use Rattle.arena.specs.declared.layout.Layout.{Layout}
-use Rattle.arena.specs.declared.number.ScxNo.{ScxNo}
 use Rattle.arena.specs.declared.step.Step.{Step}
 use Rattle.arena.specs.declared.step.Deed.TheVariants.{Store}
 use Rattle.arena.specs.declared.step.Kind.TheVariants.{Fill}
@@ -15,16 +14,22 @@ use Rattle.prims.specs.declared.put.PutAt.TheVariants.{Start, Scx as AtScx}
 use Rattle.prims.specs.declared.scx.Scx.{Scx}
 use Rattle.prims.specs.declared.scx.ScxAt.{ScxAt}
 use Rattle.prims.specs.declared.scx.ScxAt.TheVariants.{Start as ScxStart}
-use Rattle.prims.specs.declared.update.Update.{Update}
+use Rattle.prims.specs.declared.put.PutAt.{PutAt}
+use Rattle.prims.specs.declared.snap.Snap.{Snap}
+use Rattle.forest.specs.declared.straight.scx.Put.{Put}
 use Rattle.forest.specs.declared.view.Knower.{Knower}
 use Rattle.forest.specs.Courses.{Begins, Waits, Told, Ends}
 
 abbrev pub put_same : PutRun → PutRun → Type 0
 put_same old now = (now.scx.scx ≡ old.scx.scx) × (now.scx.update ≡ old.scx.update) × (now.scx.call ≡ old.scx.call) × (now.value ≡ old.value)
 
--- the run of this update, cell's value, SCX-record and call's number that has not begun
-abbrev pub run_of : Update → ℕ → ScxNo → ℕ → PutRun
-run_of update value scx number = record { value = value; scx = record { scx = scx; call = number; update = update; at = ScxStart }; at = Start }
+-- the run over these snapshots of what is to be put, in the call of this number, that stands at these places
+abbrev pub standing : List Snap → Put → ℕ → ScxAt → PutAt → PutRun
+standing snaps put number scx at = record { value = put.value; scx = record { scx = put.scx; call = number; update = record { snaps = snaps; plan = put.plan; old = put.old; fresh = put.fresh }; at = scx }; at = at }
+
+-- that which has not begun
+abbrev pub run_of : List Snap → Put → ℕ → PutRun
+run_of snaps put number = standing snaps put number ScxStart Start
 
 -- a run with its SCX at a place
 abbrev pub scx_at : PutRun → ScxAt → PutRun

@@ -1,20 +1,55 @@
 //! An SCX with a fresh cell, with its steps in line.
-ghost use Rattle.std.specs.Prelude.{◌≡◌, ◌≤◌, ◌+◌, suc};
+ghost use Rattle.std.specs.Prelude.{◌≡◌, ◌≤◌, ◌+◌, suc, length};
 ghost use Rattle.arena.specs.Machines.{Call};
 ghost use Rattle.prims.specs.declared.put.PutRun.{PutRun};
 ghost use Rattle.prims.specs.Snap.{snap_at};
 ghost use Rattle.forest.specs.Kept.{IsTableOf};
 ghost use Rattle.forest.specs.Courses.{steps_of};
-ghost use Rattle.forest.specs.StraightScx.{PutBegins, PutWaits, PutTold, PutEnds, put_same, run_of, scx_at, fill_of};
+ghost use Rattle.forest.specs.StraightScx.{PutBegins, PutWaits, PutTold, PutEnds, put_same, run_of, scx_at, standing, fill_of};
 
 use crate::steps::step_of;
 use crate::straight;
 use crate::view::View;
 use crate::words::Words;
-use arena::{Deed, Kind, Layout, MemberNo, NodeWord, ScxNo, ScxWord, Shape, Step, Word};
+use arena::{Deed, Kind, Layout, MemberNo, NodeNo, NodeWord, ScxNo, ScxWord, Shape, Step, Word};
 use atomic_table::Seat;
-use help::HelpRun;
-use prims::{PutAt, PutRun, Scx, ScxAt, ScxRun, Update};
+use help::{HelpRun, Plan};
+use prims::{PutAt, PutRun, Scx, ScxAt, ScxRun, Snap, Snaps, Update};
+
+/// What an SCX with a fresh cell is to do, beside the snapshots, which stay where the caller has them.
+#[derive(Clone, Copy)]
+pub(crate) struct Put {
+    pub(crate) plan: Plan,
+    pub(crate) old: NodeNo,
+    pub(crate) fresh: NodeNo,
+    pub(crate) value: u64,
+    pub(crate) scx: ScxNo,
+}
+
+/// Its machine, which only says where the call stands.
+#[inline(always)]
+fn machine(snaps: &[Snap], put: Put, number: u64, scx: ScxAt, at: PutAt) -> PutRun
+    requires fits { length snaps.now ≤ 4 }
+    ensures { result ≡ standing snaps.now put number scx at }
+{
+    let update = Update {
+        snaps: Snaps::new(snaps),
+        plan: put.plan,
+        old: put.old,
+        fresh: put.fresh,
+    };
+    let scx = ScxRun {
+        scx: put.scx,
+        call: number,
+        update,
+        at: scx,
+    };
+    PutRun {
+        value: put.value,
+        scx,
+        at,
+    }
+}
 
 /// Fills a word of the SCX-record, at this place.
 #[inline(always)]
@@ -23,41 +58,26 @@ fn fill<S: Shape>(
     layout: &Layout,
     seat: &mut Seat<u8, View>,
     number: u64,
-    update: &Update,
-    value: u64,
-    scx: ScxNo,
+    snaps: &[Snap],
+    put: Put,
     at: ScxAt,
     part: ScxWord,
     wanted: u64,
 ) -> u64
     requires table { IsTableOf words.now.table.shared.table_id words.now.table.shared.key layout.now × (seat.old.table_id ≡ words.now.table.shared.table_id) }
-    requires waits { (c : Call) × (first : PutRun) × (c.layout ≡ layout.now) × (c.number ≡ number) × PutWaits S.allows c seat.old.me.0.passes first (scx_at (run_of update.now value scx number) at) (fill_of (run_of update.now value scx number) part wanted) }
+    requires fits { length snaps.now ≤ 4 }
+    requires waits { (c : Call) × (first : PutRun) × (c.layout ≡ layout.now) × (c.number ≡ number) × PutWaits S.allows c seat.old.me.0.passes first (scx_at (run_of snaps.now put number) at) (fill_of (run_of snaps.now put number) part wanted) }
     ensures table { (seat.new.table_id ≡ seat.old.table_id) × (seat.new.me.1 ≡ seat.old.me.1) }
     ensures one { steps_of seat.new.me.0.passes ≡ suc (steps_of seat.old.me.0.passes) }
-    ensures told { (c : Call) (first : PutRun) → c.layout ≡ layout.now → c.number ≡ number → PutWaits S.allows c seat.old.me.0.passes first (scx_at (run_of update.now value scx number) at) (fill_of (run_of update.now value scx number) part wanted) → PutTold S.allows c seat.new.me.0.passes first (scx_at (run_of update.now value scx number) at) result }
+    ensures told { (c : Call) (first : PutRun) → c.layout ≡ layout.now → c.number ≡ number → PutWaits S.allows c seat.old.me.0.passes first (scx_at (run_of snaps.now put number) at) (fill_of (run_of snaps.now put number) part wanted) → PutTold S.allows c seat.new.me.0.passes first (scx_at (run_of snaps.now put number) at) result }
 {
     let step = Step {
         kind: Kind::Fill,
-        word: Word::Scx(scx, part),
+        word: Word::Scx(put.scx, part),
         deed: Deed::Store(wanted),
     };
-    let call = number;
-    let update = *update;
-    let scx = ScxRun {
-        scx,
-        call,
-        update,
-        at,
-    };
-    let at = PutAt::Scx;
-    step_of::<S, PutRun>(
-        words,
-        layout,
-        seat,
-        number,
-        &PutRun { value, scx, at },
-        step,
-    )
+    let run = machine(snaps, put, number, at, PutAt::Scx);
+    step_of::<S, PutRun>(words, layout, seat, number, &run, step)
 }
 
 /// Fills the nodes that the SCX-record covers.
@@ -67,25 +87,23 @@ fn fill_members<S: Shape>(
     layout: &Layout,
     seat: &mut Seat<u8, View>,
     number: u64,
-    update: &Update,
-    value: u64,
-    scx: ScxNo,
+    snaps: &[Snap],
+    put: Put,
 )
     requires table { IsTableOf words.now.table.shared.table_id words.now.table.shared.key layout.now × (seat.old.table_id ≡ words.now.table.shared.table_id) }
-    requires waits { (c : Call) × (first : PutRun) × (c.layout ≡ layout.now) × (c.number ≡ number) × PutWaits S.allows c seat.old.me.0.passes first (scx_at (run_of update.now value scx number) (ScxAt.Member MemberNo.First)) (fill_of (run_of update.now value scx number) (ScxWord.Member 0) (snap_at update.now.snaps 0).node.0) }
+    requires fits { length snaps.now ≤ 4 }
+    requires waits { (c : Call) × (first : PutRun) × (c.layout ≡ layout.now) × (c.number ≡ number) × PutWaits S.allows c seat.old.me.0.passes first (scx_at (run_of snaps.now put number) (ScxAt.Member MemberNo.First)) (fill_of (run_of snaps.now put number) (ScxWord.Member 0) (snap_at snaps.now 0).node.0) }
     ensures table { (seat.new.table_id ≡ seat.old.table_id) × (seat.new.me.1 ≡ seat.old.me.1) }
     ensures steps { steps_of seat.new.me.0.passes ≤ steps_of seat.old.me.0.passes + 4 }
-    ensures waits { (c : Call) (first : PutRun) → c.layout ≡ layout.now → c.number ≡ number → PutWaits S.allows c seat.old.me.0.passes first (scx_at (run_of update.now value scx number) (ScxAt.Member MemberNo.First)) (fill_of (run_of update.now value scx number) (ScxWord.Member 0) (snap_at update.now.snaps 0).node.0) → PutWaits S.allows c seat.new.me.0.passes first (scx_at (run_of update.now value scx number) (ScxAt.Seen MemberNo.First)) (fill_of (run_of update.now value scx number) (ScxWord.Seen 0) (snap_at update.now.snaps 0).scx.0) }
+    ensures waits { (c : Call) (first : PutRun) → c.layout ≡ layout.now → c.number ≡ number → PutWaits S.allows c seat.old.me.0.passes first (scx_at (run_of snaps.now put number) (ScxAt.Member MemberNo.First)) (fill_of (run_of snaps.now put number) (ScxWord.Member 0) (snap_at snaps.now 0).node.0) → PutWaits S.allows c seat.new.me.0.passes first (scx_at (run_of snaps.now put number) (ScxAt.Seen MemberNo.First)) (fill_of (run_of snaps.now put number) (ScxWord.Seen 0) (snap_at snaps.now 0).scx.0) }
 {
     let mut j = MemberNo::First;
     loop {
         let at = ScxAt::Member { j };
         let part = ScxWord::Member(j.number());
-        let wanted = update.snaps.at(j).node.0;
-        fill(
-            words, layout, seat, number, update, value, scx, at, part, wanted,
-        );
-        match update.plan.member_behind(j) {
+        let wanted = snaps[j.index()].node.0;
+        fill(words, layout, seat, number, snaps, put, at, part, wanted);
+        match put.plan.member_behind(j) {
             Some(next) => j = next,
             None => return,
         }
@@ -99,25 +117,23 @@ fn fill_seen<S: Shape>(
     layout: &Layout,
     seat: &mut Seat<u8, View>,
     number: u64,
-    update: &Update,
-    value: u64,
-    scx: ScxNo,
+    snaps: &[Snap],
+    put: Put,
 )
     requires table { IsTableOf words.now.table.shared.table_id words.now.table.shared.key layout.now × (seat.old.table_id ≡ words.now.table.shared.table_id) }
-    requires waits { (c : Call) × (first : PutRun) × (c.layout ≡ layout.now) × (c.number ≡ number) × PutWaits S.allows c seat.old.me.0.passes first (scx_at (run_of update.now value scx number) (ScxAt.Seen MemberNo.First)) (fill_of (run_of update.now value scx number) (ScxWord.Seen 0) (snap_at update.now.snaps 0).scx.0) }
+    requires fits { length snaps.now ≤ 4 }
+    requires waits { (c : Call) × (first : PutRun) × (c.layout ≡ layout.now) × (c.number ≡ number) × PutWaits S.allows c seat.old.me.0.passes first (scx_at (run_of snaps.now put number) (ScxAt.Seen MemberNo.First)) (fill_of (run_of snaps.now put number) (ScxWord.Seen 0) (snap_at snaps.now 0).scx.0) }
     ensures table { (seat.new.table_id ≡ seat.old.table_id) × (seat.new.me.1 ≡ seat.old.me.1) }
     ensures steps { steps_of seat.new.me.0.passes ≤ steps_of seat.old.me.0.passes + 4 }
-    ensures waits { (c : Call) (first : PutRun) → c.layout ≡ layout.now → c.number ≡ number → PutWaits S.allows c seat.old.me.0.passes first (scx_at (run_of update.now value scx number) (ScxAt.Seen MemberNo.First)) (fill_of (run_of update.now value scx number) (ScxWord.Seen 0) (snap_at update.now.snaps 0).scx.0) → PutWaits S.allows c seat.new.me.0.passes first (scx_at (run_of update.now value scx number) ScxAt.Call) (fill_of (run_of update.now value scx number) ScxWord.Call number) }
+    ensures waits { (c : Call) (first : PutRun) → c.layout ≡ layout.now → c.number ≡ number → PutWaits S.allows c seat.old.me.0.passes first (scx_at (run_of snaps.now put number) (ScxAt.Seen MemberNo.First)) (fill_of (run_of snaps.now put number) (ScxWord.Seen 0) (snap_at snaps.now 0).scx.0) → PutWaits S.allows c seat.new.me.0.passes first (scx_at (run_of snaps.now put number) ScxAt.Call) (fill_of (run_of snaps.now put number) ScxWord.Call number) }
 {
     let mut j = MemberNo::First;
     loop {
         let at = ScxAt::Seen { j };
         let part = ScxWord::Seen(j.number());
-        let wanted = update.snaps.at(j).scx.0;
-        fill(
-            words, layout, seat, number, update, value, scx, at, part, wanted,
-        );
-        match update.plan.member_behind(j) {
+        let wanted = snaps[j.index()].scx.0;
+        fill(words, layout, seat, number, snaps, put, at, part, wanted);
+        match put.plan.member_behind(j) {
             Some(next) => j = next,
             None => return,
         }
@@ -131,38 +147,23 @@ fn fill_value<S: Shape>(
     layout: &Layout,
     seat: &mut Seat<u8, View>,
     number: u64,
-    update: &Update,
-    value: u64,
-    scx: ScxNo,
+    snaps: &[Snap],
+    put: Put,
 )
     requires table { IsTableOf words.now.table.shared.table_id words.now.table.shared.key layout.now × (seat.old.table_id ≡ words.now.table.shared.table_id) }
-    requires begins { (c : Call) × (c.layout ≡ layout.now) × (c.number ≡ number) × PutBegins S.allows c seat.old.me.0.passes (run_of update.now value scx number) }
+    requires fits { length snaps.now ≤ 4 }
+    requires begins { (c : Call) × (c.layout ≡ layout.now) × (c.number ≡ number) × PutBegins S.allows c seat.old.me.0.passes (run_of snaps.now put number) }
     ensures table { (seat.new.table_id ≡ seat.old.table_id) × (seat.new.me.1 ≡ seat.old.me.1) }
     ensures one { steps_of seat.new.me.0.passes ≡ suc (steps_of seat.old.me.0.passes) }
-    ensures waits { (c : Call) → c.layout ≡ layout.now → c.number ≡ number → PutBegins S.allows c seat.old.me.0.passes (run_of update.now value scx number) → PutWaits S.allows c seat.new.me.0.passes (run_of update.now value scx number) (scx_at (run_of update.now value scx number) ScxAt.Plan) (fill_of (run_of update.now value scx number) ScxWord.Plan update.now.plan.0) }
+    ensures waits { (c : Call) → c.layout ≡ layout.now → c.number ≡ number → PutBegins S.allows c seat.old.me.0.passes (run_of snaps.now put number) → PutWaits S.allows c seat.new.me.0.passes (run_of snaps.now put number) (scx_at (run_of snaps.now put number) ScxAt.Plan) (fill_of (run_of snaps.now put number) ScxWord.Plan put.plan.0) }
 {
     let step = Step {
         kind: Kind::Fill,
-        word: Word::Node(update.fresh, NodeWord::Value),
-        deed: Deed::Store(value),
+        word: Word::Node(put.fresh, NodeWord::Value),
+        deed: Deed::Store(put.value),
     };
-    let (call, update) = (number, *update);
-    let at = ScxAt::Start;
-    let scx = ScxRun {
-        scx,
-        call,
-        update,
-        at,
-    };
-    let at = PutAt::Fill;
-    step_of::<S, PutRun>(
-        words,
-        layout,
-        seat,
-        number,
-        &PutRun { value, scx, at },
-        step,
-    );
+    let run = machine(snaps, put, number, ScxAt::Start, PutAt::Fill);
+    step_of::<S, PutRun>(words, layout, seat, number, &run, step);
 }
 
 /// SCX of an update by this SCX-record, whose fresh cell gets the value.
@@ -172,39 +173,31 @@ pub(crate) fn call<S: Shape>(
     layout: &Layout,
     seat: &mut Seat<u8, View>,
     number: u64,
-    update: &Update,
-    value: u64,
-    scx: ScxNo,
+    snaps: &[Snap],
+    put: Put,
 ) -> Scx
     requires table { IsTableOf words.now.table.shared.table_id words.now.table.shared.key layout.now × (seat.old.table_id ≡ words.now.table.shared.table_id) }
-    requires begins { (c : Call) × (c.layout ≡ layout.now) × (c.number ≡ number) × PutBegins S.allows c seat.old.me.0.passes (run_of update.now value scx number) }
+    requires fits { length snaps.now ≤ 4 }
+    requires begins { (c : Call) × (c.layout ≡ layout.now) × (c.number ≡ number) × PutBegins S.allows c seat.old.me.0.passes (run_of snaps.now put number) }
     ensures table { (seat.new.table_id ≡ seat.old.table_id) × (seat.new.me.1 ≡ seat.old.me.1) }
     ensures steps { steps_of seat.new.me.0.passes ≤ steps_of seat.old.me.0.passes + 40 }
-    ensures ends { (c : Call) → c.layout ≡ layout.now → c.number ≡ number → PutBegins S.allows c seat.old.me.0.passes (run_of update.now value scx number) → (m : PutRun) × PutEnds S.allows c seat.new.me.0.passes (run_of update.now value scx number) m result }
+    ensures ends { (c : Call) → c.layout ≡ layout.now → c.number ≡ number → PutBegins S.allows c seat.old.me.0.passes (run_of snaps.now put number) → (m : PutRun) × PutEnds S.allows c seat.new.me.0.passes (run_of snaps.now put number) m result }
 {
-    fill_value(words, layout, seat, number, update, value, scx);
-    let plan = update.plan.0;
+    fill_value(words, layout, seat, number, snaps, put);
+    let plan = put.plan.0;
     let (at, part) = (ScxAt::Plan, ScxWord::Plan);
-    fill(
-        words, layout, seat, number, update, value, scx, at, part, plan,
-    );
-    let new = update.fresh.0;
+    fill(words, layout, seat, number, snaps, put, at, part, plan);
+    let new = put.fresh.0;
     let (at, part) = (ScxAt::New, ScxWord::New);
-    fill(
-        words, layout, seat, number, update, value, scx, at, part, new,
-    );
-    let old = update.old.0;
+    fill(words, layout, seat, number, snaps, put, at, part, new);
+    let old = put.old.0;
     let (at, part) = (ScxAt::Old, ScxWord::Old);
-    fill(
-        words, layout, seat, number, update, value, scx, at, part, old,
-    );
-    fill_members(words, layout, seat, number, update, value, scx);
-    fill_seen(words, layout, seat, number, update, value, scx);
+    fill(words, layout, seat, number, snaps, put, at, part, old);
+    fill_members(words, layout, seat, number, snaps, put);
+    fill_seen(words, layout, seat, number, snaps, put);
     let (at, part) = (ScxAt::Call, ScxWord::Call);
-    fill(
-        words, layout, seat, number, update, value, scx, at, part, number,
-    );
-    let begun = HelpRun::new(scx);
+    fill(words, layout, seat, number, snaps, put, at, part, number);
+    let begun = HelpRun::new(put.scx);
     let (run_of_help, committed) = straight::helping::call(words, layout, seat, number, begun);
     if committed {
         Scx::Done

@@ -1,9 +1,13 @@
-use Rattle.std.proofs.Common.{◌≡◌, ◌≤◌, ◌∙◌, arith, ℕ, refl, sym, ap, subst}
+use Rattle.std.proofs.Common.{◌≡◌, ◌≤◌, ◌∙◌, arith, ℕ, List, refl, sym, ap, subst}
 use Rattle.prims.specs.Cells.{allows_all}
 use Rattle.forest.specs.Passes.{Sight, CanUse, Each, taken_of}
 use Rattle.forest.specs.Held.{sight}
 use Rattle.forest.specs.Puts.{IsPutOf}
 use Rattle.forest.specs.StraightScx.{run_of, PutBegins}
+use Rattle.forest.specs.declared.straight.scx.Put.{Put}
+use Rattle.prims.specs.ScxKnown.{IsUpdateOver}
+use Rattle.prims.specs.declared.update.Update.{Update}
+use Rattle.prims.specs.declared.snap.Snap.{Snap}
 use Rattle.forest.specs.declared.pass.Pass.TheInside.{Inside}
 use Rattle.forest.proofs.Passes.{layout_of, call_of}
 use Rattle.forest.proofs.VlxCalls.{apart_at, among_at}
@@ -16,11 +20,19 @@ new-update-requires-clause-distinct c = apart_at c.args.snaps.now c.requires.apa
 pub new-update-requires-clause-among : goal.new-update-requires-clause-among
 new-update-requires-clause-among c = among_at c.args.snaps.now c.args.field.0.0 c.requires.among
 
+-- what is to be put
+abbrev put_of : goal.After-layout-2-1 → Put
+put_of c = let u = c.new-update.result in record { plan = u.plan; old = u.old; fresh = u.fresh; value = c.args.value; scx = c.in_ok-fresh.scx }
+
+-- its update, over the caller's snapshots
+over_them : (u : Update) (snaps : List Snap) → u.snaps ≡ snaps → IsUpdateOver u → IsUpdateOver record { snaps = snaps; plan = u.plan; old = u.old; fresh = u.fresh }
+over_them u snaps is x = rw (← is) x
+
 -- the run that the call makes
-is_of : (c : goal.After-update-1) (number : ℕ) → IsPutOf (run_of c.new-update.result c.args.value c.in_ok-fresh.scx number) c.args.snaps.now c.args.finalize.now (c.args.field.0.0, c.args.field.1) c.args.value c.pass.inside.share.next_node c.pass.inside.share.next_scx number
+is_of : (c : goal.After-layout-2-1) (number : ℕ) → IsPutOf (run_of c.args.snaps.now (put_of c) number) c.args.snaps.now c.args.finalize.now (c.args.field.0.0, c.args.field.1) c.args.value c.pass.inside.share.next_node c.pass.inside.share.next_scx number
 is_of c number = let u = c.new-update.ensures in let records = c.in_ok-fresh.ensures.records in record {
-  over = u.over;
-  snaps_are = u.snaps;
+  over = over_them c.new-update.result c.args.snaps.now u.snaps u.over;
+  snaps_are = refl;
   fresh = u.fresh ∙ records.0;
   record_is = records.1;
   called = refl;
@@ -35,12 +47,12 @@ abbrev called : {T : Type 0} → Inside T → ℕ
 called p = taken_of (sight p)
 
 -- the call may begin
-begins : (c : goal.After-update-1) (number : ℕ) → PutBegins allows_all (call_of c.pass.inside c.pass.invariant number) c.pass.inside.seat.me.0.passes (run_of c.new-update.result c.args.value c.in_ok-fresh.scx number)
+begins : (c : goal.After-layout-2-1) (number : ℕ) → PutBegins allows_all (call_of c.pass.inside c.pass.invariant number) c.pass.inside.seat.me.0.passes (run_of c.args.snaps.now (put_of c) number)
 begins c number = let some = c.in_ok-fresh.ensures.some in
     put_begins c.pass.inside c.pass.invariant some.0 some.1 c.args.snaps.now c.args.finalize.now (c.args.field.0.0, c.args.field.1) c.args.value number _ (is_of c number) refl refl (subst (λ (v : Sight). Each (CanUse v) c.args.snaps.now) (sym c.pass.view_is) c.requires.usable)
 
 -- its number as the code has it
-named : (c : goal.After-update-1) → called c.pass.inside ≡ c.taken-number.result
+named : (c : goal.After-layout-2-1) → called c.pass.inside ≡ c.taken-number.result
 named c = ap taken_of c.pass.view_is ∙ sym c.taken-number.ensures
 
 pub call-requires-clause-begins : goal.call-requires-clause-begins

@@ -15,8 +15,8 @@ invariant-loop-next g l = record {
   here : (l.seat.table_id ≡ l.fn.seat.table_id) × (l.seat.me.1 ≡ l.fn.seat.me.1);
   steps : steps_of l.seat.me.0.passes + (4 - index_of l.j) ≤ steps_of l.fn.seat.me.0.passes + 4;
   waits : (c : Call) → (first : PutRun) → c.layout ≡ l.layout → c.number ≡ l.number
-      → PutWaits g.S.Shape.allows c l.fn.seat.me.0.passes first (scx_at (run_of l.fn.update l.fn.value l.fn.scx l.fn.number) (AtSeen First)) (fill_of (run_of l.fn.update l.fn.value l.fn.scx l.fn.number) (Seen 0) (snap_at l.fn.update.snaps 0).scx.0)
-      → PutWaits g.S.Shape.allows c l.seat.me.0.passes first (scx_at (run_of l.update l.value l.scx l.number) (AtSeen l.j)) (fill_of (run_of l.update l.value l.scx l.number) (Seen (index_of l.j)) (snap_at l.update.snaps (index_of l.j)).scx.0);
+      → PutWaits g.S.Shape.allows c l.fn.seat.me.0.passes first (scx_at (run_of l.fn.snaps l.fn.put l.fn.number) (AtSeen First)) (fill_of (run_of l.fn.snaps l.fn.put l.fn.number) (Seen 0) (snap_at l.fn.snaps 0).scx.0)
+      → PutWaits g.S.Shape.allows c l.seat.me.0.passes first (scx_at (run_of l.snaps l.put l.number) (AtSeen l.j)) (fill_of (run_of l.snaps l.put l.number) (Seen (index_of l.j)) (snap_at l.snaps (index_of l.j)).scx.0);
 }
 
 abbrev pub decreases-loop-next : goal.decreases-loop-next
