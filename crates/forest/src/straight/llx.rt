@@ -35,10 +35,9 @@ fn leaves(state: u64, marked: bool) -> bool
     state == ABORTED || state == COMMITTED && !marked
 }
 
-/// Goes on by the machine, where something is in the way. Out of line, so that the machine takes no
-/// room in a call that meets nothing.
-#[cold]
-#[inline(never)]
+/// Goes on by the machine, where something is in the way. In line, since an answer that came from
+/// out of line would take that of a call which meets nothing through memory too.
+#[inline(always)]
 fn hand_over<S: Shape>(
     words: &Words<S>,
     layout: &Layout,
