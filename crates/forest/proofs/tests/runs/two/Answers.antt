@@ -7,7 +7,7 @@ use Rattle.forest.proofs.tests.runs.two.Goals as goal
 
 -- what is left, and the one that was taken
 second : (c : goal.After-drop-passes-2) → All (IsOf c.in-Ok.forest) c.pop.new.self.items × IsOf c.in-Ok.forest c.in_ok-second.second
-second c = All-pop (IsOf c.in-Ok.forest) c.in-Ok.passes.items c.pop.new.self.items (Some c.in_ok-second.second) c.in_ok-second.ensures.items (new_are_of _ _ _ c.in-Ok.ensures.passes)
+second c = All-pop (IsOf c.in-Ok.forest) c.in-Ok.passes.items c.pop.new.self.items (Some c.in_ok-second.second) c.in_ok-second.ensures.items (new_are_of _ _ c.in-Ok.ensures.passes)
 
 pub returns-clause-first : goal.returns-clause-first
 returns-clause-first c = (All-pop (IsOf c.in-Ok.forest) c.pop.new.self.items c.pop-2.new.self.items (Some c.in_ok-first.first) c.in_ok-first.ensures.items (second c).0).1

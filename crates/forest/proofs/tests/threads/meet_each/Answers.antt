@@ -9,7 +9,7 @@ loop-pass-preserved c =
     let inv = c.loop-pass.invariant in (
       tt,
       tt,
-      c.meet.ensures.one,
+      c.meet.ensures.passes.0,
       All-rest P c.in-Some.pass c.next.new.self.rest.items c.loop-pass.pass-iterator.rest.items c.in-Some.ensures.steps.0 inv.3,
-      All-same P c.push.new.self.items (c.loop-pass.met.items ++ c.meet.new.other ∷ []) c.in_ok-push.ensures.items (All-push P c.loop-pass.met.items c.meet.new.other inv.4 c.meet.ensures.other),
+      All-same P c.push.new.self.items (c.loop-pass.met.items ++ c.meet.new.other ∷ []) c.in_ok-push.ensures.items (All-push P c.loop-pass.met.items c.meet.new.other inv.4 c.meet.ensures.passes.1),
     )
