@@ -88,6 +88,22 @@ impl Share {
         Some(scx)
     }
 
+    /// Takes all that is left, and leaves an empty share behind: a call may have it while it runs.
+    pub fn take(&mut self) -> Share
+        ensures all { result ≡ self.old }
+        ensures none { self.new ≡ record self.old { nodes = 0; scx = 0 } }
+    {
+        let all = Share {
+            next_node: self.next_node,
+            nodes: self.nodes,
+            next_scx: self.next_scx,
+            scx: self.scx,
+        };
+        self.nodes = 0;
+        self.scx = 0;
+        all
+    }
+
     /// How many nodes and SCX-records are left.
     pub fn left(&self) -> (u32, u32)
         ensures { result ≡ (self.now.nodes, self.now.scx) }
