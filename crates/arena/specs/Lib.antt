@@ -1,4 +1,5 @@
 pub mod Words
+pub mod Opening
 pub mod Limits
 pub mod Layout
 pub mod Machines

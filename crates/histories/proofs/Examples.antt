@@ -16,7 +16,7 @@ use Rattle.arena.specs.Log.{log, filled, fields, last}
 
 -- two passes of ten nodes and ten SCX-records each, over the cells 1 to 8
 abbrev lay : Layout
-lay = record { mode = Records; passes = 2; nodes = 10; scx = 10; passes_fit = lit≤ tt; nodes_fit = lit≤ tt; scx_fit = lit≤ tt }
+lay = record { mode = Records; passes = 2; nodes = 10; scx = 10; node_words = 203; counted = refl; passes_fit = lit≤ tt; nodes_fit = lit≤ tt; scx_fit = lit≤ tt }
 
 abbrev row : Kind → Word → ℕ → ℕ → Row
 row k w b a = record { pass = record { 0 = 0 }; call = 0; kind = k; word = w; before = b; after = a }
