@@ -6,3 +6,4 @@ pub mod Values
 pub mod Plans
 pub mod Taken
 pub mod TakenNodes
+pub mod Bools
