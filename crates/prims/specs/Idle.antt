@@ -1,5 +1,5 @@
 -- Passes that have no SCX-record of their own in progress: which rows leave them so.
-use Rattle.std.proofs.Common.{◌≡◌, ◌≢◌, ℕ, ◌≤◌, ◌⊎◌, inl, inr, ⊎_elim, zero, suc, refl, sym, ◌∙◌, ap, subst, arith}
+use Rattle.std.proofs.Common.{◌≡◌, ◌≢◌, ℕ, ◌⊎◌, inl, inr, ⊎_elim, refl, sym, ◌∙◌, ap, subst, arith}
 use native.Mathlib.Decide.{ℕ_discrete}
 use Rattle.arena.specs.declared.layout.Layout.{Layout}
 use Rattle.arena.specs.declared.word.NodeWord.TheVariants.{Child, Info, Marked}
@@ -9,7 +9,7 @@ use Rattle.arena.specs.declared.step.Step.{Step}
 use Rattle.arena.specs.declared.step.Kind.TheVariants.{Freeze}
 use Rattle.arena.specs.MemberNo.{index_of}
 use Rattle.arena.specs.Words.{scx, info, marked, state}
-use Rattle.arena.specs.History.{History, Start, ◌⊳◌, value, HasHeld, EndsWith}
+use Rattle.arena.specs.History.{History, ◌⊳◌, value, HasHeld, EndsWith}
 use Rattle.arena.specs.ScxRecords.{plan, side_of, field_index, member, seen}
 use Rattle.arena.specs.Fills.{IsOwnScx, IsNamedScx, IsTakenScx}
 use Rattle.arena.specs.Lawful.{IsExchange, Lawful}
