@@ -11,6 +11,7 @@ pub mod ScxRecords
 pub mod Fills
 pub mod Lawful
 pub mod Blame
+pub mod Found
 pub mod Log
 pub mod Shape
 pub mod Finalized

@@ -8,7 +8,8 @@ use Rattle.arena.specs.Fills.{IsOwnNode, IsOwnScx, IsTakenNode, IsTakenScx}
 use Rattle.arena.specs.Lawful.{Lawful}
 use Rattle.histories.specs.Unmentioned.{IsUnmentioned}
 use Rattle.prims.specs.Cells.{allows_all}
-use Rattle.prims.specs.Idle.{IsIdle, same_moment}
+use Rattle.arena.proofs.Values.{same_moment}
+use Rattle.prims.specs.Idle.{IsIdle}
 use Rattle.prims.specs.Linked.{linked_more}
 use Rattle.prims.specs.LlxKnown.{IsSnapshot}
 use Rattle.prims.specs.Moments.{AreOver}
