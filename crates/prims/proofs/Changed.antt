@@ -15,7 +15,7 @@ use Rattle.prims.specs.declared.put.PutRun.{PutRun}
 use Rattle.prims.specs.declared.scx.Scx.TheVariants.{Lost}
 use Rattle.prims.specs.declared.vlx.Vlx.TheVariants.{Changed}
 
--- the node is that of one of the snapshots, and since each moment of it the SCX-record of another pass was in the way, which its info has named
+-- the node is that of one of the snapshots, and the SCX-record, which its info has named, has changed it since
 pub record IsChanged (call : Call) (h : History) (snaps : List Snap) (node scx : ℕ) : Type 0 where
   pub index : ℕ
   pub within : index < length snaps
