@@ -10,6 +10,7 @@ pub mod ScxRecords
 pub mod Fills
 pub mod Lawful
 pub mod Blame
+pub mod Found
 pub mod Log
 pub mod Shape
 pub mod Finalized

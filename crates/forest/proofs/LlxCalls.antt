@@ -55,7 +55,7 @@ module _ {T : Type 0} (p : Inside T) (x : IsPass allows_all Records p) (number :
   llx_says blamed (Finalized n u) y = rw y.answers.1 at y.answers.2
   llx_says blamed (Fail n u) y =
       let z = rw y.answers.1 at y.answers.2 in
-      (z.0, record { held = z.1.held; others = z.1.others; in_the_way = z.1.in_the_way; over = z.1.over; not_final = z.1.not_final })
+      (z.0, record { found = z.1.found; others = z.1.others; in_the_way = z.1.in_the_way; over = z.1.over; not_final = z.1.not_final })
 
   pub llx_finalized : (a : Llx) → HasCalled p s number (Answered p x number node a) → is_final (seen_of (sight p)) node.0 ≡ true → IsFinalizedAnswer a
   llx_finalized a y final =

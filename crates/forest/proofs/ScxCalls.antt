@@ -9,6 +9,7 @@ use Rattle.arena.specs.Fills.{IsOwnNode, IsOwnScx, IsTakenScx}
 use Rattle.arena.specs.Lawful.{Lawful, HasWon}
 use Rattle.arena.specs.Log.{Entry, log, has, IsEntered, AreOnce}
 use Rattle.histories.proofs.Lemmas.{IsIn, Logs, aborted_never_won, lawful_tail, logs, newest, older, once, same as log_same, wins as log_wins}
+use Rattle.arena.specs.declared.step.Kind.TheVariants.{Freeze}
 use Rattle.arena.specs.declared.limits.Mode.TheVariants.{Records}
 use Rattle.prims.specs.Cells.{allows_all}
 use Rattle.prims.specs.Moments.{IsAsFound}
@@ -241,7 +242,7 @@ module _ {T : Type 0} (p : Inside T) (x : IsPass allows_all Records p) (some_nod
       same = once_same z.0 e (log p.layout h) (once p.layout h y.goes.sound.lawful) (z.1 ∙ sym y.is_of.record_is) (in_entries p.number.0 z.0 (log p.layout h) (done_of (sight p)) z.2)
           (in_since p.layout h (d.entry.row ⊳ d.entry.before) e y.goes.sound.lawful at.within (subst (λ l. IsIn e l) (sym at.logged) (newest _)))
   put_says s (Lost n u) is y = (
-    was_changed (sight p) (sight (spent s)) refl refl x.is_pass number _ snaps y.is_of.snaps_are n.0 u.0 (put_changed y.run (call_of p x number) h n u y.answers),
+    was_changed Freeze (sight p) (sight (spent s)) refl refl x.is_pass number _ snaps y.is_of.snaps_are n.0 u.0 (put_changed y.run (call_of p x number) h n u y.answers),
     y.goes.unwon (λ w. aborted_never_won p.layout h y.run.scx.scx.0 y.goes.sound.lawful y.answers.1.aborted (rw y.is_of.record_is w.1)),
   )
     where

@@ -4,6 +4,8 @@ use Rattle.std.specs.List.{Contains}
 use Rattle.atomic_table.specs.Seated.{TableId}
 use Rattle.arena.specs.declared.layout.Layout.{Layout}
 use Rattle.arena.specs.declared.step.Row.{Row}
+use Rattle.arena.specs.declared.step.Kind.{Kind}
+use Rattle.arena.specs.declared.step.Kind.TheVariants.{Freeze, LoadInfo}
 use Rattle.arena.specs.Share.{Left, whole_share, HasScx}
 use Rattle.arena.specs.declared.number.NodeNo.{NodeNo}
 use Rattle.arena.specs.declared.word.Side.{Side}
@@ -13,10 +15,11 @@ use Rattle.arena.specs.Layout.{all_nodes, IsWord}
 use Rattle.arena.specs.Machines.{IsRun}
 use Rattle.arena.specs.PlainWords.{Contents, held}
 use Rattle.prims.specs.Cells.{allows_all}
-use Rattle.arena.specs.Words.{info, state, child, node as node_word}
-use Rattle.arena.specs.History.{History, ◌⊳◌, value, HasHeld, EndsWith}
+use Rattle.arena.specs.Words.{state, child, node as node_word}
+use Rattle.arena.specs.History.{History, ◌⊳◌, value, EndsWith}
 use Rattle.arena.specs.Fills.{IsOthersScx, IsOwnNode, IsOwnScx, IsTakenNode, IsTakenScx}
 use Rattle.arena.specs.Blame.{WasInTheWay}
+use Rattle.arena.specs.Found.{HasFound}
 use Rattle.arena.specs.Lawful.{IsWin}
 use Rattle.arena.specs.Log.{Entry, log, is_final, has, fields}
 use Rattle.prims.specs.LlxKnown.{IsSnapshot, IsFinalBy}
@@ -136,9 +139,9 @@ pub record HasTakenNothing (old new : Sight) : Type 0 where
 
 -- What `llx` says
 
--- another pass's SCX-record, which the node's info has named, was in the way of the call, at whose begin the node was not final; it is finished now
+-- another pass's SCX-record, which the call's last look at the node's info has found, was in the way of the call, at whose begin the node was not final; it is finished now
 pub record HasFailed (old new : Sight) (n s : ℕ) : Type 0 where
-  pub held : HasHeld (run_of new) (info n) s
+  pub found : HasFound new.number (run_of new) (run_of old) LoadInfo n s
   pub others : IsOthersScx new.layout new.number s
   pub in_the_way : WasInTheWay (run_of new) (run_of old) n s
   pub over : value (run_of new) (state s) ≢ 0
@@ -176,12 +179,12 @@ HasNodeOf (snap ∷ snaps) n = (snap.node.0 ≡ n) ⊎ HasNodeOf snaps n
 
 -- What `vlx` says
 
--- since each moment of one of the snapshots, which is of the node, an SCX-record over the node, which its info has named, was in the way; and it is another pass's, where this one had left the snapshot alone before the call
-pub record WasChanged (old new : Sight) (snaps : List Snap) (n s : ℕ) : Type 0 where
+-- since each moment of one of the snapshots, which is of the node, an SCX-record over the node, which the call's last step of this kind has found in its info, was in the way; and it is another pass's, where this one had left the snapshot alone before the call
+pub record WasChanged (kind : Kind) (old new : Sight) (snaps : List Snap) (n s : ℕ) : Type 0 where
   pub index : ℕ
   pub within : index < length snaps
   pub is : (snap_at snaps index).node.0 ≡ n
-  pub held : HasHeld (run_of new) (info n) s
+  pub found : HasFound new.number (run_of new) (run_of old) kind n s
   pub in_the_way : (moment : History) → IsMoment new.layout (run_of new) (snap_at snaps index) moment → WasInTheWay (run_of new) moment n s
   pub others : HasLeftAlone old (snap_at snaps index) → IsOthersScx new.layout new.number s
 
@@ -192,7 +195,7 @@ AreAsFound old new snaps k = (i : ℕ) → i < k → IsAsFound new.layout (run_o
 -- all nodes were as found; or one was not, and those before it were
 abbrev pub VlxSays : Sight → Sight → List Snap → Vlx → Type 0
 VlxSays old new snaps Same = AreAsFound old new snaps (length snaps)
-VlxSays old new snaps (Changed node s) = (c : WasChanged old new snaps node.0 s.0) × AreAsFound old new snaps c.index
+VlxSays old new snaps (Changed node s) = (c : WasChanged LoadInfo old new snaps node.0 s.0) × AreAsFound old new snaps c.index
 
 -- What `scx` says
 
@@ -235,7 +238,7 @@ pub record IsDone (old new : Sight) (snaps : List Snap) (finalize : List NodeNo)
 -- one entry more, of this call; or none, and a node was changed since its snapshot
 abbrev pub ScxSays : Sight → Sight → List Snap → List NodeNo → ℕ × Side → ℕ → Scx → Type 0
 ScxSays old new snaps finalize field v Done = (e : Entry) × IsDone old new snaps finalize field v e
-ScxSays old new snaps finalize field v (Lost node s) = WasChanged old new snaps node.0 s.0 × (done_of new ≡ done_of old)
+ScxSays old new snaps finalize field v (Lost node s) = WasChanged Freeze old new snaps node.0 s.0 × (done_of new ≡ done_of old)
 
 -- Passes that come together
 

@@ -5,7 +5,12 @@ use Rattle.std.specs.List.{Contains}
 use Rattle.arena.specs.declared.number.NodeNo.{NodeNo}
 use Rattle.arena.specs.declared.number.ScxNo.{ScxNo}
 use Rattle.arena.specs.Words.{state}
-use Rattle.arena.specs.History.{History, value}
+use Rattle.arena.specs.declared.step.Kind.{Kind}
+use Rattle.arena.specs.declared.step.Kind.TheVariants.{Freeze, LoadInfo}
+use Rattle.arena.specs.History.{History, value, EndsWith}
+use Rattle.arena.specs.Found.{HasFound}
+use Rattle.arena.proofs.Found.{found_wider}
+use Rattle.arena.proofs.Values.{ends_self}
 use Rattle.arena.specs.Blame.{WasInTheWay}
 use Rattle.arena.specs.Log.{log, is_final, has}
 use Rattle.histories.proofs.Lemmas.{aborted_never_won, committed_won, finished_taken}
@@ -130,15 +135,15 @@ entered_none (Full what left) None e d = tt
 entered_none answer (Some k) e d = cc
 
 -- one of the nodes was changed by another client
-blamed_is : (v : View) (c : Client) (command : Command) (snaps : List Snap) (nodes : List ℕ) (start : History) (is_pass : c.pass.0 < v.layout.passes) (node scx : ℕ) (IsSuch : History → Type 0) → nodes_of snaps ≡ nodes → HaveMoments v c.pass.0 command snaps → AreLeftAlone v.layout c.pass.0 start snaps → ((i : ℕ) → i < length snaps → (snap_at snaps i).node.0 ≡ node → (moment : History) × IsMoment v.layout v.past (snap_at snaps i) moment × IsSuch moment) → IsChanged (machine_call v c is_pass start) v.past snaps node scx → IsInTheWay v.layout c.pass.0 v.past nodes node scx IsSuch
-blamed_is v c command snaps nodes start is_pass node scx IsSuch e x alone f b =
+blamed_is : (kind : Kind) (v : View) (c : Client) (command : Command) (snaps : List Snap) (nodes : List ℕ) (start : History) → EndsWith start v.start → (is_pass : c.pass.0 < v.layout.passes) (node scx : ℕ) (IsSuch : History → Type 0) → nodes_of snaps ≡ nodes → HaveMoments v c.pass.0 command snaps → AreLeftAlone v.layout c.pass.0 start snaps → ((i : ℕ) → i < length snaps → (snap_at snaps i).node.0 ≡ node → (moment : History) × IsMoment v.layout v.past (snap_at snaps i) moment × IsSuch moment) → IsChanged kind (machine_call v c is_pass start) v.past snaps node scx → IsInTheWay v.layout c.pass.0 v.past v.start kind nodes node scx IsSuch
+blamed_is kind v c command snaps nodes start since is_pass node scx IsSuch e x alone f b =
     let y = f b.index b.within b.is in
     record {
       among = subst (λ (n : ℕ). Contains nodes n) b.is (subst (λ (l : List ℕ). Contains l (snap_at snaps b.index).node.0) e (contains_node snaps b.index b.within));
       moment = y.0;
       of_snapshot = y.2;
       way = subst (λ (n : ℕ). WasInTheWay v.past y.0 n scx) b.is (b.blamed.in_the_way y.0 y.1);
-      named = b.named;
+      found = found_wider c.pass.0 v.past start v.start kind node scx since b.found;
       others = b.blamed.others (alone b.index b.within);
     }
 
@@ -156,46 +161,46 @@ are_linked v c command snaps nodes e f n q =
     subst (λ (m : Option History). IsSome m) (sym (subst (λ (k : ℕ). v.linked k ≡ Some z.0) i.is z.1)) refl
 
 -- what the answer of an SCX says
-scx_outcome : (v : View) (c : Client) (command : Command) (m : PutRun) (then : Option Put) (a : ScxAnswer) (start : History) (is_pass : c.pass.0 < v.layout.passes) → IsScxOf command c.number m then → HaveMoments v c.pass.0 command m.scx.update.snaps → AreLeftAlone v.layout c.pass.0 start m.scx.update.snaps → HasRoom v.layout c.pass.0 v.start → (a ≡ ScxDone → (turn : ℕ) × (v.won ≡ Some turn)) → (a ≢ ScxDone → v.won ≡ None) → put_answers m (machine_call v c is_pass start) v.past a → IsOutcome v c.pass.0 m.scx.update.snaps command (answer_of (ended.Scx a))
-scx_outcome v c (ScxOf update) m None ScxDone start is_pass x moments alone room done lost y = record {
+scx_outcome : (v : View) (c : Client) (command : Command) (m : PutRun) (then : Option Put) (a : ScxAnswer) (start : History) → EndsWith start v.start → (is_pass : c.pass.0 < v.layout.passes) → IsScxOf command c.number m then → HaveMoments v c.pass.0 command m.scx.update.snaps → AreLeftAlone v.layout c.pass.0 start m.scx.update.snaps → HasRoom v.layout c.pass.0 v.start → (a ≡ ScxDone → (turn : ℕ) × (v.won ≡ Some turn)) → (a ≢ ScxDone → v.won ≡ None) → put_answers m (machine_call v c is_pass start) v.past a → IsOutcome v c.pass.0 m.scx.update.snaps command (answer_of (ended.Scx a))
+scx_outcome v c (ScxOf update) m None ScxDone start since is_pass x moments alone room done lost y = record {
   answers = tt;
   right = room;
   entry = entered_some v.won (done refl).0 (done refl).1;
   drops = drop_nodes m.scx.update.snaps (update_cells update) v.linked x.covers;
 }
-scx_outcome v c (SetOf field value) m None ScxDone start is_pass x moments alone room done lost y = record {
+scx_outcome v c (SetOf field value) m None ScxDone start since is_pass x moments alone room done lost y = record {
   answers = tt;
   right = room;
   entry = entered_some v.won (done refl).0 (done refl).1;
   drops = drop_one m.scx.update.snaps field.0 v.linked x.covers;
 }
-scx_outcome v c (ScxOf update) m None (ScxLost node scx) start is_pass x moments alone room done lost y = record {
+scx_outcome v c (ScxOf update) m None (ScxLost node scx) start since is_pass x moments alone room done lost y = record {
   answers = tt;
   right = (
     are_linked v c (ScxOf update) m.scx.update.snaps (update_cells update) x.covers (λ i p. let z = moments i p in (z.moment, z.source)),
     room,
-    blamed_is v c (ScxOf update) m.scx.update.snaps (update_cells update) start is_pass node.0 scx.0 (λ moment. v.linked node.0 ≡ Some moment) x.covers moments alone
+    blamed_is Freeze v c (ScxOf update) m.scx.update.snaps (update_cells update) start since is_pass node.0 scx.0 (λ moment. v.linked node.0 ≡ Some moment) x.covers moments alone
         (λ i p e. let z = moments i p in (z.moment, z.found, subst (λ (n : ℕ). v.linked n ≡ Some z.moment) e z.source))
         (put_changed m (machine_call v c is_pass start) v.past node scx y),
   );
   entry = entered_none (Lost node scx) v.won (lost (λ e. cc)) (λ e. cc);
   drops = drop_nodes m.scx.update.snaps (update_cells update) v.linked x.covers;
 }
-scx_outcome v c (SetOf field value) m None (ScxLost node scx) start is_pass x moments alone room done lost y = record {
+scx_outcome v c (SetOf field value) m None (ScxLost node scx) start since is_pass x moments alone room done lost y = record {
   answers = tt;
   right = (
     room,
-    blamed_is v c (SetOf field value) m.scx.update.snaps (field.0 ∷ []) start is_pass node.0 scx.0 (λ moment. IsLastLook c.pass.0 v.past v.start moment field.0 × (is_final (log v.layout moment) field.0 ≡ false)) x.covers moments alone
+    blamed_is Freeze v c (SetOf field value) m.scx.update.snaps (field.0 ∷ []) start since is_pass node.0 scx.0 (λ moment. IsLastLook c.pass.0 v.past v.start moment field.0 × (is_final (log v.layout moment) field.0 ≡ false)) x.covers moments alone
         (λ i p e. let z = moments i p in (z.moment, z.found, subst (λ (n : ℕ). IsLastLook c.pass.0 v.past v.start z.moment n × (is_final (log v.layout z.moment) n ≡ false)) (only_node m.scx.update.snaps field.0 i x.covers p) (z.source, z.found.not_final)))
         (put_changed m (machine_call v c is_pass start) v.past node scx y),
   );
   entry = entered_none (Lost node scx) v.won (lost (λ e. cc)) (λ e. cc);
   drops = drop_one m.scx.update.snaps field.0 v.linked x.covers;
 }
-scx_outcome v c (ScxOf update) m (Some put) a start is_pass x moments alone room done lost y = absurd x
-scx_outcome v c (SetOf field value) m (Some put) a start is_pass x moments alone room done lost y = absurd x
-scx_outcome v c (LlxOf cell) m then a start is_pass x moments alone room done lost y = absurd x
-scx_outcome v c (VlxOf cells) m then a start is_pass x moments alone room done lost y = absurd x
+scx_outcome v c (ScxOf update) m (Some put) a start since is_pass x moments alone room done lost y = absurd x
+scx_outcome v c (SetOf field value) m (Some put) a start since is_pass x moments alone room done lost y = absurd x
+scx_outcome v c (LlxOf cell) m then a start since is_pass x moments alone room done lost y = absurd x
+scx_outcome v c (VlxOf cells) m then a start since is_pass x moments alone room done lost y = absurd x
 
 -- a client whose SCX has ended has taken what it had in hand, and drops its snapshots
 rests_scx : (v : View) (c : Client) (m : PutRun) (then : Option Put) (a : ScxAnswer) (linked : ℕ → Option History) → IsSound v → IsDropped m.scx.update.snaps v.linked linked → Answered v c (Scx m) then (ended.Scx a) → Stands (record v { linked = linked }) c (no_hand c.share)
@@ -255,7 +260,7 @@ ends_scx v c (Scx m) then a sound x =
     lost (ScxLost node scx) y d = x.works.won.no (aborted_never_won v.layout v.past m.scx.scx.0 sound.lawful (put_aborted m (machine_call v c x.works.is_pass x.works.start) v.past node scx y))
 
     o : IsOutcome v c.pass.0 m.scx.update.snaps x.works.command (answer_of (ended.Scx a))
-    o = scx_outcome v c x.works.command m then a x.works.start x.works.is_pass x.works.run_of x.works.moments x.works.alone x.works.room (done a x.answers) (lost a x.answers) x.answers
+    o = scx_outcome v c x.works.command m then a x.works.start x.works.begun x.works.is_pass x.works.run_of x.works.moments x.works.alone x.works.room (done a x.answers) (lost a x.answers) x.answers
 ends_scx v c (Llx m) then a sound x = absurd x.answers
 ends_scx v c (Vlx m) then a sound x = absurd x.answers
 
@@ -303,7 +308,7 @@ vlx_outcome v c (VlxOf cells) m None (VlxChanged node scx) x moments alone won i
   answers = tt;
   right = (
     are_linked v c (VlxOf cells) m.snaps (cells_of cells) x (λ i p. let z = moments i p in (z.moment, z.source)),
-    blamed_is v c (VlxOf cells) m.snaps (cells_of cells) v.start is_pass node.0 scx.0 (λ moment. v.linked node.0 ≡ Some moment) x moments alone
+    blamed_is LoadInfo v c (VlxOf cells) m.snaps (cells_of cells) v.start (ends_self v.start) is_pass node.0 scx.0 (λ moment. v.linked node.0 ≡ Some moment) x moments alone
         (λ i p e. let z = moments i p in (z.moment, z.found, subst (λ (n : ℕ). v.linked n ≡ Some z.moment) e z.source))
         (vlx_changed m.snaps (machine_call v c is_pass v.start) v.past node scx y),
     first_changed v c.pass.0 cells m.snaps node.0 y.index x moments y.within y.node y.before,
@@ -412,7 +417,7 @@ failed_since v c m then node scx x = record {
   is = x.answers.0;
   others = x.answers.1.others;
   way = subst (λ (k : History). WasInTheWay v.past k m.node.0 scx.0) x.works.begun x.answers.1.in_the_way;
-  named = x.answers.1.held;
+  found = subst (λ (k : History). HasFound c.pass.0 v.past k LoadInfo m.node.0 scx.0) x.works.begun x.answers.1.found;
   over = x.answers.1.over;
   not_final = subst (λ (k : History). is_final (log v.layout k) m.node.0 ≡ false) x.works.begun x.answers.1.not_final;
 }

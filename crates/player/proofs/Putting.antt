@@ -4,7 +4,10 @@ use Rattle.std.proofs.Math.ListN.{set}
 use Rattle.arena.specs.declared.layout.Layout.{Layout}
 use Rattle.arena.specs.declared.word.Side.{Side}
 use Rattle.arena.specs.Share.{Left, HasNode as HasOwnNode, HasScx}
+use Rattle.arena.specs.declared.step.Kind.TheVariants.{LoadInfo}
 use Rattle.arena.specs.History.{History, EndsWith}
+use Rattle.arena.specs.Found.{IsLastStep}
+use Rattle.arena.proofs.Found.{last_now}
 use Rattle.arena.specs.Fills.{IsOwnNode, IsOwnScx, IsTakenNode, IsTakenScx}
 use Rattle.arena.specs.Lawful.{HasWon}
 use Rattle.arena.proofs.Values.{ends_self}
@@ -37,7 +40,6 @@ use Rattle.player.specs.declared.record.Resource.TheVariants.{Nodes, Scx as ScxR
 use Rattle.player.specs.Kept.{IsUnspent, kept_of, node_of, found_of}
 use Rattle.player.specs.LawfulRun.{commands, IsLastLook, most_steps, IsEmpty}
 use Rattle.player.specs.View.{View, IsSound, IsLlxOf, IsPutOf, no_hand, Stands, Rests, Starts, Answered, Told, IsFull, CanPut, Puts, Begins}
-use Rattle.prims.specs.Idle.{no_row_behind}
 use Rattle.prims.specs.Begun.{taken_since}
 use Rattle.prims.proofs.UntakenNodes.{taken_node_since}
 use Rattle.prims.proofs.Shares.{left_own_node, left_own_scx, taken_share, free_unnamed, all_over}
@@ -94,7 +96,7 @@ can_put v old kept m put snap sound x e = go x.works.command x.works.is x.works.
 
     -- its LLX has just loaded the info of the cell
     looked : IsLastLook old.pass.0 v.past v.start v.past snap.node.0
-    looked = let y = x.answers.1 in record { row = y.row; before = y.before; is = y.is; since = subst (λ (s : History). EndsWith y.before s) x.works.begun y.since; own = y.own; kind = y.kind; word = rw x.answers.0.node y.word; none_since = λ later k e f. absurd (no_row_behind v.past k later e f) }
+    looked = let y = x.answers.1 in record { row = y.row; before = y.before; is = y.is; since = subst (λ (s : History). EndsWith y.before s) x.works.begun y.since; last = subst (λ (h : History). IsLastStep old.pass.0 h LoadInfo snap.node.0 y.row y.before) (sym y.is) (last_now old.pass.0 y.before LoadInfo snap.node.0 y.row y.own y.kind (rw x.answers.0.node y.word)) }
 
     go : (command : Command) → slice_get (commands v.calls old.pass.0) v.answered ≡ Some command → IsLlxOf command m.node.0 (Some put) → v.steps + 40 ≤ most_steps command → CanPut v (linked_now v command) (record old { kept = kept }) (snap ∷ []) [] (snap.node.0, put.side) put.value
     go (SetOf field y) is f few = record {

@@ -7,6 +7,7 @@ use Rattle.arena.specs.Share.{Left}
 use Rattle.arena.specs.Words.{deed_after}
 use Rattle.arena.specs.History.{History, ◌⊳◌, value, EndsWith}
 use Rattle.arena.specs.Blame.{IsMember, IsInProgress}
+use Rattle.arena.proofs.Found.{last_more}
 use Rattle.arena.specs.Fills.{IsOwnNode, IsOwnScx, IsTakenNode, IsTakenScx}
 use Rattle.arena.specs.Lawful.{Lawful, HasWon}
 use Rattle.arena.specs.Machines.{Call, IsTold, row_of}
@@ -167,14 +168,7 @@ module _ (v : View) (c : Client) (r : Row) (number : ℕ) (start : History) (ste
       record { moment = y.moment; found = moment_more v.layout v.past r (snap_at snaps i) y.moment y.found; source = source_more command (snap_at snaps i).node.0 y.moment y.source }
     where
       source_more : (command : Command) (n : ℕ) (moment : History) → IsSource v c.pass.0 command n moment → IsSource (after_row v r start steps won) c.pass.0 command n moment
-      source_more (SetOf field x) n moment y = record { row = y.row; before = y.before; is = y.is; since = subst (λ (k : History). EndsWith y.before k) (sym since) y.since; own = y.own; kind = y.kind; word = y.word; none_since = none }
-        where
-          row_of_more : (a b : Row) (h k : History) → a ⊳ h ≡ b ⊳ k → a ≡ b
-          row_of_more a b h k e = cc
-
-          none : (later : Row) (k : History) → EndsWith (r ⊳ v.past) (later ⊳ k) → EndsWith k moment → later.pass.0 ≡ c.pass.0 → later.kind ≢ LoadInfo
-          none later k (inl e) f = rw (row_of_more later r k v.past e) looks
-          none later k (inr e) f = y.none_since later k e f
+      source_more (SetOf field x) n moment y = record { row = y.row; before = y.before; is = y.is; since = subst (λ (k : History). EndsWith y.before k) (sym since) y.since; last = last_more c.pass.0 v.past LoadInfo n r y.row y.before looks y.last }
       source_more (ScxOf update) n moment y = y
       source_more (VlxOf cells) n moment y = y
       source_more (LlxOf cell) n moment y = y

@@ -10,9 +10,9 @@ use Rattle.arena.specs.Fills.{IsOwnScx}
 use Rattle.arena.specs.Lawful.{Lawful}
 use Rattle.arena.specs.Blame.{IsMember, IsInProgress}
 use Rattle.arena.specs.Machines.{Call, row_of}
-use Rattle.arena.proofs.Values.{ends_self}
+use Rattle.arena.proofs.Values.{ends_self, same_moment}
 use Rattle.histories.proofs.Lemmas.{finished_stays}
-use Rattle.prims.specs.Idle.{IsIdle, same_moment}
+use Rattle.prims.specs.Idle.{IsIdle}
 use Rattle.prims.specs.Moments.{IsMoment, IsLeftAlone, AreOver}
 use Rattle.prims.specs.Linked.{in_field_named}
 use Rattle.prims.specs.Begun.{TakesOnly}

@@ -32,6 +32,10 @@ owned_of lay k v l x =
     let o = ((facts lay k l).about v x.named.0 real x.named.1).owned in
     (o.pass, o.is_pass, o.scx)
 
+-- a moment at which the call's SCX-record, which was not taken as the call began, covered some node stands behind the call's begin
+pub behind_start : (c : Call) (h : History) (s : ℕ) → Lawful c.layout h → EndsWith h c.start → ¬ IsTakenScx c.start s → (k : History) → EndsWith h k → 0 < count k s → EndsWith k c.start
+behind_start c h s l since free k e some = ⊎_elim (λ p. p) (λ p. absurd (free (taken_since c.start k s p (planned_taken c.layout k s (lawful_since c.layout h k l e) some)))) (ends_either h k c.start e since)
+
 module _ (c : Call) (h : History) (s : ℕ) (snaps : List Snap) (l : Lawful c.layout h) (b : HasBegun c h s snaps) (i : ℕ) (w : i < length snaps) where
   -- a moment that the call knows
   abbrev known : History
@@ -79,7 +83,7 @@ module _ (c : Call) (h : History) (s : ℕ) (snaps : List Snap) (l : Lawful c.la
       way m y = subst (λ u. WasInTheWay h m (snap_at snaps i).node.0 u) e (blame_info c.layout h m (snap_at snaps i).node.0 l y.within (λ z. other (sym y.info ∙ sym z ∙ e)))
 
   -- where it did at a moment behind the call's begin
-  blamed_behind : (k : History) (v : ℕ) → (IsOwnScx c.layout c.pass v → v ≢ s) → EndsWith h k → EndsWith k c.start → value k (info (snap_at snaps i).node.0) ≡ v → (snap_at snaps i).scx.0 ≢ v → IsBlamed c h (snap_at snaps i) v
+  pub blamed_behind : (k : History) (v : ℕ) → (IsOwnScx c.layout c.pass v → v ≢ s) → EndsWith h k → EndsWith k c.start → value k (info (snap_at snaps i).node.0) ≡ v → (snap_at snaps i).scx.0 ≢ v → IsBlamed c h (snap_at snaps i) v
   blamed_behind k v d e behind held other = record { in_the_way = way; others = others_of v d way }
     where
       lk : Lawful c.layout k
@@ -100,10 +104,3 @@ module _ (c : Call) (h : History) (s : ℕ) (snaps : List Snap) (l : Lawful c.la
           (λ p. way_since h k m (snap_at snaps i).node.0 v e (subst (λ u. WasInTheWay k m (snap_at snaps i).node.0 u) held (blame_info c.layout k m (snap_at snaps i).node.0 lk p (λ z. other (sym y.info ∙ sym z ∙ held)))))
           (λ p. absurd (not_later m y p))
           (ends_either h k m e y.within)
-
-  -- where it did at a moment at which the call's SCX-record, which was not taken as the call began, covered some node
-  pub blamed_then : ¬ IsTakenScx c.start s → (k : History) (v : ℕ) → v ≢ s → EndsWith h k → 0 < count k s → value k (info (snap_at snaps i).node.0) ≡ v → (snap_at snaps i).scx.0 ≢ v → IsBlamed c h (snap_at snaps i) v
-  blamed_then free k v d e some held other = blamed_behind k v (λ _. d) e (⊎_elim (λ p. p) (λ p. absurd (early p)) (ends_either h k c.start e b.since)) held other
-    where
-      early : EndsWith c.start k → ⊥
-      early p = free (taken_since c.start k s p (planned_taken c.layout k s (lawful_since c.layout h k l e) some))

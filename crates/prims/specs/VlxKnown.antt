@@ -7,6 +7,7 @@ use Rattle.arena.specs.declared.machine.Turn.{Turn}
 use Rattle.arena.specs.declared.machine.Turn.TheVariants.{Ask, Done}
 use Rattle.arena.specs.Words.{info}
 use Rattle.arena.specs.History.{History, value, EndsWith}
+use Rattle.arena.specs.Found.{HasFound}
 use Rattle.arena.specs.Machines.{Call}
 use Rattle.prims.specs.Linked.{IsLinked}
 use Rattle.prims.specs.Snap.{snap_at}
@@ -51,6 +52,7 @@ pub record vlx_told (snaps : List Snap) (n : ℕ) (c : Call) (h : History) (v : 
   pub index : ℕ
   pub looks : Looks c h snaps n index
   pub told : value h (info (snap_at snaps index).node.0) ≡ v
+  pub found : HasFound c.pass h c.start LoadInfo (snap_at snaps index).node.0 v
 
 -- it begins at this moment, over usable snapshots
 pub record IsFirstLook (snaps : List Snap) (n : ℕ) (c : Call) (h : History) : Type 0 where
@@ -71,12 +73,13 @@ pub record IsSame (c : Call) (h : History) (snaps : List Snap) : Type 0 where
   pub info : (i : ℕ) → i < length snaps → value c.start (info (snap_at snaps i).node.0) ≡ (snap_at snaps i).scx.0
   pub found : (i : ℕ) → i < length snaps → IsAsFound c.layout h c.start (snap_at snaps i)
 
--- this node's info names something else, which has changed it since its snapshot; those before it were as their snapshots found them, as the call began
+-- this node's info names something else, which has changed it since its snapshot, and which the call's last look has found there; those before it were as their snapshots found them, as the call began
 pub record HasChanged (c : Call) (h : History) (snaps : List Snap) (n v : ℕ) : Type 0 where
   pub index : ℕ
   pub within : index < length snaps
   pub node : (snap_at snaps index).node.0 ≡ n
   pub info : value h (info n) ≡ v
+  pub found : HasFound c.pass h c.start LoadInfo n v
   pub other : (snap_at snaps index).scx.0 ≢ v
   pub blamed : IsBlamed c h (snap_at snaps index) v
   pub before : (i : ℕ) → i < index → IsAsFound c.layout h c.start (snap_at snaps i)
