@@ -26,7 +26,7 @@ use Rattle.prims.specs.LlxKnown.{IsSnapshot, IsFinalBy}
 use Rattle.prims.specs.declared.snap.Snap.{Snap}
 use Rattle.prims.specs.declared.llx.Llx.{Llx}
 use Rattle.prims.specs.declared.llx.Llx.TheVariants.{Snapshot, Finalized, Fail}
-use Rattle.prims.specs.Moments.{IsMoment, IsAsFound}
+use Rattle.prims.specs.Moments.{IsMoment, IsAsFound, IsLeftAlone}
 use Rattle.prims.specs.ScxKnown.{nodes_of}
 use Rattle.prims.specs.Shares.{IsUsable}
 use Rattle.prims.specs.Snaps.{IsAmong, HasNode}
@@ -94,9 +94,13 @@ taken_of p = p.layout.scx - p.share.scx
 abbrev pub AreOfCall : ℕ → ℕ → History → History → Type 0
 AreOfCall c number start h = (r : Row) (before : History) → EndsWith h (r ⊳ before) → EndsWith before start → r.pass.0 ≡ c → r.call ≡ number
 
--- the pass may use the snapshot: what it says of its node holds as long as the node's info is what it found, and since then no SCX-record of the pass has covered the node while in progress
+-- the pass may use the snapshot: it has a moment, and what it says of its node holds as long as the node's info is what it found
 abbrev pub CanUse : Sight → Snap → Type 0
-CanUse p snap = (moment : History) × IsUsable p.layout p.number (run_of p) snap moment
+CanUse p snap = (moment : History) × IsUsable p.layout (run_of p) snap moment
+
+-- the pass has made no SCX over the snapshot's node since a moment of it: no SCX-record of the pass has covered the node while in progress
+abbrev pub HasLeftAlone : Sight → Snap → Type 0
+HasLeftAlone p snap = IsLeftAlone p.layout p.number (run_of p) snap
 
 -- this is so of each
 abbrev pub Each : {A : Type 0} → (A → Type 0) → List A → Type 0
@@ -118,19 +122,20 @@ pub record HasBlamed (p : Sight) : Type 0 where
 
 -- What every call leaves
 
--- the call of this number has brought the pass further: the run that it knows goes on from what it knew, and is lawful; its own rows there are of the call, and no more than so many; whom it has blamed is finished
+-- the call of this number has brought the pass further: the run that it knows goes on from what it knew, and is lawful; its own rows there are of the call, and no more than so many; whom it has blamed is finished; and it may use each snapshot that it could use
 pub record HasGoneOn (old new : Sight) (number most : ℕ) : Type 0 where
   pub later : IsLater old new
   pub lawful : IsRun allows_all new.layout (run_of new)
   pub calls : AreOfCall new.number number (run_of old) (run_of new)
   pub steps : steps_of new ≤ steps_of old + most
   pub blames : HasBlamed new
+  pub usable : (snap : Snap) → CanUse old snap → CanUse new snap
 
--- it has taken nothing of its share, made no entry, and may use each snapshot that it could use
+-- it has taken nothing of its share, made no entry, and left each snapshot alone that it had left alone
 pub record HasTakenNothing (old new : Sight) : Type 0 where
   pub share : new.share ≡ old.share
   pub done : done_of new ≡ done_of old
-  pub usable : (snap : Snap) → CanUse old snap → CanUse new snap
+  pub alone : (snap : Snap) → HasLeftAlone old snap → HasLeftAlone new snap
 
 -- What `llx` says
 
@@ -142,9 +147,9 @@ pub record HasFailed (old new : Sight) (n s : ℕ) : Type 0 where
   pub over : value (run_of new) (state s) ≢ 0
   pub not_final : is_final (seen_of old) n ≡ false
 
--- a snapshot gives the fields of the node in the run that is known now, in which it is not final, and may be used; a finalized node is final in it
+-- a snapshot gives the fields of the node in the run that is known now, in which it is not final, and may be used, and the pass has made no SCX over the node since; a finalized node is final in it
 abbrev pub LlxSays : Sight → Sight → ℕ → Llx → Type 0
-LlxSays old new n (Snapshot snap) = IsSnapshot new.layout (run_of new) n snap × CanUse new snap
+LlxSays old new n (Snapshot snap) = IsSnapshot new.layout (run_of new) n snap × CanUse new snap × HasLeftAlone new snap
 LlxSays old new n (Finalized node s) = (node.0 ≡ n) × IsFinalBy new.layout (run_of new) n s.0
 LlxSays old new n (Fail node s) = (node.0 ≡ n) × HasFailed old new n s.0
 
@@ -174,14 +179,14 @@ HasNodeOf (snap ∷ snaps) n = (snap.node.0 ≡ n) ⊎ HasNodeOf snaps n
 
 -- What `vlx` says
 
--- since each moment of one of the snapshots, which is of the node, another pass's SCX-record over the node, which the call's last step of this kind has found in its info, was in the way
+-- since each moment of one of the snapshots, which is of the node, an SCX-record over the node, which the call's last step of this kind has found in its info, was in the way; and it is another pass's, where this one had left the snapshot alone before the call
 pub record WasChanged (kind : Kind) (old new : Sight) (snaps : List Snap) (n s : ℕ) : Type 0 where
   pub index : ℕ
   pub within : index < length snaps
   pub is : (snap_at snaps index).node.0 ≡ n
   pub found : HasFound new.number (run_of new) (run_of old) kind n s
   pub in_the_way : (moment : History) → IsMoment new.layout (run_of new) (snap_at snaps index) moment → WasInTheWay (run_of new) moment n s
-  pub others : IsOthersScx new.layout new.number s
+  pub others : HasLeftAlone old (snap_at snaps index) → IsOthersScx new.layout new.number s
 
 -- in the run that was known before, the nodes of the first k had the last entry that they had at their snapshots, and were not final
 abbrev pub AreAsFound : Sight → Sight → List Snap → ℕ → Type 0

@@ -21,7 +21,7 @@ use Rattle.prims.specs.declared.put.PutRun.{PutRun}
 use Rattle.prims.specs.declared.scx.Scx.TheVariants.{Lost}
 use Rattle.prims.specs.declared.vlx.Vlx.TheVariants.{Changed}
 
--- the node is that of one of the snapshots, and since each moment of it the SCX-record of another pass was in the way, which the call's last row of this kind has found in its info
+-- the node is that of one of the snapshots, and the SCX-record, which the call's last row of this kind has found in its info, has changed it since
 pub record IsChanged (kind : Kind) (call : Call) (h : History) (snaps : List Snap) (node scx : ℕ) : Type 0 where
   pub index : ℕ
   pub within : index < length snaps

@@ -246,7 +246,7 @@ pub record IsDone (c : Call) (h : History) (m : ScxRun) : Type 0 where
   pub won : HasWon h m.scx.0
   pub entry : HasEntry c h m
 
--- it is aborted, has no entry, and this node's info was not as it had seen it: the call's last freezing exchange found there what another pass has changed it to since its snapshot
+-- it is aborted, has no entry, and this node's info was not as it had seen it: the call's last freezing exchange found there what has changed the node since its snapshot
 pub record IsLost (c : Call) (h : History) (m : ScxRun) (n v : ℕ) : Type 0 where
   pub aborted : value h (state m.scx.0) ≡ 2
   pub no_entry : ¬ IsEntered (log c.layout h) m.scx.0
