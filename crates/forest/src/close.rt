@@ -5,6 +5,7 @@ ghost use Rattle.arena.specs.declared.word.Side.TheVariants.{Left, Right};
 ghost use Rattle.arena.specs.Layout.{all_nodes, table_size, IsWord};
 ghost use Rattle.arena.specs.PlainWords.{Contents, held};
 ghost use Rattle.arena.specs.Words.{child};
+ghost use Rattle.prims.specs.Cells.{allows_all};
 ghost use Rattle.forest.specs.declared.view.Knower.{Knower};
 ghost use Rattle.forest.specs.Kept.{IsTableOf};
 ghost use Rattle.forest.specs.Passes.{ground, IsOf, AreOf, AreAllBack, IsClosed};
@@ -71,7 +72,7 @@ impl Forest<Cells> {
         requires passes { AreOf self passes.items }
         requires all { AreAllBack self.layout passes.items }
         ensures layout { result.layout ≡ self.layout }
-        ensures closed { IsClosed self.layout passes.items result }
+        ensures closed { IsClosed allows_all self.layout passes.items result }
     {
         let Forest { words, layout } = self;
         match gather(&words, &layout, passes) {
@@ -94,7 +95,7 @@ fn gather(
     requires passes { AreOf (ground words.now.table.shared.table_id layout.now) passes.items }
     ensures some { 0 < vec_len passes → IsSome result }
     ensures table { IfSome result (λ s. s.table_id ≡ words.now.table.shared.table_id) }
-    ensures all { IfSome result (λ s. AreIn passes.items s.me.0.passes) }
+    ensures all { IfSome result (λ s. AreIn allows_all passes.items s.me.0.passes) }
 {
     let mut all = seat_of(words, layout, passes.pop()?);
     while let Some(pass) = passes.pop() {
@@ -110,7 +111,7 @@ fn seat_of(words: &Words<Cells>, layout: &Layout, pass: Pass<Cells>) -> Seat<u8,
     requires pass { IsOf (ground words.now.table.shared.table_id layout.now) pass }
     ensures table { result.table_id ≡ words.now.table.shared.table_id }
     ensures bare { result.me.1 ≡ [] }
-    ensures pass { (k : Knower) × (result.me.0.passes ≡ k ∷ []) × IsFrom pass k }
+    ensures pass { (k : Knower) × (result.me.0.passes ≡ k ∷ []) × IsFrom allows_all pass k }
 {
     let Pass {
         number: _,

@@ -1,4 +1,5 @@
 use Rattle.std.proofs.Common.{List, [], ◌∷◌, ◌++◌, inl, refl, sym, ◌∙◌, ap, subst, append_assoc}
+use Rattle.prims.specs.Cells.{allows_all}
 use Rattle.forest.specs.Passes.{Sight, ground, AreOf}
 use Rattle.forest.specs.Gathered.{AreIn}
 use Rattle.forest.proofs.Closes.{in_more, of_append}
@@ -11,7 +12,7 @@ pub loop-pass-init : goal.loop-pass-init
 loop-pass-init c = let k = c.seat_of-all.ensures.pass in record {
   gone = c.in_ok-pop.field-0 ∷ [];
   were = c.in_ok-pop.ensures.items;
-  are_in = subst (λ l. AreIn (c.in_ok-pop.field-0 ∷ []) l) (sym k.1) ((k.0, inl refl, k.2), tt);
+  are_in = subst (λ l. AreIn allows_all (c.in_ok-pop.field-0 ∷ []) l) (sym k.1) ((k.0, inl refl, k.2), tt);
   left = (of_append (ground c.args.words.now.table.shared.table_id c.args.layout.now) c.pop.new.self.items (c.in_ok-pop.field-0 ∷ []) (subst (λ l. AreOf (ground c.args.words.now.table.shared.table_id c.args.layout.now) l) c.in_ok-pop.ensures.items c.requires.passes)).0;
   table = c.seat_of-all.ensures.table;
 }

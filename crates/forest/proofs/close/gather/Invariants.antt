@@ -1,4 +1,5 @@
 use Rattle.std.proofs.Common.{◌≡◌, ◌++◌, List, vec_len}
+use Rattle.prims.specs.Cells.{allows_all}
 use Rattle.forest.specs.Passes.{Sight, AreOf, ground}
 use Rattle.forest.specs.Gathered.{AreIn}
 use Rattle.forest.proofs.close.gather.Given as goal
@@ -7,7 +8,7 @@ abbrev pub invariant-loop-pass : goal.invariant-loop-pass
 invariant-loop-pass l = record {
   gone : List Sight;
   were : l.fn.passes.items ≡ l.passes.items ++ gone;
-  are_in : AreIn gone l.all.me.0.passes;
+  are_in : AreIn allows_all gone l.all.me.0.passes;
   left : AreOf (ground l.words.table.shared.table_id l.layout) l.passes.items;
   table : l.all.table_id ≡ l.words.table.shared.table_id;
 }

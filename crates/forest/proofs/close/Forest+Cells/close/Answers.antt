@@ -10,5 +10,5 @@ use Rattle.forest.proofs.close.Forest+Cells.close.Goals as goal
 
 pub returns-clause-closed : goal.returns-clause-closed
 returns-clause-closed c = let words : Contents = record { layout = c.self.inside.layout; words = c.close.result.words.items } in
-    subst (λ (f : Ground). IsClosed f.layout c.args.passes.items words) c.self.view_is (closes c.self.inside.words.table.shared.table_id c.self.inside.layout c.args.passes.items c.in-Some.seat.id c.in-Some.seat.me.0 c.close.result.words.items c.close.result.slots.items (subst (λ (f : Ground). AreOf f c.args.passes.items) (sym c.self.view_is) c.requires.passes) c.in-Some.ensures.all
+    subst (λ (f : Ground). IsClosed allows_all f.layout c.args.passes.items words) c.self.view_is (closes c.self.inside.words.table.shared.table_id c.self.inside.layout c.args.passes.items c.in-Some.seat.id c.in-Some.seat.me.0 c.close.result.words.items c.close.result.slots.items (subst (λ (f : Ground). AreOf f c.args.passes.items) (sym c.self.view_is) c.requires.passes) c.in-Some.ensures.all
     (subst (λ (l : Layout). Final (Seen (Kept allows_all l) c.in-Some.seat.id c.in-Some.seat.me.0) c.close.result.words.items c.close.result.slots.items) c.self.invariant.0.1 c.close.ensures.values.2))

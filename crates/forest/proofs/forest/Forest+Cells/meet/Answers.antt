@@ -1,5 +1,6 @@
 use Rattle.std.proofs.Common.{◌∙◌, sym, ap}
 use Rattle.arena.proofs.Values.{ends_trans}
+use Rattle.prims.specs.Cells.{allows_all}
 use Rattle.forest.specs.Passes.{Sight}
 use Rattle.forest.proofs.Passes.{layout_of, called_pass}
 use Rattle.forest.proofs.Meets.{HaveMet, have_met, met_left, looked_once}
@@ -11,7 +12,7 @@ meet-requires-clause-first c = let e = layout_of c.one.view_is c.self.view_is c.
 pub meet-requires-clause-second : goal.meet-requires-clause-second
 meet-requires-clause-second c = let e = layout_of c.other.view_is c.self.view_is c.requires.other in record { pass = _; is = c.other.invariant.seat; layout = e; is_pass = rw (← e) c.other.invariant.is_pass }
 
-met : (c : goal.After-meet) → HaveMet c.one.inside c.other.inside c.meet.new.one c.meet.new.other
+met : (c : goal.After-meet) → HaveMet allows_all c.one.inside c.other.inside c.meet.new.one c.meet.new.other
 met c = have_met c.one.inside c.other.inside c.one.invariant c.other.invariant c.meet.new.one c.meet.new.other c.meet.ensures.met
 
 pub invariant_of-one : goal.invariant_of-one
