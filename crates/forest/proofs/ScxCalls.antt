@@ -159,7 +159,7 @@ module _ {T : Type 0} (p : Inside T) (x : IsPass allows_all Records p) (some_nod
     pub run : PutRun
     pub is_of : Is run
     pub answers : put_answers run (call_of p x number) (past p.layout.mode (known_of s.me.0.passes)) a
-    pub goes : Goes p.layout p.number.0 start (past p.layout.mode (known_of s.me.0.passes)) (taken p.share) p.share.next_node p.share.next_scx snaps
+    pub goes : Goes allows_all p.layout p.number.0 start (past p.layout.mode (known_of s.me.0.passes)) (taken p.share) p.share.next_node p.share.next_scx snaps
     pub calls : AreOfCall p.number.0 number start (past p.layout.mode (known_of s.me.0.passes))
 
   abbrev pub Same : PutRun → PutRun → Type 0
@@ -173,7 +173,7 @@ module _ {T : Type 0} (p : Inside T) (x : IsPass allows_all Records p) (some_nod
         run = m;
         is_of = course_keeps Is of (λ old now e q. put_same old now snaps finalize field v p.share.next_node p.share.next_scx number e q) m _ y.so.1;
         answers = subst (λ rows. put_answers m (call_of p x number) (past p.layout.mode rows) a) known y.so.0;
-        goes = subst (λ rows. Goes p.layout p.number.0 start (past p.layout.mode rows) (taken p.share) p.share.next_node p.share.next_scx snaps) known
+        goes = subst (λ rows. Goes allows_all p.layout p.number.0 start (past p.layout.mode rows) (taken p.share) p.share.next_node p.share.next_scx snaps) known
             (put_goes Same (call_of p x number) first (taken p.share) p.share.next_node p.share.next_scx snaps (put_hand first snaps finalize field v p.share.next_node p.share.next_scx number of)
             (λ old now e q. record { fresh = rw e.1 q.fresh; record_is = rw e.0 q.record_is; snaps_are = rw e.1 q.snaps_are })
             (omega arith) (omega arith) x.sound (taken_share p.layout start p.number.0 p.share some_node some_scx x.rest.share) x.rest.over
@@ -254,7 +254,7 @@ module _ {T : Type 0} (p : Inside T) (x : IsPass allows_all Records p) (some_nod
   put_alone s a y = y.goes.alone
 
   -- it has gone on
-  pub put_goes_on : (s : Seat ℕ View) (a : Scx) (left most : ℕ) → s.table_id ≡ p.seat.table_id → s.me.1 ≡ p.seat.me.1 → HasPut s a → steps_of s.me.0.passes ≤ steps_of p.seat.me.0.passes + left → left ≤ most → HasGoneOn (sight p) (sight (spent s)) number most
+  pub put_goes_on : (s : Seat ℕ View) (a : Scx) (left most : ℕ) → s.table_id ≡ p.seat.table_id → s.me.1 ≡ p.seat.me.1 → HasPut s a → steps_of s.me.0.passes ≤ steps_of p.seat.me.0.passes + left → left ≤ most → HasGoneOn allows_all (sight p) (sight (spent s)) number most
   put_goes_on s a left most table bare y few small = record {
     later = later;
     lawful = y.goes.sound;

@@ -14,7 +14,6 @@ use Rattle.arena.specs.declared.word.Word.{Word}
 use Rattle.arena.specs.Layout.{all_nodes, IsWord}
 use Rattle.arena.specs.Machines.{IsRun}
 use Rattle.arena.specs.PlainWords.{Contents, held}
-use Rattle.prims.specs.Cells.{allows_all}
 use Rattle.arena.specs.Words.{state, child, node as node_word}
 use Rattle.arena.specs.History.{History, ◌⊳◌, value, EndsWith}
 use Rattle.arena.specs.Fills.{IsOthersScx, IsOwnNode, IsOwnScx, IsTakenNode, IsTakenScx}
@@ -123,9 +122,9 @@ pub record HasBlamed (p : Sight) : Type 0 where
 -- What every call leaves
 
 -- the call of this number has brought the pass further: the run that it knows goes on from what it knew, and is lawful; its own rows there are of the call, and no more than so many; whom it has blamed is finished; and it may use each snapshot that it could use
-pub record HasGoneOn (old new : Sight) (number most : ℕ) : Type 0 where
+pub record HasGoneOn (allows : Layout → History → ℕ → Type 0) (old new : Sight) (number most : ℕ) : Type 0 where
   pub later : IsLater old new
-  pub lawful : IsRun allows_all new.layout (run_of new)
+  pub lawful : IsRun allows new.layout (run_of new)
   pub calls : AreOfCall new.number number (run_of old) (run_of new)
   pub steps : steps_of new ≤ steps_of old + most
   pub blames : HasBlamed new
@@ -243,8 +242,8 @@ ScxSays old new snaps finalize field v (Lost node s) = WasChanged Freeze old new
 -- Passes that come together
 
 -- by one step, which is of no call (its number is 0), the pass has learned more, and it has blamed nobody
-pub record HasLookedOnce (old new : Sight) : Type 0 where
-  pub goes_on : HasGoneOn old new 0 1
+pub record HasLookedOnce (allows : Layout → History → ℕ → Type 0) (old new : Sight) : Type 0 where
+  pub goes_on : HasGoneOn allows old new 0 1
   pub takes_nothing : HasTakenNothing old new
   pub one_step : steps_of new ≡ suc (steps_of old)
   pub blamed : new.blamed ≡ old.blamed
@@ -284,10 +283,10 @@ abbrev pub AreBegun : List Sight → List Row → Type 0
 AreBegun [] rows = Unit {0}
 AreBegun (p ∷ ps) rows = EndsWith (past p.layout.mode rows) (run_of p) × (entries_of p.number (log p.layout (past p.layout.mode rows)) ≡ done_of p) × (rows_of p.number rows ≡ suc (steps_of p)) × AreBegun ps rows
 
--- the words are those of one run of cells, in which the fields are what its log says, and which goes on from what these passes knew; what they have blamed has left their shares
-pub record IsClosed (lay : Layout) (passes : List Sight) (words : Contents) : Type 0 where
+-- the words are those of one run, in which the fields are what its log says, and which goes on from what these passes knew; what they have blamed has left their shares
+pub record IsClosed (allows : Layout → History → ℕ → Type 0) (lay : Layout) (passes : List Sight) (words : Contents) : Type 0 where
   pub rows : List Row
-  pub sound : IsRun allows_all lay (past lay.mode rows)
+  pub sound : IsRun allows lay (past lay.mode rows)
   pub holds : (w : Word) → IsWord lay w → held words w ≡ value (past lay.mode rows) w
   pub fields : (n : ℕ) (side : Side) → n < all_nodes lay → held words (child n side) ≡ fields lay (past lay.mode rows) n side
   pub begun : AreBegun passes rows

@@ -100,6 +100,7 @@ can_put v old kept m put snap sound x e = go x.works.command x.works.is x.works.
 
     go : (command : Command) → slice_get (commands v.calls old.pass.0) v.answered ≡ Some command → IsLlxOf command m.node.0 (Some put) → v.steps + 40 ≤ most_steps command → CanPut v (linked_now v command) (record old { kept = kept }) (snap ∷ []) [] (snap.node.0, put.side) put.value
     go (SetOf field y) is f few = record {
+      mode = x.works.mode;
       rests = rests_kept v old kept m (Some put) (LlxSnapshot snap) (linked_now v (SetOf field y)) sound x e (λ n. rw (x.answers.0.node ∙ f.0) refl);
       others = λ n d. rw (ne_eqb field.0 n (λ q. d record { at = 0; within = omega arith; is = x.answers.0.node ∙ f.0 ∙ q })) refl;
       since = subst (λ (s : History). EndsWith v.past s) x.works.begun x.works.since;
@@ -169,6 +170,7 @@ put_of m u number snaps finalize field x e k w is at side removed = record {
 pub put_starts : (v : View) (linked : ℕ → Option History) (c : Client) (snaps : List Snap) (removed : List ℕ) (field : ℕ × Side) (x : ℕ) (kept : Kept) (m : PutRun) → IsSound v → CanPut v linked c snaps removed field x → 0 < c.share.nodes → 0 < c.share.scx → ((n : ℕ) → kept_of kept n ≡ (if has_snap snaps n then None else kept_of c.kept n)) → IsUpdateOver m.scx.update → m.scx.update.snaps ≡ snaps → m.scx.update.fresh.0 ≡ c.share.next_node → m.scx.scx.0 ≡ c.share.next_scx → m.scx.at ≡ ScxStart → m.at ≡ PutStart → IsPutOf m c.number (nodes_of snaps) removed field x → put_left m ≤ 40 → Starts v (record c { share = taken c.share; kept = kept }) (Scx m) None
 put_starts v linked c snaps removed field x kept m sound can some_node some_scx left over is fresh scx start at of bound = record {
   works = record {
+    mode = can.mode;
     stands = record {
       is_pass = y.is_pass;
       number = y.number;

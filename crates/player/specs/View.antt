@@ -2,6 +2,7 @@
 use Rattle.std.specs.Prelude.{◌≡◌, ◌≢◌, ℕ, suc, ◌+◌, ◌^◌, ◌<◌, ◌≤◌, ◌⊎◌, ◌↔◌, true, List, [], ◌∷◌, length, drop, Option, Some, None, slice_get}
 use Rattle.std.specs.List.{Contains}
 use Rattle.arena.specs.declared.word.Side.{Side}
+use Rattle.arena.specs.declared.limits.Mode.TheVariants.{Records}
 use Rattle.arena.specs.declared.layout.Layout.{Layout}
 use Rattle.arena.specs.Share.{Left}
 use Rattle.arena.specs.History.{History, value, EndsWith}
@@ -9,7 +10,6 @@ use Rattle.arena.specs.ScxRecords.{removes, side_of}
 use Rattle.arena.specs.Lawful.{HasWon}
 use Rattle.arena.specs.Fills.{IsOwnNode, IsOwnScx, IsTakenNode}
 use Rattle.arena.specs.Machines.{Call as MachineCall, IsRun}
-use Rattle.prims.specs.Cells.{allows_all}
 use Rattle.prims.specs.Moments.{IsMoment, AreLeftAlone, AreOver, HasTakenOnly}
 use Rattle.prims.specs.ScxKnown.{nodes_of}
 use Rattle.prims.specs.Shares.{IsShare}
@@ -35,7 +35,8 @@ use Rattle.player.specs.declared.client.Put.{Put}
 use Rattle.player.specs.declared.client.Standing.{Standing}
 use Rattle.player.specs.declared.client.Standing.TheVariants.{Finished, Answers, Asks}
 use Rattle.player.specs.declared.run.Ended.{Ended}
-use Rattle.player.specs.RunKnown.{run_ready, run_waits, run_answers}
+use Rattle.player.specs.Allowed.{played_allows}
+use Rattle.player.specs.RunKnown.{run_ready, run_waits, run_answers, run_mode}
 use Rattle.player.specs.RunSteps.{then_left, left_of}
 use Rattle.player.specs.Kept.{AreKept, IsUnspent, kept_of}
 use Rattle.player.specs.Place.{IsAt}
@@ -57,9 +58,9 @@ pub record View : Type 0 where
 abbrev pub view : Layout → List Call → List Line → ℕ → View
 view lay calls lines c = record { layout = lay; calls = calls; past = history lay.mode lines; answered = answered lines c; start = start lay.mode lines c; steps = steps lines c; won = won lay lines c; linked = linked calls lay.mode lines c }
 
--- its steps are lawful
+-- its steps are lawful, and begin only what the mode allows
 abbrev pub IsSound : View → Type 0
-IsSound v = IsRun allows_all v.layout v.past
+IsSound v = IsRun played_allows v.layout v.past
 
 -- What a client has
 
@@ -180,6 +181,7 @@ IsRoomy v c _ = Unit {0}
 
 -- a machine runs for its next call, over snapshots that the client had left alone as the machine started
 pub record Works (v : View) (c : Client) (run : Run) (then : Option Put) : Type 0 where
+  pub mode : v.layout.mode ≡ run_mode run
   pub stands : Stands v c (in_hand c.share run)
   pub newest : HasNewest c.share run
   pub command : Command
@@ -293,6 +295,7 @@ Stood v turn old new (Asks step) = IsSameCall old new × (r : Running) × (new.r
 
 -- what an SCX has to be given: unspent snapshots; the command is one that such an SCX serves, and may make as many steps more. The lines will say `linked` of the snapshots if the SCX is refused
 pub record CanPut (v : View) (linked : ℕ → Option History) (c : Client) (snaps : List Snap) (removed : List ℕ) (field : ℕ × Side) (x : ℕ) : Type 0 where
+  pub mode : v.layout.mode ≡ Records
   pub rests : Rests (record v { linked = linked }) c
   pub others : (n : ℕ) → (IsAmong snaps n → ⊥) → linked n ≡ v.linked n
   pub since : EndsWith v.past v.start

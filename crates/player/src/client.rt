@@ -154,7 +154,7 @@ impl Client {
 
     /// Takes the snapshots and the records of an `scx`, if they are there.
     fn begin_scx(&mut self, update: &script::Update) -> Option<Answer>
-        ensures { (v : View) (began : Option ℕ) → IsSound v → Rests v self.old → IsUnbegun v began → command_of v self.old ≡ Some (ScxCommand update.now) → Begins v self.old.begin self.old self.new result }
+        ensures { (v : View) (began : Option ℕ) → IsSound v → v.layout.mode ≡ Records → Rests v self.old → IsUnbegun v began → command_of v self.old ≡ Some (ScxCommand update.now) → Begins v self.old.begin self.old self.new result }
     {
         let cells = update.cells();
         match self.kept.linked(cells) {

@@ -39,7 +39,7 @@ filled_covers c h s number n u x y = record { at = y.index; within = within; is 
 
 module _ (allows : Layout → History → ℕ → Type 0) (m : Job) (c : Call) (h : History) (p : IsNamedScx h m.scx.0) where
   -- a run of SCX that waits
-  scx_filled : (at : ScxAt) (s : Step) → scx_waits_at allows c h m at s → HasFilled c h m.scx.0 m.call m.update
+  pub scx_filled : (at : ScxAt) (s : Step) → scx_waits_at allows c h m at s → HasFilled c h m.scx.0 m.call m.update
   scx_filled ScxStart s w = absurd w
   scx_filled (Help help) s w = w.2
   scx_filled AtPlan s w = absurd (w.fills.hand.is_open.unnamed p)
@@ -50,7 +50,7 @@ module _ (allows : Layout → History → ℕ → Type 0) (m : Job) (c : Call) (
   scx_filled AtCall s w = absurd (w.fills.hand.is_open.unnamed p)
 
   -- one whose step is made
-  scx_filled_then : (at : ScxAt) (v : ℕ) → scx_told_at allows c h m at v → HasFilled c h m.scx.0 m.call m.update
+  pub scx_filled_then : (at : ScxAt) (v : ℕ) → scx_told_at allows c h m at v → HasFilled c h m.scx.0 m.call m.update
   scx_filled_then ScxStart v w = absurd w
   scx_filled_then (Help help) v w = w.2
   scx_filled_then AtPlan v w = absurd (w.hand.is_open.unnamed p)

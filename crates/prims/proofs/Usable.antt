@@ -47,7 +47,7 @@ pub put_ready_first : (lay : Layout) (c number : ℕ) (is_pass : c < lay.passes)
     → put_ready allows_all m (record { layout = lay; pass = c; is_pass = is_pass; number = number; start = h }) h None
 put_ready_first lay c number is_pass h m l over usable at start own in_order free own_node nodes unmentioned all_over = record {
   stands = at;
-  hand = put_begin lay c h m.scx l over (λ i p. (usable i p).1.linked) start own in_order free own_node nodes unmentioned;
+  hand = put_begin allows_all lay c h m.scx l over (λ i p. (usable i p).1.linked) start own in_order free own_node nodes unmentioned (λ k r d later f y n later_n run e b w. tt);
   begins = refl;
   clear = is_clear lay c h m.scx.update.snaps usable all_over;
   free = free;
