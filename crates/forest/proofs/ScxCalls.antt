@@ -149,6 +149,7 @@ module _ {T : Type 0} (p : Inside T) (x : IsPass allows_all Records p) (some_nod
       put_ready_first p.layout p.number.0 number x.is_pass start m x.sound.lawful of.over (rw of.snaps_are (each_at (CanUse (sight p)) snaps usable)) at
           scx_at (rw of.record_is own_scx) (rw of.record_is x.rest.share.taken_scx) (rw of.record_is free) (rw of.fresh own_node) (rw of.fresh x.rest.share.taken_nodes)
           (rw of.fresh (x.rest.share.unmentioned p.share.next_node record { from = omega arith; below = omega arith }))
+          (rw of.fresh (x.rest.share.untaken_nodes p.share.next_node record { from = omega arith; below = omega arith }))
           (all_over p.layout start p.number.0 p.share _ _ x.rest.share x.rest.over),
     );
   }
@@ -216,6 +217,7 @@ module _ {T : Type 0} (p : Inside T) (x : IsPass allows_all Records p) (some_nod
       side = y.is_of.side;
       fresh = y.is_of.fresh;
       has_value = y.answers.1.value ∙ y.is_of.is_value;
+      empty_fields = y.answers.1.empty;
       found = subst (λ l. (i : ℕ) → i < length l → IsAsFound p.layout h d.entry.before (snap_at l i)) y.is_of.snaps_are at.found;
     },
   )

@@ -214,7 +214,7 @@ IsAllTaken p ScxRecords = (s : ℕ) → IsOwnScx p.layout p.number s → IsTaken
 abbrev pub IsUsedUp : Sight → Full → Type 0
 IsUsedUp p f = IsFull p.share f × IsAllTaken p f.what
 
--- the entry is the pass's only one behind what it had seen, and is that of this call, with the fresh node: just before it each node was as its snapshot found it, and the fresh node had its value
+-- the entry is the pass's only one behind what it had seen, and is that of this call, with the fresh node: just before it each node was as its snapshot found it, and the fresh node had its value, and 0 in its two fields
 pub record IsDone (old new : Sight) (snaps : List Snap) (finalize : List NodeNo) (field : ℕ × Side) (value_of_cell : ℕ) (e : Entry) : Type 0 where
   pub row : Row
   pub before : History
@@ -232,6 +232,7 @@ pub record IsDone (old new : Sight) (snaps : List Snap) (finalize : List NodeNo)
   pub side : e.side ≡ field.1
   pub fresh : e.new ≡ old.share.next_node
   pub has_value : value before (node_word e.new Value) ≡ value_of_cell
+  pub empty_fields : (side : Side) → value before (child e.new side) ≡ 0
   pub found : (i : ℕ) → i < length snaps → IsAsFound new.layout (run_of new) before (snap_at snaps i)
 
 -- one entry more, of this call; or none, and a node was changed since its snapshot

@@ -4,7 +4,8 @@ use Rattle.std.specs.List.{Contains}
 use Rattle.arena.specs.declared.step.Row.{Row}
 use Rattle.arena.specs.declared.word.NodeWord.TheVariants.{Value}
 use Rattle.arena.specs.declared.word.ScxWord.TheVariants.{Call as CallWord}
-use Rattle.arena.specs.Words.{node, scx}
+use Rattle.arena.specs.declared.word.Side.{Side}
+use Rattle.arena.specs.Words.{node, scx, child}
 use Rattle.arena.specs.History.{History, ◌⊳◌, value}
 use Rattle.arena.specs.Blame.{IsInProgress}
 use Rattle.arena.specs.Fills.{IsOwnNode, IsOwnScx, IsNamedScx}
@@ -111,6 +112,7 @@ record IsOfPut (v : View) (c : Client) (row : Row) (m : PutRun) (start : History
   at : IsEntryAt (machine_call v c is_pass start) (row ⊳ v.past) m.scx row v.past
   fresh : IsOwnNode v.layout c.pass.0 m.scx.update.fresh.0
   value_is : value v.past (node m.scx.update.fresh.0 Value) ≡ m.value
+  empty_fields : (side : Side) → value v.past (child m.scx.update.fresh.0 side) ≡ 0
   called : value v.past (scx m.scx.scx.0 CallWord) ≡ m.scx.call
 
 module _ (v : View) (c : Client) (row : Row) (m : PutRun) (start : History) (is_pass : c.pass.0 < v.layout.passes) (x : IsOfPut v c row m start is_pass) where
@@ -122,6 +124,7 @@ module _ (v : View) (c : Client) (row : Row) (m : PutRun) (start : History) (is_
     side_is = p.side;
     fresh = x.fresh;
     value_is = x.value_is ∙ p.value;
+    empty_fields = x.empty_fields;
   }
 
   unchanged : (command : Command) (i : ℕ) → i < length m.scx.update.snaps → (z : HaveMoments v c.pass.0 command m.scx.update.snaps) → (p : i < length m.scx.update.snaps) → IsUnchanged v.layout v.past (z i p).moment (snap_at m.scx.update.snaps i).node.0
@@ -216,7 +219,7 @@ entry_by_others v c q row s sound w run other wins own = from_run v c sound row 
         let named : IsNamedScx v.past m.scx.scx.0 = rw same (in_progress v c sound row s run.lawful wins own).named in
         let y = put_entry allows_all m call (row ⊳ v.past) q.step row v.past run.lawful (inl refl) win after in
         let z = put_full allows_all m call v.past q.step named before in
-        record { at = y.0; fresh = z.1.own; value_is = y.1; called = z.0.called }
+        record { at = y.0; fresh = z.1.own; value_is = y.1; empty_fields = y.2; called = z.0.called }
 
 -- its own row
 pub entry_by_own : (v : View) (c : Client) (q : Running) (s : ℕ) → IsSound v → Waits v c q → UpdateWins v.past (own_row v c q.step) s → IsOwnScx v.layout c.pass.0 s → IsTold q.step.deed (value v.past q.step.word) (value v.past q.step.word) → IsEntryFrom v c (own_row v c q.step) s
@@ -236,4 +239,4 @@ entry_by_own v c q s sound w wins own told = from_run v c sound (own_row v c q.s
         let named : IsNamedScx v.past m.scx.scx.0 = rw same (in_progress v c sound (own_row v c q.step) s run.lawful wins own).named in
         let y = put_entry_then allows_all m call (own_row v c q.step ⊳ v.past) (value v.past q.step.word) (own_row v c q.step) v.past run.lawful (inl refl) win after in
         let z = put_full allows_all m call v.past q.step named before in
-        record { at = y.0; fresh = z.1.own; value_is = y.1; called = z.0.called }
+        record { at = y.0; fresh = z.1.own; value_is = y.1; empty_fields = y.2; called = z.0.called }
