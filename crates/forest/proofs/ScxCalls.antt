@@ -22,23 +22,23 @@ use Rattle.prims.proofs.Changed.{put_changed}
 use Rattle.prims.proofs.Planned.{removed_those}
 use Rattle.prims.proofs.Shares.{left_own_node, left_own_scx, taken_share, next_free, next_unwon, all_over}
 use Rattle.prims.proofs.Usable.{put_ready_first}
-use Rattle.prims.specs.Shares.{taken}
 use Rattle.prims.specs.declared.snap.Snap.{Snap}
 use Rattle.prims.specs.declared.scx.Scx.{Scx}
 use Rattle.prims.specs.declared.scx.Scx.TheVariants.{Done, Lost}
 use Rattle.prims.specs.declared.scx.ScxAt.TheVariants.{Start as ScxStart}
 use Rattle.prims.specs.declared.put.PutRun.{PutRun}
 use Rattle.prims.specs.declared.put.PutAt.TheVariants.{Start as PutStart}
-use Rattle.forest.specs.declared.fault.Full.{Full}
-use Rattle.forest.specs.declared.fault.Resource.{Resource}
-use Rattle.forest.specs.declared.fault.Resource.TheVariants.{Nodes, Scx as ScxRecords}
+use Rattle.arena.specs.Share.{taken, IsFull, IsFullOf}
+use Rattle.arena.specs.declared.fault.Full.{Full}
+use Rattle.arena.specs.declared.fault.Resource.{Resource}
+use Rattle.arena.specs.declared.fault.Resource.TheVariants.{Nodes, Scx as ScxRecords}
 use Rattle.forest.specs.declared.view.View.{View}
 use Rattle.forest.specs.declared.pass.Pass.TheInside.{Inside}
 use Rattle.forest.specs.Kept.{past, knower}
 use Rattle.forest.specs.Courses.{Course, IsCalled, known_of, steps_of}
 use Rattle.forest.specs.Shares.{entries_of}
 use Rattle.forest.specs.Puts.{IsPutOf}
-use Rattle.forest.specs.Passes.{AreOfCall, HasGoneOn, IsLater, CanUse, HasLeftAlone, Each, ScxSays, IsFull, IsFullOf, IsAllTaken, IsUsedUp, done_of, taken_of}
+use Rattle.forest.specs.Passes.{AreOfCall, HasGoneOn, IsLater, CanUse, HasLeftAlone, Each, ScxSays, IsAllTaken, IsUsedUp, done_of, taken_of}
 use Rattle.forest.specs.Held.{sight, IsPass}
 use Rattle.forest.proofs.Frames.{Goes}
 use Rattle.forest.proofs.Calls.{HasHand, course_keeps, put_goes, put_rests}

@@ -6,7 +6,7 @@ use Rattle.arena.specs.declared.layout.Layout.{Layout}
 use Rattle.arena.specs.declared.step.Row.{Row}
 use Rattle.arena.specs.declared.step.Kind.{Kind}
 use Rattle.arena.specs.declared.step.Kind.TheVariants.{Freeze, LoadInfo}
-use Rattle.arena.specs.Share.{Left, whole_share, HasScx}
+use Rattle.arena.specs.Share.{Left, whole_share, HasScx, IsFull}
 use Rattle.arena.specs.declared.number.NodeNo.{NodeNo}
 use Rattle.arena.specs.declared.word.Side.{Side}
 use Rattle.arena.specs.declared.word.NodeWord.TheVariants.{Value}
@@ -34,9 +34,9 @@ use Rattle.prims.specs.declared.scx.Scx.{Scx}
 use Rattle.prims.specs.declared.scx.Scx.TheVariants.{Done, Lost}
 use Rattle.prims.specs.declared.vlx.Vlx.{Vlx}
 use Rattle.prims.specs.declared.vlx.Vlx.TheVariants.{Same, Changed}
-use Rattle.forest.specs.declared.fault.Full.{Full}
-use Rattle.forest.specs.declared.fault.Resource.{Resource}
-use Rattle.forest.specs.declared.fault.Resource.TheVariants.{Nodes, Scx as ScxRecords}
+use Rattle.arena.specs.declared.fault.Full.{Full}
+use Rattle.arena.specs.declared.fault.Resource.{Resource}
+use Rattle.arena.specs.declared.fault.Resource.TheVariants.{Nodes, Scx as ScxRecords}
 use Rattle.forest.specs.Kept.{past}
 use Rattle.forest.specs.Courses.{rows_of}
 use Rattle.forest.specs.Shares.{entries_of}
@@ -197,14 +197,6 @@ VlxSays old new snaps Same = AreAsFound old new snaps (length snaps)
 VlxSays old new snaps (Changed node s) = (c : WasChanged LoadInfo old new snaps node.0 s.0) × AreAsFound old new snaps c.index
 
 -- What `scx` says
-
--- nothing is left of this, which is tested after the nodes
-abbrev pub IsFullOf : Left → Resource → ℕ → Type 0
-IsFullOf left Nodes k = (left.nodes ≡ 0) × (k ≡ 0)
-IsFullOf left ScxRecords k = (0 < left.nodes) × (left.scx ≡ 0) × (k ≡ 0)
-
-abbrev pub IsFull : Left → Full → Type 0
-IsFull left f = IsFullOf left f.what f.left
 
 -- all that the share had of it is taken in the run that the pass knows
 abbrev pub IsAllTaken : Sight → Resource → Type 0

@@ -3,7 +3,7 @@ use Rattle.std.proofs.Common.{◌≡◌, ℕ, ◌+◌, ◌<◌, ◌≤◌, ◌�
 use Rattle.std.proofs.Math.ListN.{set}
 use Rattle.arena.specs.declared.layout.Layout.{Layout}
 use Rattle.arena.specs.declared.word.Side.{Side}
-use Rattle.arena.specs.Share.{Left, HasNode as HasOwnNode, HasScx}
+use Rattle.arena.specs.Share.{Left, HasNode as HasOwnNode, HasScx, taken}
 use Rattle.arena.specs.declared.step.Kind.TheVariants.{LoadInfo}
 use Rattle.arena.specs.History.{History, EndsWith}
 use Rattle.arena.specs.Found.{IsLastStep}
@@ -35,16 +35,16 @@ use Rattle.player.specs.declared.client.Put.{Put}
 use Rattle.player.specs.declared.kept.Kept.{Kept}
 use Rattle.player.specs.declared.record.Answer.{Answer}
 use Rattle.player.specs.declared.record.Answer.TheVariants.{Snapshot, Finalized, Fail, Done, Lost, Same, Changed, Unlinked, Full}
-use Rattle.player.specs.declared.record.Resource.{Resource}
-use Rattle.player.specs.declared.record.Resource.TheVariants.{Nodes, Scx as ScxRecords}
+use Rattle.arena.specs.declared.fault.Resource.{Resource}
+use Rattle.arena.specs.declared.fault.Resource.TheVariants.{Nodes, Scx as ScxRecords}
 use Rattle.player.specs.Kept.{IsUnspent, kept_of, node_of, found_of}
 use Rattle.player.specs.LawfulRun.{commands, IsLastLook, most_steps, IsEmpty}
-use Rattle.player.specs.View.{View, IsSound, IsLlxOf, IsPutOf, no_hand, Stands, Rests, Starts, Answered, Told, IsFull, CanPut, Puts, Begins}
+use Rattle.player.specs.View.{View, IsSound, IsLlxOf, IsPutOf, no_hand, Stands, Rests, Starts, Answered, Told, TellsFull, CanPut, Puts, Begins}
 use Rattle.prims.specs.Begun.{taken_since}
 use Rattle.prims.proofs.UntakenNodes.{taken_node_since}
 use Rattle.prims.proofs.Shares.{left_own_node, left_own_scx, taken_share, free_unnamed, all_over}
 use Rattle.prims.proofs.Usable.{put_ready_first}
-use Rattle.prims.specs.Shares.{IsShare, taken}
+use Rattle.prims.specs.Shares.{IsShare}
 use Rattle.player.proofs.Over.{taken_one}
 use Rattle.player.proofs.Snapshots.{has_snap, dropped, kept_without, unkept_without}
 use Rattle.player.proofs.Ends.{rests_kept, snapshot_unspent, among_none, entered_none}
@@ -65,9 +65,9 @@ next_node lay h c left share some = (left.next_node, left_own_node lay h c left 
     own : HasOwnNode left left.next_node
     own = record { from = omega arith; below = omega arith }
 
-pub full_answer : (lay : Layout) (h : History) (c : ℕ) (left : Left) (answer : Answer) → IsShare lay h c left left.next_node left.next_scx → IsFull left answer → IsFullAnswer lay c h answer
-full_answer lay h c left (Full Nodes k) share full = record { what = Nodes; left = k; is = refl; empty = (full.0, λ n own. share.taken_nodes n own (let a = own.below in let b = share.to_node in omega (arith, full.1))) }
-full_answer lay h c left (Full ScxRecords k) share full = record { what = ScxRecords; left = k; is = refl; empty = (full.0, λ s own. share.taken_scx s own (let a = own.below in let b = share.to_scx in omega (arith, full.1)), next_node lay h c left share full.2) }
+pub full_answer : (lay : Layout) (h : History) (c : ℕ) (left : Left) (answer : Answer) → IsShare lay h c left left.next_node left.next_scx → TellsFull left answer → IsFullAnswer lay c h answer
+full_answer lay h c left (Full Nodes k) share full = record { what = Nodes; left = k; is = refl; empty = (full.1, λ n own. share.taken_nodes n own (let a = own.below in let b = share.to_node in omega (arith, full.0))) }
+full_answer lay h c left (Full ScxRecords k) share full = record { what = ScxRecords; left = k; is = refl; empty = (full.2, λ s own. share.taken_scx s own (let a = own.below in let b = share.to_scx in omega (arith, full.1)), next_node lay h c left share full.0) }
 full_answer lay h c left (Snapshot a b) share full = absurd full
 full_answer lay h c left Finalized share full = absurd full
 full_answer lay h c left (Fail node scx) share full = absurd full

@@ -30,8 +30,8 @@ use Rattle.player.specs.declared.record.Row.TheVariants.{Step as Made, Idle}
 use Rattle.player.specs.declared.record.Row.{Row}
 use Rattle.player.specs.declared.record.Reply.{Reply}
 use Rattle.player.specs.declared.record.Entry.{Entry}
-use Rattle.player.specs.declared.record.Resource.{Resource}
-use Rattle.player.specs.declared.record.Resource.TheVariants.{Nodes, Scx as ScxRecords}
+use Rattle.arena.specs.declared.fault.Resource.{Resource}
+use Rattle.arena.specs.declared.fault.Resource.TheVariants.{Nodes, Scx as ScxRecords}
 use Rattle.player.specs.declared.record.Answer.{Answer}
 use Rattle.player.specs.declared.record.Answer.TheVariants.{Snapshot, Finalized, Fail, Done, Lost, Same, Changed, Unlinked, Full}
 use Rattle.player.specs.Turns.{history, turns, clients, last_client, answered, begin, start, steps, won, entry_of, entry_owed}

@@ -4,7 +4,7 @@ use Rattle.std.specs.List.{Contains}
 use Rattle.arena.specs.declared.word.Side.{Side}
 use Rattle.arena.specs.declared.limits.Mode.TheVariants.{Records}
 use Rattle.arena.specs.declared.layout.Layout.{Layout}
-use Rattle.arena.specs.Share.{Left}
+use Rattle.arena.specs.Share.{Left, IsFull}
 use Rattle.arena.specs.History.{History, value, EndsWith}
 use Rattle.arena.specs.ScxRecords.{removes, side_of}
 use Rattle.arena.specs.Lawful.{HasWon}
@@ -25,7 +25,6 @@ use Rattle.player.specs.declared.record.Line.{Line}
 use Rattle.player.specs.declared.record.Answer.{Answer}
 use Rattle.script.specs.Cells.{cells_of}
 use Rattle.script.specs.Update.{update_cells, update_finalize, update_field, update_value}
-use Rattle.player.specs.declared.record.Resource.TheVariants.{Nodes, Scx as ScxRecords}
 use Rattle.player.specs.declared.record.Answer.TheVariants.{Full}
 use Rattle.player.specs.declared.run.Run.{Run}
 use Rattle.player.specs.declared.run.Run.TheVariants.{Llx, Scx, Vlx}
@@ -308,16 +307,15 @@ pub record CanPut (v : View) (linked : ℕ → Option History) (c : Client) (sna
   pub serves : (m : PutRun) → IsPutOf m c.number (nodes_of snaps) removed field x → IsScxOf command c.number m None
   pub few : v.steps + 40 ≤ most_steps command
 
--- the share has no node left, or nodes but no SCX-record
-abbrev pub IsFull : Left → Answer → Type 0
-IsFull share (Full Nodes left) = (left ≡ 0) × (share.nodes ≡ 0)
-IsFull share (Full ScxRecords left) = (left ≡ 0) × (share.scx ≡ 0) × (0 < share.nodes)
-IsFull share _ = ⊥
+-- the answer names what the share has none of
+abbrev pub TellsFull : Left → Answer → Type 0
+TellsFull share (Full what left) = IsFull share record { what = what; left = left }
+TellsFull share _ = ⊥
 
 -- an SCX begins, or the share has too little
 abbrev pub Puts : View → (ℕ → Option History) → Client → Client → Option Answer → Type 0
 Puts v linked old new None = GoesOn v old new
-Puts v linked old new (Some answer) = IsSameCall old new × (new.begin ≡ old.begin) × Rests (record v { linked = linked }) new × IsFull new.share answer
+Puts v linked old new (Some answer) = IsSameCall old new × (new.begin ≡ old.begin) × Rests (record v { linked = linked }) new × TellsFull new.share answer
 
 -- a call begins at this turn, or is refused
 abbrev pub Begins : View → ℕ → Client → Client → Option Answer → Type 0

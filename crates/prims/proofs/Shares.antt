@@ -7,7 +7,7 @@ use Rattle.arena.specs.declared.step.Row.{Row}
 use Rattle.arena.specs.declared.step.Step.{Step}
 use Rattle.arena.specs.declared.step.Kind.TheVariants.{Fill}
 use Rattle.arena.specs.Layout.{opening_nodes, first_node, first_scx}
-use Rattle.arena.specs.Share.{Left, whole_share, HasNode, HasScx}
+use Rattle.arena.specs.Share.{Left, whole_share, HasNode, HasScx, taken}
 use Rattle.arena.specs.History.{History, Start, ◌⊳◌}
 use Rattle.arena.specs.ScxRecords.{member}
 use Rattle.arena.specs.Blame.{IsInProgress}
@@ -21,7 +21,7 @@ use Rattle.prims.specs.Idle.{IsIdle, idle_if_over}
 use Rattle.prims.specs.Moments.{AreOver}
 use Rattle.prims.specs.PutKnown.{put_waits}
 use Rattle.prims.specs.ScxKnown.{job_of, scx_waits}
-use Rattle.prims.specs.Shares.{IsShare, taken}
+use Rattle.prims.specs.Shares.{IsShare}
 use Rattle.prims.specs.declared.put.PutRun.{PutRun}
 use Rattle.prims.specs.declared.scx.ScxRun.{ScxRun}
 use Rattle.prims.proofs.PutRows.{unmentioned_at, untaken_at, put_unmentioned, put_untaken}
