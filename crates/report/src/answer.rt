@@ -5,7 +5,7 @@ ghost use Rattle.report.specs.Answers.{answer_text};
 use crate::name::{node_of, scx_of, small_number_of};
 use arena::{NodeNo, ScxNo};
 use player::{Answer, Resource};
-use script::number_of;
+use texts::number_of;
 use std::alloc::{AllocError, Global};
 
 /// The text of an answer: its name, and what it tells.

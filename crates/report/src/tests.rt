@@ -1,7 +1,8 @@
 use crate::{WriteFault, read_record, write_record};
 use arena::{Kind, Mode, NodeNo, NodeWord, PassNo, ScxNo, ScxWord, Side, Word};
 use player::{Answer, Entry, Line, Record, Reply, Resource, Row};
-use script::{FailAt, Metered, read_script};
+use script::read_script;
+use texts::{FailAt, Metered};
 use std::alloc::Global;
 use std::test::Fail;
 
