@@ -4,11 +4,11 @@ use Rattle.arena.specs.declared.layout.Layout.{Layout}
 use Rattle.arena.specs.declared.limits.Limits.{Limits}
 use Rattle.arena.specs.declared.limits.Mode.{Mode}
 use Rattle.script.specs.Grammars.{IsScheduleFault, SayScript}
-use Rattle.script.specs.Texts.{IfBad}
+use Rattle.texts.specs.Texts.{IfBad}
 use Rattle.script.specs.declared.command.Call.{Call}
 use Rattle.script.specs.declared.fault.ScheduleCause.{ScheduleCause}
-use Rattle.script.specs.declared.fault.TextFault.{TextFault}
-use Rattle.script.specs.declared.fault.TextFault.TheVariants.{NoMemory, Read, Bad}
+use Rattle.texts.specs.declared.fault.TextFault.{TextFault}
+use Rattle.texts.specs.declared.fault.TextFault.TheVariants.{NoMemory, Read, Bad}
 use Rattle.cli.specs.Printed.{IsDeserved}
 use Rattle.cli.specs.Status.{fault_of_schedule}
 use Rattle.cli.specs.declared.fault.Fault.{Fault}

@@ -1,11 +1,11 @@
 -- The faults of the program, and their exit status.
 use Rattle.std.specs.Prelude.{ℕ}
-use Rattle.report.specs.declared.fault.WriteFault.{WriteFault}
-use Rattle.report.specs.declared.fault.WriteFault.TheVariants as write
+use Rattle.texts.specs.declared.fault.WriteFault.{WriteFault}
+use Rattle.texts.specs.declared.fault.WriteFault.TheVariants as write
 use Rattle.script.specs.declared.fault.ScriptCause.{ScriptCause}
 use Rattle.script.specs.declared.fault.ScheduleCause.{ScheduleCause}
-use Rattle.script.specs.declared.fault.TextFault.{TextFault}
-use Rattle.script.specs.declared.fault.TextFault.TheVariants as text
+use Rattle.texts.specs.declared.fault.TextFault.{TextFault}
+use Rattle.texts.specs.declared.fault.TextFault.TheVariants as text
 use Rattle.cli.specs.declared.fault.Fault.{Fault}
 use Rattle.cli.specs.declared.fault.Fault.TheVariants.{Usage, BadScript, BadSchedule, NoMemory, Read, Write}
 

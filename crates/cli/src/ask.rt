@@ -3,7 +3,7 @@ use crate::fault::Fault;
 use crate::play::play_over;
 use crate::wish::{Wish, read_words};
 use arena::Mode;
-use script::Metered;
+use texts::Metered;
 use std::fs;
 use std::io::Write;
 use std::rt::Files;

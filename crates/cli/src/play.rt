@@ -8,7 +8,8 @@ use crate::fault::Fault;
 use crate::run::run;
 use arena::Mode;
 use report::write_record;
-use script::{Metered, read_schedule, read_script};
+use script::{read_schedule, read_script};
+use texts::Metered;
 use std::alloc::Global;
 use std::io::{Read, Write};
 

@@ -5,7 +5,8 @@ use crate::tests::{IN_TURN, SET, SET_REPORT, UNTOUCHED_REPORT};
 use arena::Mode;
 use player::Record;
 use report::{ReportFault, read_record, write_record};
-use script::{FailAt, Metered, read_schedule, read_script};
+use script::{read_schedule, read_script};
+use texts::{FailAt, Metered};
 use std::alloc::Global;
 use std::test::Fail;
 

@@ -1,7 +1,7 @@
 use crate::ask::ask_over;
 use crate::play::play_over;
 use arena::Mode;
-use script::{FailAt, Metered};
+use texts::{FailAt, Metered};
 use std::alloc::Global;
 use std::test::Fail;
 

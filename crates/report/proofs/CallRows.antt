@@ -5,7 +5,7 @@ use Rattle.std.proofs.lemmas.List.{reverse-append, length-reverse}
 use Rattle.std.proofs.KnownBytes.{Appends-kept}
 use Rattle.std.specs.Io.KnownBytes.{Appends, Keeps}
 use Rattle.script.specs.declared.command.Call.{Call}
-use Rattle.report.specs.Rows.{line_of, rows_text}
+use Rattle.texts.specs.Pages.{line_of, rows_text}
 use Rattle.report.specs.Report.{call_row, call_rows}
 use Rattle.report.proofs.Texts.{rows_after}
 

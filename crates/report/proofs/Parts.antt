@@ -5,7 +5,7 @@ use Rattle.script.specs.declared.script.Script.{Script}
 use Rattle.player.specs.declared.record.Line.{Line}
 use Rattle.script.specs.Rows.{limits_row}
 use Rattle.report.specs.Report.{call_rows, end_row, line_row, report_text, title_row}
-use Rattle.report.specs.Rows.{BeginsWith, rows_text}
+use Rattle.texts.specs.Pages.{BeginsWith, rows_text}
 use Rattle.report.proofs.Texts.{IsSent, all_sent, none_sent, part_sent, piece_sent, rows_after}
 
 module _ (script : Script) (lines : List Line) where

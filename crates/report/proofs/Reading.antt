@@ -2,17 +2,17 @@
 use Rattle.std.proofs.Common.{◌≡◌, List, [], ◌∷◌, ◌++◌, ℕ, Bool, true, false, Option, length, refl, sym, ap, append_assoc, ◌∙◌, arith, map, reverse, MatchBool}
 use Rattle.std.proofs.lemmas.List.{append-nil, map-append}
 use Rattle.csv.specs.Records.{field_at}
-use Rattle.script.specs.Fields.{field_of}
-use Rattle.script.specs.declared.rows.Rows.{Rows}
-use Rattle.script.specs.Texts.{AreRows, IsRow}
+use Rattle.texts.specs.Fields.{field_of}
+use Rattle.texts.specs.declared.rows.Rows.{Rows}
+use Rattle.texts.specs.Texts.{AreRows, IsRow}
 use Rattle.script.specs.declared.command.Call.{Call}
 use Rattle.script.specs.declared.script.Script.{Script}
 use Rattle.script.specs.Rows.{limits_row}
 use Rattle.player.specs.declared.record.Line.{Line}
 use Rattle.report.specs.Report.{call_row, call_rows, end_row, line_row, report_rows, title_row}
-use Rattle.report.specs.Rows.{seven}
+use Rattle.texts.specs.Pages.{seven}
 use Rattle.report.proofs.CallRows.{call_rows_after}
-use Rattle.script.specs.Reads.{HasRead, Stands, last_row}
+use Rattle.texts.specs.Reads.{HasRead, Stands, last_row}
 
 -- a row was found, or there is none
 pub standing : {R : Type 0} (remaining : R → Option (List ℕ)) (bytes : List ℕ) (before : List (List (List ℕ))) (rows : Rows R) (found : Bool)

@@ -11,7 +11,7 @@ use Rattle.script.specs.declared.script.Script.{Script}
 use Rattle.player.specs.declared.record.Line.{Line}
 use Rattle.arena.specs.declared.limits.Mode.{Mode}
 use Rattle.report.specs.Report.{report_rows, report_text, title_row}
-use Rattle.report.specs.Rows.{line_of, rows_text, seven}
+use Rattle.texts.specs.Pages.{line_of, rows_text, seven}
 
 no_next : {A : Type 0} (next : Option A) (p : A) → next ≡ None → next ≡ Some p → ⊥
 no_next None p e f = cc

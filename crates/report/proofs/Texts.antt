@@ -4,7 +4,7 @@ use Rattle.std.proofs.lemmas.List.{drop_all, length-append, map-append, take-app
 use Rattle.std.proofs.Math.Seq.{drop-cons, take-append-add, take-append_seam}
 use Rattle.std.specs.Io.KnownBytes.{Appends, Keeps}
 use Rattle.std.proofs.KnownBytes.{Appends-trans}
-use Rattle.report.specs.Rows.{BeginsWith, line_of, rows_text}
+use Rattle.texts.specs.Pages.{BeginsWith, line_of, rows_text}
 
 -- known bytes are known when more come behind them
 pub appended : (old new : Option (List ℕ)) (known more : List ℕ) → old ≡ Some known → Appends old new more → new ≡ Some (known ++ more)

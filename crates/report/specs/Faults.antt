@@ -1,6 +1,6 @@
 -- What is told of a text that is no report.
-use Rattle.script.specs.declared.fault.TextFault.{TextFault}
-use Rattle.script.specs.declared.fault.TextFault.TheVariants.{NoMemory, Read, Bad}
+use Rattle.texts.specs.declared.fault.TextFault.{TextFault}
+use Rattle.texts.specs.declared.fault.TextFault.TheVariants.{NoMemory, Read, Bad}
 use Rattle.report.specs.declared.fault.NotLawful.{NotLawful}
 use Rattle.report.specs.declared.fault.ReportFault.{ReportFault}
 use Rattle.report.specs.declared.fault.ReportFault.TheVariants as report

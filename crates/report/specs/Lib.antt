@@ -1,6 +1,5 @@
 pub mod Words
 pub mod Answers
-pub mod Rows
 pub mod Report
 pub mod Counts
 pub mod Faults

@@ -12,7 +12,7 @@ use Rattle.player.specs.declared.record.Line.TheVariants.{Step, Log, Reply}
 use Rattle.player.specs.declared.record.Row.TheVariants.{Step as Made, Idle}
 use Rattle.report.specs.Answers.{answer_text}
 use Rattle.report.specs.Words.{word_text}
-use Rattle.report.specs.Rows.{rows_text}
+use Rattle.texts.specs.Pages.{rows_text}
 
 -- The head
 

@@ -5,8 +5,8 @@ ghost use Rattle.report.specs.Answers.{answer_text};
 use crate::name::{node_of, scx_of, small_number_of};
 use arena::{NodeNo, Resource, ScxNo};
 use player::Answer;
-use script::number_of;
 use std::alloc::{AllocError, Global};
+use texts::number_of;
 
 /// The text of an answer: its name, and what it tells.
 pub fn answer_text(alloc: Global, answer: Answer) -> Result<String, AllocError>

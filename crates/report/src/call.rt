@@ -5,10 +5,10 @@ ghost use Rattle.script.specs.declared.command.Call.{Call};
 ghost use Rattle.report.specs.Counts.{HasCounted};
 ghost use Rattle.script.specs.Commands.{change_text, command_row, numbers_text, side_text};
 ghost use Rattle.report.specs.Report.{call_rows};
-ghost use Rattle.report.specs.Rows.{IsReady, line_of, page_row, page_text, rows_text};
+ghost use Rattle.texts.specs.Pages.{IsReady, line_of, page_row, page_text, rows_text};
 
 use crate::count::Counts;
-use crate::page::Page;
+use texts::Page;
 use arena::Side;
 use itoa::Buffer;
 use script::{Call, Cell, Command};

@@ -1,29 +1,9 @@
-//! What can be refused while a record is written or read.
+//! What can be refused while a report is read.
 ghost use Rattle.std.specs.Prelude.{◌≡◌};
 ghost use Rattle.report.specs.Faults.{report_fault};
-ghost use Rattle.report.specs.declared.fault.WriteFault.TheVariants.{NoMemory};
 
-use script::{Cause, TextFault};
-use std::alloc::AllocError;
+use texts::{Cause, TextFault};
 use thiserror::Error;
-
-/// Why a record could not be written to its end.
-#[derive(Clone, Copy, Debug, PartialEq, Eq, Error)]
-pub enum WriteFault {
-    #[error("no memory")]
-    NoMemory,
-    /// The writer failed in this call.
-    #[error("write failed")]
-    Write,
-}
-
-impl From<AllocError> for WriteFault {
-    ghost from_gives = { λ _ fault. fault ≡ NoMemory };
-
-    fn from(_error: AllocError) -> WriteFault {
-        WriteFault::NoMemory
-    }
-}
 
 /// Why a report could not be read.
 #[derive(Clone, Copy, Debug, PartialEq, Eq, Error)]

@@ -3,9 +3,9 @@ ghost use Rattle.std.specs.Prelude.{◌≡◌, [], ◌∷◌, IfOk, OnOk};
 ghost use Rattle.std.specs.Io.KnownBytes.{Appends};
 ghost use Rattle.script.specs.Rows.{limits_row};
 ghost use Rattle.report.specs.Report.{end_row, title_row};
-ghost use Rattle.report.specs.Rows.{IsReady, line_of, page_row, page_text, rows_text};
+ghost use Rattle.texts.specs.Pages.{IsReady, line_of, page_row, page_text, rows_text};
 
-use crate::page::Page;
+use texts::Page;
 use crate::totals::Totals;
 use arena::{Limits, Mode};
 use player::Line;

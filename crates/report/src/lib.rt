@@ -8,19 +8,18 @@ mod fault;
 mod head;
 mod line;
 mod name;
-mod page;
 mod read;
 mod read_call;
 mod read_head;
 mod read_line;
 mod rows;
-mod send;
 mod totals;
 mod word;
 mod write;
 
-pub use fault::{ReportFault, WriteFault};
+pub use fault::ReportFault;
 pub use read::read_record;
+pub use texts::WriteFault;
 pub use write::write_record;
 
 #[cfg(test)]

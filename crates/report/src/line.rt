@@ -4,10 +4,10 @@ ghost use Rattle.std.specs.Io.KnownBytes.{Appends};
 ghost use Rattle.player.specs.declared.record.Line.TheVariants.{Step as StepLine, Log, Reply as ReplyLine};
 ghost use Rattle.player.specs.declared.record.Row.TheVariants.{Step as Made, Idle};
 ghost use Rattle.report.specs.Report.{line_row};
-ghost use Rattle.report.specs.Rows.{IsReady, line_of, page_row, page_text, rows_text};
+ghost use Rattle.texts.specs.Pages.{IsReady, line_of, page_row, page_text, rows_text};
 
 use crate::answer::answer_text;
-use crate::page::Page;
+use texts::Page;
 use crate::word::word_text;
 use arena::PassNo;
 use player::{Entry, Line, Reply, Row};

@@ -2,7 +2,7 @@
 ghost use Rattle.std.specs.Prelude.{◌≡◌, ◌++◌, IfSome, codes, decimal};
 
 use arena::{NodeNo, PassNo, ScxNo};
-use script::number_of;
+use texts::number_of;
 
 /// The node that a text names, as `n5`.
 pub fn node_of(text: &str) -> Option<NodeNo>

@@ -5,10 +5,10 @@ ghost use Rattle.script.specs.Rows.{limits_row};
 ghost use Rattle.script.specs.declared.script.Script.{Script};
 ghost use Rattle.player.specs.declared.record.Line.{Line};
 ghost use Rattle.report.specs.Numbered.{AreNumbered};
-ghost use Rattle.script.specs.Reads.{HasRead, Stands};
-ghost use Rattle.script.specs.Texts.{AreRows};
+ghost use Rattle.texts.specs.Reads.{HasRead, Stands};
+ghost use Rattle.texts.specs.Texts.{AreRows};
 ghost use Rattle.report.specs.Report.{call_rows, end_row, line_row, report_rows, report_text, title_row};
-ghost use Rattle.report.specs.Rows.{seven};
+ghost use Rattle.texts.specs.Pages.{seven};
 
 use crate::fault::{NotLawful, ReportFault, RowFault};
 use crate::read_call::calls_of;
@@ -17,7 +17,8 @@ use crate::read_line::lines_of;
 use crate::rows::{advance, next_row, row_fields};
 use crate::totals::is_end_of;
 use player::{Line, Record};
-use script::{Metered, Rows, Script, settled};
+use script::Script;
+use texts::{Metered, Rows, settled};
 use std::alloc::Global;
 use std::io::Read;
 

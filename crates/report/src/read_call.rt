@@ -4,16 +4,17 @@ ghost use Rattle.arena.specs.declared.limits.Mode.TheVariants.{Records};
 ghost use Rattle.script.specs.Commands.{command_row, texts};
 ghost use Rattle.script.specs.declared.command.Call.{Call};
 ghost use Rattle.report.specs.Counts.{HasCounted};
-ghost use Rattle.script.specs.Reads.{Stands, last_row};
+ghost use Rattle.texts.specs.Reads.{Stands, last_row};
 ghost use Rattle.report.specs.Report.{call_row, call_rows};
-ghost use Rattle.report.specs.Rows.{seven};
+ghost use Rattle.texts.specs.Pages.{seven};
 
 use crate::count::Counts;
 use crate::fault::{NotLawful, RowFault};
 use crate::name::client_of;
 use crate::rows::{next_row, row_fields};
 use arena::Layout;
-use script::{Call, Rows, command_of, number_of};
+use script::{Call, command_of};
+use texts::{Rows, number_of};
 use std::alloc::Global;
 use std::io::Read;
 

@@ -4,11 +4,11 @@ ghost use Rattle.arena.specs.Limits.{IsAccepted, IsLayoutOf};
 ghost use Rattle.script.specs.Rows.{limits_row};
 ghost use Rattle.script.specs.Commands.{texts};
 ghost use Rattle.report.specs.Report.{mode_text, title_row};
-ghost use Rattle.report.specs.Rows.{seven};
+ghost use Rattle.texts.specs.Pages.{seven};
 
 use crate::name::small_number_of;
 use arena::{Layout, Limits, Mode};
-use script::number_of;
+use texts::number_of;
 
 /// The version of the format.
 const VERSION: u64 = 1;

@@ -5,9 +5,9 @@ ghost use Rattle.player.specs.declared.record.Line.TheVariants.{Step as StepLine
 ghost use Rattle.report.specs.Counts.{HasCountedReplies, count_of};
 ghost use Rattle.report.specs.Numbered.{AreNumbered, IsOfNextCall};
 ghost use Rattle.script.specs.Commands.{texts};
-ghost use Rattle.script.specs.Reads.{Stands, last_row};
+ghost use Rattle.texts.specs.Reads.{Stands, last_row};
 ghost use Rattle.report.specs.Report.{line_row, moment_text};
-ghost use Rattle.report.specs.Rows.{seven};
+ghost use Rattle.texts.specs.Pages.{seven};
 
 use crate::answer::answer_of;
 use crate::count::Counts;
@@ -16,7 +16,8 @@ use crate::name::{client_of, scx_of};
 use crate::rows::{next_row, row_fields};
 use crate::word::word_of;
 use player::{Entry, Line, Reply, Row};
-use script::{Rows, kind_of, number_of};
+use script::kind_of;
+use texts::{Rows, number_of};
 use std::alloc::Global;
 use std::io::Read;
 

@@ -2,13 +2,13 @@
 ghost use Rattle.std.specs.Prelude.{◌≡◌, ◌++◌, List, ℕ, IfOk, MatchBool, OnOk, length};
 ghost use Rattle.csv.specs.Records.{fields_of};
 ghost use Rattle.script.specs.Commands.{texts};
-ghost use Rattle.script.specs.Fields.{field_of};
-ghost use Rattle.script.specs.Reads.{HasRead, Stands, last_row};
-ghost use Rattle.script.specs.Texts.{AreRows};
+ghost use Rattle.texts.specs.Fields.{field_of};
+ghost use Rattle.texts.specs.Reads.{HasRead, Stands, last_row};
+ghost use Rattle.texts.specs.Texts.{AreRows};
 
 use crate::fault::{NotLawful, RowFault};
 use csv::StringRecord;
-use script::Rows;
+use texts::Rows;
 use std::io::Read;
 
 /// How many fields a row of a report has.

@@ -1,9 +1,10 @@
 use crate::{WriteFault, read_record, write_record};
 use arena::{Kind, Mode, NodeNo, NodeWord, PassNo, Resource, ScxNo, ScxWord, Side, Word};
 use player::{Answer, Entry, Line, Record, Reply, Row};
-use script::{FailAt, Metered, read_script};
+use script::read_script;
 use std::alloc::Global;
 use std::test::Fail;
+use texts::{FailAt, Metered};
 
 /// The report of a client that takes a snapshot of a cell that no one has changed.
 const UNTOUCHED: &str = "\

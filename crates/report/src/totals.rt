@@ -2,10 +2,10 @@
 ghost use Rattle.std.specs.Prelude.{◌≡◌, IsTrue};
 ghost use Rattle.report.specs.Report.{end_row, entries_in, replies_in, steps_in};
 ghost use Rattle.script.specs.Commands.{texts};
-ghost use Rattle.report.specs.Rows.{seven};
+ghost use Rattle.texts.specs.Pages.{seven};
 
 use player::Line;
-use script::number_of;
+use texts::number_of;
 
 #[derive(Clone, Copy)]
 pub struct Totals {

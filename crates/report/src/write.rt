@@ -2,16 +2,17 @@
 ghost use Rattle.std.specs.Prelude.{◌≡◌, [], ◌+◌, ◌-◌, ◌^◌, OnOk, OnErr, IsErrOf, map, min};
 ghost use Rattle.std.specs.Io.KnownBytes.{Appends};
 ghost use Rattle.report.specs.Report.{call_rows, line_row, report_text};
-ghost use Rattle.report.specs.Rows.{BeginsWith, rows_text};
+ghost use Rattle.texts.specs.Pages.{BeginsWith, rows_text};
 
 use crate::call::calls_text;
 use crate::count::Counts;
-use crate::fault::WriteFault;
+use texts::WriteFault;
 use crate::head::{end_text, head_text};
 use crate::line::lines_text;
-use crate::send::send;
+use texts::send;
 use player::{Line, Record};
-use script::{Call, Metered};
+use script::Call;
+use texts::Metered;
 use std::alloc::Global;
 use std::io::Write;
 

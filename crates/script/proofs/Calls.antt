@@ -4,7 +4,7 @@ use Rattle.arena.specs.declared.layout.Layout.{Layout}
 use Rattle.script.specs.Calls.{IsNoCommand, IsNoCall}
 use Rattle.script.specs.Fields.{NamesClient}
 use Rattle.script.specs.Commands.{command_row}
-use Rattle.script.specs.Fields.{field_of}
+use Rattle.texts.specs.Fields.{field_of}
 use Rattle.script.specs.declared.fault.ScriptCause.{ScriptCause}
 use Rattle.script.specs.declared.fault.ScriptCause.TheVariants as cause
 use Rattle.script.proofs.Fields.{five_fields_say}

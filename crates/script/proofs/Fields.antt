@@ -1,7 +1,7 @@
 -- Rows of so many fields.
 use Rattle.std.proofs.Common.{◌≡◌, ℕ, List, [], ◌∷◌, length, refl, sym, ◌∙◌, arith, rules, Result, Ok, Err, IfOk}
 use Rattle.csv.specs.Records.{field_at}
-use Rattle.script.specs.Fields.{field_of}
+use Rattle.texts.specs.Fields.{field_of}
 
 five_fields : (fields : List (List ℕ)) → length fields ≡ 5 → fields ≡ field_of fields 0 ∷ field_of fields 1 ∷ field_of fields 2 ∷ field_of fields 3 ∷ field_of fields 4 ∷ []
 unfolding field_at

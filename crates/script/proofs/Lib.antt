@@ -1,12 +1,7 @@
 pub mod Differ
 pub mod Parts
-pub mod Numbers
 pub mod Fields
 pub mod OfCells
-pub mod HaveRead
-pub mod EndRows
-pub mod Refusals
-pub mod Entries
 pub mod LimitsRows
 pub mod Spaced
 pub mod Updates

@@ -3,9 +3,9 @@ use Rattle.std.proofs.Common.{◌≡◌, ◌<◌, ◌^◌, ℕ, List, codes, dec
 use Rattle.arena.specs.Limits.{IsAccepted}
 use Rattle.arena.specs.declared.limits.Limits.{Limits}
 use Rattle.csv.specs.Records.{field_at}
-use Rattle.script.specs.Fields.{field_of}
+use Rattle.texts.specs.Fields.{field_of}
 use Rattle.script.specs.Rows.{limits_row}
-use Rattle.script.proofs.Numbers.{same_number}
+use Rattle.texts.proofs.Numbers.{same_number}
 
 pub record Fields (fields : List (List ℕ)) (limits : Limits) : Type 0 where
   pub name : field_of fields 0 ≡ codes "limits"

@@ -7,7 +7,8 @@ use Rattle.script.specs.declared.command.Call.{Call}
 use Rattle.script.specs.declared.fault.ScriptCause.{ScriptCause}
 use Rattle.script.specs.declared.fault.ScriptCause.TheVariants as cause
 use Rattle.script.specs.Commands.{command_row, IsCommand, IsCommandOf}
-use Rattle.script.specs.Fields.{NamesClient, field_of}
+use Rattle.texts.specs.Fields.{field_of}
+use Rattle.script.specs.Fields.{NamesClient}
 
 -- a call's client, its command and the command's arguments
 abbrev pub call_row : Call → List (List ℕ)

@@ -1,10 +1,5 @@
--- The fields of a row.
-use Rattle.std.specs.Prelude.{ℕ, ◌≡◌, ◌<◌, List, [], decimal, unwrap_or}
-use Rattle.csv.specs.Records.{field_at}
-
--- the field at a place, or an empty one
-abbrev pub field_of : List (List ℕ) → ℕ → List ℕ
-field_of fields place = unwrap_or (field_at fields place) []
+-- The fields of a row that name clients.
+use Rattle.std.specs.Prelude.{ℕ, ◌≡◌, ◌<◌, List, decimal}
 
 -- the field is the number of one of so many clients
 abbrev pub NamesClient : ℕ → List ℕ → Type 0

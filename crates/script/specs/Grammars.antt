@@ -15,7 +15,7 @@ use Rattle.script.specs.Calls.{IsNoCall, call_row}
 use Rattle.script.specs.Commands.{IsCommand}
 use Rattle.script.specs.Orders.{IsNoOrder, IsOrder, order_row}
 use Rattle.script.specs.Rows.{limits_row}
-use Rattle.script.specs.Texts.{AreRows, BeginWithRows, Grammar, IsFirstFault, IsRow, SayEntries}
+use Rattle.texts.specs.Texts.{AreRows, BeginWithRows, Grammar, IsFirstFault, IsRow, SayEntries}
 
 -- Schedules
 

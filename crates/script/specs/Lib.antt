@@ -8,6 +8,4 @@ pub mod Rows
 pub mod What
 pub mod Commands
 pub mod Calls
-pub mod Texts
-pub mod Reads
 pub mod Grammars

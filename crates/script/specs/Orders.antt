@@ -7,7 +7,8 @@ use Rattle.script.specs.declared.schedule.Order.{Order}
 use Rattle.script.specs.declared.schedule.Order.TheVariants.{Step, Call, Until, Finish}
 use Rattle.script.specs.declared.schedule.What.{What}
 use Rattle.script.specs.declared.schedule.What.TheVariants as what
-use Rattle.script.specs.Fields.{NamesClient, field_of}
+use Rattle.texts.specs.Fields.{field_of}
+use Rattle.script.specs.Fields.{NamesClient}
 use Rattle.script.specs.Kinds.{kind_text}
 use Rattle.script.specs.What.{what_text}
 

@@ -11,12 +11,12 @@ ghost use Rattle.script.specs.Cells.{cells_of, maybe_cells_of};
 ghost use Rattle.script.specs.Commands.{command_row, change_text, numbers_text, side_text, texts, AreCells, IsCell, IsCommand, IsCommandOf};
 
 use crate::cells::{Cell, Cells};
+use crate::client::client_of;
 use crate::command::{Call, Command, Update};
 use crate::fault::ScriptCause;
-use crate::number::number_of;
-use crate::rows::{Format, client_of, field};
 use arena::{Layout, Mode, Side};
 use csv::StringRecord;
+use texts::{Format, field, number_of};
 
 /// Rows `client,command,a,b,c` of a script.
 #[derive(Clone, Copy)]
@@ -114,7 +114,7 @@ fn set_of(arguments: [&str; 3]) -> Option<Command>
     })
 }
 
-#[tactic(auto, using(crate::proofs::Numbers::same_number))]
+#[tactic(auto, using(texts::proofs::Numbers::same_number))]
 fn cell_of(text: &str) -> Option<Cell>
     ensures { MatchOption result ((node : ℕ) → IsCell node → text.now ≢ decimal node) (λ cell. IsCell cell × (text.now ≡ decimal cell)) }
 {

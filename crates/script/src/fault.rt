@@ -1,19 +1,6 @@
 //! Why a text is refused.
+use texts::{Cause, TextFault};
 use thiserror::Error;
-
-/// Why a text was refused.
-#[derive(Clone, Copy, Debug, PartialEq, Eq, Error)]
-#[error_bound(C: std::fmt::Display)]
-pub enum TextFault<C> {
-    #[error("no memory")]
-    NoMemory,
-    /// The reader failed.
-    #[error("read failed")]
-    Read,
-    /// The first faulty row, counted from 1, and what is wrong with it.
-    #[error("row {row}: {cause}")]
-    Bad { row: u64, cause: C },
-}
 
 pub type ScriptFault = TextFault<ScriptCause>;
 
@@ -55,24 +42,6 @@ pub enum ScheduleCause {
     End,
     #[error("long")]
     Long,
-}
-
-/// The causes that rows of every text have.
-pub trait Cause {
-    /// The row has another number of fields, or is no text.
-    const FIELDS: Self;
-
-    ghost FIELDS: { Self };
-
-    /// The end row is missing, does not count what is before it, or a row stands behind it.
-    const END: Self;
-
-    ghost END: { Self };
-
-    /// There are too many rows.
-    const LONG: Self;
-
-    ghost LONG: { Self };
 }
 
 impl Cause for ScriptCause {

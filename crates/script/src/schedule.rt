@@ -1,23 +1,22 @@
 //! Schedules of turns.
-ghost use Rattle.script.specs.declared.fault.TextFault.{TextFault};
+ghost use Rattle.texts.specs.declared.fault.TextFault.{TextFault};
 ghost use Rattle.std.specs.Prelude.{◌≡◌, ◌≢◌, ◌≤◌, ◌<◌, ◌^◌, ◌-◌, ℕ, [], ◌∷◌, decimal, IfOk, IfSome, IfNone, OnOk, OnErr, IfErr, IsErrOf, All, Some, List, refl, length, vec_len};
 ghost use Rattle.script.specs.declared.schedule.What.{What};
 ghost use Rattle.script.specs.Grammars.{IsScheduleFault, SayOrders, order_grammar};
 ghost use Rattle.script.specs.Orders.{IsNoOrder, IsOrder, IsUnfit, NamesTimes, order_row};
-ghost use Rattle.script.specs.Texts.{IfBad};
+ghost use Rattle.texts.specs.Texts.{IfBad};
 ghost use Rattle.script.specs.What.{what_text};
 ghost use Rattle.csv.specs.Records.{fields_of};
 
+use crate::client::client_of;
 use crate::fault::{ScheduleCause, ScheduleFault};
 use crate::kind::kind_of;
-use crate::metered::Metered;
-use crate::number::small_number_of;
-use crate::rows::{Format, Rows, client_of, field, settled};
 use crate::script::Script;
 use arena::{Kind, PassNo};
 use csv::StringRecord;
 use std::alloc::Global;
 use std::io::Read;
+use texts::{Format, Metered, Rows, field, settled, small_number_of};
 
 /// What one row of a schedule orders.
 #[derive(Clone, Copy, Debug, PartialEq, Eq)]
@@ -198,7 +197,7 @@ fn no_number(text: &str) -> Result<(), ScheduleCause>
 }
 
 /// How many turns, or steps of a kind: 1 to 1,000,000.
-#[tactic(auto, using(crate::proofs::Numbers::same_number))]
+#[tactic(auto, using(texts::proofs::Numbers::same_number))]
 fn times_of(text: &str) -> Result<u32, ScheduleCause>
     ensures ok { IfOk result (λ n. (1 ≤ n) × (n ≤ 1000000) × (text.now ≡ decimal n)) }
     ensures err { OnErr result (¬ (NamesTimes text.now)) }

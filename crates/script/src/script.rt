@@ -1,8 +1,8 @@
 //! Scripts of calls.
-ghost use Rattle.script.specs.declared.fault.TextFault.{TextFault};
+ghost use Rattle.texts.specs.declared.fault.TextFault.{TextFault};
 ghost use Rattle.std.specs.Prelude.{◌≡◌, ◌≢◌, ◌≤◌, ◌<◌, ◌^◌, ◌-◌, ℕ, List, Some, IfOk, IfErr, IfSome, IfNone, OnOk, IsErrOf, All, length, vec_len};
 ghost use Rattle.script.specs.Grammars.{IsScriptFault, SayScript};
-ghost use Rattle.script.specs.Texts.{IfBad};
+ghost use Rattle.texts.specs.Texts.{IfBad};
 ghost use Rattle.arena.specs.Limits.{IsAccepted, IsLayoutOf};
 ghost use Rattle.arena.specs.declared.limits.Mode.TheVariants.{Records};
 ghost use Rattle.csv.specs.Records.{fields_of};
@@ -11,13 +11,11 @@ ghost use Rattle.script.specs.Rows.{limits_row};
 use crate::call_rows::CallRows;
 use crate::command::Call;
 use crate::fault::{ScriptCause, ScriptFault};
-use crate::metered::Metered;
-use crate::number::small_number_of;
-use crate::rows::{Rows, field, settled};
 use arena::{Layout, Limits, Mode, NoMemory};
 use csv::StringRecord;
 use std::alloc::Global;
 use std::io::Read;
+use texts::{Metered, Rows, field, settled, small_number_of};
 
 /// The limits of a table, and the calls of its clients in the order of the script.
 #[derive(Debug, Drop)]

@@ -1,12 +1,13 @@
 use crate::fault::{ScheduleCause, ScheduleFault, ScriptCause, ScriptFault};
 use crate::{
-    Call, Cell, Cells, Command, FailAt, Metered, Order, Schedule, Script, Update, kind_name,
-    kind_of, number_of, read_schedule, read_script,
+    Call, Cell, Cells, Command, Order, Schedule, Script, Update, kind_name,
+    kind_of, read_schedule, read_script,
 };
 use arena::{Kind, Limits, Mode, PassNo, Side};
 use std::alloc::{AllocError, Global};
 use std::io::{Read, Write};
 use std::test::Fail;
+use texts::{FailAt, Metered, number_of};
 
 /// A script with each command.
 const SCRIPT: &str = "limits,2,10,11,3\n0,llx,1,,\n1,scx,4 2 8,4 8,2 right 70\n0,scx,5,,5 left 0\n\

@@ -3,7 +3,7 @@ use Rattle.std.proofs.KnownBytes.{Appends-trans}
 use Rattle.std.proofs.lemmas.List.{take_more, take_all}
 use Rattle.std.specs.Io.KnownBytes.{Appends}
 use Rattle.report.specs.Report.{call_row, call_rows, calls_by}
-use Rattle.report.specs.Rows.{line_of, page_text, rows_text}
+use Rattle.texts.specs.Pages.{line_of, page_text, rows_text}
 use Rattle.report.proofs.Counted.{counted_more}
 use Rattle.report.proofs.CallRows.{call_text_more, calls_before_length, calls_before_more, made_text, no_call_text, so_on_ok}
 use Rattle.report.proofs.call.calls_text.Goals as goal

@@ -3,7 +3,7 @@ use Rattle.std.specs.Io.KnownBytes.{Appends}
 use Rattle.script.specs.declared.command.Call.{Call}
 use Rattle.report.specs.Counts.{HasCounted}
 use Rattle.report.specs.Report.{call_rows}
-use Rattle.report.specs.Rows.{IsReady, page_row, page_text, rows_text}
+use Rattle.texts.specs.Pages.{IsReady, page_row, page_text, rows_text}
 use Rattle.report.proofs.call.calls_text.Given as goal
 
 abbrev pub invariant-loop-call : goal.invariant-loop-call

@@ -1,7 +1,7 @@
 use Rattle.std.proofs.Common.{subst, ◌≡◌, [], ◌∷◌, IfOk, Some, append-nil, rules}
 use Rattle.std.specs.Io.KnownBytes.{Keeps}
 use Rattle.report.specs.Report.{end_row}
-use Rattle.report.specs.Rows.{page_row, page_text, rows_text}
+use Rattle.texts.specs.Pages.{page_row, page_text, rows_text}
 use Rattle.report.proofs.head.end_text.Goals as goal
 
 pub returns : goal.returns

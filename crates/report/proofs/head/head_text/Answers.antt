@@ -2,7 +2,7 @@ use Rattle.std.proofs.Common.{subst, ◌≡◌, [], ◌∷◌, IfOk, Some, appen
 use Rattle.std.specs.Io.KnownBytes.{Keeps}
 use Rattle.script.specs.Rows.{limits_row}
 use Rattle.report.specs.Report.{title_row}
-use Rattle.report.specs.Rows.{page_text, rows_text}
+use Rattle.texts.specs.Pages.{page_text, rows_text}
 use Rattle.report.proofs.head.head_text.Goals as goal
 
 pub returns : goal.returns

@@ -1,6 +1,6 @@
 use Rattle.std.proofs.Common.{[], refl, map}
 use Rattle.report.specs.Report.{line_row}
-use Rattle.report.specs.Rows.{rows_text, page_text}
+use Rattle.texts.specs.Pages.{rows_text, page_text}
 use Rattle.report.proofs.Texts.{all_out, if_ok, one_out}
 use Rattle.report.proofs.line.lines_text.Goals as goal
 

@@ -1,6 +1,6 @@
 use Rattle.std.proofs.Common.{◌≡◌, [], drop, map}
 use Rattle.report.specs.Report.{line_row}
-use Rattle.report.specs.Rows.{IsReady, page_row, page_text, rows_text}
+use Rattle.texts.specs.Pages.{IsReady, page_row, page_text, rows_text}
 use Rattle.report.proofs.Texts.{IsMidway}
 use Rattle.report.proofs.line.lines_text.Given as goal
 

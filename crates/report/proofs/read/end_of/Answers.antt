@@ -1,7 +1,7 @@
 use Rattle.std.proofs.Common.{◌≡◌, ◌∷◌, [], ◌++◌, ◌∙◌, rules, sym}
-use Rattle.script.specs.Reads.{last_row}
+use Rattle.texts.specs.Reads.{last_row}
 use Rattle.report.specs.Report.{end_row}
-use Rattle.report.specs.Rows.{seven}
+use Rattle.texts.specs.Pages.{seven}
 use Rattle.report.proofs.read.end_of.Goals as goal
 
 pub returns : goal.returns

@@ -1,9 +1,9 @@
 use Rattle.std.proofs.Common.{arith, ◌≡◌, [], ◌∷◌, ◌∙◌, ap, map, rules, subst, sym}
 use Rattle.script.proofs.OfCells.{told_by_some}
 use Rattle.script.specs.Rows.{limits_row}
-use Rattle.script.specs.Reads.{Stands, last_row}
+use Rattle.texts.specs.Reads.{Stands, last_row}
 use Rattle.report.specs.Report.{call_rows, title_row}
-use Rattle.report.specs.Rows.{seven}
+use Rattle.texts.specs.Pages.{seven}
 use Rattle.report.proofs.read.script_of.Goals as goal
 
 pub invariant_of-result-clause-of_cells : goal.invariant_of-result-clause-of_cells

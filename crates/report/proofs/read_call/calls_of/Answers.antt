@@ -5,9 +5,9 @@ use Rattle.std.specs.Result.{is_ok}
 use Rattle.arena.specs.declared.limits.Mode.TheVariants.{Records}
 use Rattle.script.specs.declared.command.Call.{Call}
 use Rattle.report.specs.Counts.{HasCounted}
-use Rattle.script.specs.Reads.{Stands, last_row}
+use Rattle.texts.specs.Reads.{Stands, last_row}
 use Rattle.report.specs.Report.{call_rows}
-use Rattle.report.specs.Rows.{seven}
+use Rattle.texts.specs.Pages.{seven}
 use Rattle.report.proofs.Reading.{call_read}
 use Rattle.report.proofs.read_call.calls_of.Goals as goal
 

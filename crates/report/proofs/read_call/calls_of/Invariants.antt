@@ -1,9 +1,9 @@
 use Rattle.std.proofs.Common.{◌≡◌, ◌<◌, ◌≤◌, ℕ, ◌-◌, All, List, [], ◌++◌, map, reverse, vec_len}
 use Rattle.arena.specs.declared.limits.Mode.TheVariants.{Records}
 use Rattle.report.specs.Counts.{HasCounted}
-use Rattle.script.specs.Reads.{Stands}
+use Rattle.texts.specs.Reads.{Stands}
 use Rattle.report.specs.Report.{call_rows}
-use Rattle.report.specs.Rows.{seven}
+use Rattle.texts.specs.Pages.{seven}
 use Rattle.report.proofs.read_call.calls_of.Given as goal
 
 abbrev pub invariant-loop-layout : goal.invariant-loop-layout

@@ -3,9 +3,9 @@ use Rattle.std.proofs.lemmas.List.{length-reverse, reverse-append}
 use Rattle.std.specs.Result.{is_ok}
 use Rattle.report.specs.Counts.{HasCountedReplies}
 use Rattle.report.specs.Numbered.{AreNumbered}
-use Rattle.script.specs.Reads.{Stands, last_row}
+use Rattle.texts.specs.Reads.{Stands, last_row}
 use Rattle.report.specs.Report.{line_row}
-use Rattle.report.specs.Rows.{seven}
+use Rattle.texts.specs.Pages.{seven}
 use Rattle.report.proofs.Counted.{numbered_more}
 use Rattle.report.proofs.Reading.{line_read}
 use Rattle.report.proofs.read_line.lines_of.Goals as goal

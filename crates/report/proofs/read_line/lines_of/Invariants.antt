@@ -1,9 +1,9 @@
 use Rattle.std.proofs.Common.{ℕ, ◌-◌, ◌^◌, List, ◌++◌, map, reverse, vec_len}
 use Rattle.report.specs.Counts.{HasCountedReplies}
 use Rattle.report.specs.Numbered.{AreNumbered}
-use Rattle.script.specs.Reads.{Stands}
+use Rattle.texts.specs.Reads.{Stands}
 use Rattle.report.specs.Report.{line_row}
-use Rattle.report.specs.Rows.{seven}
+use Rattle.texts.specs.Pages.{seven}
 use Rattle.report.proofs.read_line.lines_of.Given as goal
 
 abbrev pub invariant-loop-rows : goal.invariant-loop-rows

@@ -1,4 +1,4 @@
-use Rattle.script.specs.Reads.{last_row}
+use Rattle.texts.specs.Reads.{last_row}
 use Rattle.report.proofs.Reading.{seven_fields}
 use Rattle.report.proofs.rows.row_fields.Goals as goal
 

@@ -1,7 +1,7 @@
 use Rattle.std.proofs.Common.{◌≡◌, ◌+◌, ◌<◌, ◌^◌, ◌++◌, ◌∙◌, [], ap, arith, length, length-append, refl, reverse, subst}
 use Rattle.std.proofs.lemmas.List.{length-reverse}
 use Rattle.report.specs.Report.{call_rows}
-use Rattle.report.specs.Rows.{rows_text}
+use Rattle.texts.specs.Pages.{rows_text}
 use Rattle.report.proofs.CallRows.{call_text_append, no_call_rows}
 use Rattle.report.proofs.Texts.{IsSent, all_sent, none_sent, on_err, part_sent, piece_sent, so_far_sent}
 use Rattle.report.proofs.write.write_calls.Goals as goal

@@ -2,7 +2,7 @@ use Rattle.std.proofs.Common.{◌≡◌, ◌+◌, List, [], length}
 use Rattle.script.specs.declared.command.Call.{Call}
 use Rattle.report.specs.Counts.{HasCounted}
 use Rattle.report.specs.Report.{call_rows}
-use Rattle.report.specs.Rows.{rows_text}
+use Rattle.texts.specs.Pages.{rows_text}
 use Rattle.report.proofs.Texts.{IsSent}
 use Rattle.report.proofs.write.write_calls.Given as goal
 

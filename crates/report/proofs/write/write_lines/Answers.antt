@@ -1,6 +1,6 @@
 use Rattle.std.proofs.Common.{◌∙◌, map, refl, subst}
 use Rattle.report.specs.Report.{line_row}
-use Rattle.report.specs.Rows.{rows_text}
+use Rattle.texts.specs.Pages.{rows_text}
 use Rattle.report.proofs.Texts.{IsSent, none_sent, piece_sent, all_sent, so_far_sent, part_sent, rows_split, no_rows, on_err}
 use Rattle.report.proofs.write.write_lines.Goals as goal
 

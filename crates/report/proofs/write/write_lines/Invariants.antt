@@ -1,6 +1,6 @@
 use Rattle.std.proofs.Common.{◌≡◌, map}
 use Rattle.report.specs.Report.{line_row}
-use Rattle.report.specs.Rows.{rows_text}
+use Rattle.texts.specs.Pages.{rows_text}
 use Rattle.report.proofs.Texts.{IsSent}
 use Rattle.report.proofs.write.write_lines.Given as goal
 

@@ -1,6 +1,6 @@
 use Rattle.std.proofs.Common.{rules}
 use Rattle.script.specs.Grammars.{IsScheduleFault, SayOrders}
-use Rattle.script.proofs.Refusals.{settled_bad, settled_ok}
+use Rattle.texts.proofs.Refusals.{settled_bad, settled_ok}
 use Rattle.script.proofs.schedule.read_schedule.Goals as goal
 
 pub returns-clause-says : goal.returns-clause-says

@@ -1,0 +1,4 @@
+pub mod Fields
+pub mod Texts
+pub mod Reads
+pub mod Pages

@@ -1,0 +1,18 @@
+//! Texts of csv rows, in and out: readers and writers that count their failures, rows, numbers.
+#![tactic(auto)]
+
+mod fail_at;
+mod fault;
+mod metered;
+mod number;
+mod page;
+mod rows;
+mod sending;
+
+pub use fail_at::FailAt;
+pub use fault::{Cause, TextFault, WriteFault};
+pub use metered::Metered;
+pub use number::{is_number, number_of, small_number_of};
+pub use page::Page;
+pub use rows::{Format, Rows, field, settled};
+pub use sending::send;
