@@ -3,6 +3,8 @@ pub mod Openings
 pub mod Shapes
 pub mod Shares
 pub mod Values
+pub mod Found
 pub mod Plans
 pub mod Taken
 pub mod TakenNodes
+pub mod Bools

@@ -1,5 +1,5 @@
 -- What a word holds, and has held, after one more row.
-use Rattle.std.proofs.Common.{◌≡◌, ◌≢◌, ℕ, Bool, true, false, ◌&&◌, eqb, ◌⊎◌, inl, inr, refl, sym, ◌∙◌, ap, eq-eqb, ne_eqb, List, [], ◌∷◌, ◌++◌}
+use Rattle.std.proofs.Common.{◌≡◌, ◌≢◌, ℕ, Bool, true, false, ◌&&◌, eqb, ◌⊎◌, inl, inr, zero, suc, ◌≤◌, arith, refl, sym, ◌∙◌, ap, eq-eqb, ne_eqb, List, [], ◌∷◌, ◌++◌}
 use mathlib.Core.Path.{fun_ext}
 use Rattle.arena.specs.declared.limits.Mode.{Mode}
 use Rattle.arena.specs.declared.limits.Mode.TheVariants.{Tree, Records}
@@ -133,6 +133,30 @@ pub ends_trans : (h m l : History) → EndsWith h m → EndsWith m l → EndsWit
 ends_trans (Start mode) m l e f = rw e at f
 ends_trans (r ⊳ h) m l (inl e) f = rw e at f
 ends_trans (r ⊳ h) m l (inr e) f = inr (ends_trans h m l e f)
+
+-- how many rows a history has
+length_of : History → ℕ
+length_of (Start mode) = zero
+length_of (r ⊳ h) = suc (length_of h)
+
+-- a moment has no more rows than the history
+shorter : (h m : History) → EndsWith h m → length_of m ≤ length_of h
+unfolding length_of
+shorter (Start mode) m e = rw e (omega arith)
+shorter (r ⊳ h) m (inl e) = rw e (omega arith)
+shorter (r ⊳ h) m (inr e) = let x = shorter h m e in omega arith
+
+-- of two moments each of the other there is one
+pub same_moment : (h m : History) → EndsWith h m → EndsWith m h → m ≡ h
+unfolding length_of
+same_moment (Start mode) m e f = e
+same_moment (r ⊳ h) m (inl e) f = e
+same_moment (r ⊳ h) m (inr e) f = absurd (let x = shorter h m e in let y = shorter m (r ⊳ h) f in omega arith)
+
+-- no row comes behind a moment that it stands before
+pub no_row_behind : (h k : History) (r : Row) → EndsWith h (r ⊳ k) → EndsWith k h → ⊥
+unfolding length_of
+no_row_behind h k r e f = let x = shorter h (r ⊳ k) e in let y = shorter k h f in omega arith
 
 -- what a word held at a moment it has held
 pub held_since : (h m : History) (w : Word) (v : ℕ) → EndsWith h m → HasHeld m w v → HasHeld h w v

@@ -8,12 +8,8 @@ use Rattle.arena.specs.declared.word.NodeWord.TheVariants.{Head, Child}
 use Rattle.arena.specs.declared.word.ScxWord.TheVariants.{State}
 use Rattle.arena.specs.declared.word.Word.{Word}
 use Rattle.arena.specs.declared.word.Word.TheVariants.{Node, Scx}
+pub use Rattle.arena.specs.Opening.{opening_nodes}
 use Rattle.arena.specs.Words.{node_place, scx_place, IsScxWord}
-
--- the nodes that are there from the start: three of the tree, or node 0 and eight cells
-abbrev pub opening_nodes : Mode → ℕ
-opening_nodes Tree = 3
-opening_nodes Records = 9
 
 -- how many nodes and SCX-records there are; SCX-record 0 is nobody's
 abbrev pub all_nodes : Layout → ℕ

@@ -1,4 +1,5 @@
 pub mod Words
+pub mod Opening
 pub mod Limits
 pub mod Layout
 pub mod Machines
@@ -10,6 +11,7 @@ pub mod ScxRecords
 pub mod Fills
 pub mod Lawful
 pub mod Blame
+pub mod Found
 pub mod Log
 pub mod Shape
 pub mod Finalized

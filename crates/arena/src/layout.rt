@@ -1,7 +1,8 @@
 //! Where each word stands in the table.
-ghost use Rattle.std.specs.Prelude.{◌≡◌, ℕ, ◌+◌, ◌<◌, ◌≤◌, ◌↔◌, IsTrue, IsSome, IfSome};
+ghost use Rattle.std.specs.Prelude.{◌≡◌, ℕ, ◌+◌, ◌*◌, ◌<◌, ◌≤◌, ◌↔◌, IsTrue, IsSome, IfSome};
+ghost use Rattle.arena.specs.Opening.{opening_nodes};
 
-use crate::limits::Mode;
+use crate::limits::{Limits, Mode};
 use crate::number::{PassNo, ScxNo};
 use crate::word::{NodeWord, ScxWord, Side, Word};
 
@@ -12,28 +13,48 @@ pub struct Layout {
     pub passes: u32,
     pub nodes: u32,
     pub scx: u32,
+    /// How many words the nodes have. Those of the SCX-records come behind them: reckoned once, since
+    /// each step on such a word needs it.
+    node_words: u32,
     ghost passes_fit: { passes ≤ 32 },
     ghost nodes_fit: { nodes ≤ 32768 },
     ghost scx_fit: { scx ≤ 32768 },
+    ghost counted: { node_words ≡ 7 * (opening_nodes mode + passes * nodes) },
 }
 
 impl Layout {
-    ghost use Rattle.arena.specs.Layout.{opening_nodes, all_nodes, all_scx, first_node, first_scx, table_size, place, IsWord};
+    ghost use Rattle.arena.specs.Limits.{IsAccepted, IsLayoutOf};
+    ghost use Rattle.arena.specs.Layout.{all_nodes, all_scx, first_node, first_scx, table_size, place, IsWord};
     ghost use Rattle.arena.specs.declared.word.Word.{Word};
 
-    /// How many nodes there are from the start: the tree's first three, or node 0 and the cells 1 to 8.
-    #[inline(always)]
-    pub fn opening(&self) -> u32
-        ensures { result ≡ opening_nodes self.now.mode }
+    /// The table of this mode within limits.
+    pub(crate) fn of(limits: Limits, mode: Mode) -> Layout
+        requires { IsAccepted limits }
+        ensures { IsLayoutOf limits mode result }
     {
-        match self.mode {
-            Mode::Tree => 3,
-            Mode::Records => 9,
+        let Limits {
+            passes,
+            nodes,
+            scx,
+            ..
+        } = limits;
+        Layout {
+            mode,
+            passes,
+            nodes,
+            scx,
+            node_words: 7 * (opening(mode) + passes * nodes),
         }
     }
 
+    /// How many nodes there are from the start: the tree's first three, or node 0 and the cells 1 to 8.
+    pub fn opening(&self) -> u32
+        ensures { result ≡ opening_nodes self.now.mode }
+    {
+        opening(self.mode)
+    }
+
     /// How many nodes there are in all.
-    #[inline(always)]
     pub fn all_nodes(&self) -> u32
         ensures nodes { result ≡ all_nodes self.now }
         ensures fits { result ≤ 1048585 }
@@ -70,7 +91,7 @@ impl Layout {
     pub fn size(&self) -> usize
         ensures { result ≡ table_size self.now }
     {
-        7 * self.all_nodes() as usize + 14 * self.all_scx() as usize
+        self.node_words as usize + 14 * self.all_scx() as usize
     }
 
     /// The pass that owns an SCX-record; none for the dummy, and for a number beyond the last.
@@ -112,9 +133,19 @@ impl Layout {
         match word {
             Word::Node(node, part) => 7 * node.0 as usize + node_place(part),
             Word::Scx(scx, part) => {
-                7 * self.all_nodes() as usize + 14 * scx.0 as usize + scx_place(part)
+                self.node_words as usize + 14 * scx.0 as usize + scx_place(part)
             }
         }
+    }
+}
+
+/// How many nodes a mode has from the start.
+fn opening(mode: Mode) -> u32
+    ensures { result ≡ opening_nodes mode }
+{
+    match mode {
+        Mode::Tree => 3,
+        Mode::Records => 9,
     }
 }
 

@@ -42,11 +42,6 @@ impl Limits {
         if !(passes && shares && tries) {
             return Err(BadLimits);
         }
-        Ok(Layout {
-            mode,
-            passes: self.passes,
-            nodes: self.nodes,
-            scx: self.scx,
-        })
+        Ok(Layout::of(self, mode))
     }
 }

@@ -208,12 +208,14 @@ struct Tally {
     }
 };
 
-// The two cells of a thread. Most works take the first alone.
+// The two cells of a thread. Most works take the first alone. Up to four threads have own cells that do
+// not lie side by side, and so share no line of the cache.
 struct Pair {
     Word first, second;
 
     Pair(Work work, Word thread) {
-        first = work == Work::two ? 1 + 2 * (thread % 4) : work == Work::shared ? 1 : 1 + thread % CELLS;
+        const Word apart = 1 + 2 * (thread % 4);
+        first = work == Work::shared ? 1 : work == Work::two ? apart : apart + thread / 4 % 2;
         second = 1 + first % CELLS;
     }
 };
@@ -265,16 +267,23 @@ struct Repetition {
     Tally tally;
 };
 
-// The thread that calls is one of those that work, as in `bench`.
+// Lets so many threads work, from this number on: half of them from a new thread, as the kit's `map_vec`
+// starts those of `bench`. On which processor the system puts a thread depends on who starts it.
+template <class F>
+void crowd(Word first, Word count, const F& work) {
+    if (count == 1) return work(first);
+    const Word half = count / 2;
+    std::thread front([&] { crowd(first, half, work); });
+    crowd(first + half, count - half, work);
+    front.join();
+}
+
 Repetition run(const Task& task) {
     const Forest forest(task.threads);
     std::vector<Tally> tallies(task.threads);
-    std::vector<std::thread> others;
     const auto work = [&](Word thread) { tallies[thread] = rounds(forest, task.row.work, task.calls, thread); };
     const auto start = std::chrono::steady_clock::now();
-    for (Word thread = 1; thread < task.threads; thread++) others.emplace_back(work, thread);
-    work(0);
-    for (std::thread& other : others) other.join();
+    crowd(0, task.threads, work);
     const std::chrono::nanoseconds took = std::chrono::steady_clock::now() - start;
     Tally all;
     for (const Tally& tally : tallies) {

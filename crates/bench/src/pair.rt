@@ -14,12 +14,14 @@ pub struct Pair {
 }
 
 impl Pair {
-    /// The cells of the thread with this number, of those that do the work.
+    /// The cells of the thread with this number, of those that do the work. Up to four threads have
+    /// own cells that do not lie side by side, and so share no line of the cache.
     pub fn of(work: Work, thread: u32) -> Pair {
         let number = u64::from(thread);
+        let apart = 1 + 2 * (number % 4);
         let first = match work {
-            Work::Llx | Work::Own => 1 + number % 8,
-            Work::Two => 1 + 2 * (number % 4),
+            Work::Llx | Work::Own => apart + number / 4 % 2,
+            Work::Two => apart,
             Work::Shared => 1,
         };
         Pair {

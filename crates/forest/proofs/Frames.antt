@@ -15,14 +15,13 @@ use Rattle.arena.proofs.Plans.{owner_is}
 use Rattle.histories.specs.Descriptor.{descriptor}
 use Rattle.histories.proofs.Lemmas.{Facts, IsOwned, Logs, UpdateWins, entry_of, facts_before, logs, one_scx_owner, same as log_same, update_about, update_is_first, update_split, update_won, wins as log_wins, won_more}
 use Rattle.prims.specs.Cells.{allows_all}
-use Rattle.prims.specs.Moments.{AreOver}
+use Rattle.prims.specs.Moments.{AreOver, IsLeftAlone}
 use Rattle.prims.specs.Begun.{TakesOnly}
 use Rattle.prims.specs.Snaps.{IsAmong}
 use Rattle.prims.specs.declared.snap.Snap.{Snap}
-use Rattle.prims.proofs.Alone.{over_more}
-use Rattle.prims.specs.Shares.{IsShare, IsUsable}
+use Rattle.prims.proofs.Alone.{alone_more, over_more}
+use Rattle.prims.specs.Shares.{IsShare}
 use Rattle.prims.proofs.Shares.{own_in_hand, wins_in_progress}
-use Rattle.prims.proofs.Usable.{usable_more}
 use Rattle.forest.specs.Shares.{entries_of}
 
 -- Entries
@@ -40,18 +39,18 @@ HasOwnWon lay c h s = IsOwnScx lay c s × HasWon h s
 
 -- The whole
 
--- a call of pass c has come so far: with this share, this node and SCX-record, and these snapshots in hand; all other snapshots that were usable are; and the log has one entry more of the pass if the update has won, and none else
+-- a call of pass c has come so far: with this share, this node and SCX-record, and these snapshots in hand; all other snapshots that were left alone are; and the log has one entry more of the pass if the update has won, and none else
 pub record Goes (lay : Layout) (c : ℕ) (start h : History) (left : Left) (node scx : ℕ) (snaps : List Snap) : Type 0 where
   pub sound : IsRun allows_all lay h
   pub since : EndsWith h start
   pub share : IsShare lay h c left node scx
   pub over : AreOver lay c scx h
-  pub usable : (snap : Snap) (moment : History) → ¬ IsAmong snaps snap.node.0 → IsUsable lay c start snap moment → IsUsable lay c h snap moment
+  pub alone : (snap : Snap) → ¬ IsAmong snaps snap.node.0 → IsLeftAlone lay c start snap → IsLeftAlone lay c h snap
   pub unwon : ¬ HasOwnWon lay c h scx → entries_of c (log lay h) ≡ entries_of c (log lay start)
   pub won : HasOwnWon lay c h scx → (e : Entry) × (e.scx ≡ scx) × (entries_of c (log lay h) ≡ e ∷ entries_of c (log lay start))
 
 pub goes_from : (lay : Layout) (c : ℕ) (start : History) (left : Left) (node scx : ℕ) (snaps : List Snap) → IsRun allows_all lay start → IsShare lay start c left node scx → AreOver lay c scx start → ¬ HasOwnWon lay c start scx → Goes lay c start start left node scx snaps
-goes_from lay c start left node scx snaps run share over free = record { sound = run; since = ends_self start; share = share; over = over; usable = λ snap moment d x. x; unwon = λ d. refl; won = λ w. absurd (free w) }
+goes_from lay c start left node scx snaps run share over free = record { sound = run; since = ends_self start; share = share; over = over; alone = λ snap d x. x; unwon = λ d. refl; won = λ w. absurd (free w) }
 
 module _ (lay : Layout) (c : ℕ) (start h : History) (left : Left) (node scx : ℕ) (snaps : List Snap) (r : Row) (run : IsRun allows_all lay (r ⊳ h)) (takes : TakesOnly lay c scx h r) (x : Goes lay c start h left node scx snaps) where
   over_then : AreOver lay c scx (r ⊳ h)
@@ -107,7 +106,7 @@ module _ (lay : Layout) (c : ℕ) (start h : History) (left : Left) (node scx : 
     since = inr x.since;
     share = share;
     over = over_then;
-    usable = λ snap moment d y. usable_more lay c h r snap moment run.lawful (none snap d) (x.usable snap moment d y);
+    alone = λ snap d y. alone_more lay c h r snap (none snap d) (x.alone snap d y);
     unwon = enters.unwon;
     won = enters.won;
   }

@@ -10,6 +10,7 @@ use Rattle.prims.specs.LlxKnown.{IsSnapshot, llx_ready, llx_waits, llx_answers}
 use Rattle.prims.proofs.FillsNot.{llx_fills_not}
 use Rattle.prims.proofs.LlxAnswers.{ready_at_start, cell_opened, finalized_at_start}
 use Rattle.prims.proofs.Shares.{all_idle}
+use Rattle.prims.proofs.Alone.{alone_now}
 use Rattle.prims.proofs.Usable.{usable_now}
 use Rattle.prims.specs.declared.llx.Llx.{Llx}
 use Rattle.prims.specs.declared.llx.Llx.TheVariants.{Snapshot, Finalized, Fail}
@@ -50,11 +51,11 @@ module _ {T : Type 0} (p : Inside T) (x : IsPass allows_all Records p) (number :
   pub llx_says : (blamed : List ℕ) (a : Llx) → HasCalled p s number (Answered p x number node a) → LlxSays (sight p) (sight (heard blamed)) node.0 a
   llx_says blamed (Snapshot snap) y =
       let z : IsSnapshot p.layout (run_of (sight (seated p s))) node.0 snap = subst (λ (k : NodeNo). IsSnapshot p.layout (run_of (sight (seated p s))) k.0 snap) y.answers.1 y.answers.2.0 in
-      (z, (run_of (sight (seated p s)), usable_now p.layout p.number.0 _ node.0 snap (all_idle p.layout _ p.number.0 p.share _ _ y.goes.sound.lawful y.goes.share y.goes.over) z))
+      (z, (run_of (sight (seated p s)), usable_now p.layout _ node.0 snap z), alone_now p.layout p.number.0 _ node.0 snap (all_idle p.layout _ p.number.0 p.share _ _ y.goes.sound.lawful y.goes.share y.goes.over) z)
   llx_says blamed (Finalized n u) y = rw y.answers.1 at y.answers.2
   llx_says blamed (Fail n u) y =
       let z = rw y.answers.1 at y.answers.2 in
-      (z.0, record { held = z.1.held; others = z.1.others; in_the_way = z.1.in_the_way; over = z.1.over; not_final = z.1.not_final })
+      (z.0, record { found = z.1.found; others = z.1.others; in_the_way = z.1.in_the_way; over = z.1.over; not_final = z.1.not_final })
 
   pub llx_finalized : (a : Llx) → HasCalled p s number (Answered p x number node a) → is_final (seen_of (sight p)) node.0 ≡ true → IsFinalizedAnswer a
   llx_finalized a y final =
@@ -85,7 +86,7 @@ module _ {T : Type 0} (p : Inside T) (x : IsPass allows_all Records p) (number :
   pub llx_goes_on : (a : Llx) (blamed : List ℕ) (left most : ℕ) → blamed ≡ blamed_by a p.blamed → s.table_id ≡ p.seat.table_id → s.me.1 ≡ p.seat.me.1 → HasCalled p s number (Answered p x number node a) → steps_of s.me.0.passes ≤ steps_of p.seat.me.0.passes + left → left ≤ most → HasGoneOn (sight p) (sight (heard blamed)) number most
   llx_goes_on a blamed left most e table bare y few small =
       let z = called_goes_on p x s number _ left most table bare y few small in
-      record { later = record { table = table; layout = refl; number = refl; run = z.later.run }; lawful = z.lawful; calls = z.calls; steps = z.steps; blames = (llx_pass a blamed e bare y).blamed }
+      record { later = record { table = table; layout = refl; number = refl; run = z.later.run }; lawful = z.lawful; calls = z.calls; steps = z.steps; blames = (llx_pass a blamed e bare y).blamed; usable = z.usable }
 
   pub llx_nothing : (a : Llx) (blamed : List ℕ) → HasCalled p s number (Answered p x number node a) → HasTakenNothing (sight p) (sight (heard blamed))
-  llx_nothing a blamed y = let z = called_nothing p s number _ y in record { share = refl; done = z.done; usable = z.usable }
+  llx_nothing a blamed y = let z = called_nothing p s number _ y in record { share = refl; done = z.done; alone = z.alone }

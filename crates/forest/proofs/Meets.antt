@@ -15,13 +15,13 @@ use Rattle.forest.specs.declared.view.View.{View}
 use Rattle.forest.specs.declared.pass.Pass.TheInside.{Inside}
 use Rattle.forest.specs.Kept.{past, knower, row, look, Looked, HasLooked, Met, looked, Behind}
 use Rattle.forest.specs.Courses.{known_of, rows_of}
-use Rattle.forest.specs.Passes.{AreOfCall, HasLookedOnce, HaveLeftShares, run_of, steps_of}
+use Rattle.forest.specs.Passes.{AreOfCall, HasLookedOnce, HaveLeftShares, IsLater, run_of, steps_of}
 use Rattle.forest.specs.Held.{sight, IsPass}
 use Rattle.forest.proofs.Advances.{keeps_all, rows_by_others, same_knower}
 use Rattle.forest.proofs.Calls.{IsQuiet, quiet_start, quiet_other, quiet_step}
 use Rattle.forest.proofs.Blames.{blames_left}
 use Rattle.forest.proofs.Called.{calls_start, calls_more, calls_others}
-use Rattle.forest.proofs.Passes.{HasCalled, seated, called_pass, called_nothing}
+use Rattle.forest.proofs.Passes.{HasCalled, seated, called_pass, called_nothing, can_use_later}
 
 -- Two looks
 
@@ -75,16 +75,20 @@ look_steps p s run b e = ap (λ l. rows_of p.number.0 (known_of l)) e ∙ rw (eq
 pub looked_once : {T : Type 0} (p : Inside T) (x : IsPass allows_all Records p) (s : Seat ℕ View) (A : History → Type 0) → s.table_id ≡ p.seat.table_id → s.me.1 ≡ p.seat.me.1 → HasCalled p s 0 A → steps_of (sight (seated p s)) ≡ suc (steps_of (sight p)) → HasLookedOnce (sight p) (sight (seated p s))
 looked_once p x s A table bare y one = record {
   goes_on = record {
-    later = record { table = table; layout = refl; number = refl; run = y.goes.since };
+    later = later;
     lawful = y.goes.sound;
     calls = y.calls;
     steps = omega arith;
     blames = (called_pass p x s 0 A bare y).blamed;
+    usable = can_use_later (sight p) (sight (seated p s)) later y.goes.sound.lawful;
   };
   takes_nothing = called_nothing p s 0 A y;
   one_step = one;
   blamed = refl;
 }
+  where
+    later : IsLater (sight p) (sight (seated p s))
+    later = record { table = table; layout = refl; number = refl; run = y.goes.since }
 
 -- What two passes have once they have met
 

@@ -10,6 +10,7 @@ use Rattle.arena.specs.Lawful.{Lawful}
 use Rattle.arena.specs.Machines.{Call, IsRun}
 use Rattle.arena.specs.Shape.{Shaped}
 use Rattle.arena.specs.declared.limits.Mode.TheVariants.{Records}
+use Rattle.arena.proofs.Values.{ends_self}
 use Rattle.prims.specs.Cells.{allows_all}
 use Rattle.prims.specs.declared.snap.Snap.{Snap}
 use Rattle.forest.specs.declared.view.Knower.{Knower}
@@ -18,12 +19,13 @@ use Rattle.forest.specs.declared.pass.Pass.TheInside.{Inside}
 use Rattle.forest.specs.Kept.{past, knower}
 use Rattle.forest.specs.Courses.{Course, IsCalled, known_of, rows_of, steps_of}
 use Rattle.forest.specs.Shares.{IsAtRest}
-use Rattle.forest.specs.Passes.{Sight, Ground, IsOf, AreOfCall, HasGoneOn, HasTakenNothing}
+use Rattle.forest.specs.Passes.{Sight, Ground, IsOf, AreOfCall, CanUse, HasGoneOn, HasTakenNothing, IsLater, run_of}
 use Rattle.forest.specs.Held.{sight, IsPass}
 use Rattle.prims.proofs.Shares.{whole_untouched, none_taken, next_unwon}
+use Rattle.prims.proofs.Usable.{usable_since}
 use Rattle.forest.proofs.Frames.{Goes}
 use Rattle.forest.proofs.Calls.{quiet_goes}
-use Rattle.forest.proofs.Called.{course_calls}
+use Rattle.forest.proofs.Called.{calls_start, course_calls}
 use Rattle.forest.proofs.Blames.{blamed_later}
 
 -- a pass with its whole share is at rest at the start
@@ -72,7 +74,24 @@ pub called_nothing : {T : Type 0} (p : Inside T) (s : Seat ℕ View) (number : �
 called_nothing p s number A y = record {
   share = refl;
   done = y.goes.unwon (λ w. next_unwon p.layout _ p.number.0 p.share _ _ y.goes.sound.lawful y.goes.share w.0 w.1);
-  usable = λ snap u. (u.0, y.goes.usable snap u.0 (λ z. let i = z.within in omega arith) u.1);
+  alone = λ snap u. y.goes.alone snap (λ z. let i = z.within in omega arith) u;
+}
+
+-- what a pass could use it may use later on
+pub can_use_later : (old new : Sight) → IsLater old new → Lawful new.layout (run_of new) → (snap : Snap) → CanUse old snap → CanUse new snap
+can_use_later old new later l snap u =
+    let e : new.layout ≡ old.layout = later.layout in
+    (u.0, usable_since new.layout (run_of new) (run_of old) snap u.0 l later.run (rw e u.1))
+
+-- a call that is refused makes no step
+pub goes_nowhere : {T : Type 0} (p : Inside T) (x : IsPass allows_all Records p) (number most : ℕ) → HasGoneOn (sight p) (sight p) number most
+goes_nowhere p x number most = record {
+  later = record { table = refl; layout = refl; number = refl; run = ends_self (run_of (sight p)) };
+  lawful = x.sound;
+  calls = calls_start p.number.0 number (run_of (sight p));
+  steps = omega arith;
+  blames = x.blamed;
+  usable = λ snap u. u;
 }
 
 -- its steps are those of its seat
@@ -82,9 +101,13 @@ steps_are c lay ps e = ap steps_of e
 -- and it has gone on
 pub called_goes_on : {T : Type 0} (p : Inside T) (x : IsPass allows_all Records p) (s : Seat ℕ View) (number : ℕ) (A : History → Type 0) (left most : ℕ) → s.table_id ≡ p.seat.table_id → s.me.1 ≡ p.seat.me.1 → HasCalled p s number A → steps_of s.me.0.passes ≤ steps_of p.seat.me.0.passes + left → left ≤ most → HasGoneOn (sight p) (sight (seated p s)) number most
 called_goes_on p x s number A left most table bare y few small = record {
-  later = record { table = table; layout = refl; number = refl; run = y.goes.since };
+  later = later;
   lawful = y.goes.sound;
   calls = y.calls;
   steps = let a = steps_are p.number.0 p.layout s.me.0.passes y.seat in let b = steps_are p.number.0 p.layout p.seat.me.0.passes x.seat in omega arith;
   blames = (called_pass p x s number A bare y).blamed;
+  usable = can_use_later (sight p) (sight (seated p s)) later y.goes.sound.lawful;
 }
+  where
+    later : IsLater (sight p) (sight (seated p s))
+    later = record { table = table; layout = refl; number = refl; run = y.goes.since }

@@ -9,6 +9,7 @@ use Rattle.arena.specs.Fills.{IsOwnNode, IsOwnScx, IsTakenScx}
 use Rattle.arena.specs.Lawful.{Lawful, HasWon}
 use Rattle.arena.specs.Log.{Entry, log, has, IsEntered, AreOnce}
 use Rattle.histories.proofs.Lemmas.{IsIn, Logs, aborted_never_won, lawful_tail, logs, newest, older, once, same as log_same, wins as log_wins}
+use Rattle.arena.specs.declared.step.Kind.TheVariants.{Freeze}
 use Rattle.arena.specs.declared.limits.Mode.TheVariants.{Records}
 use Rattle.prims.specs.Cells.{allows_all}
 use Rattle.prims.specs.Moments.{IsAsFound}
@@ -37,12 +38,12 @@ use Rattle.forest.specs.Kept.{past, knower}
 use Rattle.forest.specs.Courses.{Course, IsCalled, known_of, steps_of}
 use Rattle.forest.specs.Shares.{entries_of}
 use Rattle.forest.specs.Puts.{IsPutOf}
-use Rattle.forest.specs.Passes.{AreOfCall, HasGoneOn, CanUse, Each, ScxSays, IsFull, IsFullOf, IsAllTaken, IsUsedUp, done_of, taken_of}
+use Rattle.forest.specs.Passes.{AreOfCall, HasGoneOn, IsLater, CanUse, HasLeftAlone, Each, ScxSays, IsFull, IsFullOf, IsAllTaken, IsUsedUp, done_of, taken_of}
 use Rattle.forest.specs.Held.{sight, IsPass}
 use Rattle.forest.proofs.Frames.{Goes}
 use Rattle.forest.proofs.Calls.{HasHand, course_keeps, put_goes, put_rests}
 use Rattle.forest.proofs.Called.{course_calls}
-use Rattle.forest.proofs.Passes.{call_of, steps_are}
+use Rattle.forest.proofs.Passes.{call_of, can_use_later, steps_are}
 use Rattle.forest.proofs.Blames.{blamed_later}
 use Rattle.forest.proofs.VlxCalls.{each_at, was_changed}
 
@@ -241,23 +242,27 @@ module _ {T : Type 0} (p : Inside T) (x : IsPass allows_all Records p) (some_nod
       same = once_same z.0 e (log p.layout h) (once p.layout h y.goes.sound.lawful) (z.1 ∙ sym y.is_of.record_is) (in_entries p.number.0 z.0 (log p.layout h) (done_of (sight p)) z.2)
           (in_since p.layout h (d.entry.row ⊳ d.entry.before) e y.goes.sound.lawful at.within (subst (λ l. IsIn e l) (sym at.logged) (newest _)))
   put_says s (Lost n u) is y = (
-    was_changed (sight (spent s)) x.is_pass number start _ snaps y.is_of.snaps_are n.0 u.0 (put_changed y.run (call_of p x number) h n u y.answers),
+    was_changed Freeze (sight p) (sight (spent s)) refl refl x.is_pass number _ snaps y.is_of.snaps_are n.0 u.0 (put_changed y.run (call_of p x number) h n u y.answers),
     y.goes.unwon (λ w. aborted_never_won p.layout h y.run.scx.scx.0 y.goes.sound.lawful y.answers.1.aborted (rw y.is_of.record_is w.1)),
   )
     where
       h : History
       h = past p.layout.mode (known_of s.me.0.passes)
 
-  -- snapshots of other nodes may still be used
-  pub put_usable : (s : Seat ℕ View) (a : Scx) → HasPut s a → (snap : Snap) → ¬ IsAmong snaps snap.node.0 → CanUse (sight p) snap → CanUse (sight (spent s)) snap
-  put_usable s a y snap d u = (u.0, y.goes.usable snap u.0 d u.1)
+  -- snapshots of other nodes are still left alone
+  pub put_alone : (s : Seat ℕ View) (a : Scx) → HasPut s a → (snap : Snap) → ¬ IsAmong snaps snap.node.0 → HasLeftAlone (sight p) snap → HasLeftAlone (sight (spent s)) snap
+  put_alone s a y = y.goes.alone
 
   -- it has gone on
   pub put_goes_on : (s : Seat ℕ View) (a : Scx) (left most : ℕ) → s.table_id ≡ p.seat.table_id → s.me.1 ≡ p.seat.me.1 → HasPut s a → steps_of s.me.0.passes ≤ steps_of p.seat.me.0.passes + left → left ≤ most → HasGoneOn (sight p) (sight (spent s)) number most
   put_goes_on s a left most table bare y few small = record {
-    later = record { table = table; layout = refl; number = refl; run = y.goes.since };
+    later = later;
     lawful = y.goes.sound;
     calls = y.calls;
     steps = let a = steps_are p.number.0 p.layout s.me.0.passes y.seat in let b = steps_are p.number.0 p.layout p.seat.me.0.passes x.seat in omega arith;
     blames = (put_pass s a bare y).blamed;
+    usable = can_use_later (sight p) (sight (spent s)) later y.goes.sound.lawful;
   }
+    where
+      later : IsLater (sight p) (sight (spent s))
+      later = record { table = table; layout = refl; number = refl; run = y.goes.since }

@@ -3,6 +3,8 @@ use Rattle.std.proofs.Common.{◌≡◌, ◌≢◌, ◌<◌, ℕ, zero, suc, inl
 use Rattle.atomic_table.specs.declared.shared.Seat.{Seat}
 use Rattle.arena.specs.History.{History}
 use Rattle.arena.specs.Blame.{WasInTheWay}
+use Rattle.arena.specs.declared.step.Kind.{Kind}
+use Rattle.arena.specs.declared.step.Kind.TheVariants.{LoadInfo}
 use Rattle.arena.specs.declared.limits.Mode.TheVariants.{Records}
 use Rattle.prims.specs.Cells.{allows_all}
 use Rattle.prims.specs.Snaps.{AreDistinct, IsAmong}
@@ -45,14 +47,14 @@ among_at (snap ∷ snaps) n (inl e) = record { at = 0; within = omega arith; is 
 among_at (snap ∷ snaps) n (inr x) = let y = among_at snaps n x in record { at = suc y.at; within = let i = y.within in omega arith; is = y.is }
 
 -- a node that was changed since its snapshot
-abbrev pub was_changed : (new : Sight) (is_pass : new.number < new.layout.passes) (number : ℕ) (start : History) (items snaps : List Snap) → items ≡ snaps → (n s : ℕ) → IsChanged (record { layout = new.layout; pass = new.number; is_pass = is_pass; number = number; start = start }) (run_of new) items n s → WasChanged new snaps n s
-was_changed new is_pass number start items snaps is n s z = record {
+abbrev pub was_changed : (kind : Kind) (old new : Sight) → new.layout ≡ old.layout → new.number ≡ old.number → (is_pass : new.number < new.layout.passes) (number : ℕ) (items snaps : List Snap) → items ≡ snaps → (n s : ℕ) → IsChanged kind (record { layout = new.layout; pass = new.number; is_pass = is_pass; number = number; start = run_of old }) (run_of new) items n s → WasChanged kind old new snaps n s
+was_changed kind old new layout pass is_pass number items snaps is n s z = record {
   index = z.index;
   within = rw is at z.within;
   is = rw is at z.is;
-  held = z.named;
+  found = z.found;
   in_the_way = λ moment q. subst (λ (k : ℕ). WasInTheWay (run_of new) moment k s) z.is (z.blamed.in_the_way moment (rw is q));
-  others = z.blamed.others;
+  others = λ alone. z.blamed.others (rw (layout, pass, is) alone);
 }
 
 -- Calls
@@ -80,4 +82,4 @@ module _ {L : Type 0} (list : L → List Snap) {T : Type 0} (p : Inside T) (x : 
 
   pub vlx_says : (s : Seat ℕ View) (snaps : L) (a : Vlx) → HasCalled p s number (Looked snaps a) → VlxSays (sight p) (sight (seated p s)) (list snaps) a
   vlx_says s snaps Same y = y.answers.found
-  vlx_says s snaps (Changed n u) y = (was_changed (sight (seated p s)) x.is_pass number _ _ (list snaps) refl n.0 u.0 (vlx_changed (list snaps) (call_of p x number) _ n u y.answers), y.answers.before)
+  vlx_says s snaps (Changed n u) y = (was_changed LoadInfo (sight p) (sight (seated p s)) refl refl x.is_pass number _ (list snaps) refl n.0 u.0 (vlx_changed (list snaps) (call_of p x number) _ n u y.answers), y.answers.before)

@@ -4,6 +4,8 @@ use Rattle.std.specs.List.{Contains}
 use Rattle.atomic_table.specs.Seated.{TableId}
 use Rattle.arena.specs.declared.layout.Layout.{Layout}
 use Rattle.arena.specs.declared.step.Row.{Row}
+use Rattle.arena.specs.declared.step.Kind.{Kind}
+use Rattle.arena.specs.declared.step.Kind.TheVariants.{Freeze, LoadInfo}
 use Rattle.arena.specs.Share.{Left, whole_share, HasScx}
 use Rattle.arena.specs.declared.number.NodeNo.{NodeNo}
 use Rattle.arena.specs.declared.word.Side.{Side}
@@ -13,17 +15,18 @@ use Rattle.arena.specs.Layout.{all_nodes, IsWord}
 use Rattle.arena.specs.Machines.{IsRun}
 use Rattle.arena.specs.PlainWords.{Contents, held}
 use Rattle.prims.specs.Cells.{allows_all}
-use Rattle.arena.specs.Words.{info, state, child, node as node_word}
-use Rattle.arena.specs.History.{History, ◌⊳◌, value, HasHeld, EndsWith}
+use Rattle.arena.specs.Words.{state, child, node as node_word}
+use Rattle.arena.specs.History.{History, ◌⊳◌, value, EndsWith}
 use Rattle.arena.specs.Fills.{IsOthersScx, IsOwnNode, IsOwnScx, IsTakenNode, IsTakenScx}
 use Rattle.arena.specs.Blame.{WasInTheWay}
+use Rattle.arena.specs.Found.{HasFound}
 use Rattle.arena.specs.Lawful.{IsWin}
 use Rattle.arena.specs.Log.{Entry, log, is_final, has, fields}
 use Rattle.prims.specs.LlxKnown.{IsSnapshot, IsFinalBy}
 use Rattle.prims.specs.declared.snap.Snap.{Snap}
 use Rattle.prims.specs.declared.llx.Llx.{Llx}
 use Rattle.prims.specs.declared.llx.Llx.TheVariants.{Snapshot, Finalized, Fail}
-use Rattle.prims.specs.Moments.{IsMoment, IsAsFound}
+use Rattle.prims.specs.Moments.{IsMoment, IsAsFound, IsLeftAlone}
 use Rattle.prims.specs.ScxKnown.{nodes_of}
 use Rattle.prims.specs.Shares.{IsUsable}
 use Rattle.prims.specs.Snaps.{IsAmong, HasNode}
@@ -91,9 +94,13 @@ taken_of p = p.layout.scx - p.share.scx
 abbrev pub AreOfCall : ℕ → ℕ → History → History → Type 0
 AreOfCall c number start h = (r : Row) (before : History) → EndsWith h (r ⊳ before) → EndsWith before start → r.pass.0 ≡ c → r.call ≡ number
 
--- the pass may use the snapshot: what it says of its node holds as long as the node's info is what it found, and since then no SCX-record of the pass has covered the node while in progress
+-- the pass may use the snapshot: it has a moment, and what it says of its node holds as long as the node's info is what it found
 abbrev pub CanUse : Sight → Snap → Type 0
-CanUse p snap = (moment : History) × IsUsable p.layout p.number (run_of p) snap moment
+CanUse p snap = (moment : History) × IsUsable p.layout (run_of p) snap moment
+
+-- the pass has made no SCX over the snapshot's node since a moment of it: no SCX-record of the pass has covered the node while in progress
+abbrev pub HasLeftAlone : Sight → Snap → Type 0
+HasLeftAlone p snap = IsLeftAlone p.layout p.number (run_of p) snap
 
 -- this is so of each
 abbrev pub Each : {A : Type 0} → (A → Type 0) → List A → Type 0
@@ -115,33 +122,34 @@ pub record HasBlamed (p : Sight) : Type 0 where
 
 -- What every call leaves
 
--- the call of this number has brought the pass further: the run that it knows goes on from what it knew, and is lawful; its own rows there are of the call, and no more than so many; whom it has blamed is finished
+-- the call of this number has brought the pass further: the run that it knows goes on from what it knew, and is lawful; its own rows there are of the call, and no more than so many; whom it has blamed is finished; and it may use each snapshot that it could use
 pub record HasGoneOn (old new : Sight) (number most : ℕ) : Type 0 where
   pub later : IsLater old new
   pub lawful : IsRun allows_all new.layout (run_of new)
   pub calls : AreOfCall new.number number (run_of old) (run_of new)
   pub steps : steps_of new ≤ steps_of old + most
   pub blames : HasBlamed new
+  pub usable : (snap : Snap) → CanUse old snap → CanUse new snap
 
--- it has taken nothing of its share, made no entry, and may use each snapshot that it could use
+-- it has taken nothing of its share, made no entry, and left each snapshot alone that it had left alone
 pub record HasTakenNothing (old new : Sight) : Type 0 where
   pub share : new.share ≡ old.share
   pub done : done_of new ≡ done_of old
-  pub usable : (snap : Snap) → CanUse old snap → CanUse new snap
+  pub alone : (snap : Snap) → HasLeftAlone old snap → HasLeftAlone new snap
 
 -- What `llx` says
 
--- another pass's SCX-record, which the node's info has named, was in the way of the call, at whose begin the node was not final; it is finished now
+-- another pass's SCX-record, which the call's last look at the node's info has found, was in the way of the call, at whose begin the node was not final; it is finished now
 pub record HasFailed (old new : Sight) (n s : ℕ) : Type 0 where
-  pub held : HasHeld (run_of new) (info n) s
+  pub found : HasFound new.number (run_of new) (run_of old) LoadInfo n s
   pub others : IsOthersScx new.layout new.number s
   pub in_the_way : WasInTheWay (run_of new) (run_of old) n s
   pub over : value (run_of new) (state s) ≢ 0
   pub not_final : is_final (seen_of old) n ≡ false
 
--- a snapshot gives the fields of the node in the run that is known now, in which it is not final, and may be used; a finalized node is final in it
+-- a snapshot gives the fields of the node in the run that is known now, in which it is not final, and may be used, and the pass has made no SCX over the node since; a finalized node is final in it
 abbrev pub LlxSays : Sight → Sight → ℕ → Llx → Type 0
-LlxSays old new n (Snapshot snap) = IsSnapshot new.layout (run_of new) n snap × CanUse new snap
+LlxSays old new n (Snapshot snap) = IsSnapshot new.layout (run_of new) n snap × CanUse new snap × HasLeftAlone new snap
 LlxSays old new n (Finalized node s) = (node.0 ≡ n) × IsFinalBy new.layout (run_of new) n s.0
 LlxSays old new n (Fail node s) = (node.0 ≡ n) × HasFailed old new n s.0
 
@@ -171,14 +179,14 @@ HasNodeOf (snap ∷ snaps) n = (snap.node.0 ≡ n) ⊎ HasNodeOf snaps n
 
 -- What `vlx` says
 
--- since each moment of one of the snapshots, which is of the node, another pass's SCX-record over the node, which its info has named, was in the way
-pub record WasChanged (new : Sight) (snaps : List Snap) (n s : ℕ) : Type 0 where
+-- since each moment of one of the snapshots, which is of the node, an SCX-record over the node, which the call's last step of this kind has found in its info, was in the way; and it is another pass's, where this one had left the snapshot alone before the call
+pub record WasChanged (kind : Kind) (old new : Sight) (snaps : List Snap) (n s : ℕ) : Type 0 where
   pub index : ℕ
   pub within : index < length snaps
   pub is : (snap_at snaps index).node.0 ≡ n
-  pub held : HasHeld (run_of new) (info n) s
+  pub found : HasFound new.number (run_of new) (run_of old) kind n s
   pub in_the_way : (moment : History) → IsMoment new.layout (run_of new) (snap_at snaps index) moment → WasInTheWay (run_of new) moment n s
-  pub others : IsOthersScx new.layout new.number s
+  pub others : HasLeftAlone old (snap_at snaps index) → IsOthersScx new.layout new.number s
 
 -- in the run that was known before, the nodes of the first k had the last entry that they had at their snapshots, and were not final
 abbrev pub AreAsFound : Sight → Sight → List Snap → ℕ → Type 0
@@ -187,7 +195,7 @@ AreAsFound old new snaps k = (i : ℕ) → i < k → IsAsFound new.layout (run_o
 -- all nodes were as found; or one was not, and those before it were
 abbrev pub VlxSays : Sight → Sight → List Snap → Vlx → Type 0
 VlxSays old new snaps Same = AreAsFound old new snaps (length snaps)
-VlxSays old new snaps (Changed node s) = (c : WasChanged new snaps node.0 s.0) × AreAsFound old new snaps c.index
+VlxSays old new snaps (Changed node s) = (c : WasChanged LoadInfo old new snaps node.0 s.0) × AreAsFound old new snaps c.index
 
 -- What `scx` says
 
@@ -230,7 +238,7 @@ pub record IsDone (old new : Sight) (snaps : List Snap) (finalize : List NodeNo)
 -- one entry more, of this call; or none, and a node was changed since its snapshot
 abbrev pub ScxSays : Sight → Sight → List Snap → List NodeNo → ℕ × Side → ℕ → Scx → Type 0
 ScxSays old new snaps finalize field v Done = (e : Entry) × IsDone old new snaps finalize field v e
-ScxSays old new snaps finalize field v (Lost node s) = WasChanged new snaps node.0 s.0 × (done_of new ≡ done_of old)
+ScxSays old new snaps finalize field v (Lost node s) = WasChanged Freeze old new snaps node.0 s.0 × (done_of new ≡ done_of old)
 
 -- Passes that come together
 

@@ -20,7 +20,7 @@ abbrev pub call_waits : (Layout → History → ℕ → Type 0) → HelpRun → 
 call_waits allows m c = help_waits allows c.layout c.pass m
 
 abbrev pub call_answers : HelpRun → Call → History → Bool → Type 0
-call_answers m c = help_answers c.layout m
+call_answers m c = help_answers c.layout c.pass m
 
 -- the flag is set, and those of the first p nodes that are finalized are marked
 abbrev pub call_marks : HelpRun → Call → History → ℕ → Type 0

@@ -3,19 +3,22 @@ use Rattle.std.proofs.Common.{◌≡◌, ◌≢◌, ℕ, suc, ◌<◌, ◌⊎◌
 use Rattle.arena.specs.declared.layout.Layout.{Layout}
 use Rattle.arena.specs.declared.step.Row.{Row}
 use Rattle.arena.specs.declared.step.Step.{Step}
+use Rattle.arena.specs.declared.step.Kind.TheVariants.{Freeze}
 use Rattle.arena.specs.MemberNo.{index_of}
 use Rattle.arena.specs.Words.{info}
-use Rattle.arena.specs.History.{History, ◌⊳◌, HasHeld, EndsWith}
+use Rattle.arena.specs.History.{History, ◌⊳◌, HasHeld}
+use Rattle.arena.specs.Found.{IsLastStep}
 use Rattle.arena.specs.ScxRecords.{member, seen, count}
 use Rattle.arena.specs.Fills.{IsNamedScx}
 use Rattle.arena.specs.Lawful.{Lawful, AreFrozen}
 use Rattle.arena.specs.Machines.{IsRun, Call}
-use Rattle.arena.proofs.Values.{held_more, ends_self, ends_trans}
+use Rattle.arena.proofs.Found.{last_more}
+use Rattle.arena.proofs.Values.{held_more}
 use Rattle.histories.specs.Descriptor.{descriptor}
 use Rattle.histories.specs.Progress.{IsStarted, IsStuck}
 use Rattle.histories.proofs.Lemmas.{all_frozen_stays, descriptor_same, descriptor_stays, finished_stays, lawful_row, marked_stays, named_more, over_stays, own_words_stay, passed_stays, started_more, stays_free, stuck_stays, won_more}
 use Rattle.help.specs.AllowedLaws.{IsOutside, same_plan, same_member, same_seen, same_new, same_old, same_field, free_words, prepared_more, quiet_words, free_back}
-use Rattle.help.specs.HelpKnown.{IsServed, HasRead, Freezes, HasLost, IsBlocked, Blocked, Aborts, Frozen, Marks, Reading, reading, help_known, help_step, help_waits}
+use Rattle.help.specs.HelpKnown.{IsServed, HasRead, node_at, Freezes, HasLost, IsBlocked, Blocked, Aborts, Frozen, Marks, Reading, reading, help_known, help_step, help_waits}
 use Rattle.help.specs.declared.state.HelpRun.{HelpRun}
 use Rattle.help.specs.declared.state.HelpAt.{HelpAt}
 use Rattle.help.specs.declared.state.HelpAt.TheVariants.{Start, Plan as AtPlan, Member as AtMember, Seen as AtSeen, Freeze as AtFreeze, AllFrozen as AtAllFrozen, Abort as AtAbort, SetFrozen as AtSetFrozen, Mark as AtMark, New as AtNew, Old as AtOld, Update as AtUpdate, Commit as AtCommit}
@@ -29,17 +32,18 @@ module _ (h k : History) (m : Reading) (e : descriptor k m.scx ≡ descriptor h 
   pub read_more : (n : ℕ) → HasRead m h n → HasRead m k n
   read_more n x i p = x i p ∙ sym (same_member h k m.scx e i)
 
-  pub blocked_same : (n v : ℕ) → EndsWith k h → IsBlocked h m.scx n v → IsBlocked k m.scx n v
-  blocked_same n v p x = record {
+  pub blocked_same : (c n v : ℕ) → ((row : Row) (before : History) → IsLastStep c h Freeze n row before → IsLastStep c k Freeze n row before) → IsBlocked c h m.scx n v → IsBlocked c k m.scx n v
+  blocked_same c n v p x = record {
     index = x.index;
     within = rw (same_plan h k m.scx e) x.within;
     is = same_member h k m.scx e x.index ∙ x.is;
     other = λ q. x.other (q ∙ same_seen h k m.scx e x.index);
     not_own = x.not_own;
-    moment = x.moment;
-    since = ends_trans k h x.moment p x.since;
+    row = x.row;
+    before = x.before;
+    last = p x.row x.before x.last;
     covered = x.covered;
-    held = x.held;
+    found = x.found;
   }
 
 -- Whatever lawful row comes, of an SCX-record that an info word names
@@ -126,35 +130,36 @@ module _ (allows : Layout → History → ℕ → Type 0) (lay : Layout) (c : �
   over_words m P (inl x) = started_words lay h r l m.scx x.0
   over_words m P (inr x) = lost_words m.scx x
 
-  blocked_more : (m : Reading) (j v : ℕ) → Blocked lay c h m j v → Blocked lay c (r ⊳ h) m j v
-  blocked_more m j v x = record {
+  -- where it is no freezing exchange of the pass
+  blocked_more : (r.pass.0 ≡ c → r.kind ≢ Freeze) → (m : Reading) (j v : ℕ) → Blocked lay c h m j v → Blocked lay c (r ⊳ h) m j v
+  blocked_more d m j v x = record {
     over = ⊎_elim (λ y. inl (started_more r h m.scx y.0, over_stays lay h r m.scx l y.0 y.1)) (λ y. inr (lost_more m.scx y)) x.over;
-    blocked = blocked_same h (r ⊳ h) m (over_words m _ x.over) _ v (inr (ends_self h)) x.blocked;
+    blocked = blocked_same h (r ⊳ h) m (over_words m _ x.over) c _ v (λ row before y. last_more c h Freeze (node_at m.members j) r row before d y) x.blocked;
   }
 
-  aborts_more : (m : Reading) (j v : ℕ) → Aborts lay c h m j v → Aborts lay c (r ⊳ h) m j v
-  aborts_more m j v x = record {
+  aborts_more : (r.pass.0 ≡ c → r.kind ≢ Freeze) → (m : Reading) (j v : ℕ) → Aborts lay c h m j v → Aborts lay c (r ⊳ h) m j v
+  aborts_more d m j v x = record {
     stuck = ⊎_elim (λ y. inl (started_more r h m.scx y.0, subst (λ d. IsStuck d (r ⊳ h) m.scx) (sym (started_words lay h r l m.scx y.0)) (stuck_stays lay h r m.scx l y.0 y.1))) (λ y. inr (lost_more m.scx y)) x.stuck;
-    blocked = blocked_same h (r ⊳ h) m (over_words m _ x.stuck) _ v (inr (ends_self h)) x.blocked;
+    blocked = blocked_same h (r ⊳ h) m (over_words m _ x.stuck) c _ v (λ row before y. last_more c h Freeze (node_at m.members j) r row before d y) x.blocked;
   }
 
-  -- so it keeps what is known at each place
-  pub known_more : (m : Reading) (at : HelpAt) → help_known allows lay c h m at → help_known allows lay c (r ⊳ h) m at
-  known_more m Start k = k
-  known_more m AtPlan k = served_more m.scx k
-  known_more m (AtMember j) k = freezes_more m (index_of j) (index_of j) k
-  known_more m (AtSeen j) k = freezes_more m (index_of j) (suc (index_of j)) k
-  known_more m (AtFreeze j v) k = (freezes_more m (index_of j) (suc (index_of j)) k.0, same_seen h (r ⊳ h) m.scx (served_words m.scx k.0.served) (index_of j) ∙ k.1)
-  known_more m (AtAllFrozen j v) k = blocked_more m (index_of j) v k
-  known_more m (AtAbort j v) k = aborts_more m (index_of j) v k
-  known_more m AtSetFrozen k = frozen_more lay h r l m k
-  known_more m (AtMark j) k =
+  -- so it keeps what is known at each place, where it is no freezing exchange of the pass
+  pub known_more : (m : Reading) (at : HelpAt) → (r.pass.0 ≡ c → r.kind ≢ Freeze) → help_known allows lay c h m at → help_known allows lay c (r ⊳ h) m at
+  known_more m Start d k = k
+  known_more m AtPlan d k = served_more m.scx k
+  known_more m (AtMember j) d k = freezes_more m (index_of j) (index_of j) k
+  known_more m (AtSeen j) d k = freezes_more m (index_of j) (suc (index_of j)) k
+  known_more m (AtFreeze j v) d k = (freezes_more m (index_of j) (suc (index_of j)) k.0, same_seen h (r ⊳ h) m.scx (served_words m.scx k.0.served) (index_of j) ∙ k.1)
+  known_more m (AtAllFrozen j v) d k = blocked_more d m (index_of j) v k
+  known_more m (AtAbort j v) d k = aborts_more d m (index_of j) v k
+  known_more m AtSetFrozen d k = frozen_more lay h r l m k
+  known_more m (AtMark j) d k =
       let e = started_words lay h r l m.scx k.0.started in
       (marks_more lay h r l m (index_of j) k.0, rw (same_plan h (r ⊳ h) m.scx e) k.1, rw (same_plan h (r ⊳ h) m.scx e) k.2)
-  known_more m AtNew k = all_marked_more lay h r l m k
-  known_more m (AtOld v) k = (all_marked_more lay h r l m k.0, same_new h (r ⊳ h) m.scx (started_words lay h r l m.scx k.0.started) ∙ k.1)
-  known_more m AtUpdate k = all_marked_more lay h r l m k
-  known_more m AtCommit k = (started_more r h m.scx k.0, won_more r h m.scx k.1)
+  known_more m AtNew d k = all_marked_more lay h r l m k
+  known_more m (AtOld v) d k = (all_marked_more lay h r l m k.0, same_new h (r ⊳ h) m.scx (started_words lay h r l m.scx k.0.started) ∙ k.1)
+  known_more m AtUpdate d k = all_marked_more lay h r l m k
+  known_more m AtCommit d k = (started_more r h m.scx k.0, won_more r h m.scx k.1)
 
   -- and the step that it waits for
   step_more : (m : Reading) (at : HelpAt) → help_known allows lay c h m at → help_step (r ⊳ h) m.scx at ≡ help_step h m.scx at
@@ -174,6 +179,6 @@ module _ (allows : Layout → History → ℕ → Type 0) (lay : Layout) (c : �
 
 pub help_keeps : (allows : Layout → History → ℕ → Type 0) (m : HelpRun) (c : Call) (h : History) (s : Step) (r : Row) → IsRun allows c.layout (r ⊳ h) → r.pass.0 ≢ c.pass → help_waits allows c.layout c.pass m h s → help_waits allows c.layout c.pass m (r ⊳ h) s
 help_keeps allows m c h s r run other w = record {
-  known = known_more allows c.layout c.pass h r c.is_pass run.lawful (inl other) (reading m) m.at w.known;
+  known = known_more allows c.layout c.pass h r c.is_pass run.lawful (inl other) (reading m) m.at (λ e. absurd (other e)) w.known;
   asked = w.asked ∙ sym (step_more allows c.layout c.pass h r c.is_pass run.lawful (inl other) (reading m) m.at w.known);
 }

@@ -6,6 +6,7 @@ use Rattle.arena.specs.declared.number.MemberNo.{MemberNo}
 use Rattle.arena.specs.declared.number.ScxNo.{ScxNo}
 use Rattle.arena.specs.declared.machine.Turn.{Turn}
 use Rattle.arena.specs.declared.machine.Turn.TheVariants.{Ask}
+use Rattle.arena.specs.declared.step.Row.{Row}
 use Rattle.arena.specs.declared.step.Step.{Step}
 use Rattle.arena.specs.declared.step.Deed.TheVariants.{Load, Store, Exchange}
 use Rattle.arena.specs.declared.step.Kind.TheVariants.{LoadSettled, LoadAllFrozen, Freeze, SetFrozen, Mark, Update, Commit, Abort}
@@ -13,7 +14,8 @@ use Rattle.arena.specs.declared.word.ScxWord.{ScxWord}
 use Rattle.arena.specs.declared.word.ScxWord.TheVariants.{AllFrozen, Plan, New, Old, Member, Seen}
 use Rattle.arena.specs.MemberNo.{index_of}
 use Rattle.arena.specs.Words.{scx, info, marked, state}
-use Rattle.arena.specs.History.{History, value, EndsWith}
+use Rattle.arena.specs.History.{History, value}
+use Rattle.arena.specs.Found.{IsLastStep}
 use Rattle.arena.specs.ScxRecords.{plan, member, seen, new, old, count, is_removed, field}
 use Rattle.arena.specs.Fills.{IsNamed, IsNamedScx, IsOwnScx}
 use Rattle.arena.specs.Lawful.{AreFrozen, AllAreFrozen, HasWon}
@@ -65,27 +67,28 @@ pub record HasLost (lay : Layout) (c : ℕ) (h : History) (s : ℕ) : Type 0 whe
   pub rest : value h (state (seen h s 0)) ≢ 0
   pub passed : value h (info (member h s 0)) ≢ seen h s 0
 
--- at a moment at which the SCX-record covered the node already, the node's info named something else, and not what the SCX-record has seen there
-pub record IsBlocked (h : History) (s n v : ℕ) : Type 0 where
+-- the last freezing exchange of the pass c was on this node, which the SCX-record covered already, and found in its info something else, and not what the SCX-record has seen there
+pub record IsBlocked (c : ℕ) (h : History) (s n v : ℕ) : Type 0 where
   pub index : ℕ
   pub within : index < count h s
   pub is : member h s index ≡ n
   pub other : v ≢ seen h s index
   pub not_own : v ≢ s
-  pub moment : History
-  pub since : EndsWith h moment
-  pub covered : index < count moment s
-  pub held : value moment (info n) ≡ v
+  pub row : Row
+  pub before : History
+  pub last : IsLastStep c h Freeze n row before
+  pub covered : index < count before s
+  pub found : value before (info n) ≡ v
 
 -- what is known of it: that it is over, or that it never begins
 pub record Blocked (lay : Layout) (c : ℕ) (h : History) (m : Reading) (j v : ℕ) : Type 0 where
   pub over : (IsStarted h m.scx × IsOver h m.scx) ⊎ HasLost lay c h m.scx
-  pub blocked : IsBlocked h m.scx (node_at m.members j) v
+  pub blocked : IsBlocked c h m.scx (node_at m.members j) v
 
 -- it can be aborted
 pub record Aborts (lay : Layout) (c : ℕ) (h : History) (m : Reading) (j v : ℕ) : Type 0 where
   pub stuck : (IsStarted h m.scx × IsStuck (descriptor h m.scx) h m.scx) ⊎ HasLost lay c h m.scx
-  pub blocked : IsBlocked h m.scx (node_at m.members j) v
+  pub blocked : IsBlocked c h m.scx (node_at m.members j) v
 
 -- all its nodes are frozen
 pub record Frozen (h : History) (m : Reading) : Type 0 where
@@ -166,7 +169,7 @@ help_told allows lay c h m (AtMember j) v = Freezes allows lay c h m (index_of j
 help_told allows lay c h m (AtSeen j) v = Freezes allows lay c h m (index_of j) (suc (index_of j)) × (seen h m.scx (index_of j) ≡ v)
 help_told allows lay c h m (AtFreeze j expected) v = HasTried lay c h m (index_of j) v expected
 help_told allows lay c h m (AtAllFrozen j found) v = Blocked lay c h m (index_of j) found × (value h (scx m.scx AllFrozen) ≡ v)
-help_told allows lay c h m (AtAbort j found) v = (value h (state m.scx) ≡ 2) × IsBlocked h m.scx (node_at m.members (index_of j)) found
+help_told allows lay c h m (AtAbort j found) v = (value h (state m.scx) ≡ 2) × IsBlocked c h m.scx (node_at m.members (index_of j)) found
 help_told allows lay c h m AtSetFrozen v = Marks h m 0
 help_told allows lay c h m (AtMark j) v = Marks h m (suc (index_of j))
 help_told allows lay c h m AtNew v = Marked h m × (new h m.scx ≡ v)
@@ -179,19 +182,19 @@ help_ready allows lay c m h None = (m.at ≡ Start) × IsServed allows lay c h m
 help_ready allows lay c m h (Some v) = help_told allows lay c h (reading m) m.at v
 
 -- the run stands where it could not freeze a node
-abbrev pub HasNoted : History → Reading → HelpAt → Type 0
-HasNoted h m (AtAbort j found) = IsBlocked h m.scx (node_at m.members (index_of j)) found
-HasNoted h m _ = ⊥
+abbrev pub HasNoted : ℕ → History → Reading → HelpAt → Type 0
+HasNoted c h m (AtAbort j found) = IsBlocked c h m.scx (node_at m.members (index_of j)) found
+HasNoted c h m _ = ⊥
 
 -- true: it is committed; false: it is aborted, has no entry, and a node was not as it had seen it
-pub record HasAborted (lay : Layout) (h : History) (m : Reading) (at : HelpAt) : Type 0 where
+pub record HasAborted (lay : Layout) (c : ℕ) (h : History) (m : Reading) (at : HelpAt) : Type 0 where
   pub aborted : value h (state m.scx) ≡ 2
   pub no_entry : ¬ IsEntered (log lay h) m.scx
-  pub blocked : HasNoted h m at
+  pub blocked : HasNoted c h m at
 
-abbrev pub help_answers : Layout → HelpRun → History → Bool → Type 0
-help_answers lay m h true = value h (state m.scx.0) ≡ 1
-help_answers lay m h false = HasAborted lay h (reading m) m.at
+abbrev pub help_answers : Layout → ℕ → HelpRun → History → Bool → Type 0
+help_answers lay c m h true = value h (state m.scx.0) ≡ 1
+help_answers lay c m h false = HasAborted lay c h (reading m) m.at
 
 -- the node that could not be frozen, and what its info named
 abbrev pub blocked_at : List NodeNo → HelpAt → NodeNo × ScxNo

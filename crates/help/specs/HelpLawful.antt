@@ -8,7 +8,7 @@ use Rattle.arena.specs.declared.step.Row.{Row}
 use Rattle.arena.specs.declared.step.Step.{Step}
 use Rattle.arena.specs.declared.step.Deed.TheVariants.{Exchange}
 use Rattle.arena.specs.declared.step.Kind.{Kind}
-use Rattle.arena.specs.declared.step.Kind.TheVariants.{Fill, LoadSettled, LoadAllFrozen, Freeze, SetFrozen, Mark, Update, Commit, Abort}
+use Rattle.arena.specs.declared.step.Kind.TheVariants.{Fill, LoadInfo, LoadSettled, LoadAllFrozen, Freeze, SetFrozen, Mark, Update, Commit, Abort}
 use Rattle.arena.specs.declared.word.ScxWord.TheVariants.{AllFrozen}
 use Rattle.arena.specs.MemberNo.{index_of}
 use Rattle.arena.specs.Layout.{all_scx, all_nodes}
@@ -34,6 +34,22 @@ index_small First = omega arith
 index_small Second = omega arith
 index_small Third = omega arith
 index_small Fourth = omega arith
+
+-- none of its steps is a look at an info word
+pub help_looks_not : (h : History) (s : ℕ) (at : HelpAt) → (help_step h s at).kind ≢ LoadInfo
+help_looks_not h s Start = λ e. cc
+help_looks_not h s AtPlan = λ e. cc
+help_looks_not h s (AtMember j) = λ e. cc
+help_looks_not h s (AtSeen j) = λ e. cc
+help_looks_not h s (AtFreeze j v) = λ e. cc
+help_looks_not h s (AtAllFrozen j v) = λ e. cc
+help_looks_not h s (AtAbort j v) = λ e. cc
+help_looks_not h s AtSetFrozen = λ e. cc
+help_looks_not h s (AtMark j) = λ e. cc
+help_looks_not h s AtNew = λ e. cc
+help_looks_not h s (AtOld v) = λ e. cc
+help_looks_not h s AtUpdate = λ e. cc
+help_looks_not h s AtCommit = λ e. cc
 
 pub exchange_of : (c : Call) (h : History) (s : Step) (e v : ℕ) → s.deed ≡ Exchange e v → IsExchange (row_of c s h) e v
 exchange_of c h s e v q = rw q record { won = λ x. exchange_won e v (value h s.word) x; lost = λ x. exchange_lost e v (value h s.word) x }

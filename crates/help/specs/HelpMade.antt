@@ -1,10 +1,11 @@
 -- Once the step is made, a run of HELP may go on with what that told.
-use Rattle.std.proofs.Common.{◌≡◌, ◌≢◌, ℕ, suc, ◌<◌, ◌⊎◌, inl, inr, refl, sym, ◌∙◌, arith, Some}
+use Rattle.std.proofs.Common.{◌≡◌, ◌≢◌, ℕ, suc, ◌<◌, ◌⊎◌, inl, inr, refl, sym, ◌∙◌, ap, arith, Some}
 use native.Mathlib.Decide.{ℕ_discrete}
 use Rattle.arena.specs.declared.layout.Layout.{Layout}
 use Rattle.arena.specs.declared.number.MemberNo.{MemberNo}
 use Rattle.arena.specs.declared.step.Row.{Row}
 use Rattle.arena.specs.declared.step.Step.{Step}
+use Rattle.arena.specs.declared.step.Kind.TheVariants.{Freeze}
 use Rattle.arena.specs.declared.word.ScxWord.TheVariants.{State, AllFrozen}
 use Rattle.arena.specs.MemberNo.{index_of}
 use Rattle.arena.specs.Words.{scx, info, marked, state}
@@ -12,7 +13,8 @@ use Rattle.arena.specs.History.{History, ◌⊳◌, value, HasHeld}
 use Rattle.arena.specs.ScxRecords.{member, seen, count}
 use Rattle.arena.specs.Lawful.{Lawful, IsExchange, AreFrozen}
 use Rattle.arena.specs.Machines.{IsRun, Call, row_of, IsTold}
-use Rattle.arena.proofs.Values.{value_at, value_apart, held_at, held_more, scx_word_apart, ends_self}
+use Rattle.arena.proofs.Found.{last_now, last_more}
+use Rattle.arena.proofs.Values.{value_at, value_apart, held_at, held_more, scx_word_apart}
 use Rattle.histories.specs.Descriptor.{descriptor}
 use Rattle.histories.specs.Progress.{IsOver, IsStarted}
 use Rattle.histories.proofs.Lemmas.{descriptor_same, is_over, lawful_tail, not_state, started_more, won_after}
@@ -77,14 +79,28 @@ module _ (allows : Layout → History → ℕ → Type 0) (c : Call) (h : Histor
       passed = rw e at d;
     }
 
-    over_at : Freezes allows c.layout c.pass (r ⊳ h) m (index_of j) (suc (index_of j)) → value (r ⊳ h) (info (member (r ⊳ h) m.scx (index_of j))) ≢ seen (r ⊳ h) m.scx (index_of j) → value (r ⊳ h) (info (member (r ⊳ h) m.scx (index_of j))) ≢ m.scx → Blocked c.layout c.pass (r ⊳ h) m (index_of j) (value (r ⊳ h) (info (member (r ⊳ h) m.scx (index_of j))))
-    over_at y d n = record {
+    over_at : Freezes allows c.layout c.pass (r ⊳ h) m (index_of j) (suc (index_of j)) → value (r ⊳ h) (info (member (r ⊳ h) m.scx (index_of j))) ≡ value h (info (member h m.scx (index_of j))) → value (r ⊳ h) (info (member (r ⊳ h) m.scx (index_of j))) ≢ seen (r ⊳ h) m.scx (index_of j) → value (r ⊳ h) (info (member (r ⊳ h) m.scx (index_of j))) ≢ m.scx → Blocked c.layout c.pass (r ⊳ h) m (index_of j) (value (r ⊳ h) (info (member (r ⊳ h) m.scx (index_of j))))
+    over_at y e d n = record {
       over = go y.served;
-      blocked = record { index = index_of j; within = y.within; is = sym read; other = d; not_own = n; moment = r ⊳ h; since = ends_self (r ⊳ h); covered = y.within; held = rw read refl };
+      blocked = record {
+        index = index_of j;
+        within = y.within;
+        is = sym read;
+        other = d;
+        not_own = n;
+        row = r;
+        before = h;
+        last = last_now c.pass h Freeze (node_at m.members (index_of j)) r refl refl (ap info (sym read_before));
+        covered = x.within;
+        found = ap (λ i. value h (info i)) read_before ∙ sym e;
+      };
     }
       where
         read : node_at m.members (index_of j) ≡ member (r ⊳ h) m.scx (index_of j)
         read = y.read (index_of j) (omega arith)
+
+        read_before : node_at m.members (index_of j) ≡ member h m.scx (index_of j)
+        read_before = x.read (index_of j) (omega arith)
 
         go : IsServed allows c.layout c.pass (r ⊳ h) m.scx → (IsStarted (r ⊳ h) m.scx × IsOver (r ⊳ h) m.scx) ⊎ HasLost c.layout c.pass (r ⊳ h) m.scx
         go (inl s) = inl (s, is_over c.layout (r ⊳ h) m.scx (index_of j) l s y.within y.frozen d n)
@@ -102,13 +118,13 @@ module _ (allows : Layout → History → ℕ → Type 0) (c : Call) (h : Histor
           let q : IsOutside c.pass r = inr record { no_fill = refl; same = exchange.lost d } in
           let y : Freezes allows c.layout c.pass (r ⊳ h) m (index_of j) (suc (index_of j)) = freezes_more allows c.layout c.pass h r c.is_pass l q m (index_of j) (suc (index_of j)) x in
           let e : value (r ⊳ h) (info (member (r ⊳ h) m.scx (index_of j))) ≡ value h (info (member h m.scx (index_of j))) = rw (same_member h (r ⊳ h) m.scx words (index_of j)) (value_at r h (info (member h m.scx (index_of j))) refl ∙ exchange.lost d) in
-          rw e at (over_at y (λ z. d (sym e ∙ z ∙ same_seen h (r ⊳ h) m.scx words (index_of j))) (λ z. n (sym e ∙ z)));
+          rw e at (over_at y e (λ z. d (sym e ∙ z ∙ same_seen h (r ⊳ h) m.scx words (index_of j))) (λ z. n (sym e ∙ z)));
     }
 
   module _ (at : HelpAt) (l : Lawful c.layout (row_of c (help_step h m.scx at) h ⊳ h)) (k : help_known allows c.layout c.pass h m at) where
-    -- after a load the run knows what it knew
-    quiet_known : IsQuiet (row_of c (help_step h m.scx at) h) → help_known allows c.layout c.pass (row_of c (help_step h m.scx at) h ⊳ h) m at
-    quiet_known q = known_more allows c.layout c.pass h (row_of c (help_step h m.scx at) h) c.is_pass l (inr q) m at k
+    -- after a load, which is no freezing exchange, the run knows what it knew
+    quiet_known : IsQuiet (row_of c (help_step h m.scx at) h) → (help_step h m.scx at).kind ≢ Freeze → help_known allows c.layout c.pass (row_of c (help_step h m.scx at) h ⊳ h) m at
+    quiet_known q d = known_more allows c.layout c.pass h (row_of c (help_step h m.scx at) h) c.is_pass l (inr q) m at (λ e. d) k
 
     -- and the word holds what the load told
     quiet_value : (v : ℕ) → v ≡ value h (help_step h m.scx at).word → (row_of c (help_step h m.scx at) h).after ≡ value h (help_step h m.scx at).word → value (row_of c (help_step h m.scx at) h ⊳ h) (help_step h m.scx at).word ≡ v
@@ -143,22 +159,22 @@ module _ (allows : Layout → History → ℕ → Type 0) (c : Call) (h : Histor
   made_at : (at : HelpAt) (v : ℕ) → Lawful c.layout (row_of c (help_step h m.scx at) h ⊳ h) → IsTold (help_step h m.scx at).deed (value h (help_step h m.scx at).word) v → help_known allows c.layout c.pass h m at
       → help_told allows c.layout c.pass (row_of c (help_step h m.scx at) h ⊳ h) m at v
   made_at Start v l t k = absurd k
-  made_at AtPlan v l t k = (quiet_known AtPlan l k record { no_fill = refl; same = refl }, quiet_value AtPlan l k v t refl)
-  made_at (AtMember j) v l t k = (quiet_known (AtMember j) l k record { no_fill = refl; same = refl }, quiet_value (AtMember j) l k v t refl)
-  made_at (AtSeen j) v l t k = (quiet_known (AtSeen j) l k record { no_fill = refl; same = refl }, quiet_value (AtSeen j) l k v t refl)
+  made_at AtPlan v l t k = (quiet_known AtPlan l k record { no_fill = refl; same = refl } (λ e. cc), quiet_value AtPlan l k v t refl)
+  made_at (AtMember j) v l t k = (quiet_known (AtMember j) l k record { no_fill = refl; same = refl } (λ e. cc), quiet_value (AtMember j) l k v t refl)
+  made_at (AtSeen j) v l t k = (quiet_known (AtSeen j) l k record { no_fill = refl; same = refl } (λ e. cc), quiet_value (AtSeen j) l k v t refl)
   made_at (AtFreeze j e) v l t k = rw (t, sym k.1) (tried j k.0 l)
-  made_at (AtAllFrozen j e) v l t k = (quiet_known (AtAllFrozen j e) l k record { no_fill = refl; same = refl }, quiet_value (AtAllFrozen j e) l k v t refl)
+  made_at (AtAllFrozen j e) v l t k = (quiet_known (AtAllFrozen j e) l k record { no_fill = refl; same = refl } (λ e. cc), quiet_value (AtAllFrozen j e) l k v t refl)
   made_at (AtAbort j e) v l t k = (
     value_at (row_of c (help_step h m.scx (AtAbort j e)) h) h (state m.scx) refl,
-    blocked_same h (row_of c (help_step h m.scx (AtAbort j e)) h ⊳ h) m (abort_words j e) (node_at m.members (index_of j)) e (inr (ends_self h)) k.blocked,
+    blocked_same h (row_of c (help_step h m.scx (AtAbort j e)) h ⊳ h) m (abort_words j e) c.pass (node_at m.members (index_of j)) e (λ row before y. last_more c.pass h Freeze (node_at m.members (index_of j)) (row_of c (help_step h m.scx (AtAbort j e)) h) row before (λ p q. cc) y) k.blocked,
   )
   made_at AtSetFrozen v l t k =
       let q = frozen_more c.layout h (row_of c (help_step h m.scx AtSetFrozen) h) l m k in
       record { started = q.started; plan = q.plan; read = q.read; flag = value_at (row_of c (help_step h m.scx AtSetFrozen) h) h (scx m.scx AllFrozen) refl; marked = λ i p. absurd (omega arith) }
   made_at (AtMark j) v l t k = mark_made j k.0 l
-  made_at AtNew v l t k = (quiet_known AtNew l k record { no_fill = refl; same = refl }, quiet_value AtNew l k v t refl)
+  made_at AtNew v l t k = (quiet_known AtNew l k record { no_fill = refl; same = refl } (λ e. cc), quiet_value AtNew l k v t refl)
   made_at (AtOld e) v l t k =
-      let x = quiet_known (AtOld e) l k record { no_fill = refl; same = refl } in
+      let x = quiet_known (AtOld e) l k record { no_fill = refl; same = refl } (λ e. cc) in
       (x.0, x.1, quiet_value (AtOld e) l k v t refl)
   made_at AtUpdate v l t k = (started_more (row_of c (help_step h m.scx AtUpdate) h) h m.scx k.started, won_after c.layout h (row_of c (help_step h m.scx AtUpdate) h) m.scx l refl (update_at allows c h m (lawful_tail c.layout h _ l) k))
   made_at AtCommit v l t k = value_at (row_of c (help_step h m.scx AtCommit) h) h (state m.scx) refl

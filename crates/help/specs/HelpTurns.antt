@@ -96,7 +96,7 @@ module _ (allows : Layout → History → ℕ → Type 0) (lay : Layout) (c : �
   pub to_committed : (j : MemberNo) (found v : ℕ) → v ≢ 0 → help_told allows lay c h m (AtAllFrozen j found) v → value h (state m.scx) ≡ 1
   to_committed j found v d t = ⊎_elim (λ x. over_committed lay h m.scx l x.1 (λ e. d (sym t.1 ∙ e))) (λ x. absurd (d (sym t.1 ∙ free_unset lay h m.scx l x.free))) t.0.over
 
-  pub to_aborted : (j : MemberNo) (found v : ℕ) → help_told allows lay c h m (AtAbort j found) v → HasAborted lay h m (AtAbort j found)
+  pub to_aborted : (j : MemberNo) (found v : ℕ) → help_told allows lay c h m (AtAbort j found) v → HasAborted lay c h m (AtAbort j found)
   to_aborted j found v t = record { aborted = t.0; no_entry = aborted_no_entry lay h h m.scx l (ends_self h) t.0; blocked = t.1 }
 
 -- Its places

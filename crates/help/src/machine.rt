@@ -115,7 +115,7 @@ impl<S: Shape> Machine<S> for HelpRun {
 
     ghost waits = { λ m c. help_waits S.allows c.layout c.pass m };
 
-    ghost answers = { λ m c. help_answers c.layout m };
+    ghost answers = { λ m c. help_answers c.layout c.pass m };
 
     ghost use Rattle.help.specs.HelpKept.{help_keeps};
     ghost use Rattle.help.specs.HelpMade.{help_made};

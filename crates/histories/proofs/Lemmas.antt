@@ -18,5 +18,4 @@ pub use Rattle.histories.proofs.Begins.{begins_kept, free_unset, owner_aborts, o
 pub use Rattle.histories.proofs.Shapes.{IsFirst, shaped_more}
 pub use Rattle.histories.proofs.Unmentioned.{IsMention, unmentioned_by_fill, unmentioned_by_others, unmentioned_by_step, unmentioned_start, unmentioned_unnamed}
 pub use Rattle.histories.proofs.Taking.{finished_taken, named_scx_taken, planned_taken, untaken_by_node, untaken_by_other_fill, untaken_by_others, untaken_by_step}
-pub use Rattle.histories.proofs.Helds.{or_right, or_split}
-pub use Rattle.histories.proofs.Mentions.{some_open}
+pub use Rattle.histories.proofs.Openings.{opening_field, some_open, value_start}

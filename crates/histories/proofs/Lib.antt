@@ -17,14 +17,7 @@ mod Owners
 mod Unnamed
 mod Begins
 mod Shapes
-mod Examples
+mod Openings
 mod Unmentioned
 mod Taking
-mod Steps
-mod Helds
-mod Mentions
-mod Wins
-mod Flags
-mod Filled
-mod Judged
 pub mod Lemmas

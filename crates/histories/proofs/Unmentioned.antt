@@ -20,8 +20,7 @@ use Rattle.arena.proofs.SameWords.{word_same}
 use Rattle.arena.proofs.Values.{value_at, value_quiet, value_apart, value_other, held_at, held_now, held_split, held_back, held_start, opening_scx, node_word_apart, scx_word_apart}
 use Rattle.histories.specs.Unmentioned.{IsUnmentioned}
 use Rattle.histories.proofs.Changes.{Change, nothing, fills_node, fills_scx, freezes, sets_frozen, marks, updates, commits, aborts, change, lawful_row}
-use Rattle.histories.proofs.Mentions.{opening_field, some_open}
-use Rattle.histories.proofs.Steps.{value_start}
+use Rattle.histories.proofs.Openings.{opening_field, some_open, value_start}
 use Rattle.histories.proofs.Unnamed.{field_back, word_back}
 
 -- such a node of a share is not named

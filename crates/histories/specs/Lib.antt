@@ -1,6 +1,3 @@
-pub mod Past
-pub mod Tests
-pub mod Names
 pub mod Descriptor
 pub mod Progress
 pub mod Begins

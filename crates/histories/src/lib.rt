@@ -1,18 +1,6 @@
-//! Lawful histories: what is known of them, and a judge that says whether a run is one.
+//! Lawful histories, and what is known of them.
 #![tactic(auto)]
 
-mod beginning;
-mod exchanges;
-mod filling;
-mod judge;
 mod laws;
-mod loads;
-mod naming;
-mod records;
-mod words;
 
-pub use judge::first_unlawful;
 pub use laws::laws_hold;
-
-#[cfg(test)]
-mod tests;

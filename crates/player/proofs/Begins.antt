@@ -7,14 +7,13 @@ use Rattle.prims.specs.Cells.{allows_all}
 use Rattle.prims.proofs.LlxAnswers.{ready_at_start, cell_opened}
 use Rattle.prims.proofs.Shares.{all_over, all_idle}
 use Rattle.prims.proofs.Usable.{vlx_ready_first}
-use Rattle.prims.specs.Shares.{IsUsable}
 use Rattle.script.specs.Cells.{cells_of}
 use Rattle.script.specs.Update.{update_cells, update_finalize, update_field, update_value}
 use Rattle.arena.specs.declared.number.NodeNo.{NodeNo}
 use Rattle.arena.specs.declared.word.Side.{Side}
 use Rattle.player.specs.declared.kept.Found.{Found}
 use Rattle.player.specs.LawfulRun.{AreLinked}
-use Rattle.player.specs.Kept.{AllKept, IsFirstUnkept, kept_of}
+use Rattle.player.specs.Kept.{AllKept, IsFirstUnkept, IsUnspent, kept_of}
 use Rattle.player.proofs.Over.{taken_one, taken_none}
 use Rattle.player.proofs.Ends.{among_none, are_linked}
 use Rattle.player.proofs.Putting.{full_answer}
@@ -67,18 +66,18 @@ llx_few (VlxCommand cells) n then f = absurd f
 -- an LLX of a cell
 pub llx_starts : (v : View) (began : Option ℕ) (c : Client) (m : LlxRun) (then : Option Put) (command : Command) → IsSound v → v.layout.mode ≡ Records → Rests v c → IsUnbegun v began → m.at ≡ Start → m.node.0 ≤ 8 → command_of v c ≡ Some command → IsLlxOf command m.node.0 then → Starts v c (Llx m) then
 llx_starts v began c m then command sound mode r u start i is f = record {
-  works = record { stands = r.stands; newest = tt; command = command; is = is; run_of = (i, f); is_pass = r.stands.is_pass; start = v.past; since = ends_self v.past; begun = sym u.start; moments = λ j p. absurd (omega arith); room = tt; took = taken_none v c.pass.0 (no_hand c.share) u.start; won = u.won; late = λ turn e. none_late v.won turn c.begin u.won e };
+  works = record { stands = r.stands; newest = tt; command = command; is = is; run_of = (i, f); is_pass = r.stands.is_pass; start = v.past; since = ends_self v.past; begun = sym u.start; moments = λ j p. absurd (omega arith); alone = λ j p. absurd (omega arith); room = tt; took = taken_none v c.pass.0 (no_hand c.share) u.start; won = u.won; late = λ turn e. none_late v.won turn c.begin u.won e };
   none = r.none;
   ready = ready_at_start allows_all m (machine_call v c r.stands.is_pass v.past) v.past refl start (cell_opened v.layout v.past m.node.0 mode i) (all_idle v.layout v.past c.pass.0 c.share _ _ sound.lawful r.stands.share r.stands.over);
   few = let few = llx_few command m.node.0 then f in rw (u.steps, start) (omega arith);
 }
 
--- a VLX of usable snapshots
-pub vlx_starts : (v : View) (began : Option ℕ) (c : Client) (m : VlxRun (List Snap)) (cells : _) → IsSound v → Rests v c → IsUnbegun v began → m.asked ≡ 0 → 0 < length m.snaps → nodes_of m.snaps ≡ cells_of cells → ((i : ℕ) → i < length m.snaps → (moment : History) × (v.linked (snap_at m.snaps i).node.0 ≡ Some moment) × IsUsable v.layout c.pass.0 v.past (snap_at m.snaps i) moment) → command_of v c ≡ Some (VlxCommand cells) → vlx_left m.snaps m.asked ≡ length (cells_of cells) → Starts v c (Vlx m) None
+-- a VLX of unspent snapshots
+pub vlx_starts : (v : View) (began : Option ℕ) (c : Client) (m : VlxRun (List Snap)) (cells : _) → IsSound v → Rests v c → IsUnbegun v began → m.asked ≡ 0 → 0 < length m.snaps → nodes_of m.snaps ≡ cells_of cells → ((i : ℕ) → i < length m.snaps → (moment : History) × (v.linked (snap_at m.snaps i).node.0 ≡ Some moment) × IsUnspent v.layout c.pass.0 v.past (snap_at m.snaps i) moment) → command_of v c ≡ Some (VlxCommand cells) → vlx_left m.snaps m.asked ≡ length (cells_of cells) → Starts v c (Vlx m) None
 vlx_starts v began c m cells sound r u start some nodes l is left = record {
-  works = record { stands = r.stands; newest = tt; command = VlxCommand cells; is = is; run_of = nodes; is_pass = r.stands.is_pass; start = v.past; since = ends_self v.past; begun = sym u.start; moments = λ i p. let x = l i p in record { moment = x.0; found = x.2.found; source = x.1 }; room = tt; took = taken_none v c.pass.0 (no_hand c.share) u.start; won = u.won; late = λ turn e. none_late v.won turn c.begin u.won e };
+  works = record { stands = r.stands; newest = tt; command = VlxCommand cells; is = is; run_of = nodes; is_pass = r.stands.is_pass; start = v.past; since = ends_self v.past; begun = sym u.start; moments = λ i p. let x = l i p in record { moment = x.0; found = x.2.usable.found; source = x.1 }; alone = λ i p. let x = l i p in x.2.alone; room = tt; took = taken_none v c.pass.0 (no_hand c.share) u.start; won = u.won; late = λ turn e. none_late v.won turn c.begin u.won e };
   none = r.none;
-  ready = vlx_ready_first v.layout c.pass.0 c.number r.stands.is_pass v.past m.snaps m.asked start some (λ i p. let x = l i p in (x.0, x.2)) (all_over v.layout v.past c.pass.0 c.share _ _ r.stands.share r.stands.over);
+  ready = vlx_ready_first v.layout c.pass.0 c.number r.stands.is_pass v.past m.snaps m.asked start some (λ i p. let x = l i p in (x.0, x.2.usable)) (all_over v.layout v.past c.pass.0 c.share _ _ r.stands.share r.stands.over);
   few = omega (arith, u.steps, left);
 }
 
@@ -140,16 +139,16 @@ scx_can_put v began c update snaps finalize field x r u is kept nodes removed at
   others = λ n d. refl;
   since = rw u.start (ends_self v.past);
   unwon = u.won;
-  usable = λ i p. let y = l i p in (y.0, y.2);
+  unspent = λ i p. let y = l i p in (y.0, y.2);
   command = ScxCommand update;
   is = is;
-  moments = λ i p. let y = l i p in record { moment = y.0; found = y.2.found; source = y.1 };
+  moments = λ i p. let y = l i p in record { moment = y.0; found = y.2.usable.found; source = y.1 };
   took = taken_none v c.pass.0 (no_hand c.share) u.start;
   serves = λ m z. record { called = z.called; covers = z.covers ∙ nodes; finalizes = rw (sym removed) z.finalizes; node = z.node ∙ at.0; side = z.side ∙ at.1; value = z.value ∙ value };
   few = omega (arith, u.steps);
 }
   where
-    l : (i : ℕ) → i < length snaps → (moment : History) × (v.linked (snap_at snaps i).node.0 ≡ Some moment) × IsUsable v.layout c.pass.0 v.past (snap_at snaps i) moment
+    l : (i : ℕ) → i < length snaps → (moment : History) × (v.linked (snap_at snaps i).node.0 ≡ Some moment) × IsUnspent v.layout c.pass.0 v.past (snap_at snaps i) moment
     l = kept_linked v.layout c.pass.0 v.past v.linked c.kept snaps kept r.stands.kept
 
 -- each cell of what is kept has its snapshot

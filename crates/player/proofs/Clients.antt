@@ -72,6 +72,7 @@ works_so v c running old now then same w =
       since = w.since;
       begun = k.begun w.start v.start w.begun;
       moments = rw k.snaps w.moments;
+      alone = rw k.snaps w.alone;
       room = k.room v c.pass.0 w.room;
       took = rw k.hand w.took;
       won = k.won v c.pass.0 w.won;

@@ -5,16 +5,20 @@ use Rattle.std.specs.List.{Contains}
 use Rattle.arena.specs.declared.number.NodeNo.{NodeNo}
 use Rattle.arena.specs.declared.number.ScxNo.{ScxNo}
 use Rattle.arena.specs.Words.{state}
-use Rattle.arena.specs.History.{History, value}
+use Rattle.arena.specs.declared.step.Kind.{Kind}
+use Rattle.arena.specs.declared.step.Kind.TheVariants.{Freeze, LoadInfo}
+use Rattle.arena.specs.History.{History, value, EndsWith}
+use Rattle.arena.specs.Found.{HasFound}
+use Rattle.arena.proofs.Found.{found_wider}
+use Rattle.arena.proofs.Values.{ends_self}
 use Rattle.arena.specs.Blame.{WasInTheWay}
 use Rattle.arena.specs.Log.{log, is_final, has}
 use Rattle.histories.proofs.Lemmas.{aborted_never_won, committed_won, finished_taken}
-use Rattle.prims.specs.Moments.{IsMoment, IsAsFound}
+use Rattle.prims.specs.Moments.{IsMoment, IsAsFound, AreLeftAlone}
 use Rattle.prims.specs.Snaps.{IsAmong}
-use Rattle.prims.proofs.Alone.{over_begins, over_ends}
+use Rattle.prims.proofs.Alone.{alone_now, over_begins, over_ends}
 use Rattle.prims.proofs.Shares.{share_ends, all_idle}
 use Rattle.prims.proofs.Usable.{usable_now}
-use Rattle.prims.specs.Shares.{IsUsable}
 use Rattle.prims.specs.PutKnown.{put_answers}
 use Rattle.prims.specs.Snap.{snap_at}
 use Rattle.prims.specs.VlxKnown.{vlx_answers}
@@ -43,7 +47,7 @@ use Rattle.player.specs.declared.kept.Kept.{Kept}
 use Rattle.player.specs.declared.kept.Found.{Found}
 use Rattle.player.specs.declared.record.Answer.{Answer}
 use Rattle.player.specs.declared.record.Answer.TheVariants.{Snapshot, Finalized, Fail, Done, Lost, Same, Changed, Unlinked, Full}
-use Rattle.player.specs.Kept.{kept_of, node_of, found_of, parts, snap_of}
+use Rattle.player.specs.Kept.{IsUnspent, kept_of, node_of, found_of, parts, snap_of}
 use Rattle.player.specs.LawfulRun.{IsAnswerAfterStep, IsLastLook, HasRoom, AreLinked, IsRight, HasFailed, IsInTheWay, IsUnchanged, IsFirstChanged, IsEntered}
 use Rattle.player.specs.RunKnown.{answer_of}
 use Rattle.prims.specs.ScxKnown.{nodes_of}
@@ -131,16 +135,16 @@ entered_none (Full what left) None e d = tt
 entered_none answer (Some k) e d = cc
 
 -- one of the nodes was changed by another client
-blamed_is : (v : View) (c : Client) (command : Command) (snaps : List Snap) (nodes : List ℕ) (start : History) (is_pass : c.pass.0 < v.layout.passes) (node scx : ℕ) (IsSuch : History → Type 0) → nodes_of snaps ≡ nodes → HaveMoments v c.pass.0 command snaps → ((i : ℕ) → i < length snaps → (snap_at snaps i).node.0 ≡ node → (moment : History) × IsMoment v.layout v.past (snap_at snaps i) moment × IsSuch moment) → IsChanged (machine_call v c is_pass start) v.past snaps node scx → IsInTheWay v.layout c.pass.0 v.past nodes node scx IsSuch
-blamed_is v c command snaps nodes start is_pass node scx IsSuch e x f b =
+blamed_is : (kind : Kind) (v : View) (c : Client) (command : Command) (snaps : List Snap) (nodes : List ℕ) (start : History) → EndsWith start v.start → (is_pass : c.pass.0 < v.layout.passes) (node scx : ℕ) (IsSuch : History → Type 0) → nodes_of snaps ≡ nodes → HaveMoments v c.pass.0 command snaps → AreLeftAlone v.layout c.pass.0 start snaps → ((i : ℕ) → i < length snaps → (snap_at snaps i).node.0 ≡ node → (moment : History) × IsMoment v.layout v.past (snap_at snaps i) moment × IsSuch moment) → IsChanged kind (machine_call v c is_pass start) v.past snaps node scx → IsInTheWay v.layout c.pass.0 v.past v.start kind nodes node scx IsSuch
+blamed_is kind v c command snaps nodes start since is_pass node scx IsSuch e x alone f b =
     let y = f b.index b.within b.is in
     record {
       among = subst (λ (n : ℕ). Contains nodes n) b.is (subst (λ (l : List ℕ). Contains l (snap_at snaps b.index).node.0) e (contains_node snaps b.index b.within));
       moment = y.0;
       of_snapshot = y.2;
       way = subst (λ (n : ℕ). WasInTheWay v.past y.0 n scx) b.is (b.blamed.in_the_way y.0 y.1);
-      named = b.named;
-      others = b.blamed.others;
+      found = found_wider c.pass.0 v.past start v.start kind node scx since b.found;
+      others = b.blamed.others (alone b.index b.within);
     }
 
 -- where there is one node, each snapshot is of that
@@ -157,46 +161,46 @@ are_linked v c command snaps nodes e f n q =
     subst (λ (m : Option History). IsSome m) (sym (subst (λ (k : ℕ). v.linked k ≡ Some z.0) i.is z.1)) refl
 
 -- what the answer of an SCX says
-scx_outcome : (v : View) (c : Client) (command : Command) (m : PutRun) (then : Option Put) (a : ScxAnswer) (start : History) (is_pass : c.pass.0 < v.layout.passes) → IsScxOf command c.number m then → HaveMoments v c.pass.0 command m.scx.update.snaps → HasRoom v.layout c.pass.0 v.start → (a ≡ ScxDone → (turn : ℕ) × (v.won ≡ Some turn)) → (a ≢ ScxDone → v.won ≡ None) → put_answers m (machine_call v c is_pass start) v.past a → IsOutcome v c.pass.0 m.scx.update.snaps command (answer_of (ended.Scx a))
-scx_outcome v c (ScxOf update) m None ScxDone start is_pass x moments room done lost y = record {
+scx_outcome : (v : View) (c : Client) (command : Command) (m : PutRun) (then : Option Put) (a : ScxAnswer) (start : History) → EndsWith start v.start → (is_pass : c.pass.0 < v.layout.passes) → IsScxOf command c.number m then → HaveMoments v c.pass.0 command m.scx.update.snaps → AreLeftAlone v.layout c.pass.0 start m.scx.update.snaps → HasRoom v.layout c.pass.0 v.start → (a ≡ ScxDone → (turn : ℕ) × (v.won ≡ Some turn)) → (a ≢ ScxDone → v.won ≡ None) → put_answers m (machine_call v c is_pass start) v.past a → IsOutcome v c.pass.0 m.scx.update.snaps command (answer_of (ended.Scx a))
+scx_outcome v c (ScxOf update) m None ScxDone start since is_pass x moments alone room done lost y = record {
   answers = tt;
   right = room;
   entry = entered_some v.won (done refl).0 (done refl).1;
   drops = drop_nodes m.scx.update.snaps (update_cells update) v.linked x.covers;
 }
-scx_outcome v c (SetOf field value) m None ScxDone start is_pass x moments room done lost y = record {
+scx_outcome v c (SetOf field value) m None ScxDone start since is_pass x moments alone room done lost y = record {
   answers = tt;
   right = room;
   entry = entered_some v.won (done refl).0 (done refl).1;
   drops = drop_one m.scx.update.snaps field.0 v.linked x.covers;
 }
-scx_outcome v c (ScxOf update) m None (ScxLost node scx) start is_pass x moments room done lost y = record {
+scx_outcome v c (ScxOf update) m None (ScxLost node scx) start since is_pass x moments alone room done lost y = record {
   answers = tt;
   right = (
     are_linked v c (ScxOf update) m.scx.update.snaps (update_cells update) x.covers (λ i p. let z = moments i p in (z.moment, z.source)),
     room,
-    blamed_is v c (ScxOf update) m.scx.update.snaps (update_cells update) start is_pass node.0 scx.0 (λ moment. v.linked node.0 ≡ Some moment) x.covers moments
+    blamed_is Freeze v c (ScxOf update) m.scx.update.snaps (update_cells update) start since is_pass node.0 scx.0 (λ moment. v.linked node.0 ≡ Some moment) x.covers moments alone
         (λ i p e. let z = moments i p in (z.moment, z.found, subst (λ (n : ℕ). v.linked n ≡ Some z.moment) e z.source))
         (put_changed m (machine_call v c is_pass start) v.past node scx y),
   );
   entry = entered_none (Lost node scx) v.won (lost (λ e. cc)) (λ e. cc);
   drops = drop_nodes m.scx.update.snaps (update_cells update) v.linked x.covers;
 }
-scx_outcome v c (SetOf field value) m None (ScxLost node scx) start is_pass x moments room done lost y = record {
+scx_outcome v c (SetOf field value) m None (ScxLost node scx) start since is_pass x moments alone room done lost y = record {
   answers = tt;
   right = (
     room,
-    blamed_is v c (SetOf field value) m.scx.update.snaps (field.0 ∷ []) start is_pass node.0 scx.0 (λ moment. IsLastLook c.pass.0 v.past v.start moment field.0 × (is_final (log v.layout moment) field.0 ≡ false)) x.covers moments
+    blamed_is Freeze v c (SetOf field value) m.scx.update.snaps (field.0 ∷ []) start since is_pass node.0 scx.0 (λ moment. IsLastLook c.pass.0 v.past v.start moment field.0 × (is_final (log v.layout moment) field.0 ≡ false)) x.covers moments alone
         (λ i p e. let z = moments i p in (z.moment, z.found, subst (λ (n : ℕ). IsLastLook c.pass.0 v.past v.start z.moment n × (is_final (log v.layout z.moment) n ≡ false)) (only_node m.scx.update.snaps field.0 i x.covers p) (z.source, z.found.not_final)))
         (put_changed m (machine_call v c is_pass start) v.past node scx y),
   );
   entry = entered_none (Lost node scx) v.won (lost (λ e. cc)) (λ e. cc);
   drops = drop_one m.scx.update.snaps field.0 v.linked x.covers;
 }
-scx_outcome v c (ScxOf update) m (Some put) a start is_pass x moments room done lost y = absurd x
-scx_outcome v c (SetOf field value) m (Some put) a start is_pass x moments room done lost y = absurd x
-scx_outcome v c (LlxOf cell) m then a start is_pass x moments room done lost y = absurd x
-scx_outcome v c (VlxOf cells) m then a start is_pass x moments room done lost y = absurd x
+scx_outcome v c (ScxOf update) m (Some put) a start since is_pass x moments alone room done lost y = absurd x
+scx_outcome v c (SetOf field value) m (Some put) a start since is_pass x moments alone room done lost y = absurd x
+scx_outcome v c (LlxOf cell) m then a start since is_pass x moments alone room done lost y = absurd x
+scx_outcome v c (VlxOf cells) m then a start since is_pass x moments alone room done lost y = absurd x
 
 -- a client whose SCX has ended has taken what it had in hand, and drops its snapshots
 rests_scx : (v : View) (c : Client) (m : PutRun) (then : Option Put) (a : ScxAnswer) (linked : ℕ → Option History) → IsSound v → IsDropped m.scx.update.snaps v.linked linked → Answered v c (Scx m) then (ended.Scx a) → Stands (record v { linked = linked }) c (no_hand c.share)
@@ -221,7 +225,7 @@ rests_scx v c m then a linked sound drops x = record {
     other : (n : ℕ) (found : Found) → kept_of c.kept n ≡ Some found → IsAmong m.scx.update.snaps n → ⊥
     other n found e z = let none : kept_of c.kept n ≡ None = y.dropped n z in let some : kept_of c.kept n ≡ Some found = e in cc
 
-    kept : (n : ℕ) (found : Found) → kept_of c.kept n ≡ Some found → (moment : History) × (linked n ≡ Some moment) × IsUsable v.layout c.pass.0 v.past (snap_of n found) moment
+    kept : (n : ℕ) (found : Found) → kept_of c.kept n ≡ Some found → (moment : History) × (linked n ≡ Some moment) × IsUnspent v.layout c.pass.0 v.past (snap_of n found) moment
     kept n found e = let z = y.kept n found e in (z.0, drops.others n (other n found e) ∙ z.1, z.2)
 
     unkept : (n : ℕ) → n ≤ 8 → kept_of c.kept n ≡ None → v.linked n ≡ None → linked n ≡ None
@@ -256,7 +260,7 @@ ends_scx v c (Scx m) then a sound x =
     lost (ScxLost node scx) y d = x.works.won.no (aborted_never_won v.layout v.past m.scx.scx.0 sound.lawful (put_aborted m (machine_call v c x.works.is_pass x.works.start) v.past node scx y))
 
     o : IsOutcome v c.pass.0 m.scx.update.snaps x.works.command (answer_of (ended.Scx a))
-    o = scx_outcome v c x.works.command m then a x.works.start x.works.is_pass x.works.run_of x.works.moments x.works.room (done a x.answers) (lost a x.answers) x.answers
+    o = scx_outcome v c x.works.command m then a x.works.start x.works.begun x.works.is_pass x.works.run_of x.works.moments x.works.alone x.works.room (done a x.answers) (lost a x.answers) x.answers
 ends_scx v c (Llx m) then a sound x = absurd x.answers
 ends_scx v c (Vlx m) then a sound x = absurd x.answers
 
@@ -286,8 +290,8 @@ first_changed v c cells snaps node index e moments within is found =
         subst (λ (k : ℕ). (moment : History) × (v.linked k ≡ Some moment) × IsUnchanged v.layout v.start moment k) (sym (cell_is snaps i (omega (arith, within)))) (z.moment, z.source, record { same = w.last z.moment z.found; not_final = w.not_final })
 
 -- what the answer of a VLX says: it leaves the snapshots
-vlx_outcome : (v : View) (c : Client) (command : Command) (m : VlxRun (List Snap)) (then : Option Put) (a : VlxAnswer) → IsVlxOf command m.snaps then → HaveMoments v c.pass.0 command m.snaps → v.won ≡ None → (is_pass : c.pass.0 < v.layout.passes) → vlx_answers m.snaps (machine_call v c is_pass v.start) v.past a → IsOutcome v c.pass.0 [] command (answer_of (ended.Vlx a))
-vlx_outcome v c (VlxOf cells) m None VlxSame x moments won is_pass y = record {
+vlx_outcome : (v : View) (c : Client) (command : Command) (m : VlxRun (List Snap)) (then : Option Put) (a : VlxAnswer) → IsVlxOf command m.snaps then → HaveMoments v c.pass.0 command m.snaps → AreLeftAlone v.layout c.pass.0 v.start m.snaps → v.won ≡ None → (is_pass : c.pass.0 < v.layout.passes) → vlx_answers m.snaps (machine_call v c is_pass v.start) v.past a → IsOutcome v c.pass.0 [] command (answer_of (ended.Vlx a))
+vlx_outcome v c (VlxOf cells) m None VlxSame x moments alone won is_pass y = record {
   answers = tt;
   right = λ n q. same n (rw (sym x) at q);
   entry = entered_none Same v.won won (λ e. cc);
@@ -300,11 +304,11 @@ vlx_outcome v c (VlxOf cells) m None VlxSame x moments won is_pass y = record {
         let z = moments i.at i.within in
         let w = y.found i.at i.within in
         subst (λ (k : ℕ). (moment : History) × (v.linked k ≡ Some moment) × IsUnchanged v.layout v.start moment k) i.is (z.moment, z.source, record { same = w.last z.moment z.found; not_final = w.not_final })
-vlx_outcome v c (VlxOf cells) m None (VlxChanged node scx) x moments won is_pass y = record {
+vlx_outcome v c (VlxOf cells) m None (VlxChanged node scx) x moments alone won is_pass y = record {
   answers = tt;
   right = (
     are_linked v c (VlxOf cells) m.snaps (cells_of cells) x (λ i p. let z = moments i p in (z.moment, z.source)),
-    blamed_is v c (VlxOf cells) m.snaps (cells_of cells) v.start is_pass node.0 scx.0 (λ moment. v.linked node.0 ≡ Some moment) x moments
+    blamed_is LoadInfo v c (VlxOf cells) m.snaps (cells_of cells) v.start (ends_self v.start) is_pass node.0 scx.0 (λ moment. v.linked node.0 ≡ Some moment) x moments alone
         (λ i p e. let z = moments i p in (z.moment, z.found, subst (λ (n : ℕ). v.linked n ≡ Some z.moment) e z.source))
         (vlx_changed m.snaps (machine_call v c is_pass v.start) v.past node scx y),
     first_changed v c.pass.0 cells m.snaps node.0 y.index x moments y.within y.node y.before,
@@ -312,10 +316,10 @@ vlx_outcome v c (VlxOf cells) m None (VlxChanged node scx) x moments won is_pass
   entry = entered_none (Changed node scx) v.won won (λ e. cc);
   drops = record { gone = λ n z. absurd (among_none n z); others = λ n z. refl };
 }
-vlx_outcome v c (VlxOf cells) m (Some put) a x moments won is_pass y = absurd x
-vlx_outcome v c (LlxOf cell) m then a x moments won is_pass y = absurd x
-vlx_outcome v c (ScxOf update) m then a x moments won is_pass y = absurd x
-vlx_outcome v c (SetOf field value) m then a x moments won is_pass y = absurd x
+vlx_outcome v c (VlxOf cells) m (Some put) a x moments alone won is_pass y = absurd x
+vlx_outcome v c (LlxOf cell) m then a x moments alone won is_pass y = absurd x
+vlx_outcome v c (ScxOf update) m then a x moments alone won is_pass y = absurd x
+vlx_outcome v c (SetOf field value) m then a x moments alone won is_pass y = absurd x
 
 -- what is said of the snapshots as before leaves a client at rest
 rests_as : (v : View) (c : Client) (linked : ℕ → Option History) → IsDropped [] v.linked linked → Stands v c (no_hand c.share) → Stands (record v { linked = linked }) c (no_hand c.share)
@@ -333,7 +337,8 @@ rests_as v c linked drops x = record {
 ends_vlx : (v : View) (c : Client) (run : Run) (then : Option Put) (a : VlxAnswer) → Answered v c run then (ended.Vlx a) → Ends v c c (answer_of (ended.Vlx a))
 ends_vlx v c (Vlx m) then a x =
     let y = subst (λ (k : History). vlx_answers m.snaps (machine_call v c x.works.is_pass k) v.past a) x.works.begun x.answers in
-    let o = vlx_outcome v c x.works.command m then a x.works.run_of x.works.moments x.works.won x.works.is_pass y in
+    let alone = subst (λ (k : History). AreLeftAlone v.layout c.pass.0 k m.snaps) x.works.begun x.works.alone in
+    let o = vlx_outcome v c x.works.command m then a x.works.run_of x.works.moments alone x.works.won x.works.is_pass y in
     record {
       same = record { pass = refl; number = refl; next = refl };
       begin = refl;
@@ -361,9 +366,12 @@ answer_node v c m then (LlxSnapshot snap) x = x.answers.0.node
 answer_node v c m then (LlxFinalized node scx) x = x.answers.0
 answer_node v c m then (LlxFail node scx) x = x.answers.0
 
--- its snapshot may be used from now on
-pub snapshot_usable : (v : View) (c : Client) (m : LlxRun) (then : Option Put) (snap : Snap) → IsSound v → Answered v c (Llx m) then (ended.Llx (LlxSnapshot snap)) → IsUsable v.layout c.pass.0 v.past snap v.past
-snapshot_usable v c m then snap sound x = usable_now v.layout c.pass.0 v.past m.node.0 snap (all_idle v.layout v.past c.pass.0 c.share _ _ sound.lawful x.works.stands.share x.works.stands.over) x.answers.0
+-- its snapshot may be used from now on, and is unspent
+pub snapshot_unspent : (v : View) (c : Client) (m : LlxRun) (then : Option Put) (snap : Snap) → IsSound v → Answered v c (Llx m) then (ended.Llx (LlxSnapshot snap)) → IsUnspent v.layout c.pass.0 v.past snap v.past
+snapshot_unspent v c m then snap sound x = record {
+  usable = usable_now v.layout v.past m.node.0 snap x.answers.0;
+  alone = alone_now v.layout c.pass.0 v.past m.node.0 snap (all_idle v.layout v.past c.pass.0 c.share _ _ sound.lawful x.works.stands.share x.works.stands.over) x.answers.0;
+}
 
 -- what is said of its node then
 abbrev pub moment_then : LlxAnswer → History → Option History
@@ -378,7 +386,7 @@ rests_kept v c kept m then a linked sound x e said = record {
     is_pass = y.is_pass;
     number = y.number;
     place = y.place;
-    kept = kept_after c.kept kept a v.linked linked (moment_then a v.past) e small said v.layout c.pass.0 v.past y.kept (usable a x);
+    kept = kept_after c.kept kept a v.linked linked (moment_then a v.past) e small said v.layout c.pass.0 v.past y.kept (unspent a x);
     unkept = λ n i d. inr (unkept_after c.kept kept a v.linked linked (moment_then a v.past) e small said (λ n i d. ⊎_elim (λ z. absurd (among_none n z)) (λ z. z) (y.unkept n i d)) (none a) n i d);
     dropped = λ n z. absurd (among_none n z);
     share = y.share;
@@ -398,10 +406,10 @@ rests_kept v c kept m then a linked sound x e said = record {
     none (LlxFinalized node scx) d = refl
     none (LlxFail node scx) d = refl
 
-    usable : (a : LlxAnswer) → Answered v c (Llx m) then (ended.Llx a) → (found : Found) → found_of a ≡ Some found → (k : History) × (moment_then a v.past ≡ Some k) × IsUsable v.layout c.pass.0 v.past (snap_of (node_of a) found) k
-    usable (LlxSnapshot snap) z found d = let same : parts snap ≡ found = cc in (v.past, refl, subst (λ (f : Found). IsUsable v.layout c.pass.0 v.past (snap_of snap.node.0 f) v.past) same (snapshot_usable v c m then snap sound z))
-    usable (LlxFinalized node scx) z found d = cc
-    usable (LlxFail node scx) z found d = cc
+    unspent : (a : LlxAnswer) → Answered v c (Llx m) then (ended.Llx a) → (found : Found) → found_of a ≡ Some found → (k : History) × (moment_then a v.past ≡ Some k) × IsUnspent v.layout c.pass.0 v.past (snap_of (node_of a) found) k
+    unspent (LlxSnapshot snap) z found d = let same : parts snap ≡ found = cc in (v.past, refl, subst (λ (f : Found). IsUnspent v.layout c.pass.0 v.past (snap_of snap.node.0 f) v.past) same (snapshot_unspent v c m then snap sound z))
+    unspent (LlxFinalized node scx) z found d = cc
+    unspent (LlxFail node scx) z found d = cc
 
 -- a failed LLX failed since the call's begin
 failed_since : (v : View) (c : Client) (m : LlxRun) (then : Option Put) (node : NodeNo) (scx : ScxNo) → Answered v c (Llx m) then (ended.Llx (LlxFail node scx)) → HasFailed v.layout c.pass.0 v.past v.start m.node.0 node.0 scx.0
@@ -409,7 +417,7 @@ failed_since v c m then node scx x = record {
   is = x.answers.0;
   others = x.answers.1.others;
   way = subst (λ (k : History). WasInTheWay v.past k m.node.0 scx.0) x.works.begun x.answers.1.in_the_way;
-  named = x.answers.1.held;
+  found = subst (λ (k : History). HasFound c.pass.0 v.past k LoadInfo m.node.0 scx.0) x.works.begun x.answers.1.found;
   over = x.answers.1.over;
   not_final = subst (λ (k : History). is_final (log v.layout k) m.node.0 ≡ false) x.works.begun x.answers.1.not_final;
 }

@@ -12,7 +12,8 @@ use Rattle.arena.specs.Lawful.{Lawful, IsWin}
 use Rattle.arena.specs.Log.{Entry as Entered, log, has}
 use Rattle.arena.specs.Machines.{Call as MachineCall, IsRun, IsTold}
 use Rattle.std.proofs.lemmas.Bool.{or_left}
-use Rattle.histories.proofs.Lemmas.{UpdateWins, facts_before, or_right, or_split, update_is_first, update_win}
+use Rattle.arena.proofs.Bools.{or_right, or_split}
+use Rattle.histories.proofs.Lemmas.{UpdateWins, facts_before, update_is_first, update_win}
 use Rattle.prims.specs.Cells.{allows_all}
 use Rattle.prims.specs.PutKnown.{put_waits, put_ready}
 use Rattle.prims.specs.Snaps.{IsAmong}

@@ -4,7 +4,10 @@ use Rattle.std.proofs.Math.ListN.{set}
 use Rattle.arena.specs.declared.layout.Layout.{Layout}
 use Rattle.arena.specs.declared.word.Side.{Side}
 use Rattle.arena.specs.Share.{Left, HasNode as HasOwnNode, HasScx}
+use Rattle.arena.specs.declared.step.Kind.TheVariants.{LoadInfo}
 use Rattle.arena.specs.History.{History, EndsWith}
+use Rattle.arena.specs.Found.{IsLastStep}
+use Rattle.arena.proofs.Found.{last_now}
 use Rattle.arena.specs.Fills.{IsOwnNode, IsOwnScx, IsTakenNode, IsTakenScx}
 use Rattle.arena.specs.Lawful.{HasWon}
 use Rattle.arena.proofs.Values.{ends_self}
@@ -34,18 +37,17 @@ use Rattle.player.specs.declared.record.Answer.{Answer}
 use Rattle.player.specs.declared.record.Answer.TheVariants.{Snapshot, Finalized, Fail, Done, Lost, Same, Changed, Unlinked, Full}
 use Rattle.player.specs.declared.record.Resource.{Resource}
 use Rattle.player.specs.declared.record.Resource.TheVariants.{Nodes, Scx as ScxRecords}
-use Rattle.player.specs.Kept.{kept_of, node_of, found_of}
+use Rattle.player.specs.Kept.{IsUnspent, kept_of, node_of, found_of}
 use Rattle.player.specs.LawfulRun.{commands, IsLastLook, most_steps, IsEmpty}
 use Rattle.player.specs.View.{View, IsSound, IsLlxOf, IsPutOf, no_hand, Stands, Rests, Starts, Answered, Told, IsFull, CanPut, Puts, Begins}
-use Rattle.prims.specs.Idle.{no_row_behind}
 use Rattle.prims.specs.Begun.{taken_since}
 use Rattle.prims.proofs.UntakenNodes.{taken_node_since}
 use Rattle.prims.proofs.Shares.{left_own_node, left_own_scx, taken_share, free_unnamed, all_over}
 use Rattle.prims.proofs.Usable.{put_ready_first}
-use Rattle.prims.specs.Shares.{IsShare, IsUsable, taken}
+use Rattle.prims.specs.Shares.{IsShare, taken}
 use Rattle.player.proofs.Over.{taken_one}
 use Rattle.player.proofs.Snapshots.{has_snap, dropped, kept_without, unkept_without}
-use Rattle.player.proofs.Ends.{rests_kept, snapshot_usable, among_none, entered_none}
+use Rattle.player.proofs.Ends.{rests_kept, snapshot_unspent, among_none, entered_none}
 
 -- A full share
 
@@ -89,12 +91,12 @@ single_snap snap i p = rw (let e : i ≡ 0 = omega arith in e) refl
 pub can_put : (v : View) (old : Client) (kept : Kept) (m : LlxRun) (put : Put) (snap : Snap) → IsSound v → (x : Answered v old (Llx m) (Some put) (ended.Llx (LlxSnapshot snap))) → kept.found ≡ set old.kept.found (node_of (LlxSnapshot snap)) (found_of (LlxSnapshot snap)) → CanPut v (linked_now v x.works.command) (record old { kept = kept }) (snap ∷ []) [] (snap.node.0, put.side) put.value
 can_put v old kept m put snap sound x e = go x.works.command x.works.is x.works.run_of.1 x.few
   where
-    usable : IsUsable v.layout old.pass.0 v.past snap v.past
-    usable = snapshot_usable v old m (Some put) snap sound x
+    unspent : IsUnspent v.layout old.pass.0 v.past snap v.past
+    unspent = snapshot_unspent v old m (Some put) snap sound x
 
     -- its LLX has just loaded the info of the cell
     looked : IsLastLook old.pass.0 v.past v.start v.past snap.node.0
-    looked = let y = x.answers.1 in record { row = y.row; before = y.before; is = y.is; since = subst (λ (s : History). EndsWith y.before s) x.works.begun y.since; own = y.own; kind = y.kind; word = rw x.answers.0.node y.word; none_since = λ later k e f. absurd (no_row_behind v.past k later e f) }
+    looked = let y = x.answers.1 in record { row = y.row; before = y.before; is = y.is; since = subst (λ (s : History). EndsWith y.before s) x.works.begun y.since; last = subst (λ (h : History). IsLastStep old.pass.0 h LoadInfo snap.node.0 y.row y.before) (sym y.is) (last_now old.pass.0 y.before LoadInfo snap.node.0 y.row y.own y.kind (rw x.answers.0.node y.word)) }
 
     go : (command : Command) → slice_get (commands v.calls old.pass.0) v.answered ≡ Some command → IsLlxOf command m.node.0 (Some put) → v.steps + 40 ≤ most_steps command → CanPut v (linked_now v command) (record old { kept = kept }) (snap ∷ []) [] (snap.node.0, put.side) put.value
     go (SetOf field y) is f few = record {
@@ -102,10 +104,10 @@ can_put v old kept m put snap sound x e = go x.works.command x.works.is x.works.
       others = λ n d. rw (ne_eqb field.0 n (λ q. d record { at = 0; within = omega arith; is = x.answers.0.node ∙ f.0 ∙ q })) refl;
       since = subst (λ (s : History). EndsWith v.past s) x.works.begun x.works.since;
       unwon = x.works.won;
-      usable = λ i p. (v.past, rw (single_snap snap i p) usable);
+      unspent = λ i p. (v.past, rw (single_snap snap i p) unspent);
       command = SetOf field y;
       is = is;
-      moments = λ i p. record { moment = v.past; found = rw (single_snap snap i p) usable.found; source = rw (single_snap snap i p) looked };
+      moments = λ i p. record { moment = v.past; found = rw (single_snap snap i p) unspent.usable.found; source = rw (single_snap snap i p) looked };
       took = x.works.took;
       serves = λ k z. record {
         called = z.called;
@@ -186,6 +188,7 @@ put_starts v linked c snaps removed field x kept m sound can some_node some_scx 
     since = ends_self v.past;
     begun = can.since;
     moments = rw is can.moments;
+    alone = rw is (λ i p. let z = can.unspent i p in z.1.alone);
     took = rw (fresh, scx) record { nodes = can.took.nodes; scx_records = can.took.scx_records };
     room = record {
       node_number = c.share.next_node;
@@ -199,7 +202,7 @@ put_starts v linked c snaps removed field x kept m sound can some_node some_scx 
     late = λ turn e. let d = can.unwon in absurd (let z : v.won ≡ Some turn = e in cc);
   };
   none = can.rests.none;
-  ready = put_ready_first v.layout c.pass.0 c.number y.is_pass v.past m sound.lawful over (λ i p. rw is (let z = can.usable i (rw is at p) in z)) at start own
+  ready = put_ready_first v.layout c.pass.0 c.number y.is_pass v.past m sound.lawful over (λ i p. rw is (let z = can.unspent i (rw is at p) in (z.0, z.1.usable))) at start own
       (rw scx y.share.taken_scx) free
       (rw fresh (left_own_node v.layout v.past c.pass.0 c.share _ _ c.share.next_node y.share own_node))
       (rw fresh y.share.taken_nodes) (rw fresh (y.share.unmentioned c.share.next_node own_node)) (all_over v.layout v.past c.pass.0 c.share _ _ y.share y.over);

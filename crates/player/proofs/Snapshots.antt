@@ -3,18 +3,17 @@ use Rattle.std.proofs.Common.{◌≡◌, ◌≢◌, ℕ, zero, suc, ◌<◌, ◌
 use Rattle.std.proofs.Math.ListN.{set}
 use Rattle.std.specs.List.{list_any}
 use Rattle.std.proofs.lemmas.Bool.{or_left}
-use Rattle.histories.proofs.Lemmas.{or_right, or_split}
+use Rattle.arena.proofs.Bools.{or_right, or_split}
 use native.Mathlib.Decide.{ℕ_discrete}
 use Rattle.arena.specs.declared.layout.Layout.{Layout}
 use Rattle.arena.specs.History.{History}
 use Rattle.prims.specs.Snap.{snap_at}
-use Rattle.prims.specs.Shares.{IsUsable}
 use Rattle.prims.specs.Snaps.{IsAmong}
 use Rattle.prims.specs.declared.snap.Snap.{Snap}
 use Rattle.prims.specs.declared.llx.Llx.{Llx}
 use Rattle.player.specs.declared.kept.Found.{Found}
 use Rattle.player.specs.declared.kept.Kept.{Kept}
-use Rattle.player.specs.Kept.{AreKept, AllKept, IsFirstUnkept, kept_of, node_of, found_of, parts, snap_of}
+use Rattle.player.specs.Kept.{AreKept, AllKept, IsFirstUnkept, IsUnspent, kept_of, node_of, found_of, parts, snap_of}
 use Rattle.player.specs.LawfulRun.{IsFirstUnlinked}
 
 -- what is read after a write was written, or stood there before
@@ -52,13 +51,13 @@ module _ (old new : Kept) (llx : Llx) (linked linked_after : ℕ → Option Hist
       go (yes q) = inl record { is = q; kept = read n ∙ rw q (read_there old.found (node_of llx) (found_of llx) (omega (arith, old.nine, small))); says = said n ∙ rw (eq-eqb (node_of llx) n (sym q)) refl }
       go (no d) = inr record { kept = read n ∙ read_other old.found (node_of llx) n (found_of llx) d; says = said n ∙ rw (ne_eqb (node_of llx) n (λ q. d (sym q))) refl }
 
-  pub kept_after : (lay : Layout) (c : ℕ) (h : History) → AreKept lay c h linked old → ((found : Found) → found_of llx ≡ Some found → (k : History) × (moment ≡ Some k) × IsUsable lay c h (snap_of (node_of llx) found) k) → AreKept lay c h linked_after new
-  kept_after lay c h kept usable n found is = ⊎_elim cell other (kept_then n)
+  pub kept_after : (lay : Layout) (c : ℕ) (h : History) → AreKept lay c h linked old → ((found : Found) → found_of llx ≡ Some found → (k : History) × (moment ≡ Some k) × IsUnspent lay c h (snap_of (node_of llx) found) k) → AreKept lay c h linked_after new
+  kept_after lay c h kept unspent n found is = ⊎_elim cell other (kept_then n)
     where
-      cell : IsCell n → (k : History) × (linked_after n ≡ Some k) × IsUsable lay c h (snap_of n found) k
-      cell x = let y = usable found (sym x.kept ∙ is) in (y.0, x.says ∙ y.1, subst (λ (m : ℕ). IsUsable lay c h (snap_of m found) y.0) (sym x.is) y.2)
+      cell : IsCell n → (k : History) × (linked_after n ≡ Some k) × IsUnspent lay c h (snap_of n found) k
+      cell x = let y = unspent found (sym x.kept ∙ is) in (y.0, x.says ∙ y.1, subst (λ (m : ℕ). IsUnspent lay c h (snap_of m found) y.0) (sym x.is) y.2)
 
-      other : IsOther n → (k : History) × (linked_after n ≡ Some k) × IsUsable lay c h (snap_of n found) k
+      other : IsOther n → (k : History) × (linked_after n ≡ Some k) × IsUnspent lay c h (snap_of n found) k
       other x = let y = kept n found (sym x.kept ∙ is) in (y.0, x.says ∙ y.1, y.2)
 
   pub unkept_after : ((n : ℕ) → n ≤ 8 → kept_of old n ≡ None → linked n ≡ None) → (found_of llx ≡ None → moment ≡ None) → (n : ℕ) → n ≤ 8 → kept_of new n ≡ None → linked_after n ≡ None
@@ -96,8 +95,8 @@ module _ (old new : Kept) (snaps : List Snap) (left : (n : ℕ) → kept_of new 
   pub unkept_without : (linked linked_after : ℕ → Option History) → ((n : ℕ) → (IsAmong snaps n → ⊥) → linked n ≡ linked_after n) → ((n : ℕ) → n ≤ 8 → kept_of old n ≡ None → linked n ≡ None) → (n : ℕ) → n ≤ 8 → kept_of new n ≡ None → IsAmong snaps n ⊎ (linked_after n ≡ None)
   unkept_without linked linked_after same unkept n i is = ⊎_elim (λ x. inl x.0) (λ x. inr (sym (same n x.0) ∙ unkept n i (sym x.1 ∙ is))) (kept_or_dropped n)
 
--- kept snapshots may be used, and their moments are said
-pub kept_linked : (lay : Layout) (c : ℕ) (h : History) (linked : ℕ → Option History) (kept : Kept) (snaps : List Snap) → AllKept kept snaps → AreKept lay c h linked kept → (i : ℕ) → i < length snaps → (moment : History) × (linked (snap_at snaps i).node.0 ≡ Some moment) × IsUsable lay c h (snap_at snaps i) moment
+-- kept snapshots are unspent, and their moments are said
+pub kept_linked : (lay : Layout) (c : ℕ) (h : History) (linked : ℕ → Option History) (kept : Kept) (snaps : List Snap) → AllKept kept snaps → AreKept lay c h linked kept → (i : ℕ) → i < length snaps → (moment : History) × (linked (snap_at snaps i).node.0 ≡ Some moment) × IsUnspent lay c h (snap_at snaps i) moment
 kept_linked lay c h linked kept snaps those x i below = x (snap_at snaps i).node.0 (parts (snap_at snaps i)) (those i below)
 
 -- the first cell of which nothing is kept is the first of which no snapshot is said

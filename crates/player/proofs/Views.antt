@@ -7,14 +7,16 @@ use Rattle.arena.specs.Share.{Left}
 use Rattle.arena.specs.Words.{deed_after}
 use Rattle.arena.specs.History.{History, ◌⊳◌, value, EndsWith}
 use Rattle.arena.specs.Blame.{IsMember, IsInProgress}
+use Rattle.arena.proofs.Found.{last_more}
 use Rattle.arena.specs.Fills.{IsOwnNode, IsOwnScx, IsTakenNode, IsTakenScx}
 use Rattle.arena.specs.Lawful.{Lawful, HasWon}
 use Rattle.arena.specs.Machines.{Call, IsTold, row_of}
+use Rattle.arena.proofs.Values.{ends_self}
 use Rattle.histories.proofs.Lemmas.{Logs, UpdateWins, facts_before, logs, same as log_same, update_split, update_won, wins as log_wins, won_more}
 use Rattle.prims.specs.Cells.{allows_all}
 use Rattle.prims.specs.Moments.{AreOver}
 use Rattle.prims.specs.Begun.{TakesOnly, takes_by_others}
-use Rattle.prims.proofs.Alone.{moment_more, over_more}
+use Rattle.prims.proofs.Alone.{alone_more, moment_more, over_more}
 use Rattle.prims.specs.Snaps.{IsAmong}
 use Rattle.prims.specs.Snap.{snap_at}
 use Rattle.prims.specs.declared.snap.Snap.{Snap}
@@ -26,13 +28,13 @@ use Rattle.player.specs.declared.client.Client.{Client}
 use Rattle.player.specs.declared.client.Running.{Running}
 use Rattle.player.specs.declared.client.Put.{Put}
 use Rattle.player.specs.declared.kept.Found.{Found}
-use Rattle.player.specs.Kept.{kept_of, snap_of}
+use Rattle.player.specs.Kept.{IsUnspent, kept_of, snap_of}
 use Rattle.player.specs.LawfulRun.{HasRoom}
 use Rattle.player.specs.RunKnown.{run_waits, run_ready, run_keeps, run_lawful, run_made}
 use Rattle.player.specs.View.{View, Hand, no_hand, in_hand, snaps_of, IsSound, HasNewest, IsStart, IsSource, IsRunOf, HasTaken, HaveMoments, IsRoomy, IsWonAs, IsWonBy, Stands, Rests, Works, Waits, Hears, IsClient, machine_call}
 use Rattle.prims.proofs.PutEntries.{put_covers, put_covers_then}
 use Rattle.prims.proofs.Shares.{share_by_others, share_by_step, share_by_put, own_in_hand, next_idle, wins_in_progress}
-use Rattle.prims.proofs.Usable.{usable_more}
+use Rattle.prims.proofs.Usable.{usable_since}
 use Rattle.prims.specs.Shares.{IsShare}
 use Rattle.player.proofs.Over.{takes_by_own, nodes_by_own}
 use Rattle.prims.proofs.FillsNot.{llx_fills_not, vlx_fills_not}
@@ -85,13 +87,17 @@ covers_ready (Scx m) call h v left l w share = λ n own p x. put_covers_then all
 
 -- One more row
 
+-- at which no SCX-record of the client in progress covers its node, a snapshot stays unspent
+unspent_more : (lay : Layout) (c : ℕ) (h : History) (r : Row) (snap : Snap) (moment : History) → Lawful lay (r ⊳ h) → ((s : ℕ) → IsOwnScx lay c s → IsInProgress (r ⊳ h) s → ¬ IsMember (r ⊳ h) s snap.node.0) → IsUnspent lay c h snap moment → IsUnspent lay c (r ⊳ h) snap moment
+unspent_more lay c h r snap moment l none x = record { usable = usable_since lay (r ⊳ h) h snap moment l (inr (ends_self h)) x.usable; alone = alone_more lay c h r snap none x.alone }
+
 -- it leaves what a client has, if it leaves its share and what it has taken, and what it has in hand covers its snapshots
 stands_more : (v : View) (c : Client) (r : Row) (start : History) (steps : ℕ) (won : Option ℕ) (hand : Hand) → IsSound (after_row v r start steps won) → IsShare v.layout (r ⊳ v.past) c.pass.0 c.share hand.node hand.scx → AreOver v.layout c.pass.0 hand.scx (r ⊳ v.past) → Covers v.layout (r ⊳ v.past) c.pass.0 hand → Stands v c hand → Stands (after_row v r start steps won) c hand
 stands_more v c r start steps won hand run share over covers x = record {
   is_pass = x.is_pass;
   number = x.number;
   place = x.place;
-  kept = λ n found e. let y = x.kept n found e in (y.0, y.1, usable_more v.layout c.pass.0 v.past r (snap_of n found) y.0 run.lawful (alone n found e) y.2);
+  kept = λ n found e. let y = x.kept n found e in (y.0, y.1, unspent_more v.layout c.pass.0 v.past r (snap_of n found) y.0 run.lawful (alone n found e) y.2);
   unkept = x.unkept;
   dropped = x.dropped;
   share = share;
@@ -162,14 +168,7 @@ module _ (v : View) (c : Client) (r : Row) (number : ℕ) (start : History) (ste
       record { moment = y.moment; found = moment_more v.layout v.past r (snap_at snaps i) y.moment y.found; source = source_more command (snap_at snaps i).node.0 y.moment y.source }
     where
       source_more : (command : Command) (n : ℕ) (moment : History) → IsSource v c.pass.0 command n moment → IsSource (after_row v r start steps won) c.pass.0 command n moment
-      source_more (SetOf field x) n moment y = record { row = y.row; before = y.before; is = y.is; since = subst (λ (k : History). EndsWith y.before k) (sym since) y.since; own = y.own; kind = y.kind; word = y.word; none_since = none }
-        where
-          row_of_more : (a b : Row) (h k : History) → a ⊳ h ≡ b ⊳ k → a ≡ b
-          row_of_more a b h k e = cc
-
-          none : (later : Row) (k : History) → EndsWith (r ⊳ v.past) (later ⊳ k) → EndsWith k moment → later.pass.0 ≡ c.pass.0 → later.kind ≢ LoadInfo
-          none later k (inl e) f = rw (row_of_more later r k v.past e) looks
-          none later k (inr e) f = y.none_since later k e f
+      source_more (SetOf field x) n moment y = record { row = y.row; before = y.before; is = y.is; since = subst (λ (k : History). EndsWith y.before k) (sym since) y.since; last = last_more c.pass.0 v.past LoadInfo n r y.row y.before looks y.last }
       source_more (ScxOf update) n moment y = y
       source_more (VlxOf cells) n moment y = y
       source_more (LlxOf cell) n moment y = y
@@ -207,6 +206,7 @@ module _ (v : View) (c : Client) (r : Row) (number : ℕ) (start : History) (ste
     since = inr x.since;
     begun = subst (λ (k : History). IsStart q x.start k) (sym same) x.begun;
     moments = moments_by q then x.command same looks x.run_of x.moments;
+    alone = x.alone;
     room = roomy q same x.room;
     took = took q takes nodes same x.took;
     won = won_more_by q x.stands x.won;

@@ -2,6 +2,7 @@
 use Rattle.std.specs.Prelude.{◌≡◌, ℕ, ◌<◌, ◌≤◌, List, length, get_or, Option, Some, None, IsSome, slice_get}
 use Rattle.arena.specs.declared.layout.Layout.{Layout}
 use Rattle.arena.specs.History.{History}
+use Rattle.prims.specs.Moments.{IsLeftAlone}
 use Rattle.prims.specs.Shares.{IsUsable}
 use Rattle.prims.specs.Snap.{snap_at}
 use Rattle.prims.specs.declared.snap.Snap.{Snap}
@@ -22,9 +23,14 @@ snap_of n found = record { node = record { 0 = n }; scx = found.scx; left = foun
 abbrev pub parts : Snap → Found
 parts snap = record { scx = snap.scx; left = snap.left; right = snap.right }
 
--- all that is kept may be used, and is of the moment that is said of its node
+-- a snapshot of this moment that the client may use, and over whose node it has made no SCX since
+pub record IsUnspent (lay : Layout) (c : ℕ) (h : History) (snap : Snap) (moment : History) : Type 0 where
+  pub usable : IsUsable lay h snap moment
+  pub alone : IsLeftAlone lay c h snap
+
+-- all that is kept is unspent, and is of the moment that is said of its node
 abbrev pub AreKept : Layout → ℕ → History → (ℕ → Option History) → Kept → Type 0
-AreKept lay c h linked kept = (n : ℕ) (found : Found) → kept_of kept n ≡ Some found → (moment : History) × (linked n ≡ Some moment) × IsUsable lay c h (snap_of n found) moment
+AreKept lay c h linked kept = (n : ℕ) (found : Found) → kept_of kept n ≡ Some found → (moment : History) × (linked n ≡ Some moment) × IsUnspent lay c h (snap_of n found) moment
 
 -- the node of an LLX
 abbrev pub node_of : Llx → ℕ

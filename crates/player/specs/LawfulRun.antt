@@ -7,15 +7,16 @@ use Rattle.arena.specs.declared.word.Side.{Side}
 use Rattle.arena.specs.declared.word.Side.TheVariants.{Left, Right}
 use Rattle.arena.specs.declared.step.Row.{Row as StepRow}
 use Rattle.arena.specs.declared.step.Kind.{Kind}
-use Rattle.arena.specs.declared.step.Kind.TheVariants.{Fill, LoadInfo}
+use Rattle.arena.specs.declared.step.Kind.TheVariants.{Fill, Freeze, LoadInfo}
 use Rattle.arena.specs.declared.word.NodeWord.{NodeWord}
 use Rattle.arena.specs.declared.word.NodeWord.TheVariants.{Value}
-use Rattle.arena.specs.Words.{node, info, state, child}
-use Rattle.arena.specs.History.{History, ◌⊳◌, value, HasHeld, EndsWith}
+use Rattle.arena.specs.Words.{node, state, child}
+use Rattle.arena.specs.History.{History, ◌⊳◌, value, EndsWith}
 use Rattle.arena.specs.Lawful.{Lawful, IsLawful, IsWin}
 use Rattle.arena.specs.Finalized.{IsFinalized}
 use Rattle.arena.specs.Fills.{IsOwnNode, IsOwnScx, IsOthersScx, IsTakenNode, IsTakenScx}
 use Rattle.arena.specs.Blame.{WasInTheWay}
+use Rattle.arena.specs.Found.{IsLastStep, HasFound}
 use Rattle.arena.specs.Log.{Entry as Entered, log, fields, last, is_final, has, AreOnce}
 use Rattle.histories.specs.Laws.{SpellFields, StaysFinalized}
 use Rattle.script.specs.Cells.{cells_of}
@@ -119,12 +120,12 @@ pub record IsSnapshotAt (lay : Layout) (now : History) (n left right : ℕ) : Ty
   pub right_is : right ≡ fields lay now n Right
   pub not_final : is_final (log lay now) n ≡ false
 
--- what a failed LLX of the node says: at some step of the call an SCX-record of another client that covers the node was in progress, and the node was not final at the call's begin; the node's info has named that SCX-record, and it is finished now
+-- what a failed LLX of the node says: at some step of the call an SCX-record of another client that covers the node was in progress, and the node was not final at the call's begin; it is the one that the call's last look at the node's info has found, and is finished now
 pub record HasFailed (lay : Layout) (c : ℕ) (now start : History) (n node scx : ℕ) : Type 0 where
   pub is : node ≡ n
   pub others : IsOthersScx lay c scx
   pub way : WasInTheWay now start n scx
-  pub named : HasHeld now (info n) scx
+  pub found : HasFound c now start LoadInfo n scx
   pub over : value now (state scx) ≢ 0
   pub not_final : is_final (log lay start) n ≡ false
 
@@ -137,13 +138,13 @@ pub record IsUnchanged (lay : Layout) (at moment : History) (n : ℕ) : Type 0 w
 abbrev pub AreUnchanged : Layout → History → (ℕ → Option History) → List ℕ → Type 0
 AreUnchanged lay at linked cells = (n : ℕ) → Contains cells n → (moment : History) × (linked n ≡ Some moment) × IsUnchanged lay at moment n
 
--- an SCX-record of another client that covers one of the cells, and that the cell's info has named, was in progress at some step behind the moment of that cell's snapshot
-pub record IsInTheWay (lay : Layout) (c : ℕ) (now : History) (cells : List ℕ) (node scx : ℕ) (IsMoment : History → Type 0) : Type 0 where
+-- an SCX-record of another client that covers one of the cells, and that the last step of this kind in the call has found in the cell's info, was in progress at some step behind the moment of that cell's snapshot
+pub record IsInTheWay (lay : Layout) (c : ℕ) (now start : History) (kind : Kind) (cells : List ℕ) (node scx : ℕ) (IsMoment : History → Type 0) : Type 0 where
   pub among : Contains cells node
   pub moment : History
   pub of_snapshot : IsMoment moment
   pub way : WasInTheWay now moment node scx
-  pub named : HasHeld now (info node) scx
+  pub found : HasFound c now start kind node scx
   pub others : IsOthersScx lay c scx
 
 -- the cells before this one are as the snapshots that the client keeps of them found them
@@ -158,10 +159,7 @@ pub record IsLastLook (c : ℕ) (now start moment : History) (n : ℕ) : Type 0 
   pub before : History
   pub is : moment ≡ row ⊳ before
   pub since : EndsWith before start
-  pub own : row.pass.0 ≡ c
-  pub kind : row.kind ≡ LoadInfo
-  pub word : row.word ≡ info n
-  pub none_since : (later : StepRow) (k : History) → EndsWith now (later ⊳ k) → EndsWith k moment → later.pass.0 ≡ c → later.kind ≢ LoadInfo
+  pub last : IsLastStep c now LoadInfo n row before
 
 -- the first of the cells of which the client keeps no snapshot
 pub record IsFirstUnlinked (linked : ℕ → Option History) (cells : List ℕ) (node : ℕ) : Type 0 where
@@ -203,15 +201,15 @@ IsRight lay c now start linked (Llx cell) (Fail node scx) = HasFailed lay c now 
 IsRight lay c now start linked (Set field value) Finalized = is_final (log lay now) field.0 ≡ true
 IsRight lay c now start linked (Set field value) (Fail node scx) = HasFailed lay c now start field.0 node.0 scx.0
 IsRight lay c now start linked (Set field value) (Full what left) = IsEmpty lay c now what left × (is_final (log lay now) field.0 ≡ false)
-IsRight lay c now start linked (Set field value) (Lost node scx) = HasRoom lay c start × IsInTheWay lay c now (field.0 ∷ []) node.0 scx.0 (λ moment. IsLastLook c now start moment field.0 × (is_final (log lay moment) field.0 ≡ false))
+IsRight lay c now start linked (Set field value) (Lost node scx) = HasRoom lay c start × IsInTheWay lay c now start Freeze (field.0 ∷ []) node.0 scx.0 (λ moment. IsLastLook c now start moment field.0 × (is_final (log lay moment) field.0 ≡ false))
 IsRight lay c now start linked (Set field value) Done = HasRoom lay c start
 IsRight lay c now start linked (Scx update) (Unlinked node) = IsFirstUnlinked linked (update_cells update) node.0
 IsRight lay c now start linked (Scx update) (Full what left) = AreLinked linked (update_cells update) × IsEmpty lay c now what left
-IsRight lay c now start linked (Scx update) (Lost node scx) = AreLinked linked (update_cells update) × HasRoom lay c start × IsInTheWay lay c now (update_cells update) node.0 scx.0 (λ moment. linked node.0 ≡ Some moment)
+IsRight lay c now start linked (Scx update) (Lost node scx) = AreLinked linked (update_cells update) × HasRoom lay c start × IsInTheWay lay c now start Freeze (update_cells update) node.0 scx.0 (λ moment. linked node.0 ≡ Some moment)
 IsRight lay c now start linked (Scx update) Done = HasRoom lay c start
 IsRight lay c now start linked (Vlx cells) (Unlinked node) = IsFirstUnlinked linked (cells_of cells) node.0
 IsRight lay c now start linked (Vlx cells) Same = AreUnchanged lay start linked (cells_of cells)
-IsRight lay c now start linked (Vlx cells) (Changed node scx) = AreLinked linked (cells_of cells) × IsInTheWay lay c now (cells_of cells) node.0 scx.0 (λ moment. linked node.0 ≡ Some moment) × IsFirstChanged lay start linked (cells_of cells) node.0
+IsRight lay c now start linked (Vlx cells) (Changed node scx) = AreLinked linked (cells_of cells) × IsInTheWay lay c now start LoadInfo (cells_of cells) node.0 scx.0 (λ moment. linked node.0 ≡ Some moment) × IsFirstChanged lay start linked (cells_of cells) node.0
 IsRight lay c now start linked _ _ = ⊥
 
 -- it was entered if it was done, and only then

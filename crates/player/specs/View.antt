@@ -10,9 +10,9 @@ use Rattle.arena.specs.Lawful.{HasWon}
 use Rattle.arena.specs.Fills.{IsOwnNode, IsOwnScx, IsTakenNode}
 use Rattle.arena.specs.Machines.{Call as MachineCall, IsRun}
 use Rattle.prims.specs.Cells.{allows_all}
-use Rattle.prims.specs.Moments.{IsMoment, AreOver, HasTakenOnly}
+use Rattle.prims.specs.Moments.{IsMoment, AreLeftAlone, AreOver, HasTakenOnly}
 use Rattle.prims.specs.ScxKnown.{nodes_of}
-use Rattle.prims.specs.Shares.{IsShare, IsUsable}
+use Rattle.prims.specs.Shares.{IsShare}
 use Rattle.prims.specs.Snap.{snap_at}
 use Rattle.prims.specs.Snaps.{IsAmong}
 use Rattle.prims.specs.Updates.{field_place}
@@ -37,7 +37,7 @@ use Rattle.player.specs.declared.client.Standing.TheVariants.{Finished, Answers,
 use Rattle.player.specs.declared.run.Ended.{Ended}
 use Rattle.player.specs.RunKnown.{run_ready, run_waits, run_answers}
 use Rattle.player.specs.RunSteps.{then_left, left_of}
-use Rattle.player.specs.Kept.{AreKept, kept_of}
+use Rattle.player.specs.Kept.{AreKept, IsUnspent, kept_of}
 use Rattle.player.specs.Place.{IsAt}
 use Rattle.player.specs.Turns.{history, answered, start, steps, won}
 use Rattle.player.specs.LawfulRun.{commands, linked, linked_then, most_steps, IsAnswerAtOnce, IsAnswerAfterStep, IsLastLook, HasRoom, HasTakenOne, IsRight, IsEntered}
@@ -178,7 +178,7 @@ abbrev pub IsRoomy : View → ℕ → Run → Type 0
 IsRoomy v c (Scx m) = HasRoom v.layout c v.start
 IsRoomy v c _ = Unit {0}
 
--- a machine runs for its next call
+-- a machine runs for its next call, over snapshots that the client had left alone as the machine started
 pub record Works (v : View) (c : Client) (run : Run) (then : Option Put) : Type 0 where
   pub stands : Stands v c (in_hand c.share run)
   pub newest : HasNewest c.share run
@@ -190,6 +190,7 @@ pub record Works (v : View) (c : Client) (run : Run) (then : Option Put) : Type 
   pub since : EndsWith v.past start
   pub begun : IsStart run start v.start
   pub moments : HaveMoments v c.pass.0 command (snaps_of run)
+  pub alone : AreLeftAlone v.layout c.pass.0 start (snaps_of run)
   pub room : IsRoomy v c.pass.0 run
   pub took : HasTaken v c.pass.0 (in_hand c.share run)
   pub won : IsWonBy v c.pass.0 run
@@ -290,13 +291,13 @@ Stood v turn old new (Asks step) = IsSameCall old new × (r : Running) × (new.r
 
 -- A call begins
 
--- what an SCX has to be given: usable snapshots; the command is one that such an SCX serves, and may make as many steps more. The lines will say `linked` of the snapshots if the SCX is refused
+-- what an SCX has to be given: unspent snapshots; the command is one that such an SCX serves, and may make as many steps more. The lines will say `linked` of the snapshots if the SCX is refused
 pub record CanPut (v : View) (linked : ℕ → Option History) (c : Client) (snaps : List Snap) (removed : List ℕ) (field : ℕ × Side) (x : ℕ) : Type 0 where
   pub rests : Rests (record v { linked = linked }) c
   pub others : (n : ℕ) → (IsAmong snaps n → ⊥) → linked n ≡ v.linked n
   pub since : EndsWith v.past v.start
   pub unwon : v.won ≡ None
-  pub usable : (i : ℕ) → i < length snaps → (moment : History) × IsUsable v.layout c.pass.0 v.past (snap_at snaps i) moment
+  pub unspent : (i : ℕ) → i < length snaps → (moment : History) × IsUnspent v.layout c.pass.0 v.past (snap_at snaps i) moment
   pub command : Command
   pub is : command_of v c ≡ Some command
   pub moments : HaveMoments v c.pass.0 command snaps

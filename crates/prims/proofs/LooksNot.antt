@@ -6,9 +6,7 @@ use Rattle.arena.specs.declared.step.Kind.{Kind}
 use Rattle.arena.specs.declared.step.Kind.TheVariants.{Fill, LoadInfo}
 use Rattle.arena.specs.History.{History}
 use Rattle.arena.specs.Machines.{Call}
-use Rattle.help.specs.HelpKnown.{help_step}
-use Rattle.help.specs.declared.state.HelpAt.{HelpAt}
-use Rattle.help.specs.declared.state.HelpAt.TheVariants.{Start as HelpStart, Plan as HelpPlan, Member as HelpMember, Seen as HelpSeen, Freeze as HelpFreeze, AllFrozen as HelpAllFrozen, Abort as HelpAbort, SetFrozen as HelpSetFrozen, Mark as HelpMark, New as HelpNew, Old as HelpOld, Update as HelpUpdate, Commit as HelpCommit}
+use Rattle.help.specs.HelpLawful.{help_looks_not}
 use Rattle.prims.specs.ScxKnown.{Job, job_of, FillWaits, scx_waits_at}
 use Rattle.prims.specs.PutKnown.{put_waits_at, put_waits}
 use Rattle.prims.specs.declared.scx.ScxAt.{ScxAt}
@@ -23,22 +21,6 @@ other_kind s k e d = rw e d
 
 kind_of : (s t : Step) → s ≡ t → s.kind ≡ t.kind
 kind_of s t e = ap (λ (x : Step). x.kind) e
-
--- HELP looks at none
-help_looks_not : (h : History) (s : ℕ) (at : HelpAt) → (help_step h s at).kind ≢ LoadInfo
-help_looks_not h s HelpStart = λ e. cc
-help_looks_not h s HelpPlan = λ e. cc
-help_looks_not h s (HelpMember j) = λ e. cc
-help_looks_not h s (HelpSeen j) = λ e. cc
-help_looks_not h s (HelpFreeze j v) = λ e. cc
-help_looks_not h s (HelpAllFrozen j v) = λ e. cc
-help_looks_not h s (HelpAbort j v) = λ e. cc
-help_looks_not h s HelpSetFrozen = λ e. cc
-help_looks_not h s (HelpMark j) = λ e. cc
-help_looks_not h s HelpNew = λ e. cc
-help_looks_not h s (HelpOld v) = λ e. cc
-help_looks_not h s HelpUpdate = λ e. cc
-help_looks_not h s HelpCommit = λ e. cc
 
 fill_looks_not : (allows : Layout → History → ℕ → Type 0) (m : Job) (c : Call) (h : History) (at : ScxAt) (s : Step) → FillWaits allows c h m at s → s.kind ≢ LoadInfo
 fill_looks_not allows m c h at s w = other_kind s Fill (kind_of s _ w.asked) (λ e. cc)

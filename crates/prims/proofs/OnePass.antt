@@ -1,4 +1,4 @@
--- Where there is one pass, nothing is ever in its way.
+-- Where there is one pass, nothing but its own SCXs is ever in its way.
 use Rattle.std.proofs.Common.{◌≡◌, ℕ, ◌<◌, arith, List}
 use Rattle.arena.specs.declared.layout.Layout.{Layout}
 use Rattle.arena.specs.declared.number.NodeNo.{NodeNo}
@@ -7,6 +7,7 @@ use Rattle.arena.specs.History.{History}
 use Rattle.arena.specs.Fills.{IsOthersScx}
 use Rattle.arena.specs.Machines.{Call}
 use Rattle.prims.specs.LlxKnown.{llx_answers}
+use Rattle.prims.specs.Moments.{AreLeftAlone}
 use Rattle.prims.specs.PutKnown.{put_answers}
 use Rattle.prims.specs.VlxKnown.{vlx_answers}
 use Rattle.prims.specs.declared.llx.LlxRun.{LlxRun}
@@ -20,12 +21,12 @@ use Rattle.prims.specs.declared.vlx.Vlx.TheVariants.{Changed}
 pub no_others : (lay : Layout) (c s : ℕ) → lay.passes ≡ 1 → c < lay.passes → IsOthersScx lay c s → ⊥
 no_others lay c s one is_pass o = let p = o.is_pass in o.is_other (omega arith)
 
--- so LLX never fails, SCX never loses, and VLX finds no change
+-- so LLX never fails, and over snapshots that the pass has left alone SCX never loses, and VLX finds no change
 pub alone_never_fails : (m : LlxRun) (c : Call) (h : History) (node : NodeNo) (s : ScxNo) → c.layout.passes ≡ 1 → llx_answers m c h (Fail node s) → ⊥
 alone_never_fails m c h node s one x = no_others c.layout c.pass s.0 one c.is_pass x.1.others
 
-pub alone_never_loses : (m : PutRun) (c : Call) (h : History) (node : NodeNo) (s : ScxNo) → c.layout.passes ≡ 1 → put_answers m c h (Lost node s) → ⊥
-alone_never_loses m c h node s one x = no_others c.layout c.pass s.0 one c.is_pass x.1.blamed.others
+pub alone_never_loses : (m : PutRun) (c : Call) (h : History) (node : NodeNo) (s : ScxNo) → c.layout.passes ≡ 1 → AreLeftAlone c.layout c.pass c.start m.scx.update.snaps → put_answers m c h (Lost node s) → ⊥
+alone_never_loses m c h node s one alone x = no_others c.layout c.pass s.0 one c.is_pass (x.1.blamed.others (alone x.1.index x.1.within))
 
-pub alone_never_changes : (snaps : List Snap) (c : Call) (h : History) (node : NodeNo) (s : ScxNo) → c.layout.passes ≡ 1 → vlx_answers snaps c h (Changed node s) → ⊥
-alone_never_changes snaps c h node s one x = no_others c.layout c.pass s.0 one c.is_pass x.blamed.others
+pub alone_never_changes : (snaps : List Snap) (c : Call) (h : History) (node : NodeNo) (s : ScxNo) → c.layout.passes ≡ 1 → AreLeftAlone c.layout c.pass c.start snaps → vlx_answers snaps c h (Changed node s) → ⊥
+alone_never_changes snaps c h node s one alone x = no_others c.layout c.pass s.0 one c.is_pass (x.blamed.others (alone x.index x.within))

@@ -6,7 +6,7 @@ use Rattle.arena.specs.declared.number.NodeNo.{NodeNo}
 use Rattle.arena.specs.declared.word.Side.{Side}
 use Rattle.arena.specs.Log.{has}
 use Rattle.arena.specs.ScxRecords.{IsPlan, count_of, removes, index_of, side_of}
-use Rattle.histories.proofs.Lemmas.{or_right, or_split}
+use Rattle.arena.proofs.Bools.{or_right, or_split}
 use Rattle.help.specs.Plan.{side_no, removed_bits}
 use Rattle.help.proofs.Packed.{packed_count, packed_field, packed_side, packed_within, packed_removes}
 use Rattle.prims.specs.Snap.{child_of, snap_at}

@@ -3,7 +3,7 @@ use Rattle.std.proofs.Common.{◌≡◌, ℕ, zero, suc, true, eqb, eqb-true, eq
 use Rattle.std.proofs.lemmas.Bool.{or_left}
 use Rattle.std.specs.List.{Contains}
 use Rattle.arena.specs.declared.number.NodeNo.{NodeNo}
-use Rattle.histories.proofs.Lemmas.{or_right, or_split}
+use Rattle.arena.proofs.Bools.{or_right, or_split}
 use Rattle.prims.specs.Snaps.{IsAmong, HasNode, has_node}
 use Rattle.prims.specs.declared.snap.Snap.{Snap}
 

@@ -1,4 +1,4 @@
--- Who was in the way of a call over snapshots: an SCX-record of another pass.
+-- Who was in the way of a call over snapshots: an SCX-record of another pass, where this one had left the snapshot alone.
 use Rattle.std.proofs.Common.{◌≡◌, ◌≢◌, ℕ, ◌<◌, inr, ⊎_elim, sym, ◌∙◌, subst, arith, List, length}
 use Rattle.arena.specs.declared.layout.Layout.{Layout}
 use Rattle.arena.specs.Words.{info, state}
@@ -32,17 +32,21 @@ owned_of lay k v l x =
     let o = ((facts lay k l).about v x.named.0 real x.named.1).owned in
     (o.pass, o.is_pass, o.scx)
 
+-- a moment at which the call's SCX-record, which was not taken as the call began, covered some node stands behind the call's begin
+pub behind_start : (c : Call) (h : History) (s : ℕ) → Lawful c.layout h → EndsWith h c.start → ¬ IsTakenScx c.start s → (k : History) → EndsWith h k → 0 < count k s → EndsWith k c.start
+behind_start c h s l since free k e some = ⊎_elim (λ p. p) (λ p. absurd (free (taken_since c.start k s p (planned_taken c.layout k s (lawful_since c.layout h k l e) some)))) (ends_either h k c.start e since)
+
 module _ (c : Call) (h : History) (s : ℕ) (snaps : List Snap) (l : Lawful c.layout h) (b : HasBegun c h s snaps) (i : ℕ) (w : i < length snaps) where
-  abbrev alone : IsLeftAlone c.layout c.pass c.start (snap_at snaps i)
-  alone = b.clear.alone i w
+  -- a moment that the call knows
+  abbrev known : History
+  known = (b.clear.found i w).0
 
-  -- the moment that the call knows
-  known : IsMoment c.layout h (snap_at snaps i) alone.moment
-  known = moment_since c.layout h c.start alone.moment (snap_at snaps i) b.since alone.found
+  abbrev found : IsMoment c.layout c.start (snap_at snaps i) known
+  found = (b.clear.found i w).1
 
-  -- what was in the way since then is of another pass
-  others_at : (v : ℕ) → (IsOwnScx c.layout c.pass v → v ≢ s) → WasInTheWay h alone.moment (snap_at snaps i).node.0 v → IsOthersScx c.layout c.pass v
-  others_at v d x = go (owned_of c.layout k v lk x.running)
+  -- what was in the way since a moment from which on the pass had left the snapshot alone is of another pass
+  others_at : (v : ℕ) → (IsOwnScx c.layout c.pass v → v ≢ s) → (alone : IsLeftAlone c.layout c.pass c.start (snap_at snaps i)) → WasInTheWay h alone.moment (snap_at snaps i).node.0 v → IsOthersScx c.layout c.pass v
+  others_at v d alone x = go (owned_of c.layout k v lk x.running)
     where
       k : History
       k = x.row ⊳ x.before
@@ -67,29 +71,32 @@ module _ (c : Call) (h : History) (s : ℕ) (snaps : List Snap) (l : Lawful c.la
       go : (p : ℕ) × (p < c.layout.passes) × IsOwnScx c.layout p v → IsOthersScx c.layout c.pass v
       go o = record { pass = o.0; is_pass = o.1; is_other = λ e. not_own (rw e at o.2); owns = o.2 }
 
+  -- so what was in the way since every moment of the snapshot is, where the pass had left the snapshot alone
+  others_of : (v : ℕ) → (IsOwnScx c.layout c.pass v → v ≢ s) → ((m : History) → IsMoment c.layout h (snap_at snaps i) m → WasInTheWay h m (snap_at snaps i).node.0 v) → IsLeftAlone c.layout c.pass c.start (snap_at snaps i) → IsOthersScx c.layout c.pass v
+  others_of v d way alone = others_at v d alone (way alone.moment (moment_since c.layout h c.start alone.moment (snap_at snaps i) b.since alone.found))
+
   -- where the info names something else now
   pub blamed_now : (v : ℕ) → (IsOwnScx c.layout c.pass v → v ≢ s) → value h (info (snap_at snaps i).node.0) ≡ v → (snap_at snaps i).scx.0 ≢ v → IsBlamed c h (snap_at snaps i) v
-  blamed_now v d e other = record { in_the_way = way; others = others_at v d (way alone.moment known) }
+  blamed_now v d e other = record { in_the_way = way; others = others_of v d way }
     where
       way : (m : History) → IsMoment c.layout h (snap_at snaps i) m → WasInTheWay h m (snap_at snaps i).node.0 v
       way m y = subst (λ u. WasInTheWay h m (snap_at snaps i).node.0 u) e (blame_info c.layout h m (snap_at snaps i).node.0 l y.within (λ z. other (sym y.info ∙ sym z ∙ e)))
 
   -- where it did at a moment behind the call's begin
-  blamed_behind : (k : History) (v : ℕ) → (IsOwnScx c.layout c.pass v → v ≢ s) → EndsWith h k → EndsWith k c.start → value k (info (snap_at snaps i).node.0) ≡ v → (snap_at snaps i).scx.0 ≢ v → IsBlamed c h (snap_at snaps i) v
-  blamed_behind k v d e behind held other = record { in_the_way = way; others = others_at v d (way alone.moment known) }
+  pub blamed_behind : (k : History) (v : ℕ) → (IsOwnScx c.layout c.pass v → v ≢ s) → EndsWith h k → EndsWith k c.start → value k (info (snap_at snaps i).node.0) ≡ v → (snap_at snaps i).scx.0 ≢ v → IsBlamed c h (snap_at snaps i) v
+  blamed_behind k v d e behind held other = record { in_the_way = way; others = others_of v d way }
     where
       lk : Lawful c.layout k
       lk = lawful_since c.layout h k l e
 
-      from_known : EndsWith k alone.moment
-      from_known = ends_trans k c.start alone.moment behind alone.found.within
+      from_known : EndsWith k known
+      from_known = ends_trans k c.start known behind found.within
 
       -- the info does not come back
       not_later : (m : History) → IsMoment c.layout h (snap_at snaps i) m → EndsWith m k → ⊥
       not_later m y p =
-          let f = alone.found in
-          let rest : value k (state (snap_at snaps i).scx.0) ≢ 0 = λ z. f.rest (sym (state_since c.layout k alone.moment (snap_at snaps i).scx.0 lk from_known f.rest) ∙ z) in
-          let x = still_since c.layout m k (snap_at snaps i).node.0 (snap_at snaps i).scx.0 (lawful_since c.layout h m l y.within) p (named_since c.layout k alone.moment (snap_at snaps i).node.0 lk from_known f.named) rest y.info in
+          let rest : value k (state (snap_at snaps i).scx.0) ≢ 0 = λ z. found.rest (sym (state_since c.layout k known (snap_at snaps i).scx.0 lk from_known found.rest) ∙ z) in
+          let x = still_since c.layout m k (snap_at snaps i).node.0 (snap_at snaps i).scx.0 (lawful_since c.layout h m l y.within) p (named_since c.layout k known (snap_at snaps i).node.0 lk from_known found.named) rest y.info in
           other (sym x.info ∙ held)
 
       way : (m : History) → IsMoment c.layout h (snap_at snaps i) m → WasInTheWay h m (snap_at snaps i).node.0 v
@@ -97,10 +104,3 @@ module _ (c : Call) (h : History) (s : ℕ) (snaps : List Snap) (l : Lawful c.la
           (λ p. way_since h k m (snap_at snaps i).node.0 v e (subst (λ u. WasInTheWay k m (snap_at snaps i).node.0 u) held (blame_info c.layout k m (snap_at snaps i).node.0 lk p (λ z. other (sym y.info ∙ sym z ∙ held)))))
           (λ p. absurd (not_later m y p))
           (ends_either h k m e y.within)
-
-  -- where it did at a moment at which the call's SCX-record, which was not taken as the call began, covered some node
-  pub blamed_then : ¬ IsTakenScx c.start s → (k : History) (v : ℕ) → v ≢ s → EndsWith h k → 0 < count k s → value k (info (snap_at snaps i).node.0) ≡ v → (snap_at snaps i).scx.0 ≢ v → IsBlamed c h (snap_at snaps i) v
-  blamed_then free k v d e some held other = blamed_behind k v (λ _. d) e (⊎_elim (λ p. p) (λ p. absurd (early p)) (ends_either h k c.start e b.since)) held other
-    where
-      early : EndsWith c.start k → ⊥
-      early p = free (taken_since c.start k s p (planned_taken c.layout k s (lawful_since c.layout h k l e) some))

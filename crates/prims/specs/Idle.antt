@@ -1,5 +1,5 @@
 -- Passes that have no SCX-record of their own in progress: which rows leave them so.
-use Rattle.std.proofs.Common.{◌≡◌, ◌≢◌, ℕ, ◌≤◌, ◌⊎◌, inl, inr, ⊎_elim, zero, suc, refl, sym, ◌∙◌, ap, subst, arith}
+use Rattle.std.proofs.Common.{◌≡◌, ◌≢◌, ℕ, ◌⊎◌, inl, inr, ⊎_elim, refl, sym, ◌∙◌, ap, subst, arith}
 use native.Mathlib.Decide.{ℕ_discrete}
 use Rattle.arena.specs.declared.layout.Layout.{Layout}
 use Rattle.arena.specs.declared.word.NodeWord.TheVariants.{Child, Info, Marked}
@@ -9,13 +9,13 @@ use Rattle.arena.specs.declared.step.Step.{Step}
 use Rattle.arena.specs.declared.step.Kind.TheVariants.{Freeze}
 use Rattle.arena.specs.MemberNo.{index_of}
 use Rattle.arena.specs.Words.{scx, info, marked, state}
-use Rattle.arena.specs.History.{History, Start, ◌⊳◌, value, HasHeld, EndsWith}
+use Rattle.arena.specs.History.{History, ◌⊳◌, value, HasHeld, EndsWith}
 use Rattle.arena.specs.ScxRecords.{plan, side_of, field_index, member, seen}
 use Rattle.arena.specs.Fills.{IsOwnScx, IsNamedScx, IsTakenScx}
 use Rattle.arena.specs.Lawful.{IsExchange, Lawful}
 use Rattle.arena.specs.Blame.{IsInProgress}
 use Rattle.arena.specs.Machines.{Call, row_of}
-use Rattle.arena.proofs.Values.{value_at, value_apart, node_apart, node_word_apart, held_at, held_split, held_back}
+use Rattle.arena.proofs.Values.{value_at, value_apart, node_apart, node_word_apart, held_at, held_split, held_back, same_moment}
 use Rattle.histories.proofs.Lemmas.{Effect, effect, facts_before, finished_stays, freeze, named_scx_back, named_scx_taken, one_scx_owner, quiet, update, update_keeps_info}
 use Rattle.help.specs.HelpKnown.{help_step, help_waits}
 use Rattle.help.specs.HelpLawful.{exchange_of}
@@ -124,31 +124,7 @@ idle_by_no_freeze lay c h r l d idle t own = out_by_no_freeze lay h r t l d (idl
 pub idle_by_help : (allows : Layout → History → ℕ → Type 0) (c : Call) (h : History) (m : HelpRun) (step : Step) → Lawful c.layout (row_of c step h ⊳ h) → help_waits allows c.layout c.pass m h step → IsNamedScx h m.scx.0 → IsIdle c.layout c.pass h → IsIdle c.layout c.pass (row_of c step h ⊳ h)
 idle_by_help allows c h m step l w named idle t own = out_by_help allows c h m step t l w (λ e. rw e named) (idle t own)
 
--- Moments
-
--- how many rows a history has
-length_of : History → ℕ
-length_of (Start mode) = zero
-length_of (r ⊳ h) = suc (length_of h)
-
--- a moment has no more rows than the history
-shorter : (h m : History) → EndsWith h m → length_of m ≤ length_of h
-unfolding length_of
-shorter (Start mode) m e = rw e (omega arith)
-shorter (r ⊳ h) m (inl e) = rw e (omega arith)
-shorter (r ⊳ h) m (inr e) = let x = shorter h m e in omega arith
-
--- of two moments each of the other there is one
-pub same_moment : (h m : History) → EndsWith h m → EndsWith m h → m ≡ h
-unfolding length_of
-same_moment (Start mode) m e f = e
-same_moment (r ⊳ h) m (inl e) f = e
-same_moment (r ⊳ h) m (inr e) f = absurd (let x = shorter h m e in let y = shorter m (r ⊳ h) f in omega arith)
-
--- no row comes behind a moment that it stands before
-pub no_row_behind : (h k : History) (r : Row) → EndsWith h (r ⊳ k) → EndsWith k h → ⊥
-unfolding length_of
-no_row_behind h k r e f = let x = shorter h (r ⊳ k) e in let y = shorter k h f in omega arith
+-- Since a call's begin
 
 -- at the call's begin it is enough that the pass is idle there
 pub quiet_at_start : (lay : Layout) (c : ℕ) (h : History) → IsIdle lay c h → IsQuietSince lay c h h

@@ -12,6 +12,7 @@ use Rattle.arena.specs.Layout.{all_nodes}
 use Rattle.arena.specs.Words.{info, marked, child, state}
 use Rattle.arena.specs.History.{History, ◌⊳◌, value, HasHeld, EndsWith}
 use Rattle.arena.specs.Blame.{WasInTheWay}
+use Rattle.arena.specs.Found.{HasFound}
 use Rattle.arena.specs.Fills.{IsOthersScx, IsInField}
 use Rattle.arena.specs.Log.{log, fields, is_final}
 use Rattle.arena.specs.Machines.{Call, IsRun, MatchTurn}
@@ -43,9 +44,10 @@ pub record HasStopped (c : Call) (h : History) (n : ℕ) (was_marked : Bool) (s 
   pub met : HasMet c h n was_marked s
   pub disturbed : IsDisturbed h c.start n s
 
--- s, which the node's info has named, was in the way of the call, at whose begin the node was not final
+-- s, which the call's last look at the node's info has found, was in the way of the call, at whose begin the node was not final
 pub record IsToBlame (c : Call) (h : History) (n s : ℕ) : Type 0 where
   pub held : HasHeld h (info n) s
+  pub found : HasFound c.pass h c.start LoadInfo n s
   pub in_the_way : WasInTheWay h c.start n s
   pub not_final : is_final (log c.layout c.start) n ≡ false
 
@@ -110,7 +112,7 @@ llx_told allows c h n (AtRight b s l) v = value h (child n Right) ≡ v
 llx_told allows c h n (InfoAgain b s l r) v = (value h (info n) ≡ v) × HasJustLooked c h n
 llx_told allows c h n (StateAgain b s) v = value h (state s.0) ≡ v
 llx_told allows c h n (Help b m) v = help_ready allows c.layout c.pass m h (Some v)
-llx_told allows c h n LastInfo v = value h (info n) ≡ v
+llx_told allows c h n LastInfo v = (value h (info n) ≡ v) × HasFound c.pass h c.start LoadInfo n v
 llx_told allows c h n (LastState s) v = value h (state s.0) ≡ v
 llx_told allows c h n (LastHelp s m) v = help_ready allows c.layout c.pass m h (Some v)
 
@@ -154,9 +156,9 @@ pub record IsFinalBy (lay : Layout) (h : History) (n s : ℕ) : Type 0 where
   pub by : IsFinalizing h n s
   pub committed : value h (state s) ≡ 1
 
--- another pass's SCX-record, which the node's info has named, was in the way of the call, at whose begin the node was not final; it is finished now
+-- another pass's SCX-record, which the call's last look at the node's info has found, was in the way of the call, at whose begin the node was not final; it is finished now
 pub record HasFailed (c : Call) (h : History) (n s : ℕ) : Type 0 where
-  pub held : HasHeld h (info n) s
+  pub found : HasFound c.pass h c.start LoadInfo n s
   pub others : IsOthersScx c.layout c.pass s
   pub in_the_way : WasInTheWay h c.start n s
   pub over : value h (state s) ≢ 0

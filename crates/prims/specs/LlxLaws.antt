@@ -13,10 +13,12 @@ use Rattle.arena.specs.History.{History, ◌⊳◌, value, HasHeld, EndsWith}
 use Rattle.arena.specs.Fills.{IsNamed}
 use Rattle.arena.specs.Lawful.{Lawful, Obeys}
 use Rattle.arena.specs.Machines.{IsRun, Call, row_of, IsTold}
+use Rattle.arena.specs.Found.{HasFound}
+use Rattle.arena.proofs.Found.{last_now, found_more}
 use Rattle.arena.proofs.Values.{value_at, held_more, ends_self}
 use Rattle.histories.proofs.Lemmas.{earlier, finished_stays, lawful_more, marked_stays, named_scx_inside, shaped_more, state_stays}
 use Rattle.help.specs.HelpKept.{help_keeps}
-use Rattle.help.specs.HelpLawful.{help_lawful}
+use Rattle.help.specs.HelpLawful.{help_lawful, help_looks_not}
 use Rattle.help.specs.HelpMade.{help_made}
 use Rattle.prims.specs.Idle.{IsIdle, idle_by_others, idle_by_no_freeze, idle_by_help, quiet_more}
 use Rattle.prims.specs.InTheWay.{been_more, disturbed_more}
@@ -25,6 +27,18 @@ use Rattle.prims.specs.LlxKnown.{HasMet, HasStopped, IsToBlame, IsAtRest, IsOpen
 use Rattle.prims.specs.declared.llx.LlxRun.{LlxRun}
 use Rattle.prims.specs.declared.llx.LlxAt.{LlxAt}
 use Rattle.prims.specs.declared.llx.LlxAt.TheVariants.{Start, Marked, Info, State, MarkedAgain, Left as AtLeft, Right as AtRight, InfoAgain, StateAgain, Help, LastInfo, LastState, LastHelp}
+
+-- the run has looked at the info for the last time
+abbrev HasLookedLast : LlxAt → Type 0
+HasLookedLast (LastState s) = Unit {0}
+HasLookedLast (LastHelp s m) = Unit {0}
+HasLookedLast _ = ⊥
+
+-- it does not look at one again
+last_looks_not : (allows : Layout → History → ℕ → Type 0) (c : Call) (h : History) (n : ℕ) (at : LlxAt) (s : Step) → HasLookedLast at → llx_asked allows c h n at s → s.kind ≢ LoadInfo
+last_looks_not allows c h n (LastState u) s x a f = let e : LoadState ≡ LoadInfo = sym (ap (λ (t : Step). t.kind) a) ∙ f in cc
+last_looks_not allows c h n (LastHelp u m) s x a f = help_looks_not h m.scx.0 m.at (sym (ap (λ (t : Step). t.kind) a.asked) ∙ f)
+last_looks_not allows c h n _ s x a f = absurd x
 
 -- Any lawful row
 
@@ -45,29 +59,29 @@ module _ (c : Call) (h : History) (r : Row) (n : ℕ) (l : Lawful c.layout (r �
   stopped_more : (b : Bool) (s : ℕ) → IsNamed c.layout h n → HasStopped c h n b s → HasStopped c (r ⊳ h) n b s
   stopped_more b s p x = record { met = met_more b s x.met; disturbed = disturbed_more c.layout h r c.start n s l p x.disturbed }
 
-  -- what is to blame stays so
-  to_blame_more : (s : ℕ) → IsToBlame c h n s → IsToBlame c (r ⊳ h) n s
-  to_blame_more s x = record { held = held_more r h (info n) s x.held; in_the_way = earlier r x.in_the_way; not_final = x.not_final }
+  -- what is to blame stays so, where the pass does not look again
+  to_blame_more : (r.pass.0 ≡ c.pass → r.kind ≢ LoadInfo) → (s : ℕ) → IsToBlame c h n s → IsToBlame c (r ⊳ h) n s
+  to_blame_more d s x = record { held = held_more r h (info n) s x.held; found = found_more c.pass h c.start LoadInfo n s r d x.found; in_the_way = earlier r x.in_the_way; not_final = x.not_final }
 
   -- a state that was read and is not 0 stays
   state_more : (s v : ℕ) → (v ≢ 0 → value h (state s) ≡ v) → v ≢ 0 → value (r ⊳ h) (state s) ≡ v
   state_more s v k d = state_stays c.layout h r s l (λ e. d (sym (k d) ∙ e)) ∙ k d
 
   -- so what is known at each place stays known
-  known_more : (at : LlxAt) → IsNamed c.layout h n → llx_known c h n at → llx_known c (r ⊳ h) n at
-  known_more (Info b) p k = (λ e. marked_stays c.layout h r n l (k.0 e), λ e. been_more r h c.start _ (k.1 e))
-  known_more (State b s) p k = met_more b s.0 k
-  known_more (MarkedAgain b s v) p k = (met_more b s.0 k.0, state_more s.0 v k.1, λ e. earlier r (k.2 e))
-  known_more (AtLeft b s) p k = (met_more b s.0 k.0, rest_more s.0 p k.1)
-  known_more (AtRight b s x) p k = (met_more b s.0 k.0, rest_more s.0 p k.1, side_more c.layout h r n s.0 x Left l p k.1.rest k.2)
-  known_more (InfoAgain b s x y) p k = (met_more b s.0 k.0, rest_more s.0 p k.1, side_more c.layout h r n s.0 x Left l p k.1.rest k.2, side_more c.layout h r n s.0 y Right l p k.1.rest k.3)
-  known_more (StateAgain b s) p k = stopped_more b s.0 p k
-  known_more (Help b m) p k = stopped_more b m.scx.0 p k
-  known_more LastInfo p k = (k.0, stopped_more false k.0 p k.1)
-  known_more (LastState s) p k = to_blame_more s.0 k
-  known_more (LastHelp s m) p k = (to_blame_more s.0 k.0, k.1)
-  known_more Start p k = tt
-  known_more Marked p k = tt
+  known_more : (at : LlxAt) → (HasLookedLast at → r.pass.0 ≡ c.pass → r.kind ≢ LoadInfo) → IsNamed c.layout h n → llx_known c h n at → llx_known c (r ⊳ h) n at
+  known_more (Info b) d p k = (λ e. marked_stays c.layout h r n l (k.0 e), λ e. been_more r h c.start _ (k.1 e))
+  known_more (State b s) d p k = met_more b s.0 k
+  known_more (MarkedAgain b s v) d p k = (met_more b s.0 k.0, state_more s.0 v k.1, λ e. earlier r (k.2 e))
+  known_more (AtLeft b s) d p k = (met_more b s.0 k.0, rest_more s.0 p k.1)
+  known_more (AtRight b s x) d p k = (met_more b s.0 k.0, rest_more s.0 p k.1, side_more c.layout h r n s.0 x Left l p k.1.rest k.2)
+  known_more (InfoAgain b s x y) d p k = (met_more b s.0 k.0, rest_more s.0 p k.1, side_more c.layout h r n s.0 x Left l p k.1.rest k.2, side_more c.layout h r n s.0 y Right l p k.1.rest k.3)
+  known_more (StateAgain b s) d p k = stopped_more b s.0 p k
+  known_more (Help b m) d p k = stopped_more b m.scx.0 p k
+  known_more LastInfo d p k = (k.0, stopped_more false k.0 p k.1)
+  known_more (LastState s) d p k = to_blame_more (d tt) s.0 k
+  known_more (LastHelp s m) d p k = (to_blame_more (d tt) s.0 k.0, k.1)
+  known_more Start d p k = tt
+  known_more Marked d p k = tt
 
   pub opened_more : IsOpened c.layout h n → IsOpened c.layout (r ⊳ h) n
   opened_more x = record { in_field = in_field_more r n x.in_field; inside = x.inside }
@@ -83,7 +97,7 @@ llx_keeps allows m c h s r run d w = record {
   opened = opened_more c h r m.node.0 run.lawful w.opened;
   since = inr w.since;
   quiet = quiet_more c.layout c.pass c.start h r (idle_by_others c.layout c.pass h r run.lawful d (w.quiet h (ends_self h) w.since)) w.quiet;
-  known = known_more c h r m.node.0 run.lawful m.at (in_field_named m.node.0 w.opened.in_field) w.known;
+  known = known_more c h r m.node.0 run.lawful m.at (λ _ e. absurd (d e)) (in_field_named m.node.0 w.opened.in_field) w.known;
   asked = asked_more allows c h m.node.0 m.at s r run d w.asked;
 }
 
@@ -126,6 +140,12 @@ load_told c h k w s v e t =
     let u : v ≡ value h w = rw e at t in
     rw e (value_at (row_of c (load k w) h) h w refl ∙ sym u)
 
+-- and a look at an info has found that
+pub load_found : (c : Call) (h : History) (n : ℕ) (s : Step) (v : ℕ) → EndsWith h c.start → s ≡ load LoadInfo (info n) → IsTold s.deed (value h s.word) v → HasFound c.pass (row_of c s h ⊳ h) c.start LoadInfo n v
+load_found c h n s v since e t =
+    let u : v ≡ value h (info n) = rw e at t in
+    record { row = row_of c s h; before = h; since = since; last = last_now c.pass h LoadInfo n (row_of c s h) refl (rw e refl) (rw e refl); found = sym u }
+
 told_at : (allows : Layout → History → ℕ → Type 0) (c : Call) (h : History) (n : ℕ) (at : LlxAt) (s : Step) (v : ℕ) → IsRun allows c.layout (row_of c s h ⊳ h) → IsTold s.deed (value h s.word) v → EndsWith h c.start → llx_asked allows c h n at s → llx_told allows c (row_of c s h ⊳ h) n at v
 told_at allows c h n Start s v run t e a = absurd a
 told_at allows c h n Marked s v run t e a = load_told c h LoadMarked (marked n) s v a t
@@ -137,7 +157,7 @@ told_at allows c h n (AtRight b u x) s v run t e a = load_told c h LoadChild (ch
 told_at allows c h n (InfoAgain b u x y) s v run t e a = (load_told c h LoadInfo (info n) s v a t, record { row = row_of c s h; before = h; is = refl; since = e; own = refl; kind = rw a refl; word = rw a refl })
 told_at allows c h n (StateAgain b u) s v run t e a = load_told c h LoadState (state u.0) s v a t
 told_at allows c h n (Help b m) s v run t e a = help_made allows m c h s v run t a
-told_at allows c h n LastInfo s v run t e a = load_told c h LoadInfo (info n) s v a t
+told_at allows c h n LastInfo s v run t e a = (load_told c h LoadInfo (info n) s v a t, load_found c h n s v e a t)
 told_at allows c h n (LastState u) s v run t e a = load_told c h LoadState (state u.0) s v a t
 told_at allows c h n (LastHelp u m) s v run t e a = help_made allows m c h s v run t a
 
@@ -166,6 +186,6 @@ llx_made allows m c h s v run t w = record {
   opened = opened_more c h (row_of c s h) m.node.0 run.lawful w.opened;
   since = inr w.since;
   quiet = quiet_more c.layout c.pass c.start h (row_of c s h) (idle_at allows c h m.node.0 m.at s run.lawful w.known w.asked (w.quiet h (ends_self h) w.since)) w.quiet;
-  known = known_more c h (row_of c s h) m.node.0 run.lawful m.at (in_field_named m.node.0 w.opened.in_field) w.known;
+  known = known_more c h (row_of c s h) m.node.0 run.lawful m.at (λ last _. last_looks_not allows c h m.node.0 m.at s last w.asked) (in_field_named m.node.0 w.opened.in_field) w.known;
   told = (told_at allows c h m.node.0 m.at s v run t w.since w.asked, record { row = row_of c s h; before = h; is = refl; since = w.since });
 }

@@ -164,28 +164,29 @@ module _ (allows : Layout → History → ℕ → Type 0) (c : Call) (h : Histor
   pub turn_last : (m now : LlxRun) (turn : Turn Llx) (v : ℕ) → Knows allows c h m.node.0 LastInfo v → Asks m now turn (LastState record { 0 = v }) (load LoadState (state v)) → llx_turn allows c h now turn
   turn_last m now turn v k a = waits_at m now turn (LastState record { 0 = v }) _ a k.opened k.since k.quiet
       record {
-        held = held_at h (info m.node.0) v k.told;
-        in_the_way = blame_met c.layout h c.start m.node.0 k.known.0 v run.lawful (k.known.1.met.unmarked refl) k.known.1.met.named k.known.1.disturbed k.told;
+        held = held_at h (info m.node.0) v k.told.0;
+        found = k.told.1;
+        in_the_way = blame_met c.layout h c.start m.node.0 k.known.0 v run.lawful (k.known.1.met.unmarked refl) k.known.1.met.named k.known.1.disturbed k.told.0;
         not_final = open_at_start c.layout h c.start m.node.0 run.lawful (k.known.1.met.unmarked refl);
       }
       refl
 
   -- and with that it fails
   pub turn_fail : (m : LlxRun) (turn : Turn Llx) (s : ScxNo) → IsQuietSince c.layout c.pass c.start h → IsToBlame c h m.node.0 s.0 → value h (state s.0) ≢ 0 → turn ≡ Done (Fail m.node s) → llx_turn allows c h m turn
-  turn_fail m turn s q x d e = rw e (refl, record { held = x.held; others = way_others c.layout c.pass h c.start m.node.0 s.0 run.lawful q x.in_the_way; in_the_way = x.in_the_way; over = d; not_final = x.not_final })
+  turn_fail m turn s q x d e = rw e (refl, record { found = x.found; others = way_others c.layout c.pass h c.start m.node.0 s.0 run.lawful q x.in_the_way; in_the_way = x.in_the_way; over = d; not_final = x.not_final })
 
 -- where HELP has answered true, its SCX-record is committed
-pub committed_state : (c : Call) (h : History) (b : Bool) (now help : HelpRun) → help_answers c.layout now h b → now.scx ≡ help.scx → b ≡ true → value h (state help.scx.0) ≡ 1
+pub committed_state : (c : Call) (h : History) (b : Bool) (now help : HelpRun) → help_answers c.layout c.pass now h b → now.scx ≡ help.scx → b ≡ true → value h (state help.scx.0) ≡ 1
 committed_state c h true now help a e t = rw e at a
 committed_state c h false now help a e t = cc
 
 -- and where false, aborted
-pub aborted_state : (c : Call) (h : History) (b : Bool) (now help : HelpRun) → help_answers c.layout now h b → now.scx ≡ help.scx → b ≡ false → value h (state help.scx.0) ≡ 2
+pub aborted_state : (c : Call) (h : History) (b : Bool) (now help : HelpRun) → help_answers c.layout c.pass now h b → now.scx ≡ help.scx → b ≡ false → value h (state help.scx.0) ≡ 2
 aborted_state c h false now help a e t = rw e at a.aborted
 aborted_state c h true now help a e t = cc
 
 -- so it is finished
-pub over_state : (c : Call) (h : History) (b : Bool) (now help : HelpRun) → help_answers c.layout now h b → now.scx ≡ help.scx → value h (state help.scx.0) ≢ 0
+pub over_state : (c : Call) (h : History) (b : Bool) (now help : HelpRun) → help_answers c.layout c.pass now h b → now.scx ≡ help.scx → value h (state help.scx.0) ≢ 0
 over_state c h true now help a e z = let x = committed_state c h true now help a e refl in omega arith
 over_state c h false now help a e z = let x = aborted_state c h false now help a e refl in omega arith
 

@@ -1,5 +1,5 @@
 -- What snapshots say of moments: when a node was as its snapshot found it, and who was in the way since.
-use Rattle.std.specs.Prelude.{◌≡◌, ◌≢◌, ℕ, false}
+use Rattle.std.specs.Prelude.{◌≡◌, ◌≢◌, ℕ, ◌<◌, false, List, length}
 use Rattle.arena.specs.declared.layout.Layout.{Layout}
 use Rattle.arena.specs.Words.{info, state}
 use Rattle.arena.specs.History.{History, value, EndsWith}
@@ -7,6 +7,7 @@ use Rattle.arena.specs.Fills.{IsNamed, IsOwnScx, IsOthersScx, IsTakenScx}
 use Rattle.arena.specs.Log.{log, last, is_final}
 use Rattle.arena.specs.Blame.{IsMember, IsInProgress, WasInTheWay}
 use Rattle.arena.specs.Machines.{Call}
+use Rattle.prims.specs.Snap.{snap_at}
 use Rattle.prims.specs.declared.snap.Snap.{Snap}
 
 -- at this moment of the history the node was as the snapshot found it: it was named and not final, and its info named the snapshot's SCX-record, which was finished
@@ -28,6 +29,10 @@ pub record IsLeftAlone (lay : Layout) (c : ℕ) (h : History) (snap : Snap) : Ty
   pub found : IsMoment lay h snap moment
   pub idle : (k : History) → EndsWith h k → EndsWith k moment → (t : ℕ) → IsOwnScx lay c t → IsInProgress k t → ¬ IsMember k t snap.node.0
 
+-- this is so of each of them
+abbrev pub AreLeftAlone : Layout → ℕ → History → List Snap → Type 0
+AreLeftAlone lay c h snaps = (i : ℕ) → i < length snaps → IsLeftAlone lay c h (snap_at snaps i)
+
 -- each SCX-record that the pass c has taken is finished, but for s
 abbrev pub AreOver : Layout → ℕ → ℕ → History → Type 0
 AreOver lay c s h = (t : ℕ) → IsOwnScx lay c t → t ≢ s → IsTakenScx h t → value h (state t) ≢ 0
@@ -36,7 +41,7 @@ AreOver lay c s h = (t : ℕ) → IsOwnScx lay c t → t ≢ s → IsTakenScx h 
 abbrev pub HasTakenOnly : Layout → ℕ → ℕ → History → History → Type 0
 HasTakenOnly lay c s start h = (t : ℕ) → IsOwnScx lay c t → t ≢ s → ¬ IsTakenScx start t → ¬ IsTakenScx h t
 
--- an SCX-record of another pass has changed the node since the snapshot: since every moment of the snapshot it was in the way
+-- an SCX-record has changed the node since the snapshot: since every moment of the snapshot it was in the way; and it is another pass's, where this one had left the snapshot alone as its call began
 pub record IsBlamed (c : Call) (h : History) (snap : Snap) (v : ℕ) : Type 0 where
   pub in_the_way : (moment : History) → IsMoment c.layout h snap moment → WasInTheWay h moment snap.node.0 v
-  pub others : IsOthersScx c.layout c.pass v
+  pub others : IsLeftAlone c.layout c.pass c.start snap → IsOthersScx c.layout c.pass v

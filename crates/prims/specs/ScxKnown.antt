@@ -4,7 +4,7 @@ use Rattle.arena.specs.declared.layout.Layout.{Layout}
 use Rattle.arena.specs.declared.step.Row.{Row}
 use Rattle.arena.specs.declared.step.Step.{Step}
 use Rattle.arena.specs.declared.step.Deed.TheVariants.{Store}
-use Rattle.arena.specs.declared.step.Kind.TheVariants.{Fill}
+use Rattle.arena.specs.declared.step.Kind.TheVariants.{Fill, Freeze}
 use Rattle.arena.specs.declared.word.Side.{Side}
 use Rattle.arena.specs.declared.word.ScxWord.{ScxWord}
 use Rattle.arena.specs.declared.word.ScxWord.TheVariants.{Plan, New, Old, Member, Seen, Call as CallWord}
@@ -14,6 +14,7 @@ use Rattle.arena.specs.History.{History, ◌⊳◌, value, HasHeld, EndsWith}
 use Rattle.arena.specs.ScxRecords.{IsPlan, count_of, removes, side_of, index_of as field_of, plan, new, member, seen}
 use Rattle.arena.specs.Fills.{IsOwnNode, IsOwnScx, IsOpenScx, IsNamed, IsTakenScx}
 use Rattle.arena.specs.Lawful.{IsWin, HasWon}
+use Rattle.arena.specs.Found.{HasFound}
 use Rattle.arena.specs.Log.{Entry, log, IsEntered}
 use Rattle.arena.specs.declared.machine.Turn.{Turn}
 use Rattle.arena.specs.declared.machine.Turn.TheVariants.{Ask}
@@ -245,11 +246,12 @@ pub record IsDone (c : Call) (h : History) (m : ScxRun) : Type 0 where
   pub won : HasWon h m.scx.0
   pub entry : HasEntry c h m
 
--- it is aborted, has no entry, and this node's info was not as it had seen it: another pass has changed it since its snapshot
+-- it is aborted, has no entry, and this node's info was not as it had seen it: the call's last freezing exchange found there what has changed the node since its snapshot
 pub record IsLost (c : Call) (h : History) (m : ScxRun) (n v : ℕ) : Type 0 where
   pub aborted : value h (state m.scx.0) ≡ 2
   pub no_entry : ¬ IsEntered (log c.layout h) m.scx.0
-  pub blocked : IsBlocked h m.scx.0 n v
+  pub blocked : IsBlocked c.pass h m.scx.0 n v
+  pub found : HasFound c.pass h c.start Freeze n v
   pub index : ℕ
   pub within : index < length m.update.snaps
   pub node : (snap_at m.update.snaps index).node.0 ≡ n

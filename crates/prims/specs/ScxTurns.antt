@@ -11,7 +11,7 @@ use Rattle.arena.specs.declared.step.Kind.TheVariants.{Fill}
 use Rattle.arena.specs.declared.word.ScxWord.TheVariants.{State, AllFrozen, Plan, New, Old, Member, Seen, Call as CallWord}
 use Rattle.arena.specs.MemberNo.{index_of}
 use Rattle.arena.specs.Words.{scx, info, state, child}
-use Rattle.arena.specs.History.{History, value}
+use Rattle.arena.specs.History.{History, ◌⊳◌, value, EndsWith}
 use Rattle.arena.specs.ScxRecords.{count_of, index_of as field_of, side_of, plan, member, seen, new, old, count}
 use Rattle.arena.specs.Machines.{IsRun, Call}
 use Rattle.arena.proofs.Plans.{plan_counted}
@@ -19,7 +19,7 @@ use Rattle.histories.specs.Begins.{Begins}
 use Rattle.histories.specs.Descriptor.{Descriptor, descriptor}
 use Rattle.histories.proofs.Lemmas.{aborted_no_entry, committed_won}
 use Rattle.arena.specs.Lawful.{Lawful}
-use Rattle.arena.proofs.Values.{ends_self}
+use Rattle.arena.proofs.Values.{ends_self, ends_trans}
 use Rattle.help.specs.HelpKnown.{IsBlocked, HasNoted, node_at, blocked_at, reading, help_answers}
 use Rattle.prims.specs.LlxTurns.{committed_state}
 use Rattle.help.specs.declared.state.HelpRun.{HelpRun}
@@ -30,7 +30,7 @@ use Rattle.help.specs.Allowed.{IsPrepared}
 use Rattle.prims.specs.Linked.{in_field_named}
 use Rattle.prims.specs.Snap.{snap_at}
 use Rattle.prims.specs.Entered.{filled_entry}
-use Rattle.prims.specs.Blamed.{blamed_then}
+use Rattle.prims.specs.Blamed.{blamed_behind, behind_start}
 use Rattle.prims.specs.ScxKnown.{job_of, IsUpdateOver, IsUnderWay, HasFilled, IsDone, IsLost, Helps, scx_ready, scx_told_at, Says, wanted, InHand, part_at, IsFilled, IsFilledThen, Holds, IsWithin, FillWaits, FillMade, FillsAt, FillsNext, FillsLast, scx_turn, scx_waits_at}
 use Rattle.prims.specs.declared.scx.ScxRun.{ScxRun}
 use Rattle.prims.specs.declared.scx.Scx.{Scx}
@@ -208,32 +208,40 @@ made_then allows m c h (Some v) at is d f r = f v (subst (λ a. scx_told_at allo
 
 module _ (c : Call) (h : History) (m : ScxRun) (help : HelpRun) (l : Lawful c.layout h) (x : HasFilled c h m.scx.0 m.call m.update) (same : help.scx ≡ m.scx) where
   -- it is committed
-  pub done_at : (b : Bool) (now : HelpRun) → help_answers c.layout now h b → b ≡ true → now.scx ≡ help.scx → IsDone c h m
+  pub done_at : (b : Bool) (now : HelpRun) → help_answers c.layout c.pass now h b → b ≡ true → now.scx ≡ help.scx → IsDone c h m
   done_at b now a t e =
       let s : value h (state m.scx.0) ≡ 1 = rw same at (committed_state c h b now help a e t) in
       let w = committed_won c.layout h m.scx.0 l s in
       record { committed = s; won = w; entry = filled_entry c h m l x w }
 
   -- a node could not be frozen
-  lost_by : (n v : ℕ) → value h (state m.scx.0) ≡ 2 → IsBlocked h m.scx.0 n v → IsLost c h m n v
+  lost_by : (n v : ℕ) → value h (state m.scx.0) ≡ 2 → IsBlocked c.pass h m.scx.0 n v → IsLost c h m n v
   lost_by n v a b = record {
     aborted = a;
     no_entry = aborted_no_entry c.layout h h m.scx.0 l (ends_self h) a;
     blocked = b;
+    found = record { row = b.row; before = b.before; since = behind; last = b.last; found = b.found };
     index = b.index;
     within = within;
     node = sym (x.members b.index within) ∙ b.is;
-    blamed = blamed_then c h m.scx.0 m.update.snaps l x.way.begun b.index within x.way.free b.moment v b.not_own b.since (let i = b.covered in omega arith) (rw (sym b.is ∙ x.members b.index within) at b.held) (λ e. b.other (sym e ∙ sym (x.found b.index within)));
+    blamed = blamed_behind c h m.scx.0 m.update.snaps l x.way.begun b.index within b.before v (λ _. b.not_own) ends behind (rw (sym b.is ∙ x.members b.index within) at b.found) (λ e. b.other (sym e ∙ sym (x.found b.index within)));
   }
     where
+      ends : EndsWith h b.before
+      ends = ends_trans h (b.row ⊳ b.before) b.before b.last.within (inr (ends_self b.before))
+
+      -- its SCX-record covered the node already
+      behind : EndsWith b.before c.start
+      behind = behind_start c h m.scx.0 l x.way.begun.since x.way.free b.before ends (let i = b.covered in omega arith)
+
       within : b.index < length m.update.snaps
       within = rw (ap count_of x.planned ∙ x.over.count) at b.within
 
   -- HELP stands where it has aborted
-  lost_with : (now : HelpRun) (at : HelpAt) → now.scx ≡ help.scx → value h (state now.scx.0) ≡ 2 → HasNoted h (reading now) at → IsLost c h m (blocked_at now.members at).0.0 (blocked_at now.members at).1.0
+  lost_with : (now : HelpRun) (at : HelpAt) → now.scx ≡ help.scx → value h (state now.scx.0) ≡ 2 → HasNoted c.pass h (reading now) at → IsLost c h m (blocked_at now.members at).0.0 (blocked_at now.members at).1.0
   lost_with now (AtAbort j found) e a k = lost_by (node_at now.members (index_of j)) found (rw (e, same) at a) (rw (e, same) at k)
   lost_with now _ e a k = absurd k
 
-  pub lost_at : (b : Bool) (now : HelpRun) → help_answers c.layout now h b → b ≡ false → now.scx ≡ help.scx → IsLost c h m (blocked_at now.members now.at).0.0 (blocked_at now.members now.at).1.0
+  pub lost_at : (b : Bool) (now : HelpRun) → help_answers c.layout c.pass now h b → b ≡ false → now.scx ≡ help.scx → IsLost c h m (blocked_at now.members now.at).0.0 (blocked_at now.members now.at).1.0
   lost_at true now a t e = cc
   lost_at false now a t e = lost_with now now.at e a.aborted a.blocked

@@ -3,8 +3,7 @@ use Rattle.std.specs.Prelude.{◌≡◌, ℕ, ◌+◌, ◌-◌, ◌<◌, ◌≤�
 use Rattle.arena.specs.declared.layout.Layout.{Layout}
 use Rattle.arena.specs.Layout.{first_node, first_scx}
 use Rattle.arena.specs.Share.{Left, HasNode, HasScx}
-use Rattle.arena.specs.History.{History, EndsWith}
-use Rattle.arena.specs.Blame.{IsMember, IsInProgress}
+use Rattle.arena.specs.History.{History}
 use Rattle.arena.specs.Fills.{IsOwnNode, IsOwnScx, IsTakenNode, IsTakenScx}
 use Rattle.histories.specs.Unmentioned.{IsUnmentioned}
 use Rattle.prims.specs.Linked.{IsLinked}
@@ -27,8 +26,7 @@ pub record IsShare (lay : Layout) (h : History) (c : ℕ) (left : Left) (node sc
 abbrev pub taken : Left → Left
 taken left = record { next_node = left.next_node + 1; nodes = left.nodes - 1; next_scx = left.next_scx + 1; scx = left.scx - 1 }
 
--- a snapshot of this moment that the pass c may use: what it says holds as long as its node's info is what it found, and since its moment no SCX-record of the pass has covered its node while in progress
-pub record IsUsable (lay : Layout) (c : ℕ) (h : History) (snap : Snap) (moment : History) : Type 0 where
+-- a snapshot of this moment that a pass may use: what it says holds as long as its node's info is what it found
+pub record IsUsable (lay : Layout) (h : History) (snap : Snap) (moment : History) : Type 0 where
   pub linked : IsLinked lay h snap
   pub found : IsMoment lay h snap moment
-  pub alone : (k : History) → EndsWith h k → EndsWith k moment → (s : ℕ) → IsOwnScx lay c s → IsInProgress k s → ¬ IsMember k s snap.node.0

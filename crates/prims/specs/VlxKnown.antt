@@ -7,10 +7,11 @@ use Rattle.arena.specs.declared.machine.Turn.{Turn}
 use Rattle.arena.specs.declared.machine.Turn.TheVariants.{Ask, Done}
 use Rattle.arena.specs.Words.{info}
 use Rattle.arena.specs.History.{History, value, EndsWith}
+use Rattle.arena.specs.Found.{HasFound}
 use Rattle.arena.specs.Machines.{Call}
 use Rattle.prims.specs.Linked.{IsLinked}
 use Rattle.prims.specs.Snap.{snap_at}
-use Rattle.prims.specs.Moments.{IsAsFound, IsLeftAlone, AreOver, HasTakenOnly, IsBlamed}
+use Rattle.prims.specs.Moments.{IsMoment, IsAsFound, AreOver, HasTakenOnly, IsBlamed}
 use Rattle.prims.specs.LlxKnown.{load}
 use Rattle.prims.specs.declared.snap.Snap.{Snap}
 use Rattle.prims.specs.declared.vlx.Vlx.{Vlx}
@@ -19,10 +20,10 @@ use Rattle.prims.specs.declared.vlx.Vlx.TheVariants.{Same, Changed}
 abbrev pub AllLinked : Layout → History → List Snap → Type 0
 AllLinked lay h snaps = (i : ℕ) → i < length snaps → IsLinked lay h (snap_at snaps i)
 
--- what a pass knows as a call over snapshots begins: each SCX-record that it has taken is finished, and none was over a node since its snapshot
+-- what a pass knows as a call over snapshots begins: each SCX-record that it has taken is finished, and each snapshot has a moment
 pub record IsClear (lay : Layout) (c : ℕ) (h : History) (snaps : List Snap) : Type 0 where
   pub over : AreOver lay c 0 h
-  pub alone : (i : ℕ) → i < length snaps → IsLeftAlone lay c h (snap_at snaps i)
+  pub found : (i : ℕ) → i < length snaps → (moment : History) × IsMoment lay h (snap_at snaps i) moment
 
 -- a call over snapshots has come so far: since its begin its pass has taken no SCX-record but s
 pub record HasBegun (c : Call) (h : History) (s : ℕ) (snaps : List Snap) : Type 0 where
@@ -51,6 +52,7 @@ pub record vlx_told (snaps : List Snap) (n : ℕ) (c : Call) (h : History) (v : 
   pub index : ℕ
   pub looks : Looks c h snaps n index
   pub told : value h (info (snap_at snaps index).node.0) ≡ v
+  pub found : HasFound c.pass h c.start LoadInfo (snap_at snaps index).node.0 v
 
 -- it begins at this moment, over usable snapshots
 pub record IsFirstLook (snaps : List Snap) (n : ℕ) (c : Call) (h : History) : Type 0 where
@@ -71,12 +73,13 @@ pub record IsSame (c : Call) (h : History) (snaps : List Snap) : Type 0 where
   pub info : (i : ℕ) → i < length snaps → value c.start (info (snap_at snaps i).node.0) ≡ (snap_at snaps i).scx.0
   pub found : (i : ℕ) → i < length snaps → IsAsFound c.layout h c.start (snap_at snaps i)
 
--- this node's info names something else, of another pass, that was in the way since its snapshot; those before it were as their snapshots found them, as the call began
+-- this node's info names something else, which has changed it since its snapshot, and which the call's last look has found there; those before it were as their snapshots found them, as the call began
 pub record HasChanged (c : Call) (h : History) (snaps : List Snap) (n v : ℕ) : Type 0 where
   pub index : ℕ
   pub within : index < length snaps
   pub node : (snap_at snaps index).node.0 ≡ n
   pub info : value h (info n) ≡ v
+  pub found : HasFound c.pass h c.start LoadInfo n v
   pub other : (snap_at snaps index).scx.0 ≢ v
   pub blamed : IsBlamed c h (snap_at snaps index) v
   pub before : (i : ℕ) → i < index → IsAsFound c.layout h c.start (snap_at snaps i)

@@ -13,7 +13,7 @@ use Rattle.arena.specs.Machines.{IsRun, Call, row_of, IsTold, MatchTurn}
 use Rattle.arena.proofs.Values.{ends_self}
 use Rattle.histories.proofs.Lemmas.{lawful_since, still_since}
 use Rattle.prims.specs.Linked.{in_field_named}
-use Rattle.prims.specs.LlxLaws.{load_lawful, load_told}
+use Rattle.prims.specs.LlxLaws.{load_lawful, load_told, load_found}
 use Rattle.prims.specs.Moments.{IsAsFound}
 use Rattle.prims.specs.Begun.{TakesOnly, takes_by_others, takes_by_step, begun_more}
 use Rattle.prims.specs.Blamed.{blamed_now}
@@ -34,7 +34,7 @@ pub vlx_lawful : (allows : Layout → History → ℕ → Type 0) (snaps : List 
 vlx_lawful allows snaps asked c h s run w = load_lawful allows c h LoadInfo (info (snap_at snaps w.index).node.0) s run w.asked record { word = tt; same = refl } (λ e. cc) (w.looks.looked.linked w.index w.looks.within).inside
 
 pub vlx_made : (allows : Layout → History → ℕ → Type 0) (snaps : List Snap) (asked : ℕ) (c : Call) (h : History) (s : Step) (v : ℕ) → IsRun allows c.layout (row_of c s h ⊳ h) → IsTold s.deed (value h s.word) v → vlx_waits snaps asked c h s → vlx_ready snaps asked c (row_of c s h ⊳ h) (Some v)
-vlx_made allows snaps asked c h s v run t w = record { index = w.index; looks = looks_more c h (row_of c s h) snaps asked w.index (takes_by_step c.layout c.pass 0 h (row_of c s h) (λ f. let e : s.kind ≡ LoadInfo = ap (λ (t : Step). t.kind) w.asked in let z : LoadInfo ≡ Fill = sym e ∙ f in cc)) w.looks; told = load_told c h LoadInfo (info (snap_at snaps w.index).node.0) s v w.asked t }
+vlx_made allows snaps asked c h s v run t w = record { index = w.index; looks = looks_more c h (row_of c s h) snaps asked w.index (takes_by_step c.layout c.pass 0 h (row_of c s h) (λ f. let e : s.kind ≡ LoadInfo = ap (λ (t : Step). t.kind) w.asked in let z : LoadInfo ≡ Fill = sym e ∙ f in cc)) w.looks; told = load_told c h LoadInfo (info (snap_at snaps w.index).node.0) s v w.asked t; found = load_found c h (snap_at snaps w.index).node.0 s v w.looks.looked.begun.since w.asked t }
 
 -- Its turns
 
@@ -91,7 +91,7 @@ one_more c h snaps asked v l x e = record { begun = y.begun; linked = y.linked; 
     go i p (no d) = let z = x.looks.is in y.same i (omega arith)
 
 changed : (c : Call) (h : History) (snaps : List Snap) (asked : ℕ) (v : ℕ) → Lawful c.layout h → (x : vlx_told snaps asked c h v) → (snap_at snaps x.index).scx.0 ≢ v → HasChanged c h snaps (snap_at snaps x.index).node.0 v
-changed c h snaps asked v l x d = record { index = x.index; within = x.looks.within; node = refl; info = x.told; other = d; blamed = blamed_now c h 0 snaps l x.looks.looked.begun x.index x.looks.within v (λ own e. let f = own.from in omega arith) x.told d; before = before }
+changed c h snaps asked v l x d = record { index = x.index; within = x.looks.within; node = refl; info = x.told; found = x.found; other = d; blamed = blamed_now c h 0 snaps l x.looks.looked.begun x.index x.looks.within v (λ own e. let f = own.from in omega arith) x.told d; before = before }
   where
     before : (i : ℕ) → i < x.index → IsAsFound c.layout h c.start (snap_at snaps i)
     before i p = let y = x.looks.looked in found_at c h (snap_at snaps i) l y.begun.since (y.linked i (let w = x.looks.within in omega arith)) (y.same i p)

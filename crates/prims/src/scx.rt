@@ -10,7 +10,7 @@ use help::HelpRun;
 pub enum Scx {
     /// The field holds the fresh node from one moment of the call on.
     Done,
-    /// This node had changed: its info named this SCX-record of another pass.
+    /// This node had changed since its snapshot: its info named this SCX-record.
     Lost { node: NodeNo, scx: ScxNo },
 }
 

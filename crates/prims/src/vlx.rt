@@ -9,7 +9,7 @@ use arena::{Deed, Kind, Machine, NodeNo, NodeWord, ScxNo, Shape, Step, Turn, Wor
 pub enum Vlx {
     /// Every node was as its snapshot says as the call began.
     Same,
-    /// This node has changed: its info names this SCX-record of another pass.
+    /// This node has changed since its snapshot: its info names this SCX-record.
     Changed { node: NodeNo, scx: ScxNo },
 }
 

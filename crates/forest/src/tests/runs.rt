@@ -99,6 +99,25 @@ fn a_node_is_finalized(rt: HostRuntime) {
     assert_eq!(rt; forest.llx(&mut second, n2), Llx::Finalized { node, scx });
 }
 
+#[test]
+fn a_pass_loses_with_a_snapshot_that_it_has_spent(rt: HostRuntime) {
+    let Some((forest, mut pass, _)) = two(rt.alloc()) else {
+        assert!(rt; false);
+        return;
+    };
+    let (node, scx) = (NodeNo(1), ScxNo(1));
+    let Llx::Snapshot(snap) = forest.llx(&mut pass, node) else {
+        assert!(rt; false);
+        return;
+    };
+    let done = forest.scx(&mut pass, &[snap], &[], (node, Side::Left), 7);
+    let lost = forest.scx(&mut pass, &[snap], &[], (node, Side::Left), 8);
+    assert_eq!(rt; done, Ok(Scx::Done));
+    assert_eq!(rt; lost, Ok(Scx::Lost { node, scx }));
+    assert_eq!(rt; forest.vlx(&mut pass, &[snap]), Vlx::Changed { node, scx });
+    assert_eq!(rt; fields(forest.llx(&mut pass, node)), Some((9, 0)));
+}
+
 /// How a pass's second put ends.
 fn second_put(alloc: Global, limits: Limits) -> Option<Result<Scx, Full>> {
     let Ok((forest, mut passes)) = Forest::<Cells>::new(alloc, limits) else {

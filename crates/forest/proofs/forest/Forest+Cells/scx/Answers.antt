@@ -9,9 +9,9 @@ use Rattle.prims.specs.ScxKnown.{IsUpdateOver}
 use Rattle.prims.specs.declared.update.Update.{Update}
 use Rattle.prims.specs.declared.snap.Snap.{Snap}
 use Rattle.forest.specs.declared.pass.Pass.TheInside.{Inside}
-use Rattle.forest.proofs.Passes.{layout_of, call_of}
+use Rattle.forest.proofs.Passes.{layout_of, call_of, goes_nowhere}
 use Rattle.forest.proofs.VlxCalls.{apart_at, among_at}
-use Rattle.forest.proofs.ScxCalls.{HasPut, put_begins, put_called, put_pass, put_says, put_usable, put_goes_on}
+use Rattle.forest.proofs.ScxCalls.{HasPut, put_begins, put_called, put_pass, put_says, put_alone, put_goes_on}
 use Rattle.forest.proofs.forest.Forest+Cells.scx.Goals as goal
 
 pub new-update-requires-clause-distinct : goal.new-update-requires-clause-distinct
@@ -77,10 +77,13 @@ pub returns-clause-goes_on : goal.returns-clause-goes_on
 returns-clause-goes_on c = let some = c.in_ok-fresh.ensures.some in
     rw (← c.pass.view_is, c.in_ok-fresh.ensures.left) (put_goes_on c.pass.inside c.pass.invariant some.0 some.1 c.args.snaps.now c.args.finalize.now (c.args.field.0.0, c.args.field.1) c.args.value _ c.call.new.seat c.call.result 40 40 c.call.ensures.table.0 c.call.ensures.table.1 (ended c) c.call.ensures.steps (omega arith))
 
+pub returns-in_err-fresh-clause-goes_on : goal.returns-in_err-fresh-clause-goes_on
+returns-in_err-fresh-clause-goes_on c = rw (← c.pass.view_is, c.in_err-fresh.ensures.full.1) (goes_nowhere c.pass.inside c.pass.invariant _ 40)
+
 pub returns-clause-says : goal.returns-clause-says
 returns-clause-says c = let some = c.in_ok-fresh.ensures.some in
     rw (← c.pass.view_is, c.in_ok-fresh.ensures.left) (put_says c.pass.inside c.pass.invariant some.0 some.1 c.args.snaps.now c.args.finalize.now (c.args.field.0.0, c.args.field.1) c.args.value (called c.pass.inside) c.call.new.seat c.call.result refl (ended c))
 
-pub returns-clause-usable : goal.returns-clause-usable
-returns-clause-usable c = let some = c.in_ok-fresh.ensures.some in
-    rw (← c.pass.view_is) (put_usable c.pass.inside c.pass.invariant some.0 some.1 c.args.snaps.now c.args.finalize.now (c.args.field.0.0, c.args.field.1) c.args.value _ c.call.new.seat c.call.result (ended c))
+pub returns-clause-alone : goal.returns-clause-alone
+returns-clause-alone c = let some = c.in_ok-fresh.ensures.some in
+    rw (← c.pass.view_is) (put_alone c.pass.inside c.pass.invariant some.0 some.1 c.args.snaps.now c.args.finalize.now (c.args.field.0.0, c.args.field.1) c.args.value _ c.call.new.seat c.call.result (ended c))

@@ -25,16 +25,16 @@ module _ (allows : Layout → History → ℕ → Type 0) (lay : Layout) (c : �
   told m (Some v) found at is d e r = rw (e, sym is) r
 
   -- it asks for a step at a place where it may wait for it
-  asks : {old now : HelpRun} {turn : Turn Bool} {at : HelpAt} {step : Step} → Asks old now turn at step → help_waits_at allows lay c h (reading old) at step → MatchTurn turn (help_waits allows lay c now h) (help_answers lay now h)
+  asks : {old now : HelpRun} {turn : Turn Bool} {at : HelpAt} {step : Step} → Asks old now turn at step → help_waits_at allows lay c h (reading old) at step → MatchTurn turn (help_waits allows lay c now h) (help_answers lay c now h)
   asks a w = rw (a.asked, a.stands) w
 
   -- behind a frozen node
-  behind : {old now : HelpRun} {turn : Turn Bool} {j : MemberNo} {expected v : ℕ} → Lawful lay h → (v ≡ expected) ⊎ (v ≡ old.scx.0) → help_told allows lay c h (reading old) (Freeze j expected) v → HasNext old now turn j ⊎ IsLast old now turn j → MatchTurn turn (help_waits allows lay c now h) (help_answers lay now h)
+  behind : {old now : HelpRun} {turn : Turn Bool} {j : MemberNo} {expected v : ℕ} → Lawful lay h → (v ≡ expected) ⊎ (v ≡ old.scx.0) → help_told allows lay c h (reading old) (Freeze j expected) v → HasNext old now turn j ⊎ IsLast old now turn j → MatchTurn turn (help_waits allows lay c now h) (help_answers lay c now h)
   behind {old} {j} {expected} {v} l won t (inl y) = asks y.asks (to_next (reading old) l j y.next expected v won y.is y.within t)
   behind {old} {j} {expected} {v} l won t (inr y) = asks y.asks (to_set_frozen (reading old) l j expected v won y.none t)
 
   -- behind the nodes that are marked
-  marks : {old now : HelpRun} {turn : Turn Bool} {p : ℕ} → Lawful lay h → Marks h (reading old) p → MarksNext old now turn p ⊎ MarksNone old now turn p → MatchTurn turn (help_waits allows lay c now h) (help_answers lay now h)
+  marks : {old now : HelpRun} {turn : Turn Bool} {p : ℕ} → Lawful lay h → Marks h (reading old) p → MarksNext old now turn p ⊎ MarksNone old now turn p → MatchTurn turn (help_waits allows lay c now h) (help_answers lay c now h)
   marks {old} {p} l x (inl y) = asks y.asks (to_mark (reading old) l p y.next y.is y.first x)
   marks {old} {p} l x (inr y) = asks y.asks (to_new (reading old) l p y.none x)
 

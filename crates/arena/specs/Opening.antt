@@ -1,0 +1,9 @@
+-- The nodes that are there from the start.
+use Rattle.std.specs.Prelude.{ℕ}
+use Rattle.arena.specs.declared.limits.Mode.{Mode}
+use Rattle.arena.specs.declared.limits.Mode.TheVariants.{Tree, Records}
+
+-- three of the tree, or node 0 and eight cells
+abbrev pub opening_nodes : Mode → ℕ
+opening_nodes Tree = 3
+opening_nodes Records = 9

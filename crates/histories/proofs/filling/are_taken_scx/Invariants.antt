@@ -1,7 +1,0 @@
-use Rattle.std.proofs.Common.{ℕ, ◌<◌}
-use Rattle.arena.specs.Fills.{IsOwnScx, IsTakenScx}
-use Rattle.histories.specs.Past.{past}
-use Rattle.histories.proofs.filling.are_taken_scx.Given as goal
-
-abbrev pub invariant-loop-earlier : goal.invariant-loop-earlier
-invariant-loop-earlier l = (t : ℕ) → IsOwnScx l.layout l.fn.pass.0 t → t < l.earlier → IsTakenScx (past l.layout l.rows) t

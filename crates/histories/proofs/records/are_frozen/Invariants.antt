@@ -1,6 +1,0 @@
-use Rattle.arena.specs.Lawful.{AreFrozen}
-use Rattle.histories.specs.Past.{past}
-use Rattle.histories.proofs.records.are_frozen.Given as goal
-
-abbrev pub invariant-loop-earlier : goal.invariant-loop-earlier
-invariant-loop-earlier l = AreFrozen (past l.layout l.rows) l.scx l.earlier

@@ -1,0 +1,8 @@
+mod Steps
+mod Helds
+mod Mentions
+mod Flags
+mod Filled
+mod Judged
+mod Wins
+mod Examples

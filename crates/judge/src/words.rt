@@ -1,0 +1,77 @@
+//! What words hold, and have held, after some rows.
+ghost use Rattle.std.specs.Prelude.{◌≡◌, ◌↔◌, IsTrue, cond};
+ghost use Rattle.arena.specs.History.{value, HasHeld};
+ghost use Rattle.arena.specs.Layout.{opening};
+ghost use Rattle.arena.specs.Words.{same_word};
+ghost use Rattle.std.specs.List.{list_any};
+ghost use Rattle.judge.specs.Past.{past};
+ghost use Rattle.judge.specs.Tests.{leaves};
+
+use arena::{Layout, Mode, NodeNo, NodeWord, Row, ScxNo, ScxWord, Side, Word};
+
+/// What a word holds at the start.
+fn opening_value(mode: Mode, word: Word) -> u64
+    ensures { result ≡ opening mode word }
+{
+    match (mode, word) {
+        (_, Word::Scx(ScxNo(0), ScxWord::State)) => 2,
+        (Mode::Tree, Word::Node(NodeNo(0), NodeWord::Head)) => 2,
+        (Mode::Tree, Word::Node(NodeNo(1), NodeWord::Head)) => 13,
+        (Mode::Tree, Word::Node(NodeNo(2), NodeWord::Head)) => 14,
+        (Mode::Tree, Word::Node(NodeNo(0), NodeWord::Child(Side::Left))) => 1,
+        (Mode::Tree, Word::Node(NodeNo(0), NodeWord::Child(Side::Right))) => 2,
+        _ => 0,
+    }
+}
+
+/// Whether two words are the same.
+pub fn is_same(one: Word, other: Word) -> bool
+    ensures test { result ≡ same_word one other }
+    ensures same { IsTrue result ↔ (one ≡ other) }
+{
+    one == other
+}
+
+/// What a word holds after a row, where it held `before` before it.
+fn held_after(row: &Row, word: Word, before: u64) -> u64
+    ensures { result ≡ cond (same_word row.now.word word) row.now.after before }
+{
+    if is_same(row.word, word) {
+        row.after
+    } else {
+        before
+    }
+}
+
+/// What a word holds after the rows.
+pub fn value_of(layout: &Layout, rows: &[Row], word: Word) -> u64
+    ensures { result ≡ value (past layout.now rows.now) word }
+{
+    let mut held = opening_value(layout.mode, word);
+    for row in rows {
+        held = held_after(row, word, held);
+    }
+    held
+}
+
+/// Whether a row leaves a word with a value.
+fn leaves(row: &Row, word: Word, value: u64) -> bool
+    ensures { result ≡ leaves word value row.now }
+{
+    is_same(row.word, word) && row.after == value
+}
+
+/// Whether a row leaves a word with a value.
+fn is_left(rows: &[Row], word: Word, value: u64) -> bool
+    ensures { result ≡ list_any (leaves word value) rows.now }
+{
+    rows.iter().any(|row| leaves(row, word, value))
+}
+
+/// Whether a word holds a value, or has held it before.
+pub fn has_held(layout: &Layout, rows: &[Row], word: Word, value: u64) -> bool
+    ensures { IsTrue result ↔ HasHeld (past layout.now rows.now) word value }
+{
+    let opened = opening_value(layout.mode, word) == value;
+    opened || is_left(rows, word, value)
+}
