@@ -1,5 +1,8 @@
 -- What a pass owns, and what is left of it.
-use Rattle.std.specs.Prelude.{ℕ, ◌+◌, ◌<◌, ◌≤◌}
+use Rattle.std.specs.Prelude.{◌≡◌, ℕ, ◌+◌, ◌-◌, ◌<◌, ◌≤◌}
+use Rattle.arena.specs.declared.fault.Full.{Full}
+use Rattle.arena.specs.declared.fault.Resource.{Resource}
+use Rattle.arena.specs.declared.fault.Resource.TheVariants.{Nodes, Scx as ScxRecords}
 use Rattle.arena.specs.declared.layout.Layout.{Layout}
 use Rattle.arena.specs.Layout.{first_node, first_scx}
 
@@ -22,3 +25,16 @@ pub record HasNode (left : Left) (n : ℕ) : Type 0 where
 pub record HasScx (left : Left) (s : ℕ) : Type 0 where
   pub from : left.next_scx ≤ s
   pub below : s < left.next_scx + left.scx
+
+-- what is left once the next node and the next SCX-record are taken
+abbrev pub taken : Left → Left
+taken left = record { next_node = left.next_node + 1; nodes = left.nodes - 1; next_scx = left.next_scx + 1; scx = left.scx - 1 }
+
+-- nothing is left of this, which is tested after the nodes
+abbrev pub IsFullOf : Left → Resource → ℕ → Type 0
+IsFullOf left Nodes k = (left.nodes ≡ 0) × (k ≡ 0)
+IsFullOf left ScxRecords k = (0 < left.nodes) × (left.scx ≡ 0) × (k ≡ 0)
+
+-- this is lacking, and so much is left of it
+abbrev pub IsFull : Left → Full → Type 0
+IsFull left f = IsFullOf left f.what f.left

@@ -12,6 +12,21 @@ pub struct BadLimits;
 #[error("no memory")]
 pub struct NoMemory;
 
+/// What a share can run out of.
+#[derive(Clone, Copy, Debug, PartialEq, Eq)]
+pub enum Resource {
+    Nodes,
+    Scx,
+}
+
+/// So much of it is left, and that is too little.
+#[derive(Clone, Copy, Debug, PartialEq, Eq, Error)]
+#[error("share used up")]
+pub struct Full {
+    pub what: Resource,
+    pub left: u32,
+}
+
 impl From<AllocError> for NoMemory {
     fn from(_error: AllocError) -> NoMemory {
         NoMemory

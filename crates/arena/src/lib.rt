@@ -11,7 +11,7 @@ mod share;
 mod step;
 mod word;
 
-pub use fault::{BadLimits, NoMemory};
+pub use fault::{BadLimits, Full, NoMemory, Resource};
 pub use layout::Layout;
 pub use limits::{Limits, Mode};
 pub use machine::{Machine, Shape, Turn};

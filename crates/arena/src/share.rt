@@ -1,7 +1,8 @@
 //! What a pass owns of the nodes and SCX-records, and what it has taken of them.
-ghost use Rattle.std.specs.Prelude.{◌≡◌, ◌≢◌, ℕ, ◌+◌, ◌-◌, ◌<◌, ◌≤◌, ◌^◌, IfSome, IfNone, MatchOption};
-ghost use Rattle.arena.specs.Share.{Left, whole_share, HasNode, HasScx};
+ghost use Rattle.std.specs.Prelude.{◌≡◌, ◌≢◌, ℕ, ◌+◌, ◌-◌, ◌<◌, ◌≤◌, ◌^◌, IfSome, IfNone, MatchOption, IfOk, IfErr, OnOk};
+ghost use Rattle.arena.specs.Share.{Left, whole_share, HasNode, HasScx, taken, IsFull};
 
+use crate::fault::{Full, Resource};
 use crate::layout::Layout;
 use crate::number::{NodeNo, PassNo, ScxNo};
 use std::marker::Model;
@@ -88,10 +89,37 @@ impl Share {
         Some(scx)
     }
 
+    /// Takes a node and an SCX-record, or nothing; the nodes are tested first.
+    pub fn take(&mut self) -> Result<(Fresh, ScxNo), Full>
+        ensures records { IfOk result (λ r. (r.0 ≡ self.old.next_node) × (r.1.0 ≡ self.old.next_scx)) }
+        ensures some { OnOk result ((0 < self.old.nodes) × (0 < self.old.scx)) }
+        ensures left { OnOk result (self.new ≡ taken self.old) }
+        ensures full { IfErr result (λ f. IsFull self.old f × (self.new ≡ self.old)) }
+    {
+        let (nodes, scx) = self.left();
+        if nodes == 0 {
+            return Err(lacking(Resource::Nodes));
+        }
+        if scx == 0 {
+            return Err(lacking(Resource::Scx));
+        }
+        match (self.fresh(), self.scx()) {
+            (Some(fresh), Some(scx)) => Ok((fresh, scx)),
+            _ => unreachable!(),
+        }
+    }
+
     /// How many nodes and SCX-records are left.
     pub fn left(&self) -> (u32, u32)
         ensures { result ≡ (self.now.nodes, self.now.scx) }
     {
         (self.nodes, self.scx)
     }
+}
+
+/// Of this nothing is left.
+fn lacking(what: Resource) -> Full
+    ensures { result ≡ record { what = what; left = 0 } }
+{
+    Full { what, left: 0 }
 }

@@ -41,40 +41,40 @@ course_keeps P p more m h (goes_on old is x) = more old m is (course_keeps P p m
 
 -- Calls that fill nothing
 
-module _ (lay : Layout) (c : ℕ) (start : History) (left : Left) where
+module _ (allows : Layout → History → ℕ → Type 0) (lay : Layout) (c : ℕ) (start : History) (left : Left) where
   abbrev pub IsQuiet : History → Type 0
-  IsQuiet h = Goes lay c start h left left.next_node left.next_scx []
+  IsQuiet h = Goes allows lay c start h left left.next_node left.next_scx []
 
   -- the next SCX-record of the share is not in progress
-  covers : (h : History) → IsRun allows_all lay h → IsShare lay h c left left.next_node left.next_scx → (n : ℕ) → IsOwnScx lay c left.next_scx → IsInProgress h left.next_scx → IsMember h left.next_scx n → IsAmong [] n
+  covers : (h : History) → IsRun allows lay h → IsShare lay h c left left.next_node left.next_scx → (n : ℕ) → IsOwnScx lay c left.next_scx → IsInProgress h left.next_scx → IsMember h left.next_scx n → IsAmong [] n
   covers h r share n own p y = absurd (next_idle lay h c left _ _ r.lawful share own p)
 
-  pub quiet_start : IsRun allows_all lay start → IsAtRest lay c start left → IsQuiet start
+  pub quiet_start : IsRun allows lay start → IsAtRest lay c start left → IsQuiet start
   quiet_start run rest = goes_from lay c start left left.next_node left.next_scx [] run rest.share rest.over (λ w. next_unwon lay start c left _ _ run.lawful rest.share w.0 w.1)
 
   -- a row of another pass, and one that is no fill
-  pub quiet_other : c < lay.passes → (h : History) (r : Row) → IsRun allows_all lay (r ⊳ h) → r.pass.0 ≢ c → IsQuiet h → IsQuiet (r ⊳ h)
+  pub quiet_other : c < lay.passes → (h : History) (r : Row) → IsRun allows lay (r ⊳ h) → r.pass.0 ≢ c → IsQuiet h → IsQuiet (r ⊳ h)
   quiet_other is_pass h r run other x =
       let share = share_by_others lay h r c left _ _ run.lawful is_pass other x.share in
       goes_more lay c start h left _ _ [] r run (takes_by_others lay c left.next_scx h r run.lawful other) x share (covers (r ⊳ h) run share)
 
-  pub quiet_step : (h : History) (r : Row) → IsRun allows_all lay (r ⊳ h) → r.kind ≢ Fill → IsQuiet h → IsQuiet (r ⊳ h)
+  pub quiet_step : (h : History) (r : Row) → IsRun allows lay (r ⊳ h) → r.kind ≢ Fill → IsQuiet h → IsQuiet (r ⊳ h)
   quiet_step h r run no_fill x =
       let share = share_by_step lay h r c left _ _ run.lawful no_fill x.share in
       goes_more lay c start h left _ _ [] r run (takes_by_step lay c left.next_scx h r no_fill) x share (covers (r ⊳ h) run share)
 
-module _ {M : Type 0} (waits : M → Call → History → Step → Type 0) (same : M → M → Type 0) (c : Call) (first : M) (left : Left) (fills_not : (m : M) (h : History) (s : Step) → waits m c h s → s.kind ≢ Fill) (run : IsRun allows_all c.layout c.start) (rest : IsAtRest c.layout c.pass c.start left) where
+module _ {allows : Layout → History → ℕ → Type 0} {M : Type 0} (waits : M → Call → History → Step → Type 0) (same : M → M → Type 0) (c : Call) (first : M) (left : Left) (fills_not : (m : M) (h : History) (s : Step) → waits m c h s → s.kind ≢ Fill) (run : IsRun allows c.layout c.start) (rest : IsAtRest c.layout c.pass c.start left) where
   abbrev IsSo : History → Type 0
-  IsSo h = Goes c.layout c.pass c.start h left left.next_node left.next_scx []
+  IsSo h = Goes allows c.layout c.pass c.start h left left.next_node left.next_scx []
 
-  pub quiet_goes : (m : M) (h : History) → Course allows_all waits same c first m h → IsSo h
-  quiet_goes m h (begins e k) = subst IsSo (sym k) (quiet_start c.layout c.pass c.start left run rest)
+  pub quiet_goes : (m : M) (h : History) → Course allows waits same c first m h → IsSo h
+  quiet_goes m h (begins e k) = subst IsSo (sym k) (quiet_start allows c.layout c.pass c.start left run rest)
   quiet_goes m h (others s r g e w other new x) =
-      let run' : IsRun allows_all c.layout (r ⊳ g) = rw e at new in
-      subst IsSo (sym e) (quiet_other c.layout c.pass c.start left c.is_pass g r run' other (quiet_goes m g x))
+      let run' : IsRun allows c.layout (r ⊳ g) = rw e at new in
+      subst IsSo (sym e) (quiet_other allows c.layout c.pass c.start left c.is_pass g r run' other (quiet_goes m g x))
   quiet_goes m h (makes s g e w new x) =
-      let run' : IsRun allows_all c.layout (row_of c s g ⊳ g) = rw e at new in
-      subst IsSo (sym e) (quiet_step c.layout c.pass c.start left g (row_of c s g) run' (fills_not m g s w) (quiet_goes m g x))
+      let run' : IsRun allows c.layout (row_of c s g ⊳ g) = rw e at new in
+      subst IsSo (sym e) (quiet_step allows c.layout c.pass c.start left g (row_of c s g) run' (fills_not m g s w) (quiet_goes m g x))
   quiet_goes m h (goes_on old is x) = quiet_goes old h x
 
 -- An SCX with a fresh cell
@@ -92,17 +92,17 @@ pub record HasHand (m : PutRun) (node scx : ℕ) (snaps : List Snap) : Type 0 wh
 
 module _ (same : PutRun → PutRun → Type 0) (c : Call) (first : PutRun) (left : Left) (node scx : ℕ) (snaps : List Snap) (hand : HasHand first node scx snaps) (keeps : (old now : PutRun) → same old now → HasHand old node scx snaps → HasHand now node scx snaps) (next_node : left.next_node ≡ suc node) (next_scx : left.next_scx ≡ suc scx) (run : IsRun allows_all c.layout c.start) (share : IsShare c.layout c.start c.pass left node scx) (over : AreOver c.layout c.pass scx c.start) (free : ¬ HasOwnWon c.layout c.pass c.start scx) where
   abbrev Is : PutRun → History → Type 0
-  Is m h = HasHand m node scx snaps × Goes c.layout c.pass c.start h left node scx snaps
+  Is m h = HasHand m node scx snaps × Goes allows_all c.layout c.pass c.start h left node scx snaps
 
   pub put_goes : (m : PutRun) (h : History) → Course allows_all (put_waits allows_all) same c first m h → Is m h
-  put_goes m h (begins e k) = (rw e hand, subst (λ g. Goes c.layout c.pass c.start g left node scx snaps) (sym k) (goes_from c.layout c.pass c.start left node scx snaps run share over free))
+  put_goes m h (begins e k) = (rw e hand, subst (λ g. Goes allows_all c.layout c.pass c.start g left node scx snaps) (sym k) (goes_from c.layout c.pass c.start left node scx snaps run share over free))
   put_goes m h (others s r g e w other new x) =
       let y = put_goes m g x in
       let run' : IsRun allows_all c.layout (r ⊳ g) = rw e at new in
       let share' = share_by_others c.layout g r c.pass left node scx run'.lawful c.is_pass other y.1.share in
       let w' : put_waits allows_all m c (r ⊳ g) s = rw e at w in (
         y.0,
-        subst (λ k. Goes c.layout c.pass c.start k left node scx snaps) (sym e) (goes_more c.layout c.pass c.start g left node scx snaps r run' (takes_by_others c.layout c.pass scx g r run'.lawful other) y.1 share'
+        subst (λ k. Goes allows_all c.layout c.pass c.start k left node scx snaps) (sym e) (goes_more c.layout c.pass c.start g left node scx snaps r run' (takes_by_others c.layout c.pass scx g r run'.lawful other) y.1 share'
             (λ n own p z. rw (sym y.0.snaps_are) (put_covers allows_all m c (r ⊳ g) s n w' (rw y.0.record_is p) (rw y.0.record_is z)))),
       )
   put_goes m h (makes s g e w new x) =
@@ -113,13 +113,13 @@ module _ (same : PutRun → PutRun → Type 0) (c : Call) (first : PutRun) (left
       let takes : TakesOnly c.layout c.pass scx g r = subst (λ k. TakesOnly c.layout c.pass k g r) y.0.record_is (put_takes allows_all m c g s w) in
       let share' = share_by_put allows_all m c g s left node scx run'.lawful w (rw y.0.fresh next_node) (rw y.0.record_is next_scx) y.1.share in (
         y.0,
-        subst (λ k. Goes c.layout c.pass c.start k left node scx snaps) (sym e) (goes_more c.layout c.pass c.start g left node scx snaps r run' takes y.1 share'
+        subst (λ k. Goes allows_all c.layout c.pass c.start k left node scx snaps) (sym e) (goes_more c.layout c.pass c.start g left node scx snaps r run' takes y.1 share'
             (λ n own p z. rw (sym y.0.snaps_are) (put_covers_then allows_all m c (r ⊳ g) (value g s.word) n made (rw y.0.record_is p) (rw y.0.record_is z)))),
       )
   put_goes m h (goes_on old is x) = let y = put_goes old h x in (keeps old m is y.0, y.1)
 
 -- once an SCX has answered, its pass is at rest
-pub put_rests : (c : Call) (m : PutRun) (h : History) (a : Answer) (left : Left) (node scx : ℕ) (snaps : List Snap) → HasHand m node scx snaps → left.next_node ≡ suc node → left.next_scx ≡ suc scx → scx ≢ 0 → put_answers m c h a → Goes c.layout c.pass c.start h left node scx snaps → IsAtRest c.layout c.pass h left
+pub put_rests : {allows : Layout → History → ℕ → Type 0} (c : Call) (m : PutRun) (h : History) (a : Answer) (left : Left) (node scx : ℕ) (snaps : List Snap) → HasHand m node scx snaps → left.next_node ≡ suc node → left.next_scx ≡ suc scx → scx ≢ 0 → put_answers m c h a → Goes allows c.layout c.pass c.start h left node scx snaps → IsAtRest c.layout c.pass h left
 put_rests c m h a left node scx snaps hand next_node next_scx real x y = record {
   share = share_ends c.layout h c.pass left node scx next_node next_scx (rw hand.fresh at x.0.taken) (finished_taken c.layout h scx y.sound.lawful real finished) y.share;
   over = over_begins c.layout c.pass left.next_scx h (over_ends c.layout c.pass scx h y.over finished);

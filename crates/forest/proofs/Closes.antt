@@ -16,8 +16,7 @@ use Rattle.arena.specs.Lawful.{Lawful}
 use Rattle.arena.specs.Machines.{IsRun}
 use Rattle.arena.proofs.Values.{ends_trans}
 use Rattle.histories.proofs.Lemmas.{fields_are, lawful_since}
-use Rattle.arena.specs.declared.limits.Mode.TheVariants.{Records}
-use Rattle.prims.specs.Cells.{allows_all}
+use Rattle.arena.specs.declared.limits.Mode.{Mode}
 use Rattle.forest.specs.declared.view.Knower.{Knower}
 use Rattle.forest.specs.declared.view.View.{View}
 use Rattle.forest.specs.declared.pass.Pass.TheInside.{Inside}
@@ -44,8 +43,8 @@ index_is (x ∷ xs) (suc i) a e = index_is xs i a e
 -- One pass
 
 -- a pass that has looked at the table once more
-pub looked_from : {T : Type 0} (p : Inside T) (x : IsPass allows_all Records p) (s : Seat ℕ View) (n : ℕ) → s.me.1 ≡ p.seat.me.1 → Made allows_all look p.seat.me.0.passes n s.me.0.passes → (k : Knower) × (s.me.0.passes ≡ k ∷ []) × IsFrom (sight p) k
-looked_from p x s n bare m = (
+pub looked_from : {allows : Layout → History → ℕ → Type 0} {mode : Mode} {T : Type 0} (p : Inside T) (x : IsPass allows mode p) (s : Seat ℕ View) (n : ℕ) → s.me.1 ≡ p.seat.me.1 → Made allows look p.seat.me.0.passes n s.me.0.passes → (k : Knower) × (s.me.0.passes ≡ k ∷ []) × IsFrom allows (sight p) k
+looked_from {allows} {mode} p x s n bare m = (
   knower p.number.0 p.layout (known_of s.me.0.passes),
   y.seat,
   record {
@@ -66,16 +65,16 @@ looked_from p x s n bare m = (
     same : m.pass ≡ me
     same = same_knower p.seat.me.0.passes m.pass me m.was x.seat
 
-    has_looked : HasLooked allows_all me (m.others ++ known_of p.seat.me.0.passes)
-    has_looked = subst (λ (k : Knower). HasLooked allows_all k (m.others ++ k.known)) same record { behind = (m.others, refl, m.by_others); before = m.before; after = m.after }
+    has_looked : HasLooked allows me (m.others ++ known_of p.seat.me.0.passes)
+    has_looked = subst (λ (k : Knower). HasLooked allows k (m.others ++ k.known)) same record { behind = (m.others, refl, m.by_others); before = m.before; after = m.after }
 
     are : s.me.0.passes ≡ looked me (m.others ++ known_of p.seat.me.0.passes) ∷ []
     are = subst (λ (k : Knower). s.me.0.passes ≡ looked k (m.others ++ k.known) ∷ []) same m.is
 
-    y : HasCalled p s 0 (λ h. EndsWith h (past p.layout.mode (m.others ++ known_of p.seat.me.0.passes)))
+    y : HasCalled allows p s 0 (λ h. EndsWith h (past p.layout.mode (m.others ++ known_of p.seat.me.0.passes)))
     y = look_called p x s (m.others ++ known_of p.seat.me.0.passes) has_looked are
 
-    z : IsPass allows_all Records (seated p s)
+    z : IsPass allows mode (seated p s)
     z = called_pass p x s 0 _ bare y
 
 -- All of them
@@ -89,13 +88,13 @@ one_right : (k : Knower) (ps qs : List Knower) → IsOneOf k qs → IsOneOf k (p
 one_right k [] qs i = i
 one_right k (p ∷ ps) qs i = inr (one_right k ps qs i)
 
-in_left : (ds : List Sight) (ps qs : List Knower) → AreIn ds ps → AreIn ds (ps ++ qs)
-in_left [] ps qs a = tt
-in_left (d ∷ ds) ps qs a = ((a.0.0, one_left a.0.0 ps qs a.0.1, a.0.2), in_left ds ps qs a.1)
+in_left : (allows : Layout → History → ℕ → Type 0) (ds : List Sight) (ps qs : List Knower) → AreIn allows ds ps → AreIn allows ds (ps ++ qs)
+in_left allows [] ps qs a = tt
+in_left allows (d ∷ ds) ps qs a = ((a.0.0, one_left a.0.0 ps qs a.0.1, a.0.2), in_left allows ds ps qs a.1)
 
 -- one more, at the seats that are joined
-pub in_more : (d : Sight) (ds : List Sight) (all own joined : List Knower) (k : Knower) → own ≡ k ∷ [] → joined ≡ all ++ own → IsFrom d k → AreIn ds all → AreIn (d ∷ ds) joined
-in_more d ds all own joined k e j f a = rw (j, e) ((k, one_right k all (k ∷ []) (inl refl), f), in_left ds all (k ∷ []) a)
+pub in_more : {allows : Layout → History → ℕ → Type 0} (d : Sight) (ds : List Sight) (all own joined : List Knower) (k : Knower) → own ≡ k ∷ [] → joined ≡ all ++ own → IsFrom allows d k → AreIn allows ds all → AreIn allows (d ∷ ds) joined
+in_more {allows} d ds all own joined k e j f a = rw (j, e) ((k, one_right k all (k ∷ []) (inl refl), f), in_left allows ds all (k ∷ []) a)
 
 pub of_append : (f : Ground) (xs ys : List Sight) → AreOf f (xs ++ ys) → AreOf f xs × AreOf f ys
 of_append f [] ys a = (tt, a)
@@ -118,12 +117,12 @@ record IsAtEnd (lay : Layout) (rows : List Row) (d : Sight) : Type 0 where
   blamed : HasBlamed d
 
 -- behind what it knows are rows of others alone
-one_ended : (d : Sight) (k : Knower) (lay : Layout) (run : List Row) → d.layout ≡ lay → IsFrom d k → IsRun allows_all lay (past lay.mode run) → Behind run k → IsAtEnd lay run d
-one_ended d k lay run same f sound b =
+one_ended : {allows : Layout → History → ℕ → Type 0} (d : Sight) (k : Knower) (lay : Layout) (run : List Row) → d.layout ≡ lay → IsFrom allows d k → IsRun allows lay (past lay.mode run) → Behind run k → IsAtEnd lay run d
+one_ended {allows} d k lay run same f sound b =
     let h0 : History = past d.layout.mode k.known in
-    let sound' : IsRun allows_all d.layout (past d.layout.mode (b.0 ++ k.known)) = subst (λ l. IsRun allows_all d.layout (past d.layout.mode l)) b.1 (subst (λ (l : Layout). IsRun allows_all l (past l.mode run)) (sym same) sound) in
+    let sound' : IsRun allows d.layout (past d.layout.mode (b.0 ++ k.known)) = subst (λ l. IsRun allows d.layout (past d.layout.mode l)) b.1 (subst (λ (l : Layout). IsRun allows l (past l.mode run)) (sym same) sound) in
     let mine = subst (λ (q : Knower). q.number.0 ≡ d.number) (sym f.is) refl in
-    let goes = keeps_all allows_all d.layout d.number (IsQuiet d.layout d.number h0 d.share) (λ h r run other z. quiet_other d.layout d.number h0 d.share f.is_pass h r run other z) b.0 k.known (rw mine at b.2) sound' (quiet_start d.layout d.number h0 d.share f.sound f.rest) in
+    let goes = keeps_all allows d.layout d.number (IsQuiet allows d.layout d.number h0 d.share) (λ h r run other z. quiet_other allows d.layout d.number h0 d.share f.is_pass h r run other z) b.0 k.known (rw mine at b.2) sound' (quiet_start allows d.layout d.number h0 d.share f.sound f.rest) in
     let none = goes.unwon (λ w. next_unwon d.layout _ d.number d.share _ _ goes.sound.lawful goes.share w.0 w.1) in
     subst (λ (l : Layout). IsAtEnd l run d) same (subst (λ l. IsAtEnd d.layout l d) (sym b.1) record {
       ends = ends_trans _ _ _ goes.since f.ends;
@@ -134,7 +133,7 @@ one_ended d k lay run same f sound b =
       blamed = f.blamed;
     })
 
-all_ended : (id : _) (lay : Layout) (run : List Row) (owner : ℕ → ℕ) (seat : ℕ) (ks : List Knower) → IsRun allows_all lay (past lay.mode run) → Owns lay run owner seat ks → (ds : List Sight) → AreOf (ground id lay) ds → AreIn ds ks → Each (IsAtEnd lay run) ds
+all_ended : {allows : Layout → History → ℕ → Type 0} (id : _) (lay : Layout) (run : List Row) (owner : ℕ → ℕ) (seat : ℕ) (ks : List Knower) → IsRun allows lay (past lay.mode run) → Owns lay run owner seat ks → (ds : List Sight) → AreOf (ground id lay) ds → AreIn allows ds ks → Each (IsAtEnd lay run) ds
 all_ended id lay run owner seat ks sound o [] of a = tt
 all_ended id lay run owner seat ks sound o (d ∷ ds) of a =
     let k = a.0.0 in
@@ -154,9 +153,9 @@ all_left lay rows ds l all = let run : History = past lay.mode rows in each_by (
     ends_at : (p : Sight) → IsAtEnd lay rows p → EndsWith (past lay.mode rows) (run_of p)
     ends_at p a = subst (λ (l : Layout). EndsWith (past l.mode rows) (run_of p)) a.same a.ends
 
-pub closes : (id : _) (lay : Layout) (ds : List Sight) (seat : ℕ) (v : View) (words : List ℕ) (slots : List ℕ) → AreOf (ground id lay) ds → AreIn ds v.passes → Final (Seen (Kept allows_all lay) seat v) words slots → IsClosed lay ds (record { layout = lay; words = words })
-closes id lay ds seat v words slots of a f =
-    let kept : Kept allows_all lay f.0 = f.1.0 in
+pub closes : {allows : Layout → History → ℕ → Type 0} (id : _) (lay : Layout) (ds : List Sight) (seat : ℕ) (v : View) (words : List ℕ) (slots : List ℕ) → AreOf (ground id lay) ds → AreIn allows ds v.passes → Final (Seen (Kept allows lay) seat v) words slots → IsClosed allows lay ds (record { layout = lay; words = words })
+closes {allows} id lay ds seat v words slots of a f =
+    let kept : Kept allows lay f.0 = f.1.0 in
     let holds : (w : Word) → IsWord lay w → slice_index words (place lay w) ≡ value (past lay.mode kept.run) w = λ w i. rw (← f.2) (kept.holds w i) in
     let all : Each (IsAtEnd lay kept.run) ds = all_ended id lay kept.run kept.owner seat v.passes kept.sound (kept.passes seat v f.1.1) ds of a in
     record {

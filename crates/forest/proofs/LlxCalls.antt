@@ -2,10 +2,11 @@
 use Rattle.std.proofs.Common.{◌≡◌, ◌≤◌, ◌+◌, ℕ, true, List, ◌∷◌, None, refl, sym, ◌∙◌, subst}
 use Rattle.atomic_table.specs.declared.shared.Seat.{Seat}
 use Rattle.arena.specs.declared.number.NodeNo.{NodeNo}
+use Rattle.arena.specs.declared.layout.Layout.{Layout}
 use Rattle.arena.specs.History.{History}
 use Rattle.arena.specs.Log.{is_final}
+use Rattle.arena.specs.declared.limits.Mode.{Mode}
 use Rattle.arena.specs.declared.limits.Mode.TheVariants.{Records}
-use Rattle.prims.specs.Cells.{allows_all}
 use Rattle.prims.specs.LlxKnown.{IsSnapshot, llx_ready, llx_waits, llx_answers}
 use Rattle.prims.proofs.FillsNot.{llx_fills_not}
 use Rattle.prims.proofs.LlxAnswers.{ready_at_start, cell_opened, finalized_at_start}
@@ -26,29 +27,29 @@ use Rattle.forest.proofs.Blames.{blamed_more}
 use Rattle.forest.proofs.Passes.{HasCalled, called_pass, called_goes_on, called_nothing, call_of, seated, called}
 
 -- a run of a cell that has not begun may begin
-pub llx_begins : {T : Type 0} (p : Inside T) (x : IsPass allows_all Records p) (number : ℕ) (m : LlxRun) → m.at ≡ Start → m.node.0 ≤ 8 → IsCalled allows_all p.seat.me.0.passes (call_of p x number) (λ h. ((call_of p x number).start ≡ h) × llx_ready allows_all m (call_of p x number) h None)
-llx_begins p x number m start small = record {
+pub llx_begins : {allows : Layout → History → ℕ → Type 0} {T : Type 0} (p : Inside T) (x : IsPass allows Records p) (number : ℕ) (m : LlxRun) → m.at ≡ Start → m.node.0 ≤ 8 → IsCalled allows p.seat.me.0.passes (call_of p x number) (λ h. ((call_of p x number).start ≡ h) × llx_ready allows m (call_of p x number) h None)
+llx_begins {allows} p x number m start small = record {
   known = known_of p.seat.me.0.passes;
   is = x.seat;
   sound = x.sound;
-  so = (refl, ready_at_start allows_all m (call_of p x number) _ refl start (cell_opened p.layout _ m.node.0 x.is_mode small) (all_idle p.layout _ p.number.0 p.share _ _ x.sound.lawful x.rest.share x.rest.over));
+  so = (refl, ready_at_start allows m (call_of p x number) _ refl start (cell_opened p.layout _ m.node.0 x.is_mode small) (all_idle p.layout _ p.number.0 p.share _ _ x.sound.lawful x.rest.share x.rest.over));
 }
 
 -- what its answer says
-abbrev pub Answered : {T : Type 0} (p : Inside T) → IsPass allows_all Records p → ℕ → NodeNo → Llx → History → Type 0
+abbrev pub Answered : {allows : Layout → History → ℕ → Type 0} {mode : Mode} {T : Type 0} (p : Inside T) → IsPass allows mode p → ℕ → NodeNo → Llx → History → Type 0
 Answered p x number node a h = (m : LlxRun) × (m.node ≡ node) × llx_answers m (call_of p x number) h a
 
-pub llx_called : {T : Type 0} (p : Inside T) (x : IsPass allows_all Records p) (number : ℕ) (s : Seat ℕ View) (first m : LlxRun) (node : NodeNo) (a : Llx) → first.node ≡ node → IsCalled allows_all s.me.0.passes (call_of p x number) (λ h. llx_answers m (call_of p x number) h a × Course allows_all (llx_waits allows_all) (λ old now. now.node ≡ old.node) (call_of p x number) first m h) → HasCalled p s number (Answered p x number node a)
-llx_called p x number s first m node a is y =
-    let z = called p x s number (llx_waits allows_all) (λ old now. now.node ≡ old.node) first m (λ h. llx_answers m (call_of p x number) h a) (λ k h t w. llx_fills_not allows_all k (call_of p x number) h t w) y in
+pub llx_called : {allows : Layout → History → ℕ → Type 0} {mode : Mode} {T : Type 0} (p : Inside T) (x : IsPass allows mode p) (number : ℕ) (s : Seat ℕ View) (first m : LlxRun) (node : NodeNo) (a : Llx) → first.node ≡ node → IsCalled allows s.me.0.passes (call_of p x number) (λ h. llx_answers m (call_of p x number) h a × Course allows (llx_waits allows) (λ old now. now.node ≡ old.node) (call_of p x number) first m h) → HasCalled allows p s number (Answered p x number node a)
+llx_called {allows} p x number s first m node a is y =
+    let z = called p x s number (llx_waits allows) (λ old now. now.node ≡ old.node) first m (λ h. llx_answers m (call_of p x number) h a) (λ k h t w. llx_fills_not allows k (call_of p x number) h t w) y in
     record { seat = z.seat; answers = (m, course_keeps (λ (k : LlxRun). k.node ≡ node) is (λ old now e q. e ∙ q) m _ y.so.1, z.answers); goes = z.goes; calls = z.calls }
 
-module _ {T : Type 0} (p : Inside T) (x : IsPass allows_all Records p) (number : ℕ) (s : Seat ℕ View) (node : NodeNo) where
+module _ {allows : Layout → History → ℕ → Type 0} {mode : Mode} {T : Type 0} (p : Inside T) (x : IsPass allows mode p) (number : ℕ) (s : Seat ℕ View) (node : NodeNo) where
   -- the pass with its seat and its blame list as they are now
   abbrev pub heard : List ℕ → Inside T
   heard blamed = record p { seat = s; blamed = blamed }
 
-  pub llx_says : (blamed : List ℕ) (a : Llx) → HasCalled p s number (Answered p x number node a) → LlxSays (sight p) (sight (heard blamed)) node.0 a
+  pub llx_says : (blamed : List ℕ) (a : Llx) → HasCalled allows p s number (Answered p x number node a) → LlxSays (sight p) (sight (heard blamed)) node.0 a
   llx_says blamed (Snapshot snap) y =
       let z : IsSnapshot p.layout (run_of (sight (seated p s))) node.0 snap = subst (λ (k : NodeNo). IsSnapshot p.layout (run_of (sight (seated p s))) k.0 snap) y.answers.1 y.answers.2.0 in
       (z, (run_of (sight (seated p s)), usable_now p.layout _ node.0 snap z), alone_now p.layout p.number.0 _ node.0 snap (all_idle p.layout _ p.number.0 p.share _ _ y.goes.sound.lawful y.goes.share y.goes.over) z)
@@ -57,17 +58,17 @@ module _ {T : Type 0} (p : Inside T) (x : IsPass allows_all Records p) (number :
       let z = rw y.answers.1 at y.answers.2 in
       (z.0, record { found = z.1.found; others = z.1.others; in_the_way = z.1.in_the_way; over = z.1.over; not_final = z.1.not_final })
 
-  pub llx_finalized : (a : Llx) → HasCalled p s number (Answered p x number node a) → is_final (seen_of (sight p)) node.0 ≡ true → IsFinalizedAnswer a
+  pub llx_finalized : (a : Llx) → HasCalled allows p s number (Answered p x number node a) → is_final (seen_of (sight p)) node.0 ≡ true → IsFinalizedAnswer a
   llx_finalized a y final =
       let m = y.answers.0 in
       let z = finalized_at_start m (call_of p x number) _ a y.goes.sound.lawful y.goes.since (subst (λ (k : NodeNo). is_final (seen_of (sight p)) k.0 ≡ true) (sym y.answers.1) final) y.answers.2 in
       subst IsFinalizedAnswer (sym z.1) tt
 
   -- it is a pass again
-  pub llx_pass : (a : Llx) (blamed : List ℕ) → blamed ≡ blamed_by a p.blamed → s.me.1 ≡ p.seat.me.1 → HasCalled p s number (Answered p x number node a) → IsPass allows_all Records (heard blamed)
-  llx_pass a blamed e bare y = subst (λ l. IsPass allows_all Records (heard l)) (sym e) (go a y)
+  pub llx_pass : (a : Llx) (blamed : List ℕ) → blamed ≡ blamed_by a p.blamed → s.me.1 ≡ p.seat.me.1 → HasCalled allows p s number (Answered p x number node a) → IsPass allows mode (heard blamed)
+  llx_pass a blamed e bare y = subst (λ l. IsPass allows mode (heard l)) (sym e) (go a y)
     where
-      go : (b : Llx) → HasCalled p s number (Answered p x number node b) → IsPass allows_all Records (heard (blamed_by b p.blamed))
+      go : (b : Llx) → HasCalled allows p s number (Answered p x number node b) → IsPass allows mode (heard (blamed_by b p.blamed))
       go (Snapshot snap) z = called_pass p x s number _ bare z
       go (Finalized n u) z = called_pass p x s number _ bare z
       go (Fail n u) z =
@@ -83,10 +84,10 @@ module _ {T : Type 0} (p : Inside T) (x : IsPass allows_all Records p) (number :
           }
 
   -- it has gone on, and taken nothing
-  pub llx_goes_on : (a : Llx) (blamed : List ℕ) (left most : ℕ) → blamed ≡ blamed_by a p.blamed → s.table_id ≡ p.seat.table_id → s.me.1 ≡ p.seat.me.1 → HasCalled p s number (Answered p x number node a) → steps_of s.me.0.passes ≤ steps_of p.seat.me.0.passes + left → left ≤ most → HasGoneOn (sight p) (sight (heard blamed)) number most
+  pub llx_goes_on : (a : Llx) (blamed : List ℕ) (left most : ℕ) → blamed ≡ blamed_by a p.blamed → s.table_id ≡ p.seat.table_id → s.me.1 ≡ p.seat.me.1 → HasCalled allows p s number (Answered p x number node a) → steps_of s.me.0.passes ≤ steps_of p.seat.me.0.passes + left → left ≤ most → HasGoneOn allows (sight p) (sight (heard blamed)) number most
   llx_goes_on a blamed left most e table bare y few small =
       let z = called_goes_on p x s number _ left most table bare y few small in
       record { later = record { table = table; layout = refl; number = refl; run = z.later.run }; lawful = z.lawful; calls = z.calls; steps = z.steps; blames = (llx_pass a blamed e bare y).blamed; usable = z.usable }
 
-  pub llx_nothing : (a : Llx) (blamed : List ℕ) → HasCalled p s number (Answered p x number node a) → HasTakenNothing (sight p) (sight (heard blamed))
+  pub llx_nothing : (a : Llx) (blamed : List ℕ) → HasCalled allows p s number (Answered p x number node a) → HasTakenNothing (sight p) (sight (heard blamed))
   llx_nothing a blamed y = let z = called_nothing p s number _ y in record { share = refl; done = z.done; alone = z.alone }

@@ -8,8 +8,6 @@ use Rattle.arena.specs.History.{History, EndsWith}
 use Rattle.arena.specs.Lawful.{Lawful}
 use Rattle.arena.specs.Machines.{IsRun}
 use Rattle.arena.proofs.Values.{ends_self, ends_trans}
-use Rattle.arena.specs.declared.limits.Mode.TheVariants.{Records}
-use Rattle.prims.specs.Cells.{allows_all}
 use Rattle.forest.specs.declared.view.Knower.{Knower}
 use Rattle.forest.specs.declared.view.View.{View}
 use Rattle.forest.specs.declared.pass.Pass.TheInside.{Inside}
@@ -51,19 +49,19 @@ pub behind_ends : (run : List Row) (p : Knower) → Behind run p → EndsWith (p
 behind_ends run p b = subst (λ rows. EndsWith (past p.layout.mode rows) (past p.layout.mode p.known)) (sym b.1) (ends_more p.layout.mode b.0 p.known)
 
 -- a pass that has looked knows what it knew, and its look
-pub look_called : {T : Type 0} (p : Inside T) (x : IsPass allows_all Records p) (s : Seat ℕ View) (run : List Row) → HasLooked allows_all (knower p.number.0 p.layout (known_of p.seat.me.0.passes)) run → s.me.0.passes ≡ looked (knower p.number.0 p.layout (known_of p.seat.me.0.passes)) run ∷ [] → HasCalled p s 0 (λ h. EndsWith h (past p.layout.mode run))
-look_called p x s run y e =
+pub look_called : {allows : Layout → History → ℕ → Type 0} {mode : Mode} {T : Type 0} (p : Inside T) (x : IsPass allows mode p) (s : Seat ℕ View) (run : List Row) → HasLooked allows (knower p.number.0 p.layout (known_of p.seat.me.0.passes)) run → s.me.0.passes ≡ looked (knower p.number.0 p.layout (known_of p.seat.me.0.passes)) run ∷ [] → HasCalled allows p s 0 (λ h. EndsWith h (past p.layout.mode run))
+look_called {allows} p x s run y e =
     let mode = p.layout.mode in
     let start = past mode (known_of p.seat.me.0.passes) in
     let r : Row = row p.number.0 look (past mode run) in
     let known : r ∷ run ≡ known_of s.me.0.passes = sym (ap known_of e) in
     let rows = y.behind.0 in
-    let before : IsRun allows_all p.layout (past mode (rows ++ known_of p.seat.me.0.passes)) = subst (λ l. IsRun allows_all p.layout (past mode l)) y.behind.1 y.before in
-    let quiet = keeps_all allows_all p.layout p.number.0 (IsQuiet p.layout p.number.0 start p.share) (λ h r run other z. quiet_other p.layout p.number.0 start p.share x.is_pass h r run other z) rows (known_of p.seat.me.0.passes) y.behind.2 before (quiet_start p.layout p.number.0 start p.share x.sound x.rest) in
+    let before : IsRun allows p.layout (past mode (rows ++ known_of p.seat.me.0.passes)) = subst (λ l. IsRun allows p.layout (past mode l)) y.behind.1 y.before in
+    let quiet = keeps_all allows p.layout p.number.0 (IsQuiet allows p.layout p.number.0 start p.share) (λ h r run other z. quiet_other allows p.layout p.number.0 start p.share x.is_pass h r run other z) rows (known_of p.seat.me.0.passes) y.behind.2 before (quiet_start allows p.layout p.number.0 start p.share x.sound x.rest) in
     record {
       seat = rw known at e;
       answers = subst (λ l. EndsWith (past mode l) (past mode run)) known (inr (ends_self (past mode run)));
-      goes = subst (λ l. IsQuiet p.layout p.number.0 start p.share (past mode l)) known (quiet_step p.layout p.number.0 start p.share (past mode run) r y.after (λ k. cc) (subst (λ l. IsQuiet p.layout p.number.0 start p.share (past mode l)) (sym y.behind.1) quiet));
+      goes = subst (λ l. IsQuiet allows p.layout p.number.0 start p.share (past mode l)) known (quiet_step allows p.layout p.number.0 start p.share (past mode run) r y.after (λ k. cc) (subst (λ l. IsQuiet allows p.layout p.number.0 start p.share (past mode l)) (sym y.behind.1) quiet));
       calls = subst (λ l. AreOfCall p.number.0 0 start (past mode l)) known (calls_more p.number.0 0 start (past mode run) r (λ own. refl) (subst (λ l. AreOfCall p.number.0 0 start (past mode l)) (sym y.behind.1) (calls_others p.number.0 0 start mode rows (known_of p.seat.me.0.passes) y.behind.2 (calls_start p.number.0 0 start))));
     }
 
@@ -72,7 +70,7 @@ pub look_steps : {T : Type 0} (p : Inside T) (s : Seat ℕ View) (run : List Row
 look_steps p s run b e = ap (λ l. rows_of p.number.0 (known_of l)) e ∙ rw (eq-eqb p.number.0 p.number.0 refl) (ap suc (ap (rows_of p.number.0) b.1 ∙ rows_by_others p.number.0 b.0 _ b.2))
 
 -- so it has looked once
-pub looked_once : {T : Type 0} (p : Inside T) (x : IsPass allows_all Records p) (s : Seat ℕ View) (A : History → Type 0) → s.table_id ≡ p.seat.table_id → s.me.1 ≡ p.seat.me.1 → HasCalled p s 0 A → steps_of (sight (seated p s)) ≡ suc (steps_of (sight p)) → HasLookedOnce (sight p) (sight (seated p s))
+pub looked_once : {allows : Layout → History → ℕ → Type 0} {mode : Mode} {T : Type 0} (p : Inside T) (x : IsPass allows mode p) (s : Seat ℕ View) (A : History → Type 0) → s.table_id ≡ p.seat.table_id → s.me.1 ≡ p.seat.me.1 → HasCalled allows p s 0 A → steps_of (sight (seated p s)) ≡ suc (steps_of (sight p)) → HasLookedOnce allows (sight p) (sight (seated p s))
 looked_once p x s A table bare y one = record {
   goes_on = record {
     later = later;
@@ -92,19 +90,19 @@ looked_once p x s A table bare y one = record {
 
 -- What two passes have once they have met
 
-pub record HaveMet {T : Type 0} (p q : Inside T) (s t : Seat ℕ View) : Type 0 where
+pub record HaveMet (allows : Layout → History → ℕ → Type 0) {T : Type 0} (p q : Inside T) (s t : Seat ℕ View) : Type 0 where
   pub early : List Row
   pub late : List Row
   pub apart : p.number.0 ≢ q.number.0
-  pub one : HasCalled p s 0 (λ h. EndsWith h (past p.layout.mode late))
-  pub other : HasCalled q t 0 (λ h. EndsWith h (past q.layout.mode early))
+  pub one : HasCalled allows p s 0 (λ h. EndsWith h (past p.layout.mode late))
+  pub other : HasCalled allows q t 0 (λ h. EndsWith h (past q.layout.mode early))
   pub goes_on : EndsWith (past p.layout.mode late) (run_of (sight (seated q t)))
   pub knew : EndsWith (past q.layout.mode early) (run_of (sight p))
   pub one_step : steps_of (sight (seated p s)) ≡ suc (steps_of (sight p))
   pub other_step : steps_of (sight (seated q t)) ≡ suc (steps_of (sight q))
 
-pub have_met : {T : Type 0} (p q : Inside T) (x : IsPass allows_all Records p) (y : IsPass allows_all Records q) (s t : Seat ℕ View) → Met allows_all p.seat.me.0.passes q.seat.me.0.passes s.me.0.passes t.me.0.passes → HaveMet p q s t
-have_met p q x y s t m = record {
+pub have_met : {allows : Layout → History → ℕ → Type 0} {mode : Mode} {T : Type 0} (p q : Inside T) (x : IsPass allows mode p) (y : IsPass allows mode q) (s t : Seat ℕ View) → Met allows p.seat.me.0.passes q.seat.me.0.passes s.me.0.passes t.me.0.passes → HaveMet allows p q s t
+have_met {allows} p q x y s t m = record {
   early = m.early;
   late = m.late;
   apart = λ e. m.apart (ap (λ (k : Knower). k.number.0) one ∙ e ∙ sym (ap (λ (k : Knower). k.number.0) other));
@@ -131,11 +129,11 @@ have_met p q x y s t m = record {
     same : p.layout ≡ q.layout
     same = sym (ap (λ (k : Knower). k.layout) one) ∙ m.same ∙ ap (λ (k : Knower). k.layout) other
 
-    one_looked : HasLooked allows_all the_one m.late
-    one_looked = subst (λ (k : Knower). HasLooked allows_all k m.late) one m.one_looked
+    one_looked : HasLooked allows the_one m.late
+    one_looked = subst (λ (k : Knower). HasLooked allows k m.late) one m.one_looked
 
-    other_looked : HasLooked allows_all the_other m.early
-    other_looked = subst (λ (k : Knower). HasLooked allows_all k m.early) other m.other_looked
+    other_looked : HasLooked allows the_other m.early
+    other_looked = subst (λ (k : Knower). HasLooked allows k m.early) other m.other_looked
 
     one_is : s.me.0.passes ≡ looked the_one m.late ∷ []
     one_is = subst (λ (k : Knower). s.me.0.passes ≡ looked k m.late ∷ []) one m.is_one
@@ -147,7 +145,7 @@ have_met p q x y s t m = record {
     goes_on = subst (λ (k : Knower). Behind m.late (looked k m.early)) other m.goes_on
 
 -- what either has blamed has left both shares
-pub met_left : {T : Type 0} (p q : Inside T) (x : IsPass allows_all Records p) (y : IsPass allows_all Records q) (s t : Seat ℕ View) → p.layout ≡ q.layout → HaveMet p q s t → HaveLeftShares (sight (seated p s) ∷ sight (seated q t) ∷ [])
+pub met_left : {allows : Layout → History → ℕ → Type 0} {mode : Mode} {T : Type 0} (p q : Inside T) (x : IsPass allows mode p) (y : IsPass allows mode q) (s t : Seat ℕ View) → p.layout ≡ q.layout → HaveMet allows p q s t → HaveLeftShares (sight (seated p s) ∷ sight (seated q t) ∷ [])
 met_left p q x y s t same m = (
   (
     blames_left p.layout _ (sight p) (sight (seated p s)) p.number.0 _ _ x.sound.lawful m.one.goes.since m.one.goes.share x.blamed,

@@ -9,9 +9,8 @@ use Rattle.arena.specs.History.{History, Start}
 use Rattle.arena.specs.Lawful.{Lawful}
 use Rattle.arena.specs.Machines.{Call, IsRun}
 use Rattle.arena.specs.Shape.{Shaped}
-use Rattle.arena.specs.declared.limits.Mode.TheVariants.{Records}
+use Rattle.arena.specs.declared.limits.Mode.{Mode}
 use Rattle.arena.proofs.Values.{ends_self}
-use Rattle.prims.specs.Cells.{allows_all}
 use Rattle.prims.specs.declared.snap.Snap.{Snap}
 use Rattle.forest.specs.declared.view.Knower.{Knower}
 use Rattle.forest.specs.declared.view.View.{View}
@@ -41,7 +40,7 @@ pub layout_of : {v w : Sight} {g f : Ground} → v ≡ w → g ≡ f → IsOf f 
 layout_of e q of = ap (λ (s : Sight). s.layout) e ∙ of.1 ∙ sym (ap (λ (l : Ground). l.layout) q)
 
 -- the call of a pass
-abbrev pub call_of : {T : Type 0} (p : Inside T) → IsPass allows_all Records p → ℕ → Call
+abbrev pub call_of : {allows : Layout → History → ℕ → Type 0} {mode : Mode} {T : Type 0} (p : Inside T) → IsPass allows mode p → ℕ → Call
 call_of p x number = record { layout = p.layout; pass = p.number.0; is_pass = x.is_pass; number = number; start = past p.layout.mode (known_of p.seat.me.0.passes) }
 
 -- the pass with its seat as it is now
@@ -49,28 +48,28 @@ abbrev pub seated : {T : Type 0} → Inside T → Seat ℕ View → Inside T
 seated p s = record p { seat = s }
 
 -- what the pass has after a call that takes nothing
-pub record HasCalled {T : Type 0} (p : Inside T) (s : Seat ℕ View) (number : ℕ) (A : History → Type 0) : Type 0 where
+pub record HasCalled (allows : Layout → History → ℕ → Type 0) {T : Type 0} (p : Inside T) (s : Seat ℕ View) (number : ℕ) (A : History → Type 0) : Type 0 where
   pub seat : s.me.0.passes ≡ knower p.number.0 p.layout (known_of s.me.0.passes) ∷ []
   pub answers : A (past p.layout.mode (known_of s.me.0.passes))
-  pub goes : Goes p.layout p.number.0 (past p.layout.mode (known_of p.seat.me.0.passes)) (past p.layout.mode (known_of s.me.0.passes)) p.share p.share.next_node p.share.next_scx []
+  pub goes : Goes allows p.layout p.number.0 (past p.layout.mode (known_of p.seat.me.0.passes)) (past p.layout.mode (known_of s.me.0.passes)) p.share p.share.next_node p.share.next_scx []
   pub calls : AreOfCall p.number.0 number (past p.layout.mode (known_of p.seat.me.0.passes)) (past p.layout.mode (known_of s.me.0.passes))
 
-pub called : {T : Type 0} (p : Inside T) (x : IsPass allows_all Records p) (s : Seat ℕ View) (number : ℕ) {M : Type 0} (waits : M → Call → History → Step → Type 0) (same : M → M → Type 0) (first m : M) (A : History → Type 0) → ((m : M) (h : History) (t : Step) → waits m (call_of p x number) h t → t.kind ≢ Fill) → IsCalled allows_all s.me.0.passes (call_of p x number) (λ h. A h × Course allows_all waits same (call_of p x number) first m h) → HasCalled p s number A
-called p x s number waits same first m A fills_not y =
+pub called : {allows : Layout → History → ℕ → Type 0} {mode : Mode} {T : Type 0} (p : Inside T) (x : IsPass allows mode p) (s : Seat ℕ View) (number : ℕ) {M : Type 0} (waits : M → Call → History → Step → Type 0) (same : M → M → Type 0) (first m : M) (A : History → Type 0) → ((m : M) (h : History) (t : Step) → waits m (call_of p x number) h t → t.kind ≢ Fill) → IsCalled allows s.me.0.passes (call_of p x number) (λ h. A h × Course allows waits same (call_of p x number) first m h) → HasCalled allows p s number A
+called {allows} p x s number waits same first m A fills_not y =
     let known : y.known ≡ known_of s.me.0.passes = sym (ap known_of y.is) in
     record {
       seat = rw known at y.is;
       answers = subst (λ rows. A (past p.layout.mode rows)) known y.so.0;
-      goes = subst (λ rows. Goes p.layout p.number.0 (past p.layout.mode (known_of p.seat.me.0.passes)) (past p.layout.mode rows) p.share p.share.next_node p.share.next_scx []) known (quiet_goes waits same (call_of p x number) first p.share fills_not x.sound x.rest m _ y.so.1);
+      goes = subst (λ rows. Goes allows p.layout p.number.0 (past p.layout.mode (known_of p.seat.me.0.passes)) (past p.layout.mode rows) p.share p.share.next_node p.share.next_scx []) known (quiet_goes waits same (call_of p x number) first p.share fills_not x.sound x.rest m _ y.so.1);
       calls = subst (λ rows. AreOfCall p.number.0 number (past p.layout.mode (known_of p.seat.me.0.passes)) (past p.layout.mode rows)) known (course_calls (call_of p x number) m _ y.so.1);
     }
 
 -- it is a pass again
-pub called_pass : {T : Type 0} (p : Inside T) (x : IsPass allows_all Records p) (s : Seat ℕ View) (number : ℕ) (A : History → Type 0) → s.me.1 ≡ p.seat.me.1 → HasCalled p s number A → IsPass allows_all Records (seated p s)
+pub called_pass : {allows : Layout → History → ℕ → Type 0} {mode : Mode} {T : Type 0} (p : Inside T) (x : IsPass allows mode p) (s : Seat ℕ View) (number : ℕ) (A : History → Type 0) → s.me.1 ≡ p.seat.me.1 → HasCalled allows p s number A → IsPass allows mode (seated p s)
 called_pass p x s number A bare y = record { seat = y.seat; bare = bare ∙ x.bare; is_mode = x.is_mode; is_pass = x.is_pass; sound = y.goes.sound; rest = record { share = y.goes.share; over = y.goes.over }; blamed = blamed_later (sight p) (sight (seated p s)) refl refl refl y.goes.sound.lawful y.goes.since x.blamed }
 
 -- it has taken nothing
-pub called_nothing : {T : Type 0} (p : Inside T) (s : Seat ℕ View) (number : ℕ) (A : History → Type 0) → HasCalled p s number A → HasTakenNothing (sight p) (sight (seated p s))
+pub called_nothing : {allows : Layout → History → ℕ → Type 0} {T : Type 0} (p : Inside T) (s : Seat ℕ View) (number : ℕ) (A : History → Type 0) → HasCalled allows p s number A → HasTakenNothing (sight p) (sight (seated p s))
 called_nothing p s number A y = record {
   share = refl;
   done = y.goes.unwon (λ w. next_unwon p.layout _ p.number.0 p.share _ _ y.goes.sound.lawful y.goes.share w.0 w.1);
@@ -84,7 +83,7 @@ can_use_later old new later l snap u =
     (u.0, usable_since new.layout (run_of new) (run_of old) snap u.0 l later.run (rw e u.1))
 
 -- a call that is refused makes no step
-pub goes_nowhere : {T : Type 0} (p : Inside T) (x : IsPass allows_all Records p) (number most : ℕ) → HasGoneOn (sight p) (sight p) number most
+pub goes_nowhere : {allows : Layout → History → ℕ → Type 0} {mode : Mode} {T : Type 0} (p : Inside T) (x : IsPass allows mode p) (number most : ℕ) → HasGoneOn allows (sight p) (sight p) number most
 goes_nowhere p x number most = record {
   later = record { table = refl; layout = refl; number = refl; run = ends_self (run_of (sight p)) };
   lawful = x.sound;
@@ -99,7 +98,7 @@ pub steps_are : (c : ℕ) (lay : Layout) (ps : List Knower) → ps ≡ knower c 
 steps_are c lay ps e = ap steps_of e
 
 -- and it has gone on
-pub called_goes_on : {T : Type 0} (p : Inside T) (x : IsPass allows_all Records p) (s : Seat ℕ View) (number : ℕ) (A : History → Type 0) (left most : ℕ) → s.table_id ≡ p.seat.table_id → s.me.1 ≡ p.seat.me.1 → HasCalled p s number A → steps_of s.me.0.passes ≤ steps_of p.seat.me.0.passes + left → left ≤ most → HasGoneOn (sight p) (sight (seated p s)) number most
+pub called_goes_on : {allows : Layout → History → ℕ → Type 0} {mode : Mode} {T : Type 0} (p : Inside T) (x : IsPass allows mode p) (s : Seat ℕ View) (number : ℕ) (A : History → Type 0) (left most : ℕ) → s.table_id ≡ p.seat.table_id → s.me.1 ≡ p.seat.me.1 → HasCalled allows p s number A → steps_of s.me.0.passes ≤ steps_of p.seat.me.0.passes + left → left ≤ most → HasGoneOn allows (sight p) (sight (seated p s)) number most
 called_goes_on p x s number A left most table bare y few small = record {
   later = later;
   lawful = y.goes.sound;

@@ -22,23 +22,23 @@ use Rattle.prims.proofs.Changed.{put_changed}
 use Rattle.prims.proofs.Planned.{removed_those}
 use Rattle.prims.proofs.Shares.{left_own_node, left_own_scx, taken_share, next_free, next_unwon, all_over}
 use Rattle.prims.proofs.Usable.{put_ready_first}
-use Rattle.prims.specs.Shares.{taken}
 use Rattle.prims.specs.declared.snap.Snap.{Snap}
 use Rattle.prims.specs.declared.scx.Scx.{Scx}
 use Rattle.prims.specs.declared.scx.Scx.TheVariants.{Done, Lost}
 use Rattle.prims.specs.declared.scx.ScxAt.TheVariants.{Start as ScxStart}
 use Rattle.prims.specs.declared.put.PutRun.{PutRun}
 use Rattle.prims.specs.declared.put.PutAt.TheVariants.{Start as PutStart}
-use Rattle.forest.specs.declared.fault.Full.{Full}
-use Rattle.forest.specs.declared.fault.Resource.{Resource}
-use Rattle.forest.specs.declared.fault.Resource.TheVariants.{Nodes, Scx as ScxRecords}
+use Rattle.arena.specs.Share.{taken, IsFull, IsFullOf}
+use Rattle.arena.specs.declared.fault.Full.{Full}
+use Rattle.arena.specs.declared.fault.Resource.{Resource}
+use Rattle.arena.specs.declared.fault.Resource.TheVariants.{Nodes, Scx as ScxRecords}
 use Rattle.forest.specs.declared.view.View.{View}
 use Rattle.forest.specs.declared.pass.Pass.TheInside.{Inside}
 use Rattle.forest.specs.Kept.{past, knower}
 use Rattle.forest.specs.Courses.{Course, IsCalled, known_of, steps_of}
 use Rattle.forest.specs.Shares.{entries_of}
 use Rattle.forest.specs.Puts.{IsPutOf}
-use Rattle.forest.specs.Passes.{AreOfCall, HasGoneOn, IsLater, CanUse, HasLeftAlone, Each, ScxSays, IsFull, IsFullOf, IsAllTaken, IsUsedUp, done_of, taken_of}
+use Rattle.forest.specs.Passes.{AreOfCall, HasGoneOn, IsLater, CanUse, HasLeftAlone, Each, ScxSays, IsAllTaken, IsUsedUp, done_of, taken_of}
 use Rattle.forest.specs.Held.{sight, IsPass}
 use Rattle.forest.proofs.Frames.{Goes}
 use Rattle.forest.proofs.Calls.{HasHand, course_keeps, put_goes, put_rests}
@@ -149,6 +149,7 @@ module _ {T : Type 0} (p : Inside T) (x : IsPass allows_all Records p) (some_nod
       put_ready_first p.layout p.number.0 number x.is_pass start m x.sound.lawful of.over (rw of.snaps_are (each_at (CanUse (sight p)) snaps usable)) at
           scx_at (rw of.record_is own_scx) (rw of.record_is x.rest.share.taken_scx) (rw of.record_is free) (rw of.fresh own_node) (rw of.fresh x.rest.share.taken_nodes)
           (rw of.fresh (x.rest.share.unmentioned p.share.next_node record { from = omega arith; below = omega arith }))
+          (rw of.fresh (x.rest.share.untaken_nodes p.share.next_node record { from = omega arith; below = omega arith }))
           (all_over p.layout start p.number.0 p.share _ _ x.rest.share x.rest.over),
     );
   }
@@ -159,7 +160,7 @@ module _ {T : Type 0} (p : Inside T) (x : IsPass allows_all Records p) (some_nod
     pub run : PutRun
     pub is_of : Is run
     pub answers : put_answers run (call_of p x number) (past p.layout.mode (known_of s.me.0.passes)) a
-    pub goes : Goes p.layout p.number.0 start (past p.layout.mode (known_of s.me.0.passes)) (taken p.share) p.share.next_node p.share.next_scx snaps
+    pub goes : Goes allows_all p.layout p.number.0 start (past p.layout.mode (known_of s.me.0.passes)) (taken p.share) p.share.next_node p.share.next_scx snaps
     pub calls : AreOfCall p.number.0 number start (past p.layout.mode (known_of s.me.0.passes))
 
   abbrev pub Same : PutRun → PutRun → Type 0
@@ -173,7 +174,7 @@ module _ {T : Type 0} (p : Inside T) (x : IsPass allows_all Records p) (some_nod
         run = m;
         is_of = course_keeps Is of (λ old now e q. put_same old now snaps finalize field v p.share.next_node p.share.next_scx number e q) m _ y.so.1;
         answers = subst (λ rows. put_answers m (call_of p x number) (past p.layout.mode rows) a) known y.so.0;
-        goes = subst (λ rows. Goes p.layout p.number.0 start (past p.layout.mode rows) (taken p.share) p.share.next_node p.share.next_scx snaps) known
+        goes = subst (λ rows. Goes allows_all p.layout p.number.0 start (past p.layout.mode rows) (taken p.share) p.share.next_node p.share.next_scx snaps) known
             (put_goes Same (call_of p x number) first (taken p.share) p.share.next_node p.share.next_scx snaps (put_hand first snaps finalize field v p.share.next_node p.share.next_scx number of)
             (λ old now e q. record { fresh = rw e.1 q.fresh; record_is = rw e.0 q.record_is; snaps_are = rw e.1 q.snaps_are })
             (omega arith) (omega arith) x.sound (taken_share p.layout start p.number.0 p.share some_node some_scx x.rest.share) x.rest.over
@@ -216,6 +217,7 @@ module _ {T : Type 0} (p : Inside T) (x : IsPass allows_all Records p) (some_nod
       side = y.is_of.side;
       fresh = y.is_of.fresh;
       has_value = y.answers.1.value ∙ y.is_of.is_value;
+      empty_fields = y.answers.1.empty;
       found = subst (λ l. (i : ℕ) → i < length l → IsAsFound p.layout h d.entry.before (snap_at l i)) y.is_of.snaps_are at.found;
     },
   )
@@ -254,7 +256,7 @@ module _ {T : Type 0} (p : Inside T) (x : IsPass allows_all Records p) (some_nod
   put_alone s a y = y.goes.alone
 
   -- it has gone on
-  pub put_goes_on : (s : Seat ℕ View) (a : Scx) (left most : ℕ) → s.table_id ≡ p.seat.table_id → s.me.1 ≡ p.seat.me.1 → HasPut s a → steps_of s.me.0.passes ≤ steps_of p.seat.me.0.passes + left → left ≤ most → HasGoneOn (sight p) (sight (spent s)) number most
+  pub put_goes_on : (s : Seat ℕ View) (a : Scx) (left most : ℕ) → s.table_id ≡ p.seat.table_id → s.me.1 ≡ p.seat.me.1 → HasPut s a → steps_of s.me.0.passes ≤ steps_of p.seat.me.0.passes + left → left ≤ most → HasGoneOn allows_all (sight p) (sight (spent s)) number most
   put_goes_on s a left most table bare y few small = record {
     later = later;
     lawful = y.goes.sound;

@@ -22,13 +22,13 @@ use Rattle.help.specs.HelpKnown.{blocked_at}
 use Rattle.help.specs.declared.state.HelpAt.TheVariants.{Start as HelpStart}
 use Rattle.help.specs.declared.state.HelpRun.{HelpRun}
 use Rattle.prims.specs.Snap.{snap_at}
-use Rattle.prims.specs.Unfilled.{own_words_unfilled, own_value_unfilled}
+use Rattle.prims.specs.Unfilled.{own_words_unfilled}
 use Rattle.prims.specs.Begun.{takes_by_others, filled_more}
 use Rattle.prims.specs.ScxKnown.{job_of, FillMade, HasFilled, scx_answers, IsFilled, IsFilledThen, scx_turn, scx_told_at, fill_step, part_at}
 use Rattle.prims.specs.ScxTurns.{turn_start as scx_start, turn_plan, turn_new, turn_old, turn_member, turn_seen, begin_help, done_at, lost_at}
 use Rattle.prims.specs.PutKnown.{HasValue, IsFirstPut, put_step, put_waits, put_waits_at, put_answers}
 use Rattle.prims.specs.PutTurns.{turn_start, turn_scx}
-use Rattle.prims.specs.PutLaws.{put_made, value_more}
+use Rattle.prims.specs.PutLaws.{put_made, value_by_others}
 use Rattle.prims.specs.declared.put.PutRun.{PutRun}
 use Rattle.prims.specs.declared.put.PutAt.TheVariants.{Start, Fill as AtFill, Scx as AtScx}
 use Rattle.prims.specs.declared.scx.Scx.{Scx as Answer}
@@ -111,7 +111,7 @@ told_found (Exchange expected new) found = refl
 
 -- the value and the words of the SCX-record are filled
 pub record Frame (c : Call) (h : History) (m : PutRun) : Type 0 where
-  pub value : HasValue c h m.scx.update.fresh.0 m.value
+  pub value : HasValue c h m.scx.scx.0 m.scx.update.fresh.0 m.value
   pub filled : HasFilled c h m.scx.scx.0 m.scx.call m.scx.update
 
 -- what HELP comes to, the SCX has come to
@@ -127,7 +127,7 @@ module _ (allows : Layout → History → ℕ → Type 0) (c : Call) (start : Hi
       let y = lift k g x in
       let run' : IsRun allows c.layout (r ⊳ g) = rw e at run in
       let frame : Frame c (r ⊳ g) m = record {
-        value = value_more c g r m.scx.update.fresh.0 m.value (own_value_unfilled c.layout g r c.pass m.scx.update.fresh.0 run'.lawful other y.frame.value.own) y.frame.value;
+        value = value_by_others c g r m.scx.scx.0 m.scx.update.fresh.0 m.value run'.lawful other y.frame.value;
         filled = filled_more c g r m.scx.scx.0 m.scx.call m.scx.update (takes_by_others c.layout c.pass m.scx.scx.0 g r run'.lawful other) (own_words_unfilled c.layout g r c.pass m.scx.scx.0 run'.lawful other y.frame.filled.own) y.frame.filled;
       } in
       let frame' : Frame c h m = rw e frame in
@@ -162,7 +162,7 @@ module _ (allows : Layout → History → ℕ → Type 0) (c : Call) (ps qs : Li
   pub put_ends : (now : HelpRun) (b : Bool) (a : Answer) → (b ≡ true → a ≡ Done) → (b ≡ false → a ≡ Lost (blocked_at now.members now.at).0 (blocked_at now.members now.at).1) → HelpEnds allows inner qs begun now b → PutEnds allows c qs first (scx_at m (Help now)) a
   put_ends now b a done lost e =
       let y = lift allows c (past c.layout.mode x.known) first m begun lifted now (past c.layout.mode e.known) e.so.1 in
-      record { known = e.known; is = e.is; sound = e.sound; so = (turn_scx allows c _ e.sound.lawful (scx_at m (Help now)) (scx_at m (Help now)) (End a) refl refl refl y.frame.value (answers y b e.so.0 done lost), y.came) }
+      record { known = e.known; is = e.is; sound = e.sound; so = (turn_scx allows c _ e.sound.lawful (scx_at m (Help now)) (scx_at m (Help now)) (End a) refl refl refl refl y.frame.value (answers y b e.so.0 done lost), y.came) }
     where
       answers : Lifted allows c first m now (past c.layout.mode e.known) → (t : Bool) → call_answers now inner (past c.layout.mode e.known) t → (t ≡ true → a ≡ Done) → (t ≡ false → a ≡ Lost (blocked_at now.members now.at).0 (blocked_at now.members now.at).1) → scx_answers (scx_at m (Help now)).scx c (past c.layout.mode e.known) a
       answers y true k f g = rw (f refl) (done_at c _ (scx_at m (Help now)).scx now e.sound.lawful y.frame.filled y.same true now k refl refl)

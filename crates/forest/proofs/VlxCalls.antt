@@ -1,12 +1,12 @@
 -- What a call of `vlx` says.
 use Rattle.std.proofs.Common.{◌≡◌, ◌≢◌, ◌<◌, ℕ, zero, suc, inl, inr, List, [], ◌∷◌, length, None, refl, sym, ◌∙◌, ap, subst, arith}
 use Rattle.atomic_table.specs.declared.shared.Seat.{Seat}
+use Rattle.arena.specs.declared.layout.Layout.{Layout}
 use Rattle.arena.specs.History.{History}
 use Rattle.arena.specs.Blame.{WasInTheWay}
 use Rattle.arena.specs.declared.step.Kind.{Kind}
 use Rattle.arena.specs.declared.step.Kind.TheVariants.{LoadInfo}
-use Rattle.arena.specs.declared.limits.Mode.TheVariants.{Records}
-use Rattle.prims.specs.Cells.{allows_all}
+use Rattle.arena.specs.declared.limits.Mode.{Mode}
 use Rattle.prims.specs.Snaps.{AreDistinct, IsAmong}
 use Rattle.prims.specs.Snap.{snap_at}
 use Rattle.prims.specs.VlxKnown.{vlx_answers}
@@ -59,8 +59,8 @@ was_changed kind old new layout pass is_pass number items snaps is n s z = recor
 
 -- Calls
 
-module _ {L : Type 0} (list : L → List Snap) {T : Type 0} (p : Inside T) (x : IsPass allows_all Records p) (number : ℕ) where
-  pub vlx_begins : (snaps : L) → 0 < length (list snaps) → Each (CanUse (sight p)) (list snaps) → VlxBegins list allows_all (call_of p x number) p.seat.me.0.passes snaps
+module _ {L : Type 0} (list : L → List Snap) {allows : Layout → History → ℕ → Type 0} {mode : Mode} {T : Type 0} (p : Inside T) (x : IsPass allows mode p) (number : ℕ) where
+  pub vlx_begins : (snaps : L) → 0 < length (list snaps) → Each (CanUse (sight p)) (list snaps) → VlxBegins list allows (call_of p x number) p.seat.me.0.passes snaps
   vlx_begins snaps some usable = record {
     known = known_of p.seat.me.0.passes;
     is = x.seat;
@@ -74,12 +74,12 @@ module _ {L : Type 0} (list : L → List Snap) {T : Type 0} (p : Inside T) (x : 
   abbrev pub Looked : L → Vlx → History → Type 0
   Looked snaps a h = vlx_answers (list snaps) (call_of p x number) h a
 
-  pub vlx_called : (s : Seat ℕ View) (snaps : L) (a : Vlx) → VlxEnds list allows_all (call_of p x number) s.me.0.passes snaps a → HasCalled p s number (Looked snaps a)
+  pub vlx_called : (s : Seat ℕ View) (snaps : L) (a : Vlx) → VlxEnds list allows (call_of p x number) s.me.0.passes snaps a → HasCalled allows p s number (Looked snaps a)
   vlx_called s snaps a y =
       let z = called p x s number (waits_over list) same_snaps (run_at snaps 0) y.0 (λ h. vlx_answers (list y.0.snaps) (call_of p x number) h a) (λ k h t w. vlx_fills_not (list k.snaps) k.asked (call_of p x number) h t w) y.1 in
       let is : y.0.snaps ≡ snaps = course_keeps (λ (k : VlxRun L). k.snaps ≡ snaps) refl (λ old now e q. e ∙ q) y.0 _ y.1.so.1 in
       record { seat = z.seat; answers = rw is at z.answers; goes = z.goes; calls = z.calls }
 
-  pub vlx_says : (s : Seat ℕ View) (snaps : L) (a : Vlx) → HasCalled p s number (Looked snaps a) → VlxSays (sight p) (sight (seated p s)) (list snaps) a
+  pub vlx_says : (s : Seat ℕ View) (snaps : L) (a : Vlx) → HasCalled allows p s number (Looked snaps a) → VlxSays (sight p) (sight (seated p s)) (list snaps) a
   vlx_says s snaps Same y = y.answers.found
   vlx_says s snaps (Changed n u) y = (was_changed LoadInfo (sight p) (sight (seated p s)) refl refl x.is_pass number _ (list snaps) refl n.0 u.0 (vlx_changed (list snaps) (call_of p x number) _ n u y.answers), y.answers.before)

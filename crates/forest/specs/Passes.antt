@@ -6,7 +6,7 @@ use Rattle.arena.specs.declared.layout.Layout.{Layout}
 use Rattle.arena.specs.declared.step.Row.{Row}
 use Rattle.arena.specs.declared.step.Kind.{Kind}
 use Rattle.arena.specs.declared.step.Kind.TheVariants.{Freeze, LoadInfo}
-use Rattle.arena.specs.Share.{Left, whole_share, HasScx}
+use Rattle.arena.specs.Share.{Left, whole_share, HasScx, IsFull}
 use Rattle.arena.specs.declared.number.NodeNo.{NodeNo}
 use Rattle.arena.specs.declared.word.Side.{Side}
 use Rattle.arena.specs.declared.word.NodeWord.TheVariants.{Value}
@@ -14,7 +14,6 @@ use Rattle.arena.specs.declared.word.Word.{Word}
 use Rattle.arena.specs.Layout.{all_nodes, IsWord}
 use Rattle.arena.specs.Machines.{IsRun}
 use Rattle.arena.specs.PlainWords.{Contents, held}
-use Rattle.prims.specs.Cells.{allows_all}
 use Rattle.arena.specs.Words.{state, child, node as node_word}
 use Rattle.arena.specs.History.{History, ◌⊳◌, value, EndsWith}
 use Rattle.arena.specs.Fills.{IsOthersScx, IsOwnNode, IsOwnScx, IsTakenNode, IsTakenScx}
@@ -35,9 +34,9 @@ use Rattle.prims.specs.declared.scx.Scx.{Scx}
 use Rattle.prims.specs.declared.scx.Scx.TheVariants.{Done, Lost}
 use Rattle.prims.specs.declared.vlx.Vlx.{Vlx}
 use Rattle.prims.specs.declared.vlx.Vlx.TheVariants.{Same, Changed}
-use Rattle.forest.specs.declared.fault.Full.{Full}
-use Rattle.forest.specs.declared.fault.Resource.{Resource}
-use Rattle.forest.specs.declared.fault.Resource.TheVariants.{Nodes, Scx as ScxRecords}
+use Rattle.arena.specs.declared.fault.Full.{Full}
+use Rattle.arena.specs.declared.fault.Resource.{Resource}
+use Rattle.arena.specs.declared.fault.Resource.TheVariants.{Nodes, Scx as ScxRecords}
 use Rattle.forest.specs.Kept.{past}
 use Rattle.forest.specs.Courses.{rows_of}
 use Rattle.forest.specs.Shares.{entries_of}
@@ -123,9 +122,9 @@ pub record HasBlamed (p : Sight) : Type 0 where
 -- What every call leaves
 
 -- the call of this number has brought the pass further: the run that it knows goes on from what it knew, and is lawful; its own rows there are of the call, and no more than so many; whom it has blamed is finished; and it may use each snapshot that it could use
-pub record HasGoneOn (old new : Sight) (number most : ℕ) : Type 0 where
+pub record HasGoneOn (allows : Layout → History → ℕ → Type 0) (old new : Sight) (number most : ℕ) : Type 0 where
   pub later : IsLater old new
-  pub lawful : IsRun allows_all new.layout (run_of new)
+  pub lawful : IsRun allows new.layout (run_of new)
   pub calls : AreOfCall new.number number (run_of old) (run_of new)
   pub steps : steps_of new ≤ steps_of old + most
   pub blames : HasBlamed new
@@ -199,14 +198,6 @@ VlxSays old new snaps (Changed node s) = (c : WasChanged LoadInfo old new snaps 
 
 -- What `scx` says
 
--- nothing is left of this, which is tested after the nodes
-abbrev pub IsFullOf : Left → Resource → ℕ → Type 0
-IsFullOf left Nodes k = (left.nodes ≡ 0) × (k ≡ 0)
-IsFullOf left ScxRecords k = (0 < left.nodes) × (left.scx ≡ 0) × (k ≡ 0)
-
-abbrev pub IsFull : Left → Full → Type 0
-IsFull left f = IsFullOf left f.what f.left
-
 -- all that the share had of it is taken in the run that the pass knows
 abbrev pub IsAllTaken : Sight → Resource → Type 0
 IsAllTaken p Nodes = (n : ℕ) → IsOwnNode p.layout p.number n → IsTakenNode (run_of p) n
@@ -215,7 +206,7 @@ IsAllTaken p ScxRecords = (s : ℕ) → IsOwnScx p.layout p.number s → IsTaken
 abbrev pub IsUsedUp : Sight → Full → Type 0
 IsUsedUp p f = IsFull p.share f × IsAllTaken p f.what
 
--- the entry is the pass's only one behind what it had seen, and is that of this call, with the fresh node: just before it each node was as its snapshot found it, and the fresh node had its value
+-- the entry is the pass's only one behind what it had seen, and is that of this call, with the fresh node: just before it each node was as its snapshot found it, and the fresh node had its value, and 0 in its two fields
 pub record IsDone (old new : Sight) (snaps : List Snap) (finalize : List NodeNo) (field : ℕ × Side) (value_of_cell : ℕ) (e : Entry) : Type 0 where
   pub row : Row
   pub before : History
@@ -233,6 +224,7 @@ pub record IsDone (old new : Sight) (snaps : List Snap) (finalize : List NodeNo)
   pub side : e.side ≡ field.1
   pub fresh : e.new ≡ old.share.next_node
   pub has_value : value before (node_word e.new Value) ≡ value_of_cell
+  pub empty_fields : (side : Side) → value before (child e.new side) ≡ 0
   pub found : (i : ℕ) → i < length snaps → IsAsFound new.layout (run_of new) before (snap_at snaps i)
 
 -- one entry more, of this call; or none, and a node was changed since its snapshot
@@ -243,8 +235,8 @@ ScxSays old new snaps finalize field v (Lost node s) = WasChanged Freeze old new
 -- Passes that come together
 
 -- by one step, which is of no call (its number is 0), the pass has learned more, and it has blamed nobody
-pub record HasLookedOnce (old new : Sight) : Type 0 where
-  pub goes_on : HasGoneOn old new 0 1
+pub record HasLookedOnce (allows : Layout → History → ℕ → Type 0) (old new : Sight) : Type 0 where
+  pub goes_on : HasGoneOn allows old new 0 1
   pub takes_nothing : HasTakenNothing old new
   pub one_step : steps_of new ≡ suc (steps_of old)
   pub blamed : new.blamed ≡ old.blamed
@@ -284,10 +276,10 @@ abbrev pub AreBegun : List Sight → List Row → Type 0
 AreBegun [] rows = Unit {0}
 AreBegun (p ∷ ps) rows = EndsWith (past p.layout.mode rows) (run_of p) × (entries_of p.number (log p.layout (past p.layout.mode rows)) ≡ done_of p) × (rows_of p.number rows ≡ suc (steps_of p)) × AreBegun ps rows
 
--- the words are those of one run of cells, in which the fields are what its log says, and which goes on from what these passes knew; what they have blamed has left their shares
-pub record IsClosed (lay : Layout) (passes : List Sight) (words : Contents) : Type 0 where
+-- the words are those of one run, in which the fields are what its log says, and which goes on from what these passes knew; what they have blamed has left their shares
+pub record IsClosed (allows : Layout → History → ℕ → Type 0) (lay : Layout) (passes : List Sight) (words : Contents) : Type 0 where
   pub rows : List Row
-  pub sound : IsRun allows_all lay (past lay.mode rows)
+  pub sound : IsRun allows lay (past lay.mode rows)
   pub holds : (w : Word) → IsWord lay w → held words w ≡ value (past lay.mode rows) w
   pub fields : (n : ℕ) (side : Side) → n < all_nodes lay → held words (child n side) ≡ fields lay (past lay.mode rows) n side
   pub begun : AreBegun passes rows

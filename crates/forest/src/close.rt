@@ -15,9 +15,8 @@ use crate::pass::Pass;
 use crate::rule::Asked;
 use crate::view::View;
 use crate::words::Words;
-use arena::{Deed, Kind, Layout, NodeNo, NodeWord, Side, Step, Word};
+use arena::{Deed, Kind, Layout, NodeNo, NodeWord, Shape, Side, Step, Word};
 use atomic_table::Seat;
-use prims::Cells;
 use std::alloc::Global;
 use std::marker::{Brand, Model};
 
@@ -65,13 +64,13 @@ impl Drop for Closed {
     }
 }
 
-impl Forest<Cells> {
+impl<S: Shape> Forest<S> {
     /// Ends the forest: each of its passes, which are all there, looks at the table once more.
-    pub fn close(self, passes: Vec<Pass<Cells>>) -> Closed
+    pub fn close(self, passes: Vec<Pass<S>>) -> Closed
         requires passes { AreOf self passes.items }
         requires all { AreAllBack self.layout passes.items }
         ensures layout { result.layout ≡ self.layout }
-        ensures closed { IsClosed self.layout passes.items result }
+        ensures closed { IsClosed S.allows self.layout passes.items result }
     {
         let Forest { words, layout } = self;
         match gather(&words, &layout, passes) {
@@ -85,16 +84,16 @@ impl Forest<Cells> {
 }
 
 /// One seat with all these passes.
-fn gather(
-    words: &Words<Cells>,
+fn gather<S: Shape>(
+    words: &Words<S>,
     layout: &Layout,
-    mut passes: Vec<Pass<Cells>>,
+    mut passes: Vec<Pass<S>>,
 ) -> Option<Seat<u8, View>>
     requires table { IsTableOf words.now.table.shared.table_id words.now.table.shared.key layout.now }
     requires passes { AreOf (ground words.now.table.shared.table_id layout.now) passes.items }
     ensures some { 0 < vec_len passes → IsSome result }
     ensures table { IfSome result (λ s. s.table_id ≡ words.now.table.shared.table_id) }
-    ensures all { IfSome result (λ s. AreIn passes.items s.me.0.passes) }
+    ensures all { IfSome result (λ s. AreIn S.allows passes.items s.me.0.passes) }
 {
     let mut all = seat_of(words, layout, passes.pop()?);
     while let Some(pass) = passes.pop() {
@@ -105,12 +104,12 @@ fn gather(
 }
 
 /// The seat of a pass, which has looked at the table once more.
-fn seat_of(words: &Words<Cells>, layout: &Layout, pass: Pass<Cells>) -> Seat<u8, View>
+fn seat_of<S: Shape>(words: &Words<S>, layout: &Layout, pass: Pass<S>) -> Seat<u8, View>
     requires table { IsTableOf words.now.table.shared.table_id words.now.table.shared.key layout.now }
     requires pass { IsOf (ground words.now.table.shared.table_id layout.now) pass }
     ensures table { result.table_id ≡ words.now.table.shared.table_id }
     ensures bare { result.me.1 ≡ [] }
-    ensures pass { (k : Knower) × (result.me.0.passes ≡ k ∷ []) × IsFrom pass k }
+    ensures pass { (k : Knower) × (result.me.0.passes ≡ k ∷ []) × IsFrom S.allows pass k }
 {
     let Pass {
         number: _,

@@ -13,8 +13,9 @@ mod straight;
 mod view;
 mod words;
 
+pub use arena::{Full, Resource};
 pub use close::Closed;
-pub use fault::{Full, NewFault, Resource};
+pub use fault::NewFault;
 pub use forest::Forest;
 pub use pass::Pass;
 

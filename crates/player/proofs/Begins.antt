@@ -66,16 +66,16 @@ llx_few (VlxCommand cells) n then f = absurd f
 -- an LLX of a cell
 pub llx_starts : (v : View) (began : Option ℕ) (c : Client) (m : LlxRun) (then : Option Put) (command : Command) → IsSound v → v.layout.mode ≡ Records → Rests v c → IsUnbegun v began → m.at ≡ Start → m.node.0 ≤ 8 → command_of v c ≡ Some command → IsLlxOf command m.node.0 then → Starts v c (Llx m) then
 llx_starts v began c m then command sound mode r u start i is f = record {
-  works = record { stands = r.stands; newest = tt; command = command; is = is; run_of = (i, f); is_pass = r.stands.is_pass; start = v.past; since = ends_self v.past; begun = sym u.start; moments = λ j p. absurd (omega arith); alone = λ j p. absurd (omega arith); room = tt; took = taken_none v c.pass.0 (no_hand c.share) u.start; won = u.won; late = λ turn e. none_late v.won turn c.begin u.won e };
+  works = record { mode = mode; stands = r.stands; newest = tt; command = command; is = is; run_of = (i, f); is_pass = r.stands.is_pass; start = v.past; since = ends_self v.past; begun = sym u.start; moments = λ j p. absurd (omega arith); alone = λ j p. absurd (omega arith); room = tt; took = taken_none v c.pass.0 (no_hand c.share) u.start; won = u.won; late = λ turn e. none_late v.won turn c.begin u.won e };
   none = r.none;
   ready = ready_at_start allows_all m (machine_call v c r.stands.is_pass v.past) v.past refl start (cell_opened v.layout v.past m.node.0 mode i) (all_idle v.layout v.past c.pass.0 c.share _ _ sound.lawful r.stands.share r.stands.over);
   few = let few = llx_few command m.node.0 then f in rw (u.steps, start) (omega arith);
 }
 
 -- a VLX of unspent snapshots
-pub vlx_starts : (v : View) (began : Option ℕ) (c : Client) (m : VlxRun (List Snap)) (cells : _) → IsSound v → Rests v c → IsUnbegun v began → m.asked ≡ 0 → 0 < length m.snaps → nodes_of m.snaps ≡ cells_of cells → ((i : ℕ) → i < length m.snaps → (moment : History) × (v.linked (snap_at m.snaps i).node.0 ≡ Some moment) × IsUnspent v.layout c.pass.0 v.past (snap_at m.snaps i) moment) → command_of v c ≡ Some (VlxCommand cells) → vlx_left m.snaps m.asked ≡ length (cells_of cells) → Starts v c (Vlx m) None
-vlx_starts v began c m cells sound r u start some nodes l is left = record {
-  works = record { stands = r.stands; newest = tt; command = VlxCommand cells; is = is; run_of = nodes; is_pass = r.stands.is_pass; start = v.past; since = ends_self v.past; begun = sym u.start; moments = λ i p. let x = l i p in record { moment = x.0; found = x.2.usable.found; source = x.1 }; alone = λ i p. let x = l i p in x.2.alone; room = tt; took = taken_none v c.pass.0 (no_hand c.share) u.start; won = u.won; late = λ turn e. none_late v.won turn c.begin u.won e };
+pub vlx_starts : (v : View) (began : Option ℕ) (c : Client) (m : VlxRun (List Snap)) (cells : _) → IsSound v → v.layout.mode ≡ Records → Rests v c → IsUnbegun v began → m.asked ≡ 0 → 0 < length m.snaps → nodes_of m.snaps ≡ cells_of cells → ((i : ℕ) → i < length m.snaps → (moment : History) × (v.linked (snap_at m.snaps i).node.0 ≡ Some moment) × IsUnspent v.layout c.pass.0 v.past (snap_at m.snaps i) moment) → command_of v c ≡ Some (VlxCommand cells) → vlx_left m.snaps m.asked ≡ length (cells_of cells) → Starts v c (Vlx m) None
+vlx_starts v began c m cells sound mode r u start some nodes l is left = record {
+  works = record { mode = mode; stands = r.stands; newest = tt; command = VlxCommand cells; is = is; run_of = nodes; is_pass = r.stands.is_pass; start = v.past; since = ends_self v.past; begun = sym u.start; moments = λ i p. let x = l i p in record { moment = x.0; found = x.2.usable.found; source = x.1 }; alone = λ i p. let x = l i p in x.2.alone; room = tt; took = taken_none v c.pass.0 (no_hand c.share) u.start; won = u.won; late = λ turn e. none_late v.won turn c.begin u.won e };
   none = r.none;
   ready = vlx_ready_first v.layout c.pass.0 c.number r.stands.is_pass v.past m.snaps m.asked start some (λ i p. let x = l i p in (x.0, x.2.usable)) (all_over v.layout v.past c.pass.0 c.share _ _ r.stands.share r.stands.over);
   few = omega (arith, u.steps, left);
@@ -133,8 +133,9 @@ unkept_is : (v : View) (c : Client) → Rests v c → (n : ℕ) → n ≤ 8 → 
 unkept_is v c r n i e = ⊎_elim (λ z. absurd (among_none n z)) (λ z. z) (r.stands.unkept n i e)
 
 -- what is kept of different cells is given to an SCX
-pub scx_can_put : (v : View) (began : Option ℕ) (c : Client) (update : _) (snaps : List Snap) (finalize : List NodeNo) (field : NodeNo × Side) (x : ℕ) → Rests v c → IsUnbegun v began → command_of v c ≡ Some (ScxCommand update) → AllKept c.kept snaps → nodes_of snaps ≡ update_cells update → map (λ (n : NodeNo). n.0) finalize ≡ update_finalize update → (field.0.0 ≡ (update_field update).0) × (field.1 ≡ (update_field update).1) → x ≡ update_value update → CanPut v v.linked c snaps (map (λ (n : NodeNo). n.0) finalize) (field.0.0, field.1) x
-scx_can_put v began c update snaps finalize field x r u is kept nodes removed at value = record {
+pub scx_can_put : (v : View) (began : Option ℕ) (c : Client) (update : _) (snaps : List Snap) (finalize : List NodeNo) (field : NodeNo × Side) (x : ℕ) → v.layout.mode ≡ Records → Rests v c → IsUnbegun v began → command_of v c ≡ Some (ScxCommand update) → AllKept c.kept snaps → nodes_of snaps ≡ update_cells update → map (λ (n : NodeNo). n.0) finalize ≡ update_finalize update → (field.0.0 ≡ (update_field update).0) × (field.1 ≡ (update_field update).1) → x ≡ update_value update → CanPut v v.linked c snaps (map (λ (n : NodeNo). n.0) finalize) (field.0.0, field.1) x
+scx_can_put v began c update snaps finalize field x mode r u is kept nodes removed at value = record {
+  mode = mode;
   rests = record { stands = r.stands; none = r.none };
   others = λ n d. refl;
   since = rw u.start (ends_self v.past);

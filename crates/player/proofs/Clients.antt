@@ -62,6 +62,7 @@ works_so : (v : View) (c : Client) (running : Option Running) (old now : Run) (t
 works_so v c running old now then same w =
     let k = is_kept c.share old now same in
     record {
+      mode = w.mode;
       stands = rw k.hand (stands_so v c running (in_hand c.share old) w.stands);
       newest = k.newest w.newest;
       command = w.command;

@@ -4,7 +4,8 @@ use Rattle.std.specs.List.{Contains}
 use Rattle.arena.specs.declared.step.Row.{Row}
 use Rattle.arena.specs.declared.word.NodeWord.TheVariants.{Value}
 use Rattle.arena.specs.declared.word.ScxWord.TheVariants.{Call as CallWord}
-use Rattle.arena.specs.Words.{node, scx}
+use Rattle.arena.specs.declared.word.Side.{Side}
+use Rattle.arena.specs.Words.{node, scx, child}
 use Rattle.arena.specs.History.{History, ◌⊳◌, value}
 use Rattle.arena.specs.Blame.{IsInProgress}
 use Rattle.arena.specs.Fills.{IsOwnNode, IsOwnScx, IsNamedScx}
@@ -36,6 +37,8 @@ use Rattle.player.specs.declared.client.Client.{Client}
 use Rattle.player.specs.declared.client.Running.{Running}
 use Rattle.player.specs.declared.client.Put.{Put}
 use Rattle.player.specs.LawfulRun.{IsLastLook, IsUnchanged, AreUnchanged, IsEntryOver, IsEntryFor}
+use Rattle.player.proofs.Shapes.{as_cells}
+use Rattle.player.specs.Allowed.{played_allows}
 use Rattle.player.specs.RunKnown.{run_waits, run_ready, run_keeps, run_made}
 use Rattle.player.specs.View.{View, IsSound, IsPutOf, IsScxOf, HaveMoments, no_hand, Stands, Rests, Works, Waits, machine_call, command_of}
 use Rattle.player.proofs.Ends.{has_nodes}
@@ -109,6 +112,7 @@ record IsOfPut (v : View) (c : Client) (row : Row) (m : PutRun) (start : History
   at : IsEntryAt (machine_call v c is_pass start) (row ⊳ v.past) m.scx row v.past
   fresh : IsOwnNode v.layout c.pass.0 m.scx.update.fresh.0
   value_is : value v.past (node m.scx.update.fresh.0 Value) ≡ m.value
+  empty_fields : (side : Side) → value v.past (child m.scx.update.fresh.0 side) ≡ 0
   called : value v.past (scx m.scx.scx.0 CallWord) ≡ m.scx.call
 
 module _ (v : View) (c : Client) (row : Row) (m : PutRun) (start : History) (is_pass : c.pass.0 < v.layout.passes) (x : IsOfPut v c row m start is_pass) where
@@ -120,6 +124,7 @@ module _ (v : View) (c : Client) (row : Row) (m : PutRun) (start : History) (is_
     side_is = p.side;
     fresh = x.fresh;
     value_is = x.value_is ∙ p.value;
+    empty_fields = x.empty_fields;
   }
 
   unchanged : (command : Command) (i : ℕ) → i < length m.scx.update.snaps → (z : HaveMoments v c.pass.0 command m.scx.update.snaps) → (p : i < length m.scx.update.snaps) → IsUnchanged v.layout v.past (z i p).moment (snap_at m.scx.update.snaps i).node.0
@@ -200,7 +205,7 @@ module _ (v : View) (c : Client) (sound : IsSound v) (row : Row) (s : ℕ) (l : 
   rest_wins_not x = no_hand_wins x.stands
 
 -- a row of another client
-pub entry_by_others : (v : View) (c : Client) (q : Running) (row : Row) (s : ℕ) → IsSound v → Waits v c q → IsRun allows_all v.layout (row ⊳ v.past) → row.pass.0 ≢ c.pass.0 → UpdateWins v.past row s → IsOwnScx v.layout c.pass.0 s → IsEntryFrom v c row s
+pub entry_by_others : (v : View) (c : Client) (q : Running) (row : Row) (s : ℕ) → IsSound v → Waits v c q → IsRun played_allows v.layout (row ⊳ v.past) → row.pass.0 ≢ c.pass.0 → UpdateWins v.past row s → IsOwnScx v.layout c.pass.0 s → IsEntryFrom v c row s
 entry_by_others v c q row s sound w run other wins own = from_run v c sound row s run.lawful wins own q.run q.then w.works of_put
   where
     call : MachineCall
@@ -209,12 +214,12 @@ entry_by_others v c q row s sound w run other wins own = from_run v c sound row 
     of_put : (m : PutRun) → q.run ≡ Scx m → m.scx.scx.0 ≡ s → IsOfPut v c row m w.works.start w.works.is_pass
     of_put m e same =
         let before : put_waits allows_all m call v.past q.step = subst (λ (k : Run). run_waits k call v.past q.step) e w.waits in
-        let after : put_waits allows_all m call (row ⊳ v.past) q.step = subst (λ (k : Run). run_waits k call (row ⊳ v.past) q.step) e (run_keeps q.run call v.past q.step row run other w.waits) in
+        let after : put_waits allows_all m call (row ⊳ v.past) q.step = subst (λ (k : Run). run_waits k call (row ⊳ v.past) q.step) e (run_keeps q.run call v.past q.step row (as_cells v.layout (row ⊳ v.past) run) other w.waits) in
         let win : IsWin v.past row m.scx.scx.0 = rw same (is_win v c sound row s run.lawful wins own) in
         let named : IsNamedScx v.past m.scx.scx.0 = rw same (in_progress v c sound row s run.lawful wins own).named in
         let y = put_entry allows_all m call (row ⊳ v.past) q.step row v.past run.lawful (inl refl) win after in
         let z = put_full allows_all m call v.past q.step named before in
-        record { at = y.0; fresh = z.1.own; value_is = y.1; called = z.0.called }
+        record { at = y.0; fresh = z.1.own; value_is = y.1; empty_fields = y.2; called = z.0.called }
 
 -- its own row
 pub entry_by_own : (v : View) (c : Client) (q : Running) (s : ℕ) → IsSound v → Waits v c q → UpdateWins v.past (own_row v c q.step) s → IsOwnScx v.layout c.pass.0 s → IsTold q.step.deed (value v.past q.step.word) (value v.past q.step.word) → IsEntryFrom v c (own_row v c q.step) s
@@ -223,15 +228,15 @@ entry_by_own v c q s sound w wins own told = from_run v c sound (own_row v c q.s
     call : MachineCall
     call = machine_call v c w.works.is_pass w.works.start
 
-    run : IsRun allows_all v.layout (own_row v c q.step ⊳ v.past)
+    run : IsRun played_allows v.layout (own_row v c q.step ⊳ v.past)
     run = step_sound v c q sound w v.won
 
     of_put : (m : PutRun) → q.run ≡ Scx m → m.scx.scx.0 ≡ s → IsOfPut v c (own_row v c q.step) m w.works.start w.works.is_pass
     of_put m e same =
         let before : put_waits allows_all m call v.past q.step = subst (λ (k : Run). run_waits k call v.past q.step) e w.waits in
-        let after : put_ready allows_all m call (own_row v c q.step ⊳ v.past) (Some (value v.past q.step.word)) = subst (λ (k : Run). run_ready k call (own_row v c q.step ⊳ v.past) (Some (value v.past q.step.word))) e (run_made q.run call v.past q.step (value v.past q.step.word) run told w.waits) in
+        let after : put_ready allows_all m call (own_row v c q.step ⊳ v.past) (Some (value v.past q.step.word)) = subst (λ (k : Run). run_ready k call (own_row v c q.step ⊳ v.past) (Some (value v.past q.step.word))) e (run_made q.run call v.past q.step (value v.past q.step.word) (as_cells v.layout (own_row v c q.step ⊳ v.past) run) told w.waits) in
         let win : IsWin v.past (own_row v c q.step) m.scx.scx.0 = rw same (is_win v c sound (own_row v c q.step) s run.lawful wins own) in
         let named : IsNamedScx v.past m.scx.scx.0 = rw same (in_progress v c sound (own_row v c q.step) s run.lawful wins own).named in
         let y = put_entry_then allows_all m call (own_row v c q.step ⊳ v.past) (value v.past q.step.word) (own_row v c q.step) v.past run.lawful (inl refl) win after in
         let z = put_full allows_all m call v.past q.step named before in
-        record { at = y.0; fresh = z.1.own; value_is = y.1; called = z.0.called }
+        record { at = y.0; fresh = z.1.own; value_is = y.1; empty_fields = y.2; called = z.0.called }

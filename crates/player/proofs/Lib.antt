@@ -1,3 +1,4 @@
+pub mod Shapes
 pub mod Over
 pub mod Puts
 pub mod Views

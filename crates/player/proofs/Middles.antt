@@ -28,7 +28,7 @@ use Rattle.arena.proofs.SameWords.{word_same, word_apart}
 use Rattle.arena.proofs.Values.{value_at, value_other}
 use Rattle.script.specs.declared.command.Command.{Command}
 use Rattle.player.proofs.Commands.{none_left, place_more, number_small}
-use Rattle.prims.specs.Cells.{allows_all}
+use Rattle.player.specs.Allowed.{played_allows}
 use Rattle.script.specs.declared.command.Call.{Call}
 use Rattle.player.specs.declared.record.Line.{Line}
 use Rattle.player.specs.declared.record.Line.TheVariants.{Step, Log, Reply as ReplyLine}
@@ -50,7 +50,7 @@ use Rattle.player.proofs.Ends.{entered_none}
 
 -- Others
 
-pub others_step : (lay : Layout) (calls : List Call) (clients : List Client) (lines : List Line) (i number : ℕ) (row : Row) → IsRun allows_all lay (history lay.mode lines) → IsRun allows_all lay (row ⊳ history lay.mode lines) → row.pass.0 ≡ i → number ≡ suc (turns lines) → AreLines lay calls lines → AreOthers lay calls clients lines i → AreOthers lay calls clients (Step (Made number row) ∷ lines) i
+pub others_step : (lay : Layout) (calls : List Call) (clients : List Client) (lines : List Line) (i number : ℕ) (row : Row) → IsRun played_allows lay (history lay.mode lines) → IsRun played_allows lay (row ⊳ history lay.mode lines) → row.pass.0 ≡ i → number ≡ suc (turns lines) → AreLines lay calls lines → AreOthers lay calls clients lines i → AreOthers lay calls clients (Step (Made number row) ∷ lines) i
 others_step lay calls clients lines i number row sound run is turn so_far x j c d get =
     let y = x j c d get in
     let tells = subst (λ (k : ℕ). TellsWon (view lay calls lines j) k row number (won lay (Step (Made number row) ∷ lines) j)) (sym y.0) (tells_won lay lines number row run.lawful calls j) in (
@@ -132,7 +132,7 @@ unfolding AreLines
 so_far_same lay calls words lines line e next x = record { layout = x.layout; holds = λ w i. x.holds w i ∙ ap (λ (h : History). value h w) (sym e); sound = rw e x.sound; in_order = (x.in_order, next) }
 
 -- a step of the client: the words change as the row says
-pub step_made : (lay : Layout) (calls : List Call) (old new : Contents) (lines : List Line) (number : ℕ) (row : Row) → IsChanged old new row.word row.after → IsRun allows_all lay (row ⊳ history lay.mode lines) → IsNext lay calls lines (Step (Made number row)) → IsSoFar lay calls old lines → IsSoFar lay calls new (Step (Made number row) ∷ lines)
+pub step_made : (lay : Layout) (calls : List Call) (old new : Contents) (lines : List Line) (number : ℕ) (row : Row) → IsChanged old new row.word row.after → IsRun played_allows lay (row ⊳ history lay.mode lines) → IsNext lay calls lines (Step (Made number row)) → IsSoFar lay calls old lines → IsSoFar lay calls new (Step (Made number row) ∷ lines)
 unfolding AreLines
 step_made lay calls old new lines number row changed run next x = record {
   layout = changed.layout ∙ x.layout;

@@ -3,7 +3,7 @@ use Rattle.std.proofs.Common.{◌≡◌, ℕ, ◌+◌, ◌<◌, ◌≤◌, ◌�
 use Rattle.std.proofs.Math.ListN.{set}
 use Rattle.arena.specs.declared.layout.Layout.{Layout}
 use Rattle.arena.specs.declared.word.Side.{Side}
-use Rattle.arena.specs.Share.{Left, HasNode as HasOwnNode, HasScx}
+use Rattle.arena.specs.Share.{Left, HasNode as HasOwnNode, HasScx, taken}
 use Rattle.arena.specs.declared.step.Kind.TheVariants.{LoadInfo}
 use Rattle.arena.specs.History.{History, EndsWith}
 use Rattle.arena.specs.Found.{IsLastStep}
@@ -35,16 +35,16 @@ use Rattle.player.specs.declared.client.Put.{Put}
 use Rattle.player.specs.declared.kept.Kept.{Kept}
 use Rattle.player.specs.declared.record.Answer.{Answer}
 use Rattle.player.specs.declared.record.Answer.TheVariants.{Snapshot, Finalized, Fail, Done, Lost, Same, Changed, Unlinked, Full}
-use Rattle.player.specs.declared.record.Resource.{Resource}
-use Rattle.player.specs.declared.record.Resource.TheVariants.{Nodes, Scx as ScxRecords}
+use Rattle.arena.specs.declared.fault.Resource.{Resource}
+use Rattle.arena.specs.declared.fault.Resource.TheVariants.{Nodes, Scx as ScxRecords}
 use Rattle.player.specs.Kept.{IsUnspent, kept_of, node_of, found_of}
 use Rattle.player.specs.LawfulRun.{commands, IsLastLook, most_steps, IsEmpty}
-use Rattle.player.specs.View.{View, IsSound, IsLlxOf, IsPutOf, no_hand, Stands, Rests, Starts, Answered, Told, IsFull, CanPut, Puts, Begins}
+use Rattle.player.specs.View.{View, IsSound, IsLlxOf, IsPutOf, no_hand, Stands, Rests, Starts, Answered, Told, TellsFull, CanPut, Puts, Begins}
 use Rattle.prims.specs.Begun.{taken_since}
 use Rattle.prims.proofs.UntakenNodes.{taken_node_since}
 use Rattle.prims.proofs.Shares.{left_own_node, left_own_scx, taken_share, free_unnamed, all_over}
 use Rattle.prims.proofs.Usable.{put_ready_first}
-use Rattle.prims.specs.Shares.{IsShare, taken}
+use Rattle.prims.specs.Shares.{IsShare}
 use Rattle.player.proofs.Over.{taken_one}
 use Rattle.player.proofs.Snapshots.{has_snap, dropped, kept_without, unkept_without}
 use Rattle.player.proofs.Ends.{rests_kept, snapshot_unspent, among_none, entered_none}
@@ -65,9 +65,9 @@ next_node lay h c left share some = (left.next_node, left_own_node lay h c left 
     own : HasOwnNode left left.next_node
     own = record { from = omega arith; below = omega arith }
 
-pub full_answer : (lay : Layout) (h : History) (c : ℕ) (left : Left) (answer : Answer) → IsShare lay h c left left.next_node left.next_scx → IsFull left answer → IsFullAnswer lay c h answer
-full_answer lay h c left (Full Nodes k) share full = record { what = Nodes; left = k; is = refl; empty = (full.0, λ n own. share.taken_nodes n own (let a = own.below in let b = share.to_node in omega (arith, full.1))) }
-full_answer lay h c left (Full ScxRecords k) share full = record { what = ScxRecords; left = k; is = refl; empty = (full.0, λ s own. share.taken_scx s own (let a = own.below in let b = share.to_scx in omega (arith, full.1)), next_node lay h c left share full.2) }
+pub full_answer : (lay : Layout) (h : History) (c : ℕ) (left : Left) (answer : Answer) → IsShare lay h c left left.next_node left.next_scx → TellsFull left answer → IsFullAnswer lay c h answer
+full_answer lay h c left (Full Nodes k) share full = record { what = Nodes; left = k; is = refl; empty = (full.1, λ n own. share.taken_nodes n own (let a = own.below in let b = share.to_node in omega (arith, full.0))) }
+full_answer lay h c left (Full ScxRecords k) share full = record { what = ScxRecords; left = k; is = refl; empty = (full.2, λ s own. share.taken_scx s own (let a = own.below in let b = share.to_scx in omega (arith, full.1)), next_node lay h c left share full.0) }
 full_answer lay h c left (Snapshot a b) share full = absurd full
 full_answer lay h c left Finalized share full = absurd full
 full_answer lay h c left (Fail node scx) share full = absurd full
@@ -100,6 +100,7 @@ can_put v old kept m put snap sound x e = go x.works.command x.works.is x.works.
 
     go : (command : Command) → slice_get (commands v.calls old.pass.0) v.answered ≡ Some command → IsLlxOf command m.node.0 (Some put) → v.steps + 40 ≤ most_steps command → CanPut v (linked_now v command) (record old { kept = kept }) (snap ∷ []) [] (snap.node.0, put.side) put.value
     go (SetOf field y) is f few = record {
+      mode = x.works.mode;
       rests = rests_kept v old kept m (Some put) (LlxSnapshot snap) (linked_now v (SetOf field y)) sound x e (λ n. rw (x.answers.0.node ∙ f.0) refl);
       others = λ n d. rw (ne_eqb field.0 n (λ q. d record { at = 0; within = omega arith; is = x.answers.0.node ∙ f.0 ∙ q })) refl;
       since = subst (λ (s : History). EndsWith v.past s) x.works.begun x.works.since;
@@ -169,6 +170,7 @@ put_of m u number snaps finalize field x e k w is at side removed = record {
 pub put_starts : (v : View) (linked : ℕ → Option History) (c : Client) (snaps : List Snap) (removed : List ℕ) (field : ℕ × Side) (x : ℕ) (kept : Kept) (m : PutRun) → IsSound v → CanPut v linked c snaps removed field x → 0 < c.share.nodes → 0 < c.share.scx → ((n : ℕ) → kept_of kept n ≡ (if has_snap snaps n then None else kept_of c.kept n)) → IsUpdateOver m.scx.update → m.scx.update.snaps ≡ snaps → m.scx.update.fresh.0 ≡ c.share.next_node → m.scx.scx.0 ≡ c.share.next_scx → m.scx.at ≡ ScxStart → m.at ≡ PutStart → IsPutOf m c.number (nodes_of snaps) removed field x → put_left m ≤ 40 → Starts v (record c { share = taken c.share; kept = kept }) (Scx m) None
 put_starts v linked c snaps removed field x kept m sound can some_node some_scx left over is fresh scx start at of bound = record {
   works = record {
+    mode = can.mode;
     stands = record {
       is_pass = y.is_pass;
       number = y.number;
@@ -205,7 +207,7 @@ put_starts v linked c snaps removed field x kept m sound can some_node some_scx 
   ready = put_ready_first v.layout c.pass.0 c.number y.is_pass v.past m sound.lawful over (λ i p. rw is (let z = can.unspent i (rw is at p) in (z.0, z.1.usable))) at start own
       (rw scx y.share.taken_scx) free
       (rw fresh (left_own_node v.layout v.past c.pass.0 c.share _ _ c.share.next_node y.share own_node))
-      (rw fresh y.share.taken_nodes) (rw fresh (y.share.unmentioned c.share.next_node own_node)) (all_over v.layout v.past c.pass.0 c.share _ _ y.share y.over);
+      (rw fresh y.share.taken_nodes) (rw fresh (y.share.unmentioned c.share.next_node own_node)) (rw fresh (y.share.untaken_nodes c.share.next_node own_node)) (all_over v.layout v.past c.pass.0 c.share _ _ y.share y.over);
   few = let few = can.few in omega (arith, bound);
 }
   where

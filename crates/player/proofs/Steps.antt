@@ -17,7 +17,7 @@ use Rattle.arena.specs.History.{◌⊳◌, value}
 use Rattle.arena.specs.Lawful.{IsLawful, IsWin}
 use Rattle.arena.specs.Machines.{IsRun, IsTold}
 use Rattle.histories.proofs.Lemmas.{facts_before, lawful_row, update_win}
-use Rattle.prims.specs.Cells.{allows_all}
+use Rattle.player.specs.Allowed.{played_allows}
 use Rattle.script.specs.declared.command.Call.{Call}
 use Rattle.script.specs.declared.command.Command.{Command}
 use Rattle.player.specs.declared.record.Line.{Line}
@@ -85,7 +85,7 @@ module _ (p : Player) (i number : ℕ) (step : Ask) (a : IsAsked p i number step
   made = own_row v a.client a.running.step
 
   -- the step goes on with the run
-  sound : IsRun allows_all lay (made ⊳ history lay.mode lines)
+  sound : IsRun played_allows lay (made ⊳ history lay.mode lines)
   sound = step_sound v a.client a.running a.turn.so_far.sound a.waits v.won
 
   lawful : IsLawful lay (history lay.mode lines) made

@@ -33,6 +33,7 @@ use Rattle.player.specs.LawfulRun.{HasRoom}
 use Rattle.player.specs.RunKnown.{run_waits, run_ready, run_keeps, run_lawful, run_made}
 use Rattle.player.specs.View.{View, Hand, no_hand, in_hand, snaps_of, IsSound, HasNewest, IsStart, IsSource, IsRunOf, HasTaken, HaveMoments, IsRoomy, IsWonAs, IsWonBy, Stands, Rests, Works, Waits, Hears, IsClient, machine_call}
 use Rattle.prims.proofs.PutEntries.{put_covers, put_covers_then}
+use Rattle.player.proofs.Shapes.{as_cells, as_played}
 use Rattle.prims.proofs.Shares.{share_by_others, share_by_step, share_by_put, own_in_hand, next_idle, wins_in_progress}
 use Rattle.prims.proofs.Usable.{usable_since}
 use Rattle.prims.specs.Shares.{IsShare}
@@ -196,6 +197,7 @@ module _ (v : View) (c : Client) (r : Row) (number : ℕ) (start : History) (ste
   -- a machine still runs
   works_more : (q : Run) (then : Option Put) → start ≡ v.start → c.begin ≤ number → ((m : PutRun) → q ≡ Scx m → r.pass.0 ≡ c.pass.0 → r.kind ≢ LoadInfo) → TakesOnly v.layout c.pass.0 (in_hand c.share q).scx v.past r → ((n : ℕ) → IsOwnNode v.layout c.pass.0 n → n ≢ (in_hand c.share q).node → ¬ IsTakenNode v.past n → ¬ IsTakenNode (r ⊳ v.past) n) → Stands (after_row v r start steps won) c (in_hand c.share q) → Works v c q then → Works (after_row v r start steps won) c q then
   works_more q then same i looks takes nodes stands x = record {
+    mode = x.mode;
     stands = stands;
     newest = x.newest;
     command = x.command;
@@ -231,7 +233,7 @@ module _ (v : View) (c : Client) (r : Row) (number : ℕ) (start : History) (won
   client_by_others began f g (inl (x, inr u)) = inl (rests_by_others x, inr record { none = u.none; start = f u.none; steps = u.steps; won = no_win v c r number start v.steps won sound run tells (no_hand c.share) x.stands refl u.won })
   client_by_others began f g (inr (q, is, w, e)) =
       let call = machine_call v c w.works.is_pass w.works.start in
-      let waits = run_keeps q.run call v.past q.step r run other w.waits in
+      let waits = run_keeps q.run call v.past q.step r (as_cells v.layout (r ⊳ v.past) run) other w.waits in
       let hand = in_hand c.share q.run in
       let stands = stands_by_others hand (covers_waits q.run call (r ⊳ v.past) q.step c.share run.lawful waits (share_then hand w.works.stands)) w.works.stands in
       inr (q, is, record { works = works_more v c r number start v.steps won sound run tells q.run q.then (g c.begin e).0 (g c.begin e).1 (λ m z own. absurd (other own)) (takes_by_others v.layout c.pass.0 hand.scx v.past r run.lawful other) (λ n own d. untaken_node_by_others v.layout v.past r c.pass.0 n run.lawful other own) stands w.works; waits = waits; few = w.few }, e)
@@ -246,14 +248,14 @@ module _ (v : View) (c : Client) (q : Running) (sound : IsSound v) (w : Waits v 
   hand = in_hand c.share q.run
 
   pub step_sound : (won : Option ℕ) → IsSound (after_row v (own_row v c q.step) v.start (suc v.steps) won)
-  step_sound won = run_lawful q.run call v.past q.step sound w.waits
+  step_sound won = as_played v.layout (own_row v c q.step ⊳ v.past) w.works.mode (run_lawful q.run call v.past q.step (as_cells v.layout v.past sound) w.waits)
 
   -- the machine may be told what the step found
   pub hears : (number : ℕ) (won : Option ℕ) → TellsWon v c.pass.0 (own_row v c q.step) number won → c.begin ≤ number → (found : ℕ) → IsTold q.step.deed (value v.past q.step.word) found → Hears (after_row v (own_row v c q.step) v.start (suc v.steps) won) c q found
   unfolding works_more
   hears number won tells late found told =
       let run = step_sound won in
-      let ready = run_made q.run call v.past q.step found run told w.waits in
+      let ready = run_made q.run call v.past q.step found (as_cells v.layout (own_row v c q.step ⊳ v.past) run) told w.waits in
       let share = share_by_own q.run call v.past q.step c.share _ _ run.lawful w.waits w.works.newest w.works.stands.share in
       let stands = stands_more v c (own_row v c q.step) v.start (suc v.steps) won hand run share (over_more v.layout c.pass.0 hand.scx v.past (own_row v c q.step) run.lawful (takes_by_own q.run call c.share v.past q.step w.waits) w.works.stands.over) (covers_ready q.run call (own_row v c q.step ⊳ v.past) found c.share run.lawful ready share) w.works.stands in
       record { works = works_more v c (own_row v c q.step) number v.start (suc v.steps) won sound run tells q.run q.then refl late (λ m z own. put_looks_not allows_all m call v.past q.step (subst (λ (k : Run). run_waits k call v.past q.step) z w.waits)) (takes_by_own q.run call c.share v.past q.step w.waits) (λ n own d. nodes_by_own q.run call c.share v.past q.step w.waits n d) stands w.works; ready = ready; few = let few = w.few in omega arith }

@@ -30,8 +30,8 @@ use Rattle.player.specs.declared.record.Row.TheVariants.{Step as Made, Idle}
 use Rattle.player.specs.declared.record.Row.{Row}
 use Rattle.player.specs.declared.record.Reply.{Reply}
 use Rattle.player.specs.declared.record.Entry.{Entry}
-use Rattle.player.specs.declared.record.Resource.{Resource}
-use Rattle.player.specs.declared.record.Resource.TheVariants.{Nodes, Scx as ScxRecords}
+use Rattle.arena.specs.declared.fault.Resource.{Resource}
+use Rattle.arena.specs.declared.fault.Resource.TheVariants.{Nodes, Scx as ScxRecords}
 use Rattle.player.specs.declared.record.Answer.{Answer}
 use Rattle.player.specs.declared.record.Answer.TheVariants.{Snapshot, Finalized, Fail, Done, Lost, Same, Changed, Unlinked, Full}
 use Rattle.player.specs.Turns.{history, turns, clients, last_client, answered, begin, start, steps, won, entry_of, entry_owed}
@@ -221,7 +221,7 @@ IsEntered _ (Some turn) = ⊥
 
 -- Entries
 
--- the entry covers these cells, finalizes those of them that are in the second list, and puts a node of client c's own share, with this value, into that field
+-- the entry covers these cells, finalizes those of them that are in the second list, and puts a node of client c's own share, with this value and 0 in its two fields, into that field
 pub record IsEntryOver (lay : Layout) (c : ℕ) (before : History) (e : Entered) (cells removed : List ℕ) (field : ℕ × Side) (x : ℕ) : Type 0 where
   pub members : e.members ≡ cells
   pub finalizes : (n : ℕ) → has e.removed n ≡ has removed n
@@ -229,6 +229,7 @@ pub record IsEntryOver (lay : Layout) (c : ℕ) (before : History) (e : Entered)
   pub side_is : e.side ≡ field.1
   pub fresh : IsOwnNode lay c e.new
   pub value_is : value before (node e.new Value) ≡ x
+  pub empty_fields : (side : Side) → value before (child e.new side) ≡ 0
 
 -- it does what the command says; just before it each cell of the command was as its snapshot found it: that which the client keeps, or, of a `set`, that of the LLX in the call itself
 abbrev pub IsEntryFor : Layout → ℕ → History → History → (ℕ → Option History) → Entered → Command → Type 0

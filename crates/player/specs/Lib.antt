@@ -1,3 +1,4 @@
+pub mod Allowed
 pub mod RunSteps
 pub mod RunKnown
 pub mod Lines

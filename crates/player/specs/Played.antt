@@ -6,7 +6,6 @@ use Rattle.arena.specs.Layout.{IsWord}
 use Rattle.arena.specs.PlainWords.{Contents, held}
 use Rattle.arena.specs.History.{value}
 use Rattle.arena.specs.Machines.{IsRun}
-use Rattle.prims.specs.Cells.{allows_all}
 use Rattle.script.specs.declared.command.Call.{Call}
 use Rattle.script.specs.declared.script.Script.{Script}
 use Rattle.arena.specs.declared.step.Step.{Step as Ask}
@@ -18,6 +17,7 @@ use Rattle.player.specs.declared.record.Row.TheVariants.{Step as Made}
 use Rattle.player.specs.declared.record.Reply.{Reply}
 use Rattle.player.specs.declared.record.Answer.{Answer}
 use Rattle.player.specs.declared.client.Running.{Running}
+use Rattle.player.specs.Allowed.{played_allows}
 use Rattle.player.specs.Lines.{newest}
 use Rattle.player.specs.declared.client.Client.{Client}
 use Rattle.player.specs.declared.player.Player.{Player}
@@ -29,7 +29,7 @@ use Rattle.player.specs.View.{view, IsClient, Waits, IsBehind}
 pub record IsSoFar (lay : Layout) (calls : List Call) (words : Contents) (lines : List Line) : Type 0 where
   pub layout : words.layout ≡ lay
   pub holds : (w : Word) → IsWord lay w → held words w ≡ value (history lay.mode lines) w
-  pub sound : IsRun allows_all lay (history lay.mode lines)
+  pub sound : IsRun played_allows lay (history lay.mode lines)
   pub in_order : AreLines lay calls lines
 
 -- each client but this one stands between two turns

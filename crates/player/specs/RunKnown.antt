@@ -1,5 +1,7 @@
 -- When the machine of a call may go on, what it waits for, and what its answer says: as the machine inside.
 use Rattle.std.specs.Prelude.{◌≡◌, ◌≢◌, ℕ, Option, Some}
+use Rattle.arena.specs.declared.limits.Mode.{Mode}
+use Rattle.arena.specs.declared.limits.Mode.TheVariants.{Records}
 use Rattle.arena.specs.declared.step.Row.{Row}
 use Rattle.arena.specs.declared.step.Step.{Step}
 use Rattle.arena.specs.History.{History, ◌⊳◌, value}
@@ -54,6 +56,10 @@ run_same (Llx old) (Llx now) = now.node ≡ old.node
 run_same (Scx old) (Scx now) = (now.scx.scx ≡ old.scx.scx) × (now.scx.update ≡ old.scx.update) × (now.scx.call ≡ old.scx.call) × (now.value ≡ old.value)
 run_same (Vlx old) (Vlx now) = now.snaps ≡ old.snaps
 run_same _ _ = ⊥
+
+-- the mode in whose scripts the machine runs: all those of cells run in records mode
+abbrev pub run_mode : Run → Mode
+run_mode m = Records
 
 -- which machines make a step before they answer: all those of cells
 abbrev pub run_asks_first : Run → Type 0

@@ -2,14 +2,14 @@
 use Rattle.std.specs.Prelude.{◌≡◌, ◌≢◌, ℕ, suc, ◌+◌, ◌^◌, ◌<◌, ◌≤◌, ◌⊎◌, ◌↔◌, true, List, [], ◌∷◌, length, drop, Option, Some, None, slice_get}
 use Rattle.std.specs.List.{Contains}
 use Rattle.arena.specs.declared.word.Side.{Side}
+use Rattle.arena.specs.declared.limits.Mode.TheVariants.{Records}
 use Rattle.arena.specs.declared.layout.Layout.{Layout}
-use Rattle.arena.specs.Share.{Left}
+use Rattle.arena.specs.Share.{Left, IsFull}
 use Rattle.arena.specs.History.{History, value, EndsWith}
 use Rattle.arena.specs.ScxRecords.{removes, side_of}
 use Rattle.arena.specs.Lawful.{HasWon}
 use Rattle.arena.specs.Fills.{IsOwnNode, IsOwnScx, IsTakenNode}
 use Rattle.arena.specs.Machines.{Call as MachineCall, IsRun}
-use Rattle.prims.specs.Cells.{allows_all}
 use Rattle.prims.specs.Moments.{IsMoment, AreLeftAlone, AreOver, HasTakenOnly}
 use Rattle.prims.specs.ScxKnown.{nodes_of}
 use Rattle.prims.specs.Shares.{IsShare}
@@ -25,7 +25,6 @@ use Rattle.player.specs.declared.record.Line.{Line}
 use Rattle.player.specs.declared.record.Answer.{Answer}
 use Rattle.script.specs.Cells.{cells_of}
 use Rattle.script.specs.Update.{update_cells, update_finalize, update_field, update_value}
-use Rattle.player.specs.declared.record.Resource.TheVariants.{Nodes, Scx as ScxRecords}
 use Rattle.player.specs.declared.record.Answer.TheVariants.{Full}
 use Rattle.player.specs.declared.run.Run.{Run}
 use Rattle.player.specs.declared.run.Run.TheVariants.{Llx, Scx, Vlx}
@@ -35,7 +34,8 @@ use Rattle.player.specs.declared.client.Put.{Put}
 use Rattle.player.specs.declared.client.Standing.{Standing}
 use Rattle.player.specs.declared.client.Standing.TheVariants.{Finished, Answers, Asks}
 use Rattle.player.specs.declared.run.Ended.{Ended}
-use Rattle.player.specs.RunKnown.{run_ready, run_waits, run_answers}
+use Rattle.player.specs.Allowed.{played_allows}
+use Rattle.player.specs.RunKnown.{run_ready, run_waits, run_answers, run_mode}
 use Rattle.player.specs.RunSteps.{then_left, left_of}
 use Rattle.player.specs.Kept.{AreKept, IsUnspent, kept_of}
 use Rattle.player.specs.Place.{IsAt}
@@ -57,9 +57,9 @@ pub record View : Type 0 where
 abbrev pub view : Layout → List Call → List Line → ℕ → View
 view lay calls lines c = record { layout = lay; calls = calls; past = history lay.mode lines; answered = answered lines c; start = start lay.mode lines c; steps = steps lines c; won = won lay lines c; linked = linked calls lay.mode lines c }
 
--- its steps are lawful
+-- its steps are lawful, and begin only what the mode allows
 abbrev pub IsSound : View → Type 0
-IsSound v = IsRun allows_all v.layout v.past
+IsSound v = IsRun played_allows v.layout v.past
 
 -- What a client has
 
@@ -180,6 +180,7 @@ IsRoomy v c _ = Unit {0}
 
 -- a machine runs for its next call, over snapshots that the client had left alone as the machine started
 pub record Works (v : View) (c : Client) (run : Run) (then : Option Put) : Type 0 where
+  pub mode : v.layout.mode ≡ run_mode run
   pub stands : Stands v c (in_hand c.share run)
   pub newest : HasNewest c.share run
   pub command : Command
@@ -293,6 +294,7 @@ Stood v turn old new (Asks step) = IsSameCall old new × (r : Running) × (new.r
 
 -- what an SCX has to be given: unspent snapshots; the command is one that such an SCX serves, and may make as many steps more. The lines will say `linked` of the snapshots if the SCX is refused
 pub record CanPut (v : View) (linked : ℕ → Option History) (c : Client) (snaps : List Snap) (removed : List ℕ) (field : ℕ × Side) (x : ℕ) : Type 0 where
+  pub mode : v.layout.mode ≡ Records
   pub rests : Rests (record v { linked = linked }) c
   pub others : (n : ℕ) → (IsAmong snaps n → ⊥) → linked n ≡ v.linked n
   pub since : EndsWith v.past v.start
@@ -305,16 +307,15 @@ pub record CanPut (v : View) (linked : ℕ → Option History) (c : Client) (sna
   pub serves : (m : PutRun) → IsPutOf m c.number (nodes_of snaps) removed field x → IsScxOf command c.number m None
   pub few : v.steps + 40 ≤ most_steps command
 
--- the share has no node left, or nodes but no SCX-record
-abbrev pub IsFull : Left → Answer → Type 0
-IsFull share (Full Nodes left) = (left ≡ 0) × (share.nodes ≡ 0)
-IsFull share (Full ScxRecords left) = (left ≡ 0) × (share.scx ≡ 0) × (0 < share.nodes)
-IsFull share _ = ⊥
+-- the answer names what the share has none of
+abbrev pub TellsFull : Left → Answer → Type 0
+TellsFull share (Full what left) = IsFull share record { what = what; left = left }
+TellsFull share _ = ⊥
 
 -- an SCX begins, or the share has too little
 abbrev pub Puts : View → (ℕ → Option History) → Client → Client → Option Answer → Type 0
 Puts v linked old new None = GoesOn v old new
-Puts v linked old new (Some answer) = IsSameCall old new × (new.begin ≡ old.begin) × Rests (record v { linked = linked }) new × IsFull new.share answer
+Puts v linked old new (Some answer) = IsSameCall old new × (new.begin ≡ old.begin) × Rests (record v { linked = linked }) new × TellsFull new.share answer
 
 -- a call begins at this turn, or is refused
 abbrev pub Begins : View → ℕ → Client → Client → Option Answer → Type 0

@@ -3,9 +3,9 @@ ghost use Rattle.std.specs.Prelude.{◌≡◌, ℕ, ◌+◌, ◌<◌, ◌≤◌,
 
 use crate::kept::Kept;
 use crate::place::next_call;
-use crate::record::{Answer, Reply, Resource};
+use crate::record::{Answer, Reply};
 use crate::run::{Ended, Run};
-use arena::{Fresh, Layout, Machine, NodeNo, PassNo, ScxNo, Share, Side, Step, Turn};
+use arena::{Full, Layout, Machine, NodeNo, PassNo, Share, Side, Step, Turn};
 use arrayvec::ArrayVec;
 use prims::{Cells, Llx, LlxRun, PutRun, ScxRun, Snap, Snaps, Update, VlxRun};
 use script::{Call, Cell, Command};
@@ -63,7 +63,7 @@ impl Client {
     ghost use Rattle.player.specs.declared.client.Running.{Running};
     ghost use Rattle.player.specs.LawfulRun.{moment_of};
     ghost use Rattle.player.specs.RunKnown.{run_asks_first};
-    ghost use Rattle.player.specs.View.{View, view, IsSound, IsBehind, Rests, command_of, Starts, Hears, Answered, Told, CanPut, IsFull, Puts, Begins, Stood, IsUnbegun, IsClient};
+    ghost use Rattle.player.specs.View.{View, view, IsSound, IsBehind, Rests, command_of, Starts, Hears, Answered, Told, CanPut, Puts, Begins, Stood, IsUnbegun, IsClient};
 
     pub(crate) fn new(layout: &Layout, pass: PassNo, calls: &[Call]) -> Client
         requires { pass.0 < layout.now.passes }
@@ -154,7 +154,7 @@ impl Client {
 
     /// Takes the snapshots and the records of an `scx`, if they are there.
     fn begin_scx(&mut self, update: &script::Update) -> Option<Answer>
-        ensures { (v : View) (began : Option ℕ) → IsSound v → Rests v self.old → IsUnbegun v began → command_of v self.old ≡ Some (ScxCommand update.now) → Begins v self.old.begin self.old self.new result }
+        ensures { (v : View) (began : Option ℕ) → IsSound v → v.layout.mode ≡ Records → Rests v self.old → IsUnbegun v began → command_of v self.old ≡ Some (ScxCommand update.now) → Begins v self.old.begin self.old self.new result }
     {
         let cells = update.cells();
         match self.kept.linked(cells) {
@@ -181,40 +181,14 @@ impl Client {
         requires among { IsAmong snaps.now field.0.0 }
         ensures { (v : View) (linked : ℕ → Option History) → IsSound v → CanPut v linked self.old snaps.now (map (λ n. n.0) finalize.now) (field.0.0, field.1) value → Puts v linked self.old self.new result }
     {
-        let (fresh, scx) = match self.records() {
+        let (fresh, scx) = match self.share.take() {
             Ok(records) => records,
-            Err(full) => return Some(full),
+            Err(Full { what, left }) => return Some(Answer::Full { what, left }),
         };
         self.kept.forget(snaps);
         let update = Update::new(snaps, finalize, field, fresh);
         let scx = ScxRun::new(update, scx, self.number);
         self.run(Run::Scx(PutRun::new(value, scx)), None)
-    }
-
-    /// Takes a node and an SCX-record; the nodes are tested first.
-    fn records(&mut self) -> Result<(Fresh, ScxNo), Answer>
-        ensures taken { IfOk result (λ r. (r.0 ≡ self.old.share.next_node) × (r.1.0 ≡ self.old.share.next_scx)) }
-        ensures some { IfOk result (λ r. (0 < self.old.share.nodes) × (0 < self.old.share.scx)) }
-        ensures left { IfOk result (λ r. self.new ≡ record self.old { share = record { next_node = self.old.share.next_node + 1; nodes = self.old.share.nodes - 1; next_scx = self.old.share.next_scx + 1; scx = self.old.share.scx - 1 } }) }
-        ensures full { IfErr result (λ a. IsFull self.old.share a × (self.new ≡ self.old)) }
-    {
-        let (nodes, scx) = self.share.left();
-        if nodes == 0 {
-            return Err(Answer::Full {
-                what: Resource::Nodes,
-                left: nodes,
-            });
-        }
-        if scx == 0 {
-            return Err(Answer::Full {
-                what: Resource::Scx,
-                left: scx,
-            });
-        }
-        match (self.share.fresh(), self.share.scx()) {
-            (Some(fresh), Some(scx)) => Ok((fresh, scx)),
-            _ => unreachable!(),
-        }
     }
 
     /// Runs a machine from its start. It may answer at once; the call then makes no step.

@@ -10,4 +10,4 @@ mod record;
 mod run;
 
 pub use player::{Player, play};
-pub use record::{Answer, Entry, Line, Record, Reply, Resource, Row};
+pub use record::{Answer, Entry, Line, Record, Reply, Row};

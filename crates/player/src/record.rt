@@ -1,5 +1,5 @@
 //! What a run leaves behind.
-use arena::{Kind, NodeNo, PassNo, ScxNo};
+use arena::{Kind, NodeNo, PassNo, Resource, ScxNo};
 use script::Script;
 
 /// The script, and the lines of a run in order.
@@ -64,13 +64,6 @@ pub struct Reply {
     /// None where the call changed and told nothing: it was refused, failed, lost, or found a change.
     pub moment: Option<u64>,
     pub answer: Answer,
-}
-
-/// What a share can run out of.
-#[derive(Clone, Copy, Debug, PartialEq, Eq)]
-pub enum Resource {
-    Nodes,
-    Scx,
 }
 
 #[derive(Clone, Copy, Debug, PartialEq, Eq)]

@@ -5,6 +5,7 @@ pub mod LlxAnswers
 pub mod OnePass
 pub mod PutRows
 pub mod UntakenNodes
+pub mod Blank
 pub mod PutBegins
 pub mod PutEntries
 pub mod Alone

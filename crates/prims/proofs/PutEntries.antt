@@ -4,7 +4,8 @@ use Rattle.arena.specs.declared.layout.Layout.{Layout}
 use Rattle.arena.specs.declared.step.Row.{Row}
 use Rattle.arena.specs.declared.step.Step.{Step}
 use Rattle.arena.specs.declared.word.NodeWord.TheVariants.{Value}
-use Rattle.arena.specs.Words.{node, state}
+use Rattle.arena.specs.declared.word.Side.{Side}
+use Rattle.arena.specs.Words.{node, state, child}
 use Rattle.arena.specs.History.{History, ◌⊳◌, value, EndsWith}
 use Rattle.arena.specs.ScxRecords.{count_of}
 use Rattle.arena.specs.Fills.{IsNamedScx}
@@ -17,7 +18,7 @@ use Rattle.prims.specs.Wins.{won_by}
 use Rattle.prims.specs.Entered.{filled_entry_at}
 use Rattle.prims.specs.ScxKnown.{Job, job_of, HasFilled, IsEntryAt, scx_waits_at, scx_told_at}
 use Rattle.prims.specs.PutKnown.{HasValue, put_waits_at, put_told_at, put_waits, put_ready, put_answers}
-use Rattle.prims.specs.PutTurns.{value_before}
+use Rattle.prims.specs.PutTurns.{value_before, empty_before}
 use Rattle.prims.specs.declared.scx.ScxRun.{ScxRun}
 use Rattle.prims.specs.declared.scx.Scx.{Scx as Answer}
 use Rattle.prims.specs.declared.scx.Scx.TheVariants.{Done, Lost}
@@ -39,7 +40,7 @@ filled_covers c h s number n u x y = record { at = y.index; within = within; is 
 
 module _ (allows : Layout → History → ℕ → Type 0) (m : Job) (c : Call) (h : History) (p : IsNamedScx h m.scx.0) where
   -- a run of SCX that waits
-  scx_filled : (at : ScxAt) (s : Step) → scx_waits_at allows c h m at s → HasFilled c h m.scx.0 m.call m.update
+  pub scx_filled : (at : ScxAt) (s : Step) → scx_waits_at allows c h m at s → HasFilled c h m.scx.0 m.call m.update
   scx_filled ScxStart s w = absurd w
   scx_filled (Help help) s w = w.2
   scx_filled AtPlan s w = absurd (w.fills.hand.is_open.unnamed p)
@@ -50,7 +51,7 @@ module _ (allows : Layout → History → ℕ → Type 0) (m : Job) (c : Call) (
   scx_filled AtCall s w = absurd (w.fills.hand.is_open.unnamed p)
 
   -- one whose step is made
-  scx_filled_then : (at : ScxAt) (v : ℕ) → scx_told_at allows c h m at v → HasFilled c h m.scx.0 m.call m.update
+  pub scx_filled_then : (at : ScxAt) (v : ℕ) → scx_told_at allows c h m at v → HasFilled c h m.scx.0 m.call m.update
   scx_filled_then ScxStart v w = absurd w
   scx_filled_then (Help help) v w = w.2
   scx_filled_then AtPlan v w = absurd (w.hand.is_open.unnamed p)
@@ -63,7 +64,7 @@ module _ (allows : Layout → History → ℕ → Type 0) (m : Job) (c : Call) (
 module _ (allows : Layout → History → ℕ → Type 0) (m : PutRun) (c : Call) (h : History) where
   -- its words are filled, and its fresh node has its value
   abbrev pub IsFull : Type 0
-  IsFull = HasFilled c h m.scx.scx.0 m.scx.call m.scx.update × HasValue c h m.scx.update.fresh.0 m.value
+  IsFull = HasFilled c h m.scx.scx.0 m.scx.call m.scx.update × HasValue c h m.scx.scx.0 m.scx.update.fresh.0 m.value
 
   -- at each place
   full_at : (at : PutAt) (s : Step) → IsNamedScx h m.scx.scx.0 → put_waits_at allows c h m at s → IsFull
@@ -92,13 +93,13 @@ module _ (allows : Layout → History → ℕ → Type 0) (m : PutRun) (c : Call
 
   -- the entry of the row at which its update has won
   abbrev pub IsFullEntry : Row → History → Type 0
-  IsFullEntry row before = IsEntryAt c h m.scx row before × (value before (node m.scx.update.fresh.0 Value) ≡ m.value)
+  IsFullEntry row before = IsEntryAt c h m.scx row before × (value before (node m.scx.update.fresh.0 Value) ≡ m.value) × ((side : Side) → value before (child m.scx.update.fresh.0 side) ≡ 0)
 
   -- it is that of an SCX-record that is filled
   full_entry : (row : Row) (before : History) → Lawful c.layout h → EndsWith h (row ⊳ before) → IsWin before row m.scx.scx.0 → IsFull → IsFullEntry row before
   full_entry row before l e w x =
       let y : IsEntryAt c h m.scx row before = filled_entry_at c h m.scx row before l x.0 e w in
-      (y, value_before c h m.scx m.value row before l y x.1.value)
+      (y, value_before c h m.scx m.value row before l y x.1.value, empty_before c h m.scx row before l y x.1.blank)
 
   -- an SCX-record that has won is named
   was_named : (row : Row) (before : History) → Lawful c.layout h → EndsWith h (row ⊳ before) → IsWin before row m.scx.scx.0 → IsNamedScx h m.scx.scx.0

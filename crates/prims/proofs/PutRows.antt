@@ -52,7 +52,7 @@ module _ (allows : Layout → History → ℕ → Type 0) (m : Job) (c : Call) (
   unmentioned_fill at s w = rw w.asked (unmentioned_by_fill h (row_of c (fill_step m (part_at at)) h) n (not_wanted at w.fills) u)
 
   -- a row of the SCX
-  unmentioned_at : (at : ScxAt) (s : Step) → Lawful c.layout (row_of c s h ⊳ h) → scx_waits_at allows c h m at s → IsUnmentioned (row_of c s h ⊳ h) n
+  pub unmentioned_at : (at : ScxAt) (s : Step) → Lawful c.layout (row_of c s h ⊳ h) → scx_waits_at allows c h m at s → IsUnmentioned (row_of c s h ⊳ h) n
   unmentioned_at ScxStart s l w = absurd w
   unmentioned_at (Help help) s l w = unmentioned_by_step c.layout h (row_of c s h) n l (help_fills_not allows help c h s w.0) u
   unmentioned_at AtPlan s l w = unmentioned_fill AtPlan s w
@@ -79,7 +79,7 @@ untaken_fill : (allows : Layout → History → ℕ → Type 0) (m : Job) (c : C
 untaken_fill allows m c h at s t w other free = rw w.asked (untaken_by_other_fill h (row_of c (fill_step m (part_at at)) h) m.scx.0 t (part_at at) refl other free)
 
 -- nor does a row of the SCX
-untaken_at : (allows : Layout → History → ℕ → Type 0) (m : Job) (c : Call) (h : History) (at : ScxAt) (s : Step) (t : ℕ) → scx_waits_at allows c h m at s → t ≢ m.scx.0 → ¬ IsTakenScx h t → ¬ IsTakenScx (row_of c s h ⊳ h) t
+pub untaken_at : (allows : Layout → History → ℕ → Type 0) (m : Job) (c : Call) (h : History) (at : ScxAt) (s : Step) (t : ℕ) → scx_waits_at allows c h m at s → t ≢ m.scx.0 → ¬ IsTakenScx h t → ¬ IsTakenScx (row_of c s h ⊳ h) t
 untaken_at allows m c h ScxStart s t w other free = absurd w
 untaken_at allows m c h (Help help) s t w other free = untaken_by_step h (row_of c s h) t (help_fills_not allows help c h s w.0) free
 untaken_at allows m c h AtPlan s t w other free = untaken_fill allows m c h AtPlan s t w other free

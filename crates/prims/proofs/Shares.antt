@@ -1,5 +1,5 @@
 -- What rows leave of a pass's share, and of the SCX-record that it has in hand.
-use Rattle.std.proofs.Common.{◌≡◌, ◌≢◌, ℕ, suc, ◌<◌, ◌≤◌, ◌⊎◌, ⊎_elim, refl, arith}
+use Rattle.std.proofs.Common.{◌≡◌, ◌≢◌, ℕ, suc, ◌+◌, ◌-◌, ◌<◌, ◌≤◌, ◌⊎◌, ⊎_elim, refl, arith, subst}
 use native.Mathlib.Decide.{ℕ_discrete}
 use Rattle.arena.specs.declared.limits.Mode.{Mode}
 use Rattle.arena.specs.declared.layout.Layout.{Layout}
@@ -7,7 +7,7 @@ use Rattle.arena.specs.declared.step.Row.{Row}
 use Rattle.arena.specs.declared.step.Step.{Step}
 use Rattle.arena.specs.declared.step.Kind.TheVariants.{Fill}
 use Rattle.arena.specs.Layout.{opening_nodes, first_node, first_scx}
-use Rattle.arena.specs.Share.{Left, whole_share, HasNode, HasScx}
+use Rattle.arena.specs.Share.{Left, whole_share, HasNode, HasScx, taken}
 use Rattle.arena.specs.History.{History, Start, ◌⊳◌}
 use Rattle.arena.specs.ScxRecords.{member}
 use Rattle.arena.specs.Blame.{IsInProgress}
@@ -20,10 +20,12 @@ use Rattle.histories.proofs.Lemmas.{Facts, UpdateWins, facts, facts_before, name
 use Rattle.prims.specs.Idle.{IsIdle, idle_if_over}
 use Rattle.prims.specs.Moments.{AreOver}
 use Rattle.prims.specs.PutKnown.{put_waits}
-use Rattle.prims.specs.Shares.{IsShare, taken}
+use Rattle.prims.specs.ScxKnown.{job_of, scx_waits}
+use Rattle.prims.specs.Shares.{IsShare}
 use Rattle.prims.specs.declared.put.PutRun.{PutRun}
-use Rattle.prims.proofs.PutRows.{put_unmentioned, put_untaken}
-use Rattle.prims.proofs.UntakenNodes.{untaken_node_by_others, untaken_node_by_step, put_untaken_node}
+use Rattle.prims.specs.declared.scx.ScxRun.{ScxRun}
+use Rattle.prims.proofs.PutRows.{unmentioned_at, untaken_at, put_unmentioned, put_untaken}
+use Rattle.prims.proofs.UntakenNodes.{not_filled, fills_no_node, untaken_node_by_others, untaken_node_by_step, put_untaken_node}
 
 -- Shares
 
@@ -88,37 +90,72 @@ share_by_put allows m call h step left node scx l w next_node next_scx x = share
     (λ s p u. put_untaken allows m call h step s w (λ e. let a = p.from in omega arith) u)
     x
 
--- an SCX that begins has the next records of the share in hand
-pub taken_share : (lay : Layout) (h : History) (c : ℕ) (left : Left) → 0 < left.nodes → 0 < left.scx → IsShare lay h c left left.next_node left.next_scx → IsShare lay h c (taken left) left.next_node left.next_scx
-taken_share lay h c left some_node some_scx x = record {
+-- one of an SCX that has its SCX-record and its fresh nodes, which it has filled before, from the share
+pub share_by_scx : (allows : Layout → History → ℕ → Type 0) (m : ScxRun) (call : Call) (h : History) (step : Step) (left : Left) (node scx : ℕ) → Lawful call.layout (row_of call step h ⊳ h) → scx_waits allows m call h step → m.update.fresh.0 < left.next_node → m.scx.0 < left.next_scx → IsShare call.layout h call.pass left node scx → IsShare call.layout (row_of call step h ⊳ h) call.pass left node scx
+share_by_scx allows m call h step left node scx l w next_node next_scx x = share_kept call.layout h (row_of call step h) call.pass left node scx
+    (λ n p i u. unmentioned_at allows (job_of m) call h n i (λ e. let a = p.from in omega arith) u m.at step l w)
+    (λ n p u. not_filled h (row_of call step h) n (fills_no_node allows (job_of m) call h m.at step n w) u)
+    (λ s p u. untaken_at allows (job_of m) call h m.at step s w (λ e. let a = p.from in omega arith) u)
+    x
+
+-- what is left once the next node is taken
+abbrev pub less_a_node : Left → Left
+less_a_node left = record left { next_node = left.next_node + 1; nodes = left.nodes - 1 }
+
+-- a node that the share gives is in hand, behind those that are so already
+pub node_in_hand : (lay : Layout) (h : History) (c : ℕ) (left : Left) (node scx : ℕ) → 0 < left.nodes → IsShare lay h c left node scx → IsShare lay h c (less_a_node left) node scx
+node_in_hand lay h c left node scx some x = record {
   from_node = let a = x.from_node in omega arith;
   to_node = let a = x.to_node in omega arith;
-  from_scx = let a = x.from_scx in omega arith;
-  to_scx = let a = x.to_scx in omega arith;
+  from_scx = x.from_scx;
+  to_scx = x.to_scx;
   taken_nodes = x.taken_nodes;
   taken_scx = x.taken_scx;
   unmentioned = λ n p. x.unmentioned n record { from = let a = p.from in omega arith; below = let a = p.below in omega arith };
   untaken_nodes = λ n p. x.untaken_nodes n record { from = let a = p.from in omega arith; below = let a = p.below in omega arith };
-  untaken = λ s p. x.untaken s record { from = let a = p.from in omega arith; below = let a = p.below in omega arith };
+  untaken = λ s p. x.untaken s record { from = p.from; below = p.below };
 }
 
--- behind the node, or SCX-record, that is taken now stands the next one
-less_or_is : (n k : ℕ) → n < suc k → (n < k) ⊎ (n ≡ k)
-less_or_is n k i = grind arith
+-- an SCX that begins has the next records of the share in hand
+pub taken_share : (lay : Layout) (h : History) (c : ℕ) (left : Left) → 0 < left.nodes → 0 < left.scx → IsShare lay h c left left.next_node left.next_scx → IsShare lay h c (taken left) left.next_node left.next_scx
+taken_share lay h c left some_node some_scx x = record {
+  from_node = y.from_node;
+  to_node = y.to_node;
+  from_scx = let a = x.from_scx in omega arith;
+  to_scx = let a = x.to_scx in omega arith;
+  taken_nodes = x.taken_nodes;
+  taken_scx = x.taken_scx;
+  unmentioned = λ n p. y.unmentioned n record { from = p.from; below = p.below };
+  untaken_nodes = λ n p. y.untaken_nodes n record { from = p.from; below = p.below };
+  untaken = λ s p. x.untaken s record { from = let a = p.from in omega arith; below = let a = p.below in omega arith };
+}
+  where
+    y : IsShare lay h c (less_a_node left) left.next_node left.next_scx
+    y = node_in_hand lay h c left left.next_node left.next_scx some_node x
 
--- and one that ends has taken them
-pub share_ends : (lay : Layout) (h : History) (c : ℕ) (left : Left) (node scx : ℕ) → left.next_node ≡ suc node → left.next_scx ≡ suc scx → IsTakenNode h node → IsTakenScx h scx → IsShare lay h c left node scx → IsShare lay h c left left.next_node left.next_scx
-share_ends lay h c left node scx next_node next_scx t u x = record {
+-- a number lies below a bound or from it on
+below_or_from : (n k : ℕ) → (n < k) ⊎ (k ≤ n)
+below_or_from n k = grind arith
+
+-- where all that the share has given is taken, nothing of it is in hand
+pub share_spent : (lay : Layout) (h : History) (c : ℕ) (left : Left) (node scx : ℕ) → ((n : ℕ) → IsOwnNode lay c n → node ≤ n → n < left.next_node → IsTakenNode h n) → ((s : ℕ) → IsOwnScx lay c s → scx ≤ s → s < left.next_scx → IsTakenScx h s) → IsShare lay h c left node scx → IsShare lay h c left left.next_node left.next_scx
+share_spent lay h c left node scx t u x = record {
   from_node = x.from_node;
   to_node = x.to_node;
   from_scx = x.from_scx;
   to_scx = x.to_scx;
-  taken_nodes = λ n own less. ⊎_elim (x.taken_nodes n own) (λ e. rw e t) (less_or_is n node (rw next_node at less));
-  taken_scx = λ s own less. ⊎_elim (x.taken_scx s own) (λ e. rw e u) (less_or_is s scx (rw next_scx at less));
+  taken_nodes = λ n own less. ⊎_elim (x.taken_nodes n own) (λ i. t n own i less) (below_or_from n node);
+  taken_scx = λ s own less. ⊎_elim (x.taken_scx s own) (λ i. u s own i less) (below_or_from s scx);
   unmentioned = x.unmentioned;
   untaken_nodes = x.untaken_nodes;
   untaken = x.untaken;
 }
+
+-- so it is of an SCX that ends
+pub share_ends : (lay : Layout) (h : History) (c : ℕ) (left : Left) (node scx : ℕ) → left.next_node ≡ suc node → left.next_scx ≡ suc scx → IsTakenNode h node → IsTakenScx h scx → IsShare lay h c left node scx → IsShare lay h c left left.next_node left.next_scx
+share_ends lay h c left node scx next_node next_scx t u = share_spent lay h c left node scx
+    (λ n own from less. (let e : node ≡ n = omega (arith, next_node) in subst (IsTakenNode h) e t))
+    (λ s own from less. (let e : scx ≡ s = omega (arith, next_scx) in subst (IsTakenScx h) e u))
 
 -- The pass's SCX-records
 

@@ -25,7 +25,7 @@ use Rattle.prims.specs.declared.put.PutAt.{PutAt}
 use Rattle.prims.specs.declared.put.PutAt.TheVariants.{Start, Fill as AtFill, Scx}
 
 -- a row that does not fill the node does not take it
-not_filled : (h : History) (r : Row) (n : ℕ) → ¬ IsFillOfNode n r → ¬ IsTakenNode h n → ¬ IsTakenNode (r ⊳ h) n
+pub not_filled : (h : History) (r : Row) (n : ℕ) → ¬ IsFillOfNode n r → ¬ IsTakenNode h n → ¬ IsTakenNode (r ⊳ h) n
 unfolding IsTakenNode
 not_filled h r n d free (inl x) = d x
 not_filled h r n d free (inr x) = free x
@@ -65,7 +65,7 @@ of_scx : (allows : Layout → History → ℕ → Type 0) (m : Job) (c : Call) (
 of_scx allows m c h at s n w x = let e : scx m.scx.0 (part_at at) ≡ node n x.0 = rw w.asked at x.2 in cc
 
 -- nor does a row of the SCX
-fills_no_node : (allows : Layout → History → ℕ → Type 0) (m : Job) (c : Call) (h : History) (at : ScxAt) (s : Step) (n : ℕ) → scx_waits_at allows c h m at s → ¬ IsFillOfNode n (row_of c s h)
+pub fills_no_node : (allows : Layout → History → ℕ → Type 0) (m : Job) (c : Call) (h : History) (at : ScxAt) (s : Step) (n : ℕ) → scx_waits_at allows c h m at s → ¬ IsFillOfNode n (row_of c s h)
 fills_no_node allows m c h ScxStart s n w = absurd w
 fills_no_node allows m c h (Help help) s n w = λ x. help_fills_not allows help c h s w.0 x.1
 fills_no_node allows m c h AtPlan s n w = of_scx allows m c h AtPlan s n w

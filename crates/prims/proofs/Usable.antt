@@ -20,6 +20,7 @@ use Rattle.prims.specs.declared.put.PutRun.{PutRun}
 use Rattle.prims.specs.declared.put.PutAt.TheVariants.{Start as PutStart}
 use Rattle.prims.specs.declared.scx.ScxAt.TheVariants.{Start as ScxStart}
 use Rattle.prims.proofs.Alone.{snapshot_moment}
+use Rattle.prims.proofs.Blank.{blank_at_first}
 use Rattle.prims.proofs.PutBegins.{put_begin}
 
 -- a snapshot that has just been taken
@@ -42,15 +43,16 @@ is_clear lay c h snaps usable over = record {
 -- an update over usable snapshots, with the next SCX-record and the next node of a share that nothing mentions
 pub put_ready_first : (lay : Layout) (c number : ℕ) (is_pass : c < lay.passes) (h : History) (m : PutRun) → Lawful lay h → IsUpdateOver m.scx.update → ((i : ℕ) → i < length m.scx.update.snaps → (moment : History) × IsUsable lay h (snap_at m.scx.update.snaps i) moment) → m.at ≡ PutStart → m.scx.at ≡ ScxStart
     → IsOwnScx lay c m.scx.scx.0 → ((t : ℕ) → IsOwnScx lay c t → t < m.scx.scx.0 → IsTakenScx h t) → ¬ IsTakenScx h m.scx.scx.0
-    → IsOwnNode lay c m.scx.update.fresh.0 → ((n : ℕ) → IsOwnNode lay c n → n < m.scx.update.fresh.0 → IsTakenNode h n) → IsUnmentioned h m.scx.update.fresh.0
+    → IsOwnNode lay c m.scx.update.fresh.0 → ((n : ℕ) → IsOwnNode lay c n → n < m.scx.update.fresh.0 → IsTakenNode h n) → IsUnmentioned h m.scx.update.fresh.0 → ¬ IsTakenNode h m.scx.update.fresh.0
     → AreOver lay c 0 h
     → put_ready allows_all m (record { layout = lay; pass = c; is_pass = is_pass; number = number; start = h }) h None
-put_ready_first lay c number is_pass h m l over usable at start own in_order free own_node nodes unmentioned all_over = record {
+put_ready_first lay c number is_pass h m l over usable at start own in_order free own_node nodes unmentioned free_node all_over = record {
   stands = at;
-  hand = put_begin lay c h m.scx l over (λ i p. (usable i p).1.linked) start own in_order free own_node nodes unmentioned;
+  hand = put_begin allows_all lay c h m.scx l over (λ i p. (usable i p).1.linked) start own in_order free own_node nodes unmentioned (λ k r d later f y n later_n run e b w. tt);
   begins = refl;
   clear = is_clear lay c h m.scx.update.snaps usable all_over;
   free = free;
+  blank = blank_at_first lay c h m.scx.scx.0 m.scx.update.fresh.0 l own_node unmentioned free_node;
 }
 
 pub vlx_ready_first : (lay : Layout) (c number : ℕ) (is_pass : c < lay.passes) (h : History) (snaps : List Snap) (asked : ℕ) → asked ≡ 0 → 0 < length snaps → ((i : ℕ) → i < length snaps → (moment : History) × IsUsable lay h (snap_at snaps i) moment) → AreOver lay c 0 h → vlx_ready snaps asked (record { layout = lay; pass = c; is_pass = is_pass; number = number; start = h }) h None

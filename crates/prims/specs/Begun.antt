@@ -5,7 +5,7 @@ use Rattle.arena.specs.declared.step.Row.{Row}
 use Rattle.arena.specs.declared.step.Kind.TheVariants.{Fill}
 use Rattle.arena.specs.declared.word.NodeWord.{NodeWord}
 use Rattle.arena.specs.declared.word.ScxWord.{ScxWord}
-use Rattle.arena.specs.declared.word.ScxWord.TheVariants.{Plan, New, Member, Seen, Call as CallWord}
+use Rattle.arena.specs.declared.word.ScxWord.TheVariants.{Plan, New, Old, Member, Seen, Call as CallWord}
 use Rattle.arena.specs.Words.{node, scx}
 use Rattle.arena.specs.History.{History, Start, ◌⊳◌, value, EndsWith}
 use Rattle.arena.specs.Fills.{IsOwnScx, IsTakenScx}
@@ -58,6 +58,7 @@ filled_more c h r s number u takes same x = record {
   over = x.over;
   planned = same Plan tt ∙ x.planned;
   fresh = same New tt ∙ x.fresh;
+  expected = same Old tt ∙ x.expected;
   members = λ j i. same (Member j) tt ∙ x.members j i;
   found = λ j i. same (Seen j) tt ∙ x.found j i;
   called = same CallWord tt ∙ x.called;

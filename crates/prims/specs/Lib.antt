@@ -12,6 +12,8 @@ pub mod LlxTurns
 pub mod VlxSteps
 pub mod VlxKnown
 pub mod Unfilled
+pub mod BlankNodes
+pub mod BlankRows
 pub mod Wins
 pub mod Looked
 pub mod Snaps

@@ -6,12 +6,14 @@ use Rattle.arena.specs.declared.step.Step.{Step}
 use Rattle.arena.specs.declared.step.Deed.TheVariants.{Store}
 use Rattle.arena.specs.declared.step.Kind.TheVariants.{Fill}
 use Rattle.arena.specs.declared.word.NodeWord.TheVariants.{Value}
-use Rattle.arena.specs.Words.{node}
+use Rattle.arena.specs.declared.word.Side.{Side}
+use Rattle.arena.specs.Words.{node, child}
 use Rattle.arena.specs.History.{History, ◌⊳◌, value}
 use Rattle.arena.specs.Fills.{IsOwnNode, IsTakenNode, IsTakenScx, IsFillOfNode}
 use Rattle.arena.specs.Machines.{Call}
 use Rattle.histories.specs.Descriptor.{Descriptor}
 use Rattle.help.specs.Allowed.{IsLater, IsAllowed}
+use Rattle.prims.specs.BlankNodes.{IsBlank, WasBlank}
 use Rattle.prims.specs.Cells.{allows_all}
 use Rattle.prims.specs.VlxKnown.{IsClear}
 use Rattle.prims.specs.ScxKnown.{job_of, InHand, Says, IsUnderWay, IsDone, IsLost, scx_ready, scx_waits}
@@ -33,40 +35,43 @@ pub record PutHand (allows : Layout → History → ℕ → Type 0) (lay : Layou
 abbrev pub put_step : PutRun → Step
 put_step m = record { kind = Fill; word = node m.scx.update.fresh.0 Value; deed = Store m.value }
 
--- the fresh node n is of the pass's share, is taken, and has its value
-pub record HasValue (c : Call) (h : History) (n v : ℕ) : Type 0 where
+-- the fresh node n of s is of the pass's share, is taken, and has its value; but for that it was blank until an update of s had won
+pub record HasValue (c : Call) (h : History) (s n v : ℕ) : Type 0 where
   pub own : IsOwnNode c.layout c.pass n
   pub taken : IsTakenNode h n
   pub value : value h (node n Value) ≡ v
+  pub blank : WasBlank c.start h s n
 
 abbrev pub put_waits_at : (Layout → History → ℕ → Type 0) → Call → History → PutRun → PutAt → Step → Type 0
 put_waits_at allows c h m Start step = ⊥
-put_waits_at allows c h m AtFill step = PutHand allows c.layout c.pass h m.scx × IsUnderWay c h m.scx.scx.0 m.scx.update.snaps × (step ≡ put_step m)
-put_waits_at allows c h m Scx step = HasValue c h m.scx.update.fresh.0 m.value × scx_waits allows m.scx c h step
+put_waits_at allows c h m AtFill step = PutHand allows c.layout c.pass h m.scx × IsUnderWay c h m.scx.scx.0 m.scx.update.snaps × (step ≡ put_step m) × WasBlank c.start h m.scx.scx.0 m.scx.update.fresh.0
+put_waits_at allows c h m Scx step = HasValue c h m.scx.scx.0 m.scx.update.fresh.0 m.value × scx_waits allows m.scx c h step
 
 abbrev pub put_told_at : (Layout → History → ℕ → Type 0) → Call → History → PutRun → PutAt → ℕ → Type 0
 put_told_at allows c h m Start v = ⊥
-put_told_at allows c h m AtFill v = HasValue c h m.scx.update.fresh.0 m.value × (m.scx.at ≡ ScxStart) × InHand allows c.layout c.pass h (job_of m.scx) × IsUnderWay c h m.scx.scx.0 m.scx.update.snaps
-put_told_at allows c h m Scx v = HasValue c h m.scx.update.fresh.0 m.value × scx_ready allows m.scx c h (Some v)
+put_told_at allows c h m AtFill v = HasValue c h m.scx.scx.0 m.scx.update.fresh.0 m.value × (m.scx.at ≡ ScxStart) × InHand allows c.layout c.pass h (job_of m.scx) × IsUnderWay c h m.scx.scx.0 m.scx.update.snaps
+put_told_at allows c h m Scx v = HasValue c h m.scx.scx.0 m.scx.update.fresh.0 m.value × scx_ready allows m.scx c h (Some v)
 
 abbrev pub put_waits : (Layout → History → ℕ → Type 0) → PutRun → Call → History → Step → Type 0
 put_waits allows m c h step = put_waits_at allows c h m m.at step
 
--- it begins at this moment, with what the pass has in hand, and with an SCX-record that is not taken
+-- it begins at this moment, with what the pass has in hand, with a blank node, and with an SCX-record that is not taken
 pub record IsFirstPut (allows : Layout → History → ℕ → Type 0) (m : PutRun) (c : Call) (h : History) : Type 0 where
   pub stands : m.at ≡ Start
   pub hand : PutHand allows c.layout c.pass h m.scx
   pub begins : h ≡ c.start
   pub clear : IsClear c.layout c.pass h m.scx.update.snaps
   pub free : ¬ IsTakenScx h m.scx.scx.0
+  pub blank : IsBlank h m.scx.scx.0 m.scx.update.fresh.0
 
 abbrev pub put_ready : (Layout → History → ℕ → Type 0) → PutRun → Call → History → Option ℕ → Type 0
 put_ready allows m c h None = IsFirstPut allows m c h
 put_ready allows m c h (Some v) = put_told_at allows c h m m.at v
 
--- the update has its entry, and before that the fresh node had its value
+-- the update has its entry, and just before that the fields of the fresh node were 0, and it had its value
 pub record IsPut (c : Call) (h : History) (m : PutRun) : Type 0 where
   pub done : IsDone c h m.scx
+  pub empty : (side : Side) → value done.entry.before (child m.scx.update.fresh.0 side) ≡ 0
   pub value : value done.entry.before (node m.scx.update.fresh.0 Value) ≡ m.value
 
 -- how it ends: the update has its entry, or it is lost
@@ -76,4 +81,4 @@ put_ends m c h (Lost node found) = IsLost c h m.scx node.0 found.0
 
 -- the fresh node is taken and has its value, and the answer is that of the SCX
 abbrev pub put_answers : PutRun → Call → History → Answer → Type 0
-put_answers m c h a = HasValue c h m.scx.update.fresh.0 m.value × put_ends m c h a
+put_answers m c h a = HasValue c h m.scx.scx.0 m.scx.update.fresh.0 m.value × put_ends m c h a

@@ -18,22 +18,28 @@ use Rattle.prims.specs.Cells.{allows_all}
 use Rattle.prims.specs.Linked.{linked_more}
 use Rattle.prims.specs.Snap.{snap_at}
 use Rattle.prims.specs.Unfilled.{own_value_unfilled}
+use Rattle.prims.specs.BlankNodes.{IsBlank}
+use Rattle.prims.specs.BlankRows.{Spares, spared_by_others, spared_by_value, was_blank_more}
 use Rattle.prims.specs.Begun.{takes_by_others, takes_by_node, way_more}
 use Rattle.prims.specs.ScxKnown.{job_of, InHand}
 use Rattle.prims.specs.ScxLaws.{taken_more, hand_kept, scx_keeps, scx_lawful}
-use Rattle.prims.specs.ScxMade.{scx_made, scx_value}
+use Rattle.prims.specs.ScxMade.{scx_made, scx_value, scx_spares}
 use Rattle.prims.specs.PutKnown.{PutHand, HasValue, put_step, put_waits_at, put_told_at, put_waits, put_ready}
 use Rattle.prims.specs.declared.put.PutRun.{PutRun}
 use Rattle.prims.specs.declared.put.PutAt.{PutAt}
 use Rattle.prims.specs.declared.put.PutAt.TheVariants.{Start, Fill as AtFill, Scx}
 
-pub value_more : (c : Call) (h : History) (r : Row) (n v : ℕ) → value (r ⊳ h) (node n Value) ≡ value h (node n Value) → HasValue c h n v → HasValue c (r ⊳ h) n v
-value_more c h r n v e x = record { own = x.own; taken = taken_node_more r h n x.taken; value = e ∙ x.value }
+value_more : (c : Call) (h : History) (r : Row) (s n v : ℕ) → Lawful c.layout (r ⊳ h) → value (r ⊳ h) (node n Value) ≡ value h (node n Value) → (IsBlank h s n → Spares r s n) → HasValue c h s n v → HasValue c (r ⊳ h) s n v
+value_more c h r s n v l e f x = record { own = x.own; taken = taken_node_more r h n x.taken; value = e ∙ x.value; blank = was_blank_more c.layout c.start h r s n l f x.blank }
+
+-- a row of another pass leaves what the fresh node has
+pub value_by_others : (c : Call) (h : History) (r : Row) (s n v : ℕ) → Lawful c.layout (r ⊳ h) → r.pass.0 ≢ c.pass → HasValue c h s n v → HasValue c (r ⊳ h) s n v
+value_by_others c h r s n v l other x = value_more c h r s n v l (own_value_unfilled c.layout h r c.pass n l other x.own) (spared_by_others c.layout h r c.pass s n l c.is_pass other x.own) x
 
 kept_at : (allows : Layout → History → ℕ → Type 0) (m : PutRun) (c : Call) (h : History) (at : PutAt) (s : Step) (r : Row) → IsRun allows c.layout (r ⊳ h) → r.pass.0 ≢ c.pass → put_waits_at allows c h m at s → put_waits_at allows c (r ⊳ h) m at s
 kept_at allows m c h Start s r run other w = w
 kept_at allows m c h Scx s r run other w = (
-  value_more c h r m.scx.update.fresh.0 m.value (own_value_unfilled c.layout h r c.pass m.scx.update.fresh.0 run.lawful other w.0.own) w.0,
+  value_by_others c h r m.scx.scx.0 m.scx.update.fresh.0 m.value run.lawful other w.0,
   scx_keeps allows m.scx c h s r run other w.1,
 )
 kept_at allows m c h AtFill s r run other w = (
@@ -45,6 +51,7 @@ kept_at allows m c h AtFill s r run other w = (
   },
   way_more c h r m.scx.scx.0 m.scx.update.snaps (takes_by_others c.layout c.pass m.scx.scx.0 h r run.lawful other) w.1,
   w.2,
+  was_blank_more c.layout c.start h r m.scx.scx.0 m.scx.update.fresh.0 run.lawful (spared_by_others c.layout h r c.pass m.scx.scx.0 m.scx.update.fresh.0 run.lawful c.is_pass other w.0.hand.fresh) w.3,
 )
 
 pub put_keeps : (allows : Layout → History → ℕ → Type 0) (m : PutRun) (c : Call) (h : History) (s : Step) (r : Row) → IsRun allows c.layout (r ⊳ h) → r.pass.0 ≢ c.pass → put_waits allows m c h s → put_waits allows m c (r ⊳ h) s
@@ -90,11 +97,11 @@ module _ (allows : Layout → History → ℕ → Type 0) (m : PutRun) (c : Call
 
 made_at : (allows : Layout → History → ℕ → Type 0) (m : PutRun) (c : Call) (h : History) (at : PutAt) (s : Step) (v : ℕ) → IsRun allows c.layout (row_of c s h ⊳ h) → IsTold s.deed (value h s.word) v → put_waits_at allows c h m at s → put_told_at allows c (row_of c s h ⊳ h) m at v
 made_at allows m c h Start s v run t w = absurd w
-made_at allows m c h Scx s v run t w = (value_more c h (row_of c s h) m.scx.update.fresh.0 m.value (scx_value allows m.scx c h s m.scx.update.fresh.0 run.lawful w.1) w.0, scx_made allows m.scx c h s v run t w.1)
+made_at allows m c h Scx s v run t w = (value_more c h (row_of c s h) m.scx.scx.0 m.scx.update.fresh.0 m.value run.lawful (scx_value allows m.scx c h s m.scx.update.fresh.0 run.lawful w.1) (λ x. scx_spares allows m.scx c h s w.1) w.0, scx_made allows m.scx c h s v run t w.1)
 made_at allows m c h AtFill s v run t w =
     let l : Lawful c.layout (row_of c (put_step m) h ⊳ h) = rw w.2 at run.lawful in
     rw w.2 (
-      record { own = w.0.hand.fresh; taken = fill_takes_node (row_of c (put_step m) h) h m.scx.update.fresh.0 Value refl refl; value = value_at (row_of c (put_step m) h) h (node m.scx.update.fresh.0 Value) refl },
+      record { own = w.0.hand.fresh; taken = fill_takes_node (row_of c (put_step m) h) h m.scx.update.fresh.0 Value refl refl; value = value_at (row_of c (put_step m) h) h (node m.scx.update.fresh.0 Value) refl; blank = was_blank_more c.layout c.start h (row_of c (put_step m) h) m.scx.scx.0 m.scx.update.fresh.0 l (λ x. spared_by_value (row_of c (put_step m) h) m.scx.update.fresh.0 m.scx.scx.0 m.scx.update.fresh.0 refl) w.3 },
       w.0.start,
       hand_put allows m c h l w.0,
       way_more c h (row_of c (put_step m) h) m.scx.scx.0 m.scx.update.snaps (takes_by_node c.layout c.pass m.scx.scx.0 h (row_of c (put_step m) h) m.scx.update.fresh.0 Value refl) w.1,

@@ -10,15 +10,18 @@ use Rattle.arena.specs.declared.step.Kind.TheVariants.{Fill}
 use Rattle.arena.specs.declared.word.Word.TheVariants.{Node}
 use Rattle.arena.specs.declared.word.NodeWord.TheVariants.{Value}
 use Rattle.arena.specs.declared.word.ScxWord.TheVariants.{New}
-use Rattle.arena.specs.Words.{node, scx}
+use Rattle.arena.specs.declared.word.Side.{Side}
+use Rattle.arena.specs.Words.{node, scx, child}
 use Rattle.arena.specs.History.{History, ◌⊳◌, value, EndsWith}
 use Rattle.arena.specs.ScxRecords.{new}
 use Rattle.arena.specs.Fills.{IsNamed, by_scx}
-use Rattle.arena.specs.Lawful.{Lawful}
+use Rattle.arena.specs.Lawful.{Lawful, HasWon}
 use Rattle.arena.specs.Log.{Entry}
 use Rattle.arena.specs.Machines.{Call, MatchTurn}
 use Rattle.arena.proofs.Values.{ends_self, ends_trans, held_now}
-use Rattle.histories.proofs.Lemmas.{node_since}
+use Rattle.histories.proofs.Lemmas.{facts_before, lawful_row, lawful_since, node_since, update_is_first}
+use Rattle.prims.specs.BlankNodes.{WasBlank}
+use Rattle.prims.specs.BlankRows.{was_blank_at}
 use Rattle.prims.specs.Wins.{IsWonAt, won_logged, won_was_named}
 use Rattle.prims.specs.ScxKnown.{IsUnderWay, IsEntryAt, scx_ready, scx_waits, scx_answers}
 use Rattle.prims.specs.PutKnown.{HasValue, IsFirstPut, put_step, put_waits_at, put_waits, put_told_at, put_ready, put_answers}
@@ -41,13 +44,13 @@ pub told_first : (allows : Layout → History → ℕ → Type 0) (m : PutRun) (
 told_first allows m c h None is r = r
 told_first allows m c h (Some v) is r = absurd (rw is at r)
 
-pub told_scx : (allows : Layout → History → ℕ → Type 0) (m : PutRun) (c : Call) (h : History) (got : Option ℕ) → m.at ≡ Scx → put_ready allows m c h got → HasValue c h m.scx.update.fresh.0 m.value × scx_ready allows m.scx c h got
+pub told_scx : (allows : Layout → History → ℕ → Type 0) (m : PutRun) (c : Call) (h : History) (got : Option ℕ) → m.at ≡ Scx → put_ready allows m c h got → HasValue c h m.scx.scx.0 m.scx.update.fresh.0 m.value × scx_ready allows m.scx c h got
 told_scx allows m c h None is r = absurd (let e : Scx ≡ Start = sym is ∙ r.stands in cc)
 told_scx allows m c h (Some v) is r = subst (λ at. put_told_at allows c h m at v) is r
 
 -- it fills its fresh node
 pub turn_start : (allows : Layout → History → ℕ → Type 0) (m : PutRun) (c : Call) (h : History) → IsFirstPut allows m c h → put_waits_at allows c h (record m { at = AtFill }) AtFill (put_step m)
-turn_start allows m c h x = (x.hand, first_way allows m c h x, refl)
+turn_start allows m c h x = (x.hand, first_way allows m c h x, refl, rw x.begins (was_blank_at c.start m.scx.scx.0 m.scx.update.fresh.0 (rw x.begins at x.blank)))
 
 -- the fresh node of the newest entry
 newest_fresh : List Entry → ℕ
@@ -71,15 +74,25 @@ value_before c h m v row before l x e = sym (node_since c.layout h before m.upda
     named : IsNamed c.layout before m.update.fresh.0
     named = subst (IsNamed c.layout before) fresh (by_scx m.scx.0 New (won_was_named c.layout h m.scx.0 l y) tt (held_now before (scx m.scx.0 New)))
 
+-- and its fields were 0
+pub empty_before : (c : Call) (h : History) (m : ScxRun) (row : Row) (before : History) → Lawful c.layout h → IsEntryAt c h m row before → WasBlank c.start h m.scx.0 m.update.fresh.0 → (side : Side) → value before (child m.update.fresh.0 side) ≡ 0
+empty_before c h m row before l x b = (b.blank before (ends_trans h (row ⊳ before) before x.within (inr (ends_self before))) x.since unwon).empty
+  where
+    lawful : Lawful c.layout (row ⊳ before)
+    lawful = lawful_since c.layout h (row ⊳ before) l x.within
+
+    unwon : ¬ HasWon before m.scx.0
+    unwon = update_is_first (facts_before c.layout before row lawful) record { kind = x.wins.kind; update = x.wins.update; before = (lawful_row c.layout before row lawful).before; found = x.wins.found; stored = x.wins.update.exchange.won x.wins.found }
+
 module _ (allows : Layout → History → ℕ → Type 0) (c : Call) (h : History) (l : Lawful c.layout h) where
   -- its SCX goes on, or has answered
-  pub turn_scx : (old now : PutRun) (turn : Turn Answer) → now.at ≡ Scx → now.value ≡ old.value → now.scx.update ≡ old.scx.update → HasValue c h old.scx.update.fresh.0 old.value → MatchTurn turn (scx_waits allows now.scx c h) (scx_answers now.scx c h) → MatchTurn turn (put_waits allows now c h) (put_answers now c h)
-  turn_scx old now turn is e f x = go turn
+  pub turn_scx : (old now : PutRun) (turn : Turn Answer) → now.at ≡ Scx → now.value ≡ old.value → now.scx.scx ≡ old.scx.scx → now.scx.update ≡ old.scx.update → HasValue c h old.scx.scx.0 old.scx.update.fresh.0 old.value → MatchTurn turn (scx_waits allows now.scx c h) (scx_answers now.scx c h) → MatchTurn turn (put_waits allows now c h) (put_answers now c h)
+  turn_scx old now turn is e s f x = go turn
     where
-      y : HasValue c h now.scx.update.fresh.0 now.value
-      y = rw (e, f) x
+      y : HasValue c h now.scx.scx.0 now.scx.update.fresh.0 now.value
+      y = rw (e, s, f) x
 
       go : (turn : Turn Answer) → MatchTurn turn (scx_waits allows now.scx c h) (scx_answers now.scx c h) → MatchTurn turn (put_waits allows now c h) (put_answers now c h)
-      go (Ask s) w = subst (λ at. put_waits_at allows c h now at s) (sym is) (y, w)
-      go (End Done) a = (y, record { done = a; value = value_before c h now.scx now.value a.entry.row a.entry.before l a.entry.is y.value })
-      go (End (Lost n s)) a = (y, a)
+      go (Ask k) w = subst (λ at. put_waits_at allows c h now at k) (sym is) (y, w)
+      go (End Done) a = (y, record { done = a; value = value_before c h now.scx now.value a.entry.row a.entry.before l a.entry.is y.value; empty = empty_before c h now.scx a.entry.row a.entry.before l a.entry.is y.blank })
+      go (End (Lost n u)) a = (y, a)

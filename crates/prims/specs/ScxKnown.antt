@@ -11,7 +11,7 @@ use Rattle.arena.specs.declared.word.ScxWord.TheVariants.{Plan, New, Old, Member
 use Rattle.arena.specs.MemberNo.{index_of}
 use Rattle.arena.specs.Words.{scx, state, child}
 use Rattle.arena.specs.History.{History, ◌⊳◌, value, HasHeld, EndsWith}
-use Rattle.arena.specs.ScxRecords.{IsPlan, count_of, removes, side_of, index_of as field_of, plan, new, member, seen}
+use Rattle.arena.specs.ScxRecords.{IsPlan, count_of, removes, side_of, index_of as field_of, plan, new, old, member, seen}
 use Rattle.arena.specs.Fills.{IsOwnNode, IsOwnScx, IsOpenScx, IsNamed, IsTakenScx}
 use Rattle.arena.specs.Lawful.{IsWin, HasWon}
 use Rattle.arena.specs.Found.{HasFound}
@@ -183,6 +183,7 @@ pub record HasFilled (c : Call) (h : History) (s number : ℕ) (u : Update) : Ty
   pub over : IsUpdateOver u
   pub planned : plan h s ≡ u.plan.0
   pub fresh : new h s ≡ u.fresh.0
+  pub expected : old h s ≡ u.old.0
   pub members : (j : ℕ) → j < length u.snaps → member h s j ≡ (snap_at u.snaps j).node.0
   pub found : (j : ℕ) → j < length u.snaps → seen h s j ≡ (snap_at u.snaps j).scx.0
   pub called : value h (scx s CallWord) ≡ number

@@ -20,9 +20,10 @@ use Rattle.histories.proofs.Lemmas.{never_state}
 use Rattle.help.specs.AllowedLaws.{allowed_more}
 use Rattle.help.specs.HelpLawful.{help_fills_not}
 use Rattle.help.specs.HelpMade.{help_made}
-use Rattle.prims.specs.Linked.{linked_more}
+use Rattle.prims.specs.Linked.{linked_more, in_field_named}
 use Rattle.prims.specs.Snap.{snap_at}
 use Rattle.prims.specs.Unfilled.{step_words, step_value}
+use Rattle.prims.specs.BlankRows.{Spares, spared_by_step, spared_by_fill}
 use Rattle.prims.specs.Begun.{takes_by_fill, takes_by_step, way_more, filled_more}
 use Rattle.prims.specs.ScxKnown.{Job, job_of, wanted, InHand, part_at, IsFilled, IsFilledThen, Holds, Fills, FillWaits, FillMade, fill_step, scx_waits_at, scx_told_at, scx_waits, scx_ready}
 use Rattle.prims.specs.ScxLaws.{taken_more, part_fill}
@@ -165,3 +166,21 @@ value_at_place allows m c h AtCall s n l w = fill_value allows m c h AtCall s n 
 
 pub scx_value : (allows : Layout → History → ℕ → Type 0) (m : ScxRun) (c : Call) (h : History) (s : Step) (n : ℕ) → Lawful c.layout (row_of c s h ⊳ h) → scx_waits allows m c h s → value (row_of c s h ⊳ h) (node n Value) ≡ value h (node n Value)
 scx_value allows m c h s n l w = value_at_place allows (job_of m) c h m.at s n l w
+
+-- and they leave its fresh node blank
+
+fill_spares : (allows : Layout → History → ℕ → Type 0) (m : Job) (c : Call) (h : History) (at : ScxAt) (s : Step) → FillWaits allows c h m at s → ((j : ℕ) → part_at at ≡ Member j → wanted m (part_at at) ≢ m.update.fresh.0) → Spares (row_of c s h) m.scx.0 m.update.fresh.0
+fill_spares allows m c h at s w d = rw w.asked (spared_by_fill (row_of c (fill_step m (part_at at)) h) m.scx.0 m.update.fresh.0 (part_at at) refl d)
+
+spares_at_place : (allows : Layout → History → ℕ → Type 0) (m : Job) (c : Call) (h : History) (at : ScxAt) (s : Step) → scx_waits_at allows c h m at s → Spares (row_of c s h) m.scx.0 m.update.fresh.0
+spares_at_place allows m c h Start s w = absurd w
+spares_at_place allows m c h (Help help) s w = spared_by_step (row_of c s h) m.scx.0 m.update.fresh.0 (help_fills_not allows help c h s w.0)
+spares_at_place allows m c h AtPlan s w = fill_spares allows m c h AtPlan s w (λ j e. cc)
+spares_at_place allows m c h AtNew s w = fill_spares allows m c h AtNew s w (λ j e. cc)
+spares_at_place allows m c h AtOld s w = fill_spares allows m c h AtOld s w (λ j e. cc)
+spares_at_place allows m c h (AtMember k) s w = fill_spares allows m c h (AtMember k) s w (λ j e q. w.fills.hand.unnamed (rw q at (in_field_named (snap_at m.update.snaps (index_of k)).node.0 (w.fills.hand.linked (index_of k) w.fills.within).in_field)))
+spares_at_place allows m c h (AtSeen k) s w = fill_spares allows m c h (AtSeen k) s w (λ j e. cc)
+spares_at_place allows m c h AtCall s w = fill_spares allows m c h AtCall s w (λ j e. cc)
+
+pub scx_spares : (allows : Layout → History → ℕ → Type 0) (m : ScxRun) (c : Call) (h : History) (s : Step) → scx_waits allows m c h s → Spares (row_of c s h) m.scx.0 m.update.fresh.0
+scx_spares allows m c h s w = spares_at_place allows (job_of m) c h m.at s w

@@ -191,6 +191,7 @@ module _ (allows : Layout → History → ℕ → Type 0) (c : Call) (h : Histor
     over = x.hand.update;
     planned = x.filled Plan tt;
     fresh = x.filled New tt;
+    expected = x.filled Old tt;
     members = λ j i. x.filled (Member j) i;
     found = λ j i. x.filled (Seen j) i;
     called = x.filled CallWord tt;

@@ -1,5 +1,5 @@
 -- What a pass has: what is left of its share, and snapshots that it may use.
-use Rattle.std.specs.Prelude.{◌≡◌, ℕ, ◌+◌, ◌-◌, ◌<◌, ◌≤◌}
+use Rattle.std.specs.Prelude.{◌≡◌, ℕ, ◌+◌, ◌<◌, ◌≤◌}
 use Rattle.arena.specs.declared.layout.Layout.{Layout}
 use Rattle.arena.specs.Layout.{first_node, first_scx}
 use Rattle.arena.specs.Share.{Left, HasNode, HasScx}
@@ -21,10 +21,6 @@ pub record IsShare (lay : Layout) (h : History) (c : ℕ) (left : Left) (node sc
   pub unmentioned : (n : ℕ) → HasNode left n → IsUnmentioned h n
   pub untaken_nodes : (n : ℕ) → HasNode left n → ¬ IsTakenNode h n
   pub untaken : (s : ℕ) → HasScx left s → ¬ IsTakenScx h s
-
--- what is left once the next node and the next SCX-record are taken
-abbrev pub taken : Left → Left
-taken left = record { next_node = left.next_node + 1; nodes = left.nodes - 1; next_scx = left.next_scx + 1; scx = left.scx - 1 }
 
 -- a snapshot of this moment that a pass may use: what it says holds as long as its node's info is what it found
 pub record IsUsable (lay : Layout) (h : History) (snap : Snap) (moment : History) : Type 0 where

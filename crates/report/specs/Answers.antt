@@ -1,6 +1,6 @@
 -- Answers as text.
 use Rattle.std.specs.Prelude.{ℕ, List, ◌++◌, codes, decimal}
-use Rattle.player.specs.declared.record.Resource.TheVariants.{Nodes, Scx}
+use Rattle.arena.specs.declared.fault.Resource.TheVariants.{Nodes, Scx}
 use Rattle.player.specs.declared.record.Answer.{Answer}
 use Rattle.player.specs.declared.record.Answer.TheVariants.{Snapshot, Finalized, Fail, Done, Lost, Same, Changed, Unlinked, Full}
 

@@ -3,8 +3,8 @@ ghost use Rattle.std.specs.Prelude.{◌≡◌, ◌++◌, IfOk, IfSome, codes, de
 ghost use Rattle.report.specs.Answers.{answer_text};
 
 use crate::name::{node_of, scx_of, small_number_of};
-use arena::{NodeNo, ScxNo};
-use player::{Answer, Resource};
+use arena::{NodeNo, Resource, ScxNo};
+use player::Answer;
 use script::number_of;
 use std::alloc::{AllocError, Global};
 

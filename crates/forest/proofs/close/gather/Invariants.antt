@@ -4,13 +4,13 @@ use Rattle.forest.specs.Gathered.{AreIn}
 use Rattle.forest.proofs.close.gather.Given as goal
 
 abbrev pub invariant-loop-pass : goal.invariant-loop-pass
-invariant-loop-pass l = record {
+invariant-loop-pass g l = record {
   gone : List Sight;
   were : l.fn.passes.items ≡ l.passes.items ++ gone;
-  are_in : AreIn gone l.all.me.0.passes;
+  are_in : AreIn g.S.Shape.allows gone l.all.me.0.passes;
   left : AreOf (ground l.words.table.shared.table_id l.layout) l.passes.items;
   table : l.all.table_id ≡ l.words.table.shared.table_id;
 }
 
 abbrev pub decreases-loop-pass : goal.decreases-loop-pass
-decreases-loop-pass l = vec_len l.passes
+decreases-loop-pass g l = vec_len l.passes

@@ -1,5 +1,4 @@
 use Rattle.std.proofs.Common.{◌++◌}
-use Rattle.prims.specs.Cells.{allows_all}
 use Rattle.forest.specs.Kept.{knower, past}
 use Rattle.forest.specs.Courses.{known_of}
 use Rattle.forest.proofs.Moves.{look_lawful}
@@ -7,8 +6,8 @@ use Rattle.forest.proofs.Closes.{looked_from}
 use Rattle.forest.proofs.close.seat_of.Goals as goal
 
 pub make-requires-clause-may : goal.make-requires-clause-may
-make-requires-clause-may c = let p = c.pass.inside in
-    (knower p.number.0 p.layout (known_of p.seat.me.0.passes), c.pass.invariant.seat, λ others by run. look_lawful allows_all p.layout (past p.layout.mode (others ++ known_of p.seat.me.0.passes)) p.number.0 c.pass.invariant.is_pass run)
+make-requires-clause-may g c = let p = c.pass.inside in
+    (knower p.number.0 p.layout (known_of p.seat.me.0.passes), c.pass.invariant.seat, λ others by run. look_lawful g.S.Shape.allows p.layout (past p.layout.mode (others ++ known_of p.seat.me.0.passes)) p.number.0 c.pass.invariant.is_pass run)
 
 pub returns-clause-pass : goal.returns-clause-pass
-returns-clause-pass c = rw (← c.pass.view_is) (looked_from c.pass.inside c.pass.invariant c.make.new.seat c.make.result c.make.ensures.table.1 c.make.ensures.made)
+returns-clause-pass g c = rw (← c.pass.view_is) (looked_from c.pass.inside c.pass.invariant c.make.new.seat c.make.result c.make.ensures.table.1 c.make.ensures.made)

@@ -25,7 +25,7 @@ call-answer-requires-clause-begins c = let p = c.pass.inside in let x = c.pass.i
     (call_of p x (called p), layout_of c.pass.view_is c.self.view_is c.requires.pass, ap taken_of c.pass.view_is ∙ sym c.taken-number.ensures, begins p x c.args.node c.requires.cell)
 
 -- what the call leaves
-ended : (c : goal.After-hear) → HasCalled c.pass.inside c.call-answer.new.seat (called c.pass.inside) (Answered c.pass.inside c.pass.invariant (called c.pass.inside) c.args.node c.call-answer.result)
+ended : (c : goal.After-hear) → HasCalled allows_all c.pass.inside c.call-answer.new.seat (called c.pass.inside) (Answered c.pass.inside c.pass.invariant (called c.pass.inside) c.args.node c.call-answer.result)
 ended c = let p = c.pass.inside in let x = c.pass.invariant in
     let y = c.call-answer.ensures.ends (call_of p x (called p)) (layout_of c.pass.view_is c.self.view_is c.requires.pass) (ap taken_of c.pass.view_is ∙ sym c.taken-number.ensures) (begins p x c.args.node c.requires.cell) in
     llx_called p x (called p) c.call-answer.new.seat (run_at c.args.node LlxStart) y.0 c.args.node c.call-answer.result refl y.1

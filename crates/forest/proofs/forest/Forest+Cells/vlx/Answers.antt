@@ -26,7 +26,7 @@ pub call-requires-clause-begins : goal.call-requires-clause-begins
 call-requires-clause-begins c = (call_of c.pass.inside c.pass.invariant (called c.pass.inside), layout_of c.pass.view_is c.self.view_is c.requires.pass, ap taken_of c.pass.view_is ∙ sym c.taken-number.ensures, begins c)
 
 -- what the call leaves
-ended : (c : goal.After-call) → HasCalled c.pass.inside c.call.new.seat (called c.pass.inside) (Looked list c.pass.inside c.pass.invariant (called c.pass.inside) c.args.snaps c.call.result)
+ended : (c : goal.After-call) → HasCalled allows_all c.pass.inside c.call.new.seat (called c.pass.inside) (Looked list c.pass.inside c.pass.invariant (called c.pass.inside) c.args.snaps c.call.result)
 ended c = let p = c.pass.inside in let x = c.pass.invariant in
     vlx_called list p x (called p) c.call.new.seat c.args.snaps c.call.result (c.call.ensures.ends (call_of p x (called p)) (layout_of c.pass.view_is c.self.view_is c.requires.pass) (ap taken_of c.pass.view_is ∙ sym c.taken-number.ensures) (begins c.before))
 

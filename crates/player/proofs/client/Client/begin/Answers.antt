@@ -20,7 +20,7 @@ returns-in-Ok c v began sound mode r u is =
     let items = c.new-in-Ok-2.ensures.snaps ∙ c.new-in-Ok.ensures ∙ c.deref.ensures.0 in
     let none = c.new-in-Ok-2.ensures.asked in
     begins_run v c.args.self.now c.run-in-Ok.new.self c.args.turn c.run-in-Ok.result
-    (c.run-in-Ok.ensures.begins v sound (vlx_starts v began _ c.new-in-Ok-2.result c.in-Vlx.cells sound rests u c.new-in-Ok-2.ensures.asked
+    (c.run-in-Ok.ensures.begins v sound (vlx_starts v began _ c.new-in-Ok-2.result c.in-Vlx.cells sound mode rests u c.new-in-Ok-2.ensures.asked
     (rw items (some_snaps c.in-Ok.snaps.items c.as_slice.result.now c.in-Ok.ensures.nodes c.as_slice.ensures.some))
     (rw items (c.in-Ok.ensures.nodes ∙ c.as_slice.ensures.cells))
     (rw items (kept_linked v.layout c.args.self.now.pass.0 v.past v.linked c.args.self.now.kept c.in-Ok.snaps.items c.in-Ok.ensures.kept r.stands.kept))

@@ -16,14 +16,14 @@ put-requires-clause-among c =
     x
 
 pub returns-in-Err : goal.returns-in-Err
-returns-in-Err c v began sound r u is =
+returns-in-Err c v began sound mode r u is =
     (record { pass = refl; number = refl; next = refl }, refl, scx_unlinked v began c.args.self.now c.args.update.now c.in-Err.node r u is (rw c.cells-cells.ensures.cells at c.in-Err.ensures.unkept))
 
 pub returns-in-Ok : goal.returns-in-Ok
-returns-in-Ok c v began sound r u is =
+returns-in-Ok c v began sound mode r u is =
     begins_put v began c.args.self.now c.put.new.self c.args.update.now c.put.result u is
     (scx_linked v c.args.self.now (ScxCommand c.args.update.now) c.in-Ok.snaps.items _ r c.in-Ok.ensures.kept (c.in-Ok.ensures.nodes ∙ c.cells-cells.ensures.cells))
-    (c.put.ensures v v.linked sound (scx_can_put v began c.args.self.now c.args.update.now c.deref.result.now c.deref-in-Ok.result.now (c.node.result, c.field-cell.result.1) c.value.result r u is
+    (c.put.ensures v v.linked sound (scx_can_put v began c.args.self.now c.args.update.now c.deref.result.now c.deref-in-Ok.result.now (c.node.result, c.field-cell.result.1) c.value.result mode r u is
     (rw c.deref.ensures.0 c.in-Ok.ensures.kept)
     (rw c.deref.ensures.0 (c.in-Ok.ensures.nodes ∙ c.cells-cells.ensures.cells))
     (rw c.deref-in-Ok.ensures.0 (c.nodes-finalize.ensures ∙ c.finalize.ensures.cells))

@@ -8,7 +8,7 @@ returns-in-Start-clause-turn g c d h run r = turn_start g.S.Shape.allows c.args.
 pub returns-in-Scx-clause-turn : goal.returns-in-Scx-clause-turn
 returns-in-Scx-clause-turn g c d h run r =
     let t = told_scx g.S.Shape.allows c.args.self.now d h c.args.got c.in-Scx.is r in
-    turn_scx g.S.Shape.allows d h run.lawful c.args.self.now record { value = c.args.self.now.value; scx = c.next-in-Scx.new.self; at = c.args.self.now.at } c.next-in-Scx.result c.in-Scx.is refl c.next-in-Scx.ensures.same.1 t.0 (c.next-in-Scx.ensures.turn d h run t.1)
+    turn_scx g.S.Shape.allows d h run.lawful c.args.self.now record { value = c.args.self.now.value; scx = c.next-in-Scx.new.self; at = c.args.self.now.at } c.next-in-Scx.result c.in-Scx.is refl c.next-in-Scx.ensures.same.0 c.next-in-Scx.ensures.same.1 t.0 (c.next-in-Scx.ensures.turn d h run t.1)
 
 pub returns-in-Fill-clause-nearer : goal.returns-in-Fill-clause-nearer
 returns-in-Fill-clause-nearer g c nodes fits = rw c.in-Fill.is (c.next.ensures.nearer nodes fits)

@@ -1,6 +1,6 @@
 use Rattle.std.proofs.Common.{ℕ, ◌<◌}
 use Rattle.forest.specs.Passes.{HasPass}
-use Rattle.forest.proofs.forest.Forest+Cells.all_back.Given as goal
+use Rattle.forest.proofs.forest.Forest.all_back.Given as goal
 
 abbrev pub invariant-loop-number : goal.invariant-loop-number
-invariant-loop-number l = (n : ℕ) → n < l.number → HasPass l.passes n
+invariant-loop-number g l = (n : ℕ) → n < l.number → HasPass l.passes n

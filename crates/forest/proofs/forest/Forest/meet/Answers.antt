@@ -1,0 +1,42 @@
+use Rattle.std.proofs.Common.{◌∙◌, sym, ap}
+use Rattle.arena.proofs.Values.{ends_trans}
+use Rattle.forest.specs.Passes.{Sight}
+use Rattle.forest.proofs.Passes.{layout_of, called_pass}
+use Rattle.forest.proofs.Meets.{have_met, met_left, looked_once}
+use Rattle.forest.proofs.forest.Forest.meet.Goals as goal
+
+pub meet-requires-clause-first : goal.meet-requires-clause-first
+meet-requires-clause-first g c = let e = layout_of c.one.view_is c.self.view_is c.requires.one in record { pass = _; is = c.one.invariant.seat; layout = e; is_pass = rw (← e) c.one.invariant.is_pass }
+
+pub meet-requires-clause-second : goal.meet-requires-clause-second
+meet-requires-clause-second g c = let e = layout_of c.other.view_is c.self.view_is c.requires.other in record { pass = _; is = c.other.invariant.seat; layout = e; is_pass = rw (← e) c.other.invariant.is_pass }
+
+pub invariant_of-one : goal.invariant_of-one
+invariant_of-one g c = let m = have_met c.one.inside c.other.inside c.one.invariant c.other.invariant c.meet.new.one c.meet.new.other c.meet.ensures.met in
+    called_pass c.one.inside c.one.invariant c.meet.new.one _ _ (c.meet.ensures.bare.0 ∙ sym c.one.invariant.bare) m.one
+
+pub invariant_of-other : goal.invariant_of-other
+invariant_of-other g c = let m = have_met c.one.inside c.other.inside c.one.invariant c.other.invariant c.meet.new.one c.meet.new.other c.meet.ensures.met in
+    called_pass c.other.inside c.other.invariant c.meet.new.other _ _ (c.meet.ensures.bare.1 ∙ sym c.other.invariant.bare) m.other
+
+pub returns-clause-apart : goal.returns-clause-apart
+returns-clause-apart g c = let m = have_met c.one.inside c.other.inside c.one.invariant c.other.invariant c.meet.new.one c.meet.new.other c.meet.ensures.met in
+    rw (← c.one.view_is, ← c.other.view_is) m.apart
+
+pub returns-clause-one_looks : goal.returns-clause-one_looks
+returns-clause-one_looks g c = let m = have_met c.one.inside c.other.inside c.one.invariant c.other.invariant c.meet.new.one c.meet.new.other c.meet.ensures.met in
+    rw (← c.one.view_is) (looked_once c.one.inside c.one.invariant c.meet.new.one _ c.meet.ensures.table.0 (c.meet.ensures.bare.0 ∙ sym c.one.invariant.bare) m.one m.one_step)
+
+pub returns-clause-other_looks : goal.returns-clause-other_looks
+returns-clause-other_looks g c = let m = have_met c.one.inside c.other.inside c.one.invariant c.other.invariant c.meet.new.one c.meet.new.other c.meet.ensures.met in
+    rw (← c.other.view_is) (looked_once c.other.inside c.other.invariant c.meet.new.other _ c.meet.ensures.table.1 (c.meet.ensures.bare.1 ∙ sym c.other.invariant.bare) m.other m.other_step)
+
+pub returns-clause-one_knows : goal.returns-clause-one_knows
+returns-clause-one_knows g c = let m = have_met c.one.inside c.other.inside c.one.invariant c.other.invariant c.meet.new.one c.meet.new.other c.meet.ensures.met in ends_trans _ _ _ m.one.answers m.goes_on
+
+pub returns-clause-other_knows : goal.returns-clause-other_knows
+returns-clause-other_knows g c = let m = have_met c.one.inside c.other.inside c.one.invariant c.other.invariant c.meet.new.one c.meet.new.other c.meet.ensures.met in rw (← c.one.view_is) (ends_trans _ _ _ m.other.answers m.knew)
+
+pub returns-clause-left : goal.returns-clause-left
+returns-clause-left g c = let m = have_met c.one.inside c.other.inside c.one.invariant c.other.invariant c.meet.new.one c.meet.new.other c.meet.ensures.met in
+    met_left c.one.inside c.other.inside c.one.invariant c.other.invariant c.meet.new.one c.meet.new.other (ap (λ (v : Sight). v.layout) c.one.view_is ∙ c.requires.one.1 ∙ sym (ap (λ (v : Sight). v.layout) c.other.view_is ∙ c.requires.other.1)) m

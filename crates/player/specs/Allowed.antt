@@ -1,0 +1,16 @@
+-- Which SCX-records the calls of a script may begin: those that the shape of its mode allows.
+use Rattle.std.specs.Prelude.{ℕ}
+use Rattle.arena.specs.declared.limits.Mode.{Mode}
+use Rattle.arena.specs.declared.limits.Mode.TheVariants.{Records, Tree}
+use Rattle.arena.specs.declared.layout.Layout.{Layout}
+use Rattle.arena.specs.History.{History}
+use Rattle.prims.specs.Cells.{allows_all}
+
+-- cells ask nothing of an SCX-record; no call in tree mode begins one yet
+abbrev pub allowed_in : Mode → Layout → History → ℕ → Type 0
+allowed_in Records lay h s = allows_all lay h s
+allowed_in Tree lay h s = ⊥
+
+-- a player's run begins what its mode allows
+abbrev pub played_allows : Layout → History → ℕ → Type 0
+played_allows lay h s = allowed_in lay.mode lay h s
