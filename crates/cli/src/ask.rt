@@ -3,10 +3,10 @@ use crate::fault::Fault;
 use crate::play::play_over;
 use crate::wish::{Wish, read_words};
 use arena::Mode;
-use texts::Metered;
 use std::fs;
 use std::io::Write;
 use std::rt::Files;
+use texts::Metered;
 
 /// Does what the words ask for, of which the first is the program's own name, and answers the exit
 /// status. The files are opened in the order of the words before any of them is read.

@@ -9,9 +9,9 @@ use crate::run::run;
 use arena::Mode;
 use report::write_record;
 use script::{read_schedule, read_script};
-use texts::Metered;
 use std::alloc::Global;
 use std::io::{Read, Write};
+use texts::Metered;
 
 /// Plays a script by a schedule, and prints the report to `out`; a fault goes to `err` as one line.
 /// Answers the exit status: 0, 1 where the script or the schedule is refused, 3 for want of memory, 4

@@ -6,9 +6,9 @@ use arena::Mode;
 use player::Record;
 use report::{ReportFault, read_record, write_record};
 use script::{read_schedule, read_script};
-use texts::{FailAt, Metered};
 use std::alloc::Global;
 use std::test::Fail;
+use texts::{FailAt, Metered};
 
 /// A report in tree mode, in which no command is known.
 const TREE_REPORT: &str = "report,1,tree,,,,\nlimits,1,10,10,3,,\nend,0,0,0,,,\n";

@@ -1,9 +1,9 @@
 use crate::ask::ask_over;
 use crate::play::play_over;
 use arena::Mode;
-use texts::{FailAt, Metered};
 use std::alloc::Global;
 use std::test::Fail;
+use texts::{FailAt, Metered};
 
 /// A set of a client, and then another client's snapshot of the cell.
 pub(crate) const SET: &str = "limits,2,10,10,1\n0,set,1,left,70\n1,llx,1,,\nend,2,,,\n";

@@ -8,11 +8,11 @@ ghost use Rattle.report.specs.Report.{call_rows};
 ghost use Rattle.texts.specs.Pages.{IsReady, line_of, page_row, page_text, rows_text};
 
 use crate::count::Counts;
-use texts::Page;
 use arena::Side;
 use itoa::Buffer;
 use script::{Call, Cell, Command};
 use std::alloc::{AllocError, Global};
+use texts::Page;
 
 /// The lines of some calls, of which `counts` has counted those before.
 pub fn calls_text(alloc: Global, calls: &[Call], counts: &mut Counts) -> Result<Vec<u8>, AllocError>

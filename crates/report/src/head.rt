@@ -5,12 +5,12 @@ ghost use Rattle.script.specs.Rows.{limits_row};
 ghost use Rattle.report.specs.Report.{end_row, title_row};
 ghost use Rattle.texts.specs.Pages.{IsReady, line_of, page_row, page_text, rows_text};
 
-use texts::Page;
 use crate::totals::Totals;
 use arena::{Limits, Mode};
 use player::Line;
 use script::Script;
 use std::alloc::{AllocError, Global};
+use texts::Page;
 
 /// The two lines that say what was run and how large it was.
 pub fn head_text(alloc: Global, script: &Script) -> Result<Vec<u8>, AllocError>

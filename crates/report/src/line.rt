@@ -7,12 +7,12 @@ ghost use Rattle.report.specs.Report.{line_row};
 ghost use Rattle.texts.specs.Pages.{IsReady, line_of, page_row, page_text, rows_text};
 
 use crate::answer::answer_text;
-use texts::Page;
 use crate::word::word_text;
 use arena::PassNo;
 use player::{Entry, Line, Reply, Row};
 use script::kind_name;
 use std::alloc::{AllocError, Global};
+use texts::Page;
 
 /// The text of some lines of a run.
 pub fn lines_text(alloc: Global, lines: &[Line]) -> Result<Vec<u8>, AllocError>

@@ -18,9 +18,9 @@ use crate::rows::{advance, next_row, row_fields};
 use crate::totals::is_end_of;
 use player::{Line, Record};
 use script::Script;
-use texts::{Metered, Rows, settled};
 use std::alloc::Global;
 use std::io::Read;
+use texts::{Metered, Rows, settled};
 
 /// Reads a report of either mode: its rows are those of the record, and no others. Whether the run is
 /// lawful is not asked here, only what a row says by itself, the numbers of the calls and the counts of

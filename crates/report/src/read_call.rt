@@ -14,9 +14,9 @@ use crate::name::client_of;
 use crate::rows::{next_row, row_fields};
 use arena::Layout;
 use script::{Call, command_of};
-use texts::{Rows, number_of};
 use std::alloc::Global;
 use std::io::Read;
+use texts::{Rows, number_of};
 
 /// How many calls a script may have.
 const MOST_CALLS: usize = 65536;

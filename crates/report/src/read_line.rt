@@ -17,9 +17,9 @@ use crate::rows::{next_row, row_fields};
 use crate::word::word_of;
 use player::{Entry, Line, Reply, Row};
 use script::kind_of;
-use texts::{Rows, number_of};
 use std::alloc::Global;
 use std::io::Read;
+use texts::{Rows, number_of};
 
 /// Reads the lines from this row on, up to the first row that begins as the end row does.
 pub fn lines_of<R: Read + Drop>(

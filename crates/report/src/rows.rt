@@ -8,8 +8,8 @@ ghost use Rattle.texts.specs.Texts.{AreRows};
 
 use crate::fault::{NotLawful, RowFault};
 use csv::StringRecord;
-use texts::Rows;
 use std::io::Read;
+use texts::Rows;
 
 /// How many fields a row of a report has.
 const WIDTH: usize = 7;

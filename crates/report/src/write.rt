@@ -6,15 +6,13 @@ ghost use Rattle.texts.specs.Pages.{BeginsWith, rows_text};
 
 use crate::call::calls_text;
 use crate::count::Counts;
-use texts::WriteFault;
 use crate::head::{end_text, head_text};
 use crate::line::lines_text;
-use texts::send;
 use player::{Line, Record};
 use script::Call;
-use texts::Metered;
 use std::alloc::Global;
 use std::io::Write;
+use texts::{Metered, WriteFault, send};
 
 /// How many rows are made in memory before they go out.
 const ROWS: usize = 64;

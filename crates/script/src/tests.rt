@@ -1,7 +1,7 @@
 use crate::fault::{ScheduleCause, ScheduleFault, ScriptCause, ScriptFault};
 use crate::{
-    Call, Cell, Cells, Command, Order, Schedule, Script, Update, kind_name,
-    kind_of, read_schedule, read_script,
+    Call, Cell, Cells, Command, Order, Schedule, Script, Update, kind_name, kind_of, read_schedule,
+    read_script,
 };
 use arena::{Kind, Limits, Mode, PassNo, Side};
 use std::alloc::{AllocError, Global};
