@@ -16,9 +16,8 @@ use Rattle.arena.specs.History.{History, ◌⊳◌, value, HasHeld, EndsWith}
 use Rattle.arena.specs.Fills.{IsOwnNode, IsOthersNode, IsInField, MayFill}
 use Rattle.arena.specs.Lawful.{Obeys, Lawful, HasWon}
 use Rattle.arena.proofs.SameWords.{word_same}
-use Rattle.arena.proofs.Values.{value_at, value_quiet, value_apart, value_other, held_at, held_split, node_apart, node_word_apart, ends_self}
+use Rattle.arena.proofs.Values.{value_at, value_quiet, value_apart, value_other, held_at, held_split, node_apart, node_word_apart, ends_self, same_moment}
 use Rattle.histories.proofs.Lemmas.{Change, nothing, fills_node, fills_scx, freezes, sets_frozen, marks, updates, commits, aborts, change, lawful_row, facts_before, UpdateWins, update_won, won_more, one_node_owner}
-use Rattle.prims.specs.Idle.{same_moment}
 use Rattle.prims.specs.BlankNodes.{IsBlank, WasBlank}
 
 -- the row fills no field of the node, and puts its number into no field, no `v` word, and no `new` but that of s

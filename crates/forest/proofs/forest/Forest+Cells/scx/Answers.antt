@@ -22,7 +22,7 @@ new-update-requires-clause-among c = among_at c.args.snaps.now c.args.field.0.0 
 
 -- what is to be put
 abbrev put_of : goal.After-layout-2-1 → Put
-put_of c = let u = c.new-update.result in record { plan = u.plan; old = u.old; fresh = u.fresh; value = c.args.value; scx = c.in_ok-fresh.scx }
+put_of c = let u = c.new-update.result in record { plan = u.plan; old = u.old; fresh = u.fresh; value = c.args.value; scx = c.in-Ok.records.1 }
 
 -- its update, over the caller's snapshots
 over_them : (u : Update) (snaps : List Snap) → u.snaps ≡ snaps → IsUpdateOver u → IsUpdateOver record { snaps = snaps; plan = u.plan; old = u.old; fresh = u.fresh }
@@ -30,7 +30,7 @@ over_them u snaps is x = rw (← is) x
 
 -- the run that the call makes
 is_of : (c : goal.After-layout-2-1) (number : ℕ) → IsPutOf (run_of c.args.snaps.now (put_of c) number) c.args.snaps.now c.args.finalize.now (c.args.field.0.0, c.args.field.1) c.args.value c.pass.inside.share.next_node c.pass.inside.share.next_scx number
-is_of c number = let u = c.new-update.ensures in let records = c.in_ok-fresh.ensures.records in record {
+is_of c number = let u = c.new-update.ensures in let records = c.in-Ok.ensures.records in record {
   over = over_them c.new-update.result c.args.snaps.now u.snaps u.over;
   snaps_are = refl;
   fresh = u.fresh ∙ records.0;
@@ -48,7 +48,7 @@ called p = taken_of (sight p)
 
 -- the call may begin
 begins : (c : goal.After-layout-2-1) (number : ℕ) → PutBegins allows_all (call_of c.pass.inside c.pass.invariant number) c.pass.inside.seat.me.0.passes (run_of c.args.snaps.now (put_of c) number)
-begins c number = let some = c.in_ok-fresh.ensures.some in
+begins c number = let some = c.in-Ok.ensures.some in
     put_begins c.pass.inside c.pass.invariant some.0 some.1 c.args.snaps.now c.args.finalize.now (c.args.field.0.0, c.args.field.1) c.args.value number _ (is_of c number) refl refl (subst (λ (v : Sight). Each (CanUse v) c.args.snaps.now) (sym c.pass.view_is) c.requires.usable)
 
 -- its number as the code has it
@@ -64,26 +64,26 @@ call-requires-clause-begins c = (
 )
 
 -- what the call leaves
-ended : (c : goal.After-call) → HasPut c.pass.inside c.pass.invariant c.in_ok-fresh.ensures.some.0 c.in_ok-fresh.ensures.some.1 c.args.snaps.now c.args.finalize.now (c.args.field.0.0, c.args.field.1) c.args.value (called c.pass.inside) c.call.new.seat c.call.result
-ended c = let p = c.pass.inside in let x = c.pass.invariant in let some = c.in_ok-fresh.ensures.some in
+ended : (c : goal.After-call) → HasPut c.pass.inside c.pass.invariant c.in-Ok.ensures.some.0 c.in-Ok.ensures.some.1 c.args.snaps.now c.args.finalize.now (c.args.field.0.0, c.args.field.1) c.args.value (called c.pass.inside) c.call.new.seat c.call.result
+ended c = let p = c.pass.inside in let x = c.pass.invariant in let some = c.in-Ok.ensures.some in
     let ends = c.call.ensures.ends (call_of p x (called p)) (layout_of c.pass.view_is c.self.view_is c.requires.pass) (named c.before) (rw (← named c.before) (begins c.before (called p))) in
     put_called p x some.0 some.1 c.args.snaps.now c.args.finalize.now (c.args.field.0.0, c.args.field.1) c.args.value (called p) c.call.new.seat _ ends.0 c.call.result (rw (← named c.before) (is_of c.before (called p))) ends.1
 
 pub invariant_of-pass-2 : goal.invariant_of-pass-2
-invariant_of-pass-2 c = let some = c.in_ok-fresh.ensures.some in
-    rw c.in_ok-fresh.ensures.left (put_pass c.pass.inside c.pass.invariant some.0 some.1 c.args.snaps.now c.args.finalize.now (c.args.field.0.0, c.args.field.1) c.args.value _ c.call.new.seat c.call.result c.call.ensures.table.1 (ended c))
+invariant_of-pass-2 c = let some = c.in-Ok.ensures.some in
+    rw c.in-Ok.ensures.left (put_pass c.pass.inside c.pass.invariant some.0 some.1 c.args.snaps.now c.args.finalize.now (c.args.field.0.0, c.args.field.1) c.args.value _ c.call.new.seat c.call.result c.call.ensures.table.1 (ended c))
 
 pub returns-clause-goes_on : goal.returns-clause-goes_on
-returns-clause-goes_on c = let some = c.in_ok-fresh.ensures.some in
-    rw (← c.pass.view_is, c.in_ok-fresh.ensures.left) (put_goes_on c.pass.inside c.pass.invariant some.0 some.1 c.args.snaps.now c.args.finalize.now (c.args.field.0.0, c.args.field.1) c.args.value _ c.call.new.seat c.call.result 40 40 c.call.ensures.table.0 c.call.ensures.table.1 (ended c) c.call.ensures.steps (omega arith))
+returns-clause-goes_on c = let some = c.in-Ok.ensures.some in
+    rw (← c.pass.view_is, c.in-Ok.ensures.left) (put_goes_on c.pass.inside c.pass.invariant some.0 some.1 c.args.snaps.now c.args.finalize.now (c.args.field.0.0, c.args.field.1) c.args.value _ c.call.new.seat c.call.result 40 40 c.call.ensures.table.0 c.call.ensures.table.1 (ended c) c.call.ensures.steps (omega arith))
 
 pub returns-in_err-fresh-clause-goes_on : goal.returns-in_err-fresh-clause-goes_on
 returns-in_err-fresh-clause-goes_on c = rw (← c.pass.view_is, c.in_err-fresh.ensures.full.1) (goes_nowhere c.pass.inside c.pass.invariant _ 40)
 
 pub returns-clause-says : goal.returns-clause-says
-returns-clause-says c = let some = c.in_ok-fresh.ensures.some in
-    rw (← c.pass.view_is, c.in_ok-fresh.ensures.left) (put_says c.pass.inside c.pass.invariant some.0 some.1 c.args.snaps.now c.args.finalize.now (c.args.field.0.0, c.args.field.1) c.args.value (called c.pass.inside) c.call.new.seat c.call.result refl (ended c))
+returns-clause-says c = let some = c.in-Ok.ensures.some in
+    rw (← c.pass.view_is, c.in-Ok.ensures.left) (put_says c.pass.inside c.pass.invariant some.0 some.1 c.args.snaps.now c.args.finalize.now (c.args.field.0.0, c.args.field.1) c.args.value (called c.pass.inside) c.call.new.seat c.call.result refl (ended c))
 
 pub returns-clause-alone : goal.returns-clause-alone
-returns-clause-alone c = let some = c.in_ok-fresh.ensures.some in
+returns-clause-alone c = let some = c.in-Ok.ensures.some in
     rw (← c.pass.view_is) (put_alone c.pass.inside c.pass.invariant some.0 some.1 c.args.snaps.now c.args.finalize.now (c.args.field.0.0, c.args.field.1) c.args.value _ c.call.new.seat c.call.result (ended c))
