@@ -77,8 +77,8 @@ pub returns-clause-goes_on : goal.returns-clause-goes_on
 returns-clause-goes_on c = let some = c.in-Ok.ensures.some in
     rw (← c.pass.view_is, c.in-Ok.ensures.left) (put_goes_on c.pass.inside c.pass.invariant some.0 some.1 c.args.snaps.now c.args.finalize.now (c.args.field.0.0, c.args.field.1) c.args.value _ c.call.new.seat c.call.result 40 40 c.call.ensures.table.0 c.call.ensures.table.1 (ended c) c.call.ensures.steps (omega arith))
 
-pub returns-in_err-fresh-clause-goes_on : goal.returns-in_err-fresh-clause-goes_on
-returns-in_err-fresh-clause-goes_on c = rw (← c.pass.view_is, c.in_err-fresh.ensures.full.1) (goes_nowhere c.pass.inside c.pass.invariant _ 40)
+pub returns-in-Err-clause-goes_on : goal.returns-in-Err-clause-goes_on
+returns-in-Err-clause-goes_on c = rw (← c.pass.view_is, c.in-Err.ensures.full.1) (goes_nowhere c.pass.inside c.pass.invariant _ 40)
 
 pub returns-clause-says : goal.returns-clause-says
 returns-clause-says c = let some = c.in-Ok.ensures.some in

@@ -1,7 +1,7 @@
 use Rattle.std.proofs.Common.{arith, ℕ, List, length, refl, ◌∙◌, ap, Some, None}
 use Rattle.script.specs.declared.command.Command.{Command}
 use Rattle.player.proofs.Snapshots.{kept_linked}
-use Rattle.player.proofs.Begins.{llx_starts, vlx_starts, rests_at, begins_run, some_snaps, as_many_snaps}
+use Rattle.player.proofs.Begins.{llx_starts, vlx_starts, vlx_unlinked, rests_at, begins_run, some_snaps, as_many_snaps}
 use Rattle.player.proofs.client.Client.begin.Goals as goal
 
 pub returns-in-Llx : goal.returns-in-Llx
@@ -26,3 +26,7 @@ returns-in-Ok c v began sound mode r u is =
     (rw items (kept_linked v.layout c.args.self.now.pass.0 v.past v.linked c.args.self.now.kept c.in-Ok.snaps.items c.in-Ok.ensures.kept r.stands.kept))
     (is ∙ ap (λ (k : Command). Some k) c.in-Vlx.is)
     (rw (items, none) (omega (arith, as_many_snaps c.in-Ok.snaps.items c.as_slice.result.now c.in-Ok.ensures.nodes ∙ ap (λ (l : List ℕ). length l) c.as_slice.ensures.cells)))))
+
+pub returns-in-Err : goal.returns-in-Err
+returns-in-Err c v began sound mode r u is =
+    (record { pass = refl; number = refl; next = refl }, refl, vlx_unlinked v began _ c.in-Vlx.cells c.in-Err.node (rests_at v c.args.self.now c.args.turn r) u (is ∙ ap (λ (k : Command). Some k) c.in-Vlx.is) (rw c.as_slice.ensures.cells at c.in-Err.ensures.unkept))
