@@ -8,8 +8,8 @@ use Rattle.script.specs.Grammars.{IsScheduleFault, IsScriptFault, SayOrders, Say
 use Rattle.script.specs.declared.command.Call.{Call}
 use Rattle.script.specs.declared.schedule.Schedule.{Schedule}
 use Rattle.script.specs.declared.script.Script.{Script}
-use Rattle.player.specs.declared.record.Line.{Line}
-use Rattle.player.specs.Schedules.{IsRunOf}
+use Rattle.record.specs.declared.record.Line.{Line}
+use Rattle.record.specs.Schedules.{IsRunOf}
 use Rattle.report.specs.Report.{report_text}
 use Rattle.cli.specs.declared.fault.Fault.{Fault}
 use Rattle.cli.specs.declared.fault.Fault.TheVariants.{Usage, BadScript, BadSchedule, NoMemory, Read, Write}

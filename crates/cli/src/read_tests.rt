@@ -3,7 +3,7 @@ use crate::fault::Fault;
 use crate::run::run;
 use crate::tests::{IN_TURN, SET, SET_REPORT, UNTOUCHED_REPORT};
 use arena::Mode;
-use player::Record;
+use record::Record;
 use report::{ReportFault, read_record, write_record};
 use script::{read_schedule, read_script};
 use std::alloc::Global;

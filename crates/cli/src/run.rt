@@ -3,7 +3,7 @@ ghost use Rattle.std.specs.Prelude.{◌≡◌, ◌<◌, All, IfOk, OnOk};
 ghost use Rattle.player.specs.Player.{passes_of, calls_of, lines_of};
 ghost use Rattle.player.specs.Played.{IsPlayed, IsSameScript};
 ghost use Rattle.player.specs.TurnsMore.{AreTurnsWhile};
-ghost use Rattle.player.specs.Schedules.{AsksForMore, IsObeyed, IsOrdered, IsRunOf};
+ghost use Rattle.record.specs.Schedules.{AsksForMore, IsObeyed, IsOrdered, IsRunOf};
 ghost use Rattle.script.specs.Orders.{IsOrder};
 ghost use Rattle.script.specs.declared.schedule.Order.{Order};
 

@@ -3,12 +3,12 @@ use Rattle.std.proofs.Common.{◌≡◌, ℕ, suc, ◌≤◌, Bool, true, false,
 use Rattle.arena.specs.declared.limits.Mode.{Mode}
 use Rattle.arena.specs.declared.layout.Layout.{Layout}
 use Rattle.script.specs.declared.command.Call.{Call}
-use Rattle.player.specs.declared.record.Line.{Line}
-use Rattle.player.specs.declared.record.Line.TheVariants.{Step, Log, Reply as ReplyLine}
-use Rattle.player.specs.declared.record.Row.{Row}
-use Rattle.player.specs.declared.record.Row.TheVariants.{Step as Made, Idle}
-use Rattle.player.specs.Turns.{client_of, number_of, history, turns, begin, start, won, entry_of, is_entry_of}
-use Rattle.player.specs.LawfulRun.{AreLines, IsTurn}
+use Rattle.record.specs.declared.record.Line.{Line}
+use Rattle.record.specs.declared.record.Line.TheVariants.{Step, Log, Reply as ReplyLine}
+use Rattle.record.specs.declared.record.Row.{Row}
+use Rattle.record.specs.declared.record.Row.TheVariants.{Step as Made, Idle}
+use Rattle.record.specs.Turns.{client_of, number_of, history, turns, begin, start, won, entry_of, is_entry_of}
+use Rattle.record.specs.LawfulRun.{AreLines, IsTurn}
 
 -- The begin of a call
 

@@ -36,7 +36,7 @@ use Rattle.player.specs.declared.run.Run.TheVariants.{Llx, Scx, Vlx}
 use Rattle.player.specs.declared.client.Client.{Client}
 use Rattle.player.specs.declared.client.Running.{Running}
 use Rattle.player.specs.declared.client.Put.{Put}
-use Rattle.player.specs.LawfulRun.{IsLastLook, IsUnchanged, AreUnchanged, IsEntryOver, IsEntryFor}
+use Rattle.record.specs.LawfulRun.{IsLastLook, IsUnchanged, AreUnchanged, IsEntryOver, IsEntryFor}
 use Rattle.player.proofs.Shapes.{as_cells}
 use Rattle.player.specs.Allowed.{played_allows}
 use Rattle.player.specs.RunKnown.{run_waits, run_ready, run_keeps, run_made}

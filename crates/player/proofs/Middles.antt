@@ -30,18 +30,18 @@ use Rattle.script.specs.declared.command.Command.{Command}
 use Rattle.player.proofs.Commands.{none_left, place_more, number_small}
 use Rattle.player.specs.Allowed.{played_allows}
 use Rattle.script.specs.declared.command.Call.{Call}
-use Rattle.player.specs.declared.record.Line.{Line}
-use Rattle.player.specs.declared.record.Line.TheVariants.{Step, Log, Reply as ReplyLine}
-use Rattle.player.specs.declared.record.Row.TheVariants.{Step as Made, Idle}
-use Rattle.player.specs.declared.record.Reply.{Reply}
-use Rattle.player.specs.declared.record.Entry.{Entry}
-use Rattle.player.specs.declared.record.Answer.{Answer}
-use Rattle.player.specs.declared.record.Answer.TheVariants.{Snapshot, Finalized, Fail, Done, Lost, Same, Changed, Unlinked, Full}
+use Rattle.record.specs.declared.record.Line.{Line}
+use Rattle.record.specs.declared.record.Line.TheVariants.{Step, Log, Reply as ReplyLine}
+use Rattle.record.specs.declared.record.Row.TheVariants.{Step as Made, Idle}
+use Rattle.record.specs.declared.record.Reply.{Reply}
+use Rattle.record.specs.declared.record.Entry.{Entry}
+use Rattle.record.specs.declared.record.Answer.{Answer}
+use Rattle.record.specs.declared.record.Answer.TheVariants.{Snapshot, Finalized, Fail, Done, Lost, Same, Changed, Unlinked, Full}
 use Rattle.script.specs.declared.command.Command.TheVariants.{Llx as LlxOf, Scx as ScxOf, Vlx as VlxOf, Set as SetOf}
 use Rattle.player.specs.declared.client.Client.{Client}
 use Rattle.player.specs.Lines.{newest}
-use Rattle.player.specs.Turns.{history, turns, entries, answered, begin, start, steps, won, last_client, entry_of, entry_owed, entry_at}
-use Rattle.player.specs.LawfulRun.{next_command, linked, moment_of, HasTakenOne, IsEntered, IsAnswerAtOnce, IsFitting, IsRight, IsReply, OwesNothing, IsNext, AreLines}
+use Rattle.record.specs.Turns.{history, turns, entries, answered, begin, start, steps, won, last_client, entry_of, entry_owed, entry_at}
+use Rattle.record.specs.LawfulRun.{next_command, linked, moment_of, HasTakenOne, IsEntered, IsAnswerAtOnce, IsFitting, IsRight, IsReply, OwesNothing, IsNext, AreLines}
 use Rattle.player.specs.View.{View, view, no_hand, linked_by, Rests, IsClient, IsBehind, Refuses}
 use Rattle.player.specs.Played.{IsSoFar, AreOthers, IsTurnOf, IsBetween, IsMade, IsEnd, AreWins}
 use Rattle.player.proofs.Views.{TellsWon, client_by_others, stands_from}

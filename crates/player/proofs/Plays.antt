@@ -11,9 +11,9 @@ use Rattle.script.specs.declared.command.Call.{Call}
 use Rattle.player.specs.declared.client.Client.{Client}
 use Rattle.player.specs.declared.player.Player.{Player}
 use Rattle.player.specs.Lines.{newest}
-use Rattle.player.specs.Turns.{history, clients}
+use Rattle.record.specs.Turns.{history, clients}
 use Rattle.player.specs.View.{view, Rests}
-use Rattle.player.specs.LawfulRun.{AreLines, IsLawfulRun}
+use Rattle.record.specs.LawfulRun.{AreLines, IsLawfulRun}
 use Rattle.player.specs.Played.{IsBetween, IsPlayed, AreWins}
 
 -- words as they are at the start, and clients that rest, are between two turns

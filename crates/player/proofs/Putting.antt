@@ -33,12 +33,12 @@ use Rattle.player.specs.declared.run.Ended.TheVariants as ended
 use Rattle.player.specs.declared.client.Client.{Client}
 use Rattle.player.specs.declared.client.Put.{Put}
 use Rattle.player.specs.declared.kept.Kept.{Kept}
-use Rattle.player.specs.declared.record.Answer.{Answer}
-use Rattle.player.specs.declared.record.Answer.TheVariants.{Snapshot, Finalized, Fail, Done, Lost, Same, Changed, Unlinked, Full}
+use Rattle.record.specs.declared.record.Answer.{Answer}
+use Rattle.record.specs.declared.record.Answer.TheVariants.{Snapshot, Finalized, Fail, Done, Lost, Same, Changed, Unlinked, Full}
 use Rattle.arena.specs.declared.fault.Resource.{Resource}
 use Rattle.arena.specs.declared.fault.Resource.TheVariants.{Nodes, Scx as ScxRecords}
 use Rattle.player.specs.Kept.{IsUnspent, kept_of, node_of, found_of}
-use Rattle.player.specs.LawfulRun.{commands, IsLastLook, most_steps, IsEmpty}
+use Rattle.record.specs.LawfulRun.{commands, IsLastLook, most_steps, IsEmpty}
 use Rattle.player.specs.View.{View, IsSound, IsLlxOf, IsPutOf, no_hand, Stands, Rests, Starts, Answered, Told, TellsFull, CanPut, Puts, Begins}
 use Rattle.prims.specs.Begun.{taken_since}
 use Rattle.prims.proofs.UntakenNodes.{taken_node_since}

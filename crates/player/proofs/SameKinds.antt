@@ -6,9 +6,9 @@ use Rattle.arena.specs.declared.step.Kind.TheVariants.{Fill, LoadSettled, LoadIn
 use Rattle.arena.specs.contracts.step.Kind.{the_type}
 use denote.Enum.Bare.{sameb}
 use denote.Enum.Declared.{tag_of}
-use Rattle.player.specs.declared.record.Row.{Row}
-use Rattle.player.specs.declared.record.Row.TheVariants.{Step as Made, Idle}
-use Rattle.player.specs.Turns.{kind_place, kind_of, is_of}
+use Rattle.record.specs.declared.record.Row.{Row}
+use Rattle.record.specs.declared.record.Row.TheVariants.{Step as Made, Idle}
+use Rattle.record.specs.Turns.{kind_place, kind_of, is_of}
 
 -- the place of a kind is the one that it has in its type
 tag_is : (k : Kind) → tag_of the_type k ≡ kind_place k

@@ -6,18 +6,18 @@ use Rattle.arena.specs.declared.number.PassNo.{PassNo}
 use Rattle.arena.specs.declared.step.Step.{Step as Ask}
 use Rattle.script.specs.declared.command.Call.{Call}
 use Rattle.script.specs.declared.command.Command.{Command}
-use Rattle.player.specs.declared.record.Line.{Line}
-use Rattle.player.specs.declared.record.Line.TheVariants.{Step, Reply as ReplyLine}
-use Rattle.player.specs.declared.record.Row.TheVariants.{Idle}
-use Rattle.player.specs.declared.record.Reply.{Reply}
-use Rattle.player.specs.declared.record.Answer.{Answer}
+use Rattle.record.specs.declared.record.Line.{Line}
+use Rattle.record.specs.declared.record.Line.TheVariants.{Step, Reply as ReplyLine}
+use Rattle.record.specs.declared.record.Row.TheVariants.{Idle}
+use Rattle.record.specs.declared.record.Reply.{Reply}
+use Rattle.record.specs.declared.record.Answer.{Answer}
 use Rattle.player.specs.declared.client.Client.{Client}
 use Rattle.player.specs.declared.client.Standing.TheVariants.{Finished, Answers, Asks}
 use Rattle.player.specs.declared.player.Player.{Player}
 use Rattle.player.specs.Lines.{newest}
 use Rattle.player.specs.Place.{IsAt}
-use Rattle.player.specs.LawfulRun.{commands, next_command}
-use Rattle.player.specs.Turns.{turns, begin, answered}
+use Rattle.record.specs.LawfulRun.{commands, next_command}
+use Rattle.record.specs.Turns.{turns, begin, answered}
 use Rattle.player.specs.View.{View, view, Rests, Refuses, Waits, IsClient, Stood, command_of}
 use Rattle.player.specs.Played.{IsTurnOf, IsBetween, IsPlayed, IsAsked, IsEnd}
 use Rattle.player.proofs.Commands.{none_left, next_at}

@@ -20,18 +20,18 @@ use Rattle.histories.proofs.Lemmas.{facts_before, lawful_row, update_win}
 use Rattle.player.specs.Allowed.{played_allows}
 use Rattle.script.specs.declared.command.Call.{Call}
 use Rattle.script.specs.declared.command.Command.{Command}
-use Rattle.player.specs.declared.record.Line.{Line}
-use Rattle.player.specs.declared.record.Line.TheVariants.{Step, Log, Reply as ReplyLine}
-use Rattle.player.specs.declared.record.Row.TheVariants.{Step as Made}
-use Rattle.player.specs.declared.record.Reply.{Reply}
-use Rattle.player.specs.declared.record.Entry.{Entry}
-use Rattle.player.specs.declared.record.Answer.{Answer}
+use Rattle.record.specs.declared.record.Line.{Line}
+use Rattle.record.specs.declared.record.Line.TheVariants.{Step, Log, Reply as ReplyLine}
+use Rattle.record.specs.declared.record.Row.TheVariants.{Step as Made}
+use Rattle.record.specs.declared.record.Reply.{Reply}
+use Rattle.record.specs.declared.record.Entry.{Entry}
+use Rattle.record.specs.declared.record.Answer.{Answer}
 use Rattle.player.specs.declared.client.Client.{Client}
 use Rattle.player.specs.declared.client.Running.{Running}
 use Rattle.player.specs.declared.player.Player.{Player}
 use Rattle.player.specs.Lines.{newest}
-use Rattle.player.specs.Turns.{history, turns, answered, clients, begin, start, won, last_client, entry_of, entry_owed}
-use Rattle.player.specs.LawfulRun.{commands, IsAnswerAfterStep, linked, HasTakenOne, IsFitting, IsRight, IsReplyOwed, IsEntryFor, IsWinOf}
+use Rattle.record.specs.Turns.{history, turns, answered, clients, begin, start, won, last_client, entry_of, entry_owed}
+use Rattle.record.specs.LawfulRun.{commands, IsAnswerAfterStep, linked, HasTakenOne, IsFitting, IsRight, IsReplyOwed, IsEntryFor, IsWinOf}
 use Rattle.player.specs.View.{View, view, IsSound, Hears, IsClient, GoesOn, Ends}
 use Rattle.player.specs.Played.{IsSoFar, IsTurnOf, IsBetween, IsAsked, IsEnd, AreWins}
 use Rattle.player.proofs.Views.{own_row, step_sound, hears}

@@ -7,18 +7,19 @@ use Rattle.arena.specs.declared.step.Kind.{Kind}
 use Rattle.script.specs.declared.command.Call.{Call}
 use Rattle.script.specs.declared.command.Command.{Command}
 use Rattle.script.specs.declared.command.Command.TheVariants.{Llx, Scx, Vlx, Set}
-use Rattle.player.specs.declared.record.Line.{Line}
-use Rattle.player.specs.declared.record.Line.TheVariants.{Step, Log, Reply}
-use Rattle.player.specs.declared.record.Reply.{Reply as ReplyOf}
-use Rattle.player.specs.declared.record.Row.{Row}
-use Rattle.player.specs.declared.record.Row.TheVariants.{Step as Made, Idle}
+use Rattle.record.specs.declared.record.Line.{Line}
+use Rattle.record.specs.declared.record.Line.TheVariants.{Step, Log, Reply}
+use Rattle.record.specs.declared.record.Reply.{Reply as ReplyOf}
+use Rattle.record.specs.declared.record.Row.{Row}
+use Rattle.record.specs.declared.record.Row.TheVariants.{Step as Made, Idle}
 use Rattle.player.specs.declared.player.Player.{Player}
 use Rattle.player.specs.Player.{calls_of, lines_of}
 use Rattle.player.specs.Lines.{newest}
-use Rattle.player.specs.Turns.{turns, clients, client_of, answered, steps, last_client, made, is_of}
-use Rattle.player.specs.LawfulRun.{commands, next_command, most_steps, OwesNothing, IsReply, AreLines}
+use Rattle.record.specs.Turns.{turns, clients, client_of, answered, steps, last_client, made, is_of}
+use Rattle.record.specs.LawfulRun.{commands, next_command, most_steps, OwesNothing, IsReply, AreLines}
 use Rattle.player.specs.Played.{IsPlayed, IsSameScript, IsTurnMore}
-use Rattle.player.specs.TurnsMore.{HasCall, AwaitsSteps, AreMadeWhile, AreTurnsWhile, to_go}
+use Rattle.record.specs.OneClient.{HasCall, AwaitsSteps, AreMadeWhile}
+use Rattle.player.specs.TurnsMore.{AreTurnsWhile, to_go}
 
 -- One turn
 

@@ -21,11 +21,11 @@ use Rattle.histories.specs.Descriptor.{descriptor}
 use Rattle.histories.specs.Progress.{IsStarted}
 use Rattle.histories.proofs.Lemmas.{Change, Facts, IsFlagged, IsOwned, UpdateWins, aborts, change, child_node, commits, facts, facts_before, fills_node, fills_scx, freezes, lawful_tail, marks, named_scx_inside, nothing, one_scx_owner, sets_frozen, some_is_real, update_changes, update_flagged, update_holds, updates}
 use Rattle.script.specs.declared.command.Call.{Call as CallOf}
-use Rattle.player.specs.declared.record.Line.{Line}
-use Rattle.player.specs.declared.record.Line.TheVariants.{Step}
-use Rattle.player.specs.declared.record.Row.TheVariants.{Step as Made}
-use Rattle.player.specs.declared.record.Entry.{Entry}
-use Rattle.player.specs.Turns.{history, entries, is_update, entry_at, entry_of, is_entry_of, won}
+use Rattle.record.specs.declared.record.Line.{Line}
+use Rattle.record.specs.declared.record.Line.TheVariants.{Step}
+use Rattle.record.specs.declared.record.Row.TheVariants.{Step as Made}
+use Rattle.record.specs.declared.record.Entry.{Entry}
+use Rattle.record.specs.Turns.{history, entries, is_update, entry_at, entry_of, is_entry_of, won}
 use Rattle.player.specs.View.{view}
 use Rattle.player.proofs.Views.{TellsWon}
 

@@ -1,7 +1,7 @@
 -- The lines of a run, and room for more.
 use Rattle.std.specs.Prelude.{ℕ, ◌-◌, List, reverse, vec_len}
 use Rattle.std.specs.Vec.{vec_capacity}
-use Rattle.player.specs.declared.record.Line.{Line}
+use Rattle.record.specs.declared.record.Line.{Line}
 use Rattle.player.specs.declared.lines.Lines.{Lines}
 
 -- how many lines fit without a growth

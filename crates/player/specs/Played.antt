@@ -10,19 +10,19 @@ use Rattle.script.specs.declared.command.Call.{Call}
 use Rattle.script.specs.declared.script.Script.{Script}
 use Rattle.arena.specs.declared.step.Step.{Step as Ask}
 use Rattle.arena.specs.declared.step.Row.{Row}
-use Rattle.player.specs.declared.record.Line.{Line}
-use Rattle.player.specs.declared.record.Line.TheVariants.{Step, Reply as ReplyLine}
-use Rattle.player.specs.declared.record.Row.{Row as Turn}
-use Rattle.player.specs.declared.record.Row.TheVariants.{Step as Made}
-use Rattle.player.specs.declared.record.Reply.{Reply}
-use Rattle.player.specs.declared.record.Answer.{Answer}
+use Rattle.record.specs.declared.record.Line.{Line}
+use Rattle.record.specs.declared.record.Line.TheVariants.{Step, Reply as ReplyLine}
+use Rattle.record.specs.declared.record.Row.{Row as Turn}
+use Rattle.record.specs.declared.record.Row.TheVariants.{Step as Made}
+use Rattle.record.specs.declared.record.Reply.{Reply}
+use Rattle.record.specs.declared.record.Answer.{Answer}
 use Rattle.player.specs.declared.client.Running.{Running}
 use Rattle.player.specs.Allowed.{played_allows}
 use Rattle.player.specs.Lines.{newest}
 use Rattle.player.specs.declared.client.Client.{Client}
 use Rattle.player.specs.declared.player.Player.{Player}
-use Rattle.player.specs.Turns.{history, begin, turns, clients, won}
-use Rattle.player.specs.LawfulRun.{moment_of, AreLines, OwesNothing}
+use Rattle.record.specs.Turns.{history, begin, turns, clients, won}
+use Rattle.record.specs.LawfulRun.{moment_of, AreLines, OwesNothing}
 use Rattle.player.specs.View.{view, IsClient, Waits, IsBehind}
 
 -- the words hold what the steps have left in them, and the lines so far are lawful

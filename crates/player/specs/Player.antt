@@ -1,7 +1,7 @@
 -- What callers know of a player.
 use Rattle.std.specs.Prelude.{ℕ, List}
 use Rattle.script.specs.declared.command.Call.{Call}
-use Rattle.player.specs.declared.record.Line.{Line}
+use Rattle.record.specs.declared.record.Line.{Line}
 use Rattle.player.specs.Lines.{newest}
 use Rattle.player.specs.declared.player.Player.{Player}
 

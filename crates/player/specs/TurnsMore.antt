@@ -1,37 +1,13 @@
--- Turns of one client that follow one another.
-use Rattle.std.specs.Prelude.{◌≡◌, ◌≢◌, ℕ, ◌+◌, ◌-◌, ◌*◌, ◌<◌, List, [], ◌∷◌, ◌++◌, length, replicate, IsSome, IsNone}
-use Rattle.arena.specs.declared.step.Kind.{Kind}
+-- Turns of one client that a player has made one after another.
+use Rattle.std.specs.Prelude.{◌≡◌, ℕ, ◌+◌, ◌-◌, ◌*◌, List, ◌++◌, length, replicate}
 use Rattle.script.specs.declared.command.Call.{Call}
-use Rattle.player.specs.declared.record.Line.{Line}
-use Rattle.player.specs.declared.record.Line.TheVariants.{Step, Log, Reply}
+use Rattle.record.specs.declared.record.Line.{Line}
 use Rattle.player.specs.declared.player.Player.{Player}
 use Rattle.player.specs.Player.{lines_of}
 use Rattle.player.specs.Played.{IsPlayed, IsSameScript}
-use Rattle.player.specs.Turns.{turns, clients, client_of, answered, steps, made}
-use Rattle.player.specs.LawfulRun.{commands, next_command}
-
--- the client has a call that is not answered
-abbrev pub HasCall : List Call → ℕ → List Line → Type 0
-HasCall calls c lines = IsSome (next_command calls lines c)
-
--- all its calls are answered
-abbrev pub HasNoCall : List Call → ℕ → List Line → Type 0
-HasNoCall calls c lines = IsNone (next_command calls lines c)
-
--- it has one, and has had no reply more
-abbrev pub AwaitsReply : List Call → ℕ → List Line → List Line → Type 0
-AwaitsReply calls c older lines = HasCall calls c lines × (answered lines c ≡ answered older c)
-
--- it has one, and of so many more steps of a kind it has not made all
-abbrev pub AwaitsSteps : List Call → ℕ → Kind → ℕ → List Line → List Line → Type 0
-AwaitsSteps calls c kind times older lines = HasCall calls c lines × (made lines c kind < made older c kind + times)
-
--- The lines behind the older ones are turns of this client, each with what stands behind it, and each turn was made while the lines before it were so.
-unfoldable pub AreMadeWhile : (List Line → Type 0) → ℕ → List Line → List Line → Type 0
-AreMadeWhile so c older [] = Unit {0}
-AreMadeWhile so c older (Step row ∷ behind) = AreMadeWhile so c older behind × (client_of row ≡ c) × so (behind ++ older)
-AreMadeWhile so c older (Log entry ∷ behind) = AreMadeWhile so c older behind × (behind ≢ [])
-AreMadeWhile so c older (Reply reply ∷ behind) = AreMadeWhile so c older behind × (behind ≢ [])
+use Rattle.record.specs.Turns.{turns, clients, answered, steps}
+use Rattle.record.specs.LawfulRun.{commands}
+use Rattle.record.specs.OneClient.{AreMadeWhile}
 
 -- Turns of this client alone were made, each while the lines before it were so. The script is the same.
 pub record AreTurnsWhile (so : List Line → Type 0) (c : ℕ) (old new : Player) : Type 0 where

@@ -21,11 +21,11 @@ use Rattle.prims.specs.declared.snap.Snap.{Snap}
 use Rattle.script.specs.declared.command.Call.{Call}
 use Rattle.script.specs.declared.command.Command.{Command}
 use Rattle.script.specs.declared.command.Command.TheVariants.{Llx as LlxOf, Scx as ScxOf, Vlx as VlxOf, Set as SetOf}
-use Rattle.player.specs.declared.record.Line.{Line}
-use Rattle.player.specs.declared.record.Answer.{Answer}
+use Rattle.record.specs.declared.record.Line.{Line}
+use Rattle.record.specs.declared.record.Answer.{Answer}
 use Rattle.script.specs.Cells.{cells_of}
 use Rattle.script.specs.Update.{update_cells, update_finalize, update_field, update_value}
-use Rattle.player.specs.declared.record.Answer.TheVariants.{Full}
+use Rattle.record.specs.declared.record.Answer.TheVariants.{Full}
 use Rattle.player.specs.declared.run.Run.{Run}
 use Rattle.player.specs.declared.run.Run.TheVariants.{Llx, Scx, Vlx}
 use Rattle.player.specs.declared.client.Client.{Client}
@@ -39,8 +39,8 @@ use Rattle.player.specs.RunKnown.{run_ready, run_waits, run_answers, run_mode}
 use Rattle.player.specs.RunSteps.{then_left, left_of}
 use Rattle.player.specs.Kept.{AreKept, IsUnspent, kept_of}
 use Rattle.player.specs.Place.{IsAt}
-use Rattle.player.specs.Turns.{history, answered, start, steps, won}
-use Rattle.player.specs.LawfulRun.{commands, linked, linked_then, most_steps, IsAnswerAtOnce, IsAnswerAfterStep, IsLastLook, HasRoom, HasTakenOne, IsRight, IsEntered}
+use Rattle.record.specs.Turns.{history, answered, start, steps, won}
+use Rattle.record.specs.LawfulRun.{commands, linked, linked_then, most_steps, IsAnswerAtOnce, IsAnswerAfterStep, IsLastLook, HasRoom, HasTakenOne, IsRight, IsEntered}
 
 -- what the lines so far say to a client: the steps, how many of its calls are answered, the steps up to the begin of its call, how many steps it has made since its last reply,
 -- the turn in which an update of that call has won, and the moments of the snapshots that the client keeps

@@ -3,11 +3,11 @@ ghost use Rattle.std.specs.Prelude.{◌≡◌, ℕ, ◌+◌, ◌<◌, ◌≤◌,
 
 use crate::kept::Kept;
 use crate::place::next_call;
-use crate::record::{Answer, Reply};
 use crate::run::{Ended, Run};
 use arena::{Full, Layout, Machine, NodeNo, PassNo, Share, Side, Step, Turn};
 use arrayvec::ArrayVec;
 use prims::{Cells, Llx, LlxRun, PutRun, ScxRun, Snap, Snaps, Update, VlxRun};
+use record::{Answer, Reply};
 use script::{Call, Cell, Command};
 
 /// What a `set` does once its LLX has given a snapshot.
@@ -61,7 +61,7 @@ impl Client {
     ghost use Rattle.player.specs.declared.run.Run.TheVariants.{Llx as LlxOf};
     ghost use Rattle.player.specs.declared.run.Ended.TheVariants.{Llx as LlxEnded};
     ghost use Rattle.player.specs.declared.client.Running.{Running};
-    ghost use Rattle.player.specs.LawfulRun.{moment_of};
+    ghost use Rattle.record.specs.LawfulRun.{moment_of};
     ghost use Rattle.player.specs.RunKnown.{run_asks_first};
     ghost use Rattle.player.specs.View.{View, view, IsSound, IsBehind, Rests, command_of, Starts, Hears, Answered, Told, CanPut, Puts, Begins, Stood, IsUnbegun, IsClient};
 

@@ -6,7 +6,6 @@ mod kept;
 mod lines;
 mod place;
 mod player;
-mod record;
 mod run;
 
 pub use player::{Player, play};

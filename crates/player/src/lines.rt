@@ -1,9 +1,9 @@
 //! The lines of a run, as they come.
 ghost use Rattle.std.specs.Prelude.{◌≡◌, ℕ, ◌+◌, ◌<◌, ◌≤◌, ◌^◌, vec_len, reverse, OnOk, OnErr};
-ghost use Rattle.player.specs.Turns.{turns as turns_in, entries as entries_in};
+ghost use Rattle.record.specs.Turns.{turns as turns_in, entries as entries_in};
 
-use crate::record::{Entry, Line, Reply, Row};
 use arena::NoMemory;
+use record::{Entry, Line, Reply, Row};
 use std::alloc::Global;
 
 /// The lines so far, and how many of them are turns and entries of the log.
@@ -21,7 +21,7 @@ pub(crate) struct Lines {
 impl Lines {
     ghost use Rattle.std.specs.Prelude.{◌≡◌, ◌+◌, ◌≤◌, ◌<◌, suc, [], ◌∷◌, ◌++◌, OnOk, OnErr, vec_len};
     ghost use Rattle.player.specs.Lines.{room, newest};
-    ghost use Rattle.player.specs.Turns.{turns, entries};
+    ghost use Rattle.record.specs.Turns.{turns, entries};
 
     pub(crate) fn new(alloc: Global) -> Lines
         ensures { newest result ≡ [] }

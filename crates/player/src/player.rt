@@ -2,12 +2,12 @@
 ghost use Rattle.std.specs.Prelude.{◌≡◌, ℕ, ◌+◌, ◌<◌, ◌≤◌, [], Some, vec_len, slice_get, map, IfOk, All};
 ghost use Rattle.player.specs.declared.client.Client.{Client};
 ghost use Rattle.player.specs.View.{view, Rests};
-ghost use Rattle.player.specs.LawfulRun.{IsLawfulRun};
+ghost use Rattle.record.specs.LawfulRun.{IsLawfulRun};
 
 use crate::client::{Client, Standing};
 use crate::lines::Lines;
-use crate::record::{Answer, Entry, Line, Record, Row};
 use arena::{Kind, NoMemory, NodeNo, NodeWord, PassNo, PlainWords, ScxNo, ScxWord, Step, Word};
+use record::{Answer, Entry, Line, Record, Row};
 use script::Script;
 use std::alloc::Global;
 
@@ -32,12 +32,13 @@ impl Player {
     ghost use Rattle.arena.specs.Layout.{IsWord, all_scx};
     ghost use Rattle.arena.specs.Words.{child, info};
     ghost use Rattle.arena.specs.PlainWords.{held};
-    ghost use Rattle.player.specs.declared.record.Line.{Line};
+    ghost use Rattle.record.specs.declared.record.Line.{Line};
     ghost use Rattle.player.specs.Player.{passes_of, calls_of, lines_of};
-    ghost use Rattle.player.specs.LawfulRun.{next_command};
-    ghost use Rattle.player.specs.TurnsMore.{HasCall, HasNoCall, AwaitsReply, AwaitsSteps, AreTurnsWhile};
+    ghost use Rattle.record.specs.LawfulRun.{next_command};
+    ghost use Rattle.record.specs.OneClient.{HasCall, HasNoCall, AwaitsReply, AwaitsSteps};
+    ghost use Rattle.player.specs.TurnsMore.{AreTurnsWhile};
     ghost use Rattle.player.specs.Lines.{room, newest};
-    ghost use Rattle.player.specs.Turns.{turns, clients, answered, made, entry_owed};
+    ghost use Rattle.record.specs.Turns.{turns, clients, answered, made, entry_owed};
     ghost use Rattle.player.specs.Played.{IsPlayed, IsAsked, IsMade, IsReplied, IsTurnMore, IsSameScript, HasSameClients, HasSameWords};
 
     /// A player of a copy of the script, with no turn made. The only error is want of memory.

@@ -1,9 +1,9 @@
 //! The machine of a call.
 ghost use Rattle.std.specs.Prelude.{◌≡◌, ℕ};
 
-use crate::record::Answer;
 use arena::{Machine, Turn};
 use prims::{Cells, Llx, LlxRun, PutRun, Scx, Snaps, Vlx, VlxRun};
+use record::Answer;
 
 /// A call that has begun. A `set` is first an LLX and then an SCX.
 #[derive(Debug, Drop)]

@@ -4,11 +4,11 @@ use Rattle.std.proofs.lemmas.Bool.{eqb-true, eqb-false}
 use Rattle.script.specs.declared.command.Call.{Call}
 use Rattle.report.specs.declared.count.Counts.{Counts}
 use Rattle.report.specs.Report.{calls_by}
-use Rattle.player.specs.declared.record.Line.{Line}
-use Rattle.player.specs.declared.record.Line.TheVariants.{Step, Log, Reply}
-use Rattle.player.specs.declared.record.Row.TheVariants.{Step as Made, Idle}
-use Rattle.player.specs.declared.record.Reply.{Reply as ReplyLine}
-use Rattle.player.specs.Turns.{answered}
+use Rattle.record.specs.declared.record.Line.{Line}
+use Rattle.record.specs.declared.record.Line.TheVariants.{Step, Log, Reply}
+use Rattle.record.specs.declared.record.Row.TheVariants.{Step as Made, Idle}
+use Rattle.record.specs.declared.record.Reply.{Reply as ReplyLine}
+use Rattle.record.specs.Turns.{answered}
 use Rattle.report.specs.Numbered.{AreNumbered, IsOfNextCall}
 use Rattle.report.specs.Counts.{HasCounted, HasCountedReplies, count_of}
 

@@ -2,7 +2,7 @@
 use Rattle.std.proofs.Common.{◌≡◌, List, [], ◌∷◌, ◌++◌, ◌∙◌, ℕ, Option, ap, append-nil, map, subst, sym}
 use Rattle.std.specs.Io.KnownBytes.{Appends}
 use Rattle.script.specs.declared.script.Script.{Script}
-use Rattle.player.specs.declared.record.Line.{Line}
+use Rattle.record.specs.declared.record.Line.{Line}
 use Rattle.script.specs.Rows.{limits_row}
 use Rattle.report.specs.Report.{call_rows, end_row, line_row, report_text, title_row}
 use Rattle.texts.specs.Pages.{BeginsWith, rows_text}

@@ -8,7 +8,7 @@ use Rattle.texts.specs.Texts.{AreRows, IsRow}
 use Rattle.script.specs.declared.command.Call.{Call}
 use Rattle.script.specs.declared.script.Script.{Script}
 use Rattle.script.specs.Rows.{limits_row}
-use Rattle.player.specs.declared.record.Line.{Line}
+use Rattle.record.specs.declared.record.Line.{Line}
 use Rattle.report.specs.Report.{call_row, call_rows, end_row, line_row, report_rows, title_row}
 use Rattle.texts.specs.Pages.{seven}
 use Rattle.report.proofs.CallRows.{call_rows_after}

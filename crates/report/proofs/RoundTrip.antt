@@ -8,7 +8,7 @@ use Rattle.csv.specs.declared.parser.State.{State}
 use Rattle.csv.specs.declared.parser.State.TheVariants as state
 use Rattle.csv.proofs.RoundTrip.{read-write-many, rows_text as csv_text}
 use Rattle.script.specs.declared.script.Script.{Script}
-use Rattle.player.specs.declared.record.Line.{Line}
+use Rattle.record.specs.declared.record.Line.{Line}
 use Rattle.arena.specs.declared.limits.Mode.{Mode}
 use Rattle.report.specs.Report.{report_rows, report_text, title_row}
 use Rattle.texts.specs.Pages.{line_of, rows_text, seven}

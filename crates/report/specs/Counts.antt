@@ -1,7 +1,7 @@
 -- What was counted.
 use Rattle.std.specs.Prelude.{◌≡◌, ◌<◌, ℕ, List, get_or}
-use Rattle.player.specs.declared.record.Line.{Line}
-use Rattle.player.specs.Turns.{answered}
+use Rattle.record.specs.declared.record.Line.{Line}
+use Rattle.record.specs.Turns.{answered}
 use Rattle.script.specs.declared.command.Call.{Call}
 use Rattle.report.specs.declared.count.Counts.{Counts}
 use Rattle.report.specs.Report.{calls_by}

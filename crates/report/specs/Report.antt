@@ -7,9 +7,9 @@ use Rattle.script.specs.Commands.{command_row}
 use Rattle.script.specs.Rows.{limits_row}
 use Rattle.script.specs.declared.command.Call.{Call}
 use Rattle.script.specs.declared.script.Script.{Script}
-use Rattle.player.specs.declared.record.Line.{Line}
-use Rattle.player.specs.declared.record.Line.TheVariants.{Step, Log, Reply}
-use Rattle.player.specs.declared.record.Row.TheVariants.{Step as Made, Idle}
+use Rattle.record.specs.declared.record.Line.{Line}
+use Rattle.record.specs.declared.record.Line.TheVariants.{Step, Log, Reply}
+use Rattle.record.specs.declared.record.Row.TheVariants.{Step as Made, Idle}
 use Rattle.report.specs.Answers.{answer_text}
 use Rattle.report.specs.Words.{word_text}
 use Rattle.texts.specs.Pages.{rows_text}

@@ -4,7 +4,7 @@ ghost use Rattle.report.specs.Answers.{answer_text};
 
 use crate::name::{node_of, scx_of, small_number_of};
 use arena::{NodeNo, Resource, ScxNo};
-use player::Answer;
+use record::Answer;
 use std::alloc::{AllocError, Global};
 use texts::number_of;
 

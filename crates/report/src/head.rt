@@ -7,7 +7,7 @@ ghost use Rattle.texts.specs.Pages.{IsReady, line_of, page_row, page_text, rows_
 
 use crate::totals::Totals;
 use arena::{Limits, Mode};
-use player::Line;
+use record::Line;
 use script::Script;
 use std::alloc::{AllocError, Global};
 use texts::Page;

@@ -1,15 +1,15 @@
 //! Steps, log entries and replies as rows.
 ghost use Rattle.std.specs.Prelude.{◌≡◌, [], IfOk, OnOk, map};
 ghost use Rattle.std.specs.Io.KnownBytes.{Appends};
-ghost use Rattle.player.specs.declared.record.Line.TheVariants.{Step as StepLine, Log, Reply as ReplyLine};
-ghost use Rattle.player.specs.declared.record.Row.TheVariants.{Step as Made, Idle};
+ghost use Rattle.record.specs.declared.record.Line.TheVariants.{Step as StepLine, Log, Reply as ReplyLine};
+ghost use Rattle.record.specs.declared.record.Row.TheVariants.{Step as Made, Idle};
 ghost use Rattle.report.specs.Report.{line_row};
 ghost use Rattle.texts.specs.Pages.{IsReady, line_of, page_row, page_text, rows_text};
 
 use crate::answer::answer_text;
 use crate::word::word_text;
 use arena::PassNo;
-use player::{Entry, Line, Reply, Row};
+use record::{Entry, Line, Reply, Row};
 use script::kind_name;
 use std::alloc::{AllocError, Global};
 use texts::Page;

@@ -3,7 +3,7 @@ ghost use Rattle.std.specs.Prelude.{◌≡◌, ◌≢◌, ◌<◌, ◌-◌, ◌^
 ghost use Rattle.arena.specs.Limits.{IsAccepted, IsLayoutOf};
 ghost use Rattle.script.specs.Rows.{limits_row};
 ghost use Rattle.script.specs.declared.script.Script.{Script};
-ghost use Rattle.player.specs.declared.record.Line.{Line};
+ghost use Rattle.record.specs.declared.record.Line.{Line};
 ghost use Rattle.report.specs.Numbered.{AreNumbered};
 ghost use Rattle.texts.specs.Reads.{HasRead, Stands};
 ghost use Rattle.texts.specs.Texts.{AreRows};
@@ -16,7 +16,7 @@ use crate::read_head::{limits_of, mode_of};
 use crate::read_line::lines_of;
 use crate::rows::{advance, next_row, row_fields};
 use crate::totals::is_end_of;
-use player::{Line, Record};
+use record::{Line, Record};
 use script::Script;
 use std::alloc::Global;
 use std::io::Read;

@@ -1,7 +1,7 @@
 //! The lines of a run, as rows say them.
 ghost use Rattle.std.specs.Prelude.{◌≡◌, ◌<◌, ◌-◌, ◌^◌, List, ◌∷◌, ◌++◌, ℕ, IfOk, IfSome, length, map, reverse};
-ghost use Rattle.player.specs.declared.record.Line.{Line};
-ghost use Rattle.player.specs.declared.record.Line.TheVariants.{Step as StepLine, Log, Reply as ReplyLine};
+ghost use Rattle.record.specs.declared.record.Line.{Line};
+ghost use Rattle.record.specs.declared.record.Line.TheVariants.{Step as StepLine, Log, Reply as ReplyLine};
 ghost use Rattle.report.specs.Counts.{HasCountedReplies, count_of};
 ghost use Rattle.report.specs.Numbered.{AreNumbered, IsOfNextCall};
 ghost use Rattle.script.specs.Commands.{texts};
@@ -15,7 +15,7 @@ use crate::fault::{NotLawful, RowFault};
 use crate::name::{client_of, scx_of};
 use crate::rows::{next_row, row_fields};
 use crate::word::word_of;
-use player::{Entry, Line, Reply, Row};
+use record::{Entry, Line, Reply, Row};
 use script::kind_of;
 use std::alloc::Global;
 use std::io::Read;

@@ -4,7 +4,7 @@ ghost use Rattle.report.specs.Report.{end_row, entries_in, replies_in, steps_in}
 ghost use Rattle.script.specs.Commands.{texts};
 ghost use Rattle.texts.specs.Pages.{seven};
 
-use player::Line;
+use record::Line;
 use texts::number_of;
 
 #[derive(Clone, Copy)]

@@ -8,7 +8,7 @@ use crate::call::calls_text;
 use crate::count::Counts;
 use crate::head::{end_text, head_text};
 use crate::line::lines_text;
-use player::{Line, Record};
+use record::{Line, Record};
 use script::Call;
 use std::alloc::Global;
 use std::io::Write;

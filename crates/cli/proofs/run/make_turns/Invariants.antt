@@ -1,9 +1,9 @@
 use Rattle.std.proofs.Common.{◌≡◌, ◌+◌}
 use Rattle.script.specs.declared.schedule.Order.TheVariants.{Step}
-use Rattle.player.specs.Turns.{turns}
+use Rattle.record.specs.Turns.{turns}
 use Rattle.player.specs.Player.{calls_of, lines_of}
 use Rattle.player.specs.TurnsMore.{AreTurnsWhile}
-use Rattle.player.specs.Schedules.{AsksForMore}
+use Rattle.record.specs.Schedules.{AsksForMore}
 use Rattle.cli.proofs.run.make_turns.Given as goal
 
 abbrev pub invariant-loop : goal.invariant-loop

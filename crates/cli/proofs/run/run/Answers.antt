@@ -1,7 +1,7 @@
 use Rattle.std.proofs.Common.{drop, refl}
 use Rattle.std.proofs.lemmas.List.{drop_all}
 use Rattle.player.specs.Player.{lines_of}
-use Rattle.player.specs.Schedules.{AreOrdered}
+use Rattle.record.specs.Schedules.{AreOrdered}
 use Rattle.cli.proofs.run.run.Goals as goal
 
 pub returns-clause-run : goal.returns-clause-run

@@ -1,8 +1,8 @@
 use Rattle.std.proofs.Common.{List, [], drop}
-use Rattle.player.specs.declared.record.Line.{Line}
+use Rattle.record.specs.declared.record.Line.{Line}
 use Rattle.player.specs.Player.{lines_of}
 use Rattle.player.specs.Played.{IsPlayed, IsSameScript}
-use Rattle.player.specs.Schedules.{AreOrdered}
+use Rattle.record.specs.Schedules.{AreOrdered}
 use Rattle.cli.proofs.run.run.Given as goal
 
 -- whatever the orders that are left mean from here, all mean from the start

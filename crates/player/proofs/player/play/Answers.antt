@@ -2,7 +2,7 @@ use Rattle.std.proofs.Common.{◌≡◌, List, map, reverse, take, ap, ◌∙◌
 use Rattle.std.proofs.lemmas.List.{reverse-reverse, take_all}
 use Rattle.arena.specs.declared.number.PassNo.{PassNo}
 use Rattle.player.specs.Lines.{newest}
-use Rattle.player.specs.Turns.{clients}
+use Rattle.record.specs.Turns.{clients}
 use Rattle.player.proofs.Plays.{reverse_map_more}
 use Rattle.player.proofs.player.play.Goals as goal
 

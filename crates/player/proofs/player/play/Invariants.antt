@@ -1,6 +1,6 @@
 use Rattle.std.proofs.Common.{◌≡◌, map, take, reverse}
 use Rattle.player.specs.Lines.{newest}
-use Rattle.player.specs.Turns.{clients}
+use Rattle.record.specs.Turns.{clients}
 use Rattle.player.specs.Played.{IsPlayed}
 use Rattle.player.proofs.player.play.Given as goal
 

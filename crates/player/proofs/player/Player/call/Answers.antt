@@ -1,7 +1,7 @@
 use Rattle.std.proofs.Common.{◌≡◌, rules, refl, inl}
-use Rattle.player.specs.Turns.{answered}
+use Rattle.record.specs.Turns.{answered}
 use Rattle.player.specs.Player.{calls_of, lines_of}
-use Rattle.player.specs.TurnsMore.{HasCall}
+use Rattle.record.specs.OneClient.{HasCall}
 use Rattle.player.proofs.TurnsMore.{no_turns, turn_more, has_still, turn_nearer, turn_moves, replies_more}
 use Rattle.player.proofs.player.Player.call.Goals as goal
 

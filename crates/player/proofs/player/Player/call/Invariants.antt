@@ -1,7 +1,8 @@
 use Rattle.std.proofs.Common.{◌≡◌, ◌⊎◌, suc}
-use Rattle.player.specs.Turns.{answered}
+use Rattle.record.specs.Turns.{answered}
 use Rattle.player.specs.Player.{calls_of, lines_of}
-use Rattle.player.specs.TurnsMore.{HasNoCall, AwaitsReply, AreTurnsWhile, to_go}
+use Rattle.record.specs.OneClient.{HasNoCall, AwaitsReply}
+use Rattle.player.specs.TurnsMore.{AreTurnsWhile, to_go}
 use Rattle.player.proofs.player.Player.call.Given as goal
 
 abbrev pub invariant-loop-self : goal.invariant-loop-self

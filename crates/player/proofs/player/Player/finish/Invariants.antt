@@ -1,5 +1,6 @@
 use Rattle.player.specs.Player.{calls_of, lines_of}
-use Rattle.player.specs.TurnsMore.{HasCall, AreTurnsWhile, to_go}
+use Rattle.record.specs.OneClient.{HasCall}
+use Rattle.player.specs.TurnsMore.{AreTurnsWhile, to_go}
 use Rattle.player.proofs.player.Player.finish.Given as goal
 
 abbrev pub invariant-loop-client : goal.invariant-loop-client

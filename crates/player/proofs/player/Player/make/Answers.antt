@@ -1,8 +1,8 @@
 use Rattle.std.proofs.Common.{arith, ◌≡◌, ℕ, List, ◌∷◌, ◌++◌, set, Some, slice_get, refl, sym, ◌∙◌, ap, subst}
-use Rattle.player.specs.declared.record.Line.{Line}
-use Rattle.player.specs.declared.record.Line.TheVariants.{Reply}
+use Rattle.record.specs.declared.record.Line.{Line}
+use Rattle.record.specs.declared.record.Line.TheVariants.{Reply}
 use Rattle.player.specs.Lines.{newest}
-use Rattle.player.specs.Turns.{clients}
+use Rattle.record.specs.Turns.{clients}
 use Rattle.player.specs.View.{view}
 use Rattle.player.specs.Played.{IsEnd}
 use Rattle.script.specs.declared.command.Call.{Call}

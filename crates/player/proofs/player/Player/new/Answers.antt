@@ -1,5 +1,5 @@
 use Rattle.std.proofs.Common.{◌≡◌, List, [], sym, subst}
-use Rattle.player.specs.declared.record.Line.{Line}
+use Rattle.record.specs.declared.record.Line.{Line}
 use Rattle.player.specs.Lines.{newest}
 use Rattle.player.specs.Played.{IsBetween, AreWins}
 use Rattle.player.proofs.Plays.{opening_between, no_wins}

@@ -1,7 +1,7 @@
 use Rattle.std.proofs.Common.{reverse, sym}
 use Rattle.std.proofs.lemmas.List.{reverse-reverse}
 use Rattle.player.specs.Lines.{newest}
-use Rattle.player.specs.Turns.{clients}
+use Rattle.record.specs.Turns.{clients}
 use Rattle.player.proofs.Plays.{played_record}
 use Rattle.player.proofs.player.Player.record.Goals as goal
 

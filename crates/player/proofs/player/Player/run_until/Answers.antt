@@ -1,5 +1,5 @@
 use Rattle.std.proofs.Common.{◌≡◌, ◌<◌, true, false, rules, refl, ◌∙◌}
-use Rattle.player.specs.Turns.{is_of}
+use Rattle.record.specs.Turns.{is_of}
 use Rattle.player.proofs.SameKinds.{kind_is}
 use Rattle.player.proofs.TurnsMore.{no_turns, has_still, turn_nearer, wanted_more}
 use Rattle.player.proofs.player.Player.run_until.Goals as goal

@@ -1,7 +1,8 @@
 use Rattle.std.proofs.Common.{◌≡◌, ◌+◌}
-use Rattle.player.specs.Turns.{made}
+use Rattle.record.specs.Turns.{made}
 use Rattle.player.specs.Player.{calls_of, lines_of}
-use Rattle.player.specs.TurnsMore.{AwaitsSteps, AreTurnsWhile, to_go}
+use Rattle.record.specs.OneClient.{AwaitsSteps}
+use Rattle.player.specs.TurnsMore.{AreTurnsWhile, to_go}
 use Rattle.player.proofs.player.Player.run_until.Given as goal
 
 abbrev pub invariant-loop-left : goal.invariant-loop-left

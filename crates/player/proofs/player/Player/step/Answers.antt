@@ -2,13 +2,13 @@ use Rattle.std.proofs.Common.{[], ◌≡◌, suc, List, ◌∷◌, set, slice_ge
 use Rattle.arena.specs.declared.number.PassNo.{PassNo}
 use Rattle.script.specs.declared.command.Call.{Call}
 use Rattle.script.proofs.OfCells.{calls_are_of_cells}
-use Rattle.player.specs.declared.record.Line.{Line}
-use Rattle.player.specs.declared.record.Line.TheVariants.{Step, Reply}
-use Rattle.player.specs.declared.record.Row.{Row}
-use Rattle.player.specs.declared.record.Row.TheVariants.{Idle}
+use Rattle.record.specs.declared.record.Line.{Line}
+use Rattle.record.specs.declared.record.Line.TheVariants.{Step, Reply}
+use Rattle.record.specs.declared.record.Row.{Row}
+use Rattle.record.specs.declared.record.Row.TheVariants.{Idle}
 use Rattle.player.specs.declared.client.Client.{Client}
 use Rattle.player.specs.Lines.{newest}
-use Rattle.player.specs.Turns.{turns, clients, begin}
+use Rattle.record.specs.Turns.{turns, clients, begin}
 use Rattle.player.specs.View.{view}
 use Rattle.player.specs.Played.{IsEnd}
 use Rattle.player.proofs.Middles.{get_own}

@@ -5,10 +5,10 @@ use Rattle.script.specs.declared.schedule.Order.{Order}
 use Rattle.script.specs.declared.schedule.Order.TheVariants.{Step, Call as CallOf, Until, Finish}
 use Rattle.script.specs.declared.schedule.Schedule.{Schedule}
 use Rattle.script.specs.declared.script.Script.{Script}
-use Rattle.player.specs.declared.record.Line.{Line}
-use Rattle.player.specs.Turns.{turns, clients, answered, made}
-use Rattle.player.specs.LawfulRun.{IsLawfulRun}
-use Rattle.player.specs.TurnsMore.{HasCall, HasNoCall, AwaitsReply, AwaitsSteps, AreMadeWhile}
+use Rattle.record.specs.declared.record.Line.{Line}
+use Rattle.record.specs.Turns.{turns, clients, answered, made}
+use Rattle.record.specs.LawfulRun.{IsLawfulRun}
+use Rattle.record.specs.OneClient.{HasCall, HasNoCall, AwaitsReply, AwaitsSteps, AreMadeWhile}
 
 -- the client whose turns an order asks for
 abbrev pub ordered_client : Order → ℕ

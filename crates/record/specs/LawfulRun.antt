@@ -24,17 +24,17 @@ use Rattle.script.specs.Update.{update_cells, update_finalize, update_field, upd
 use Rattle.script.specs.declared.command.Call.{Call}
 use Rattle.script.specs.declared.command.Command.{Command}
 use Rattle.script.specs.declared.command.Command.TheVariants.{Llx, Scx, Vlx, Set}
-use Rattle.player.specs.declared.record.Line.{Line}
-use Rattle.player.specs.declared.record.Line.TheVariants.{Step, Log, Reply as ReplyLine}
-use Rattle.player.specs.declared.record.Row.TheVariants.{Step as Made, Idle}
-use Rattle.player.specs.declared.record.Row.{Row}
-use Rattle.player.specs.declared.record.Reply.{Reply}
-use Rattle.player.specs.declared.record.Entry.{Entry}
+use Rattle.record.specs.declared.record.Line.{Line}
+use Rattle.record.specs.declared.record.Line.TheVariants.{Step, Log, Reply as ReplyLine}
+use Rattle.record.specs.declared.record.Row.TheVariants.{Step as Made, Idle}
+use Rattle.record.specs.declared.record.Row.{Row}
+use Rattle.record.specs.declared.record.Reply.{Reply}
+use Rattle.record.specs.declared.record.Entry.{Entry}
 use Rattle.arena.specs.declared.fault.Resource.{Resource}
 use Rattle.arena.specs.declared.fault.Resource.TheVariants.{Nodes, Scx as ScxRecords}
-use Rattle.player.specs.declared.record.Answer.{Answer}
-use Rattle.player.specs.declared.record.Answer.TheVariants.{Snapshot, Finalized, Fail, Done, Lost, Same, Changed, Unlinked, Full}
-use Rattle.player.specs.Turns.{history, turns, clients, last_client, answered, begin, start, steps, won, entry_of, entry_owed}
+use Rattle.record.specs.declared.record.Answer.{Answer}
+use Rattle.record.specs.declared.record.Answer.TheVariants.{Snapshot, Finalized, Fail, Done, Lost, Same, Changed, Unlinked, Full}
+use Rattle.record.specs.Turns.{history, turns, clients, last_client, answered, begin, start, steps, won, entry_of, entry_owed}
 
 -- what a client is to do, call by call in the script's order
 abbrev pub commands : List Call → ℕ → List Command

@@ -27,7 +27,7 @@ pub enum Row {
 
 impl Row {
     ghost use Rattle.std.specs.Prelude.{◌≡◌};
-    ghost use Rattle.player.specs.Turns.{kind_of};
+    ghost use Rattle.record.specs.Turns.{kind_of};
 
     /// The kind of the step, if the turn made one.
     pub fn kind(&self) -> Option<Kind>

@@ -1,0 +1,4 @@
+pub mod Turns
+pub mod LawfulRun
+pub mod OneClient
+pub mod Schedules

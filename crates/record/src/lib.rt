@@ -1,0 +1,6 @@
+//! What a run leaves behind, and when it is a lawful run of a script: the main statement.
+#![tactic(auto)]
+
+mod record;
+
+pub use record::{Answer, Entry, Line, Record, Reply, Row};
