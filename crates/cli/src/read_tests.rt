@@ -303,7 +303,7 @@ fn written_again(alloc: Global, first: Vec<u8>, again: Vec<u8>) -> Result<Vec<u8
     Ok(report.inner)
 }
 
-/// Of interest where an allocation is refused; the README says how to try each.
+/// Of interest where an allocation is refused; `docs/PROOFS.md` says how each was tried.
 #[test]
 fn refused_memory_is_told_as_such(rt: HostRuntime) -> Result<(), Fail> {
     let first = Vec::with_capacity(rt.alloc(), 4096)?;
