@@ -1,12 +1,10 @@
 -- The history after one more row of a list, and what is known of it.
 use Rattle.std.proofs.Common.{◌≡◌, ℕ, ◌+◌, ◌<◌, List, length, get_or, take, cond, refl, sym, ap, ◌∙◌}
 use Rattle.std.proofs.lemmas.Grind.{take_at_read}
-use Rattle.arena.specs.declared.limits.Mode.{Mode}
 use Rattle.arena.specs.declared.word.Word.{Word}
 use Rattle.arena.specs.declared.step.Row.{Row}
-use Rattle.arena.specs.Layout.{opening}
 use Rattle.arena.specs.Words.{same_word}
-use Rattle.arena.specs.History.{History, Start, ◌⊳◌, rows_after, value}
+use Rattle.arena.specs.History.{History, ◌⊳◌, rows_after, value}
 use Rattle.arena.proofs.Values.{rows_after_last}
 
 -- one more row

@@ -19,7 +19,6 @@ use Rattle.prims.specs.Entered.{filled_entry_at}
 use Rattle.prims.specs.ScxKnown.{Job, job_of, HasFilled, IsEntryAt, scx_waits_at, scx_told_at}
 use Rattle.prims.specs.PutKnown.{HasValue, put_waits_at, put_told_at, put_waits, put_ready, put_answers}
 use Rattle.prims.specs.PutTurns.{value_before, empty_before}
-use Rattle.prims.specs.declared.scx.ScxRun.{ScxRun}
 use Rattle.prims.specs.declared.scx.Scx.{Scx as Answer}
 use Rattle.prims.specs.declared.scx.Scx.TheVariants.{Done, Lost}
 use Rattle.prims.specs.declared.scx.ScxAt.{ScxAt}

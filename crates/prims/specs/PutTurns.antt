@@ -3,11 +3,7 @@ use Rattle.std.proofs.Common.{◌≡◌, ℕ, Option, Some, None, List, [], ◌�
 use Rattle.arena.specs.declared.layout.Layout.{Layout}
 use Rattle.arena.specs.declared.machine.Turn.{Turn}
 use Rattle.arena.specs.declared.machine.Turn.TheVariants.{Ask, Done as End}
-use Rattle.arena.specs.declared.number.NodeNo.{NodeNo}
 use Rattle.arena.specs.declared.step.Row.{Row}
-use Rattle.arena.specs.declared.step.Deed.TheVariants.{Store}
-use Rattle.arena.specs.declared.step.Kind.TheVariants.{Fill}
-use Rattle.arena.specs.declared.word.Word.TheVariants.{Node}
 use Rattle.arena.specs.declared.word.NodeWord.TheVariants.{Value}
 use Rattle.arena.specs.declared.word.ScxWord.TheVariants.{New}
 use Rattle.arena.specs.declared.word.Side.{Side}

@@ -5,18 +5,15 @@ use Rattle.arena.specs.declared.number.MemberNo.{MemberNo}
 use Rattle.arena.specs.declared.number.MemberNo.TheVariants.{First}
 use Rattle.arena.specs.declared.machine.Turn.{Turn}
 use Rattle.arena.specs.declared.word.ScxWord.{ScxWord}
-use Rattle.arena.specs.declared.step.Step.{Step}
-use Rattle.arena.specs.declared.step.Deed.TheVariants.{Store}
-use Rattle.arena.specs.declared.step.Kind.TheVariants.{Fill}
-use Rattle.arena.specs.declared.word.ScxWord.TheVariants.{State, AllFrozen, Plan, New, Old, Member, Seen, Call as CallWord}
+use Rattle.arena.specs.declared.word.ScxWord.TheVariants.{Plan, New, Old, Member, Seen, Call as CallWord}
 use Rattle.arena.specs.MemberNo.{index_of}
-use Rattle.arena.specs.Words.{scx, info, state, child}
+use Rattle.arena.specs.Words.{info, state, child}
 use Rattle.arena.specs.History.{History, ◌⊳◌, value, EndsWith}
 use Rattle.arena.specs.ScxRecords.{count_of, index_of as field_of, side_of, plan, member, seen, new, old, count}
 use Rattle.arena.specs.Machines.{IsRun, Call}
 use Rattle.arena.proofs.Plans.{plan_counted}
 use Rattle.histories.specs.Begins.{Begins}
-use Rattle.histories.specs.Descriptor.{Descriptor, descriptor}
+use Rattle.histories.specs.Descriptor.{descriptor}
 use Rattle.histories.proofs.Lemmas.{aborted_no_entry, committed_won}
 use Rattle.arena.specs.Lawful.{Lawful}
 use Rattle.arena.proofs.Values.{ends_self, ends_trans}
@@ -31,7 +28,7 @@ use Rattle.prims.specs.Linked.{in_field_named}
 use Rattle.prims.specs.Snap.{snap_at}
 use Rattle.prims.specs.Entered.{filled_entry}
 use Rattle.prims.specs.Blamed.{blamed_behind, behind_start}
-use Rattle.prims.specs.ScxKnown.{job_of, IsUpdateOver, IsUnderWay, HasFilled, IsDone, IsLost, Helps, scx_ready, scx_told_at, Says, wanted, InHand, part_at, IsFilled, IsFilledThen, Holds, IsWithin, FillWaits, FillMade, FillsAt, FillsNext, FillsLast, scx_turn, scx_waits_at}
+use Rattle.prims.specs.ScxKnown.{job_of, IsUpdateOver, IsUnderWay, HasFilled, IsDone, IsLost, Helps, scx_ready, scx_told_at, InHand, IsFilled, IsFilledThen, Holds, IsWithin, FillWaits, FillMade, FillsAt, FillsNext, FillsLast, scx_turn, scx_waits_at}
 use Rattle.prims.specs.declared.scx.ScxRun.{ScxRun}
 use Rattle.prims.specs.declared.scx.Scx.{Scx}
 use Rattle.prims.specs.declared.scx.ScxAt.{ScxAt}
