@@ -55,13 +55,13 @@ pub nothing_kept : {X : Type 0} {found : Option Found} {f : Found} → found ≡
 nothing_kept e d = absurd (cc)
 
 -- an LLX from its start, and the SCX that may follow it, make no more steps than their command may
-llx_few : (command : Command) (n : ℕ) (then : Option Put) → IsLlxOf command n then → llx_left Start + then_left then ≤ most_steps command
-llx_few (LlxCommand cell) n None f = omega arith
-llx_few (SetCommand field value) n (Some put) f = omega arith
-llx_few (LlxCommand cell) n (Some put) f = absurd f
-llx_few (SetCommand field value) n None f = absurd f
-llx_few (ScxCommand update) n then f = absurd f
-llx_few (VlxCommand cells) n then f = absurd f
+llx_few : (command : Command) (n : ℕ) (then : Option Put) → IsLlxOf command n then → (taken : ℕ) → llx_left Start + then_left then ≤ most_steps command taken
+llx_few (LlxCommand cell) n None f taken = omega arith
+llx_few (SetCommand field value) n (Some put) f taken = omega arith
+llx_few (LlxCommand cell) n (Some put) f taken = absurd f
+llx_few (SetCommand field value) n None f taken = absurd f
+llx_few (ScxCommand update) n then f taken = absurd f
+llx_few (VlxCommand cells) n then f taken = absurd f
 
 -- an LLX of a cell
 pub llx_starts : (v : View) (began : Option ℕ) (c : Client) (m : LlxRun) (then : Option Put) (command : Command) → IsSound v → v.layout.mode ≡ Records → Rests v c → IsUnbegun v began → m.at ≡ Start → m.node.0 ≤ 8 → command_of v c ≡ Some command → IsLlxOf command m.node.0 then → Starts v c (Llx m) then
@@ -69,7 +69,7 @@ llx_starts v began c m then command sound mode r u start i is f = record {
   works = record { mode = mode; stands = r.stands; newest = tt; command = command; is = is; run_of = (i, f); is_pass = r.stands.is_pass; start = v.past; since = ends_self v.past; begun = sym u.start; moments = λ j p. absurd (omega arith); alone = λ j p. absurd (omega arith); room = tt; took = taken_none v c.pass.0 (no_hand c.share) u.start; won = u.won; late = λ turn e. none_late v.won turn c.begin u.won e };
   none = r.none;
   ready = ready_at_start allows_all m (machine_call v c r.stands.is_pass v.past) v.past refl start (cell_opened v.layout v.past m.node.0 mode i) (all_idle v.layout v.past c.pass.0 c.share _ _ sound.lawful r.stands.share r.stands.over);
-  few = let few = llx_few command m.node.0 then f in rw (u.steps, start) (omega arith);
+  few = λ taken. let few = llx_few command m.node.0 then f taken in rw (u.steps, start) (omega arith);
 }
 
 -- a VLX of unspent snapshots
@@ -78,7 +78,7 @@ vlx_starts v began c m cells sound mode r u start some nodes l is left = record 
   works = record { mode = mode; stands = r.stands; newest = tt; command = VlxCommand cells; is = is; run_of = nodes; is_pass = r.stands.is_pass; start = v.past; since = ends_self v.past; begun = sym u.start; moments = λ i p. let x = l i p in record { moment = x.0; found = x.2.usable.found; source = x.1 }; alone = λ i p. let x = l i p in x.2.alone; room = tt; took = taken_none v c.pass.0 (no_hand c.share) u.start; won = u.won; late = λ turn e. none_late v.won turn c.begin u.won e };
   none = r.none;
   ready = vlx_ready_first v.layout c.pass.0 c.number r.stands.is_pass v.past m.snaps m.asked start some (λ i p. let x = l i p in (x.0, x.2.usable)) (all_over v.layout v.past c.pass.0 c.share _ _ r.stands.share r.stands.over);
-  few = omega (arith, u.steps, left);
+  few = λ taken. omega (arith, u.steps, left);
 }
 
 -- as many snapshots as cells
@@ -146,7 +146,7 @@ scx_can_put v began c update snaps finalize field x mode r u is kept nodes remov
   moments = λ i p. let y = l i p in record { moment = y.0; found = y.2.usable.found; source = y.1 };
   took = taken_none v c.pass.0 (no_hand c.share) u.start;
   serves = λ m z. record { called = z.called; covers = z.covers ∙ nodes; finalizes = rw (sym removed) z.finalizes; node = z.node ∙ at.0; side = z.side ∙ at.1; value = z.value ∙ value };
-  few = omega (arith, u.steps);
+  few = λ taken. omega (arith, u.steps);
 }
   where
     l : (i : ℕ) → i < length snaps → (moment : History) × (v.linked (snap_at snaps i).node.0 ≡ Some moment) × IsUnspent v.layout c.pass.0 v.past (snap_at snaps i) moment

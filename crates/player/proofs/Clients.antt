@@ -81,14 +81,14 @@ works_so v c running old now then same w =
     }
 
 -- a machine that asks for a step waits for it, and has fewer steps left
-pub goes_on : (v : View) (c : Client) (old now : Run) (then : Option Put) (step : Step) (w : Works v c old then) → run_same old now → run_waits now (machine_call v c w.is_pass w.start) v.past step → v.steps + left_of old then ≤ most_steps w.command → run_left now < run_left old → GoesOn v c (record c { running = Some (record { run = now; then = then; step = step }) })
+pub goes_on : (v : View) (c : Client) (old now : Run) (then : Option Put) (step : Step) (w : Works v c old then) → run_same old now → run_waits now (machine_call v c w.is_pass w.start) v.past step → ((taken : ℕ) → v.steps + left_of old then ≤ most_steps w.command taken) → run_left now < run_left old → GoesOn v c (record c { running = Some (record { run = now; then = then; step = step }) })
 unfolding works_so
 goes_on v c old now then step w same waits few nearer = record {
   same = record { pass = refl; number = refl; next = refl };
   begin = refl;
   running = record { run = now; then = then; step = step };
   is = refl;
-  waits = record { works = works_so v c (Some (record { run = now; then = then; step = step })) old now then same w; waits = waits; few = omega (arith, few, nearer) };
+  waits = record { works = works_so v c (Some (record { run = now; then = then; step = step })) old now then same w; waits = waits; few = λ taken. let enough = few taken in omega (arith, nearer) };
 }
 
 -- The answer of a machine
@@ -101,7 +101,7 @@ hears_as v c q p found e d x = rw (some_same p q (e ∙ d)) x
 
 pub answered_so : (v : View) (c : Client) (p : Running) (now : Run) (ended : Ended) (found : ℕ) (rest : Option Running) (x : Hears v c p found) → rest ≡ None → run_same p.run now → run_answers now (machine_call v c x.works.is_pass x.works.start) v.past ended → Answered v (record c { running = rest }) now p.then ended
 unfolding works_so
-answered_so v c p now ended found rest x e same a = record { works = works_so v c rest p.run now p.then same x.works; none = e; answers = a; few = let few = x.few in omega arith }
+answered_so v c p now ended found rest x e same a = record { works = works_so v c rest p.run now p.then same x.works; none = e; answers = a; few = λ taken. let few = x.few taken in omega arith }
 
 -- what is told does not ask whether a machine ran
 pub told_from : (v : View) (c new : Client) (rest : Option Running) (answer : Option Answer) → Told v (record c { running = rest }) new answer → Told v c new answer

@@ -98,7 +98,7 @@ can_put v old kept m put snap sound x e = go x.works.command x.works.is x.works.
     looked : IsLastLook old.pass.0 v.past v.start v.past snap.node.0
     looked = let y = x.answers.1 in record { row = y.row; before = y.before; is = y.is; since = subst (λ (s : History). EndsWith y.before s) x.works.begun y.since; last = subst (λ (h : History). IsLastStep old.pass.0 h LoadInfo snap.node.0 y.row y.before) (sym y.is) (last_now old.pass.0 y.before LoadInfo snap.node.0 y.row y.own y.kind (rw x.answers.0.node y.word)) }
 
-    go : (command : Command) → slice_get (commands v.calls old.pass.0) v.answered ≡ Some command → IsLlxOf command m.node.0 (Some put) → v.steps + 40 ≤ most_steps command → CanPut v (linked_now v command) (record old { kept = kept }) (snap ∷ []) [] (snap.node.0, put.side) put.value
+    go : (command : Command) → slice_get (commands v.calls old.pass.0) v.answered ≡ Some command → IsLlxOf command m.node.0 (Some put) → ((taken : ℕ) → v.steps + 40 ≤ most_steps command taken) → CanPut v (linked_now v command) (record old { kept = kept }) (snap ∷ []) [] (snap.node.0, put.side) put.value
     go (SetOf field y) is f few = record {
       mode = x.works.mode;
       rests = rests_kept v old kept m (Some put) (LlxSnapshot snap) (linked_now v (SetOf field y)) sound x e (λ n. rw (x.answers.0.node ∙ f.0) refl);
@@ -208,7 +208,7 @@ put_starts v linked c snaps removed field x kept m sound can some_node some_scx 
       (rw scx y.share.taken_scx) free
       (rw fresh (left_own_node v.layout v.past c.pass.0 c.share _ _ c.share.next_node y.share own_node))
       (rw fresh y.share.taken_nodes) (rw fresh (y.share.unmentioned c.share.next_node own_node)) (rw fresh (y.share.untaken_nodes c.share.next_node own_node)) (all_over v.layout v.past c.pass.0 c.share _ _ y.share y.over);
-  few = let few = can.few in omega (arith, bound);
+  few = λ taken. let few = can.few taken in omega (arith, bound);
 }
   where
     y : Stands (record v { linked = linked }) c (no_hand c.share)

@@ -30,6 +30,7 @@ use Rattle.player.specs.declared.client.Client.{Client}
 use Rattle.player.specs.declared.client.Running.{Running}
 use Rattle.player.specs.declared.player.Player.{Player}
 use Rattle.player.specs.Lines.{newest}
+use Rattle.arena.specs.TakenNodes.{taken_nodes}
 use Rattle.record.specs.Turns.{history, turns, answered, clients, begin, start, won, last_client, entry_of, entry_owed}
 use Rattle.record.specs.LawfulRun.{commands, IsAnswerAfterStep, linked, HasTakenOne, IsFitting, IsRight, IsReplyOwed, IsEntryFor, IsWinOf}
 use Rattle.player.specs.View.{View, view, IsSound, Hears, IsClient, GoesOn, Ends}
@@ -97,7 +98,7 @@ module _ (p : Player) (i number : ℕ) (step : Ask) (a : IsAsked p i number step
 
   pub asked_made : (words : Contents) → IsChanged p.words words made.word made.after → IsTurnOf lay calls words p.clients.items (Step (Made number made) ∷ lines) a.client
   asked_made words changed = record {
-    so_far = step_made lay calls p.words words lines number made changed sound (a.settled, record { in_turn = a.in_turn; lawful = lawful; call = a.waits.works.stands.number; command = a.waits.works.command; is = a.waits.works.is; few = let few = a.waits.few in omega arith; may = may_make a.waits.works.command a.client.number a.running.run a.running.then _ _ a.running.step a.waits.works.run_of a.waits.waits }) a.turn.so_far;
+    so_far = step_made lay calls p.words words lines number made changed sound (a.settled, record { in_turn = a.in_turn; lawful = lawful; call = a.waits.works.stands.number; command = a.waits.works.command; is = a.waits.works.is; few = let few = a.waits.few (length (taken_nodes (history lay.mode lines))) in omega arith; may = may_make a.waits.works.command a.client.number a.running.run a.running.then _ _ a.running.step a.waits.works.run_of a.waits.waits }) a.turn.so_far;
     others = others_step lay calls p.clients.items lines a.client.pass.0 number made a.turn.so_far.sound sound refl a.in_turn a.turn.so_far.in_order a.turn.others;
     own = a.turn.own;
   }

@@ -15,7 +15,8 @@ use Rattle.record.specs.declared.record.Row.TheVariants.{Step as Made, Idle}
 use Rattle.player.specs.declared.player.Player.{Player}
 use Rattle.player.specs.Player.{calls_of, lines_of}
 use Rattle.player.specs.Lines.{newest}
-use Rattle.record.specs.Turns.{turns, clients, client_of, answered, steps, last_client, made, is_of}
+use Rattle.arena.specs.TakenNodes.{taken_nodes}
+use Rattle.record.specs.Turns.{history, turns, clients, client_of, answered, steps, last_client, made, is_of}
 use Rattle.record.specs.LawfulRun.{commands, next_command, most_steps, OwesNothing, IsReply, AreLines}
 use Rattle.player.specs.Played.{IsPlayed, IsSameScript, IsTurnMore}
 use Rattle.record.specs.OneClient.{HasCall, AwaitsSteps, AreMadeWhile}
@@ -150,11 +151,11 @@ moves lay calls c older row (Log entry ∷ Step row' ∷ behind) x settled quiet
 moves lay calls c older row (Reply reply ∷ Step row' ∷ behind) x settled quiet own has = absurd cc
 
 -- no call may make more steps than a set
-most_few : (command : Command) → most_steps command ≤ 104
-most_few (Llx cell) = omega arith
-most_few (Scx update) = omega arith
-most_few (Vlx cells) = let few = cells.few in grind (arith, length-take)
-most_few (Set field value) = omega arith
+most_few : (command : Command) (taken : ℕ) → most_steps command taken ≤ 104
+most_few (Llx cell) taken = omega arith
+most_few (Scx update) taken = omega arith
+most_few (Vlx cells) taken = let few = cells.few in grind (arith, length-take)
+most_few (Set field value) taken = omega arith
 
 -- so the client of a lawful run has made few since its last reply
 steps_few : (lay : Layout) (calls : List Call) (lines : List Line) (c : ℕ) → AreLines lay calls lines → steps lines c ≤ 104
@@ -163,7 +164,7 @@ steps_few lay calls [] c x = omega arith
 steps_few lay calls (Step (Made number row) ∷ lines) c x = go (eqb row.pass.0 c) refl (steps_few lay calls lines c x.0)
   where
     go : (b : Bool) → eqb row.pass.0 c ≡ b → steps lines c ≤ 104 → cond b (suc (steps lines c)) (steps lines c) ≤ 104
-    go true e before = let few = x.1.1.few in let most = most_few x.1.1.command in rw (sym (eqb-true row.pass.0 c e)) (omega arith)
+    go true e before = let few = x.1.1.few in let most = most_few x.1.1.command (length (taken_nodes (history lay.mode lines))) in rw (sym (eqb-true row.pass.0 c e)) (omega arith)
     go false e before = before
 steps_few lay calls (Step (Idle number client) ∷ lines) c x = steps_few lay calls lines c x.0
 steps_few lay calls (Log entry ∷ lines) c x = steps_few lay calls lines c x.0

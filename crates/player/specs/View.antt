@@ -197,33 +197,33 @@ pub record Works (v : View) (c : Client) (run : Run) (then : Option Put) : Type 
   pub won : IsWonBy v c.pass.0 run
   pub late : (turn : ℕ) → v.won ≡ Some turn → c.begin ≤ turn
 
--- Below, `few` says that the steps that the call has made, those that the machine may still ask for and those of what follows it are no more than the call may make; a step that the machine waits for counts too.
+-- Below, `few` says that the steps that the call has made, those that the machine may still ask for and those of what follows it are no more than the call may make, however many nodes are taken; a step that the machine waits for counts too.
 
 -- it has not asked for a step yet
 pub record Starts (v : View) (c : Client) (run : Run) (then : Option Put) : Type 0 where
   pub works : Works v c run then
   pub none : c.running ≡ None
   pub ready : run_ready run (machine_call v c works.is_pass works.start) v.past None
-  pub few : v.steps + left_of run then ≤ most_steps works.command
+  pub few : (taken : ℕ) → v.steps + left_of run then ≤ most_steps works.command taken
 
 -- it has answered
 pub record Answered (v : View) (c : Client) (run : Run) (then : Option Put) (ended : Ended) : Type 0 where
   pub works : Works v c run then
   pub none : c.running ≡ None
   pub answers : run_answers run (machine_call v c works.is_pass works.start) v.past ended
-  pub few : v.steps + then_left then ≤ most_steps works.command
+  pub few : (taken : ℕ) → v.steps + then_left then ≤ most_steps works.command taken
 
 -- it waits for a step
 pub record Waits (v : View) (c : Client) (running : Running) : Type 0 where
   pub works : Works v c running.run running.then
   pub waits : run_waits running.run (machine_call v c works.is_pass works.start) v.past running.step
-  pub few : suc (v.steps + left_of running.run running.then) ≤ most_steps works.command
+  pub few : (taken : ℕ) → suc (v.steps + left_of running.run running.then) ≤ most_steps works.command taken
 
 -- it is told what its step found
 pub record Hears (v : View) (c : Client) (running : Running) (found : ℕ) : Type 0 where
   pub works : Works v c running.run running.then
   pub ready : run_ready running.run (machine_call v c works.is_pass works.start) v.past (Some found)
-  pub few : v.steps + left_of running.run running.then ≤ most_steps works.command
+  pub few : (taken : ℕ) → v.steps + left_of running.run running.then ≤ most_steps works.command taken
 
 -- its next call has not begun
 pub record IsUnbegun (v : View) (began : Option ℕ) : Type 0 where
@@ -305,7 +305,7 @@ pub record CanPut (v : View) (linked : ℕ → Option History) (c : Client) (sna
   pub moments : HaveMoments v c.pass.0 command snaps
   pub took : HasTaken v c.pass.0 (no_hand c.share)
   pub serves : (m : PutRun) → IsPutOf m c.number (nodes_of snaps) removed field x → IsScxOf command c.number m None
-  pub few : v.steps + 40 ≤ most_steps command
+  pub few : (taken : ℕ) → v.steps + 40 ≤ most_steps command taken
 
 -- the answer names what the share has none of
 abbrev pub TellsFull : Left → Answer → Type 0

@@ -12,6 +12,7 @@ use Rattle.arena.specs.declared.word.NodeWord.TheVariants.{Value}
 use Rattle.arena.specs.Words.{node, state, child}
 use Rattle.arena.specs.History.{History, ◌⊳◌, value, EndsWith}
 use Rattle.arena.specs.Lawful.{Lawful, IsLawful, IsWin}
+use Rattle.arena.specs.TakenNodes.{taken_nodes}
 use Rattle.arena.specs.Fills.{IsOwnNode, IsOwnScx, IsOthersScx, IsTakenNode, IsTakenScx}
 use Rattle.arena.specs.Blame.{WasInTheWay}
 use Rattle.arena.specs.Found.{IsLastStep, HasFound}
@@ -43,12 +44,12 @@ commands (call ∷ calls) c = cond (eqb call.client.0 c) (call.command ∷ comma
 abbrev pub next_command : List Call → List Line → ℕ → Option Command
 next_command calls lines c = slice_get (commands calls c) (answered lines c)
 
--- how many steps a call may make: a VLX one for each cell, a set those of an LLX and an SCX
-abbrev pub most_steps : Command → ℕ
-most_steps (Llx cell) = 64
-most_steps (Scx update) = 40
-most_steps (Vlx cells) = length (cells_of cells)
-most_steps (Set field value) = 104
+-- how many steps a call may make while so many nodes are taken: a VLX one for each cell, a set those of an LLX and an SCX; calls of cells make no more where others take nodes
+abbrev pub most_steps : Command → ℕ → ℕ
+most_steps (Llx cell) taken = 64
+most_steps (Scx update) taken = 40
+most_steps (Vlx cells) taken = length (cells_of cells)
+most_steps (Set field value) taken = 104
 
 -- the answers that a call may give in place of a first step
 abbrev pub IsAnswerAtOnce : Command → Answer → Type 0
@@ -273,7 +274,7 @@ pub record IsStep (lay : Layout) (calls : List Call) (lines : List Line) (number
   pub call : row.call ≡ answered lines row.pass.0
   pub command : Command
   pub is : next_command calls lines row.pass.0 ≡ Some command
-  pub few : steps lines row.pass.0 < most_steps command
+  pub few : steps lines row.pass.0 < most_steps command (length (taken_nodes (history lay.mode lines)))
   pub may : MayMake command row.kind
 
 -- a turn without a step: of a client with no call left, or the whole of a call that has not begun
