@@ -1,5 +1,5 @@
 -- From place to place of a call.
-use Rattle.std.proofs.Common.{◌≡◌, ℕ, List, Option, None, Some, refl, sym}
+use Rattle.std.proofs.Common.{ℕ, List, Option, None, Some, refl, sym}
 use Rattle.arena.specs.declared.layout.Layout.{Layout}
 use Rattle.arena.specs.declared.step.Step.{Step}
 use Rattle.arena.specs.History.{History}

@@ -1,18 +1,12 @@
 -- From place to place of an SCX with a fresh cell, in line.
-use Rattle.std.proofs.Common.{◌≡◌, ℕ, suc, ◌+◌, ◌<◌, length, List, [], Bool, true, false, refl, sym, subst, ◌∙◌, ap, None, Some, arith, inl, inr}
+use Rattle.std.proofs.Common.{◌≡◌, ℕ, suc, ◌<◌, length, List, Bool, true, false, refl, sym, subst, ◌∙◌, inl, inr}
 use Rattle.arena.specs.declared.layout.Layout.{Layout}
 use Rattle.arena.specs.declared.number.MemberNo.{MemberNo}
 use Rattle.arena.specs.declared.number.MemberNo.TheVariants.{First}
-use Rattle.arena.specs.declared.number.NodeNo.{NodeNo}
 use Rattle.arena.specs.declared.machine.Turn.TheVariants.{Ask, Done as End}
 use Rattle.arena.specs.declared.step.Step.{Step}
-use Rattle.arena.specs.declared.step.Row.{Row}
 use Rattle.arena.specs.declared.step.Deed.TheVariants.{Load, Store, Exchange}
 use Rattle.arena.specs.declared.step.Deed.{Deed}
-use Rattle.arena.specs.declared.step.Kind.TheVariants.{Fill}
-use Rattle.arena.specs.declared.word.Word.TheVariants.{Node}
-use Rattle.arena.specs.declared.word.NodeWord.TheVariants.{Value}
-use Rattle.arena.specs.declared.word.ScxWord.{ScxWord}
 use Rattle.arena.specs.declared.word.ScxWord.TheVariants.{Plan, New, Old, Member, Seen, Call as CallWord}
 use Rattle.arena.specs.MemberNo.{index_of}
 use Rattle.arena.specs.History.{History, ◌⊳◌, value}
@@ -24,21 +18,20 @@ use Rattle.help.specs.declared.state.HelpRun.{HelpRun}
 use Rattle.prims.specs.Snap.{snap_at}
 use Rattle.prims.specs.Unfilled.{own_words_unfilled}
 use Rattle.prims.specs.Begun.{takes_by_others, filled_more}
-use Rattle.prims.specs.ScxKnown.{job_of, FillMade, HasFilled, scx_answers, IsFilled, IsFilledThen, scx_turn, scx_told_at, fill_step, part_at}
+use Rattle.prims.specs.ScxKnown.{job_of, FillMade, HasFilled, scx_answers, scx_turn, scx_told_at}
 use Rattle.prims.specs.ScxTurns.{turn_start as scx_start, turn_plan, turn_new, turn_old, turn_member, turn_seen, begin_help, done_at, lost_at}
-use Rattle.prims.specs.PutKnown.{HasValue, IsFirstPut, put_step, put_waits, put_waits_at, put_answers}
+use Rattle.prims.specs.PutKnown.{HasValue, put_step, put_waits}
 use Rattle.prims.specs.PutTurns.{turn_start, turn_scx}
 use Rattle.prims.specs.PutLaws.{put_made, value_by_others}
 use Rattle.prims.specs.declared.put.PutRun.{PutRun}
-use Rattle.prims.specs.declared.put.PutAt.TheVariants.{Start, Fill as AtFill, Scx as AtScx}
+use Rattle.prims.specs.declared.put.PutAt.TheVariants.{Fill as AtFill}
 use Rattle.prims.specs.declared.scx.Scx.{Scx as Answer}
 use Rattle.prims.specs.declared.scx.Scx.TheVariants.{Done, Lost}
-use Rattle.prims.specs.declared.scx.ScxRun.{ScxRun}
 use Rattle.prims.specs.declared.scx.ScxAt.{ScxAt}
-use Rattle.prims.specs.declared.scx.ScxAt.TheVariants.{Start as ScxStart, Plan as AtPlan, New as AtNew, Old as AtOld, Member as AtMember, Seen as AtSeen, Call as AtCall, Help}
+use Rattle.prims.specs.declared.scx.ScxAt.TheVariants.{Plan as AtPlan, New as AtNew, Old as AtOld, Member as AtMember, Seen as AtSeen, Call as AtCall, Help}
 use Rattle.forest.specs.declared.view.Knower.{Knower}
 use Rattle.forest.specs.Kept.{past}
-use Rattle.forest.specs.Courses.{Course, IsCalled, begins, others, makes, goes_on}
+use Rattle.forest.specs.Courses.{Course, begins, others, makes, goes_on}
 use Rattle.forest.specs.StraightHelp.{same_record, call_waits, call_answers, HelpBegins, HelpEnds}
 use Rattle.forest.specs.StraightScx.{put_same, scx_at, fill_of, PutBegins, PutWaits, PutTold, PutEnds}
 

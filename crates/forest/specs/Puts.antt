@@ -1,5 +1,5 @@
 -- What a run of SCX is to do.
-use Rattle.std.specs.Prelude.{◌≡◌, ◌<◌, ◌≤◌, ◌↔◌, ℕ, true, List, length}
+use Rattle.std.specs.Prelude.{◌≡◌, ◌<◌, ◌↔◌, ℕ, true, List, length}
 use Rattle.arena.specs.declared.number.NodeNo.{NodeNo}
 use Rattle.arena.specs.declared.word.Side.{Side}
 use Rattle.arena.specs.ScxRecords.{removes, side_of}
@@ -7,11 +7,8 @@ use Rattle.prims.specs.ScxKnown.{IsUpdateOver}
 use Rattle.prims.specs.Snaps.{HasNode}
 use Rattle.prims.specs.Updates.{field_place}
 use Rattle.prims.specs.Snap.{snap_at}
-use Rattle.prims.specs.PutSteps.{put_left}
 use Rattle.prims.specs.declared.snap.Snap.{Snap}
 use Rattle.prims.specs.declared.put.PutRun.{PutRun}
-use Rattle.prims.specs.declared.put.PutAt.TheVariants.{Start}
-use Rattle.prims.specs.declared.scx.ScxAt.TheVariants.{Start as ScxStart}
 
 -- it covers the nodes of these snapshots, finalizes those that are in the list, and puts this node, with this value, into the field, by this SCX-record, in the call of this number
 pub record IsPutOf (m : PutRun) (snaps : List Snap) (finalize : List NodeNo) (field : ℕ × Side) (v node scx number : ℕ) : Type 0 where

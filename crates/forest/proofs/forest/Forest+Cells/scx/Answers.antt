@@ -1,4 +1,4 @@
-use Rattle.std.proofs.Common.{◌≡◌, ◌≤◌, ◌∙◌, arith, ℕ, List, refl, sym, ap, subst}
+use Rattle.std.proofs.Common.{◌≡◌, ◌∙◌, arith, ℕ, List, refl, sym, ap, subst}
 use Rattle.prims.specs.Cells.{allows_all}
 use Rattle.forest.specs.Passes.{Sight, CanUse, Each, taken_of}
 use Rattle.forest.specs.Held.{sight}

@@ -1,4 +1,4 @@
-use Rattle.std.proofs.Common.{◌≡◌, ◌∙◌, ℕ, List, refl, sym, ap, subst, arith}
+use Rattle.std.proofs.Common.{◌∙◌, ℕ, List, sym, ap, subst, arith}
 use denote.Bor.{Bor}
 use Rattle.prims.specs.Cells.{allows_all}
 use Rattle.prims.specs.declared.snap.Snap.{Snap}

@@ -1,4 +1,3 @@
-use Rattle.std.proofs.Common.{◌≡◌}
 use Rattle.prims.specs.declared.llx.LlxAt.TheVariants.{Start}
 use Rattle.forest.specs.StraightLlx.{run_at}
 use Rattle.forest.proofs.straight.llx.hand_over.Goals as goal

@@ -1,4 +1,4 @@
-use Rattle.std.proofs.Common.{◌≡◌, ◌∙◌, ◌+◌, refl, arith}
+use Rattle.std.proofs.Common.{◌∙◌, refl, arith}
 use Rattle.forest.specs.StraightScx.{run_of}
 use Rattle.forest.proofs.StraightScx.{next_member, within_member, to_seen}
 use Rattle.forest.proofs.straight.scx.fill_members.Goals as goal

@@ -1,4 +1,4 @@
-use Rattle.std.proofs.Common.{◌≡◌, ◌∙◌, ◌+◌, refl, arith}
+use Rattle.std.proofs.Common.{◌∙◌, refl, arith}
 use Rattle.forest.specs.StraightScx.{run_of}
 use Rattle.forest.proofs.StraightScx.{next_seen, within_seen, to_call}
 use Rattle.forest.proofs.straight.scx.fill_seen.Goals as goal

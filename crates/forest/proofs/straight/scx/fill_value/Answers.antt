@@ -1,4 +1,3 @@
-use Rattle.std.proofs.Common.{◌≡◌, sym, subst}
 use Rattle.forest.specs.StraightScx.{run_of}
 use Rattle.forest.proofs.StraightScx.{waits_as, told_as, to_value, to_plan}
 use Rattle.forest.proofs.straight.scx.fill_value.Goals as goal

@@ -1,4 +1,4 @@
-use Rattle.std.proofs.Common.{◌≡◌, ◌+◌, ◌∙◌, ℕ, refl, sym, ap, subst, arith}
+use Rattle.std.proofs.Common.{◌+◌, ◌∙◌, ℕ, refl, sym, ap, subst, arith}
 use Rattle.prims.specs.declared.snap.Snap.{Snap}
 use Rattle.forest.specs.StraightVlx.{VlxLooked}
 use Rattle.forest.proofs.StraightVlx.{to_none, to_info, to_next, to_changed, to_same}
