@@ -1,8 +1,7 @@
 //! What the program does with its words.
-use crate::fault::Fault;
-use crate::play::play_over;
 use crate::wish::{Wish, read_words};
 use arena::Mode;
+use program::{Fault, play_over};
 use std::fs;
 use std::io::Write;
 use std::rt::Files;

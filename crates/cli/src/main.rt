@@ -2,9 +2,6 @@
 #![tactic(auto)]
 
 mod ask;
-mod fault;
-mod play;
-mod run;
 mod wish;
 
 use crate::ask::ask_over;
@@ -20,7 +17,5 @@ fn main(rt: HostRuntime) -> ExitCode {
     ExitCode::from(status)
 }
 
-#[cfg(test)]
-mod read_tests;
 #[cfg(test)]
 mod tests;

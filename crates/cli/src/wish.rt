@@ -1,7 +1,7 @@
 //! The words of the command line.
-use crate::fault::Fault;
 use clap::error::ErrorKind;
 use clap::{Arg, ArgAction, Command, Error};
+use program::Fault;
 use std::alloc::Global;
 use std::convert::AsStr;
 use std::rt::Env;

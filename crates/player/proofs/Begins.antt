@@ -12,7 +12,7 @@ use Rattle.script.specs.Update.{update_cells, update_finalize, update_field, upd
 use Rattle.arena.specs.declared.number.NodeNo.{NodeNo}
 use Rattle.arena.specs.declared.word.Side.{Side}
 use Rattle.player.specs.declared.kept.Found.{Found}
-use Rattle.record.specs.LawfulRun.{AreLinked}
+use Rattle.record.specs.Snapshots.{AreLinked}
 use Rattle.player.specs.Kept.{AllKept, IsFirstUnkept, IsUnspent, kept_of}
 use Rattle.player.proofs.Over.{taken_one, taken_none}
 use Rattle.player.proofs.Ends.{among_none, are_linked}
@@ -37,7 +37,8 @@ use Rattle.player.specs.declared.client.Client.{Client}
 use Rattle.player.specs.declared.client.Put.{Put}
 use Rattle.record.specs.declared.record.Answer.{Answer}
 use Rattle.record.specs.declared.record.Answer.TheVariants.{Unlinked}
-use Rattle.record.specs.LawfulRun.{most_steps, AreLinked}
+use Rattle.record.specs.CommandRules.{most_steps}
+use Rattle.record.specs.Snapshots.{AreLinked}
 use Rattle.player.specs.RunSteps.{then_left}
 use Rattle.prims.specs.ScxKnown.{nodes_of}
 use Rattle.player.specs.View.{View, no_hand, IsSound, Rests, Refuses, Starts, IsLlxOf, IsUnbegun, command_of, machine_call, GoesOn, IsSameCall, CanPut, Puts, Begins, Stood}

@@ -8,7 +8,8 @@ use Rattle.record.specs.declared.record.Line.TheVariants.{Step, Log, Reply as Re
 use Rattle.record.specs.declared.record.Row.{Row}
 use Rattle.record.specs.declared.record.Row.TheVariants.{Step as Made, Idle}
 use Rattle.record.specs.Turns.{client_of, number_of, history, turns, begin, start, won, entry_of, is_entry_of}
-use Rattle.record.specs.LawfulRun.{AreLines, IsTurn}
+use Rattle.record.specs.LawfulRun.{AreLines}
+use Rattle.record.specs.Steps.{IsTurn}
 
 -- The begin of a call
 

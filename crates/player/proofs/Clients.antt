@@ -17,7 +17,7 @@ use Rattle.player.specs.declared.client.Client.{Client}
 use Rattle.player.specs.declared.client.Running.{Running}
 use Rattle.player.specs.declared.client.Put.{Put}
 use Rattle.record.specs.declared.record.Answer.{Answer}
-use Rattle.record.specs.LawfulRun.{most_steps}
+use Rattle.record.specs.CommandRules.{most_steps}
 use Rattle.player.specs.RunKnown.{run_waits, run_answers, run_same}
 use Rattle.player.specs.RunSteps.{run_left, left_of}
 use Rattle.player.specs.View.{View, Hand, in_hand, snaps_of, IsStart, IsPutOf, IsScxOf, HasNewest, IsRunOf, IsRoomy, IsWonBy, Stands, Works, Hears, Answered, machine_call, GoesOn, Told}

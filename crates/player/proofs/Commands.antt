@@ -4,7 +4,7 @@ use Rattle.std.proofs.lemmas.Bool.{eq-eqb}
 use Rattle.std.proofs.lemmas.Option.{slice_get_read}
 use Rattle.script.specs.declared.command.Call.{Call}
 use Rattle.script.specs.declared.command.Command.{Command}
-use Rattle.record.specs.LawfulRun.{commands}
+use Rattle.record.specs.Commands.{commands}
 use Rattle.player.specs.Place.{IsAt}
 
 -- a client has no more commands than there are calls

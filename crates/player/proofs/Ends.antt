@@ -48,7 +48,9 @@ use Rattle.player.specs.declared.kept.Found.{Found}
 use Rattle.record.specs.declared.record.Answer.{Answer}
 use Rattle.record.specs.declared.record.Answer.TheVariants.{Snapshot, Finalized, Fail, Done, Lost, Same, Changed, Unlinked, Full}
 use Rattle.player.specs.Kept.{IsUnspent, kept_of, node_of, found_of, parts, snap_of}
-use Rattle.record.specs.LawfulRun.{IsAnswerAfterStep, IsLastLook, HasRoom, AreLinked, IsRight, HasFailed, IsInTheWay, IsUnchanged, IsFirstChanged, IsEntered}
+use Rattle.record.specs.CommandRules.{IsAnswerAfterStep, IsRight}
+use Rattle.record.specs.Snapshots.{IsLastLook, AreLinked}
+use Rattle.record.specs.Answers.{HasRoom, HasFailed, IsInTheWay, IsUnchanged, IsFirstChanged, IsEntered}
 use Rattle.player.specs.RunKnown.{answer_of}
 use Rattle.prims.specs.ScxKnown.{nodes_of}
 use Rattle.player.specs.View.{View, IsSound, IsLlxOf, IsScxOf, IsVlxOf, no_hand, in_hand, HaveMoments, Stands, Rests, Answered, Ends, machine_call, linked_by}

@@ -36,7 +36,10 @@ use Rattle.player.specs.declared.run.Run.TheVariants.{Llx, Scx, Vlx}
 use Rattle.player.specs.declared.client.Client.{Client}
 use Rattle.player.specs.declared.client.Running.{Running}
 use Rattle.player.specs.declared.client.Put.{Put}
-use Rattle.record.specs.LawfulRun.{IsLastLook, IsUnchanged, AreUnchanged, IsEntryOver, IsEntryFor}
+use Rattle.record.specs.Snapshots.{IsLastLook}
+use Rattle.record.specs.Answers.{IsUnchanged, AreUnchanged}
+use Rattle.record.specs.Updates.{IsEntryOver}
+use Rattle.record.specs.CommandRules.{IsEntryFor}
 use Rattle.player.proofs.Shapes.{as_cells}
 use Rattle.player.specs.Allowed.{played_allows}
 use Rattle.player.specs.RunKnown.{run_waits, run_ready, run_keeps, run_made}

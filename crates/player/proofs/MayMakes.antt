@@ -10,7 +10,7 @@ use Rattle.script.specs.declared.command.Command.TheVariants.{Llx as LlxOf, Scx 
 use Rattle.player.specs.declared.run.Run.{Run}
 use Rattle.player.specs.declared.run.Run.TheVariants.{Llx, Scx, Vlx}
 use Rattle.player.specs.declared.client.Put.{Put}
-use Rattle.record.specs.LawfulRun.{MayMake}
+use Rattle.record.specs.CommandRules.{MayMake}
 use Rattle.player.specs.RunKnown.{run_waits}
 use Rattle.player.specs.View.{IsRunOf}
 

@@ -41,7 +41,12 @@ use Rattle.script.specs.declared.command.Command.TheVariants.{Llx as LlxOf, Scx 
 use Rattle.player.specs.declared.client.Client.{Client}
 use Rattle.player.specs.Lines.{newest}
 use Rattle.record.specs.Turns.{history, turns, entries, answered, begin, start, steps, won, last_client, entry_of, entry_owed, entry_at}
-use Rattle.record.specs.LawfulRun.{next_command, linked, moment_of, HasTakenOne, IsEntered, IsAnswerAtOnce, IsFitting, IsRight, IsReply, OwesNothing, IsNext, AreLines}
+use Rattle.record.specs.Commands.{next_command}
+use Rattle.record.specs.Linked.{linked}
+use Rattle.record.specs.Answers.{moment_of, HasTakenOne, IsEntered}
+use Rattle.record.specs.CommandRules.{IsAnswerAtOnce, IsRight}
+use Rattle.record.specs.Replies.{IsFitting, IsReply}
+use Rattle.record.specs.LawfulRun.{OwesNothing, IsNext, AreLines}
 use Rattle.player.specs.View.{View, view, no_hand, linked_by, Rests, IsClient, IsBehind, Refuses}
 use Rattle.player.specs.Played.{IsSoFar, AreOthers, IsTurnOf, IsBetween, IsMade, IsEnd, AreWins}
 use Rattle.player.proofs.Views.{TellsWon, client_by_others, stands_from}

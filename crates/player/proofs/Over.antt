@@ -12,7 +12,7 @@ use Rattle.prims.proofs.FillsNot.{llx_fills_not, vlx_fills_not}
 use Rattle.player.specs.declared.run.Run.{Run}
 use Rattle.player.specs.declared.run.Run.TheVariants.{Llx, Scx, Vlx}
 use Rattle.prims.proofs.UntakenNodes.{untaken_node_by_step, put_untaken_node}
-use Rattle.record.specs.LawfulRun.{HasTakenOne}
+use Rattle.record.specs.Answers.{HasTakenOne}
 use Rattle.player.specs.RunKnown.{run_waits}
 use Rattle.player.specs.View.{View, Hand, HasTaken, in_hand}
 

@@ -38,7 +38,10 @@ use Rattle.record.specs.declared.record.Answer.TheVariants.{Snapshot, Finalized,
 use Rattle.arena.specs.declared.fault.Resource.{Resource}
 use Rattle.arena.specs.declared.fault.Resource.TheVariants.{Nodes, Scx as ScxRecords}
 use Rattle.player.specs.Kept.{IsUnspent, kept_of, node_of, found_of}
-use Rattle.record.specs.LawfulRun.{commands, IsLastLook, most_steps, IsEmpty}
+use Rattle.record.specs.Commands.{commands}
+use Rattle.record.specs.Snapshots.{IsLastLook}
+use Rattle.record.specs.CommandRules.{most_steps}
+use Rattle.record.specs.Answers.{IsEmpty}
 use Rattle.player.specs.View.{View, IsSound, IsLlxOf, IsPutOf, no_hand, Stands, Rests, Starts, Answered, Told, TellsFull, CanPut, Puts, Begins}
 use Rattle.prims.specs.Begun.{taken_since}
 use Rattle.prims.proofs.UntakenNodes.{taken_node_since}

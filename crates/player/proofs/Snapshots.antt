@@ -14,7 +14,7 @@ use Rattle.prims.specs.declared.llx.Llx.{Llx}
 use Rattle.player.specs.declared.kept.Found.{Found}
 use Rattle.player.specs.declared.kept.Kept.{Kept}
 use Rattle.player.specs.Kept.{AreKept, AllKept, IsFirstUnkept, IsUnspent, kept_of, node_of, found_of, parts, snap_of}
-use Rattle.record.specs.LawfulRun.{IsFirstUnlinked}
+use Rattle.record.specs.Snapshots.{IsFirstUnlinked}
 
 -- what is read after a write was written, or stood there before
 read_there : {X : Type 0} (xs : List (Option X)) (i : ℕ) (y : Option X) → i < length xs → get_or (set xs i y) i None ≡ y

@@ -16,7 +16,7 @@ use Rattle.player.specs.declared.client.Standing.TheVariants.{Finished, Answers,
 use Rattle.player.specs.declared.player.Player.{Player}
 use Rattle.player.specs.Lines.{newest}
 use Rattle.player.specs.Place.{IsAt}
-use Rattle.record.specs.LawfulRun.{commands, next_command}
+use Rattle.record.specs.Commands.{commands, next_command}
 use Rattle.record.specs.Turns.{turns, begin, answered}
 use Rattle.player.specs.View.{View, view, Rests, Refuses, Waits, IsClient, Stood, command_of}
 use Rattle.player.specs.Played.{IsTurnOf, IsBetween, IsPlayed, IsAsked, IsEnd}

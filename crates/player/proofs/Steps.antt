@@ -32,7 +32,12 @@ use Rattle.player.specs.declared.player.Player.{Player}
 use Rattle.player.specs.Lines.{newest}
 use Rattle.arena.specs.TakenNodes.{taken_nodes}
 use Rattle.record.specs.Turns.{history, turns, answered, clients, begin, start, won, last_client, entry_of, entry_owed}
-use Rattle.record.specs.LawfulRun.{commands, IsAnswerAfterStep, linked, HasTakenOne, IsFitting, IsRight, IsReplyOwed, IsEntryFor, IsWinOf}
+use Rattle.record.specs.Commands.{commands}
+use Rattle.record.specs.CommandRules.{IsAnswerAfterStep, IsRight, IsEntryFor}
+use Rattle.record.specs.Linked.{linked}
+use Rattle.record.specs.Answers.{HasTakenOne}
+use Rattle.record.specs.Replies.{IsFitting, IsReplyOwed}
+use Rattle.record.specs.Entries.{IsWinOf}
 use Rattle.player.specs.View.{View, view, IsSound, Hears, IsClient, GoesOn, Ends}
 use Rattle.player.specs.Played.{IsSoFar, IsTurnOf, IsBetween, IsAsked, IsEnd, AreWins}
 use Rattle.player.proofs.Views.{own_row, step_sound, hears}

@@ -17,7 +17,10 @@ use Rattle.player.specs.Player.{calls_of, lines_of}
 use Rattle.player.specs.Lines.{newest}
 use Rattle.arena.specs.TakenNodes.{taken_nodes}
 use Rattle.record.specs.Turns.{history, turns, clients, client_of, answered, steps, last_client, made, is_of}
-use Rattle.record.specs.LawfulRun.{commands, next_command, most_steps, OwesNothing, IsReply, AreLines}
+use Rattle.record.specs.Commands.{commands, next_command}
+use Rattle.record.specs.CommandRules.{most_steps}
+use Rattle.record.specs.LawfulRun.{OwesNothing, AreLines}
+use Rattle.record.specs.Replies.{IsReply}
 use Rattle.player.specs.Played.{IsPlayed, IsSameScript, IsTurnMore}
 use Rattle.record.specs.OneClient.{HasCall, AwaitsSteps, AreMadeWhile}
 use Rattle.player.specs.TurnsMore.{AreTurnsWhile, to_go}

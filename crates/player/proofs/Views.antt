@@ -29,7 +29,7 @@ use Rattle.player.specs.declared.client.Running.{Running}
 use Rattle.player.specs.declared.client.Put.{Put}
 use Rattle.player.specs.declared.kept.Found.{Found}
 use Rattle.player.specs.Kept.{IsUnspent, kept_of, snap_of}
-use Rattle.record.specs.LawfulRun.{HasRoom}
+use Rattle.record.specs.Answers.{HasRoom}
 use Rattle.player.specs.RunKnown.{run_waits, run_ready, run_keeps, run_lawful, run_made}
 use Rattle.player.specs.View.{View, Hand, no_hand, in_hand, snaps_of, IsSound, HasNewest, IsStart, IsSource, IsRunOf, HasTaken, HaveMoments, IsRoomy, IsWonAs, IsWonBy, Stands, Rests, Works, Waits, Hears, IsClient, machine_call}
 use Rattle.prims.proofs.PutEntries.{put_covers, put_covers_then}

@@ -2,7 +2,7 @@
 use Rattle.std.specs.Prelude.{◌≡◌, ℕ, suc, List, [], ◌∷◌, drop, Option, Some, None, slice_get}
 use Rattle.script.specs.declared.command.Call.{Call}
 use Rattle.script.specs.declared.command.Command.{Command}
-use Rattle.record.specs.LawfulRun.{commands}
+use Rattle.record.specs.Commands.{commands}
 
 -- where the first of the commands that are still to come stands among the calls; nowhere if there is none
 abbrev pub IsAt : List Call → ℕ → List Command → Option ℕ → Type 0

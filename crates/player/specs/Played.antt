@@ -22,7 +22,8 @@ use Rattle.player.specs.Lines.{newest}
 use Rattle.player.specs.declared.client.Client.{Client}
 use Rattle.player.specs.declared.player.Player.{Player}
 use Rattle.record.specs.Turns.{history, begin, turns, clients, won}
-use Rattle.record.specs.LawfulRun.{moment_of, AreLines, OwesNothing}
+use Rattle.record.specs.Answers.{moment_of}
+use Rattle.record.specs.LawfulRun.{AreLines, OwesNothing}
 use Rattle.player.specs.View.{view, IsClient, Waits, IsBehind}
 
 -- the words hold what the steps have left in them, and the lines so far are lawful

@@ -6,7 +6,7 @@ use Rattle.player.specs.declared.player.Player.{Player}
 use Rattle.player.specs.Player.{lines_of}
 use Rattle.player.specs.Played.{IsPlayed, IsSameScript}
 use Rattle.record.specs.Turns.{turns, clients, answered, steps}
-use Rattle.record.specs.LawfulRun.{commands}
+use Rattle.record.specs.Commands.{commands}
 use Rattle.record.specs.OneClient.{AreMadeWhile}
 
 -- Turns of this client alone were made, each while the lines before it were so. The script is the same.

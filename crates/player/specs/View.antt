@@ -40,7 +40,11 @@ use Rattle.player.specs.RunSteps.{then_left, left_of}
 use Rattle.player.specs.Kept.{AreKept, IsUnspent, kept_of}
 use Rattle.player.specs.Place.{IsAt}
 use Rattle.record.specs.Turns.{history, answered, start, steps, won}
-use Rattle.record.specs.LawfulRun.{commands, linked, linked_then, most_steps, IsAnswerAtOnce, IsAnswerAfterStep, IsLastLook, HasRoom, HasTakenOne, IsRight, IsEntered}
+use Rattle.record.specs.Commands.{commands}
+use Rattle.record.specs.Linked.{linked}
+use Rattle.record.specs.CommandRules.{linked_then, most_steps, IsAnswerAtOnce, IsAnswerAfterStep, IsRight}
+use Rattle.record.specs.Snapshots.{IsLastLook}
+use Rattle.record.specs.Answers.{HasRoom, HasTakenOne, IsEntered}
 
 -- what the lines so far say to a client: the steps, how many of its calls are answered, the steps up to the begin of its call, how many steps it has made since its last reply,
 -- the turn in which an update of that call has won, and the moments of the snapshots that the client keeps

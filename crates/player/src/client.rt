@@ -61,7 +61,7 @@ impl Client {
     ghost use Rattle.player.specs.declared.run.Run.TheVariants.{Llx as LlxOf};
     ghost use Rattle.player.specs.declared.run.Ended.TheVariants.{Llx as LlxEnded};
     ghost use Rattle.player.specs.declared.client.Running.{Running};
-    ghost use Rattle.record.specs.LawfulRun.{moment_of};
+    ghost use Rattle.record.specs.Answers.{moment_of};
     ghost use Rattle.player.specs.RunKnown.{run_asks_first};
     ghost use Rattle.player.specs.View.{View, view, IsSound, IsBehind, Rests, command_of, Starts, Hears, Answered, Told, CanPut, Puts, Begins, Stood, IsUnbegun, IsClient};
 

@@ -1,6 +1,6 @@
 //! Where a client's calls stand in a script.
 ghost use Rattle.std.specs.Prelude.{drop};
-ghost use Rattle.record.specs.LawfulRun.{commands};
+ghost use Rattle.record.specs.Commands.{commands};
 ghost use Rattle.player.specs.Place.{IsAt};
 
 use arena::PassNo;

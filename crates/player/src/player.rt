@@ -34,7 +34,7 @@ impl Player {
     ghost use Rattle.arena.specs.PlainWords.{held};
     ghost use Rattle.record.specs.declared.record.Line.{Line};
     ghost use Rattle.player.specs.Player.{passes_of, calls_of, lines_of};
-    ghost use Rattle.record.specs.LawfulRun.{next_command};
+    ghost use Rattle.record.specs.Commands.{next_command};
     ghost use Rattle.record.specs.OneClient.{HasCall, HasNoCall, AwaitsReply, AwaitsSteps};
     ghost use Rattle.player.specs.TurnsMore.{AreTurnsWhile};
     ghost use Rattle.player.specs.Lines.{room, newest};

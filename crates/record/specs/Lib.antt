@@ -1,4 +1,14 @@
 pub mod Turns
+pub mod Commands
+pub mod Snapshots
+pub mod Answers
+pub mod Updates
+pub mod Rules
+pub mod CommandRules
+pub mod Linked
+pub mod Steps
+pub mod Entries
+pub mod Replies
 pub mod LawfulRun
 pub mod OneClient
 pub mod Schedules

@@ -5,7 +5,7 @@ use Rattle.script.specs.declared.command.Call.{Call}
 use Rattle.record.specs.declared.record.Line.{Line}
 use Rattle.record.specs.declared.record.Line.TheVariants.{Step, Log, Reply}
 use Rattle.record.specs.Turns.{client_of, answered, made}
-use Rattle.record.specs.LawfulRun.{next_command}
+use Rattle.record.specs.Commands.{next_command}
 
 -- the client has a call that is not answered
 abbrev pub HasCall : List Call → ℕ → List Line → Type 0

@@ -1,5 +1,5 @@
 use Rattle.std.proofs.Common.{◌≡◌, drop}
-use Rattle.record.specs.LawfulRun.{commands}
+use Rattle.record.specs.Commands.{commands}
 use Rattle.player.proofs.place.next_call.Given as goal
 
 abbrev pub invariant-loop-at : goal.invariant-loop-at

@@ -1,7 +1,7 @@
 use Rattle.std.proofs.Common.{length, arith, refl, sym, ◌∙◌, ap}
 use Rattle.std.proofs.lemmas.Option.{get_or_from_slice_get, slice_get_read}
 use Rattle.player.specs.declared.client.Client.{Client}
-use Rattle.record.specs.LawfulRun.{moment_of}
+use Rattle.record.specs.Answers.{moment_of}
 use Rattle.player.proofs.player.Player.reply.Goals as goal
 
 pub returns-clause-same : goal.returns-clause-same

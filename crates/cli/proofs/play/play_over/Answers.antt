@@ -1,6 +1,0 @@
-use Rattle.std.proofs.Common.{◌∙◌, sym}
-use Rattle.cli.proofs.play.play_over.Goals as goal
-
-pub returns-in-Err-clause-deserved : goal.returns-in-Err-clause-deserved
-returns-in-Err-clause-deserved g c said ordered script_tells schedule_tells one =
-    (c.in-Err.fault, sym c.tell.ensures ∙ one, c.in-Err.ensures.deserved said ordered script_tells schedule_tells)

@@ -1,0 +1,24 @@
+-- Faults of the texts are the program's faults.
+use Rattle.std.proofs.Common.{◌≡◌, List, ℕ, Result, Ok, Err, IfErr, IsErrAnd}
+use Rattle.arena.specs.declared.layout.Layout.{Layout}
+use Rattle.arena.specs.declared.limits.Limits.{Limits}
+use Rattle.arena.specs.declared.limits.Mode.{Mode}
+use Rattle.script.specs.Grammars.{IsScheduleFault, SayScript}
+use Rattle.texts.specs.Texts.{IfBad}
+use Rattle.script.specs.declared.command.Call.{Call}
+use Rattle.script.specs.declared.fault.ScheduleCause.{ScheduleCause}
+use Rattle.texts.specs.declared.fault.TextFault.{TextFault}
+use Rattle.texts.specs.declared.fault.TextFault.TheVariants.{NoMemory, Read, Bad}
+use Rattle.program.specs.Printed.{IsDeserved}
+use Rattle.program.specs.Status.{fault_of_schedule}
+use Rattle.program.specs.declared.fault.Fault.{Fault}
+
+pub schedule_deserves : (mode : Mode) (said ordered : List ℕ) (limits : Limits) (layout : Layout) (calls : List Call) (fault : TextFault ScheduleCause) → SayScript mode said limits layout calls → IfBad (IsScheduleFault layout.passes ordered) fault → IsDeserved mode said ordered (fault_of_schedule fault)
+schedule_deserves mode said ordered limits layout calls NoMemory says bad = tt
+schedule_deserves mode said ordered limits layout calls Read says bad = tt
+schedule_deserves mode said ordered limits layout calls (Bad row cause) says bad = (limits, layout, calls, says, bad)
+
+-- what is so of a fault is so where that fault is told
+pub told : {T : Type 0} (r : Result T Fault) (fault : Fault) (P : Fault → Type 0) → IsErrAnd r (λ e. e ≡ fault) → P fault → IfErr r P
+told (Ok t) fault P is holds = absurd is
+told (Err e) fault P is holds = rw is holds

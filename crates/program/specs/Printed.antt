@@ -1,0 +1,36 @@
+-- What the program prints, and why it refuses to.
+use Rattle.std.specs.Prelude.{ℕ, List, Option, ⊤}
+use Rattle.std.specs.Io.KnownBytes.{Appends}
+use Rattle.arena.specs.declared.layout.Layout.{Layout}
+use Rattle.arena.specs.declared.limits.Limits.{Limits}
+use Rattle.arena.specs.declared.limits.Mode.{Mode}
+use Rattle.script.specs.Grammars.{IsScheduleFault, IsScriptFault, SayOrders, SayScript}
+use Rattle.script.specs.declared.command.Call.{Call}
+use Rattle.script.specs.declared.schedule.Schedule.{Schedule}
+use Rattle.script.specs.declared.script.Script.{Script}
+use Rattle.record.specs.declared.record.Line.{Line}
+use Rattle.record.specs.Schedules.{IsRunOf}
+use Rattle.report.specs.Report.{report_text}
+use Rattle.program.specs.declared.fault.Fault.{Fault}
+use Rattle.program.specs.declared.fault.Fault.TheVariants.{Usage, BadScript, BadSchedule, NoMemory, Read, Write}
+
+-- of what two texts say there was a run, and behind the old bytes stands its report
+pub record HasPrinted (mode : Mode) (script_text schedule_text : List ℕ) (old new : Option (List ℕ)) : Type 0 where
+  pub script : Script
+  pub schedule : Schedule
+  pub lines : List Line
+  pub says : SayScript mode script_text script.limits script.layout script.calls.items
+  pub orders : SayOrders script.layout.passes schedule_text schedule.orders.items
+  pub run : IsRunOf script schedule lines
+  pub text : Appends old new (report_text script lines)
+
+-- the texts deserve the fault: it is the first of the script's text, or that one says a script, and it is the first of
+-- the schedule's
+abbrev pub IsDeserved : Mode → List ℕ → List ℕ → Fault → Type 0
+IsDeserved mode script_text schedule_text (BadScript row cause) = IsScriptFault mode script_text row cause
+IsDeserved mode script_text schedule_text (BadSchedule row cause) =
+    (limits : Limits) × (layout : Layout) × (calls : List Call) × SayScript mode script_text limits layout calls × IsScheduleFault layout.passes schedule_text row cause
+IsDeserved mode script_text schedule_text Usage = ⊤
+IsDeserved mode script_text schedule_text NoMemory = ⊤
+IsDeserved mode script_text schedule_text Read = ⊤
+IsDeserved mode script_text schedule_text Write = ⊤

@@ -1,0 +1,34 @@
+-- The faults of the program, and their exit status.
+use Rattle.std.specs.Prelude.{ℕ}
+use Rattle.texts.specs.declared.fault.WriteFault.{WriteFault}
+use Rattle.texts.specs.declared.fault.WriteFault.TheVariants as write
+use Rattle.script.specs.declared.fault.ScriptCause.{ScriptCause}
+use Rattle.script.specs.declared.fault.ScheduleCause.{ScheduleCause}
+use Rattle.texts.specs.declared.fault.TextFault.{TextFault}
+use Rattle.texts.specs.declared.fault.TextFault.TheVariants as text
+use Rattle.program.specs.declared.fault.Fault.{Fault}
+use Rattle.program.specs.declared.fault.Fault.TheVariants.{Usage, BadScript, BadSchedule, NoMemory, Read, Write}
+
+-- a refused script or schedule, the words, memory, and a read or a write that failed
+abbrev pub status_of : Fault → ℕ
+status_of (BadScript _ _) = 1
+status_of (BadSchedule _ _) = 1
+status_of Usage = 2
+status_of NoMemory = 3
+status_of Read = 4
+status_of Write = 4
+
+-- what the faults of the crates below are here
+abbrev pub fault_of_script : TextFault ScriptCause → Fault
+fault_of_script text.NoMemory = NoMemory
+fault_of_script text.Read = Read
+fault_of_script (text.Bad row cause) = BadScript row cause
+
+abbrev pub fault_of_schedule : TextFault ScheduleCause → Fault
+fault_of_schedule text.NoMemory = NoMemory
+fault_of_schedule text.Read = Read
+fault_of_schedule (text.Bad row cause) = BadSchedule row cause
+
+abbrev pub fault_of_write : WriteFault → Fault
+fault_of_write write.NoMemory = NoMemory
+fault_of_write write.Write = Write

@@ -1,0 +1,106 @@
+//! Why the program stops early.
+ghost use Rattle.std.specs.Prelude.{◌≡◌};
+ghost use Rattle.program.specs.Status.{fault_of_schedule, fault_of_script, fault_of_write, status_of};
+ghost use Rattle.program.specs.declared.fault.Fault.TheVariants as fault;
+
+use arena::NoMemory;
+use report::WriteFault;
+use script::{ScheduleCause, ScheduleFault, ScriptCause, ScriptFault};
+use std::io;
+use std::io::{ErrorKind, Write};
+use thiserror::Error;
+
+/// Why the program does not do what was asked. Its text is the line that is printed.
+#[derive(Clone, Copy, Debug, PartialEq, Eq, Error)]
+pub enum Fault {
+    /// No command, or words that do not fit it.
+    #[error("usage")]
+    Usage,
+    #[error("bad script: row {row}: {cause}")]
+    BadScript { row: u64, cause: ScriptCause },
+    #[error("bad schedule: row {row}: {cause}")]
+    BadSchedule { row: u64, cause: ScheduleCause },
+    #[error("no memory")]
+    NoMemory,
+    /// A file could not be opened, or a read failed.
+    #[error("read failed")]
+    Read,
+    #[error("write failed")]
+    Write,
+}
+
+impl Fault {
+    /// The status with which the program ends.
+    pub fn status(self) -> u8
+        ensures { result ≡ status_of self }
+    {
+        match self {
+            Fault::BadScript { row: _, cause: _ } | Fault::BadSchedule { row: _, cause: _ } => 1,
+            Fault::Usage => 2,
+            Fault::NoMemory => 3,
+            Fault::Read | Fault::Write => 4,
+        }
+    }
+
+    /// Tells it in a line, and answers its status. Where the line cannot be written, the status alone
+    /// tells it.
+    pub fn tell<E: Write>(self, err: &mut E) -> u8
+        ensures { result ≡ status_of self }
+    {
+        let _ = writeln!(err, "{self}");
+        self.status()
+    }
+}
+
+impl From<ScriptFault> for Fault {
+    ghost from_gives = { λ given made. made ≡ fault_of_script given };
+
+    fn from(fault: ScriptFault) -> Fault {
+        match fault {
+            ScriptFault::NoMemory => Fault::NoMemory,
+            ScriptFault::Read => Fault::Read,
+            ScriptFault::Bad { row, cause } => Fault::BadScript { row, cause },
+        }
+    }
+}
+
+impl From<ScheduleFault> for Fault {
+    ghost from_gives = { λ given made. made ≡ fault_of_schedule given };
+
+    fn from(fault: ScheduleFault) -> Fault {
+        match fault {
+            ScheduleFault::NoMemory => Fault::NoMemory,
+            ScheduleFault::Read => Fault::Read,
+            ScheduleFault::Bad { row, cause } => Fault::BadSchedule { row, cause },
+        }
+    }
+}
+
+impl From<NoMemory> for Fault {
+    ghost from_gives = { λ _ made. made ≡ fault.NoMemory };
+
+    fn from(_fault: NoMemory) -> Fault {
+        Fault::NoMemory
+    }
+}
+
+impl From<WriteFault> for Fault {
+    ghost from_gives = { λ given made. made ≡ fault_of_write given };
+
+    fn from(fault: WriteFault) -> Fault {
+        match fault {
+            WriteFault::NoMemory => Fault::NoMemory,
+            WriteFault::Write => Fault::Write,
+        }
+    }
+}
+
+/// What it means that a file could not be opened.
+impl From<io::Error> for Fault {
+    fn from(error: io::Error) -> Fault {
+        match error.kind() {
+            ErrorKind::OutOfMemory => Fault::NoMemory,
+            _ => Fault::Read,
+        }
+    }
+}

@@ -1,0 +1,58 @@
+//! The commands that play a script.
+ghost use Rattle.std.specs.Prelude.{◌≡◌, ◌≢◌, ◌≤◌, ℕ, List, IfErr, OnOk, Some};
+ghost use Rattle.program.specs.Printed.{HasPrinted, IsDeserved};
+ghost use Rattle.program.specs.Status.{status_of};
+ghost use Rattle.program.specs.declared.fault.Fault.{Fault};
+
+use crate::fault::Fault;
+use crate::orders::run;
+use arena::Mode;
+use report::write_record;
+use script::{read_schedule, read_script};
+use std::alloc::Global;
+use std::io::{Read, Write};
+use texts::Metered;
+
+/// Plays a script by a schedule, and prints the report to `out`; a fault goes to `err` as one line.
+/// Answers the exit status: 0, 1 where the script or the schedule is refused, 3 for want of memory, 4
+/// where a read or a write failed. A refused script or schedule leaves `out` as it was.
+pub fn play_over<S: Read, T: Read, O: Write, E: Write>(
+    alloc: Global,
+    mode: Mode,
+    script: &mut S,
+    schedule: &mut T,
+    out: &mut Metered<O>,
+    err: &mut E,
+) -> u8
+    // Of readers that tell their bytes: what is printed, and why a text is refused.
+    ensures printed { (said ordered : List ℕ) → S.remaining script.old ≡ Some said → T.remaining schedule.old ≡ Some ordered → result ≡ 0 → HasPrinted mode said ordered (O.contents out.old.inner) (O.contents out.new.inner) }
+    ensures deserved { (said ordered : List ℕ) → S.remaining script.old ≡ Some said → T.remaining schedule.old ≡ Some ordered → result ≡ 1 → (fault : Fault) × (status_of fault ≡ 1) × IsDeserved mode said ordered fault }
+
+    ensures refused { result ≡ 1 → out.new ≡ out.old }
+    ensures not_usage { result ≢ 2 }
+    ensures status { result ≤ 4 }
+{
+    match play(alloc, mode, script, schedule, out) {
+        Ok(()) => 0,
+        Err(fault) => fault.tell(err),
+    }
+}
+
+fn play<S: Read, T: Read, O: Write>(
+    alloc: Global,
+    mode: Mode,
+    script: &mut S,
+    schedule: &mut T,
+    out: &mut Metered<O>,
+) -> Result<(), Fault>
+    ensures printed { (said ordered : List ℕ) → S.remaining script.old ≡ Some said → T.remaining schedule.old ≡ Some ordered → OnOk result (HasPrinted mode said ordered (O.contents out.old.inner) (O.contents out.new.inner)) }
+    ensures deserved { (said ordered : List ℕ) → S.remaining script.old ≡ Some said → T.remaining schedule.old ≡ Some ordered → IfErr result (IsDeserved mode said ordered) }
+    ensures refused { IfErr result (λ fault. status_of fault ≡ 1 → out.new ≡ out.old) }
+    ensures not_usage { IfErr result (λ fault. status_of fault ≢ 2) }
+{
+    let script = read_script(alloc, mode, &mut Metered::new(script))?;
+    let schedule = read_schedule(alloc, &script, &mut Metered::new(schedule))?;
+    let record = run(alloc, &script, &schedule)?;
+    write_record(alloc, &record, out)?;
+    Ok(())
+}

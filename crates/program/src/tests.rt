@@ -1,0 +1,467 @@
+use crate::play::play_over;
+use arena::Mode;
+use std::alloc::Global;
+use std::test::Fail;
+use texts::{FailAt, Metered};
+
+/// A set of a client, and then another client's snapshot of the cell.
+pub(crate) const SET: &str = "limits,2,10,10,1\n0,set,1,left,70\n1,llx,1,,\nend,2,,,\n";
+
+pub(crate) const IN_TURN: &str = "finish,0,,\nfinish,1,,\nend,2,,\n";
+
+/// The report of the two.
+pub(crate) const SET_REPORT: &str = "\
+report,1,records,,,,
+limits,2,10,10,1,,
+call,0,0,set,1,left,70
+call,1,0,llx,1,,
+step,1,0,marked,n1.marked,0,0
+step,2,0,info,n1.info,0,0
+step,3,0,state,s0.state,2,2
+step,4,0,marked,n1.marked,0,0
+step,5,0,child,n1.left,0,0
+step,6,0,child,n1.right,0,0
+step,7,0,info,n1.info,0,0
+step,8,0,fill,n9.value,0,70
+step,9,0,fill,s1.plan,0,1
+step,10,0,fill,s1.new,0,9
+step,11,0,fill,s1.old,0,0
+step,12,0,fill,s1.v0,0,1
+step,13,0,fill,s1.i0,0,0
+step,14,0,fill,s1.call,0,0
+step,15,0,settled,s1.plan,1,1
+step,16,0,settled,s1.v0,1,1
+step,17,0,settled,s1.i0,0,0
+step,18,0,freeze,n1.info,0,1
+step,19,0,frozen,s1.allfrozen,0,1
+step,20,0,settled,s1.new,9,9
+step,21,0,settled,s1.old,0,0
+step,22,0,update,n1.left,0,9
+log,1,22,s1,0,0,
+step,23,0,commit,s1.state,0,1
+reply,0,0,1,23,22,done
+step,24,1,marked,n1.marked,0,0
+step,25,1,info,n1.info,1,1
+step,26,1,state,s1.state,1,1
+step,27,1,marked,n1.marked,0,0
+step,28,1,child,n1.left,9,9
+step,29,1,child,n1.right,0,0
+step,30,1,info,n1.info,1,1
+reply,1,0,24,30,30,snap 9 0
+end,30,2,1,,,
+";
+
+/// A snapshot of a cell that no one has changed, and its report.
+const UNTOUCHED: &str = "limits,1,0,0,1\n0,llx,8,,\nend,1,,,\n";
+
+pub(crate) const UNTOUCHED_REPORT: &str = "\
+report,1,records,,,,
+limits,1,0,0,1,,
+call,0,0,llx,8,,
+step,1,0,marked,n8.marked,0,0
+step,2,0,info,n8.info,0,0
+step,3,0,state,s0.state,2,2
+step,4,0,marked,n8.marked,0,0
+step,5,0,child,n8.left,0,0
+step,6,0,child,n8.right,0,0
+step,7,0,info,n8.info,0,0
+reply,0,0,1,7,7,snap 0 0
+end,7,1,0,,,
+";
+
+/// What a command wrote, and its status.
+#[derive(Drop)]
+struct Ended {
+    status: u8,
+    out: Vec<u8>,
+    err: Vec<u8>,
+}
+
+fn played(alloc: Global, script: &str, schedule: &str) -> Ended {
+    let (mut script, mut schedule) = (script.as_bytes(), schedule.as_bytes());
+    let (mut out, mut err) = (Metered::new(Vec::new(alloc)), Vec::new(alloc));
+    let status = play_over(
+        alloc,
+        Mode::Records,
+        &mut script,
+        &mut schedule,
+        &mut out,
+        &mut err,
+    );
+    let out = out.inner;
+    Ended { status, out, err }
+}
+
+/// The lines that begin so.
+fn lines_of(alloc: Global, text: &[u8], start: &str) -> Result<Vec<u8>, Fail> {
+    let mut lines = Vec::new(alloc);
+    for line in text.split(|byte| *byte == b'\n') {
+        if line.starts_with(start.as_bytes()) {
+            lines.extend_from_slice(line)?;
+            lines.push(b'\n')?;
+        }
+    }
+    Ok(lines)
+}
+
+#[test]
+fn whole_reports(rt: HostRuntime) {
+    let cases = [
+        (SET, IN_TURN, SET_REPORT),
+        (UNTOUCHED, "finish,0,,\nend,1,,\n", UNTOUCHED_REPORT),
+    ];
+    for (script, schedule, report) in cases {
+        let ended = played(rt.alloc(), script, schedule);
+        assert_eq!(rt; ended.err.as_slice(), b"".as_slice());
+        assert_eq!(rt; ended.out.as_slice(), report.as_bytes());
+        assert_eq!(rt; ended.status, 0);
+    }
+}
+
+#[test]
+fn replies(rt: HostRuntime) -> Result<(), Fail> {
+    // The clients race for cells: one finalizes a cell that the other has a snapshot of, one is
+    // stopped before it freezes its cell, and one sees that a cell has changed.
+    let cases = [
+        (
+            "limits,2,10,10,1\n1,llx,2,,\n0,llx,1,,\n0,llx,2,,\n0,scx,1 2,2,1 left 70\n0,llx,2,,\n\
+             1,scx,2,,2 left 80\nend,6,,,\n",
+            "call,1,,\nfinish,0,,\nfinish,1,,\nend,3,,\n",
+            "reply,1,0,1,7,7,snap 0 0\nreply,0,0,8,14,14,snap 0 0\nreply,0,1,15,21,21,snap 0 0\n\
+             reply,0,2,22,43,42,done\nreply,0,3,44,48,48,finalized\nreply,1,1,49,61,,lost n2 s1\n",
+            "end,61,6,1,,,\n",
+        ),
+        (
+            "limits,2,10,10,1\n0,set,1,left,70\n1,set,1,left,71\nend,2,,,\n",
+            "until,0,fill,7\nfinish,1,,\nfinish,0,,\nend,3,,\n",
+            "reply,1,0,15,37,36,done\nreply,0,0,1,43,,lost n1 s11\n",
+            "end,43,2,1,,,\n",
+        ),
+        (
+            "limits,2,10,10,1\n0,llx,1,,\n0,llx,2,,\n0,vlx,1 2,,\n1,set,2,left,5\nend,4,,,\n",
+            "step,0,,14\nfinish,1,,\nfinish,0,,\nend,3,,\n",
+            "reply,0,0,1,7,7,snap 0 0\nreply,0,1,8,14,14,snap 0 0\nreply,1,0,15,37,36,done\n\
+             reply,0,2,38,39,,changed n2 s11\n",
+            "end,39,4,1,,,\n",
+        ),
+        // The cell changes between the two loads of its info, for an `llx` and for a `set`.
+        (
+            "limits,2,10,10,1\n0,llx,1,,\n1,set,1,left,70\nend,2,,,\n",
+            "step,0,,2\nfinish,1,,\nfinish,0,,\nend,3,,\n",
+            "reply,1,0,3,25,24,done\nreply,0,0,1,33,,fail n1 s11\n",
+            "end,33,2,1,,,\n",
+        ),
+        (
+            "limits,2,10,10,1\n0,set,1,left,60\n1,set,1,left,70\nend,2,,,\n",
+            "step,0,,2\nfinish,1,,\nfinish,0,,\nend,3,,\n",
+            "reply,1,0,3,25,24,done\nreply,0,0,1,33,,fail n1 s11\n",
+            "end,33,2,1,,,\n",
+        ),
+        // An `llx` helps the one that is in its way to its end, and fails; where that one
+        // finalizes the cell, it answers so.
+        (
+            "limits,2,10,10,1\n0,llx,1,,\n1,set,1,left,70\nend,2,,,\n",
+            "until,1,freeze,1\nfinish,0,,\nfinish,1,,\nend,3,,\n",
+            "reply,0,0,19,34,,fail n1 s11\nreply,1,0,1,39,31,done\n",
+            "end,39,2,1,,,\n",
+        ),
+        (
+            "limits,2,10,10,1\n0,llx,1,,\n1,llx,1,,\n1,scx,1,1,1 left 5\nend,3,,,\n",
+            "until,1,mark,1\nfinish,0,,\nfinish,1,,\nend,3,,\n",
+            "reply,1,0,1,7,7,snap 0 0\nreply,0,0,21,35,35,finalized\nreply,1,1,8,39,34,done\n",
+            "end,39,3,1,,,\n",
+        ),
+        // Which snapshots a client has: an unlinked call drops none, its own SCX drops those of its
+        // cells, and an `llx` or a `set` of a finalized cell gives none.
+        (
+            "limits,1,10,10,1\n0,llx,1,,\n0,scx,1 2,,1 left 5\n0,vlx,1,,\n0,vlx,3 2 1,,\n\
+             0,scx,1,1,1 left 5\n0,vlx,1,,\n0,llx,1,,\n0,llx,2,,\n0,set,1,left,3\n\
+             0,scx,2 1,,2 right 4\n0,vlx,2,,\nend,11,,,\n",
+            "finish,0,,\nend,1,,\n",
+            "reply,0,0,1,7,7,snap 0 0\nreply,0,1,8,8,,unlinked n2\nreply,0,2,9,9,9,same\n\
+             reply,0,3,10,10,,unlinked n3\nreply,0,4,11,27,26,done\nreply,0,5,28,28,,unlinked n1\n\
+             reply,0,6,29,33,33,finalized\nreply,0,7,34,40,40,snap 0 0\n\
+             reply,0,8,41,45,45,finalized\nreply,0,9,46,46,,unlinked n1\nreply,0,10,47,47,47,same\n",
+            "end,47,11,1,,,\n",
+        ),
+        // Of an empty share, the nodes are named first, but a cell without a snapshot before them;
+        // what is refused keeps its snapshot.
+        (
+            "limits,1,0,0,1\n0,scx,1,,1 left 5\n0,llx,1,,\n0,scx,1,,1 left 5\n0,vlx,1,,\n\
+             0,set,2,left,5\n0,vlx,1 2,,\nend,6,,,\n",
+            "finish,0,,\nend,1,,\n",
+            "reply,0,0,1,1,,unlinked n1\nreply,0,1,2,8,8,snap 0 0\nreply,0,2,9,9,,full nodes 0\n\
+             reply,0,3,10,10,10,same\nreply,0,4,11,17,,full nodes 0\nreply,0,5,18,19,18,same\n",
+            "end,19,6,0,,,\n",
+        ),
+        (
+            "limits,1,1,0,1\n0,llx,1,,\n0,scx,1,,1 left 5\n0,set,1,left,5\n0,vlx,1,,\n\
+             end,4,,,\n",
+            "finish,0,,\nend,1,,\n",
+            "reply,0,0,1,7,7,snap 0 0\nreply,0,1,8,8,,full scx 0\nreply,0,2,9,15,,full scx 0\n\
+             reply,0,3,16,16,16,same\n",
+            "end,16,4,0,,,\n",
+        ),
+        // Shares that are used up: of client 0's nodes and of client 1's SCX-records there is one.
+        (
+            "limits,1,1,2,1\n0,set,1,left,5\n0,set,1,left,6\nend,2,,,\n",
+            "finish,0,,\nend,1,,\n",
+            "reply,0,0,1,23,22,done\nreply,0,1,24,30,,full nodes 0\n",
+            "end,30,2,1,,,\n",
+        ),
+        (
+            "limits,2,2,1,1\n1,set,1,left,5\n1,llx,1,,\n1,scx,1,,1 left 6\n0,set,1,left,7\n\
+             end,4,,,\n",
+            "finish,1,,\nfinish,0,,\nend,2,,\n",
+            "reply,1,0,1,23,22,done\nreply,1,1,24,30,30,snap 11 0\nreply,1,2,31,31,,full scx 0\n\
+             reply,0,0,32,54,53,done\n",
+            "end,54,4,2,,,\n",
+        ),
+        // A client with no call left, no turn at all, and a schedule that ends in mid-call.
+        (
+            UNTOUCHED,
+            "finish,0,,\nstep,0,,2\nend,2,,\n",
+            "reply,0,0,1,7,7,snap 0 0\n",
+            "end,9,1,0,,,\n",
+        ),
+        (UNTOUCHED, "end,0,,\n", "", "end,0,0,0,,,\n"),
+        (UNTOUCHED, "step,0,,6\nend,1,,\n", "", "end,6,0,0,,,\n"),
+    ];
+    for (script, schedule, replies, end) in cases {
+        let ended = played(rt.alloc(), script, schedule);
+        let told = lines_of(rt.alloc(), ended.out.as_slice(), "reply,")?;
+        assert_eq!(rt; ended.err.as_slice(), b"".as_slice());
+        assert_eq!(rt; told.as_slice(), replies.as_bytes());
+        assert!(rt; ended.out.as_slice().ends_with(end.as_bytes()), "{end}");
+        assert_eq!(rt; ended.status, 0);
+    }
+    Ok(())
+}
+
+/// Other spellings of a script and its schedule: both line ends, blank lines, quotes, and no newline
+/// behind the last row.
+#[test]
+fn same_report_of_other_spellings(rt: HostRuntime) {
+    let cases = [
+        (
+            "limits,2,10,10,1\r\n0,set,1,left,70\r\n1,llx,1,,\r\nend,2,,,\r\n",
+            "finish,0,,\r\nfinish,1,,\r\nend,2,,\r\n",
+        ),
+        (
+            "limits,2,10,10,1\n0,set,1,left,70\r\n1,llx,1,,\nend,2,,,",
+            "finish,0,,\r\nfinish,1,,\nend,2,,",
+        ),
+        (
+            "\nlimits,2,10,10,1\n\n\n0,set,1,left,70\n\r\n1,llx,1,,\n\nend,2,,,\n\n\n",
+            "\r\n\nfinish,0,,\n\nfinish,1,,\n\r\nend,2,,\n\n",
+        ),
+        (
+            "\"limits\",\"2\",10,10,\"1\"\n0,\"set\",\"1\",left,\"70\"\n1,llx,1,\"\",\n\
+             \"end\",2,,,\"\"",
+            "\"finish\",0,\"\",\r\nfinish,\"1\",,\n\"end\",\"2\",,\"\"\n",
+        ),
+    ];
+    for (number, (script, schedule)) in cases.into_iter().enumerate() {
+        let ended = played(rt.alloc(), script, schedule);
+        assert_eq!(rt; ended.err.as_slice(), b"".as_slice(), "case {number}");
+        assert_eq!(rt;
+            ended.out.as_slice(),
+            SET_REPORT.as_bytes(),
+            "case {number}"
+        );
+    }
+}
+
+/// How many lines a text has.
+fn count_lines(text: &[u8]) -> usize {
+    text.iter().filter(|byte| **byte == b'\n').count()
+}
+
+/// A first line, so many others, and a last one.
+fn long_text(
+    alloc: Global,
+    first: &str,
+    line: &str,
+    lines: u32,
+    last: &str,
+) -> Result<String, Fail> {
+    let mut text = String::from_str(alloc, first)?;
+    for _ in 0..lines {
+        text.push_str(line)?;
+    }
+    text.push_str(last)?;
+    Ok(text)
+}
+
+#[test]
+fn longest_texts(rt: HostRuntime) -> Result<(), Fail> {
+    // Each call is of a cell without a snapshot, and so one turn. The 65,536th row of each text is
+    // taken, and the next one is named.
+    let alloc = rt.alloc();
+    let (limits, call, order) = ("limits,1,0,0,1\n", "0,vlx,1,,\n", "call,0,,\n");
+    let script = long_text(alloc, limits, call, 65536, "end,65536,,,\n")?;
+    let schedule = long_text(alloc, "", order, 65536, "end,65536,,\n")?;
+    let long_script = long_text(alloc, limits, call, 65537, "end,65537,,,\n")?;
+    let long_schedule = long_text(alloc, "", order, 65537, "end,65537,,\n")?;
+    let ended = played(rt.alloc(), script.as_str(), schedule.as_str());
+    let end = "reply,0,65535,65536,65536,,unlinked n1\nend,65536,65536,0,,,\n";
+    assert!(rt; ended.out.as_slice().ends_with(end.as_bytes()));
+    assert_eq!(rt;
+        (ended.status, count_lines(ended.out.as_slice())),
+        (0, 3 * 65536 + 3)
+    );
+    let refused = [
+        (
+            played(rt.alloc(), long_script.as_str(), schedule.as_str()),
+            "bad script: row 65538: long\n",
+        ),
+        (
+            played(rt.alloc(), script.as_str(), long_schedule.as_str()),
+            "bad schedule: row 65537: long\n",
+        ),
+    ];
+    for (ended, line) in refused {
+        assert_eq!(rt; ended.err.as_slice(), line.as_bytes());
+        assert_eq!(rt; (ended.status, ended.out.len()), (1, 0));
+    }
+    Ok(())
+}
+
+#[test]
+fn million_idle_turns(rt: HostRuntime) {
+    // One client has no call, and the other none after its first.
+    let schedule = "step,1,,999990\nfinish,0,,\nstep,0,,3\nend,3,,\n";
+    let ended = played(
+        rt.alloc(),
+        "limits,2,0,0,1\n0,llx,8,,\nend,1,,,\n",
+        schedule,
+    );
+    let end = "\nreply,0,0,999991,999997,999997,snap 0 0\nstep,999998,0,idle,,,\n\
+               step,999999,0,idle,,,\nstep,1000000,0,idle,,,\nend,1000000,1,0,,,\n";
+    assert!(rt; ended.out.as_slice().ends_with(end.as_bytes()));
+    assert_eq!(rt;
+        (ended.status, count_lines(ended.out.as_slice())),
+        (0, 1000005)
+    );
+}
+
+#[test]
+fn refused_texts(rt: HostRuntime) {
+    let rest = "end,1,,,\n";
+    let cases = [
+        (
+            "limits,1,0,0,1\n0,llx,8\nend,1,,,\n",
+            "",
+            "bad script: row 2: fields\n",
+        ),
+        (
+            "limits,33,0,0,1\nend,0,,,\n",
+            "",
+            "bad script: row 1: limits\n",
+        ),
+        (rest, "", "bad script: row 1: limits\n"),
+        (
+            "limits,1,0,0,1\n1,llx,8,,\nend,1,,,\n",
+            "",
+            "bad script: row 2: client\n",
+        ),
+        (
+            "limits,1,0,0,1\n0,put,8,50,\nend,1,,,\n",
+            "",
+            "bad script: row 2: command\n",
+        ),
+        (
+            "limits,1,0,0,1\n0,llx,9,,\nend,1,,,\n",
+            "",
+            "bad script: row 2: argument\n",
+        ),
+        ("limits,1,0,0,1\n", "", "bad script: row 2: end\n"),
+        ("", "", "bad script: row 1: end\n"),
+        (
+            UNTOUCHED,
+            "finish,0,\nend,1,,\n",
+            "bad schedule: row 1: fields\n",
+        ),
+        (
+            UNTOUCHED,
+            "begin,0,,\nend,1,,\n",
+            "bad schedule: row 1: command\n",
+        ),
+        (UNTOUCHED, "call,1,,\n", "bad schedule: row 1: client\n"),
+        (UNTOUCHED, "until,0,melt,1\n", "bad schedule: row 1: kind\n"),
+        (UNTOUCHED, "step,0,,0\n", "bad schedule: row 1: number\n"),
+        (UNTOUCHED, "end,1,,\n", "bad schedule: row 1: end\n"),
+        // A fault of the script comes first.
+        ("limits,1,0,0,1\n", "end,1,,\n", "bad script: row 2: end\n"),
+    ];
+    for (script, schedule, line) in cases {
+        let ended = played(rt.alloc(), script, schedule);
+        assert_eq!(rt; ended.err.as_slice(), line.as_bytes());
+        assert_eq!(rt; ended.out.as_slice(), b"".as_slice());
+        assert_eq!(rt; ended.status, 1);
+    }
+}
+
+#[test]
+fn reader_fails_at_each_byte(rt: HostRuntime) {
+    let alloc = rt.alloc();
+    for bytes in 0..=SET.len() {
+        let (mut out, mut err) = (Metered::new(Vec::new(alloc)), Vec::new(alloc));
+        let mut script = FailAt::new(SET.as_bytes(), bytes);
+        let mut schedule = IN_TURN.as_bytes();
+        let status = play_over(
+            alloc,
+            Mode::Records,
+            &mut script,
+            &mut schedule,
+            &mut out,
+            &mut err,
+        );
+        assert_eq!(rt;
+            (status, out.inner.len()),
+            (4, 0),
+            "after {bytes} bytes of the script"
+        );
+        assert_eq!(rt; err.as_slice(), b"read failed\n".as_slice());
+    }
+    for bytes in 0..=IN_TURN.len() {
+        let (mut out, mut err) = (Metered::new(Vec::new(alloc)), Vec::new(alloc));
+        let mut script = SET.as_bytes();
+        let mut schedule = FailAt::new(IN_TURN.as_bytes(), bytes);
+        let status = play_over(
+            alloc,
+            Mode::Records,
+            &mut script,
+            &mut schedule,
+            &mut out,
+            &mut err,
+        );
+        assert_eq!(rt;
+            (status, out.inner.len()),
+            (4, 0),
+            "after {bytes} bytes of the schedule"
+        );
+        assert_eq!(rt; err.as_slice(), b"read failed\n".as_slice());
+    }
+}
+
+#[test]
+fn writer_fails_at_each_byte(rt: HostRuntime) {
+    let alloc = rt.alloc();
+    for bytes in 0..SET_REPORT.len() {
+        let (mut script, mut schedule) = (SET.as_bytes(), IN_TURN.as_bytes());
+        let mut out = Metered::new(FailAt::new(Vec::new(alloc), bytes));
+        let mut err = Vec::new(alloc);
+        let status = play_over(
+            alloc,
+            Mode::Records,
+            &mut script,
+            &mut schedule,
+            &mut out,
+            &mut err,
+        );
+        assert_eq!(rt; status, 4, "after {bytes} bytes");
+        assert_eq!(rt; err.as_slice(), b"write failed\n".as_slice());
+        assert_eq!(rt; out.inner.inner.as_slice(), &SET_REPORT.as_bytes()[..bytes]);
+    }
+}

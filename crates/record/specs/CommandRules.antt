@@ -1,0 +1,51 @@
+-- The rules of each command, and what follows by them.
+use Rattle.std.specs.Prelude.{ℕ, Option, Some, None}
+use Rattle.arena.specs.declared.layout.Layout.{Layout}
+use Rattle.arena.specs.declared.step.Kind.{Kind}
+use Rattle.arena.specs.History.{History, value}
+use Rattle.arena.specs.Log.{Entry as Entered}
+use Rattle.script.specs.declared.command.Command.{Command}
+use Rattle.script.specs.declared.command.Command.TheVariants.{Llx, Scx, Vlx, Set}
+use Rattle.record.specs.declared.record.Answer.{Answer}
+use Rattle.record.specs.Turns.{start}
+use Rattle.record.specs.Rules.{Rules}
+use Rattle.record.specs.Rules.Llx.{llx_rules}
+use Rattle.record.specs.Rules.Scx.{scx_rules}
+use Rattle.record.specs.Rules.Set.{set_rules}
+use Rattle.record.specs.Rules.Vlx.{vlx_rules}
+
+-- the rules of each command
+abbrev pub rules : Command → Rules
+rules (Llx cell) = llx_rules cell
+rules (Scx update) = scx_rules update
+rules (Vlx cells) = vlx_rules cells
+rules (Set field value) = set_rules field value
+
+-- how many steps a call may make while so many nodes are taken; calls of cells make no more where others take nodes
+abbrev pub most_steps : Command → ℕ → ℕ
+most_steps command = (rules command).most_steps
+
+-- the kinds of step that a call may make
+abbrev pub MayMake : Command → Kind → Type 0
+MayMake command = (rules command).MayMake
+
+-- the answers that a call may give in place of a first step
+abbrev pub IsAnswerAtOnce : Command → Answer → Type 0
+IsAnswerAtOnce command = (rules command).IsAtOnce
+
+-- the answers that a call may give after a step
+abbrev pub IsAnswerAfterStep : Command → Answer → Type 0
+IsAnswerAfterStep command = (rules command).IsAfterStep
+
+-- the snapshot of cell n once a call is answered
+abbrev pub linked_then : Option Command → Answer → History → ℕ → Option History → Option History
+linked_then None answer now n old = old
+linked_then (Some command) answer now n old = (rules command).linked_then answer now n old
+
+-- what the answer to a call of client c says, between the steps up to its begin and those up to now, with the snapshots that the client keeps
+abbrev pub IsRight : Layout → ℕ → History → History → (ℕ → Option History) → Command → Answer → Type 0
+IsRight lay c now start linked command = (rules command).IsRight lay c now start linked
+
+-- what the entry of a call of client c does
+abbrev pub IsEntryFor : Layout → ℕ → History → History → (ℕ → Option History) → Entered → Command → Type 0
+IsEntryFor lay c before start linked e command = (rules command).IsEntryFor lay c before start linked e

@@ -1,0 +1,37 @@
+-- Entries: what is written down where an update has won.
+use Rattle.std.specs.Prelude.{◌≡◌, ◌≢◌, List, ◌∷◌, Some, None, IsSome}
+use Rattle.arena.specs.declared.layout.Layout.{Layout}
+use Rattle.arena.specs.declared.step.Row.{Row as StepRow}
+use Rattle.arena.specs.History.{◌⊳◌}
+use Rattle.arena.specs.Lawful.{IsWin}
+use Rattle.arena.specs.Log.{Entry as Entered, log}
+use Rattle.script.specs.declared.command.Call.{Call}
+use Rattle.script.specs.declared.command.Command.{Command}
+use Rattle.record.specs.declared.record.Line.{Line}
+use Rattle.record.specs.declared.record.Line.TheVariants.{Step}
+use Rattle.record.specs.declared.record.Row.TheVariants.{Step as Made}
+use Rattle.record.specs.declared.record.Entry.{Entry}
+use Rattle.record.specs.Turns.{history, answered, begin, start, won, entry_of}
+use Rattle.record.specs.CommandRules.{IsEntryFor}
+use Rattle.record.specs.Commands.{next_command}
+use Rattle.record.specs.Linked.{linked}
+
+-- a row that wins enters its update into the log: the only one of a call of its SCX-record's owner that is not answered yet
+pub record IsWinOf (lay : Layout) (calls : List Call) (lines : List Line) (row : StepRow) (entry : Entry) : Type 0 where
+  pub wins : IsWin (history lay.mode lines) row entry.scx.0
+  pub first : won lay lines entry.client.0 ≡ None
+  pub call : entry.call ≡ answered lines entry.client.0
+  pub command : Command
+  pub is : next_command calls lines entry.client.0 ≡ Some command
+  pub entered : Entered
+  pub logged : log lay (row ⊳ history lay.mode lines) ≡ entered ∷ log lay (history lay.mode lines)
+  pub same_scx : entered.scx ≡ entry.scx.0
+  pub same_owner : entered.owner ≡ entry.client.0
+  pub same_call : entered.call ≡ entry.call
+  pub begun : row.pass.0 ≢ entry.client.0 → IsSome (begin lines entry.client.0)
+  pub does : IsEntryFor lay entry.client.0 (history lay.mode lines) (start lay.mode lines entry.client.0) (linked calls lay.mode lines entry.client.0) entered command
+
+-- the newest line is the step that this entry is of
+abbrev pub IsLog : Layout → List Call → List Line → Entry → Type 0
+IsLog lay calls (Step (Made number row) ∷ lines) entry = (entry_of lay lines number row ≡ Some entry) × IsWinOf lay calls lines row entry
+IsLog lay calls _ entry = ⊥

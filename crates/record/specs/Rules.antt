@@ -1,0 +1,26 @@
+-- What has to be said of a command, one file a command.
+pub mod Llx
+pub mod Scx
+pub mod Vlx
+pub mod Set
+use Rattle.std.specs.Prelude.{ℕ, Option}
+use Rattle.arena.specs.declared.layout.Layout.{Layout}
+use Rattle.arena.specs.declared.step.Kind.{Kind}
+use Rattle.arena.specs.History.{History}
+use Rattle.arena.specs.Log.{Entry as Entered}
+use Rattle.record.specs.declared.record.Answer.{Answer}
+
+pub record Rules : Type 1 where
+  -- how many steps a call may make while so many nodes are taken
+  pub most_steps : ℕ → ℕ
+  -- the kinds of step that it may make
+  pub MayMake : Kind → Type 0
+  -- the answers that it may give in place of a first step, and those after a step
+  pub IsAtOnce : Answer → Type 0
+  pub IsAfterStep : Answer → Type 0
+  -- what an answer leaves of the client's snapshot of a cell: of this answer, at this moment, of this cell, the one that it kept before
+  pub linked_then : Answer → History → ℕ → Option History → Option History
+  -- what an answer of client c says, between the steps up to the call's begin and those up to now, with the snapshots that the client keeps
+  pub IsRight : Layout → ℕ → History → History → (ℕ → Option History) → Answer → Type 0
+  -- what an entry of client c does: just before it, with the steps up to the call's begin and the snapshots that the client keeps
+  pub IsEntryFor : Layout → ℕ → History → History → (ℕ → Option History) → Entered → Type 0

@@ -1,0 +1,40 @@
+-- The rules of `llx`.
+use Rattle.std.specs.Prelude.{◌≡◌, ◌≢◌, ℕ, true, cond, eqb, Option}
+use Rattle.arena.specs.declared.layout.Layout.{Layout}
+use Rattle.arena.specs.declared.step.Kind.TheVariants.{Fill}
+use Rattle.arena.specs.History.{History}
+use Rattle.arena.specs.Log.{log, is_final}
+use Rattle.record.specs.declared.record.Answer.{Answer}
+use Rattle.record.specs.declared.record.Answer.TheVariants.{Snapshot, Finalized, Fail}
+use Rattle.record.specs.Answers.{IsSnapshotAt, HasFailed}
+use Rattle.record.specs.Rules.{Rules}
+use Rattle.record.specs.Snapshots.{snapshot_of}
+
+-- an LLX tells something, or fails
+abbrev pub llx_after_step : Answer → Type 0
+llx_after_step (Snapshot left right) = Unit {0}
+llx_after_step Finalized = Unit {0}
+llx_after_step (Fail node scx) = Unit {0}
+llx_after_step _ = ⊥
+
+-- it renews or drops the snapshot of its cell
+abbrev pub llx_linked : ℕ → Answer → History → ℕ → Option History → Option History
+llx_linked cell answer now n old = cond (eqb cell n) (snapshot_of answer now) old
+
+-- what its answers say of the cell
+abbrev pub llx_right : ℕ → Layout → ℕ → History → History → (ℕ → Option History) → Answer → Type 0
+llx_right cell lay c now start linked (Snapshot left right) = IsSnapshotAt lay now cell left.0 right.0
+llx_right cell lay c now start linked Finalized = is_final (log lay now) cell ≡ true
+llx_right cell lay c now start linked (Fail node scx) = HasFailed lay c now start cell node.0 scx.0
+llx_right cell lay c now start linked _ = ⊥
+
+abbrev pub llx_rules : ℕ → Rules
+llx_rules cell = record {
+  most_steps = λ taken. 64;
+  MayMake = λ kind. kind ≢ Fill;
+  IsAtOnce = λ answer. ⊥;
+  IsAfterStep = llx_after_step;
+  linked_then = llx_linked cell;
+  IsRight = llx_right cell;
+  IsEntryFor = λ lay c before start linked e. ⊥;
+}

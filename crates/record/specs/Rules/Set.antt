@@ -1,0 +1,51 @@
+-- The rules of `set`.
+use Rattle.std.specs.Prelude.{◌≡◌, ℕ, true, false, cond, eqb, [], ◌∷◌, Option}
+use Rattle.arena.specs.declared.layout.Layout.{Layout}
+use Rattle.arena.specs.declared.word.Side.{Side}
+use Rattle.arena.specs.declared.step.Kind.TheVariants.{Freeze}
+use Rattle.arena.specs.History.{History, value, EndsWith}
+use Rattle.arena.specs.Log.{Entry as Entered, log, is_final}
+use Rattle.record.specs.declared.record.Answer.{Answer}
+use Rattle.record.specs.declared.record.Answer.TheVariants.{Finalized, Fail, Done, Lost, Full}
+use Rattle.record.specs.Answers.{HasFailed, IsUnchanged, IsInTheWay, IsEmpty, HasRoom}
+use Rattle.record.specs.Rules.{Rules}
+use Rattle.record.specs.Snapshots.{snapshot_of, IsLastLook}
+use Rattle.record.specs.Updates.{IsEntryOver}
+
+-- a set is an LLX, and if that gives a snapshot, an SCX over it
+abbrev pub set_after_step : Answer → Type 0
+set_after_step Finalized = Unit {0}
+set_after_step (Fail node scx) = Unit {0}
+set_after_step (Full what left) = Unit {0}
+set_after_step Done = Unit {0}
+set_after_step (Lost node scx) = Unit {0}
+set_after_step _ = ⊥
+
+-- it drops the snapshot of its cell; one whose share is too small keeps that of its LLX
+abbrev pub set_linked : ℕ × Side → Answer → History → ℕ → Option History → Option History
+set_linked field answer now n old = cond (eqb field.0 n) (snapshot_of answer now) old
+
+-- what its answers say of the cell; of a done one its entry says all
+abbrev pub set_right : ℕ × Side → ℕ → Layout → ℕ → History → History → (ℕ → Option History) → Answer → Type 0
+set_right field value lay c now start linked Finalized = is_final (log lay now) field.0 ≡ true
+set_right field value lay c now start linked (Fail node scx) = HasFailed lay c now start field.0 node.0 scx.0
+set_right field value lay c now start linked (Full what left) = IsEmpty lay c now what left × (is_final (log lay now) field.0 ≡ false)
+set_right field value lay c now start linked (Lost node scx) = HasRoom lay c start × IsInTheWay lay c now start Freeze (field.0 ∷ []) node.0 scx.0 (λ moment. IsLastLook c now start moment field.0 × (is_final (log lay moment) field.0 ≡ false))
+set_right field value lay c now start linked Done = HasRoom lay c start
+set_right field value lay c now start linked _ = ⊥
+
+-- it covers the one cell and sets its field; just before it the cell was as the snapshot of the LLX in the call itself found it
+abbrev pub set_entry : ℕ × Side → ℕ → Layout → ℕ → History → History → (ℕ → Option History) → Entered → Type 0
+set_entry field x lay c before start linked e = IsEntryOver lay c before e (field.0 ∷ []) [] field x × ((moment : History) × EndsWith before moment × IsLastLook c before start moment field.0 × IsUnchanged lay before moment field.0)
+
+-- the steps of an LLX and of an SCX
+abbrev pub set_rules : ℕ × Side → ℕ → Rules
+set_rules field value = record {
+  most_steps = λ taken. 104;
+  MayMake = λ kind. Unit {0};
+  IsAtOnce = λ answer. ⊥;
+  IsAfterStep = set_after_step;
+  linked_then = set_linked field;
+  IsRight = set_right field value;
+  IsEntryFor = set_entry field value;
+}

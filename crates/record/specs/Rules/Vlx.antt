@@ -1,0 +1,46 @@
+-- The rules of `vlx`.
+use Rattle.std.specs.Prelude.{◌≡◌, ℕ, length, Option, Some}
+use Rattle.arena.specs.declared.layout.Layout.{Layout}
+use Rattle.arena.specs.declared.step.Kind.TheVariants.{LoadInfo}
+use Rattle.arena.specs.History.{History}
+use Rattle.script.specs.Cells.{cells_of}
+use Rattle.record.specs.declared.record.Answer.{Answer}
+use Rattle.record.specs.declared.record.Answer.TheVariants.{Same, Changed, Unlinked}
+use Rattle.record.specs.Answers.{AreUnchanged, IsInTheWay, IsFirstChanged}
+use Rattle.record.specs.Rules.{Rules}
+use Rattle.record.specs.Snapshots.{AreLinked, IsFirstUnlinked}
+use Rattle.script.specs.declared.cells.Cells.{Cells}
+
+-- it may be refused before its first step
+abbrev pub vlx_at_once : Answer → Type 0
+vlx_at_once (Unlinked node) = Unit {0}
+vlx_at_once _ = ⊥
+
+-- a VLX tells whether a cell has changed
+abbrev pub vlx_after_step : Answer → Type 0
+vlx_after_step Same = Unit {0}
+vlx_after_step (Changed node scx) = Unit {0}
+vlx_after_step _ = ⊥
+
+-- it leaves all snapshots
+abbrev pub vlx_linked : Answer → History → ℕ → Option History → Option History
+vlx_linked answer now n old = old
+
+-- what its answers say
+abbrev pub vlx_right : Cells → Layout → ℕ → History → History → (ℕ → Option History) → Answer → Type 0
+vlx_right cells lay c now start linked (Unlinked node) = IsFirstUnlinked linked (cells_of cells) node.0
+vlx_right cells lay c now start linked Same = AreUnchanged lay start linked (cells_of cells)
+vlx_right cells lay c now start linked (Changed node scx) = AreLinked linked (cells_of cells) × IsInTheWay lay c now start LoadInfo (cells_of cells) node.0 scx.0 (λ moment. linked node.0 ≡ Some moment) × IsFirstChanged lay start linked (cells_of cells) node.0
+vlx_right cells lay c now start linked _ = ⊥
+
+-- one step a cell, each a look at its info
+abbrev pub vlx_rules : Cells → Rules
+vlx_rules cells = record {
+  most_steps = λ taken. length (cells_of cells);
+  MayMake = λ kind. kind ≡ LoadInfo;
+  IsAtOnce = vlx_at_once;
+  IsAfterStep = vlx_after_step;
+  linked_then = vlx_linked;
+  IsRight = vlx_right cells;
+  IsEntryFor = λ lay c before start linked e. ⊥;
+}

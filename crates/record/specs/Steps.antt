@@ -1,0 +1,34 @@
+-- Turns: a step of a call, or a turn without one.
+use Rattle.std.specs.Prelude.{◌≡◌, ℕ, ◌<◌, suc, ◌⊎◌, List, length, Some, None}
+use Rattle.arena.specs.declared.layout.Layout.{Layout}
+use Rattle.arena.specs.declared.step.Row.{Row as StepRow}
+use Rattle.arena.specs.Lawful.{IsLawful}
+use Rattle.arena.specs.TakenNodes.{taken_nodes}
+use Rattle.script.specs.declared.command.Call.{Call}
+use Rattle.script.specs.declared.command.Command.{Command}
+use Rattle.record.specs.declared.record.Line.{Line}
+use Rattle.record.specs.declared.record.Row.TheVariants.{Step as Made, Idle}
+use Rattle.record.specs.declared.record.Row.{Row}
+use Rattle.record.specs.Turns.{history, turns, answered, begin, steps}
+use Rattle.record.specs.CommandRules.{most_steps, MayMake}
+use Rattle.record.specs.Commands.{next_command}
+
+-- a turn that makes a step, in the client's next call, which has made fewer steps than it may
+pub record IsStep (lay : Layout) (calls : List Call) (lines : List Line) (number : ℕ) (row : StepRow) : Type 0 where
+  pub in_turn : number ≡ suc (turns lines)
+  pub lawful : IsLawful lay (history lay.mode lines) row
+  pub call : row.call ≡ answered lines row.pass.0
+  pub command : Command
+  pub is : next_command calls lines row.pass.0 ≡ Some command
+  pub few : steps lines row.pass.0 < most_steps command (length (taken_nodes (history lay.mode lines)))
+  pub may : MayMake command row.kind
+
+-- a turn without a step: of a client with no call left, or the whole of a call that has not begun
+pub record IsIdle (lay : Layout) (calls : List Call) (lines : List Line) (number c : ℕ) : Type 0 where
+  pub is_pass : c < lay.passes
+  pub in_turn : number ≡ suc (turns lines)
+  pub idle : (next_command calls lines c ≡ None) ⊎ (begin lines c ≡ None)
+
+abbrev pub IsTurn : Layout → List Call → List Line → Row → Type 0
+IsTurn lay calls lines (Made number row) = IsStep lay calls lines number row
+IsTurn lay calls lines (Idle number client) = IsIdle lay calls lines number client.0
