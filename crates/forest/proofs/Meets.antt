@@ -77,12 +77,12 @@ looked_once p x s A table bare y one = record {
     lawful = y.goes.sound;
     calls = y.calls;
     steps = omega arith;
+    blamed_these = refl;
     blames = (called_pass p x s 0 A bare y).blamed;
     usable = can_use_later (sight p) (sight (seated p s)) later y.goes.sound.lawful;
   };
   takes_nothing = called_nothing p s 0 A y;
   one_step = one;
-  blamed = refl;
 }
   where
     later : IsLater (sight p) (sight (seated p s))

@@ -83,12 +83,13 @@ can_use_later old new later l snap u =
     (u.0, usable_since new.layout (run_of new) (run_of old) snap u.0 l later.run (rw e u.1))
 
 -- a call that is refused makes no step
-pub goes_nowhere : {allows : Layout → History → ℕ → Type 0} {mode : Mode} {T : Type 0} (p : Inside T) (x : IsPass allows mode p) (number most : ℕ) → HasGoneOn allows (sight p) (sight p) number most
+pub goes_nowhere : {allows : Layout → History → ℕ → Type 0} {mode : Mode} {T : Type 0} (p : Inside T) (x : IsPass allows mode p) (number most : ℕ) → HasGoneOn allows (sight p) (sight p) number most p.blamed
 goes_nowhere p x number most = record {
   later = record { table = refl; layout = refl; number = refl; run = ends_self (run_of (sight p)) };
   lawful = x.sound;
   calls = calls_start p.number.0 number (run_of (sight p));
   steps = omega arith;
+  blamed_these = refl;
   blames = x.blamed;
   usable = λ snap u. u;
 }
@@ -98,12 +99,13 @@ pub steps_are : (c : ℕ) (lay : Layout) (ps : List Knower) → ps ≡ knower c 
 steps_are c lay ps e = ap steps_of e
 
 -- and it has gone on
-pub called_goes_on : {allows : Layout → History → ℕ → Type 0} {mode : Mode} {T : Type 0} (p : Inside T) (x : IsPass allows mode p) (s : Seat ℕ View) (number : ℕ) (A : History → Type 0) (left most : ℕ) → s.table_id ≡ p.seat.table_id → s.me.1 ≡ p.seat.me.1 → HasCalled allows p s number A → steps_of s.me.0.passes ≤ steps_of p.seat.me.0.passes + left → left ≤ most → HasGoneOn allows (sight p) (sight (seated p s)) number most
+pub called_goes_on : {allows : Layout → History → ℕ → Type 0} {mode : Mode} {T : Type 0} (p : Inside T) (x : IsPass allows mode p) (s : Seat ℕ View) (number : ℕ) (A : History → Type 0) (left most : ℕ) → s.table_id ≡ p.seat.table_id → s.me.1 ≡ p.seat.me.1 → HasCalled allows p s number A → steps_of s.me.0.passes ≤ steps_of p.seat.me.0.passes + left → left ≤ most → HasGoneOn allows (sight p) (sight (seated p s)) number most p.blamed
 called_goes_on p x s number A left most table bare y few small = record {
   later = later;
   lawful = y.goes.sound;
   calls = y.calls;
   steps = let a = steps_are p.number.0 p.layout s.me.0.passes y.seat in let b = steps_are p.number.0 p.layout p.seat.me.0.passes x.seat in omega arith;
+  blamed_these = refl;
   blames = (called_pass p x s number A bare y).blamed;
   usable = can_use_later (sight p) (sight (seated p s)) later y.goes.sound.lawful;
 }

@@ -256,12 +256,13 @@ module _ {T : Type 0} (p : Inside T) (x : IsPass allows_all Records p) (some_nod
   put_alone s a y = y.goes.alone
 
   -- it has gone on
-  pub put_goes_on : (s : Seat ℕ View) (a : Scx) (left most : ℕ) → s.table_id ≡ p.seat.table_id → s.me.1 ≡ p.seat.me.1 → HasPut s a → steps_of s.me.0.passes ≤ steps_of p.seat.me.0.passes + left → left ≤ most → HasGoneOn allows_all (sight p) (sight (spent s)) number most
+  pub put_goes_on : (s : Seat ℕ View) (a : Scx) (left most : ℕ) → s.table_id ≡ p.seat.table_id → s.me.1 ≡ p.seat.me.1 → HasPut s a → steps_of s.me.0.passes ≤ steps_of p.seat.me.0.passes + left → left ≤ most → HasGoneOn allows_all (sight p) (sight (spent s)) number most p.blamed
   put_goes_on s a left most table bare y few small = record {
     later = later;
     lawful = y.goes.sound;
     calls = y.calls;
     steps = let a = steps_are p.number.0 p.layout s.me.0.passes y.seat in let b = steps_are p.number.0 p.layout p.seat.me.0.passes x.seat in omega arith;
+    blamed_these = refl;
     blames = (put_pass s a bare y).blamed;
     usable = can_use_later (sight p) (sight (spent s)) later y.goes.sound.lawful;
   }

@@ -121,12 +121,13 @@ pub record HasBlamed (p : Sight) : Type 0 where
 
 -- What every call leaves
 
--- the call of this number has brought the pass further: the run that it knows goes on from what it knew, and is lawful; its own rows there are of the call, and no more than so many; whom it has blamed is finished; and it may use each snapshot that it could use
-pub record HasGoneOn (allows : Layout → History → ℕ → Type 0) (old new : Sight) (number most : ℕ) : Type 0 where
+-- the call of this number has brought the pass further: the run that it knows goes on from what it knew, and is lawful; its own rows there are of the call, and no more than so many; it has blamed these, and whom it has blamed is finished; and it may use each snapshot that it could use
+pub record HasGoneOn (allows : Layout → History → ℕ → Type 0) (old new : Sight) (number most : ℕ) (blamed : List ℕ) : Type 0 where
   pub later : IsLater old new
   pub lawful : IsRun allows new.layout (run_of new)
   pub calls : AreOfCall new.number number (run_of old) (run_of new)
   pub steps : steps_of new ≤ steps_of old + most
+  pub blamed_these : new.blamed ≡ blamed
   pub blames : HasBlamed new
   pub usable : (snap : Snap) → CanUse old snap → CanUse new snap
 
@@ -175,6 +176,10 @@ AreApart (snap ∷ snaps) = Each (λ other. snap.node.0 ≢ other.node.0) snaps 
 abbrev pub HasNodeOf : List Snap → ℕ → Type 0
 HasNodeOf [] n = ⊥
 HasNodeOf (snap ∷ snaps) n = (snap.node.0 ≡ n) ⊎ HasNodeOf snaps n
+
+-- an SCX over these, of which one is of the node whose field it sets, may be called: they are at most four, of different nodes, and each may be used
+abbrev pub MayPut : Sight → List Snap → ℕ → Type 0
+MayPut p snaps n = (length snaps ≤ 4) × AreApart snaps × HasNodeOf snaps n × Each (CanUse p) snaps
 
 -- What `vlx` says
 
@@ -236,10 +241,9 @@ ScxSays old new snaps finalize field v (Lost node s) = WasChanged Freeze old new
 
 -- by one step, which is of no call (its number is 0), the pass has learned more, and it has blamed nobody
 pub record HasLookedOnce (allows : Layout → History → ℕ → Type 0) (old new : Sight) : Type 0 where
-  pub goes_on : HasGoneOn allows old new 0 1
+  pub goes_on : HasGoneOn allows old new 0 1 old.blamed
   pub takes_nothing : HasTakenNothing old new
   pub one_step : steps_of new ≡ suc (steps_of old)
-  pub blamed : new.blamed ≡ old.blamed
 
 -- what these passes have blamed is in no share of theirs any more
 abbrev pub HaveLeftShares : List Sight → Type 0

@@ -15,10 +15,10 @@ use Rattle.forest.proofs.ScxCalls.{HasPut, put_begins, put_called, put_pass, put
 use Rattle.forest.proofs.forest.Forest+Cells.scx.Goals as goal
 
 pub new-update-requires-clause-distinct : goal.new-update-requires-clause-distinct
-new-update-requires-clause-distinct c = apart_at c.args.snaps.now c.requires.apart
+new-update-requires-clause-distinct c = apart_at c.args.snaps.now c.requires.may.1
 
 pub new-update-requires-clause-among : goal.new-update-requires-clause-among
-new-update-requires-clause-among c = among_at c.args.snaps.now c.args.field.0.0 c.requires.among
+new-update-requires-clause-among c = among_at c.args.snaps.now c.args.field.0.0 c.requires.may.2
 
 -- what is to be put
 abbrev put_of : goal.After-layout-2-1 → Put
@@ -49,7 +49,7 @@ called p = taken_of (sight p)
 -- the call may begin
 begins : (c : goal.After-layout-2-1) (number : ℕ) → PutBegins allows_all (call_of c.pass.inside c.pass.invariant number) c.pass.inside.seat.me.0.passes (run_of c.args.snaps.now (put_of c) number)
 begins c number = let some = c.in-Ok.ensures.some in
-    put_begins c.pass.inside c.pass.invariant some.0 some.1 c.args.snaps.now c.args.finalize.now (c.args.field.0.0, c.args.field.1) c.args.value number _ (is_of c number) refl refl (subst (λ (v : Sight). Each (CanUse v) c.args.snaps.now) (sym c.pass.view_is) c.requires.usable)
+    put_begins c.pass.inside c.pass.invariant some.0 some.1 c.args.snaps.now c.args.finalize.now (c.args.field.0.0, c.args.field.1) c.args.value number _ (is_of c number) refl refl (subst (λ (v : Sight). Each (CanUse v) c.args.snaps.now) (sym c.pass.view_is) c.requires.may.3)
 
 -- its number as the code has it
 named : (c : goal.After-layout-2-1) → called c.pass.inside ≡ c.taken-number.result
@@ -82,7 +82,7 @@ returns-in-Err-clause-goes_on c = rw (← c.pass.view_is, c.in-Err.ensures.full.
 
 pub returns-clause-says : goal.returns-clause-says
 returns-clause-says c = let some = c.in-Ok.ensures.some in
-    rw (← c.pass.view_is, c.in-Ok.ensures.left) (put_says c.pass.inside c.pass.invariant some.0 some.1 c.args.snaps.now c.args.finalize.now (c.args.field.0.0, c.args.field.1) c.args.value (called c.pass.inside) c.call.new.seat c.call.result refl (ended c))
+    rw (← c.pass.view_is, c.in-Ok.ensures.left) (refl, put_says c.pass.inside c.pass.invariant some.0 some.1 c.args.snaps.now c.args.finalize.now (c.args.field.0.0, c.args.field.1) c.args.value (called c.pass.inside) c.call.new.seat c.call.result refl (ended c))
 
 pub returns-clause-alone : goal.returns-clause-alone
 returns-clause-alone c = let some = c.in-Ok.ensures.some in
