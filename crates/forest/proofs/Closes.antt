@@ -24,9 +24,10 @@ use Rattle.forest.specs.Kept.{past, knower, look, looked, Made, Kept, Owns, Behi
 use Rattle.forest.specs.Courses.{known_of, rows_of}
 use Rattle.prims.specs.Shares.{IsShare}
 use Rattle.forest.specs.Shares.{entries_of}
-use Rattle.forest.specs.Passes.{Sight, Ground, ground, AreOf, Each, AreBegun, HasBlamed, HaveLeftShares, IsClosed, run_of, done_of, steps_of}
+use Rattle.forest.specs.Passes.{Sight, Ground, ground, AreOf, AreOfCall, Each, AreBegun, HasBlamed, HaveLeftShares, IsClosed, run_of, done_of, steps_of}
 use Rattle.forest.specs.Gathered.{IsFrom, IsOneOf, AreIn}
 use Rattle.forest.specs.Held.{sight, IsPass}
+use Rattle.forest.proofs.Called.{calls_others}
 use Rattle.forest.proofs.Advances.{keeps_all, rows_by_others, same_knower}
 use Rattle.prims.proofs.Shares.{next_unwon}
 use Rattle.forest.proofs.Calls.{IsQuiet, quiet_start, quiet_other}
@@ -55,6 +56,7 @@ looked_from {allows} {mode} p x s n bare m = (
     ends = y.goes.since;
     done = (called_nothing p s 0 _ y).done;
     steps = look_steps p s (m.others ++ known_of p.seat.me.0.passes) has_looked.behind are;
+    calls = y.calls;
     blamed = x.blamed;
   },
 )
@@ -112,6 +114,7 @@ record IsAtEnd (lay : Layout) (rows : List Row) (d : Sight) : Type 0 where
   ends : EndsWith (past d.layout.mode rows) (run_of d)
   done : entries_of d.number (log d.layout (past d.layout.mode rows)) ≡ done_of d
   steps : rows_of d.number rows ≡ suc (steps_of d)
+  calls : AreOfCall d.number 0 (run_of d) (past d.layout.mode rows)
   same : d.layout ≡ lay
   share : IsShare lay (past lay.mode rows) d.number d.share d.share.next_node d.share.next_scx
   blamed : HasBlamed d
@@ -128,6 +131,7 @@ one_ended {allows} d k lay run same f sound b =
       ends = ends_trans _ _ _ goes.since f.ends;
       done = none ∙ f.done;
       steps = rows_by_others d.number b.0 k.known (rw mine at b.2) ∙ f.steps;
+      calls = calls_others d.number 0 (run_of d) d.layout.mode b.0 k.known (rw mine at b.2) f.calls;
       same = refl;
       share = goes.share;
       blamed = f.blamed;
@@ -142,7 +146,7 @@ all_ended id lay run owner seat ks sound o (d ∷ ds) of a =
 
 all_begun : (lay : Layout) (run : List Row) (ds : List Sight) → Each (IsAtEnd lay run) ds → AreBegun ds run
 all_begun lay run [] a = tt
-all_begun lay run (d ∷ ds) a = (a.0.ends, a.0.done, a.0.steps, all_begun lay run ds a.1)
+all_begun lay run (d ∷ ds) a = (a.0.ends, a.0.done, a.0.steps, a.0.calls, all_begun lay run ds a.1)
 
 -- what they have blamed is taken, and their shares are not
 all_left : (lay : Layout) (rows : List Row) (ds : List Sight) → Lawful lay (past lay.mode rows) → Each (IsAtEnd lay rows) ds → HaveLeftShares ds

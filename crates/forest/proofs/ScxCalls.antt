@@ -4,7 +4,8 @@ use Rattle.atomic_table.specs.declared.shared.Seat.{Seat}
 use Rattle.arena.specs.declared.layout.Layout.{Layout}
 use Rattle.arena.specs.declared.number.NodeNo.{NodeNo}
 use Rattle.arena.specs.declared.word.Side.{Side}
-use Rattle.arena.specs.History.{History, Start, ◌⊳◌, EndsWith}
+use Rattle.arena.specs.Words.{state}
+use Rattle.arena.specs.History.{value, History, Start, ◌⊳◌, EndsWith}
 use Rattle.arena.specs.Fills.{IsOwnNode, IsOwnScx, IsTakenScx}
 use Rattle.arena.specs.Lawful.{Lawful, HasWon}
 use Rattle.arena.specs.Log.{Entry, log, has, IsEntered, AreOnce}
@@ -246,6 +247,7 @@ module _ {T : Type 0} (p : Inside T) (x : IsPass allows_all Records p) (some_nod
   put_says s (Lost n u) is y = (
     was_changed Freeze (sight p) (sight (spent s)) refl refl x.is_pass number _ snaps y.is_of.snaps_are n.0 u.0 (put_changed y.run (call_of p x number) h n u y.answers),
     y.goes.unwon (λ w. aborted_never_won p.layout h y.run.scx.scx.0 y.goes.sound.lawful y.answers.1.aborted (rw y.is_of.record_is w.1)),
+    subst (λ (k : ℕ). value h (state k) ≡ 2) y.is_of.record_is y.answers.1.aborted,
   )
     where
       h : History

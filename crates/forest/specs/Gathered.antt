@@ -8,9 +8,9 @@ use Rattle.forest.specs.declared.view.Knower.{Knower}
 use Rattle.forest.specs.Kept.{past, knower}
 use Rattle.forest.specs.Courses.{rows_of}
 use Rattle.forest.specs.Shares.{IsAtRest, entries_of}
-use Rattle.forest.specs.Passes.{Sight, HasBlamed, run_of, done_of, steps_of}
+use Rattle.forest.specs.Passes.{Sight, AreOfCall, HasBlamed, run_of, done_of, steps_of}
 
--- the pass, one step later, with no entry more
+-- the pass, one step later, which is of no call (its number is 0), with no entry more
 pub record IsFrom (allows : Layout → History → ℕ → Type 0) (p : Sight) (k : Knower) : Type 0 where
   pub is : k ≡ knower p.number p.layout k.known
   pub is_pass : p.number < p.layout.passes
@@ -19,6 +19,7 @@ pub record IsFrom (allows : Layout → History → ℕ → Type 0) (p : Sight) (
   pub ends : EndsWith (past p.layout.mode k.known) (run_of p)
   pub done : entries_of p.number (log p.layout (past p.layout.mode k.known)) ≡ done_of p
   pub steps : rows_of p.number k.known ≡ suc (steps_of p)
+  pub calls : AreOfCall p.number 0 (run_of p) (past p.layout.mode k.known)
   pub blamed : HasBlamed p
 
 abbrev pub IsOneOf : Knower → List Knower → Type 0

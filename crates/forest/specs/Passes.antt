@@ -232,10 +232,10 @@ pub record IsDone (old new : Sight) (snaps : List Snap) (finalize : List NodeNo)
   pub empty_fields : (side : Side) → value before (child e.new side) ≡ 0
   pub found : (i : ℕ) → i < length snaps → IsAsFound new.layout (run_of new) before (snap_at snaps i)
 
--- one entry more, of this call; or none, and a node was changed since its snapshot
+-- one entry more, of this call; or none, then or later, since the SCX-record is aborted, and another was in the way of a node since its snapshot
 abbrev pub ScxSays : Sight → Sight → List Snap → List NodeNo → ℕ × Side → ℕ → Scx → Type 0
 ScxSays old new snaps finalize field v Done = (e : Entry) × IsDone old new snaps finalize field v e
-ScxSays old new snaps finalize field v (Lost node s) = WasChanged Freeze old new snaps node.0 s.0 × (done_of new ≡ done_of old)
+ScxSays old new snaps finalize field v (Lost node s) = WasChanged Freeze old new snaps node.0 s.0 × (done_of new ≡ done_of old) × (value (run_of new) (state old.share.next_scx) ≡ 2)
 
 -- Passes that come together
 
@@ -275,10 +275,10 @@ HasPass passes n = Contains (map (λ (p : Sight). p.number) passes) n
 abbrev pub AreAllBack : Layout → List Sight → Type 0
 AreAllBack lay passes = (n : ℕ) → n < lay.passes → HasPass passes n
 
--- these rows go on from what each of them knew, by one row of its own; its entries in them are those of its done list
+-- these rows go on from what each of them knew, by one row of its own, which is of no call (its number is 0); its entries in them are those of its done list
 abbrev pub AreBegun : List Sight → List Row → Type 0
 AreBegun [] rows = Unit {0}
-AreBegun (p ∷ ps) rows = EndsWith (past p.layout.mode rows) (run_of p) × (entries_of p.number (log p.layout (past p.layout.mode rows)) ≡ done_of p) × (rows_of p.number rows ≡ suc (steps_of p)) × AreBegun ps rows
+AreBegun (p ∷ ps) rows = EndsWith (past p.layout.mode rows) (run_of p) × (entries_of p.number (log p.layout (past p.layout.mode rows)) ≡ done_of p) × (rows_of p.number rows ≡ suc (steps_of p)) × AreOfCall p.number 0 (run_of p) (past p.layout.mode rows) × AreBegun ps rows
 
 -- the words are those of one run, in which the fields are what its log says, and which goes on from what these passes knew; what they have blamed has left their shares
 pub record IsClosed (allows : Layout → History → ℕ → Type 0) (lay : Layout) (passes : List Sight) (words : Contents) : Type 0 where
