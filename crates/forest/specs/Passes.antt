@@ -196,7 +196,7 @@ pub record WasChanged (kind : Kind) (old new : Sight) (snaps : List Snap) (n s :
 abbrev pub AreAsFound : Sight → Sight → List Snap → ℕ → Type 0
 AreAsFound old new snaps k = (i : ℕ) → i < k → IsAsFound new.layout (run_of new) (run_of old) (snap_at snaps i)
 
--- all nodes were as found; or one was not, and those before it were
+-- all nodes were as found; or another SCX-record had come to one of them, and those before it were as found
 abbrev pub VlxSays : Sight → Sight → List Snap → Vlx → Type 0
 VlxSays old new snaps Same = AreAsFound old new snaps (length snaps)
 VlxSays old new snaps (Changed node s) = (c : WasChanged LoadInfo old new snaps node.0 s.0) × AreAsFound old new snaps c.index
