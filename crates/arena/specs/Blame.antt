@@ -6,18 +6,18 @@ use Rattle.arena.specs.History.{History, ◌⊳◌, value, EndsWith}
 use Rattle.arena.specs.ScxRecords.{member, count}
 use Rattle.arena.specs.Fills.{IsNamedScx}
 
--- the SCX-record covers the node
+-- SCX-record s covers node n
 pub record IsMember (h : History) (s n : ℕ) : Type 0 where
   pub index : ℕ
   pub within : index < count h s
   pub is : member h s index ≡ n
 
--- it is in progress: not finished, and an info word names it, or has named it
+-- s is in progress: its state is 0, and an info word names it, or has named it
 pub record IsInProgress (h : History) (s : ℕ) : Type 0 where
   pub unfinished : value h (state s) ≡ 0
   pub named : IsNamedScx h s
 
--- after some row behind the moment `start`, s was in progress and covered n
+-- after some row of h behind the moment `start`, s was in progress and covered n
 pub record WasInTheWay (h start : History) (n s : ℕ) : Type 0 where
   pub row : Row
   pub before : History

@@ -4,7 +4,7 @@ use Rattle.arena.specs.Words.{state}
 use Rattle.arena.specs.History.{History, value}
 use Rattle.arena.specs.ScxRecords.{member, count, is_removed}
 
--- a committed SCX-record finalizes the node: no later row changes a word of it
+-- the node is finalized: a committed SCX-record has it among those that it finalizes
 pub record IsFinalized (h : History) (n : ℕ) : Type 0 where
   pub scx : ℕ
   pub committed : value h (state scx) ≡ 1

@@ -5,7 +5,8 @@ use Rattle.arena.specs.declared.step.Kind.{Kind}
 use Rattle.arena.specs.Words.{info}
 use Rattle.arena.specs.History.{History, ◌⊳◌, value, EndsWith}
 
--- this row of the pass c, of this kind, is on the info of n, and behind it the pass has made none of the kind
+-- the newest row of this kind that the pass c has made is this one, on
+-- the info of n, right after the history `before`
 pub record IsLastStep (c : ℕ) (h : History) (kind : Kind) (n : ℕ) (row : Row) (before : History) : Type 0 where
   pub within : EndsWith h (row ⊳ before)
   pub own : row.pass.0 ≡ c
@@ -13,7 +14,8 @@ pub record IsLastStep (c : ℕ) (h : History) (kind : Kind) (n : ℕ) (row : Row
   pub word : row.word ≡ info n
   pub none_since : (later : Row) (k : History) → EndsWith h (later ⊳ k) → EndsWith k (row ⊳ before) → later.pass.0 ≡ c → later.kind ≢ kind
 
--- of the rows of this kind that the pass c has made behind the moment `start`, the last found s in the info of n
+-- the newest row of this kind that the pass c has made, which is
+-- behind the moment `start`, found s in the info of n
 pub record HasFound (c : ℕ) (h start : History) (kind : Kind) (n s : ℕ) : Type 0 where
   pub row : Row
   pub before : History

@@ -1,4 +1,5 @@
--- Histories: rows over the opening words of a mode, what each word holds after them, and the moments before.
+-- Histories: rows over the opening words of a mode, what each
+-- word holds after them, and the moments before.
 use Rattle.std.specs.Prelude.{◌≡◌, ℕ, cond, ◌⊎◌, List, [], ◌∷◌}
 use Rattle.arena.specs.declared.limits.Mode.{Mode}
 use Rattle.arena.specs.declared.word.Word.{Word}
@@ -7,9 +8,11 @@ use Rattle.arena.specs.Layout.{opening}
 use Rattle.arena.specs.Words.{same_word}
 
 infixr 60 ◌⊳◌
--- `Start mode` has no row yet, and the opening words of that mode; `r ⊳ h` is the history h with the row r after it
+-- the rows made so far, the newest in front, over the opening words of a mode
 pub data History : Type 0 where
+  -- no row yet: every word holds its opening word
   Start : Mode → History
+  -- the history h with the row r after it, written `r ⊳ h`
   ◌⊳◌ : Row → History → History
 
 -- what a word holds after a history: what the last row on that word left in it, or its opening word
@@ -23,12 +26,12 @@ unfolding value
 HasHeld (Start mode) w v = value (Start mode) w ≡ v
 HasHeld (r ⊳ h) w v = (value (r ⊳ h) w ≡ v) ⊎ HasHeld h w v
 
--- m is a moment of the history: the history itself, or the history as it was before some of its rows
+-- m is a moment of the history: the whole of it, or the history as it was before its newest rows
 abbrev pub EndsWith : History → History → Type 0
 EndsWith (Start mode) m = m ≡ Start mode
 EndsWith (r ⊳ h) m = (m ≡ r ⊳ h) ⊎ EndsWith h m
 
--- the history with these rows after it, of which the first comes first
+-- the history with these rows after it, the first of the list made first
 abbrev pub rows_after : History → List Row → History
 rows_after h [] = h
 rows_after h (r ∷ rows) = rows_after (r ⊳ h) rows

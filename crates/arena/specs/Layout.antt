@@ -1,4 +1,5 @@
--- The table of a layout: how many words it has, where each stands, what each holds at the start, and which pass owns what.
+-- The table of a layout: how many words it has, where each stands, what each
+-- holds at the start, and which pass owns what.
 use Rattle.std.specs.Prelude.{ℕ, ◌+◌, ◌*◌, ◌<◌, cond, eqb}
 use Rattle.arena.specs.declared.limits.Mode.{Mode}
 use Rattle.arena.specs.declared.limits.Mode.TheVariants.{Tree, Records}
@@ -11,21 +12,25 @@ use Rattle.arena.specs.declared.word.Word.TheVariants.{Node, Scx}
 pub use Rattle.arena.specs.Opening.{opening_nodes}
 use Rattle.arena.specs.Words.{node_place, scx_place, IsScxWord}
 
--- how many nodes and SCX-records there are; SCX-record 0 is nobody's
+-- how many nodes there are: those of the start, and the share of each pass
 abbrev pub all_nodes : Layout → ℕ
 all_nodes lay = opening_nodes lay.mode + lay.passes * lay.nodes
 
+-- how many SCX-records there are: the dummy, number 0,
+-- which is nobody's, and the share of each pass
 abbrev pub all_scx : Layout → ℕ
 all_scx lay = 1 + lay.passes * lay.scx
 
--- the first node and the first SCX-record of a pass's share
+-- the first node of pass c's share: behind the nodes of
+-- the start and the shares of the passes before
 abbrev pub first_node : Layout → ℕ → ℕ
 first_node lay c = opening_nodes lay.mode + c * lay.nodes
 
+-- the first SCX-record of pass c's share: behind the dummy and the shares of the passes before it
 abbrev pub first_scx : Layout → ℕ → ℕ
 first_scx lay c = 1 + c * lay.scx
 
--- how many words there are
+-- how many words the table has
 abbrev pub table_size : Layout → ℕ
 table_size lay = 7 * all_nodes lay + 14 * all_scx lay
 
@@ -34,12 +39,13 @@ abbrev pub place : Layout → Word → ℕ
 place lay (Node n part) = 7 * n.0 + node_place part
 place lay (Scx s part) = 7 * all_nodes lay + 14 * s.0 + scx_place part
 
--- a word of the table
+-- the table has this word
 abbrev pub IsWord : Layout → Word → Type 0
 IsWord lay (Node n part) = n.0 < all_nodes lay
 IsWord lay (Scx s part) = (s.0 < all_scx lay) × IsScxWord part
 
--- what a word holds at the start: the dummy is aborted; the tree is a root of class 2 over leaves of class 1 and class 2
+-- what a word holds at the start in a tree: node 0 is a root of class 2, over a leaf of class 1 on
+-- its left and a leaf of class 2 on its right; the dummy is aborted; all else is 0
 abbrev pub tree_opening : Word → ℕ
 tree_opening (Node n Head) = cond (eqb n.0 0) 2 (cond (eqb n.0 1) 13 (cond (eqb n.0 2) 14 0))
 tree_opening (Node n (Child Left)) = cond (eqb n.0 0) 1 0
@@ -47,10 +53,12 @@ tree_opening (Node n (Child Right)) = cond (eqb n.0 0) 2 0
 tree_opening (Scx s State) = cond (eqb s.0 0) 2 0
 tree_opening _ = 0
 
+-- what a word holds at the start in cells: 0, but that the dummy is aborted
 abbrev pub records_opening : Word → ℕ
 records_opening (Scx s State) = cond (eqb s.0 0) 2 0
 records_opening _ = 0
 
+-- what a word holds before the first row, in a table of this mode
 abbrev pub opening : Mode → Word → ℕ
 opening Tree w = tree_opening w
 opening Records w = records_opening w

@@ -4,6 +4,8 @@ use Rattle.arena.specs.declared.limits.Limits.{Limits}
 use Rattle.arena.specs.declared.limits.Mode.{Mode}
 use Rattle.arena.specs.declared.layout.Layout.{Layout}
 
+-- limits that a table may have: 1 to 32 passes; of nodes and of SCX-records at most 32,768 for each
+-- pass; 1 to 1,000 tries of a dictionary call
 pub record IsAccepted (limits : Limits) : Type 0 where
   pub some_pass : 1 ≤ limits.passes
   pub passes : limits.passes ≤ 32

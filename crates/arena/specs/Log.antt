@@ -1,4 +1,5 @@
--- The log of a history, and what it says of a node: its fields, its last entry, and whether it is finalized.
+-- The log of a history, and what it says of a node: its
+-- fields, its last entry, and whether it is final.
 use Rattle.std.specs.Prelude.{◌≡◌, ℕ, zero, suc, ◌-◌, ◌/◌, Bool, true, false, cond, ◌&&◌, ◌||◌, eqb, ◌⊎◌, List, [], ◌∷◌, length}
 use Rattle.arena.specs.declared.word.Side.{Side}
 use Rattle.arena.specs.declared.word.NodeWord.TheVariants.{Child}
@@ -14,32 +15,35 @@ use Rattle.arena.specs.Words.{same_word, same_side, scx, info, child}
 use Rattle.arena.specs.History.{History, Start, ◌⊳◌, value}
 use Rattle.arena.specs.ScxRecords.{count, member, is_removed}
 
--- the pass whose share has the SCX-record
+-- the pass whose share has the SCX-record s, for s from 1 on
 abbrev pub owner : Layout → ℕ → ℕ
 owner lay s = (s - 1) / lay.scx
 
--- an update that won: its SCX-record, the pass that owns it and the number of that pass's call, the nodes that it covers and those
--- that it finalizes, the field that it changed, and what it stored there
+-- an update that has won, as it stands in the log
 pub record Entry : Type 0 where
+  -- its SCX-record, the pass that owns that one, and the number of the owner's call
   pub scx : ℕ
   pub owner : ℕ
   pub call : ℕ
+  -- the nodes that it covers, and those of them that it finalizes
   pub members : List ℕ
   pub removed : List ℕ
+  -- the field that it changed, and what it stored there
   pub node : ℕ
   pub side : Side
   pub new : ℕ
 
--- the next k nodes of s from its j-th, and those of them that it finalizes
+-- k nodes of s, from its j-th on
 abbrev pub members_from : History → ℕ → ℕ → ℕ → List ℕ
 members_from h s j zero = []
 members_from h s j (suc k) = member h s j ∷ members_from h s (suc j) k
 
+-- those of the k nodes of s from its j-th on that s finalizes
 abbrev pub removed_from : History → ℕ → ℕ → ℕ → List ℕ
 removed_from h s j zero = []
 removed_from h s j (suc k) = cond (is_removed h s j) (member h s j ∷ removed_from h s (suc j) k) (removed_from h s (suc j) k)
 
--- the entry of an update of s that stores v in that field of n
+-- the entry of an update of s that stores v into that field of n
 abbrev pub entry : Layout → History → ℕ → ℕ → Side → ℕ → Entry
 entry lay h s n side v =
     record {
@@ -53,16 +57,19 @@ entry lay h s n side v =
       new = v;
     }
 
--- what a row adds to the log: an entry where an update changes its field, of the SCX-record that has frozen the field's node
+-- what a row adds to the log: where an update changes its field, an entry of the SCX-record that
+-- the info of the field's node names
 abbrev pub with_row : Layout → History → Row → Kind → Word → List Entry → List Entry
 with_row lay h r Update (Node n (Child side)) es = cond (eqb r.before r.after) es (entry lay h (value h (info n.0)) n.0 side r.after ∷ es)
 with_row lay h r _ _ es = es
 
--- the updates that won, the newest first; the place of an entry is the number of entries up to it
+-- the updates that have won, the newest first; the place
+-- of an entry is the number of entries up to it
 unfoldable pub log : Layout → History → List Entry
 log lay (Start mode) = []
 log lay (r ⊳ h) = with_row lay h r r.kind r.word (log lay h)
 
+-- whether a step of this kind is a fill
 abbrev pub is_fill : Kind → Bool
 is_fill Fill = true
 is_fill _ = false
@@ -72,30 +79,31 @@ unfoldable pub filled : History → Word → ℕ
 filled (Start mode) w = opening mode w
 filled (r ⊳ h) w = cond (is_fill r.kind && same_word r.word w) r.after (filled h w)
 
--- a field that was `start`, after the entries
+-- what the field on this side of n holds after the entries, if it held `start` before them
 abbrev pub field_after : ℕ → List Entry → ℕ → Side → ℕ
 field_after start [] n side = start
 field_after start (e ∷ es) n side = cond (eqb e.node n && same_side e.side side) e.new (field_after start es n side)
 
--- a field of a node: as it was filled, and then changed by the entries of the log in order
+-- a field of a node as the log has it: what it was filled with, changed by the entries in order
 abbrev pub fields : Layout → History → ℕ → Side → ℕ
 fields lay h n side = field_after (filled h (child n side)) (log lay h) n side
 
+-- whether the list has n
 abbrev pub has : List ℕ → ℕ → Bool
 has [] n = false
 has (m ∷ ms) n = eqb m n || has ms n
 
--- the place of the last entry that covers the node, or 0
+-- the place of the last entry that covers the node, counted from 1, or 0 where none does
 abbrev pub last : List Entry → ℕ → ℕ
 last [] n = 0
 last (e ∷ es) n = cond (has e.members n) (suc (length es)) (last es n)
 
--- an entry finalizes the node
+-- whether some entry finalizes the node: it is final
 abbrev pub is_final : List Entry → ℕ → Bool
 is_final [] n = false
 is_final (e ∷ es) n = has e.removed n || is_final es n
 
--- an entry is of s
+-- some entry is of s
 abbrev pub IsEntered : List Entry → ℕ → Type 0
 IsEntered [] s = ⊥
 IsEntered (e ∷ es) s = (e.scx ≡ s) ⊎ IsEntered es s

@@ -12,7 +12,7 @@ use Rattle.arena.specs.History.{History, value}
 use Rattle.arena.specs.Lawful.{Lawful}
 use Rattle.arena.specs.Shape.{Shaped}
 
--- a fact for a step that is asked, and one for an answer
+-- what is said of a turn: P of the step that it asks for, or Q of the call's answer
 abbrev pub MatchTurn : {A : Type 0} → Turn A → (Step → Type 0) → (A → Type 0) → Type 0
 MatchTurn (Ask s) P Q = P s
 MatchTurn (Done a) P Q = Q a
@@ -22,7 +22,8 @@ pub record IsRun (allows : Layout → History → ℕ → Type 0) (lay : Layout)
   pub lawful : Lawful lay h
   pub shaped : Shaped allows lay h
 
--- a call of a machine: the pass that makes it, its number among the pass's calls, and the history at its begin
+-- a call of a machine: the pass that makes it, its number among
+-- the pass's calls, and the history at its begin
 pub record Call : Type 0 where
   pub layout : Layout
   pub pass : ℕ
@@ -30,11 +31,12 @@ pub record Call : Type 0 where
   pub number : ℕ
   pub start : History
 
--- the row of a step that a call makes after a history
+-- the row that a call's step leaves when it is made after the history
 abbrev pub row_of : Call → Step → History → Row
 row_of c s h = record { pass = record { 0 = c.pass }; call = c.number; kind = s.kind; word = s.word; before = value h s.word; after = deed_after s.deed (value h s.word) }
 
--- what a machine may be told of a step that found `found`: of a store anything
+-- v may be told of a step that found `found`: of a load or
+-- an exchange what it found, of a store anything
 abbrev pub IsTold : Deed → ℕ → ℕ → Type 0
 IsTold Load found v = v ≡ found
 IsTold (Store new) found v = Unit {0}

@@ -13,7 +13,7 @@ pub record Contents : Type 0 where
 abbrev pub held : Contents → Word → ℕ
 held c w = slice_index c.words (place c.layout w)
 
--- one word holds this value now, and nothing else is changed
+-- the word holds this value now, and all other words are as they were
 pub record IsChanged (old new : Contents) (word : Word) (value : ℕ) : Type 0 where
   pub layout : new.layout ≡ old.layout
   pub changed : held new word ≡ value

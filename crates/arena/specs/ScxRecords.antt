@@ -1,4 +1,5 @@
--- What the words of an SCX-record say: the nodes that it covers, those that it finalizes, and the field that it changes.
+-- What the words of an SCX-record say: the nodes that it covers, those
+-- that it finalizes, and the field that it changes.
 use Rattle.std.specs.Prelude.{ℕ, ◌/◌, ◌%◌, ◌^◌, ◌<◌, Bool, cond, ◌&&◌, eqb, ltb, leb}
 use Rattle.arena.specs.declared.word.Side.{Side}
 use Rattle.arena.specs.declared.word.Side.TheVariants.{Left, Right}
@@ -7,58 +8,65 @@ use Rattle.arena.specs.declared.word.Word.{Word}
 use Rattle.arena.specs.Words.{scx, child}
 use Rattle.arena.specs.History.{History, value}
 
--- A plan word packs n + 8 * R + 128 * at + 512 * side: how many nodes, a bit for each node that is finalized, which node has the field, and its side.
+-- A plan word packs n + 8 * R + 128 * at + 512 * side: how many nodes, a bit for each node that is
+-- finalized, which node has the field, and its side.
 
--- how many nodes a plan word covers: at most four; a word with more, or of 1024 or more, is no plan and covers none
+-- how many nodes a plan word covers, at most four; a word that says more of them, or is 1024 or
+-- more, is no plan and covers none
 abbrev pub count_of : ℕ → ℕ
 count_of p = cond (ltb p 1024 && leb (p % 8) 4) (p % 8) 0
 
--- whether the j-th node is to be finalized
+-- whether the plan word has the j-th node finalized
 abbrev pub removes : ℕ → ℕ → Bool
 removes p j = eqb (p / 8 / 2 ^ j % 2) 1
 
--- which node has the field
+-- which of the covered nodes has the field: its place among them, 0 to 3
 abbrev pub index_of : ℕ → ℕ
 index_of p = p / 128 % 4
 
--- which field of that node
+-- on which side of its node the field is
 abbrev pub side_of : ℕ → Side
 side_of p = cond (eqb (p / 512) 0) Left Right
 
 -- a plan: of one to four nodes, with those that are finalized and that of the field among them
 pub record IsPlan (p : ℕ) : Type 0 where
   pub some : 0 < count_of p
+  -- it finalizes none beyond the nodes that it covers
   pub removed : p / 8 % 16 < 2 ^ count_of p
   pub field : index_of p < count_of p
 
--- the words of the SCX-record s after a history
+-- the plan word of s after a history
 abbrev pub plan : History → ℕ → ℕ
 plan h s = value h (scx s Plan)
 
+-- the j-th of the nodes that s covers, counted from 0: its `v` word
 abbrev pub member : History → ℕ → ℕ → ℕ
 member h s j = value h (scx s (Member j))
 
+-- what the info of its j-th node held when the owner of s took a snapshot: the `i` word
 abbrev pub seen : History → ℕ → ℕ → ℕ
 seen h s j = value h (scx s (Seen j))
 
+-- what s is to put into its field
 abbrev pub new : History → ℕ → ℕ
 new h s = value h (scx s New)
 
+-- what s expects to find in its field
 abbrev pub old : History → ℕ → ℕ
 old h s = value h (scx s Old)
 
--- how many nodes it covers
+-- how many nodes s covers
 abbrev pub count : History → ℕ → ℕ
 count h s = count_of (plan h s)
 
--- whether it finalizes its j-th node
+-- whether s finalizes its j-th node
 abbrev pub is_removed : History → ℕ → ℕ → Bool
 is_removed h s j = removes (plan h s) j
 
--- which of its nodes has the field
+-- which of the nodes of s has the field: its place among them
 abbrev pub field_index : History → ℕ → ℕ
 field_index h s = index_of (plan h s)
 
--- the word that it changes
+-- the field that s changes
 abbrev pub field : History → ℕ → Word
 field h s = child (member h s (field_index h s)) (side_of (plan h s))

@@ -1,4 +1,5 @@
--- What the layer above asks of a history beside its being lawful: each SCX-record that begins is one that it allows.
+-- What the layer above asks of a history beside its being lawful: each
+-- SCX-record that begins is one that it allows.
 use Rattle.std.specs.Prelude.{◌≡◌, ◌≢◌, ℕ}
 use Rattle.arena.specs.declared.layout.Layout.{Layout}
 use Rattle.arena.specs.declared.step.Row.{Row}
@@ -7,7 +8,7 @@ use Rattle.arena.specs.Words.{info}
 use Rattle.arena.specs.History.{History, Start, ◌⊳◌}
 use Rattle.arena.specs.ScxRecords.{member, seen}
 
--- the row begins s: it is a freezing exchange of the info of the first node of s that wins
+-- the row begins s: it is the freeze of the first node of s, and it wins
 pub record IsBegin (h : History) (r : Row) (s : ℕ) : Type 0 where
   pub kind : r.kind ≡ Freeze
   pub word : r.word ≡ info (member h s 0)

@@ -7,11 +7,12 @@ use Rattle.arena.specs.declared.step.Kind.TheVariants.{Fill}
 use Rattle.arena.specs.History.{History, Start, ◌⊳◌}
 use Rattle.arena.specs.Log.{has}
 
--- the nodes of which a word was filled, the newest first, each once
+-- the list with the word's node in front, if the step is a fill and the list has not got the node
 abbrev pub with_fill : Kind → Word → List ℕ → List ℕ
 with_fill Fill (Node n part) ns = cond (has ns n.0) ns (n.0 ∷ ns)
 with_fill _ _ ns = ns
 
+-- the nodes of which some word was filled, the newest first, each once
 unfoldable pub taken_nodes : History → List ℕ
 taken_nodes (Start mode) = []
 taken_nodes (r ⊳ h) = with_fill r.kind r.word (taken_nodes h)

@@ -32,37 +32,45 @@ scx_place (Member j) = 5 + j
 scx_place (Seen j) = 9 + j
 scx_place Call = 13
 
--- an SCX-record covers at most four nodes
+-- a word that SCX-records have: the `v` and `i` words are
+-- numbered 0 to 3, one of each for a node covered
 abbrev pub IsScxWord : ScxWord → Type 0
 IsScxWord (Member j) = j < 4
 IsScxWord (Seen j) = j < 4
 IsScxWord _ = Unit {0}
 
--- the words by the numbers of their records
+-- this word of node n
 abbrev pub node : ℕ → NodeWord → Word
 node n part = Node record { 0 = n } part
 
+-- this word of SCX-record s
 abbrev pub scx : ℕ → ScxWord → Word
 scx s part = Scx record { 0 = s } part
 
+-- the info of node n, which names the SCX-record that
+-- froze the node last; 0, the dummy, at the start
 abbrev pub info : ℕ → Word
 info n = node n Info
 
+-- the mark of node n: 1 once an SCX-record finalizes the node
 abbrev pub marked : ℕ → Word
 marked n = node n Marked
 
+-- the field of node n on this side, which holds the number of a node, or 0 for none
 abbrev pub child : ℕ → Side → Word
 child n side = node n (Child side)
 
+-- the state of SCX-record s: 0 in progress, 1 committed, 2 aborted
 abbrev pub state : ℕ → Word
 state s = scx s State
 
--- whether two words are the same
+-- whether two sides are the same
 abbrev pub same_side : Side → Side → Bool
 same_side Left Left = true
 same_side Right Right = true
 same_side _ _ = false
 
+-- whether two words have the same name within a node; the two fields differ
 abbrev pub same_node_word : NodeWord → NodeWord → Bool
 same_node_word Head Head = true
 same_node_word Key Key = true
@@ -72,6 +80,7 @@ same_node_word Info Info = true
 same_node_word Marked Marked = true
 same_node_word _ _ = false
 
+-- whether two words have the same name within an SCX-record; `v` and `i` words differ by number too
 abbrev pub same_scx_word : ScxWord → ScxWord → Bool
 same_scx_word State State = true
 same_scx_word AllFrozen AllFrozen = true
@@ -83,13 +92,14 @@ same_scx_word (Seen j) (Seen k) = eqb j k
 same_scx_word Call Call = true
 same_scx_word _ _ = false
 
+-- whether two words are one: the same word of the same node or of the same SCX-record
 abbrev pub same_word : Word → Word → Bool
 same_word (Node n a) (Node m b) = eqb n.0 m.0 && same_node_word a b
 same_word (Scx s a) (Scx t b) = eqb s.0 t.0 && same_scx_word a b
 same_word (Node _ _) (Scx _ _) = false
 same_word (Scx _ _) (Node _ _) = false
 
--- what a word holds after a deed that found `found`
+-- what a word holds after a load, store or exchange that found `found` in it
 abbrev pub deed_after : Deed → ℕ → ℕ
 deed_after Load found = found
 deed_after (Store v) found = v

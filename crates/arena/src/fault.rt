@@ -19,7 +19,7 @@ pub enum Resource {
     Scx,
 }
 
-/// So much of it is left, and that is too little.
+/// A share has too little left for a call: `left` of `what`.
 #[derive(Clone, Copy, Debug, PartialEq, Eq, Error)]
 #[error("share used up")]
 pub struct Full {

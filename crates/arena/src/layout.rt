@@ -10,11 +10,14 @@ use crate::word::{NodeWord, ScxWord, Side, Word};
 #[derive(Clone, Copy, Debug, PartialEq, Eq)]
 pub struct Layout {
     pub mode: Mode,
+    /// How many passes there are, numbered from 0: at most 32.
     pub passes: u32,
+    /// How many nodes each pass owns: at most 32,768.
     pub nodes: u32,
+    /// How many SCX-records each pass owns: at most 32,768.
     pub scx: u32,
-    /// How many words the nodes have. Those of the SCX-records come behind them: reckoned once, since
-    /// each step on such a word needs it.
+    /// How many words the nodes have. Those of the SCX-records come behind them: reckoned once,
+    /// since each step on such a word needs it.
     node_words: u32,
     ghost passes_fit: { passes ≤ 32 },
     ghost nodes_fit: { nodes ≤ 32768 },
@@ -47,7 +50,8 @@ impl Layout {
         }
     }
 
-    /// How many nodes there are from the start: the tree's first three, or node 0 and the cells 1 to 8.
+    /// How many nodes there are from the start: the tree's
+    /// first three, or node 0 and the cells 1 to 8.
     pub fn opening(&self) -> u32
         ensures { result ≡ opening_nodes self.now.mode }
     {

@@ -7,7 +7,9 @@ use crate::layout::Layout;
 /// What a table is for: the tree of a dictionary, or cells that scripts name.
 #[derive(Clone, Copy, Debug, PartialEq, Eq)]
 pub enum Mode {
+    /// Three nodes from the start: a root over two leaves.
     Tree,
+    /// Nodes 0 to 8 from the start, of which 1 to 8 are the cells that scripts name.
     Records,
 }
 
@@ -15,17 +17,24 @@ pub enum Mode {
 /// dictionary call tries.
 #[derive(Clone, Copy, Debug, PartialEq, Eq)]
 pub struct Limits {
+    /// How many passes, each a client of a script or of a thread: 1 to `MOST_PASSES`.
     pub passes: u32,
+    /// How many nodes each pass owns: 0 to `MOST_RECORDS`.
     pub nodes: u32,
+    /// How many SCX-records each pass owns: 0 to `MOST_RECORDS`.
     pub scx: u32,
+    /// How often a dictionary call tries: 1 to `MOST_TRIES`.
     pub tries: u32,
 }
 
 impl Limits {
+    /// The most passes that a table has.
     pub const MOST_PASSES: u32 = 32;
 
+    /// The most nodes that one pass owns, and the most SCX-records.
     pub const MOST_RECORDS: u32 = 32768;
 
+    /// The most tries of one dictionary call.
     pub const MOST_TRIES: u32 = 1000;
 
     ghost use Rattle.arena.specs.Limits.{IsAccepted, IsLayoutOf};

@@ -13,7 +13,9 @@ use crate::step::Step;
 /// What a machine wants next.
 #[derive(Clone, Copy, Debug, PartialEq, Eq)]
 pub enum Turn<A> {
+    /// This step is to be made; `next` is called again with what it found.
     Ask(Step),
+    /// The call has ended with this answer.
     Done(A),
 }
 
@@ -36,6 +38,7 @@ pub trait Shape {
     /// The mode of the tables that have it.
     ghost mode: { Mode };
 
+    /// The SCX-record may begin after this history.
     ghost allows: { Layout → History → ℕ → Type 0 };
 
     /// What such a run keeps true.
@@ -48,10 +51,13 @@ pub trait Shape {
     ghost stays: { (lay : Layout) (h : History) (r : Row) → IsRun allows lay (r ⊳ h) → holds lay h → holds lay (r ⊳ h) };
 }
 
-/// A call that asks for one atomic step at a time, and is told what each found. It runs under the
-/// shape of the layer above. Its conditions are said of the call and of the history so far, which
-/// rows of other passes may lengthen between any two of its own steps.
+/// A call that asks for one atomic step at a time, and is told what each found.
+/// `next(None)` begins it; while it answers `Ask(step)`, the caller makes the step and
+/// goes on with `next(Some(found))`. It runs under the shape of the layer above. Its
+/// conditions are said of the call and of the history so far, which rows of other passes
+/// may lengthen between any two of its own steps.
 pub trait Machine<S: Shape> {
+    /// What a call of it answers.
     type Answer;
 
     /// It may be called with what it is told.
@@ -86,7 +92,8 @@ pub trait Machine<S: Shape> {
     /// Rows of others leave it waiting.
     ghost keeps: { (m : Self) (c : Call) (h : History) (s : Step) (r : Row) → IsRun S.allows c.layout (r ⊳ h) → r.pass.0 ≢ c.pass → waits m c h s → waits m c (r ⊳ h) s };
 
-    /// The step that it waits for is lawful, on a word of the table, and begins only what is allowed.
+    /// The step that it waits for is lawful, on a word
+    /// of the table, and begins only what is allowed.
     ghost lawful: { (m : Self) (c : Call) (h : History) (s : Step) → IsRun S.allows c.layout h → waits m c h s → IsRun S.allows c.layout (row_of c s h ⊳ h) };
 
     /// Once the step is made, it may be called with what that told.

@@ -24,6 +24,7 @@ impl MemberNo {
     ghost use Rattle.std.specs.Prelude.{◌≡◌, ◌+◌, ◌<◌, ◌↔◌, IsSome, IfSome};
     ghost use Rattle.arena.specs.MemberNo.{index_of};
 
+    /// The member of this index; none where it is 4 or more.
     pub fn new(index: usize) -> Option<MemberNo>
         ensures valid { IsSome result ↔ (index < 4) }
         ensures value { IfSome result (λ m. index_of m ≡ index) }
@@ -50,6 +51,7 @@ impl MemberNo {
         }
     }
 
+    /// Its place among the nodes covered, 0 to 3.
     pub fn index(self) -> usize
         ensures value { result ≡ index_of self }
         ensures small { result < 4 }

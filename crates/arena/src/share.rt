@@ -38,6 +38,7 @@ impl Model for Fresh {
 }
 
 impl Fresh {
+    /// The number of the node.
     pub fn node(&self) -> NodeNo
         ensures { result.0 ≡ self.now }
     {

@@ -1,13 +1,17 @@
 //! The words of the table by name.
 use crate::number::{NodeNo, ScxNo};
 
-/// What the word `state` of an SCX-record says.
+/// The word `state` of an SCX-record that is not finished: it
+/// is in progress once an info word has named it.
 pub const IN_PROGRESS: u64 = 0;
 
+/// The word `state` of an SCX-record that is finished, and whose update has won.
 pub const COMMITTED: u64 = 1;
 
+/// The word `state` of an SCX-record that is finished, and whose update will never win.
 pub const ABORTED: u64 = 2;
 
+/// Which of the two fields of a node.
 #[derive(Clone, Copy, Debug, PartialEq, Eq)]
 pub enum Side {
     Left,
@@ -18,29 +22,41 @@ pub enum Side {
 /// only SCX-records change.
 #[derive(Clone, Copy, Debug, PartialEq, Eq)]
 pub enum NodeWord {
+    /// 8 times the level, and 4 for a leaf, and the class; 0 in cells.
     Head,
     Key,
+    /// What a cell holds, or a leaf of the dictionary.
     Value,
+    /// The number of the node below it on that side, or 0 for none.
     Child(Side),
+    /// The number of the SCX-record that froze the node last.
     Info,
+    /// 1 once an SCX-record finalizes the node.
     Marked,
 }
 
 /// A word of an SCX-record. All but the first two are settled before it is shared.
 #[derive(Clone, Copy, Debug, PartialEq, Eq)]
 pub enum ScxWord {
+    /// `IN_PROGRESS`, `COMMITTED` or `ABORTED`.
     State,
+    /// 1 once all its nodes are frozen.
     AllFrozen,
+    /// How many nodes it covers, which it finalizes, and where its field is, packed.
     Plan,
+    /// The node that it puts into its field.
     New,
+    /// The node that it expects in its field.
     Old,
     /// A node that the SCX-record covers: one of four, counted from 0.
     Member(u8),
     /// The info word of that node as its linked snapshot found it.
     Seen(u8),
+    /// The number of the owner's call.
     Call,
 }
 
+/// A word of the table, by its record.
 #[derive(Clone, Copy, Debug, PartialEq, Eq)]
 pub enum Word {
     Node(NodeNo, NodeWord),
