@@ -10,7 +10,7 @@ use Rattle.arena.specs.ScxRecords.{IsPlan}
 use Rattle.arena.specs.Fills.{IsOwnNode, IsOwnScx, IsNamed, IsNamedScx}
 use Rattle.histories.specs.Descriptor.{Descriptor, many, place, spot}
 
--- s is ready for its first freezing exchange, by its owner c
+-- s is ready for its first freeze, by its owner c: no info word has named it yet
 pub record Begins (lay : Layout) (d : Descriptor) (h : History) (c s : ℕ) : Type 0 where
   pub own : IsOwnScx lay c s
   pub free : ¬ IsNamedScx h s
@@ -18,10 +18,16 @@ pub record Begins (lay : Layout) (d : Descriptor) (h : History) (c s : ℕ) : Ty
   pub planned : IsPlan d.plan
   pub inside : (j : ℕ) → j < many d → d.member j < all_nodes lay
   pub distinct : (j k : ℕ) → j < many d → k < many d → j ≢ k → d.member j ≢ d.member k
+  -- what it covers others may know
   pub named : (j : ℕ) → j < many d → IsNamed lay h (d.member j)
+  -- the SCX-records in its `i` words are finished
   pub rest : (j : ℕ) → j < many d → value h (state (d.seen j)) ≢ 0
+  -- a node whose info still is what the snapshot found there has no mark
   pub unmarked : (j : ℕ) → j < many d → value h (info (d.member j)) ≡ d.seen j → value h (marked (d.member j)) ≡ 0
+  -- the field still holds `old` where its node's info still is what the snapshot found there
   pub shows : value h (info (d.member (place d))) ≡ d.seen (place d) → value h (spot d) ≡ d.old
+  -- `new` is a node of the owner's that nobody else
+  -- knows, and that no other SCX-record puts anywhere
   pub new_own : IsOwnNode lay c d.new
   pub new_unnamed : ¬ IsNamed lay h d.new
   pub new_in_no_field : (n : ℕ) (side : Side) → ¬ HasHeld h (child n side) d.new

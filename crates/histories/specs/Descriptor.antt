@@ -6,9 +6,10 @@ use Rattle.arena.specs.Words.{scx, child}
 use Rattle.arena.specs.History.{History, value}
 use Rattle.arena.specs.ScxRecords.{count_of, index_of, side_of, plan, member, seen, new, old}
 
--- the settled words of an SCX-record: those that do not change once an info word has named it
+-- the settled words of an SCX-record, which stay as they are once an info word has named it
 pub record Descriptor : Type 0 where
   pub plan : ℕ
+  -- its `v` words by their index, and its `i` words
   pub member : ℕ → ℕ
   pub seen : ℕ → ℕ
   pub new : ℕ
@@ -23,7 +24,7 @@ descriptor h s = record { plan = plan h s; member = λ j. member h s j; seen = �
 abbrev pub many : Descriptor → ℕ
 many d = count_of d.plan
 
--- which of its nodes has the field
+-- which of its nodes has the field: its place among them
 abbrev pub place : Descriptor → ℕ
 place d = index_of d.plan
 

@@ -9,15 +9,17 @@ use Rattle.arena.specs.Lawful.{Lawful}
 use Rattle.arena.specs.Log.{log, fields, is_final, IsEntered}
 use Rattle.arena.specs.Finalized.{IsFinalized}
 
--- after each row every field of a node holds what the log so far says: what it was filled with, changed by the entries in order
+-- after each row, every field of a node holds what the log so far says: what it was filled with,
+-- changed by the entries in order
 abbrev pub SpellFields : Layout → History → Type 0
 SpellFields lay h = (moment : History) (n : ℕ) (side : Side) → EndsWith h moment → value moment (child n side) ≡ fields lay moment n side
 
--- each word of a node holds what it held at any moment at which the node was final in the log
+-- each word of a node still holds what it held at any moment at which the node was final in the log
 abbrev pub StaysFinal : Layout → History → Type 0
 StaysFinal lay h = (moment : History) (n : ℕ) (part : NodeWord) → EndsWith h moment → is_final (log lay moment) n ≡ true → value h (node n part) ≡ value moment (node n part)
 
--- each word of a node holds what it held at any moment at which a committed SCX-record finalized the node
+-- each word of a node still holds what it held at any moment at
+-- which a committed SCX-record finalized the node
 abbrev pub StaysFinalized : History → Type 0
 StaysFinalized h = (moment : History) (n : ℕ) (part : NodeWord) → EndsWith h moment → IsFinalized moment n → value h (node n part) ≡ value moment (node n part)
 

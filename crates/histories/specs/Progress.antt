@@ -5,16 +5,17 @@ use Rattle.arena.specs.History.{History, value, HasHeld}
 use Rattle.arena.specs.Fills.{IsNamedScx}
 use Rattle.histories.specs.Descriptor.{Descriptor, descriptor, many}
 
--- an SCX-record that an info word names, or has named, other than the dummy
+-- s has begun: it is not the dummy, and an info word names it or has named it
 pub record IsStarted (h : History) (s : ℕ) : Type 0 where
   pub real : s ≢ 0
   pub named : IsNamedScx h s
 
--- s has frozen its j-th node
+-- the j-th node of an SCX-record s with these words was ever frozen for s
 abbrev pub Froze : Descriptor → History → ℕ → ℕ → Type 0
 Froze d h s j = HasHeld h (info (d.member j)) s
 
--- s can never freeze one of its nodes: the next one after those that it has frozen no longer has the info that s has seen there
+-- s can never freeze all its nodes: the first that was never frozen for it no
+-- longer has the info that the snapshot found there
 pub record IsStuck (d : Descriptor) (h : History) (s : ℕ) : Type 0 where
   pub index : ℕ
   pub within : index < many d
@@ -22,6 +23,6 @@ pub record IsStuck (d : Descriptor) (h : History) (s : ℕ) : Type 0 where
   pub unfrozen : ¬ Froze d h s index
   pub passed : value h (info (d.member index)) ≢ d.seen index
 
--- no freezing exchange of s is left to win: it can never freeze one of its nodes, or it is committed
+-- s has no freeze left to win: it can never freeze all its nodes, or it is committed
 abbrev pub IsOver : History → ℕ → Type 0
 IsOver h s = IsStuck (descriptor h s) h s ⊎ (value h (state s) ≡ 1)
