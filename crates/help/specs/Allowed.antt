@@ -1,4 +1,5 @@
--- What the layer above allows of an SCX-record that its owner has not begun, whatever rows come until then.
+-- What the layer above allows of an SCX-record that its owner
+-- has not begun, whatever rows come until then.
 use Rattle.std.specs.Prelude.{◌≡◌, ◌≢◌, ℕ, false, ◌⊎◌}
 use Rattle.arena.specs.declared.layout.Layout.{Layout}
 use Rattle.arena.specs.declared.step.Row.{Row}
@@ -11,26 +12,29 @@ use Rattle.arena.specs.Machines.{IsRun}
 use Rattle.histories.specs.Begins.{Begins}
 use Rattle.histories.specs.Descriptor.{Descriptor, descriptor}
 
--- a row that changes nothing
+-- the row changes nothing
 pub record IsQuiet (r : Row) : Type 0 where
   pub no_fill : is_fill r.kind ≡ false
   pub same : r.after ≡ r.before
 
--- a row that may come before the pass c begins s: of another pass, a fill of a word of s, or one that changes nothing
+-- a row that may come before the pass c begins s: one of another pass, a
+-- fill of a word of s, or one that changes nothing
 abbrev pub IsBetween : ℕ → ℕ → Row → Type 0
 IsBetween c s r = (r.pass.0 ≢ c) ⊎ (IsFillOfScx s r ⊎ IsQuiet r)
 
--- only such rows stand behind h in the later history
+-- the history k goes on from h, with no rows between but such as may come before c begins s
 abbrev pub IsLater : ℕ → ℕ → History → History → Type 0
 IsLater c s h (Start mode) = h ≡ Start mode
 IsLater c s h (r ⊳ k) = (h ≡ r ⊳ k) ⊎ (IsBetween c s r × IsLater c s h k)
 
--- s is allowed with these words whenever its first freezing exchange may win
+-- the layer above allows s with these words whenever its owner's first freeze
+-- may win: after any run that goes on from h by such rows, in which s still is
+-- ready and the first info still is what was found
 abbrev pub IsAllowed : (Layout → History → ℕ → Type 0) → Layout → ℕ → History → ℕ → Descriptor → Type 0
 IsAllowed allows lay c h s d =
     (k : History) → IsLater c s h k → IsRun allows lay k → descriptor k s ≡ d → Begins lay d k c s → value k (info (member k s 0)) ≡ seen k s 0 → allows lay k s
 
--- s is its owner's, and stands ready for its first freezing exchange
+-- s is its owner c's, stands ready for its first freeze, and the layer above will allow it
 pub record IsPrepared (allows : Layout → History → ℕ → Type 0) (lay : Layout) (c : ℕ) (h : History) (s : ℕ) : Type 0 where
   pub begins : Begins lay (descriptor h s) h c s
   pub allowed : IsAllowed allows lay c h s (descriptor h s)

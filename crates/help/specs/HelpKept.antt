@@ -26,12 +26,15 @@ use Rattle.help.specs.declared.state.HelpAt.TheVariants.{Start, Plan as AtPlan, 
 -- Where the words of the SCX-record stay
 
 module _ (h k : History) (m : Reading) (e : descriptor k m.scx ≡ descriptor h m.scx) where
+  -- what is a place among its nodes in k is one in h
   pub fewer : (j : ℕ) → j < count k m.scx → j < count h m.scx
   fewer j i = rw (same_plan h k m.scx e) at i
 
+  -- the nodes that the run has read are still those of the SCX-record
   pub read_more : (n : ℕ) → HasRead m h n → HasRead m k n
   read_more n x i p = x i p ∙ sym (same_member h k m.scx e i)
 
+  -- what kept the run from freezing a node stands as it did, if the pass has made no freeze since
   pub blocked_same : (c n v : ℕ) → ((row : Row) (before : History) → IsLastStep c h Freeze n row before → IsLastStep c k Freeze n row before) → IsBlocked c h m.scx n v → IsBlocked c k m.scx n v
   blocked_same c n v p x = record {
     index = x.index;
@@ -49,14 +52,18 @@ module _ (h k : History) (m : Reading) (e : descriptor k m.scx ≡ descriptor h 
 -- Whatever lawful row comes, of an SCX-record that an info word names
 
 module _ (lay : Layout) (h : History) (r : Row) (l : Lawful lay (r ⊳ h)) where
+  -- the settled words of an SCX-record that has begun are as they were
   pub started_words : (s : ℕ) → IsStarted h s → descriptor (r ⊳ h) s ≡ descriptor h s
   started_words s x = descriptor_stays lay h r s l x.real x.named
 
+  -- nodes that were ever frozen for s are so after the
+  -- row too, where the words of s are as they were
   pub are_frozen_more : (s : ℕ) → descriptor (r ⊳ h) s ≡ descriptor h s → (j : ℕ) → AreFrozen h s j → AreFrozen (r ⊳ h) s j
   are_frozen_more s e j x i p =
       let q : HasHeld (r ⊳ h) (info (member h s i)) s = held_more r h (info (member h s i)) s (x i p) in
       rw (same_member h (r ⊳ h) s e i) q
 
+  -- that all its nodes were frozen stays true
   pub frozen_more : (m : Reading) → Frozen h m → Frozen (r ⊳ h) m
   frozen_more m x =
       let e = started_words m.scx x.started in
@@ -67,6 +74,7 @@ module _ (lay : Layout) (h : History) (r : Row) (l : Lawful lay (r ⊳ h)) where
         read = rw (same_plan h (r ⊳ h) m.scx e) (read_more h (r ⊳ h) m e (count h m.scx) x.read);
       }
 
+  -- that those of its first j nodes which it finalizes are marked stays true
   pub marks_more : (m : Reading) (j : ℕ) → Marks h m j → Marks (r ⊳ h) m j
   marks_more m j x =
       let e = started_words m.scx x.started in
@@ -78,12 +86,14 @@ module _ (lay : Layout) (h : History) (r : Row) (l : Lawful lay (r ⊳ h)) where
         marked = λ i p q t. rw (same_member h (r ⊳ h) m.scx e i) (marked_stays lay h r (member h m.scx i) l (x.marked i p (fewer h (r ⊳ h) m e i q) (rw (same_plan h (r ⊳ h) m.scx e) at t)));
       }
 
+  -- that all it finalizes is marked stays true
   pub all_marked_more : (m : Reading) → Marks h m (count h m.scx) → Marks (r ⊳ h) m (count (r ⊳ h) m.scx)
   all_marked_more m x = rw (same_plan h (r ⊳ h) m.scx (started_words m.scx x.started)) (marks_more m (count h m.scx) x)
 
 -- A row of another pass, or one that changes nothing
 
 module _ (allows : Layout → History → ℕ → Type 0) (lay : Layout) (c : ℕ) (h : History) (r : Row) (is_pass : c < lay.passes) (l : Lawful lay (r ⊳ h)) (o : IsOutside c r) where
+  -- the settled words of the SCX-record that the run serves are as they were
   pub served_words : (s : ℕ) → IsServed allows lay c h s → descriptor (r ⊳ h) s ≡ descriptor h s
   served_words s (inl x) = started_words lay h r l s x
   served_words s (inr x) = free_words lay h r c s l o x.begins
@@ -92,6 +102,7 @@ module _ (allows : Layout → History → ℕ → Type 0) (lay : Layout) (c : �
   served_more s (inl x) = inl (started_more r h s x)
   served_more s (inr x) = inr (prepared_more lay h r c s l allows is_pass o x)
 
+  -- what a run knows on its way to freeze a node stays true
   pub freezes_more : (m : Reading) (j k : ℕ) → Freezes allows lay c h m j k → Freezes allows lay c (r ⊳ h) m j k
   freezes_more m j k x =
       let e = served_words m.scx x.served in
@@ -103,6 +114,7 @@ module _ (allows : Layout → History → ℕ → Type 0) (lay : Layout) (c : �
         read = read_more h (r ⊳ h) m e k x.read;
       }
 
+  -- the settled words of an SCX-record whose owner has lost its first freeze are as they were
   pub lost_words : (s : ℕ) → HasLost lay c h s → descriptor (r ⊳ h) s ≡ descriptor h s
   lost_words s x = go o
     where
@@ -130,7 +142,7 @@ module _ (allows : Layout → History → ℕ → Type 0) (lay : Layout) (c : �
   over_words m P (inl x) = started_words lay h r l m.scx x.0
   over_words m P (inr x) = lost_words m.scx x
 
-  -- where it is no freezing exchange of the pass
+  -- what is known where a freeze has failed stays true, if the row is no freeze of the pass
   blocked_more : (r.pass.0 ≡ c → r.kind ≢ Freeze) → (m : Reading) (j v : ℕ) → Blocked lay c h m j v → Blocked lay c (r ⊳ h) m j v
   blocked_more d m j v x = record {
     over = ⊎_elim (λ y. inl (started_more r h m.scx y.0, over_stays lay h r m.scx l y.0 y.1)) (λ y. inr (lost_more m.scx y)) x.over;
@@ -143,7 +155,7 @@ module _ (allows : Layout → History → ℕ → Type 0) (lay : Layout) (c : �
     blocked = blocked_same h (r ⊳ h) m (over_words m _ x.stuck) c _ v (λ row before y. last_more c h Freeze (node_at m.members j) r row before d y) x.blocked;
   }
 
-  -- so it keeps what is known at each place, where it is no freezing exchange of the pass
+  -- so what is known at each place stays true, if the row is no freeze of the pass
   pub known_more : (m : Reading) (at : HelpAt) → (r.pass.0 ≡ c → r.kind ≢ Freeze) → help_known allows lay c h m at → help_known allows lay c (r ⊳ h) m at
   known_more m Start d k = k
   known_more m AtPlan d k = served_more m.scx k
@@ -177,6 +189,7 @@ module _ (allows : Layout → History → ℕ → Type 0) (lay : Layout) (c : �
   step_more m AtUpdate k = let e = started_words lay h r l m.scx k.started in rw (same_field h (r ⊳ h) m.scx e, same_old h (r ⊳ h) m.scx e, same_new h (r ⊳ h) m.scx e) refl
   step_more m AtCommit k = refl
 
+-- rows of other passes leave a run of HELP waiting for the same step
 pub help_keeps : (allows : Layout → History → ℕ → Type 0) (m : HelpRun) (c : Call) (h : History) (s : Step) (r : Row) → IsRun allows c.layout (r ⊳ h) → r.pass.0 ≢ c.pass → help_waits allows c.layout c.pass m h s → help_waits allows c.layout c.pass m (r ⊳ h) s
 help_keeps allows m c h s r run other w = record {
   known = known_more allows c.layout c.pass h r c.is_pass run.lawful (inl other) (reading m) m.at (λ e. absurd (other e)) w.known;

@@ -28,29 +28,32 @@ use Rattle.help.specs.declared.state.HelpRun.{HelpRun}
 use Rattle.help.specs.declared.state.HelpAt.{HelpAt}
 use Rattle.help.specs.declared.state.HelpAt.TheVariants.{Start, Plan as AtPlan, Member as AtMember, Seen as AtSeen, Freeze as AtFreeze, AllFrozen as AtAllFrozen, Abort as AtAbort, SetFrozen as AtSetFrozen, Mark as AtMark, New as AtNew, Old as AtOld, Update as AtUpdate, Commit as AtCommit}
 
--- a helper's SCX-record is named by an info word, an owner's may still be ready to begin
+-- the run may go on with s: an info word names it or has named
+-- it, or it is the owner's own and ready to begin
 abbrev pub IsServed : (Layout → History → ℕ → Type 0) → Layout → ℕ → History → ℕ → Type 0
 IsServed allows lay c h s = IsStarted h s ⊎ IsPrepared allows lay c h s
 
--- what a run of HELP has read of its SCX-record: the plan, and the nodes, of which it reads one after the other
+-- what a run of HELP has read of its SCX-record so far: the
+-- plan word, and the nodes, one after the other
 pub record Reading : Type 0 where
   pub scx : ℕ
   pub plan : ℕ
   pub members : List NodeNo
 
--- it does not say where the run stands
+-- what a run of HELP has read, without the place where it stands
 abbrev pub reading : HelpRun → Reading
 reading m = record { scx = m.scx.0; plan = m.plan.0; members = m.members }
 
--- the number of a node in the list
+-- the number of the i-th node in the list, 0 beyond its end
 abbrev pub node_at : List NodeNo → ℕ → ℕ
 node_at nodes i = (get_or nodes i record { 0 = 0 }).0
 
--- the run has read the first k nodes of its SCX-record
+-- the first k nodes that the run has read are those of its SCX-record
 abbrev pub HasRead : Reading → History → ℕ → Type 0
 HasRead m h k = (i : ℕ) → i < k → node_at m.members i ≡ member h m.scx i
 
--- on its way to freeze the j-th node, the run has read the first k
+-- on its way to freeze the j-th node: those before it
+-- were frozen, and the first k nodes have been read
 pub record Freezes (allows : Layout → History → ℕ → Type 0) (lay : Layout) (c : ℕ) (h : History) (m : Reading) (j k : ℕ) : Type 0 where
   pub served : IsServed allows lay c h m.scx
   pub plan : plan h m.scx ≡ m.plan
@@ -58,7 +61,8 @@ pub record Freezes (allows : Layout → History → ℕ → Type 0) (lay : Layou
   pub frozen : AreFrozen h m.scx j
   pub read : HasRead m h k
 
--- the owner has lost its first freezing exchange
+-- the pass c owns s, which has never begun, and the info of its first node is no longer what the
+-- snapshot found there: its first freeze is lost
 pub record HasLost (lay : Layout) (c : ℕ) (h : History) (s : ℕ) : Type 0 where
   pub own : IsOwnScx lay c s
   pub free : ¬ IsNamedScx h s
@@ -67,7 +71,8 @@ pub record HasLost (lay : Layout) (c : ℕ) (h : History) (s : ℕ) : Type 0 whe
   pub rest : value h (state (seen h s 0)) ≢ 0
   pub passed : value h (info (member h s 0)) ≢ seen h s 0
 
--- the last freezing exchange of the pass c was on this node, which the SCX-record covered already, and found in its info something else, and not what the SCX-record has seen there
+-- the last freeze that the pass c has tried was of the node n, which s covers, and found v there,
+-- which is neither what the snapshot had found nor s
 pub record IsBlocked (c : ℕ) (h : History) (s n v : ℕ) : Type 0 where
   pub index : ℕ
   pub within : index < count h s
@@ -77,27 +82,30 @@ pub record IsBlocked (c : ℕ) (h : History) (s n v : ℕ) : Type 0 where
   pub row : Row
   pub before : History
   pub last : IsLastStep c h Freeze n row before
+  -- s covered that node already when the freeze was tried
   pub covered : index < count before s
   pub found : value before (info n) ≡ v
 
--- what is known of it: that it is over, or that it never begins
+-- the freeze of the j-th node has failed, with v in its info, and s will win no freeze any more: it
+-- can never freeze all its nodes or is committed, or its first freeze is lost
 pub record Blocked (lay : Layout) (c : ℕ) (h : History) (m : Reading) (j v : ℕ) : Type 0 where
   pub over : (IsStarted h m.scx × IsOver h m.scx) ⊎ HasLost lay c h m.scx
   pub blocked : IsBlocked c h m.scx (node_at m.members j) v
 
--- it can be aborted
+-- the same where s is not committed, so that it may be
+-- aborted: one of its nodes can never be frozen
 pub record Aborts (lay : Layout) (c : ℕ) (h : History) (m : Reading) (j v : ℕ) : Type 0 where
   pub stuck : (IsStarted h m.scx × IsStuck (descriptor h m.scx) h m.scx) ⊎ HasLost lay c h m.scx
   pub blocked : IsBlocked c h m.scx (node_at m.members j) v
 
--- all its nodes are frozen
+-- s has begun, all its nodes were frozen for it, and the run has read all of them
 pub record Frozen (h : History) (m : Reading) : Type 0 where
   pub started : IsStarted h m.scx
   pub plan : plan h m.scx ≡ m.plan
   pub frozen : AllAreFrozen h m.scx
   pub read : HasRead m h (count h m.scx)
 
--- its flag is set, and those of its first j nodes that it finalizes are marked
+-- `allfrozen` of s is set, and those of its first j nodes that it finalizes are marked
 pub record Marks (h : History) (m : Reading) (j : ℕ) : Type 0 where
   pub started : IsStarted h m.scx
   pub plan : plan h m.scx ≡ m.plan
@@ -105,11 +113,11 @@ pub record Marks (h : History) (m : Reading) (j : ℕ) : Type 0 where
   pub flag : value h (scx m.scx AllFrozen) ≡ 1
   pub marked : (i : ℕ) → i < j → i < count h m.scx → is_removed h m.scx i ≡ true → value h (marked (member h m.scx i)) ≡ 1
 
--- all that it finalizes are marked
+-- `allfrozen` of s is set, and all nodes that it finalizes are marked
 abbrev pub Marked : History → Reading → Type 0
 Marked h m = Marks h m (count h m.scx)
 
--- what is known while the run waits at a place
+-- what holds while the run waits at this place
 abbrev pub help_known : (Layout → History → ℕ → Type 0) → Layout → ℕ → History → Reading → HelpAt → Type 0
 help_known allows lay c h m Start = ⊥
 help_known allows lay c h m AtPlan = IsServed allows lay c h m.scx
@@ -125,11 +133,11 @@ help_known allows lay c h m (AtOld v) = Marked h m × (new h m.scx ≡ v)
 help_known allows lay c h m AtUpdate = Marked h m
 help_known allows lay c h m AtCommit = IsStarted h m.scx × HasWon h m.scx
 
--- a load of a settled word of s
+-- the load of a settled word of s
 abbrev pub settled_load : ℕ → ScxWord → Step
 settled_load s part = record { kind = LoadSettled; word = scx s part; deed = Load }
 
--- the step that it waits for
+-- the step that a run for s waits for at this place
 abbrev pub help_step : History → ℕ → HelpAt → Step
 help_step h s Start = settled_load s Plan
 help_step h s AtPlan = settled_load s Plan
@@ -145,23 +153,26 @@ help_step h s (AtOld v) = settled_load s Old
 help_step h s AtUpdate = record { kind = Update; word = field h s; deed = Exchange (old h s) (new h s) }
 help_step h s AtCommit = record { kind = Commit; word = state s; deed = Store 1 }
 
--- at this place it may wait for this step
+-- at this place the run may wait for this step: what the
+-- place needs holds, and the step is the place's
 pub record help_waits_at (allows : Layout → History → ℕ → Type 0) (lay : Layout) (c : ℕ) (h : History) (m : Reading) (at : HelpAt) (step : Step) : Type 0 where
   pub known : help_known allows lay c h m at
   pub asked : step ≡ help_step h m.scx at
 
+-- the run waits for this step where it stands
 abbrev pub help_waits : (Layout → History → ℕ → Type 0) → Layout → ℕ → HelpRun → History → Step → Type 0
 help_waits allows lay c m h step = help_waits_at allows lay c h (reading m) m.at step
 
--- what is known once the freezing exchange of the j-th node has found v where `seen` is expected
+-- the freeze of the j-th node has found v where `expected` was expected
 pub record HasTried (lay : Layout) (c : ℕ) (h : History) (m : Reading) (j v expected : ℕ) : Type 0 where
   pub plan : plan h m.scx ≡ m.plan
   pub within : j < count h m.scx
   pub read : HasRead m h (suc j)
+  -- it was frozen for s, now or by another client before
   pub won : (v ≡ expected) ⊎ (v ≡ m.scx) → IsStarted h m.scx × AreFrozen h m.scx (suc j)
   pub lost : v ≢ expected → v ≢ m.scx → Blocked lay c h m j v
 
--- what is known once the step of a place has told v
+-- what holds once the step of this place has told v
 abbrev pub help_told : (Layout → History → ℕ → Type 0) → Layout → ℕ → History → Reading → HelpAt → ℕ → Type 0
 help_told allows lay c h m Start v = ⊥
 help_told allows lay c h m AtPlan v = IsServed allows lay c h m.scx × (plan h m.scx ≡ v)
@@ -177,52 +188,57 @@ help_told allows lay c h m (AtOld found) v = Marked h m × (new h m.scx ≡ foun
 help_told allows lay c h m AtUpdate v = IsStarted h m.scx × HasWon h m.scx
 help_told allows lay c h m AtCommit v = value h (state m.scx) ≡ 1
 
+-- the run may be called with this: with nothing at its start, then with what its step told
 abbrev pub help_ready : (Layout → History → ℕ → Type 0) → Layout → ℕ → HelpRun → History → Option ℕ → Type 0
 help_ready allows lay c m h None = (m.at ≡ Start) × IsServed allows lay c h m.scx.0
 help_ready allows lay c m h (Some v) = help_told allows lay c h (reading m) m.at v
 
--- the run stands where it could not freeze a node
+-- the run stands behind its abort, and this is what kept it from freezing a node
 abbrev pub HasNoted : ℕ → History → Reading → HelpAt → Type 0
 HasNoted c h m (AtAbort j found) = IsBlocked c h m.scx (node_at m.members (index_of j)) found
 HasNoted c h m _ = ⊥
 
--- true: it is committed; false: it is aborted, has no entry, and a node was not as it had seen it
+-- the run has answered false: s is aborted, has no entry in the
+-- log, and a freeze of one of its nodes has failed
 pub record HasAborted (lay : Layout) (c : ℕ) (h : History) (m : Reading) (at : HelpAt) : Type 0 where
   pub aborted : value h (state m.scx) ≡ 2
   pub no_entry : ¬ IsEntered (log lay h) m.scx
   pub blocked : HasNoted c h m at
 
+-- what the answer says: true, that s is committed; false, that it is aborted and why
 abbrev pub help_answers : Layout → ℕ → HelpRun → History → Bool → Type 0
 help_answers lay c m h true = value h (state m.scx.0) ≡ 1
 help_answers lay c m h false = HasAborted lay c h (reading m) m.at
 
--- the node that could not be frozen, and what its info named
+-- the node that could not be frozen and the SCX-record that its info
+-- named, once the run has aborted; else 0 and 0
 abbrev pub blocked_at : List NodeNo → HelpAt → NodeNo × ScxNo
 blocked_at nodes (AtAbort j found) = (get_or nodes (index_of j) record { 0 = 0 }, record { 0 = found })
 blocked_at nodes _ = (record { 0 = 0 }, record { 0 = 0 })
 
--- The run stands at a place and waits for a step
+-- the run goes to this place, keeps all else, and asks for this step
 pub record Asks (old now : HelpRun) (turn : Turn Bool) (at : HelpAt) (step : Step) : Type 0 where
   pub stands : now ≡ record old { at = at }
   pub asked : turn ≡ Ask step
 
--- the places from j on, or none
+-- the number of this place among the four, or 4 for none
 abbrev pub first_place : Option MemberNo → ℕ
 first_place None = 4
 first_place (Some j) = index_of j
 
--- it goes on to the node behind the j-th, or sets the flag behind the last
+-- the plan covers a node behind the j-th, and the run asks for its `v` word next
 pub record HasNext (old now : HelpRun) (turn : Turn Bool) (j : MemberNo) : Type 0 where
   pub next : MemberNo
   pub is : index_of next ≡ suc (index_of j)
   pub within : index_of next < planned old.plan.0
   pub asks : Asks old now turn (AtMember next) (settled_load old.scx.0 (Member (index_of next)))
 
+-- the j-th node is the last that the plan covers, and the run asks to set `allfrozen` next
 pub record IsLast (old now : HelpRun) (turn : Turn Bool) (j : MemberNo) : Type 0 where
   pub none : (index_of j < 3) × (suc (index_of j) < planned old.plan.0) → ⊥
   pub asks : Asks old now turn AtSetFrozen record { kind = SetFrozen; word = scx old.scx.0 AllFrozen; deed = Store 1 }
 
--- it marks the first node to be finalized from a place on, or goes on to the update
+-- the run asks to mark the first node to be finalized from the place `from` on
 pub record MarksNext (old now : HelpRun) (turn : Turn Bool) (from : ℕ) : Type 0 where
   pub next : MemberNo
   pub behind : from ≤ index_of next
@@ -230,6 +246,7 @@ pub record MarksNext (old now : HelpRun) (turn : Turn Bool) (from : ℕ) : Type 
   pub first : (i : ℕ) → from ≤ i → i < index_of next → removed old.plan.0 i ≡ false
   pub asks : Asks old now turn (AtMark next) record { kind = Mark; word = marked (node_at old.members (index_of next)); deed = Store 1 }
 
+-- no node is to be finalized from the place `from` on, and the run asks for `new`
 pub record MarksNone (old now : HelpRun) (turn : Turn Bool) (from : ℕ) : Type 0 where
   pub none : (i : ℕ) → from ≤ i → i < 4 → removed old.plan.0 i ≡ false
   pub asks : Asks old now turn AtNew (settled_load old.scx.0 New)

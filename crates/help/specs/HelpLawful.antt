@@ -29,13 +29,14 @@ use Rattle.help.specs.declared.state.HelpRun.{HelpRun}
 use Rattle.help.specs.declared.state.HelpAt.{HelpAt}
 use Rattle.help.specs.declared.state.HelpAt.TheVariants.{Start, Plan as AtPlan, Member as AtMember, Seen as AtSeen, Freeze as AtFreeze, AllFrozen as AtAllFrozen, Abort as AtAbort, SetFrozen as AtSetFrozen, Mark as AtMark, New as AtNew, Old as AtOld, Update as AtUpdate, Commit as AtCommit}
 
+-- a place among the nodes covered is below 4
 pub index_small : (j : MemberNo) → index_of j < 4
 index_small First = omega arith
 index_small Second = omega arith
 index_small Third = omega arith
 index_small Fourth = omega arith
 
--- none of its steps is a look at an info word
+-- no step of HELP loads an info word
 pub help_looks_not : (h : History) (s : ℕ) (at : HelpAt) → (help_step h s at).kind ≢ LoadInfo
 help_looks_not h s Start = λ e. cc
 help_looks_not h s AtPlan = λ e. cc
@@ -51,10 +52,11 @@ help_looks_not h s (AtOld v) = λ e. cc
 help_looks_not h s AtUpdate = λ e. cc
 help_looks_not h s AtCommit = λ e. cc
 
+-- the row of an exchange is an exchange: it stores v where it finds e
 pub exchange_of : (c : Call) (h : History) (s : Step) (e v : ℕ) → s.deed ≡ Exchange e v → IsExchange (row_of c s h) e v
 exchange_of c h s e v q = rw q record { won = λ x. exchange_won e v (value h s.word) x; lost = λ x. exchange_lost e v (value h s.word) x }
 
--- a stuck SCX-record has no flag
+-- an SCX-record that can never freeze all its nodes has not set `allfrozen`
 pub stuck_unset : (lay : Layout) (h : History) (s : ℕ) → Lawful lay h → IsStuck (descriptor h s) h s → value h (scx s AllFrozen) ≡ 0
 stuck_unset lay h s l x = go (ℕ_discrete (value h (scx s AllFrozen)) 0)
   where
@@ -78,7 +80,7 @@ module _ (allows : Layout → History → ℕ → Type 0) (c : Call) (h : Histor
   node_inside j (inl x) i = (about c.layout h m.scx l x).inside j i
   node_inside j (inr x) i = x.begins.inside j i
 
-  -- an owner that has not begun freezes the first node
+  -- where the owner has not begun yet, the node to freeze is the first
   pub at_first : (j : ℕ) → IsPrepared allows c.layout c.pass h m.scx → AreFrozen h m.scx j → j ≡ 0
   at_first j x p = go (ℕ_discrete j 0)
     where
@@ -112,6 +114,7 @@ module _ (allows : Layout → History → ℕ → Type 0) (c : Call) (h : Histor
       go (inl y) = over_aborts c.layout h r m.scx l y.0 (inl y.1) (stuck_unset c.layout h m.scx l y.1) refl refl
       go (inr y) = (0, owner_aborts c.layout h r m.scx l y.own y.free y.some y.passed refl refl)
 
+  -- the step at the place of the update is a lawful try of it
   pub update_at : Marks h m (count h m.scx) → IsUpdate h (row_of c (help_step h m.scx AtUpdate) h) m.scx
   update_at x = record { word = refl; all_frozen = x.flag; all_marked = λ j i q. x.marked j i i q; exchange = exchange_of c h (help_step h m.scx AtUpdate) (old h m.scx) (new h m.scx) refl }
 
@@ -172,15 +175,18 @@ module _ (allows : Layout → History → ℕ → Type 0) (c : Call) (h : Histor
   begins_at AtUpdate u w k f g = no_begin _ Update u refl (λ e. cc) g
   begins_at AtCommit u w k f g = no_begin _ Commit u refl (λ e. cc) g
 
+  -- the step that the run waits for continues the run:
+  -- it is lawful, and begins only what is allowed
   pub run_at : (at : HelpAt) → Shaped allows c.layout h → help_known allows c.layout c.pass h m at → IsRun allows c.layout (row_of c (help_step h m.scx at) h ⊳ h)
   run_at at w k =
       let x : Lawful c.layout (row_of c (help_step h m.scx at) h ⊳ h) = lawful_more c.layout h (row_of c (help_step h m.scx at) h) l (lawful_at at k) in
       record { lawful = x; shaped = shaped_more allows c.layout h (row_of c (help_step h m.scx at) h) x w (λ u f g. begins_at at u w k f g) }
 
+-- so does the step that a run of HELP waits for
 pub help_lawful : (allows : Layout → History → ℕ → Type 0) (m : HelpRun) (c : Call) (h : History) (s : Step) → IsRun allows c.layout h → help_waits allows c.layout c.pass m h s → IsRun allows c.layout (row_of c s h ⊳ h)
 help_lawful allows m c h s run w = rw w.asked (run_at allows c h (reading m) run.lawful m.at run.shaped w.known)
 
--- HELP never asks for a fill
+-- no step of HELP is a fill, place by place
 fills_not_at : (h : History) (s : ℕ) (at : HelpAt) → (help_step h s at).kind ≢ Fill
 fills_not_at h s Start e = cc
 fills_not_at h s AtPlan e = cc
@@ -196,5 +202,6 @@ fills_not_at h s (AtOld v) e = cc
 fills_not_at h s AtUpdate e = cc
 fills_not_at h s AtCommit e = cc
 
+-- no step that a run of HELP waits for is a fill
 pub help_fills_not : (allows : Layout → History → ℕ → Type 0) (m : HelpRun) (c : Call) (h : History) (s : Step) → help_waits allows c.layout c.pass m h s → s.kind ≢ Fill
 help_fills_not allows m c h s w e = fills_not_at h m.scx.0 m.at (ap (λ (t : Step). t.kind) (sym w.asked) ∙ e)

@@ -179,6 +179,7 @@ module _ (allows : Layout → History → ℕ → Type 0) (c : Call) (h : Histor
   made_at AtUpdate v l t k = (started_more (row_of c (help_step h m.scx AtUpdate) h) h m.scx k.started, won_after c.layout h (row_of c (help_step h m.scx AtUpdate) h) m.scx l refl (update_at allows c h m (lawful_tail c.layout h _ l) k))
   made_at AtCommit v l t k = value_at (row_of c (help_step h m.scx AtCommit) h) h (state m.scx) refl
 
+-- once the step is made, the run of HELP may be called with what it told
 pub help_made : (allows : Layout → History → ℕ → Type 0) (m : HelpRun) (c : Call) (h : History) (s : Step) (v : ℕ) → IsRun allows c.layout (row_of c s h ⊳ h) → IsTold s.deed (value h s.word) v → help_waits allows c.layout c.pass m h s → help_ready allows c.layout c.pass m (row_of c s h ⊳ h) (Some v)
 help_made allows m c h s v run t w =
     let l : Lawful c.layout (row_of c (help_step h m.scx.0 m.at) h ⊳ h) = rw w.asked at run.lawful in

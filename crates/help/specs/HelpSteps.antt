@@ -4,7 +4,8 @@ use Rattle.arena.specs.MemberNo.{index_of}
 use Rattle.help.specs.declared.state.HelpAt.{HelpAt}
 use Rattle.help.specs.declared.state.HelpAt.TheVariants.{Start, Plan, Member, Seen, Freeze, AllFrozen, Abort, SetFrozen, Mark, New, Old, Update, Commit}
 
--- with three steps for each node, and one more for each that is marked
+-- how many steps a run of HELP may still ask for at this place: three for each node that is left,
+-- one for each that may be marked, and then four up to the commit
 abbrev pub help_left : HelpAt → ℕ
 help_left Start = 22
 help_left Plan = 21

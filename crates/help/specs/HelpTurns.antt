@@ -1,4 +1,5 @@
--- From place to place of a run of HELP: what it has been told at one is what it must know at the next.
+-- From place to place of a run of HELP: what it has been told at one is what it must know at the
+-- next.
 use Rattle.std.proofs.Common.{◌≡◌, ◌≢◌, ℕ, suc, ◌<◌, ◌≤◌, zero, eqb-true, pow_mono, ◌+◌, ◌/◌, ◌%◌, ◌^◌, ◌⊎◌, inl, inr, ⊎_elim, refl, sym, ◌∙◌, ap, arith, false, true, length, ◌↔◌, Option, Some, None, IsSome, IfSome}
 use Rattle.std.proofs.lemmas.List.{get_or-set_same, get_or-set_other}
 use Rattle.std.specs.Prelude.{slice_set}
@@ -93,9 +94,11 @@ module _ (allows : Layout → History → ℕ → Type 0) (lay : Layout) (c : �
 
   -- Its answers
 
+  -- where a node could not be frozen and `allfrozen` is found set, the SCX-record is committed
   pub to_committed : (j : MemberNo) (found v : ℕ) → v ≢ 0 → help_told allows lay c h m (AtAllFrozen j found) v → value h (state m.scx) ≡ 1
   to_committed j found v d t = ⊎_elim (λ x. over_committed lay h m.scx l x.1 (λ e. d (sym t.1 ∙ e))) (λ x. absurd (d (sym t.1 ∙ free_unset lay h m.scx l x.free))) t.0.over
 
+  -- once its abort is made it is aborted, has no entry, and it is known what was in its way
   pub to_aborted : (j : MemberNo) (found v : ℕ) → help_told allows lay c h m (AtAbort j found) v → HasAborted lay c h m (AtAbort j found)
   to_aborted j found v t = record { aborted = t.0; no_entry = aborted_no_entry lay h h m.scx l (ends_self h) t.0; blocked = t.1 }
 
@@ -104,20 +107,25 @@ module _ (allows : Layout → History → ℕ → Type 0) (lay : Layout) (c : �
 module _ {allows : Layout → History → ℕ → Type 0} {lay : Layout} {c : ℕ} {h : History} (m : Reading) (l : Lawful lay h) where
   -- The plan
 
+  -- from the start, the run goes on to load the plan
   pub to_plan : IsServed allows lay c h m.scx → help_waits_at allows lay c h m AtPlan (settled_load m.scx Plan)
   to_plan x = record { known = x; asked = refl }
 
+  -- once it has read the plan, it loads the first `v` word
   pub to_member : (v : ℕ) → help_told allows lay c h m AtPlan v → help_waits_at allows lay c h (record m { plan = v }) (AtMember First) (settled_load m.scx (Member 0))
   to_member v t = record { known = record { served = t.0; plan = t.1; within = some_node allows lay c h m l t.0; frozen = λ i p. absurd (omega arith); read = λ i p. absurd (omega arith) }; asked = refl }
 
   -- A node is frozen
 
+  -- once it has read a node, it loads that node's `i` word
   pub to_seen : (j : MemberNo) (v : ℕ) → index_of j < length m.members → help_told allows lay c h m (AtMember j) v → help_waits_at allows lay c h (record m { members = slice_set m.members (index_of j) record { 0 = v } }) (AtSeen j) (settled_load m.scx (Seen (index_of j)))
   to_seen j v inside t = record { known = record { served = t.0.served; plan = t.0.plan; within = t.0.within; frozen = t.0.frozen; read = read_one_more h m (index_of j) v inside t.0.read t.1 }; asked = refl }
 
+  -- once it has read an `i` word, it tries to freeze the node
   pub to_freeze : (j : MemberNo) (v : ℕ) → help_told allows lay c h m (AtSeen j) v → help_waits_at allows lay c h m (AtFreeze j v) record { kind = Freeze; word = info (node_at m.members (index_of j)); deed = Exchange v m.scx }
   to_freeze j v t = record { known = t; asked = rw (t.0.read (index_of j) (omega arith), t.1) refl }
 
+  -- once a node is frozen that is not the last, it loads the next `v` word
   pub to_next : (j next : MemberNo) (expected v : ℕ) → (v ≡ expected) ⊎ (v ≡ m.scx) → index_of next ≡ suc (index_of j) → index_of next < planned m.plan → help_told allows lay c h m (AtFreeze j expected) v → help_waits_at allows lay c h m (AtMember next) (settled_load m.scx (Member (index_of next)))
   to_next j next expected v won is within t =
       let w = t.won won in
@@ -127,6 +135,7 @@ module _ {allows : Layout → History → ℕ → Type 0} {lay : Layout} {c : �
         asked = refl;
       }
 
+  -- once the last node is frozen, it sets `allfrozen`
   pub to_set_frozen : (j : MemberNo) (expected v : ℕ) → (v ≡ expected) ⊎ (v ≡ m.scx) → ((index_of j < 3) × (suc (index_of j) < planned m.plan) → ⊥) → help_told allows lay c h m (AtFreeze j expected) v → help_waits_at allows lay c h m AtSetFrozen record { kind = SetFrozen; word = scx m.scx AllFrozen; deed = Store 1 }
   to_set_frozen j expected v won last t =
       let w = t.won won in
@@ -139,9 +148,11 @@ module _ {allows : Layout → History → ℕ → Type 0} {lay : Layout} {c : �
 
   -- It could not be frozen
 
+  -- once a freeze has failed, it loads `allfrozen`
   pub to_all_frozen : (j : MemberNo) (expected v : ℕ) → v ≢ expected → v ≢ m.scx → help_told allows lay c h m (AtFreeze j expected) v → help_waits_at allows lay c h m (AtAllFrozen j v) record { kind = LoadAllFrozen; word = scx m.scx AllFrozen; deed = Load }
   to_all_frozen j expected v other not_own t = record { known = t.lost other not_own; asked = refl }
 
+  -- once it has found `allfrozen` not set, it aborts
   pub to_abort : (j : MemberNo) (found v : ℕ) → v ≡ 0 → help_told allows lay c h m (AtAllFrozen j found) v → help_waits_at allows lay c h m (AtAbort j found) record { kind = Abort; word = state m.scx; deed = Store 2 }
   to_abort j found v z t = record {
     known = record { stuck = ⊎_elim (λ x. inl (x.0, over_stuck lay h m l x.1 (t.1 ∙ z))) (λ x. inr x) t.0.over; blocked = t.0.blocked };
@@ -150,6 +161,7 @@ module _ {allows : Layout → History → ℕ → Type 0} {lay : Layout} {c : �
 
   -- Those that it finalizes are marked
 
+  -- once all before it is marked, it marks the next node to be finalized
   pub to_mark : (p : ℕ) (next : MemberNo) → removed m.plan (index_of next) ≡ true → ((i : ℕ) → p ≤ i → i < index_of next → removed m.plan i ≡ false) → Marks h m p → help_waits_at allows lay c h m (AtMark next) record { kind = Mark; word = marked (node_at m.members (index_of next)); deed = Store 1 }
   to_mark p next is first x = record {
     known = (marked_up_to h m p (index_of next) x (λ i e q w. first i e q), within, rw x.plan is);
@@ -159,6 +171,7 @@ module _ {allows : Layout → History → ℕ → Type 0} {lay : Layout} {c : �
       within : index_of next < count h m.scx
       within = removed_within (plan h m.scx) (index_of next) (planned_of lay h m l p x) (index_small next) (rw x.plan is)
 
+  -- once all that is finalized is marked, it loads `new`
   pub to_new : (p : ℕ) → ((i : ℕ) → p ≤ i → i < 4 → removed m.plan i ≡ false) → Marks h m p → help_waits_at allows lay c h m AtNew (settled_load m.scx New)
   to_new p none x = record { known = marked_up_to h m p (count h m.scx) x (λ i e q w. none i e (omega (arith, few))); asked = refl }
     where
@@ -167,19 +180,22 @@ module _ {allows : Layout → History → ℕ → Type 0} {lay : Layout} {c : �
 
   -- The field is changed
 
+  -- once it has read `new`, it loads `old`
   pub to_old : (v : ℕ) → help_told allows lay c h m AtNew v → help_waits_at allows lay c h m (AtOld v) (settled_load m.scx Old)
   to_old v t = record { known = t; asked = refl }
 
+  -- once it has read `old`, it tries the update
   pub to_update : (new v : ℕ) → help_told allows lay c h m (AtOld new) v → help_waits_at allows lay c h m AtUpdate record { kind = Update; word = child (node_at m.members (field_of m.plan)) (side_of m.plan); deed = Exchange v new }
   to_update new v t = record { known = t.0; asked = rw (t.2, t.1) (ap (λ w. record { kind = Update; word = w; deed = Exchange v new }) (word m.plan t.0.plan)) }
     where
       word : (q : ℕ) → plan h m.scx ≡ q → child (node_at m.members (field_of q)) (side_of q) ≡ child (member h m.scx (field_index h m.scx)) (side_of (plan h m.scx))
       word q e = rw (← e) (ap (λ n. child n (side_of (plan h m.scx))) (t.0.read (field_index h m.scx) (planned_of lay h m l _ t.0).field))
 
+  -- once the update is tried, it commits
   pub to_commit : (v : ℕ) → help_told allows lay c h m AtUpdate v → help_waits_at allows lay c h m AtCommit record { kind = Commit; word = state m.scx; deed = Store 1 }
   to_commit v t = record { known = t; asked = refl }
 
--- the place behind one of a node
+-- the number of the place behind a node's: the next node's, or 4 behind the last
 pub place_behind : (j : MemberNo) (next : Option MemberNo) → (IsSome next ↔ (index_of j < 3)) → IfSome next (λ k. index_of k ≡ index_of j + 1) → suc (index_of j) ≡ first_place next
 place_behind j (Some k) v e = omega arith
 place_behind Fourth None v e = refl

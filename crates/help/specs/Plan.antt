@@ -11,21 +11,24 @@ count plan = plan % 8
 abbrev pub is_removed : ℕ → ℕ → Bool
 is_removed plan j = eqb (plan / 8 / 2 ^ j % 2) 1
 
--- which of them has the field that is changed, and on which side
+-- which of them has the field that is changed, by its place among them
 abbrev pub at_of : ℕ → ℕ
 at_of plan = plan / 128 % 4
 
+-- on which side of its node the field is
 abbrev pub side_of : ℕ → Side
 side_of plan = cond (eqb (plan / 512) 0) Left Right
 
+-- a side as a number: 0 for the left, 1 for the right
 abbrev pub side_no : Side → ℕ
 side_no Left = 0
 side_no Right = 1
 
--- a bit for each node that is to be finalized
+-- 1 for true, 0 for false
 abbrev pub bit : Bool → ℕ
 bit b = cond b 1 0
 
+-- a number with a bit set for each true in the list, its head as bit 0
 abbrev pub removed_bits : List Bool → ℕ
 removed_bits [] = 0
 removed_bits (b ∷ bs) = bit b + 2 * removed_bits bs

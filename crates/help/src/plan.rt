@@ -5,15 +5,15 @@ ghost use Rattle.help.specs.Plan.{count, side_of, side_no, at_of, is_removed, re
 
 use arena::{MemberNo, Side};
 
-/// How many nodes an SCX-record covers, which of them it finalizes, and which field of which of them
-/// it changes: `count + 8 * removed + 128 * index_of at + 512 * side`, where bit j of `removed` is set for the
-/// j-th node if it is to be finalized.
+/// How many nodes an SCX-record covers, which of them it finalizes, and which field of which of
+/// them it changes: `count + 8 * removed + 128 * index_of at + 512 * side`, where bit j of
+/// `removed` is set for the j-th node if it is to be finalized.
 #[derive(Clone, Copy, Debug, PartialEq, Eq)]
 pub struct Plan(pub u64);
 
 impl Plan {
-    /// The plan of an SCX-record over so many nodes, 1 to 4, where `removed` says of each whether it
-    /// is to be finalized.
+    /// The plan of an SCX-record over so many nodes, 1 to 4, where `removed` says of each whether
+    /// it is to be finalized.
     pub fn new(count: usize, removed: [bool; 4], at: MemberNo, side: Side) -> Plan
         requires { count ≤ 4 }
         ensures { result.0 ≡ count + 8 * removed_bits removed + 128 * index_of at + 512 * side_no side }

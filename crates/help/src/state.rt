@@ -7,31 +7,47 @@ use arena::{MemberNo, NodeNo, ScxNo};
 /// The step that a run of HELP has asked for.
 #[derive(Clone, Copy, Debug, PartialEq, Eq)]
 pub enum HelpAt {
+    /// None yet.
     Start,
+    /// The load of the plan word.
     Plan,
+    /// The load of the j-th `v` word.
     Member { j: MemberNo },
+    /// The load of the j-th `i` word.
     Seen { j: MemberNo },
+    /// The freeze of the j-th node, whose info is expected to name `seen`.
     Freeze { j: MemberNo, seen: u64 },
-    /// The j-th node could not be frozen: its info was `found`.
+    /// The load of `allfrozen`: the j-th node could not be frozen, since its info named `found`.
     AllFrozen { j: MemberNo, found: u64 },
+    /// The abort, where `allfrozen` was not set.
     Abort { j: MemberNo, found: u64 },
+    /// The store into `allfrozen`.
     SetFrozen,
+    /// The mark of the j-th node.
     Mark { j: MemberNo },
+    /// The load of `new`.
     New,
+    /// The load of `old`.
     Old { new: u64 },
+    /// The exchange of the field.
     Update,
+    /// The store of the state.
     Commit,
 }
 
-/// HELP of one SCX-record, step by step: freezes its nodes in order, sets `allfrozen`, marks those to
-/// be finalized, changes the field and commits; where a node cannot be frozen and `allfrozen` is not
-/// set, aborts. Answers whether the SCX-record is committed. From Brown, Ellen and Ruppert,
+/// HELP of one SCX-record, step by step: freezes its nodes in order, sets `allfrozen`, marks those
+/// to be finalized, changes the field and commits; where a node cannot be frozen and `allfrozen` is
+/// not set, aborts. Answers whether the SCX-record is committed. From Brown, Ellen and Ruppert,
 /// "Pragmatic primitives for non-blocking data structures" (PODC 2013).
 #[derive(Clone, Copy, Debug, PartialEq, Eq)]
 pub struct HelpRun {
+    /// The SCX-record that the run completes.
     pub scx: ScxNo,
+    /// Its plan word, once it is read.
     pub plan: Plan,
+    /// The nodes that it covers, as far as they are read.
     pub members: [NodeNo; 4],
+    /// Where the run stands.
     pub at: HelpAt,
 }
 
