@@ -1,4 +1,5 @@
--- Nodes that are blank: their fields are 0, and only the SCX-record that is to put them into a field has named them.
+-- Nodes that are blank: their fields are 0, and only the SCX-record
+-- that is to put them into a field has named them.
 use Rattle.std.specs.Prelude.{◌≡◌, ◌≢◌, ℕ}
 use Rattle.arena.specs.declared.word.Side.{Side}
 use Rattle.arena.specs.declared.word.ScxWord.TheVariants.{New, Member}
@@ -6,14 +7,15 @@ use Rattle.arena.specs.Words.{scx, child}
 use Rattle.arena.specs.History.{History, value, HasHeld, EndsWith}
 use Rattle.arena.specs.Lawful.{HasWon}
 
--- the node's fields are 0, no field has held it, no SCX-record has covered it, and of none but s has it been the `new`
+-- the node n is blank: its fields are 0, no field has ever held it, no SCX-record has covered it,
+-- and none but s has ever had it as its `new`
 pub record IsBlank (h : History) (s n : ℕ) : Type 0 where
   pub empty : (side : Side) → value h (child n side) ≡ 0
   pub in_no_field : (m : ℕ) (side : Side) → ¬ HasHeld h (child m side) n
   pub covered_by_none : (u j : ℕ) → ¬ HasHeld h (scx u (Member j)) n
   pub new_of_no_other : (u : ℕ) → u ≢ s → ¬ HasHeld h (scx u New) n
 
--- so it was at each moment since `start` at which no update of s had won
+-- n was blank at each moment since `start` at which no update of s had won
 pub record WasBlank (start h : History) (s n : ℕ) : Type 0 where
   pub since : EndsWith h start
   pub blank : (k : History) → EndsWith h k → EndsWith k start → ¬ HasWon k s → IsBlank k s n

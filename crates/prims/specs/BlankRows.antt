@@ -20,7 +20,8 @@ use Rattle.arena.proofs.Values.{value_at, value_quiet, value_apart, value_other,
 use Rattle.histories.proofs.Lemmas.{Change, nothing, fills_node, fills_scx, freezes, sets_frozen, marks, updates, commits, aborts, change, lawful_row, facts_before, UpdateWins, update_won, won_more, one_node_owner}
 use Rattle.prims.specs.BlankNodes.{IsBlank, WasBlank}
 
--- the row fills no field of the node, and puts its number into no field, no `v` word, and no `new` but that of s
+-- the row spares n: it fills none of its fields, and puts its number into no
+-- field, no `v` word and no `new` but that of s
 pub record Spares (r : Row) (s n : ℕ) : Type 0 where
   pub fields : (m : ℕ) (side : Side) → r.kind ≡ Fill → r.word ≡ child m side → (m ≢ n) × (r.after ≢ n)
   pub members : (u j : ℕ) → r.kind ≡ Fill → r.word ≡ scx u (Member j) → r.after ≢ n
@@ -28,7 +29,7 @@ pub record Spares (r : Row) (s n : ℕ) : Type 0 where
 
 -- Rows that do
 
--- one of another pass
+-- a row of another pass spares a blank node of the pass
 pub spared_by_others : (lay : Layout) (h : History) (r : Row) (c s n : ℕ) → Lawful lay (r ⊳ h) → c < lay.passes → r.pass.0 ≢ c → IsOwnNode lay c n → IsBlank h s n → Spares r s n
 spared_by_others lay h r c s n l is_pass other own x = record {
   fields = λ m side k e. let y = may k (child m side) e in (λ q. other (one_node_owner lay r.pass.0 c n (rw q at y.0.own) own), λ q. shown (rw q at (y.1 (rw q others))));
@@ -46,11 +47,11 @@ spared_by_others lay h r c s n l is_pass other own x = record {
     shown (inl i) = let a = own.from in omega arith
     shown (inr y) = x.in_no_field y.0 y.1 y.3
 
--- one that is no fill
+-- a row that is no fill spares every node
 pub spared_by_step : (r : Row) (s n : ℕ) → r.kind ≢ Fill → Spares r s n
 spared_by_step r s n no_fill = record { fields = λ m side k e. absurd (no_fill k); members = λ u j k e q. no_fill k; news = λ u k e d q. no_fill k }
 
--- the fill of a value
+-- the fill of a value spares every node
 pub spared_by_value : (r : Row) (k s n : ℕ) → r.word ≡ node k Value → Spares r s n
 spared_by_value r k s n w = record {
   fields = λ m side f e. absurd (let y : node k Value ≡ child m side = sym w ∙ e in cc);
@@ -66,7 +67,7 @@ abbrev scx_part : Word → ScxWord
 scx_part (Node n part) = State
 scx_part (Scx s part) = part
 
--- a fill of s whose `v` words are of other nodes
+-- a fill of s spares n, unless it is a `v` word and names n
 pub spared_by_fill : (r : Row) (s n : ℕ) (part : ScxWord) → r.word ≡ scx s part → ((j : ℕ) → part ≡ Member j → r.after ≢ n) → Spares r s n
 spared_by_fill r s n part w d = record {
   fields = λ m side f e. absurd (let y : scx s part ≡ child m side = sym w ∙ e in cc);
@@ -150,11 +151,11 @@ module _ (lay : Layout) (h : History) (r : Row) (s n : ℕ) (l : Lawful lay (r �
 
 -- Since a moment
 
--- at that moment
+-- a node that is blank now has been so since now
 pub was_blank_at : (start : History) (s n : ℕ) → IsBlank start s n → WasBlank start start s n
 was_blank_at start s n x = record { since = ends_self start; blank = λ k e after unwon. rw (same_moment start k e after) x }
 
--- and a row later
+-- and it has been so a row later, if the row spares it
 pub was_blank_more : (lay : Layout) (start h : History) (r : Row) (s n : ℕ) → Lawful lay (r ⊳ h) → (IsBlank h s n → Spares r s n) → WasBlank start h s n → WasBlank start (r ⊳ h) s n
 was_blank_more lay start h r s n l f x = record { since = inr x.since; blank = go }
   where

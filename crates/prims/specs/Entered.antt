@@ -1,4 +1,5 @@
--- An SCX-record whose words hold what an update wants, and which has won, has put the update's entry into the log.
+-- An SCX-record whose words hold what an update wants, and which has
+-- won, has put the update's entry into the log.
 use Rattle.std.proofs.Common.{◌≡◌, ◌≢◌, ℕ, ◌+◌, ◌<◌, suc, false, List, [], ◌∷◌, length, refl, sym, ◌∙◌, ap, arith}
 use Rattle.arena.specs.declared.layout.Layout.{Layout}
 use Rattle.arena.specs.declared.word.ScxWord.TheVariants.{Plan, New, Member, Seen, Call as CallWord}
@@ -42,7 +43,8 @@ as_found lay h k snap n q e f final same = record {
   not_final = rw e at final;
 }
 
--- the row at which it has won has put it there
+-- the row at which s has won, with its words as the update wants
+-- them, has put the update's entry into the log
 pub filled_entry_at : (c : Call) (h : History) (m : ScxRun) (row : Row) (before : History) → Lawful c.layout h → HasFilled c h m.scx.0 m.call m.update → EndsWith h (row ⊳ before) → IsWin before row m.scx.0 → IsEntryAt c h m row before
 filled_entry_at c h m row before l x e w = record {
   within = e;
@@ -89,7 +91,7 @@ filled_entry_at c h m row before l x e w = record {
         (ap side_of planned)
         (sym (won_words c.layout h m.scx.0 l y New tt) ∙ x.fresh)
 
--- so there is one, once it has won
+-- so the update has its entry once s has won
 pub filled_entry : (c : Call) (h : History) (m : ScxRun) → Lawful c.layout h → HasFilled c h m.scx.0 m.call m.update → HasWon h m.scx.0 → HasEntry c h m
 filled_entry c h m l x w =
     let y = won_at c.layout h m.scx.0 w in

@@ -23,11 +23,11 @@ use Rattle.help.specs.declared.state.HelpRun.{HelpRun}
 use Rattle.help.specs.declared.state.HelpAt.{HelpAt}
 use Rattle.help.specs.declared.state.HelpAt.TheVariants.{Start as HelpStart, Plan as AtPlan, Member as AtMember, Seen as AtSeen, Freeze as AtFreeze, AllFrozen as AtAllFrozen, Abort as AtAbort, SetFrozen as AtSetFrozen, Mark as AtMark, New as AtNew, Old as AtOld, Update as AtUpdate, Commit as AtCommit}
 
--- none of the pass's own SCX-records is in progress
+-- none of the pass's own SCX-records is in progress: the pass is idle
 abbrev pub IsIdle : Layout → ℕ → History → Type 0
 IsIdle lay c h = (s : ℕ) → IsOwnScx lay c s → ¬ IsInProgress h s
 
--- none but perhaps s is
+-- none of the pass's own SCX-records is in progress, but perhaps s
 abbrev pub IsIdleBut : Layout → ℕ → ℕ → History → Type 0
 IsIdleBut lay c s h = (t : ℕ) → IsOwnScx lay c t → t ≢ s → ¬ IsInProgress h t
 
@@ -35,7 +35,7 @@ IsIdleBut lay c s h = (t : ℕ) → IsOwnScx lay c t → t ≢ s → ¬ IsInProg
 abbrev pub IsQuietSince : Layout → ℕ → History → History → Type 0
 IsQuietSince lay c start h = (m : History) → EndsWith h m → EndsWith m start → IsIdle lay c m
 
--- a pass each of whose SCX-records is finished once it is taken is idle
+-- a pass is idle if each of its SCX-records that is taken is finished
 pub idle_if_over : (lay : Layout) (c : ℕ) (h : History) → Lawful lay h → ((s : ℕ) → IsOwnScx lay c s → IsTakenScx h s → value h (state s) ≢ 0) → IsIdle lay c h
 idle_if_over lay c h l over s own x = over s own (named_scx_taken lay h s l (λ e. let p = own.from in omega arith) x.named) x.unfinished
 
@@ -65,7 +65,7 @@ info_kept lay h r n l d = go (effect lay h r l)
     go (freeze u j w) = absurd (d w.kind)
     go (update u w) = update_keeps_info (facts_before lay h r l) w n
 
--- so such a row starts none: a load, a fill, a commit
+-- so a row that is no freeze starts none: a load, a fill, a commit
 pub out_by_no_freeze : (lay : Layout) (h : History) (r : Row) (t : ℕ) → Lawful lay (r ⊳ h) → r.kind ≢ Freeze → ¬ IsInProgress h t → ¬ IsInProgress (r ⊳ h) t
 out_by_no_freeze lay h r t l d = still_out lay h r t l (λ p. (p.0, held_back r h _ t (info_kept lay h r p.0 l d) p.1))
 
@@ -95,7 +95,7 @@ help_stores c h s n AtCommit = inl (value_apart (row_of c (help_step h s AtCommi
 help_stores c h s n (AtFreeze j v) =
     exchange_stores (row_of c (help_step h s (AtFreeze j v)) h) h (member h s (index_of j)) n (seen h s (index_of j)) s refl refl (exchange_of c h (help_step h s (AtFreeze j v)) (seen h s (index_of j)) s refl)
 
--- the row of a step of HELP of s starts none but perhaps s, and not s where an info word has named it
+-- a step of HELP of s starts none but perhaps s, and not s where an info word has named it before
 pub out_by_help : (allows : Layout → History → ℕ → Type 0) (c : Call) (h : History) (m : HelpRun) (step : Step) (t : ℕ) → Lawful c.layout (row_of c step h ⊳ h) → help_waits allows c.layout c.pass m h step → (t ≡ m.scx.0 → IsNamedScx h t) → ¬ IsInProgress h t → ¬ IsInProgress (row_of c step h ⊳ h) t
 out_by_help allows c h m step t l w named = still_out c.layout h (row_of c step h) t l back
   where
@@ -112,25 +112,25 @@ out_by_help allows c h m step t l w named = still_out c.layout h (row_of c step 
 
 -- The pass stays idle
 
--- by a row of another pass
+-- it does by a row of another pass
 pub idle_by_others : (lay : Layout) (c : ℕ) (h : History) (r : Row) → Lawful lay (r ⊳ h) → r.pass.0 ≢ c → IsIdle lay c h → IsIdle lay c (r ⊳ h)
 idle_by_others lay c h r l other idle t own = out_by_others lay c h r t l other own (idle t own)
 
--- by a row that is no freezing exchange
+-- it does by a row that is no freeze
 pub idle_by_no_freeze : (lay : Layout) (c : ℕ) (h : History) (r : Row) → Lawful lay (r ⊳ h) → r.kind ≢ Freeze → IsIdle lay c h → IsIdle lay c (r ⊳ h)
 idle_by_no_freeze lay c h r l d idle t own = out_by_no_freeze lay h r t l d (idle t own)
 
--- by a row of HELP of an SCX-record that an info word has named
+-- it does by a step of HELP of an SCX-record that an info word has named
 pub idle_by_help : (allows : Layout → History → ℕ → Type 0) (c : Call) (h : History) (m : HelpRun) (step : Step) → Lawful c.layout (row_of c step h ⊳ h) → help_waits allows c.layout c.pass m h step → IsNamedScx h m.scx.0 → IsIdle c.layout c.pass h → IsIdle c.layout c.pass (row_of c step h ⊳ h)
 idle_by_help allows c h m step l w named idle t own = out_by_help allows c h m step t l w (λ e. rw e named) (idle t own)
 
 -- Since a call's begin
 
--- at the call's begin it is enough that the pass is idle there
+-- at the call's begin it is enough that the pass is idle then
 pub quiet_at_start : (lay : Layout) (c : ℕ) (h : History) → IsIdle lay c h → IsQuietSince lay c h h
 quiet_at_start lay c h idle m e f = subst (IsIdle lay c) (sym (same_moment h m e f)) idle
 
--- and each row that leaves the pass idle goes on with it
+-- and it has been idle since, if it is so after one more row
 pub quiet_more : (lay : Layout) (c : ℕ) (start h : History) (r : Row) → IsIdle lay c (r ⊳ h) → IsQuietSince lay c start h → IsQuietSince lay c start (r ⊳ h)
 quiet_more lay c start h r idle q m (inl e) f = subst (IsIdle lay c) (sym e) idle
 quiet_more lay c start h r idle q m (inr e) f = q m e f

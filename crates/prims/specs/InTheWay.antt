@@ -17,24 +17,25 @@ use Rattle.prims.specs.Idle.{IsQuietSince}
 
 -- Moments of a call
 
--- this held at a moment from `start` on
+-- P held at some moment of h from `start` on
 pub record HasBeen (h start : History) (P : History → Type 0) : Type 0 where
   pub moment : History
   pub within : EndsWith h moment
   pub since : EndsWith moment start
   pub was : P moment
 
--- a row has come since `start`
+-- some row has come since the moment `start`, the newest of h
 pub record IsBehind (h start : History) : Type 0 where
   pub row : Row
   pub before : History
   pub is : h ≡ row ⊳ before
   pub since : EndsWith before start
 
--- what holds now, and what held before one more row
+-- what holds now holds at a moment since `start`
 pub been_now : (h start : History) (P : History → Type 0) → EndsWith h start → P h → HasBeen h start P
 been_now h start P e p = record { moment = h; within = ends_self h; since = e; was = p }
 
+-- what held at a moment since `start` did so after one more row
 pub been_more : (r : Row) (h start : History) (P : History → Type 0) → HasBeen h start P → HasBeen (r ⊳ h) start P
 been_more r h start P x = record { moment = x.moment; within = inr x.within; since = x.since; was = x.was }
 
@@ -64,12 +65,13 @@ way_now lay h start n s l x p z = go x.row x.before x.is
 
 -- Finality
 
--- a final node stays final, by a row and by many
+-- a final node stays final after a lawful row
 pub final_stays : (lay : Layout) (h : History) (r : Row) (n : ℕ) → Lawful lay (r ⊳ h) → is_final (log lay h) n ≡ true → is_final (log lay (r ⊳ h)) n ≡ true
 final_stays lay h r n l e =
     let x : (s : ℕ) × IsFinalizedBy h n s = final_by lay h n (lawful_tail lay h r l) e in
     by_final lay (r ⊳ h) n x.0 l (finalized_by_stays lay h r n x.0 l x.1)
 
+-- a node that was final at a moment is final ever after
 pub final_since : (lay : Layout) (h m : History) (n : ℕ) → Lawful lay h → EndsWith h m → is_final (log lay m) n ≡ true → is_final (log lay h) n ≡ true
 final_since lay h m n = since (λ k. is_final (log lay k) n ≡ true) lay (λ h r l e. final_stays lay h r n l e) h m
 
@@ -87,7 +89,7 @@ open_at_start lay h start n l x =
     let k : Lawful lay x.moment = lawful_since lay h x.moment l x.within in
     open_before lay x.moment start n k x.since (not_final lay x.moment n k x.was)
 
--- an SCX-record whose flag is set and that is finished is committed
+-- a finished SCX-record that finalizes a node and could not be stopped is committed
 pub flagged_commits : (lay : Layout) (h : History) (n s : ℕ) → Lawful lay h → IsFinalizing h n s → value h (state s) ≢ 0 → value h (state s) ≡ 1
 flagged_commits lay h n s l x d = go (f.ended s d)
   where
@@ -103,13 +105,16 @@ flagged_commits lay h n s l x d = go (f.ended s d)
 
 -- Why an LLX doesn't read on
 
--- s, which its node's info named, was in progress in the call; or the node is marked now; or s is finished, and the info has gone on to another
+-- something has disturbed an LLX that had found s in the info of n
 pub data IsDisturbed (h start : History) (n s : ℕ) : Type 0 where
+  -- s was in progress over n in the call
   in_progress : WasInTheWay h start n s → IsDisturbed h start n s
+  -- the node is marked now
   came_marked : value h (marked n) ≡ 1 → IsDisturbed h start n s
+  -- s is finished, and the info of n names another
   passed : value h (state s) ≢ 0 → value h (info n) ≢ s → IsDisturbed h start n s
 
--- none of these passes
+-- what has disturbed it stays so after a lawful row
 pub disturbed_more : (lay : Layout) (h : History) (r : Row) (start : History) (n s : ℕ) → Lawful lay (r ⊳ h) → IsNamed lay h n → IsDisturbed h start n s → IsDisturbed (r ⊳ h) start n s
 disturbed_more lay h r start n s l p (in_progress x) = in_progress (earlier r x)
 disturbed_more lay h r start n s l p (came_marked e) = came_marked (marked_stays lay h r n l e)
@@ -117,7 +122,8 @@ disturbed_more lay h r start n s l p (passed d e) = passed (finished_stays lay h
 
 -- The SCX-record in the way
 
--- what the info names now was in the way, where the node was unmarked at a moment of the call, its info named s at one, and the run was disturbed
+-- what the info names now was in the way, if the run was disturbed, and at moments of the call the
+-- node was unmarked and its info named s
 pub blame_met : (lay : Layout) (h start : History) (n s v : ℕ) → Lawful lay h → HasBeen h start (λ m. value m (marked n) ≡ 0) → HasBeen h start (λ m. value m (info n) ≡ s) → IsDisturbed h start n s → value h (info n) ≡ v → WasInTheWay h start n v
 blame_met lay h start n s v l clean named x e = go (ℕ_discrete v s) x
   where
@@ -130,7 +136,7 @@ blame_met lay h start n s v l clean named x e = go (ℕ_discrete v s) x
     go (yes q) (came_marked y) = way_wider h clean.moment start n v clean.since (subst (WasInTheWay h clean.moment n) e (blame_mark lay h clean.moment n l clean.within clean.was (λ z. omega arith)))
     go (yes q) (passed d y) = absurd (y (e ∙ q))
 
--- where the pass has been idle, what was in its way is another pass's
+-- what was in the way of a pass that has been idle since the moment `start` is another pass's
 pub way_others : (lay : Layout) (c : ℕ) (h start : History) (n s : ℕ) → Lawful lay h → IsQuietSince lay c start h → WasInTheWay h start n s → IsOthersScx lay c s
 way_others lay c h start n s l q x = record { pass = o.pass; is_pass = o.is_pass; is_other = other; owns = o.scx }
   where

@@ -32,31 +32,34 @@ use Rattle.prims.specs.declared.llx.LlxRun.{LlxRun}
 use Rattle.prims.specs.declared.llx.LlxAt.{LlxAt}
 use Rattle.prims.specs.declared.llx.LlxAt.TheVariants.{Start, Marked, Info, State, MarkedAgain, Left as AtLeft, Right as AtRight, InfoAgain, StateAgain, Help, LastInfo, LastState, LastHelp}
 
--- the node's info has named s in the call; and where the node was marked before that, s finalizes it; else it was unmarked at a moment of the call
+-- the node's info has named s in the call
 pub record HasMet (c : Call) (h : History) (n : ℕ) (was_marked : Bool) (s : ℕ) : Type 0 where
   pub held : HasHeld h (info n) s
   pub named : HasBeen h c.start (λ m. value m (info n) ≡ s)
+  -- where the first look had found the mark, s finalizes
+  -- the node; else the node was unmarked in the call
   pub finalizes : was_marked ≡ true → IsFinalizing h n s
   pub unmarked : was_marked ≡ false → HasBeen h c.start (λ m. value m (marked n) ≡ 0)
 
--- the run doesn't read on, since something disturbed it
+-- the run has met s and does not read on, since something has disturbed it
 pub record HasStopped (c : Call) (h : History) (n : ℕ) (was_marked : Bool) (s : ℕ) : Type 0 where
   pub met : HasMet c h n was_marked s
   pub disturbed : IsDisturbed h c.start n s
 
--- s, which the call's last look at the node's info has found, was in the way of the call, at whose begin the node was not final
+-- s, which the call's last look at the node's info has found, was in the way of
+-- the call, at whose begin the node was not final
 pub record IsToBlame (c : Call) (h : History) (n s : ℕ) : Type 0 where
   pub held : HasHeld h (info n) s
   pub found : HasFound c.pass h c.start LoadInfo n s
   pub in_the_way : WasInTheWay h c.start n s
   pub not_final : is_final (log c.layout c.start) n ≡ false
 
--- s is finished, and as long as the info names it the node is not marked
+-- s is finished, and as long as the info of n names it the node is not marked
 pub record IsAtRest (h : History) (n s : ℕ) : Type 0 where
   pub rest : value h (state s) ≢ 0
   pub unmarked : value h (info n) ≡ s → value h (marked n) ≡ 0
 
--- what is known at each place
+-- what holds while a run of LLX of n waits at this place
 abbrev pub llx_known : Call → History → ℕ → LlxAt → Type 0
 llx_known c h n (Info b) = (b ≡ true → value h (marked n) ≡ 1) × (b ≡ false → HasBeen h c.start (λ m. value m (marked n) ≡ 0))
 llx_known c h n (State b s) = HasMet c h n b s.0
@@ -71,10 +74,11 @@ llx_known c h n (LastState s) = IsToBlame c h n s.0
 llx_known c h n (LastHelp s m) = IsToBlame c h n s.0 × (m.scx ≡ s)
 llx_known c h n _ = Unit {0}
 
+-- the load of a word
 abbrev pub load : Kind → Word → Step
 load kind word = record { kind = kind; word = word; deed = Load }
 
--- the step that it waits for
+-- the step that a run of LLX of n waits for at this place
 abbrev pub llx_asked : (Layout → History → ℕ → Type 0) → Call → History → ℕ → LlxAt → Step → Type 0
 llx_asked allows c h n Start step = ⊥
 llx_asked allows c h n Marked step = step ≡ load LoadMarked (marked n)
@@ -90,7 +94,7 @@ llx_asked allows c h n LastInfo step = step ≡ load LoadInfo (info n)
 llx_asked allows c h n (LastState s) step = step ≡ load LoadState (state s.0)
 llx_asked allows c h n (LastHelp s m) step = help_waits allows c.layout c.pass m h step
 
--- the newest row is a load of the node's info in the call
+-- the newest row of h is a load of the node's info, by the call
 pub record HasJustLooked (c : Call) (h : History) (n : ℕ) : Type 0 where
   pub row : Row
   pub before : History
@@ -100,7 +104,7 @@ pub record HasJustLooked (c : Call) (h : History) (n : ℕ) : Type 0 where
   pub kind : row.kind ≡ LoadInfo
   pub word : row.word ≡ info n
 
--- what is known of what it is told: a load tells what its word holds
+-- what holds once the step of this place has told v: v is what its word holds
 abbrev pub llx_told : (Layout → History → ℕ → Type 0) → Call → History → ℕ → LlxAt → ℕ → Type 0
 llx_told allows c h n Start v = ⊥
 llx_told allows c h n Marked v = value h (marked n) ≡ v
@@ -116,12 +120,14 @@ llx_told allows c h n LastInfo v = (value h (info n) ≡ v) × HasFound c.pass h
 llx_told allows c h n (LastState s) v = value h (state s.0) ≡ v
 llx_told allows c h n (LastHelp s m) v = help_ready allows c.layout c.pass m h (Some v)
 
--- the node is one that the caller may look at: of the table, there from the start or named by a field
+-- the caller may look at the node: it is of the table, and
+-- was there from the start or a field has held it
 pub record IsOpened (lay : Layout) (h : History) (n : ℕ) : Type 0 where
   pub in_field : IsInField lay h n
   pub inside : n < all_nodes lay
 
--- at a moment of its call the run waits for this step; since the call's begin none of the pass's own SCX-records was in progress
+-- a run of LLX waits for this step, at a moment of its call; since the call's begin none of the
+-- pass's own SCX-records was in progress
 pub record llx_waits (allows : Layout → History → ℕ → Type 0) (m : LlxRun) (c : Call) (h : History) (step : Step) : Type 0 where
   pub opened : IsOpened c.layout h m.node.0
   pub since : EndsWith h c.start
@@ -129,11 +135,12 @@ pub record llx_waits (allows : Layout → History → ℕ → Type 0) (m : LlxRu
   pub known : llx_known c h m.node.0 m.at
   pub asked : llx_asked allows c h m.node.0 m.at step
 
--- it begins, or a row of its own has told it something
+-- what the run was told: nothing at its start, then v by a row of its own
 abbrev pub llx_got : (Layout → History → ℕ → Type 0) → Call → History → ℕ → LlxAt → Option ℕ → Type 0
 llx_got allows c h n at None = at ≡ Start
 llx_got allows c h n at (Some v) = llx_told allows c h n at v × IsBehind h c.start
 
+-- a run of LLX may be called with this: with nothing at its start, then with what its step told
 pub record llx_ready (allows : Layout → History → ℕ → Type 0) (m : LlxRun) (c : Call) (h : History) (got : Option ℕ) : Type 0 where
   pub opened : IsOpened c.layout h m.node.0
   pub since : EndsWith h c.start
@@ -141,7 +148,8 @@ pub record llx_ready (allows : Layout → History → ℕ → Type 0) (m : LlxRu
   pub known : llx_known c h m.node.0 m.at
   pub told : llx_got allows c h m.node.0 m.at got
 
--- a snapshot gives the info and the fields that its node has now, at which it is not final
+-- the snapshot is right: it gives the info and the fields that its
+-- node has now in the log, where it is not final
 pub record IsSnapshot (lay : Layout) (h : History) (n : ℕ) (snap : Snap) : Type 0 where
   pub node : snap.node.0 ≡ n
   pub linked : IsLinked lay h snap
@@ -150,20 +158,23 @@ pub record IsSnapshot (lay : Layout) (h : History) (n : ℕ) (snap : Snap) : Typ
   pub right : snap.right.0 ≡ fields lay h n Right
   pub not_final : is_final (log lay h) n ≡ false
 
--- the node is finalized, by that SCX-record
+-- the node is final, and s is committed and finalizes it
 pub record IsFinalBy (lay : Layout) (h : History) (n s : ℕ) : Type 0 where
   pub final : is_final (log lay h) n ≡ true
   pub by : IsFinalizing h n s
   pub committed : value h (state s) ≡ 1
 
--- another pass's SCX-record, which the call's last look at the node's info has found, was in the way of the call, at whose begin the node was not final; it is finished now
+-- the failure is right: s is another pass's, was in the way of the call, at whose begin the node
+-- was not final, and is finished now
 pub record HasFailed (c : Call) (h : History) (n s : ℕ) : Type 0 where
+  -- the call's last look at the node's info has found s
   pub found : HasFound c.pass h c.start LoadInfo n s
   pub others : IsOthersScx c.layout c.pass s
   pub in_the_way : WasInTheWay h c.start n s
   pub over : value h (state s) ≢ 0
   pub not_final : is_final (log c.layout c.start) n ≡ false
 
+-- what an answer of LLX says: the node's snapshot now, that it is finalized, or who was in the way
 abbrev pub llx_answers : LlxRun → Call → History → Llx → Type 0
 llx_answers m c h (Snapshot snap) = IsSnapshot c.layout h m.node.0 snap × HasJustLooked c h m.node.0
 llx_answers m c h (Finalized node s) = (node.0 ≡ m.node.0) × IsFinalBy c.layout h m.node.0 s.0
@@ -171,52 +182,55 @@ llx_answers m c h (Fail node s) = (node.0 ≡ m.node.0) × HasFailed c h m.node.
 
 -- What its turns leave
 
--- the run stands at a place and waits for a step
+-- the run goes to this place, keeps all else, and asks for this step
 pub record Asks (old now : LlxRun) (turn : Turn Llx) (at : LlxAt) (step : Step) : Type 0 where
   pub stands : now ≡ record old { at = at }
   pub asked : turn ≡ Ask step
 
--- it reads the fields where the SCX-record left the node in place, or looks at that once more
+-- the run asks for the left field: the SCX-record that it met is
+-- aborted, or it is committed and the node has no mark
 pub record Reads (old now : LlxRun) (turn : Turn Llx) (b : Bool) (s : ScxNo) (v : ℕ) (again : Bool) : Type 0 where
   pub in_place : (v ≡ 2) ⊎ ((v ≡ 1) × (again ≡ false))
   pub asks : Asks old now turn (AtLeft b s) (load LoadChild (child old.node.0 Left))
 
+-- the run asks for the state of s once more
 abbrev pub LooksAgain : LlxRun → LlxRun → Turn Llx → Bool → ScxNo → Type 0
 LooksAgain old now turn b s = Asks old now turn (StateAgain b s) (load LoadState (state s.0))
 
--- it looks at the SCX-record once more, where that is in progress, or committed and the node marked
+-- the run looks at the state of s once more, which was
+-- in progress, or committed with the node marked
 pub record Declines (old now : LlxRun) (turn : Turn Llx) (b : Bool) (s : ScxNo) (v : ℕ) (again : Bool) : Type 0 where
   pub not_aborted : v ≢ 2
   pub marked : v ≡ 1 → again ≡ true
   pub asks : LooksAgain old now turn b s
 
--- or where the info names another
+-- the run looks at the state of s once more, since the info names another
 pub record Differs (old now : LlxRun) (turn : Turn Llx) (b : Bool) (s : ScxNo) (v : ℕ) : Type 0 where
   pub other : v ≢ s.0
   pub asks : LooksAgain old now turn b s
 
--- it ends with a snapshot
+-- the run ends with this snapshot: the info still is what it was
 pub record Snaps (now old : LlxRun) (turn : Turn Llx) (snap : Snap) (v : ℕ) : Type 0 where
   pub same : v ≡ snap.scx.0
   pub run : now ≡ old
   pub done : turn ≡ Done (Snapshot snap)
 
--- it ends with a finalized node
+-- the run ends with a finalized node
 pub record Finalizes (now old : LlxRun) (turn : Turn Llx) (b : Bool) (s : ScxNo) : Type 0 where
   pub final : b ≡ true
   pub run : now ≡ old
   pub done : turn ≡ Done (Finalized old.node s)
 
--- it looks at the info once more where the node is not finalized
+-- the node is not finalized, and the run asks for the info once more
 pub record LooksLast (old now : LlxRun) (turn : Turn Llx) (b : Bool) : Type 0 where
   pub not_final : b ≡ false
   pub asks : Asks old now turn LastInfo (load LoadInfo (info old.node.0))
 
--- a turn is right: what it waits for, or what it answers
+-- a turn of LLX is right: the run waits for the step that it asks, or the answer holds
 abbrev pub llx_turn : (Layout → History → ℕ → Type 0) → Call → History → LlxRun → Turn Llx → Type 0
 llx_turn allows c h m turn = MatchTurn turn (llx_waits allows m c h) (llx_answers m c h)
 
--- a run of HELP that may be called
+-- a run of HELP inside a run of LLX of n may be called with this
 pub record Helps (allows : Layout → History → ℕ → Type 0) (c : Call) (h : History) (n : ℕ) (help : HelpRun) (got : Option ℕ) : Type 0 where
   pub run : IsRun allows c.layout h
   pub opened : IsOpened c.layout h n
@@ -224,7 +238,7 @@ pub record Helps (allows : Layout → History → ℕ → Type 0) (c : Call) (h 
   pub quiet : IsQuietSince c.layout c.pass c.start h
   pub ready : help_ready allows c.layout c.pass help h got
 
--- the state of an SCX-record that was met
+-- a run of LLX of n, disturbed at s, has found its state to be v
 pub record Meets (allows : Layout → History → ℕ → Type 0) (c : Call) (h : History) (n : ℕ) (b : Bool) (s v : ℕ) : Type 0 where
   pub run : IsRun allows c.layout h
   pub opened : IsOpened c.layout h n

@@ -83,6 +83,7 @@ module _ (c : Call) (h : History) (r : Row) (n : ℕ) (l : Lawful c.layout (r �
   known_more Start d p k = tt
   known_more Marked d p k = tt
 
+  -- a node that the caller may look at is so after the row too
   pub opened_more : IsOpened c.layout h n → IsOpened c.layout (r ⊳ h) n
   opened_more x = record { in_field = in_field_more r n x.in_field; inside = x.inside }
 
@@ -92,6 +93,7 @@ asked_more allows c h n (LastHelp i m) s r run d a = help_keeps allows m c h s r
 asked_more allows c h n Start s r run d a = a
 asked_more allows c h n _ s r run d a = a
 
+-- rows of other passes leave a run of LLX waiting for the same step
 pub llx_keeps : (allows : Layout → History → ℕ → Type 0) (m : LlxRun) (c : Call) (h : History) (s : Step) (r : Row) → IsRun allows c.layout (r ⊳ h) → r.pass.0 ≢ c.pass → llx_waits allows m c h s → llx_waits allows m c (r ⊳ h) s
 llx_keeps allows m c h s r run d w = record {
   opened = opened_more c h r m.node.0 run.lawful w.opened;
@@ -103,14 +105,14 @@ llx_keeps allows m c h s r run d w = record {
 
 -- Its steps
 
--- a load of a word of the table is lawful, and begins nothing
+-- a load of a word of the table, of its own kind, continues the run
 pub load_lawful : (allows : Layout → History → ℕ → Type 0) (c : Call) (h : History) (k : Kind) (w : Word) (s : Step) → IsRun allows c.layout h → s ≡ load k w → Obeys c.layout h (row_of c (load k w) h) k → (k ≡ Freeze → ⊥) → IsWord c.layout w → IsRun allows c.layout (row_of c s h ⊳ h)
 load_lawful allows c h k w s run e o d i = rw e record { lawful = x; shaped = shaped_more allows c.layout h (row_of c (load k w) h) x run.shaped (λ u f g. absurd (d g.kind)) }
   where
     x : Lawful c.layout (row_of c (load k w) h ⊳ h)
     x = lawful_more c.layout h (row_of c (load k w) h) run.lawful record { before = refl; obeys = o; pass = c.is_pass; word = i }
 
--- the state of an SCX-record that an info word has named is in the table
+-- the state of an SCX-record that an info word has ever named is a word of the table
 pub state_inside : (lay : Layout) (h : History) (n s : ℕ) → Lawful lay h → HasHeld h (info n) s → IsWord lay (state s)
 state_inside lay h n s l p = (named_scx_inside lay h s l (n, p), tt)
 
@@ -129,18 +131,20 @@ lawful_at allows c h n LastInfo s run i k a = load_lawful allows c h LoadInfo (i
 lawful_at allows c h n (LastState u) s run i k a = load_lawful allows c h LoadState (state u.0) s run a record { word = tt; same = refl } (λ e. cc) (state_inside c.layout h n u.0 run.lawful k.held)
 lawful_at allows c h n (LastHelp u m) s run i k a = help_lawful allows m c h s run a
 
+-- the step that a run of LLX waits for continues the run:
+-- it is lawful, and begins only what is allowed
 pub llx_lawful : (allows : Layout → History → ℕ → Type 0) (m : LlxRun) (c : Call) (h : History) (s : Step) → IsRun allows c.layout h → llx_waits allows m c h s → IsRun allows c.layout (row_of c s h ⊳ h)
 llx_lawful allows m c h s run w = lawful_at allows c h m.node.0 m.at s run w.opened.inside w.known w.asked
 
 -- What they tell
 
--- after a load, its word holds what it told
+-- after a load, its word holds what the load told
 pub load_told : (c : Call) (h : History) (k : Kind) (w : Word) (s : Step) (v : ℕ) → s ≡ load k w → IsTold s.deed (value h s.word) v → value (row_of c s h ⊳ h) w ≡ v
 load_told c h k w s v e t =
     let u : v ≡ value h w = rw e at t in
     rw e (value_at (row_of c (load k w) h) h w refl ∙ sym u)
 
--- and a look at an info has found that
+-- and a load of an info is the call's last look there, and has found what it told
 pub load_found : (c : Call) (h : History) (n : ℕ) (s : Step) (v : ℕ) → EndsWith h c.start → s ≡ load LoadInfo (info n) → IsTold s.deed (value h s.word) v → HasFound c.pass (row_of c s h ⊳ h) c.start LoadInfo n v
 load_found c h n s v since e t =
     let u : v ≡ value h (info n) = rw e at t in
@@ -165,7 +169,7 @@ told_at allows c h n (LastHelp u m) s v run t e a = help_made allows m c h s v r
 load_idle : (c : Call) (h : History) (k : Kind) (w : Word) (s : Step) → Lawful c.layout (row_of c s h ⊳ h) → s ≡ load k w → (k ≡ Freeze → ⊥) → IsIdle c.layout c.pass h → IsIdle c.layout c.pass (row_of c s h ⊳ h)
 load_idle c h k w s l e d idle = idle_by_no_freeze c.layout c.pass h (row_of c s h) l (λ f. d (sym (ap (λ (t : Step). t.kind) e) ∙ f)) idle
 
--- so the pass stays idle
+-- so a pass that was idle is idle after the step
 pub idle_at : (allows : Layout → History → ℕ → Type 0) (c : Call) (h : History) (n : ℕ) (at : LlxAt) (s : Step) → Lawful c.layout (row_of c s h ⊳ h) → llx_known c h n at → llx_asked allows c h n at s → IsIdle c.layout c.pass h → IsIdle c.layout c.pass (row_of c s h ⊳ h)
 idle_at allows c h n Start s l k a idle = absurd a
 idle_at allows c h n Marked s l k a idle = load_idle c h LoadMarked (marked n) s l a (λ e. cc) idle
@@ -181,6 +185,7 @@ idle_at allows c h n LastInfo s l k a idle = load_idle c h LoadInfo (info n) s l
 idle_at allows c h n (LastState u) s l k a idle = load_idle c h LoadState (state u.0) s l a (λ e. cc) idle
 idle_at allows c h n (LastHelp u m) s l k a idle = idle_by_help allows c h m s l a (n, rw k.1 k.0.held) idle
 
+-- once the step is made, the run of LLX may be called with what it told
 pub llx_made : (allows : Layout → History → ℕ → Type 0) (m : LlxRun) (c : Call) (h : History) (s : Step) (v : ℕ) → IsRun allows c.layout (row_of c s h ⊳ h) → IsTold s.deed (value h s.word) v → llx_waits allows m c h s → llx_ready allows m c (row_of c s h ⊳ h) (Some v)
 llx_made allows m c h s v run t w = record {
   opened = opened_more c h (row_of c s h) m.node.0 run.lawful w.opened;

@@ -4,7 +4,7 @@ use Rattle.help.specs.HelpSteps.{help_left}
 use Rattle.prims.specs.declared.llx.LlxAt.{LlxAt}
 use Rattle.prims.specs.declared.llx.LlxAt.TheVariants.{Start, Marked, Info, State, MarkedAgain, Left, Right, InfoAgain, StateAgain, Help, LastInfo, LastState, LastHelp}
 
--- it helps at most twice
+-- how many steps a run of LLX may still ask for at this place: of HELP it runs two at most
 abbrev pub llx_left : LlxAt → ℕ
 llx_left Start = 54
 llx_left Marked = 53

@@ -11,6 +11,8 @@ use Rattle.prims.specs.Linked.{IsLinked, in_field_named}
 use Rattle.prims.specs.declared.snap.Snap.{Snap}
 use Rattle.prims.specs.Wins.{ends_either}
 
+-- a node whose info names, as the call begins, what a
+-- usable snapshot found is then as that found it
 pub found_at : (c : Call) (h : History) (snap : Snap) → Lawful c.layout h → EndsWith h c.start → IsLinked c.layout c.start snap → value c.start (info snap.node.0) ≡ snap.scx.0 → IsAsFound c.layout h c.start snap
 found_at c h snap l e x same = record { last = same_last; not_final = not_final c.layout c.start snap.node.0 ls (x.unmarked same) }
   where

@@ -1,4 +1,5 @@
--- What snapshots say of moments: when a node was as its snapshot found it, and who was in the way since.
+-- What snapshots say of moments: when a node was as its
+-- snapshot found it, and who was in the way since.
 use Rattle.std.specs.Prelude.{◌≡◌, ◌≢◌, ℕ, ◌<◌, false, List, length}
 use Rattle.arena.specs.declared.layout.Layout.{Layout}
 use Rattle.arena.specs.Words.{info, state}
@@ -10,7 +11,8 @@ use Rattle.arena.specs.Machines.{Call}
 use Rattle.prims.specs.Snap.{snap_at}
 use Rattle.prims.specs.declared.snap.Snap.{Snap}
 
--- at this moment of the history the node was as the snapshot found it: it was named and not final, and its info named the snapshot's SCX-record, which was finished
+-- at the moment k of the history the node was as the snapshot found it: named and not final, with
+-- an info that named the snapshot's SCX-record, which was finished
 pub record IsMoment (lay : Layout) (h : History) (snap : Snap) (k : History) : Type 0 where
   pub within : EndsWith h k
   pub named : IsNamed lay k snap.node.0
@@ -18,22 +20,24 @@ pub record IsMoment (lay : Layout) (h : History) (snap : Snap) (k : History) : T
   pub info : value k (info snap.node.0) ≡ snap.scx.0
   pub not_final : is_final (log lay k) snap.node.0 ≡ false
 
--- after k the last entry over the node is still that of every moment of the snapshot, and the node is not final
+-- at k the node is not final, and its last entry is still that of each
+-- moment at which it was as the snapshot found it
 pub record IsAsFound (lay : Layout) (h k : History) (snap : Snap) : Type 0 where
   pub last : (moment : History) → IsMoment lay h snap moment → last (log lay k) snap.node.0 ≡ last (log lay moment) snap.node.0
   pub not_final : is_final (log lay k) snap.node.0 ≡ false
 
--- the snapshot has a moment since which no SCX-record of the pass c has covered its node while in progress
+-- the snapshot has a moment since which no SCX-record of the
+-- pass c has covered its node while in progress
 pub record IsLeftAlone (lay : Layout) (c : ℕ) (h : History) (snap : Snap) : Type 0 where
   pub moment : History
   pub found : IsMoment lay h snap moment
   pub idle : (k : History) → EndsWith h k → EndsWith k moment → (t : ℕ) → IsOwnScx lay c t → IsInProgress k t → ¬ IsMember k t snap.node.0
 
--- this is so of each of them
+-- the pass c has left each of these snapshots alone
 abbrev pub AreLeftAlone : Layout → ℕ → History → List Snap → Type 0
 AreLeftAlone lay c h snaps = (i : ℕ) → i < length snaps → IsLeftAlone lay c h (snap_at snaps i)
 
--- each SCX-record that the pass c has taken is finished, but for s
+-- each SCX-record that the pass c has taken is finished, but perhaps s
 abbrev pub AreOver : Layout → ℕ → ℕ → History → Type 0
 AreOver lay c s h = (t : ℕ) → IsOwnScx lay c t → t ≢ s → IsTakenScx h t → value h (state t) ≢ 0
 
@@ -41,7 +45,9 @@ AreOver lay c s h = (t : ℕ) → IsOwnScx lay c t → t ≢ s → IsTakenScx h 
 abbrev pub HasTakenOnly : Layout → ℕ → ℕ → History → History → Type 0
 HasTakenOnly lay c s start h = (t : ℕ) → IsOwnScx lay c t → t ≢ s → ¬ IsTakenScx start t → ¬ IsTakenScx h t
 
--- an SCX-record has changed the node since the snapshot: since every moment of the snapshot it was in the way; and it is another pass's, where this one had left the snapshot alone as its call began
+-- another SCX-record, v, has come to the node since the snapshot
 pub record IsBlamed (c : Call) (h : History) (snap : Snap) (v : ℕ) : Type 0 where
+  -- it was in progress over the node after each moment at which that was as the snapshot found it
   pub in_the_way : (moment : History) → IsMoment c.layout h snap moment → WasInTheWay h moment snap.node.0 v
+  -- it is another pass's, where this one had left the snapshot alone as its call began
   pub others : IsLeftAlone c.layout c.pass c.start snap → IsOthersScx c.layout c.pass v

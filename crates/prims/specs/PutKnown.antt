@@ -25,37 +25,44 @@ use Rattle.prims.specs.declared.put.PutRun.{PutRun}
 use Rattle.prims.specs.declared.put.PutAt.{PutAt}
 use Rattle.prims.specs.declared.put.PutAt.TheVariants.{Start, Fill as AtFill, Scx}
 
--- what the pass has in hand before it fills its fresh node; once that is filled, the update is allowed
+-- what the pass has in hand before it fills its fresh node: an update
+-- that the layer above will allow once that is done
 pub record PutHand (allows : Layout → History → ℕ → Type 0) (lay : Layout) (c : ℕ) (h : History) (m : ScxRun) : Type 0 where
   pub hand : InHand allows_all lay c h (job_of m)
   pub start : m.at ≡ ScxStart
   pub in_order : (n : ℕ) → IsOwnNode lay c n → n < m.update.fresh.0 → IsTakenNode h n
   pub allowed : (k : History) (r : Row) (d : Descriptor) → IsLater c m.scx.0 h k → IsFillOfNode m.update.fresh.0 r → Says d (job_of m) → IsAllowed allows lay c (r ⊳ k) m.scx.0 d
 
+-- the fill of the fresh node's value
 abbrev pub put_step : PutRun → Step
 put_step m = record { kind = Fill; word = node m.scx.update.fresh.0 Value; deed = Store m.value }
 
--- the fresh node n of s is of the pass's share, is taken, and has its value; but for that it was blank until an update of s had won
+-- the fresh node n is of the pass's share and taken, has its value, and but for that was blank
+-- since the call's begin as long as no update of s had won
 pub record HasValue (c : Call) (h : History) (s n v : ℕ) : Type 0 where
   pub own : IsOwnNode c.layout c.pass n
   pub taken : IsTakenNode h n
   pub value : value h (node n Value) ≡ v
   pub blank : WasBlank c.start h s n
 
+-- what holds while the run waits for this step at this place
 abbrev pub put_waits_at : (Layout → History → ℕ → Type 0) → Call → History → PutRun → PutAt → Step → Type 0
 put_waits_at allows c h m Start step = ⊥
 put_waits_at allows c h m AtFill step = PutHand allows c.layout c.pass h m.scx × IsUnderWay c h m.scx.scx.0 m.scx.update.snaps × (step ≡ put_step m) × WasBlank c.start h m.scx.scx.0 m.scx.update.fresh.0
 put_waits_at allows c h m Scx step = HasValue c h m.scx.scx.0 m.scx.update.fresh.0 m.value × scx_waits allows m.scx c h step
 
+-- what holds once the step of this place has told v
 abbrev pub put_told_at : (Layout → History → ℕ → Type 0) → Call → History → PutRun → PutAt → ℕ → Type 0
 put_told_at allows c h m Start v = ⊥
 put_told_at allows c h m AtFill v = HasValue c h m.scx.scx.0 m.scx.update.fresh.0 m.value × (m.scx.at ≡ ScxStart) × InHand allows c.layout c.pass h (job_of m.scx) × IsUnderWay c h m.scx.scx.0 m.scx.update.snaps
 put_told_at allows c h m Scx v = HasValue c h m.scx.scx.0 m.scx.update.fresh.0 m.value × scx_ready allows m.scx c h (Some v)
 
+-- the run waits for this step where it stands
 abbrev pub put_waits : (Layout → History → ℕ → Type 0) → PutRun → Call → History → Step → Type 0
 put_waits allows m c h step = put_waits_at allows c h m m.at step
 
--- it begins at this moment, with what the pass has in hand, with a blank node, and with an SCX-record that is not taken
+-- the run begins at this moment, with a usable update in
+-- hand, a blank node, and an SCX-record not taken
 pub record IsFirstPut (allows : Layout → History → ℕ → Type 0) (m : PutRun) (c : Call) (h : History) : Type 0 where
   pub stands : m.at ≡ Start
   pub hand : PutHand allows c.layout c.pass h m.scx
@@ -64,21 +71,23 @@ pub record IsFirstPut (allows : Layout → History → ℕ → Type 0) (m : PutR
   pub free : ¬ IsTakenScx h m.scx.scx.0
   pub blank : IsBlank h m.scx.scx.0 m.scx.update.fresh.0
 
+-- the run may be called with this: with nothing at its start, then with what its step told
 abbrev pub put_ready : (Layout → History → ℕ → Type 0) → PutRun → Call → History → Option ℕ → Type 0
 put_ready allows m c h None = IsFirstPut allows m c h
 put_ready allows m c h (Some v) = put_told_at allows c h m m.at v
 
--- the update has its entry, and just before that the fields of the fresh node were 0, and it had its value
+-- the update is in the log; just before its entry the fields
+-- of the fresh node were 0, and it had its value
 pub record IsPut (c : Call) (h : History) (m : PutRun) : Type 0 where
   pub done : IsDone c h m.scx
   pub empty : (side : Side) → value done.entry.before (child m.scx.update.fresh.0 side) ≡ 0
   pub value : value done.entry.before (node m.scx.update.fresh.0 Value) ≡ m.value
 
--- how it ends: the update has its entry, or it is lost
+-- what the answer says of the SCX: its update is in the log, with the node as filled, or it is lost
 abbrev pub put_ends : PutRun → Call → History → Answer → Type 0
 put_ends m c h Done = IsPut c h m
 put_ends m c h (Lost node found) = IsLost c h m.scx node.0 found.0
 
--- the fresh node is taken and has its value, and the answer is that of the SCX
+-- what an answer says: the fresh node is taken and has its value, and the SCX has ended as told
 abbrev pub put_answers : PutRun → Call → History → Answer → Type 0
 put_answers m c h a = HasValue c h m.scx.scx.0 m.scx.update.fresh.0 m.value × put_ends m c h a

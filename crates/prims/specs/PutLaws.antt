@@ -32,7 +32,7 @@ use Rattle.prims.specs.declared.put.PutAt.TheVariants.{Start, Fill as AtFill, Sc
 value_more : (c : Call) (h : History) (r : Row) (s n v : ℕ) → Lawful c.layout (r ⊳ h) → value (r ⊳ h) (node n Value) ≡ value h (node n Value) → (IsBlank h s n → Spares r s n) → HasValue c h s n v → HasValue c (r ⊳ h) s n v
 value_more c h r s n v l e f x = record { own = x.own; taken = taken_node_more r h n x.taken; value = e ∙ x.value; blank = was_blank_more c.layout c.start h r s n l f x.blank }
 
--- a row of another pass leaves what the fresh node has
+-- a row of another pass leaves the fresh node taken, with its value, and otherwise blank
 pub value_by_others : (c : Call) (h : History) (r : Row) (s n v : ℕ) → Lawful c.layout (r ⊳ h) → r.pass.0 ≢ c.pass → HasValue c h s n v → HasValue c (r ⊳ h) s n v
 value_by_others c h r s n v l other x = value_more c h r s n v l (own_value_unfilled c.layout h r c.pass n l other x.own) (spared_by_others c.layout h r c.pass s n l c.is_pass other x.own) x
 
@@ -54,6 +54,7 @@ kept_at allows m c h AtFill s r run other w = (
   was_blank_more c.layout c.start h r m.scx.scx.0 m.scx.update.fresh.0 run.lawful (spared_by_others c.layout h r c.pass m.scx.scx.0 m.scx.update.fresh.0 run.lawful c.is_pass other w.0.hand.fresh) w.3,
 )
 
+-- rows of other passes leave the run waiting for the same step
 pub put_keeps : (allows : Layout → History → ℕ → Type 0) (m : PutRun) (c : Call) (h : History) (s : Step) (r : Row) → IsRun allows c.layout (r ⊳ h) → r.pass.0 ≢ c.pass → put_waits allows m c h s → put_waits allows m c (r ⊳ h) s
 put_keeps allows m c h s r run other w = kept_at allows m c h m.at s r run other w
 
@@ -65,6 +66,7 @@ lawful_at allows m c h AtFill s run w = rw w.2 record { lawful = x; shaped = sha
     x : Lawful c.layout (row_of c (put_step m) h ⊳ h)
     x = lawful_more c.layout h (row_of c (put_step m) h) run.lawful record { before = refl; obeys = record { own = w.0.hand.fresh; in_order = w.0.in_order; unnamed = w.0.hand.unnamed }; pass = c.is_pass; word = own_node_inside c.layout c.pass m.scx.update.fresh.0 c.is_pass w.0.hand.fresh }
 
+-- the step that the run waits for continues the run: it is lawful, and begins only what is allowed
 pub put_lawful : (allows : Layout → History → ℕ → Type 0) (m : PutRun) (c : Call) (h : History) (s : Step) → IsRun allows c.layout h → put_waits allows m c h s → IsRun allows c.layout (row_of c s h ⊳ h)
 put_lawful allows m c h s run w = lawful_at allows m c h m.at s run w
 
@@ -107,5 +109,6 @@ made_at allows m c h AtFill s v run t w =
       way_more c h (row_of c (put_step m) h) m.scx.scx.0 m.scx.update.snaps (takes_by_node c.layout c.pass m.scx.scx.0 h (row_of c (put_step m) h) m.scx.update.fresh.0 Value refl) w.1,
     )
 
+-- once the step is made, the run may be called with what it told
 pub put_made : (allows : Layout → History → ℕ → Type 0) (m : PutRun) (c : Call) (h : History) (s : Step) (v : ℕ) → IsRun allows c.layout (row_of c s h ⊳ h) → IsTold s.deed (value h s.word) v → put_waits allows m c h s → put_ready allows m c (row_of c s h ⊳ h) (Some v)
 put_made allows m c h s v run t w = made_at allows m c h m.at s v run t w

@@ -27,7 +27,7 @@ use Rattle.prims.specs.declared.scx.Scx.TheVariants.{Done, Lost}
 use Rattle.prims.specs.declared.put.PutRun.{PutRun}
 use Rattle.prims.specs.declared.put.PutAt.TheVariants.{Start, Fill as AtFill, Scx}
 
--- a call that begins now
+-- a call that begins now has an SCX-record that was not taken before it
 pub first_way : (allows : Layout → History → ℕ → Type 0) (m : PutRun) (c : Call) (h : History) → IsFirstPut allows m c h → IsUnderWay c h m.scx.scx.0 m.scx.update.snaps
 first_way allows m c h x = record {
   begun = record { since = rw x.begins (ends_self c.start); clear = rw x.begins at x.clear; only = λ t own d free. rw x.begins free };
@@ -36,15 +36,17 @@ first_way allows m c h x = record {
 
 -- what it has been told
 
+-- what is known at the start of a run
 pub told_first : (allows : Layout → History → ℕ → Type 0) (m : PutRun) (c : Call) (h : History) (got : Option ℕ) → m.at ≡ Start → put_ready allows m c h got → IsFirstPut allows m c h
 told_first allows m c h None is r = r
 told_first allows m c h (Some v) is r = absurd (rw is at r)
 
+-- what is known where the run is in its SCX
 pub told_scx : (allows : Layout → History → ℕ → Type 0) (m : PutRun) (c : Call) (h : History) (got : Option ℕ) → m.at ≡ Scx → put_ready allows m c h got → HasValue c h m.scx.scx.0 m.scx.update.fresh.0 m.value × scx_ready allows m.scx c h got
 told_scx allows m c h None is r = absurd (let e : Scx ≡ Start = sym is ∙ r.stands in cc)
 told_scx allows m c h (Some v) is r = subst (λ at. put_told_at allows c h m at v) is r
 
--- it fills its fresh node
+-- the run begins with the fill of its fresh node
 pub turn_start : (allows : Layout → History → ℕ → Type 0) (m : PutRun) (c : Call) (h : History) → IsFirstPut allows m c h → put_waits_at allows c h (record m { at = AtFill }) AtFill (put_step m)
 turn_start allows m c h x = (x.hand, first_way allows m c h x, refl, rw x.begins (was_blank_at c.start m.scx.scx.0 m.scx.update.fresh.0 (rw x.begins at x.blank)))
 
@@ -53,7 +55,7 @@ newest_fresh : List Entry → ℕ
 newest_fresh [] = 0
 newest_fresh (e ∷ es) = e.new
 
--- before the entry the fresh node had the value that it has
+-- just before its entry the fresh node had the value that it has now
 pub value_before : (c : Call) (h : History) (m : ScxRun) (v : ℕ) (row : Row) (before : History) → Lawful c.layout h → IsEntryAt c h m row before → value h (node m.update.fresh.0 Value) ≡ v → value before (node m.update.fresh.0 Value) ≡ v
 unfolding newest_fresh
 value_before c h m v row before l x e = sym (node_since c.layout h before m.update.fresh.0 Value l before_ends tt named) ∙ e
@@ -70,7 +72,7 @@ value_before c h m v row before l x e = sym (node_since c.layout h before m.upda
     named : IsNamed c.layout before m.update.fresh.0
     named = subst (IsNamed c.layout before) fresh (by_scx m.scx.0 New (won_was_named c.layout h m.scx.0 l y) tt (held_now before (scx m.scx.0 New)))
 
--- and its fields were 0
+-- and its fields were 0 then
 pub empty_before : (c : Call) (h : History) (m : ScxRun) (row : Row) (before : History) → Lawful c.layout h → IsEntryAt c h m row before → WasBlank c.start h m.scx.0 m.update.fresh.0 → (side : Side) → value before (child m.update.fresh.0 side) ≡ 0
 empty_before c h m row before l x b = (b.blank before (ends_trans h (row ⊳ before) before x.within (inr (ends_self before))) x.since unwon).empty
   where
@@ -81,7 +83,7 @@ empty_before c h m row before l x b = (b.blank before (ends_trans h (row ⊳ bef
     unwon = update_is_first (facts_before c.layout before row lawful) record { kind = x.wins.kind; update = x.wins.update; before = (lawful_row c.layout before row lawful).before; found = x.wins.found; stored = x.wins.update.exchange.won x.wins.found }
 
 module _ (allows : Layout → History → ℕ → Type 0) (c : Call) (h : History) (l : Lawful c.layout h) where
-  -- its SCX goes on, or has answered
+  -- its SCX asks for a step, or has answered, and so has the run
   pub turn_scx : (old now : PutRun) (turn : Turn Answer) → now.at ≡ Scx → now.value ≡ old.value → now.scx.scx ≡ old.scx.scx → now.scx.update ≡ old.scx.update → HasValue c h old.scx.scx.0 old.scx.update.fresh.0 old.value → MatchTurn turn (scx_waits allows now.scx c h) (scx_answers now.scx c h) → MatchTurn turn (put_waits allows now c h) (put_answers now c h)
   turn_scx old now turn is e s f x = go turn
     where

@@ -26,6 +26,7 @@ use Rattle.prims.specs.declared.scx.ScxRun.{ScxRun}
 use Rattle.prims.specs.declared.scx.ScxAt.{ScxAt}
 use Rattle.prims.specs.declared.scx.ScxAt.TheVariants.{Start, Plan as AtPlan, New as AtNew, Old as AtOld, Member as AtMember, Seen as AtSeen, Call as AtCall, Help}
 
+-- an SCX-record that is taken is so after one more row
 pub taken_more : (r : Row) (h : History) (s : ℕ) → IsTakenScx h s → IsTakenScx (r ⊳ h) s
 unfolding IsTakenScx
 taken_more r h s p = inr p
@@ -33,6 +34,7 @@ taken_more r h s p = inr p
 -- Rows of others
 
 module _ (allows : Layout → History → ℕ → Type 0) (lay : Layout) (c : ℕ) (h : History) (r : Row) (m : Job) (l : Lawful lay (r ⊳ h)) where
+  -- what a pass has in hand stays so after a row of another pass
   pub hand_kept : c < lay.passes → r.pass.0 ≢ c → InHand allows lay c h m → InHand allows lay c (r ⊳ h) m
   hand_kept i other x = record {
     update = x.update;
@@ -67,6 +69,7 @@ kept_at allows m c h (AtMember j) s r run other w = record { fills = fills_kept 
 kept_at allows m c h (AtSeen j) s r run other w = record { fills = fills_kept allows m c h (AtSeen j) r run other w.fills; asked = w.asked }
 kept_at allows m c h AtCall s r run other w = record { fills = fills_kept allows m c h AtCall r run other w.fills; asked = w.asked }
 
+-- rows of other passes leave a run of SCX waiting for the same step
 pub scx_keeps : (allows : Layout → History → ℕ → Type 0) (m : ScxRun) (c : Call) (h : History) (s : Step) (r : Row) → IsRun allows c.layout (r ⊳ h) → r.pass.0 ≢ c.pass → scx_waits allows m c h s → scx_waits allows m c (r ⊳ h) s
 scx_keeps allows m c h s r run other w = kept_at allows (job_of m) c h m.at s r run other w
 
@@ -98,6 +101,7 @@ part_inside (AtMember j) = index_small j
 part_inside (AtSeen j) = index_small j
 part_inside _ = tt
 
+-- each word that a run fills is one that is filled at all
 pub part_fill : (at : ScxAt) → IsScxFill (part_at at)
 part_fill (AtMember j) = tt
 part_fill (AtSeen j) = tt
@@ -119,5 +123,7 @@ lawful_at allows m c h (AtMember j) s run w = fill_lawful allows m c h (AtMember
 lawful_at allows m c h (AtSeen j) s run w = fill_lawful allows m c h (AtSeen j) s run w
 lawful_at allows m c h AtCall s run w = fill_lawful allows m c h AtCall s run w
 
+-- the step that a run of SCX waits for continues the run:
+-- it is lawful, and begins only what is allowed
 pub scx_lawful : (allows : Layout → History → ℕ → Type 0) (m : ScxRun) (c : Call) (h : History) (s : Step) → IsRun allows c.layout h → scx_waits allows m c h s → IsRun allows c.layout (row_of c s h ⊳ h)
 scx_lawful allows m c h s run w = lawful_at allows (job_of m) c h m.at s run w

@@ -146,10 +146,11 @@ made_at allows m c h (AtMember j) s v run t w = made_by allows m c h (AtMember j
 made_at allows m c h (AtSeen j) s v run t w = made_by allows m c h (AtSeen j) s run w
 made_at allows m c h AtCall s v run t w = made_by allows m c h AtCall s run w
 
+-- once the step is made, the run of SCX may be called with what it told
 pub scx_made : (allows : Layout → History → ℕ → Type 0) (m : ScxRun) (c : Call) (h : History) (s : Step) (v : ℕ) → IsRun allows c.layout (row_of c s h ⊳ h) → IsTold s.deed (value h s.word) v → scx_waits allows m c h s → scx_ready allows m c (row_of c s h ⊳ h) (Some v)
 scx_made allows m c h s v run t w = made_at allows (job_of m) c h m.at s v run t w
 
--- its rows leave the value of every node
+-- its steps leave the value of every node, place by place
 
 fill_value : (allows : Layout → History → ℕ → Type 0) (m : Job) (c : Call) (h : History) (at : ScxAt) (s : Step) (n : ℕ) → FillWaits allows c h m at s → value (row_of c s h ⊳ h) (node n Value) ≡ value h (node n Value)
 fill_value allows m c h at s n w = rw w.asked (value_apart (row_of c (fill_step m (part_at at)) h) h (scx m.scx.0 (part_at at)) (node n Value) refl refl)
@@ -164,10 +165,11 @@ value_at_place allows m c h (AtMember j) s n l w = fill_value allows m c h (AtMe
 value_at_place allows m c h (AtSeen j) s n l w = fill_value allows m c h (AtSeen j) s n w
 value_at_place allows m c h AtCall s n l w = fill_value allows m c h AtCall s n w
 
+-- the step that a run of SCX waits for leaves the value of every node
 pub scx_value : (allows : Layout → History → ℕ → Type 0) (m : ScxRun) (c : Call) (h : History) (s : Step) (n : ℕ) → Lawful c.layout (row_of c s h ⊳ h) → scx_waits allows m c h s → value (row_of c s h ⊳ h) (node n Value) ≡ value h (node n Value)
 scx_value allows m c h s n l w = value_at_place allows (job_of m) c h m.at s n l w
 
--- and they leave its fresh node blank
+-- its steps leave its fresh node blank, place by place
 
 fill_spares : (allows : Layout → History → ℕ → Type 0) (m : Job) (c : Call) (h : History) (at : ScxAt) (s : Step) → FillWaits allows c h m at s → ((j : ℕ) → part_at at ≡ Member j → wanted m (part_at at) ≢ m.update.fresh.0) → Spares (row_of c s h) m.scx.0 m.update.fresh.0
 fill_spares allows m c h at s w d = rw w.asked (spared_by_fill (row_of c (fill_step m (part_at at)) h) m.scx.0 m.update.fresh.0 (part_at at) refl d)
@@ -182,5 +184,6 @@ spares_at_place allows m c h (AtMember k) s w = fill_spares allows m c h (AtMemb
 spares_at_place allows m c h (AtSeen k) s w = fill_spares allows m c h (AtSeen k) s w (λ j e. cc)
 spares_at_place allows m c h AtCall s w = fill_spares allows m c h AtCall s w (λ j e. cc)
 
+-- the step that a run of SCX waits for spares its fresh node
 pub scx_spares : (allows : Layout → History → ℕ → Type 0) (m : ScxRun) (c : Call) (h : History) (s : Step) → scx_waits allows m c h s → Spares (row_of c s h) m.scx.0 m.update.fresh.0
 scx_spares allows m c h s w = spares_at_place allows (job_of m) c h m.at s w

@@ -5,7 +5,8 @@ use Rattle.help.specs.HelpSteps.{help_left}
 use Rattle.prims.specs.declared.scx.ScxAt.{ScxAt}
 use Rattle.prims.specs.declared.scx.ScxAt.TheVariants.{Start, Plan, New, Old, Member, Seen, Call, Help}
 
--- two fills for each node, four others, and HELP
+-- how many steps a run of SCX may still ask for at this place: two fills
+-- for each node, four others, and those of HELP
 abbrev pub scx_left : ScxAt → ℕ
 scx_left Start = 34
 scx_left Plan = 33

@@ -46,13 +46,14 @@ module _ (allows : Layout → History → ℕ → Type 0) (c : Call) (h : Histor
       → ((s : _) → FillWaits allows c h (job_of m) at s → scx_waits_at allows c h (job_of m) at s) → FillsAt m now turn at → scx_turn allows c h now turn
   turn_fill at now turn x y i f w a = rw (a.asked, a.stands) (w _ record { fills = record { hand = x; way = y; within = i; filled = f }; asked = refl })
 
-  -- the plan, the fresh node and what the field holds are filled first, and then the nodes
+  -- the run begins with the fill of the plan
   pub turn_start : (now : ScxRun) (turn : Turn Scx) → InHand allows c.layout c.pass h (job_of m) → IsUnderWay c h m.scx.0 m.update.snaps → FillsAt m now turn AtPlan → scx_turn allows c h now turn
   turn_start now turn x y a = turn_fill AtPlan now turn x y tt (λ part p. absurd (none part p)) (λ s y. y) a
     where
       none : (part : ScxWord) → IsFilled (length m.update.snaps) AtPlan part → ⊥
       none part p = p
 
+  -- after the plan it fills `new`
   pub turn_plan : (now : ScxRun) (turn : Turn Scx) → FillMade allows c h (job_of m) AtPlan → FillsAt m now turn AtNew → scx_turn allows c h now turn
   turn_plan now turn x a = turn_fill AtNew now turn x.hand x.way tt (λ part p. x.filled part (filled part p)) (λ s y. y) a
     where
@@ -60,6 +61,7 @@ module _ (allows : Layout → History → ℕ → Type 0) (c : Call) (h : Histor
       filled Plan p = tt
       filled _ p = absurd p
 
+  -- after `new` it fills `old`
   pub turn_new : (now : ScxRun) (turn : Turn Scx) → FillMade allows c h (job_of m) AtNew → FillsAt m now turn AtOld → scx_turn allows c h now turn
   turn_new now turn x a = turn_fill AtOld now turn x.hand x.way tt (λ part p. x.filled part (filled part p)) (λ s y. y) a
     where
@@ -68,6 +70,7 @@ module _ (allows : Layout → History → ℕ → Type 0) (c : Call) (h : Histor
       filled New p = tt
       filled _ p = absurd p
 
+  -- after `old` it fills the first `v` word
   pub turn_old : (now : ScxRun) (turn : Turn Scx) → FillMade allows c h (job_of m) AtOld → FillsAt m now turn (AtMember First) → scx_turn allows c h now turn
   turn_old now turn x a = turn_fill (AtMember First) now turn x.hand x.way (rw (sym x.hand.update.count) x.hand.update.planned.some) (λ part p. x.filled part (filled part p)) (λ s y. y) a
     where
@@ -95,6 +98,7 @@ module _ (allows : Layout → History → ℕ → Type 0) (c : Call) (h : Histor
       go (inr p) = let f = (plan_counted m.update.plan.0 u.planned.some).few in omega (arith, e)
       go (inl p) = rw e (not_less (suc (index_of j)) (m.update.plan.0 % 8) (λ q. d (p, q)))
 
+  -- after a `v` word it fills the next, or the first `i` word
   pub turn_member : (j : MemberNo) (now : ScxRun) (turn : Turn Scx) → FillMade allows c h (job_of m) (AtMember j) → FillsNext m now turn j (λ k. AtMember k) ⊎ FillsLast m now turn j (AtSeen First) → scx_turn allows c h now turn
   turn_member j now turn x (inl a) = turn_fill (AtMember a.next) now turn x.hand x.way (next_within x.hand.update a.next a.within) (λ part p. x.filled part (filled part p)) (λ s y. y) a.fills
     where
@@ -114,6 +118,7 @@ module _ (allows : Layout → History → ℕ → Type 0) (c : Call) (h : Histor
       filled (Seen i) p = absurd (omega arith)
       filled _ p = absurd p
 
+  -- after an `i` word it fills the next, or the number of the call
   pub turn_seen : (j : MemberNo) (now : ScxRun) (turn : Turn Scx) → FillMade allows c h (job_of m) (AtSeen j) → FillsNext m now turn j (λ k. AtSeen k) ⊎ FillsLast m now turn j AtCall → scx_turn allows c h now turn
   turn_seen j now turn x (inl a) = turn_fill (AtSeen a.next) now turn x.hand x.way (next_within x.hand.update a.next a.within) (λ part p. x.filled part (filled part p)) (λ s y. y) a.fills
     where
@@ -194,10 +199,11 @@ module _ (allows : Layout → History → ℕ → Type 0) (c : Call) (h : Histor
     called = x.filled CallWord tt;
   }
 
+  -- once all is filled, HELP may begin
   pub begin_help : (help : HelpRun) → IsRun allows c.layout h → FillMade allows c h (job_of m) AtCall → help.scx ≡ m.scx → help.at ≡ HelpStart → Helps allows c h m help None
   begin_help help run x e z = record { run = run; ready = (z, inr (rw e (prepared x))); same = e; filled = filled x }
 
--- where it has been told something, its words are filled
+-- a run behind its start has been told something, so the word of its place is filled
 pub made_then : (allows : Layout → History → ℕ → Type 0) (m : ScxRun) (c : Call) (h : History) (got : Option ℕ) (at : ScxAt) → m.at ≡ at → (at ≡ Start → ⊥) → ((v : ℕ) → scx_told_at allows c h (job_of m) at v → FillMade allows c h (job_of m) at) → scx_ready allows m c h got → FillMade allows c h (job_of m) at
 made_then allows m c h None at is d f r = absurd (d (sym is ∙ r.0))
 made_then allows m c h (Some v) at is d f r = f v (subst (λ a. scx_told_at allows c h (job_of m) a v) is r)
@@ -205,7 +211,7 @@ made_then allows m c h (Some v) at is d f r = f v (subst (λ a. scx_told_at allo
 -- HELP has answered
 
 module _ (c : Call) (h : History) (m : ScxRun) (help : HelpRun) (l : Lawful c.layout h) (x : HasFilled c h m.scx.0 m.call m.update) (same : help.scx ≡ m.scx) where
-  -- it is committed
+  -- where HELP answers true, the SCX is done
   pub done_at : (b : Bool) (now : HelpRun) → help_answers c.layout c.pass now h b → b ≡ true → now.scx ≡ help.scx → IsDone c h m
   done_at b now a t e =
       let s : value h (state m.scx.0) ≡ 1 = rw same at (committed_state c h b now help a e t) in
@@ -240,6 +246,7 @@ module _ (c : Call) (h : History) (m : ScxRun) (help : HelpRun) (l : Lawful c.la
   lost_with now (AtAbort j found) e a k = lost_by (node_at now.members (index_of j)) found (rw (e, same) at a) (rw (e, same) at k)
   lost_with now _ e a k = absurd k
 
+  -- where HELP answers false, the SCX is lost at the node that could not be frozen
   pub lost_at : (b : Bool) (now : HelpRun) → help_answers c.layout c.pass now h b → b ≡ false → now.scx ≡ help.scx → IsLost c h m (blocked_at now.members now.at).0.0 (blocked_at now.members now.at).1.0
   lost_at true now a t e = cc
   lost_at false now a t e = lost_with now now.at e a.aborted a.blocked

@@ -5,10 +5,11 @@ use Rattle.arena.specs.declared.word.Side.{Side}
 use Rattle.arena.specs.declared.word.Side.TheVariants.{Left, Right}
 use Rattle.prims.specs.declared.snap.Snap.{Snap}
 
+-- the field on this side, as the snapshot found it
 abbrev pub child_of : Snap → Side → NodeNo
 child_of snap Left = snap.left
 child_of snap Right = snap.right
 
--- a snapshot of the list
+-- the i-th snapshot of the list, or a blank one (all numbers 0) beyond its end
 abbrev pub snap_at : List Snap → ℕ → Snap
 snap_at snaps i = get_or snaps i record { node = record { 0 = 0 }; scx = record { 0 = 0 }; left = record { 0 = 0 }; right = record { 0 = 0 } }

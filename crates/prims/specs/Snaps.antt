@@ -5,24 +5,24 @@ use Rattle.arena.specs.declared.number.NodeNo.{NodeNo}
 use Rattle.prims.specs.Snap.{snap_at}
 use Rattle.prims.specs.declared.snap.Snap.{Snap}
 
--- no two are of one node
+-- no two snapshots of the list are of one node
 abbrev pub AreDistinct : List Snap → Type 0
 AreDistinct snaps = (i j : ℕ) → i < length snaps → j < length snaps → i ≢ j → (snap_at snaps i).node.0 ≢ (snap_at snaps j).node.0
 
--- one of them is of the node
+-- some snapshot of the list is of node n
 pub record IsAmong (snaps : List Snap) (n : ℕ) : Type 0 where
   pub at : ℕ
   pub within : at < length snaps
   pub is : (snap_at snaps at).node.0 ≡ n
 
--- the node is one of the list
+-- node n is one of the list
 abbrev pub HasNode : List NodeNo → ℕ → Type 0
 HasNode nodes n = Contains (map (λ (m : NodeNo). m.0) nodes) n
 
--- the test for it
+-- whether node n is one of the list
 abbrev pub has_node : List NodeNo → ℕ → Bool
 has_node nodes n = list_any (λ (m : NodeNo). eqb m.0 n) nodes
 
--- there is a snapshot at the place, of a node of the list
+-- whether the list has a j-th snapshot, and its node is among those to be finalized
 abbrev pub finalizes : List Snap → List NodeNo → ℕ → Bool
 finalizes snaps nodes j = ltb j (length snaps) && has_node nodes (snap_at snaps j).node.0

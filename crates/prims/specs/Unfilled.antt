@@ -16,7 +16,7 @@ use Rattle.arena.specs.Lawful.{Lawful}
 use Rattle.arena.proofs.Values.{value_quiet, value_apart, node_apart, node_word_apart, scx_apart, scx_word_apart}
 use Rattle.histories.proofs.Lemmas.{Change, FillsNode, FillsScx, IsScxFill, aborts, change, commits, fills_node, fills_scx, freezes, lawful_row, marks, not_flag, not_state, nothing, one_node_owner, one_scx_owner, sets_frozen, updates}
 
--- the settled words of an SCX-record
+-- a row that fills no word of s leaves the settled words of s as they were
 pub words_unfilled : (lay : Layout) (h : History) (r : Row) (s : ℕ) → Lawful lay (r ⊳ h) → ((part : ScxWord) → ¬ FillsScx lay h r s part) → (a : ScxWord) → IsScxFill a → value (r ⊳ h) (scx s a) ≡ value h (scx s a)
 words_unfilled lay h r s l no_fill a i = go (change lay h r l)
   where
@@ -35,7 +35,7 @@ words_unfilled lay h r s l no_fill a i = go (change lay h r l)
     go (commits u k x) = value_apart r h (state u) (scx s a) x.word (scx_word_apart u s State a (not_state a i))
     go (aborts u j k x) = value_apart r h (state u) (scx s a) x.word (scx_word_apart u s State a (not_state a i))
 
--- the value of a node
+-- a row that fills no word of node n leaves its value as it was
 pub value_unfilled : (lay : Layout) (h : History) (r : Row) (n : ℕ) → Lawful lay (r ⊳ h) → ((part : NodeWord) → ¬ FillsNode lay h r n part) → value (r ⊳ h) (node n Value) ≡ value h (node n Value)
 value_unfilled lay h r n l no_fill = go (change lay h r l)
   where
@@ -54,16 +54,18 @@ value_unfilled lay h r n l no_fill = go (change lay h r l)
     go (commits u k x) = value_apart r h (state u) (node n Value) x.word refl
     go (aborts u j k x) = value_apart r h (state u) (node n Value) x.word refl
 
--- so rows of another pass leave them
+-- so rows of other passes leave the settled words of a pass's own SCX-record
 pub own_words_unfilled : (lay : Layout) (h : History) (r : Row) (c s : ℕ) → Lawful lay (r ⊳ h) → r.pass.0 ≢ c → IsOwnScx lay c s → (a : ScxWord) → IsScxFill a → value (r ⊳ h) (scx s a) ≡ value h (scx s a)
 own_words_unfilled lay h r c s l other own = words_unfilled lay h r s l (λ part x. other (one_scx_owner lay r.pass.0 c s x.is_open.own own))
 
+-- and the value of a pass's own node
 pub own_value_unfilled : (lay : Layout) (h : History) (r : Row) (c n : ℕ) → Lawful lay (r ⊳ h) → r.pass.0 ≢ c → IsOwnNode lay c n → value (r ⊳ h) (node n Value) ≡ value h (node n Value)
 own_value_unfilled lay h r c n l other own = value_unfilled lay h r n l (λ part x. other (one_node_owner lay r.pass.0 c n x.is_open.own own))
 
--- and so do rows that are no fills
+-- a row that is no fill leaves the settled words of every SCX-record
 pub step_words : (lay : Layout) (h : History) (r : Row) (s : ℕ) → Lawful lay (r ⊳ h) → r.kind ≢ Fill → (a : ScxWord) → IsScxFill a → value (r ⊳ h) (scx s a) ≡ value h (scx s a)
 step_words lay h r s l no_fill = words_unfilled lay h r s l (λ part x. no_fill x.kind)
 
+-- and the value of every node
 pub step_value : (lay : Layout) (h : History) (r : Row) (n : ℕ) → Lawful lay (r ⊳ h) → r.kind ≢ Fill → value (r ⊳ h) (node n Value) ≡ value h (node n Value)
 step_value lay h r n l no_fill = value_unfilled lay h r n l (λ part x. no_fill x.kind)

@@ -28,7 +28,8 @@ ends_either (r ⊳ h) a b (inr p) (inr q) = ends_either h a b p q
 
 -- The i-th node of an SCX-record: what was seen there, and what holds it
 
--- before an update has won, and while its SCX-record holds its i-th node n, the last entry of n is that of each moment at which the info of n was what was seen there
+-- before an update of s has won, and while s holds its i-th node n, the last entry of n is that of
+-- each moment at which the info of n was what the snapshot found there
 pub last_held : (lay : Layout) (h m : History) (s i n q : ℕ) → Lawful lay h → s ≢ 0 → i < count h s → member h s i ≡ n → seen h s i ≡ q → value h (info n) ≡ s → ¬ HasWon h s → EndsWith h m → IsNamed lay m n → value m (state q) ≢ 0 → value m (info n) ≡ q → last (log lay h) n ≡ last (log lay m) n
 last_held lay (Start mode) m s i n q l real w is_n is_q held waits e named rest here = ap (λ k. last (log lay k) n) (sym e)
 last_held lay (r ⊳ h) m s i n q l real w is_n is_q held waits (inl e) named rest here = ap (λ k. last (log lay k) n) (sym e)
@@ -71,19 +72,19 @@ last_held lay (r ⊳ h) m s i n q l real w is_n is_q held waits (inr e) named re
 
 -- The row at which it has won
 
--- an update of s has won at a row of the history
+-- the row of the history at which an update of s has won
 pub record IsWonAt (lay : Layout) (h : History) (s : ℕ) : Type 0 where
   pub row : Row
   pub before : History
   pub within : EndsWith h (row ⊳ before)
   pub wins : IsWin before row s
 
--- a row that wins
+-- a row that is a winning update of s makes that s has won
 pub won_by : (r : Row) (h : History) (s : ℕ) → IsWin h r s → HasWon (r ⊳ h) s
 unfolding HasWon
 won_by r h s w = inl w
 
--- one that has won has such a row
+-- where s has won, there is such a row
 pub won_at : (lay : Layout) (h : History) (s : ℕ) → HasWon h s → IsWonAt lay h s
 unfolding HasWon
 won_at lay (Start mode) s w = absurd w
@@ -101,7 +102,7 @@ module _ (lay : Layout) (h : History) (s : ℕ) (l : Lawful lay h) (x : IsWonAt 
   row_wins : UpdateWins x.before x.row s
   row_wins = record { kind = x.wins.kind; update = x.wins.update; before = (lawful_row lay x.before x.row row_lawful).before; found = x.wins.found; stored = x.wins.update.exchange.won x.wins.found }
 
-  -- it adds the entry
+  -- the row adds the entry to the log
   pub won_logged : log lay (x.row ⊳ x.before) ≡ entry_of lay x.before s ∷ log lay x.before
   won_logged = log_wins before_facts row_wins
 
@@ -112,7 +113,7 @@ module _ (lay : Layout) (h : History) (s : ℕ) (l : Lawful lay h) (x : IsWonAt 
   before_ends : EndsWith h x.before
   before_ends = ends_trans h (x.row ⊳ x.before) x.before x.within (inr (ends_self x.before))
 
-  -- its SCX-record was named by then
+  -- s was named before the row
   pub won_was_named : IsNamedScx x.before s
   won_was_named = (member x.before s 0, (update_flagged before_facts row_wins).frozen 0 (update_flagged before_facts row_wins).some)
 
@@ -127,11 +128,12 @@ module _ (lay : Layout) (h : History) (s : ℕ) (l : Lawful lay h) (x : IsWonAt 
     holds : value x.before (info (member x.before s i)) ≡ s
     holds = holds_member before_facts row_wins covers
 
-    -- none of its nodes was final
+    -- none of its nodes was final just before the row
     pub won_not_final : is_final (log lay x.before) (member x.before s i) ≡ false
     won_not_final = win_not_final lay x.before x.row s (member x.before s i) row_lawful row_wins covers
 
-    -- and the last entry of each was that of every moment at which its info was what was seen there
+    -- the last entry of each was then that of every moment
+    -- at which its info was what the snapshot found
     pub won_last : (m : History) → EndsWith h m → IsNamed lay m (member x.before s i) → value m (state (seen x.before s i)) ≢ 0 → value m (info (member x.before s i)) ≡ seen x.before s i → last (log lay x.before) (member x.before s i) ≡ last (log lay m) (member x.before s i)
     won_last m e named rest here = ⊎_elim
         (λ p. last_held lay x.before m s i (member x.before s i) (seen x.before s i) (lawful_tail lay x.before x.row row_lawful) won_is_real w refl refl holds (update_is_first before_facts row_wins) p named rest here)
@@ -147,7 +149,7 @@ module _ (lay : Layout) (h : History) (s : ℕ) (l : Lawful lay h) (x : IsWonAt 
             let about : About lay (descriptor m s) m s = (facts lay m lm).about s (member x.before s i) won_is_real held in
             about.gone i (rw (ap count_of (same Plan tt)) w) (rw (same (Member i) tt) held) (rw (same (Member i) tt, same (Seen i) tt) here)
 
-  -- it comes behind every moment at which it had not won
+  -- the row comes behind every moment at which s had not won
   pub won_since_start : (m : History) → EndsWith h m → ¬ HasWon m s → EndsWith x.before m
   won_since_start m e d = ⊎_elim behind (λ p. absurd (d (won_since lay m (x.row ⊳ x.before) s (lawful_since lay h m l e) p row_won))) (ends_either h (x.row ⊳ x.before) m x.within e)
     where

@@ -15,54 +15,68 @@ pub enum Llx {
     Snapshot(Snap),
     /// The node is finalized, by this SCX-record.
     Finalized { node: NodeNo, scx: ScxNo },
-    /// Another client's SCX-record was in the way.
+    /// Another client's SCX-record was in the way: it was in progress over the node within the
+    /// call, and is finished now. The node was not final at the call's begin.
     Fail { node: NodeNo, scx: ScxNo },
 }
 
 /// The step that an LLX has asked for, with what it has read.
 #[derive(Clone, Copy, Debug, PartialEq, Eq)]
 pub enum LlxAt {
+    /// None yet.
     Start,
+    /// The load of the mark.
     Marked,
+    /// The load of the info; `marked` is what the first load of the mark has found.
     Info {
         marked: bool,
     },
+    /// The load of the state of `scx`, which the info named.
     State {
         marked: bool,
         scx: ScxNo,
     },
+    /// The second load of the mark; `state` is what the state of `scx` was.
     MarkedAgain {
         marked: bool,
         scx: ScxNo,
         state: u64,
     },
+    /// The load of the left field.
     Left {
         marked: bool,
         scx: ScxNo,
     },
+    /// The load of the right field.
     Right {
         marked: bool,
         scx: ScxNo,
         left: u64,
     },
+    /// The second load of the info.
     InfoAgain {
         marked: bool,
         scx: ScxNo,
         left: u64,
         right: u64,
     },
+    /// The second load of the state of `scx`, where no snapshot was to be had.
     StateAgain {
         marked: bool,
         scx: ScxNo,
     },
+    /// A step of HELP of what it met.
     Help {
         marked: bool,
         help: HelpRun,
     },
+    /// The third load of the info.
     LastInfo,
+    /// The load of the state of what that named, which is to blame.
     LastState {
         scx: ScxNo,
     },
+    /// A step of HELP of that one.
     LastHelp {
         scx: ScxNo,
         help: HelpRun,
@@ -73,7 +87,9 @@ pub enum LlxAt {
 /// after the fields are read; else it helps what it met. From Brown, Ellen and Ruppert (PODC 2013).
 #[derive(Clone, Copy, Debug, PartialEq, Eq)]
 pub struct LlxRun {
+    /// The node that is looked at.
     pub node: NodeNo,
+    /// Where the run stands.
     pub at: LlxAt,
 }
 
@@ -222,7 +238,8 @@ impl LlxRun {
         }
     }
 
-    /// Ends if the SCX-record that was met has finalized the node, else looks at the info once more.
+    /// Ends if the SCX-record that was met has finalized the node, else looks at the info once
+    /// more.
     fn helped(&mut self, finalized: bool, scx: ScxNo) -> Turn<Llx>
         ensures turn { Finalizes self.new self.old result finalized scx ⊎ LooksLast self.old self.new result finalized }
     {

@@ -4,18 +4,25 @@ ghost use Rattle.std.specs.Prelude.{◌≡◌, ℕ, ◌+◌, ◌<◌, ◌≤◌}
 use crate::scx::{Scx, ScxRun};
 use arena::{Deed, Kind, Machine, NodeWord, Shape, Step, Turn, Word};
 
+/// The step that a run of SCX with a fresh cell has asked for.
 #[derive(Clone, Copy, Debug, PartialEq, Eq)]
 pub enum PutAt {
+    /// None yet.
     Start,
+    /// The fill of the fresh cell's value.
     Fill,
+    /// A step of the SCX.
     Scx,
 }
 
 /// Fills the value of the fresh cell of an SCX, and then runs it.
 #[derive(Clone, Copy, Debug)]
 pub struct PutRun {
+    /// What the fresh cell is to hold.
     pub value: u64,
+    /// The SCX that puts the cell into its field.
     pub scx: ScxRun,
+    /// Where the run stands.
     pub at: PutAt,
 }
 

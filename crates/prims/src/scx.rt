@@ -8,32 +8,46 @@ use help::HelpRun;
 /// What an SCX answers.
 #[derive(Clone, Copy, Debug, PartialEq, Eq)]
 pub enum Scx {
-    /// The field holds the fresh node from one moment of the call on.
+    /// The update is made: at one moment of the call each node was as its snapshot found it, and
+    /// the field took the fresh node. A later update may have changed the field since.
     Done,
-    /// This node had changed since its snapshot: its info named this SCX-record.
+    /// The update is not made and never will be: another SCX-record has come to this node since its
+    /// snapshot. The node's info named that one, which may have changed the node or aborted.
     Lost { node: NodeNo, scx: ScxNo },
 }
 
 /// The step that an SCX has asked for.
 #[derive(Clone, Copy, Debug, PartialEq, Eq)]
 pub enum ScxAt {
+    /// None yet.
     Start,
+    /// The fill of the plan word.
     Plan,
+    /// The fill of `new`.
     New,
+    /// The fill of `old`.
     Old,
+    /// The fill of the j-th `v` word.
     Member { j: MemberNo },
+    /// The fill of the j-th `i` word.
     Seen { j: MemberNo },
+    /// The fill of the call's number.
     Call,
+    /// A step of HELP of the SCX-record.
     Help { help: HelpRun },
 }
 
-/// SCX, step by step: fills an SCX-record of its own and completes it by HELP. From Brown, Ellen and
-/// Ruppert (PODC 2013).
+/// SCX, step by step: fills an SCX-record of its own and completes it by HELP. From Brown, Ellen
+/// and Ruppert (PODC 2013).
 #[derive(Clone, Copy, Debug)]
 pub struct ScxRun {
+    /// The SCX-record that it fills, of the caller's share.
     pub scx: ScxNo,
+    /// The number of the call among those of its pass.
     pub call: u64,
+    /// What the SCX is to do.
     pub update: Update,
+    /// Where the run stands.
     pub at: ScxAt,
 }
 

@@ -6,9 +6,13 @@ use arena::{NodeNo, ScxNo, Side};
 /// What an LLX of a node found: its info and its fields at one moment.
 #[derive(Clone, Copy, Debug, Default, PartialEq, Eq)]
 pub struct Snap {
+    /// The node that was looked at.
     pub node: NodeNo,
+    /// The SCX-record that its info named, which was finished.
     pub scx: ScxNo,
+    /// Its left field: the number of a node, 0 for none.
     pub left: NodeNo,
+    /// Its right field.
     pub right: NodeNo,
 }
 

@@ -10,8 +10,10 @@ use std::marker::Model;
 
 /// A list of snapshots, in whatever holds it.
 pub trait SnapList {
+    /// The snapshots as a list, in their order.
     ghost list: { Self → List Snap };
 
+    /// How many snapshots there are.
     fn len(&self) -> usize
         ensures { result ≡ length (list self.now) };
 

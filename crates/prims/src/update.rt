@@ -13,10 +13,13 @@ use help::Plan;
 /// field of one of them that gets the fresh node.
 #[derive(Clone, Copy, Debug)]
 pub struct Update {
+    /// A snapshot of each node that it covers.
     pub snaps: Snaps,
+    /// How many nodes, which of them it finalizes, and where the field is.
     pub plan: Plan,
     /// What the field holds until then.
     pub old: NodeNo,
+    /// The node that is put into the field.
     pub fresh: NodeNo,
 }
 
@@ -28,8 +31,8 @@ impl Update {
     ghost use Rattle.prims.specs.Snaps.{AreDistinct, IsAmong, HasNode};
     ghost use Rattle.prims.specs.Updates.{field_place};
 
-    /// An update of 1 to 4 snapshots of different nodes, of which the field's node is one. It finalizes
-    /// those that are in `finalize`.
+    /// An update of 1 to 4 snapshots of different nodes, of which the field's node is one. It
+    /// finalizes those that are in `finalize`.
     pub fn new(snaps: &[Snap], finalize: &[NodeNo], field: (NodeNo, Side), fresh: Fresh) -> Update
         requires fits { length snaps.now ≤ 4 }
         requires distinct { AreDistinct snaps.now }

@@ -9,7 +9,8 @@ use arena::{Deed, Kind, Machine, NodeNo, NodeWord, ScxNo, Shape, Step, Turn, Wor
 pub enum Vlx {
     /// Every node was as its snapshot says as the call began.
     Same,
-    /// This node has changed since its snapshot: its info names this SCX-record.
+    /// Another SCX-record has come to this node since its snapshot: the node's info names it. It
+    /// may have changed the node, be about to, or have aborted.
     Changed { node: NodeNo, scx: ScxNo },
 }
 
@@ -17,6 +18,7 @@ pub enum Vlx {
 /// found. From Brown, Ellen and Ruppert (PODC 2013).
 #[derive(Debug, Drop)]
 pub struct VlxRun<L> {
+    /// The snapshots, in the order in which their nodes are looked at.
     pub snaps: L,
     /// How many infos it has asked for.
     pub asked: usize,
