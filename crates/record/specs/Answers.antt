@@ -16,8 +16,9 @@ use Rattle.arena.specs.declared.fault.Resource.TheVariants.{Nodes, Scx as ScxRec
 use Rattle.record.specs.declared.record.Answer.{Answer}
 use Rattle.record.specs.declared.record.Answer.TheVariants.{Snapshot, Finalized, Done, Same}
 
--- where a finished call took place: an LLX that told something in its last turn, a VLX in its first, an SCX in the turn of its entry;
--- what was refused, failed, lost, or found a change took place nowhere
+-- where a finished call took place: an LLX that told something in its last turn, a VLX
+-- that found its cells as they were in its first, an SCX that is done in the turn of
+-- its entry; all other calls took place nowhere
 abbrev pub moment_of : Answer → ℕ → ℕ → Option ℕ → Option ℕ
 moment_of (Snapshot left right) first last won = Some last
 moment_of Finalized first last won = Some last
@@ -25,46 +26,56 @@ moment_of Same first last won = Some first
 moment_of Done first last won = won
 moment_of _ first last won = None
 
--- what a snapshot of the node says: its fields, at which it is not final
+-- the snapshot is right: left and right are the node's
+-- fields in the log, where the node is not final
 pub record IsSnapshotAt (lay : Layout) (now : History) (n left right : ℕ) : Type 0 where
   pub left_is : left ≡ fields lay now n Left
   pub right_is : right ≡ fields lay now n Right
   pub not_final : is_final (log lay now) n ≡ false
 
--- what a failed LLX of the node says: at some step of the call an SCX-record of another client that covers the node was in progress, and the node was not final at the call's begin; it is the one that the call's last look at the node's info has found, and is finished now
+-- a failed LLX of node n is right: at some step of the call an SCX-record
+-- of another client that covers n was in progress
 pub record HasFailed (lay : Layout) (c : ℕ) (now start : History) (n node scx : ℕ) : Type 0 where
   pub is : node ≡ n
   pub others : IsOthersScx lay c scx
+  -- it was in the way behind the call's begin
   pub way : WasInTheWay now start n scx
+  -- it is the one that the call's last look at the node's info has found, and is finished now
   pub found : HasFound c now start LoadInfo n scx
   pub over : value now (state scx) ≢ 0
+  -- the node was not final at the call's begin
   pub not_final : is_final (log lay start) n ≡ false
 
--- at this moment the cell is as its snapshot found it: it has the same last entry, and is not final
+-- the cell at this moment is as at the snapshot's
+-- moment: it has the same last entry, and is not final
 pub record IsUnchanged (lay : Layout) (at moment : History) (n : ℕ) : Type 0 where
   pub same : last (log lay at) n ≡ last (log lay moment) n
   pub not_final : is_final (log lay at) n ≡ false
 
--- each of the cells is as the snapshot that the client keeps of it
+-- the client keeps a snapshot of each of the cells, and each is as its snapshot found it
 abbrev pub AreUnchanged : Layout → History → (ℕ → Option History) → List ℕ → Type 0
 AreUnchanged lay at linked cells = (n : ℕ) → Contains cells n → (moment : History) × (linked n ≡ Some moment) × IsUnchanged lay at moment n
 
--- an SCX-record of another client that covers one of the cells, and that the last step of this kind in the call has found in the cell's info, was in progress at some step behind the moment of that cell's snapshot
+-- another client's SCX-record has come to one of the cells since the snapshot of it
 pub record IsInTheWay (lay : Layout) (c : ℕ) (now start : History) (kind : Kind) (cells : List ℕ) (node scx : ℕ) (IsMoment : History → Type 0) : Type 0 where
   pub among : Contains cells node
+  -- the moment of the cell's snapshot
   pub moment : History
   pub of_snapshot : IsMoment moment
+  -- the SCX-record was in progress over the cell at some step behind that moment
   pub way : WasInTheWay now moment node scx
+  -- the last step of this kind in the call has found it in the cell's info
   pub found : HasFound c now start kind node scx
   pub others : IsOthersScx lay c scx
 
--- the cells before this one are as the snapshots that the client keeps of them found them
+-- this cell stands among them, and those before it are as the client's snapshots found them
 pub record IsFirstChanged (lay : Layout) (at : History) (linked : ℕ → Option History) (cells : List ℕ) (node : ℕ) : Type 0 where
   pub place : ℕ
   pub is : slice_get cells place ≡ Some node
   pub before : (i : ℕ) → i < place → (moment : History) × (linked (get_or cells i 0) ≡ Some moment) × IsUnchanged lay at moment (get_or cells i 0)
 
--- the client has taken all nodes of its share, or all SCX-records but not all nodes: none is left
+-- none of this resource is left: the client has taken all nodes of its share, or all its
+-- SCX-records though not all its nodes
 abbrev pub IsEmpty : Layout → ℕ → History → Resource → ℕ → Type 0
 IsEmpty lay c now Nodes left = (left ≡ 0) × ((n : ℕ) → IsOwnNode lay c n → IsTakenNode now n)
 IsEmpty lay c now ScxRecords left = (left ≡ 0) × ((s : ℕ) → IsOwnScx lay c s → IsTakenScx now s) × ((n : ℕ) × IsOwnNode lay c n × ¬ IsTakenNode now n)
@@ -78,14 +89,14 @@ pub record HasRoom (lay : Layout) (c : ℕ) (at : History) : Type 0 where
   pub own_scx : IsOwnScx lay c scx_number
   pub free_scx : ¬ IsTakenScx at scx_number
 
--- since `start` the client has taken no node of its share but one, and no SCX-record but one
+-- since `start` the client has taken one node of its share at most, and one SCX-record at most
 pub record HasTakenOne (lay : Layout) (c : ℕ) (now start : History) : Type 0 where
   pub node_number : ℕ
   pub nodes : (n : ℕ) → IsOwnNode lay c n → n ≢ node_number → ¬ IsTakenNode start n → ¬ IsTakenNode now n
   pub scx_number : ℕ
   pub scx_records : (s : ℕ) → IsOwnScx lay c s → s ≢ scx_number → ¬ IsTakenScx start s → ¬ IsTakenScx now s
 
--- it was entered if it was done, and only then
+-- the call's update is in the log if the answer is `done`, and only then
 abbrev pub IsEntered : Answer → Option ℕ → Type 0
 IsEntered Done (Some turn) = Unit {0}
 IsEntered Done None = ⊥

@@ -14,14 +14,15 @@ use Rattle.record.specs.Rules.Scx.{scx_rules}
 use Rattle.record.specs.Rules.Set.{set_rules}
 use Rattle.record.specs.Rules.Vlx.{vlx_rules}
 
--- the rules of each command
+-- the one match from commands to their rules
 abbrev pub rules : Command → Rules
 rules (Llx cell) = llx_rules cell
 rules (Scx update) = scx_rules update
 rules (Vlx cells) = vlx_rules cells
 rules (Set field value) = set_rules field value
 
--- how many steps a call may make while so many nodes are taken; calls of cells make no more where others take nodes
+-- how many steps a call may make while so many nodes are taken, by any client;
+-- those of cells make no more where nodes are taken
 abbrev pub most_steps : Command → ℕ → ℕ
 most_steps command = (rules command).most_steps
 
@@ -42,10 +43,11 @@ abbrev pub linked_then : Option Command → Answer → History → ℕ → Optio
 linked_then None answer now n old = old
 linked_then (Some command) answer now n old = (rules command).linked_then answer now n old
 
--- what the answer to a call of client c says, between the steps up to its begin and those up to now, with the snapshots that the client keeps
+-- the answer to a call of client c is right: it is true of the steps up to the call's begin and of
+-- those up to now, with the snapshots that the client keeps
 abbrev pub IsRight : Layout → ℕ → History → History → (ℕ → Option History) → Command → Answer → Type 0
 IsRight lay c now start linked command = (rules command).IsRight lay c now start linked
 
--- what the entry of a call of client c does
+-- the entry is one that a call of client c with this command makes
 abbrev pub IsEntryFor : Layout → ℕ → History → History → (ℕ → Option History) → Entered → Command → Type 0
 IsEntryFor lay c before start linked e command = (rules command).IsEntryFor lay c before start linked e

@@ -5,11 +5,11 @@ use Rattle.script.specs.declared.command.Command.{Command}
 use Rattle.record.specs.declared.record.Line.{Line}
 use Rattle.record.specs.Turns.{answered}
 
--- what a client is to do, call by call in the script's order
+-- what a client is to do: its commands, in the script's order
 abbrev pub commands : List Call → ℕ → List Command
 commands [] c = []
 commands (call ∷ calls) c = cond (eqb call.client.0 c) (call.command ∷ commands calls c) (commands calls c)
 
--- its next call: the first that is not answered
+-- the client's next command: the first that is not answered
 abbrev pub next_command : List Call → List Line → ℕ → Option Command
 next_command calls lines c = slice_get (commands calls c) (answered lines c)

@@ -16,18 +16,23 @@ use Rattle.record.specs.CommandRules.{IsEntryFor}
 use Rattle.record.specs.Commands.{next_command}
 use Rattle.record.specs.Linked.{linked}
 
--- a row that wins enters its update into the log: the only one of a call of its SCX-record's owner that is not answered yet
+-- the row is a winning update, with this entry: of a call
+-- of its SCX-record's owner, the call's only one
 pub record IsWinOf (lay : Layout) (calls : List Call) (lines : List Line) (row : StepRow) (entry : Entry) : Type 0 where
   pub wins : IsWin (history lay.mode lines) row entry.scx.0
+  -- no update of the owner's has won in this call before
   pub first : won lay lines entry.client.0 ≡ None
+  -- the call is the owner's next, which is not answered yet
   pub call : entry.call ≡ answered lines entry.client.0
   pub command : Command
   pub is : next_command calls lines entry.client.0 ≡ Some command
   pub entered : Entered
+  -- the row adds one entry to the log, that of this SCX-record, this owner and this call
   pub logged : log lay (row ⊳ history lay.mode lines) ≡ entered ∷ log lay (history lay.mode lines)
   pub same_scx : entered.scx ≡ entry.scx.0
   pub same_owner : entered.owner ≡ entry.client.0
   pub same_call : entered.call ≡ entry.call
+  -- where another client makes the row, the owner's call has begun
   pub begun : row.pass.0 ≢ entry.client.0 → IsSome (begin lines entry.client.0)
   pub does : IsEntryFor lay entry.client.0 (history lay.mode lines) (start lay.mode lines entry.client.0) (linked calls lay.mode lines entry.client.0) entered command
 

@@ -12,29 +12,35 @@ use Rattle.record.specs.Entries.{IsLog}
 use Rattle.record.specs.Replies.{IsReplyOwed, IsReply}
 use Rattle.record.specs.Steps.{IsTurn}
 
--- nothing has to stand behind the newest line
+-- nothing has to stand behind the newest line: neither an entry nor a reply
 pub record OwesNothing (lay : Layout) (calls : List Call) (lines : List Line) : Type 0 where
   pub entry : entry_owed lay lines ≡ None
   pub reply : ¬ IsReplyOwed calls lines
 
--- a line that fits those before it: a turn or a reply where no other line is owed, or the entry that is
+-- the line fits those before it: a turn or a reply
+-- where no other line is owed, or the entry that is
 abbrev pub IsNext : Layout → List Call → List Line → Line → Type 0
 IsNext lay calls lines (Step row) = OwesNothing lay calls lines × IsTurn lay calls lines row
 IsNext lay calls lines (Log entry) = IsLog lay calls lines entry
 IsNext lay calls lines (ReplyLine reply) = (entry_owed lay lines ≡ None) × IsReply lay calls lines reply
 
--- line by line
+-- each line fits those before it
 unfoldable pub AreLines : Layout → List Call → List Line → Type 0
 AreLines lay calls [] = Unit {0}
 AreLines lay calls (line ∷ lines) = AreLines lay calls lines × IsNext lay calls lines line
 
--- The main statement: the lines, of which the first comes first, are a lawful run of the calls, in which turn i was made by the i-th of these clients.
--- That the steps are a lawful history is said of each step in `in_order`, and once more of all in `lawful`.
+-- The main statement: the lines, the first in front, are a lawful run of the calls, in which turn i
+-- was made by the i-th of these clients. That the steps are a lawful history is said of each step
+-- in `in_order`, and once more of all in `lawful`.
 pub record IsLawfulRun (lay : Layout) (calls : List Call) (passes : List ℕ) (lines : List Line) : Type 0 where
   pub turns : clients (reverse lines) ≡ reverse passes
   pub in_order : AreLines lay calls (reverse lines)
+  -- after the last line nothing is owed
   pub settled : OwesNothing lay calls (reverse lines)
   pub lawful : Lawful lay (history lay.mode (reverse lines))
+  -- after each step all fields are as the log so far says
   pub spell : SpellFields lay (history lay.mode (reverse lines))
+  -- no SCX-record has two entries in the log
   pub once : AreOnce (log lay (history lay.mode (reverse lines)))
+  -- once an SCX-record that finalizes a node is committed, no word of that node changes again
   pub finalized : StaysFinalized (history lay.mode (reverse lines))

@@ -9,7 +9,7 @@ use Rattle.record.specs.Turns.{history}
 use Rattle.record.specs.CommandRules.{linked_then}
 use Rattle.record.specs.Commands.{next_command}
 
--- the moment of the snapshot that a client keeps of a cell, if it keeps one: the steps up to then
+-- the moment of the snapshot that a client keeps of cell n, if it keeps one: the steps up to then
 abbrev pub linked : List Call → Mode → List Line → ℕ → ℕ → Option History
 linked calls mode [] c n = None
 linked calls mode (Step row ∷ lines) c n = linked calls mode lines c n

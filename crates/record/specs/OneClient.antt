@@ -11,19 +11,21 @@ use Rattle.record.specs.Commands.{next_command}
 abbrev pub HasCall : List Call → ℕ → List Line → Type 0
 HasCall calls c lines = IsSome (next_command calls lines c)
 
--- all its calls are answered
+-- all calls of the client are answered
 abbrev pub HasNoCall : List Call → ℕ → List Line → Type 0
 HasNoCall calls c lines = IsNone (next_command calls lines c)
 
--- it has one, and has had no reply more
+-- the client has a call that is not answered, and has had no reply since the older lines
 abbrev pub AwaitsReply : List Call → ℕ → List Line → List Line → Type 0
 AwaitsReply calls c older lines = HasCall calls c lines × (answered lines c ≡ answered older c)
 
--- it has one, and of so many more steps of a kind it has not made all
+-- the client has a call that is not answered, and has not made so
+-- many more steps of the kind since the older lines
 abbrev pub AwaitsSteps : List Call → ℕ → Kind → ℕ → List Line → List Line → Type 0
 AwaitsSteps calls c kind times older lines = HasCall calls c lines × (made lines c kind < made older c kind + times)
 
--- The lines behind the older ones are turns of this client, each with what stands behind it, and each turn was made while the lines before it were so.
+-- the lines behind the older ones are turns of this client, each with the entry or reply behind it,
+-- and each was made where `so` held of the lines before it
 unfoldable pub AreMadeWhile : (List Line → Type 0) → ℕ → List Line → List Line → Type 0
 AreMadeWhile so c older [] = Unit {0}
 AreMadeWhile so c older (Step row ∷ behind) = AreMadeWhile so c older behind × (client_of row ≡ c) × so (behind ++ older)

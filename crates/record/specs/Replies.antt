@@ -14,12 +14,13 @@ use Rattle.record.specs.CommandRules.{IsAnswerAtOnce, IsAnswerAfterStep, IsRight
 use Rattle.record.specs.Commands.{next_command}
 use Rattle.record.specs.Linked.{linked}
 
--- the newest line is the idle turn of a client that has a call left: the whole of that call, whose reply comes next
+-- the newest line is the idle turn of a client that has a call left:
+-- the whole of that call, whose reply comes next
 abbrev pub IsReplyOwed : List Call → List Line → Type 0
 IsReplyOwed calls (Step (Idle number client) ∷ lines) = (command : Command) × (next_command calls lines client.0 ≡ Some command)
 IsReplyOwed calls _ = ⊥
 
--- the answer fits the command: after a step, or in place of one
+-- the answer is one that the command may give: after a step, or in place of one
 abbrev pub IsFitting : List Line → Command → Answer → Type 0
 IsFitting (Step (Idle number client) ∷ lines) command answer = IsAnswerAtOnce command answer
 IsFitting lines command answer = IsAnswerAfterStep command answer
@@ -33,8 +34,12 @@ pub record IsReply (lay : Layout) (calls : List Call) (lines : List Line) (reply
   pub command : Command
   pub is : next_command calls lines reply.client.0 ≡ Some command
   pub fits : IsFitting lines command reply.answer
+  -- the answer is true
   pub right : IsRight lay reply.client.0 (history lay.mode lines) (start lay.mode lines reply.client.0) (linked calls lay.mode lines reply.client.0) command reply.answer
+  -- the call has taken one node and one SCX-record at most
   pub took : HasTakenOne lay reply.client.0 (history lay.mode lines) (start lay.mode lines reply.client.0)
   pub moment : reply.moment ≡ moment_of reply.answer reply.begin reply.end (won lay lines reply.client.0)
+  -- the moment, if there is one, is within the call
   pub within : (m : ℕ) → reply.moment ≡ Some m → (reply.begin ≤ m) × (m ≤ reply.end)
+  -- the call's update is in the log if it answers `done`, and only then
   pub entry : IsEntered reply.answer (won lay lines reply.client.0)

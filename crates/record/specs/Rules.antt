@@ -10,17 +10,22 @@ use Rattle.arena.specs.History.{History}
 use Rattle.arena.specs.Log.{Entry as Entered}
 use Rattle.record.specs.declared.record.Answer.{Answer}
 
+-- what is said of one command, and of no other
 pub record Rules : Type 1 where
   -- how many steps a call may make while so many nodes are taken
   pub most_steps : ℕ → ℕ
   -- the kinds of step that it may make
   pub MayMake : Kind → Type 0
-  -- the answers that it may give in place of a first step, and those after a step
+  -- the answers that it may give in place of a first step
   pub IsAtOnce : Answer → Type 0
+  -- the answers that it may give after a step
   pub IsAfterStep : Answer → Type 0
-  -- what an answer leaves of the client's snapshot of a cell: of this answer, at this moment, of this cell, the one that it kept before
+  -- what an answer leaves of the client's snapshot of a cell: of this answer, at this moment, of
+  -- this cell, and the snapshot kept before
   pub linked_then : Answer → History → ℕ → Option History → Option History
-  -- what an answer of client c says, between the steps up to the call's begin and those up to now, with the snapshots that the client keeps
+  -- what an answer of client c says, between the steps up to the call's begin and those up to now,
+  -- with the snapshots that the client keeps
   pub IsRight : Layout → ℕ → History → History → (ℕ → Option History) → Answer → Type 0
-  -- what an entry of client c does: just before it, with the steps up to the call's begin and the snapshots that the client keeps
+  -- what an entry of client c does: after the steps just before it and those up to the call's
+  -- begin, with the snapshots that the client keeps
   pub IsEntryFor : Layout → ℕ → History → History → (ℕ → Option History) → Entered → Type 0

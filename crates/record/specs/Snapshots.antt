@@ -9,9 +9,11 @@ use Rattle.arena.specs.Log.{last}
 use Rattle.record.specs.declared.record.Answer.{Answer}
 use Rattle.record.specs.declared.record.Answer.TheVariants.{Snapshot, Full}
 
--- what a reply leaves of the client's snapshot of the cell that an LLX of the call looked at: a new one of this moment, or none; an SCX whose share was too small for it leaves that of its LLX
+-- what a reply leaves of the client's snapshot of the cell that an LLX of
+-- the call looked at: one of this moment, or none
 abbrev pub snapshot_of : Answer → History → Option History
 snapshot_of (Snapshot left right) now = Some now
+-- a call whose share was too small for its SCX leaves the snapshot of its LLX
 snapshot_of (Full what left) now = Some now
 snapshot_of _ now = None
 
@@ -19,14 +21,15 @@ snapshot_of _ now = None
 abbrev pub AreLinked : (ℕ → Option History) → List ℕ → Type 0
 AreLinked linked cells = (n : ℕ) → Contains cells n → IsSome (linked n)
 
--- the first of the cells of which the client keeps no snapshot
+-- this is the first of the cells of which the client keeps no snapshot
 pub record IsFirstUnlinked (linked : ℕ → Option History) (cells : List ℕ) (node : ℕ) : Type 0 where
   pub place : ℕ
   pub is : slice_get cells place ≡ Some node
   pub none : linked node ≡ None
   pub before : (i : ℕ) → i < place → IsSome (linked (get_or cells i 0))
 
--- a moment of a `set` of client c, which began behind `start`, at which its LLX has looked at the cell for the last time: it has just loaded its info, and no info word since
+-- the moment of a `set` of client c, which began at `start`, at which its LLX has looked at the
+-- cell for the last time: it has just loaded the cell's info, and no info word since
 pub record IsLastLook (c : ℕ) (now start moment : History) (n : ℕ) : Type 0 where
   pub row : StepRow
   pub before : History

@@ -13,7 +13,8 @@ use Rattle.record.specs.Turns.{history, turns, answered, begin, steps}
 use Rattle.record.specs.CommandRules.{most_steps, MayMake}
 use Rattle.record.specs.Commands.{next_command}
 
--- a turn that makes a step, in the client's next call, which has made fewer steps than it may
+-- a turn that makes a lawful step, in the client's next
+-- call, which may make one more and of this kind
 pub record IsStep (lay : Layout) (calls : List Call) (lines : List Line) (number : ℕ) (row : StepRow) : Type 0 where
   pub in_turn : number ≡ suc (turns lines)
   pub lawful : IsLawful lay (history lay.mode lines) row
@@ -29,6 +30,7 @@ pub record IsIdle (lay : Layout) (calls : List Call) (lines : List Line) (number
   pub in_turn : number ≡ suc (turns lines)
   pub idle : (next_command calls lines c ≡ None) ⊎ (begin lines c ≡ None)
 
+-- a turn that fits the lines before it: with a step, or idle
 abbrev pub IsTurn : Layout → List Call → List Line → Row → Type 0
 IsTurn lay calls lines (Made number row) = IsStep lay calls lines number row
 IsTurn lay calls lines (Idle number client) = IsIdle lay calls lines number client.0

@@ -18,11 +18,12 @@ use Rattle.record.specs.declared.record.Row.{Row}
 use Rattle.record.specs.declared.record.Row.TheVariants.{Step as Made, Idle}
 use Rattle.record.specs.declared.record.Entry.{Entry}
 
--- the client of a turn, and the turn's number
+-- the client that made a turn
 abbrev pub client_of : Row → ℕ
 client_of (Made number row) = row.pass.0
 client_of (Idle number client) = client.0
 
+-- the number of a turn
 abbrev pub number_of : Row → ℕ
 number_of (Made number row) = number
 number_of (Idle number client) = number
@@ -61,13 +62,14 @@ history mode (Step (Idle number client) ∷ lines) = history mode lines
 history mode (Log entry ∷ lines) = history mode lines
 history mode (Reply reply ∷ lines) = history mode lines
 
--- how many turns there were, and who made each
+-- how many turns there were
 abbrev pub turns : List Line → ℕ
 turns [] = 0
 turns (Step row ∷ lines) = suc (turns lines)
 turns (Log entry ∷ lines) = turns lines
 turns (Reply reply ∷ lines) = turns lines
 
+-- who made each turn, the newest in front
 abbrev pub clients : List Line → List ℕ
 clients [] = []
 clients (Step row ∷ lines) = client_of row ∷ clients lines
@@ -81,21 +83,22 @@ last_client (Step row ∷ lines) = Some (client_of row)
 last_client (Log entry ∷ lines) = last_client lines
 last_client (Reply reply ∷ lines) = last_client lines
 
--- how many calls of a client are answered
+-- how many calls of a client are answered, which is the number of its next
 abbrev pub answered : List Line → ℕ → ℕ
 answered [] c = 0
 answered (Step row ∷ lines) c = answered lines c
 answered (Log entry ∷ lines) c = answered lines c
 answered (Reply reply ∷ lines) c = cond (eqb reply.client.0 c) (suc (answered lines c)) (answered lines c)
 
--- the number of the client's first turn since its last reply
+-- the number of the client's first turn since its last reply: where its call has begun
 abbrev pub begin : List Line → ℕ → Option ℕ
 begin [] c = None
 begin (Step row ∷ lines) c = cond (eqb (client_of row) c) (Some (unwrap_or (begin lines c) (number_of row))) (begin lines c)
 begin (Log entry ∷ lines) c = begin lines c
 begin (Reply reply ∷ lines) c = cond (eqb reply.client.0 c) None (begin lines c)
 
--- the steps up to the begin of the client's call: those before its first turn since its last reply; all of them if it has made none
+-- the steps up to the begin of the client's call, which is its first turn since
+-- its last reply; all of them if it has made none
 abbrev pub start : Mode → List Line → ℕ → History
 start mode [] c = Start mode
 start mode (Step row ∷ lines) c = cond (eqb (client_of row) c || is_some (begin lines c)) (start mode lines c) (history mode (Step row ∷ lines))
@@ -126,11 +129,13 @@ entries (Reply reply ∷ lines) = entries lines
 
 -- The line that a winning update asks for
 
+-- whether steps of this kind are updates
 abbrev pub is_update : Kind → Bool
 is_update Update = true
 is_update _ = false
 
--- the entry of an update of a node's field: the SCX-record that the node's info names, its owner and the call that its word says
+-- the entry that an update of this word enters, as turn `number`: of the SCX-record that the info
+-- of the field's node names, its owner, and the call that its word says
 abbrev pub entry_at : Layout → History → ℕ → ℕ → Word → Option Entry
 entry_at lay h place number (Node n (Child side)) =
     Some
@@ -143,6 +148,7 @@ entry_at lay h place number (Node n (Child side)) =
     }
 entry_at lay h place number _ = None
 
+-- the entry that the step of a turn asks for: one if it is an update that changes its field
 abbrev pub entry_of : Layout → List Line → ℕ → StepRow → Option Entry
 entry_of lay lines number row = cond (is_update row.kind && not (eqb row.before row.after)) (entry_at lay (history lay.mode lines) (suc (entries lines)) number row.word) None
 
@@ -151,7 +157,7 @@ abbrev pub entry_owed : Layout → List Line → Option Entry
 entry_owed lay (Step (Made number row) ∷ lines) = entry_of lay lines number row
 entry_owed lay _ = None
 
--- the entry, if it is one, is of an update of this client's
+-- whether this is an entry, and of an update of this client's
 abbrev pub is_entry_of : Option Entry → ℕ → Bool
 is_entry_of None c = false
 is_entry_of (Some entry) c = eqb entry.client.0 c

@@ -9,16 +9,21 @@ pub struct Record {
     pub lines: Vec<Line>,
 }
 
+/// One line of a run.
 #[derive(Clone, Copy, Debug, PartialEq, Eq)]
 pub enum Line {
+    /// A turn.
     Step(Row),
+    /// The update that the turn before it has won.
     Log(Entry),
+    /// The answer to the call whose last turn stands before it.
     Reply(Reply),
 }
 
 /// A turn of a client. Turns are numbered from 1.
 #[derive(Clone, Copy, Debug, PartialEq, Eq)]
 pub enum Row {
+    /// A turn with an atomic step.
     Step { number: u64, row: arena::Row },
     /// A turn without an atomic step: of a client with no call left, or the whole of a call that
     /// answers at once.
@@ -43,40 +48,60 @@ impl Row {
     }
 }
 
-/// An update that won: its place in the log from 1, its step, the SCX-record, that one's owner, and the
-/// number of the owner's call, as the SCX-record says it.
+/// An update that has won.
 #[derive(Clone, Copy, Debug, PartialEq, Eq)]
 pub struct Entry {
+    /// Its place in the log, counted from 1.
     pub place: u64,
+    /// The number of the turn in which it has won, whoever made it.
     pub step: u64,
+    /// The SCX-record that it is of.
     pub scx: ScxNo,
+    /// The client of whose share that is.
     pub client: PassNo,
+    /// The number of the owner's call, counted from 0, as the SCX-record says it.
     pub call: u64,
 }
 
-/// A finished call: the numbers of its first and last turn, and of the one at which it took place.
+/// A finished call.
 #[derive(Clone, Copy, Debug, PartialEq, Eq)]
 pub struct Reply {
     pub client: PassNo,
+    /// The number of the call among the client's own, counted from 0.
     pub call: u64,
+    /// The number of its first turn.
     pub begin: u64,
+    /// The number of its last turn.
     pub end: u64,
-    /// None where the call changed and told nothing: it was refused, failed, lost, or found a change.
+    /// The number of the turn at which it took place. None where the call changed and told nothing:
+    /// it was refused, failed, lost, or not all its cells were as found.
     pub moment: Option<u64>,
     pub answer: Answer,
 }
 
+/// What a call answers. In an answer with both, `node` is a cell of the call, and `scx` another
+/// client's SCX-record that the cell's info has named.
 #[derive(Clone, Copy, Debug, PartialEq, Eq)]
 pub enum Answer {
+    /// `llx`: the fields of the cell at the call's last turn, where it is not final.
     Snapshot { left: NodeNo, right: NodeNo },
+    /// `llx`, `set`: the cell is final.
     Finalized,
+    /// `llx`, `set`: `scx` was in progress over the cell
+    /// `node` within the call, and is finished now.
     Fail { node: NodeNo, scx: ScxNo },
+    /// `scx`, `set`: the update is in the log, once, as asked.
     Done,
+    /// `scx`, `set`: the update was not made and never will be; `scx` has come to the cell `node`
+    /// since its snapshot, as the call's last freeze has found.
     Lost { node: NodeNo, scx: ScxNo },
+    /// `vlx`: at the call's begin each cell was as its snapshot found it.
     Same,
+    /// `vlx`: `scx` has come to the cell `node` since its snapshot, as the call's last load of an
+    /// info has found; it may have changed the cell or not.
     Changed { node: NodeNo, scx: ScxNo },
-    /// The client has no snapshot of this cell.
+    /// `scx`, `vlx`: the client keeps no snapshot of this cell, the first such.
     Unlinked { node: NodeNo },
-    /// So many of the resource are left, which is below the need.
+    /// `scx`, `set`: `left` of the resource are left in the client's share, too few for the call.
     Full { what: Resource, left: u32 },
 }

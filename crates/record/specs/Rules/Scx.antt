@@ -13,40 +13,45 @@ use Rattle.record.specs.Rules.{Rules}
 use Rattle.record.specs.Snapshots.{AreLinked, IsFirstUnlinked}
 use Rattle.record.specs.Updates.{IsEntryOver}
 
--- it may be refused before its first step
+-- an SCX may be refused before its first step
 abbrev pub scx_at_once : Answer → Type 0
 scx_at_once (Unlinked node) = Unit {0}
 scx_at_once (Full what left) = Unit {0}
 scx_at_once _ = ⊥
 
--- an SCX is done or has lost
+-- an SCX that has run is done or lost
 abbrev pub scx_after_step : Answer → Type 0
 scx_after_step Done = Unit {0}
 scx_after_step (Lost node scx) = Unit {0}
 scx_after_step _ = ⊥
 
--- the answers of an SCX that has run
+-- whether this is the answer of an SCX that has run
 abbrev pub has_run : Answer → Bool
 has_run Done = true
 has_run (Lost node scx) = true
 has_run _ = false
 
--- an SCX that has run drops the snapshots of its cells
+-- an SCX that has run drops the client's snapshots of its cells
 abbrev pub scx_linked : Update → Answer → History → ℕ → Option History → Option History
 scx_linked update answer now n old = cond (has_run answer && has (update_cells update) n) None old
 
--- what its answers say; of a done SCX its entry says all
+-- what its answers say; of one that is done, its entry says all the rest
 abbrev pub scx_right : Update → Layout → ℕ → History → History → (ℕ → Option History) → Answer → Type 0
+-- the first of its cells of which the client keeps no snapshot
 scx_right update lay c now start linked (Unlinked node) = IsFirstUnlinked linked (update_cells update) node.0
+-- all snapshots are there, and the share has none left of this
 scx_right update lay c now start linked (Full what left) = AreLinked linked (update_cells update) × IsEmpty lay c now what left
+-- another client's SCX-record has come to this cell since its snapshot
 scx_right update lay c now start linked (Lost node scx) = AreLinked linked (update_cells update) × HasRoom lay c start × IsInTheWay lay c now start Freeze (update_cells update) node.0 scx.0 (λ moment. linked node.0 ≡ Some moment)
 scx_right update lay c now start linked Done = HasRoom lay c start
 scx_right update lay c now start linked _ = ⊥
 
--- it covers and finalizes its cells and sets its field; just before it each of its cells was as the client's snapshot found it
+-- its entry covers and finalizes the cells asked for and sets the field; just before it each of
+-- them was as the client's snapshot found it
 abbrev pub scx_entry : Update → Layout → ℕ → History → History → (ℕ → Option History) → Entered → Type 0
 scx_entry update lay c before start linked e = IsEntryOver lay c before e (update_cells update) (update_finalize update) (update_field update) (update_value update) × AreUnchanged lay before linked (update_cells update)
 
+-- at most 40 steps, of any kind
 abbrev pub scx_rules : Update → Rules
 scx_rules update = record {
   most_steps = λ taken. 40;
