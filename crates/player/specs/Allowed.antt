@@ -6,11 +6,12 @@ use Rattle.arena.specs.declared.layout.Layout.{Layout}
 use Rattle.arena.specs.History.{History}
 use Rattle.prims.specs.Cells.{allows_all}
 
--- cells ask nothing of an SCX-record; no call in tree mode begins one yet
+-- which SCX-records may begin in this mode: in cells all; in
+-- tree mode none, as no call there begins one yet
 abbrev pub allowed_in : Mode → Layout → History → ℕ → Type 0
 allowed_in Records lay h s = allows_all lay h s
 allowed_in Tree lay h s = ⊥
 
--- a player's run begins what its mode allows
+-- which SCX-records may begin in a player's run: those that the mode of its layout allows
 abbrev pub played_allows : Layout → History → ℕ → Type 0
 played_allows lay h s = allowed_in lay.mode lay h s

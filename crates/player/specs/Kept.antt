@@ -11,40 +11,41 @@ use Rattle.prims.specs.declared.llx.Llx.TheVariants.{Snapshot, Finalized, Fail}
 use Rattle.player.specs.declared.kept.Found.{Found}
 use Rattle.player.specs.declared.kept.Kept.{Kept}
 
--- what is kept of a node, if anything
+-- what the client keeps of node n: what its last LLX found there, if it keeps that
 abbrev pub kept_of : Kept → ℕ → Option Found
 kept_of kept n = get_or kept.found n None
 
--- the snapshot of a node that was found to be so
+-- the snapshot of node n that found this there
 abbrev pub snap_of : ℕ → Found → Snap
 snap_of n found = record { node = record { 0 = n }; scx = found.scx; left = found.left; right = found.right }
 
--- what a snapshot says of its node
+-- what a snapshot has found at its node: the SCX-record and the fields
 abbrev pub parts : Snap → Found
 parts snap = record { scx = snap.scx; left = snap.left; right = snap.right }
 
--- a snapshot of this moment that the client may use, and over whose node it has made no SCX since
+-- a snapshot of this moment that the client may use, and since which
+-- no SCX-record of its own has come to the node
 pub record IsUnspent (lay : Layout) (c : ℕ) (h : History) (snap : Snap) (moment : History) : Type 0 where
   pub usable : IsUsable lay h snap moment
   pub alone : IsLeftAlone lay c h snap
 
--- all that is kept is unspent, and is of the moment that is said of its node
+-- all snapshots that the client keeps are unspent, and each is of the moment that the lines say
 abbrev pub AreKept : Layout → ℕ → History → (ℕ → Option History) → Kept → Type 0
 AreKept lay c h linked kept = (n : ℕ) (found : Found) → kept_of kept n ≡ Some found → (moment : History) × (linked n ≡ Some moment) × IsUnspent lay c h (snap_of n found) moment
 
--- the node of an LLX
+-- the node of which an LLX has answered
 abbrev pub node_of : Llx → ℕ
 node_of (Snapshot snap) = snap.node.0
 node_of (Finalized node scx) = node.0
 node_of (Fail node scx) = node.0
 
--- what an LLX leaves to keep of its node
+-- what an LLX leaves to keep of its node: what its snapshot found, or nothing
 abbrev pub found_of : Llx → Option Found
 found_of (Snapshot snap) = Some (parts snap)
 found_of (Finalized node scx) = None
 found_of (Fail node scx) = None
 
--- these snapshots are kept
+-- the client keeps each of these snapshots
 abbrev pub AllKept : Kept → List Snap → Type 0
 AllKept kept snaps = (i : ℕ) → i < length snaps → kept_of kept (snap_at snaps i).node.0 ≡ Some (parts (snap_at snaps i))
 

@@ -4,7 +4,8 @@ use Rattle.script.specs.declared.command.Call.{Call}
 use Rattle.script.specs.declared.command.Command.{Command}
 use Rattle.record.specs.Commands.{commands}
 
--- where the first of the commands that are still to come stands among the calls; nowhere if there is none
+-- where the first of client c's commands that are still to come
+-- stands among the calls; nowhere if none is to come
 abbrev pub IsAt : List Call → ℕ → List Command → Option ℕ → Type 0
 IsAt calls c left None = left ≡ []
 IsAt calls c left (Some at) = (command : Command) × (slice_get calls at ≡ Some (record { client = record { 0 = c }; command = command })) × (left ≡ command ∷ commands (drop (suc at) calls) c)

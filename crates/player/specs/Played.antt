@@ -26,42 +26,43 @@ use Rattle.record.specs.Answers.{moment_of}
 use Rattle.record.specs.LawfulRun.{AreLines, OwesNothing}
 use Rattle.player.specs.View.{view, IsClient, Waits, IsBehind}
 
--- the words hold what the steps have left in them, and the lines so far are lawful
+-- the words hold what the steps have left in them, the steps
+-- are a lawful run, and the lines fit one by one
 pub record IsSoFar (lay : Layout) (calls : List Call) (words : Contents) (lines : List Line) : Type 0 where
   pub layout : words.layout ≡ lay
   pub holds : (w : Word) → IsWord lay w → held words w ≡ value (history lay.mode lines) w
   pub sound : IsRun played_allows lay (history lay.mode lines)
   pub in_order : AreLines lay calls lines
 
--- each client but this one stands between two turns
+-- each client but the i-th is as the lines say
 abbrev pub AreOthers : Layout → List Call → List Client → List Line → ℕ → Type 0
 AreOthers lay calls clients lines i =
     (j : ℕ) (c : Client) → j ≢ i → slice_get clients j ≡ Some c → (c.pass.0 ≡ j) × IsClient (view lay calls lines j) (begin lines j) c
 
--- in the middle of a turn of this client
+-- the player is in the middle of a turn of this client, whose state the lines do not say
 pub record IsTurnOf (lay : Layout) (calls : List Call) (words : Contents) (clients : List Client) (lines : List Line) (c : Client) : Type 0 where
   pub so_far : IsSoFar lay calls words lines
   pub others : AreOthers lay calls clients lines c.pass.0
   pub own : slice_get clients c.pass.0 ≡ Some c
 
--- between two turns
+-- the player is between two turns: nothing is owed, and each client is as the lines say
 pub record IsBetween (lay : Layout) (calls : List Call) (words : Contents) (clients : List Client) (lines : List Line) : Type 0 where
   pub so_far : IsSoFar lay calls words lines
   pub settled : OwesNothing lay calls lines
   pub each : (j : ℕ) (c : Client) → slice_get clients j ≡ Some c → (c.pass.0 ≡ j) × IsClient (view lay calls lines j) (begin lines j) c
 
--- of each client whose update has won since its last reply, the turn in which it has is remembered
+-- of each client whose update has won since its last reply, the turn in which it did is remembered
 abbrev pub AreWins : Layout → List Line → List (Option ℕ) → Type 0
 AreWins lay lines wins = (c turn : ℕ) → won lay lines c ≡ Some turn → slice_get wins c ≡ Some (Some turn)
 
--- a player between two turns
+-- what holds of a player between two turns
 pub record IsPlayed (p : Player) : Type 0 where
   pub between : IsBetween p.script.layout p.script.calls.items p.words p.clients.items (newest p.lines)
   pub wins : AreWins p.script.layout (newest p.lines) p.wins.items
 
 -- In the middle of a turn
 
--- this client, whose turn it is, asks for a step
+-- the i-th client, whose turn it is, asks for this step
 pub record IsAsked (p : Player) (i number : ℕ) (step : Ask) : Type 0 where
   pub client : Client
   pub is : client.pass.0 ≡ i
@@ -73,6 +74,7 @@ pub record IsAsked (p : Player) (i number : ℕ) (step : Ask) : Type 0 where
   pub asks : running.step ≡ step
   pub waits : Waits (view p.script.layout p.script.calls.items (newest p.lines) client.pass.0) client running
   pub wins : AreWins p.script.layout (newest p.lines) p.wins.items
+  -- its call began at this turn, or at the turn that the lines say
   pub began : ((begin (newest p.lines) client.pass.0 ≡ None) × (client.begin ≡ number)) ⊎ (begin (newest p.lines) client.pass.0 ≡ Some client.begin)
 
 -- the newest line is this step
@@ -81,7 +83,7 @@ pub record IsMade (p : Player) (number : ℕ) (row : Row) : Type 0 where
   pub lines : newest p.lines ≡ Step (Made number row) ∷ older
   pub so_far : IsSoFar p.script.layout p.script.calls.items p.words (newest p.lines)
 
--- the reply to a client's call, which ends it; its last update that has won did so in this turn
+-- the reply ends the client's call in this turn; `won` is the turn of its last update that has won
 pub record IsEnd (calls : List Call) (old new : Client) (turn : ℕ) (answer : Answer) (won : Option ℕ) (reply : Reply) : Type 0 where
   pub client : reply.client ≡ old.pass
   pub call : reply.call ≡ old.number
@@ -91,7 +93,7 @@ pub record IsEnd (calls : List Call) (old new : Client) (turn : ℕ) (answer : A
   pub moment : reply.moment ≡ moment_of answer old.begin turn won
   pub behind : IsBehind calls old new
 
--- one reply more, to the call of this client
+-- the lines have one reply more, to the call of this client, which stands at its next call then
 pub record IsReplied (old new : Player) (turn : ℕ) (answer : Answer) (c : Client) : Type 0 where
   pub client : Client
   pub reply : Reply
@@ -101,24 +103,26 @@ pub record IsReplied (old new : Player) (turn : ℕ) (answer : Answer) (c : Clie
   pub clients : new.clients.items ≡ set old.clients.items c.pass.0 client
   pub line : newest new.lines ≡ ReplyLine reply ∷ newest old.lines
 
--- it is the same script
+-- the two scripts say the same
 pub record IsSameScript (old new : Script) : Type 0 where
   pub limits : new.limits ≡ old.limits
   pub layout : new.layout ≡ old.layout
   pub calls : new.calls.items ≡ old.calls.items
 
--- script, words and clients are as they were; or all but clients and lines
+-- script, words and clients are as they were
 pub record HasSameClients (old new : Player) : Type 0 where
   pub script : IsSameScript old.script new.script
   pub words : new.words ≡ old.words
   pub clients : new.clients.items ≡ old.clients.items
 
+-- script, words and the turns of winning updates are as they were
 pub record HasSameWords (old new : Player) : Type 0 where
   pub script : IsSameScript old.script new.script
   pub words : new.words ≡ old.words
   pub wins : new.wins.items ≡ old.wins.items
 
--- one turn of this client more, which is this row, and what is written down behind it
+-- the lines have this one turn of the i-th client more, and the entry and
+-- reply behind it; the player is between two turns
 pub record IsTurnMore (old new : Player) (i : ℕ) (row : Turn) : Type 0 where
   pub played : IsPlayed new
   pub script : IsSameScript old.script new.script

@@ -5,11 +5,11 @@ use Rattle.record.specs.declared.record.Line.{Line}
 use Rattle.player.specs.Lines.{newest}
 use Rattle.player.specs.declared.player.Player.{Player}
 
--- how many clients there are
+-- how many clients a player has
 abbrev pub passes_of : Player → ℕ
 passes_of p = p.script.layout.passes
 
--- the calls that they are to make
+-- the calls of its script
 abbrev pub calls_of : Player → List Call
 calls_of p = p.script.calls.items
 

@@ -1,4 +1,5 @@
--- When the machine of a call may go on, what it waits for, and what its answer says: as the machine inside.
+-- When the machine of a call may go on, what it waits for,
+-- and what its answer says: as the machine inside.
 use Rattle.std.specs.Prelude.{◌≡◌, ◌≢◌, ℕ, Option, Some}
 use Rattle.arena.specs.declared.limits.Mode.{Mode}
 use Rattle.arena.specs.declared.limits.Mode.TheVariants.{Records}
@@ -23,24 +24,26 @@ use Rattle.player.specs.declared.run.Run.TheVariants.{Llx, Scx, Vlx}
 use Rattle.player.specs.declared.run.Ended.{Ended}
 use Rattle.player.specs.declared.run.Ended.TheVariants as ended
 
+-- the machine of a call may be called with this, as the one inside
 abbrev pub run_ready : Run → Call → History → Option ℕ → Type 0
 run_ready (Llx m) c h got = llx_ready allows_all m c h got
 run_ready (Scx m) c h got = put_ready allows_all m c h got
 run_ready (Vlx m) c h got = vlx_ready m.snaps m.asked c h got
 
+-- the machine of a call waits for this step, as the one inside
 abbrev pub run_waits : Run → Call → History → Step → Type 0
 run_waits (Llx m) c h s = llx_waits allows_all m c h s
 run_waits (Scx m) c h s = put_waits allows_all m c h s
 run_waits (Vlx m) c h s = vlx_waits m.snaps m.asked c h s
 
--- a machine answers of its own kind
+-- what the answer of the machine says, which is one of its own kind
 abbrev pub run_answers : Run → Call → History → Ended → Type 0
 run_answers (Llx m) c h (ended.Llx a) = llx_answers m c h a
 run_answers (Scx m) c h (ended.Scx a) = put_answers m c h a
 run_answers (Vlx m) c h (ended.Vlx a) = vlx_answers m.snaps c h a
 run_answers _ c h _ = ⊥
 
--- what the record says of it
+-- what the record says where a machine has answered so
 abbrev pub answer_of : Ended → Answer
 answer_of (ended.Llx (LlxSnapshot snap)) = Snapshot snap.left snap.right
 answer_of (ended.Llx (LlxFinalized node scx)) = Finalized
@@ -50,7 +53,7 @@ answer_of (ended.Scx (ScxLost node scx)) = Lost node scx
 answer_of (ended.Vlx VlxSame) = Same
 answer_of (ended.Vlx (VlxChanged node scx)) = Changed node scx
 
--- of the same kind, and further on
+-- the two are machines of one kind, and of one call
 abbrev pub run_same : Run → Run → Type 0
 run_same (Llx old) (Llx now) = now.node ≡ old.node
 run_same (Scx old) (Scx now) = (now.scx.scx ≡ old.scx.scx) × (now.scx.update ≡ old.scx.update) × (now.scx.call ≡ old.scx.call) × (now.value ≡ old.value)
@@ -61,20 +64,23 @@ run_same _ _ = ⊥
 abbrev pub run_mode : Run → Mode
 run_mode m = Records
 
--- which machines make a step before they answer: all those of cells
+-- the machine makes a step before it answers: all those of cells do
 abbrev pub run_asks_first : Run → Type 0
 run_asks_first m = Unit {0}
 
+-- rows of other passes leave the machine waiting for the same step
 pub run_keeps : (m : Run) (c : Call) (h : History) (s : Step) (r : Row) → IsRun allows_all c.layout (r ⊳ h) → r.pass.0 ≢ c.pass → run_waits m c h s → run_waits m c (r ⊳ h) s
 run_keeps (Llx m) c h s r run other w = llx_keeps allows_all m c h s r run other w
 run_keeps (Scx m) c h s r run other w = put_keeps allows_all m c h s r run other w
 run_keeps (Vlx m) c h s r run other w = vlx_keeps allows_all m.snaps m.asked c h s r run other w
 
+-- the step that the machine waits for continues the run
 pub run_lawful : (m : Run) (c : Call) (h : History) (s : Step) → IsRun allows_all c.layout h → run_waits m c h s → IsRun allows_all c.layout (row_of c s h ⊳ h)
 run_lawful (Llx m) c h s run w = llx_lawful allows_all m c h s run w
 run_lawful (Scx m) c h s run w = put_lawful allows_all m c h s run w
 run_lawful (Vlx m) c h s run w = vlx_lawful allows_all m.snaps m.asked c h s run w
 
+-- once the step is made, the machine may be called with what it told
 pub run_made : (m : Run) (c : Call) (h : History) (s : Step) (v : ℕ) → IsRun allows_all c.layout (row_of c s h ⊳ h) → IsTold s.deed (value h s.word) v → run_waits m c h s → run_ready m c (row_of c s h ⊳ h) (Some v)
 run_made (Llx m) c h s v run told w = llx_made allows_all m c h s v run told w
 run_made (Scx m) c h s v run told w = put_made allows_all m c h s v run told w

@@ -7,12 +7,13 @@ use Rattle.player.specs.declared.client.Put.{Put}
 use Rattle.player.specs.declared.run.Run.{Run}
 use Rattle.player.specs.declared.run.Run.TheVariants.{Llx, Scx, Vlx}
 
+-- how many steps the machine of a call may still ask for
 abbrev pub run_left : Run → ℕ
 run_left (Llx run) = llx_left run.at
 run_left (Scx run) = put_left run
 run_left (Vlx run) = vlx_left run.snaps run.asked
 
--- how many steps what follows it may ask for: the SCX of a set
+-- how many steps what follows the machine may ask for: 40 for the SCX of a `set`
 abbrev pub then_left : Option Put → ℕ
 then_left None = 0
 then_left (Some put) = 40

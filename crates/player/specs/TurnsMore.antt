@@ -9,7 +9,8 @@ use Rattle.record.specs.Turns.{turns, clients, answered, steps}
 use Rattle.record.specs.Commands.{commands}
 use Rattle.record.specs.OneClient.{AreMadeWhile}
 
--- Turns of this client alone were made, each while the lines before it were so. The script is the same.
+-- the new lines are turns of this client alone, each made where `so` held
+-- of the lines before it; the script is the same
 pub record AreTurnsWhile (so : List Line → Type 0) (c : ℕ) (old new : Player) : Type 0 where
   pub played : IsPlayed new
   pub script : IsSameScript old.script new.script
@@ -18,6 +19,7 @@ pub record AreTurnsWhile (so : List Line → Type 0) (c : ℕ) (old new : Player
   pub each : AreMadeWhile so c (lines_of old) behind
   pub turns : clients (lines_of new) ≡ replicate (turns behind) c ++ clients (lines_of old)
 
--- A number that falls with each turn of a client that has a call left: 105 for each call that is not answered, which is more than the steps that any call may make, less those that the next one has made.
+-- a number that falls with each turn of a client that has a call left: 105 for each call not
+-- answered, more than the steps that any call may make, less the steps that the next one has made
 abbrev pub to_go : List Call → ℕ → List Line → ℕ
 to_go calls c lines = 105 * length (commands calls c) - (105 * answered lines c + steps lines c)

@@ -46,53 +46,61 @@ use Rattle.record.specs.CommandRules.{linked_then, most_steps, IsAnswerAtOnce, I
 use Rattle.record.specs.Snapshots.{IsLastLook}
 use Rattle.record.specs.Answers.{HasRoom, HasTakenOne, IsEntered}
 
--- what the lines so far say to a client: the steps, how many of its calls are answered, the steps up to the begin of its call, how many steps it has made since its last reply,
--- the turn in which an update of that call has won, and the moments of the snapshots that the client keeps
+-- what the lines so far say to one client
 pub record View : Type 0 where
   pub layout : Layout
   pub calls : List Call
+  -- the steps so far
   pub past : History
+  -- how many of its calls are answered
   pub answered : ℕ
+  -- the steps up to the begin of its call
   pub start : History
+  -- how many steps it has made since its last reply
   pub steps : ℕ
+  -- the turn in which an update of that call has won
   pub won : Option ℕ
+  -- the moments of the snapshots that it keeps, by the number of the cell
   pub linked : ℕ → Option History
 
+-- what these lines, the newest first, say to client c
 abbrev pub view : Layout → List Call → List Line → ℕ → View
 view lay calls lines c = record { layout = lay; calls = calls; past = history lay.mode lines; answered = answered lines c; start = start lay.mode lines c; steps = steps lines c; won = won lay lines c; linked = linked calls lay.mode lines c }
 
--- its steps are lawful, and begin only what the mode allows
+-- the steps so far are a lawful run, and begin only what the mode allows
 abbrev pub IsSound : View → Type 0
 IsSound v = IsRun played_allows v.layout v.past
 
 -- What a client has
 
--- what an SCX has in hand: a node, an SCX-record, and snapshots
+-- what an SCX has in hand: a fresh node, an SCX-record, and snapshots
 pub record Hand : Type 0 where
   pub node : ℕ
   pub scx : ℕ
   pub snaps : List Snap
 
--- without one a client has none yet: it will take the next records of its share
+-- a client without an SCX has none in hand: these are the records that it will take next
 abbrev pub no_hand : Left → Hand
 no_hand left = record { node = left.next_node; scx = left.next_scx; snaps = [] }
 
+-- what the machine that runs has in hand, where this is left of the share
 abbrev pub in_hand : Left → Run → Hand
 in_hand left (Scx m) = record { node = m.scx.update.fresh.0; scx = m.scx.scx.0; snaps = m.scx.update.snaps }
 in_hand left _ = no_hand left
 
--- an SCX has the newest records of the share in hand
+-- an SCX has the newest records of the share in hand: those taken last
 abbrev pub HasNewest : Left → Run → Type 0
 HasNewest left (Scx m) = (left.next_node ≡ suc m.scx.update.fresh.0) × (left.next_scx ≡ suc m.scx.scx.0) × (m.scx.scx.0 ≢ 0)
 HasNewest left _ = Unit {0}
 
--- the machine, and what follows it, are those of the command
+-- an LLX of cell n, with what follows it, is that of the command
 abbrev pub IsLlxOf : Command → ℕ → Option Put → Type 0
 IsLlxOf (LlxOf cell) n None = n ≡ cell
 IsLlxOf (SetOf field value) n (Some put) = (n ≡ field.0) × (put.side ≡ field.1) × (put.value ≡ value)
 IsLlxOf _ n _ = ⊥
 
--- an SCX of the client's call of this number covers these nodes, finalizes those in the second list, and puts a node of this value into that field
+-- an SCX of the client's call of this number covers these nodes, finalizes those in the second
+-- list, and puts a node of this value into that field
 pub record IsPutOf (m : PutRun) (number : ℕ) (nodes removed : List ℕ) (field : ℕ × Side) (x : ℕ) : Type 0 where
   pub called : m.scx.call ≡ number
   pub covers : nodes_of m.scx.update.snaps ≡ nodes
@@ -101,40 +109,48 @@ pub record IsPutOf (m : PutRun) (number : ℕ) (nodes removed : List ℕ) (field
   pub side : side_of m.scx.update.plan.0 ≡ field.1
   pub value : m.value ≡ x
 
+-- an SCX of the client's call of this number, with what follows it, is that of the command
 abbrev pub IsScxOf : Command → ℕ → PutRun → Option Put → Type 0
 IsScxOf (ScxOf update) number m None = IsPutOf m number (update_cells update) (update_finalize update) (update_field update) (update_value update)
 IsScxOf (SetOf field x) number m None = IsPutOf m number (field.0 ∷ []) [] field x
 IsScxOf _ number m _ = ⊥
 
+-- a VLX over these snapshots, with what follows it, is that of the command
 abbrev pub IsVlxOf : Command → List Snap → Option Put → Type 0
 IsVlxOf (VlxOf cells) snaps None = nodes_of snaps ≡ cells_of cells
 IsVlxOf _ snaps _ = ⊥
 
+-- the machine, with what follows it, is that of the command in the client's call of this number
 abbrev pub IsRunOf : Command → ℕ → Run → Option Put → Type 0
 IsRunOf command number (Llx m) then = (m.node.0 ≤ 8) × IsLlxOf command m.node.0 then
 IsRunOf command number (Scx m) then = IsScxOf command number m then
 IsRunOf command number (Vlx m) then = IsVlxOf command m.snaps then
 
--- a client between two turns, but for its machine; its next call is the first that is not answered; the SCX-records that it has taken are finished, but for the one that it may have in hand;
--- what it keeps are the snapshots that the lines say, but for those that it has in hand
+-- a client between two turns, but for its machine: its next call is the first that is not answered
 pub record Stands (v : View) (c : Client) (hand : Hand) : Type 0 where
   pub is_pass : c.pass.0 < v.layout.passes
   pub number : c.number ≡ v.answered
   pub place : IsAt v.calls c.pass.0 (drop c.number (commands v.calls c.pass.0)) c.next
+  -- what it keeps are snapshots that the lines say
   pub kept : AreKept v.layout c.pass.0 v.past v.linked c.kept
+  -- of other cells the lines say none, but of those that it has in hand
   pub unkept : (n : ℕ) → n ≤ 8 → kept_of c.kept n ≡ None → IsAmong hand.snaps n ⊎ (v.linked n ≡ None)
   pub dropped : (n : ℕ) → IsAmong hand.snaps n → kept_of c.kept n ≡ None
+  -- its share is untouched from what it has in hand on
   pub share : IsShare v.layout v.past c.pass.0 c.share hand.node hand.scx
+  -- the SCX-records that it has taken are finished, but perhaps the one in hand
   pub over : AreOver v.layout c.pass.0 hand.scx v.past
 
--- no machine of the client runs
+-- no machine of the client runs, and it has nothing in hand
 pub record Rests (v : View) (c : Client) : Type 0 where
   pub stands : Stands v c (no_hand c.share)
   pub none : c.running ≡ None
 
+-- the client's next command: the first that is not answered
 abbrev pub command_of : View → Client → Option Command
 command_of v c = slice_get (commands v.calls c.pass.0) v.answered
 
+-- the call of the client's machine that has started at this moment
 abbrev pub machine_call : (v : View) (c : Client) → c.pass.0 < v.layout.passes → History → MachineCall
 machine_call v c is_pass start = record { layout = v.layout; pass = c.pass.0; is_pass = is_pass; number = c.number; start = start }
 
@@ -143,31 +159,37 @@ abbrev pub IsStart : Run → History → History → Type 0
 IsStart (Scx m) start begun = EndsWith start begun
 IsStart _ start begun = start ≡ begun
 
--- the snapshots of a machine
+-- the snapshots over which a machine runs
 abbrev pub snaps_of : Run → List Snap
 snaps_of (Llx m) = []
 snaps_of (Scx m) = m.scx.update.snaps
 snaps_of (Vlx m) = m.snaps
 
--- the moment is that of the snapshot of the node: for a `set` one of the call itself, else that of the snapshot which the client keeps
+-- the moment is that of the snapshot of node n: for a `set` one of the call itself, else that of
+-- the snapshot which the client keeps
 abbrev pub IsSource : View → ℕ → Command → ℕ → History → Type 0
 IsSource v c (SetOf field x) n moment = IsLastLook c v.past v.start moment n
 IsSource v c _ n moment = v.linked n ≡ Some moment
 
+-- the snapshot has a moment: at it the node was as
+-- found, and it is the one that the command goes by
 pub record HasMoment (v : View) (c : ℕ) (command : Command) (snap : Snap) : Type 0 where
   pub moment : History
   pub found : IsMoment v.layout v.past snap moment
   pub source : IsSource v c command snap.node.0 moment
 
+-- each of these snapshots has its moment
 abbrev pub HaveMoments : View → ℕ → Command → List Snap → Type 0
 HaveMoments v c command snaps = (i : ℕ) → i < length snaps → HasMoment v c command (snap_at snaps i)
 
--- the update of the call has won if that of its SCX-record, which is of the pass c, has
+-- an update of the call has won if the update of the
+-- SCX-record s has, which is of the pass c's share
 pub record IsWonAs (v : View) (c s : ℕ) : Type 0 where
   pub own : IsOwnScx v.layout c s
   pub yes : HasWon v.past s → (turn : ℕ) × (v.won ≡ Some turn)
   pub no : ¬ HasWon v.past s → v.won ≡ None
 
+-- an update of the call has won if that of its machine's SCX-record has; none without an SCX
 abbrev pub IsWonBy : View → ℕ → Run → Type 0
 IsWonBy v c (Scx m) = IsWonAs v c m.scx.scx.0
 IsWonBy v c _ = v.won ≡ None
@@ -177,12 +199,13 @@ pub record HasTaken (v : View) (c : ℕ) (hand : Hand) : Type 0 where
   pub nodes : (n : ℕ) → IsOwnNode v.layout c n → n ≢ hand.node → ¬ IsTakenNode v.start n → ¬ IsTakenNode v.past n
   pub scx_records : HasTakenOnly v.layout c hand.scx v.start v.past
 
--- an SCX has found room in the share
+-- at the call's begin the share had room for an SCX that runs
 abbrev pub IsRoomy : View → ℕ → Run → Type 0
 IsRoomy v c (Scx m) = HasRoom v.layout c v.start
 IsRoomy v c _ = Unit {0}
 
--- a machine runs for its next call, over snapshots that the client had left alone as the machine started
+-- a machine runs for the client's next call, over snapshots that
+-- the client had left alone as the machine started
 pub record Works (v : View) (c : Client) (run : Run) (then : Option Put) : Type 0 where
   pub mode : v.layout.mode ≡ run_mode run
   pub stands : Stands v c (in_hand c.share run)
@@ -192,6 +215,7 @@ pub record Works (v : View) (c : Client) (run : Run) (then : Option Put) : Type 
   pub run_of : IsRunOf command c.number run then
   pub is_pass : c.pass.0 < v.layout.passes
   pub start : History
+  -- the machine has started at the begin of the call or later
   pub since : EndsWith v.past start
   pub begun : IsStart run start v.start
   pub moments : HaveMoments v c.pass.0 command (snaps_of run)
@@ -199,44 +223,48 @@ pub record Works (v : View) (c : Client) (run : Run) (then : Option Put) : Type 
   pub room : IsRoomy v c.pass.0 run
   pub took : HasTaken v c.pass.0 (in_hand c.share run)
   pub won : IsWonBy v c.pass.0 run
+  -- an update of the call has won in its first turn or later
   pub late : (turn : ℕ) → v.won ≡ Some turn → c.begin ≤ turn
 
--- Below, `few` says that the steps that the call has made, those that the machine may still ask for and those of what follows it are no more than the call may make, however many nodes are taken; a step that the machine waits for counts too.
+-- Below, `few` says: the steps that the call has made, with those that the machine may still ask
+-- for and those of what follows it, are no more than the call may make, however many nodes are
+-- taken. A step that the machine waits for counts too.
 
--- it has not asked for a step yet
+-- the machine has not asked for a step yet
 pub record Starts (v : View) (c : Client) (run : Run) (then : Option Put) : Type 0 where
   pub works : Works v c run then
   pub none : c.running ≡ None
   pub ready : run_ready run (machine_call v c works.is_pass works.start) v.past None
   pub few : (taken : ℕ) → v.steps + left_of run then ≤ most_steps works.command taken
 
--- it has answered
+-- the machine has answered
 pub record Answered (v : View) (c : Client) (run : Run) (then : Option Put) (ended : Ended) : Type 0 where
   pub works : Works v c run then
   pub none : c.running ≡ None
   pub answers : run_answers run (machine_call v c works.is_pass works.start) v.past ended
   pub few : (taken : ℕ) → v.steps + then_left then ≤ most_steps works.command taken
 
--- it waits for a step
+-- the machine waits for a step
 pub record Waits (v : View) (c : Client) (running : Running) : Type 0 where
   pub works : Works v c running.run running.then
   pub waits : run_waits running.run (machine_call v c works.is_pass works.start) v.past running.step
   pub few : (taken : ℕ) → suc (v.steps + left_of running.run running.then) ≤ most_steps works.command taken
 
--- it is told what its step found
+-- the machine may be called with what its step has found
 pub record Hears (v : View) (c : Client) (running : Running) (found : ℕ) : Type 0 where
   pub works : Works v c running.run running.then
   pub ready : run_ready running.run (machine_call v c works.is_pass works.start) v.past (Some found)
   pub few : (taken : ℕ) → v.steps + left_of running.run running.then ≤ most_steps works.command taken
 
--- its next call has not begun
+-- the client's next call has not begun
 pub record IsUnbegun (v : View) (began : Option ℕ) : Type 0 where
   pub none : began ≡ None
   pub start : v.start ≡ v.past
   pub steps : v.steps ≡ 0
   pub won : v.won ≡ None
 
--- a client between two turns, whose first turn since its last reply was this: it rests, or waits for a step of the call that began then
+-- a client between two turns, whose first turn since its last reply was `began`: it rests, or waits
+-- for a step of the call that began then
 abbrev pub IsClient : View → Option ℕ → Client → Type 0
 IsClient v began c = (Rests v c × ((c.next ≡ None) ⊎ IsUnbegun v began)) ⊎ ((r : Running) × (c.running ≡ Some r) × Waits v c r × (began ≡ Some c.begin))
 
@@ -248,7 +276,7 @@ pub record IsSameCall (old new : Client) : Type 0 where
   pub number : new.number ≡ old.number
   pub next : new.next ≡ old.next
 
--- a machine that waits has begun or gone on
+-- the client waits for a step, whose call has begun or gone on
 pub record GoesOn (v : View) (old new : Client) : Type 0 where
   pub same : IsSameCall old new
   pub begin : new.begin ≡ old.begin
@@ -256,7 +284,7 @@ pub record GoesOn (v : View) (old new : Client) : Type 0 where
   pub is : new.running ≡ Some running
   pub waits : Waits v new running
 
--- its next call answers without a step
+-- the client's next call answers without a step, and the answer is right
 pub record Refuses (v : View) (c : Client) (answer : Answer) : Type 0 where
   pub rests : Rests v c
   pub command : Command
@@ -266,11 +294,11 @@ pub record Refuses (v : View) (c : Client) (answer : Answer) : Type 0 where
   pub unwon : v.won ≡ None
   pub took : HasTakenOne v.layout c.pass.0 v.past v.start
 
--- what the lines say of its snapshots once its call is answered so
+-- what the lines say of the client's snapshots once its call is answered so
 abbrev pub linked_by : View → Command → Answer → ℕ → Option History
 linked_by v command answer n = linked_then (Some command) answer v.past n (v.linked n)
 
--- its call is answered
+-- the client's call is answered, and the answer is right
 pub record Ends (v : View) (old new : Client) (answer : Answer) : Type 0 where
   pub same : IsSameCall old new
   pub begin : new.begin ≡ old.begin
@@ -283,12 +311,13 @@ pub record Ends (v : View) (old new : Client) (answer : Answer) : Type 0 where
   pub took : HasTakenOne v.layout new.pass.0 v.past v.start
   pub late : (turn : ℕ) → v.won ≡ Some turn → new.begin ≤ turn
 
--- what its machine does with what a step found: it asks for another step, or the call is answered
+-- what became of a client that was told what its step
+-- found: it asks for another, or its call is answered
 abbrev pub Told : View → Client → Client → Option Answer → Type 0
 Told v old new None = GoesOn v old new
 Told v old new (Some answer) = Ends v old new answer
 
--- how a client stands once it is its turn: a call that it begins begins at this turn
+-- how a client is once its turn has come: a call that it begins begins at this turn
 abbrev pub Stood : View → ℕ → Client → Client → Standing → Type 0
 Stood v turn old new Finished = (new ≡ old) × (old.next ≡ None) × Rests v old
 Stood v turn old new (Answers answer) = IsSameCall old new × Rests v old × Refuses v new answer × (new.begin ≡ turn)
@@ -296,7 +325,8 @@ Stood v turn old new (Asks step) = IsSameCall old new × (r : Running) × (new.r
 
 -- A call begins
 
--- what an SCX has to be given: unspent snapshots; the command is one that such an SCX serves, and may make as many steps more. The lines will say `linked` of the snapshots if the SCX is refused
+-- a client with these unspent snapshots may begin an SCX over them; `linked` is what the lines will
+-- say of its snapshots if it is refused
 pub record CanPut (v : View) (linked : ℕ → Option History) (c : Client) (snaps : List Snap) (removed : List ℕ) (field : ℕ × Side) (x : ℕ) : Type 0 where
   pub mode : v.layout.mode ≡ Records
   pub rests : Rests (record v { linked = linked }) c
@@ -308,7 +338,9 @@ pub record CanPut (v : View) (linked : ℕ → Option History) (c : Client) (sna
   pub is : command_of v c ≡ Some command
   pub moments : HaveMoments v c.pass.0 command snaps
   pub took : HasTaken v c.pass.0 (no_hand c.share)
+  -- the client's command is one that such an SCX serves
   pub serves : (m : PutRun) → IsPutOf m c.number (nodes_of snaps) removed field x → IsScxOf command c.number m None
+  -- it may make as many steps more
   pub few : (taken : ℕ) → v.steps + 40 ≤ most_steps command taken
 
 -- the answer names what the share has none of
@@ -316,7 +348,7 @@ abbrev pub TellsFull : Left → Answer → Type 0
 TellsFull share (Full what left) = IsFull share record { what = what; left = left }
 TellsFull share _ = ⊥
 
--- an SCX begins, or the share has too little
+-- an SCX begins, or the share has too little for it
 abbrev pub Puts : View → (ℕ → Option History) → Client → Client → Option Answer → Type 0
 Puts v linked old new None = GoesOn v old new
 Puts v linked old new (Some answer) = IsSameCall old new × (new.begin ≡ old.begin) × Rests (record v { linked = linked }) new × TellsFull new.share answer

@@ -248,8 +248,8 @@ impl Client {
         }
     }
 
-    /// Ends the call that runs, or that answered at once, in this turn. `won` is the turn of the last
-    /// update of the client's that has won.
+    /// Ends the call that runs, or that answered at once, in this turn. `won` is the turn of the
+    /// last update of the client's that has won.
     pub(crate) fn end(
         &mut self,
         calls: &[Call],
@@ -280,8 +280,8 @@ impl Client {
         reply
     }
 
-    /// The turn at which an answer stands: of a done SCX that of its update, of a VLX its first, of an
-    /// LLX its last.
+    /// The turn at which an answer stands: of a done SCX that of its update, of a VLX its first, of
+    /// an LLX its last.
     fn moment(&self, turn: u64, answer: Answer, won: Option<u64>) -> Option<u64>
         ensures { result ≡ moment_of answer self.now.begin turn won }
     {

@@ -62,8 +62,8 @@ impl Player {
         })
     }
 
-    /// One turn of a client: its next atomic step, or a row of kind idle where it has no call left or
-    /// its call answers without a step. A refusal leaves all as it was, and the same turn can be
+    /// One turn of a client: its next atomic step, or a row of kind idle where it has no call left
+    /// or its call answers without a step. A refusal leaves all as it was, and the same turn can be
     /// asked again.
     pub fn step(&mut self, client: PassNo) -> Result<Row, NoMemory>
         requires client { client.0 < passes_of self.old }
@@ -137,8 +137,8 @@ impl Player {
         }
     }
 
-    /// The entry of a step, if that is an update that has won: that of the SCX-record that holds the
-    /// field's node.
+    /// The entry of a step, if that is an update that has won: that of the SCX-record that holds
+    /// the field's node.
     fn entry(&self, number: u64, row: &arena::Row) -> Option<Entry>
         requires { IsMade self.now number row.now }
         ensures owed { result ≡ entry_owed self.now.script.layout (newest self.now.lines) }
@@ -225,7 +225,8 @@ impl Player {
         Ok(())
     }
 
-    /// Turns of a client until it has no call left. Turns that were made before a refusal stay made.
+    /// Turns of a client until it has no call left. Turns that were made before a refusal stay
+    /// made.
     pub fn finish(&mut self, client: PassNo) -> Result<(), NoMemory>
         requires client { client.0 < passes_of self.old }
         requires played { IsPlayed self.old }
