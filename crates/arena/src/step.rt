@@ -57,7 +57,8 @@ pub struct Step {
 #[derive(Clone, Copy, Debug, PartialEq, Eq)]
 pub struct Row {
     pub pass: PassNo,
-    /// The number of the call among those of its pass, counted from 0.
+    /// The number of the call, as its maker counts: a player by calls answered, a forest by
+    /// SCX-records taken.
     pub call: u64,
     pub kind: Kind,
     pub word: Word,

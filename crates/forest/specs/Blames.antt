@@ -3,7 +3,7 @@ use Rattle.std.specs.Prelude.{ℕ, List, [], ◌∷◌}
 use Rattle.forest.specs.declared.blamed.Names.{Names}
 use Rattle.forest.specs.declared.blamed.Names.TheVariants.{Nobody, One'}
 
--- the SCX-records that are named, the last one first
+-- the SCX-records that a blame list names, the last blamed first
 abbrev pub names_in : Names → List ℕ
 names_in Nobody = []
 names_in (One' scx marker before) = scx.0 ∷ names_in before

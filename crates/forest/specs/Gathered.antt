@@ -10,7 +10,8 @@ use Rattle.forest.specs.Courses.{rows_of}
 use Rattle.forest.specs.Shares.{IsAtRest, entries_of}
 use Rattle.forest.specs.Passes.{Sight, AreOfCall, HasBlamed, run_of, done_of, steps_of}
 
--- the pass, one step later, which is of no call (its number is 0), with no entry more
+-- the pass p, one step later, which is of no call (its number is 0):
+-- it has no entry more, and is between two calls
 pub record IsFrom (allows : Layout → History → ℕ → Type 0) (p : Sight) (k : Knower) : Type 0 where
   pub is : k ≡ knower p.number p.layout k.known
   pub is_pass : p.number < p.layout.passes
@@ -22,11 +23,12 @@ pub record IsFrom (allows : Layout → History → ℕ → Type 0) (p : Sight) (
   pub calls : AreOfCall p.number 0 (run_of p) (past p.layout.mode k.known)
   pub blamed : HasBlamed p
 
+-- this pass is one of the list
 abbrev pub IsOneOf : Knower → List Knower → Type 0
 IsOneOf k [] = ⊥
 IsOneOf k (q ∷ qs) = (k ≡ q) ⊎ IsOneOf k qs
 
--- each of the passes is one of these
+-- each of the passes, one step later, is one of these
 abbrev pub AreIn : (Layout → History → ℕ → Type 0) → List Sight → List Knower → Type 0
 AreIn allows [] ks = Unit {0}
 AreIn allows (p ∷ ps) ks = ((k : Knower) × IsOneOf k ks × IsFrom allows p k) × AreIn allows ps ks

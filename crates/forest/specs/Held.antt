@@ -10,11 +10,12 @@ use Rattle.forest.specs.Courses.{known_of}
 use Rattle.forest.specs.Shares.{IsAtRest}
 use Rattle.forest.specs.Passes.{Sight, HasBlamed}
 
--- what contracts see of it
+-- what contracts see of a pass
 abbrev pub sight : {T : Type 0} → Inside T → Sight
 sight p = record { table = p.seat.table_id; layout = p.layout; number = p.number.0; share = p.share; known = known_of p.seat.me.0.passes; blamed = p.blamed }
 
--- its seat has this pass alone, which is at rest in a lawful run of a table of this mode, in which those that it has blamed are finished
+-- what holds of every pass: its seat has it alone; in the run that it knows, a lawful one of a
+-- table of this mode, it is between two calls, and all that it has blamed is finished
 pub record IsPass (allows : Layout → History → ℕ → Type 0) (mode : Mode) {T : Type 0} (p : Inside T) : Type 0 where
   pub seat : p.seat.me.0.passes ≡ knower p.number.0 p.layout (known_of p.seat.me.0.passes) ∷ []
   pub bare : p.seat.me.1 ≡ []

@@ -41,36 +41,39 @@ use Rattle.forest.specs.Kept.{past}
 use Rattle.forest.specs.Courses.{rows_of}
 use Rattle.forest.specs.Shares.{entries_of}
 
--- a pass: its table and layout, its number, what is left of its share, the run up to its own last step, newest row first, and its blame list, the last blamed first
+-- what contracts see of a pass: its table and layout, its number, and what is left of its share
 pub record Sight : Type 0 where
   pub table : TableId
   pub layout : Layout
   pub number : ℕ
   pub share : Left
+  -- the run up to its own last step, newest row first
   pub known : List Row
+  -- its blame list: the SCX-records that its calls of `llx` have named with `fail`, the last first
   pub blamed : List ℕ
 
--- the run that it knows
+-- the run that the pass knows
 abbrev pub run_of : Sight → History
 run_of p = past p.layout.mode p.known
 
--- its seen list: the log of that run, the newest entry first
+-- the pass's seen list: the log of the run that it knows, the newest entry first
 abbrev pub seen_of : Sight → List Entry
 seen_of p = log p.layout (run_of p)
 
--- its done list: its own entries in its seen list
+-- the pass's done list: its own entries in its seen list
 abbrev pub done_of : Sight → List Entry
 done_of p = entries_of p.number (seen_of p)
 
--- how many atomic steps it has made
+-- how many atomic steps the pass has made
 abbrev pub steps_of : Sight → ℕ
 steps_of p = rows_of p.number p.known
 
--- a forest: its table and layout
+-- what contracts see of a forest: its table and layout
 pub record Ground : Type 0 where
   pub table : TableId
   pub layout : Layout
 
+-- the forest of this table and layout
 abbrev pub ground : TableId → Layout → Ground
 ground table lay = record { table = table; layout = lay }
 
@@ -78,42 +81,45 @@ ground table lay = record { table = table; layout = lay }
 abbrev pub IsOf : Ground → Sight → Type 0
 IsOf f p = (p.table ≡ f.table) × (p.layout ≡ f.layout)
 
--- a pass later on: it knows a longer run
+-- the same pass, later on: the run that it knows goes on from what it knew
 pub record IsLater (old new : Sight) : Type 0 where
   pub table : new.table ≡ old.table
   pub layout : new.layout ≡ old.layout
   pub number : new.number ≡ old.number
   pub run : EndsWith (run_of new) (run_of old)
 
--- how many SCX-records it has taken, which is the number of its next call
+-- how many SCX-records the pass has taken, which is the number of its next call
 abbrev pub taken_of : Sight → ℕ
 taken_of p = p.layout.scx - p.share.scx
 
--- behind the start, each row of the pass c is of its call of this number
+-- behind the start, each row of pass c is of its call of this number
 abbrev pub AreOfCall : ℕ → ℕ → History → History → Type 0
 AreOfCall c number start h = (r : Row) (before : History) → EndsWith h (r ⊳ before) → EndsWith before start → r.pass.0 ≡ c → r.call ≡ number
 
--- the pass may use the snapshot: it has a moment, and what it says of its node holds as long as the node's info is what it found
+-- the pass may use the snapshot: it has a moment, and what it says of its node
+-- holds as long as the node's info is what it found
 abbrev pub CanUse : Sight → Snap → Type 0
 CanUse p snap = (moment : History) × IsUsable p.layout (run_of p) snap moment
 
--- the pass has made no SCX over the snapshot's node since a moment of it: no SCX-record of the pass has covered the node while in progress
+-- the pass has made no SCX over the snapshot's node since a moment of it: no SCX-record of the pass
+-- has covered the node while in progress
 abbrev pub HasLeftAlone : Sight → Snap → Type 0
 HasLeftAlone p snap = IsLeftAlone p.layout p.number (run_of p) snap
 
--- this is so of each
+-- P holds of each in the list
 abbrev pub Each : {A : Type 0} → (A → Type 0) → List A → Type 0
 Each P [] = Unit {0}
 Each P (x ∷ xs) = P x × Each P xs
 
 -- Blame lists
 
--- none of these stands twice
+-- no number stands twice in the list
 abbrev pub AreDifferent : List ℕ → Type 0
 AreDifferent [] = Unit {0}
 AreDifferent (s ∷ ss) = Each (λ other. s ≢ other) ss × AreDifferent ss
 
--- the blame list has SCX-records of other passes' shares, each finished in the run that the pass knows, and none of them twice
+-- the blame list has SCX-records of other passes' shares, each finished in the
+-- run that the pass knows, and none of them twice
 pub record HasBlamed (p : Sight) : Type 0 where
   pub others : Each (λ s. IsOthersScx p.layout p.number s) p.blamed
   pub over : Each (λ s. value (run_of p) (state s) ≢ 0) p.blamed
@@ -121,17 +127,22 @@ pub record HasBlamed (p : Sight) : Type 0 where
 
 -- What every call leaves
 
--- the call of this number has brought the pass further: the run that it knows goes on from what it knew, and is lawful; its own rows there are of the call, and no more than so many; it has blamed these, and whom it has blamed is finished; and it may use each snapshot that it could use
+-- the call of this number has brought the pass further
 pub record HasGoneOn (allows : Layout → History → ℕ → Type 0) (old new : Sight) (number most : ℕ) (blamed : List ℕ) : Type 0 where
+  -- the run that it knows goes on from what it knew, and is lawful
   pub later : IsLater old new
   pub lawful : IsRun allows new.layout (run_of new)
+  -- its own rows there are of this call, and no more than `most`
   pub calls : AreOfCall new.number number (run_of old) (run_of new)
   pub steps : steps_of new ≤ steps_of old + most
+  -- it has blamed these now, and each that it has blamed is finished
   pub blamed_these : new.blamed ≡ blamed
   pub blames : HasBlamed new
+  -- it may use each snapshot that it could use
   pub usable : (snap : Snap) → CanUse old snap → CanUse new snap
 
--- it has taken nothing of its share, made no entry, and left each snapshot alone that it had left alone
+-- the pass has taken nothing of its share, made no entry, and
+-- left each snapshot alone that it had left alone
 pub record HasTakenNothing (old new : Sight) : Type 0 where
   pub share : new.share ≡ old.share
   pub done : done_of new ≡ done_of old
@@ -139,18 +150,24 @@ pub record HasTakenNothing (old new : Sight) : Type 0 where
 
 -- What `llx` says
 
--- another pass's SCX-record, which the call's last look at the node's info has found, was in the way of the call, at whose begin the node was not final; it is finished now
+-- another pass's SCX-record s was in progress over n behind the call's
+-- begin, where n was not final, and is finished now
 pub record HasFailed (old new : Sight) (n s : ℕ) : Type 0 where
+  -- it is the one that the call's last look at the node's info has found
   pub found : HasFound new.number (run_of new) (run_of old) LoadInfo n s
   pub others : IsOthersScx new.layout new.number s
   pub in_the_way : WasInTheWay (run_of new) (run_of old) n s
   pub over : value (run_of new) (state s) ≢ 0
   pub not_final : is_final (seen_of old) n ≡ false
 
--- a snapshot gives the fields of the node in the run that is known now, in which it is not final, and may be used, and the pass has made no SCX over the node since; a finalized node is final in it
+-- what an answer of `llx` of node n says
 abbrev pub LlxSays : Sight → Sight → ℕ → Llx → Type 0
+-- the snapshot gives the fields of the node in the run that is known now, in which it is not final;
+-- it may be used, and the pass has made no SCX over the node since
 LlxSays old new n (Snapshot snap) = IsSnapshot new.layout (run_of new) n snap × CanUse new snap × HasLeftAlone new snap
+-- the node is final in the run that is known now, and s finalizes it
 LlxSays old new n (Finalized node s) = (node.0 ≡ n) × IsFinalBy new.layout (run_of new) n s.0
+-- another pass's SCX-record was in the way
 LlxSays old new n (Fail node s) = (node.0 ≡ n) × HasFailed old new n s.0
 
 -- the blame list after this answer: `Fail` blames its SCX-record
@@ -167,59 +184,69 @@ IsFinalizedAnswer (Fail node s) = ⊥
 
 -- Snapshots that a call is given
 
--- they are of different nodes
+-- no two snapshots are of one node
 abbrev pub AreApart : List Snap → Type 0
 AreApart [] = Unit {0}
 AreApart (snap ∷ snaps) = Each (λ other. snap.node.0 ≢ other.node.0) snaps × AreApart snaps
 
--- one of them is of the node
+-- one of the snapshots is of node n
 abbrev pub HasNodeOf : List Snap → ℕ → Type 0
 HasNodeOf [] n = ⊥
 HasNodeOf (snap ∷ snaps) n = (snap.node.0 ≡ n) ⊎ HasNodeOf snaps n
 
--- an SCX over these, of which one is of the node whose field it sets, may be called: they are at most four, of different nodes, and each may be used
+-- an SCX over these snapshots, which sets a field of node n, may be called: they are at most four,
+-- of different nodes, one of them n, and each may be used
 abbrev pub MayPut : Sight → List Snap → ℕ → Type 0
 MayPut p snaps n = (length snaps ≤ 4) × AreApart snaps × HasNodeOf snaps n × Each (CanUse p) snaps
 
 -- What `vlx` says
 
--- since each moment of one of the snapshots, which is of the node, an SCX-record over the node, which the call's last step of this kind has found in its info, was in the way; and it is another pass's, where this one had left the snapshot alone before the call
+-- another SCX-record, s, has come to node n since a snapshot of it among these
 pub record WasChanged (kind : Kind) (old new : Sight) (snaps : List Snap) (n s : ℕ) : Type 0 where
   pub index : ℕ
   pub within : index < length snaps
   pub is : (snap_at snaps index).node.0 ≡ n
+  -- the call's last step of this kind has found it in the node's info
   pub found : HasFound new.number (run_of new) (run_of old) kind n s
+  -- it was in progress over n after each moment of the snapshot
   pub in_the_way : (moment : History) → IsMoment new.layout (run_of new) (snap_at snaps index) moment → WasInTheWay (run_of new) moment n s
+  -- it is another pass's, where this one had left the snapshot alone before the call
   pub others : HasLeftAlone old (snap_at snaps index) → IsOthersScx new.layout new.number s
 
--- in the run that was known before, the nodes of the first k had the last entry that they had at their snapshots, and were not final
+-- in the run that was known before, the nodes of the first k snapshots had the last entry that they
+-- had at their snapshots, and were not final
 abbrev pub AreAsFound : Sight → Sight → List Snap → ℕ → Type 0
 AreAsFound old new snaps k = (i : ℕ) → i < k → IsAsFound new.layout (run_of new) (run_of old) (snap_at snaps i)
 
--- all nodes were as found; or another SCX-record had come to one of them, and those before it were as found
+-- what an answer of `vlx` says: all nodes were as found; or another SCX-record had come to one of
+-- them, and those before it were as found
 abbrev pub VlxSays : Sight → Sight → List Snap → Vlx → Type 0
 VlxSays old new snaps Same = AreAsFound old new snaps (length snaps)
 VlxSays old new snaps (Changed node s) = (c : WasChanged LoadInfo old new snaps node.0 s.0) × AreAsFound old new snaps c.index
 
 -- What `scx` says
 
--- all that the share had of it is taken in the run that the pass knows
+-- all that the share had of this resource is taken, in the run that the pass knows
 abbrev pub IsAllTaken : Sight → Resource → Type 0
 IsAllTaken p Nodes = (n : ℕ) → IsOwnNode p.layout p.number n → IsTakenNode (run_of p) n
 IsAllTaken p ScxRecords = (s : ℕ) → IsOwnScx p.layout p.number s → IsTakenScx (run_of p) s
 
+-- the refusal is right: the share has none left of what it names, and all of it is taken
 abbrev pub IsUsedUp : Sight → Full → Type 0
 IsUsedUp p f = IsFull p.share f × IsAllTaken p f.what
 
--- the entry is the pass's only one behind what it had seen, and is that of this call, with the fresh node: just before it each node was as its snapshot found it, and the fresh node had its value, and 0 in its two fields
+-- the call's update is in the log, once, as asked: e is its entry
 pub record IsDone (old new : Sight) (snaps : List Snap) (finalize : List NodeNo) (field : ℕ × Side) (value_of_cell : ℕ) (e : Entry) : Type 0 where
+  -- the row that has put it there, which may be another pass's, is behind what was known before
   pub row : Row
   pub before : History
   pub within : EndsWith (run_of new) (row ⊳ before)
   pub since : EndsWith before (run_of old)
   pub wins : IsWin before row e.scx
   pub logged : log new.layout (row ⊳ before) ≡ e ∷ log new.layout before
+  -- it is the pass's only entry behind what the pass had seen
   pub done : done_of new ≡ e ∷ done_of old
+  -- it is of this call, and of the SCX-record and the node that were next in the share
   pub of_pass : e.owner ≡ old.number
   pub of_record : e.scx ≡ old.share.next_scx
   pub of_call : e.call ≡ taken_of old
@@ -228,63 +255,72 @@ pub record IsDone (old new : Sight) (snaps : List Snap) (finalize : List NodeNo)
   pub node : e.node ≡ field.0
   pub side : e.side ≡ field.1
   pub fresh : e.new ≡ old.share.next_node
+  -- just before it the fresh node had its value, and 0 in its two fields
   pub has_value : value before (node_word e.new Value) ≡ value_of_cell
   pub empty_fields : (side : Side) → value before (child e.new side) ≡ 0
+  -- just before it each node was as its snapshot found it
   pub found : (i : ℕ) → i < length snaps → IsAsFound new.layout (run_of new) before (snap_at snaps i)
 
--- one entry more, of this call; or none, then or later, since the SCX-record is aborted, and another was in the way of a node since its snapshot
+-- what an answer of `scx` says
 abbrev pub ScxSays : Sight → Sight → List Snap → List NodeNo → ℕ × Side → ℕ → Scx → Type 0
+-- there is one entry more, of this call
 ScxSays old new snaps finalize field v Done = (e : Entry) × IsDone old new snaps finalize field v e
+-- there is none, now or later: the SCX-record is aborted, and
+-- another had come to a node since its snapshot
 ScxSays old new snaps finalize field v (Lost node s) = WasChanged Freeze old new snaps node.0 s.0 × (done_of new ≡ done_of old) × (value (run_of new) (state old.share.next_scx) ≡ 2)
 
 -- Passes that come together
 
--- by one step, which is of no call (its number is 0), the pass has learned more, and it has blamed nobody
+-- by one step, which is of no call (its number is 0),
+-- the pass has learned more; it has blamed nobody
 pub record HasLookedOnce (allows : Layout → History → ℕ → Type 0) (old new : Sight) : Type 0 where
   pub goes_on : HasGoneOn allows old new 0 1 old.blamed
   pub takes_nothing : HasTakenNothing old new
   pub one_step : steps_of new ≡ suc (steps_of old)
 
--- what these passes have blamed is in no share of theirs any more
+-- no share of these passes still holds an SCX-record that one of them has blamed
 abbrev pub HaveLeftShares : List Sight → Type 0
 HaveLeftShares passes = Each (λ p. Each (λ q. Each (λ s. ¬ HasScx q.share s) p.blamed) passes) passes
 
 -- New passes
 
--- a pass that has made no step, with its whole share
+-- pass c of the forest before its first step: it has its whole share and knows nothing
 abbrev pub beginner : Ground → ℕ → Sight
 beginner f c = record { table = f.table; layout = f.layout; number = c; share = whole_share f.layout c; known = []; blamed = [] }
 
--- so many passes there are, and each is such a one, in order
+-- these are all passes of the forest, in order, before their first steps
 pub record AreNew (f : Ground) (passes : List Sight) : Type 0 where
   pub count : length passes ≡ f.layout.passes
   pub each : (j : ℕ) (d : Sight) → slice_get passes j ≡ Some d → d ≡ beginner f j
 
 -- All passes
 
--- they are of this forest
+-- all these passes are of this forest
 abbrev pub AreOf : Ground → List Sight → Type 0
 AreOf f [] = Unit {0}
 AreOf f (p ∷ ps) = IsOf f p × AreOf f ps
 
--- one of them has this number
+-- one of these passes has the number n
 abbrev pub HasPass : List Sight → ℕ → Type 0
 HasPass passes n = Contains (map (λ (p : Sight). p.number) passes) n
 
--- each pass of the layout is among them
+-- each pass of the layout is among these
 abbrev pub AreAllBack : Layout → List Sight → Type 0
 AreAllBack lay passes = (n : ℕ) → n < lay.passes → HasPass passes n
 
--- these rows go on from what each of them knew, by one row of its own, which is of no call (its number is 0); its entries in them are those of its done list
+-- these rows go on from what each pass knew, by one row of its own, which is of no call (its number
+-- is 0); its entries in them are those of its done list
 abbrev pub AreBegun : List Sight → List Row → Type 0
 AreBegun [] rows = Unit {0}
 AreBegun (p ∷ ps) rows = EndsWith (past p.layout.mode rows) (run_of p) × (entries_of p.number (log p.layout (past p.layout.mode rows)) ≡ done_of p) × (rows_of p.number rows ≡ suc (steps_of p)) × AreOfCall p.number 0 (run_of p) (past p.layout.mode rows) × AreBegun ps rows
 
--- the words are those of one run, in which the fields are what its log says, and which goes on from what these passes knew; what they have blamed has left their shares
+-- the forest has ended: its words are those of one run, which goes on from what these passes knew
 pub record IsClosed (allows : Layout → History → ℕ → Type 0) (lay : Layout) (passes : List Sight) (words : Contents) : Type 0 where
   pub rows : List Row
   pub sound : IsRun allows lay (past lay.mode rows)
   pub holds : (w : Word) → IsWord lay w → held words w ≡ value (past lay.mode rows) w
+  -- the fields are what the log of the run says
   pub fields : (n : ℕ) (side : Side) → n < all_nodes lay → held words (child n side) ≡ fields lay (past lay.mode rows) n side
   pub begun : AreBegun passes rows
+  -- no share still holds an SCX-record that a pass has blamed
   pub blamed : HaveLeftShares passes

@@ -10,7 +10,8 @@ use Rattle.prims.specs.Snap.{snap_at}
 use Rattle.prims.specs.declared.snap.Snap.{Snap}
 use Rattle.prims.specs.declared.put.PutRun.{PutRun}
 
--- it covers the nodes of these snapshots, finalizes those that are in the list, and puts this node, with this value, into the field, by this SCX-record, in the call of this number
+-- the run of SCX covers the nodes of these snapshots, finalizes those of them in the list, and puts
+-- this node, with this value, into the field; its SCX-record and the number of its call are these
 pub record IsPutOf (m : PutRun) (snaps : List Snap) (finalize : List NodeNo) (field : ℕ × Side) (v node scx number : ℕ) : Type 0 where
   pub over : IsUpdateOver m.scx.update
   pub snaps_are : m.scx.update.snaps ≡ snaps

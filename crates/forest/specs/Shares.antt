@@ -7,12 +7,13 @@ use Rattle.arena.specs.Log.{Entry}
 use Rattle.prims.specs.Moments.{AreOver}
 use Rattle.prims.specs.Shares.{IsShare}
 
--- between two calls of pass c: what it has taken is what comes before what is left, and each SCX-record that it has taken is finished
+-- pass c is between two calls: it has taken all of its share before what is left, and each
+-- SCX-record that it has taken is finished
 pub record IsAtRest (lay : Layout) (c : ℕ) (h : History) (left : Left) : Type 0 where
   pub share : IsShare lay h c left left.next_node left.next_scx
   pub over : AreOver lay c left.next_scx h
 
--- the entries of a pass among these
+-- the entries of pass c among these
 abbrev pub entries_of : ℕ → List Entry → List Entry
 entries_of c [] = []
 entries_of c (e ∷ es) = cond (eqb e.owner c) (e ∷ entries_of c es) (entries_of c es)

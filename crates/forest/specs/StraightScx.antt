@@ -20,14 +20,16 @@ use Rattle.forest.specs.declared.straight.scx.Put.{Put}
 use Rattle.forest.specs.declared.view.Knower.{Knower}
 use Rattle.forest.specs.Courses.{Begins, Waits, Told, Ends}
 
+-- the two runs are of one SCX: of one SCX-record, update, call and value
 abbrev pub put_same : PutRun → PutRun → Type 0
 put_same old now = (now.scx.scx ≡ old.scx.scx) × (now.scx.update ≡ old.scx.update) × (now.scx.call ≡ old.scx.call) × (now.value ≡ old.value)
 
--- the run over these snapshots of what is to be put, in the call of this number, that stands at these places
+-- the run over these snapshots of what is to be put, in the
+-- call of this number, that stands at these places
 abbrev pub standing : List Snap → Put → ℕ → ScxAt → PutAt → PutRun
 standing snaps put number scx at = record { value = put.value; scx = record { scx = put.scx; call = number; update = record { snaps = snaps; plan = put.plan; old = put.old; fresh = put.fresh }; at = scx }; at = at }
 
--- that which has not begun
+-- the same run at its start
 abbrev pub run_of : List Snap → Put → ℕ → PutRun
 run_of snaps put number = standing snaps put number ScxStart Start
 
@@ -35,18 +37,23 @@ run_of snaps put number = standing snaps put number ScxStart Start
 abbrev pub scx_at : PutRun → ScxAt → PutRun
 scx_at m at = record { value = m.value; scx = record { scx = m.scx.scx; call = m.scx.call; update = m.scx.update; at = at }; at = AtScx }
 
+-- the fill of this word of the run's SCX-record with v
 abbrev pub fill_of : PutRun → ScxWord → ℕ → Step
 fill_of m part v = record { kind = Fill; word = scx m.scx.scx.0 part; deed = Store v }
 
 module _ (allows : Layout → History → ℕ → Type 0) (c : Call) (ps : List Knower) (first : PutRun) where
+  -- a call of SCX with a fresh cell begins with the run `first`
   abbrev pub PutBegins : Type 0
   PutBegins = Begins allows (put_ready allows) c ps first
 
+  -- the call waits for this step, with the run at its place
   abbrev pub PutWaits : PutRun → Step → Type 0
   PutWaits = Waits allows (put_waits allows) put_same c ps first
 
+  -- the step of the place has told v
   abbrev pub PutTold : PutRun → ℕ → Type 0
   PutTold = Told allows (put_waits allows) put_same c ps first (put_ready allows)
 
+  -- the call has ended with this answer
   abbrev pub PutEnds : PutRun → Scx → Type 0
   PutEnds = Ends allows (put_waits allows) put_same c ps first put_answers

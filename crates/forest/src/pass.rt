@@ -10,8 +10,8 @@ use arena::{Layout, PassNo, Shape, Share};
 use atomic_table::Seat;
 use std::marker::{Model, PhantomData};
 
-/// A part in a forest: a number, a share of the nodes and SCX-records, the run that it knows, and whom
-/// its calls have blamed.
+/// A part in a forest: a number, a share of the nodes and SCX-records, the run that it knows, and
+/// whom its calls have blamed.
 #[derive(Drop)]
 pub struct Pass<S: Shape> {
     pub(crate) number: PassNo,

@@ -20,7 +20,9 @@ impl<S: Shape> TableRule<u8, View, Layout> for Lawful<S> {
 /// A step, and the number of the call that makes it.
 #[derive(Clone, Copy)]
 pub struct Asked {
+    /// The number of the call, 0 where the step is of no call.
     pub call: u64,
+    /// The step that is made.
     pub step: Step,
 }
 
@@ -28,6 +30,7 @@ pub struct Asked {
 pub trait Says {
     ghost use Rattle.forest.specs.declared.rule.Asked.{Asked};
 
+    /// The step that its maker says it is.
     ghost said: { Asked };
 }
 

@@ -4,12 +4,17 @@ use std::collections::LinkedList;
 
 /// A pass, the table's layout, and the run up to the pass's own last step, newest row first.
 pub struct Knower {
+    /// The number of the pass.
     pub number: PassNo,
+    /// The layout of its table.
     pub layout: Layout,
+    /// The run up to its own last step, the newest row first.
     pub known: LinkedList<Row>,
 }
 
-/// The passes of a seat: one, none where it was joined to another, or several before they are dealt.
+/// The passes of a seat: one, none where it was joined to another, or several before they are
+/// dealt.
 pub struct View {
+    /// The passes, each of this seat alone.
     pub passes: LinkedList<Knower>,
 }

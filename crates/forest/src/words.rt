@@ -1,6 +1,6 @@
-//! The words of the table, and all that touches them while threads share them: a step, which adds one
-//! row to the run, and the moves by which seats are dealt and joined, which tell nothing. Nothing
-//! else can be written outside this module, so that a call's rows are all that it has done.
+//! The words of the table, and all that touches them while threads share them: a step, which adds
+//! one row to the run, and the moves by which seats are dealt and joined, which tell nothing.
+//! Nothing else can be written outside this module, so that a call's rows are all that it has done.
 ghost use Rattle.std.specs.Prelude.{◌≡◌, ◌<◌, ◌++◌, [], ◌∷◌, IfOk};
 ghost use Rattle.std.specs.Slots.{IsFull, slots_len, slots_items};
 ghost use Rattle.atomic_table.specs.Table.{Final, Seen};

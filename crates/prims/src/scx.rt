@@ -43,7 +43,7 @@ pub enum ScxAt {
 pub struct ScxRun {
     /// The SCX-record that it fills, of the caller's share.
     pub scx: ScxNo,
-    /// The number of the call among those of its pass.
+    /// The number of the call, as its maker counts.
     pub call: u64,
     /// What the SCX is to do.
     pub update: Update,

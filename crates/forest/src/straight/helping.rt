@@ -181,8 +181,8 @@ fn mark_all<S: Shape>(
     }
 }
 
-/// HELP of an SCX-record by a run that has not begun: its steps in line; where a node cannot be frozen,
-/// the machine goes on.
+/// HELP of an SCX-record by a run that has not begun: its steps in line; where a node cannot be
+/// frozen, the machine goes on.
 #[inline(always)]
 pub(crate) fn call<S: Shape>(
     words: &Words<S>,

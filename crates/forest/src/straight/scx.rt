@@ -16,7 +16,8 @@ use atomic_table::Seat;
 use help::{HelpRun, Plan};
 use prims::{PutAt, PutRun, Scx, ScxAt, ScxRun, Snap, Snaps, Update};
 
-/// What an SCX with a fresh cell is to do, beside the snapshots, which stay where the caller has them.
+/// What an SCX with a fresh cell is to do, beside the snapshots, which stay where the caller has
+/// them.
 #[derive(Clone, Copy)]
 pub(crate) struct Put {
     pub(crate) plan: Plan,

@@ -12,7 +12,8 @@ use arena::{Deed, Kind, Layout, NodeWord, ScxNo, Shape, Step, Word};
 use atomic_table::Seat;
 use prims::{SnapList, Vlx, VlxRun};
 
-/// VLX: loads the infos of the snapshots' nodes, up to the first that is not what its snapshot found.
+/// VLX: loads the infos of the snapshots' nodes, up to the first that is not what its snapshot
+/// found.
 #[inline(always)]
 pub(crate) fn call<S: Shape, L: SnapList + Copy>(
     words: &Words<S>,

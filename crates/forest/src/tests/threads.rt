@@ -214,7 +214,8 @@ fn look_all(
     Ok((back, found))
 }
 
-/// How a race ended: what each thread counted, what each pass found after all had met, and the words.
+/// How a race ended: what each thread counted, what each pass found after all had met, and the
+/// words.
 #[derive(Drop)]
 struct Ended {
     tallies: Vec<Tally>,
@@ -251,7 +252,8 @@ impl Ended {
         }
     }
 
-    /// Whether a field is as at the start, or holds a node of the share of a thread that had a Done.
+    /// Whether a field is as at the start, or holds a node of the share of a thread that had a
+    /// Done.
     fn is_of_winner(&self, field: u64) -> bool {
         match field.checked_sub(9) {
             Some(taken) => self.has_done(taken / u64::from(ROUNDS)),
