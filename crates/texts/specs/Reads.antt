@@ -12,21 +12,21 @@ use Rattle.texts.specs.declared.rows.Rows.{Rows}
 abbrev pub last_row : {R : Type 0} → Rows R → List (List ℕ)
 last_row rows = fields_of rows.row
 
--- a reader of rows as they stand, of any number of fields, the first one too
+-- the reader yields rows as they stand, of any number of fields, the first one too
 pub record IsPlain {R : Type 0} (reader : Reader R) : Type 0 where
   pub config : reader_config reader ≡ default_config
   pub trim : reader_trim reader ≡ trim.None
   pub ready : Ready reader
   pub flexible : is_flexible reader ≡ true
 
--- of these bytes these rows have been read, and the rest is to come
+-- these rows of these bytes have been read, and the rest of the bytes is to come
 pub record HasRead {R : Type 0} (remaining : R → Option (List ℕ)) (bytes : List ℕ) (so_far : List (List (List ℕ))) (rows : Rows R) : Type 0 where
   pub plain : IsPlain rows.reader
   pub rest : List ℕ
   pub left : source_of remaining rows.reader ≡ Some rest
   pub reached : Reached default_config state.StartRecord (strip_bom bytes) so_far (reader_state rows.reader) rest
 
--- the row that was read last stands behind these, and is a row
+-- the row that was read last stands behind these, and has so many fields
 pub record Stands {R : Type 0} (remaining : R → Option (List ℕ)) (bytes : List ℕ) (before : List (List (List ℕ))) (width : ℕ) (rows : Rows R) : Type 0 where
   pub read : HasRead remaining bytes (before ++ last_row rows ∷ []) rows
   pub row : IsRow width (last_row rows)

@@ -10,7 +10,7 @@ use Rattle.texts.specs.Fields.{field_of}
 
 -- Bytes as rows
 
--- these are all the rows of some bytes
+-- these are all the rows of the bytes
 abbrev pub AreRows : List ℕ → List (List (List ℕ)) → Type 0
 AreRows bytes rows = AreRecords default_config state.StartRecord (strip_bom bytes) rows
 
@@ -18,25 +18,30 @@ AreRows bytes rows = AreRecords default_config state.StartRecord (strip_bom byte
 abbrev pub BeginWithRows : List ℕ → List (List (List ℕ)) → Type 0
 BeginWithRows bytes rows = (s : State) × (rest : List ℕ) × Reached default_config state.StartRecord (strip_bom bytes) rows s rest
 
--- so many fields, each of them text
+-- these are so many fields, each of them text
 abbrev pub IsRow : ℕ → List (List ℕ) → Type 0
 IsRow width fields = (length fields ≡ width) × AllText fields
 
--- a row that counts the entries before it, and says nothing else
+-- the row that counts the entries before it, and says nothing else
 abbrev pub end_row : ℕ → ℕ → List (List ℕ)
 end_row width count = codes "end" ∷ decimal count ∷ replicate (width - 2) []
 
 -- What entries a text has, and which rows are no entries
 
--- how a text says its entries: the fields of a row, each entry's row, which entries are accepted, and why a row says
--- none; then the causes that every text has: rows that are none, an end row that is missing or wrong, too many entries
+-- how a text says its entries
 pub record Grammar (Entry Cause : Type 0) : Type 1 where
+  -- how many fields a row has
   pub width : ℕ
+  -- the row of an entry, and which entries are accepted
   pub row_of : Entry → List (List ℕ)
   pub Accepts : Entry → Type 0
+  -- why a row says no entry
   pub IsNoEntry : List (List ℕ) → Cause → Type 0
+  -- the causes that every text has: rows of another width or that are no text
   pub fields : Cause
+  -- an end row that is missing or wrong
   pub end : Cause
+  -- one entry too many
   pub long : Cause
 
 module _ {Entry Cause : Type 0} (g : Grammar Entry Cause) where
@@ -44,7 +49,7 @@ module _ {Entry Cause : Type 0} (g : Grammar Entry Cause) where
   abbrev pub most_entries : ℕ
   most_entries = 65536
 
-  -- accepted entries, not too many of them
+  -- these entries are accepted, and not too many
   abbrev pub AreEntries : List Entry → Type 0
   AreEntries entries = All g.Accepts entries × (length entries ≤ most_entries)
 
@@ -52,7 +57,8 @@ module _ {Entry Cause : Type 0} (g : Grammar Entry Cause) where
   abbrev pub rows_of : List (List (List ℕ)) → List Entry → List (List (List ℕ))
   rows_of head entries = head ++ map g.row_of entries
 
-  -- the bytes say these entries: their rows stand behind the head, then the end row, and nothing else
+  -- the bytes say these entries: their rows stand
+  -- behind the head, then the end row, and nothing else
   abbrev pub SayEntries : List ℕ → List (List (List ℕ)) → List Entry → Type 0
   SayEntries bytes head entries = AreEntries entries × AreRows bytes (rows_of head entries ++ end_row g.width (length entries) ∷ [])
 
@@ -60,8 +66,8 @@ module _ {Entry Cause : Type 0} (g : Grammar Entry Cause) where
   abbrev pub IsEndRow : List (List ℕ) → Type 0
   IsEndRow fields = field_of fields 0 ≡ codes "end"
 
-  -- what is wrong first with a row behind these entries: it is none; it ends the text, but does not count the entries; it
-  -- is no entry; it is one too many
+  -- what is wrong first with a row behind these entries: it is none; it ends the text, but does not
+  -- count the entries; it is no entry; it is one too many
   abbrev pub IsFaulty : List Entry → List (List ℕ) → Cause → Type 0
   IsFaulty entries fields cause =
       (¬ (IsRow g.width fields) × (cause ≡ g.fields))
@@ -76,21 +82,23 @@ module _ {Entry Cause : Type 0} (g : Grammar Entry Cause) where
       ⊎ (IsRow g.width fields × ¬ (IsEndRow fields) × g.IsNoEntry fields cause)
       ⊎ (IsRow g.width fields × (IsEndRow fields ⊎ (entry : Entry) × g.Accepts entry × (fields ≡ g.row_of entry)) × (cause ≡ g.end))
 
-  -- what is wrong with an end row, of this number, behind these rows: it does not count the entries, or a row stands behind it
+  -- what is wrong with an end row, of this number, behind these rows: it does not count the
+  -- entries, or a row stands behind it
   abbrev pub IsEndFault : List ℕ → List (List (List ℕ)) → List (List ℕ) → ℕ → ℕ → ℕ → Cause → Type 0
   IsEndFault bytes before fields entries number row cause =
       ((row ≡ number) × (fields ≢ end_row g.width entries) × (cause ≡ g.end))
       ⊎ ((row ≡ suc number) × (fields ≡ end_row g.width entries) × (late : List (List ℕ)) × BeginWithRows bytes ((before ++ fields ∷ []) ++ late ∷ []) × IsTooLate late cause)
 
-  -- the first faulty row behind the head and some entries, counted from 1, and what is wrong with it: the row that is
-  -- missing at the end, the one behind the entries, or the one behind a right end row
+  -- the first faulty row behind the head and some entries, counted from 1, and
+  -- what is wrong with it: the row that is missing at the end, the one behind
+  -- the entries, or the one behind a right end row
   abbrev pub IsFirstFault : List ℕ → List (List (List ℕ)) → ℕ → Cause → Type 0
   IsFirstFault bytes head row cause = (entries : List Entry) × AreEntries entries × (
       (AreRows bytes (rows_of head entries) × (row ≡ suc (length (rows_of head entries))) × (cause ≡ g.end))
       ⊎ ((fields : List (List ℕ)) × BeginWithRows bytes (rows_of head entries ++ fields ∷ []) × (row ≡ suc (length (rows_of head entries))) × IsFaulty entries fields cause)
       ⊎ ((fields : List (List ℕ)) × BeginWithRows bytes (rows_of head entries ++ end_row g.width (length entries) ∷ fields ∷ []) × (row ≡ suc (suc (length (rows_of head entries)))) × IsTooLate fields cause))
 
--- where a text is refused for a row, this is so of the row and the cause
+-- where a text is refused for a row, `names` holds of that row and the cause
 abbrev pub IfBad : {Cause : Type 0} → (ℕ → Cause → Type 0) → TextFault Cause → Type 0
 IfBad names NoMemory = ⊤
 IfBad names Read = ⊤

@@ -10,11 +10,14 @@ use std::io::{ErrorKind, Read, Write};
 /// read or write of more bytes than are left is cut to them; a flush is passed on.
 #[derive(Debug, Drop)]
 pub struct FailAt<T> {
+    /// The reader or writer within.
     pub inner: T,
+    /// How many bytes it still passes.
     pub left: usize,
 }
 
 impl<T> FailAt<T> {
+    /// Passes so many bytes from now on.
     pub fn new(inner: T, left: usize) -> FailAt<T>
         ensures inner { result.inner ≡ inner }
         ensures left { result.left ≡ left }

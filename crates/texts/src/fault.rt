@@ -9,6 +9,7 @@ use thiserror::Error;
 #[derive(Clone, Copy, Debug, PartialEq, Eq, Error)]
 #[error_bound(C: std::fmt::Display)]
 pub enum TextFault<C> {
+    /// An allocation was refused.
     #[error("no memory")]
     NoMemory,
     /// The reader failed.
@@ -40,6 +41,7 @@ pub trait Cause {
 /// Why a text could not be written to its end.
 #[derive(Clone, Copy, Debug, PartialEq, Eq, Error)]
 pub enum WriteFault {
+    /// An allocation was refused.
     #[error("no memory")]
     NoMemory,
     /// The writer failed in this call.

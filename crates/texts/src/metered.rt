@@ -10,11 +10,14 @@ use std::io::{Read, Write};
 /// some bytes. The count stays at the largest `u64`.
 #[derive(Debug, Drop)]
 pub struct Metered<T> {
+    /// The reader or writer within.
     pub inner: T,
+    /// How often it has failed.
     pub failures: u64,
 }
 
 impl<T> Metered<T> {
+    /// Counts the failures from now on.
     pub fn new(inner: T) -> Metered<T>
         ensures inner { result.inner ≡ inner }
         ensures failures { result.failures ≡ 0 }

@@ -19,6 +19,7 @@ pub struct Page {
 }
 
 impl Page {
+    /// A page with no line.
     pub fn new(alloc: Global) -> Page
         ensures ready { IsReady result }
         ensures row { page_row result ≡ [] }

@@ -70,6 +70,7 @@ pub struct Rows<R> {
 }
 
 impl<R: Read + Drop> Rows<R> {
+    /// The rows of a reader, of which none is read yet.
     pub fn new(alloc: Global, from: R) -> Rows<R>
         ensures none { (bytes : List ℕ) → R.remaining from ≡ Some bytes → HasRead R.remaining bytes [] result }
         ensures number { result.number ≡ 0 }
@@ -84,8 +85,9 @@ impl<R: Read + Drop> Rows<R> {
         }
     }
 
-    /// Goes on to the next row, which has so many fields, or to the place behind the last row, where it
-    /// answers false. A row of another number of fields, or that is no text, is refused as `FIELDS`.
+    /// Goes on to the next row, which has so many fields, or to the place behind the last row,
+    /// where it answers false. A row of another number of fields, or that is no text, is refused as
+    /// `FIELDS`.
     pub fn advance<C: Cause>(&mut self, width: usize) -> Result<bool, TextFault<C>>
         ensures number { self.new.number ≡ min (self.old.number + 1) (2 ^ 64 - 1) }
         ensures row { (bytes : List ℕ) (so_far : List (List (List ℕ))) → HasRead R.remaining bytes so_far self.old → IfOk result (λ found. MatchBool found (IsRow width (last_row self.new) × HasRead R.remaining bytes (so_far ++ last_row self.new ∷ []) self.new) (AreRows bytes so_far)) }
