@@ -10,11 +10,11 @@ use Rattle.script.specs.Commands.{command_row, IsCommand, IsCommandOf}
 use Rattle.texts.specs.Fields.{field_of}
 use Rattle.script.specs.Fields.{NamesClient}
 
--- a call's client, its command and the command's arguments
+-- the row of a call: its client, its command and the command's arguments
 abbrev pub call_row : Call → List (List ℕ)
 call_row call = decimal call.client.0 ∷ command_row call.command
 
--- the field is a command of the mode; there are commands in records mode alone
+-- the field names a command of the mode; there are commands in records mode alone
 abbrev pub NamesCommand : Mode → List ℕ → Type 0
 NamesCommand mode field = (mode ≡ Records) × ((field ≡ codes "llx") ⊎ (field ≡ codes "scx") ⊎ (field ≡ codes "vlx") ⊎ (field ≡ codes "set"))
 

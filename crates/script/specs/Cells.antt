@@ -6,7 +6,7 @@ use Rattle.script.specs.declared.cells.Cells.{Cells}
 abbrev pub cells_of : Cells → List ℕ
 cells_of c = take c.count c.list
 
--- the same where there may be none
+-- the same of a list that may be missing
 abbrev pub maybe_cells_of : Option Cells → List ℕ
 maybe_cells_of None = []
 maybe_cells_of (Some c) = cells_of c

@@ -8,20 +8,22 @@ use Rattle.script.specs.Update.{update_cells, update_finalize, update_field, upd
 use Rattle.script.specs.declared.command.Command.{Command}
 use Rattle.script.specs.declared.command.Command.TheVariants.{Llx, Scx, Vlx, Set}
 
+-- the word for a side
 abbrev pub side_text : Side → List ℕ
 side_text Left = codes "left"
 side_text Right = codes "right"
 
--- numbers, parted by one space
+-- these numbers in decimal, with a space before each
 unfoldable pub spaced : List ℕ → List ℕ
 spaced [] = []
 spaced (n ∷ ns) = codes " " ++ (decimal n ++ spaced ns)
 
+-- these numbers in decimal, parted by one space
 abbrev pub numbers_text : List ℕ → List ℕ
 numbers_text [] = []
 numbers_text (n ∷ ns) = decimal n ++ spaced ns
 
--- a field and the value that goes into it
+-- a field and the value that goes into it, parted by spaces
 abbrev pub change_text : ℕ × Side → ℕ → List ℕ
 change_text field value = decimal field.0 ++ (codes " " ++ (side_text field.1 ++ (codes " " ++ decimal value)))
 
@@ -36,23 +38,24 @@ command_row (Set field value) = codes "set" ∷ decimal field.0 ∷ side_text fi
 abbrev pub texts : List (Bor (List ℕ)) → List (List ℕ)
 texts = map (λ text. text.now)
 
--- a node that scripts name; clauses see a `Cell` as a number, and not each number is one
+-- node n is one that scripts name; clauses see a `Cell` as a number, and not each number is one
 abbrev pub IsCell : ℕ → Type 0
 IsCell node = (1 ≤ node) × (node ≤ 8)
 
--- one such node or more; `Cells` itself says that it has at most four, and that they differ
+-- these are such nodes, and some; `Cells` itself says
+-- that there are at most four, and that they differ
 abbrev pub AreCells : List ℕ → Type 0
 AreCells nodes = (1 ≤ length nodes) × All IsCell nodes
 
--- the command is one that there is: its nodes are cells, and its value fits a word; an `Update` itself
--- says that those finalized are a part of its cells, and that its field belongs to one
+-- the command is one that there is: its nodes are cells, and its value fits a word; an `Update`
+-- itself says that those finalized are a part of its cells, and that its field belongs to one
 abbrev pub IsCommand : Command → Type 0
 IsCommand (Llx cell) = IsCell cell
 IsCommand (Scx update) = AreCells (update_cells update) × (update_value update < 2 ^ 64)
 IsCommand (Vlx cells) = AreCells (cells_of cells)
 IsCommand (Set field value) = IsCell field.0 × (value < 2 ^ 64)
 
--- what is found is the command that has this row; nothing, where no command has it
+-- what is found is the command that has this row, or nothing where no command has it
 abbrev pub IsCommandOf : List (List ℕ) → Option Command → Type 0
 IsCommandOf row (Some command) = IsCommand command × (row ≡ command_row command)
 IsCommandOf row None = (command : Command) → IsCommand command → row ≢ command_row command

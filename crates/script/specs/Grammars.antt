@@ -19,6 +19,7 @@ use Rattle.texts.specs.Texts.{AreRows, BeginWithRows, Grammar, IsFirstFault, IsR
 
 -- Schedules
 
+-- how a schedule for so many clients says its orders: four fields a row, the rows of `order_row`
 abbrev pub order_grammar : ℕ → Grammar Order ScheduleCause
 order_grammar passes = record { width = 4; row_of = order_row; Accepts = IsOrder passes; IsNoEntry = IsNoOrder passes; fields = schedule.Fields; end = schedule.End; long = schedule.Long }
 
@@ -32,7 +33,8 @@ IsScheduleFault passes bytes row cause = IsFirstFault (order_grammar passes) byt
 
 -- Scripts
 
--- calls of one of the clients, of this program's commands; there are calls in records mode alone
+-- how a script says its calls, each of one of its clients: five fields a row, the rows of
+-- `call_row`; there are calls in records mode alone
 abbrev pub call_grammar : Layout → Grammar Call ScriptCause
 call_grammar layout = record { width = 5; row_of = call_row; Accepts = λ call. (call.client.0 < layout.passes) × (layout.mode ≡ Records) × IsCommand call.command; IsNoEntry = IsNoCall layout; fields = script.Fields; end = script.End; long = script.Long }
 
@@ -42,14 +44,15 @@ pub record SayScript (mode : Mode) (bytes : List ℕ) (limits : Limits) (layout 
   pub layout_is : IsLayoutOf limits mode layout
   pub calls_are : SayEntries (call_grammar layout) bytes (limits_row limits ∷ []) calls
 
--- the first row says no limits: there is none; it is no row; its limits are not accepted
+-- the first row says no limits: there is none, or it is no row, or its limits are not accepted
 abbrev pub IsHeadFault : List ℕ → ScriptCause → Type 0
 IsHeadFault bytes cause =
     (AreRows bytes [] × (cause ≡ script.End))
     ⊎ ((fields : List (List ℕ)) × BeginWithRows bytes (fields ∷ []) × ¬ (IsRow 5 fields) × (cause ≡ script.Fields))
     ⊎ ((fields : List (List ℕ)) × BeginWithRows bytes (fields ∷ []) × IsRow 5 fields × ((limits : Limits) → IsAccepted limits → fields ≢ limits_row limits) × (cause ≡ script.Limits))
 
--- the first faulty row of a script, and what is wrong with it first: it is the first one, or it stands behind the limits
+-- the first faulty row of a script, and what is wrong with it first: it is
+-- the first one, or it stands behind the limits
 abbrev pub IsScriptFault : Mode → List ℕ → ℕ → ScriptCause → Type 0
 IsScriptFault mode bytes row cause =
     ((row ≡ 1) × IsHeadFault bytes cause)

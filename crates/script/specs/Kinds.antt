@@ -3,6 +3,7 @@ use Rattle.std.specs.Prelude.{ℕ, List, codes}
 use Rattle.arena.specs.declared.step.Kind.{Kind}
 use Rattle.arena.specs.declared.step.Kind.TheVariants.{Fill, LoadSettled, LoadInfo, LoadState, LoadMarked, LoadAllFrozen, LoadChild, Freeze, SetFrozen, Mark, Update, Commit, Abort}
 
+-- the name of a kind of step in scripts, schedules and reports
 abbrev pub kind_text : Kind → List ℕ
 kind_text Fill = codes "fill"
 kind_text LoadSettled = codes "settled"

@@ -12,7 +12,7 @@ use Rattle.script.specs.Fields.{NamesClient}
 use Rattle.script.specs.Kinds.{kind_text}
 use Rattle.script.specs.What.{what_text}
 
--- the client is one of so many, and the turns or steps are 1 to 1,000,000
+-- the order is accepted: its client is one of so many, and its turns or steps are 1 to 1,000,000
 abbrev pub IsOrder : ℕ → Order → Type 0
 IsOrder passes (Step client turns) = (client.0 < passes) × (1 ≤ turns) × (turns ≤ 1000000)
 IsOrder passes (Call client) = client.0 < passes
@@ -26,11 +26,11 @@ order_row (Call client) = codes "call" ∷ decimal client.0 ∷ [] ∷ [] ∷ []
 order_row (Until client kind times) = codes "until" ∷ decimal client.0 ∷ kind_text kind ∷ decimal times ∷ []
 order_row (Finish client) = codes "finish" ∷ decimal client.0 ∷ [] ∷ [] ∷ []
 
--- the field names what a row orders
+-- the field names this order
 abbrev pub NamesOrder : What → List ℕ → Type 0
 NamesOrder order field = field ≡ what_text order
 
--- the field is a kind of step where the order has one, and empty elsewhere
+-- the field is a kind of step where this order has one, and empty elsewhere
 abbrev pub FitsAsKind : What → List ℕ → Type 0
 FitsAsKind what.Step field = field ≡ []
 FitsAsKind what.Call field = field ≡ []
@@ -41,7 +41,7 @@ FitsAsKind what.Finish field = field ≡ []
 abbrev pub NamesTimes : List ℕ → Type 0
 NamesTimes field = (times : ℕ) × (1 ≤ times) × (times ≤ 1000000) × (field ≡ decimal times)
 
--- the same where the order has a number; the field is empty elsewhere
+-- the field is a number from 1 to 1,000,000 where this order has one, and empty elsewhere
 abbrev pub FitsAsNumber : What → List ℕ → Type 0
 FitsAsNumber what.Step field = NamesTimes field
 FitsAsNumber what.Call field = field ≡ []
@@ -58,7 +58,8 @@ IsUnfit order kind number cause.Client = ⊥
 IsUnfit order kind number cause.End = ⊥
 IsUnfit order kind number cause.Long = ⊥
 
--- why a row says no order: its first field names none; or none of the clients; or the last two fields do not fit
+-- why a row says no order: its first field names none; or its second
+-- none of the clients; or the last two do not fit
 abbrev pub IsNoOrder : ℕ → List (List ℕ) → ScheduleCause → Type 0
 IsNoOrder passes fields cause.Command = (order : What) → ¬ (NamesOrder order (field_of fields 0))
 IsNoOrder passes fields cause.Client = (order : What) × NamesOrder order (field_of fields 0) × ¬ (NamesClient passes (field_of fields 1))

@@ -1,7 +1,7 @@
 -- Parts of lists.
 use Rattle.std.specs.Prelude.{ℕ, Bool, true, false, cond, eqb, List, [], ◌∷◌}
 
--- whether the second list gives the first, where some of its elements are left out
+-- whether the first list is the second with some of its elements left out
 abbrev pub is_part : List ℕ → List ℕ → Bool
 is_part [] whole = true
 is_part (x ∷ part) [] = false

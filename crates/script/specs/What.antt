@@ -3,6 +3,7 @@ use Rattle.std.specs.Prelude.{ℕ, List, codes}
 use Rattle.script.specs.declared.schedule.What.{What}
 use Rattle.script.specs.declared.schedule.What.TheVariants.{Step, Call, Until, Finish}
 
+-- the word for an order in the first field of its row
 abbrev pub what_text : What → List ℕ
 what_text Step = codes "step"
 what_text Call = codes "call"

@@ -23,6 +23,7 @@ impl Model for Cell {
 impl Cell {
     const FIRST: Cell = Cell { number: 1 };
 
+    /// The cell of this number, if it is 1 to 8.
     pub fn new(number: u64) -> Option<Cell>
         ensures valid { IsSome result ↔ ((1 ≤ number) × (number ≤ 8)) }
         ensures value { IfSome result (λ c. c ≡ number) }
@@ -36,6 +37,7 @@ impl Cell {
         }
     }
 
+    /// The node that the cell is.
     pub fn node(self) -> NodeNo
         ensures node { result.0 ≡ self }
         ensures from_one { 1 ≤ result.0 }
@@ -58,6 +60,7 @@ pub struct Cells {
 impl Cells {
     ghost use Rattle.script.specs.Cells.{cells_of};
 
+    /// This cell alone.
     pub fn one(cell: Cell) -> Cells
         ensures { cells_of result ≡ cell ∷ [] }
     {
@@ -82,6 +85,7 @@ impl Cells {
         })
     }
 
+    /// The cells in their order.
     pub fn as_slice(&self) -> &[Cell]
         ensures cells { result.now ≡ cells_of self.now }
         ensures some { 1 ≤ length result.now }

@@ -84,6 +84,7 @@ impl Update {
         }
     }
 
+    /// The field that gets the fresh cell.
     pub fn field(&self) -> (Cell, Side)
         ensures field { result ≡ update_field self.now }
         ensures inside { ∥ Contains (update_cells self.now) result.0 ∥₁ }
@@ -91,6 +92,7 @@ impl Update {
         self.field
     }
 
+    /// The value of the fresh cell.
     pub fn value(&self) -> u64
         ensures { result ≡ update_value self.now }
     {
@@ -114,6 +116,8 @@ fn is_part(part: &[Cell], whole: &[Cell]) -> bool
 /// A call and the client that makes it.
 #[derive(Clone, Copy, Debug, PartialEq, Eq)]
 pub struct Call {
+    /// The client that makes it.
     pub client: PassNo,
+    /// What it does.
     pub command: Command,
 }

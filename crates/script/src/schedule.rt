@@ -42,6 +42,7 @@ pub enum Order {
     },
 }
 
+/// The orders by which a script's clients make their turns, one after another.
 #[derive(Debug, Drop)]
 pub struct Schedule {
     pub orders: Vec<Order>,

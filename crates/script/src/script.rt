@@ -20,8 +20,11 @@ use texts::{Metered, Rows, field, settled, small_number_of};
 /// The limits of a table, and the calls of its clients in the order of the script.
 #[derive(Debug, Drop)]
 pub struct Script {
+    /// The limits of its first row.
     pub limits: Limits,
+    /// The table that they give.
     pub layout: Layout,
+    /// The calls of all clients, at most 65,536.
     pub calls: Vec<Call>,
     ghost clients: { All (λ call. call.client.0 < layout.passes) calls.items },
     ghost few: { vec_len calls ≤ 65536 },
