@@ -6,10 +6,10 @@ use Rattle.arena.specs.History.{History}
 use Rattle.arena.specs.Fills.{IsNamed}
 use Rattle.judge.specs.Tests.{is_known}
 
--- the nodes that have their flags are named
+-- each node that has its flag is named
 abbrev pub AreNamed : Layout → History → List Bool → Type 0
 AreNamed lay h flags = (n : ℕ) → slice_index_or flags n false ≡ true → IsNamed lay h n
 
--- no other node is named
+-- each node of the table that is named has its flag, or was there from the start
 abbrev pub AreAll : Layout → History → List Bool → Type 0
 AreAll lay h flags = (n : ℕ) → n < all_nodes lay → IsNamed lay h n → is_known lay flags n ≡ true

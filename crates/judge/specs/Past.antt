@@ -4,6 +4,6 @@ use Rattle.arena.specs.declared.layout.Layout.{Layout}
 use Rattle.arena.specs.declared.step.Row.{Row}
 use Rattle.arena.specs.History.{History, Start, rows_after}
 
--- the history after these rows, of which the first comes first
+-- the history after these rows, the first of the list made first
 abbrev pub past : Layout → List Row → History
 past lay rows = rows_after (Start lay.mode) rows

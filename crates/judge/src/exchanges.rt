@@ -88,6 +88,7 @@ fn is_set_frozen(layout: &Layout, rows: &[Row], row: &Row, scx: u64) -> bool
         && are_frozen(layout, rows, scx, count)
 }
 
+/// Whether a row says that all nodes are frozen, for the SCX-record of its word.
 pub fn is_some_set_frozen(layout: &Layout, rows: &[Row], row: &Row) -> bool
     ensures { IsTrue result → (s : ℕ) × IsSetFrozen (past layout.now rows.now) row.now s }
 {
@@ -168,8 +169,8 @@ fn is_update(layout: &Layout, rows: &[Row], row: &Row, scx: u64) -> bool
         && is_exchange(row, old, new)
 }
 
-/// Whether a row is an update by some SCX-record: mostly that which the info word of the field's node
-/// names now, else one that it came to name before.
+/// Whether a row is an update by some SCX-record: mostly that which the info word of the field's
+/// node names now, else one that it came to name before.
 pub fn is_some_update(layout: &Layout, rows: &[Row], row: &Row) -> bool
     ensures { IsTrue result → (s : ℕ) × IsUpdate (past layout.now rows.now) row.now s }
 {
@@ -212,6 +213,7 @@ fn has_won(layout: &Layout, rows: &[Row], scx: u64) -> bool
     false
 }
 
+/// Whether a row commits the SCX-record of its word, of which an update has won.
 pub fn is_some_commit(layout: &Layout, rows: &[Row], row: &Row) -> bool
     ensures { IsTrue result → (s : ℕ) × IsCommit (past layout.now rows.now) row.now s }
 {
@@ -248,6 +250,7 @@ fn is_abort_of(layout: &Layout, rows: &[Row], row: &Row, scx: u64) -> bool
     false
 }
 
+/// Whether a row aborts the SCX-record of its word.
 pub fn is_some_abort(layout: &Layout, rows: &[Row], row: &Row) -> bool
     requires { row.now.pass.0 < layout.now.passes }
     ensures { IsTrue result → (s j : ℕ) × IsAbort layout.now (past layout.now rows.now) row.now s j }

@@ -4,6 +4,7 @@ ghost use Rattle.arena.specs.Lawful.{IsLoad, IsSettled, IsInfo, IsState, IsMarke
 
 use arena::{NodeWord, Row, ScxWord, Word};
 
+/// Whether a row loads a settled word: `head`, `key`, `value`, or one of `plan` to `call`.
 pub fn is_load_of_settled(row: &Row) -> bool
     ensures { IsTrue result → IsLoad IsSettled row.now }
 {
@@ -16,30 +17,35 @@ pub fn is_load_of_settled(row: &Row) -> bool
     settled && row.after == row.before
 }
 
+/// Whether a row loads the info of a node.
 pub fn is_load_of_info(row: &Row) -> bool
     ensures { IsTrue result → IsLoad IsInfo row.now }
 {
     matches!(row.word, Word::Node(_, NodeWord::Info)) && row.after == row.before
 }
 
+/// Whether a row loads the state of an SCX-record.
 pub fn is_load_of_state(row: &Row) -> bool
     ensures { IsTrue result → IsLoad IsState row.now }
 {
     matches!(row.word, Word::Scx(_, ScxWord::State)) && row.after == row.before
 }
 
+/// Whether a row loads the mark of a node.
 pub fn is_load_of_marked(row: &Row) -> bool
     ensures { IsTrue result → IsLoad IsMarked row.now }
 {
     matches!(row.word, Word::Node(_, NodeWord::Marked)) && row.after == row.before
 }
 
+/// Whether a row loads `allfrozen` of an SCX-record.
 pub fn is_load_of_all_frozen(row: &Row) -> bool
     ensures { IsTrue result → IsLoad IsAllFrozen row.now }
 {
     matches!(row.word, Word::Scx(_, ScxWord::AllFrozen)) && row.after == row.before
 }
 
+/// Whether a row loads a field of a node.
 pub fn is_load_of_field(row: &Row) -> bool
     ensures { IsTrue result → IsLoad IsField row.now }
 {

@@ -29,6 +29,7 @@ fn is_seen(rows: &[Row], scx: u64) -> bool
     scx == 0 || is_left_in_info(rows, scx)
 }
 
+/// Whether an info word has named an SCX-record.
 pub fn is_named_scx(layout: &Layout, rows: &[Row], scx: u64) -> bool
     ensures { IsTrue result ↔ IsNamedScx (past layout.now rows.now) scx }
 {
@@ -88,8 +89,8 @@ fn missing(layout: &Layout, flags: &[bool], rows: &[Row]) -> Option<u64>
     None
 }
 
-/// Gives each node that is named its flag, and answers whether that was done: as many rounds as there
-/// are nodes always do.
+/// Gives each node that is named its flag, and answers whether that was done: as many rounds as
+/// there are nodes always do.
 pub fn find_named(layout: &Layout, flags: &mut [bool], rows: &[Row]) -> bool
     requires size { length flags.old ≡ all_nodes layout.now }
     requires lawful { Lawful layout.now (past layout.now rows.now) }

@@ -71,8 +71,8 @@ fn abort(pass: u32, scx: u64, before: u64) -> Row {
     step(pass, Kind::Abort, s(scx, State), before, 2)
 }
 
-/// Cells: nodes 0 to 8 are there from the start, client 0 has nodes 9 to 18 and SCX-records 1 to 10,
-/// client 1 has nodes 19 to 28 and SCX-records 11 to 20.
+/// Cells: nodes 0 to 8 are there from the start, client 0 has nodes 9 to 18 and SCX-records 1 to
+/// 10, client 1 has nodes 19 to 28 and SCX-records 11 to 20.
 fn layout(mode: Mode, passes: u32) -> Result<Layout, Fail> {
     let limits = Limits {
         passes,
@@ -119,8 +119,8 @@ fn fills(rows: &mut Vec<Row>, pass: u32, scx: u64, said: Said) -> Result<(), All
     ])
 }
 
-/// Client 0 puts 70 into a fresh cell left of cell 1, while client 1 looks at cell 1 and helps. Rows 0
-/// to 36.
+/// Client 0 puts 70 into a fresh cell left of cell 1, while client 1 looks at cell 1 and helps.
+/// Rows 0 to 36.
 fn set(rows: &mut Vec<Row>) -> Result<(), AllocError> {
     snapshot(rows, 0, 1, 0, 2, 0)?;
     rows.push(fill(0, n(9, Value), 0, 70))?;
@@ -152,7 +152,8 @@ fn set(rows: &mut Vec<Row>) -> Result<(), AllocError> {
     ])
 }
 
-/// Client 1 covers cells 1 and 2, finalizes cell 2, and puts another cell left of cell 1. Rows 37 to 72.
+/// Client 1 covers cells 1 and 2, finalizes cell 2, and puts another cell left of cell 1. Rows 37
+/// to 72.
 fn finalize(rows: &mut Vec<Row>) -> Result<(), AllocError> {
     snapshot(rows, 1, 1, 1, 1, 9)?;
     snapshot(rows, 1, 2, 0, 2, 0)?;
@@ -356,7 +357,8 @@ fn ends_are_judged(rt: HostRuntime) -> Result<(), Fail> {
             (Some(68), Edit::Put(68, mark(1, 1, 0))),
             (Some(68), Edit::Put(68, step(1, Mark, n(2, Marked), 0, 2))),
             (None, Edit::Insert(73, mark(0, 2, 1))),
-            // an update before all are frozen, before all are marked, of another number, of another field
+            // an update before all are frozen, before all are marked, of another number, of another
+            // field
             (Some(27), Edit::Insert(27, update(0, 1, 0, 9))),
             (Some(70), Edit::Remove(68)),
             (Some(31), Edit::Put(31, update(0, 1, 0, 8))),
