@@ -10,10 +10,10 @@ use Rattle.report.specs.Report.{calls_by}
 abbrev pub count_of : Counts → ℕ → ℕ
 count_of counts client = get_or counts.calls.items client 0
 
--- these calls were counted, and no others
+-- of each client as many calls were counted as these have
 abbrev pub HasCounted : Counts → List Call → Type 0
 HasCounted counts calls = (client : ℕ) → count_of counts client ≡ calls_by client calls
 
--- the replies in these lines were counted, of so many clients; the newest line comes first
+-- of each of so many clients as many replies were counted as these lines have, the newest first
 abbrev pub HasCountedReplies : Counts → ℕ → List Line → Type 0
 HasCountedReplies counts passes lines = (client : ℕ) → client < passes → count_of counts client ≡ answered lines client

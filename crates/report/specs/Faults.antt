@@ -5,7 +5,7 @@ use Rattle.report.specs.declared.fault.NotLawful.{NotLawful}
 use Rattle.report.specs.declared.fault.ReportFault.{ReportFault}
 use Rattle.report.specs.declared.fault.ReportFault.TheVariants as report
 
--- the fault of the rows, as a fault of the report
+-- the fault of a report where its rows have this one
 abbrev pub report_fault : TextFault NotLawful → ReportFault
 report_fault NoMemory = report.NoMemory
 report_fault Read = report.Read

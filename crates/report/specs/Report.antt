@@ -1,4 +1,5 @@
--- The text of a report: the rows of its head, of the script's calls, of the run's lines, and one that counts them.
+-- The text of a report: the rows of its head, of the script's calls,
+-- of the run's lines, and one that counts them.
 use Rattle.std.specs.Prelude.{ℕ, suc, List, [], ◌∷◌, ◌++◌, codes, cond, decimal, eqb, map, Option, Some, None}
 use Rattle.arena.specs.declared.limits.Mode.{Mode}
 use Rattle.arena.specs.declared.limits.Mode.TheVariants.{Tree, Records}
@@ -16,11 +17,12 @@ use Rattle.texts.specs.Pages.{rows_text}
 
 -- The head
 
+-- the word for a mode
 abbrev pub mode_text : Mode → List ℕ
 mode_text Tree = codes "tree"
 mode_text Records = codes "records"
 
--- the format's version, and the mode
+-- the first row: the format's version, and the mode
 abbrev pub title_row : Mode → List (List ℕ)
 title_row mode = codes "report" ∷ decimal 1 ∷ mode_text mode ∷ []
 
@@ -31,22 +33,23 @@ abbrev pub calls_by : ℕ → List Call → ℕ
 calls_by c [] = 0
 calls_by c (call ∷ calls) = cond (eqb call.client.0 c) (suc (calls_by c calls)) (calls_by c calls)
 
--- the client's number, and that of the call among the client's
+-- the row of a call behind these: its client's number, its own among the client's, and its command
 abbrev pub call_row : List Call → Call → List (List ℕ)
 call_row earlier call = codes "call" ∷ decimal call.client.0 ∷ decimal (calls_by call.client.0 earlier) ∷ command_row call.command
 
--- those of calls that come after the earlier ones, of which the last comes first
+-- the rows of these calls, behind earlier ones of which the last comes first
 unfoldable pub call_rows : List Call → List Call → List (List (List ℕ))
 call_rows earlier [] = []
 call_rows earlier (call ∷ calls) = call_row earlier call ∷ call_rows (call ∷ earlier) calls
 
 -- Lines
 
--- an empty field where there is none
+-- the turn of a call's moment, or an empty field where it has none
 abbrev pub moment_text : Option ℕ → List ℕ
 moment_text (Some moment) = decimal moment
 moment_text None = []
 
+-- the row of a line: of a step or an idle turn, of an entry of the log, of a reply
 abbrev pub line_row : Line → List (List ℕ)
 line_row (Step (Made number row)) = codes "step" ∷ decimal number ∷ decimal row.pass.0 ∷ kind_text row.kind ∷ word_text row.word ∷ decimal row.before ∷ decimal row.after ∷ []
 line_row (Step (Idle number client)) = codes "step" ∷ decimal number ∷ decimal client.0 ∷ codes "idle" ∷ []
@@ -55,32 +58,37 @@ line_row (Reply reply) = codes "reply" ∷ decimal reply.client.0 ∷ decimal re
 
 -- The end
 
+-- how many of the lines are turns
 abbrev pub steps_in : List Line → ℕ
 steps_in [] = 0
 steps_in (Step row ∷ lines) = suc (steps_in lines)
 steps_in (Log entry ∷ lines) = steps_in lines
 steps_in (Reply reply ∷ lines) = steps_in lines
 
+-- how many of the lines are replies
 abbrev pub replies_in : List Line → ℕ
 replies_in [] = 0
 replies_in (Step row ∷ lines) = replies_in lines
 replies_in (Log entry ∷ lines) = replies_in lines
 replies_in (Reply reply ∷ lines) = suc (replies_in lines)
 
+-- how many of the lines are entries of the log
 abbrev pub entries_in : List Line → ℕ
 entries_in [] = 0
 entries_in (Step row ∷ lines) = entries_in lines
 entries_in (Log entry ∷ lines) = suc (entries_in lines)
 entries_in (Reply reply ∷ lines) = entries_in lines
 
--- the line that counts the others by their kind
+-- the row that counts the others by their kind
 abbrev pub end_row : List Line → List (List ℕ)
 end_row lines = codes "end" ∷ decimal (steps_in lines) ∷ decimal (replies_in lines) ∷ decimal (entries_in lines) ∷ []
 
 -- The whole
 
+-- all rows of a report, in order
 abbrev pub report_rows : Script → List Line → List (List (List ℕ))
 report_rows script lines = title_row script.layout.mode ∷ limits_row script.limits ∷ (call_rows [] script.calls.items ++ (map line_row lines ++ end_row lines ∷ []))
 
+-- the text of a report: its rows, one a line
 abbrev pub report_text : Script → List Line → List ℕ
 report_text script lines = rows_text (report_rows script lines)

@@ -29,7 +29,7 @@ scx_part (Member place) = codes "v" ++ decimal place
 scx_part (Seen place) = codes "i" ++ decimal place
 scx_part Call = codes "call"
 
--- the record's number, then the word's name within it
+-- a word of the table as text: its record's number, then its name within that
 abbrev pub word_text : Word → List ℕ
 word_text (Node n part) = codes "n" ++ (decimal n.0 ++ (codes "." ++ node_part part))
 word_text (Scx s part) = codes "s" ++ (decimal s.0 ++ (codes "." ++ scx_part part))

@@ -12,6 +12,7 @@ pub struct Counts {
 }
 
 impl Counts {
+    /// No call is counted yet.
     pub fn new(alloc: Global) -> Counts
         ensures { HasCounted result [] }
     {

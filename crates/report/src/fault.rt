@@ -8,6 +8,7 @@ use thiserror::Error;
 /// Why a report could not be read.
 #[derive(Clone, Copy, Debug, PartialEq, Eq, Error)]
 pub enum ReportFault {
+    /// An allocation was refused.
     #[error("no memory")]
     NoMemory,
     /// The reader failed in this call.

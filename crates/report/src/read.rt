@@ -22,10 +22,10 @@ use std::alloc::Global;
 use std::io::Read;
 use texts::{Metered, Rows, settled};
 
-/// Reads a report of either mode: its rows are those of the record, and no others. Whether the run is
-/// lawful is not asked here, only what a row says by itself, the numbers of the calls and the counts of
-/// the end row. Nothing is kept of a text that is refused. What was written of a record is read as one
-/// that has the same report.
+/// Reads a report of either mode: its rows are those of the record, and no others. Whether the run
+/// is lawful is not asked here, only what a row says by itself, the numbers of the calls and the
+/// counts of the end row. Nothing is kept of a text that is refused. What was written of a record
+/// is read as one that has the same report.
 pub fn read_record<R: Read>(alloc: Global, from: &mut Metered<R>) -> Result<Record, ReportFault>
     ensures rows { (bytes : List ℕ) → R.remaining from.old.inner ≡ Some bytes → IfOk result (λ told. AreRows bytes (map seven (report_rows told.script told.lines.items))) }
     ensures again { (script : Script) (lines : List Line) → R.remaining from.old.inner ≡ Some (report_text script lines) → IfOk result (λ told. report_text told.script told.lines.items ≡ report_text script lines) }

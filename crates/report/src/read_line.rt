@@ -61,7 +61,8 @@ fn next_line<R: Read + Drop>(
     Ok(line)
 }
 
-/// The line that a row says, by its form. A step is of its client's first call that has no reply yet.
+/// The line that a row says, by its form. A step is of its client's first call that has no reply
+/// yet.
 fn line_of(fields: [&str; 7], replies: &Counts) -> Option<Line>
     ensures row { IfSome result (λ line. texts fields.entry ≡ seven (line_row line)) }
     ensures call { IfSome result (IsOfNextCall (count_of replies.now)) }

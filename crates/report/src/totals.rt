@@ -7,14 +7,19 @@ ghost use Rattle.texts.specs.Pages.{seven};
 use record::Line;
 use texts::number_of;
 
+/// What the end row of a report counts.
 #[derive(Clone, Copy)]
 pub struct Totals {
+    /// How many turns there were, idle ones too.
     pub steps: u64,
+    /// How many calls were answered.
     pub replies: u64,
+    /// How many updates have won.
     pub entries: u64,
 }
 
 impl Totals {
+    /// The counts of these lines.
     pub fn of(lines: &[Line]) -> Totals
         ensures steps { result.steps ≡ steps_in lines.now }
         ensures replies { result.replies ≡ replies_in lines.now }

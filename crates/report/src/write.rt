@@ -17,9 +17,9 @@ use texts::{Metered, WriteFault, send};
 /// How many rows are made in memory before they go out.
 const ROWS: usize = 64;
 
-/// Writes the report of a run: a row that names the format and the mode, the limits, the calls of the
-/// script, the lines of the run in order, and a row that counts them. After a fault what went out is a
-/// beginning of the report.
+/// Writes the report of a run: a row that names the format and the mode, the limits, the calls of
+/// the script, the lines of the run in order, and a row that counts them. After a fault what went
+/// out is a beginning of the report.
 pub fn write_record<W: Write>(
     alloc: Global,
     record: &Record,
