@@ -14,7 +14,7 @@ use Rattle.report.specs.Report.{report_text}
 use Rattle.program.specs.declared.fault.Fault.{Fault}
 use Rattle.program.specs.declared.fault.Fault.TheVariants.{Usage, BadScript, BadSchedule, NoMemory, Read, Write}
 
--- of what two texts say there was a run, and behind the old bytes stands its report
+-- of what the two texts say there was a run, and behind the old bytes stands its report
 pub record HasPrinted (mode : Mode) (script_text schedule_text : List ℕ) (old new : Option (List ℕ)) : Type 0 where
   pub script : Script
   pub schedule : Schedule
@@ -24,8 +24,8 @@ pub record HasPrinted (mode : Mode) (script_text schedule_text : List ℕ) (old 
   pub run : IsRunOf script schedule lines
   pub text : Appends old new (report_text script lines)
 
--- the texts deserve the fault: it is the first of the script's text, or that one says a script, and it is the first of
--- the schedule's
+-- the texts deserve the fault: it is the first of the script's text; or that one says a script, and
+-- it is the first of the schedule's
 abbrev pub IsDeserved : Mode → List ℕ → List ℕ → Fault → Type 0
 IsDeserved mode script_text schedule_text (BadScript row cause) = IsScriptFault mode script_text row cause
 IsDeserved mode script_text schedule_text (BadSchedule row cause) =

@@ -9,7 +9,8 @@ use Rattle.texts.specs.declared.fault.TextFault.TheVariants as text
 use Rattle.program.specs.declared.fault.Fault.{Fault}
 use Rattle.program.specs.declared.fault.Fault.TheVariants.{Usage, BadScript, BadSchedule, NoMemory, Read, Write}
 
--- a refused script or schedule, the words, memory, and a read or a write that failed
+-- the exit status: 1 for a refused script or schedule, 2 for the words, 3
+-- for memory, 4 for a read or a write that failed
 abbrev pub status_of : Fault → ℕ
 status_of (BadScript _ _) = 1
 status_of (BadSchedule _ _) = 1
@@ -18,17 +19,19 @@ status_of NoMemory = 3
 status_of Read = 4
 status_of Write = 4
 
--- what the faults of the crates below are here
+-- the program's fault where a script was refused
 abbrev pub fault_of_script : TextFault ScriptCause → Fault
 fault_of_script text.NoMemory = NoMemory
 fault_of_script text.Read = Read
 fault_of_script (text.Bad row cause) = BadScript row cause
 
+-- the program's fault where a schedule was refused
 abbrev pub fault_of_schedule : TextFault ScheduleCause → Fault
 fault_of_schedule text.NoMemory = NoMemory
 fault_of_schedule text.Read = Read
 fault_of_schedule (text.Bad row cause) = BadSchedule row cause
 
+-- the program's fault where a report was not written
 abbrev pub fault_of_write : WriteFault → Fault
 fault_of_write write.NoMemory = NoMemory
 fault_of_write write.Write = Write

@@ -16,15 +16,19 @@ pub enum Fault {
     /// No command, or words that do not fit it.
     #[error("usage")]
     Usage,
+    /// The script is refused: its first faulty row, counted from 1, and what is wrong with it.
     #[error("bad script: row {row}: {cause}")]
     BadScript { row: u64, cause: ScriptCause },
+    /// The schedule is refused: its first faulty row, counted from 1, and what is wrong with it.
     #[error("bad schedule: row {row}: {cause}")]
     BadSchedule { row: u64, cause: ScheduleCause },
+    /// An allocation was refused.
     #[error("no memory")]
     NoMemory,
     /// A file could not be opened, or a read failed.
     #[error("read failed")]
     Read,
+    /// A write to the output failed.
     #[error("write failed")]
     Write,
 }
@@ -42,8 +46,8 @@ impl Fault {
         }
     }
 
-    /// Tells it in a line, and answers its status. Where the line cannot be written, the status alone
-    /// tells it.
+    /// Tells it in a line, and answers its status. Where the line cannot be written, the status
+    /// alone tells it.
     pub fn tell<E: Write>(self, err: &mut E) -> u8
         ensures { result ≡ status_of self }
     {

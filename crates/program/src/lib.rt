@@ -1,5 +1,5 @@
-//! What the program does, over any readers and writers: plays a script by a schedule, and prints the
-//! report.
+//! What the program does, over any readers and writers: plays a script by a schedule, and prints
+//! the report.
 #![tactic(auto)]
 
 mod fault;

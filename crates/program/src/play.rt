@@ -14,8 +14,8 @@ use std::io::{Read, Write};
 use texts::Metered;
 
 /// Plays a script by a schedule, and prints the report to `out`; a fault goes to `err` as one line.
-/// Answers the exit status: 0, 1 where the script or the schedule is refused, 3 for want of memory, 4
-/// where a read or a write failed. A refused script or schedule leaves `out` as it was.
+/// Answers the exit status: 0, 1 where the script or the schedule is refused, 3 for want of memory,
+/// 4 where a read or a write failed. A refused script or schedule leaves `out` as it was.
 pub fn play_over<S: Read, T: Read, O: Write, E: Write>(
     alloc: Global,
     mode: Mode,

@@ -285,8 +285,8 @@ fn faults_are_printed_by_their_lines(rt: HostRuntime) -> Result<(), Fail> {
     Ok(())
 }
 
-/// The report of a run, read back and written again: each call that takes memory, one after another.
-/// The writers need none.
+/// The report of a run, read back and written again: each call that takes memory, one after
+/// another. The writers need none.
 fn written_again(alloc: Global, first: Vec<u8>, again: Vec<u8>) -> Result<Vec<u8>, Fault> {
     let script = read_script(alloc, Mode::Records, &mut Metered::new(SET.as_bytes()))?;
     let schedule = read_schedule(alloc, &script, &mut Metered::new(IN_TURN.as_bytes()))?;

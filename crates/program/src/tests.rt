@@ -238,8 +238,8 @@ fn replies(rt: HostRuntime) -> Result<(), Fail> {
     Ok(())
 }
 
-/// Other spellings of a script and its schedule: both line ends, blank lines, quotes, and no newline
-/// behind the last row.
+/// Other spellings of a script and its schedule: both line ends, blank lines, quotes, and no
+/// newline behind the last row.
 #[test]
 fn same_report_of_other_spellings(rt: HostRuntime) {
     let cases = [
