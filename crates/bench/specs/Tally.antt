@@ -2,6 +2,6 @@
 use Rattle.std.specs.Prelude.{◌+◌, ℕ}
 use Rattle.bench.specs.declared.tally.Tally.{Tally}
 
--- all rounds, however they ended
+-- how many rounds there were, however they ended
 abbrev pub total : Tally → ℕ
 total t = t.done + t.lost + t.fail

@@ -2,10 +2,10 @@
 use Rattle.std.specs.Prelude.{◌≤◌, ℕ, List}
 use Rattle.std.specs.Str.Parse.{IsNumeral, digits_value, without_leading_plus}
 
--- the number that decimal digits say, behind a plus sign or none
+-- the number that the word says in decimal digits, behind a plus sign or none
 abbrev pub number_in : List ℕ → ℕ
 number_in word = digits_value 10 (without_leading_plus word)
 
--- the word has such digits alone, and its number is from 1 to the most
+-- the word is such digits alone, and its number is from 1 to `most`
 abbrev pub IsNumberUpTo : ℕ → List ℕ → Type 0
 IsNumberUpTo most word = IsNumeral 10 (without_leading_plus word) × (1 ≤ number_in word) × (number_in word ≤ most)

@@ -19,7 +19,9 @@ use std::time::Instant;
 /// What a repetition took in nanoseconds, and how its rounds ended.
 #[derive(Clone, Copy, Debug)]
 pub struct Repetition {
+    /// The time from the threads' start to their end.
     pub nanos: u128,
+    /// How the rounds of all threads ended.
     pub tally: Tally,
 }
 

@@ -12,11 +12,13 @@ pub enum Fault {
     /// Words that do not fit the command line.
     #[error("usage: bench llx|own|two|shared|all [THREADS [CALLS [TIMES]]]")]
     Usage,
+    /// An allocation was refused.
     #[error("no memory")]
     NoMemory,
     /// The clock could not be read.
     #[error("no clock")]
     Clock,
+    /// A write to the output failed.
     #[error("write failed")]
     Write,
 }
@@ -33,8 +35,8 @@ impl Fault {
         }
     }
 
-    /// Tells it in a line, and answers its status. Where the line cannot be written, the status alone
-    /// tells it.
+    /// Tells it in a line, and answers its status. Where the line cannot be written, the status
+    /// alone tells it.
     pub fn tell<E: Write>(self, err: &mut E) -> u8
         ensures { (result ≡ 2) ↔ (self ≡ Fault.Usage) }
     {

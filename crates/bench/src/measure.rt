@@ -17,9 +17,13 @@ pub const HEADER: &str = "structure,work,threads,calls,times,median_ns,best_ns,d
 /// What the repetitions of a task took, and how the rounds of the fastest ended.
 #[derive(Clone, Copy, Debug)]
 pub struct Measurement {
+    /// What was measured.
     pub task: Task,
+    /// The median of the repetitions.
     pub median: PerCall,
+    /// The fastest repetition.
     pub best: PerCall,
+    /// How the rounds of the fastest ended.
     pub tally: Tally,
 }
 

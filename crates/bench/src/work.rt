@@ -19,8 +19,11 @@ pub enum Work {
 /// How much of a work may be asked for, and how many calls are measured where none are asked for.
 #[derive(Clone, Copy, Debug)]
 pub struct Bounds {
+    /// The most threads.
     pub threads: u32,
+    /// The most rounds of a thread.
     pub calls: u32,
+    /// The rounds of a thread where none are asked for.
     pub usual_calls: u32,
     ghost some_thread: { 1 ≤ threads },
     ghost passes: { threads ≤ 32 },
@@ -29,6 +32,7 @@ pub struct Bounds {
 }
 
 impl Work {
+    /// Each work once.
     pub const ALL: [Work; 4] = [Work::Llx, Work::Own, Work::Two, Work::Shared];
 
     /// The word of the command line that asks for it.
@@ -41,8 +45,8 @@ impl Work {
         }
     }
 
-    /// There are eight cells. A round with an SCX takes a node and an SCX-record, of which a thread has
-    /// a share.
+    /// There are eight cells. A round with an SCX takes a node and an SCX-record, of which a thread
+    /// has a share.
     pub fn bounds(self) -> Bounds {
         let (threads, calls, usual_calls) = match self {
             Work::Llx => (8, u32::MAX, 1_000_000),
