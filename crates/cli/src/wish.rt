@@ -23,8 +23,8 @@ pub fn words_of<R: Env + AllocGlobal>(rt: &R) -> Result<Vec<String>, Fault> {
     }
 }
 
-/// What these words ask for, of which the first is the program's own name. A wish for help is a fault
-/// of usage too.
+/// What these words ask for, of which the first is the program's own name. A wish for help is a
+/// fault of usage too.
 pub fn read_words<'a, S: AsStr>(alloc: Global, words: &'a [S]) -> Result<Wish<'a>, Fault> {
     match wish_of(alloc, words) {
         Ok(Some(wish)) => Ok(wish),
