@@ -208,7 +208,7 @@ pub record WasChanged (kind : Kind) (old new : Sight) (snaps : List Snap) (n s :
   pub is : (snap_at snaps index).node.0 ≡ n
   -- the call's last step of this kind has found it in the node's info
   pub found : HasFound new.number (run_of new) (run_of old) kind n s
-  -- it was in progress over n after each moment of the snapshot
+  -- at some step behind each moment of the snapshot it was in progress over n
   pub in_the_way : (moment : History) → IsMoment new.layout (run_of new) (snap_at snaps index) moment → WasInTheWay (run_of new) moment n s
   -- it is another pass's, where this one had left the snapshot alone before the call
   pub others : HasLeftAlone old (snap_at snaps index) → IsOthersScx new.layout new.number s

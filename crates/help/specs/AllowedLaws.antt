@@ -115,7 +115,7 @@ module _ (lay : Layout) (h : History) (r : Row) (c s : ℕ) (l : Lawful lay (r �
   begins_more i (inl other) b = begins_kept lay h r c s l i other b
   begins_more i (inr q) b = begins_quiet lay h r (lawful_row lay h r l).before q c s b
 
-  -- and it stays ready to begin, and allowed
+  -- such a row leaves an SCX-record of the pass ready to begin, and allowed
   pub prepared_more : (allows : Layout → History → ℕ → Type 0) → c < lay.passes → IsOutside c r → IsPrepared allows lay c h s → IsPrepared allows lay c (r ⊳ h) s
   prepared_more allows i o p = record {
     begins = begins_more i o p.begins;

@@ -175,14 +175,14 @@ module _ (allows : Layout → History → ℕ → Type 0) (c : Call) (h : Histor
   begins_at AtUpdate u w k f g = no_begin _ Update u refl (λ e. cc) g
   begins_at AtCommit u w k f g = no_begin _ Commit u refl (λ e. cc) g
 
-  -- the step that the run waits for continues the run:
-  -- it is lawful, and begins only what is allowed
+  -- the step of a place where all holds continues the run: it is lawful, and begins only what is
+  -- allowed
   pub run_at : (at : HelpAt) → Shaped allows c.layout h → help_known allows c.layout c.pass h m at → IsRun allows c.layout (row_of c (help_step h m.scx at) h ⊳ h)
   run_at at w k =
       let x : Lawful c.layout (row_of c (help_step h m.scx at) h ⊳ h) = lawful_more c.layout h (row_of c (help_step h m.scx at) h) l (lawful_at at k) in
       record { lawful = x; shaped = shaped_more allows c.layout h (row_of c (help_step h m.scx at) h) x w (λ u f g. begins_at at u w k f g) }
 
--- so does the step that a run of HELP waits for
+-- the step that a run of HELP waits for continues the run
 pub help_lawful : (allows : Layout → History → ℕ → Type 0) (m : HelpRun) (c : Call) (h : History) (s : Step) → IsRun allows c.layout h → help_waits allows c.layout c.pass m h s → IsRun allows c.layout (row_of c s h ⊳ h)
 help_lawful allows m c h s run w = rw w.asked (run_at allows c h (reading m) run.lawful m.at run.shaped w.known)
 

@@ -30,19 +30,19 @@ taken_since (r ⊳ h) k s (inr e) t = taken_scx_more r h s (taken_since h k s e 
 abbrev pub TakesOnly : Layout → ℕ → ℕ → History → Row → Type 0
 TakesOnly lay c s h r = (t : ℕ) → IsOwnScx lay c t → t ≢ s → ¬ IsTakenScx h t → ¬ IsTakenScx (r ⊳ h) t
 
--- a row of another pass takes none of them
+-- a row of another pass takes no SCX-record of the pass
 pub takes_by_others : (lay : Layout) (c s : ℕ) (h : History) (r : Row) → Lawful lay (r ⊳ h) → r.pass.0 ≢ c → TakesOnly lay c s h r
 takes_by_others lay c s h r l other t own d free = untaken_by_others lay h r c t l other own free
 
--- nor does a row that is no fill
+-- a row that is no fill takes no SCX-record
 pub takes_by_step : (lay : Layout) (c s : ℕ) (h : History) (r : Row) → r.kind ≢ Fill → TakesOnly lay c s h r
 takes_by_step lay c s h r no_fill t own d free = untaken_by_step h r t no_fill free
 
--- nor does a fill of s
+-- a fill of s takes no SCX-record but s
 pub takes_by_fill : (lay : Layout) (c s : ℕ) (h : History) (r : Row) (part : ScxWord) → r.word ≡ scx s part → TakesOnly lay c s h r
 takes_by_fill lay c s h r part w t own d free = untaken_by_other_fill h r s t part w d free
 
--- nor does a row on a word of a node
+-- a row on a word of a node takes no SCX-record
 pub takes_by_node : (lay : Layout) (c s : ℕ) (h : History) (r : Row) (n : ℕ) (part : NodeWord) → r.word ≡ node n part → TakesOnly lay c s h r
 takes_by_node lay c s h r n part w t own d free = untaken_by_node h r n t part w free
 
@@ -52,11 +52,11 @@ takes_by_node lay c s h r n part w t own d free = untaken_by_node h r n t part w
 pub begun_more : (c : Call) (h : History) (r : Row) (s : ℕ) (snaps : List Snap) → TakesOnly c.layout c.pass s h r → HasBegun c h s snaps → HasBegun c (r ⊳ h) s snaps
 begun_more c h r s snaps takes x = record { since = inr x.since; clear = x.clear; only = λ t own d free. takes t own d (x.only t own d free) }
 
--- so does that s was not taken as the call began
+-- that a call on s has come so far stays true, if the row takes no SCX-record but s
 pub way_more : (c : Call) (h : History) (r : Row) (s : ℕ) (snaps : List Snap) → TakesOnly c.layout c.pass s h r → IsUnderWay c h s snaps → IsUnderWay c (r ⊳ h) s snaps
 way_more c h r s snaps takes x = record { begun = begun_more c h r s snaps takes x.begun; free = x.free }
 
--- and that the words of s hold what the update wants, if the row leaves them
+-- that the words of s hold what the update wants stays true, if the row leaves them
 pub filled_more : (c : Call) (h : History) (r : Row) (s number : ℕ) (u : Update) → TakesOnly c.layout c.pass s h r → ((a : ScxWord) → IsScxFill a → value (r ⊳ h) (scx s a) ≡ value h (scx s a)) → HasFilled c h s number u → HasFilled c (r ⊳ h) s number u
 filled_more c h r s number u takes same x = record {
   own = x.own;

@@ -88,7 +88,8 @@ module _ (c : Call) (h : History) (s : ℕ) (snaps : List Snap) (l : Lawful c.la
       way : (m : History) → IsMoment c.layout h (snap_at snaps i) m → WasInTheWay h m (snap_at snaps i).node.0 v
       way m y = subst (λ u. WasInTheWay h m (snap_at snaps i).node.0 u) e (blame_info c.layout h m (snap_at snaps i).node.0 l y.within (λ z. other (sym y.info ∙ sym z ∙ e)))
 
-  -- so has one that the info named at a moment behind the call's begin
+  -- so has one that the info named at a moment behind the call's begin, and that the snapshot had
+  -- not found there
   pub blamed_behind : (k : History) (v : ℕ) → (IsOwnScx c.layout c.pass v → v ≢ s) → EndsWith h k → EndsWith k c.start → value k (info (snap_at snaps i).node.0) ≡ v → (snap_at snaps i).scx.0 ≢ v → IsBlamed c h (snap_at snaps i) v
   blamed_behind k v d e behind held other = record { in_the_way = way; others = others_of v d way }
     where

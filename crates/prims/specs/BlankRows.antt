@@ -155,7 +155,7 @@ module _ (lay : Layout) (h : History) (r : Row) (s n : ℕ) (l : Lawful lay (r �
 pub was_blank_at : (start : History) (s n : ℕ) → IsBlank start s n → WasBlank start start s n
 was_blank_at start s n x = record { since = ends_self start; blank = λ k e after unwon. rw (same_moment start k e after) x }
 
--- and it has been so a row later, if the row spares it
+-- a node that has been blank since `start` is so a row later, if the row spares it
 pub was_blank_more : (lay : Layout) (start h : History) (r : Row) (s n : ℕ) → Lawful lay (r ⊳ h) → (IsBlank h s n → Spares r s n) → WasBlank start h s n → WasBlank start (r ⊳ h) s n
 was_blank_more lay start h r s n l f x = record { since = inr x.since; blank = go }
   where

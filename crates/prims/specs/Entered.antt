@@ -91,7 +91,7 @@ filled_entry_at c h m row before l x e w = record {
         (ap side_of planned)
         (sym (won_words c.layout h m.scx.0 l y New tt) ∙ x.fresh)
 
--- so the update has its entry once s has won
+-- once s has won, with its words as the update wants them, the update has its entry
 pub filled_entry : (c : Call) (h : History) (m : ScxRun) → Lawful c.layout h → HasFilled c h m.scx.0 m.call m.update → HasWon h m.scx.0 → HasEntry c h m
 filled_entry c h m l x w =
     let y = won_at c.layout h m.scx.0 w in

@@ -65,7 +65,7 @@ info_kept lay h r n l d = go (effect lay h r l)
     go (freeze u j w) = absurd (d w.kind)
     go (update u w) = update_keeps_info (facts_before lay h r l) w n
 
--- so a row that is no freeze starts none: a load, a fill, a commit
+-- a row that is no freeze starts no SCX-record: a load, a fill, a commit
 pub out_by_no_freeze : (lay : Layout) (h : History) (r : Row) (t : ℕ) → Lawful lay (r ⊳ h) → r.kind ≢ Freeze → ¬ IsInProgress h t → ¬ IsInProgress (r ⊳ h) t
 out_by_no_freeze lay h r t l d = still_out lay h r t l (λ p. (p.0, held_back r h _ t (info_kept lay h r p.0 l d) p.1))
 
@@ -112,25 +112,25 @@ out_by_help allows c h m step t l w named = still_out c.layout h (row_of c step 
 
 -- The pass stays idle
 
--- it does by a row of another pass
+-- a row of another pass leaves the pass idle
 pub idle_by_others : (lay : Layout) (c : ℕ) (h : History) (r : Row) → Lawful lay (r ⊳ h) → r.pass.0 ≢ c → IsIdle lay c h → IsIdle lay c (r ⊳ h)
 idle_by_others lay c h r l other idle t own = out_by_others lay c h r t l other own (idle t own)
 
--- it does by a row that is no freeze
+-- a row that is no freeze leaves the pass idle
 pub idle_by_no_freeze : (lay : Layout) (c : ℕ) (h : History) (r : Row) → Lawful lay (r ⊳ h) → r.kind ≢ Freeze → IsIdle lay c h → IsIdle lay c (r ⊳ h)
 idle_by_no_freeze lay c h r l d idle t own = out_by_no_freeze lay h r t l d (idle t own)
 
--- it does by a step of HELP of an SCX-record that an info word has named
+-- a step of HELP of an SCX-record that an info word has named leaves the pass idle
 pub idle_by_help : (allows : Layout → History → ℕ → Type 0) (c : Call) (h : History) (m : HelpRun) (step : Step) → Lawful c.layout (row_of c step h ⊳ h) → help_waits allows c.layout c.pass m h step → IsNamedScx h m.scx.0 → IsIdle c.layout c.pass h → IsIdle c.layout c.pass (row_of c step h ⊳ h)
 idle_by_help allows c h m step l w named idle t own = out_by_help allows c h m step t l w (λ e. rw e named) (idle t own)
 
 -- Since a call's begin
 
--- at the call's begin it is enough that the pass is idle then
+-- a pass that is idle now has been idle since now
 pub quiet_at_start : (lay : Layout) (c : ℕ) (h : History) → IsIdle lay c h → IsQuietSince lay c h h
 quiet_at_start lay c h idle m e f = subst (IsIdle lay c) (sym (same_moment h m e f)) idle
 
--- and it has been idle since, if it is so after one more row
+-- a pass that has been idle since `start`, and is so after one more row, has been idle since then
 pub quiet_more : (lay : Layout) (c : ℕ) (start h : History) (r : Row) → IsIdle lay c (r ⊳ h) → IsQuietSince lay c start h → IsQuietSince lay c start (r ⊳ h)
 quiet_more lay c start h r idle q m (inl e) f = subst (IsIdle lay c) (sym e) idle
 quiet_more lay c start h r idle q m (inr e) f = q m e f

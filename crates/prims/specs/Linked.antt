@@ -45,7 +45,7 @@ side_more lay h r n s v side l p d k e =
     let x : Still h (r ⊳ h) n s = still lay h r n s l p d e in
     x.fields side ∙ k x.info
 
--- and a node that was not marked then stays so while the info names that one
+-- a node that was not marked under a finished SCX-record stays so while the info names that one
 pub unmarked_more : (lay : Layout) (h : History) (r : Row) (n s : ℕ) → Lawful lay (r ⊳ h) → IsNamed lay h n → value h (state s) ≢ 0 → (value h (info n) ≡ s → value h (marked n) ≡ 0) → value (r ⊳ h) (info n) ≡ s → value (r ⊳ h) (marked n) ≡ 0
 unmarked_more lay h r n s l p d k e =
     let x : Still h (r ⊳ h) n s = still lay h r n s l p d e in

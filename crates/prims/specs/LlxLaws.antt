@@ -144,7 +144,7 @@ load_told c h k w s v e t =
     let u : v ≡ value h w = rw e at t in
     rw e (value_at (row_of c (load k w) h) h w refl ∙ sym u)
 
--- and a load of an info is the call's last look there, and has found what it told
+-- a load of an info is the call's last look there, and has found what it told
 pub load_found : (c : Call) (h : History) (n : ℕ) (s : Step) (v : ℕ) → EndsWith h c.start → s ≡ load LoadInfo (info n) → IsTold s.deed (value h s.word) v → HasFound c.pass (row_of c s h ⊳ h) c.start LoadInfo n v
 load_found c h n s v since e t =
     let u : v ≡ value h (info n) = rw e at t in
@@ -169,7 +169,7 @@ told_at allows c h n (LastHelp u m) s v run t e a = help_made allows m c h s v r
 load_idle : (c : Call) (h : History) (k : Kind) (w : Word) (s : Step) → Lawful c.layout (row_of c s h ⊳ h) → s ≡ load k w → (k ≡ Freeze → ⊥) → IsIdle c.layout c.pass h → IsIdle c.layout c.pass (row_of c s h ⊳ h)
 load_idle c h k w s l e d idle = idle_by_no_freeze c.layout c.pass h (row_of c s h) l (λ f. d (sym (ap (λ (t : Step). t.kind) e) ∙ f)) idle
 
--- so a pass that was idle is idle after the step
+-- a pass that was idle is idle after the step for which its run of LLX waits
 pub idle_at : (allows : Layout → History → ℕ → Type 0) (c : Call) (h : History) (n : ℕ) (at : LlxAt) (s : Step) → Lawful c.layout (row_of c s h ⊳ h) → llx_known c h n at → llx_asked allows c h n at s → IsIdle c.layout c.pass h → IsIdle c.layout c.pass (row_of c s h ⊳ h)
 idle_at allows c h n Start s l k a idle = absurd a
 idle_at allows c h n Marked s l k a idle = load_idle c h LoadMarked (marked n) s l a (λ e. cc) idle

@@ -150,7 +150,8 @@ module _ (allows : Layout → History → ℕ → Type 0) (c : Call) (h : Histor
   final_by_met : (n s : ℕ) (b : Bool) → HasMet c h n b s → b ≡ true → value h (state s) ≡ 1 → IsFinalBy c.layout h n s
   final_by_met n s b m e q = record { final = by_final c.layout h n s run.lawful record { won = committed_won c.layout h s run.lawful q; removed = (m.finalizes e).removed }; by = m.finalizes e; committed = q }
 
-  -- what is finished without being committed finalizes no marked node
+  -- where the SCX-record that it met is finished and not committed, the first load had found no
+  -- mark
   pub not_marked : (n s : ℕ) (b : Bool) → HasMet c h n b s → value h (state s) ≢ 0 → value h (state s) ≢ 1 → b ≡ false
   not_marked n s false x d e = refl
   not_marked n s true x d e = absurd (e (flagged_commits c.layout h n s run.lawful (x.finalizes refl) d))
@@ -186,7 +187,7 @@ pub aborted_state : (c : Call) (h : History) (b : Bool) (now help : HelpRun) →
 aborted_state c h false now help a e t = rw e at a.aborted
 aborted_state c h true now help a e t = cc
 
--- so it is finished, whatever HELP answers
+-- whatever HELP answers, its SCX-record is finished
 pub over_state : (c : Call) (h : History) (b : Bool) (now help : HelpRun) → help_answers c.layout c.pass now h b → now.scx ≡ help.scx → value h (state help.scx.0) ≢ 0
 over_state c h true now help a e z = let x = committed_state c h true now help a e refl in omega arith
 over_state c h false now help a e z = let x = aborted_state c h false now help a e refl in omega arith

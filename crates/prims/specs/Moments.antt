@@ -47,7 +47,8 @@ HasTakenOnly lay c s start h = (t : ℕ) → IsOwnScx lay c t → t ≢ s → ¬
 
 -- another SCX-record, v, has come to the node since the snapshot
 pub record IsBlamed (c : Call) (h : History) (snap : Snap) (v : ℕ) : Type 0 where
-  -- it was in progress over the node after each moment at which that was as the snapshot found it
+  -- at some step behind each moment at which the node was as found, it was in progress over the
+  -- node
   pub in_the_way : (moment : History) → IsMoment c.layout h snap moment → WasInTheWay h moment snap.node.0 v
   -- it is another pass's, where this one had left the snapshot alone as its call began
   pub others : IsLeftAlone c.layout c.pass c.start snap → IsOthersScx c.layout c.pass v

@@ -72,7 +72,7 @@ value_before c h m v row before l x e = sym (node_since c.layout h before m.upda
     named : IsNamed c.layout before m.update.fresh.0
     named = subst (IsNamed c.layout before) fresh (by_scx m.scx.0 New (won_was_named c.layout h m.scx.0 l y) tt (held_now before (scx m.scx.0 New)))
 
--- and its fields were 0 then
+-- just before its entry the fields of the fresh node were 0
 pub empty_before : (c : Call) (h : History) (m : ScxRun) (row : Row) (before : History) → Lawful c.layout h → IsEntryAt c h m row before → WasBlank c.start h m.scx.0 m.update.fresh.0 → (side : Side) → value before (child m.update.fresh.0 side) ≡ 0
 empty_before c h m row before l x b = (b.blank before (ends_trans h (row ⊳ before) before x.within (inr (ends_self before))) x.since unwon).empty
   where

@@ -54,11 +54,11 @@ value_unfilled lay h r n l no_fill = go (change lay h r l)
     go (commits u k x) = value_apart r h (state u) (node n Value) x.word refl
     go (aborts u j k x) = value_apart r h (state u) (node n Value) x.word refl
 
--- so rows of other passes leave the settled words of a pass's own SCX-record
+-- rows of other passes leave the settled words of a pass's own SCX-record
 pub own_words_unfilled : (lay : Layout) (h : History) (r : Row) (c s : ℕ) → Lawful lay (r ⊳ h) → r.pass.0 ≢ c → IsOwnScx lay c s → (a : ScxWord) → IsScxFill a → value (r ⊳ h) (scx s a) ≡ value h (scx s a)
 own_words_unfilled lay h r c s l other own = words_unfilled lay h r s l (λ part x. other (one_scx_owner lay r.pass.0 c s x.is_open.own own))
 
--- and the value of a pass's own node
+-- rows of other passes leave the value of a pass's own node
 pub own_value_unfilled : (lay : Layout) (h : History) (r : Row) (c n : ℕ) → Lawful lay (r ⊳ h) → r.pass.0 ≢ c → IsOwnNode lay c n → value (r ⊳ h) (node n Value) ≡ value h (node n Value)
 own_value_unfilled lay h r c n l other own = value_unfilled lay h r n l (λ part x. other (one_node_owner lay r.pass.0 c n x.is_open.own own))
 
@@ -66,6 +66,6 @@ own_value_unfilled lay h r c n l other own = value_unfilled lay h r n l (λ part
 pub step_words : (lay : Layout) (h : History) (r : Row) (s : ℕ) → Lawful lay (r ⊳ h) → r.kind ≢ Fill → (a : ScxWord) → IsScxFill a → value (r ⊳ h) (scx s a) ≡ value h (scx s a)
 step_words lay h r s l no_fill = words_unfilled lay h r s l (λ part x. no_fill x.kind)
 
--- and the value of every node
+-- a row that is no fill leaves the value of every node
 pub step_value : (lay : Layout) (h : History) (r : Row) (n : ℕ) → Lawful lay (r ⊳ h) → r.kind ≢ Fill → value (r ⊳ h) (node n Value) ≡ value h (node n Value)
 step_value lay h r n l no_fill = value_unfilled lay h r n l (λ part x. no_fill x.kind)

@@ -125,6 +125,6 @@ looked_on c h snaps asked k v l x e q =
     let i : k ≡ x.index = let y = x.looks.is in omega arith in
     one_more c h snaps asked v l x (rw i at q)
 
--- so its turn is right
+-- a turn of VLX is right where the info was what the snapshot found
 pub turn_on : (c : Call) (h : History) (snaps : List Snap) (old now : ℕ) (turn : Turn Vlx) (k v : ℕ) → Lawful c.layout h → vlx_told snaps old c h v → suc k ≡ old → (snap_at snaps k).scx.0 ≡ v → AsksNext snaps old now turn ⊎ IsThrough snaps old now turn → vlx_turn snaps now c h turn
 turn_on c h snaps old now turn k v l x e q a = turn_next c h snaps old now turn l (looked_on c h snaps old k v l x e q) (let y = x.looks.is in let u = x.looks.within in omega arith) a

@@ -117,7 +117,7 @@ module _ (lay : Layout) (h : History) (s : ℕ) (l : Lawful lay h) (x : IsWonAt 
   pub won_was_named : IsNamedScx x.before s
   won_was_named = (member x.before s 0, (update_flagged before_facts row_wins).frozen 0 (update_flagged before_facts row_wins).some)
 
-  -- so its settled words are the same ever since
+  -- the settled words of s are the same ever since the row
   pub won_words : (a : ScxWord) → IsScxFill a → value h (scx s a) ≡ value x.before (scx s a)
   won_words = scx_since lay h x.before s l before_ends won_is_real won_was_named
 
