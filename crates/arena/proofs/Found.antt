@@ -3,7 +3,7 @@ use Rattle.std.proofs.Common.{◌≡◌, ◌≢◌, ℕ, inl, inr}
 use Rattle.arena.specs.declared.step.Row.{Row}
 use Rattle.arena.specs.declared.step.Kind.{Kind}
 use Rattle.arena.specs.Words.{info}
-use Rattle.arena.specs.History.{History, ◌⊳◌, EndsWith}
+use Rattle.arena.specs.History.{History, ◌⊳◌, Extends}
 use Rattle.arena.specs.Found.{IsLastStep, HasFound}
 use Rattle.arena.proofs.Values.{ends_self, ends_trans, no_row_behind}
 
@@ -18,7 +18,7 @@ last_more c h kind n r row before other x = record { within = inr x.within; own 
     row_of_more : (a b : Row) (m k : History) → a ⊳ m ≡ b ⊳ k → a ≡ b
     row_of_more a b m k e = cc
 
-    none : (later : Row) (k : History) → EndsWith (r ⊳ h) (later ⊳ k) → EndsWith k (row ⊳ before) → later.pass.0 ≡ c → later.kind ≢ kind
+    none : (later : Row) (k : History) → Extends (r ⊳ h) (later ⊳ k) → Extends k (row ⊳ before) → later.pass.0 ≡ c → later.kind ≢ kind
     none later k (inl e) f = rw (row_of_more later r k h e) other
     none later k (inr e) f = x.none_since later k e f
 
@@ -26,5 +26,5 @@ pub found_more : (c : ℕ) (h start : History) (kind : Kind) (n s : ℕ) (r : Ro
 found_more c h start kind n s r other x = record { row = x.row; before = x.before; since = x.since; last = last_more c h kind n r x.row x.before other x.last; found = x.found }
 
 -- what was found since a moment was found since an earlier one
-pub found_wider : (c : ℕ) (h m start : History) (kind : Kind) (n s : ℕ) → EndsWith m start → HasFound c h m kind n s → HasFound c h start kind n s
+pub found_wider : (c : ℕ) (h m start : History) (kind : Kind) (n s : ℕ) → Extends m start → HasFound c h m kind n s → HasFound c h start kind n s
 found_wider c h m start kind n s e x = record { row = x.row; before = x.before; since = ends_trans x.before m start x.since e; last = x.last; found = x.found }

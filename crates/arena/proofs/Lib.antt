@@ -1,10 +1,11 @@
-pub mod SameWords
-pub mod Openings
-pub mod Shapes
-pub mod Shares
-pub mod Values
-pub mod Found
-pub mod Plans
-pub mod Taken
-pub mod TakenNodes
-pub mod Bools
+mod SameWords
+mod Openings
+mod Shapes
+mod Shares
+mod Values
+mod Found
+mod Plans
+mod Taken
+mod TakenNodes
+mod Bools
+pub mod Lemmas

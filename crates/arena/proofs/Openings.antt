@@ -13,14 +13,14 @@ use Rattle.arena.specs.declared.word.Word.{Word}
 use Rattle.arena.specs.declared.word.Word.TheVariants.{Node, Scx}
 use Rattle.arena.specs.Words.{node, child, state, same_word}
 use Rattle.arena.specs.Layout.{IsWord, opening, tree_opening, records_opening}
-use Rattle.arena.specs.PlainWords.{Contents, IsChanged, IsOpening, held}
+use Rattle.arena.specs.PlainWords.{Contents, IsChanged, IsOpening, word_at}
 use Rattle.arena.proofs.SameWords.{word_same, word_apart}
 
 -- after a change each word holds the value that was put there, or what it held
-pub changed_to : (old new : Contents) (word : Word) (value : ℕ) (w : Word) → IsChanged old new word value → IsWord old.layout w → held new w ≡ cond (same_word word w) value (held old w)
+pub changed_to : (old new : Contents) (word : Word) (value : ℕ) (w : Word) → IsChanged old new word value → IsWord old.layout w → word_at new w ≡ cond (same_word word w) value (word_at old w)
 changed_to old new word value w c inside = go (same_word word w) refl
   where
-    go : (t : Bool) → same_word word w ≡ t → held new w ≡ cond (same_word word w) value (held old w)
+    go : (t : Bool) → same_word word w ≡ t → word_at new w ≡ cond (same_word word w) value (word_at old w)
     go true e = rw e (rw (← word_same word w e) c.changed)
     go false e = rw e (c.others w inside (word_apart word w e))
 
@@ -88,7 +88,7 @@ tree_is (Node n Marked) = simp skip
 
 -- five changes of a table that holds the opening words of records make it that of the tree
 pub planted : (a b c d e f : Contents) → IsChanged a b (node 0 Head) 2 → IsChanged b c (child 0 Left) 1 → IsChanged c d (child 0 Right) 2 → IsChanged d e (node 1 Head) 13 → IsChanged e f (node 2 Head) 14
-    → ((w : Word) → IsWord a.layout w → held a w ≡ records_opening w) → (w : Word) → IsWord a.layout w → held f w ≡ tree_opening w
+    → ((w : Word) → IsWord a.layout w → word_at a w ≡ records_opening w) → (w : Word) → IsWord a.layout w → word_at f w ≡ tree_opening w
 planted a b c d e f p q r s t start w i =
     let j : IsWord b.layout w = rw p.layout i in
     let k : IsWord c.layout w = rw q.layout j in
@@ -97,15 +97,15 @@ planted a b c d e f p q r s t start w i =
     changed_to e f _ _ w t m ∙ rw (changed_to d e _ _ w s l, changed_to c d _ _ w r k, changed_to b c _ _ w q j, changed_to a b _ _ w p i, start w i) (tree_is w)
 
 -- a table of zeros in which the dummy is aborted holds the opening words of records
-pub opened : (zeros words : Contents) → IsChanged zeros words (state 0) 2 → ((w : Word) → IsWord zeros.layout w → held zeros w ≡ 0) → (w : Word) → IsWord zeros.layout w → held words w ≡ records_opening w
+pub opened : (zeros words : Contents) → IsChanged zeros words (state 0) 2 → ((w : Word) → IsWord zeros.layout w → word_at zeros w ≡ 0) → (w : Word) → IsWord zeros.layout w → word_at words w ≡ records_opening w
 opened zeros words c z w i = changed_to zeros words _ _ w c i ∙ rw (z w i) (records_are w)
 
-pub as_tree : (old words : Contents) → words.layout ≡ old.layout → old.layout.mode ≡ Tree → ((w : Word) → IsWord old.layout w → held words w ≡ tree_opening w) → IsOpening words
+pub as_tree : (old words : Contents) → words.layout ≡ old.layout → old.layout.mode ≡ Tree → ((w : Word) → IsWord old.layout w → word_at words w ≡ tree_opening w) → IsOpening words
 as_tree old words l m h w i =
     let same : words.layout.mode ≡ Tree = ap (λ (x : Layout). x.mode) l ∙ m in
     h w (rw l at i) ∙ ap (λ (x : Mode). opening x w) (sym same)
 
-pub as_records : (old words : Contents) → words.layout ≡ old.layout → old.layout.mode ≡ Records → ((w : Word) → IsWord old.layout w → held words w ≡ records_opening w) → IsOpening words
+pub as_records : (old words : Contents) → words.layout ≡ old.layout → old.layout.mode ≡ Records → ((w : Word) → IsWord old.layout w → word_at words w ≡ records_opening w) → IsOpening words
 as_records old words l m h w i =
     let same : words.layout.mode ≡ Records = ap (λ (x : Layout). x.mode) l ∙ m in
     h w (rw l at i) ∙ ap (λ (x : Mode). opening x w) (sym same)

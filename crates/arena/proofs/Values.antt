@@ -8,9 +8,9 @@ use Rattle.arena.specs.declared.word.ScxWord.{ScxWord}
 use Rattle.arena.specs.declared.word.ScxWord.TheVariants.{State}
 use Rattle.arena.specs.declared.word.Word.{Word}
 use Rattle.arena.specs.declared.step.Row.{Row}
-use Rattle.arena.specs.declared.step.Deed.TheVariants.{Exchange}
-use Rattle.arena.specs.Words.{same_word, same_node_word, same_scx_word, node, scx, info, marked, state, deed_after}
-use Rattle.arena.specs.History.{History, Start, ◌⊳◌, value, HasHeld, EndsWith, rows_after}
+use Rattle.arena.specs.declared.step.Access.TheVariants.{Exchange}
+use Rattle.arena.specs.Words.{same_word, same_node_word, same_scx_word, node, scx, info, marked, state, word_after}
+use Rattle.arena.specs.History.{History, Start, ◌⊳◌, value, HasHeld, Extends, rows_after}
 use Rattle.arena.proofs.SameWords.{word_same, word_refl}
 
 pub value_at : (r : Row) (h : History) (w : Word) → r.word ≡ w → value (r ⊳ h) w ≡ r.after
@@ -117,19 +117,19 @@ scx_apart s t a b d = rw (ne_eqb s t d) refl
 
 -- What an exchange leaves
 
-pub exchange_won : (e v f : ℕ) → f ≡ e → deed_after (Exchange e v) f ≡ v
+pub exchange_won : (e v f : ℕ) → f ≡ e → word_after (Exchange e v) f ≡ v
 exchange_won e v f p = rw (eq-eqb f e p) refl
 
-pub exchange_lost : (e v f : ℕ) → f ≢ e → deed_after (Exchange e v) f ≡ f
+pub exchange_lost : (e v f : ℕ) → f ≢ e → word_after (Exchange e v) f ≡ f
 exchange_lost e v f p = rw (ne_eqb f e p) refl
 
 -- Moments
 
-pub ends_self : (h : History) → EndsWith h h
+pub ends_self : (h : History) → Extends h h
 ends_self (Start mode) = refl
 ends_self (r ⊳ h) = inl refl
 
-pub ends_trans : (h m l : History) → EndsWith h m → EndsWith m l → EndsWith h l
+pub ends_trans : (h m l : History) → Extends h m → Extends m l → Extends h l
 ends_trans (Start mode) m l e f = rw e at f
 ends_trans (r ⊳ h) m l (inl e) f = rw e at f
 ends_trans (r ⊳ h) m l (inr e) f = inr (ends_trans h m l e f)
@@ -140,26 +140,26 @@ length_of (Start mode) = zero
 length_of (r ⊳ h) = suc (length_of h)
 
 -- a moment has no more rows than the history
-shorter : (h m : History) → EndsWith h m → length_of m ≤ length_of h
+shorter : (h m : History) → Extends h m → length_of m ≤ length_of h
 unfolding length_of
 shorter (Start mode) m e = rw e (omega arith)
 shorter (r ⊳ h) m (inl e) = rw e (omega arith)
 shorter (r ⊳ h) m (inr e) = let x = shorter h m e in omega arith
 
 -- of two moments each of the other there is one
-pub same_moment : (h m : History) → EndsWith h m → EndsWith m h → m ≡ h
+pub same_moment : (h m : History) → Extends h m → Extends m h → m ≡ h
 unfolding length_of
 same_moment (Start mode) m e f = e
 same_moment (r ⊳ h) m (inl e) f = e
 same_moment (r ⊳ h) m (inr e) f = absurd (let x = shorter h m e in let y = shorter m (r ⊳ h) f in omega arith)
 
 -- no row comes behind a moment that it stands before
-pub no_row_behind : (h k : History) (r : Row) → EndsWith h (r ⊳ k) → EndsWith k h → ⊥
+pub no_row_behind : (h k : History) (r : Row) → Extends h (r ⊳ k) → Extends k h → ⊥
 unfolding length_of
 no_row_behind h k r e f = let x = shorter h (r ⊳ k) e in let y = shorter k h f in omega arith
 
 -- what a word held at a moment it has held
-pub held_since : (h m : History) (w : Word) (v : ℕ) → EndsWith h m → HasHeld m w v → HasHeld h w v
+pub held_since : (h m : History) (w : Word) (v : ℕ) → Extends h m → HasHeld m w v → HasHeld h w v
 held_since (Start mode) m w v e p = rw e at p
 held_since (r ⊳ h) m w v (inl e) p = rw e at p
 held_since (r ⊳ h) m w v (inr e) p = held_more r h w v (held_since h m w v e p)
@@ -174,6 +174,6 @@ pub rows_after_last : (h : History) (rows : List Row) (r : Row) → rows_after h
 rows_after_last h rows r = rows_after_append h rows (r ∷ [])
 
 -- the history before the rows is a moment of the history after them
-pub rows_after_ends : (h : History) (rows : List Row) → EndsWith (rows_after h rows) h
+pub rows_after_ends : (h : History) (rows : List Row) → Extends (rows_after h rows) h
 rows_after_ends h [] = ends_self h
 rows_after_ends h (r ∷ rows) = ends_trans (rows_after (r ⊳ h) rows) (r ⊳ h) h (rows_after_ends (r ⊳ h) rows) (inr (ends_self h))

@@ -2,7 +2,7 @@
 use Rattle.std.specs.Prelude.{◌≡◌, ℕ, ◌<◌}
 use Rattle.arena.specs.declared.step.Row.{Row}
 use Rattle.arena.specs.Words.{state}
-use Rattle.arena.specs.History.{History, ◌⊳◌, value, EndsWith}
+use Rattle.arena.specs.History.{History, ◌⊳◌, value, Extends}
 use Rattle.arena.specs.ScxRecords.{member, count}
 use Rattle.arena.specs.Fills.{IsNamedScx}
 
@@ -21,7 +21,7 @@ pub record IsInProgress (h : History) (s : ℕ) : Type 0 where
 pub record WasInTheWay (h start : History) (n s : ℕ) : Type 0 where
   pub row : Row
   pub before : History
-  pub within : EndsWith h (row ⊳ before)
-  pub since : EndsWith before start
+  pub within : Extends h (row ⊳ before)
+  pub since : Extends before start
   pub running : IsInProgress (row ⊳ before) s
   pub covers : IsMember (row ⊳ before) s n

@@ -27,9 +27,9 @@ HasHeld (Start mode) w v = value (Start mode) w ≡ v
 HasHeld (r ⊳ h) w v = (value (r ⊳ h) w ≡ v) ⊎ HasHeld h w v
 
 -- m is a moment of the history: the whole of it, or the history as it was before its newest rows
-abbrev pub EndsWith : History → History → Type 0
-EndsWith (Start mode) m = m ≡ Start mode
-EndsWith (r ⊳ h) m = (m ≡ r ⊳ h) ⊎ EndsWith h m
+abbrev pub Extends : History → History → Type 0
+Extends (Start mode) m = m ≡ Start mode
+Extends (r ⊳ h) m = (m ≡ r ⊳ h) ⊎ Extends h m
 
 -- the history with these rows after it, the first of the list made first
 abbrev pub rows_after : History → List Row → History

@@ -12,7 +12,7 @@ use Rattle.arena.specs.declared.step.Kind.TheVariants.{Fill, LoadSettled, LoadIn
 use Rattle.arena.specs.Layout.{all_nodes, IsWord}
 use Rattle.arena.specs.Words.{scx, info, marked, child, state}
 use Rattle.arena.specs.History.{History, Start, ◌⊳◌, value, HasHeld}
-use Rattle.arena.specs.ScxRecords.{IsPlan, plan, member, seen, new, old, count, is_removed, field_index, field}
+use Rattle.arena.specs.ScxRecords.{IsPlan, plan, member, seen, new, old, count, scx_finalizes, field_index, field}
 use Rattle.arena.specs.Fills.{IsOwnNode, IsOwnScx, MayFill}
 
 -- Loads: the words of each kind
@@ -115,14 +115,14 @@ pub record IsSetFrozen (h : History) (r : Row) (s : ℕ) : Type 0 where
 -- the row marks the j-th node of s, which s finalizes; `allfrozen` of s is set
 pub record IsMark (h : History) (r : Row) (s j : ℕ) : Type 0 where
   pub within : j < count h s
-  pub removed : is_removed h s j ≡ true
+  pub removed : scx_finalizes h s j ≡ true
   pub word : r.word ≡ marked (member h s j)
   pub stored : r.after ≡ 1
   pub all_frozen : value h (scx s AllFrozen) ≡ 1
 
 -- each node that s finalizes is marked
 abbrev pub AllAreMarked : History → ℕ → Type 0
-AllAreMarked h s = (j : ℕ) → j < count h s → is_removed h s j ≡ true → value h (marked (member h s j)) ≡ 1
+AllAreMarked h s = (j : ℕ) → j < count h s → scx_finalizes h s j ≡ true → value h (marked (member h s j)) ≡ 1
 
 -- the row is a try of the update of s, an exchange of its field from `old` to `new`; `allfrozen` of
 -- s is set and all that s finalizes is marked

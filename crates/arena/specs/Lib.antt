@@ -5,7 +5,7 @@ pub mod Layout
 pub mod Machines
 pub mod Share
 pub mod PlainWords
-pub mod MemberNo
+pub mod MemberIndex
 pub mod History
 pub mod ScxRecords
 pub mod Fills

@@ -13,7 +13,7 @@ use Rattle.arena.specs.declared.step.Kind.TheVariants.{Fill, Update}
 use Rattle.arena.specs.Layout.{opening}
 use Rattle.arena.specs.Words.{same_word, same_side, scx, info, child}
 use Rattle.arena.specs.History.{History, Start, ◌⊳◌, value}
-use Rattle.arena.specs.ScxRecords.{count, member, is_removed}
+use Rattle.arena.specs.ScxRecords.{count, member, scx_finalizes}
 
 -- the pass whose share has the SCX-record s, for s from 1 on
 abbrev pub owner : Layout → ℕ → ℕ
@@ -39,9 +39,9 @@ members_from h s j zero = []
 members_from h s j (suc k) = member h s j ∷ members_from h s (suc j) k
 
 -- those of the k nodes of s from its j-th on that s finalizes
-abbrev pub removed_from : History → ℕ → ℕ → ℕ → List ℕ
-removed_from h s j zero = []
-removed_from h s j (suc k) = cond (is_removed h s j) (member h s j ∷ removed_from h s (suc j) k) (removed_from h s (suc j) k)
+abbrev pub finalized_from : History → ℕ → ℕ → ℕ → List ℕ
+finalized_from h s j zero = []
+finalized_from h s j (suc k) = cond (scx_finalizes h s j) (member h s j ∷ finalized_from h s (suc j) k) (finalized_from h s (suc j) k)
 
 -- the entry of an update of s that stores v into that field of n
 abbrev pub entry : Layout → History → ℕ → ℕ → Side → ℕ → Entry
@@ -51,7 +51,7 @@ entry lay h s n side v =
       owner = owner lay s;
       call = value h (scx s Call);
       members = members_from h s 0 (count h s);
-      removed = removed_from h s 0 (count h s);
+      removed = finalized_from h s 0 (count h s);
       node = n;
       side = side;
       new = v;

@@ -3,11 +3,11 @@ use Rattle.std.specs.Prelude.{◌≡◌, ℕ, ◌<◌}
 use Rattle.arena.specs.declared.layout.Layout.{Layout}
 use Rattle.arena.specs.declared.step.Row.{Row}
 use Rattle.arena.specs.declared.step.Step.{Step}
-use Rattle.arena.specs.declared.step.Deed.{Deed}
-use Rattle.arena.specs.declared.step.Deed.TheVariants.{Load, Store, Exchange}
+use Rattle.arena.specs.declared.step.Access.{Access}
+use Rattle.arena.specs.declared.step.Access.TheVariants.{Load, Store, Exchange}
 use Rattle.arena.specs.declared.machine.Turn.{Turn}
 use Rattle.arena.specs.declared.machine.Turn.TheVariants.{Ask, Done}
-use Rattle.arena.specs.Words.{deed_after}
+use Rattle.arena.specs.Words.{word_after}
 use Rattle.arena.specs.History.{History, value}
 use Rattle.arena.specs.Lawful.{Lawful}
 use Rattle.arena.specs.Shape.{Shaped}
@@ -33,11 +33,11 @@ pub record Call : Type 0 where
 
 -- the row that a call's step leaves when it is made after the history
 abbrev pub row_of : Call → Step → History → Row
-row_of c s h = record { pass = record { 0 = c.pass }; call = c.number; kind = s.kind; word = s.word; before = value h s.word; after = deed_after s.deed (value h s.word) }
+row_of c s h = record { pass = record { 0 = c.pass }; call = c.number; kind = s.kind; word = s.word; before = value h s.word; after = word_after s.access (value h s.word) }
 
 -- v may be told of a step that found `found`: of a load or
 -- an exchange what it found, of a store anything
-abbrev pub IsTold : Deed → ℕ → ℕ → Type 0
+abbrev pub IsTold : Access → ℕ → ℕ → Type 0
 IsTold Load found v = v ≡ found
 IsTold (Store new) found v = Unit {0}
 IsTold (Exchange expected new) found v = v ≡ found

@@ -10,15 +10,15 @@ pub record Contents : Type 0 where
   pub words : List ℕ
 
 -- what a word holds
-abbrev pub held : Contents → Word → ℕ
-held c w = slice_index c.words (place c.layout w)
+abbrev pub word_at : Contents → Word → ℕ
+word_at c w = slice_index c.words (place c.layout w)
 
 -- the word holds this value now, and all other words are as they were
 pub record IsChanged (old new : Contents) (word : Word) (value : ℕ) : Type 0 where
   pub layout : new.layout ≡ old.layout
-  pub changed : held new word ≡ value
-  pub others : (w : Word) → IsWord old.layout w → w ≢ word → held new w ≡ held old w
+  pub changed : word_at new word ≡ value
+  pub others : (w : Word) → IsWord old.layout w → w ≢ word → word_at new w ≡ word_at old w
 
 -- each word holds what it holds at the start
 abbrev pub IsOpening : Contents → Type 0
-IsOpening c = (w : Word) → IsWord c.layout w → held c w ≡ opening c.layout.mode w
+IsOpening c = (w : Word) → IsWord c.layout w → word_at c w ≡ opening c.layout.mode w

@@ -17,12 +17,12 @@ abbrev pub count_of : ℕ → ℕ
 count_of p = cond (ltb p 1024 && leb (p % 8) 4) (p % 8) 0
 
 -- whether the plan word has the j-th node finalized
-abbrev pub removes : ℕ → ℕ → Bool
-removes p j = eqb (p / 8 / 2 ^ j % 2) 1
+abbrev pub plan_finalizes : ℕ → ℕ → Bool
+plan_finalizes p j = eqb (p / 8 / 2 ^ j % 2) 1
 
 -- which of the covered nodes has the field: its place among them, 0 to 3
-abbrev pub index_of : ℕ → ℕ
-index_of p = p / 128 % 4
+abbrev pub field_index_of : ℕ → ℕ
+field_index_of p = p / 128 % 4
 
 -- on which side of its node the field is
 abbrev pub side_of : ℕ → Side
@@ -33,7 +33,7 @@ pub record IsPlan (p : ℕ) : Type 0 where
   pub some : 0 < count_of p
   -- it finalizes none beyond the nodes that it covers
   pub removed : p / 8 % 16 < 2 ^ count_of p
-  pub field : index_of p < count_of p
+  pub field : field_index_of p < count_of p
 
 -- the plan word of s after a history
 abbrev pub plan : History → ℕ → ℕ
@@ -60,12 +60,12 @@ abbrev pub count : History → ℕ → ℕ
 count h s = count_of (plan h s)
 
 -- whether s finalizes its j-th node
-abbrev pub is_removed : History → ℕ → ℕ → Bool
-is_removed h s j = removes (plan h s) j
+abbrev pub scx_finalizes : History → ℕ → ℕ → Bool
+scx_finalizes h s j = plan_finalizes (plan h s) j
 
 -- which of the nodes of s has the field: its place among them
 abbrev pub field_index : History → ℕ → ℕ
-field_index h s = index_of (plan h s)
+field_index h s = field_index_of (plan h s)
 
 -- the field that s changes
 abbrev pub field : History → ℕ → Word

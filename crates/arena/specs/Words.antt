@@ -8,8 +8,8 @@ use Rattle.arena.specs.declared.word.ScxWord.{ScxWord}
 use Rattle.arena.specs.declared.word.ScxWord.TheVariants.{State, AllFrozen, Plan, New, Old, Member, Seen, Call}
 use Rattle.arena.specs.declared.word.Word.{Word}
 use Rattle.arena.specs.declared.word.Word.TheVariants.{Node, Scx}
-use Rattle.arena.specs.declared.step.Deed.{Deed}
-use Rattle.arena.specs.declared.step.Deed.TheVariants.{Load, Store, Exchange}
+use Rattle.arena.specs.declared.step.Access.{Access}
+use Rattle.arena.specs.declared.step.Access.TheVariants.{Load, Store, Exchange}
 
 -- the place of a word within its node: seven words
 abbrev pub node_place : NodeWord → ℕ
@@ -100,7 +100,7 @@ same_word (Node _ _) (Scx _ _) = false
 same_word (Scx _ _) (Node _ _) = false
 
 -- what a word holds after a load, store or exchange that found `found` in it
-abbrev pub deed_after : Deed → ℕ → ℕ
-deed_after Load found = found
-deed_after (Store v) found = v
-deed_after (Exchange expected v) found = cond (eqb found expected) v found
+abbrev pub word_after : Access → ℕ → ℕ
+word_after Load found = found
+word_after (Store v) found = v
+word_after (Exchange expected v) found = cond (eqb found expected) v found

@@ -97,7 +97,7 @@ pub trait Machine<S: Shape> {
     ghost lawful: { (m : Self) (c : Call) (h : History) (s : Step) → IsRun S.allows c.layout h → waits m c h s → IsRun S.allows c.layout (row_of c s h ⊳ h) };
 
     /// Once the step is made, it may be called with what that told.
-    ghost made: { (m : Self) (c : Call) (h : History) (s : Step) (v : ℕ) → IsRun S.allows c.layout (row_of c s h ⊳ h) → IsTold s.deed (value h s.word) v → waits m c h s → ready m c (row_of c s h ⊳ h) (Some v) };
+    ghost made: { (m : Self) (c : Call) (h : History) (s : Step) (v : ℕ) → IsRun S.allows c.layout (row_of c s h ⊳ h) → IsTold s.access (value h s.word) v → waits m c h s → ready m c (row_of c s h ⊳ h) (Some v) };
 
     /// What it may be told fits the nodes that are taken by then.
     ghost told: { (m : Self) (c : Call) (h : History) (got : Option ℕ) (nodes : ℕ) → IsRun S.allows c.layout h → ready m c h got → length (taken_nodes h) ≤ nodes → fits m got nodes };

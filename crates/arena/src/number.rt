@@ -13,60 +13,60 @@ pub struct PassNo(pub u32);
 
 /// Which of the nodes that an SCX-record covers: 0 to 3.
 #[derive(Clone, Copy, Debug, PartialEq, Eq)]
-pub enum MemberNo {
+pub enum MemberIndex {
     First,
     Second,
     Third,
     Fourth,
 }
 
-impl MemberNo {
+impl MemberIndex {
     ghost use Rattle.std.specs.Prelude.{◌≡◌, ◌+◌, ◌<◌, ◌↔◌, IsSome, IfSome};
-    ghost use Rattle.arena.specs.MemberNo.{index_of};
+    ghost use Rattle.arena.specs.MemberIndex.{member_index};
 
     /// The member of this index; none where it is 4 or more.
-    pub fn new(index: usize) -> Option<MemberNo>
+    pub fn new(index: usize) -> Option<MemberIndex>
         ensures valid { IsSome result ↔ (index < 4) }
-        ensures value { IfSome result (λ m. index_of m ≡ index) }
+        ensures value { IfSome result (λ m. member_index m ≡ index) }
     {
         match index {
-            0 => Some(MemberNo::First),
-            1 => Some(MemberNo::Second),
-            2 => Some(MemberNo::Third),
-            3 => Some(MemberNo::Fourth),
+            0 => Some(MemberIndex::First),
+            1 => Some(MemberIndex::Second),
+            2 => Some(MemberIndex::Third),
+            3 => Some(MemberIndex::Fourth),
             _ => None,
         }
     }
 
     /// The one behind it, if there is one.
-    pub fn next(self) -> Option<MemberNo>
-        ensures valid { IsSome result ↔ (index_of self < 3) }
-        ensures value { IfSome result (λ m. index_of m ≡ index_of self + 1) }
+    pub fn next(self) -> Option<MemberIndex>
+        ensures valid { IsSome result ↔ (member_index self < 3) }
+        ensures value { IfSome result (λ m. member_index m ≡ member_index self + 1) }
     {
         match self {
-            MemberNo::First => Some(MemberNo::Second),
-            MemberNo::Second => Some(MemberNo::Third),
-            MemberNo::Third => Some(MemberNo::Fourth),
-            MemberNo::Fourth => None,
+            MemberIndex::First => Some(MemberIndex::Second),
+            MemberIndex::Second => Some(MemberIndex::Third),
+            MemberIndex::Third => Some(MemberIndex::Fourth),
+            MemberIndex::Fourth => None,
         }
     }
 
     /// Its place among the nodes covered, 0 to 3.
     pub fn index(self) -> usize
-        ensures value { result ≡ index_of self }
+        ensures value { result ≡ member_index self }
         ensures small { result < 4 }
     {
         match self {
-            MemberNo::First => 0,
-            MemberNo::Second => 1,
-            MemberNo::Third => 2,
-            MemberNo::Fourth => 3,
+            MemberIndex::First => 0,
+            MemberIndex::Second => 1,
+            MemberIndex::Third => 2,
+            MemberIndex::Fourth => 3,
         }
     }
 
     /// The same number as words name it.
     pub fn number(self) -> u8
-        ensures value { result ≡ index_of self }
+        ensures value { result ≡ member_index self }
         ensures small { result < 4 }
     {
         self.index() as u8

@@ -1,27 +1,27 @@
 //! The words of a table in plain memory, for one thread.
 ghost use Rattle.std.specs.Prelude.{◌≡◌, ◌≢◌, ℕ, ◌+◌, IfOk, slice_index, length, vec_len};
 ghost use Rattle.arena.specs.Layout.{table_size, tree_opening, records_opening, IsWord};
-ghost use Rattle.arena.specs.PlainWords.{Contents, IsChanged, IsOpening, held};
-ghost use Rattle.arena.specs.Words.{deed_after};
+ghost use Rattle.arena.specs.PlainWords.{Contents, IsChanged, IsOpening, word_at};
+ghost use Rattle.arena.specs.Words.{word_after};
 ghost use Rattle.arena.specs.declared.word.Word.{Word};
 
 use crate::fault::NoMemory;
 use crate::layout::Layout;
 use crate::limits::Mode;
 use crate::number::{NodeNo, ScxNo};
-use crate::step::{Deed, Step};
+use crate::step::{Access, Step};
 use crate::word::{NodeWord, ScxWord, Side, Word};
 use std::alloc::Global;
 use std::marker::Model;
 
-/// What a word holds after a deed that found `found`.
-fn stored(deed: Deed, found: u64) -> u64
-    ensures { result ≡ deed_after deed found }
+/// What a word holds after a access that found `found`.
+fn stored(access: Access, found: u64) -> u64
+    ensures { result ≡ word_after access found }
 {
-    match deed {
-        Deed::Load => found,
-        Deed::Store(new) => new,
-        Deed::Exchange { expected, new } => { if found == expected { new } else { found } }
+    match access {
+        Access::Load => found,
+        Access::Store(new) => new,
+        Access::Exchange { expected, new } => { if found == expected { new } else { found } }
     }
 }
 
@@ -56,7 +56,7 @@ impl PlainWords {
 
     fn zeros(alloc: Global, layout: &Layout) -> Result<PlainWords, NoMemory>
         ensures layout { IfOk result (λ p. p.layout ≡ layout.now) }
-        ensures zeros { IfOk result (λ p. (w : Word) → IsWord p.layout w → held p w ≡ 0) }
+        ensures zeros { IfOk result (λ p. (w : Word) → IsWord p.layout w → word_at p w ≡ 0) }
     {
         let words = vec![in alloc; 0; layout.size()]?;
         Ok(PlainWords {
@@ -67,9 +67,9 @@ impl PlainWords {
 
     /// The opening tree: a root of class 2 over a leaf of class 1 and a leaf of class 2.
     fn plant(&mut self)
-        requires { (w : Word) → IsWord self.old.layout w → held self.old w ≡ records_opening w }
+        requires { (w : Word) → IsWord self.old.layout w → word_at self.old w ≡ records_opening w }
         ensures layout { self.new.layout ≡ self.old.layout }
-        ensures opening { (w : Word) → IsWord self.old.layout w → held self.new w ≡ tree_opening w }
+        ensures opening { (w : Word) → IsWord self.old.layout w → word_at self.new w ≡ tree_opening w }
     {
         self.set(Word::Node(NodeNo(0), NodeWord::Head), 2);
         self.set(Word::Node(NodeNo(0), NodeWord::Child(Side::Left)), 1);
@@ -89,7 +89,7 @@ impl PlainWords {
     /// What a word holds.
     pub fn get(&self, word: Word) -> u64
         requires { IsWord self.now.layout word }
-        ensures { result ≡ held self.now word }
+        ensures { result ≡ word_at self.now word }
     {
         self.words[self.layout.place(word)]
     }
@@ -105,11 +105,11 @@ impl PlainWords {
     /// Makes one step, and answers what its word held before.
     pub fn apply(&mut self, step: Step) -> u64
         requires { IsWord self.old.layout step.word }
-        ensures found { result ≡ held self.old step.word }
-        ensures after { IsChanged self.old self.new step.word (deed_after step.deed result) }
+        ensures found { result ≡ word_at self.old step.word }
+        ensures after { IsChanged self.old self.new step.word (word_after step.access result) }
     {
         let found = self.get(step.word);
-        self.set(step.word, stored(step.deed, found));
+        self.set(step.word, stored(step.access, found));
         found
     }
 }

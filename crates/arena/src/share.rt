@@ -1,6 +1,6 @@
 //! What a pass owns of the nodes and SCX-records, and what it has taken of them.
 ghost use Rattle.std.specs.Prelude.{◌≡◌, ◌≢◌, ℕ, ◌+◌, ◌-◌, ◌<◌, ◌≤◌, ◌^◌, IfSome, IfNone, MatchOption, IfOk, IfErr, OnOk};
-ghost use Rattle.arena.specs.Share.{Left, whole_share, HasNode, HasScx, taken, IsFull};
+ghost use Rattle.arena.specs.Share.{Remaining, whole_share, HasNode, HasScx, after_taking, IsFull};
 
 use crate::fault::{Full, Resource};
 use crate::layout::Layout;
@@ -18,7 +18,7 @@ pub struct Share {
 }
 
 impl Model for Share {
-    ghost Value = { Left };
+    ghost Value = { Remaining };
 
     ghost view = { λ s. record { next_node = s.next_node; nodes = s.nodes; next_scx = s.next_scx; scx = s.scx } };
 
@@ -64,7 +64,7 @@ impl Share {
 
     /// Takes the next node: one that this share never gave before.
     pub fn fresh(&mut self) -> Option<Fresh>
-        ensures taken { IfSome result (λ f. (f ≡ self.old.next_node) × (0 < self.old.nodes) × (self.new ≡ record self.old { next_node = self.old.next_node + 1; nodes = self.old.nodes - 1 })) }
+        ensures after_taking { IfSome result (λ f. (f ≡ self.old.next_node) × (0 < self.old.nodes) × (self.new ≡ record self.old { next_node = self.old.next_node + 1; nodes = self.old.nodes - 1 })) }
         ensures empty { IfNone result ((self.old.nodes ≡ 0) × (self.new ≡ self.old)) }
     {
         if self.nodes == 0 {
@@ -78,7 +78,7 @@ impl Share {
 
     /// Takes the next SCX-record.
     pub fn scx(&mut self) -> Option<ScxNo>
-        ensures taken { IfSome result (λ s. (s.0 ≡ self.old.next_scx) × (0 < self.old.scx) × (self.new ≡ record self.old { next_scx = self.old.next_scx + 1; scx = self.old.scx - 1 })) }
+        ensures after_taking { IfSome result (λ s. (s.0 ≡ self.old.next_scx) × (0 < self.old.scx) × (self.new ≡ record self.old { next_scx = self.old.next_scx + 1; scx = self.old.scx - 1 })) }
         ensures empty { IfNone result ((self.old.scx ≡ 0) × (self.new ≡ self.old)) }
     {
         if self.scx == 0 {
@@ -94,7 +94,7 @@ impl Share {
     pub fn take(&mut self) -> Result<(Fresh, ScxNo), Full>
         ensures records { IfOk result (λ r. (r.0 ≡ self.old.next_node) × (r.1.0 ≡ self.old.next_scx)) }
         ensures some { OnOk result ((0 < self.old.nodes) × (0 < self.old.scx)) }
-        ensures left { OnOk result (self.new ≡ taken self.old) }
+        ensures left { OnOk result (self.new ≡ after_taking self.old) }
         ensures full { IfErr result (λ f. IsFull self.old f × (self.new ≡ self.old)) }
     {
         let (nodes, scx) = self.left();

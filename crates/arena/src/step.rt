@@ -35,7 +35,7 @@ pub enum Kind {
 
 /// What a step does to its word.
 #[derive(Clone, Copy, Debug, PartialEq, Eq)]
-pub enum Deed {
+pub enum Access {
     /// Changes nothing.
     Load,
     /// Stores this, whatever the word holds.
@@ -49,7 +49,7 @@ pub enum Deed {
 pub struct Step {
     pub kind: Kind,
     pub word: Word,
-    pub deed: Deed,
+    pub access: Access,
 }
 
 /// A step that was made: by whom, in which of the client's calls, and what the word held before and

@@ -37,7 +37,7 @@ impl Fault {
 
     /// Tells it in a line, and answers its status. Where the line cannot be written, the status
     /// alone tells it.
-    pub fn tell<E: Write>(self, err: &mut E) -> u8
+    pub fn print<E: Write>(self, err: &mut E) -> u8
         ensures { (result ≡ 2) ↔ (self ≡ Fault.Usage) }
     {
         let _ = writeln!(err, "{self}");

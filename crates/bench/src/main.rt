@@ -17,7 +17,7 @@ use std::process::ExitCode;
 fn main(rt: HostRuntime) -> ExitCode {
     match program::bench(&rt) {
         Ok(()) => ExitCode::SUCCESS,
-        Err(fault) => ExitCode::from(fault.tell(&mut rt.stderr())),
+        Err(fault) => ExitCode::from(fault.print(&mut rt.stderr())),
     }
 }
 

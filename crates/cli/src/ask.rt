@@ -1,5 +1,5 @@
 //! What the program does with its words.
-use crate::wish::{Wish, read_words};
+use crate::args::{Request, read_words};
 use arena::Mode;
 use program::{Fault, play_over};
 use std::fs;
@@ -9,14 +9,14 @@ use texts::Metered;
 
 /// Does what the words ask for, of which the first is the program's own name, and answers the exit
 /// status. The files are opened in the order of the words before any of them is read.
-pub fn ask_over<R: Files + AllocGlobal, O: Write, E: Write>(
+pub fn run_words<R: Files + AllocGlobal, O: Write, E: Write>(
     rt: &R,
     words: &[String],
     out: &mut O,
     err: &mut E,
 ) -> u8 {
     let opened = match read_words(rt.alloc(), words) {
-        Ok(Wish::Records { script, schedule }) => open_both(rt, script, schedule),
+        Ok(Request::Records { script, schedule }) => open_both(rt, script, schedule),
         Err(fault) => Err(fault),
     };
     match opened {
@@ -30,7 +30,7 @@ pub fn ask_over<R: Files + AllocGlobal, O: Write, E: Write>(
                 err,
             )
         }
-        Err(fault) => fault.tell(err),
+        Err(fault) => fault.print(err),
     }
 }
 

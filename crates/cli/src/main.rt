@@ -2,17 +2,17 @@
 #![tactic(auto)]
 
 mod ask;
-mod wish;
+mod args;
 
-use crate::ask::ask_over;
-use crate::wish::words_of;
+use crate::ask::run_words;
+use crate::args::words_of;
 use std::process::ExitCode;
 
 fn main(rt: HostRuntime) -> ExitCode {
     let mut err = rt.stderr();
     let status = match words_of(&rt) {
-        Ok(words) => ask_over(&rt, words.as_slice(), &mut rt.stdout(), &mut err),
-        Err(fault) => fault.tell(&mut err),
+        Ok(words) => run_words(&rt, words.as_slice(), &mut rt.stdout(), &mut err),
+        Err(fault) => fault.print(&mut err),
     };
     ExitCode::from(status)
 }

@@ -1,5 +1,5 @@
 //! The words of the command line.
-use crate::ask::ask_over;
+use crate::ask::run_words;
 use std::test::Fail;
 
 /// What a command wrote, and its status.
@@ -18,7 +18,7 @@ fn asked(rt: &HostRuntime, words: &str) -> Result<Ended, Fail> {
         all.push(String::from_str(rt.alloc(), word)?)?;
     }
     let (mut out, mut err) = (Vec::new(rt.alloc()), Vec::new(rt.alloc()));
-    let status = ask_over(rt, all.as_slice(), &mut out, &mut err);
+    let status = run_words(rt, all.as_slice(), &mut out, &mut err);
     Ok(Ended { status, out, err })
 }
 

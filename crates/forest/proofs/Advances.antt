@@ -11,12 +11,12 @@ use Rattle.arena.specs.Lawful.{Lawful}
 use Rattle.arena.specs.Machines.{Call, IsRun, IsTold, MatchTurn, row_of}
 use Rattle.arena.specs.Shape.{Shaped}
 use Rattle.arena.specs.TakenNodes.{taken_nodes}
-use Rattle.arena.proofs.TakenNodes.{taken_few}
+use Rattle.arena.proofs.Lemmas.{taken_few}
 use Rattle.histories.proofs.Lemmas.{lawful_row}
 use Rattle.forest.specs.declared.rule.Asked.{Asked}
-use Rattle.forest.specs.declared.view.Knower.{Knower}
-use Rattle.forest.specs.Kept.{past, past_of, knower, ByOthers, MayMake, Made, row}
-use Rattle.forest.specs.Courses.{IsCalled, rows_of, steps_of, shared_nodes, weight}
+use Rattle.forest.specs.declared.view.SeatedPass.{SeatedPass}
+use Rattle.forest.specs.TableRule.{history_of, past_of, seated_pass, ByOthers, MayStep, Made, row}
+use Rattle.forest.specs.Traces.{HoldsForCall, rows_of, seat_steps, shared_nodes, weight}
 
 -- a run without its last row is a run
 pub run_before : (allows : Layout → History → ℕ → Type 0) (lay : Layout) (h : History) (r : Row) → IsRun allows lay (r ⊳ h) → IsRun allows lay h
@@ -24,20 +24,20 @@ unfolding Lawful Shaped
 run_before allows lay h r run = record { lawful = run.lawful.0; shaped = run.shaped.0 }
 
 -- what rows of others keep holds behind all of them
-pub keeps_all : (allows : Layout → History → ℕ → Type 0) (lay : Layout) (c : ℕ) (P : History → Type 0) → ((h : History) (r : Row) → IsRun allows lay (r ⊳ h) → r.pass.0 ≢ c → P h → P (r ⊳ h)) → (rows known : List Row) → ByOthers c rows → IsRun allows lay (past lay.mode (rows ++ known)) → P (past lay.mode known) → P (past lay.mode (rows ++ known))
+pub keeps_all : (allows : Layout → History → ℕ → Type 0) (lay : Layout) (c : ℕ) (P : History → Type 0) → ((h : History) (r : Row) → IsRun allows lay (r ⊳ h) → r.pass.0 ≢ c → P h → P (r ⊳ h)) → (rows known : List Row) → ByOthers c rows → IsRun allows lay (history_of lay.mode (rows ++ known)) → P (history_of lay.mode known) → P (history_of lay.mode (rows ++ known))
 keeps_all allows lay c P keeps [] known by run x = x
-keeps_all allows lay c P keeps (r ∷ rs) known by run x = keeps (past lay.mode (rs ++ known)) r run by.0 (keeps_all allows lay c P keeps rs known by.1 (run_before allows lay (past lay.mode (rs ++ known)) r run) x)
+keeps_all allows lay c P keeps (r ∷ rs) known by run x = keeps (history_of lay.mode (rs ++ known)) r run by.0 (keeps_all allows lay c P keeps rs known by.1 (run_before allows lay (history_of lay.mode (rs ++ known)) r run) x)
 
-first_or : Knower → List Knower → Knower
+first_or : SeatedPass → List SeatedPass → SeatedPass
 first_or p [] = p
 first_or p (q ∷ qs) = q
 
-pub same_knower : (ps : List Knower) (p q : Knower) → ps ≡ p ∷ [] → ps ≡ q ∷ [] → p ≡ q
+pub same_knower : (ps : List SeatedPass) (p q : SeatedPass) → ps ≡ p ∷ [] → ps ≡ q ∷ [] → p ≡ q
 unfolding first_or
 same_knower ps p q a b = ap (first_or p) (sym a ∙ b)
 
 -- what is so beside something else is so
-pub called_so : {allows : Layout → History → ℕ → Type 0} {ps : List Knower} {c : Call} {P Q : History → Type 0} → IsCalled allows ps c (λ h. P h × Q h) → IsCalled allows ps c P
+pub called_so : {allows : Layout → History → ℕ → Type 0} {ps : List SeatedPass} {c : Call} {P Q : History → Type 0} → HoldsForCall allows ps c (λ h. P h × Q h) → HoldsForCall allows ps c P
 called_so x = record { known = x.known; is = x.is; sound = x.sound; so = x.so.0 }
 
 module _ (allows : Layout → History → ℕ → Type 0) (c : Call) (said : Asked) (called : c.number ≡ said.call) where
@@ -45,29 +45,29 @@ module _ (allows : Layout → History → ℕ → Type 0) (c : Call) (said : Ask
   row_is : (h : History) → row_of c said.step h ≡ row c.pass said h
   row_is h = ap (λ (n : ℕ). row c.pass (record said { call = n }) h) called
 
-  pub may : (ps : List Knower) (waits : History → Type 0) → ((h : History) (r : Row) → IsRun allows c.layout (r ⊳ h) → r.pass.0 ≢ c.pass → waits h → waits (r ⊳ h)) → ((h : History) → IsRun allows c.layout h → waits h → IsRun allows c.layout (row_of c said.step h ⊳ h)) → IsCalled allows ps c waits → (p : Knower) × (ps ≡ p ∷ []) × MayMake allows said p
+  pub may : (ps : List SeatedPass) (waits : History → Type 0) → ((h : History) (r : Row) → IsRun allows c.layout (r ⊳ h) → r.pass.0 ≢ c.pass → waits h → waits (r ⊳ h)) → ((h : History) → IsRun allows c.layout h → waits h → IsRun allows c.layout (row_of c said.step h ⊳ h)) → HoldsForCall allows ps c waits → (p : SeatedPass) × (ps ≡ p ∷ []) × MayStep allows said p
   may ps waits keeps lawful x = (
-    knower c.pass c.layout x.known,
+    seated_pass c.pass c.layout x.known,
     x.is,
-    λ rows by run. subst (λ r. IsRun allows c.layout (r ⊳ past c.layout.mode (rows ++ x.known))) (row_is (past c.layout.mode (rows ++ x.known))) (lawful (past c.layout.mode (rows ++ x.known)) run (keeps_all allows c.layout c.pass waits keeps rows x.known by run x.so)),
+    λ rows by run. subst (λ r. IsRun allows c.layout (r ⊳ history_of c.layout.mode (rows ++ x.known))) (row_is (history_of c.layout.mode (rows ++ x.known))) (lawful (history_of c.layout.mode (rows ++ x.known)) run (keeps_all allows c.layout c.pass waits keeps rows x.known by run x.so)),
   )
 
   -- its word is one of the table
-  pub word_of : (ps : List Knower) (waits : History → Type 0) → ((h : History) → IsRun allows c.layout h → waits h → IsRun allows c.layout (row_of c said.step h ⊳ h)) → IsCalled allows ps c waits → IsWord c.layout said.step.word
-  word_of ps waits lawful x = (lawful_row c.layout (past c.layout.mode x.known) (row_of c said.step (past c.layout.mode x.known)) (lawful (past c.layout.mode x.known) x.sound x.so).lawful).word
+  pub word_of : (ps : List SeatedPass) (waits : History → Type 0) → ((h : History) → IsRun allows c.layout h → waits h → IsRun allows c.layout (row_of c said.step h ⊳ h)) → HoldsForCall allows ps c waits → IsWord c.layout said.step.word
+  word_of ps waits lawful x = (lawful_row c.layout (history_of c.layout.mode x.known) (row_of c said.step (history_of c.layout.mode x.known)) (lawful (history_of c.layout.mode x.known) x.sound x.so).lawful).word
 
   -- what it has made of what was so
-  pub told : (ps qs : List Knower) (n : ℕ) (P Q : History → Type 0) → ((h : History) (r : Row) → IsRun allows c.layout (r ⊳ h) → r.pass.0 ≢ c.pass → P h → P (r ⊳ h)) → ((h : History) → IsRun allows c.layout (row_of c said.step h ⊳ h) → IsTold said.step.deed (value h said.step.word) n → P h → Q (row_of c said.step h ⊳ h)) → Made allows said ps n qs → IsCalled allows ps c P → IsCalled allows qs c Q
-  told ps qs n P Q keeps goes m x = from (sym (same_knower ps (knower c.pass c.layout x.known) m.pass x.is m.was)) m.others m.by_others m.before m.after m.told m.is
+  pub told : (ps qs : List SeatedPass) (n : ℕ) (P Q : History → Type 0) → ((h : History) (r : Row) → IsRun allows c.layout (r ⊳ h) → r.pass.0 ≢ c.pass → P h → P (r ⊳ h)) → ((h : History) → IsRun allows c.layout (row_of c said.step h ⊳ h) → IsTold said.step.access (value h said.step.word) n → P h → Q (row_of c said.step h ⊳ h)) → Made allows said ps n qs → HoldsForCall allows ps c P → HoldsForCall allows qs c Q
+  told ps qs n P Q keeps goes m x = from (sym (same_knower ps (seated_pass c.pass c.layout x.known) m.pass x.is m.was)) m.others m.by_others m.before m.after m.told m.is
     where
-      from : {p : Knower} → p ≡ knower c.pass c.layout x.known → (rows : List Row) → ByOthers p.number.0 rows → IsRun allows p.layout (past_of p rows) → IsRun allows p.layout (row p.number.0 said (past_of p rows) ⊳ past_of p rows) → IsTold said.step.deed (value (past_of p rows) said.step.word) n → qs ≡ knower p.number.0 p.layout (row p.number.0 said (past_of p rows) ∷ (rows ++ p.known)) ∷ [] → IsCalled allows qs c Q
+      from : {p : SeatedPass} → p ≡ seated_pass c.pass c.layout x.known → (rows : List Row) → ByOthers p.number.0 rows → IsRun allows p.layout (past_of p rows) → IsRun allows p.layout (row p.number.0 said (past_of p rows) ⊳ past_of p rows) → IsTold said.step.access (value (past_of p rows) said.step.word) n → qs ≡ seated_pass p.number.0 p.layout (row p.number.0 said (past_of p rows) ∷ (rows ++ p.known)) ∷ [] → HoldsForCall allows qs c Q
       from {p} e rows by before after tells is =
-          let h : History = past c.layout.mode (rows ++ x.known) in
+          let h : History = history_of c.layout.mode (rows ++ x.known) in
           let by' : ByOthers c.pass rows = rw e at by in
           let before' : IsRun allows c.layout h = rw e at before in
           let after' : IsRun allows c.layout (row_of c said.step h ⊳ h) = rw (row_is h) (rw e at after) in
-          let tells' : IsTold said.step.deed (value h said.step.word) n = rw e at tells in
-          let is' : qs ≡ knower c.pass c.layout (row c.pass said h ∷ (rows ++ x.known)) ∷ [] = rw e at is in
+          let tells' : IsTold said.step.access (value h said.step.word) n = rw e at tells in
+          let is' : qs ≡ seated_pass c.pass c.layout (row c.pass said h ∷ (rows ++ x.known)) ∷ [] = rw e at is in
           let done : Q (row_of c said.step h ⊳ h) = goes h after' tells' (keeps_all allows c.layout c.pass P keeps rows x.known by' before' x.so) in
           record { known = row c.pass said h ∷ (rows ++ x.known); is = is'; sound = rw (row_is h) at after'; so = rw (row_is h) at done }
 
@@ -81,8 +81,8 @@ pub rows_by_others : (c : ℕ) (rows known : List Row) → ByOthers c rows → r
 rows_by_others c [] known h = refl
 rows_by_others c (r ∷ rs) known h = rw (ne_eqb r.pass.0 c h.0) (rows_by_others c rs known h.1)
 
-pub one_step : (allows : Layout → History → ℕ → Type 0) (said : Asked) (ps qs : List Knower) (n : ℕ) → Made allows said ps n qs → steps_of qs ≡ suc (steps_of ps)
-one_step allows said ps qs n m = ap steps_of m.is ∙ rw (eq-eqb m.pass.number.0 m.pass.number.0 refl) (ap suc (rows_by_others m.pass.number.0 m.others m.pass.known m.by_others ∙ sym (ap steps_of m.was)))
+pub one_step : (allows : Layout → History → ℕ → Type 0) (said : Asked) (ps qs : List SeatedPass) (n : ℕ) → Made allows said ps n qs → seat_steps qs ≡ suc (seat_steps ps)
+one_step allows said ps qs n m = ap seat_steps m.is ∙ rw (eq-eqb m.pass.number.0 m.pass.number.0 refl) (ap suc (rows_by_others m.pass.number.0 m.others m.pass.known m.by_others ∙ sym (ap seat_steps m.was)))
 
 pub weighs : {A : Type 0} (t : Turn A) (n m : ℕ) → MatchTurn t (λ s. n < m) (λ a. Unit {0}) → weight t n ≤ m
 weighs (Ask s) n m h = omega arith

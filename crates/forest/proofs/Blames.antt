@@ -2,15 +2,15 @@
 use Rattle.std.proofs.Common.{◌≡◌, ◌≢◌, ℕ, inr, List, [], ◌∷◌, sym, ◌∙◌, arith}
 use Rattle.arena.specs.declared.layout.Layout.{Layout}
 use Rattle.arena.specs.Words.{state}
-use Rattle.arena.specs.Share.{Left, HasScx}
-use Rattle.arena.specs.History.{History, ◌⊳◌, value, EndsWith}
+use Rattle.arena.specs.Share.{Remaining, HasScx}
+use Rattle.arena.specs.History.{History, ◌⊳◌, value, Extends}
 use Rattle.arena.specs.Blame.{WasInTheWay}
 use Rattle.arena.specs.Fills.{IsOthersScx}
 use Rattle.arena.specs.Lawful.{Lawful}
 use Rattle.histories.proofs.Lemmas.{finished_taken, lawful_since, state_since}
-use Rattle.prims.specs.Begun.{taken_since}
+use Rattle.prims.specs.Laws.Begun.{taken_since}
 use Rattle.prims.specs.Shares.{IsShare}
-use Rattle.forest.specs.Passes.{Sight, Each, HasBlamed, HasFailed, run_of}
+use Rattle.forest.specs.Passes.{PassView, Each, HasBlamed, CallHasFailed, run_of}
 
 -- Lists
 
@@ -21,7 +21,7 @@ each_by P Q (x ∷ xs) f e = (f x e.0, each_by P Q xs f e.1)
 -- Finished
 
 -- what is finished stays finished
-over_since : (lay : Layout) (h m : History) (s : ℕ) → Lawful lay h → EndsWith h m → value m (state s) ≢ 0 → value h (state s) ≢ 0
+over_since : (lay : Layout) (h m : History) (s : ℕ) → Lawful lay h → Extends h m → value m (state s) ≢ 0 → value h (state s) ≢ 0
 over_since lay h m s l e d z = d (sym (state_since lay h m s l e d) ∙ z)
 
 -- what is finished at the begin was not in the way since
@@ -34,11 +34,11 @@ never_in_the_way lay h start n s l d w = over_since lay (w.row ⊳ w.before) sta
 -- Blame lists
 
 -- one with nobody
-pub blamed_nobody : (p : Sight) → p.blamed ≡ [] → HasBlamed p
+pub blamed_nobody : (p : PassView) → p.blamed ≡ [] → HasBlamed p
 blamed_nobody p e = record { others = rw e tt; over = rw e tt; different = rw e tt }
 
 -- a blame list of a pass that knows a longer run
-pub blamed_later : (old new : Sight) → new.layout ≡ old.layout → new.number ≡ old.number → new.blamed ≡ old.blamed → Lawful new.layout (run_of new) → EndsWith (run_of new) (run_of old) → HasBlamed old → HasBlamed new
+pub blamed_later : (old new : PassView) → new.layout ≡ old.layout → new.number ≡ old.number → new.blamed ≡ old.blamed → Lawful new.layout (run_of new) → Extends (run_of new) (run_of old) → HasBlamed old → HasBlamed new
 blamed_later old new lay number same l e x = record {
   others = rw (lay, number, same) x.others;
   over = rw same (each_by (λ s. value (run_of old) (state s) ≢ 0) (λ s. value (run_of new) (state s) ≢ 0) old.blamed (λ s d. over_since new.layout (run_of new) (run_of old) s l e d) x.over);
@@ -46,7 +46,7 @@ blamed_later old new lay number same l e x = record {
 }
 
 -- one more that `Fail` names
-pub blamed_more : (old new : Sight) (n s : ℕ) → new.layout ≡ old.layout → new.number ≡ old.number → new.blamed ≡ s ∷ old.blamed → Lawful new.layout (run_of new) → EndsWith (run_of new) (run_of old) → HasFailed old new n s → HasBlamed old → HasBlamed new
+pub blamed_more : (old new : PassView) (n s : ℕ) → new.layout ≡ old.layout → new.number ≡ old.number → new.blamed ≡ s ∷ old.blamed → Lawful new.layout (run_of new) → Extends (run_of new) (run_of old) → CallHasFailed old new n s → HasBlamed old → HasBlamed new
 blamed_more old new n s lay number more l e f x = record {
   others = let more_others : Each (λ t. IsOthersScx new.layout new.number t) old.blamed = rw (lay, number) x.others in rw more (f.others, more_others);
   over = rw more (f.over, each_by (λ t. value (run_of old) (state t) ≢ 0) (λ t. value (run_of new) (state t) ≢ 0) old.blamed (λ t d. over_since new.layout (run_of new) (run_of old) t l e d) x.over);
@@ -56,9 +56,9 @@ blamed_more old new n s lay number more l e f x = record {
 -- What has left a share
 
 -- what is finished at a moment is no more in a share of which what is left is untaken
-pub over_left : (lay : Layout) (h m : History) (c : ℕ) (left : Left) (node scx s : ℕ) → Lawful lay m → EndsWith h m → IsShare lay h c left node scx → value m (state s) ≢ 0 → ¬ HasScx left s
+pub over_left : (lay : Layout) (h m : History) (c : ℕ) (left : Remaining) (node scx s : ℕ) → Lawful lay m → Extends h m → IsShare lay h c left node scx → value m (state s) ≢ 0 → ¬ HasScx left s
 over_left lay h m c left node scx s l e share d p = share.untaken s p (taken_since h m s e (finished_taken lay m s l (λ z. let a = p.from in let b = share.from_scx in omega arith) d))
 
 -- the blame list of p, and the share of q, which is untaken in a run that goes on from what p knows
-pub blames_left : (lay : Layout) (h : History) (p q : Sight) (c node scx : ℕ) → Lawful lay (run_of p) → EndsWith h (run_of p) → IsShare lay h c q.share node scx → HasBlamed p → Each (λ s. ¬ HasScx q.share s) p.blamed
+pub blames_left : (lay : Layout) (h : History) (p q : PassView) (c node scx : ℕ) → Lawful lay (run_of p) → Extends h (run_of p) → IsShare lay h c q.share node scx → HasBlamed p → Each (λ s. ¬ HasScx q.share s) p.blamed
 blames_left lay h p q c node scx l e share x = each_by (λ s. value (run_of p) (state s) ≢ 0) (λ s. ¬ HasScx q.share s) p.blamed (λ s d. over_left lay h (run_of p) c q.share node scx s l e share d) x.over

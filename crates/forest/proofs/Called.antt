@@ -4,11 +4,11 @@ use Rattle.arena.specs.declared.layout.Layout.{Layout}
 use Rattle.arena.specs.declared.step.Row.{Row}
 use Rattle.arena.specs.declared.step.Step.{Step}
 use Rattle.arena.specs.declared.limits.Mode.{Mode}
-use Rattle.arena.specs.History.{History, Start, ◌⊳◌, EndsWith}
+use Rattle.arena.specs.History.{History, Start, ◌⊳◌, Extends}
 use Rattle.arena.specs.Machines.{Call}
-use Rattle.arena.proofs.Values.{ends_trans}
-use Rattle.forest.specs.Kept.{past, ByOthers}
-use Rattle.forest.specs.Courses.{Course, begins, others, makes, goes_on}
+use Rattle.arena.proofs.Lemmas.{ends_trans}
+use Rattle.forest.specs.TableRule.{history_of, ByOthers}
+use Rattle.forest.specs.Traces.{Trace, begins, others, makes, goes_on}
 use Rattle.forest.specs.Passes.{AreOfCall}
 
 -- no history ends with a longer one
@@ -16,13 +16,13 @@ rows_in : History → ℕ
 rows_in (Start mode) = zero
 rows_in (r ⊳ h) = suc (rows_in h)
 
-shorter : (h m : History) → EndsWith h m → rows_in m ≤ rows_in h
+shorter : (h m : History) → Extends h m → rows_in m ≤ rows_in h
 unfolding rows_in
 shorter (Start mode) m e = rw e (omega arith)
 shorter (r ⊳ h) m (inl e) = rw e (omega arith)
 shorter (r ⊳ h) m (inr e) = let z = shorter h m e in omega arith
 
-no_longer : (h : History) (r : Row) → ¬ EndsWith h (r ⊳ h)
+no_longer : (h : History) (r : Row) → ¬ Extends h (r ⊳ h)
 unfolding rows_in
 no_longer h r e = let z = shorter h (r ⊳ h) e in omega arith
 
@@ -35,12 +35,12 @@ module _ (c number : ℕ) (start : History) where
   calls_more h r is x q before (inl e) since own = let same : q ≡ r = cc in rw same (is (rw same at own))
   calls_more h r is x q before (inr e) since own = x q before e since own
 
-  pub calls_others : (mode : Mode) (rows known : List Row) → ByOthers c rows → AreOfCall c number start (past mode known) → AreOfCall c number start (past mode (rows ++ known))
+  pub calls_others : (mode : Mode) (rows known : List Row) → ByOthers c rows → AreOfCall c number start (history_of mode known) → AreOfCall c number start (history_of mode (rows ++ known))
   calls_others mode [] known by x = x
-  calls_others mode (r ∷ rs) known by x = calls_more (past mode (rs ++ known)) r (λ e. absurd (by.0 e)) (calls_others mode rs known by.1 x)
+  calls_others mode (r ∷ rs) known by x = calls_more (history_of mode (rs ++ known)) r (λ e. absurd (by.0 e)) (calls_others mode rs known by.1 x)
 
 -- what a call has come by
-pub course_calls : {M : Type 0} {allows : Layout → History → ℕ → Type 0} {waits : M → Call → History → Step → Type 0} {same : M → M → Type 0} (c : Call) {first : M} (m : M) (h : History) → Course allows waits same c first m h → AreOfCall c.pass c.number c.start h
+pub course_calls : {M : Type 0} {allows : Layout → History → ℕ → Type 0} {waits : M → Call → History → Step → Type 0} {same : M → M → Type 0} (c : Call) {first : M} (m : M) (h : History) → Trace allows waits same c first m h → AreOfCall c.pass c.number c.start h
 course_calls c m h (begins e k) = subst (AreOfCall c.pass c.number c.start) (sym k) (calls_start c.pass c.number c.start)
 course_calls c m h (others s r g e w other run x) = subst (AreOfCall c.pass c.number c.start) (sym e) (calls_more c.pass c.number c.start g r (λ own. absurd (other own)) (course_calls c m g x))
 course_calls c m h (makes s g e w run x) = subst (AreOfCall c.pass c.number c.start) (sym e) (calls_more c.pass c.number c.start g _ (λ own. refl) (course_calls c m g x))

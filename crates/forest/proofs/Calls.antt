@@ -3,37 +3,35 @@ use Rattle.std.proofs.Common.{◌≡◌, ◌≢◌, ℕ, suc, ◌<◌, List, [],
 use Rattle.arena.specs.declared.layout.Layout.{Layout}
 use Rattle.arena.specs.declared.step.Row.{Row}
 use Rattle.arena.specs.declared.step.Step.{Step}
-use Rattle.arena.specs.declared.step.Deed.{Deed}
-use Rattle.arena.specs.declared.step.Deed.TheVariants.{Load, Store, Exchange}
+use Rattle.arena.specs.declared.step.Access.{Access}
+use Rattle.arena.specs.declared.step.Access.TheVariants.{Load, Store, Exchange}
 use Rattle.arena.specs.declared.step.Kind.TheVariants.{Fill}
-use Rattle.arena.specs.Share.{Left}
+use Rattle.arena.specs.Share.{Remaining}
 use Rattle.arena.specs.Words.{state}
 use Rattle.arena.specs.History.{History, ◌⊳◌, value}
 use Rattle.arena.specs.Blame.{IsMember, IsInProgress}
 use Rattle.arena.specs.Fills.{IsOwnScx}
 use Rattle.arena.specs.Machines.{Call, IsRun, IsTold, row_of}
 use Rattle.histories.proofs.Lemmas.{finished_taken}
-use Rattle.prims.specs.Cells.{allows_all}
-use Rattle.prims.specs.Moments.{AreOver}
-use Rattle.prims.specs.Begun.{TakesOnly, takes_by_others, takes_by_step}
+use Rattle.prims.specs.Cells.{AllowsAll}
+use Rattle.prims.specs.Moments.{AreFinished}
+use Rattle.prims.specs.Laws.Begun.{TakesOnly, takes_by_others, takes_by_step}
 use Rattle.prims.specs.Snaps.{IsAmong}
-use Rattle.prims.specs.PutKnown.{put_waits, put_answers}
-use Rattle.prims.specs.PutLaws.{put_made}
+use Rattle.prims.specs.Put.Known.{PutWaits, PutAnswers}
+use Rattle.prims.specs.Put.Laws.{put_made}
 use Rattle.prims.specs.declared.snap.Snap.{Snap}
 use Rattle.prims.specs.declared.scx.Scx.{Scx as Answer}
 use Rattle.prims.specs.declared.put.PutRun.{PutRun}
-use Rattle.prims.proofs.Alone.{put_takes, over_begins, over_ends}
-use Rattle.prims.proofs.Shares.{share_by_others, share_by_step, share_by_put, share_ends, next_idle, next_unwon}
+use Rattle.prims.proofs.Lemmas.{put_takes, over_begins, over_ends, share_by_others, share_by_step, share_by_put, share_ends, next_idle, next_unwon, put_covers, put_covers_then, put_finished}
 use Rattle.prims.specs.Shares.{IsShare}
-use Rattle.prims.proofs.PutEntries.{put_covers, put_covers_then, put_finished}
-use Rattle.forest.specs.Courses.{Course, begins, others, makes, goes_on}
-use Rattle.forest.specs.Shares.{IsAtRest}
-use Rattle.forest.proofs.Frames.{Goes, HasOwnWon, goes_from, goes_more}
+use Rattle.forest.specs.Traces.{Trace, begins, others, makes, goes_on}
+use Rattle.forest.specs.Shares.{IsBetweenCalls}
+use Rattle.forest.proofs.Frames.{CarriesOn, HasOwnWon, goes_from, goes_more}
 
 -- Courses
 
 -- what is so of a machine as the call begins, and of each further on, is so of it
-pub course_keeps : {M : Type 0} {allows : Layout → History → ℕ → Type 0} {waits : M → Call → History → Step → Type 0} {same : M → M → Type 0} {c : Call} {first : M} (P : M → Type 0) → P first → ((old now : M) → same old now → P old → P now) → (m : M) (h : History) → Course allows waits same c first m h → P m
+pub course_keeps : {M : Type 0} {allows : Layout → History → ℕ → Type 0} {waits : M → Call → History → Step → Type 0} {same : M → M → Type 0} {c : Call} {first : M} (P : M → Type 0) → P first → ((old now : M) → same old now → P old → P now) → (m : M) (h : History) → Trace allows waits same c first m h → P m
 course_keeps P p more m h (begins e k) = rw e p
 course_keeps P p more m h (others s r g e w other run x) = course_keeps P p more m g x
 course_keeps P p more m h (makes s g e w run x) = course_keeps P p more m g x
@@ -41,15 +39,15 @@ course_keeps P p more m h (goes_on old is x) = more old m is (course_keeps P p m
 
 -- Calls that fill nothing
 
-module _ (allows : Layout → History → ℕ → Type 0) (lay : Layout) (c : ℕ) (start : History) (left : Left) where
+module _ (allows : Layout → History → ℕ → Type 0) (lay : Layout) (c : ℕ) (start : History) (left : Remaining) where
   abbrev pub IsQuiet : History → Type 0
-  IsQuiet h = Goes allows lay c start h left left.next_node left.next_scx []
+  IsQuiet h = CarriesOn allows lay c start h left left.next_node left.next_scx []
 
   -- the next SCX-record of the share is not in progress
   covers : (h : History) → IsRun allows lay h → IsShare lay h c left left.next_node left.next_scx → (n : ℕ) → IsOwnScx lay c left.next_scx → IsInProgress h left.next_scx → IsMember h left.next_scx n → IsAmong [] n
   covers h r share n own p y = absurd (next_idle lay h c left _ _ r.lawful share own p)
 
-  pub quiet_start : IsRun allows lay start → IsAtRest lay c start left → IsQuiet start
+  pub quiet_start : IsRun allows lay start → IsBetweenCalls lay c start left → IsQuiet start
   quiet_start run rest = goes_from lay c start left left.next_node left.next_scx [] run rest.share rest.over (λ w. next_unwon lay start c left _ _ run.lawful rest.share w.0 w.1)
 
   -- a row of another pass, and one that is no fill
@@ -63,11 +61,11 @@ module _ (allows : Layout → History → ℕ → Type 0) (lay : Layout) (c : �
       let share = share_by_step lay h r c left _ _ run.lawful no_fill x.share in
       goes_more lay c start h left _ _ [] r run (takes_by_step lay c left.next_scx h r no_fill) x share (covers (r ⊳ h) run share)
 
-module _ {allows : Layout → History → ℕ → Type 0} {M : Type 0} (waits : M → Call → History → Step → Type 0) (same : M → M → Type 0) (c : Call) (first : M) (left : Left) (fills_not : (m : M) (h : History) (s : Step) → waits m c h s → s.kind ≢ Fill) (run : IsRun allows c.layout c.start) (rest : IsAtRest c.layout c.pass c.start left) where
+module _ {allows : Layout → History → ℕ → Type 0} {M : Type 0} (waits : M → Call → History → Step → Type 0) (same : M → M → Type 0) (c : Call) (first : M) (left : Remaining) (fills_not : (m : M) (h : History) (s : Step) → waits m c h s → s.kind ≢ Fill) (run : IsRun allows c.layout c.start) (rest : IsBetweenCalls c.layout c.pass c.start left) where
   abbrev IsSo : History → Type 0
-  IsSo h = Goes allows c.layout c.pass c.start h left left.next_node left.next_scx []
+  IsSo h = CarriesOn allows c.layout c.pass c.start h left left.next_node left.next_scx []
 
-  pub quiet_goes : (m : M) (h : History) → Course allows waits same c first m h → IsSo h
+  pub quiet_goes : (m : M) (h : History) → Trace allows waits same c first m h → IsSo h
   quiet_goes m h (begins e k) = subst IsSo (sym k) (quiet_start allows c.layout c.pass c.start left run rest)
   quiet_goes m h (others s r g e w other new x) =
       let run' : IsRun allows c.layout (r ⊳ g) = rw e at new in
@@ -79,7 +77,7 @@ module _ {allows : Layout → History → ℕ → Type 0} {M : Type 0} (waits : 
 
 -- An SCX with a fresh cell
 
-told_found : (d : Deed) (found : ℕ) → IsTold d found found
+told_found : (d : Access) (found : ℕ) → IsTold d found found
 told_found Load found = refl
 told_found (Store new) found = tt
 told_found (Exchange expected new) found = refl
@@ -90,36 +88,36 @@ pub record HasHand (m : PutRun) (node scx : ℕ) (snaps : List Snap) : Type 0 wh
   pub record_is : m.scx.scx.0 ≡ scx
   pub snaps_are : m.scx.update.snaps ≡ snaps
 
-module _ (same : PutRun → PutRun → Type 0) (c : Call) (first : PutRun) (left : Left) (node scx : ℕ) (snaps : List Snap) (hand : HasHand first node scx snaps) (keeps : (old now : PutRun) → same old now → HasHand old node scx snaps → HasHand now node scx snaps) (next_node : left.next_node ≡ suc node) (next_scx : left.next_scx ≡ suc scx) (run : IsRun allows_all c.layout c.start) (share : IsShare c.layout c.start c.pass left node scx) (over : AreOver c.layout c.pass scx c.start) (free : ¬ HasOwnWon c.layout c.pass c.start scx) where
+module _ (same : PutRun → PutRun → Type 0) (c : Call) (first : PutRun) (left : Remaining) (node scx : ℕ) (snaps : List Snap) (hand : HasHand first node scx snaps) (keeps : (old now : PutRun) → same old now → HasHand old node scx snaps → HasHand now node scx snaps) (next_node : left.next_node ≡ suc node) (next_scx : left.next_scx ≡ suc scx) (run : IsRun AllowsAll c.layout c.start) (share : IsShare c.layout c.start c.pass left node scx) (over : AreFinished c.layout c.pass scx c.start) (free : ¬ HasOwnWon c.layout c.pass c.start scx) where
   abbrev Is : PutRun → History → Type 0
-  Is m h = HasHand m node scx snaps × Goes allows_all c.layout c.pass c.start h left node scx snaps
+  Is m h = HasHand m node scx snaps × CarriesOn AllowsAll c.layout c.pass c.start h left node scx snaps
 
-  pub put_goes : (m : PutRun) (h : History) → Course allows_all (put_waits allows_all) same c first m h → Is m h
-  put_goes m h (begins e k) = (rw e hand, subst (λ g. Goes allows_all c.layout c.pass c.start g left node scx snaps) (sym k) (goes_from c.layout c.pass c.start left node scx snaps run share over free))
+  pub put_goes : (m : PutRun) (h : History) → Trace AllowsAll (PutWaits AllowsAll) same c first m h → Is m h
+  put_goes m h (begins e k) = (rw e hand, subst (λ g. CarriesOn AllowsAll c.layout c.pass c.start g left node scx snaps) (sym k) (goes_from c.layout c.pass c.start left node scx snaps run share over free))
   put_goes m h (others s r g e w other new x) =
       let y = put_goes m g x in
-      let run' : IsRun allows_all c.layout (r ⊳ g) = rw e at new in
+      let run' : IsRun AllowsAll c.layout (r ⊳ g) = rw e at new in
       let share' = share_by_others c.layout g r c.pass left node scx run'.lawful c.is_pass other y.1.share in
-      let w' : put_waits allows_all m c (r ⊳ g) s = rw e at w in (
+      let w' : PutWaits AllowsAll m c (r ⊳ g) s = rw e at w in (
         y.0,
-        subst (λ k. Goes allows_all c.layout c.pass c.start k left node scx snaps) (sym e) (goes_more c.layout c.pass c.start g left node scx snaps r run' (takes_by_others c.layout c.pass scx g r run'.lawful other) y.1 share'
-            (λ n own p z. rw (sym y.0.snaps_are) (put_covers allows_all m c (r ⊳ g) s n w' (rw y.0.record_is p) (rw y.0.record_is z)))),
+        subst (λ k. CarriesOn AllowsAll c.layout c.pass c.start k left node scx snaps) (sym e) (goes_more c.layout c.pass c.start g left node scx snaps r run' (takes_by_others c.layout c.pass scx g r run'.lawful other) y.1 share'
+            (λ n own p z. rw (sym y.0.snaps_are) (put_covers AllowsAll m c (r ⊳ g) s n w' (rw y.0.record_is p) (rw y.0.record_is z)))),
       )
   put_goes m h (makes s g e w new x) =
       let y = put_goes m g x in
       let r : Row = row_of c s g in
-      let run' : IsRun allows_all c.layout (r ⊳ g) = rw e at new in
-      let made = put_made allows_all m c g s (value g s.word) run' (told_found s.deed (value g s.word)) w in
-      let takes : TakesOnly c.layout c.pass scx g r = subst (λ k. TakesOnly c.layout c.pass k g r) y.0.record_is (put_takes allows_all m c g s w) in
-      let share' = share_by_put allows_all m c g s left node scx run'.lawful w (rw y.0.fresh next_node) (rw y.0.record_is next_scx) y.1.share in (
+      let run' : IsRun AllowsAll c.layout (r ⊳ g) = rw e at new in
+      let made = put_made AllowsAll m c g s (value g s.word) run' (told_found s.access (value g s.word)) w in
+      let takes : TakesOnly c.layout c.pass scx g r = subst (λ k. TakesOnly c.layout c.pass k g r) y.0.record_is (put_takes AllowsAll m c g s w) in
+      let share' = share_by_put AllowsAll m c g s left node scx run'.lawful w (rw y.0.fresh next_node) (rw y.0.record_is next_scx) y.1.share in (
         y.0,
-        subst (λ k. Goes allows_all c.layout c.pass c.start k left node scx snaps) (sym e) (goes_more c.layout c.pass c.start g left node scx snaps r run' takes y.1 share'
-            (λ n own p z. rw (sym y.0.snaps_are) (put_covers_then allows_all m c (r ⊳ g) (value g s.word) n made (rw y.0.record_is p) (rw y.0.record_is z)))),
+        subst (λ k. CarriesOn AllowsAll c.layout c.pass c.start k left node scx snaps) (sym e) (goes_more c.layout c.pass c.start g left node scx snaps r run' takes y.1 share'
+            (λ n own p z. rw (sym y.0.snaps_are) (put_covers_then AllowsAll m c (r ⊳ g) (value g s.word) n made (rw y.0.record_is p) (rw y.0.record_is z)))),
       )
   put_goes m h (goes_on old is x) = let y = put_goes old h x in (keeps old m is y.0, y.1)
 
 -- once an SCX has answered, its pass is at rest
-pub put_rests : {allows : Layout → History → ℕ → Type 0} (c : Call) (m : PutRun) (h : History) (a : Answer) (left : Left) (node scx : ℕ) (snaps : List Snap) → HasHand m node scx snaps → left.next_node ≡ suc node → left.next_scx ≡ suc scx → scx ≢ 0 → put_answers m c h a → Goes allows c.layout c.pass c.start h left node scx snaps → IsAtRest c.layout c.pass h left
+pub put_rests : {allows : Layout → History → ℕ → Type 0} (c : Call) (m : PutRun) (h : History) (a : Answer) (left : Remaining) (node scx : ℕ) (snaps : List Snap) → HasHand m node scx snaps → left.next_node ≡ suc node → left.next_scx ≡ suc scx → scx ≢ 0 → PutAnswers m c h a → CarriesOn allows c.layout c.pass c.start h left node scx snaps → IsBetweenCalls c.layout c.pass h left
 put_rests c m h a left node scx snaps hand next_node next_scx real x y = record {
   share = share_ends c.layout h c.pass left node scx next_node next_scx (rw hand.fresh at x.0.taken) (finished_taken c.layout h scx y.sound.lawful real finished) y.share;
   over = over_begins c.layout c.pass left.next_scx h (over_ends c.layout c.pass scx h y.over finished);

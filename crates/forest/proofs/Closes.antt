@@ -9,27 +9,27 @@ use Rattle.arena.specs.declared.step.Row.{Row}
 use Rattle.arena.specs.declared.word.Word.{Word}
 use Rattle.arena.specs.Layout.{place, IsWord}
 use Rattle.arena.specs.Words.{child}
-use Rattle.arena.specs.History.{History, value, EndsWith}
+use Rattle.arena.specs.History.{History, value, Extends}
 use Rattle.arena.specs.Log.{log}
 use Rattle.arena.specs.Share.{HasScx}
 use Rattle.arena.specs.Lawful.{Lawful}
 use Rattle.arena.specs.Machines.{IsRun}
-use Rattle.arena.proofs.Values.{ends_trans}
+use Rattle.arena.proofs.Lemmas.{ends_trans}
 use Rattle.histories.proofs.Lemmas.{fields_are, lawful_since}
 use Rattle.arena.specs.declared.limits.Mode.{Mode}
-use Rattle.forest.specs.declared.view.Knower.{Knower}
-use Rattle.forest.specs.declared.view.View.{View}
+use Rattle.forest.specs.declared.view.SeatedPass.{SeatedPass}
+use Rattle.forest.specs.declared.view.SeatView.{SeatView}
 use Rattle.forest.specs.declared.pass.Pass.TheInside.{Inside}
-use Rattle.forest.specs.Kept.{past, knower, look, looked, Made, Kept, Owns, Behind, HasLooked}
-use Rattle.forest.specs.Courses.{known_of, rows_of}
+use Rattle.forest.specs.TableRule.{history_of, seated_pass, look, after_look, Made, TableIsLawful, Owns, Behind, HasLookedBehind}
+use Rattle.forest.specs.Traces.{known_of, rows_of}
 use Rattle.prims.specs.Shares.{IsShare}
 use Rattle.forest.specs.Shares.{entries_of}
-use Rattle.forest.specs.Passes.{Sight, Ground, ground, AreOf, AreOfCall, Each, AreBegun, HasBlamed, HaveLeftShares, IsClosed, run_of, done_of, steps_of}
-use Rattle.forest.specs.Gathered.{IsFrom, IsOneOf, AreIn}
-use Rattle.forest.specs.Held.{sight, IsPass}
+use Rattle.forest.specs.Passes.{PassView, Ground, ground, AreOf, AreOfCall, Each, AreBegun, HasBlamed, HaveLeftShares, IsClosed, run_of, done_of, steps_of}
+use Rattle.forest.specs.JoinedSeats.{IsFrom, IsOneOf, AreIn}
+use Rattle.forest.specs.PassInvariant.{pass_view, IsPass}
 use Rattle.forest.proofs.Called.{calls_others}
 use Rattle.forest.proofs.Advances.{keeps_all, rows_by_others, same_knower}
-use Rattle.prims.proofs.Shares.{next_unwon}
+use Rattle.prims.proofs.Lemmas.{next_unwon}
 use Rattle.forest.proofs.Calls.{IsQuiet, quiet_start, quiet_other}
 use Rattle.forest.proofs.Blames.{each_by, blames_left}
 use Rattle.forest.proofs.Passes.{HasCalled, seated, called_pass, called_nothing}
@@ -44,9 +44,9 @@ index_is (x ∷ xs) (suc i) a e = index_is xs i a e
 -- One pass
 
 -- a pass that has looked at the table once more
-pub looked_from : {allows : Layout → History → ℕ → Type 0} {mode : Mode} {T : Type 0} (p : Inside T) (x : IsPass allows mode p) (s : Seat ℕ View) (n : ℕ) → s.me.1 ≡ p.seat.me.1 → Made allows look p.seat.me.0.passes n s.me.0.passes → (k : Knower) × (s.me.0.passes ≡ k ∷ []) × IsFrom allows (sight p) k
+pub looked_from : {allows : Layout → History → ℕ → Type 0} {mode : Mode} {T : Type 0} (p : Inside T) (x : IsPass allows mode p) (s : Seat ℕ SeatView) (n : ℕ) → s.me.1 ≡ p.seat.me.1 → Made allows look p.seat.me.0.passes n s.me.0.passes → (k : SeatedPass) × (s.me.0.passes ≡ k ∷ []) × IsFrom allows (pass_view p) k
 looked_from {allows} {mode} p x s n bare m = (
-  knower p.number.0 p.layout (known_of s.me.0.passes),
+  seated_pass p.number.0 p.layout (known_of s.me.0.passes),
   y.seat,
   record {
     is = refl;
@@ -61,19 +61,19 @@ looked_from {allows} {mode} p x s n bare m = (
   },
 )
   where
-    me : Knower
-    me = knower p.number.0 p.layout (known_of p.seat.me.0.passes)
+    me : SeatedPass
+    me = seated_pass p.number.0 p.layout (known_of p.seat.me.0.passes)
 
     same : m.pass ≡ me
     same = same_knower p.seat.me.0.passes m.pass me m.was x.seat
 
-    has_looked : HasLooked allows me (m.others ++ known_of p.seat.me.0.passes)
-    has_looked = subst (λ (k : Knower). HasLooked allows k (m.others ++ k.known)) same record { behind = (m.others, refl, m.by_others); before = m.before; after = m.after }
+    has_looked : HasLookedBehind allows me (m.others ++ known_of p.seat.me.0.passes)
+    has_looked = subst (λ (k : SeatedPass). HasLookedBehind allows k (m.others ++ k.known)) same record { behind = (m.others, refl, m.by_others); before = m.before; after = m.after }
 
-    are : s.me.0.passes ≡ looked me (m.others ++ known_of p.seat.me.0.passes) ∷ []
-    are = subst (λ (k : Knower). s.me.0.passes ≡ looked k (m.others ++ k.known) ∷ []) same m.is
+    are : s.me.0.passes ≡ after_look me (m.others ++ known_of p.seat.me.0.passes) ∷ []
+    are = subst (λ (k : SeatedPass). s.me.0.passes ≡ after_look k (m.others ++ k.known) ∷ []) same m.is
 
-    y : HasCalled allows p s 0 (λ h. EndsWith h (past p.layout.mode (m.others ++ known_of p.seat.me.0.passes)))
+    y : HasCalled allows p s 0 (λ h. Extends h (history_of p.layout.mode (m.others ++ known_of p.seat.me.0.passes)))
     y = look_called p x s (m.others ++ known_of p.seat.me.0.passes) has_looked are
 
     z : IsPass allows mode (seated p s)
@@ -81,50 +81,50 @@ looked_from {allows} {mode} p x s n bare m = (
 
 -- All of them
 
-one_left : (k : Knower) (ps qs : List Knower) → IsOneOf k ps → IsOneOf k (ps ++ qs)
+one_left : (k : SeatedPass) (ps qs : List SeatedPass) → IsOneOf k ps → IsOneOf k (ps ++ qs)
 one_left k (p ∷ ps) qs (inl e) = inl e
 one_left k (p ∷ ps) qs (inr i) = inr (one_left k ps qs i)
 one_left k [] qs i = absurd i
 
-one_right : (k : Knower) (ps qs : List Knower) → IsOneOf k qs → IsOneOf k (ps ++ qs)
+one_right : (k : SeatedPass) (ps qs : List SeatedPass) → IsOneOf k qs → IsOneOf k (ps ++ qs)
 one_right k [] qs i = i
 one_right k (p ∷ ps) qs i = inr (one_right k ps qs i)
 
-in_left : (allows : Layout → History → ℕ → Type 0) (ds : List Sight) (ps qs : List Knower) → AreIn allows ds ps → AreIn allows ds (ps ++ qs)
+in_left : (allows : Layout → History → ℕ → Type 0) (ds : List PassView) (ps qs : List SeatedPass) → AreIn allows ds ps → AreIn allows ds (ps ++ qs)
 in_left allows [] ps qs a = tt
 in_left allows (d ∷ ds) ps qs a = ((a.0.0, one_left a.0.0 ps qs a.0.1, a.0.2), in_left allows ds ps qs a.1)
 
 -- one more, at the seats that are joined
-pub in_more : {allows : Layout → History → ℕ → Type 0} (d : Sight) (ds : List Sight) (all own joined : List Knower) (k : Knower) → own ≡ k ∷ [] → joined ≡ all ++ own → IsFrom allows d k → AreIn allows ds all → AreIn allows (d ∷ ds) joined
+pub in_more : {allows : Layout → History → ℕ → Type 0} (d : PassView) (ds : List PassView) (all own joined : List SeatedPass) (k : SeatedPass) → own ≡ k ∷ [] → joined ≡ all ++ own → IsFrom allows d k → AreIn allows ds all → AreIn allows (d ∷ ds) joined
 in_more {allows} d ds all own joined k e j f a = rw (j, e) ((k, one_right k all (k ∷ []) (inl refl), f), in_left allows ds all (k ∷ []) a)
 
-pub of_append : (f : Ground) (xs ys : List Sight) → AreOf f (xs ++ ys) → AreOf f xs × AreOf f ys
+pub of_append : (f : Ground) (xs ys : List PassView) → AreOf f (xs ++ ys) → AreOf f xs × AreOf f ys
 of_append f [] ys a = (tt, a)
 of_append f (x ∷ xs) ys a = let z = of_append f xs ys a.1 in ((a.0, z.0), z.1)
 
 -- The end
 
-owned_behind : (lay : Layout) (run : List Row) (owner : ℕ → ℕ) (id : ℕ) (k : Knower) (ps : List Knower) → Owns lay run owner id ps → IsOneOf k ps → (k.layout ≡ lay) × Behind run k
+owned_behind : (lay : Layout) (run : List Row) (owner : ℕ → ℕ) (id : ℕ) (k : SeatedPass) (ps : List SeatedPass) → Owns lay run owner id ps → IsOneOf k ps → (k.layout ≡ lay) × Behind run k
 owned_behind lay run owner id k [] o i = absurd i
-owned_behind lay run owner id k (p ∷ ps) o (inl e) = subst (λ (q : Knower). (q.layout ≡ lay) × Behind run q) (sym e) (o.1, o.2)
+owned_behind lay run owner id k (p ∷ ps) o (inl e) = subst (λ (q : SeatedPass). (q.layout ≡ lay) × Behind run q) (sym e) (o.1, o.2)
 owned_behind lay run owner id k (p ∷ ps) o (inr i) = owned_behind lay run owner id k ps o.4 i
 
 -- what is so of a pass at the end, whose run goes on from what the pass knew
-record IsAtEnd (lay : Layout) (rows : List Row) (d : Sight) : Type 0 where
-  ends : EndsWith (past d.layout.mode rows) (run_of d)
-  done : entries_of d.number (log d.layout (past d.layout.mode rows)) ≡ done_of d
+record IsAtEnd (lay : Layout) (rows : List Row) (d : PassView) : Type 0 where
+  ends : Extends (history_of d.layout.mode rows) (run_of d)
+  done : entries_of d.number (log d.layout (history_of d.layout.mode rows)) ≡ done_of d
   steps : rows_of d.number rows ≡ suc (steps_of d)
-  calls : AreOfCall d.number 0 (run_of d) (past d.layout.mode rows)
+  calls : AreOfCall d.number 0 (run_of d) (history_of d.layout.mode rows)
   same : d.layout ≡ lay
-  share : IsShare lay (past lay.mode rows) d.number d.share d.share.next_node d.share.next_scx
+  share : IsShare lay (history_of lay.mode rows) d.number d.share d.share.next_node d.share.next_scx
   blamed : HasBlamed d
 
 -- behind what it knows are rows of others alone
-one_ended : {allows : Layout → History → ℕ → Type 0} (d : Sight) (k : Knower) (lay : Layout) (run : List Row) → d.layout ≡ lay → IsFrom allows d k → IsRun allows lay (past lay.mode run) → Behind run k → IsAtEnd lay run d
+one_ended : {allows : Layout → History → ℕ → Type 0} (d : PassView) (k : SeatedPass) (lay : Layout) (run : List Row) → d.layout ≡ lay → IsFrom allows d k → IsRun allows lay (history_of lay.mode run) → Behind run k → IsAtEnd lay run d
 one_ended {allows} d k lay run same f sound b =
-    let h0 : History = past d.layout.mode k.known in
-    let sound' : IsRun allows d.layout (past d.layout.mode (b.0 ++ k.known)) = subst (λ l. IsRun allows d.layout (past d.layout.mode l)) b.1 (subst (λ (l : Layout). IsRun allows l (past l.mode run)) (sym same) sound) in
-    let mine = subst (λ (q : Knower). q.number.0 ≡ d.number) (sym f.is) refl in
+    let h0 : History = history_of d.layout.mode k.known in
+    let sound' : IsRun allows d.layout (history_of d.layout.mode (b.0 ++ k.known)) = subst (λ l. IsRun allows d.layout (history_of d.layout.mode l)) b.1 (subst (λ (l : Layout). IsRun allows l (history_of l.mode run)) (sym same) sound) in
+    let mine = subst (λ (q : SeatedPass). q.number.0 ≡ d.number) (sym f.is) refl in
     let goes = keeps_all allows d.layout d.number (IsQuiet allows d.layout d.number h0 d.share) (λ h r run other z. quiet_other allows d.layout d.number h0 d.share f.is_pass h r run other z) b.0 k.known (rw mine at b.2) sound' (quiet_start allows d.layout d.number h0 d.share f.sound f.rest) in
     let none = goes.unwon (λ w. next_unwon d.layout _ d.number d.share _ _ goes.sound.lawful goes.share w.0 w.1) in
     subst (λ (l : Layout). IsAtEnd l run d) same (subst (λ l. IsAtEnd d.layout l d) (sym b.1) record {
@@ -137,36 +137,36 @@ one_ended {allows} d k lay run same f sound b =
       blamed = f.blamed;
     })
 
-all_ended : {allows : Layout → History → ℕ → Type 0} (id : _) (lay : Layout) (run : List Row) (owner : ℕ → ℕ) (seat : ℕ) (ks : List Knower) → IsRun allows lay (past lay.mode run) → Owns lay run owner seat ks → (ds : List Sight) → AreOf (ground id lay) ds → AreIn allows ds ks → Each (IsAtEnd lay run) ds
+all_ended : {allows : Layout → History → ℕ → Type 0} (id : _) (lay : Layout) (run : List Row) (owner : ℕ → ℕ) (seat : ℕ) (ks : List SeatedPass) → IsRun allows lay (history_of lay.mode run) → Owns lay run owner seat ks → (ds : List PassView) → AreOf (ground id lay) ds → AreIn allows ds ks → Each (IsAtEnd lay run) ds
 all_ended id lay run owner seat ks sound o [] of a = tt
 all_ended id lay run owner seat ks sound o (d ∷ ds) of a =
     let k = a.0.0 in
     let b = owned_behind lay run owner seat k ks o a.0.1 in
     (one_ended d k lay run of.0.1 a.0.2 sound b.1, all_ended id lay run owner seat ks sound o ds of.1 a.1)
 
-all_begun : (lay : Layout) (run : List Row) (ds : List Sight) → Each (IsAtEnd lay run) ds → AreBegun ds run
+all_begun : (lay : Layout) (run : List Row) (ds : List PassView) → Each (IsAtEnd lay run) ds → AreBegun ds run
 all_begun lay run [] a = tt
 all_begun lay run (d ∷ ds) a = (a.0.ends, a.0.done, a.0.steps, a.0.calls, all_begun lay run ds a.1)
 
 -- what they have blamed is taken, and their shares are not
-all_left : (lay : Layout) (rows : List Row) (ds : List Sight) → Lawful lay (past lay.mode rows) → Each (IsAtEnd lay rows) ds → HaveLeftShares ds
-all_left lay rows ds l all = let run : History = past lay.mode rows in each_by (IsAtEnd lay rows) (λ p. Each (λ q. Each (λ s. ¬ HasScx q.share s) p.blamed) ds) ds
+all_left : (lay : Layout) (rows : List Row) (ds : List PassView) → Lawful lay (history_of lay.mode rows) → Each (IsAtEnd lay rows) ds → HaveLeftShares ds
+all_left lay rows ds l all = let run : History = history_of lay.mode rows in each_by (IsAtEnd lay rows) (λ p. Each (λ q. Each (λ s. ¬ HasScx q.share s) p.blamed) ds) ds
     (λ p a. each_by (IsAtEnd lay rows) (λ q. Each (λ s. ¬ HasScx q.share s) p.blamed) ds
     (λ q b. blames_left lay run p q q.number _ _ (lawful_since lay run (run_of p) l (ends_at p a)) (ends_at p a) b.share a.blamed) all) all
   where
-    ends_at : (p : Sight) → IsAtEnd lay rows p → EndsWith (past lay.mode rows) (run_of p)
-    ends_at p a = subst (λ (l : Layout). EndsWith (past l.mode rows) (run_of p)) a.same a.ends
+    ends_at : (p : PassView) → IsAtEnd lay rows p → Extends (history_of lay.mode rows) (run_of p)
+    ends_at p a = subst (λ (l : Layout). Extends (history_of l.mode rows) (run_of p)) a.same a.ends
 
-pub closes : {allows : Layout → History → ℕ → Type 0} (id : _) (lay : Layout) (ds : List Sight) (seat : ℕ) (v : View) (words : List ℕ) (slots : List ℕ) → AreOf (ground id lay) ds → AreIn allows ds v.passes → Final (Seen (Kept allows lay) seat v) words slots → IsClosed allows lay ds (record { layout = lay; words = words })
+pub closes : {allows : Layout → History → ℕ → Type 0} (id : _) (lay : Layout) (ds : List PassView) (seat : ℕ) (v : SeatView) (words : List ℕ) (slots : List ℕ) → AreOf (ground id lay) ds → AreIn allows ds v.passes → Final (Seen (TableIsLawful allows lay) seat v) words slots → IsClosed allows lay ds (record { layout = lay; words = words })
 closes {allows} id lay ds seat v words slots of a f =
-    let kept : Kept allows lay f.0 = f.1.0 in
-    let holds : (w : Word) → IsWord lay w → slice_index words (place lay w) ≡ value (past lay.mode kept.run) w = λ w i. rw (← f.2) (kept.holds w i) in
+    let kept : TableIsLawful allows lay f.0 = f.1.0 in
+    let holds : (w : Word) → IsWord lay w → slice_index words (place lay w) ≡ value (history_of lay.mode kept.run) w = λ w i. rw (← f.2) (kept.holds w i) in
     let all : Each (IsAtEnd lay kept.run) ds = all_ended id lay kept.run kept.owner seat v.passes kept.sound (kept.passes seat v f.1.1) ds of a in
     record {
       rows = kept.run;
       sound = kept.sound;
       holds = holds;
-      fields = λ n side i. holds (child n side) i ∙ fields_are lay (past lay.mode kept.run) n side kept.sound.lawful;
+      fields = λ n side i. holds (child n side) i ∙ fields_are lay (history_of lay.mode kept.run) n side kept.sound.lawful;
       begun = all_begun lay kept.run ds all;
       blamed = all_left lay kept.run ds kept.sound.lawful all;
     }

@@ -3,24 +3,22 @@ use Rattle.std.proofs.Common.{◌≡◌, ◌≢◌, ℕ, inr, ⊎_elim, eq-eqb, 
 use native.Mathlib.Decide.{ℕ_discrete}
 use Rattle.arena.specs.declared.layout.Layout.{Layout}
 use Rattle.arena.specs.declared.step.Row.{Row}
-use Rattle.arena.specs.Share.{Left}
-use Rattle.arena.specs.History.{History, ◌⊳◌, EndsWith}
+use Rattle.arena.specs.Share.{Remaining}
+use Rattle.arena.specs.History.{History, ◌⊳◌, Extends}
 use Rattle.arena.specs.Blame.{IsMember, IsInProgress}
 use Rattle.arena.specs.Fills.{IsOwnScx}
 use Rattle.arena.specs.Lawful.{HasWon}
 use Rattle.arena.specs.Log.{Entry, log, owner}
 use Rattle.arena.specs.Machines.{IsRun}
-use Rattle.arena.proofs.Values.{ends_self}
-use Rattle.arena.proofs.Plans.{owner_is}
+use Rattle.arena.proofs.Lemmas.{ends_self, owner_is}
 use Rattle.histories.specs.Descriptor.{descriptor}
 use Rattle.histories.proofs.Lemmas.{Facts, IsOwned, Logs, UpdateWins, entry_of, facts_before, logs, one_scx_owner, same as log_same, update_about, update_is_first, update_split, update_won, wins as log_wins, won_more}
-use Rattle.prims.specs.Moments.{AreOver, IsLeftAlone}
-use Rattle.prims.specs.Begun.{TakesOnly}
+use Rattle.prims.specs.Moments.{AreFinished, IsLeftAlone}
+use Rattle.prims.specs.Laws.Begun.{TakesOnly}
 use Rattle.prims.specs.Snaps.{IsAmong}
 use Rattle.prims.specs.declared.snap.Snap.{Snap}
-use Rattle.prims.proofs.Alone.{alone_more, over_more}
+use Rattle.prims.proofs.Lemmas.{alone_more, over_more, own_in_hand, wins_in_progress}
 use Rattle.prims.specs.Shares.{IsShare}
-use Rattle.prims.proofs.Shares.{own_in_hand, wins_in_progress}
 use Rattle.forest.specs.Shares.{entries_of}
 
 -- Entries
@@ -39,20 +37,20 @@ HasOwnWon lay c h s = IsOwnScx lay c s × HasWon h s
 -- The whole
 
 -- a call of pass c has come so far: with this share, this node and SCX-record, and these snapshots in hand; all other snapshots that were left alone are; and the log has one entry more of the pass if the update has won, and none else
-pub record Goes (allows : Layout → History → ℕ → Type 0) (lay : Layout) (c : ℕ) (start h : History) (left : Left) (node scx : ℕ) (snaps : List Snap) : Type 0 where
+pub record CarriesOn (allows : Layout → History → ℕ → Type 0) (lay : Layout) (c : ℕ) (start h : History) (left : Remaining) (node scx : ℕ) (snaps : List Snap) : Type 0 where
   pub sound : IsRun allows lay h
-  pub since : EndsWith h start
+  pub since : Extends h start
   pub share : IsShare lay h c left node scx
-  pub over : AreOver lay c scx h
+  pub over : AreFinished lay c scx h
   pub alone : (snap : Snap) → ¬ IsAmong snaps snap.node.0 → IsLeftAlone lay c start snap → IsLeftAlone lay c h snap
   pub unwon : ¬ HasOwnWon lay c h scx → entries_of c (log lay h) ≡ entries_of c (log lay start)
   pub won : HasOwnWon lay c h scx → (e : Entry) × (e.scx ≡ scx) × (entries_of c (log lay h) ≡ e ∷ entries_of c (log lay start))
 
-pub goes_from : {allows : Layout → History → ℕ → Type 0} (lay : Layout) (c : ℕ) (start : History) (left : Left) (node scx : ℕ) (snaps : List Snap) → IsRun allows lay start → IsShare lay start c left node scx → AreOver lay c scx start → ¬ HasOwnWon lay c start scx → Goes allows lay c start start left node scx snaps
+pub goes_from : {allows : Layout → History → ℕ → Type 0} (lay : Layout) (c : ℕ) (start : History) (left : Remaining) (node scx : ℕ) (snaps : List Snap) → IsRun allows lay start → IsShare lay start c left node scx → AreFinished lay c scx start → ¬ HasOwnWon lay c start scx → CarriesOn allows lay c start start left node scx snaps
 goes_from lay c start left node scx snaps run share over free = record { sound = run; since = ends_self start; share = share; over = over; alone = λ snap d x. x; unwon = λ d. refl; won = λ w. absurd (free w) }
 
-module _ {allows : Layout → History → ℕ → Type 0} (lay : Layout) (c : ℕ) (start h : History) (left : Left) (node scx : ℕ) (snaps : List Snap) (r : Row) (run : IsRun allows lay (r ⊳ h)) (takes : TakesOnly lay c scx h r) (x : Goes allows lay c start h left node scx snaps) where
-  over_then : AreOver lay c scx (r ⊳ h)
+module _ {allows : Layout → History → ℕ → Type 0} (lay : Layout) (c : ℕ) (start h : History) (left : Remaining) (node scx : ℕ) (snaps : List Snap) (r : Row) (run : IsRun allows lay (r ⊳ h)) (takes : TakesOnly lay c scx h r) (x : CarriesOn allows lay c start h left node scx snaps) where
+  over_then : AreFinished lay c scx (r ⊳ h)
   over_then = over_more lay c scx h r run.lawful takes x.over
 
   -- what the row does to the pass's entries
@@ -99,7 +97,7 @@ module _ {allows : Layout → History → ℕ → Type 0} (lay : Layout) (c : �
       go (log_same e back) = enters_same (ap (entries_of c) e) (λ w. (w.0, back scx w.1))
       go (log_wins u w e) = enters_win u w e
 
-  pub goes_more : IsShare lay (r ⊳ h) c left node scx → ((n : ℕ) → IsOwnScx lay c scx → IsInProgress (r ⊳ h) scx → IsMember (r ⊳ h) scx n → IsAmong snaps n) → Goes allows lay c start (r ⊳ h) left node scx snaps
+  pub goes_more : IsShare lay (r ⊳ h) c left node scx → ((n : ℕ) → IsOwnScx lay c scx → IsInProgress (r ⊳ h) scx → IsMember (r ⊳ h) scx n → IsAmong snaps n) → CarriesOn allows lay c start (r ⊳ h) left node scx snaps
   goes_more share covers = record {
     sound = run;
     since = inr x.since;

@@ -7,27 +7,23 @@ use Rattle.arena.specs.History.{History}
 use Rattle.arena.specs.Log.{is_final}
 use Rattle.arena.specs.declared.limits.Mode.{Mode}
 use Rattle.arena.specs.declared.limits.Mode.TheVariants.{Records}
-use Rattle.prims.specs.LlxKnown.{IsSnapshot, llx_ready, llx_waits, llx_answers}
-use Rattle.prims.proofs.FillsNot.{llx_fills_not}
-use Rattle.prims.proofs.LlxAnswers.{ready_at_start, cell_opened, finalized_at_start}
-use Rattle.prims.proofs.Shares.{all_idle}
-use Rattle.prims.proofs.Alone.{alone_now}
-use Rattle.prims.proofs.Usable.{usable_now}
+use Rattle.prims.specs.Llx.Known.{IsSnapshot, LlxIsReady, LlxWaits, LlxAnswers}
+use Rattle.prims.proofs.Lemmas.{llx_fills_not, ready_at_start, cell_opened, finalized_at_start, all_idle, alone_now, usable_now}
 use Rattle.prims.specs.declared.llx.Llx.{Llx}
 use Rattle.prims.specs.declared.llx.Llx.TheVariants.{Snapshot, Finalized, Fail}
 use Rattle.prims.specs.declared.llx.LlxRun.{LlxRun}
 use Rattle.prims.specs.declared.llx.LlxAt.TheVariants.{Start}
-use Rattle.forest.specs.declared.view.View.{View}
+use Rattle.forest.specs.declared.view.SeatView.{SeatView}
 use Rattle.forest.specs.declared.pass.Pass.TheInside.{Inside}
-use Rattle.forest.specs.Courses.{Course, IsCalled, known_of, steps_of}
+use Rattle.forest.specs.Traces.{Trace, HoldsForCall, known_of, seat_steps}
 use Rattle.forest.specs.Passes.{HasGoneOn, HasTakenNothing, LlxSays, IsFinalizedAnswer, blamed_by, run_of, seen_of}
-use Rattle.forest.specs.Held.{sight, IsPass}
+use Rattle.forest.specs.PassInvariant.{pass_view, IsPass}
 use Rattle.forest.proofs.Calls.{course_keeps}
 use Rattle.forest.proofs.Blames.{blamed_more}
 use Rattle.forest.proofs.Passes.{HasCalled, called_pass, called_goes_on, called_nothing, call_of, seated, called}
 
 -- a run of a cell that has not begun may begin
-pub llx_begins : {allows : Layout → History → ℕ → Type 0} {T : Type 0} (p : Inside T) (x : IsPass allows Records p) (number : ℕ) (m : LlxRun) → m.at ≡ Start → m.node.0 ≤ 8 → IsCalled allows p.seat.me.0.passes (call_of p x number) (λ h. ((call_of p x number).start ≡ h) × llx_ready allows m (call_of p x number) h None)
+pub llx_begins : {allows : Layout → History → ℕ → Type 0} {T : Type 0} (p : Inside T) (x : IsPass allows Records p) (number : ℕ) (m : LlxRun) → m.at ≡ Start → m.node.0 ≤ 8 → HoldsForCall allows p.seat.me.0.passes (call_of p x number) (λ h. ((call_of p x number).start ≡ h) × LlxIsReady allows m (call_of p x number) h None)
 llx_begins {allows} p x number m start small = record {
   known = known_of p.seat.me.0.passes;
   is = x.seat;
@@ -37,31 +33,31 @@ llx_begins {allows} p x number m start small = record {
 
 -- what its answer says
 abbrev pub Answered : {allows : Layout → History → ℕ → Type 0} {mode : Mode} {T : Type 0} (p : Inside T) → IsPass allows mode p → ℕ → NodeNo → Llx → History → Type 0
-Answered p x number node a h = (m : LlxRun) × (m.node ≡ node) × llx_answers m (call_of p x number) h a
+Answered p x number node a h = (m : LlxRun) × (m.node ≡ node) × LlxAnswers m (call_of p x number) h a
 
-pub llx_called : {allows : Layout → History → ℕ → Type 0} {mode : Mode} {T : Type 0} (p : Inside T) (x : IsPass allows mode p) (number : ℕ) (s : Seat ℕ View) (first m : LlxRun) (node : NodeNo) (a : Llx) → first.node ≡ node → IsCalled allows s.me.0.passes (call_of p x number) (λ h. llx_answers m (call_of p x number) h a × Course allows (llx_waits allows) (λ old now. now.node ≡ old.node) (call_of p x number) first m h) → HasCalled allows p s number (Answered p x number node a)
+pub llx_called : {allows : Layout → History → ℕ → Type 0} {mode : Mode} {T : Type 0} (p : Inside T) (x : IsPass allows mode p) (number : ℕ) (s : Seat ℕ SeatView) (first m : LlxRun) (node : NodeNo) (a : Llx) → first.node ≡ node → HoldsForCall allows s.me.0.passes (call_of p x number) (λ h. LlxAnswers m (call_of p x number) h a × Trace allows (LlxWaits allows) (λ old now. now.node ≡ old.node) (call_of p x number) first m h) → HasCalled allows p s number (Answered p x number node a)
 llx_called {allows} p x number s first m node a is y =
-    let z = called p x s number (llx_waits allows) (λ old now. now.node ≡ old.node) first m (λ h. llx_answers m (call_of p x number) h a) (λ k h t w. llx_fills_not allows k (call_of p x number) h t w) y in
+    let z = called p x s number (LlxWaits allows) (λ old now. now.node ≡ old.node) first m (λ h. LlxAnswers m (call_of p x number) h a) (λ k h t w. llx_fills_not allows k (call_of p x number) h t w) y in
     record { seat = z.seat; answers = (m, course_keeps (λ (k : LlxRun). k.node ≡ node) is (λ old now e q. e ∙ q) m _ y.so.1, z.answers); goes = z.goes; calls = z.calls }
 
-module _ {allows : Layout → History → ℕ → Type 0} {mode : Mode} {T : Type 0} (p : Inside T) (x : IsPass allows mode p) (number : ℕ) (s : Seat ℕ View) (node : NodeNo) where
+module _ {allows : Layout → History → ℕ → Type 0} {mode : Mode} {T : Type 0} (p : Inside T) (x : IsPass allows mode p) (number : ℕ) (s : Seat ℕ SeatView) (node : NodeNo) where
   -- the pass with its seat and its blame list as they are now
   abbrev pub heard : List ℕ → Inside T
   heard blamed = record p { seat = s; blamed = blamed }
 
-  pub llx_says : (blamed : List ℕ) (a : Llx) → HasCalled allows p s number (Answered p x number node a) → LlxSays (sight p) (sight (heard blamed)) node.0 a
+  pub llx_says : (blamed : List ℕ) (a : Llx) → HasCalled allows p s number (Answered p x number node a) → LlxSays (pass_view p) (pass_view (heard blamed)) node.0 a
   llx_says blamed (Snapshot snap) y =
-      let z : IsSnapshot p.layout (run_of (sight (seated p s))) node.0 snap = subst (λ (k : NodeNo). IsSnapshot p.layout (run_of (sight (seated p s))) k.0 snap) y.answers.1 y.answers.2.0 in
-      (z, (run_of (sight (seated p s)), usable_now p.layout _ node.0 snap z), alone_now p.layout p.number.0 _ node.0 snap (all_idle p.layout _ p.number.0 p.share _ _ y.goes.sound.lawful y.goes.share y.goes.over) z)
+      let z : IsSnapshot p.layout (run_of (pass_view (seated p s))) node.0 snap = subst (λ (k : NodeNo). IsSnapshot p.layout (run_of (pass_view (seated p s))) k.0 snap) y.answers.1 y.answers.2.0 in
+      (z, (run_of (pass_view (seated p s)), usable_now p.layout _ node.0 snap z), alone_now p.layout p.number.0 _ node.0 snap (all_idle p.layout _ p.number.0 p.share _ _ y.goes.sound.lawful y.goes.share y.goes.over) z)
   llx_says blamed (Finalized n u) y = rw y.answers.1 at y.answers.2
   llx_says blamed (Fail n u) y =
       let z = rw y.answers.1 at y.answers.2 in
       (z.0, record { found = z.1.found; others = z.1.others; in_the_way = z.1.in_the_way; over = z.1.over; not_final = z.1.not_final })
 
-  pub llx_finalized : (a : Llx) → HasCalled allows p s number (Answered p x number node a) → is_final (seen_of (sight p)) node.0 ≡ true → IsFinalizedAnswer a
+  pub llx_finalized : (a : Llx) → HasCalled allows p s number (Answered p x number node a) → is_final (seen_of (pass_view p)) node.0 ≡ true → IsFinalizedAnswer a
   llx_finalized a y final =
       let m = y.answers.0 in
-      let z = finalized_at_start m (call_of p x number) _ a y.goes.sound.lawful y.goes.since (subst (λ (k : NodeNo). is_final (seen_of (sight p)) k.0 ≡ true) (sym y.answers.1) final) y.answers.2 in
+      let z = finalized_at_start m (call_of p x number) _ a y.goes.sound.lawful y.goes.since (subst (λ (k : NodeNo). is_final (seen_of (pass_view p)) k.0 ≡ true) (sym y.answers.1) final) y.answers.2 in
       subst IsFinalizedAnswer (sym z.1) tt
 
   -- it is a pass again
@@ -80,14 +76,14 @@ module _ {allows : Layout → History → ℕ → Type 0} {mode : Mode} {T : Typ
             is_pass = w.is_pass;
             sound = w.sound;
             rest = w.rest;
-            blamed = blamed_more (sight p) (sight (heard (u.0 ∷ p.blamed))) node.0 u.0 refl refl refl w.sound.lawful z.goes.since (llx_says (u.0 ∷ p.blamed) (Fail n u) z).1 x.blamed;
+            blamed = blamed_more (pass_view p) (pass_view (heard (u.0 ∷ p.blamed))) node.0 u.0 refl refl refl w.sound.lawful z.goes.since (llx_says (u.0 ∷ p.blamed) (Fail n u) z).1 x.blamed;
           }
 
   -- it has gone on, and taken nothing
-  pub llx_goes_on : (a : Llx) (blamed : List ℕ) (left most : ℕ) → blamed ≡ blamed_by a p.blamed → s.table_id ≡ p.seat.table_id → s.me.1 ≡ p.seat.me.1 → HasCalled allows p s number (Answered p x number node a) → steps_of s.me.0.passes ≤ steps_of p.seat.me.0.passes + left → left ≤ most → HasGoneOn allows (sight p) (sight (heard blamed)) number most (blamed_by a p.blamed)
+  pub llx_goes_on : (a : Llx) (blamed : List ℕ) (left most : ℕ) → blamed ≡ blamed_by a p.blamed → s.table_id ≡ p.seat.table_id → s.me.1 ≡ p.seat.me.1 → HasCalled allows p s number (Answered p x number node a) → seat_steps s.me.0.passes ≤ seat_steps p.seat.me.0.passes + left → left ≤ most → HasGoneOn allows (pass_view p) (pass_view (heard blamed)) number most (blamed_by a p.blamed)
   llx_goes_on a blamed left most e table bare y few small =
       let z = called_goes_on p x s number _ left most table bare y few small in
       record { later = record { table = table; layout = refl; number = refl; run = z.later.run }; lawful = z.lawful; calls = z.calls; steps = z.steps; blamed_these = e; blames = (llx_pass a blamed e bare y).blamed; usable = z.usable }
 
-  pub llx_nothing : (a : Llx) (blamed : List ℕ) → HasCalled allows p s number (Answered p x number node a) → HasTakenNothing (sight p) (sight (heard blamed))
+  pub llx_nothing : (a : Llx) (blamed : List ℕ) → HasCalled allows p s number (Answered p x number node a) → HasTakenNothing (pass_view p) (pass_view (heard blamed))
   llx_nothing a blamed y = let z = called_nothing p s number _ y in record { share = refl; done = z.done; alone = z.alone }

@@ -4,17 +4,17 @@ use Rattle.atomic_table.specs.declared.shared.Seat.{Seat}
 use Rattle.arena.specs.declared.layout.Layout.{Layout}
 use Rattle.arena.specs.declared.limits.Mode.{Mode}
 use Rattle.arena.specs.declared.step.Row.{Row}
-use Rattle.arena.specs.History.{History, EndsWith}
+use Rattle.arena.specs.History.{History, Extends}
 use Rattle.arena.specs.Lawful.{Lawful}
 use Rattle.arena.specs.Machines.{IsRun}
-use Rattle.arena.proofs.Values.{ends_self, ends_trans}
-use Rattle.forest.specs.declared.view.Knower.{Knower}
-use Rattle.forest.specs.declared.view.View.{View}
+use Rattle.arena.proofs.Lemmas.{ends_self, ends_trans}
+use Rattle.forest.specs.declared.view.SeatedPass.{SeatedPass}
+use Rattle.forest.specs.declared.view.SeatView.{SeatView}
 use Rattle.forest.specs.declared.pass.Pass.TheInside.{Inside}
-use Rattle.forest.specs.Kept.{past, knower, row, look, Looked, HasLooked, Met, looked, Behind}
-use Rattle.forest.specs.Courses.{known_of, rows_of}
-use Rattle.forest.specs.Passes.{AreOfCall, HasLookedOnce, HaveLeftShares, IsLater, run_of, steps_of}
-use Rattle.forest.specs.Held.{sight, IsPass}
+use Rattle.forest.specs.TableRule.{history_of, seated_pass, row, look, Looked, HasLookedBehind, Met, after_look, Behind}
+use Rattle.forest.specs.Traces.{known_of, rows_of}
+use Rattle.forest.specs.Passes.{AreOfCall, HasLookedOnce, HaveLeftShares, IsLaterView, run_of, steps_of}
+use Rattle.forest.specs.PassInvariant.{pass_view, IsPass}
 use Rattle.forest.proofs.Advances.{keeps_all, rows_by_others, same_knower}
 use Rattle.forest.proofs.Calls.{IsQuiet, quiet_start, quiet_other, quiet_step}
 use Rattle.forest.proofs.Blames.{blames_left}
@@ -23,54 +23,54 @@ use Rattle.forest.proofs.Passes.{HasCalled, seated, called_pass, called_nothing,
 
 -- Two looks
 
-first_is : (a b : Knower) (more others : List Knower) → a ∷ more ≡ b ∷ others → a ≡ b
+first_is : (a b : SeatedPass) (more others : List SeatedPass) → a ∷ more ≡ b ∷ others → a ≡ b
 first_is a b more others e = cc
 
-second_is : (a b p q : Knower) → p ∷ a ∷ [] ≡ q ∷ b ∷ [] → a ≡ b
+second_is : (a b p q : SeatedPass) → p ∷ a ∷ [] ≡ q ∷ b ∷ [] → a ≡ b
 second_is a b p q e = cc
 
-module _ (allows : Layout → History → ℕ → Type 0) (p q : Knower) where
+module _ (allows : Layout → History → ℕ → Type 0) (p q : SeatedPass) where
   -- the first of two, which is q, looks
-  pub looks_first : (ps qs : List Knower) → ps ≡ q ∷ p ∷ [] → Looked allows ps qs → (early : List Row) × Behind early p × HasLooked allows q early × (q.number.0 ≢ p.number.0) × (p.layout ≡ q.layout) × (qs ≡ p ∷ looked q early ∷ [])
+  pub looks_first : (ps qs : List SeatedPass) → ps ≡ q ∷ p ∷ [] → Looked allows ps qs → (early : List Row) × Behind early p × HasLookedBehind allows q early × (q.number.0 ≢ p.number.0) × (p.layout ≡ q.layout) × (qs ≡ p ∷ after_look q early ∷ [])
   looks_first ps qs e x = from (first_is x.first q _ _ (sym x.were ∙ e)) (second_is x.second p x.first q (sym x.were ∙ e))
     where
-      from : x.first ≡ q → x.second ≡ p → (early : List Row) × Behind early p × HasLooked allows q early × (q.number.0 ≢ p.number.0) × (p.layout ≡ q.layout) × (qs ≡ p ∷ looked q early ∷ [])
-      from a b = subst (λ (z : Knower). (early : List Row) × Behind early p × HasLooked allows z early × (z.number.0 ≢ p.number.0) × (p.layout ≡ z.layout) × (qs ≡ p ∷ looked z early ∷ [])) a
-          (subst (λ (z : Knower). (early : List Row) × Behind early z × HasLooked allows x.first early × (x.first.number.0 ≢ z.number.0) × (z.layout ≡ x.first.layout) × (qs ≡ z ∷ looked x.first early ∷ [])) b
+      from : x.first ≡ q → x.second ≡ p → (early : List Row) × Behind early p × HasLookedBehind allows q early × (q.number.0 ≢ p.number.0) × (p.layout ≡ q.layout) × (qs ≡ p ∷ after_look q early ∷ [])
+      from a b = subst (λ (z : SeatedPass). (early : List Row) × Behind early p × HasLookedBehind allows z early × (z.number.0 ≢ p.number.0) × (p.layout ≡ z.layout) × (qs ≡ p ∷ after_look z early ∷ [])) a
+          (subst (λ (z : SeatedPass). (early : List Row) × Behind early z × HasLookedBehind allows x.first early × (x.first.number.0 ≢ z.number.0) × (z.layout ≡ x.first.layout) × (qs ≡ z ∷ after_look x.first early ∷ [])) b
           (x.run, x.behind_second, record { behind = x.behind_first; before = x.before; after = x.after }, x.apart, x.same, x.are))
 
 -- What a look leaves
 
-ends_more : (mode : Mode) (rows known : List Row) → EndsWith (past mode (rows ++ known)) (past mode known)
-ends_more mode [] known = ends_self (past mode known)
+ends_more : (mode : Mode) (rows known : List Row) → Extends (history_of mode (rows ++ known)) (history_of mode known)
+ends_more mode [] known = ends_self (history_of mode known)
 ends_more mode (r ∷ rs) known = inr (ends_more mode rs known)
 
-pub behind_ends : (run : List Row) (p : Knower) → Behind run p → EndsWith (past p.layout.mode run) (past p.layout.mode p.known)
-behind_ends run p b = subst (λ rows. EndsWith (past p.layout.mode rows) (past p.layout.mode p.known)) (sym b.1) (ends_more p.layout.mode b.0 p.known)
+pub behind_ends : (run : List Row) (p : SeatedPass) → Behind run p → Extends (history_of p.layout.mode run) (history_of p.layout.mode p.known)
+behind_ends run p b = subst (λ rows. Extends (history_of p.layout.mode rows) (history_of p.layout.mode p.known)) (sym b.1) (ends_more p.layout.mode b.0 p.known)
 
 -- a pass that has looked knows what it knew, and its look
-pub look_called : {allows : Layout → History → ℕ → Type 0} {mode : Mode} {T : Type 0} (p : Inside T) (x : IsPass allows mode p) (s : Seat ℕ View) (run : List Row) → HasLooked allows (knower p.number.0 p.layout (known_of p.seat.me.0.passes)) run → s.me.0.passes ≡ looked (knower p.number.0 p.layout (known_of p.seat.me.0.passes)) run ∷ [] → HasCalled allows p s 0 (λ h. EndsWith h (past p.layout.mode run))
+pub look_called : {allows : Layout → History → ℕ → Type 0} {mode : Mode} {T : Type 0} (p : Inside T) (x : IsPass allows mode p) (s : Seat ℕ SeatView) (run : List Row) → HasLookedBehind allows (seated_pass p.number.0 p.layout (known_of p.seat.me.0.passes)) run → s.me.0.passes ≡ after_look (seated_pass p.number.0 p.layout (known_of p.seat.me.0.passes)) run ∷ [] → HasCalled allows p s 0 (λ h. Extends h (history_of p.layout.mode run))
 look_called {allows} p x s run y e =
     let mode = p.layout.mode in
-    let start = past mode (known_of p.seat.me.0.passes) in
-    let r : Row = row p.number.0 look (past mode run) in
+    let start = history_of mode (known_of p.seat.me.0.passes) in
+    let r : Row = row p.number.0 look (history_of mode run) in
     let known : r ∷ run ≡ known_of s.me.0.passes = sym (ap known_of e) in
     let rows = y.behind.0 in
-    let before : IsRun allows p.layout (past mode (rows ++ known_of p.seat.me.0.passes)) = subst (λ l. IsRun allows p.layout (past mode l)) y.behind.1 y.before in
+    let before : IsRun allows p.layout (history_of mode (rows ++ known_of p.seat.me.0.passes)) = subst (λ l. IsRun allows p.layout (history_of mode l)) y.behind.1 y.before in
     let quiet = keeps_all allows p.layout p.number.0 (IsQuiet allows p.layout p.number.0 start p.share) (λ h r run other z. quiet_other allows p.layout p.number.0 start p.share x.is_pass h r run other z) rows (known_of p.seat.me.0.passes) y.behind.2 before (quiet_start allows p.layout p.number.0 start p.share x.sound x.rest) in
     record {
       seat = rw known at e;
-      answers = subst (λ l. EndsWith (past mode l) (past mode run)) known (inr (ends_self (past mode run)));
-      goes = subst (λ l. IsQuiet allows p.layout p.number.0 start p.share (past mode l)) known (quiet_step allows p.layout p.number.0 start p.share (past mode run) r y.after (λ k. cc) (subst (λ l. IsQuiet allows p.layout p.number.0 start p.share (past mode l)) (sym y.behind.1) quiet));
-      calls = subst (λ l. AreOfCall p.number.0 0 start (past mode l)) known (calls_more p.number.0 0 start (past mode run) r (λ own. refl) (subst (λ l. AreOfCall p.number.0 0 start (past mode l)) (sym y.behind.1) (calls_others p.number.0 0 start mode rows (known_of p.seat.me.0.passes) y.behind.2 (calls_start p.number.0 0 start))));
+      answers = subst (λ l. Extends (history_of mode l) (history_of mode run)) known (inr (ends_self (history_of mode run)));
+      goes = subst (λ l. IsQuiet allows p.layout p.number.0 start p.share (history_of mode l)) known (quiet_step allows p.layout p.number.0 start p.share (history_of mode run) r y.after (λ k. cc) (subst (λ l. IsQuiet allows p.layout p.number.0 start p.share (history_of mode l)) (sym y.behind.1) quiet));
+      calls = subst (λ l. AreOfCall p.number.0 0 start (history_of mode l)) known (calls_more p.number.0 0 start (history_of mode run) r (λ own. refl) (subst (λ l. AreOfCall p.number.0 0 start (history_of mode l)) (sym y.behind.1) (calls_others p.number.0 0 start mode rows (known_of p.seat.me.0.passes) y.behind.2 (calls_start p.number.0 0 start))));
     }
 
 -- and has made one step more
-pub look_steps : {T : Type 0} (p : Inside T) (s : Seat ℕ View) (run : List Row) → Behind run (knower p.number.0 p.layout (known_of p.seat.me.0.passes)) → s.me.0.passes ≡ looked (knower p.number.0 p.layout (known_of p.seat.me.0.passes)) run ∷ [] → steps_of (sight (seated p s)) ≡ suc (steps_of (sight p))
+pub look_steps : {T : Type 0} (p : Inside T) (s : Seat ℕ SeatView) (run : List Row) → Behind run (seated_pass p.number.0 p.layout (known_of p.seat.me.0.passes)) → s.me.0.passes ≡ after_look (seated_pass p.number.0 p.layout (known_of p.seat.me.0.passes)) run ∷ [] → steps_of (pass_view (seated p s)) ≡ suc (steps_of (pass_view p))
 look_steps p s run b e = ap (λ l. rows_of p.number.0 (known_of l)) e ∙ rw (eq-eqb p.number.0 p.number.0 refl) (ap suc (ap (rows_of p.number.0) b.1 ∙ rows_by_others p.number.0 b.0 _ b.2))
 
 -- so it has looked once
-pub looked_once : {allows : Layout → History → ℕ → Type 0} {mode : Mode} {T : Type 0} (p : Inside T) (x : IsPass allows mode p) (s : Seat ℕ View) (A : History → Type 0) → s.table_id ≡ p.seat.table_id → s.me.1 ≡ p.seat.me.1 → HasCalled allows p s 0 A → steps_of (sight (seated p s)) ≡ suc (steps_of (sight p)) → HasLookedOnce allows (sight p) (sight (seated p s))
+pub looked_once : {allows : Layout → History → ℕ → Type 0} {mode : Mode} {T : Type 0} (p : Inside T) (x : IsPass allows mode p) (s : Seat ℕ SeatView) (A : History → Type 0) → s.table_id ≡ p.seat.table_id → s.me.1 ≡ p.seat.me.1 → HasCalled allows p s 0 A → steps_of (pass_view (seated p s)) ≡ suc (steps_of (pass_view p)) → HasLookedOnce allows (pass_view p) (pass_view (seated p s))
 looked_once p x s A table bare y one = record {
   goes_on = record {
     later = later;
@@ -79,46 +79,46 @@ looked_once p x s A table bare y one = record {
     steps = omega arith;
     blamed_these = refl;
     blames = (called_pass p x s 0 A bare y).blamed;
-    usable = can_use_later (sight p) (sight (seated p s)) later y.goes.sound.lawful;
+    usable = can_use_later (pass_view p) (pass_view (seated p s)) later y.goes.sound.lawful;
   };
   takes_nothing = called_nothing p s 0 A y;
   one_step = one;
 }
   where
-    later : IsLater (sight p) (sight (seated p s))
+    later : IsLaterView (pass_view p) (pass_view (seated p s))
     later = record { table = table; layout = refl; number = refl; run = y.goes.since }
 
 -- What two passes have once they have met
 
-pub record HaveMet (allows : Layout → History → ℕ → Type 0) {T : Type 0} (p q : Inside T) (s t : Seat ℕ View) : Type 0 where
+pub record HaveMet (allows : Layout → History → ℕ → Type 0) {T : Type 0} (p q : Inside T) (s t : Seat ℕ SeatView) : Type 0 where
   pub early : List Row
   pub late : List Row
   pub apart : p.number.0 ≢ q.number.0
-  pub one : HasCalled allows p s 0 (λ h. EndsWith h (past p.layout.mode late))
-  pub other : HasCalled allows q t 0 (λ h. EndsWith h (past q.layout.mode early))
-  pub goes_on : EndsWith (past p.layout.mode late) (run_of (sight (seated q t)))
-  pub knew : EndsWith (past q.layout.mode early) (run_of (sight p))
-  pub one_step : steps_of (sight (seated p s)) ≡ suc (steps_of (sight p))
-  pub other_step : steps_of (sight (seated q t)) ≡ suc (steps_of (sight q))
+  pub one : HasCalled allows p s 0 (λ h. Extends h (history_of p.layout.mode late))
+  pub other : HasCalled allows q t 0 (λ h. Extends h (history_of q.layout.mode early))
+  pub goes_on : Extends (history_of p.layout.mode late) (run_of (pass_view (seated q t)))
+  pub knew : Extends (history_of q.layout.mode early) (run_of (pass_view p))
+  pub one_step : steps_of (pass_view (seated p s)) ≡ suc (steps_of (pass_view p))
+  pub other_step : steps_of (pass_view (seated q t)) ≡ suc (steps_of (pass_view q))
 
-pub have_met : {allows : Layout → History → ℕ → Type 0} {mode : Mode} {T : Type 0} (p q : Inside T) (x : IsPass allows mode p) (y : IsPass allows mode q) (s t : Seat ℕ View) → Met allows p.seat.me.0.passes q.seat.me.0.passes s.me.0.passes t.me.0.passes → HaveMet allows p q s t
+pub have_met : {allows : Layout → History → ℕ → Type 0} {mode : Mode} {T : Type 0} (p q : Inside T) (x : IsPass allows mode p) (y : IsPass allows mode q) (s t : Seat ℕ SeatView) → Met allows p.seat.me.0.passes q.seat.me.0.passes s.me.0.passes t.me.0.passes → HaveMet allows p q s t
 have_met {allows} p q x y s t m = record {
   early = m.early;
   late = m.late;
-  apart = λ e. m.apart (ap (λ (k : Knower). k.number.0) one ∙ e ∙ sym (ap (λ (k : Knower). k.number.0) other));
+  apart = λ e. m.apart (ap (λ (k : SeatedPass). k.number.0) one ∙ e ∙ sym (ap (λ (k : SeatedPass). k.number.0) other));
   one = look_called p x s m.late one_looked one_is;
   other = look_called q y t m.early other_looked other_is;
-  goes_on = subst (λ (l : Layout). EndsWith (past l.mode m.late) (run_of (sight (seated q t)))) (sym same) (subst (λ l. EndsWith (past q.layout.mode m.late) (past q.layout.mode l)) (sym (ap known_of other_is)) (behind_ends m.late (looked the_other m.early) goes_on));
-  knew = subst (λ (l : Layout). EndsWith (past l.mode m.early) (run_of (sight p))) same (behind_ends m.early the_one (subst (λ (k : Knower). Behind m.early k) one m.knew_one));
+  goes_on = subst (λ (l : Layout). Extends (history_of l.mode m.late) (run_of (pass_view (seated q t)))) (sym same) (subst (λ l. Extends (history_of q.layout.mode m.late) (history_of q.layout.mode l)) (sym (ap known_of other_is)) (behind_ends m.late (after_look the_other m.early) goes_on));
+  knew = subst (λ (l : Layout). Extends (history_of l.mode m.early) (run_of (pass_view p))) same (behind_ends m.early the_one (subst (λ (k : SeatedPass). Behind m.early k) one m.knew_one));
   one_step = look_steps p s m.late one_looked.behind one_is;
   other_step = look_steps q t m.early other_looked.behind other_is;
 }
   where
-    the_one : Knower
-    the_one = knower p.number.0 p.layout (known_of p.seat.me.0.passes)
+    the_one : SeatedPass
+    the_one = seated_pass p.number.0 p.layout (known_of p.seat.me.0.passes)
 
-    the_other : Knower
-    the_other = knower q.number.0 q.layout (known_of q.seat.me.0.passes)
+    the_other : SeatedPass
+    the_other = seated_pass q.number.0 q.layout (known_of q.seat.me.0.passes)
 
     one : m.one ≡ the_one
     one = same_knower p.seat.me.0.passes m.one the_one m.was_one x.seat
@@ -127,34 +127,34 @@ have_met {allows} p q x y s t m = record {
     other = same_knower q.seat.me.0.passes m.other the_other m.was_other y.seat
 
     same : p.layout ≡ q.layout
-    same = sym (ap (λ (k : Knower). k.layout) one) ∙ m.same ∙ ap (λ (k : Knower). k.layout) other
+    same = sym (ap (λ (k : SeatedPass). k.layout) one) ∙ m.same ∙ ap (λ (k : SeatedPass). k.layout) other
 
-    one_looked : HasLooked allows the_one m.late
-    one_looked = subst (λ (k : Knower). HasLooked allows k m.late) one m.one_looked
+    one_looked : HasLookedBehind allows the_one m.late
+    one_looked = subst (λ (k : SeatedPass). HasLookedBehind allows k m.late) one m.one_looked
 
-    other_looked : HasLooked allows the_other m.early
-    other_looked = subst (λ (k : Knower). HasLooked allows k m.early) other m.other_looked
+    other_looked : HasLookedBehind allows the_other m.early
+    other_looked = subst (λ (k : SeatedPass). HasLookedBehind allows k m.early) other m.other_looked
 
-    one_is : s.me.0.passes ≡ looked the_one m.late ∷ []
-    one_is = subst (λ (k : Knower). s.me.0.passes ≡ looked k m.late ∷ []) one m.is_one
+    one_is : s.me.0.passes ≡ after_look the_one m.late ∷ []
+    one_is = subst (λ (k : SeatedPass). s.me.0.passes ≡ after_look k m.late ∷ []) one m.is_one
 
-    other_is : t.me.0.passes ≡ looked the_other m.early ∷ []
-    other_is = subst (λ (k : Knower). t.me.0.passes ≡ looked k m.early ∷ []) other m.is_other
+    other_is : t.me.0.passes ≡ after_look the_other m.early ∷ []
+    other_is = subst (λ (k : SeatedPass). t.me.0.passes ≡ after_look k m.early ∷ []) other m.is_other
 
-    goes_on : Behind m.late (looked the_other m.early)
-    goes_on = subst (λ (k : Knower). Behind m.late (looked k m.early)) other m.goes_on
+    goes_on : Behind m.late (after_look the_other m.early)
+    goes_on = subst (λ (k : SeatedPass). Behind m.late (after_look k m.early)) other m.goes_on
 
 -- what either has blamed has left both shares
-pub met_left : {allows : Layout → History → ℕ → Type 0} {mode : Mode} {T : Type 0} (p q : Inside T) (x : IsPass allows mode p) (y : IsPass allows mode q) (s t : Seat ℕ View) → p.layout ≡ q.layout → HaveMet allows p q s t → HaveLeftShares (sight (seated p s) ∷ sight (seated q t) ∷ [])
+pub met_left : {allows : Layout → History → ℕ → Type 0} {mode : Mode} {T : Type 0} (p q : Inside T) (x : IsPass allows mode p) (y : IsPass allows mode q) (s t : Seat ℕ SeatView) → p.layout ≡ q.layout → HaveMet allows p q s t → HaveLeftShares (pass_view (seated p s) ∷ pass_view (seated q t) ∷ [])
 met_left p q x y s t same m = (
   (
-    blames_left p.layout _ (sight p) (sight (seated p s)) p.number.0 _ _ x.sound.lawful m.one.goes.since m.one.goes.share x.blamed,
-    (blames_left q.layout _ (sight p) (sight (seated q t)) q.number.0 _ _ (subst (λ (l : Layout). Lawful l (run_of (sight p))) same x.sound.lawful) (ends_trans _ _ _ m.other.answers m.knew) m.other.goes.share x.blamed, tt),
+    blames_left p.layout _ (pass_view p) (pass_view (seated p s)) p.number.0 _ _ x.sound.lawful m.one.goes.since m.one.goes.share x.blamed,
+    (blames_left q.layout _ (pass_view p) (pass_view (seated q t)) q.number.0 _ _ (subst (λ (l : Layout). Lawful l (run_of (pass_view p))) same x.sound.lawful) (ends_trans _ _ _ m.other.answers m.knew) m.other.goes.share x.blamed, tt),
   ),
   (
     (
-      blames_left p.layout _ (sight q) (sight (seated p s)) p.number.0 _ _ (subst (λ (l : Layout). Lawful l (run_of (sight q))) (sym same) y.sound.lawful) (ends_trans _ _ _ (ends_trans _ _ _ m.one.answers m.goes_on) m.other.goes.since) m.one.goes.share y.blamed,
-      (blames_left q.layout _ (sight q) (sight (seated q t)) q.number.0 _ _ y.sound.lawful m.other.goes.since m.other.goes.share y.blamed, tt),
+      blames_left p.layout _ (pass_view q) (pass_view (seated p s)) p.number.0 _ _ (subst (λ (l : Layout). Lawful l (run_of (pass_view q))) (sym same) y.sound.lawful) (ends_trans _ _ _ (ends_trans _ _ _ m.one.answers m.goes_on) m.other.goes.since) m.one.goes.share y.blamed,
+      (blames_left q.layout _ (pass_view q) (pass_view (seated q t)) q.number.0 _ _ y.sound.lawful m.other.goes.since m.other.goes.share y.blamed, tt),
     ),
     tt,
   ),

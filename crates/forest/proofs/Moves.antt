@@ -9,22 +9,21 @@ use Rattle.arena.specs.declared.layout.Layout.{Layout}
 use Rattle.arena.specs.declared.word.Word.{Word}
 use Rattle.arena.specs.declared.step.Row.{Row}
 use Rattle.arena.specs.Layout.{place, table_size, IsWord}
-use Rattle.arena.specs.Words.{node, same_word, deed_after}
+use Rattle.arena.specs.Words.{node, same_word, word_after}
 use Rattle.arena.specs.declared.word.NodeWord.TheVariants.{Head}
 use Rattle.arena.specs.Lawful.{Lawful}
 use Rattle.arena.specs.Shape.{Shaped}
 use Rattle.arena.specs.History.{History, ◌⊳◌, value}
 use Rattle.arena.specs.Machines.{IsRun, IsTold}
 use Rattle.histories.proofs.Lemmas.{some_open}
-use Rattle.arena.proofs.SameWords.{word_same, word_apart}
-use Rattle.arena.proofs.Values.{value_at, value_other}
+use Rattle.arena.proofs.Lemmas.{word_same, word_apart, value_at, value_other}
 use Rattle.forest.specs.declared.rule.Asked.{Asked}
-use Rattle.forest.specs.declared.view.Knower.{Knower}
-use Rattle.forest.specs.declared.view.View.{View}
-use Rattle.forest.specs.Kept.{past, past_of, knower, view, Owns, Kept, MayMake, Made, Looked, look, row}
+use Rattle.forest.specs.declared.view.SeatedPass.{SeatedPass}
+use Rattle.forest.specs.declared.view.SeatView.{SeatView}
+use Rattle.forest.specs.TableRule.{history_of, past_of, seated_pass, seat_view, Owns, TableIsLawful, MayStep, Made, Looked, look, row}
 
 -- a row of another seat leaves the passes of a seat where they are
-owns_more : (lay : Layout) (run : List Row) (owner : ℕ → ℕ) (id : ℕ) (r : Row) → owner r.pass.0 ≢ id → (ps : List Knower) → Owns lay run owner id ps → Owns lay (r ∷ run) owner id ps
+owns_more : (lay : Layout) (run : List Row) (owner : ℕ → ℕ) (id : ℕ) (r : Row) → owner r.pass.0 ≢ id → (ps : List SeatedPass) → Owns lay run owner id ps → Owns lay (r ∷ run) owner id ps
 owns_more lay run owner id r ne [] h = tt
 owns_more lay run owner id r ne (p ∷ ps) h = (
   h.0,
@@ -43,28 +42,28 @@ holds_more lay words h r at is inside apart holds w i = go (same_word r.word w) 
     go true e = ap (slice_index (slice_set words at r.after)) (ap (place lay) (sym (word_same r.word w e)) ∙ sym is) ∙ get_or-set_same words at r.after 0 inside ∙ sym (value_at r h w (word_same r.word w e))
     go false e = get_or-set_other words at (place lay w) r.after 0 (λ q. word_apart r.word w e (apart w i q)) ∙ holds w i ∙ sym (value_other r h w e)
 
-module _ (allows : Layout → History → ℕ → Type 0) (lay : Layout) (slots id : ℕ) (me : Me ℕ View) (said : Asked) (at : ℕ) (f told : ℕ → ℕ) (inside : IsWord lay said.step.word) (is : at ≡ place lay said.step.word) (small : at < table_size lay) (apart : (w : Word) → IsWord lay w → place lay w ≡ at → w ≡ said.step.word) (after : (n : ℕ) → f n ≡ deed_after said.step.deed n) (tells : (n : ℕ) → IsTold said.step.deed n (told n)) where
-  pub moves : (p : Knower) → me.0.passes ≡ p ∷ [] → MayMake allows said p → Allows (Kept allows lay) slots id me at f (λ n m. Made allows said me.0.passes (told n) m.0.passes × (m.1 ≡ me.1))
+module _ (allows : Layout → History → ℕ → Type 0) (lay : Layout) (slots id : ℕ) (me : Me ℕ SeatView) (said : Asked) (at : ℕ) (f told : ℕ → ℕ) (inside : IsWord lay said.step.word) (is : at ≡ place lay said.step.word) (small : at < table_size lay) (apart : (w : Word) → IsWord lay w → place lay w ≡ at → w ≡ said.step.word) (after : (n : ℕ) → f n ≡ word_after said.step.access n) (tells : (n : ℕ) → IsTold said.step.access n (told n)) where
+  pub moves : (p : SeatedPass) → me.0.passes ≡ p ∷ [] → MayStep allows said p → Allows (TableIsLawful allows lay) slots id me at f (λ n m. Made allows said me.0.passes (told n) m.0.passes × (m.1 ≡ me.1))
   moves p one may s kept sized seat fits =
       let own : Owns lay kept.run kept.owner id (p ∷ []) = subst (λ ps. Owns lay kept.run kept.owner id ps) one (kept.passes id me.0 seat) in
       let run : List Row = own.2.0 ++ p.known in
-      let h : History = past lay.mode run in
-      let same : past_of p own.2.0 ≡ h = ap (λ (l : Layout). past l.mode run) own.1 in
+      let h : History = history_of lay.mode run in
+      let same : past_of p own.2.0 ≡ h = ap (λ (l : Layout). history_of l.mode run) own.1 in
       let r : Row = row p.number.0 said h in
-      let w : View = view (knower p.number.0 p.layout (row p.number.0 said (past_of p own.2.0) ∷ run) ∷ []) in
-      let sound : IsRun allows lay h = subst (λ l. IsRun allows lay (past lay.mode l)) own.2.1 kept.sound in
-      let before : IsRun allows p.layout (past_of p own.2.0) = subst (λ (l : Layout). IsRun allows l (past l.mode run)) (sym own.1) sound in
+      let w : SeatView = seat_view (seated_pass p.number.0 p.layout (row p.number.0 said (past_of p own.2.0) ∷ run) ∷ []) in
+      let sound : IsRun allows lay h = subst (λ l. IsRun allows lay (history_of lay.mode l)) own.2.1 kept.sound in
+      let before : IsRun allows p.layout (past_of p own.2.0) = subst (λ (l : Layout). IsRun allows l (history_of l.mode run)) (sym own.1) sound in
       let then = may own.2.0 own.2.2 before in
-      let found : slice_index s.words at ≡ value h said.step.word = ap (slice_index s.words) is ∙ kept.holds said.step.word inside ∙ ap (λ l. value (past lay.mode l) said.step.word) own.2.1 in
-      let stored : f (slice_index s.words at) ≡ r.after = after (slice_index s.words at) ∙ ap (deed_after said.step.deed) found in (
+      let found : slice_index s.words at ≡ value h said.step.word = ap (slice_index s.words) is ∙ kept.holds said.step.word inside ∙ ap (λ l. value (history_of lay.mode l) said.step.word) own.2.1 in
+      let stored : f (slice_index s.words at) ≡ r.after = after (slice_index s.words at) ∙ ap (word_after said.step.access) found in (
         w,
         keeps,
         tt,
         record {
           run = r ∷ run;
           size = length-set s.words at (f (slice_index s.words at)) ∙ kept.size;
-          holds = rw stored (holds_more lay s.words h r at is (rw kept.size small) apart (subst (λ l. (u : Word) → IsWord lay u → slice_index s.words (place lay u) ≡ value (past lay.mode l) u) own.2.1 kept.holds));
-          sound = subst (λ (l : Layout). IsRun allows l (row p.number.0 said (past l.mode run) ⊳ past l.mode run)) own.1 then;
+          holds = rw stored (holds_more lay s.words h r at is (rw kept.size small) apart (subst (λ l. (u : Word) → IsWord lay u → slice_index s.words (place lay u) ≡ value (history_of lay.mode l) u) own.2.1 kept.holds));
+          sound = subst (λ (l : Layout). IsRun allows l (row p.number.0 said (history_of l.mode run) ⊳ history_of l.mode run)) own.1 then;
           owner = kept.owner;
           passes = λ j v e. ⊎_elim
               (λ (t : (j ≡ id) × (w ≡ v)). subst (λ u. Owns lay (r ∷ run) kept.owner j u.passes) t.1 (subst (λ i. Owns lay (r ∷ run) kept.owner i w.passes) (sym t.0) (own.0, own.1, ([], ap (λ k. row p.number.0 said k ∷ run) (sym same), tt), tt, tt)))
@@ -79,7 +78,7 @@ module _ (allows : Layout → History → ℕ → Type 0) (lay : Layout) (slots 
             by_others = own.2.2;
             before = before;
             after = then;
-            told = subst (λ n. IsTold said.step.deed n (told (slice_index s.words at))) (found ∙ ap (λ k. value k said.step.word) (sym same)) (tells (slice_index s.words at));
+            told = subst (λ n. IsTold said.step.access n (told (slice_index s.words at))) (found ∙ ap (λ k. value k said.step.word) (sym same)) (tells (slice_index s.words at));
             is = refl;
           },
           refl,
@@ -100,18 +99,18 @@ look_lawful allows lay h c is_pass run = record {
   shaped = (run.shaped, λ s b. let k = b.kind in cc);
 }
 
-module _ (allows : Layout → History → ℕ → Type 0) (lay : Layout) (slots id : ℕ) (me : Me ℕ View) (at : ℕ) (is : at ≡ place lay (node 0 Head)) (small : at < table_size lay) (apart : (w : Word) → IsWord lay w → place lay w ≡ at → w ≡ node 0 Head) where
-  pub looks : (p q : Knower) → me.0.passes ≡ p ∷ q ∷ [] → p.number.0 < lay.passes → Allows (Kept allows lay) slots id me at (λ n. n) (λ n m. Looked allows me.0.passes m.0.passes × (m.1 ≡ me.1))
+module _ (allows : Layout → History → ℕ → Type 0) (lay : Layout) (slots id : ℕ) (me : Me ℕ SeatView) (at : ℕ) (is : at ≡ place lay (node 0 Head)) (small : at < table_size lay) (apart : (w : Word) → IsWord lay w → place lay w ≡ at → w ≡ node 0 Head) where
+  pub looks : (p q : SeatedPass) → me.0.passes ≡ p ∷ q ∷ [] → p.number.0 < lay.passes → Allows (TableIsLawful allows lay) slots id me at (λ n. n) (λ n m. Looked allows me.0.passes m.0.passes × (m.1 ≡ me.1))
   looks p q two is_pass s kept sized seat fits =
       let own : Owns lay kept.run kept.owner id (p ∷ q ∷ []) = subst (λ ps. Owns lay kept.run kept.owner id ps) two (kept.passes id me.0 seat) in
       let run : List Row = kept.run in
-      let h : History = past lay.mode run in
+      let h : History = history_of lay.mode run in
       let r : Row = row p.number.0 look h in
-      let mine : List Row = row p.number.0 look (past p.layout.mode run) ∷ run in
-      let w : View = view (q ∷ knower p.number.0 p.layout mine ∷ []) in
+      let mine : List Row = row p.number.0 look (history_of p.layout.mode run) ∷ run in
+      let w : SeatView = seat_view (q ∷ seated_pass p.number.0 p.layout mine ∷ []) in
       let found : slice_index s.words at ≡ value h (node 0 Head) = ap (slice_index s.words) is ∙ kept.holds (node 0 Head) (head_inside lay) in
       let apart_passes : p.number.0 ≢ q.number.0 = λ e. own.3.0 (sym e) in
-      let mine_is : mine ≡ r ∷ run = ap (λ (l : Layout). row p.number.0 look (past l.mode run) ∷ run) own.1 in (
+      let mine_is : mine ≡ r ∷ run = ap (λ (l : Layout). row p.number.0 look (history_of l.mode run) ∷ run) own.1 in (
         w,
         keeps,
         tt,
@@ -137,8 +136,8 @@ module _ (allows : Layout → History → ℕ → Type 0) (lay : Layout) (slots 
             behind_second = own.4.2;
             apart = apart_passes;
             same = own.4.1 ∙ sym own.1;
-            before = subst (λ (l : Layout). IsRun allows l (past l.mode run)) (sym own.1) kept.sound;
-            after = subst (λ (l : Layout). IsRun allows l (row p.number.0 look (past l.mode run) ⊳ past l.mode run)) (sym own.1) (look_lawful allows lay h p.number.0 is_pass kept.sound);
+            before = subst (λ (l : Layout). IsRun allows l (history_of l.mode run)) (sym own.1) kept.sound;
+            after = subst (λ (l : Layout). IsRun allows l (row p.number.0 look (history_of l.mode run) ⊳ history_of l.mode run)) (sym own.1) (look_lawful allows lay h p.number.0 is_pass kept.sound);
             are = refl;
           },
           refl,

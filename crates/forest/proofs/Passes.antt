@@ -10,25 +10,24 @@ use Rattle.arena.specs.Lawful.{Lawful}
 use Rattle.arena.specs.Machines.{Call, IsRun}
 use Rattle.arena.specs.Shape.{Shaped}
 use Rattle.arena.specs.declared.limits.Mode.{Mode}
-use Rattle.arena.proofs.Values.{ends_self}
+use Rattle.arena.proofs.Lemmas.{ends_self}
 use Rattle.prims.specs.declared.snap.Snap.{Snap}
-use Rattle.forest.specs.declared.view.Knower.{Knower}
-use Rattle.forest.specs.declared.view.View.{View}
+use Rattle.forest.specs.declared.view.SeatedPass.{SeatedPass}
+use Rattle.forest.specs.declared.view.SeatView.{SeatView}
 use Rattle.forest.specs.declared.pass.Pass.TheInside.{Inside}
-use Rattle.forest.specs.Kept.{past, knower}
-use Rattle.forest.specs.Courses.{Course, IsCalled, known_of, rows_of, steps_of}
-use Rattle.forest.specs.Shares.{IsAtRest}
-use Rattle.forest.specs.Passes.{Sight, Ground, IsOf, AreOfCall, CanUse, HasGoneOn, HasTakenNothing, IsLater, run_of}
-use Rattle.forest.specs.Held.{sight, IsPass}
-use Rattle.prims.proofs.Shares.{whole_untouched, none_taken, next_unwon}
-use Rattle.prims.proofs.Usable.{usable_since}
-use Rattle.forest.proofs.Frames.{Goes}
+use Rattle.forest.specs.TableRule.{history_of, seated_pass}
+use Rattle.forest.specs.Traces.{Trace, HoldsForCall, known_of, rows_of, seat_steps}
+use Rattle.forest.specs.Shares.{IsBetweenCalls}
+use Rattle.forest.specs.Passes.{PassView, Ground, IsOf, AreOfCall, CanUse, HasGoneOn, HasTakenNothing, IsLaterView, run_of}
+use Rattle.forest.specs.PassInvariant.{pass_view, IsPass}
+use Rattle.prims.proofs.Lemmas.{whole_untouched, none_taken, next_unwon, usable_since}
+use Rattle.forest.proofs.Frames.{CarriesOn}
 use Rattle.forest.proofs.Calls.{quiet_goes}
 use Rattle.forest.proofs.Called.{calls_start, course_calls}
 use Rattle.forest.proofs.Blames.{blamed_later}
 
 -- a pass with its whole share is at rest at the start
-pub begins_at_rest : (lay : Layout) (c : ℕ) → IsAtRest lay c (Start lay.mode) (whole_share lay c)
+pub begins_at_rest : (lay : Layout) (c : ℕ) → IsBetweenCalls lay c (Start lay.mode) (whole_share lay c)
 begins_at_rest lay c = record { share = whole_untouched lay c; over = λ s own d t. absurd (none_taken lay.mode s t) }
 
 pub begins_sound : (allows : Layout → History → ℕ → Type 0) (lay : Layout) → IsRun allows lay (Start lay.mode)
@@ -36,40 +35,40 @@ unfolding Lawful Shaped
 begins_sound allows lay = record { lawful = refl; shaped = tt }
 
 -- the pass of a forest has its layout
-pub layout_of : {v w : Sight} {g f : Ground} → v ≡ w → g ≡ f → IsOf f w → v.layout ≡ g.layout
-layout_of e q of = ap (λ (s : Sight). s.layout) e ∙ of.1 ∙ sym (ap (λ (l : Ground). l.layout) q)
+pub layout_of : {v w : PassView} {g f : Ground} → v ≡ w → g ≡ f → IsOf f w → v.layout ≡ g.layout
+layout_of e q of = ap (λ (s : PassView). s.layout) e ∙ of.1 ∙ sym (ap (λ (l : Ground). l.layout) q)
 
 -- the call of a pass
 abbrev pub call_of : {allows : Layout → History → ℕ → Type 0} {mode : Mode} {T : Type 0} (p : Inside T) → IsPass allows mode p → ℕ → Call
-call_of p x number = record { layout = p.layout; pass = p.number.0; is_pass = x.is_pass; number = number; start = past p.layout.mode (known_of p.seat.me.0.passes) }
+call_of p x number = record { layout = p.layout; pass = p.number.0; is_pass = x.is_pass; number = number; start = history_of p.layout.mode (known_of p.seat.me.0.passes) }
 
 -- the pass with its seat as it is now
-abbrev pub seated : {T : Type 0} → Inside T → Seat ℕ View → Inside T
+abbrev pub seated : {T : Type 0} → Inside T → Seat ℕ SeatView → Inside T
 seated p s = record p { seat = s }
 
 -- what the pass has after a call that takes nothing
-pub record HasCalled (allows : Layout → History → ℕ → Type 0) {T : Type 0} (p : Inside T) (s : Seat ℕ View) (number : ℕ) (A : History → Type 0) : Type 0 where
-  pub seat : s.me.0.passes ≡ knower p.number.0 p.layout (known_of s.me.0.passes) ∷ []
-  pub answers : A (past p.layout.mode (known_of s.me.0.passes))
-  pub goes : Goes allows p.layout p.number.0 (past p.layout.mode (known_of p.seat.me.0.passes)) (past p.layout.mode (known_of s.me.0.passes)) p.share p.share.next_node p.share.next_scx []
-  pub calls : AreOfCall p.number.0 number (past p.layout.mode (known_of p.seat.me.0.passes)) (past p.layout.mode (known_of s.me.0.passes))
+pub record HasCalled (allows : Layout → History → ℕ → Type 0) {T : Type 0} (p : Inside T) (s : Seat ℕ SeatView) (number : ℕ) (A : History → Type 0) : Type 0 where
+  pub seat : s.me.0.passes ≡ seated_pass p.number.0 p.layout (known_of s.me.0.passes) ∷ []
+  pub answers : A (history_of p.layout.mode (known_of s.me.0.passes))
+  pub goes : CarriesOn allows p.layout p.number.0 (history_of p.layout.mode (known_of p.seat.me.0.passes)) (history_of p.layout.mode (known_of s.me.0.passes)) p.share p.share.next_node p.share.next_scx []
+  pub calls : AreOfCall p.number.0 number (history_of p.layout.mode (known_of p.seat.me.0.passes)) (history_of p.layout.mode (known_of s.me.0.passes))
 
-pub called : {allows : Layout → History → ℕ → Type 0} {mode : Mode} {T : Type 0} (p : Inside T) (x : IsPass allows mode p) (s : Seat ℕ View) (number : ℕ) {M : Type 0} (waits : M → Call → History → Step → Type 0) (same : M → M → Type 0) (first m : M) (A : History → Type 0) → ((m : M) (h : History) (t : Step) → waits m (call_of p x number) h t → t.kind ≢ Fill) → IsCalled allows s.me.0.passes (call_of p x number) (λ h. A h × Course allows waits same (call_of p x number) first m h) → HasCalled allows p s number A
+pub called : {allows : Layout → History → ℕ → Type 0} {mode : Mode} {T : Type 0} (p : Inside T) (x : IsPass allows mode p) (s : Seat ℕ SeatView) (number : ℕ) {M : Type 0} (waits : M → Call → History → Step → Type 0) (same : M → M → Type 0) (first m : M) (A : History → Type 0) → ((m : M) (h : History) (t : Step) → waits m (call_of p x number) h t → t.kind ≢ Fill) → HoldsForCall allows s.me.0.passes (call_of p x number) (λ h. A h × Trace allows waits same (call_of p x number) first m h) → HasCalled allows p s number A
 called {allows} p x s number waits same first m A fills_not y =
     let known : y.known ≡ known_of s.me.0.passes = sym (ap known_of y.is) in
     record {
       seat = rw known at y.is;
-      answers = subst (λ rows. A (past p.layout.mode rows)) known y.so.0;
-      goes = subst (λ rows. Goes allows p.layout p.number.0 (past p.layout.mode (known_of p.seat.me.0.passes)) (past p.layout.mode rows) p.share p.share.next_node p.share.next_scx []) known (quiet_goes waits same (call_of p x number) first p.share fills_not x.sound x.rest m _ y.so.1);
-      calls = subst (λ rows. AreOfCall p.number.0 number (past p.layout.mode (known_of p.seat.me.0.passes)) (past p.layout.mode rows)) known (course_calls (call_of p x number) m _ y.so.1);
+      answers = subst (λ rows. A (history_of p.layout.mode rows)) known y.so.0;
+      goes = subst (λ rows. CarriesOn allows p.layout p.number.0 (history_of p.layout.mode (known_of p.seat.me.0.passes)) (history_of p.layout.mode rows) p.share p.share.next_node p.share.next_scx []) known (quiet_goes waits same (call_of p x number) first p.share fills_not x.sound x.rest m _ y.so.1);
+      calls = subst (λ rows. AreOfCall p.number.0 number (history_of p.layout.mode (known_of p.seat.me.0.passes)) (history_of p.layout.mode rows)) known (course_calls (call_of p x number) m _ y.so.1);
     }
 
 -- it is a pass again
-pub called_pass : {allows : Layout → History → ℕ → Type 0} {mode : Mode} {T : Type 0} (p : Inside T) (x : IsPass allows mode p) (s : Seat ℕ View) (number : ℕ) (A : History → Type 0) → s.me.1 ≡ p.seat.me.1 → HasCalled allows p s number A → IsPass allows mode (seated p s)
-called_pass p x s number A bare y = record { seat = y.seat; bare = bare ∙ x.bare; is_mode = x.is_mode; is_pass = x.is_pass; sound = y.goes.sound; rest = record { share = y.goes.share; over = y.goes.over }; blamed = blamed_later (sight p) (sight (seated p s)) refl refl refl y.goes.sound.lawful y.goes.since x.blamed }
+pub called_pass : {allows : Layout → History → ℕ → Type 0} {mode : Mode} {T : Type 0} (p : Inside T) (x : IsPass allows mode p) (s : Seat ℕ SeatView) (number : ℕ) (A : History → Type 0) → s.me.1 ≡ p.seat.me.1 → HasCalled allows p s number A → IsPass allows mode (seated p s)
+called_pass p x s number A bare y = record { seat = y.seat; bare = bare ∙ x.bare; is_mode = x.is_mode; is_pass = x.is_pass; sound = y.goes.sound; rest = record { share = y.goes.share; over = y.goes.over }; blamed = blamed_later (pass_view p) (pass_view (seated p s)) refl refl refl y.goes.sound.lawful y.goes.since x.blamed }
 
 -- it has taken nothing
-pub called_nothing : {allows : Layout → History → ℕ → Type 0} {T : Type 0} (p : Inside T) (s : Seat ℕ View) (number : ℕ) (A : History → Type 0) → HasCalled allows p s number A → HasTakenNothing (sight p) (sight (seated p s))
+pub called_nothing : {allows : Layout → History → ℕ → Type 0} {T : Type 0} (p : Inside T) (s : Seat ℕ SeatView) (number : ℕ) (A : History → Type 0) → HasCalled allows p s number A → HasTakenNothing (pass_view p) (pass_view (seated p s))
 called_nothing p s number A y = record {
   share = refl;
   done = y.goes.unwon (λ w. next_unwon p.layout _ p.number.0 p.share _ _ y.goes.sound.lawful y.goes.share w.0 w.1);
@@ -77,17 +76,17 @@ called_nothing p s number A y = record {
 }
 
 -- what a pass could use it may use later on
-pub can_use_later : (old new : Sight) → IsLater old new → Lawful new.layout (run_of new) → (snap : Snap) → CanUse old snap → CanUse new snap
+pub can_use_later : (old new : PassView) → IsLaterView old new → Lawful new.layout (run_of new) → (snap : Snap) → CanUse old snap → CanUse new snap
 can_use_later old new later l snap u =
     let e : new.layout ≡ old.layout = later.layout in
     (u.0, usable_since new.layout (run_of new) (run_of old) snap u.0 l later.run (rw e u.1))
 
 -- a call that is refused makes no step
-pub goes_nowhere : {allows : Layout → History → ℕ → Type 0} {mode : Mode} {T : Type 0} (p : Inside T) (x : IsPass allows mode p) (number most : ℕ) → HasGoneOn allows (sight p) (sight p) number most p.blamed
+pub goes_nowhere : {allows : Layout → History → ℕ → Type 0} {mode : Mode} {T : Type 0} (p : Inside T) (x : IsPass allows mode p) (number most : ℕ) → HasGoneOn allows (pass_view p) (pass_view p) number most p.blamed
 goes_nowhere p x number most = record {
-  later = record { table = refl; layout = refl; number = refl; run = ends_self (run_of (sight p)) };
+  later = record { table = refl; layout = refl; number = refl; run = ends_self (run_of (pass_view p)) };
   lawful = x.sound;
-  calls = calls_start p.number.0 number (run_of (sight p));
+  calls = calls_start p.number.0 number (run_of (pass_view p));
   steps = omega arith;
   blamed_these = refl;
   blames = x.blamed;
@@ -95,11 +94,11 @@ goes_nowhere p x number most = record {
 }
 
 -- its steps are those of its seat
-pub steps_are : (c : ℕ) (lay : Layout) (ps : List Knower) → ps ≡ knower c lay (known_of ps) ∷ [] → steps_of ps ≡ rows_of c (known_of ps)
-steps_are c lay ps e = ap steps_of e
+pub steps_are : (c : ℕ) (lay : Layout) (ps : List SeatedPass) → ps ≡ seated_pass c lay (known_of ps) ∷ [] → seat_steps ps ≡ rows_of c (known_of ps)
+steps_are c lay ps e = ap seat_steps e
 
 -- and it has gone on
-pub called_goes_on : {allows : Layout → History → ℕ → Type 0} {mode : Mode} {T : Type 0} (p : Inside T) (x : IsPass allows mode p) (s : Seat ℕ View) (number : ℕ) (A : History → Type 0) (left most : ℕ) → s.table_id ≡ p.seat.table_id → s.me.1 ≡ p.seat.me.1 → HasCalled allows p s number A → steps_of s.me.0.passes ≤ steps_of p.seat.me.0.passes + left → left ≤ most → HasGoneOn allows (sight p) (sight (seated p s)) number most p.blamed
+pub called_goes_on : {allows : Layout → History → ℕ → Type 0} {mode : Mode} {T : Type 0} (p : Inside T) (x : IsPass allows mode p) (s : Seat ℕ SeatView) (number : ℕ) (A : History → Type 0) (left most : ℕ) → s.table_id ≡ p.seat.table_id → s.me.1 ≡ p.seat.me.1 → HasCalled allows p s number A → seat_steps s.me.0.passes ≤ seat_steps p.seat.me.0.passes + left → left ≤ most → HasGoneOn allows (pass_view p) (pass_view (seated p s)) number most p.blamed
 called_goes_on p x s number A left most table bare y few small = record {
   later = later;
   lawful = y.goes.sound;
@@ -107,8 +106,8 @@ called_goes_on p x s number A left most table bare y few small = record {
   steps = let a = steps_are p.number.0 p.layout s.me.0.passes y.seat in let b = steps_are p.number.0 p.layout p.seat.me.0.passes x.seat in omega arith;
   blamed_these = refl;
   blames = (called_pass p x s number A bare y).blamed;
-  usable = can_use_later (sight p) (sight (seated p s)) later y.goes.sound.lawful;
+  usable = can_use_later (pass_view p) (pass_view (seated p s)) later y.goes.sound.lawful;
 }
   where
-    later : IsLater (sight p) (sight (seated p s))
+    later : IsLaterView (pass_view p) (pass_view (seated p s))
     later = record { table = table; layout = refl; number = refl; run = y.goes.since }

@@ -5,43 +5,40 @@ use Rattle.arena.specs.declared.layout.Layout.{Layout}
 use Rattle.arena.specs.declared.number.NodeNo.{NodeNo}
 use Rattle.arena.specs.declared.word.Side.{Side}
 use Rattle.arena.specs.Words.{state}
-use Rattle.arena.specs.History.{value, History, Start, ◌⊳◌, EndsWith}
+use Rattle.arena.specs.History.{value, History, Start, ◌⊳◌, Extends}
 use Rattle.arena.specs.Fills.{IsOwnNode, IsOwnScx, IsTakenScx}
 use Rattle.arena.specs.Lawful.{Lawful, HasWon}
 use Rattle.arena.specs.Log.{Entry, log, has, IsEntered, AreOnce}
 use Rattle.histories.proofs.Lemmas.{IsIn, Logs, aborted_never_won, lawful_tail, logs, newest, older, once, same as log_same, wins as log_wins}
 use Rattle.arena.specs.declared.step.Kind.TheVariants.{Freeze}
 use Rattle.arena.specs.declared.limits.Mode.TheVariants.{Records}
-use Rattle.prims.specs.Cells.{allows_all}
+use Rattle.prims.specs.Cells.{AllowsAll}
 use Rattle.prims.specs.Moments.{IsAsFound}
-use Rattle.prims.specs.Snaps.{IsAmong, HasNode}
-use Rattle.prims.specs.Updates.{field_place}
+use Rattle.prims.specs.Snaps.{IsAmong, ListsNode}
+use Rattle.prims.specs.Updates.{update_field_index}
 use Rattle.prims.specs.Snap.{snap_at}
-use Rattle.prims.specs.ScxKnown.{IsEntryAt, IsDone as IsScxDone, removed_nodes, nodes_of, update_entry}
-use Rattle.prims.specs.PutKnown.{put_ready, put_waits, put_answers}
-use Rattle.prims.proofs.Changed.{put_changed}
-use Rattle.prims.proofs.Planned.{removed_those}
-use Rattle.prims.proofs.Shares.{left_own_node, left_own_scx, taken_share, next_free, next_unwon, all_over}
-use Rattle.prims.proofs.Usable.{put_ready_first}
+use Rattle.prims.specs.Scx.Known.{IsEntryAt, IsDone as IsScxDone, removed_nodes, nodes_of, update_entry}
+use Rattle.prims.specs.Put.Known.{PutIsReady, PutWaits, PutAnswers}
+use Rattle.prims.proofs.Lemmas.{put_changed, removed_those, left_own_node, left_own_scx, taken_share, next_free, next_unwon, all_over, put_ready_first}
 use Rattle.prims.specs.declared.snap.Snap.{Snap}
 use Rattle.prims.specs.declared.scx.Scx.{Scx}
 use Rattle.prims.specs.declared.scx.Scx.TheVariants.{Done, Lost}
 use Rattle.prims.specs.declared.scx.ScxAt.TheVariants.{Start as ScxStart}
 use Rattle.prims.specs.declared.put.PutRun.{PutRun}
 use Rattle.prims.specs.declared.put.PutAt.TheVariants.{Start as PutStart}
-use Rattle.arena.specs.Share.{taken, IsFull, IsFullOf}
+use Rattle.arena.specs.Share.{after_taking, IsFull, IsFullOf}
 use Rattle.arena.specs.declared.fault.Full.{Full}
 use Rattle.arena.specs.declared.fault.Resource.{Resource}
 use Rattle.arena.specs.declared.fault.Resource.TheVariants.{Nodes, Scx as ScxRecords}
-use Rattle.forest.specs.declared.view.View.{View}
+use Rattle.forest.specs.declared.view.SeatView.{SeatView}
 use Rattle.forest.specs.declared.pass.Pass.TheInside.{Inside}
-use Rattle.forest.specs.Kept.{past, knower}
-use Rattle.forest.specs.Courses.{Course, IsCalled, known_of, steps_of}
+use Rattle.forest.specs.TableRule.{history_of, seated_pass}
+use Rattle.forest.specs.Traces.{Trace, HoldsForCall, known_of, seat_steps}
 use Rattle.forest.specs.Shares.{entries_of}
-use Rattle.forest.specs.Puts.{IsPutOf}
-use Rattle.forest.specs.Passes.{AreOfCall, HasGoneOn, IsLater, CanUse, HasLeftAlone, Each, ScxSays, IsAllTaken, IsUsedUp, done_of, taken_of}
-use Rattle.forest.specs.Held.{sight, IsPass}
-use Rattle.forest.proofs.Frames.{Goes}
+use Rattle.forest.specs.Puts.{IsPutOver}
+use Rattle.forest.specs.Passes.{AreOfCall, HasGoneOn, IsLaterView, CanUse, HasLeftAlone, Each, ScxSays, IsAllTaken, IsUsedUp, done_of, taken_of}
+use Rattle.forest.specs.PassInvariant.{pass_view, IsPass}
+use Rattle.forest.proofs.Frames.{CarriesOn}
 use Rattle.forest.proofs.Calls.{HasHand, course_keeps, put_goes, put_rests}
 use Rattle.forest.proofs.Called.{course_calls}
 use Rattle.forest.proofs.Passes.{call_of, can_use_later, steps_are}
@@ -73,7 +70,7 @@ once_same a b (x ∷ es) o e i j = go (split a i) (split b j) (once_same a b es 
     go (inr p) (inr q) more = more p q
 
 -- an entry of the log stays
-in_since : (lay : Layout) (h m : History) (e : Entry) → Lawful lay h → EndsWith h m → IsIn e (log lay m) → IsIn e (log lay h)
+in_since : (lay : Layout) (h m : History) (e : Entry) → Lawful lay h → Extends h m → IsIn e (log lay m) → IsIn e (log lay h)
 in_since lay (Start mode) m e l p i = subst (λ k. IsIn e (log lay k)) p i
 in_since lay (r ⊳ h) m e l (inl p) i = subst (λ k. IsIn e (log lay k)) p i
 in_since lay (r ⊳ h) m e l (inr p) i = go (logs lay h r l) (in_since lay h m e (lawful_tail lay h r l) p i)
@@ -96,17 +93,17 @@ in_entries c e (x ∷ es) rest q = go (eqb x.owner c) q (in_entries c e es rest)
 
 -- A share that is used up
 
-pub used_up : {T : Type 0} (p : Inside T) (x : IsPass allows_all Records p) (f : Full) → IsFull p.share f → IsUsedUp (sight p) f
+pub used_up : {T : Type 0} (p : Inside T) (x : IsPass AllowsAll Records p) (f : Full) → IsFull p.share f → IsUsedUp (pass_view p) f
 used_up p x f full = (full, go f.what full)
   where
-    go : (what : Resource) → IsFullOf p.share what f.left → IsAllTaken (sight p) what
+    go : (what : Resource) → IsFullOf p.share what f.left → IsAllTaken (pass_view p) what
     go Nodes q = λ n own. x.rest.share.taken_nodes n own (let a = own.below in let b = x.rest.share.to_node in let z = q.0 in omega arith)
     go ScxRecords q = λ s own. x.rest.share.taken_scx s own (let a = own.below in let b = x.rest.share.to_scx in let z = q.1 in omega arith)
 
 -- Calls
 
 -- further on it is still that
-put_same : (old now : PutRun) (snaps : List Snap) (finalize : List NodeNo) (field : ℕ × Side) (v node scx number : ℕ) → (now.scx.scx ≡ old.scx.scx) × (now.scx.update ≡ old.scx.update) × (now.scx.call ≡ old.scx.call) × (now.value ≡ old.value) → IsPutOf old snaps finalize field v node scx number → IsPutOf now snaps finalize field v node scx number
+put_same : (old now : PutRun) (snaps : List Snap) (finalize : List NodeNo) (field : ℕ × Side) (v node scx number : ℕ) → (now.scx.scx ≡ old.scx.scx) × (now.scx.update ≡ old.scx.update) × (now.scx.call ≡ old.scx.call) × (now.value ≡ old.value) → IsPutOver old snaps finalize field v node scx number → IsPutOver now snaps finalize field v node scx number
 put_same old now snaps finalize field v node scx number s x = record {
   over = rw s.1 x.over;
   snaps_are = rw s.1 x.snaps_are;
@@ -120,16 +117,16 @@ put_same old now snaps finalize field v node scx number s x = record {
 }
 
 -- it has the next records of the pass's share, and the snapshots, in hand
-put_hand : (m : PutRun) (snaps : List Snap) (finalize : List NodeNo) (field : ℕ × Side) (v node scx number : ℕ) → IsPutOf m snaps finalize field v node scx number → HasHand m node scx snaps
+put_hand : (m : PutRun) (snaps : List Snap) (finalize : List NodeNo) (field : ℕ × Side) (v node scx number : ℕ) → IsPutOver m snaps finalize field v node scx number → HasHand m node scx snaps
 put_hand m snaps finalize field v node scx number x = record { fresh = x.fresh; record_is = x.record_is; snaps_are = x.snaps_are }
 
-module _ {T : Type 0} (p : Inside T) (x : IsPass allows_all Records p) (some_node : 0 < p.share.nodes) (some_scx : 0 < p.share.scx) (snaps : List Snap) (finalize : List NodeNo) (field : ℕ × Side) (v number : ℕ) where
+module _ {T : Type 0} (p : Inside T) (x : IsPass AllowsAll Records p) (some_node : 0 < p.share.nodes) (some_scx : 0 < p.share.scx) (snaps : List Snap) (finalize : List NodeNo) (field : ℕ × Side) (v number : ℕ) where
   -- a run of this call
   abbrev pub Is : PutRun → Type 0
-  Is m = IsPutOf m snaps finalize field v p.share.next_node p.share.next_scx number
+  Is m = IsPutOver m snaps finalize field v p.share.next_node p.share.next_scx number
 
   abbrev start : History
-  start = past p.layout.mode (known_of p.seat.me.0.passes)
+  start = history_of p.layout.mode (known_of p.seat.me.0.passes)
 
   own_node : IsOwnNode p.layout p.number.0 p.share.next_node
   own_node = left_own_node p.layout start p.number.0 p.share _ _ p.share.next_node x.rest.share record { from = omega arith; below = omega arith }
@@ -140,14 +137,14 @@ module _ {T : Type 0} (p : Inside T) (x : IsPass allows_all Records p) (some_nod
   free : ¬ IsTakenScx start p.share.next_scx
   free = next_free p.layout start p.number.0 p.share _ _ x.rest.share own_scx
 
-  pub put_begins : (m : PutRun) → Is m → m.at ≡ PutStart → m.scx.at ≡ ScxStart → Each (CanUse (sight p)) snaps → IsCalled allows_all p.seat.me.0.passes (call_of p x number) (λ h. ((call_of p x number).start ≡ h) × put_ready allows_all m (call_of p x number) h None)
+  pub put_begins : (m : PutRun) → Is m → m.at ≡ PutStart → m.scx.at ≡ ScxStart → Each (CanUse (pass_view p)) snaps → HoldsForCall AllowsAll p.seat.me.0.passes (call_of p x number) (λ h. ((call_of p x number).start ≡ h) × PutIsReady AllowsAll m (call_of p x number) h None)
   put_begins m of at scx_at usable = record {
     known = known_of p.seat.me.0.passes;
     is = x.seat;
     sound = x.sound;
     so = (
       refl,
-      put_ready_first p.layout p.number.0 number x.is_pass start m x.sound.lawful of.over (rw of.snaps_are (each_at (CanUse (sight p)) snaps usable)) at
+      put_ready_first p.layout p.number.0 number x.is_pass start m x.sound.lawful of.over (rw of.snaps_are (each_at (CanUse (pass_view p)) snaps usable)) at
           scx_at (rw of.record_is own_scx) (rw of.record_is x.rest.share.taken_scx) (rw of.record_is free) (rw of.fresh own_node) (rw of.fresh x.rest.share.taken_nodes)
           (rw of.fresh (x.rest.share.unmentioned p.share.next_node record { from = omega arith; below = omega arith }))
           (rw of.fresh (x.rest.share.untaken_nodes p.share.next_node record { from = omega arith; below = omega arith }))
@@ -156,49 +153,49 @@ module _ {T : Type 0} (p : Inside T) (x : IsPass allows_all Records p) (some_nod
   }
 
   -- what the pass has after the call
-  pub record HasPut (s : Seat ℕ View) (a : Scx) : Type 0 where
-    pub seat : s.me.0.passes ≡ knower p.number.0 p.layout (known_of s.me.0.passes) ∷ []
+  pub record HasPut (s : Seat ℕ SeatView) (a : Scx) : Type 0 where
+    pub seat : s.me.0.passes ≡ seated_pass p.number.0 p.layout (known_of s.me.0.passes) ∷ []
     pub run : PutRun
     pub is_of : Is run
-    pub answers : put_answers run (call_of p x number) (past p.layout.mode (known_of s.me.0.passes)) a
-    pub goes : Goes allows_all p.layout p.number.0 start (past p.layout.mode (known_of s.me.0.passes)) (taken p.share) p.share.next_node p.share.next_scx snaps
-    pub calls : AreOfCall p.number.0 number start (past p.layout.mode (known_of s.me.0.passes))
+    pub answers : PutAnswers run (call_of p x number) (history_of p.layout.mode (known_of s.me.0.passes)) a
+    pub goes : CarriesOn AllowsAll p.layout p.number.0 start (history_of p.layout.mode (known_of s.me.0.passes)) (after_taking p.share) p.share.next_node p.share.next_scx snaps
+    pub calls : AreOfCall p.number.0 number start (history_of p.layout.mode (known_of s.me.0.passes))
 
   abbrev pub Same : PutRun → PutRun → Type 0
   Same old now = (now.scx.scx ≡ old.scx.scx) × (now.scx.update ≡ old.scx.update) × (now.scx.call ≡ old.scx.call) × (now.value ≡ old.value)
 
-  pub put_called : (s : Seat ℕ View) (first m : PutRun) (a : Scx) → Is first → IsCalled allows_all s.me.0.passes (call_of p x number) (λ h. put_answers m (call_of p x number) h a × Course allows_all (put_waits allows_all) Same (call_of p x number) first m h) → HasPut s a
+  pub put_called : (s : Seat ℕ SeatView) (first m : PutRun) (a : Scx) → Is first → HoldsForCall AllowsAll s.me.0.passes (call_of p x number) (λ h. PutAnswers m (call_of p x number) h a × Trace AllowsAll (PutWaits AllowsAll) Same (call_of p x number) first m h) → HasPut s a
   put_called s first m a of y =
       let known : y.known ≡ known_of s.me.0.passes = sym (ap known_of y.is) in
       record {
         seat = rw known at y.is;
         run = m;
         is_of = course_keeps Is of (λ old now e q. put_same old now snaps finalize field v p.share.next_node p.share.next_scx number e q) m _ y.so.1;
-        answers = subst (λ rows. put_answers m (call_of p x number) (past p.layout.mode rows) a) known y.so.0;
-        goes = subst (λ rows. Goes allows_all p.layout p.number.0 start (past p.layout.mode rows) (taken p.share) p.share.next_node p.share.next_scx snaps) known
-            (put_goes Same (call_of p x number) first (taken p.share) p.share.next_node p.share.next_scx snaps (put_hand first snaps finalize field v p.share.next_node p.share.next_scx number of)
+        answers = subst (λ rows. PutAnswers m (call_of p x number) (history_of p.layout.mode rows) a) known y.so.0;
+        goes = subst (λ rows. CarriesOn AllowsAll p.layout p.number.0 start (history_of p.layout.mode rows) (after_taking p.share) p.share.next_node p.share.next_scx snaps) known
+            (put_goes Same (call_of p x number) first (after_taking p.share) p.share.next_node p.share.next_scx snaps (put_hand first snaps finalize field v p.share.next_node p.share.next_scx number of)
             (λ old now e q. record { fresh = rw e.1 q.fresh; record_is = rw e.0 q.record_is; snaps_are = rw e.1 q.snaps_are })
             (omega arith) (omega arith) x.sound (taken_share p.layout start p.number.0 p.share some_node some_scx x.rest.share) x.rest.over
             (λ w. next_unwon p.layout start p.number.0 p.share _ _ x.sound.lawful x.rest.share own_scx w.1) m _ y.so.1).1;
-        calls = subst (λ rows. AreOfCall p.number.0 number start (past p.layout.mode rows)) known (course_calls (call_of p x number) m _ y.so.1);
+        calls = subst (λ rows. AreOfCall p.number.0 number start (history_of p.layout.mode rows)) known (course_calls (call_of p x number) m _ y.so.1);
       }
 
   -- the pass with what is left of its share, and its seat as it is now
-  abbrev pub spent : Seat ℕ View → Inside T
-  spent s = record p { share = taken p.share; seat = s }
+  abbrev pub spent : Seat ℕ SeatView → Inside T
+  spent s = record p { share = after_taking p.share; seat = s }
 
-  pub put_pass : (s : Seat ℕ View) (a : Scx) → s.me.1 ≡ p.seat.me.1 → HasPut s a → IsPass allows_all Records (spent s)
+  pub put_pass : (s : Seat ℕ SeatView) (a : Scx) → s.me.1 ≡ p.seat.me.1 → HasPut s a → IsPass AllowsAll Records (spent s)
   put_pass s a bare y = record {
     seat = y.seat;
     bare = bare ∙ x.bare;
     is_mode = x.is_mode;
     is_pass = x.is_pass;
     sound = y.goes.sound;
-    rest = put_rests (call_of p x number) y.run _ a (taken p.share) p.share.next_node p.share.next_scx snaps (put_hand y.run snaps finalize field v p.share.next_node p.share.next_scx number y.is_of) (omega arith) (omega arith) (λ e. let q = own_scx.from in omega arith) y.answers y.goes;
-    blamed = blamed_later (sight p) (sight (spent s)) refl refl refl y.goes.sound.lawful y.goes.since x.blamed;
+    rest = put_rests (call_of p x number) y.run _ a (after_taking p.share) p.share.next_node p.share.next_scx snaps (put_hand y.run snaps finalize field v p.share.next_node p.share.next_scx number y.is_of) (omega arith) (omega arith) (λ e. let q = own_scx.from in omega arith) y.answers y.goes;
+    blamed = blamed_later (pass_view p) (pass_view (spent s)) refl refl refl y.goes.sound.lawful y.goes.since x.blamed;
   }
 
-  pub put_says : (s : Seat ℕ View) (a : Scx) → number ≡ taken_of (sight p) → HasPut s a → ScxSays (sight p) (sight (spent s)) snaps finalize field v a
+  pub put_says : (s : Seat ℕ SeatView) (a : Scx) → number ≡ taken_of (pass_view p) → HasPut s a → ScxSays (pass_view p) (pass_view (spent s)) snaps finalize field v a
   put_says s Done is y = (
     e,
     record {
@@ -208,13 +205,13 @@ module _ {T : Type 0} (p : Inside T) (x : IsPass allows_all Records p) (some_nod
       since = at.since;
       wins = at.wins;
       logged = at.logged;
-      done = z.2 ∙ ap (λ k. k ∷ done_of (sight p)) same;
+      done = z.2 ∙ ap (λ k. k ∷ done_of (pass_view p)) same;
       of_pass = refl;
       of_record = y.is_of.record_is;
       of_call = y.is_of.called ∙ is;
       members = ap nodes_of y.is_of.snaps_are;
-      removed = λ n. subst (λ l. (has (removed_nodes m.scx.update.plan.0 l 0) n ≡ true) ↔ (IsAmong snaps n × HasNode finalize n)) (sym y.is_of.snaps_are) (removed_those m.scx.update.plan.0 snaps _ y.is_of.removed n);
-      node = ap (λ l. (snap_at l (field_place m.scx.update)).node.0) y.is_of.snaps_are ∙ y.is_of.node_is;
+      removed = λ n. subst (λ l. (has (removed_nodes m.scx.update.plan.0 l 0) n ≡ true) ↔ (IsAmong snaps n × ListsNode finalize n)) (sym y.is_of.snaps_are) (removed_those m.scx.update.plan.0 snaps _ y.is_of.removed n);
+      node = ap (λ l. (snap_at l (update_field_index m.scx.update)).node.0) y.is_of.snaps_are ∙ y.is_of.node_is;
       side = y.is_of.side;
       fresh = y.is_of.fresh;
       has_value = y.answers.1.value ∙ y.is_of.is_value;
@@ -227,7 +224,7 @@ module _ {T : Type 0} (p : Inside T) (x : IsPass allows_all Records p) (some_nod
       m = y.run
 
       h : History
-      h = past p.layout.mode (known_of s.me.0.passes)
+      h = history_of p.layout.mode (known_of s.me.0.passes)
 
       e : Entry
       e = update_entry p.number.0 m.scx
@@ -238,27 +235,27 @@ module _ {T : Type 0} (p : Inside T) (x : IsPass allows_all Records p) (some_nod
       at : IsEntryAt (call_of p x number) h m.scx d.entry.row d.entry.before
       at = d.entry.is
 
-      z : (k : Entry) × (k.scx ≡ p.share.next_scx) × (done_of (sight (spent s)) ≡ k ∷ done_of (sight p))
+      z : (k : Entry) × (k.scx ≡ p.share.next_scx) × (done_of (pass_view (spent s)) ≡ k ∷ done_of (pass_view p))
       z = y.goes.won (own_scx, subst (λ k. HasWon h k) y.is_of.record_is d.won)
 
       same : z.0 ≡ e
-      same = once_same z.0 e (log p.layout h) (once p.layout h y.goes.sound.lawful) (z.1 ∙ sym y.is_of.record_is) (in_entries p.number.0 z.0 (log p.layout h) (done_of (sight p)) z.2)
+      same = once_same z.0 e (log p.layout h) (once p.layout h y.goes.sound.lawful) (z.1 ∙ sym y.is_of.record_is) (in_entries p.number.0 z.0 (log p.layout h) (done_of (pass_view p)) z.2)
           (in_since p.layout h (d.entry.row ⊳ d.entry.before) e y.goes.sound.lawful at.within (subst (λ l. IsIn e l) (sym at.logged) (newest _)))
   put_says s (Lost n u) is y = (
-    was_changed Freeze (sight p) (sight (spent s)) refl refl x.is_pass number _ snaps y.is_of.snaps_are n.0 u.0 (put_changed y.run (call_of p x number) h n u y.answers),
+    was_changed Freeze (pass_view p) (pass_view (spent s)) refl refl x.is_pass number _ snaps y.is_of.snaps_are n.0 u.0 (put_changed y.run (call_of p x number) h n u y.answers),
     y.goes.unwon (λ w. aborted_never_won p.layout h y.run.scx.scx.0 y.goes.sound.lawful y.answers.1.aborted (rw y.is_of.record_is w.1)),
     subst (λ (k : ℕ). value h (state k) ≡ 2) y.is_of.record_is y.answers.1.aborted,
   )
     where
       h : History
-      h = past p.layout.mode (known_of s.me.0.passes)
+      h = history_of p.layout.mode (known_of s.me.0.passes)
 
   -- snapshots of other nodes are still left alone
-  pub put_alone : (s : Seat ℕ View) (a : Scx) → HasPut s a → (snap : Snap) → ¬ IsAmong snaps snap.node.0 → HasLeftAlone (sight p) snap → HasLeftAlone (sight (spent s)) snap
+  pub put_alone : (s : Seat ℕ SeatView) (a : Scx) → HasPut s a → (snap : Snap) → ¬ IsAmong snaps snap.node.0 → HasLeftAlone (pass_view p) snap → HasLeftAlone (pass_view (spent s)) snap
   put_alone s a y = y.goes.alone
 
   -- it has gone on
-  pub put_goes_on : (s : Seat ℕ View) (a : Scx) (left most : ℕ) → s.table_id ≡ p.seat.table_id → s.me.1 ≡ p.seat.me.1 → HasPut s a → steps_of s.me.0.passes ≤ steps_of p.seat.me.0.passes + left → left ≤ most → HasGoneOn allows_all (sight p) (sight (spent s)) number most p.blamed
+  pub put_goes_on : (s : Seat ℕ SeatView) (a : Scx) (left most : ℕ) → s.table_id ≡ p.seat.table_id → s.me.1 ≡ p.seat.me.1 → HasPut s a → seat_steps s.me.0.passes ≤ seat_steps p.seat.me.0.passes + left → left ≤ most → HasGoneOn AllowsAll (pass_view p) (pass_view (spent s)) number most p.blamed
   put_goes_on s a left most table bare y few small = record {
     later = later;
     lawful = y.goes.sound;
@@ -266,8 +263,8 @@ module _ {T : Type 0} (p : Inside T) (x : IsPass allows_all Records p) (some_nod
     steps = let a = steps_are p.number.0 p.layout s.me.0.passes y.seat in let b = steps_are p.number.0 p.layout p.seat.me.0.passes x.seat in omega arith;
     blamed_these = refl;
     blames = (put_pass s a bare y).blamed;
-    usable = can_use_later (sight p) (sight (spent s)) later y.goes.sound.lawful;
+    usable = can_use_later (pass_view p) (pass_view (spent s)) later y.goes.sound.lawful;
   }
     where
-      later : IsLater (sight p) (sight (spent s))
+      later : IsLaterView (pass_view p) (pass_view (spent s))
       later = record { table = table; layout = refl; number = refl; run = y.goes.since }

@@ -10,51 +10,51 @@ use Rattle.arena.specs.declared.word.Side.TheVariants.{Left, Right}
 use Rattle.arena.specs.Words.{info, marked, child, state}
 use Rattle.arena.specs.History.{History}
 use Rattle.arena.specs.Machines.{Call, IsRun}
-use Rattle.prims.specs.LlxKnown.{load, llx_ready, llx_waits, llx_answers}
-use Rattle.prims.specs.LlxTurns.{Knows, knows, turn_first, turn_info, turn_state, turn_mark, turn_read, turn_right, turn_again, turn_compare}
+use Rattle.prims.specs.Llx.Known.{load, LlxIsReady, LlxWaits, LlxAnswers}
+use Rattle.prims.proofs.Lemmas.{Knows, knows, turn_first, turn_info, turn_state, turn_mark, turn_read, turn_right, turn_again, turn_compare}
 use Rattle.prims.specs.declared.llx.Llx.TheVariants.{Snapshot}
 use Rattle.prims.specs.declared.llx.LlxAt.{LlxAt}
 use Rattle.prims.specs.declared.llx.LlxAt.TheVariants.{Start, Marked, Info, State, MarkedAgain, Left as AtLeft, Right as AtRight, InfoAgain, StateAgain}
-use Rattle.forest.specs.declared.view.Knower.{Knower}
-use Rattle.forest.specs.StraightLlx.{run_at, same_node, LlxBegins, LlxWaits, LlxTold, LlxEnds}
+use Rattle.forest.specs.declared.view.SeatedPass.{SeatedPass}
+use Rattle.forest.specs.StraightLlx.{llx_at, IsSameNode, SeatLlxBegins, SeatLlxWaits, SeatLlxTold, SeatLlxEnds}
 use Rattle.forest.proofs.Places.{starts, goes, ends}
 
-module _ (allows : Layout → History → ℕ → Type 0) (c : Call) (ps : List Knower) (node : NodeNo) where
+module _ (allows : Layout → History → ℕ → Type 0) (c : Call) (ps : List SeatedPass) (node : NodeNo) where
   -- a turn takes it from place to place
-  turns : (at next : LlxAt) (v : ℕ) (step : Step) → (at ≡ Start → ⊥) → ((h : History) → IsRun allows c.layout h → Knows allows c h node.0 at v → llx_waits allows (run_at node next) c h step) → LlxTold allows c ps node at v → LlxWaits allows c ps node next step
-  turns at next v step d turn = goes allows (llx_ready allows) (llx_waits allows) same_node c ps (run_at node Start) (run_at node at) (run_at node next) v step refl (λ h run x. turn h run (knows allows (run_at node at) c h (Some v) v at refl d refl x))
+  turns : (at next : LlxAt) (v : ℕ) (step : Step) → (at ≡ Start → ⊥) → ((h : History) → IsRun allows c.layout h → Knows allows c h node.0 at v → LlxWaits allows (llx_at node next) c h step) → SeatLlxTold allows c ps node at v → SeatLlxWaits allows c ps node next step
+  turns at next v step d turn = goes allows (LlxIsReady allows) (LlxWaits allows) IsSameNode c ps (llx_at node Start) (llx_at node at) (llx_at node next) v step refl (λ h run x. turn h run (knows allows (llx_at node at) c h (Some v) v at refl d refl x))
 
-  pub to_mark : LlxBegins allows c ps node → LlxWaits allows c ps node Marked (load LoadMarked (marked node.0))
-  to_mark = starts allows (llx_ready allows) (llx_waits allows) same_node c ps (run_at node Start) (run_at node Marked) _ refl (λ h run x. turn_first allows c h run (run_at node Start) (run_at node Marked) (Ask _) x record { stands = refl; asked = refl })
+  pub to_mark : SeatLlxBegins allows c ps node → SeatLlxWaits allows c ps node Marked (load LoadMarked (marked node.0))
+  to_mark = starts allows (LlxIsReady allows) (LlxWaits allows) IsSameNode c ps (llx_at node Start) (llx_at node Marked) _ refl (λ h run x. turn_first allows c h run (llx_at node Start) (llx_at node Marked) (Ask _) x record { stands = refl; asked = refl })
 
-  pub to_info : (v : ℕ) (b : Bool) → (b ≡ true → v ≢ 0) → (b ≡ false → v ≡ 0) → LlxTold allows c ps node Marked v → LlxWaits allows c ps node (Info b) (load LoadInfo (info node.0))
-  to_info v b d z = turns Marked (Info b) v _ (λ e. cc) (λ h run k. turn_info allows c h run (run_at node Marked) (run_at node (Info b)) (Ask _) b v k d z record { stands = refl; asked = refl })
+  pub to_info : (v : ℕ) (b : Bool) → (b ≡ true → v ≢ 0) → (b ≡ false → v ≡ 0) → SeatLlxTold allows c ps node Marked v → SeatLlxWaits allows c ps node (Info b) (load LoadInfo (info node.0))
+  to_info v b d z = turns Marked (Info b) v _ (λ e. cc) (λ h run k. turn_info allows c h run (llx_at node Marked) (llx_at node (Info b)) (Ask _) b v k d z record { stands = refl; asked = refl })
 
-  pub to_state : (b : Bool) (v : ℕ) → LlxTold allows c ps node (Info b) v → LlxWaits allows c ps node (State b record { 0 = v }) (load LoadState (state v))
-  to_state b v = turns (Info b) (State b record { 0 = v }) v _ (λ e. cc) (λ h run k. turn_state allows c h run (run_at node (Info b)) (run_at node (State b record { 0 = v })) (Ask _) b v k record { stands = refl; asked = refl })
+  pub to_state : (b : Bool) (v : ℕ) → SeatLlxTold allows c ps node (Info b) v → SeatLlxWaits allows c ps node (State b record { 0 = v }) (load LoadState (state v))
+  to_state b v = turns (Info b) (State b record { 0 = v }) v _ (λ e. cc) (λ h run k. turn_state allows c h run (llx_at node (Info b)) (llx_at node (State b record { 0 = v })) (Ask _) b v k record { stands = refl; asked = refl })
 
-  pub to_mark_again : (b : Bool) (s : ScxNo) (v : ℕ) → LlxTold allows c ps node (State b s) v → LlxWaits allows c ps node (MarkedAgain b s v) (load LoadMarked (marked node.0))
-  to_mark_again b s v = turns (State b s) (MarkedAgain b s v) v _ (λ e. cc) (λ h run k. turn_mark allows c h run (run_at node (State b s)) (run_at node (MarkedAgain b s v)) (Ask _) b s v k record { stands = refl; asked = refl })
+  pub to_mark_again : (b : Bool) (s : ScxNo) (v : ℕ) → SeatLlxTold allows c ps node (State b s) v → SeatLlxWaits allows c ps node (MarkedAgain b s v) (load LoadMarked (marked node.0))
+  to_mark_again b s v = turns (State b s) (MarkedAgain b s v) v _ (λ e. cc) (λ h run k. turn_mark allows c h run (llx_at node (State b s)) (llx_at node (MarkedAgain b s v)) (Ask _) b s v k record { stands = refl; asked = refl })
 
-  pub to_left : (b : Bool) (s : ScxNo) (v found : ℕ) (again : Bool) → (again ≡ false → found ≡ 0) → (again ≡ true → found ≢ 0) → (v ≡ 2) ⊎ ((v ≡ 1) × (again ≡ false)) → LlxTold allows c ps node (MarkedAgain b s v) found → LlxWaits allows c ps node (AtLeft b s) (load LoadChild (child node.0 Left))
-  to_left b s v found again z d in_place = turns (MarkedAgain b s v) (AtLeft b s) found _ (λ e. cc) (λ h run k. turn_read allows c h run (run_at node (MarkedAgain b s v)) (run_at node (AtLeft b s)) (Ask _) b s v found again k z d (inl record { in_place = in_place; asks = record { stands = refl; asked = refl } }))
+  pub to_left : (b : Bool) (s : ScxNo) (v found : ℕ) (again : Bool) → (again ≡ false → found ≡ 0) → (again ≡ true → found ≢ 0) → (v ≡ 2) ⊎ ((v ≡ 1) × (again ≡ false)) → SeatLlxTold allows c ps node (MarkedAgain b s v) found → SeatLlxWaits allows c ps node (AtLeft b s) (load LoadChild (child node.0 Left))
+  to_left b s v found again z d in_place = turns (MarkedAgain b s v) (AtLeft b s) found _ (λ e. cc) (λ h run k. turn_read allows c h run (llx_at node (MarkedAgain b s v)) (llx_at node (AtLeft b s)) (Ask _) b s v found again k z d (inl record { in_place = in_place; asks = record { stands = refl; asked = refl } }))
 
   -- something is in the way
-  pub declines : (b : Bool) (s : ScxNo) (v found : ℕ) (again : Bool) → (again ≡ false → found ≡ 0) → (again ≡ true → found ≢ 0) → v ≢ 2 → (v ≡ 1 → again ≡ true) → LlxTold allows c ps node (MarkedAgain b s v) found → LlxWaits allows c ps node (StateAgain b s) (load LoadState (state s.0))
-  declines b s v found again z d two one = turns (MarkedAgain b s v) (StateAgain b s) found _ (λ e. cc) (λ h run k. turn_read allows c h run (run_at node (MarkedAgain b s v)) (run_at node (StateAgain b s)) (Ask _) b s v found again k z d (inr record { not_aborted = two; marked = one; asks = record { stands = refl; asked = refl } }))
+  pub declines : (b : Bool) (s : ScxNo) (v found : ℕ) (again : Bool) → (again ≡ false → found ≡ 0) → (again ≡ true → found ≢ 0) → v ≢ 2 → (v ≡ 1 → again ≡ true) → SeatLlxTold allows c ps node (MarkedAgain b s v) found → SeatLlxWaits allows c ps node (StateAgain b s) (load LoadState (state s.0))
+  declines b s v found again z d two one = turns (MarkedAgain b s v) (StateAgain b s) found _ (λ e. cc) (λ h run k. turn_read allows c h run (llx_at node (MarkedAgain b s v)) (llx_at node (StateAgain b s)) (Ask _) b s v found again k z d (inr record { not_aborted = two; marked = one; asks = record { stands = refl; asked = refl } }))
 
-  pub to_right : (b : Bool) (s : ScxNo) (v : ℕ) → LlxTold allows c ps node (AtLeft b s) v → LlxWaits allows c ps node (AtRight b s v) (load LoadChild (child node.0 Right))
-  to_right b s v = turns (AtLeft b s) (AtRight b s v) v _ (λ e. cc) (λ h run k. turn_right allows c h run (run_at node (AtLeft b s)) (run_at node (AtRight b s v)) (Ask _) b s v k record { stands = refl; asked = refl })
+  pub to_right : (b : Bool) (s : ScxNo) (v : ℕ) → SeatLlxTold allows c ps node (AtLeft b s) v → SeatLlxWaits allows c ps node (AtRight b s v) (load LoadChild (child node.0 Right))
+  to_right b s v = turns (AtLeft b s) (AtRight b s v) v _ (λ e. cc) (λ h run k. turn_right allows c h run (llx_at node (AtLeft b s)) (llx_at node (AtRight b s v)) (Ask _) b s v k record { stands = refl; asked = refl })
 
-  pub to_info_again : (b : Bool) (s : ScxNo) (x v : ℕ) → LlxTold allows c ps node (AtRight b s x) v → LlxWaits allows c ps node (InfoAgain b s x v) (load LoadInfo (info node.0))
-  to_info_again b s x v = turns (AtRight b s x) (InfoAgain b s x v) v _ (λ e. cc) (λ h run k. turn_again allows c h run (run_at node (AtRight b s x)) (run_at node (InfoAgain b s x v)) (Ask _) b s x v k record { stands = refl; asked = refl })
+  pub to_info_again : (b : Bool) (s : ScxNo) (x v : ℕ) → SeatLlxTold allows c ps node (AtRight b s x) v → SeatLlxWaits allows c ps node (InfoAgain b s x v) (load LoadInfo (info node.0))
+  to_info_again b s x v = turns (AtRight b s x) (InfoAgain b s x v) v _ (λ e. cc) (λ h run k. turn_again allows c h run (llx_at node (AtRight b s x)) (llx_at node (InfoAgain b s x v)) (Ask _) b s x v k record { stands = refl; asked = refl })
 
-  pub differs : (b : Bool) (s : ScxNo) (x y v : ℕ) → v ≢ s.0 → LlxTold allows c ps node (InfoAgain b s x y) v → LlxWaits allows c ps node (StateAgain b s) (load LoadState (state s.0))
-  differs b s x y v d = turns (InfoAgain b s x y) (StateAgain b s) v _ (λ e. cc) (λ h run k. turn_compare allows c h run (run_at node (InfoAgain b s x y)) (run_at node (StateAgain b s)) (Ask _) b s x y v k (inr record { other = d; asks = record { stands = refl; asked = refl } }))
+  pub differs : (b : Bool) (s : ScxNo) (x y v : ℕ) → v ≢ s.0 → SeatLlxTold allows c ps node (InfoAgain b s x y) v → SeatLlxWaits allows c ps node (StateAgain b s) (load LoadState (state s.0))
+  differs b s x y v d = turns (InfoAgain b s x y) (StateAgain b s) v _ (λ e. cc) (λ h run k. turn_compare allows c h run (llx_at node (InfoAgain b s x y)) (llx_at node (StateAgain b s)) (Ask _) b s x y v k (inr record { other = d; asks = record { stands = refl; asked = refl } }))
 
-  pub snaps : (b : Bool) (s : ScxNo) (x y v : ℕ) → v ≡ s.0 → LlxTold allows c ps node (InfoAgain b s x y) v → LlxEnds allows c ps node (Snapshot record { node = node; scx = s; left = record { 0 = x }; right = record { 0 = y } })
+  pub snaps : (b : Bool) (s : ScxNo) (x y v : ℕ) → v ≡ s.0 → SeatLlxTold allows c ps node (InfoAgain b s x y) v → SeatLlxEnds allows c ps node (Snapshot record { node = node; scx = s; left = record { 0 = x }; right = record { 0 = y } })
   snaps b s x y v e t = (
-    run_at node (InfoAgain b s x y),
-    ends allows (llx_ready allows) (llx_waits allows) same_node c ps (run_at node Start) llx_answers (run_at node (InfoAgain b s x y)) (run_at node (InfoAgain b s x y)) v (Snapshot record { node = node; scx = s; left = record { 0 = x }; right = record { 0 = y } }) refl
-        (λ h run r. turn_compare allows c h run (run_at node (InfoAgain b s x y)) (run_at node (InfoAgain b s x y)) (Done (Snapshot record { node = node; scx = s; left = record { 0 = x }; right = record { 0 = y } })) b s x y v (knows allows (run_at node (InfoAgain b s x y)) c h (Some v) v (InfoAgain b s x y) refl (λ z. cc) refl r) (inl record { same = e; run = refl; done = refl })) t,
+    llx_at node (InfoAgain b s x y),
+    ends allows (LlxIsReady allows) (LlxWaits allows) IsSameNode c ps (llx_at node Start) LlxAnswers (llx_at node (InfoAgain b s x y)) (llx_at node (InfoAgain b s x y)) v (Snapshot record { node = node; scx = s; left = record { 0 = x }; right = record { 0 = y } }) refl
+        (λ h run r. turn_compare allows c h run (llx_at node (InfoAgain b s x y)) (llx_at node (InfoAgain b s x y)) (Done (Snapshot record { node = node; scx = s; left = record { 0 = x }; right = record { 0 = y } })) b s x y v (knows allows (llx_at node (InfoAgain b s x y)) c h (Some v) v (InfoAgain b s x y) refl (λ z. cc) refl r) (inl record { same = e; run = refl; done = refl })) t,
   )

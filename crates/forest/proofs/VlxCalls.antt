@@ -9,21 +9,18 @@ use Rattle.arena.specs.declared.step.Kind.TheVariants.{LoadInfo}
 use Rattle.arena.specs.declared.limits.Mode.{Mode}
 use Rattle.prims.specs.Snaps.{AreDistinct, IsAmong}
 use Rattle.prims.specs.Snap.{snap_at}
-use Rattle.prims.specs.VlxKnown.{vlx_answers}
-use Rattle.prims.proofs.FillsNot.{vlx_fills_not}
-use Rattle.prims.proofs.Changed.{IsChanged, vlx_changed}
-use Rattle.prims.proofs.Shares.{all_over}
-use Rattle.prims.proofs.Usable.{vlx_ready_first}
+use Rattle.prims.specs.Vlx.Known.{VlxAnswers}
+use Rattle.prims.proofs.Lemmas.{vlx_fills_not, IsChanged, vlx_changed, all_over, vlx_ready_first}
 use Rattle.prims.specs.declared.snap.Snap.{Snap}
 use Rattle.prims.specs.declared.vlx.Vlx.{Vlx}
 use Rattle.prims.specs.declared.vlx.Vlx.TheVariants.{Same, Changed}
 use Rattle.prims.specs.declared.vlx.VlxRun.{VlxRun}
-use Rattle.forest.specs.declared.view.View.{View}
+use Rattle.forest.specs.declared.view.SeatView.{SeatView}
 use Rattle.forest.specs.declared.pass.Pass.TheInside.{Inside}
-use Rattle.forest.specs.Courses.{known_of}
-use Rattle.forest.specs.StraightVlx.{run_at, same_snaps, waits_over, VlxBegins, VlxEnds}
-use Rattle.forest.specs.Passes.{Sight, CanUse, Each, AreApart, HasNodeOf, WasChanged, VlxSays, run_of}
-use Rattle.forest.specs.Held.{sight, IsPass}
+use Rattle.forest.specs.Traces.{known_of}
+use Rattle.forest.specs.StraightVlx.{vlx_at, AreSameSnaps, waits_over, SeatVlxBegins, SeatVlxEnds}
+use Rattle.forest.specs.Passes.{PassView, CanUse, Each, AreApart, HasNodeOf, WasChanged, VlxSays, run_of}
+use Rattle.forest.specs.PassInvariant.{pass_view, IsPass}
 use Rattle.forest.proofs.Calls.{course_keeps}
 use Rattle.forest.proofs.Passes.{HasCalled, call_of, seated, called}
 
@@ -47,7 +44,7 @@ among_at (snap ∷ snaps) n (inl e) = record { at = 0; within = omega arith; is 
 among_at (snap ∷ snaps) n (inr x) = let y = among_at snaps n x in record { at = suc y.at; within = let i = y.within in omega arith; is = y.is }
 
 -- a node that was changed since its snapshot
-abbrev pub was_changed : (kind : Kind) (old new : Sight) → new.layout ≡ old.layout → new.number ≡ old.number → (is_pass : new.number < new.layout.passes) (number : ℕ) (items snaps : List Snap) → items ≡ snaps → (n s : ℕ) → IsChanged kind (record { layout = new.layout; pass = new.number; is_pass = is_pass; number = number; start = run_of old }) (run_of new) items n s → WasChanged kind old new snaps n s
+abbrev pub was_changed : (kind : Kind) (old new : PassView) → new.layout ≡ old.layout → new.number ≡ old.number → (is_pass : new.number < new.layout.passes) (number : ℕ) (items snaps : List Snap) → items ≡ snaps → (n s : ℕ) → IsChanged kind (record { layout = new.layout; pass = new.number; is_pass = is_pass; number = number; start = run_of old }) (run_of new) items n s → WasChanged kind old new snaps n s
 was_changed kind old new layout pass is_pass number items snaps is n s z = record {
   index = z.index;
   within = rw is at z.within;
@@ -60,26 +57,26 @@ was_changed kind old new layout pass is_pass number items snaps is n s z = recor
 -- Calls
 
 module _ {L : Type 0} (list : L → List Snap) {allows : Layout → History → ℕ → Type 0} {mode : Mode} {T : Type 0} (p : Inside T) (x : IsPass allows mode p) (number : ℕ) where
-  pub vlx_begins : (snaps : L) → 0 < length (list snaps) → Each (CanUse (sight p)) (list snaps) → VlxBegins list allows (call_of p x number) p.seat.me.0.passes snaps
+  pub vlx_begins : (snaps : L) → 0 < length (list snaps) → Each (CanUse (pass_view p)) (list snaps) → SeatVlxBegins list allows (call_of p x number) p.seat.me.0.passes snaps
   vlx_begins snaps some usable = record {
     known = known_of p.seat.me.0.passes;
     is = x.seat;
     sound = x.sound;
     so = (
       refl,
-      vlx_ready_first p.layout p.number.0 number x.is_pass _ (list snaps) 0 refl some (each_at (CanUse (sight p)) (list snaps) usable) (all_over p.layout _ p.number.0 p.share _ _ x.rest.share x.rest.over),
+      vlx_ready_first p.layout p.number.0 number x.is_pass _ (list snaps) 0 refl some (each_at (CanUse (pass_view p)) (list snaps) usable) (all_over p.layout _ p.number.0 p.share _ _ x.rest.share x.rest.over),
     );
   }
 
   abbrev pub Looked : L → Vlx → History → Type 0
-  Looked snaps a h = vlx_answers (list snaps) (call_of p x number) h a
+  Looked snaps a h = VlxAnswers (list snaps) (call_of p x number) h a
 
-  pub vlx_called : (s : Seat ℕ View) (snaps : L) (a : Vlx) → VlxEnds list allows (call_of p x number) s.me.0.passes snaps a → HasCalled allows p s number (Looked snaps a)
+  pub vlx_called : (s : Seat ℕ SeatView) (snaps : L) (a : Vlx) → SeatVlxEnds list allows (call_of p x number) s.me.0.passes snaps a → HasCalled allows p s number (Looked snaps a)
   vlx_called s snaps a y =
-      let z = called p x s number (waits_over list) same_snaps (run_at snaps 0) y.0 (λ h. vlx_answers (list y.0.snaps) (call_of p x number) h a) (λ k h t w. vlx_fills_not (list k.snaps) k.asked (call_of p x number) h t w) y.1 in
+      let z = called p x s number (waits_over list) AreSameSnaps (vlx_at snaps 0) y.0 (λ h. VlxAnswers (list y.0.snaps) (call_of p x number) h a) (λ k h t w. vlx_fills_not (list k.snaps) k.asked (call_of p x number) h t w) y.1 in
       let is : y.0.snaps ≡ snaps = course_keeps (λ (k : VlxRun L). k.snaps ≡ snaps) refl (λ old now e q. e ∙ q) y.0 _ y.1.so.1 in
       record { seat = z.seat; answers = rw is at z.answers; goes = z.goes; calls = z.calls }
 
-  pub vlx_says : (s : Seat ℕ View) (snaps : L) (a : Vlx) → HasCalled allows p s number (Looked snaps a) → VlxSays (sight p) (sight (seated p s)) (list snaps) a
+  pub vlx_says : (s : Seat ℕ SeatView) (snaps : L) (a : Vlx) → HasCalled allows p s number (Looked snaps a) → VlxSays (pass_view p) (pass_view (seated p s)) (list snaps) a
   vlx_says s snaps Same y = y.answers.found
-  vlx_says s snaps (Changed n u) y = (was_changed LoadInfo (sight p) (sight (seated p s)) refl refl x.is_pass number _ (list snaps) refl n.0 u.0 (vlx_changed (list snaps) (call_of p x number) _ n u y.answers), y.answers.before)
+  vlx_says s snaps (Changed n u) y = (was_changed LoadInfo (pass_view p) (pass_view (seated p s)) refl refl x.is_pass number _ (list snaps) refl n.0 u.0 (vlx_changed (list snaps) (call_of p x number) _ n u y.answers), y.answers.before)

@@ -1,12 +1,12 @@
-pub mod Kept
-pub mod Courses
 pub mod Shares
 pub mod Passes
 pub mod Puts
-pub mod Held
-pub mod Gathered
 pub mod Blames
 pub mod StraightLlx
 pub mod StraightHelp
 pub mod StraightScx
 pub mod StraightVlx
+pub mod Traces
+pub mod TableRule
+pub mod JoinedSeats
+pub mod PassInvariant

@@ -6,29 +6,29 @@ use Rattle.arena.specs.declared.layout.Layout.{Layout}
 use Rattle.arena.specs.declared.step.Row.{Row}
 use Rattle.arena.specs.declared.step.Kind.{Kind}
 use Rattle.arena.specs.declared.step.Kind.TheVariants.{Freeze, LoadInfo}
-use Rattle.arena.specs.Share.{Left, whole_share, HasScx, IsFull}
+use Rattle.arena.specs.Share.{Remaining, whole_share, HasScx, IsFull}
 use Rattle.arena.specs.declared.number.NodeNo.{NodeNo}
 use Rattle.arena.specs.declared.word.Side.{Side}
 use Rattle.arena.specs.declared.word.NodeWord.TheVariants.{Value}
 use Rattle.arena.specs.declared.word.Word.{Word}
 use Rattle.arena.specs.Layout.{all_nodes, IsWord}
 use Rattle.arena.specs.Machines.{IsRun}
-use Rattle.arena.specs.PlainWords.{Contents, held}
+use Rattle.arena.specs.PlainWords.{Contents, word_at}
 use Rattle.arena.specs.Words.{state, child, node as node_word}
-use Rattle.arena.specs.History.{History, ◌⊳◌, value, EndsWith}
+use Rattle.arena.specs.History.{History, ◌⊳◌, value, Extends}
 use Rattle.arena.specs.Fills.{IsOthersScx, IsOwnNode, IsOwnScx, IsTakenNode, IsTakenScx}
 use Rattle.arena.specs.Blame.{WasInTheWay}
 use Rattle.arena.specs.Found.{HasFound}
 use Rattle.arena.specs.Lawful.{IsWin}
 use Rattle.arena.specs.Log.{Entry, log, is_final, has, fields}
-use Rattle.prims.specs.LlxKnown.{IsSnapshot, IsFinalBy}
+use Rattle.prims.specs.Llx.Known.{IsSnapshot, IsFinalBy}
 use Rattle.prims.specs.declared.snap.Snap.{Snap}
 use Rattle.prims.specs.declared.llx.Llx.{Llx}
 use Rattle.prims.specs.declared.llx.Llx.TheVariants.{Snapshot, Finalized, Fail}
 use Rattle.prims.specs.Moments.{IsMoment, IsAsFound, IsLeftAlone}
-use Rattle.prims.specs.ScxKnown.{nodes_of}
+use Rattle.prims.specs.Scx.Known.{nodes_of}
 use Rattle.prims.specs.Shares.{IsUsable}
-use Rattle.prims.specs.Snaps.{IsAmong, HasNode}
+use Rattle.prims.specs.Snaps.{IsAmong, ListsNode}
 use Rattle.prims.specs.Snap.{snap_at}
 use Rattle.prims.specs.declared.scx.Scx.{Scx}
 use Rattle.prims.specs.declared.scx.Scx.TheVariants.{Done, Lost}
@@ -37,35 +37,35 @@ use Rattle.prims.specs.declared.vlx.Vlx.TheVariants.{Same, Changed}
 use Rattle.arena.specs.declared.fault.Full.{Full}
 use Rattle.arena.specs.declared.fault.Resource.{Resource}
 use Rattle.arena.specs.declared.fault.Resource.TheVariants.{Nodes, Scx as ScxRecords}
-use Rattle.forest.specs.Kept.{past}
-use Rattle.forest.specs.Courses.{rows_of}
+use Rattle.forest.specs.TableRule.{history_of}
+use Rattle.forest.specs.Traces.{rows_of}
 use Rattle.forest.specs.Shares.{entries_of}
 
 -- what contracts see of a pass: its table and layout, its number, and what is left of its share
-pub record Sight : Type 0 where
+pub record PassView : Type 0 where
   pub table : TableId
   pub layout : Layout
   pub number : ℕ
-  pub share : Left
+  pub share : Remaining
   -- the run up to its own last step, newest row first
   pub known : List Row
   -- its blame list: the SCX-records that its calls of `llx` have named with `fail`, the last first
   pub blamed : List ℕ
 
 -- the run that the pass knows
-abbrev pub run_of : Sight → History
-run_of p = past p.layout.mode p.known
+abbrev pub run_of : PassView → History
+run_of p = history_of p.layout.mode p.known
 
 -- the pass's seen list: the log of the run that it knows, the newest entry first
-abbrev pub seen_of : Sight → List Entry
+abbrev pub seen_of : PassView → List Entry
 seen_of p = log p.layout (run_of p)
 
 -- the pass's done list: its own entries in its seen list
-abbrev pub done_of : Sight → List Entry
+abbrev pub done_of : PassView → List Entry
 done_of p = entries_of p.number (seen_of p)
 
 -- how many atomic steps the pass has made
-abbrev pub steps_of : Sight → ℕ
+abbrev pub steps_of : PassView → ℕ
 steps_of p = rows_of p.number p.known
 
 -- what contracts see of a forest: its table and layout
@@ -78,32 +78,32 @@ abbrev pub ground : TableId → Layout → Ground
 ground table lay = record { table = table; layout = lay }
 
 -- the pass is of this forest
-abbrev pub IsOf : Ground → Sight → Type 0
+abbrev pub IsOf : Ground → PassView → Type 0
 IsOf f p = (p.table ≡ f.table) × (p.layout ≡ f.layout)
 
 -- the same pass, later on: the run that it knows goes on from what it knew
-pub record IsLater (old new : Sight) : Type 0 where
+pub record IsLaterView (old new : PassView) : Type 0 where
   pub table : new.table ≡ old.table
   pub layout : new.layout ≡ old.layout
   pub number : new.number ≡ old.number
-  pub run : EndsWith (run_of new) (run_of old)
+  pub run : Extends (run_of new) (run_of old)
 
 -- how many SCX-records the pass has taken, which is the number of its next call
-abbrev pub taken_of : Sight → ℕ
+abbrev pub taken_of : PassView → ℕ
 taken_of p = p.layout.scx - p.share.scx
 
 -- behind the start, each row of pass c is of its call of this number
 abbrev pub AreOfCall : ℕ → ℕ → History → History → Type 0
-AreOfCall c number start h = (r : Row) (before : History) → EndsWith h (r ⊳ before) → EndsWith before start → r.pass.0 ≡ c → r.call ≡ number
+AreOfCall c number start h = (r : Row) (before : History) → Extends h (r ⊳ before) → Extends before start → r.pass.0 ≡ c → r.call ≡ number
 
 -- the pass may use the snapshot: it has a moment, and what it says of its node
 -- holds as long as the node's info is what it found
-abbrev pub CanUse : Sight → Snap → Type 0
+abbrev pub CanUse : PassView → Snap → Type 0
 CanUse p snap = (moment : History) × IsUsable p.layout (run_of p) snap moment
 
 -- the pass has made no SCX over the snapshot's node since a moment of it: no SCX-record of the pass
 -- has covered the node while in progress
-abbrev pub HasLeftAlone : Sight → Snap → Type 0
+abbrev pub HasLeftAlone : PassView → Snap → Type 0
 HasLeftAlone p snap = IsLeftAlone p.layout p.number (run_of p) snap
 
 -- P holds of each in the list
@@ -120,7 +120,7 @@ AreDifferent (s ∷ ss) = Each (λ other. s ≢ other) ss × AreDifferent ss
 
 -- the blame list has SCX-records of other passes' shares, each finished in the
 -- run that the pass knows, and none of them twice
-pub record HasBlamed (p : Sight) : Type 0 where
+pub record HasBlamed (p : PassView) : Type 0 where
   pub others : Each (λ s. IsOthersScx p.layout p.number s) p.blamed
   pub over : Each (λ s. value (run_of p) (state s) ≢ 0) p.blamed
   pub different : AreDifferent p.blamed
@@ -128,9 +128,9 @@ pub record HasBlamed (p : Sight) : Type 0 where
 -- What every call leaves
 
 -- the call of this number has brought the pass further
-pub record HasGoneOn (allows : Layout → History → ℕ → Type 0) (old new : Sight) (number most : ℕ) (blamed : List ℕ) : Type 0 where
+pub record HasGoneOn (allows : Layout → History → ℕ → Type 0) (old new : PassView) (number most : ℕ) (blamed : List ℕ) : Type 0 where
   -- the run that it knows goes on from what it knew, and is lawful
-  pub later : IsLater old new
+  pub later : IsLaterView old new
   pub lawful : IsRun allows new.layout (run_of new)
   -- its own rows there are of this call, and no more than `most`
   pub calls : AreOfCall new.number number (run_of old) (run_of new)
@@ -143,7 +143,7 @@ pub record HasGoneOn (allows : Layout → History → ℕ → Type 0) (old new :
 
 -- the pass has taken nothing of its share, made no entry, and
 -- left each snapshot alone that it had left alone
-pub record HasTakenNothing (old new : Sight) : Type 0 where
+pub record HasTakenNothing (old new : PassView) : Type 0 where
   pub share : new.share ≡ old.share
   pub done : done_of new ≡ done_of old
   pub alone : (snap : Snap) → HasLeftAlone old snap → HasLeftAlone new snap
@@ -152,7 +152,7 @@ pub record HasTakenNothing (old new : Sight) : Type 0 where
 
 -- another pass's SCX-record s was in progress over n behind the call's
 -- begin, where n was not final, and is finished now
-pub record HasFailed (old new : Sight) (n s : ℕ) : Type 0 where
+pub record CallHasFailed (old new : PassView) (n s : ℕ) : Type 0 where
   -- it is the one that the call's last look at the node's info has found
   pub found : HasFound new.number (run_of new) (run_of old) LoadInfo n s
   pub others : IsOthersScx new.layout new.number s
@@ -161,14 +161,14 @@ pub record HasFailed (old new : Sight) (n s : ℕ) : Type 0 where
   pub not_final : is_final (seen_of old) n ≡ false
 
 -- what an answer of `llx` of node n says
-abbrev pub LlxSays : Sight → Sight → ℕ → Llx → Type 0
+abbrev pub LlxSays : PassView → PassView → ℕ → Llx → Type 0
 -- the snapshot gives the fields of the node in the run that is known now, in which it is not final;
 -- it may be used, and the pass has made no SCX over the node since
 LlxSays old new n (Snapshot snap) = IsSnapshot new.layout (run_of new) n snap × CanUse new snap × HasLeftAlone new snap
 -- the node is final in the run that is known now, and s finalizes it
 LlxSays old new n (Finalized node s) = (node.0 ≡ n) × IsFinalBy new.layout (run_of new) n s.0
 -- another pass's SCX-record was in the way
-LlxSays old new n (Fail node s) = (node.0 ≡ n) × HasFailed old new n s.0
+LlxSays old new n (Fail node s) = (node.0 ≡ n) × CallHasFailed old new n s.0
 
 -- the blame list after this answer: `Fail` blames its SCX-record
 abbrev pub blamed_by : Llx → List ℕ → List ℕ
@@ -196,13 +196,13 @@ HasNodeOf (snap ∷ snaps) n = (snap.node.0 ≡ n) ⊎ HasNodeOf snaps n
 
 -- an SCX over these snapshots, which sets a field of node n, may be called: they are at most four,
 -- of different nodes, one of them n, and each may be used
-abbrev pub MayPut : Sight → List Snap → ℕ → Type 0
+abbrev pub MayPut : PassView → List Snap → ℕ → Type 0
 MayPut p snaps n = (length snaps ≤ 4) × AreApart snaps × HasNodeOf snaps n × Each (CanUse p) snaps
 
 -- What `vlx` says
 
 -- another SCX-record, s, has come to node n since a snapshot of it among these
-pub record WasChanged (kind : Kind) (old new : Sight) (snaps : List Snap) (n s : ℕ) : Type 0 where
+pub record WasChanged (kind : Kind) (old new : PassView) (snaps : List Snap) (n s : ℕ) : Type 0 where
   pub index : ℕ
   pub within : index < length snaps
   pub is : (snap_at snaps index).node.0 ≡ n
@@ -215,33 +215,33 @@ pub record WasChanged (kind : Kind) (old new : Sight) (snaps : List Snap) (n s :
 
 -- in the run that was known before, the nodes of the first k snapshots had the last entry that they
 -- had at their snapshots, and were not final
-abbrev pub AreAsFound : Sight → Sight → List Snap → ℕ → Type 0
+abbrev pub AreAsFound : PassView → PassView → List Snap → ℕ → Type 0
 AreAsFound old new snaps k = (i : ℕ) → i < k → IsAsFound new.layout (run_of new) (run_of old) (snap_at snaps i)
 
 -- what an answer of `vlx` says: all nodes were as found; or another SCX-record had come to one of
 -- them, and those before it were as found
-abbrev pub VlxSays : Sight → Sight → List Snap → Vlx → Type 0
+abbrev pub VlxSays : PassView → PassView → List Snap → Vlx → Type 0
 VlxSays old new snaps Same = AreAsFound old new snaps (length snaps)
 VlxSays old new snaps (Changed node s) = (c : WasChanged LoadInfo old new snaps node.0 s.0) × AreAsFound old new snaps c.index
 
 -- What `scx` says
 
 -- all that the share had of this resource is taken, in the run that the pass knows
-abbrev pub IsAllTaken : Sight → Resource → Type 0
+abbrev pub IsAllTaken : PassView → Resource → Type 0
 IsAllTaken p Nodes = (n : ℕ) → IsOwnNode p.layout p.number n → IsTakenNode (run_of p) n
 IsAllTaken p ScxRecords = (s : ℕ) → IsOwnScx p.layout p.number s → IsTakenScx (run_of p) s
 
 -- the refusal is right: the share has none left of what it names, and all of it is taken
-abbrev pub IsUsedUp : Sight → Full → Type 0
+abbrev pub IsUsedUp : PassView → Full → Type 0
 IsUsedUp p f = IsFull p.share f × IsAllTaken p f.what
 
 -- the call's update is in the log, once, as asked: e is its entry
-pub record IsDone (old new : Sight) (snaps : List Snap) (finalize : List NodeNo) (field : ℕ × Side) (value_of_cell : ℕ) (e : Entry) : Type 0 where
+pub record IsDoneCall (old new : PassView) (snaps : List Snap) (finalize : List NodeNo) (field : ℕ × Side) (value_of_cell : ℕ) (e : Entry) : Type 0 where
   -- the row that has put it there, which may be another pass's, is behind what was known before
   pub row : Row
   pub before : History
-  pub within : EndsWith (run_of new) (row ⊳ before)
-  pub since : EndsWith before (run_of old)
+  pub within : Extends (run_of new) (row ⊳ before)
+  pub since : Extends before (run_of old)
   pub wins : IsWin before row e.scx
   pub logged : log new.layout (row ⊳ before) ≡ e ∷ log new.layout before
   -- it is the pass's only entry behind what the pass had seen
@@ -251,7 +251,7 @@ pub record IsDone (old new : Sight) (snaps : List Snap) (finalize : List NodeNo)
   pub of_record : e.scx ≡ old.share.next_scx
   pub of_call : e.call ≡ taken_of old
   pub members : e.members ≡ nodes_of snaps
-  pub removed : (n : ℕ) → (has e.removed n ≡ true) ↔ (IsAmong snaps n × HasNode finalize n)
+  pub removed : (n : ℕ) → (has e.removed n ≡ true) ↔ (IsAmong snaps n × ListsNode finalize n)
   pub node : e.node ≡ field.0
   pub side : e.side ≡ field.1
   pub fresh : e.new ≡ old.share.next_node
@@ -262,9 +262,9 @@ pub record IsDone (old new : Sight) (snaps : List Snap) (finalize : List NodeNo)
   pub found : (i : ℕ) → i < length snaps → IsAsFound new.layout (run_of new) before (snap_at snaps i)
 
 -- what an answer of `scx` says
-abbrev pub ScxSays : Sight → Sight → List Snap → List NodeNo → ℕ × Side → ℕ → Scx → Type 0
+abbrev pub ScxSays : PassView → PassView → List Snap → List NodeNo → ℕ × Side → ℕ → Scx → Type 0
 -- there is one entry more, of this call
-ScxSays old new snaps finalize field v Done = (e : Entry) × IsDone old new snaps finalize field v e
+ScxSays old new snaps finalize field v Done = (e : Entry) × IsDoneCall old new snaps finalize field v e
 -- there is none, now or later: the SCX-record is aborted, and
 -- another had come to a node since its snapshot
 ScxSays old new snaps finalize field v (Lost node s) = WasChanged Freeze old new snaps node.0 s.0 × (done_of new ≡ done_of old) × (value (run_of new) (state old.share.next_scx) ≡ 2)
@@ -273,54 +273,54 @@ ScxSays old new snaps finalize field v (Lost node s) = WasChanged Freeze old new
 
 -- by one step, which is of no call (its number is 0),
 -- the pass has learned more; it has blamed nobody
-pub record HasLookedOnce (allows : Layout → History → ℕ → Type 0) (old new : Sight) : Type 0 where
+pub record HasLookedOnce (allows : Layout → History → ℕ → Type 0) (old new : PassView) : Type 0 where
   pub goes_on : HasGoneOn allows old new 0 1 old.blamed
   pub takes_nothing : HasTakenNothing old new
   pub one_step : steps_of new ≡ suc (steps_of old)
 
 -- no share of these passes still holds an SCX-record that one of them has blamed
-abbrev pub HaveLeftShares : List Sight → Type 0
+abbrev pub HaveLeftShares : List PassView → Type 0
 HaveLeftShares passes = Each (λ p. Each (λ q. Each (λ s. ¬ HasScx q.share s) p.blamed) passes) passes
 
 -- New passes
 
 -- pass c of the forest before its first step: it has its whole share and knows nothing
-abbrev pub beginner : Ground → ℕ → Sight
-beginner f c = record { table = f.table; layout = f.layout; number = c; share = whole_share f.layout c; known = []; blamed = [] }
+abbrev pub new_pass : Ground → ℕ → PassView
+new_pass f c = record { table = f.table; layout = f.layout; number = c; share = whole_share f.layout c; known = []; blamed = [] }
 
 -- these are all passes of the forest, in order, before their first steps
-pub record AreNew (f : Ground) (passes : List Sight) : Type 0 where
+pub record AreNew (f : Ground) (passes : List PassView) : Type 0 where
   pub count : length passes ≡ f.layout.passes
-  pub each : (j : ℕ) (d : Sight) → slice_get passes j ≡ Some d → d ≡ beginner f j
+  pub each : (j : ℕ) (d : PassView) → slice_get passes j ≡ Some d → d ≡ new_pass f j
 
 -- All passes
 
 -- all these passes are of this forest
-abbrev pub AreOf : Ground → List Sight → Type 0
+abbrev pub AreOf : Ground → List PassView → Type 0
 AreOf f [] = Unit {0}
 AreOf f (p ∷ ps) = IsOf f p × AreOf f ps
 
 -- one of these passes has the number n
-abbrev pub HasPass : List Sight → ℕ → Type 0
-HasPass passes n = Contains (map (λ (p : Sight). p.number) passes) n
+abbrev pub HasPass : List PassView → ℕ → Type 0
+HasPass passes n = Contains (map (λ (p : PassView). p.number) passes) n
 
 -- each pass of the layout is among these
-abbrev pub AreAllBack : Layout → List Sight → Type 0
+abbrev pub AreAllBack : Layout → List PassView → Type 0
 AreAllBack lay passes = (n : ℕ) → n < lay.passes → HasPass passes n
 
 -- these rows go on from what each pass knew, by one row of its own, which is of no call (its number
 -- is 0); its entries in them are those of its done list
-abbrev pub AreBegun : List Sight → List Row → Type 0
+abbrev pub AreBegun : List PassView → List Row → Type 0
 AreBegun [] rows = Unit {0}
-AreBegun (p ∷ ps) rows = EndsWith (past p.layout.mode rows) (run_of p) × (entries_of p.number (log p.layout (past p.layout.mode rows)) ≡ done_of p) × (rows_of p.number rows ≡ suc (steps_of p)) × AreOfCall p.number 0 (run_of p) (past p.layout.mode rows) × AreBegun ps rows
+AreBegun (p ∷ ps) rows = Extends (history_of p.layout.mode rows) (run_of p) × (entries_of p.number (log p.layout (history_of p.layout.mode rows)) ≡ done_of p) × (rows_of p.number rows ≡ suc (steps_of p)) × AreOfCall p.number 0 (run_of p) (history_of p.layout.mode rows) × AreBegun ps rows
 
 -- the forest has ended: its words are those of one run, which goes on from what these passes knew
-pub record IsClosed (allows : Layout → History → ℕ → Type 0) (lay : Layout) (passes : List Sight) (words : Contents) : Type 0 where
+pub record IsClosed (allows : Layout → History → ℕ → Type 0) (lay : Layout) (passes : List PassView) (words : Contents) : Type 0 where
   pub rows : List Row
-  pub sound : IsRun allows lay (past lay.mode rows)
-  pub holds : (w : Word) → IsWord lay w → held words w ≡ value (past lay.mode rows) w
+  pub sound : IsRun allows lay (history_of lay.mode rows)
+  pub holds : (w : Word) → IsWord lay w → word_at words w ≡ value (history_of lay.mode rows) w
   -- the fields are what the log of the run says
-  pub fields : (n : ℕ) (side : Side) → n < all_nodes lay → held words (child n side) ≡ fields lay (past lay.mode rows) n side
+  pub fields : (n : ℕ) (side : Side) → n < all_nodes lay → word_at words (child n side) ≡ fields lay (history_of lay.mode rows) n side
   pub begun : AreBegun passes rows
   -- no share still holds an SCX-record that a pass has blamed
   pub blamed : HaveLeftShares passes

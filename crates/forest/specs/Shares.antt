@@ -1,17 +1,17 @@
 -- A pass between two calls, and its entries in the log.
 use Rattle.std.specs.Prelude.{ℕ, cond, eqb, List, [], ◌∷◌}
 use Rattle.arena.specs.declared.layout.Layout.{Layout}
-use Rattle.arena.specs.Share.{Left}
+use Rattle.arena.specs.Share.{Remaining}
 use Rattle.arena.specs.History.{History}
 use Rattle.arena.specs.Log.{Entry}
-use Rattle.prims.specs.Moments.{AreOver}
+use Rattle.prims.specs.Moments.{AreFinished}
 use Rattle.prims.specs.Shares.{IsShare}
 
 -- pass c is between two calls: it has taken all of its share before what is left, and each
 -- SCX-record that it has taken is finished
-pub record IsAtRest (lay : Layout) (c : ℕ) (h : History) (left : Left) : Type 0 where
+pub record IsBetweenCalls (lay : Layout) (c : ℕ) (h : History) (left : Remaining) : Type 0 where
   pub share : IsShare lay h c left left.next_node left.next_scx
-  pub over : AreOver lay c left.next_scx h
+  pub over : AreFinished lay c left.next_scx h
 
 -- the entries of pass c among these
 abbrev pub entries_of : ℕ → List Entry → List Entry

@@ -4,48 +4,48 @@ use Rattle.arena.specs.declared.layout.Layout.{Layout}
 use Rattle.arena.specs.declared.step.Step.{Step}
 use Rattle.arena.specs.History.{History}
 use Rattle.arena.specs.Machines.{Call}
-use Rattle.help.specs.HelpKnown.{Marks, reading, help_ready, help_waits, help_answers}
+use Rattle.help.specs.Help.Known.{Marks, reading, HelpIsReady, HelpWaits, HelpAnswers}
 use Rattle.help.specs.declared.state.HelpRun.{HelpRun}
-use Rattle.forest.specs.declared.view.Knower.{Knower}
-use Rattle.forest.specs.Courses.{Begins, Waits, Told, Ends}
+use Rattle.forest.specs.declared.view.SeatedPass.{SeatedPass}
+use Rattle.forest.specs.Traces.{CallBegins, Waits, Told, Ends}
 
 -- the two runs of HELP are of one SCX-record
-abbrev pub same_record : HelpRun → HelpRun → Type 0
-same_record old now = now.scx ≡ old.scx
+abbrev pub IsSameRecord : HelpRun → HelpRun → Type 0
+IsSameRecord old now = now.scx ≡ old.scx
 
 -- a run of HELP may be called with this, in this call
-abbrev pub call_ready : (Layout → History → ℕ → Type 0) → HelpRun → Call → History → Option ℕ → Type 0
-call_ready allows m c = help_ready allows c.layout c.pass m
+abbrev pub HelpCallIsReady : (Layout → History → ℕ → Type 0) → HelpRun → Call → History → Option ℕ → Type 0
+HelpCallIsReady allows m c = HelpIsReady allows c.layout c.pass m
 
 -- a run of HELP waits for this step, in this call
-abbrev pub call_waits : (Layout → History → ℕ → Type 0) → HelpRun → Call → History → Step → Type 0
-call_waits allows m c = help_waits allows c.layout c.pass m
+abbrev pub HelpCallWaits : (Layout → History → ℕ → Type 0) → HelpRun → Call → History → Step → Type 0
+HelpCallWaits allows m c = HelpWaits allows c.layout c.pass m
 
 -- what an answer of HELP says, in this call
-abbrev pub call_answers : HelpRun → Call → History → Bool → Type 0
-call_answers m c = help_answers c.layout c.pass m
+abbrev pub HelpCallAnswers : HelpRun → Call → History → Bool → Type 0
+HelpCallAnswers m c = HelpAnswers c.layout c.pass m
 
 -- `allfrozen` is set, and those of the first p nodes that are finalized are marked
-abbrev pub call_marks : HelpRun → Call → History → ℕ → Type 0
-call_marks m c h p = Marks h (reading m) p
+abbrev pub HelpCallMarks : HelpRun → Call → History → ℕ → Type 0
+HelpCallMarks m c h p = Marks h (reading m) p
 
-module _ (allows : Layout → History → ℕ → Type 0) (c : Call) (ps : List Knower) (first : HelpRun) where
+module _ (allows : Layout → History → ℕ → Type 0) (c : Call) (ps : List SeatedPass) (first : HelpRun) where
   -- a call of HELP begins with the run `first`
-  abbrev pub HelpBegins : Type 0
-  HelpBegins = Begins allows (call_ready allows) c ps first
+  abbrev pub SeatHelpBegins : Type 0
+  SeatHelpBegins = CallBegins allows (HelpCallIsReady allows) c ps first
 
   -- the call waits for this step, with the run at its place
-  abbrev pub HelpWaits : HelpRun → Step → Type 0
-  HelpWaits = Waits allows (call_waits allows) same_record c ps first
+  abbrev pub SeatHelpWaits : HelpRun → Step → Type 0
+  SeatHelpWaits = Waits allows (HelpCallWaits allows) IsSameRecord c ps first
 
   -- the step of the place has told v
-  abbrev pub HelpTold : HelpRun → ℕ → Type 0
-  HelpTold = Told allows (call_waits allows) same_record c ps first (call_ready allows)
+  abbrev pub SeatHelpTold : HelpRun → ℕ → Type 0
+  SeatHelpTold = Told allows (HelpCallWaits allows) IsSameRecord c ps first (HelpCallIsReady allows)
 
   -- the call has ended with this answer
-  abbrev pub HelpEnds : HelpRun → Bool → Type 0
-  HelpEnds = Ends allows (call_waits allows) same_record c ps first call_answers
+  abbrev pub SeatHelpEnds : HelpRun → Bool → Type 0
+  SeatHelpEnds = Ends allows (HelpCallWaits allows) IsSameRecord c ps first HelpCallAnswers
 
   -- in the call, `allfrozen` is set, and those of the first p nodes that are finalized are marked
-  abbrev pub HelpMarks : HelpRun → ℕ → Type 0
-  HelpMarks = Ends allows (call_waits allows) same_record c ps first call_marks
+  abbrev pub SeatHelpMarks : HelpRun → ℕ → Type 0
+  SeatHelpMarks = Ends allows (HelpCallWaits allows) IsSameRecord c ps first HelpCallMarks

@@ -2,13 +2,13 @@
 use Rattle.std.specs.Prelude.{◌≡◌, ℕ, List}
 use Rattle.arena.specs.declared.layout.Layout.{Layout}
 use Rattle.arena.specs.declared.step.Step.{Step}
-use Rattle.arena.specs.declared.step.Deed.TheVariants.{Store}
+use Rattle.arena.specs.declared.step.Access.TheVariants.{Store}
 use Rattle.arena.specs.declared.step.Kind.TheVariants.{Fill}
 use Rattle.arena.specs.declared.word.ScxWord.{ScxWord}
 use Rattle.arena.specs.Words.{scx}
 use Rattle.arena.specs.History.{History}
 use Rattle.arena.specs.Machines.{Call}
-use Rattle.prims.specs.PutKnown.{put_ready, put_waits, put_answers}
+use Rattle.prims.specs.Put.Known.{PutIsReady, PutWaits, PutAnswers}
 use Rattle.prims.specs.declared.put.PutRun.{PutRun}
 use Rattle.prims.specs.declared.put.PutAt.TheVariants.{Start, Scx as AtScx}
 use Rattle.prims.specs.declared.scx.Scx.{Scx}
@@ -17,12 +17,12 @@ use Rattle.prims.specs.declared.scx.ScxAt.TheVariants.{Start as ScxStart}
 use Rattle.prims.specs.declared.put.PutAt.{PutAt}
 use Rattle.prims.specs.declared.snap.Snap.{Snap}
 use Rattle.forest.specs.declared.straight.scx.Put.{Put}
-use Rattle.forest.specs.declared.view.Knower.{Knower}
-use Rattle.forest.specs.Courses.{Begins, Waits, Told, Ends}
+use Rattle.forest.specs.declared.view.SeatedPass.{SeatedPass}
+use Rattle.forest.specs.Traces.{CallBegins, Waits, Told, Ends}
 
 -- the two runs are of one SCX: of one SCX-record, update, call and value
-abbrev pub put_same : PutRun → PutRun → Type 0
-put_same old now = (now.scx.scx ≡ old.scx.scx) × (now.scx.update ≡ old.scx.update) × (now.scx.call ≡ old.scx.call) × (now.value ≡ old.value)
+abbrev pub IsSamePut : PutRun → PutRun → Type 0
+IsSamePut old now = (now.scx.scx ≡ old.scx.scx) × (now.scx.update ≡ old.scx.update) × (now.scx.call ≡ old.scx.call) × (now.value ≡ old.value)
 
 -- the run over these snapshots of what is to be put, in the
 -- call of this number, that stands at these places
@@ -30,8 +30,8 @@ abbrev pub standing : List Snap → Put → ℕ → ScxAt → PutAt → PutRun
 standing snaps put number scx at = record { value = put.value; scx = record { scx = put.scx; call = number; update = record { snaps = snaps; plan = put.plan; old = put.old; fresh = put.fresh }; at = scx }; at = at }
 
 -- the same run at its start
-abbrev pub run_of : List Snap → Put → ℕ → PutRun
-run_of snaps put number = standing snaps put number ScxStart Start
+abbrev pub fresh_put : List Snap → Put → ℕ → PutRun
+fresh_put snaps put number = standing snaps put number ScxStart Start
 
 -- a run with its SCX at a place
 abbrev pub scx_at : PutRun → ScxAt → PutRun
@@ -39,21 +39,21 @@ scx_at m at = record { value = m.value; scx = record { scx = m.scx.scx; call = m
 
 -- the fill of this word of the run's SCX-record with v
 abbrev pub fill_of : PutRun → ScxWord → ℕ → Step
-fill_of m part v = record { kind = Fill; word = scx m.scx.scx.0 part; deed = Store v }
+fill_of m part v = record { kind = Fill; word = scx m.scx.scx.0 part; access = Store v }
 
-module _ (allows : Layout → History → ℕ → Type 0) (c : Call) (ps : List Knower) (first : PutRun) where
+module _ (allows : Layout → History → ℕ → Type 0) (c : Call) (ps : List SeatedPass) (first : PutRun) where
   -- a call of SCX with a fresh cell begins with the run `first`
-  abbrev pub PutBegins : Type 0
-  PutBegins = Begins allows (put_ready allows) c ps first
+  abbrev pub SeatPutBegins : Type 0
+  SeatPutBegins = CallBegins allows (PutIsReady allows) c ps first
 
   -- the call waits for this step, with the run at its place
-  abbrev pub PutWaits : PutRun → Step → Type 0
-  PutWaits = Waits allows (put_waits allows) put_same c ps first
+  abbrev pub SeatPutWaits : PutRun → Step → Type 0
+  SeatPutWaits = Waits allows (PutWaits allows) IsSamePut c ps first
 
   -- the step of the place has told v
-  abbrev pub PutTold : PutRun → ℕ → Type 0
-  PutTold = Told allows (put_waits allows) put_same c ps first (put_ready allows)
+  abbrev pub SeatPutTold : PutRun → ℕ → Type 0
+  SeatPutTold = Told allows (PutWaits allows) IsSamePut c ps first (PutIsReady allows)
 
   -- the call has ended with this answer
-  abbrev pub PutEnds : PutRun → Scx → Type 0
-  PutEnds = Ends allows (put_waits allows) put_same c ps first put_answers
+  abbrev pub SeatPutEnds : PutRun → Scx → Type 0
+  SeatPutEnds = Ends allows (PutWaits allows) IsSamePut c ps first PutAnswers

@@ -10,14 +10,14 @@ use std::snapshot::Snapshot;
 /// A blame list, the last blamed first.
 #[derive(Drop)]
 pub(crate) struct Blamed {
-    names: Snapshot<Names>,
+    names: Snapshot<BlameList>,
 }
 
 /// The names of a blame list. One value is made where one more is blamed, and none is kept.
 #[derive(Drop)]
-enum Names {
+enum BlameList {
     Nobody,
-    One(ScxNo, Snapshot<Names>),
+    One(ScxNo, Snapshot<BlameList>),
 }
 
 impl Model for Blamed {
@@ -36,16 +36,16 @@ impl Blamed {
         ensures { result ≡ [] }
     {
         Blamed {
-            names: Snapshot::of(&Names::Nobody),
+            names: Snapshot::of(&BlameList::Nobody),
         }
     }
 
     /// This one is blamed too.
-    fn name(&mut self, scx: ScxNo)
+    fn push(&mut self, scx: ScxNo)
         ensures { self.new ≡ scx.0 ∷ self.old }
     {
         let Blamed { names } = replace(self, Blamed::new());
-        self.names = Snapshot::of(&Names::One(scx, names));
+        self.names = Snapshot::of(&BlameList::One(scx, names));
     }
 }
 
@@ -53,11 +53,11 @@ impl Blamed {
     ghost use Rattle.forest.specs.Passes.{blamed_by};
 
     /// Takes in what an answer of `llx` blames.
-    pub(crate) fn hear(&mut self, answer: &Llx)
+    pub(crate) fn note(&mut self, answer: &Llx)
         ensures { self.new ≡ blamed_by answer.now self.old }
     {
         if let Llx::Fail { node: _, scx } = answer {
-            self.name(*scx);
+            self.push(*scx);
         }
     }
 }

@@ -3,19 +3,19 @@ ghost use Rattle.std.specs.Prelude.{◌≡◌, ◌<◌, ◌↔◌, [], ◌∷◌
 ghost use Rattle.std.specs.Slots.{IsFull, slots_len};
 ghost use Rattle.arena.specs.declared.word.Side.TheVariants.{Left, Right};
 ghost use Rattle.arena.specs.Layout.{all_nodes, table_size, IsWord};
-ghost use Rattle.arena.specs.PlainWords.{Contents, held};
+ghost use Rattle.arena.specs.PlainWords.{Contents, word_at};
 ghost use Rattle.arena.specs.Words.{child};
-ghost use Rattle.forest.specs.declared.view.Knower.{Knower};
-ghost use Rattle.forest.specs.Kept.{IsTableOf};
+ghost use Rattle.forest.specs.declared.view.SeatedPass.{SeatedPass};
+ghost use Rattle.forest.specs.TableRule.{IsTableOf};
 ghost use Rattle.forest.specs.Passes.{ground, IsOf, AreOf, AreAllBack, IsClosed};
-ghost use Rattle.forest.specs.Gathered.{IsFrom, AreIn};
+ghost use Rattle.forest.specs.JoinedSeats.{IsFrom, AreIn};
 
 use crate::forest::Forest;
 use crate::pass::Pass;
 use crate::rule::Asked;
-use crate::view::View;
+use crate::view::SeatView;
 use crate::words::Words;
-use arena::{Deed, Kind, Layout, NodeNo, NodeWord, Shape, Side, Step, Word};
+use arena::{Access, Kind, Layout, NodeNo, NodeWord, Shape, Side, Step, Word};
 use atomic_table::Seat;
 use std::alloc::Global;
 use std::marker::{Brand, Model};
@@ -38,8 +38,8 @@ impl Closed {
     /// The fields of a node, if there is one of this number.
     pub fn cell(&self, node: NodeNo) -> Option<(u64, u64)>
         ensures some { IsSome result ↔ (node.0 < all_nodes self.now.layout) }
-        ensures left { IfSome result (λ f. f.0 ≡ held self.now (child node.0 Left)) }
-        ensures right { IfSome result (λ f. f.1 ≡ held self.now (child node.0 Right)) }
+        ensures left { IfSome result (λ f. f.0 ≡ word_at self.now (child node.0 Left)) }
+        ensures right { IfSome result (λ f. f.1 ≡ word_at self.now (child node.0 Right)) }
     {
         let left = Word::Node(node, NodeWord::Child(Side::Left));
         let right = Word::Node(node, NodeWord::Child(Side::Right));
@@ -51,7 +51,7 @@ impl Closed {
 
     fn word(&self, word: Word) -> u64
         requires { IsWord self.now.layout word }
-        ensures { result ≡ held self.now word }
+        ensures { result ≡ word_at self.now word }
     {
         self.words.word(self.layout.place(word))
     }
@@ -88,7 +88,7 @@ fn gather<S: Shape>(
     words: &Words<S>,
     layout: &Layout,
     mut passes: Vec<Pass<S>>,
-) -> Option<Seat<u8, View>>
+) -> Option<Seat<u8, SeatView>>
     requires table { IsTableOf words.now.table.shared.table_id words.now.table.shared.key layout.now }
     requires passes { AreOf (ground words.now.table.shared.table_id layout.now) passes.items }
     ensures some { 0 < vec_len passes → IsSome result }
@@ -104,12 +104,12 @@ fn gather<S: Shape>(
 }
 
 /// The seat of a pass, which has looked at the table once more.
-fn seat_of<S: Shape>(words: &Words<S>, layout: &Layout, pass: Pass<S>) -> Seat<u8, View>
+fn seat_of<S: Shape>(words: &Words<S>, layout: &Layout, pass: Pass<S>) -> Seat<u8, SeatView>
     requires table { IsTableOf words.now.table.shared.table_id words.now.table.shared.key layout.now }
     requires pass { IsOf (ground words.now.table.shared.table_id layout.now) pass }
     ensures table { result.table_id ≡ words.now.table.shared.table_id }
     ensures bare { result.me.1 ≡ [] }
-    ensures pass { (k : Knower) × (result.me.0.passes ≡ k ∷ []) × IsFrom S.allows pass k }
+    ensures pass { (k : SeatedPass) × (result.me.0.passes ≡ k ∷ []) × IsFrom S.allows pass k }
 {
     let Pass {
         number: _,
@@ -123,7 +123,7 @@ fn seat_of<S: Shape>(words: &Words<S>, layout: &Layout, pass: Pass<S>) -> Seat<u
     let step = Step {
         kind: Kind::LoadSettled,
         word: Word::Node(NodeNo(0), NodeWord::Head),
-        deed: Deed::Load,
+        access: Access::Load,
     };
     let asked = Asked { call: 0, step };
     words.make::<Brand>(&mut seat, &asked, layout.place(step.word));

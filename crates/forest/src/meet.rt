@@ -1,8 +1,8 @@
 //! How two passes come to know what both knew.
 ghost use Rattle.std.specs.Prelude.{◌≡◌, []};
-ghost use Rattle.forest.specs.Kept.{IsTableOf, Met, IsAlone};
+ghost use Rattle.forest.specs.TableRule.{IsTableOf, Met, IsAlone};
 
-use crate::view::View;
+use crate::view::SeatView;
 use crate::words::Words;
 use arena::{Layout, Shape};
 use atomic_table::Seat;
@@ -13,8 +13,8 @@ use std::mem::replace;
 pub(crate) fn meet<S: Shape>(
     words: &Words<S>,
     layout: &Layout,
-    one: &mut Seat<u8, View>,
-    other: &mut Seat<u8, View>,
+    one: &mut Seat<u8, SeatView>,
+    other: &mut Seat<u8, SeatView>,
 )
     requires table { IsTableOf words.now.table.shared.table_id words.now.table.shared.key layout.now × (one.old.table_id ≡ words.now.table.shared.table_id) × (other.old.table_id ≡ words.now.table.shared.table_id) }
     requires bare { (one.old.me.1 ≡ []) × (other.old.me.1 ≡ []) }

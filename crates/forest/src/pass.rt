@@ -1,11 +1,11 @@
 //! What a thread needs to make calls.
 ghost use Rattle.std.specs.Prelude.{◌≡◌, ◌<◌, [], ◌∷◌};
 ghost use Rattle.arena.specs.Share.{whole_share};
-ghost use Rattle.forest.specs.Kept.{knower};
-ghost use Rattle.forest.specs.Passes.{Sight, taken_of};
+ghost use Rattle.forest.specs.TableRule.{seated_pass};
+ghost use Rattle.forest.specs.Passes.{PassView, taken_of};
 
 use crate::blamed::Blamed;
-use crate::view::View;
+use crate::view::SeatView;
 use arena::{Layout, PassNo, Shape, Share};
 use atomic_table::Seat;
 use std::marker::{Model, PhantomData};
@@ -17,27 +17,27 @@ pub struct Pass<S: Shape> {
     pub(crate) number: PassNo,
     pub(crate) layout: Layout,
     pub(crate) share: Share,
-    pub(crate) seat: Seat<u8, View>,
+    pub(crate) seat: Seat<u8, SeatView>,
     pub(crate) blamed: Blamed,
     pub(crate) shape: PhantomData<S>,
 }
 
 impl<S: Shape> Model for Pass<S> {
-    ghost use Rattle.forest.specs.Passes.{Sight, taken_of};
+    ghost use Rattle.forest.specs.Passes.{PassView, taken_of};
 
-    ghost Value = { Sight };
+    ghost Value = { PassView };
 
-    ghost use Rattle.forest.specs.Held.{sight, IsPass};
+    ghost use Rattle.forest.specs.PassInvariant.{pass_view, IsPass};
 
-    ghost view = { sight };
+    ghost view = { pass_view };
 
     ghost invariant = { IsPass S.allows S.mode };
 }
 
 impl<S: Shape> Pass<S> {
     /// A pass that has made no step, at a seat of its own.
-    pub(crate) fn new(layout: &Layout, number: PassNo, seat: Seat<u8, View>) -> Pass<S>
-        requires seat { (seat.me.0.passes ≡ knower number.0 layout.now [] ∷ []) × (seat.me.1 ≡ []) }
+    pub(crate) fn new(layout: &Layout, number: PassNo, seat: Seat<u8, SeatView>) -> Pass<S>
+        requires seat { (seat.me.0.passes ≡ seated_pass number.0 layout.now [] ∷ []) × (seat.me.1 ≡ []) }
         requires pass { number.0 < layout.now.passes }
         requires mode { layout.now.mode ≡ S.mode }
         ensures { result ≡ record { table = seat.table_id; layout = layout.now; number = number.0; share = whole_share layout.now number.0; known = []; blamed = [] } }

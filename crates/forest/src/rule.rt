@@ -1,8 +1,8 @@
 //! The rule of the table, and what a step tells the seat that makes it.
 ghost use Rattle.std.specs.Prelude.{◌≡◌, []};
-ghost use Rattle.forest.specs.Kept.{Kept, Made, Looked, view, beginners, undealt, dealt, joined};
+ghost use Rattle.forest.specs.TableRule.{TableIsLawful, Made, Looked, seat_view, new_passes, rest_of_seat, first_of_seat, joined_seat};
 
-use crate::view::View;
+use crate::view::SeatView;
 use arena::{Layout, Shape, Step};
 use atomic_table::{Join, Play, Split, TableRule};
 use std::marker::{Brand, PhantomData};
@@ -11,10 +11,10 @@ use std::marker::{Brand, PhantomData};
 /// of others alone.
 pub struct Lawful<S>(PhantomData<S>);
 
-impl<S: Shape> TableRule<u8, View, Layout> for Lawful<S> {
-    ghost holds = { λ lay. Kept S.allows lay };
+impl<S: Shape> TableRule<u8, SeatView, Layout> for Lawful<S> {
+    ghost holds = { λ lay. TableIsLawful S.allows lay };
 
-    ghost first = { λ lay. view (beginners lay 0 lay.passes) };
+    ghost first = { λ lay. seat_view (new_passes lay 0 lay.passes) };
 }
 
 /// A step, and the number of the call that makes it.
@@ -35,7 +35,7 @@ pub trait Says {
 }
 
 impl Says for Brand {
-    ghost use Rattle.forest.specs.Kept.{look};
+    ghost use Rattle.forest.specs.TableRule.{look};
 
     ghost said = { look };
 }
@@ -43,31 +43,31 @@ impl Says for Brand {
 /// The step of a seat with one pass.
 pub struct Makes<S, J>(PhantomData<(S, J)>);
 
-impl<S: Shape, J: Says> Play<u8, View> for Makes<S, J> {
+impl<S: Shape, J: Says> Play<u8, SeatView> for Makes<S, J> {
     ghost then = { λ st v n w. Made S.allows J.said v.0.passes n w.0.passes × (w.1 ≡ v.1) };
 }
 
 /// The step of a seat with two passes, by the first, which goes behind the other.
 pub struct Looks<S>(PhantomData<S>);
 
-impl<S: Shape> Play<u8, View> for Looks<S> {
+impl<S: Shape> Play<u8, SeatView> for Looks<S> {
     ghost then = { λ st v n w. Looked S.allows v.0.passes w.0.passes × (w.1 ≡ v.1) };
 }
 
 /// The first pass of a seat goes to a new seat.
 pub struct Deal;
 
-impl Split<View> for Deal {
-    ghost left = { undealt };
+impl Split<SeatView> for Deal {
+    ghost left = { rest_of_seat };
 
-    ghost right = { dealt };
+    ghost right = { first_of_seat };
 }
 
 /// A seat takes in the passes of another.
 pub struct Both;
 
-impl Join<View> for Both {
-    ghost both = { joined };
+impl Join<SeatView> for Both {
+    ghost both = { joined_seat };
 
-    ghost spent = { view [] };
+    ghost spent = { seat_view [] };
 }

@@ -3,7 +3,7 @@ use arena::{Layout, PassNo, Row};
 use std::collections::LinkedList;
 
 /// A pass, the table's layout, and the run up to the pass's own last step, newest row first.
-pub struct Knower {
+pub struct SeatedPass {
     /// The number of the pass.
     pub number: PassNo,
     /// The layout of its table.
@@ -14,7 +14,7 @@ pub struct Knower {
 
 /// The passes of a seat: one, none where it was joined to another, or several before they are
 /// dealt.
-pub struct View {
+pub struct SeatView {
     /// The passes, each of this seat alone.
-    pub passes: LinkedList<Knower>,
+    pub passes: LinkedList<SeatedPass>,
 }

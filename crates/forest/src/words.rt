@@ -6,19 +6,19 @@ ghost use Rattle.std.specs.Slots.{IsFull, slots_len, slots_items};
 ghost use Rattle.atomic_table.specs.Table.{Final, Seen};
 ghost use Rattle.arena.specs.Layout.{place, table_size, IsWord};
 ghost use Rattle.arena.specs.declared.word.Word.{Word};
-ghost use Rattle.forest.specs.declared.view.Knower.{Knower};
-ghost use Rattle.forest.specs.Kept.{IsTableOf, Kept, MayMake, Made, Looked, beginners, rest_of, first_of};
+ghost use Rattle.forest.specs.declared.view.SeatedPass.{SeatedPass};
+ghost use Rattle.forest.specs.TableRule.{IsTableOf, TableIsLawful, MayStep, Made, Looked, new_passes, rest_of, first_of};
 
 use crate::rule::{Asked, Both, Deal, Lawful, Looks, Makes, Says};
-use crate::view::View;
-use arena::{Deed, Layout, NoMemory, NodeNo, NodeWord, PlainWords, Shape, Word};
+use crate::view::SeatView;
+use arena::{Access, Layout, NoMemory, NodeNo, NodeWord, PlainWords, Shape, Word};
 use atomic_table::{Closed, Seat, Table};
 use std::alloc::Global;
 
 /// A table of words under the rule that some lawful run has left them.
 #[derive(Drop)]
 pub(crate) struct Words<S: Shape> {
-    table: Table<u8, View, Layout, Lawful<S>, Global>,
+    table: Table<u8, SeatView, Layout, Lawful<S>, Global>,
 }
 
 impl<S: Shape> Words<S> {
@@ -26,9 +26,9 @@ impl<S: Shape> Words<S> {
     pub(crate) fn open(
         alloc: Global,
         layout: &Layout,
-    ) -> Result<(Words<S>, Seat<u8, View>), NoMemory>
+    ) -> Result<(Words<S>, Seat<u8, SeatView>), NoMemory>
         ensures table { IfOk result (λ w. IsTableOf w.0.table.shared.table_id w.0.table.shared.key layout.now × (w.0.table.shared.table_id.slots ≡ 0) × (w.1.table_id ≡ w.0.table.shared.table_id)) }
-        ensures seat { IfOk result (λ w. (w.1.me.0.passes ≡ beginners layout.now 0 layout.now.passes) × (w.1.me.1 ≡ [])) }
+        ensures seat { IfOk result (λ w. (w.1.me.0.passes ≡ new_passes layout.now 0 layout.now.passes) × (w.1.me.1 ≡ [])) }
     {
         let words = PlainWords::new(alloc, layout)?;
         let (table, seat) = Table::of_words(alloc, words.words(), layout)?;
@@ -37,34 +37,34 @@ impl<S: Shape> Words<S> {
 
     /// Makes the step that is said, which stands at this place, and answers what is told of it.
     #[inline(always)]
-    pub(crate) fn make<J: Says>(&self, seat: &mut Seat<u8, View>, said: &Asked, at: usize) -> u64
+    pub(crate) fn make<J: Says>(&self, seat: &mut Seat<u8, SeatView>, said: &Asked, at: usize) -> u64
         requires said { said.now ≡ J.said }
         requires table { (seat.old.table_id ≡ self.now.table.shared.table_id) × (self.now.table.shared.table_id.words ≡ table_size self.now.table.shared.key) }
         requires word { IsWord self.now.table.shared.key said.now.step.word }
         requires place { at ≡ place self.now.table.shared.key said.now.step.word }
         requires inside { at < table_size self.now.table.shared.key }
         requires apart { (w : Word) → IsWord self.now.table.shared.key w → place self.now.table.shared.key w ≡ at → w ≡ said.now.step.word }
-        requires may { (p : Knower) × (seat.old.me.0.passes ≡ p ∷ []) × MayMake S.allows said.now p }
+        requires may { (p : SeatedPass) × (seat.old.me.0.passes ≡ p ∷ []) × MayStep S.allows said.now p }
         ensures table { (seat.new.table_id ≡ seat.old.table_id) × (seat.new.me.1 ≡ seat.old.me.1) }
         ensures made { Made S.allows said.now seat.old.me.0.passes result seat.new.me.0.passes }
     {
         let shared = &self.table.shared;
-        match said.step.deed {
-            Deed::Load => shared.load::<Makes<S, J>>(seat, at),
-            Deed::Store(new) => {
+        match said.step.access {
+            Access::Load => shared.load::<Makes<S, J>>(seat, at),
+            Access::Store(new) => {
                 shared.store::<Makes<S, J>>(seat, at, new);
                 new
             }
-            Deed::Exchange { expected, new } => {
+            Access::Exchange { expected, new } => {
                 shared.compare_exchange::<Makes<S, J>>(seat, at, expected, new)
             }
         }
     }
 
     /// A look at the table by the first of two passes of a seat, which goes behind the other.
-    pub(crate) fn look(&self, layout: &Layout, seat: &mut Seat<u8, View>)
+    pub(crate) fn look(&self, layout: &Layout, seat: &mut Seat<u8, SeatView>)
         requires table { IsTableOf self.now.table.shared.table_id self.now.table.shared.key layout.now × (seat.old.table_id ≡ self.now.table.shared.table_id) }
-        requires two { (p : Knower) × (q : Knower) × (seat.old.me.0.passes ≡ p ∷ q ∷ []) × (p.layout ≡ layout.now) × (p.number.0 < layout.now.passes) }
+        requires two { (p : SeatedPass) × (q : SeatedPass) × (seat.old.me.0.passes ≡ p ∷ q ∷ []) × (p.layout ≡ layout.now) × (p.number.0 < layout.now.passes) }
         ensures table { (seat.new.table_id ≡ seat.old.table_id) × (seat.new.me.1 ≡ seat.old.me.1) }
         ensures looked { Looked S.allows seat.old.me.0.passes seat.new.me.0.passes }
     {
@@ -74,7 +74,7 @@ impl<S: Shape> Words<S> {
     }
 
     /// A seat for the first pass of a seat.
-    pub(crate) fn deal(&self, layout: &Layout, seat: &mut Seat<u8, View>) -> Seat<u8, View>
+    pub(crate) fn deal(&self, layout: &Layout, seat: &mut Seat<u8, SeatView>) -> Seat<u8, SeatView>
         requires table { IsTableOf self.now.table.shared.table_id self.now.table.shared.key layout.now × (seat.old.table_id ≡ self.now.table.shared.table_id) }
         ensures table { (seat.new.table_id ≡ seat.old.table_id) × (result.table_id ≡ seat.old.table_id) }
         ensures bare { (seat.new.me.1 ≡ seat.old.me.1) × (result.me.1 ≡ []) }
@@ -84,7 +84,7 @@ impl<S: Shape> Words<S> {
     }
 
     /// A seat takes in the passes of another.
-    pub(crate) fn take_in(&self, layout: &Layout, seat: &mut Seat<u8, View>, other: Seat<u8, View>)
+    pub(crate) fn take_in(&self, layout: &Layout, seat: &mut Seat<u8, SeatView>, other: Seat<u8, SeatView>)
         requires table { IsTableOf self.now.table.shared.table_id self.now.table.shared.key layout.now × (seat.old.table_id ≡ self.now.table.shared.table_id) × (other.table_id ≡ self.now.table.shared.table_id) }
         requires bare { other.me.1 ≡ [] }
         ensures table { (seat.new.table_id ≡ seat.old.table_id) × (seat.new.me.1 ≡ seat.old.me.1) }
@@ -94,10 +94,10 @@ impl<S: Shape> Words<S> {
     }
 
     /// The words at the end, with what this seat knows of them.
-    pub(crate) fn close(self, seat: Seat<u8, View>) -> Closed<u8, Global>
+    pub(crate) fn close(self, seat: Seat<u8, SeatView>) -> Closed<u8, Global>
         requires { seat.table_id ≡ self.table.shared.table_id }
         ensures counts { (slots_len result.words ≡ self.table.shared.table_id.words) × (slots_len result.slots ≡ self.table.shared.table_id.slots) }
-        ensures values { IsFull result.words × IsFull result.slots × Final (Seen (Kept S.allows self.table.shared.key) seat.id seat.me.0) (slots_items result.words) (slots_items result.slots) }
+        ensures values { IsFull result.words × IsFull result.slots × Final (Seen (TableIsLawful S.allows self.table.shared.key) seat.id seat.me.0) (slots_items result.words) (slots_items result.slots) }
     {
         self.table.close_with(seat)
     }

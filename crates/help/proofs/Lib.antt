@@ -1,1 +1,3 @@
-pub mod Packed
+mod Packed
+mod HelpTurns
+pub mod Lemmas

@@ -2,8 +2,8 @@
 use Rattle.std.proofs.Common.{◌≡◌, ℕ, zero, suc, ◌+◌, ◌*◌, ◌/◌, ◌%◌, ◌^◌, ◌<◌, ◌≤◌, Bool, true, false, eqb, eq-eqb, ne_eqb, List, [], ◌∷◌, length, get_or, refl, ◌∙◌, ap, arith}
 use Rattle.arena.specs.declared.word.Side.{Side}
 use Rattle.arena.specs.declared.word.Side.TheVariants.{Left, Right}
-use Rattle.arena.specs.ScxRecords.{count_of, removes, index_of, side_of}
-use Rattle.arena.proofs.Plans.{count_is}
+use Rattle.arena.specs.ScxRecords.{count_of, plan_finalizes, field_index_of, side_of}
+use Rattle.arena.proofs.Lemmas.{count_is}
 use Rattle.help.specs.Plan.{side_no, bit, removed_bits}
 
 bit_small : (b : Bool) → bit b ≤ 1
@@ -66,7 +66,7 @@ module _ (n : ℕ) (bs : List Bool) (at : ℕ) (side : Side) (p : ℕ) (is : p �
       let e : p % 8 ≡ n = omega arith in
       count_is p (omega arith) (omega arith) ∙ e
 
-  pub packed_field : index_of p ≡ at
+  pub packed_field : field_index_of p ≡ at
   packed_field = let k = bits_small bs four in let s = side_small side in omega arith
 
   pub packed_side : side_of p ≡ side
@@ -91,7 +91,7 @@ module _ (n : ℕ) (bs : List Bool) (at : ℕ) (side : Side) (p : ℕ) (is : p �
   packed_within some none = rw packed_bits (bits_within n bs four some few none)
 
 -- whether it removes its j-th node
-pub packed_removes : (n : ℕ) (bs : List Bool) (at : ℕ) (side : Side) (p : ℕ) → p ≡ n + 8 * removed_bits bs + 128 * at + 512 * side_no side → length bs ≡ 4 → n ≤ 4 → (j : ℕ) → j < 4 → removes p j ≡ get_or bs j false
+pub packed_removes : (n : ℕ) (bs : List Bool) (at : ℕ) (side : Side) (p : ℕ) → p ≡ n + 8 * removed_bits bs + 128 * at + 512 * side_no side → length bs ≡ 4 → n ≤ 4 → (j : ℕ) → j < 4 → plan_finalizes p j ≡ get_or bs j false
 packed_removes n [] at side p is four few j i = absurd (omega arith)
 packed_removes n (a ∷ []) at side p is four few j i = absurd (omega arith)
 packed_removes n (a ∷ b ∷ []) at side p is four few j i = absurd (omega arith)
@@ -102,7 +102,7 @@ packed_removes n (a ∷ b ∷ c ∷ d ∷ []) at side p is four few j i = go j i
     digits : (p / 8 / 2 ^ 0 % 2 ≡ bit a) × (p / 8 / 2 ^ 1 % 2 ≡ bit b) × (p / 8 / 2 ^ 2 % 2 ≡ bit c) × (p / 8 / 2 ^ 3 % 2 ≡ bit d)
     digits = digit p n (bit a) (bit b) (bit c) (bit d) (at + 4 * side_no side) (omega arith) few (bit_small a) (bit_small b) (bit_small c) (bit_small d)
 
-    go : (j : ℕ) → j < 4 → removes p j ≡ get_or (a ∷ b ∷ c ∷ d ∷ []) j false
+    go : (j : ℕ) → j < 4 → plan_finalizes p j ≡ get_or (a ∷ b ∷ c ∷ d ∷ []) j false
     go zero i = bit_is (p / 8 / 2 ^ 0 % 2) a digits.0
     go (suc zero) i = bit_is (p / 8 / 2 ^ 1 % 2) b digits.1
     go (suc (suc zero)) i = bit_is (p / 8 / 2 ^ 2 % 2) c digits.2

@@ -19,13 +19,13 @@ pub record IsQuiet (r : Row) : Type 0 where
 
 -- a row that may come before the pass c begins s: one of another pass, a
 -- fill of a word of s, or one that changes nothing
-abbrev pub IsBetween : ℕ → ℕ → Row → Type 0
-IsBetween c s r = (r.pass.0 ≢ c) ⊎ (IsFillOfScx s r ⊎ IsQuiet r)
+abbrev pub MayComeBetween : ℕ → ℕ → Row → Type 0
+MayComeBetween c s r = (r.pass.0 ≢ c) ⊎ (IsFillOfScx s r ⊎ IsQuiet r)
 
 -- the history k goes on from h, with no rows between but such as may come before c begins s
 abbrev pub IsLater : ℕ → ℕ → History → History → Type 0
 IsLater c s h (Start mode) = h ≡ Start mode
-IsLater c s h (r ⊳ k) = (h ≡ r ⊳ k) ⊎ (IsBetween c s r × IsLater c s h k)
+IsLater c s h (r ⊳ k) = (h ≡ r ⊳ k) ⊎ (MayComeBetween c s r × IsLater c s h k)
 
 -- the layer above allows s with these words whenever its owner's first freeze
 -- may win: after any run that goes on from h by such rows, in which s still is

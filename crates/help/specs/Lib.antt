@@ -1,9 +1,3 @@
 pub mod Plan
-pub mod HelpSteps
 pub mod Allowed
-pub mod HelpKnown
-pub mod AllowedLaws
-pub mod HelpKept
-pub mod HelpLawful
-pub mod HelpMade
-pub mod HelpTurns
+pub mod Help

@@ -8,12 +8,12 @@ abbrev pub count : ℕ → ℕ
 count plan = plan % 8
 
 -- whether the j-th of them is to be finalized
-abbrev pub is_removed : ℕ → ℕ → Bool
-is_removed plan j = eqb (plan / 8 / 2 ^ j % 2) 1
+abbrev pub finalizes_in : ℕ → ℕ → Bool
+finalizes_in plan j = eqb (plan / 8 / 2 ^ j % 2) 1
 
 -- which of them has the field that is changed, by its place among them
-abbrev pub at_of : ℕ → ℕ
-at_of plan = plan / 128 % 4
+abbrev pub field_at : ℕ → ℕ
+field_at plan = plan / 128 % 4
 
 -- on which side of its node the field is
 abbrev pub side_of : ℕ → Side

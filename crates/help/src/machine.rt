@@ -4,46 +4,46 @@ ghost use Rattle.std.specs.Prelude.{◌≡◌, ℕ, ◌+◌, ◌<◌, ◌≤◌,
 use crate::plan::Plan;
 use crate::state::{HelpAt, HelpRun};
 use arena::{
-    ABORTED, COMMITTED, Deed, Kind, Machine, MemberNo, NodeNo, NodeWord, ScxWord, Shape, Step,
+    ABORTED, COMMITTED, Access, Kind, Machine, MemberIndex, NodeNo, NodeWord, ScxWord, Shape, Step,
     Turn, Word,
 };
 
 impl HelpRun {
     ghost use Rattle.std.specs.Prelude.{◌≡◌, ◌<◌, ◌≤◌, ◌+◌, ◌-◌, true, false, ◌⊎◌, MatchOption};
-    ghost use Rattle.arena.specs.MemberNo.{index_of};
-    ghost use Rattle.help.specs.Plan.{count, is_removed, at_of, side_of};
-    ghost use Rattle.help.specs.HelpKnown.{Asks, HasNext, IsLast, MarksNext, MarksNone, node_at, first_place};
-    ghost use Rattle.help.specs.HelpSteps.{help_left};
+    ghost use Rattle.arena.specs.MemberIndex.{member_index};
+    ghost use Rattle.help.specs.Plan.{count, finalizes_in, field_at, side_of};
+    ghost use Rattle.help.specs.Help.Known.{HelpAsks, HasNext, IsLast, MarksNext, MarksNone, node_at, first_place};
+    ghost use Rattle.help.specs.Help.Steps.{help_left};
 
     /// Asks for a step, and stands there.
-    fn ask(&mut self, at: HelpAt, kind: Kind, word: Word, deed: Deed) -> Turn<bool>
-        ensures { Asks self.old self.new result at record { kind = kind; word = word; deed = deed } }
+    fn ask(&mut self, at: HelpAt, kind: Kind, word: Word, access: Access) -> Turn<bool>
+        ensures { HelpAsks self.old self.new result at record { kind = kind; word = word; access = access } }
     {
         self.at = at;
-        Turn::Ask(Step { kind, word, deed })
+        Turn::Ask(Step { kind, word, access })
     }
 
     /// Loads one of the settled words of the SCX-record.
     fn load(&mut self, at: HelpAt, part: ScxWord) -> Turn<bool>
-        ensures { Asks self.old self.new result at record { kind = Kind.LoadSettled; word = Word.Scx self.old.scx part; deed = Deed.Load } }
+        ensures { HelpAsks self.old self.new result at record { kind = Kind.LoadSettled; word = Word.Scx self.old.scx part; access = Access.Load } }
     {
-        self.ask(at, Kind::LoadSettled, Word::Scx(self.scx, part), Deed::Load)
+        self.ask(at, Kind::LoadSettled, Word::Scx(self.scx, part), Access::Load)
     }
 
-    fn freeze(&mut self, j: MemberNo, seen: u64) -> Turn<bool>
-        ensures { Asks self.old self.new result (HelpAt.Freeze j seen) record { kind = Kind.Freeze; word = Word.Node record { 0 = node_at self.old.members (index_of j) } NodeWord.Info; deed = Deed.Exchange seen self.old.scx.0 } }
+    fn freeze(&mut self, j: MemberIndex, seen: u64) -> Turn<bool>
+        ensures { HelpAsks self.old self.new result (HelpAt.Freeze j seen) record { kind = Kind.Freeze; word = Word.Node record { 0 = node_at self.old.members (member_index j) } NodeWord.Info; access = Access.Exchange seen self.old.scx.0 } }
     {
         let info = Word::Node(self.members[j.index()], NodeWord::Info);
         let new = self.scx.0;
-        let deed = Deed::Exchange {
+        let access = Access::Exchange {
             expected: seen,
             new,
         };
-        self.ask(HelpAt::Freeze { j, seen }, Kind::Freeze, info, deed)
+        self.ask(HelpAt::Freeze { j, seen }, Kind::Freeze, info, access)
     }
 
     /// Goes on to the next node once the j-th is frozen.
-    fn after_freeze(&mut self, j: MemberNo) -> Turn<bool>
+    fn after_freeze(&mut self, j: MemberIndex) -> Turn<bool>
         ensures scx { self.new.scx ≡ self.old.scx }
         ensures nearer { help_left self.new.at < help_left (HelpAt.Freeze j 0) }
         ensures turn { HasNext self.old self.new result j ⊎ IsLast self.old self.new result j }
@@ -56,51 +56,51 @@ impl HelpRun {
                     HelpAt::SetFrozen,
                     Kind::SetFrozen,
                     allfrozen,
-                    Deed::Store(1),
+                    Access::Store(1),
                 )
             }
         }
     }
 
     /// Looks whether `allfrozen` is set, where the info of the j-th node was not to be had.
-    fn load_all_frozen(&mut self, j: MemberNo, found: u64) -> Turn<bool>
-        ensures { Asks self.old self.new result (HelpAt.AllFrozen j found) record { kind = Kind.LoadAllFrozen; word = Word.Scx self.old.scx ScxWord.AllFrozen; deed = Deed.Load } }
+    fn load_all_frozen(&mut self, j: MemberIndex, found: u64) -> Turn<bool>
+        ensures { HelpAsks self.old self.new result (HelpAt.AllFrozen j found) record { kind = Kind.LoadAllFrozen; word = Word.Scx self.old.scx ScxWord.AllFrozen; access = Access.Load } }
     {
         let allfrozen = Word::Scx(self.scx, ScxWord::AllFrozen);
         let at = HelpAt::AllFrozen { j, found };
-        self.ask(at, Kind::LoadAllFrozen, allfrozen, Deed::Load)
+        self.ask(at, Kind::LoadAllFrozen, allfrozen, Access::Load)
     }
 
     /// Marks the next node to be finalized, from this one on, or goes on to the update.
-    fn mark_from(&mut self, from: Option<MemberNo>) -> Turn<bool>
+    fn mark_from(&mut self, from: Option<MemberIndex>) -> Turn<bool>
         ensures scx { self.new.scx ≡ self.old.scx }
-        ensures nearer { MatchOption from (help_left self.new.at < 4) (λ j. help_left self.new.at < 8 - index_of j) }
+        ensures nearer { MatchOption from (help_left self.new.at < 4) (λ j. help_left self.new.at < 8 - member_index j) }
         ensures turn { MarksNext self.old self.new result (first_place from) ⊎ MarksNone self.old self.new result (first_place from) }
     {
-        match from.and_then(|j| self.plan.removed_from(j)) {
+        match from.and_then(|j| self.plan.first_finalized_from(j)) {
             Some(j) => {
                 let marked = Word::Node(self.members[j.index()], NodeWord::Marked);
-                self.ask(HelpAt::Mark { j }, Kind::Mark, marked, Deed::Store(1))
+                self.ask(HelpAt::Mark { j }, Kind::Mark, marked, Access::Store(1))
             }
             None => self.load(HelpAt::New, ScxWord::New),
         }
     }
 
     fn update(&mut self, old: u64, new: u64) -> Turn<bool>
-        ensures { Asks self.old self.new result HelpAt.Update record { kind = Kind.Update; word = Word.Node record { 0 = node_at self.old.members (at_of self.old.plan.0) } (NodeWord.Child (side_of self.old.plan.0)); deed = Deed.Exchange old new } }
+        ensures { HelpAsks self.old self.new result HelpAt.Update record { kind = Kind.Update; word = Word.Node record { 0 = node_at self.old.members (field_at self.old.plan.0) } (NodeWord.Child (side_of self.old.plan.0)); access = Access.Exchange old new } }
     {
         let node = self.members[self.plan.at().index()];
         let field = Word::Node(node, NodeWord::Child(self.plan.side()));
-        let deed = Deed::Exchange { expected: old, new };
-        self.ask(HelpAt::Update, Kind::Update, field, deed)
+        let access = Access::Exchange { expected: old, new };
+        self.ask(HelpAt::Update, Kind::Update, field, access)
     }
 
     /// Stores that the SCX-record is finished.
     fn finish(&mut self, at: HelpAt, kind: Kind, state: u64) -> Turn<bool>
-        ensures { Asks self.old self.new result at record { kind = kind; word = Word.Scx self.old.scx ScxWord.State; deed = Deed.Store state } }
+        ensures { HelpAsks self.old self.new result at record { kind = kind; word = Word.Scx self.old.scx ScxWord.State; access = Access.Store state } }
     {
         let word = Word::Scx(self.scx, ScxWord::State);
-        self.ask(at, kind, word, Deed::Store(state))
+        self.ask(at, kind, word, Access::Store(state))
     }
 }
 
@@ -108,18 +108,18 @@ impl<S: Shape> Machine<S> for HelpRun {
     type Answer = bool;
 
     ghost use Rattle.std.specs.Prelude.{◌≡◌, ℕ};
-    ghost use Rattle.help.specs.HelpSteps.{help_left};
-    ghost use Rattle.help.specs.HelpKnown.{help_ready, help_waits, help_answers};
+    ghost use Rattle.help.specs.Help.Steps.{help_left};
+    ghost use Rattle.help.specs.Help.Known.{HelpIsReady, HelpWaits, HelpAnswers};
 
-    ghost ready = { λ m c. help_ready S.allows c.layout c.pass m };
+    ghost ready = { λ m c. HelpIsReady S.allows c.layout c.pass m };
 
-    ghost waits = { λ m c. help_waits S.allows c.layout c.pass m };
+    ghost waits = { λ m c. HelpWaits S.allows c.layout c.pass m };
 
-    ghost answers = { λ m c. help_answers c.layout c.pass m };
+    ghost answers = { λ m c. HelpAnswers c.layout c.pass m };
 
-    ghost use Rattle.help.specs.HelpKept.{help_keeps};
-    ghost use Rattle.help.specs.HelpMade.{help_made};
-    ghost use Rattle.help.specs.HelpLawful.{help_lawful};
+    ghost use Rattle.help.specs.Help.Kept.{help_keeps};
+    ghost use Rattle.help.specs.Help.Made.{help_made};
+    ghost use Rattle.help.specs.Help.Lawful.{help_lawful};
 
     ghost same = { λ old now. now.scx ≡ old.scx };
 
@@ -135,7 +135,7 @@ impl<S: Shape> Machine<S> for HelpRun {
             HelpAt::Start => self.load(HelpAt::Plan, ScxWord::Plan),
             HelpAt::Plan => {
                 self.plan = Plan(found);
-                let j = MemberNo::First;
+                let j = MemberIndex::First;
                 self.load(HelpAt::Member { j }, ScxWord::Member(j.number()))
             }
             HelpAt::Member { j } => {
@@ -158,7 +158,7 @@ impl<S: Shape> Machine<S> for HelpRun {
                 }
             }
             HelpAt::Abort { j: _, found: _ } => Turn::Done(false),
-            HelpAt::SetFrozen => self.mark_from(Some(MemberNo::First)),
+            HelpAt::SetFrozen => self.mark_from(Some(MemberIndex::First)),
             HelpAt::Mark { j } => self.mark_from(j.next()),
             HelpAt::New => self.load(HelpAt::Old { new: found }, ScxWord::Old),
             HelpAt::Old { new } => self.update(found, new),

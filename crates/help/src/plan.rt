@@ -1,9 +1,9 @@
 //! The word `plan` of an SCX-record.
 ghost use Rattle.std.specs.Prelude.{◌≡◌, ℕ, ◌+◌, ◌*◌, ◌/◌, ◌%◌, ◌^◌, ◌<◌, ◌≤◌, ◌↔◌, true, false, IsTrue, IsSome, IfSome, IfNone};
-ghost use Rattle.arena.specs.MemberNo.{index_of};
-ghost use Rattle.help.specs.Plan.{count, side_of, side_no, at_of, is_removed, removed_bits};
+ghost use Rattle.arena.specs.MemberIndex.{member_index};
+ghost use Rattle.help.specs.Plan.{count, side_of, side_no, field_at, finalizes_in, removed_bits};
 
-use arena::{MemberNo, Side};
+use arena::{MemberIndex, Side};
 
 /// How many nodes an SCX-record covers, which of them it finalizes, and which field of which of
 /// them it changes: `count + 8 * removed + 128 * index_of at + 512 * side`, where bit j of
@@ -14,9 +14,9 @@ pub struct Plan(pub u64);
 impl Plan {
     /// The plan of an SCX-record over so many nodes, 1 to 4, where `removed` says of each whether
     /// it is to be finalized.
-    pub fn new(count: usize, removed: [bool; 4], at: MemberNo, side: Side) -> Plan
+    pub fn new(count: usize, removed: [bool; 4], at: MemberIndex, side: Side) -> Plan
         requires { count ≤ 4 }
-        ensures { result.0 ≡ count + 8 * removed_bits removed + 128 * index_of at + 512 * side_no side }
+        ensures { result.0 ≡ count + 8 * removed_bits removed + 128 * member_index at + 512 * side_no side }
     {
         let [a, b, c, d] = removed;
         let removed = u64::from(a) + 2 * u64::from(b) + 4 * u64::from(c) + 8 * u64::from(d);
@@ -28,9 +28,9 @@ impl Plan {
     }
 
     /// The place behind this one, if the plan covers so many nodes.
-    pub fn member_behind(self, j: MemberNo) -> Option<MemberNo>
-        ensures valid { IsSome result ↔ ((index_of j < 3) × (index_of j + 1 < count self.0)) }
-        ensures value { IfSome result (λ k. index_of k ≡ index_of j + 1) }
+    pub fn member_behind(self, j: MemberIndex) -> Option<MemberIndex>
+        ensures valid { IsSome result ↔ ((member_index j < 3) × (member_index j + 1 < count self.0)) }
+        ensures value { IfSome result (λ k. member_index k ≡ member_index j + 1) }
     {
         let next = j.next()?;
         if (next.index() as u64) < self.0 % 8 {
@@ -41,20 +41,20 @@ impl Plan {
     }
 
     /// Whether the j-th node is to be finalized.
-    pub fn removes(self, j: MemberNo) -> bool
-        ensures { result ≡ is_removed self.0 (index_of j) }
+    pub fn finalizes(self, j: MemberIndex) -> bool
+        ensures { result ≡ finalizes_in self.0 (member_index j) }
     {
         (self.0 / 8 >> j.index()) % 2 == 1
     }
 
     /// The first node to be finalized, from the j-th on.
-    pub fn removed_from(self, j: MemberNo) -> Option<MemberNo>
-        ensures removed { IfSome result (λ k. (index_of j ≤ index_of k) × (is_removed self.0 (index_of k) ≡ true) × ((i : ℕ) → index_of j ≤ i → i < index_of k → is_removed self.0 i ≡ false)) }
-        ensures none { IfNone result ((i : ℕ) → index_of j ≤ i → i < 4 → is_removed self.0 i ≡ false) }
+    pub fn first_finalized_from(self, j: MemberIndex) -> Option<MemberIndex>
+        ensures removed { IfSome result (λ k. (member_index j ≤ member_index k) × (finalizes_in self.0 (member_index k) ≡ true) × ((i : ℕ) → member_index j ≤ i → i < member_index k → finalizes_in self.0 i ≡ false)) }
+        ensures none { IfNone result ((i : ℕ) → member_index j ≤ i → i < 4 → finalizes_in self.0 i ≡ false) }
     {
         for index in j.index()..4 {
-            let j = MemberNo::new(index)?;
-            if self.removes(j) {
+            let j = MemberIndex::new(index)?;
+            if self.finalizes(j) {
                 return Some(j);
             }
         }
@@ -62,10 +62,10 @@ impl Plan {
     }
 
     /// The place of the node whose field is changed.
-    pub fn at(self) -> MemberNo
-        ensures { index_of result ≡ at_of self.0 }
+    pub fn at(self) -> MemberIndex
+        ensures { member_index result ≡ field_at self.0 }
     {
-        MemberNo::new((self.0 / 128 % 4) as usize).unwrap()
+        MemberIndex::new((self.0 / 128 % 4) as usize).unwrap()
     }
 
     /// The side of the field that is changed.

@@ -2,7 +2,7 @@
 ghost use Rattle.std.specs.Prelude.{◌≡◌, ◌≤◌};
 
 use crate::plan::Plan;
-use arena::{MemberNo, NodeNo, ScxNo};
+use arena::{MemberIndex, NodeNo, ScxNo};
 
 /// The step that a run of HELP has asked for.
 #[derive(Clone, Copy, Debug, PartialEq, Eq)]
@@ -12,19 +12,19 @@ pub enum HelpAt {
     /// The load of the plan word.
     Plan,
     /// The load of the j-th `v` word.
-    Member { j: MemberNo },
+    Member { j: MemberIndex },
     /// The load of the j-th `i` word.
-    Seen { j: MemberNo },
+    Seen { j: MemberIndex },
     /// The freeze of the j-th node, whose info is expected to name `seen`.
-    Freeze { j: MemberNo, seen: u64 },
+    Freeze { j: MemberIndex, seen: u64 },
     /// The load of `allfrozen`: the j-th node could not be frozen, since its info named `found`.
-    AllFrozen { j: MemberNo, found: u64 },
+    AllFrozen { j: MemberIndex, found: u64 },
     /// The abort, where `allfrozen` was not set.
-    Abort { j: MemberNo, found: u64 },
+    Abort { j: MemberIndex, found: u64 },
     /// The store into `allfrozen`.
     SetFrozen,
     /// The mark of the j-th node.
-    Mark { j: MemberNo },
+    Mark { j: MemberIndex },
     /// The load of `new`.
     New,
     /// The load of `old`.
@@ -53,8 +53,8 @@ pub struct HelpRun {
 
 impl HelpRun {
     ghost use Rattle.std.specs.Prelude.{◌≡◌, ◌≤◌};
-    ghost use Rattle.help.specs.HelpSteps.{help_left};
-    ghost use Rattle.help.specs.HelpKnown.{blocked_at};
+    ghost use Rattle.help.specs.Help.Steps.{help_left};
+    ghost use Rattle.help.specs.Help.Known.{blocked_at};
     ghost use Rattle.help.specs.declared.state.HelpAt.TheVariants.{Start};
 
     /// A run that has not begun. It asks for at most 27 steps.

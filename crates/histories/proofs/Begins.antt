@@ -11,7 +11,7 @@ use Rattle.arena.specs.ScxRecords.{count, member, seen, new}
 use Rattle.arena.specs.Fills.{IsOwnScx, IsNamed, IsNamedScx}
 use Rattle.arena.specs.Lawful.{IsExchange, MayBegin, IsFreeze, IsAbort, Lawful}
 use Rattle.histories.specs.Begins.{Begins}
-use Rattle.histories.specs.Descriptor.{descriptor, place}
+use Rattle.histories.specs.Descriptor.{descriptor, field_index_in}
 use Rattle.histories.proofs.Facts.{IsFlagged, descriptor_same}
 use Rattle.histories.proofs.Always.{facts}
 use Rattle.histories.proofs.Moments.{Still, still, finished_stays, named_more}
@@ -29,7 +29,7 @@ begins_kept lay h r c s l is_pass other b = subst (λ d. Begins lay d (r ⊳ h) 
   named = λ j i. named_more r (b.named j i);
   rest = λ j i. finished_stays lay h r _ l (b.rest j i);
   unmarked = λ j i e. (rest j i e).mark ∙ b.unmarked j i (rest j i e).info;
-  shows = λ e. (rest (place (descriptor h s)) b.planned.field e).fields _ ∙ b.shows (rest (place (descriptor h s)) b.planned.field e).info;
+  shows = λ e. (rest (field_index_in (descriptor h s)) b.planned.field e).fields _ ∙ b.shows (rest (field_index_in (descriptor h s)) b.planned.field e).info;
   new_own = b.new_own;
   new_unnamed = stays_unnamed lay h r c l is_pass other (new h s) b.new_own b.new_unnamed;
   new_in_no_field = λ n side p. ⊎_elim b.new_unnamed (b.new_in_no_field n side) (field_back lay h r c l is_pass other n side (new h s) b.new_own p);

@@ -6,14 +6,13 @@ use Rattle.arena.specs.declared.word.Word.{Word}
 use Rattle.arena.specs.declared.word.ScxWord.TheVariants.{State, AllFrozen}
 use Rattle.arena.specs.declared.step.Row.{Row}
 use Rattle.arena.specs.Words.{same_word, info, marked, scx, state}
-use Rattle.arena.specs.History.{History, Start, ◌⊳◌, value, HasHeld, EndsWith}
+use Rattle.arena.specs.History.{History, Start, ◌⊳◌, value, HasHeld, Extends}
 use Rattle.arena.specs.ScxRecords.{member}
 use Rattle.arena.specs.Fills.{IsNamedScx}
 use Rattle.arena.specs.Lawful.{Lawful}
 use Rattle.arena.specs.Log.{log, is_final, has}
 use Rattle.arena.specs.Blame.{IsMember, WasInTheWay}
-use Rattle.arena.proofs.Values.{value_apart, value_other, held_at, held_now, held_more}
-use Rattle.arena.proofs.SameWords.{word_same}
+use Rattle.arena.proofs.Lemmas.{value_apart, value_other, held_at, held_now, held_more, word_same}
 use Rattle.histories.specs.Descriptor.{descriptor}
 use Rattle.histories.specs.Finalizing.{IsRemoved}
 use Rattle.histories.proofs.Changes.{lawful_tail}
@@ -36,7 +35,7 @@ pub member_of : (h : History) (s n : ℕ) → IsCell (descriptor h s) h s n → 
 member_of h s n c = record { index = c.index; within = c.within; is = c.is }
 
 -- the info of the node is no longer what it was
-pub blame_info : (lay : Layout) (h m : History) (n : ℕ) → Lawful lay h → EndsWith h m → value h (info n) ≢ value m (info n) → WasInTheWay h m n (value h (info n))
+pub blame_info : (lay : Layout) (h m : History) (n : ℕ) → Lawful lay h → Extends h m → value h (info n) ≢ value m (info n) → WasInTheWay h m n (value h (info n))
 blame_info lay (Start mode) m n l e d = absurd (d (ap (λ k. value k (info n)) (sym e)))
 blame_info lay (r ⊳ h) m n l (inl e) d = absurd (d (ap (λ k. value k (info n)) (sym e)))
 blame_info lay (r ⊳ h) m n l (inr e) d = go (effect lay h r l) (blame_info lay h m n (lawful_tail lay h r l) e)
@@ -75,7 +74,7 @@ changed_word r h w d = go (same_word r.word w) refl
     go false e = absurd (d (value_other r h w e))
 
 -- the node is marked and was not: its info names what marked it
-pub blame_mark : (lay : Layout) (h m : History) (n : ℕ) → Lawful lay h → EndsWith h m → value m (marked n) ≡ 0 → value h (marked n) ≢ 0 → WasInTheWay h m n (value h (info n))
+pub blame_mark : (lay : Layout) (h m : History) (n : ℕ) → Lawful lay h → Extends h m → value m (marked n) ≡ 0 → value h (marked n) ≢ 0 → WasInTheWay h m n (value h (info n))
 blame_mark lay (Start mode) m n l e z d = absurd (d (ap (λ k. value k (marked n)) (sym e) ∙ z))
 blame_mark lay (r ⊳ h) m n l (inl e) z d = absurd (d (ap (λ k. value k (marked n)) (sym e) ∙ z))
 blame_mark lay (r ⊳ h) m n l (inr e) z d = go (ℕ_discrete (value h (marked n)) 0) (blame_mark lay h m n (lawful_tail lay h r l) e z)
@@ -109,7 +108,7 @@ blame_mark lay (r ⊳ h) m n l (inr e) z d = go (ℕ_discrete (value h (marked n
         by_effect (update u w) = absurd (d (update_keeps_mark f w n ∙ x))
 
 -- the node is final and was not
-pub blame_final : (lay : Layout) (h m : History) (n : ℕ) → Lawful lay h → EndsWith h m → is_final (log lay m) n ≡ false → is_final (log lay h) n ≡ true → (s : ℕ) × WasInTheWay h m n s
+pub blame_final : (lay : Layout) (h m : History) (n : ℕ) → Lawful lay h → Extends h m → is_final (log lay m) n ≡ false → is_final (log lay h) n ≡ true → (s : ℕ) × WasInTheWay h m n s
 blame_final lay (Start mode) m n l e z d = let q : is_final (log lay m) n ≡ is_final (log lay (Start mode)) n = ap (λ k. is_final (log lay k) n) e in cc
 blame_final lay (r ⊳ h) m n l (inl e) z d = let q : is_final (log lay m) n ≡ is_final (log lay (r ⊳ h)) n = ap (λ k. is_final (log lay k) n) e in cc
 blame_final lay (r ⊳ h) m n l (inr e) z d = go (logs lay h r l) (blame_final lay h m n (lawful_tail lay h r l) e z)

@@ -4,11 +4,11 @@ use Rattle.arena.specs.declared.limits.Mode.{Mode}
 use Rattle.arena.specs.declared.layout.Layout.{Layout}
 use Rattle.arena.specs.declared.step.Row.{Row}
 use Rattle.arena.specs.History.{History, Start, ◌⊳◌}
-use Rattle.arena.specs.ScxRecords.{plan, removes, side_of, count, member}
+use Rattle.arena.specs.ScxRecords.{plan, plan_finalizes, side_of, count, member}
 use Rattle.arena.specs.Fills.{IsNamedScx}
 use Rattle.arena.specs.Lawful.{HasWon, Lawful}
-use Rattle.arena.specs.Log.{Entry, owner, log, members_from, removed_from, has, is_final, IsEntered, AreOnce}
-use Rattle.histories.specs.Descriptor.{Descriptor, descriptor, many, place}
+use Rattle.arena.specs.Log.{Entry, owner, log, members_from, finalized_from, has, is_final, IsEntered, AreOnce}
+use Rattle.histories.specs.Descriptor.{Descriptor, descriptor, count_in, field_index_in}
 use Rattle.histories.specs.Finalizing.{IsRemoved}
 use Rattle.histories.proofs.Changes.{lawful_tail}
 use Rattle.histories.proofs.Facts.{IsFlagged, Facts, won_more, some_is_real}
@@ -35,14 +35,14 @@ members_of d j (suc c) = d.member j ∷ members_of d (suc j) c
 
 removed_of : Descriptor → ℕ → ℕ → List ℕ
 removed_of d j zero = []
-removed_of d j (suc c) = cond (removes d.plan j) (d.member j ∷ removed_of d (suc j) c) (removed_of d (suc j) c)
+removed_of d j (suc c) = cond (plan_finalizes d.plan j) (d.member j ∷ removed_of d (suc j) c) (removed_of d (suc j) c)
 
 members_are : (h : History) (s j c : ℕ) → members_from h s j c ≡ members_of (descriptor h s) j c
 unfolding members_of
 members_are h s j zero = refl
 members_are h s j (suc c) = rw (members_are h s (suc j) c) refl
 
-removed_are : (h : History) (s j c : ℕ) → removed_from h s j c ≡ removed_of (descriptor h s) j c
+removed_are : (h : History) (s j c : ℕ) → finalized_from h s j c ≡ removed_of (descriptor h s) j c
 unfolding removed_of
 removed_are h s j zero = refl
 removed_are h s j (suc c) = rw (removed_are h s (suc j) c) refl
@@ -53,9 +53,9 @@ entry_from lay s d =
       scx = s;
       owner = owner lay s;
       call = d.call;
-      members = members_of d 0 (many d);
-      removed = removed_of d 0 (many d);
-      node = d.member (place d);
+      members = members_of d 0 (count_in d);
+      removed = removed_of d 0 (count_in d);
+      node = d.member (field_index_in d);
       side = side_of d.plan;
       new = d.new;
     }

@@ -10,17 +10,17 @@ use Rattle.arena.specs.declared.step.Row.{Row}
 use Rattle.arena.specs.Layout.{all_nodes}
 use Rattle.arena.specs.Words.{scx, info, marked, child, state}
 use Rattle.arena.specs.History.{History, ◌⊳◌, value, HasHeld}
-use Rattle.arena.specs.ScxRecords.{IsPlan, removes, plan, member}
+use Rattle.arena.specs.ScxRecords.{IsPlan, plan_finalizes, plan, member}
 use Rattle.arena.specs.Fills.{IsOwnNode, IsOwnScx, IsNamed, by_scx}
 use Rattle.arena.specs.Lawful.{IsWin, HasWon}
-use Rattle.arena.proofs.Values.{held_now}
-use Rattle.histories.specs.Descriptor.{Descriptor, descriptor, many, place, spot}
+use Rattle.arena.proofs.Lemmas.{held_now}
+use Rattle.histories.specs.Descriptor.{Descriptor, descriptor, count_in, field_index_in, field_in}
 use Rattle.histories.specs.Progress.{Froze, IsStuck}
 use Rattle.histories.proofs.Changes.{IsScxFill}
 
 -- it may still freeze its field's node, or holds it and is in progress
 abbrev pub IsLive : Descriptor → History → ℕ → Type 0
-IsLive d h s = (value h (info (d.member (place d))) ≡ d.seen (place d)) ⊎ (Froze d h s (place d) × (value h (state s) ≡ 0))
+IsLive d h s = (value h (info (d.member (field_index_in d))) ≡ d.seen (field_index_in d)) ⊎ (Froze d h s (field_index_in d) × (value h (state s) ≡ 0))
 
 -- the pass whose share has the SCX-record and its new node
 pub record IsOwned (lay : Layout) (d : Descriptor) (s : ℕ) : Type 0 where
@@ -33,49 +33,49 @@ pub record IsOwned (lay : Layout) (d : Descriptor) (s : ℕ) : Type 0 where
 pub record About (lay : Layout) (d : Descriptor) (h : History) (s : ℕ) : Type 0 where
   pub owned : IsOwned lay d s
   pub planned : IsPlan d.plan
-  pub inside : (j : ℕ) → j < many d → d.member j < all_nodes lay
-  pub distinct : (j k : ℕ) → j < many d → k < many d → j ≢ k → d.member j ≢ d.member k
+  pub inside : (j : ℕ) → j < count_in d → d.member j < all_nodes lay
+  pub distinct : (j k : ℕ) → j < count_in d → k < count_in d → j ≢ k → d.member j ≢ d.member k
   -- what it has seen is finished
-  pub rest : (j : ℕ) → j < many d → value h (state (d.seen j)) ≢ 0
+  pub rest : (j : ℕ) → j < count_in d → value h (state (d.seen j)) ≢ 0
   -- while it is in progress it holds what it froze
-  pub holds : (j : ℕ) → j < many d → Froze d h s j → value h (state s) ≡ 0 → value h (info (d.member j)) ≡ s
+  pub holds : (j : ℕ) → j < count_in d → Froze d h s j → value h (state s) ≡ 0 → value h (info (d.member j)) ≡ s
   -- what it found in a node's info does not come back
-  pub gone : (j : ℕ) → j < many d → Froze d h s j → value h (info (d.member j)) ≢ d.seen j
+  pub gone : (j : ℕ) → j < count_in d → Froze d h s j → value h (info (d.member j)) ≢ d.seen j
   pub done : value h (state s) ≢ 0 → HasWon h s ⊎ IsStuck d h s
   -- its field shows `old` until its update has won, and never again after that
-  pub steady : IsLive d h s → (value h (spot d) ≡ d.old) ⊎ HasWon h s
-  pub moved : HasWon h s → value h (spot d) ≢ d.old
-  pub fresh : IsLive d h s → ¬ HasWon h s → ¬ HasHeld h (spot d) d.new
-  pub had : Froze d h s (place d) → HasHeld h (spot d) d.old
-  pub clean : (j : ℕ) → j < many d → value h (info (d.member j)) ≡ d.seen j → value h (marked (d.member j)) ≡ 0
+  pub steady : IsLive d h s → (value h (field_in d) ≡ d.old) ⊎ HasWon h s
+  pub moved : HasWon h s → value h (field_in d) ≢ d.old
+  pub fresh : IsLive d h s → ¬ HasWon h s → ¬ HasHeld h (field_in d) d.new
+  pub had : Froze d h s (field_index_in d) → HasHeld h (field_in d) d.old
+  pub clean : (j : ℕ) → j < count_in d → value h (info (d.member j)) ≡ d.seen j → value h (marked (d.member j)) ≡ 0
 
 -- n is a node of s, and those before it are frozen for s
 pub record IsCell (d : Descriptor) (h : History) (s n : ℕ) : Type 0 where
   pub index : ℕ
-  pub within : index < many d
+  pub within : index < count_in d
   pub is : d.member index ≡ n
   pub earlier : (i : ℕ) → i < index → Froze d h s i
 
 -- all nodes of s are frozen for it
 pub record IsFlagged (d : Descriptor) (h : History) (s : ℕ) : Type 0 where
-  pub some : 0 < many d
-  pub frozen : (j : ℕ) → j < many d → Froze d h s j
+  pub some : 0 < count_in d
+  pub frozen : (j : ℕ) → j < count_in d → Froze d h s j
 
 -- s finalizes n, and holds it for ever
 pub record IsMarker (d : Descriptor) (h : History) (s n : ℕ) : Type 0 where
   pub flag : value h (scx s AllFrozen) ≡ 1
   pub index : ℕ
-  pub within : index < many d
+  pub within : index < count_in d
   pub is : d.member index ≡ n
-  pub removed : removes d.plan index ≡ true
+  pub removed : plan_finalizes d.plan index ≡ true
   pub holds : value h (info n) ≡ s
 
 -- it holds each node that it finalizes
 abbrev pub Holds : Descriptor → History → ℕ → Type 0
-Holds d h s = (j : ℕ) → j < many d → removes d.plan j ≡ true → value h (info (d.member j)) ≡ s
+Holds d h s = (j : ℕ) → j < count_in d → plan_finalizes d.plan j ≡ true → value h (info (d.member j)) ≡ s
 
 abbrev pub AllMarked : Descriptor → History → Type 0
-AllMarked d h = (j : ℕ) → j < many d → removes d.plan j ≡ true → value h (marked (d.member j)) ≡ 1
+AllMarked d h = (j : ℕ) → j < count_in d → plan_finalizes d.plan j ≡ true → value h (marked (d.member j)) ≡ 1
 
 -- a finished SCX-record is committed and has won, or is aborted and has not
 abbrev pub IsEnded : History → ℕ → ℕ → Type 0
@@ -131,10 +131,10 @@ pub member_named : (lay : Layout) (h : History) (s n j : ℕ) → HasHeld h (inf
 member_named lay h s n j p = by_scx s (Member j) (n, p) tt (held_now h (scx s (Member j)))
 
 -- the dummy covers no node
-pub some_is_real : {lay : Layout} {h : History} {s : ℕ} → Facts lay h → 0 < many (descriptor h s) → s ≢ 0
+pub some_is_real : {lay : Layout} {h : History} {s : ℕ} → Facts lay h → 0 < count_in (descriptor h s) → s ≢ 0
 some_is_real {lay} {h} {s} f p e =
-    let q : many (descriptor h 0) ≡ 0 = rw f.empty refl in
-    let x : 0 < many (descriptor h 0) = rw e at p in
+    let q : count_in (descriptor h 0) ≡ 0 = rw f.empty refl in
+    let x : 0 < count_in (descriptor h 0) = rw e at p in
     omega arith
 
 pub flagged_about : {lay : Layout} {h : History} {s : ℕ} → Facts lay h → IsFlagged (descriptor h s) h s → About lay (descriptor h s) h s

@@ -17,7 +17,7 @@ use Rattle.arena.specs.ScxRecords.{plan, side_of, field_index, member, new, fiel
 use Rattle.arena.specs.Fills.{IsNamed}
 use Rattle.arena.specs.Lawful.{HasWon, Lawful}
 use Rattle.arena.specs.Log.{Entry, entry, with_row, log, is_fill, filled, field_after, fields}
-use Rattle.arena.proofs.Values.{value_apart, value_quiet, node_word_apart, node_apart}
+use Rattle.arena.proofs.Lemmas.{value_apart, value_quiet, node_word_apart, node_apart}
 use Rattle.histories.proofs.Changes.{Change, nothing, fills_node, fills_scx, freezes, sets_frozen, marks, updates, commits, aborts, UpdateWins, change, lawful_tail, lawful_row}
 use Rattle.histories.proofs.Facts.{Facts, member_named, won_back}
 use Rattle.histories.proofs.Updates.{update_changes, update_holds, update_flagged}

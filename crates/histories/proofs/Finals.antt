@@ -8,14 +8,14 @@ use Rattle.arena.specs.declared.word.NodeWord.TheVariants.{Head, Key, Value, Chi
 use Rattle.arena.specs.declared.word.ScxWord.TheVariants.{AllFrozen}
 use Rattle.arena.specs.declared.step.Row.{Row}
 use Rattle.arena.specs.Words.{node, info, marked, scx, state, child}
-use Rattle.arena.specs.History.{History, ◌⊳◌, value, EndsWith}
+use Rattle.arena.specs.History.{History, ◌⊳◌, value, Extends}
 use Rattle.arena.specs.Fills.{IsNamed}
 use Rattle.arena.specs.Lawful.{HasWon, Lawful}
 use Rattle.arena.specs.Log.{log, is_final}
 use Rattle.arena.specs.Finalized.{IsFinalized}
 use Rattle.arena.specs.Blame.{IsMember}
 use Rattle.arena.specs.ScxRecords.{plan, side_of, field_index, member}
-use Rattle.arena.proofs.Values.{node_apart}
+use Rattle.arena.proofs.Lemmas.{node_apart}
 use Rattle.histories.proofs.Freezes.{freeze_keeps_field}
 use Rattle.histories.specs.Finalizing.{IsFinalizing, IsRemoved}
 use Rattle.histories.specs.Descriptor.{descriptor}
@@ -124,7 +124,7 @@ final_stays lay h r n l e =
     let by : (s : ℕ) × IsFinalizedBy h n s = final_by lay h n (lawful_tail lay h r l) e in
     by_final lay (r ⊳ h) n by.0 l (finalized_by_stays lay h r n by.0 l by.1)
 
-pub final_since : (lay : Layout) (h m : History) (n : ℕ) → Lawful lay h → EndsWith h m → is_final (log lay m) n ≡ true → is_final (log lay h) n ≡ true
+pub final_since : (lay : Layout) (h m : History) (n : ℕ) → Lawful lay h → Extends h m → is_final (log lay m) n ≡ true → is_final (log lay h) n ≡ true
 final_since lay h m n = since (λ k. is_final (log lay k) n ≡ true) lay (λ h r l e. final_stays lay h r n l e) h m
 
 -- no lawful row changes a word of a final node
@@ -166,7 +166,7 @@ final_unchanged lay h r n part l e = go part
     go Marked = marked_stays lay h r n l mark ∙ sym mark
 
 -- nor do any later rows
-pub final_unchanged_since : (lay : Layout) (h m : History) (n : ℕ) (part : NodeWord) → Lawful lay h → EndsWith h m → is_final (log lay m) n ≡ true → value h (node n part) ≡ value m (node n part)
+pub final_unchanged_since : (lay : Layout) (h m : History) (n : ℕ) (part : NodeWord) → Lawful lay h → Extends h m → is_final (log lay m) n ≡ true → value h (node n part) ≡ value m (node n part)
 final_unchanged_since lay h m n part l e x =
     (since (λ k. (is_final (log lay k) n ≡ true) × (value k (node n part) ≡ value m (node n part))) lay (λ h r l y. (final_stays lay h r n l y.0, final_unchanged lay h r n part l y.0 ∙ y.1)) h m l e (x, refl)).1
 
@@ -181,5 +181,5 @@ finalized_final lay h n l x = go (f.ended x.scx (λ e. let y = x.committed in om
     go (inl y) = by_final lay h n x.scx l record { won = y.1; removed = record { index = x.index; within = x.within; is = x.is; removed = x.removed } }
     go (inr y) = absurd (let a = y.0 in let b = x.committed in omega arith)
 
-pub finalized_since : (lay : Layout) (h m : History) (n : ℕ) (part : NodeWord) → Lawful lay h → EndsWith h m → IsFinalized m n → value h (node n part) ≡ value m (node n part)
+pub finalized_since : (lay : Layout) (h m : History) (n : ℕ) (part : NodeWord) → Lawful lay h → Extends h m → IsFinalized m n → value h (node n part) ≡ value m (node n part)
 finalized_since lay h m n part l e x = final_unchanged_since lay h m n part l e (finalized_final lay m n (lawful_since lay h m l e) x)

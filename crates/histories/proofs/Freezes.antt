@@ -11,10 +11,10 @@ use Rattle.arena.specs.declared.step.Kind.TheVariants.{Freeze, Update}
 use Rattle.arena.specs.Layout.{all_nodes}
 use Rattle.arena.specs.Words.{scx, info, marked, child, state}
 use Rattle.arena.specs.History.{History, ◌⊳◌, value, HasHeld}
-use Rattle.arena.specs.ScxRecords.{IsPlan, removes, plan, count, field_index, member, seen, new, old, field}
+use Rattle.arena.specs.ScxRecords.{IsPlan, plan_finalizes, plan, count, field_index, member, seen, new, old, field}
 use Rattle.arena.specs.Lawful.{IsFrozen, MayBegin, HasWon}
-use Rattle.arena.proofs.Values.{value_at, value_apart, held_at, held_more, held_split, held_back, node_word_apart, node_apart}
-use Rattle.histories.specs.Descriptor.{descriptor, many}
+use Rattle.arena.proofs.Lemmas.{value_at, value_apart, held_at, held_more, held_split, held_back, node_word_apart, node_apart}
+use Rattle.histories.specs.Descriptor.{descriptor, count_in}
 use Rattle.histories.specs.Progress.{IsStuck}
 use Rattle.histories.proofs.Changes.{FreezeWins}
 use Rattle.histories.proofs.Facts.{IsLive, IsOwned, About, IsCell, IsFlagged, IsMarker, Holds, AllMarked, IsEnded, Facts, descriptor_same, won_more, won_back, flagged_about}
@@ -264,7 +264,7 @@ module _ {lay : Layout} {h : History} {r : Row} {u j : ℕ} (f : Facts lay h) (w
           subst (λ d. IsFlagged d (r ⊳ h) s) (sym (freeze_descriptor s)) y
 
       -- a node that a finished SCX-record finalizes is marked, so none freezes it
-      held_on : (s i : ℕ) → value h (scx s AllFrozen) ≢ 0 → i < many (descriptor h s) → removes (plan h s) i ≡ true → member h u j ≢ member h s i
+      held_on : (s i : ℕ) → value h (scx s AllFrozen) ≢ 0 → i < count_in (descriptor h s) → plan_finalizes (plan h s) i ≡ true → member h u j ≢ member h s i
       held_on s i d l e q =
           let x : IsFlagged (descriptor h s) h s = f.flagged s d in
           let y : seen h u j ≡ s = sym freeze_finds ∙ rw (← q) at (f.finalizes s d i l e) in

@@ -6,12 +6,12 @@ use Rattle.arena.specs.declared.word.ScxWord.TheVariants.{AllFrozen}
 use Rattle.arena.specs.declared.step.Row.{Row}
 use Rattle.arena.specs.declared.step.Kind.TheVariants.{Update}
 use Rattle.arena.specs.Words.{info, scx, state}
-use Rattle.arena.specs.History.{History, ◌⊳◌, value, HasHeld, EndsWith}
+use Rattle.arena.specs.History.{History, ◌⊳◌, value, HasHeld, Extends}
 use Rattle.arena.specs.ScxRecords.{count, member, seen, old, field_index}
 use Rattle.arena.specs.Fills.{IsNamedScx}
 use Rattle.arena.specs.Log.{log, IsEntered}
 use Rattle.arena.specs.Lawful.{IsExchange, IsFrozen, AreFrozen, AllAreFrozen, IsFreeze, IsSetFrozen, IsUpdate, IsAbort, HasWon, Lawful}
-use Rattle.arena.proofs.Values.{value_at, held_more, held_at, held_back}
+use Rattle.arena.proofs.Lemmas.{value_at, held_more, held_at, held_back}
 use Rattle.histories.specs.Progress.{IsStarted, IsOver, IsStuck}
 use Rattle.histories.specs.Descriptor.{descriptor}
 use Rattle.histories.proofs.Changes.{lawful_tail, lawful_row}
@@ -210,7 +210,7 @@ committed_won lay h s l e = go ((facts lay h l).ended s (λ z. omega arith))
     go (inr x) = absurd (let y = x.0 in omega arith)
 
 -- an aborted SCX-record has no entry, then or later
-pub aborted_no_entry : (lay : Layout) (h m : History) (s : ℕ) → Lawful lay h → EndsWith h m → value m (state s) ≡ 2 → ¬ IsEntered (log lay h) s
+pub aborted_no_entry : (lay : Layout) (h m : History) (s : ℕ) → Lawful lay h → Extends h m → value m (state s) ≡ 2 → ¬ IsEntered (log lay h) s
 aborted_no_entry lay h m s l e a i = aborted_never_won lay h s l (state_since lay h m s l e (λ z. omega arith) ∙ a) (entered_won lay h s l i)
 
 -- nor has one that no info word names

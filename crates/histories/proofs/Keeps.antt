@@ -12,8 +12,8 @@ use Rattle.arena.specs.History.{History, ◌⊳◌, value, HasHeld}
 use Rattle.arena.specs.ScxRecords.{side_of, plan, member, seen}
 use Rattle.arena.specs.Fills.{IsNamed, IsNamedScx}
 use Rattle.arena.specs.Lawful.{HasWon}
-use Rattle.arena.proofs.Values.{held_more, held_back}
-use Rattle.histories.specs.Descriptor.{descriptor, many, spot}
+use Rattle.arena.proofs.Lemmas.{held_more, held_back}
+use Rattle.histories.specs.Descriptor.{descriptor, count_in, field_in}
 use Rattle.histories.specs.Progress.{IsStuck}
 use Rattle.histories.proofs.Changes.{IsNodeFill, IsScxFill}
 use Rattle.histories.proofs.Facts.{IsLive, About, IsCell, IsFlagged, IsMarker, Holds, AllMarked, IsEnded, Facts, descriptor_same, won_more, member_named, some_is_real, flagged_about}
@@ -152,11 +152,11 @@ module _ {lay : Layout} {h : History} {r : Row} (f : Facts lay h) (k : Kept lay 
       done e (inr (inl x)) = inl x.1
       done e (inr (inr x)) = inr x.1
 
-      clean : (j : ℕ) → j < many (descriptor h s) → value h (info (member h s j)) ≡ seen h s j → (value (r ⊳ h) (marked (member h s j)) ≡ value h (marked (member h s j))) ⊎ Marks h (member h s j) (value (r ⊳ h) (marked (member h s j))) → value (r ⊳ h) (marked (member h s j)) ≡ 0
+      clean : (j : ℕ) → j < count_in (descriptor h s) → value h (info (member h s j)) ≡ seen h s j → (value (r ⊳ h) (marked (member h s j)) ≡ value h (marked (member h s j))) ⊎ Marks h (member h s j) (value (r ⊳ h) (marked (member h s j))) → value (r ⊳ h) (marked (member h s j)) ≡ 0
       clean j i e (inl q) = q ∙ a.clean j i e
       clean j i e (inr x) = absurd (a.rest j i (rw (sym x.marker.holds ∙ e) at x.running))
 
-      same_field : value (r ⊳ h) (spot (descriptor h s)) ≡ value h (spot (descriptor h s))
+      same_field : value (r ⊳ h) (field_in (descriptor h s)) ≡ value h (field_in (descriptor h s))
       same_field = k.node _ (Child (side_of (plan h s))) tt (member_named lay h s n _ p)
 
       live : IsLive (descriptor h s) (r ⊳ h) s → IsLive (descriptor h s) h s

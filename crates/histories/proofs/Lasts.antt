@@ -3,7 +3,7 @@ use Rattle.std.proofs.Common.{◌≡◌, ◌≢◌, ℕ, Bool, true, false, cond
 use Rattle.arena.specs.declared.layout.Layout.{Layout}
 use Rattle.arena.specs.declared.step.Row.{Row}
 use Rattle.arena.specs.Words.{info, state}
-use Rattle.arena.specs.History.{History, Start, ◌⊳◌, value, EndsWith}
+use Rattle.arena.specs.History.{History, Start, ◌⊳◌, value, Extends}
 use Rattle.arena.specs.Fills.{IsNamed}
 use Rattle.arena.specs.Lawful.{HasWon, Lawful}
 use Rattle.arena.specs.Blame.{IsMember}
@@ -75,7 +75,7 @@ pub last_wins : (lay : Layout) (h : History) (u n : ℕ) (es : List Entry) → I
 last_wins lay h u n es x = rw (has_member h u n x.index x.within x.is) refl
 
 -- since a moment at which the info of the node named what it still names and what was finished then
-pub last_since : (lay : Layout) (h m : History) (n s : ℕ) → Lawful lay h → EndsWith h m → IsNamed lay m n → value m (state s) ≢ 0 → value h (info n) ≡ s → Same (log lay h) (log lay m) n
+pub last_since : (lay : Layout) (h m : History) (n s : ℕ) → Lawful lay h → Extends h m → IsNamed lay m n → value m (state s) ≢ 0 → value h (info n) ≡ s → Same (log lay h) (log lay m) n
 last_since lay (Start mode) m n s l e p d here = subst (λ k. Same (log lay (Start mode)) (log lay k) n) (sym e) record { last = refl; final = refl }
 last_since lay (r ⊳ h) m n s l (inl e) p d here = subst (λ k. Same (log lay (r ⊳ h)) (log lay k) n) (sym e) record { last = refl; final = refl }
 last_since lay (r ⊳ h) m n s l (inr e) p d here =

@@ -9,11 +9,11 @@ use Rattle.arena.specs.declared.word.ScxWord.TheVariants.{State, AllFrozen}
 use Rattle.arena.specs.declared.layout.Layout.{Layout}
 use Rattle.arena.specs.declared.step.Row.{Row}
 use Rattle.arena.specs.Words.{same_node_word, node, scx, info, marked, child, state}
-use Rattle.arena.specs.History.{History, Start, ◌⊳◌, value, EndsWith}
+use Rattle.arena.specs.History.{History, Start, ◌⊳◌, value, Extends}
 use Rattle.arena.specs.ScxRecords.{plan, side_of, field_index, member}
 use Rattle.arena.specs.Fills.{IsNamed, opening_node, by_field, by_scx, IsNamedScx}
 use Rattle.arena.specs.Lawful.{IsSettled, HasWon, Lawful}
-use Rattle.arena.proofs.Values.{value_apart, held_more, node_word_apart, node_apart}
+use Rattle.arena.proofs.Lemmas.{value_apart, held_more, node_word_apart, node_apart}
 use Rattle.histories.specs.Descriptor.{descriptor}
 use Rattle.histories.proofs.Changes.{IsNodeFill, IsScxFill, lawful_tail}
 use Rattle.histories.proofs.Facts.{Facts, descriptor_same, won_more}
@@ -175,41 +175,41 @@ sealed lay h r n s l m e = go (effect lay h r l)
 -- Many rows
 
 -- what each lawful row keeps, a moment hands on to all later ones
-pub since : (P : History → Type 0) (lay : Layout) → ((h : History) (r : Row) → Lawful lay (r ⊳ h) → P h → P (r ⊳ h)) → (h m : History) → Lawful lay h → EndsWith h m → P m → P h
+pub since : (P : History → Type 0) (lay : Layout) → ((h : History) (r : Row) → Lawful lay (r ⊳ h) → P h → P (r ⊳ h)) → (h m : History) → Lawful lay h → Extends h m → P m → P h
 since P lay step (Start mode) m l e p = subst P e p
 since P lay step (r ⊳ h) m l (inl e) p = subst P e p
 since P lay step (r ⊳ h) m l (inr e) p = step h r l (since P lay step h m (lawful_tail lay h r l) e p)
 
-pub lawful_since : (lay : Layout) (h m : History) → Lawful lay h → EndsWith h m → Lawful lay m
+pub lawful_since : (lay : Layout) (h m : History) → Lawful lay h → Extends h m → Lawful lay m
 lawful_since lay (Start mode) m l e = subst (Lawful lay) (sym e) l
 lawful_since lay (r ⊳ h) m l (inl e) = subst (Lawful lay) (sym e) l
 lawful_since lay (r ⊳ h) m l (inr e) = lawful_since lay h m (lawful_tail lay h r l) e
 
-pub named_since : (lay : Layout) (h m : History) (n : ℕ) → Lawful lay h → EndsWith h m → IsNamed lay m n → IsNamed lay h n
+pub named_since : (lay : Layout) (h m : History) (n : ℕ) → Lawful lay h → Extends h m → IsNamed lay m n → IsNamed lay h n
 named_since lay h m n = since (λ k. IsNamed lay k n) lay (λ h r l p. named_more r p) h m
 
-pub state_since : (lay : Layout) (h m : History) (s : ℕ) → Lawful lay h → EndsWith h m → value m (state s) ≢ 0 → value h (state s) ≡ value m (state s)
+pub state_since : (lay : Layout) (h m : History) (s : ℕ) → Lawful lay h → Extends h m → value m (state s) ≢ 0 → value h (state s) ≡ value m (state s)
 state_since lay h m s l e d = since (λ k. value k (state s) ≡ value m (state s)) lay (λ h r l p. state_stays lay h r s l (λ q. d (sym p ∙ q)) ∙ p) h m l e refl
 
-pub all_frozen_since : (lay : Layout) (h m : History) (s : ℕ) → Lawful lay h → EndsWith h m → value m (scx s AllFrozen) ≡ 1 → value h (scx s AllFrozen) ≡ 1
+pub all_frozen_since : (lay : Layout) (h m : History) (s : ℕ) → Lawful lay h → Extends h m → value m (scx s AllFrozen) ≡ 1 → value h (scx s AllFrozen) ≡ 1
 all_frozen_since lay h m s = since (λ k. value k (scx s AllFrozen) ≡ 1) lay (λ h r l. all_frozen_stays lay h r s l) h m
 
-pub marked_since : (lay : Layout) (h m : History) (n : ℕ) → Lawful lay h → EndsWith h m → value m (marked n) ≡ 1 → value h (marked n) ≡ 1
+pub marked_since : (lay : Layout) (h m : History) (n : ℕ) → Lawful lay h → Extends h m → value m (marked n) ≡ 1 → value h (marked n) ≡ 1
 marked_since lay h m n = since (λ k. value k (marked n) ≡ 1) lay (λ h r l. marked_stays lay h r n l) h m
 
-pub won_since : (lay : Layout) (h m : History) (s : ℕ) → Lawful lay h → EndsWith h m → HasWon m s → HasWon h s
+pub won_since : (lay : Layout) (h m : History) (s : ℕ) → Lawful lay h → Extends h m → HasWon m s → HasWon h s
 won_since lay h m s = since (λ k. HasWon k s) lay (λ h r l. won_more r h s) h m
 
-pub scx_since : (lay : Layout) (h m : History) (s : ℕ) → Lawful lay h → EndsWith h m → s ≢ 0 → IsNamedScx m s → (a : ScxWord) → IsScxFill a → value h (scx s a) ≡ value m (scx s a)
+pub scx_since : (lay : Layout) (h m : History) (s : ℕ) → Lawful lay h → Extends h m → s ≢ 0 → IsNamedScx m s → (a : ScxWord) → IsScxFill a → value h (scx s a) ≡ value m (scx s a)
 scx_since lay h m s l e d p a i =
     (since (λ k. IsNamedScx k s × (value k (scx s a) ≡ value m (scx s a))) lay (λ h r l q. (named_scx_more r h s q.0, scx_stays lay h r s l d q.0 a i ∙ q.1)) h m l e (p, refl)).1
 
-pub node_since : (lay : Layout) (h m : History) (n : ℕ) (a : NodeWord) → Lawful lay h → EndsWith h m → IsSettled (node n a) → IsNamed lay m n → value h (node n a) ≡ value m (node n a)
+pub node_since : (lay : Layout) (h m : History) (n : ℕ) (a : NodeWord) → Lawful lay h → Extends h m → IsSettled (node n a) → IsNamed lay m n → value h (node n a) ≡ value m (node n a)
 node_since lay h m n a l e i p =
     (since (λ k. IsNamed lay k n × (value k (node n a) ≡ value m (node n a))) lay (λ h r l q. (named_more r q.0, node_stays lay h r n a l i q.0 ∙ q.1)) h m l e (p, refl)).1
 
 -- At rest nothing moves: an info word that names at the end what was finished at a moment, named it ever since.
-pub still_since : (lay : Layout) (h m : History) (n s : ℕ) → Lawful lay h → EndsWith h m → IsNamed lay m n → value m (state s) ≢ 0 → value h (info n) ≡ s → Still m h n s
+pub still_since : (lay : Layout) (h m : History) (n s : ℕ) → Lawful lay h → Extends h m → IsNamed lay m n → value m (state s) ≢ 0 → value h (info n) ≡ s → Still m h n s
 still_since lay (Start mode) m n s l e p d here = subst (λ k. Still k (Start mode) n s) (sym e) record { info = here; fields = λ side. refl; mark = refl }
 still_since lay (r ⊳ h) m n s l (inl e) p d here = subst (λ k. Still k (r ⊳ h) n s) (sym e) record { info = here; fields = λ side. refl; mark = refl }
 still_since lay (r ⊳ h) m n s l (inr e) p d here =

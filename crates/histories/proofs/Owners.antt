@@ -12,8 +12,7 @@ use Rattle.arena.specs.History.{History, ◌⊳◌, value}
 use Rattle.arena.specs.ScxRecords.{member}
 use Rattle.arena.specs.Fills.{IsOwnNode, IsOwnScx, IsNamedScx}
 use Rattle.arena.specs.Lawful.{Lawful}
-use Rattle.arena.proofs.Shares.{overlap}
-use Rattle.arena.proofs.Values.{value_quiet, value_apart, scx_apart, held_back}
+use Rattle.arena.proofs.Lemmas.{overlap, value_quiet, value_apart, scx_apart, held_back}
 use Rattle.histories.proofs.Changes.{Change, nothing, fills_node, fills_scx, freezes, sets_frozen, marks, updates, commits, aborts, FreezeWins, change, lawful_row}
 use Rattle.histories.proofs.Facts.{Facts}
 use Rattle.histories.proofs.Freezes.{freeze_keeps_scx, freeze_held}

@@ -13,7 +13,7 @@ use Rattle.arena.specs.Words.{same_node_word, same_scx_word, node, scx, info, ma
 use Rattle.arena.specs.History.{History, ◌⊳◌, value}
 use Rattle.arena.specs.ScxRecords.{member}
 use Rattle.arena.specs.Lawful.{IsSetFrozen, IsMark, IsCommit, IsAbort, IsWin, HasWon}
-use Rattle.arena.proofs.Values.{value_at, value_quiet, value_apart, node_word_apart, scx_word_apart, node_apart, scx_apart}
+use Rattle.arena.proofs.Lemmas.{value_at, value_quiet, value_apart, node_word_apart, scx_word_apart, node_apart, scx_apart}
 use Rattle.histories.specs.Descriptor.{descriptor}
 use Rattle.histories.specs.Progress.{IsStuck}
 use Rattle.histories.proofs.Changes.{IsNodeFill, IsScxFill, FillsNode, FillsScx}

@@ -6,7 +6,7 @@ use Rattle.arena.specs.declared.step.Row.{Row}
 use Rattle.arena.specs.declared.step.Kind.{Kind}
 use Rattle.arena.specs.declared.step.Kind.TheVariants.{Fill, Freeze, SetFrozen, Mark, Update, Commit, Abort}
 use Rattle.arena.specs.Words.{info}
-use Rattle.arena.specs.History.{History, Start, ◌⊳◌, EndsWith}
+use Rattle.arena.specs.History.{History, Start, ◌⊳◌, Extends}
 use Rattle.arena.specs.ScxRecords.{member}
 use Rattle.arena.specs.Fills.{IsOwnScx, IsNamedScx}
 use Rattle.arena.specs.Lawful.{Lawful}
@@ -67,7 +67,7 @@ pub shaped_begin : (allows : Layout → History → ℕ → Type 0) (lay : Layou
 unfolding Shaped
 shaped_begin allows lay h r s p g = p.1 s g
 
-pub shaped_since : (allows : Layout → History → ℕ → Type 0) (lay : Layout) (h m : History) → Shaped allows lay h → EndsWith h m → Shaped allows lay m
+pub shaped_since : (allows : Layout → History → ℕ → Type 0) (lay : Layout) (h m : History) → Shaped allows lay h → Extends h m → Shaped allows lay m
 shaped_since allows lay (Start mode) m p e = subst (Shaped allows lay) (sym e) p
 shaped_since allows lay (r ⊳ h) m p (inl e) = subst (Shaped allows lay) (sym e) p
 shaped_since allows lay (r ⊳ h) m p (inr e) = shaped_since allows lay h m (shaped_tail allows lay h r p) e

@@ -14,9 +14,7 @@ use Rattle.arena.specs.History.{History, Start, ◌⊳◌, value}
 use Rattle.arena.specs.ScxRecords.{count_of, plan, member, count, field}
 use Rattle.arena.specs.Fills.{IsOwnScx, IsNamedScx, IsFillOfScx, IsTakenScx, MayFill}
 use Rattle.arena.specs.Lawful.{Obeys, Lawful}
-use Rattle.arena.proofs.SameWords.{word_same}
-use Rattle.arena.proofs.Taken.{taken_scx_more, fill_takes_scx}
-use Rattle.arena.proofs.Values.{value_quiet, value_apart, opening_scx, opening_state, scx_apart, scx_word_apart}
+use Rattle.arena.proofs.Lemmas.{word_same, taken_scx_more, fill_takes_scx, value_quiet, value_apart, opening_scx, opening_state, scx_apart, scx_word_apart}
 use Rattle.histories.proofs.Changes.{Change, nothing, fills_node, fills_scx, freezes, sets_frozen, marks, updates, commits, aborts, change, lawful_tail, lawful_row}
 use Rattle.histories.proofs.Facts.{Facts}
 use Rattle.histories.proofs.Always.{facts, facts_before}

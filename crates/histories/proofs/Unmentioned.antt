@@ -16,8 +16,7 @@ use Rattle.arena.specs.History.{History, Start, ◌⊳◌, value, HasHeld}
 use Rattle.arena.specs.ScxRecords.{member, new}
 use Rattle.arena.specs.Fills.{IsOwnNode, NamesNode, IsNamed, opening_node, by_field, by_scx}
 use Rattle.arena.specs.Lawful.{Lawful}
-use Rattle.arena.proofs.SameWords.{word_same}
-use Rattle.arena.proofs.Values.{value_at, value_quiet, value_apart, value_other, held_at, held_now, held_split, held_back, held_start, opening_scx, node_word_apart, scx_word_apart}
+use Rattle.arena.proofs.Lemmas.{word_same, value_at, value_quiet, value_apart, value_other, held_at, held_now, held_split, held_back, held_start, opening_scx, node_word_apart, scx_word_apart}
 use Rattle.histories.specs.Unmentioned.{IsUnmentioned}
 use Rattle.histories.proofs.Changes.{Change, nothing, fills_node, fills_scx, freezes, sets_frozen, marks, updates, commits, aborts, change, lawful_row}
 use Rattle.histories.proofs.Openings.{opening_field, some_open, value_start}

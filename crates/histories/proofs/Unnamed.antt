@@ -17,8 +17,7 @@ use Rattle.arena.specs.History.{History, Start, ◌⊳◌, value, HasHeld}
 use Rattle.arena.specs.ScxRecords.{plan, side_of, member, new, field_index, field}
 use Rattle.arena.specs.Fills.{IsOwnNode, IsOwnScx, IsOthersNode, NamesNode, IsNamed, opening_node, by_field, by_scx, IsInField, IsNamedScx, MayFill}
 use Rattle.arena.specs.Lawful.{Lawful}
-use Rattle.arena.proofs.SameWords.{word_same}
-use Rattle.arena.proofs.Values.{value_at, value_quiet, value_apart, value_other, held_at, held_split, held_start, opening_scx, node_apart, scx_word_apart}
+use Rattle.arena.proofs.Lemmas.{word_same, value_at, value_quiet, value_apart, value_other, held_at, held_split, held_start, opening_scx, node_apart, scx_word_apart}
 use Rattle.histories.specs.Descriptor.{descriptor}
 use Rattle.histories.proofs.Changes.{Change, nothing, fills_node, fills_scx, freezes, sets_frozen, marks, updates, commits, aborts, FreezeWins, change, lawful_tail, lawful_row}
 use Rattle.histories.proofs.Facts.{IsFlagged, Facts, member_named, child_node}

@@ -11,8 +11,7 @@ use Rattle.arena.specs.Words.{same_word, scx, info, marked, state}
 use Rattle.arena.specs.History.{History, ◌⊳◌, value, HasHeld}
 use Rattle.arena.specs.ScxRecords.{side_of, plan, field_index, member, new, old, field}
 use Rattle.arena.specs.Lawful.{IsUpdate, IsWin, HasWon}
-use Rattle.arena.proofs.Values.{value_at, value_apart, held_at, held_more, held_back, node_word_apart}
-use Rattle.arena.proofs.SameWords.{word_same, word_refl}
+use Rattle.arena.proofs.Lemmas.{value_at, value_apart, held_at, held_more, held_back, node_word_apart, word_same, word_refl}
 use Rattle.histories.specs.Descriptor.{descriptor}
 use Rattle.histories.specs.Progress.{Froze, IsStuck}
 use Rattle.histories.proofs.Changes.{UpdateWins}

@@ -4,7 +4,7 @@ use Rattle.arena.specs.declared.word.ScxWord.TheVariants.{Call}
 use Rattle.arena.specs.declared.word.Word.{Word}
 use Rattle.arena.specs.Words.{scx, child}
 use Rattle.arena.specs.History.{History, value}
-use Rattle.arena.specs.ScxRecords.{count_of, index_of, side_of, plan, member, seen, new, old}
+use Rattle.arena.specs.ScxRecords.{count_of, field_index_of, side_of, plan, member, seen, new, old}
 
 -- the settled words of an SCX-record, which stay as they are once an info word has named it
 pub record Descriptor : Type 0 where
@@ -21,13 +21,13 @@ abbrev pub descriptor : History → ℕ → Descriptor
 descriptor h s = record { plan = plan h s; member = λ j. member h s j; seen = λ j. seen h s j; new = new h s; old = old h s; call = value h (scx s Call) }
 
 -- how many nodes it covers
-abbrev pub many : Descriptor → ℕ
-many d = count_of d.plan
+abbrev pub count_in : Descriptor → ℕ
+count_in d = count_of d.plan
 
 -- which of its nodes has the field: its place among them
-abbrev pub place : Descriptor → ℕ
-place d = index_of d.plan
+abbrev pub field_index_in : Descriptor → ℕ
+field_index_in d = field_index_of d.plan
 
 -- the field that it changes
-abbrev pub spot : Descriptor → Word
-spot d = child (d.member (place d)) (side_of d.plan)
+abbrev pub field_in : Descriptor → Word
+field_in d = child (d.member (field_index_in d)) (side_of d.plan)

@@ -3,7 +3,7 @@ use Rattle.std.specs.Prelude.{◌≡◌, ◌≢◌, ℕ, ◌<◌, ◌⊎◌}
 use Rattle.arena.specs.Words.{info, state}
 use Rattle.arena.specs.History.{History, value, HasHeld}
 use Rattle.arena.specs.Fills.{IsNamedScx}
-use Rattle.histories.specs.Descriptor.{Descriptor, descriptor, many}
+use Rattle.histories.specs.Descriptor.{Descriptor, descriptor, count_in}
 
 -- s has begun: it is not the dummy, and an info word names it or has named it
 pub record IsStarted (h : History) (s : ℕ) : Type 0 where
@@ -18,7 +18,7 @@ Froze d h s j = HasHeld h (info (d.member j)) s
 -- longer has the info that the snapshot found there
 pub record IsStuck (d : Descriptor) (h : History) (s : ℕ) : Type 0 where
   pub index : ℕ
-  pub within : index < many d
+  pub within : index < count_in d
   pub earlier : (i : ℕ) → i < index → Froze d h s i
   pub unfrozen : ¬ Froze d h s index
   pub passed : value h (info (d.member index)) ≢ d.seen index

@@ -15,12 +15,10 @@ use Rattle.arena.specs.declared.step.Row.{Row}
 use Rattle.arena.specs.Words.{same_word, node, child, scx}
 use Rattle.arena.specs.History.{History, ◌⊳◌, rows_after}
 use Rattle.arena.specs.Fills.{IsInField, IsTakenNode, IsTakenScx}
-use Rattle.arena.proofs.SameWords.{word_refl}
-use Rattle.arena.proofs.Taken.{taken_node_more, taken_scx_more, fill_takes_node, fill_takes_scx}
+use Rattle.arena.proofs.Lemmas.{word_refl, taken_node_more, taken_scx_more, fill_takes_node, fill_takes_scx, and_left, and_right, or_right, or_split}
 use Rattle.judge.specs.Names.{AreNamed}
 use Rattle.judge.specs.Tests.{leaves, is_fill, is_of_node, is_of_scx, fills_node, fills_scx, is_known, is_known_field, in_known_field}
-use Rattle.judge.specs.Past.{past}
-use Rattle.arena.proofs.Bools.{and_left, and_right, or_right, or_split}
+use Rattle.judge.specs.Histories.{history_after}
 use Rattle.judge.proofs.Helds.{held_left}
 use Rattle.judge.proofs.Flags.{known_named}
 
@@ -81,7 +79,7 @@ left_in_known lay flags (r ∷ rows) n e = ⊎_elim
     (λ d. let f = left_in_known lay flags rows n d in (f.0, f.1, f.2, or_right _ _ f.3))
     (or_split _ _ e)
 
-pub in_field_known : (lay : Layout) (flags : List Bool) (rows : List Row) (n : ℕ) → AreNamed lay (past lay rows) flags → list_any (in_known_field lay flags n) rows ≡ true → IsInField lay (past lay rows) n
+pub in_field_known : (lay : Layout) (flags : List Bool) (rows : List Row) (n : ℕ) → AreNamed lay (history_after lay rows) flags → list_any (in_known_field lay flags n) rows ≡ true → IsInField lay (history_after lay rows) n
 in_field_known lay flags rows n right e =
     let f = left_in_known lay flags rows n e in
-    inr (f.0, f.1, known_named lay (past lay rows) flags f.0 right f.2, held_left lay rows (child f.0 f.1) n f.3)
+    inr (f.0, f.1, known_named lay (history_after lay rows) flags f.0 right f.2, held_left lay rows (child f.0 f.1) n f.3)

@@ -17,11 +17,10 @@ use Rattle.arena.specs.Words.{same_word, child, scx, info}
 use Rattle.arena.specs.History.{History, Start, ◌⊳◌, HasHeld, rows_after}
 use Rattle.arena.specs.Fills.{IsNamed, IsNamedScx, NamesNode, opening_node, by_field, by_scx}
 use Rattle.arena.specs.Lawful.{Lawful, IsLawful}
-use Rattle.arena.proofs.SameWords.{word_same, word_refl}
+use Rattle.arena.proofs.Lemmas.{word_same, word_refl, and_left, and_right, or_right, or_split}
 use Rattle.judge.specs.Names.{AreNamed, AreAll}
 use Rattle.judge.specs.Tests.{leaves, is_info_word, names_scx, is_known, is_named_scx, is_naming, adds}
-use Rattle.judge.specs.Past.{past}
-use Rattle.arena.proofs.Bools.{and_left, and_right, or_right, or_split}
+use Rattle.judge.specs.Histories.{history_after}
 use Rattle.histories.proofs.Lemmas.{opening_field, some_open}
 use Rattle.judge.proofs.Helds.{held_opened, held_left, held_tells}
 use Rattle.judge.proofs.Mentions.{any_more, leaves_such}
@@ -93,13 +92,13 @@ left_in_info s (r ∷ rows) e = go (λ d. left_in_info s rows d) (or_split _ _ e
         (w.0, or_left _ _ (and_from _ _ same (and_right _ _ d)))
     go rest (inr d) = let f = rest d in (f.0, or_right _ _ f.1)
 
-pub seen_named : (lay : Layout) (rows : List Row) (s : ℕ) → is_named_scx rows s ≡ true → IsNamedScx (past lay rows) s
+pub seen_named : (lay : Layout) (rows : List Row) (s : ℕ) → is_named_scx rows s ≡ true → IsNamedScx (history_after lay rows) s
 seen_named lay rows s e = ⊎_elim
     (λ d. (0, held_opened lay rows (info 0) s (opening_info lay.mode 0 ∙ sym (eqb-true s 0 d))))
     (λ d. let f = left_in_info s rows d in (f.0, held_left lay rows (info f.0) s f.1))
     (or_split _ _ e)
 
-pub named_seen : (lay : Layout) (rows : List Row) (s : ℕ) → IsNamedScx (past lay rows) s → is_named_scx rows s ≡ true
+pub named_seen : (lay : Layout) (rows : List Row) (s : ℕ) → IsNamedScx (history_after lay rows) s → is_named_scx rows s ≡ true
 named_seen lay rows s p = ⊎_elim
     (λ e. or_left _ _ (eq-eqb s 0 (sym e ∙ opening_info lay.mode p.0)))
     (λ e. or_right _ _ (any_more _ (names_scx s) (leaves_such is_info_word (info p.0) s refl) rows e))
@@ -113,8 +112,8 @@ known_named lay h flags n right e = ⊎_elim
     (λ d. right n d)
     (or_split _ _ e)
 
-named_by : (lay : Layout) (flags : List Bool) (rows : List Row) (w : Word) (v : ℕ) → AreNamed lay (past lay rows) flags → is_naming lay flags rows w ≡ true → HasHeld (past lay rows) w v → IsNamed lay (past lay rows) v
-named_by lay flags rows (Node m (Child side)) v right e p = by_field m.0 side (known_named lay (past lay rows) flags m.0 right e) p
+named_by : (lay : Layout) (flags : List Bool) (rows : List Row) (w : Word) (v : ℕ) → AreNamed lay (history_after lay rows) flags → is_naming lay flags rows w ≡ true → HasHeld (history_after lay rows) w v → IsNamed lay (history_after lay rows) v
+named_by lay flags rows (Node m (Child side)) v right e p = by_field m.0 side (known_named lay (history_after lay rows) flags m.0 right e) p
 named_by lay flags rows (Scx s New) v right e p = by_scx s.0 New (seen_named lay rows s.0 e) tt p
 named_by lay flags rows (Scx s Old) v right e p = by_scx s.0 Old (seen_named lay rows s.0 e) tt p
 named_by lay flags rows (Scx s (Member j)) v right e p = by_scx s.0 (Member j) (seen_named lay rows s.0 e) tt p
@@ -132,7 +131,7 @@ named_by lay flags rows (Scx s Call) v right e p = absurd (false≢true e)
 leaves_self : (r : Row) → leaves r.word r.after r ≡ true
 leaves_self r = and_from _ _ (word_refl r.word) (eq-eqb r.after r.after refl)
 
-pub adds_named : (lay : Layout) (flags : List Bool) (rows : List Row) (k : ℕ) (d : Row) → AreNamed lay (past lay rows) flags → k < length rows → adds lay flags rows (get_or rows k d) ≡ true → IsNamed lay (past lay rows) (get_or rows k d).after
+pub adds_named : (lay : Layout) (flags : List Bool) (rows : List Row) (k : ℕ) (d : Row) → AreNamed lay (history_after lay rows) flags → k < length rows → adds lay flags rows (get_or rows k d) ≡ true → IsNamed lay (history_after lay rows) (get_or rows k d).after
 adds_named lay flags rows k d right l e =
     let r = get_or rows k d in
     named_by lay flags rows r.word r.after right (and_right _ _ e) (held_left lay rows r.word r.after (any_at (leaves r.word r.after) rows k d l (leaves_self r)))
@@ -172,7 +171,7 @@ opening_name Tree s _ p = refl
 opening_name Records s State p = absurd p
 opening_name Records s _ p = refl
 
-module _ (lay : Layout) (flags : List Bool) (rows : List Row) (lawful : Lawful lay (past lay rows)) (size : length flags ≡ all_nodes lay) (none : list_any (adds lay flags rows) rows ≡ false) where
+module _ (lay : Layout) (flags : List Bool) (rows : List Row) (lawful : Lawful lay (history_after lay rows)) (size : length flags ≡ all_nodes lay) (none : list_any (adds lay flags rows) rows ≡ false) where
   early : (n : ℕ) → n < opening_nodes lay.mode → is_known lay flags n ≡ true
   early n e = or_left _ _ (lt-ltb n (opening_nodes lay.mode) e)
 
@@ -187,19 +186,19 @@ module _ (lay : Layout) (flags : List Bool) (rows : List Row) (lawful : Lawful l
       let fits : x.0.after < length flags = omega arith in
       ap (is_known lay flags) (sym left) ∙ not_added lay flags rows x.0 x.2.0 fits named
 
-  field_case : (m : ℕ) (side : Side) (n : ℕ) → n < all_nodes lay → (m < all_nodes lay → is_known lay flags m ≡ true) → HasHeld (past lay rows) (child m side) n → is_known lay flags n ≡ true
+  field_case : (m : ℕ) (side : Side) (n : ℕ) → n < all_nodes lay → (m < all_nodes lay → is_known lay flags m ≡ true) → HasHeld (history_after lay rows) (child m side) n → is_known lay flags n ≡ true
   field_case m side n l known p = ⊎_elim
       (λ e. early n (let k = opening_field lay.mode m side in omega arith))
       (λ e. found (child m side) n l (λ i. known i) e)
       (held_tells lay rows (child m side) n p)
 
-  scx_case : (s : ℕ) (part : ScxWord) (n : ℕ) → n < all_nodes lay → IsNamedScx (past lay rows) s → NamesNode part → HasHeld (past lay rows) (scx s part) n → is_known lay flags n ≡ true
+  scx_case : (s : ℕ) (part : ScxWord) (n : ℕ) → n < all_nodes lay → IsNamedScx (history_after lay rows) s → NamesNode part → HasHeld (history_after lay rows) (scx s part) n → is_known lay flags n ≡ true
   scx_case s part n l q names p = ⊎_elim
       (λ e. early n (let k = opening_name lay.mode s part names in let some = some_open lay.mode in omega arith))
       (λ e. found (scx s part) n l (λ i. naming_scx lay flags rows s part names (named_seen lay rows s q)) e)
       (held_tells lay rows (scx s part) n p)
 
-  pub all_known : AreAll lay (past lay rows) flags
+  pub all_known : AreAll lay (history_after lay rows) flags
   all_known n l (opening_node e) = early n e
   all_known n l (by_field m side named p) = field_case m side n l (λ i. all_known m i named) p
   all_known n l (by_scx s part q names p) = scx_case s part n l q names p

@@ -7,11 +7,9 @@ use Rattle.arena.specs.declared.step.Row.{Row}
 use Rattle.arena.specs.Layout.{opening}
 use Rattle.arena.specs.Words.{same_word}
 use Rattle.arena.specs.History.{History, Start, ◌⊳◌, value, HasHeld, rows_after}
-use Rattle.arena.proofs.SameWords.{word_same}
-use Rattle.arena.proofs.Bools.{and_left, and_right, or_right, or_split}
-use Rattle.arena.proofs.Values.{value_at, value_other, held_at, held_more, held_back, held_split, held_start}
+use Rattle.arena.proofs.Lemmas.{word_same, and_left, and_right, or_right, or_split, value_at, value_other, held_at, held_more, held_back, held_split, held_start}
 use Rattle.judge.specs.Tests.{leaves}
-use Rattle.judge.specs.Past.{past}
+use Rattle.judge.specs.Histories.{history_after}
 use Rattle.histories.proofs.Lemmas.{value_start}
 
 -- a row that leaves the word so
@@ -60,15 +58,15 @@ held_found h (r ∷ rows) w v p = go (held_found (r ⊳ h) rows w v p)
         by false e = inl (held_not_by r h w v e q)
 
 -- by what the word held at the start, and the rows
-pub held_opened : (lay : Layout) (rows : List Row) (w : Word) (v : ℕ) → opening lay.mode w ≡ v → HasHeld (past lay rows) w v
+pub held_opened : (lay : Layout) (rows : List Row) (w : Word) (v : ℕ) → opening lay.mode w ≡ v → HasHeld (history_after lay rows) w v
 held_opened lay rows w v e = held_after (Start lay.mode) rows w v (held_at (Start lay.mode) w v (value_start lay.mode w ∙ e))
 
-pub held_tells : (lay : Layout) (rows : List Row) (w : Word) (v : ℕ) → HasHeld (past lay rows) w v → (opening lay.mode w ≡ v) ⊎ (list_any (leaves w v) rows ≡ true)
+pub held_tells : (lay : Layout) (rows : List Row) (w : Word) (v : ℕ) → HasHeld (history_after lay rows) w v → (opening lay.mode w ≡ v) ⊎ (list_any (leaves w v) rows ≡ true)
 held_tells lay rows w v p = go (held_found (Start lay.mode) rows w v p)
   where
     go : HasHeld (Start lay.mode) w v ⊎ (list_any (leaves w v) rows ≡ true) → (opening lay.mode w ≡ v) ⊎ (list_any (leaves w v) rows ≡ true)
     go (inl q) = inl (sym (value_start lay.mode w) ∙ held_start lay.mode w v q)
     go (inr e) = inr e
 
-pub held_left : (lay : Layout) (rows : List Row) (w : Word) (v : ℕ) → list_any (leaves w v) rows ≡ true → HasHeld (past lay rows) w v
+pub held_left : (lay : Layout) (rows : List Row) (w : Word) (v : ℕ) → list_any (leaves w v) rows ≡ true → HasHeld (history_after lay rows) w v
 held_left lay rows w v e = held_among (Start lay.mode) rows w v e

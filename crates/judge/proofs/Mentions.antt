@@ -12,10 +12,9 @@ use Rattle.arena.specs.declared.step.Row.{Row}
 use Rattle.arena.specs.Layout.{opening, opening_nodes}
 use Rattle.arena.specs.Words.{child, scx}
 use Rattle.arena.specs.History.{HasHeld}
-use Rattle.arena.proofs.SameWords.{word_same}
+use Rattle.arena.proofs.Lemmas.{word_same, and_left, and_right, or_right, or_split}
 use Rattle.judge.specs.Tests.{leaves, is_field_word, in_field, is_new_of_other, in_other_new}
-use Rattle.judge.specs.Past.{past}
-use Rattle.arena.proofs.Bools.{and_left, and_right, or_right, or_split}
+use Rattle.judge.specs.Histories.{history_after}
 use Rattle.histories.proofs.Lemmas.{opening_field, some_open}
 use Rattle.judge.proofs.Helds.{held_tells}
 
@@ -37,7 +36,7 @@ opening_new Tree s = refl
 opening_new Records s = refl
 
 -- a node that no row left in a field
-pub in_no_field : (lay : Layout) (rows : List Row) (node : ℕ) → opening_nodes lay.mode ≤ node → list_any (in_field node) rows ≡ false → (n : ℕ) (side : Side) → HasHeld (past lay rows) (child n side) node → ⊥
+pub in_no_field : (lay : Layout) (rows : List Row) (node : ℕ) → opening_nodes lay.mode ≤ node → list_any (in_field node) rows ≡ false → (n : ℕ) (side : Side) → HasHeld (history_after lay rows) (child n side) node → ⊥
 in_no_field lay rows node late none n side p = ⊎_elim
     (λ e. let early = opening_field lay.mode n side in omega arith)
     (λ e. let some : list_any (in_field node) rows ≡ true = any_more _ (in_field node) (leaves_such is_field_word (child n side) node refl) rows e in cc)
@@ -46,7 +45,7 @@ in_no_field lay rows node late none n side p = ⊎_elim
 other_new : (u s : ℕ) → u ≢ s → is_new_of_other s (scx u New) ≡ true
 other_new u s apart = rw (ne_eqb u s apart) refl
 
-pub in_no_other_new : (lay : Layout) (rows : List Row) (s node : ℕ) → opening_nodes lay.mode ≤ node → list_any (in_other_new s node) rows ≡ false → (u : ℕ) → u ≢ s → HasHeld (past lay rows) (scx u New) node → ⊥
+pub in_no_other_new : (lay : Layout) (rows : List Row) (s node : ℕ) → opening_nodes lay.mode ≤ node → list_any (in_other_new s node) rows ≡ false → (u : ℕ) → u ≢ s → HasHeld (history_after lay rows) (scx u New) node → ⊥
 in_no_other_new lay rows s node late none u apart p = ⊎_elim
     (λ e. let zero_is = opening_new lay.mode u in let some = some_open lay.mode in omega arith)
     (λ e. let some : list_any (in_other_new s node) rows ≡ true = any_more _ (in_other_new s node) (leaves_such (is_new_of_other s) (scx u New) node (other_new u s apart)) rows e in cc)

@@ -5,7 +5,7 @@ use Rattle.arena.specs.declared.word.Word.{Word}
 use Rattle.arena.specs.declared.step.Row.{Row}
 use Rattle.arena.specs.Words.{same_word}
 use Rattle.arena.specs.History.{History, ◌⊳◌, rows_after, value}
-use Rattle.arena.proofs.Values.{rows_after_last}
+use Rattle.arena.proofs.Lemmas.{rows_after_last}
 
 -- one more row
 pub past_step : (h : History) (rows : List Row) (k : ℕ) (d : Row) → k < length rows → rows_after h (take (k + 1) rows) ≡ get_or rows k d ⊳ rows_after h (take k rows)

@@ -1,3 +1,3 @@
-pub mod Past
 pub mod Tests
 pub mod Names
+pub mod Histories

@@ -9,10 +9,10 @@ ghost use Rattle.arena.specs.ScxRecords.{member, seen, old, new, count, field, f
 ghost use Rattle.arena.specs.Words.{state, info, marked, child, scx};
 ghost use Rattle.arena.specs.declared.word.Side.{Side};
 ghost use Rattle.arena.specs.declared.word.ScxWord.TheVariants.{New};
-ghost use Rattle.judge.specs.Past.{past};
+ghost use Rattle.judge.specs.Histories.{history_after};
 ghost use Rattle.judge.specs.Tests.{in_field, in_other_new};
 
-use crate::records::{count, field, index_of, is_plan, member, of_node, of_scx, plan};
+use crate::records::{count, field, field_index_of, is_plan, member, of_node, of_scx, plan};
 use crate::words::value_of;
 use arena::{Layout, NodeWord, PassNo, Row, ScxWord, Word};
 
@@ -36,7 +36,7 @@ pub fn is_own_scx(layout: &Layout, pass: PassNo, scx: u64) -> bool
 
 /// Whether the first nodes of an SCX-record, as many as `count`, are nodes of the table.
 fn are_inside(layout: &Layout, rows: &[Row], scx: u64, count: u8) -> bool
-    ensures { IsTrue result → (j : ℕ) → j < count → member (past layout.now rows.now) scx j < all_nodes layout.now }
+    ensures { IsTrue result → (j : ℕ) → j < count → member (history_after layout.now rows.now) scx j < all_nodes layout.now }
 {
     for place in 0..count {
         if member(layout, rows, scx, place) >= u64::from(layout.all_nodes()) {
@@ -48,7 +48,7 @@ fn are_inside(layout: &Layout, rows: &[Row], scx: u64, count: u8) -> bool
 
 /// Whether none of these nodes but that at the place is the one that stands there.
 fn is_alone(layout: &Layout, rows: &[Row], scx: u64, place: u8, count: u8) -> bool
-    ensures { IsTrue result → (k : ℕ) → k < count → place ≢ k → member (past layout.now rows.now) scx place ≢ member (past layout.now rows.now) scx k }
+    ensures { IsTrue result → (k : ℕ) → k < count → place ≢ k → member (history_after layout.now rows.now) scx place ≢ member (history_after layout.now rows.now) scx k }
 {
     for other in 0..count {
         if other != place && member(layout, rows, scx, place) == member(layout, rows, scx, other) {
@@ -59,7 +59,7 @@ fn is_alone(layout: &Layout, rows: &[Row], scx: u64, place: u8, count: u8) -> bo
 }
 
 fn are_distinct(layout: &Layout, rows: &[Row], scx: u64, count: u8) -> bool
-    ensures { IsTrue result → (j k : ℕ) → j < count → k < count → j ≢ k → member (past layout.now rows.now) scx j ≢ member (past layout.now rows.now) scx k }
+    ensures { IsTrue result → (j k : ℕ) → j < count → k < count → j ≢ k → member (history_after layout.now rows.now) scx j ≢ member (history_after layout.now rows.now) scx k }
 {
     for place in 0..count {
         if !is_alone(layout, rows, scx, place, count) {
@@ -71,7 +71,7 @@ fn are_distinct(layout: &Layout, rows: &[Row], scx: u64, count: u8) -> bool
 
 /// Whether what these nodes were frozen for is finished.
 fn are_at_rest(layout: &Layout, rows: &[Row], scx: u64, count: u8) -> bool
-    ensures { IsTrue result → (j : ℕ) → j < count → value (past layout.now rows.now) (state (seen (past layout.now rows.now) scx j)) ≢ 0 }
+    ensures { IsTrue result → (j : ℕ) → j < count → value (history_after layout.now rows.now) (state (seen (history_after layout.now rows.now) scx j)) ≢ 0 }
 {
     for place in 0..count {
         let seen = of_scx(layout, rows, scx, ScxWord::Seen(place));
@@ -84,7 +84,7 @@ fn are_at_rest(layout: &Layout, rows: &[Row], scx: u64, count: u8) -> bool
 
 /// Whether the info word of the node at a place is as the SCX-record has seen it.
 pub fn is_as_seen(layout: &Layout, rows: &[Row], scx: u64, place: u8) -> bool
-    ensures { IsTrue result ↔ (value (past layout.now rows.now) (info (member (past layout.now rows.now) scx place)) ≡ seen (past layout.now rows.now) scx place) }
+    ensures { IsTrue result ↔ (value (history_after layout.now rows.now) (info (member (history_after layout.now rows.now) scx place)) ≡ seen (history_after layout.now rows.now) scx place) }
 {
     let node = member(layout, rows, scx, place);
     let seen = of_scx(layout, rows, scx, ScxWord::Seen(place));
@@ -92,7 +92,7 @@ pub fn is_as_seen(layout: &Layout, rows: &[Row], scx: u64, place: u8) -> bool
 }
 
 fn is_unmarked(layout: &Layout, rows: &[Row], scx: u64, place: u8) -> bool
-    ensures { IsTrue result ↔ (value (past layout.now rows.now) (marked (member (past layout.now rows.now) scx place)) ≡ 0) }
+    ensures { IsTrue result ↔ (value (history_after layout.now rows.now) (marked (member (history_after layout.now rows.now) scx place)) ≡ 0) }
 {
     let node = member(layout, rows, scx, place);
     of_node(layout, rows, node, NodeWord::Marked) == 0
@@ -100,7 +100,7 @@ fn is_unmarked(layout: &Layout, rows: &[Row], scx: u64, place: u8) -> bool
 
 /// Whether those of these nodes whose info words are as seen are not marked.
 fn are_unmarked(layout: &Layout, rows: &[Row], scx: u64, count: u8) -> bool
-    ensures { IsTrue result → (j : ℕ) → j < count → value (past layout.now rows.now) (info (member (past layout.now rows.now) scx j)) ≡ seen (past layout.now rows.now) scx j → value (past layout.now rows.now) (marked (member (past layout.now rows.now) scx j)) ≡ 0 }
+    ensures { IsTrue result → (j : ℕ) → j < count → value (history_after layout.now rows.now) (info (member (history_after layout.now rows.now) scx j)) ≡ seen (history_after layout.now rows.now) scx j → value (history_after layout.now rows.now) (marked (member (history_after layout.now rows.now) scx j)) ≡ 0 }
 {
     for place in 0..count {
         if is_as_seen(layout, rows, scx, place) && !is_unmarked(layout, rows, scx, place) {
@@ -112,9 +112,9 @@ fn are_unmarked(layout: &Layout, rows: &[Row], scx: u64, count: u8) -> bool
 
 /// Whether the field shows `old` where its node's info word is as seen.
 fn shows_old(layout: &Layout, rows: &[Row], scx: u64) -> bool
-    ensures { IsTrue result → value (past layout.now rows.now) (info (member (past layout.now rows.now) scx (field_index (past layout.now rows.now) scx))) ≡ seen (past layout.now rows.now) scx (field_index (past layout.now rows.now) scx) → value (past layout.now rows.now) (field (past layout.now rows.now) scx) ≡ old (past layout.now rows.now) scx }
+    ensures { IsTrue result → value (history_after layout.now rows.now) (info (member (history_after layout.now rows.now) scx (field_index (history_after layout.now rows.now) scx))) ≡ seen (history_after layout.now rows.now) scx (field_index (history_after layout.now rows.now) scx) → value (history_after layout.now rows.now) (field (history_after layout.now rows.now) scx) ≡ old (history_after layout.now rows.now) scx }
 {
-    let place = index_of(plan(layout, rows, scx));
+    let place = field_index_of(plan(layout, rows, scx));
     let shown = value_of(layout, rows, field(layout, rows, scx));
     !is_as_seen(layout, rows, scx, place) || shown == of_scx(layout, rows, scx, ScxWord::Old)
 }
@@ -150,18 +150,18 @@ fn is_in_some_other_new(rows: &[Row], scx: u64, node: u64) -> bool
 /// start.
 fn is_unused(layout: &Layout, rows: &[Row], user: u64, node: u64) -> bool
     requires { opening_nodes layout.now.mode ≤ node }
-    ensures fields { IsTrue result → (n : ℕ) → (side : Side) → HasHeld (past layout.now rows.now) (child n side) node → ⊥ }
-    ensures others { IsTrue result → (u : ℕ) → u ≢ user → HasHeld (past layout.now rows.now) (scx u New) node → ⊥ }
+    ensures fields { IsTrue result → (n : ℕ) → (side : Side) → HasHeld (history_after layout.now rows.now) (child n side) node → ⊥ }
+    ensures others { IsTrue result → (u : ℕ) → u ≢ user → HasHeld (history_after layout.now rows.now) (scx u New) node → ⊥ }
 {
     !is_in_some_field(rows, node) && !is_in_some_other_new(rows, user, node)
 }
 
 /// Whether an SCX-record of these nodes may begin.
 fn are_ready(layout: &Layout, rows: &[Row], scx: u64, count: u8) -> bool
-    ensures inside { IsTrue result → (j : ℕ) → j < count → member (past layout.now rows.now) scx j < all_nodes layout.now }
-    ensures distinct { IsTrue result → (j k : ℕ) → j < count → k < count → j ≢ k → member (past layout.now rows.now) scx j ≢ member (past layout.now rows.now) scx k }
-    ensures at_rest { IsTrue result → (j : ℕ) → j < count → value (past layout.now rows.now) (state (seen (past layout.now rows.now) scx j)) ≢ 0 }
-    ensures unmarked { IsTrue result → (j : ℕ) → j < count → value (past layout.now rows.now) (info (member (past layout.now rows.now) scx j)) ≡ seen (past layout.now rows.now) scx j → value (past layout.now rows.now) (marked (member (past layout.now rows.now) scx j)) ≡ 0 }
+    ensures inside { IsTrue result → (j : ℕ) → j < count → member (history_after layout.now rows.now) scx j < all_nodes layout.now }
+    ensures distinct { IsTrue result → (j k : ℕ) → j < count → k < count → j ≢ k → member (history_after layout.now rows.now) scx j ≢ member (history_after layout.now rows.now) scx k }
+    ensures at_rest { IsTrue result → (j : ℕ) → j < count → value (history_after layout.now rows.now) (state (seen (history_after layout.now rows.now) scx j)) ≢ 0 }
+    ensures unmarked { IsTrue result → (j : ℕ) → j < count → value (history_after layout.now rows.now) (info (member (history_after layout.now rows.now) scx j)) ≡ seen (history_after layout.now rows.now) scx j → value (history_after layout.now rows.now) (marked (member (history_after layout.now rows.now) scx j)) ≡ 0 }
 {
     are_inside(layout, rows, scx, count)
         && are_distinct(layout, rows, scx, count)
@@ -172,7 +172,7 @@ fn are_ready(layout: &Layout, rows: &[Row], scx: u64, count: u8) -> bool
 /// Whether the first freezing exchange for an SCX-record may win, by a pass.
 pub fn may_begin(layout: &Layout, rows: &[Row], pass: PassNo, scx: u64) -> bool
     requires { pass.0 < layout.now.passes }
-    ensures { IsTrue result → MayBegin layout.now (past layout.now rows.now) pass.0 scx }
+    ensures { IsTrue result → MayBegin layout.now (history_after layout.now rows.now) pass.0 scx }
 {
     let new = of_scx(layout, rows, scx, ScxWord::New);
     is_own_scx(layout, pass, scx)

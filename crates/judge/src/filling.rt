@@ -5,7 +5,7 @@ ghost use Rattle.arena.specs.Fills.{IsOwnNode, IsOwnScx, IsOthersNode, IsOthersS
 ghost use Rattle.arena.specs.Layout.{all_nodes};
 ghost use Rattle.arena.specs.declared.word.Word.TheVariants.{Node, Scx};
 ghost use Rattle.judge.specs.Names.{AreNamed, AreAll};
-ghost use Rattle.judge.specs.Past.{past};
+ghost use Rattle.judge.specs.Histories.{history_after};
 ghost use Rattle.judge.specs.Tests.{fills_node, fills_scx, in_known_field};
 
 use crate::beginning::{is_own_node, is_own_scx};
@@ -44,14 +44,14 @@ fn is_scx_filled(rows: &[Row], scx: u64) -> bool
 
 /// Whether a word of a node was filled.
 fn is_taken_node(layout: &Layout, rows: &[Row], node: u64) -> bool
-    ensures { IsTrue result → IsTakenNode (past layout.now rows.now) node }
+    ensures { IsTrue result → IsTakenNode (history_after layout.now rows.now) node }
 {
     let _layout = *layout;
     is_node_filled(rows, node)
 }
 
 fn is_taken_scx(layout: &Layout, rows: &[Row], scx: u64) -> bool
-    ensures { IsTrue result → IsTakenScx (past layout.now rows.now) scx }
+    ensures { IsTrue result → IsTakenScx (history_after layout.now rows.now) scx }
 {
     let _layout = *layout;
     is_scx_filled(rows, scx)
@@ -60,7 +60,7 @@ fn is_taken_scx(layout: &Layout, rows: &[Row], scx: u64) -> bool
 /// Whether the nodes of a pass's share that come before a node were filled.
 fn are_taken_nodes(layout: &Layout, rows: &[Row], pass: PassNo, node: u64) -> bool
     requires { pass.0 < layout.now.passes }
-    ensures { IsTrue result → (m : ℕ) → IsOwnNode layout.now pass.0 m → m < node → IsTakenNode (past layout.now rows.now) m }
+    ensures { IsTrue result → (m : ℕ) → IsOwnNode layout.now pass.0 m → m < node → IsTakenNode (history_after layout.now rows.now) m }
 {
     for earlier in u64::from(layout.first_node(pass))..node {
         if !is_taken_node(layout, rows, earlier) {
@@ -72,7 +72,7 @@ fn are_taken_nodes(layout: &Layout, rows: &[Row], pass: PassNo, node: u64) -> bo
 
 fn are_taken_scx(layout: &Layout, rows: &[Row], pass: PassNo, scx: u64) -> bool
     requires { pass.0 < layout.now.passes }
-    ensures { IsTrue result → (t : ℕ) → IsOwnScx layout.now pass.0 t → t < scx → IsTakenScx (past layout.now rows.now) t }
+    ensures { IsTrue result → (t : ℕ) → IsOwnScx layout.now pass.0 t → t < scx → IsTakenScx (history_after layout.now rows.now) t }
 {
     for earlier in u64::from(layout.first_scx(pass))..scx {
         if !is_taken_scx(layout, rows, earlier) {
@@ -85,8 +85,8 @@ fn are_taken_scx(layout: &Layout, rows: &[Row], pass: PassNo, scx: u64) -> bool
 /// Whether a node is one of the pass's share that it has taken or takes next, and is not named yet.
 fn is_open_node(layout: &Layout, rows: &[Row], flags: &[bool], pass: PassNo, node: u64) -> bool
     requires is_pass { pass.0 < layout.now.passes }
-    requires all { AreAll layout.now (past layout.now rows.now) flags.now }
-    ensures { IsTrue result → IsOpenNode layout.now (past layout.now rows.now) pass.0 node }
+    requires all { AreAll layout.now (history_after layout.now rows.now) flags.now }
+    ensures { IsTrue result → IsOpenNode layout.now (history_after layout.now rows.now) pass.0 node }
 {
     node < u64::from(layout.all_nodes())
         && is_own_node(layout, pass, node)
@@ -96,7 +96,7 @@ fn is_open_node(layout: &Layout, rows: &[Row], flags: &[bool], pass: PassNo, nod
 
 fn is_open_scx(layout: &Layout, rows: &[Row], pass: PassNo, scx: u64) -> bool
     requires { pass.0 < layout.now.passes }
-    ensures { IsTrue result → IsOpenScx layout.now (past layout.now rows.now) pass.0 scx }
+    ensures { IsTrue result → IsOpenScx layout.now (history_after layout.now rows.now) pass.0 scx }
 {
     is_own_scx(layout, pass, scx)
         && !is_named_scx(layout, rows, scx)
@@ -146,8 +146,8 @@ fn is_in_known_field(layout: &Layout, rows: &[Row], flags: &[bool], node: u64) -
 
 /// Whether a node was there from the start, or a field of a named node has named it.
 fn is_in_field(layout: &Layout, rows: &[Row], flags: &[bool], node: u64) -> bool
-    requires { AreNamed layout.now (past layout.now rows.now) flags.now }
-    ensures { IsTrue result → IsInField layout.now (past layout.now rows.now) node }
+    requires { AreNamed layout.now (history_after layout.now rows.now) flags.now }
+    ensures { IsTrue result → IsInField layout.now (history_after layout.now rows.now) node }
 {
     let opened = node < u64::from(layout.opening());
     opened || is_in_known_field(layout, rows, flags, node)
@@ -155,14 +155,14 @@ fn is_in_field(layout: &Layout, rows: &[Row], flags: &[bool], node: u64) -> bool
 
 /// Whether a pass may name a node in a field, `old` or a member word.
 fn may_name_node(layout: &Layout, rows: &[Row], flags: &[bool], pass: PassNo, node: u64) -> bool
-    requires { AreNamed layout.now (past layout.now rows.now) flags.now }
-    ensures { IsTrue result → IsOthersNode layout.now pass.0 node → IsInField layout.now (past layout.now rows.now) node }
+    requires { AreNamed layout.now (history_after layout.now rows.now) flags.now }
+    ensures { IsTrue result → IsOthersNode layout.now pass.0 node → IsInField layout.now (history_after layout.now rows.now) node }
 {
     !is_others_node(layout, pass, node) || is_in_field(layout, rows, flags, node)
 }
 
 fn may_name_scx(layout: &Layout, rows: &[Row], pass: PassNo, scx: u64) -> bool
-    ensures { IsTrue result → IsOthersScx layout.now pass.0 scx → IsNamedScx (past layout.now rows.now) scx }
+    ensures { IsTrue result → IsOthersScx layout.now pass.0 scx → IsNamedScx (history_after layout.now rows.now) scx }
 {
     !is_others_scx(layout, pass, scx) || is_named_scx(layout, rows, scx)
 }
@@ -178,9 +178,9 @@ fn may_fill_node(
     value: u64,
 ) -> bool
     requires is_pass { pass.0 < layout.now.passes }
-    requires named { AreNamed layout.now (past layout.now rows.now) flags.now }
-    requires all { AreAll layout.now (past layout.now rows.now) flags.now }
-    ensures { IsTrue result → MayFill layout.now (past layout.now rows.now) pass.0 (Node node part) value }
+    requires named { AreNamed layout.now (history_after layout.now rows.now) flags.now }
+    requires all { AreAll layout.now (history_after layout.now rows.now) flags.now }
+    ensures { IsTrue result → MayFill layout.now (history_after layout.now rows.now) pass.0 (Node node part) value }
 {
     let named = match part {
         NodeWord::Info | NodeWord::Marked => false,
@@ -201,8 +201,8 @@ fn may_fill_scx(
     value: u64,
 ) -> bool
     requires is_pass { pass.0 < layout.now.passes }
-    requires named { AreNamed layout.now (past layout.now rows.now) flags.now }
-    ensures { IsTrue result → MayFill layout.now (past layout.now rows.now) pass.0 (Scx scx part) value }
+    requires named { AreNamed layout.now (history_after layout.now rows.now) flags.now }
+    ensures { IsTrue result → MayFill layout.now (history_after layout.now rows.now) pass.0 (Scx scx part) value }
 {
     let named = match part {
         ScxWord::State | ScxWord::AllFrozen => false,
@@ -217,9 +217,9 @@ fn may_fill_scx(
 /// Whether a pass may fill a word with a value.
 pub fn may_fill(layout: &Layout, rows: &[Row], flags: &[bool], row: &Row) -> bool
     requires is_pass { row.now.pass.0 < layout.now.passes }
-    requires named { AreNamed layout.now (past layout.now rows.now) flags.now }
-    requires all { AreAll layout.now (past layout.now rows.now) flags.now }
-    ensures { IsTrue result → MayFill layout.now (past layout.now rows.now) row.now.pass.0 row.now.word row.now.after }
+    requires named { AreNamed layout.now (history_after layout.now rows.now) flags.now }
+    requires all { AreAll layout.now (history_after layout.now rows.now) flags.now }
+    ensures { IsTrue result → MayFill layout.now (history_after layout.now rows.now) row.now.pass.0 row.now.word row.now.after }
 {
     match row.word {
         Word::Node(node, part) => may_fill_node(

@@ -4,7 +4,7 @@ ghost use Rattle.arena.specs.History.{Start, rows_after};
 ghost use Rattle.arena.specs.Layout.{all_nodes};
 ghost use Rattle.arena.specs.Lawful.{Obeys, IsLawful, Lawful};
 ghost use Rattle.judge.specs.Names.{AreNamed};
-ghost use Rattle.judge.specs.Past.{past};
+ghost use Rattle.judge.specs.Histories.{history_after};
 
 use crate::exchanges::{
     is_some_abort, is_some_commit, is_some_freeze, is_some_mark, is_some_set_frozen, is_some_update,
@@ -23,10 +23,10 @@ use std::alloc::{AllocError, Global};
 fn is_lawful_fill(layout: &Layout, rows: &[Row], flags: &mut [bool], row: &Row) -> bool
     requires is_pass { row.now.pass.0 < layout.now.passes }
     requires size { length flags.old ≡ all_nodes layout.now }
-    requires lawful { Lawful layout.now (past layout.now rows.now) }
-    requires named { AreNamed layout.now (past layout.now rows.now) flags.old }
-    ensures named { AreNamed layout.now (past layout.now rows.now) flags.new }
-    ensures fill { IsTrue result → Obeys layout.now (past layout.now rows.now) row.now Kind.Fill }
+    requires lawful { Lawful layout.now (history_after layout.now rows.now) }
+    requires named { AreNamed layout.now (history_after layout.now rows.now) flags.old }
+    ensures named { AreNamed layout.now (history_after layout.now rows.now) flags.new }
+    ensures fill { IsTrue result → Obeys layout.now (history_after layout.now rows.now) row.now Kind.Fill }
 {
     find_named(layout, flags, rows) && may_fill(layout, rows, flags, row)
 }
@@ -35,10 +35,10 @@ fn is_lawful_fill(layout: &Layout, rows: &[Row], flags: &mut [bool], row: &Row) 
 fn obeys(layout: &Layout, rows: &[Row], flags: &mut [bool], row: &Row) -> bool
     requires is_pass { row.now.pass.0 < layout.now.passes }
     requires size { length flags.old ≡ all_nodes layout.now }
-    requires lawful { Lawful layout.now (past layout.now rows.now) }
-    requires named { AreNamed layout.now (past layout.now rows.now) flags.old }
-    ensures named { AreNamed layout.now (past layout.now rows.now) flags.new }
-    ensures obeys { IsTrue result → Obeys layout.now (past layout.now rows.now) row.now row.now.kind }
+    requires lawful { Lawful layout.now (history_after layout.now rows.now) }
+    requires named { AreNamed layout.now (history_after layout.now rows.now) flags.old }
+    ensures named { AreNamed layout.now (history_after layout.now rows.now) flags.new }
+    ensures obeys { IsTrue result → Obeys layout.now (history_after layout.now rows.now) row.now row.now.kind }
 {
     match row.kind {
         Kind::Fill => is_lawful_fill(layout, rows, flags, row),
@@ -60,10 +60,10 @@ fn obeys(layout: &Layout, rows: &[Row], flags: &mut [bool], row: &Row) -> bool
 /// Whether a row is lawful after the rows.
 fn is_lawful(layout: &Layout, rows: &[Row], flags: &mut [bool], row: &Row) -> bool
     requires size { length flags.old ≡ all_nodes layout.now }
-    requires lawful { Lawful layout.now (past layout.now rows.now) }
-    requires named { AreNamed layout.now (past layout.now rows.now) flags.old }
-    ensures named { AreNamed layout.now (past layout.now rows.now) flags.new }
-    ensures lawful { IsTrue result → IsLawful layout.now (past layout.now rows.now) row.now }
+    requires lawful { Lawful layout.now (history_after layout.now rows.now) }
+    requires named { AreNamed layout.now (history_after layout.now rows.now) flags.old }
+    ensures named { AreNamed layout.now (history_after layout.now rows.now) flags.new }
+    ensures lawful { IsTrue result → IsLawful layout.now (history_after layout.now rows.now) row.now }
 {
     row.pass.0 < layout.passes
         && layout.has(row.word)
@@ -75,9 +75,9 @@ fn is_lawful(layout: &Layout, rows: &[Row], flags: &mut [bool], row: &Row) -> bo
 fn first_of(layout: &Layout, flags: &mut [bool], rows: &[Row]) -> Option<usize>
     requires size { length flags.old ≡ all_nodes layout.now }
     requires named { AreNamed layout.now (Start layout.now.mode) flags.old }
-    ensures lawful { IfNone result (Lawful layout.now (past layout.now rows.now)) }
+    ensures lawful { IfNone result (Lawful layout.now (history_after layout.now rows.now)) }
     ensures inside { IfSome result (λ i. i < length rows.now) }
-    ensures before { IfSome result (λ i. Lawful layout.now (past layout.now (take i rows.now))) }
+    ensures before { IfSome result (λ i. Lawful layout.now (history_after layout.now (take i rows.now))) }
 {
     for place in 0..rows.len() {
         if !is_lawful(layout, &rows[..place], flags, &rows[place]) {

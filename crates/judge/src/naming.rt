@@ -5,7 +5,7 @@ ghost use Rattle.arena.specs.Fills.{IsNamed, IsNamedScx};
 ghost use Rattle.arena.specs.Layout.{all_nodes};
 ghost use Rattle.arena.specs.Lawful.{Lawful};
 ghost use Rattle.judge.specs.Names.{AreNamed, AreAll};
-ghost use Rattle.judge.specs.Past.{past};
+ghost use Rattle.judge.specs.Histories.{history_after};
 ghost use Rattle.judge.specs.Tests.{names_scx, is_known, is_named_scx, is_naming, adds};
 
 use arena::{Layout, NodeWord, Row, ScxWord, Word};
@@ -31,7 +31,7 @@ fn is_seen(rows: &[Row], scx: u64) -> bool
 
 /// Whether an info word has named an SCX-record.
 pub fn is_named_scx(layout: &Layout, rows: &[Row], scx: u64) -> bool
-    ensures { IsTrue result ↔ IsNamedScx (past layout.now rows.now) scx }
+    ensures { IsTrue result ↔ IsNamedScx (history_after layout.now rows.now) scx }
 {
     let _layout = *layout;
     is_seen(rows, scx)
@@ -76,9 +76,9 @@ fn adds(layout: &Layout, flags: &[bool], rows: &[Row], row: &Row) -> bool
 
 /// Some node that is named and not known to be.
 fn missing(layout: &Layout, flags: &[bool], rows: &[Row]) -> Option<u64>
-    requires { AreNamed layout.now (past layout.now rows.now) flags.now }
+    requires { AreNamed layout.now (history_after layout.now rows.now) flags.now }
     ensures within { IfSome result (λ n. n < length flags.now) }
-    ensures named { IfSome result (λ n. IsNamed layout.now (past layout.now rows.now) n) }
+    ensures named { IfSome result (λ n. IsNamed layout.now (history_after layout.now rows.now) n) }
     ensures none { IfNone result (list_any (adds layout.now flags.now rows.now) rows.now ≡ false) }
 {
     for row in rows {
@@ -93,10 +93,10 @@ fn missing(layout: &Layout, flags: &[bool], rows: &[Row]) -> Option<u64>
 /// there are nodes always do.
 pub fn find_named(layout: &Layout, flags: &mut [bool], rows: &[Row]) -> bool
     requires size { length flags.old ≡ all_nodes layout.now }
-    requires lawful { Lawful layout.now (past layout.now rows.now) }
-    requires named { AreNamed layout.now (past layout.now rows.now) flags.old }
-    ensures named { AreNamed layout.now (past layout.now rows.now) flags.new }
-    ensures all { IsTrue result → AreAll layout.now (past layout.now rows.now) flags.new }
+    requires lawful { Lawful layout.now (history_after layout.now rows.now) }
+    requires named { AreNamed layout.now (history_after layout.now rows.now) flags.old }
+    ensures named { AreNamed layout.now (history_after layout.now rows.now) flags.new }
+    ensures all { IsTrue result → AreAll layout.now (history_after layout.now rows.now) flags.new }
 {
     for _round in 0..layout.all_nodes() {
         match missing(layout, flags, rows) {

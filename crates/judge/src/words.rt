@@ -4,7 +4,7 @@ ghost use Rattle.arena.specs.History.{value, HasHeld};
 ghost use Rattle.arena.specs.Layout.{opening};
 ghost use Rattle.arena.specs.Words.{same_word};
 ghost use Rattle.std.specs.List.{list_any};
-ghost use Rattle.judge.specs.Past.{past};
+ghost use Rattle.judge.specs.Histories.{history_after};
 ghost use Rattle.judge.specs.Tests.{leaves};
 
 use arena::{Layout, Mode, NodeNo, NodeWord, Row, ScxNo, ScxWord, Side, Word};
@@ -45,7 +45,7 @@ fn held_after(row: &Row, word: Word, before: u64) -> u64
 
 /// What a word holds after the rows.
 pub fn value_of(layout: &Layout, rows: &[Row], word: Word) -> u64
-    ensures { result ≡ value (past layout.now rows.now) word }
+    ensures { result ≡ value (history_after layout.now rows.now) word }
 {
     let mut held = opening_value(layout.mode, word);
     for row in rows {
@@ -70,7 +70,7 @@ fn is_left(rows: &[Row], word: Word, value: u64) -> bool
 
 /// Whether a word holds a value, or has held it before.
 pub fn has_held(layout: &Layout, rows: &[Row], word: Word, value: u64) -> bool
-    ensures { IsTrue result ↔ HasHeld (past layout.now rows.now) word value }
+    ensures { IsTrue result ↔ HasHeld (history_after layout.now rows.now) word value }
 {
     let opened = opening_value(layout.mode, word) == value;
     opened || is_left(rows, word, value)

@@ -2,29 +2,26 @@
 use Rattle.std.proofs.Common.{◌≡◌, ◌≢◌, ℕ, suc, ◌+◌, ◌<◌, ◌≤◌, inl, List, Option, Some, None, refl, sym, ◌∙◌, ap, subst, arith, length, zero, [], ◌∷◌, ◌⊎◌, ⊎_elim, slice_index_or, slice_get, get_or, nat_lt, map, AllPairs, Contains, MatchOption, Bool, true, false}
 use Rattle.arena.specs.declared.limits.Mode.TheVariants.{Records}
 use Rattle.arena.specs.History.{History, value}
-use Rattle.arena.proofs.Values.{ends_self}
-use Rattle.prims.specs.Cells.{allows_all}
-use Rattle.prims.proofs.LlxAnswers.{ready_at_start, cell_opened}
-use Rattle.prims.proofs.Shares.{all_over, all_idle}
-use Rattle.prims.proofs.Usable.{vlx_ready_first}
+use Rattle.arena.proofs.Lemmas.{ends_self}
+use Rattle.prims.specs.Cells.{AllowsAll}
+use Rattle.prims.proofs.Lemmas.{ready_at_start, cell_opened, all_over, all_idle, vlx_ready_first, among}
 use Rattle.script.specs.Cells.{cells_of}
 use Rattle.script.specs.Update.{update_cells, update_finalize, update_field, update_value}
 use Rattle.arena.specs.declared.number.NodeNo.{NodeNo}
 use Rattle.arena.specs.declared.word.Side.{Side}
 use Rattle.player.specs.declared.kept.Found.{Found}
 use Rattle.record.specs.Snapshots.{AreLinked}
-use Rattle.player.specs.Kept.{AllKept, IsFirstUnkept, IsUnspent, kept_of}
+use Rattle.player.specs.KeptSnaps.{AllKept, IsFirstUnkept, IsUnspent, kept_of}
 use Rattle.player.proofs.Over.{taken_one, taken_none}
 use Rattle.player.proofs.Ends.{among_none, are_linked}
 use Rattle.player.proofs.Putting.{full_answer}
 use Rattle.prims.specs.Snaps.{AreDistinct, IsAmong}
 use Rattle.prims.specs.declared.snap.Snap.{Snap}
-use Rattle.prims.specs.LlxSteps.{llx_left}
-use Rattle.prims.specs.VlxSteps.{vlx_left}
+use Rattle.prims.specs.Llx.Steps.{llx_left}
+use Rattle.prims.specs.Vlx.Steps.{vlx_left}
 use Rattle.script.specs.Cells.{cells_of}
 use Rattle.std.proofs.Math.Logic.{∥∥₁_elim}
 use Rattle.std.proofs.lemmas.List.{length-map}
-use Rattle.prims.proofs.Snapshots.{among}
 use Rattle.player.proofs.Snapshots.{has_snap, snap_there, snap_found, kept_linked, first_unlinked}
 use Rattle.prims.specs.Snap.{snap_at}
 use Rattle.prims.specs.declared.llx.LlxRun.{LlxRun}
@@ -40,10 +37,10 @@ use Rattle.record.specs.declared.record.Answer.TheVariants.{Unlinked}
 use Rattle.record.specs.CommandRules.{most_steps}
 use Rattle.record.specs.Snapshots.{AreLinked}
 use Rattle.player.specs.RunSteps.{then_left}
-use Rattle.prims.specs.ScxKnown.{nodes_of}
-use Rattle.player.specs.View.{View, no_hand, IsSound, Rests, Refuses, Starts, IsLlxOf, IsUnbegun, command_of, machine_call, GoesOn, IsSameCall, CanPut, Puts, Begins, Stood}
-use Rattle.player.specs.declared.client.Standing.{Standing}
-use Rattle.player.specs.declared.client.Standing.TheVariants.{Finished, Answers, Asks}
+use Rattle.prims.specs.Scx.Known.{nodes_of}
+use Rattle.player.specs.ClientView.{ClientView, no_hand, IsSound, Rests, Refuses, Starts, IsLlxOf, IsUnbegun, command_of, machine_call, GoesOn, IsSameCall, CanPut, Puts, BeginsOrRefuses, IsNextAction}
+use Rattle.player.specs.declared.client.NextAction.{NextAction}
+use Rattle.player.specs.declared.client.NextAction.TheVariants.{Finished, Answers, Asks}
 use Rattle.script.specs.declared.command.Call.{Call}
 use Rattle.std.proofs.lemmas.Option.{slice_get_read}
 use Rattle.player.proofs.Commands.{next_at}
@@ -65,16 +62,16 @@ llx_few (ScxCommand update) n then f taken = absurd f
 llx_few (VlxCommand cells) n then f taken = absurd f
 
 -- an LLX of a cell
-pub llx_starts : (v : View) (began : Option ℕ) (c : Client) (m : LlxRun) (then : Option Put) (command : Command) → IsSound v → v.layout.mode ≡ Records → Rests v c → IsUnbegun v began → m.at ≡ Start → m.node.0 ≤ 8 → command_of v c ≡ Some command → IsLlxOf command m.node.0 then → Starts v c (Llx m) then
+pub llx_starts : (v : ClientView) (began : Option ℕ) (c : Client) (m : LlxRun) (then : Option Put) (command : Command) → IsSound v → v.layout.mode ≡ Records → Rests v c → IsUnbegun v began → m.at ≡ Start → m.node.0 ≤ 8 → command_of v c ≡ Some command → IsLlxOf command m.node.0 then → Starts v c (Llx m) then
 llx_starts v began c m then command sound mode r u start i is f = record {
   works = record { mode = mode; stands = r.stands; newest = tt; command = command; is = is; run_of = (i, f); is_pass = r.stands.is_pass; start = v.past; since = ends_self v.past; begun = sym u.start; moments = λ j p. absurd (omega arith); alone = λ j p. absurd (omega arith); room = tt; took = taken_none v c.pass.0 (no_hand c.share) u.start; won = u.won; late = λ turn e. none_late v.won turn c.begin u.won e };
   none = r.none;
-  ready = ready_at_start allows_all m (machine_call v c r.stands.is_pass v.past) v.past refl start (cell_opened v.layout v.past m.node.0 mode i) (all_idle v.layout v.past c.pass.0 c.share _ _ sound.lawful r.stands.share r.stands.over);
+  ready = ready_at_start AllowsAll m (machine_call v c r.stands.is_pass v.past) v.past refl start (cell_opened v.layout v.past m.node.0 mode i) (all_idle v.layout v.past c.pass.0 c.share _ _ sound.lawful r.stands.share r.stands.over);
   few = λ taken. let few = llx_few command m.node.0 then f taken in rw (u.steps, start) (omega arith);
 }
 
 -- a VLX of unspent snapshots
-pub vlx_starts : (v : View) (began : Option ℕ) (c : Client) (m : VlxRun (List Snap)) (cells : _) → IsSound v → v.layout.mode ≡ Records → Rests v c → IsUnbegun v began → m.asked ≡ 0 → 0 < length m.snaps → nodes_of m.snaps ≡ cells_of cells → ((i : ℕ) → i < length m.snaps → (moment : History) × (v.linked (snap_at m.snaps i).node.0 ≡ Some moment) × IsUnspent v.layout c.pass.0 v.past (snap_at m.snaps i) moment) → command_of v c ≡ Some (VlxCommand cells) → vlx_left m.snaps m.asked ≡ length (cells_of cells) → Starts v c (Vlx m) None
+pub vlx_starts : (v : ClientView) (began : Option ℕ) (c : Client) (m : VlxRun (List Snap)) (cells : _) → IsSound v → v.layout.mode ≡ Records → Rests v c → IsUnbegun v began → m.asked ≡ 0 → 0 < length m.snaps → nodes_of m.snaps ≡ cells_of cells → ((i : ℕ) → i < length m.snaps → (moment : History) × (v.linked (snap_at m.snaps i).node.0 ≡ Some moment) × IsUnspent v.layout c.pass.0 v.past (snap_at m.snaps i) moment) → command_of v c ≡ Some (VlxCommand cells) → vlx_left m.snaps m.asked ≡ length (cells_of cells) → Starts v c (Vlx m) None
 vlx_starts v began c m cells sound mode r u start some nodes l is left = record {
   works = record { mode = mode; stands = r.stands; newest = tt; command = VlxCommand cells; is = is; run_of = nodes; is_pass = r.stands.is_pass; start = v.past; since = ends_self v.past; begun = sym u.start; moments = λ i p. let x = l i p in record { moment = x.0; found = x.2.usable.found; source = x.1 }; alone = λ i p. let x = l i p in x.2.alone; room = tt; took = taken_none v c.pass.0 (no_hand c.share) u.start; won = u.won; late = λ turn e. none_late v.won turn c.begin u.won e };
   none = r.none;
@@ -114,27 +111,27 @@ among_snaps snaps cells n e x = go (has_snap snaps n) refl
     go false d = absurd (∥∥₁_elim x (λ a b. absurd a) (λ (c : Contains cells n). let y = among snaps n (rw e c) in let z = snap_found snaps n y.at y.within y.is in cc))
 
 -- what is known of a client does not ask when its call began
-pub rests_at : (v : View) (c : Client) (turn : ℕ) → Rests v c → Rests v (record c { begin = turn })
+pub rests_at : (v : ClientView) (c : Client) (turn : ℕ) → Rests v c → Rests v (record c { begin = turn })
 rests_at v c turn r = record { stands = record { is_pass = r.stands.is_pass; number = r.stands.number; place = r.stands.place; kept = r.stands.kept; unkept = r.stands.unkept; dropped = r.stands.dropped; share = r.stands.share; over = r.stands.over }; none = r.none }
 
 -- a call that runs has begun
-pub begins_so : (v : View) (old new : Client) → GoesOn v old new → Begins v old.begin old new None
+pub begins_so : (v : ClientView) (old new : Client) → GoesOn v old new → BeginsOrRefuses v old.begin old new None
 begins_so v old new x = (x.same, x.begin, (x.running, x.is, x.waits))
 
 same_call : (old new : Client) (turn : ℕ) → IsSameCall (record old { begin = turn }) new → IsSameCall old new
 same_call old new turn x = record { pass = x.pass; number = x.number; next = x.next }
 
 -- that a call begins does not ask when the call before it did
-pub begins_run : (v : View) (old new : Client) (turn : ℕ) (answer : Option Answer) → Begins v turn (record old { begin = turn }) new answer → Begins v turn old new answer
+pub begins_run : (v : ClientView) (old new : Client) (turn : ℕ) (answer : Option Answer) → BeginsOrRefuses v turn (record old { begin = turn }) new answer → BeginsOrRefuses v turn old new answer
 begins_run v old new turn None x = (same_call old new turn x.0, x.1, x.2)
 begins_run v old new turn (Some answer) x = (same_call old new turn x.0, x.1, x.2)
 
 -- a client at rest keeps a snapshot of each cell of which one is said
-unkept_is : (v : View) (c : Client) → Rests v c → (n : ℕ) → n ≤ 8 → kept_of c.kept n ≡ None → v.linked n ≡ None
+unkept_is : (v : ClientView) (c : Client) → Rests v c → (n : ℕ) → n ≤ 8 → kept_of c.kept n ≡ None → v.linked n ≡ None
 unkept_is v c r n i e = ⊎_elim (λ z. absurd (among_none n z)) (λ z. z) (r.stands.unkept n i e)
 
 -- what is kept of different cells is given to an SCX
-pub scx_can_put : (v : View) (began : Option ℕ) (c : Client) (update : _) (snaps : List Snap) (finalize : List NodeNo) (field : NodeNo × Side) (x : ℕ) → v.layout.mode ≡ Records → Rests v c → IsUnbegun v began → command_of v c ≡ Some (ScxCommand update) → AllKept c.kept snaps → nodes_of snaps ≡ update_cells update → map (λ (n : NodeNo). n.0) finalize ≡ update_finalize update → (field.0.0 ≡ (update_field update).0) × (field.1 ≡ (update_field update).1) → x ≡ update_value update → CanPut v v.linked c snaps (map (λ (n : NodeNo). n.0) finalize) (field.0.0, field.1) x
+pub scx_can_put : (v : ClientView) (began : Option ℕ) (c : Client) (update : _) (snaps : List Snap) (finalize : List NodeNo) (field : NodeNo × Side) (x : ℕ) → v.layout.mode ≡ Records → Rests v c → IsUnbegun v began → command_of v c ≡ Some (ScxCommand update) → AllKept c.kept snaps → nodes_of snaps ≡ update_cells update → map (λ (n : NodeNo). n.0) finalize ≡ update_finalize update → (field.0.0 ≡ (update_field update).0) × (field.1 ≡ (update_field update).1) → x ≡ update_value update → CanPut v v.linked c snaps (map (λ (n : NodeNo). n.0) finalize) (field.0.0, field.1) x
 scx_can_put v began c update snaps finalize field x mode r u is kept nodes removed at value = record {
   mode = mode;
   rests = record { stands = r.stands; none = r.none };
@@ -154,28 +151,28 @@ scx_can_put v began c update snaps finalize field x mode r u is kept nodes remov
     l = kept_linked v.layout c.pass.0 v.past v.linked c.kept snaps kept r.stands.kept
 
 -- each cell of what is kept has its snapshot
-pub scx_linked : (v : View) (c : Client) (command : Command) (snaps : List Snap) (cells : List ℕ) → Rests v c → AllKept c.kept snaps → nodes_of snaps ≡ cells → AreLinked v.linked cells
+pub scx_linked : (v : ClientView) (c : Client) (command : Command) (snaps : List Snap) (cells : List ℕ) → Rests v c → AllKept c.kept snaps → nodes_of snaps ≡ cells → AreLinked v.linked cells
 scx_linked v c command snaps cells r kept nodes = are_linked v c command snaps cells nodes (λ i p. let y = kept_linked v.layout c.pass.0 v.past v.linked c.kept snaps kept r.stands.kept i p in (y.0, y.1))
 
-pub begins_put : (v : View) (began : Option ℕ) (old new : Client) (update : _) (answer : Option Answer) → IsUnbegun v began → command_of v old ≡ Some (ScxCommand update) → AreLinked v.linked (update_cells update) → Puts v v.linked old new answer → Begins v old.begin old new answer
+pub begins_put : (v : ClientView) (began : Option ℕ) (old new : Client) (update : _) (answer : Option Answer) → IsUnbegun v began → command_of v old ≡ Some (ScxCommand update) → AreLinked v.linked (update_cells update) → Puts v v.linked old new answer → BeginsOrRefuses v old.begin old new answer
 begins_put v began old new update None u is linked p = (p.same, p.begin, (p.running, p.is, p.waits))
 begins_put v began old new update (Some answer) u is linked p =
     let w = full_answer v.layout v.past new.pass.0 new.share answer p.2.stands.share p.3 in
-    subst (λ (a : Answer). Begins v old.begin old new (Some a)) (sym w.is)
+    subst (λ (a : Answer). BeginsOrRefuses v old.begin old new (Some a)) (sym w.is)
     (p.0, p.1, record { rests = record { stands = p.2.stands; none = p.2.none }; command = ScxCommand update; is = rw p.0.pass is; refusal = tt; right = (linked, w.empty); unwon = u.won; took = taken_one v new.pass.0 (no_hand new.share) (taken_none v new.pass.0 (no_hand new.share) u.start) })
 
 -- a cell without a snapshot is a refusal of an SCX and of a VLX
-pub scx_unlinked : (v : View) (began : Option ℕ) (c : Client) (update : _) (node : NodeNo) → Rests v c → IsUnbegun v began → command_of v c ≡ Some (ScxCommand update) → IsFirstUnkept c.kept (update_cells update) node.0 → Refuses v c (Unlinked node)
+pub scx_unlinked : (v : ClientView) (began : Option ℕ) (c : Client) (update : _) (node : NodeNo) → Rests v c → IsUnbegun v began → command_of v c ≡ Some (ScxCommand update) → IsFirstUnkept c.kept (update_cells update) node.0 → Refuses v c (Unlinked node)
 scx_unlinked v began c update node r u is x = record { rests = r; command = ScxCommand update; is = is; refusal = tt; right = first_unlinked v.layout c.pass.0 v.past v.linked c.kept (update_cells update) node.0 r.stands.kept (unkept_is v c r) x; unwon = u.won; took = taken_one v c.pass.0 (no_hand c.share) (taken_none v c.pass.0 (no_hand c.share) u.start) }
 
-pub vlx_unlinked : (v : View) (began : Option ℕ) (c : Client) (cells : _) (node : NodeNo) → Rests v c → IsUnbegun v began → command_of v c ≡ Some (VlxCommand cells) → IsFirstUnkept c.kept (cells_of cells) node.0 → Refuses v c (Unlinked node)
+pub vlx_unlinked : (v : ClientView) (began : Option ℕ) (c : Client) (cells : _) (node : NodeNo) → Rests v c → IsUnbegun v began → command_of v c ≡ Some (VlxCommand cells) → IsFirstUnkept c.kept (cells_of cells) node.0 → Refuses v c (Unlinked node)
 vlx_unlinked v began c cells node r u is x = record { rests = r; command = VlxCommand cells; is = is; refusal = tt; right = first_unlinked v.layout c.pass.0 v.past v.linked c.kept (cells_of cells) node.0 r.stands.kept (unkept_is v c r) x; unwon = u.won; took = taken_one v c.pass.0 (no_hand c.share) (taken_none v c.pass.0 (no_hand c.share) u.start) }
 
 some_call : (a b : Call) → Some a ≡ Some b → a ≡ b
 some_call a b e = cc
 
 -- a call at this place of the script is the client's next
-pub next_is : (v : View) (c : Client) (calls : List Call) (at : ℕ) (call : Call) → Rests v c → calls ≡ v.calls → c.next ≡ Some at → slice_get calls at ≡ Some call → command_of v c ≡ Some call.command
+pub next_is : (v : ClientView) (c : Client) (calls : List Call) (at : ℕ) (call : Call) → Rests v c → calls ≡ v.calls → c.next ≡ Some at → slice_get calls at ≡ Some call → command_of v c ≡ Some call.command
 next_is v c calls at call r e is get =
     let x = next_at v.calls c.pass.0 c.number at (rw is at r.stands.place) in
     let y : Some call ≡ Some (record { client = record { 0 = c.pass.0 }; command = x.0 }) = sym get ∙ ap (λ (l : List Call). slice_get l at) e ∙ x.1 in
@@ -191,10 +188,10 @@ pub get_there : (calls : List Call) (at : ℕ) (call : Call) → true ≡ nat_lt
 get_there calls at call i e = slice_get_read calls (length calls) at call refl (grind (arith, i)) e
 
 -- how a client stands once its call has begun, or was refused
-pub stood_refused : (v : View) (turn : ℕ) (old new : Client) (answer : Answer) → Rests v old → Begins v turn old new (Some answer) → Stood v turn old new (Answers answer)
+pub stood_refused : (v : ClientView) (turn : ℕ) (old new : Client) (answer : Answer) → Rests v old → BeginsOrRefuses v turn old new (Some answer) → IsNextAction v turn old new (Answers answer)
 stood_refused v turn old new answer r x = (x.0, r, x.2, x.1)
 
-pub stood_begun : (v : View) (turn : ℕ) (old new : Client) (standing : Standing) → Rests v old → Begins v turn old new None → MatchOption new.running (standing ≡ Finished) (λ r. standing ≡ Asks r.step) → Stood v turn old new standing
+pub stood_begun : (v : ClientView) (turn : ℕ) (old new : Client) (standing : NextAction) → Rests v old → BeginsOrRefuses v turn old new None → MatchOption new.running (standing ≡ Finished) (λ r. standing ≡ Asks r.step) → IsNextAction v turn old new standing
 stood_begun v turn old new standing r x m =
     let y : standing ≡ Asks x.2.0.step = rw x.2.1 at m in
     rw y (x.0, x.2.0, x.2.1, refl, x.2.2, inl (r, x.1))

@@ -2,7 +2,7 @@
 use Rattle.std.proofs.Common.{◌≡◌, ℕ, ◌+◌, ◌<◌, ◌≤◌, List, Option, Some, None, refl, ◌∙◌, subst, arith}
 use Rattle.arena.specs.declared.word.Side.{Side}
 use Rattle.arena.specs.declared.step.Step.{Step}
-use Rattle.arena.specs.Share.{Left}
+use Rattle.arena.specs.Share.{Remaining}
 use Rattle.arena.specs.History.{History}
 use Rattle.script.specs.declared.command.Command.{Command}
 use Rattle.script.specs.declared.command.Command.TheVariants.{Llx as LlxOf, Scx as ScxOf, Vlx as VlxOf, Set as SetOf}
@@ -18,24 +18,24 @@ use Rattle.player.specs.declared.client.Running.{Running}
 use Rattle.player.specs.declared.client.Put.{Put}
 use Rattle.record.specs.declared.record.Answer.{Answer}
 use Rattle.record.specs.CommandRules.{most_steps}
-use Rattle.player.specs.RunKnown.{run_waits, run_answers, run_same}
+use Rattle.player.specs.RunKnown.{RunWaits, RunAnswers, IsSameMachine}
 use Rattle.player.specs.RunSteps.{run_left, left_of}
-use Rattle.player.specs.View.{View, Hand, in_hand, snaps_of, IsStart, IsPutOf, IsScxOf, HasNewest, IsRunOf, IsRoomy, IsWonBy, Stands, Works, Hears, Answered, machine_call, GoesOn, Told}
+use Rattle.player.specs.ClientView.{ClientView, Hand, in_hand, snaps_of, IsStart, IsPutOf, IsScxOf, HasNewest, IsMachineOf, IsRoomy, IsWonBy, IsClientState, Works, Hears, Answered, machine_call, GoesOn, Told}
 
 -- what does not change while a machine goes on
-record IsKept (left : Left) (old now : Run) : Type 0 where
+record IsKept (left : Remaining) (old now : Run) : Type 0 where
   hand : in_hand left now ≡ in_hand left old
   newest : HasNewest left old → HasNewest left now
-  run_of : (command : Command) (number : ℕ) (then : Option Put) → IsRunOf command number old then → IsRunOf command number now then
+  run_of : (command : Command) (number : ℕ) (then : Option Put) → IsMachineOf command number old then → IsMachineOf command number now then
   begun : (start begin : History) → IsStart old start begin → IsStart now start begin
   snaps : snaps_of now ≡ snaps_of old
-  won : (v : View) (c : ℕ) → IsWonBy v c old → IsWonBy v c now
-  room : (v : View) (c : ℕ) → IsRoomy v c old → IsRoomy v c now
+  won : (v : ClientView) (c : ℕ) → IsWonBy v c old → IsWonBy v c now
+  room : (v : ClientView) (c : ℕ) → IsRoomy v c old → IsRoomy v c now
 
 put_same : (a b : PutRun) (number : ℕ) (nodes removed : List ℕ) (field : ℕ × Side) (x : ℕ) → b.scx.update ≡ a.scx.update → b.scx.call ≡ a.scx.call → b.value ≡ a.value → IsPutOf a number nodes removed field x → IsPutOf b number nodes removed field x
 put_same a b number nodes removed field x u k w y = record { called = rw k y.called; covers = rw u y.covers; finalizes = rw u y.finalizes; node = rw u y.node; side = rw u y.side; value = rw w y.value }
 
-scx_same : (command : Command) (number : ℕ) (a b : PutRun) (then : Option Put) → run_same (Scx a) (Scx b) → IsScxOf command number a then → IsScxOf command number b then
+scx_same : (command : Command) (number : ℕ) (a b : PutRun) (then : Option Put) → IsSameMachine (Scx a) (Scx b) → IsScxOf command number a then → IsScxOf command number b then
 scx_same (ScxOf update) number a b None x y = put_same a b number _ _ _ _ x.1 x.2 x.3 y
 scx_same (SetOf field value) number a b None x y = put_same a b number _ _ _ _ x.1 x.2 x.3 y
 scx_same (ScxOf update) number a b (Some put) x y = absurd y
@@ -43,7 +43,7 @@ scx_same (SetOf field value) number a b (Some put) x y = absurd y
 scx_same (LlxOf cell) number a b then x y = absurd y
 scx_same (VlxOf cells) number a b then x y = absurd y
 
-is_kept : (left : Left) (old now : Run) → run_same old now → IsKept left old now
+is_kept : (left : Remaining) (old now : Run) → IsSameMachine old now → IsKept left old now
 is_kept left (Llx a) (Llx b) x = record { hand = refl; newest = λ p. p; run_of = λ command number then p. rw x p; begun = λ start begin p. p; snaps = refl; won = λ v c p. p; room = λ v c p. p }
 is_kept left (Scx a) (Scx b) x = record { hand = rw (x.0, x.1) refl; newest = λ p. rw (x.0, x.1) p; run_of = λ command number then p. scx_same command number a b then x p; begun = λ start begin p. p; snaps = rw x.1 refl; won = λ v c p. rw x.0 p; room = λ v c p. p }
 is_kept left (Vlx a) (Vlx b) x = record { hand = refl; newest = λ p. p; run_of = λ command number then p. rw x p; begun = λ start begin p. p; snaps = rw x refl; won = λ v c p. p; room = λ v c p. p }
@@ -55,10 +55,10 @@ is_kept left (Vlx a) (Llx b) x = absurd x
 is_kept left (Vlx a) (Scx b) x = absurd x
 
 -- what a client has in hand does not ask whether a machine runs
-stands_so : (v : View) (c : Client) (running : Option Running) (hand : Hand) → Stands v c hand → Stands v (record c { running = running }) hand
+stands_so : (v : ClientView) (c : Client) (running : Option Running) (hand : Hand) → IsClientState v c hand → IsClientState v (record c { running = running }) hand
 stands_so v c running hand x = record { is_pass = x.is_pass; number = x.number; place = x.place; kept = x.kept; unkept = x.unkept; dropped = x.dropped; share = x.share; over = x.over }
 
-works_so : (v : View) (c : Client) (running : Option Running) (old now : Run) (then : Option Put) → run_same old now → Works v c old then → Works v (record c { running = running }) now then
+works_so : (v : ClientView) (c : Client) (running : Option Running) (old now : Run) (then : Option Put) → IsSameMachine old now → Works v c old then → Works v (record c { running = running }) now then
 works_so v c running old now then same w =
     let k = is_kept c.share old now same in
     record {
@@ -81,7 +81,7 @@ works_so v c running old now then same w =
     }
 
 -- a machine that asks for a step waits for it, and has fewer steps left
-pub goes_on : (v : View) (c : Client) (old now : Run) (then : Option Put) (step : Step) (w : Works v c old then) → run_same old now → run_waits now (machine_call v c w.is_pass w.start) v.past step → ((taken : ℕ) → v.steps + left_of old then ≤ most_steps w.command taken) → run_left now < run_left old → GoesOn v c (record c { running = Some (record { run = now; then = then; step = step }) })
+pub goes_on : (v : ClientView) (c : Client) (old now : Run) (then : Option Put) (step : Step) (w : Works v c old then) → IsSameMachine old now → RunWaits now (machine_call v c w.is_pass w.start) v.past step → ((taken : ℕ) → v.steps + left_of old then ≤ most_steps w.command taken) → run_left now < run_left old → GoesOn v c (record c { running = Some (record { run = now; then = then; step = step }) })
 unfolding works_so
 goes_on v c old now then step w same waits few nearer = record {
   same = record { pass = refl; number = refl; next = refl };
@@ -96,20 +96,20 @@ goes_on v c old now then step w same waits few nearer = record {
 some_same : (p q : Running) → Some p ≡ Some q → p ≡ q
 some_same p q e = cc
 
-pub hears_as : (v : View) (c : Client) (q p : Running) (found : ℕ) → Some p ≡ c.running → c.running ≡ Some q → Hears v c q found → Hears v c p found
+pub hears_as : (v : ClientView) (c : Client) (q p : Running) (found : ℕ) → Some p ≡ c.running → c.running ≡ Some q → Hears v c q found → Hears v c p found
 hears_as v c q p found e d x = rw (some_same p q (e ∙ d)) x
 
-pub answered_so : (v : View) (c : Client) (p : Running) (now : Run) (ended : Ended) (found : ℕ) (rest : Option Running) (x : Hears v c p found) → rest ≡ None → run_same p.run now → run_answers now (machine_call v c x.works.is_pass x.works.start) v.past ended → Answered v (record c { running = rest }) now p.then ended
+pub answered_so : (v : ClientView) (c : Client) (p : Running) (now : Run) (ended : Ended) (found : ℕ) (rest : Option Running) (x : Hears v c p found) → rest ≡ None → IsSameMachine p.run now → RunAnswers now (machine_call v c x.works.is_pass x.works.start) v.past ended → Answered v (record c { running = rest }) now p.then ended
 unfolding works_so
 answered_so v c p now ended found rest x e same a = record { works = works_so v c rest p.run now p.then same x.works; none = e; answers = a; few = λ taken. let few = x.few taken in omega arith }
 
 -- what is told does not ask whether a machine ran
-pub told_from : (v : View) (c new : Client) (rest : Option Running) (answer : Option Answer) → Told v (record c { running = rest }) new answer → Told v c new answer
+pub told_from : (v : ClientView) (c new : Client) (rest : Option Running) (answer : Option Answer) → Told v (record c { running = rest }) new answer → Told v c new answer
 told_from v c new rest None x = record { same = record { pass = x.same.pass; number = x.same.number; next = x.same.next }; begin = x.begin; running = x.running; is = x.is; waits = x.waits }
 told_from v c new rest (Some answer) x = record { same = record { pass = x.same.pass; number = x.same.number; next = x.same.next }; begin = x.begin; rests = x.rests; command = x.command; is = x.is; answers = x.answers; right = x.right; entry = x.entry; took = x.took; late = x.late }
 
 -- what a machine has answered tells which machine it was
-pub after_run : (v : View) (c new : Client) (run : Run) (then : Option Put) (end : Ended) (a : LlxAnswer) (answer : Option Answer) → end ≡ ended.Llx a → Answered v c run then end → ((m : LlxRun) → Answered v c (Llx m) then (ended.Llx a) → Told v c new answer) → Told v c new answer
+pub after_run : (v : ClientView) (c new : Client) (run : Run) (then : Option Put) (end : Ended) (a : LlxAnswer) (answer : Option Answer) → end ≡ ended.Llx a → Answered v c run then end → ((m : LlxRun) → Answered v c (Llx m) then (ended.Llx a) → Told v c new answer) → Told v c new answer
 after_run v c new run then end a answer e x f = go run (subst (λ t. Answered v c run then t) e x)
   where
     go : (run : Run) → Answered v c run then (ended.Llx a) → Told v c new answer

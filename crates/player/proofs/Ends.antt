@@ -7,22 +7,18 @@ use Rattle.arena.specs.declared.number.ScxNo.{ScxNo}
 use Rattle.arena.specs.Words.{state}
 use Rattle.arena.specs.declared.step.Kind.{Kind}
 use Rattle.arena.specs.declared.step.Kind.TheVariants.{Freeze, LoadInfo}
-use Rattle.arena.specs.History.{History, value, EndsWith}
+use Rattle.arena.specs.History.{History, value, Extends}
 use Rattle.arena.specs.Found.{HasFound}
-use Rattle.arena.proofs.Found.{found_wider}
-use Rattle.arena.proofs.Values.{ends_self}
+use Rattle.arena.proofs.Lemmas.{found_wider, ends_self}
 use Rattle.arena.specs.Blame.{WasInTheWay}
 use Rattle.arena.specs.Log.{log, is_final, has}
 use Rattle.histories.proofs.Lemmas.{aborted_never_won, committed_won, finished_taken}
 use Rattle.prims.specs.Moments.{IsMoment, IsAsFound, AreLeftAlone}
 use Rattle.prims.specs.Snaps.{IsAmong}
-use Rattle.prims.proofs.Alone.{alone_now, over_begins, over_ends}
-use Rattle.prims.proofs.Shares.{share_ends, all_idle}
-use Rattle.prims.proofs.Usable.{usable_now}
-use Rattle.prims.specs.PutKnown.{put_answers}
+use Rattle.prims.proofs.Lemmas.{alone_now, over_begins, over_ends, share_ends, all_idle, usable_now, among, put_finished, IsChanged, put_changed, vlx_changed}
+use Rattle.prims.specs.Put.Known.{PutAnswers}
 use Rattle.prims.specs.Snap.{snap_at}
-use Rattle.prims.specs.VlxKnown.{vlx_answers}
-use Rattle.prims.proofs.Snapshots.{among}
+use Rattle.prims.specs.Vlx.Known.{VlxAnswers}
 use Rattle.prims.specs.declared.snap.Snap.{Snap}
 use Rattle.prims.specs.declared.llx.LlxRun.{LlxRun}
 use Rattle.prims.specs.declared.put.PutRun.{PutRun}
@@ -47,15 +43,13 @@ use Rattle.player.specs.declared.kept.Kept.{Kept}
 use Rattle.player.specs.declared.kept.Found.{Found}
 use Rattle.record.specs.declared.record.Answer.{Answer}
 use Rattle.record.specs.declared.record.Answer.TheVariants.{Snapshot, Finalized, Fail, Done, Lost, Same, Changed, Unlinked, Full}
-use Rattle.player.specs.Kept.{IsUnspent, kept_of, node_of, found_of, parts, snap_of}
+use Rattle.player.specs.KeptSnaps.{IsUnspent, kept_of, node_of, found_of, parts, snap_of}
 use Rattle.record.specs.CommandRules.{IsAnswerAfterStep, IsRight}
 use Rattle.record.specs.Snapshots.{IsLastLook, AreLinked}
-use Rattle.record.specs.Answers.{HasRoom, HasFailed, IsInTheWay, IsUnchanged, IsFirstChanged, IsEntered}
+use Rattle.record.specs.Answers.{HasRoom, IsFailOf, IsInTheWay, IsUnchanged, IsFirstChanged, HasItsEntry}
 use Rattle.player.specs.RunKnown.{answer_of}
-use Rattle.prims.specs.ScxKnown.{nodes_of}
-use Rattle.player.specs.View.{View, IsSound, IsLlxOf, IsScxOf, IsVlxOf, no_hand, in_hand, HaveMoments, Stands, Rests, Answered, Ends, machine_call, linked_by}
-use Rattle.prims.proofs.PutEntries.{put_finished}
-use Rattle.prims.proofs.Changed.{IsChanged, put_changed, vlx_changed}
+use Rattle.prims.specs.Scx.Known.{nodes_of}
+use Rattle.player.specs.ClientView.{ClientView, IsSound, IsLlxOf, IsScxOf, IsVlxOf, no_hand, in_hand, HaveMoments, IsClientState, Rests, Answered, Ends, machine_call, linked_by}
 use Rattle.player.proofs.Puts.{put_committed, put_aborted}
 use Rattle.player.proofs.Snapshots.{has_snap, snap_there, snap_found, kept_after, unkept_after}
 use Rattle.player.proofs.Over.{taken_one}
@@ -114,17 +108,17 @@ drop_one snaps node old e = record { gone = λ n x. single n ∙ x_gone n x; oth
 -- The end of an SCX
 
 -- what an SCX answers
-record IsOutcome (v : View) (c : ℕ) (snaps : List Snap) (command : Command) (answer : Answer) : Type 0 where
+record IsOutcome (v : ClientView) (c : ℕ) (snaps : List Snap) (command : Command) (answer : Answer) : Type 0 where
   answers : IsAnswerAfterStep command answer
   right : IsRight v.layout c v.past v.start v.linked command answer
-  entry : IsEntered answer v.won
+  entry : HasItsEntry answer v.won
   drops : IsDropped snaps v.linked (linked_by v command answer)
 
-entered_some : (won : Option ℕ) (turn : ℕ) → won ≡ Some turn → IsEntered Done won
+entered_some : (won : Option ℕ) (turn : ℕ) → won ≡ Some turn → HasItsEntry Done won
 entered_some (Some k) turn e = tt
 entered_some None turn e = cc
 
-pub entered_none : (answer : Answer) (won : Option ℕ) → won ≡ None → (answer ≡ Done → ⊥) → IsEntered answer won
+pub entered_none : (answer : Answer) (won : Option ℕ) → won ≡ None → (answer ≡ Done → ⊥) → HasItsEntry answer won
 entered_none Done won e d = absurd (d refl)
 entered_none (Snapshot left right) None e d = tt
 entered_none Finalized None e d = tt
@@ -137,7 +131,7 @@ entered_none (Full what left) None e d = tt
 entered_none answer (Some k) e d = cc
 
 -- one of the nodes was changed by another client
-blamed_is : (kind : Kind) (v : View) (c : Client) (command : Command) (snaps : List Snap) (nodes : List ℕ) (start : History) → EndsWith start v.start → (is_pass : c.pass.0 < v.layout.passes) (node scx : ℕ) (IsSuch : History → Type 0) → nodes_of snaps ≡ nodes → HaveMoments v c.pass.0 command snaps → AreLeftAlone v.layout c.pass.0 start snaps → ((i : ℕ) → i < length snaps → (snap_at snaps i).node.0 ≡ node → (moment : History) × IsMoment v.layout v.past (snap_at snaps i) moment × IsSuch moment) → IsChanged kind (machine_call v c is_pass start) v.past snaps node scx → IsInTheWay v.layout c.pass.0 v.past v.start kind nodes node scx IsSuch
+blamed_is : (kind : Kind) (v : ClientView) (c : Client) (command : Command) (snaps : List Snap) (nodes : List ℕ) (start : History) → Extends start v.start → (is_pass : c.pass.0 < v.layout.passes) (node scx : ℕ) (IsSuch : History → Type 0) → nodes_of snaps ≡ nodes → HaveMoments v c.pass.0 command snaps → AreLeftAlone v.layout c.pass.0 start snaps → ((i : ℕ) → i < length snaps → (snap_at snaps i).node.0 ≡ node → (moment : History) × IsMoment v.layout v.past (snap_at snaps i) moment × IsSuch moment) → IsChanged kind (machine_call v c is_pass start) v.past snaps node scx → IsInTheWay v.layout c.pass.0 v.past v.start kind nodes node scx IsSuch
 blamed_is kind v c command snaps nodes start since is_pass node scx IsSuch e x alone f b =
     let y = f b.index b.within b.is in
     record {
@@ -156,14 +150,14 @@ only_node (snap ∷ []) n i e p = rw (let z : i ≡ 0 = omega arith in z) (let z
 only_node (snap ∷ next ∷ snaps) n i e p = cc
 
 -- of each node a snapshot is kept
-pub are_linked : (v : View) (c : Client) (command : Command) (snaps : List Snap) (nodes : List ℕ) → nodes_of snaps ≡ nodes → ((i : ℕ) → i < length snaps → (moment : History) × (v.linked (snap_at snaps i).node.0 ≡ Some moment)) → AreLinked v.linked nodes
+pub are_linked : (v : ClientView) (c : Client) (command : Command) (snaps : List Snap) (nodes : List ℕ) → nodes_of snaps ≡ nodes → ((i : ℕ) → i < length snaps → (moment : History) × (v.linked (snap_at snaps i).node.0 ≡ Some moment)) → AreLinked v.linked nodes
 are_linked v c command snaps nodes e f n q =
     let i = among snaps n (rw (sym e) at q) in
     let z = f i.at i.within in
     subst (λ (m : Option History). IsSome m) (sym (subst (λ (k : ℕ). v.linked k ≡ Some z.0) i.is z.1)) refl
 
 -- what the answer of an SCX says
-scx_outcome : (v : View) (c : Client) (command : Command) (m : PutRun) (then : Option Put) (a : ScxAnswer) (start : History) → EndsWith start v.start → (is_pass : c.pass.0 < v.layout.passes) → IsScxOf command c.number m then → HaveMoments v c.pass.0 command m.scx.update.snaps → AreLeftAlone v.layout c.pass.0 start m.scx.update.snaps → HasRoom v.layout c.pass.0 v.start → (a ≡ ScxDone → (turn : ℕ) × (v.won ≡ Some turn)) → (a ≢ ScxDone → v.won ≡ None) → put_answers m (machine_call v c is_pass start) v.past a → IsOutcome v c.pass.0 m.scx.update.snaps command (answer_of (ended.Scx a))
+scx_outcome : (v : ClientView) (c : Client) (command : Command) (m : PutRun) (then : Option Put) (a : ScxAnswer) (start : History) → Extends start v.start → (is_pass : c.pass.0 < v.layout.passes) → IsScxOf command c.number m then → HaveMoments v c.pass.0 command m.scx.update.snaps → AreLeftAlone v.layout c.pass.0 start m.scx.update.snaps → HasRoom v.layout c.pass.0 v.start → (a ≡ ScxDone → (turn : ℕ) × (v.won ≡ Some turn)) → (a ≢ ScxDone → v.won ≡ None) → PutAnswers m (machine_call v c is_pass start) v.past a → IsOutcome v c.pass.0 m.scx.update.snaps command (answer_of (ended.Scx a))
 scx_outcome v c (ScxOf update) m None ScxDone start since is_pass x moments alone room done lost y = record {
   answers = tt;
   right = room;
@@ -205,7 +199,7 @@ scx_outcome v c (LlxOf cell) m then a start since is_pass x moments alone room d
 scx_outcome v c (VlxOf cells) m then a start since is_pass x moments alone room done lost y = absurd x
 
 -- a client whose SCX has ended has taken what it had in hand, and drops its snapshots
-rests_scx : (v : View) (c : Client) (m : PutRun) (then : Option Put) (a : ScxAnswer) (linked : ℕ → Option History) → IsSound v → IsDropped m.scx.update.snaps v.linked linked → Answered v c (Scx m) then (ended.Scx a) → Stands (record v { linked = linked }) c (no_hand c.share)
+rests_scx : (v : ClientView) (c : Client) (m : PutRun) (then : Option Put) (a : ScxAnswer) (linked : ℕ → Option History) → IsSound v → IsDropped m.scx.update.snaps v.linked linked → Answered v c (Scx m) then (ended.Scx a) → IsClientState (record v { linked = linked }) c (no_hand c.share)
 rests_scx v c m then a linked sound drops x = record {
   is_pass = y.is_pass;
   number = y.number;
@@ -217,7 +211,7 @@ rests_scx v c m then a linked sound drops x = record {
   over = over_begins v.layout c.pass.0 c.share.next_scx v.past (over_ends v.layout c.pass.0 m.scx.scx.0 v.past y.over finished);
 }
   where
-    y : Stands v c (in_hand c.share (Scx m))
+    y : IsClientState v c (in_hand c.share (Scx m))
     y = x.works.stands
 
     finished : value v.past (state m.scx.scx.0) ≢ 0
@@ -238,7 +232,7 @@ rests_scx v c m then a linked sound drops x = record {
         go false q = drops.others n (λ w. let t : has_snap m.scx.update.snaps n ≡ true = snap_found m.scx.update.snaps n w.at w.within w.is in cc) ∙ z
 
 -- the call of an SCX ends with its answer
-ends_scx : (v : View) (c : Client) (run : Run) (then : Option Put) (a : ScxAnswer) → IsSound v → Answered v c run then (ended.Scx a) → Ends v c c (answer_of (ended.Scx a))
+ends_scx : (v : ClientView) (c : Client) (run : Run) (then : Option Put) (a : ScxAnswer) → IsSound v → Answered v c run then (ended.Scx a) → Ends v c c (answer_of (ended.Scx a))
 ends_scx v c (Scx m) then a sound x =
     record {
       same = record { pass = refl; number = refl; next = refl };
@@ -253,11 +247,11 @@ ends_scx v c (Scx m) then a sound x =
       late = x.works.late;
     }
   where
-    done : (a : ScxAnswer) → put_answers m (machine_call v c x.works.is_pass x.works.start) v.past a → a ≡ ScxDone → (turn : ℕ) × (v.won ≡ Some turn)
+    done : (a : ScxAnswer) → PutAnswers m (machine_call v c x.works.is_pass x.works.start) v.past a → a ≡ ScxDone → (turn : ℕ) × (v.won ≡ Some turn)
     done ScxDone y e = x.works.won.yes (committed_won v.layout v.past m.scx.scx.0 sound.lawful (put_committed m (machine_call v c x.works.is_pass x.works.start) v.past y))
     done (ScxLost node scx) y e = cc
 
-    lost : (a : ScxAnswer) → put_answers m (machine_call v c x.works.is_pass x.works.start) v.past a → a ≢ ScxDone → v.won ≡ None
+    lost : (a : ScxAnswer) → PutAnswers m (machine_call v c x.works.is_pass x.works.start) v.past a → a ≢ ScxDone → v.won ≡ None
     lost ScxDone y d = absurd (d refl)
     lost (ScxLost node scx) y d = x.works.won.no (aborted_never_won v.layout v.past m.scx.scx.0 sound.lawful (put_aborted m (machine_call v c x.works.is_pass x.works.start) v.past node scx y))
 
@@ -280,7 +274,7 @@ cell_is (snap ∷ snaps) zero p = refl
 cell_is (snap ∷ snaps) (suc i) p = cell_is snaps i (omega arith)
 
 -- it names the first that was changed
-first_changed : (v : View) (c : ℕ) (cells : _) (snaps : List Snap) (node index : ℕ) → nodes_of snaps ≡ cells_of cells → HaveMoments v c (VlxOf cells) snaps → index < length snaps → (snap_at snaps index).node.0 ≡ node → ((i : ℕ) → i < index → IsAsFound v.layout v.past v.start (snap_at snaps i)) → IsFirstChanged v.layout v.start v.linked (cells_of cells) node
+first_changed : (v : ClientView) (c : ℕ) (cells : _) (snaps : List Snap) (node index : ℕ) → nodes_of snaps ≡ cells_of cells → HaveMoments v c (VlxOf cells) snaps → index < length snaps → (snap_at snaps index).node.0 ≡ node → ((i : ℕ) → i < index → IsAsFound v.layout v.past v.start (snap_at snaps i)) → IsFirstChanged v.layout v.start v.linked (cells_of cells) node
 first_changed v c cells snaps node index e moments within is found =
     subst (λ (l : List ℕ). IsFirstChanged v.layout v.start v.linked l node) e
     record { place = index; is = cell_there snaps index within ∙ ap (λ (n : ℕ). Some n) is; before = before }
@@ -292,7 +286,7 @@ first_changed v c cells snaps node index e moments within is found =
         subst (λ (k : ℕ). (moment : History) × (v.linked k ≡ Some moment) × IsUnchanged v.layout v.start moment k) (sym (cell_is snaps i (omega (arith, within)))) (z.moment, z.source, record { same = w.last z.moment z.found; not_final = w.not_final })
 
 -- what the answer of a VLX says: it leaves the snapshots
-vlx_outcome : (v : View) (c : Client) (command : Command) (m : VlxRun (List Snap)) (then : Option Put) (a : VlxAnswer) → IsVlxOf command m.snaps then → HaveMoments v c.pass.0 command m.snaps → AreLeftAlone v.layout c.pass.0 v.start m.snaps → v.won ≡ None → (is_pass : c.pass.0 < v.layout.passes) → vlx_answers m.snaps (machine_call v c is_pass v.start) v.past a → IsOutcome v c.pass.0 [] command (answer_of (ended.Vlx a))
+vlx_outcome : (v : ClientView) (c : Client) (command : Command) (m : VlxRun (List Snap)) (then : Option Put) (a : VlxAnswer) → IsVlxOf command m.snaps then → HaveMoments v c.pass.0 command m.snaps → AreLeftAlone v.layout c.pass.0 v.start m.snaps → v.won ≡ None → (is_pass : c.pass.0 < v.layout.passes) → VlxAnswers m.snaps (machine_call v c is_pass v.start) v.past a → IsOutcome v c.pass.0 [] command (answer_of (ended.Vlx a))
 vlx_outcome v c (VlxOf cells) m None VlxSame x moments alone won is_pass y = record {
   answers = tt;
   right = λ n q. same n (rw (sym x) at q);
@@ -324,7 +318,7 @@ vlx_outcome v c (ScxOf update) m then a x moments alone won is_pass y = absurd x
 vlx_outcome v c (SetOf field value) m then a x moments alone won is_pass y = absurd x
 
 -- what is said of the snapshots as before leaves a client at rest
-rests_as : (v : View) (c : Client) (linked : ℕ → Option History) → IsDropped [] v.linked linked → Stands v c (no_hand c.share) → Stands (record v { linked = linked }) c (no_hand c.share)
+rests_as : (v : ClientView) (c : Client) (linked : ℕ → Option History) → IsDropped [] v.linked linked → IsClientState v c (no_hand c.share) → IsClientState (record v { linked = linked }) c (no_hand c.share)
 rests_as v c linked drops x = record {
   is_pass = x.is_pass;
   number = x.number;
@@ -336,9 +330,9 @@ rests_as v c linked drops x = record {
   over = x.over;
 }
 
-ends_vlx : (v : View) (c : Client) (run : Run) (then : Option Put) (a : VlxAnswer) → Answered v c run then (ended.Vlx a) → Ends v c c (answer_of (ended.Vlx a))
+ends_vlx : (v : ClientView) (c : Client) (run : Run) (then : Option Put) (a : VlxAnswer) → Answered v c run then (ended.Vlx a) → Ends v c c (answer_of (ended.Vlx a))
 ends_vlx v c (Vlx m) then a x =
-    let y = subst (λ (k : History). vlx_answers m.snaps (machine_call v c x.works.is_pass k) v.past a) x.works.begun x.answers in
+    let y = subst (λ (k : History). VlxAnswers m.snaps (machine_call v c x.works.is_pass k) v.past a) x.works.begun x.answers in
     let alone = subst (λ (k : History). AreLeftAlone v.layout c.pass.0 k m.snaps) x.works.begun x.works.alone in
     let o = vlx_outcome v c x.works.command m then a x.works.run_of x.works.moments alone x.works.won x.works.is_pass y in
     record {
@@ -356,20 +350,20 @@ ends_vlx v c (Vlx m) then a x =
 ends_vlx v c (Llx m) then a x = absurd x.answers
 ends_vlx v c (Scx m) then a x = absurd x.answers
 
-pub ends_other : (v : View) (c : Client) (run : Run) (then : Option Put) (end : Ended) → ((a : ScxAnswer) × (end ≡ ended.Scx a)) ⊎ ((a : VlxAnswer) × (end ≡ ended.Vlx a)) → IsSound v → Answered v c run then end → Ends v c c (answer_of end)
+pub ends_other : (v : ClientView) (c : Client) (run : Run) (then : Option Put) (end : Ended) → ((a : ScxAnswer) × (end ≡ ended.Scx a)) ⊎ ((a : VlxAnswer) × (end ≡ ended.Vlx a)) → IsSound v → Answered v c run then end → Ends v c c (answer_of end)
 ends_other v c run then end (inl (a, e)) sound x = rw e (ends_scx v c run then a sound (subst (λ t. Answered v c run then t) e x))
 ends_other v c run then end (inr (a, e)) sound x = rw e (ends_vlx v c run then a (subst (λ t. Answered v c run then t) e x))
 
 -- The end of an LLX
 
 -- the node of its answer is the one that it looked at
-answer_node : (v : View) (c : Client) (m : LlxRun) (then : Option Put) (a : LlxAnswer) → Answered v c (Llx m) then (ended.Llx a) → node_of a ≡ m.node.0
+answer_node : (v : ClientView) (c : Client) (m : LlxRun) (then : Option Put) (a : LlxAnswer) → Answered v c (Llx m) then (ended.Llx a) → node_of a ≡ m.node.0
 answer_node v c m then (LlxSnapshot snap) x = x.answers.0.node
 answer_node v c m then (LlxFinalized node scx) x = x.answers.0
 answer_node v c m then (LlxFail node scx) x = x.answers.0
 
 -- its snapshot may be used from now on, and is unspent
-pub snapshot_unspent : (v : View) (c : Client) (m : LlxRun) (then : Option Put) (snap : Snap) → IsSound v → Answered v c (Llx m) then (ended.Llx (LlxSnapshot snap)) → IsUnspent v.layout c.pass.0 v.past snap v.past
+pub snapshot_unspent : (v : ClientView) (c : Client) (m : LlxRun) (then : Option Put) (snap : Snap) → IsSound v → Answered v c (Llx m) then (ended.Llx (LlxSnapshot snap)) → IsUnspent v.layout c.pass.0 v.past snap v.past
 snapshot_unspent v c m then snap sound x = record {
   usable = usable_now v.layout v.past m.node.0 snap x.answers.0;
   alone = alone_now v.layout c.pass.0 v.past m.node.0 snap (all_idle v.layout v.past c.pass.0 c.share _ _ sound.lawful x.works.stands.share x.works.stands.over) x.answers.0;
@@ -382,7 +376,7 @@ moment_then (LlxFinalized node scx) now = None
 moment_then (LlxFail node scx) now = None
 
 -- with its snapshot kept, or dropped, the client rests
-pub rests_kept : (v : View) (c : Client) (kept : Kept) (m : LlxRun) (then : Option Put) (a : LlxAnswer) (linked : ℕ → Option History) → IsSound v → Answered v c (Llx m) then (ended.Llx a) → kept.found ≡ set c.kept.found (node_of a) (found_of a) → ((n : ℕ) → linked n ≡ cond (eqb (node_of a) n) (moment_then a v.past) (v.linked n)) → Rests (record v { linked = linked }) (record c { kept = kept })
+pub rests_kept : (v : ClientView) (c : Client) (kept : Kept) (m : LlxRun) (then : Option Put) (a : LlxAnswer) (linked : ℕ → Option History) → IsSound v → Answered v c (Llx m) then (ended.Llx a) → kept.found ≡ set c.kept.found (node_of a) (found_of a) → ((n : ℕ) → linked n ≡ cond (eqb (node_of a) n) (moment_then a v.past) (v.linked n)) → Rests (record v { linked = linked }) (record c { kept = kept })
 rests_kept v c kept m then a linked sound x e said = record {
   stands = record {
     is_pass = y.is_pass;
@@ -397,7 +391,7 @@ rests_kept v c kept m then a linked sound x e said = record {
   none = x.none;
 }
   where
-    y : Stands v c (no_hand c.share)
+    y : IsClientState v c (no_hand c.share)
     y = x.works.stands
 
     small : node_of a ≤ 8
@@ -414,7 +408,7 @@ rests_kept v c kept m then a linked sound x e said = record {
     unspent (LlxFail node scx) z found d = cc
 
 -- a failed LLX failed since the call's begin
-failed_since : (v : View) (c : Client) (m : LlxRun) (then : Option Put) (node : NodeNo) (scx : ScxNo) → Answered v c (Llx m) then (ended.Llx (LlxFail node scx)) → HasFailed v.layout c.pass.0 v.past v.start m.node.0 node.0 scx.0
+failed_since : (v : ClientView) (c : Client) (m : LlxRun) (then : Option Put) (node : NodeNo) (scx : ScxNo) → Answered v c (Llx m) then (ended.Llx (LlxFail node scx)) → IsFailOf v.layout c.pass.0 v.past v.start m.node.0 node.0 scx.0
 failed_since v c m then node scx x = record {
   is = x.answers.0;
   others = x.answers.1.others;
@@ -425,13 +419,13 @@ failed_since v c m then node scx x = record {
 }
 
 -- what an LLX answers that ends a call
-record IsLlxOutcome (v : View) (c : ℕ) (command : Command) (a : LlxAnswer) : Type 0 where
+record IsLlxOutcome (v : ClientView) (c : ℕ) (command : Command) (a : LlxAnswer) : Type 0 where
   answers : IsAnswerAfterStep command (answer_of (ended.Llx a))
   right : IsRight v.layout c v.past v.start v.linked command (answer_of (ended.Llx a))
   said : (n : ℕ) → linked_by v command (answer_of (ended.Llx a)) n ≡ cond (eqb (node_of a) n) (moment_then a v.past) (v.linked n)
 
 -- it ends an `llx`, and a `set` where it is no snapshot
-llx_outcome : (v : View) (c : Client) (command : Command) (m : LlxRun) (then : Option Put) (a : LlxAnswer) → ((then ≡ None) ⊎ ((snap : Snap) → a ≢ LlxSnapshot snap)) → IsLlxOf command m.node.0 then → Answered v c (Llx m) then (ended.Llx a) → IsLlxOutcome v c.pass.0 command a
+llx_outcome : (v : ClientView) (c : Client) (command : Command) (m : LlxRun) (then : Option Put) (a : LlxAnswer) → ((then ≡ None) ⊎ ((snap : Snap) → a ≢ LlxSnapshot snap)) → IsLlxOf command m.node.0 then → Answered v c (Llx m) then (ended.Llx a) → IsLlxOutcome v c.pass.0 command a
 llx_outcome v c (LlxOf cell) m None (LlxSnapshot snap) d x y = record {
   answers = tt;
   right = rw (sym x) record { left_is = y.answers.0.left; right_is = y.answers.0.right; not_final = y.answers.0.not_final };
@@ -449,7 +443,7 @@ llx_outcome v c (ScxOf update) m then a d x y = absurd x
 llx_outcome v c (VlxOf cells) m then a d x y = absurd x
 
 -- its call ends, where no SCX follows
-pub ends_llx : (v : View) (old : Client) (kept : Kept) (m : LlxRun) (then : Option Put) (a : LlxAnswer) → IsSound v → Answered v old (Llx m) then (ended.Llx a) → kept.found ≡ set old.kept.found (node_of a) (found_of a) → ((then ≡ None) ⊎ ((snap : Snap) → a ≢ LlxSnapshot snap)) → Ends v old (record old { kept = kept }) (answer_of (ended.Llx a))
+pub ends_llx : (v : ClientView) (old : Client) (kept : Kept) (m : LlxRun) (then : Option Put) (a : LlxAnswer) → IsSound v → Answered v old (Llx m) then (ended.Llx a) → kept.found ≡ set old.kept.found (node_of a) (found_of a) → ((then ≡ None) ⊎ ((snap : Snap) → a ≢ LlxSnapshot snap)) → Ends v old (record old { kept = kept }) (answer_of (ended.Llx a))
 ends_llx v old kept m then a sound x e d =
     let o = llx_outcome v old x.works.command m then a d x.works.run_of.1 x in
     record {

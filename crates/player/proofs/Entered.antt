@@ -13,21 +13,17 @@ use Rattle.arena.specs.Lawful.{Lawful, IsWin}
 use Rattle.arena.specs.Log.{Entry as Entered, log, has}
 use Rattle.arena.specs.Machines.{Call as MachineCall, IsRun, IsTold}
 use Rattle.std.proofs.lemmas.Bool.{or_left}
-use Rattle.arena.proofs.Bools.{or_right, or_split}
+use Rattle.arena.proofs.Lemmas.{or_right, or_split}
 use Rattle.histories.proofs.Lemmas.{UpdateWins, facts_before, update_is_first, update_win}
-use Rattle.prims.specs.Cells.{allows_all}
-use Rattle.prims.specs.PutKnown.{put_waits, put_ready}
+use Rattle.prims.specs.Cells.{AllowsAll}
+use Rattle.prims.specs.Put.Known.{PutWaits, PutIsReady}
 use Rattle.prims.specs.Snaps.{IsAmong}
-use Rattle.prims.specs.ScxKnown.{IsEntryAt, update_entry, removed_nodes, nodes_of}
+use Rattle.prims.specs.Scx.Known.{IsEntryAt, update_entry, removed_nodes, nodes_of}
 use Rattle.prims.specs.Snap.{snap_at}
 use Rattle.prims.specs.declared.snap.Snap.{Snap}
 use Rattle.prims.specs.declared.put.PutRun.{PutRun}
-use Rattle.prims.proofs.Alone.{moment_more}
-use Rattle.prims.proofs.PutEntries.{put_full, put_entry, put_entry_then}
-use Rattle.prims.proofs.Planned.{removed_those}
-use Rattle.prims.proofs.Shares.{own_in_hand, next_idle, wins_in_progress}
-use Rattle.prims.proofs.Snapshots.{among}
-use Rattle.script.specs.Part.{is_part}
+use Rattle.prims.proofs.Lemmas.{moment_more, put_full, put_entry, put_entry_then, removed_those, own_in_hand, next_idle, wins_in_progress, among}
+use Rattle.script.specs.Part.{is_subsequence}
 use Rattle.script.specs.Update.{update_cells, update_finalize, update_field, update_value}
 use Rattle.script.specs.declared.command.Command.{Command}
 use Rattle.script.specs.declared.command.Command.TheVariants.{Llx as LlxOf, Scx as ScxOf, Vlx as VlxOf, Set as SetOf}
@@ -41,9 +37,9 @@ use Rattle.record.specs.Answers.{IsUnchanged, AreUnchanged}
 use Rattle.record.specs.Updates.{IsEntryOver}
 use Rattle.record.specs.CommandRules.{IsEntryFor}
 use Rattle.player.proofs.Shapes.{as_cells}
-use Rattle.player.specs.Allowed.{played_allows}
-use Rattle.player.specs.RunKnown.{run_waits, run_ready, run_keeps, run_made}
-use Rattle.player.specs.View.{View, IsSound, IsPutOf, IsScxOf, HaveMoments, no_hand, Stands, Rests, Works, Waits, machine_call, command_of}
+use Rattle.player.specs.Allowed.{PlayedAllows}
+use Rattle.player.specs.RunKnown.{RunWaits, RunIsReady, run_keeps, run_made}
+use Rattle.player.specs.ClientView.{ClientView, IsSound, IsPutOf, IsScxOf, HaveMoments, no_hand, IsClientState, Rests, Works, Waits, machine_call, command_of}
 use Rattle.player.proofs.Ends.{has_nodes}
 use Rattle.player.proofs.Snapshots.{snap_there}
 use Rattle.player.proofs.Views.{own_row, step_sound}
@@ -61,12 +57,12 @@ contained [] n e = cc
 contained (y ∷ ys) n e = ⊎_elim (λ q. (0, omega arith, eqb-true y n q)) (λ q. let x = contained ys n q in (suc x.0, omega (arith, x.1), x.2)) (or_split (eqb y n) (has ys n) e)
 
 -- a part of a list has only what the list has
-part_inside : (part whole : List ℕ) (n : ℕ) → is_part part whole ≡ true → has part n ≡ true → has whole n ≡ true
+part_inside : (part whole : List ℕ) (n : ℕ) → is_subsequence part whole ≡ true → has part n ≡ true → has whole n ≡ true
 part_inside [] whole n p e = cc
 part_inside (x ∷ part) [] n p e = cc
 part_inside (x ∷ part) (y ∷ whole) n p e = go (eqb x y) refl p (λ q. part_inside part whole n q) (λ q. part_inside (x ∷ part) whole n q e)
   where
-    go : (b : Bool) → eqb x y ≡ b → cond b (is_part part whole) (is_part (x ∷ part) whole) ≡ true → (is_part part whole ≡ true → has part n ≡ true → has whole n ≡ true) → (is_part (x ∷ part) whole ≡ true → has whole n ≡ true) → has (y ∷ whole) n ≡ true
+    go : (b : Bool) → eqb x y ≡ b → cond b (is_subsequence part whole) (is_subsequence (x ∷ part) whole) ≡ true → (is_subsequence part whole ≡ true → has part n ≡ true → has whole n ≡ true) → (is_subsequence (x ∷ part) whole ≡ true → has whole n ≡ true) → has (y ∷ whole) n ≡ true
     go false q r f g = or_right (eqb y n) (has whole n) (g r)
     go true q r f g = ⊎_elim (λ z. or_left (eqb y n) (has whole n) (eq-eqb y n (sym (eqb-true x y q) ∙ eqb-true x n z))) (λ z. or_right (eqb y n) (has whole n) (f r z)) (or_split (eqb x n) (has part n) e)
 
@@ -97,7 +93,7 @@ removes_those m number nodes removed field x n p inside = same_test _ _ to from
 -- What the entry says
 
 -- the entry of a row is of the client's call, which it does
-pub record IsEntryFrom (v : View) (c : Client) (row : Row) (s : ℕ) : Type 0 where
+pub record IsEntryFrom (v : ClientView) (c : Client) (row : Row) (s : ℕ) : Type 0 where
   pub first : v.won ≡ None
   pub number : c.number ≡ v.answered
   pub command : Command
@@ -111,14 +107,14 @@ pub record IsEntryFrom (v : View) (c : Client) (row : Row) (s : ℕ) : Type 0 wh
   pub does : IsEntryFor v.layout c.pass.0 v.past v.start v.linked entered command
 
 -- the entry of an SCX, and what its SCX-record says of its call
-record IsOfPut (v : View) (c : Client) (row : Row) (m : PutRun) (start : History) (is_pass : c.pass.0 < v.layout.passes) : Type 0 where
+record IsOfPut (v : ClientView) (c : Client) (row : Row) (m : PutRun) (start : History) (is_pass : c.pass.0 < v.layout.passes) : Type 0 where
   at : IsEntryAt (machine_call v c is_pass start) (row ⊳ v.past) m.scx row v.past
   fresh : IsOwnNode v.layout c.pass.0 m.scx.update.fresh.0
   value_is : value v.past (node m.scx.update.fresh.0 Value) ≡ m.value
   empty_fields : (side : Side) → value v.past (child m.scx.update.fresh.0 side) ≡ 0
   called : value v.past (scx m.scx.scx.0 CallWord) ≡ m.scx.call
 
-module _ (v : View) (c : Client) (row : Row) (m : PutRun) (start : History) (is_pass : c.pass.0 < v.layout.passes) (x : IsOfPut v c row m start is_pass) where
+module _ (v : ClientView) (c : Client) (row : Row) (m : PutRun) (start : History) (is_pass : c.pass.0 < v.layout.passes) (x : IsOfPut v c row m start is_pass) where
   over_nodes : (nodes removed : List ℕ) (field : _) (y : ℕ) → ((k : ℕ) → has removed k ≡ true → has nodes k ≡ true) → IsPutOf m c.number nodes removed field y → IsEntryOver v.layout c.pass.0 v.past (update_entry c.pass.0 m.scx) nodes removed field y
   over_nodes nodes removed field y inside p = record {
     members = p.covers;
@@ -152,7 +148,7 @@ module _ (v : View) (c : Client) (row : Row) (m : PutRun) (start : History) (is_
   does (VlxOf cells) p z = absurd p
 
 -- a row that wins wins for the SCX that its owner has in hand
-module _ (v : View) (c : Client) (sound : IsSound v) (row : Row) (s : ℕ) (l : Lawful v.layout (row ⊳ v.past)) (wins : UpdateWins v.past row s) (own : IsOwnScx v.layout c.pass.0 s) where
+module _ (v : ClientView) (c : Client) (sound : IsSound v) (row : Row) (s : ℕ) (l : Lawful v.layout (row ⊳ v.past)) (wins : UpdateWins v.past row s) (own : IsOwnScx v.layout c.pass.0 s) where
   in_progress : IsInProgress v.past s
   in_progress = wins_in_progress v.layout v.past row s l wins
 
@@ -160,7 +156,7 @@ module _ (v : View) (c : Client) (sound : IsSound v) (row : Row) (s : ℕ) (l : 
   is_win = update_win (facts_before v.layout v.past row l) wins
 
   -- without one in hand no update of its wins
-  no_hand_wins : Stands v c (no_hand c.share) → ⊥
+  no_hand_wins : IsClientState v c (no_hand c.share) → ⊥
   no_hand_wins x =
       let same : s ≡ c.share.next_scx = own_in_hand v.layout v.past c.pass.0 s c.share.next_scx sound.lawful x.over own in_progress in
       next_idle v.layout v.past c.pass.0 c.share _ _ sound.lawful x.share (rw same at own) (rw same at in_progress)
@@ -208,7 +204,7 @@ module _ (v : View) (c : Client) (sound : IsSound v) (row : Row) (s : ℕ) (l : 
   rest_wins_not x = no_hand_wins x.stands
 
 -- a row of another client
-pub entry_by_others : (v : View) (c : Client) (q : Running) (row : Row) (s : ℕ) → IsSound v → Waits v c q → IsRun played_allows v.layout (row ⊳ v.past) → row.pass.0 ≢ c.pass.0 → UpdateWins v.past row s → IsOwnScx v.layout c.pass.0 s → IsEntryFrom v c row s
+pub entry_by_others : (v : ClientView) (c : Client) (q : Running) (row : Row) (s : ℕ) → IsSound v → Waits v c q → IsRun PlayedAllows v.layout (row ⊳ v.past) → row.pass.0 ≢ c.pass.0 → UpdateWins v.past row s → IsOwnScx v.layout c.pass.0 s → IsEntryFrom v c row s
 entry_by_others v c q row s sound w run other wins own = from_run v c sound row s run.lawful wins own q.run q.then w.works of_put
   where
     call : MachineCall
@@ -216,30 +212,30 @@ entry_by_others v c q row s sound w run other wins own = from_run v c sound row 
 
     of_put : (m : PutRun) → q.run ≡ Scx m → m.scx.scx.0 ≡ s → IsOfPut v c row m w.works.start w.works.is_pass
     of_put m e same =
-        let before : put_waits allows_all m call v.past q.step = subst (λ (k : Run). run_waits k call v.past q.step) e w.waits in
-        let after : put_waits allows_all m call (row ⊳ v.past) q.step = subst (λ (k : Run). run_waits k call (row ⊳ v.past) q.step) e (run_keeps q.run call v.past q.step row (as_cells v.layout (row ⊳ v.past) run) other w.waits) in
+        let before : PutWaits AllowsAll m call v.past q.step = subst (λ (k : Run). RunWaits k call v.past q.step) e w.waits in
+        let after : PutWaits AllowsAll m call (row ⊳ v.past) q.step = subst (λ (k : Run). RunWaits k call (row ⊳ v.past) q.step) e (run_keeps q.run call v.past q.step row (as_cells v.layout (row ⊳ v.past) run) other w.waits) in
         let win : IsWin v.past row m.scx.scx.0 = rw same (is_win v c sound row s run.lawful wins own) in
         let named : IsNamedScx v.past m.scx.scx.0 = rw same (in_progress v c sound row s run.lawful wins own).named in
-        let y = put_entry allows_all m call (row ⊳ v.past) q.step row v.past run.lawful (inl refl) win after in
-        let z = put_full allows_all m call v.past q.step named before in
+        let y = put_entry AllowsAll m call (row ⊳ v.past) q.step row v.past run.lawful (inl refl) win after in
+        let z = put_full AllowsAll m call v.past q.step named before in
         record { at = y.0; fresh = z.1.own; value_is = y.1; empty_fields = y.2; called = z.0.called }
 
 -- its own row
-pub entry_by_own : (v : View) (c : Client) (q : Running) (s : ℕ) → IsSound v → Waits v c q → UpdateWins v.past (own_row v c q.step) s → IsOwnScx v.layout c.pass.0 s → IsTold q.step.deed (value v.past q.step.word) (value v.past q.step.word) → IsEntryFrom v c (own_row v c q.step) s
+pub entry_by_own : (v : ClientView) (c : Client) (q : Running) (s : ℕ) → IsSound v → Waits v c q → UpdateWins v.past (own_row v c q.step) s → IsOwnScx v.layout c.pass.0 s → IsTold q.step.access (value v.past q.step.word) (value v.past q.step.word) → IsEntryFrom v c (own_row v c q.step) s
 entry_by_own v c q s sound w wins own told = from_run v c sound (own_row v c q.step) s run.lawful wins own q.run q.then w.works of_put
   where
     call : MachineCall
     call = machine_call v c w.works.is_pass w.works.start
 
-    run : IsRun played_allows v.layout (own_row v c q.step ⊳ v.past)
+    run : IsRun PlayedAllows v.layout (own_row v c q.step ⊳ v.past)
     run = step_sound v c q sound w v.won
 
     of_put : (m : PutRun) → q.run ≡ Scx m → m.scx.scx.0 ≡ s → IsOfPut v c (own_row v c q.step) m w.works.start w.works.is_pass
     of_put m e same =
-        let before : put_waits allows_all m call v.past q.step = subst (λ (k : Run). run_waits k call v.past q.step) e w.waits in
-        let after : put_ready allows_all m call (own_row v c q.step ⊳ v.past) (Some (value v.past q.step.word)) = subst (λ (k : Run). run_ready k call (own_row v c q.step ⊳ v.past) (Some (value v.past q.step.word))) e (run_made q.run call v.past q.step (value v.past q.step.word) (as_cells v.layout (own_row v c q.step ⊳ v.past) run) told w.waits) in
+        let before : PutWaits AllowsAll m call v.past q.step = subst (λ (k : Run). RunWaits k call v.past q.step) e w.waits in
+        let after : PutIsReady AllowsAll m call (own_row v c q.step ⊳ v.past) (Some (value v.past q.step.word)) = subst (λ (k : Run). RunIsReady k call (own_row v c q.step ⊳ v.past) (Some (value v.past q.step.word))) e (run_made q.run call v.past q.step (value v.past q.step.word) (as_cells v.layout (own_row v c q.step ⊳ v.past) run) told w.waits) in
         let win : IsWin v.past (own_row v c q.step) m.scx.scx.0 = rw same (is_win v c sound (own_row v c q.step) s run.lawful wins own) in
         let named : IsNamedScx v.past m.scx.scx.0 = rw same (in_progress v c sound (own_row v c q.step) s run.lawful wins own).named in
-        let y = put_entry_then allows_all m call (own_row v c q.step ⊳ v.past) (value v.past q.step.word) (own_row v c q.step) v.past run.lawful (inl refl) win after in
-        let z = put_full allows_all m call v.past q.step named before in
+        let y = put_entry_then AllowsAll m call (own_row v c q.step ⊳ v.past) (value v.past q.step.word) (own_row v c q.step) v.past run.lawful (inl refl) win after in
+        let z = put_full AllowsAll m call v.past q.step named before in
         record { at = y.0; fresh = z.1.own; value_is = y.1; empty_fields = y.2; called = z.0.called }

@@ -1,20 +1,21 @@
-pub mod Shapes
-pub mod Over
-pub mod Puts
-pub mod Views
-pub mod Clients
-pub mod Ends
-pub mod Putting
-pub mod Begins
-pub mod Begun
-pub mod Entered
-pub mod Middles
-pub mod Steps
-pub mod Stands
-pub mod Commands
-pub mod MayMakes
-pub mod Snapshots
-pub mod Winners
-pub mod Plays
-pub mod TurnsMore
-pub mod SameKinds
+mod Shapes
+mod Over
+mod Puts
+mod Views
+mod Clients
+mod Ends
+mod Putting
+mod Begins
+mod Begun
+mod Entered
+mod Middles
+mod Steps
+mod Stands
+mod Commands
+mod MayMakes
+mod Snapshots
+mod Winners
+mod Plays
+mod TurnsMore
+mod SameKinds
+pub mod Lemmas

@@ -21,14 +21,13 @@ use Rattle.histories.proofs.Lemmas.{lawful_row}
 use Rattle.player.proofs.Winners.{tells_won, winner_holds, owner_is, info_kept, call_kept}
 use Rattle.player.specs.declared.player.Player.{Player}
 use Rattle.arena.specs.Words.{same_word, info, scx as scx_word}
-use Rattle.arena.specs.PlainWords.{Contents, held, IsChanged}
+use Rattle.arena.specs.PlainWords.{Contents, word_at, IsChanged}
 use Rattle.arena.specs.History.{History, ◌⊳◌, value}
 use Rattle.arena.specs.Machines.{IsRun}
-use Rattle.arena.proofs.SameWords.{word_same, word_apart}
-use Rattle.arena.proofs.Values.{value_at, value_other}
+use Rattle.arena.proofs.Lemmas.{word_same, word_apart, value_at, value_other}
 use Rattle.script.specs.declared.command.Command.{Command}
 use Rattle.player.proofs.Commands.{none_left, place_more, number_small}
-use Rattle.player.specs.Allowed.{played_allows}
+use Rattle.player.specs.Allowed.{PlayedAllows}
 use Rattle.script.specs.declared.command.Call.{Call}
 use Rattle.record.specs.declared.record.Line.{Line}
 use Rattle.record.specs.declared.record.Line.TheVariants.{Step, Log, Reply as ReplyLine}
@@ -43,24 +42,24 @@ use Rattle.player.specs.Lines.{newest}
 use Rattle.record.specs.Turns.{history, turns, entries, answered, begin, start, steps, won, last_client, entry_of, entry_owed, entry_at}
 use Rattle.record.specs.Commands.{next_command}
 use Rattle.record.specs.Linked.{linked}
-use Rattle.record.specs.Answers.{moment_of, HasTakenOne, IsEntered}
+use Rattle.record.specs.Answers.{moment_of, HasTakenOne, HasItsEntry}
 use Rattle.record.specs.CommandRules.{IsAnswerAtOnce, IsRight}
 use Rattle.record.specs.Replies.{IsFitting, IsReply}
 use Rattle.record.specs.LawfulRun.{OwesNothing, IsNext, AreLines}
-use Rattle.player.specs.View.{View, view, no_hand, linked_by, Rests, IsClient, IsBehind, Refuses}
-use Rattle.player.specs.Played.{IsSoFar, AreOthers, IsTurnOf, IsBetween, IsMade, IsEnd, AreWins}
+use Rattle.player.specs.ClientView.{ClientView, client_view, no_hand, linked_by, Rests, IsClient, IsAtNextCall, Refuses}
+use Rattle.player.specs.BetweenTurns.{IsLawfulSoFar, AreOthers, IsTurnOf, AreBetweenTurns, IsMade, IsEnd, AreWins}
 use Rattle.player.proofs.Views.{TellsWon, client_by_others, stands_from}
 use Rattle.player.proofs.Begun.{some_turn, start_kept, begin_within, won_within}
 use Rattle.player.proofs.Ends.{entered_none}
 
 -- Others
 
-pub others_step : (lay : Layout) (calls : List Call) (clients : List Client) (lines : List Line) (i number : ℕ) (row : Row) → IsRun played_allows lay (history lay.mode lines) → IsRun played_allows lay (row ⊳ history lay.mode lines) → row.pass.0 ≡ i → number ≡ suc (turns lines) → AreLines lay calls lines → AreOthers lay calls clients lines i → AreOthers lay calls clients (Step (Made number row) ∷ lines) i
+pub others_step : (lay : Layout) (calls : List Call) (clients : List Client) (lines : List Line) (i number : ℕ) (row : Row) → IsRun PlayedAllows lay (history lay.mode lines) → IsRun PlayedAllows lay (row ⊳ history lay.mode lines) → row.pass.0 ≡ i → number ≡ suc (turns lines) → AreLines lay calls lines → AreOthers lay calls clients lines i → AreOthers lay calls clients (Step (Made number row) ∷ lines) i
 others_step lay calls clients lines i number row sound run is turn so_far x j c d get =
     let y = x j c d get in
-    let tells = subst (λ (k : ℕ). TellsWon (view lay calls lines j) k row number (won lay (Step (Made number row) ∷ lines) j)) (sym y.0) (tells_won lay lines number row run.lawful calls j) in (
+    let tells = subst (λ (k : ℕ). TellsWon (client_view lay calls lines j) k row number (won lay (Step (Made number row) ∷ lines) j)) (sym y.0) (tells_won lay lines number row run.lawful calls j) in (
       y.0,
-      rw (ne_eqb row.pass.0 j (λ e. d (sym e ∙ is))) (client_by_others (view lay calls lines j) c row number (cond (is_some (begin lines j)) (start lay.mode lines j) (row ⊳ history lay.mode lines)) (won lay (Step (Made number row) ∷ lines) j) sound run tells (λ e. d (sym y.0 ∙ sym e ∙ is)) (begin lines j)
+      rw (ne_eqb row.pass.0 j (λ e. d (sym e ∙ is))) (client_by_others (client_view lay calls lines j) c row number (cond (is_some (begin lines j)) (start lay.mode lines j) (row ⊳ history lay.mode lines)) (won lay (Step (Made number row) ∷ lines) j) sound run tells (λ e. d (sym y.0 ∙ sym e ∙ is)) (begin lines j)
           (λ e. rw e refl) (λ k e. (rw e refl, let late = begin_within lay calls lines j k so_far e in omega (arith, turn))) y.1),
     )
 
@@ -112,7 +111,7 @@ turn_changed lay calls words clients lines old new same x = record {
 }
 
 -- a turn begins and ends between two turns
-pub turn_begins : (lay : Layout) (calls : List Call) (words : Contents) (clients : List Client) (lines : List Line) (i : ℕ) (c : Client) → slice_get clients i ≡ Some c → IsBetween lay calls words clients lines → IsTurnOf lay calls words clients lines c
+pub turn_begins : (lay : Layout) (calls : List Call) (words : Contents) (clients : List Client) (lines : List Line) (i : ℕ) (c : Client) → slice_get clients i ≡ Some c → AreBetweenTurns lay calls words clients lines → IsTurnOf lay calls words clients lines c
 turn_begins lay calls words clients lines i c get x =
     let y = x.each i c get in
     record { so_far = x.so_far; others = λ j d n g. x.each j d g; own = subst (λ (k : ℕ). slice_get clients k ≡ Some c) (sym y.0) get }
@@ -120,10 +119,10 @@ turn_begins lay calls words clients lines i c get x =
 some_client : (a b : Client) → Some a ≡ Some b → a ≡ b
 some_client a b e = cc
 
-pub turn_ends : (lay : Layout) (calls : List Call) (words : Contents) (clients : List Client) (lines : List Line) (c : Client) → OwesNothing lay calls lines → IsClient (view lay calls lines c.pass.0) (begin lines c.pass.0) c → IsTurnOf lay calls words clients lines c → IsBetween lay calls words clients lines
+pub turn_ends : (lay : Layout) (calls : List Call) (words : Contents) (clients : List Client) (lines : List Line) (c : Client) → OwesNothing lay calls lines → IsClient (client_view lay calls lines c.pass.0) (begin lines c.pass.0) c → IsTurnOf lay calls words clients lines c → AreBetweenTurns lay calls words clients lines
 turn_ends lay calls words clients lines c settled is x = record { so_far = x.so_far; settled = settled; each = λ j d get. go j d get (ℕ_discrete j c.pass.0) }
   where
-    go : (j : ℕ) (d : Client) → slice_get clients j ≡ Some d → Dec (j ≡ c.pass.0) → (d.pass.0 ≡ j) × IsClient (view lay calls lines j) (begin lines j) d
+    go : (j : ℕ) (d : Client) → slice_get clients j ≡ Some d → Dec (j ≡ c.pass.0) → (d.pass.0 ≡ j) × IsClient (client_view lay calls lines j) (begin lines j) d
     go j d get (no n) = x.others j d n get
     go j d get (yes e) =
         let same : d ≡ c = some_client d c (sym get ∙ ap (λ (k : ℕ). slice_get clients k) e ∙ x.own) in
@@ -132,12 +131,12 @@ turn_ends lay calls words clients lines c settled is x = record { so_far = x.so_
 -- Lines
 
 -- a line that no client waits for is written down
-pub so_far_same : (lay : Layout) (calls : List Call) (words : Contents) (lines : List Line) (line : Line) → history lay.mode (line ∷ lines) ≡ history lay.mode lines → IsNext lay calls lines line → IsSoFar lay calls words lines → IsSoFar lay calls words (line ∷ lines)
+pub so_far_same : (lay : Layout) (calls : List Call) (words : Contents) (lines : List Line) (line : Line) → history lay.mode (line ∷ lines) ≡ history lay.mode lines → IsNext lay calls lines line → IsLawfulSoFar lay calls words lines → IsLawfulSoFar lay calls words (line ∷ lines)
 unfolding AreLines
 so_far_same lay calls words lines line e next x = record { layout = x.layout; holds = λ w i. x.holds w i ∙ ap (λ (h : History). value h w) (sym e); sound = rw e x.sound; in_order = (x.in_order, next) }
 
 -- a step of the client: the words change as the row says
-pub step_made : (lay : Layout) (calls : List Call) (old new : Contents) (lines : List Line) (number : ℕ) (row : Row) → IsChanged old new row.word row.after → IsRun played_allows lay (row ⊳ history lay.mode lines) → IsNext lay calls lines (Step (Made number row)) → IsSoFar lay calls old lines → IsSoFar lay calls new (Step (Made number row) ∷ lines)
+pub step_made : (lay : Layout) (calls : List Call) (old new : Contents) (lines : List Line) (number : ℕ) (row : Row) → IsChanged old new row.word row.after → IsRun PlayedAllows lay (row ⊳ history lay.mode lines) → IsNext lay calls lines (Step (Made number row)) → IsLawfulSoFar lay calls old lines → IsLawfulSoFar lay calls new (Step (Made number row) ∷ lines)
 unfolding AreLines
 step_made lay calls old new lines number row changed run next x = record {
   layout = changed.layout ∙ x.layout;
@@ -146,16 +145,16 @@ step_made lay calls old new lines number row changed run next x = record {
   in_order = (x.in_order, next);
 }
   where
-    go : (w : Word) → IsWord lay w → (b : Bool) → same_word row.word w ≡ b → held new w ≡ value (row ⊳ history lay.mode lines) w
-    go w i true e = ap (λ (u : Word). held new u) (sym (word_same row.word w e)) ∙ changed.changed ∙ sym (value_at row (history lay.mode lines) w (word_same row.word w e))
+    go : (w : Word) → IsWord lay w → (b : Bool) → same_word row.word w ≡ b → word_at new w ≡ value (row ⊳ history lay.mode lines) w
+    go w i true e = ap (λ (u : Word). word_at new u) (sym (word_same row.word w e)) ∙ changed.changed ∙ sym (value_at row (history lay.mode lines) w (word_same row.word w e))
     go w i false e = changed.others w (rw x.layout i) (word_apart row.word w e) ∙ x.holds w i ∙ sym (value_other row (history lay.mode lines) w e)
 
 -- The turn of a client with no call left
-pub finished_turn : (lay : Layout) (calls : List Call) (words : Contents) (clients : List Client) (lines : List Line) (c : Client) (number : ℕ) (pass : PassNo) → OwesNothing lay calls lines → IsTurnOf lay calls words clients lines c → Rests (view lay calls lines c.pass.0) c → c.next ≡ None → number ≡ suc (turns lines) → pass ≡ c.pass → IsBetween lay calls words clients (Step (Idle number pass) ∷ lines)
+pub finished_turn : (lay : Layout) (calls : List Call) (words : Contents) (clients : List Client) (lines : List Line) (c : Client) (number : ℕ) (pass : PassNo) → OwesNothing lay calls lines → IsTurnOf lay calls words clients lines c → Rests (client_view lay calls lines c.pass.0) c → c.next ≡ None → number ≡ suc (turns lines) → pass ≡ c.pass → AreBetweenTurns lay calls words clients (Step (Idle number pass) ∷ lines)
 finished_turn lay calls words clients lines c number pass settled x r none n is =
     turn_ends lay calls words clients (Step (Idle number pass) ∷ lines) c
     record { entry = refl; reply = λ y. let a = y.1 in let b = over in cc }
-    (inl (record { stands = stands_from (view lay calls lines c.pass.0) c _ _ (no_hand c.share) r.stands; none = r.none }, inl none))
+    (inl (record { stands = stands_from (client_view lay calls lines c.pass.0) c _ _ (no_hand c.share) r.stands; none = r.none }, inl none))
     record {
       so_far = so_far_same lay calls words lines (Step (Idle number pass)) refl (settled, record { is_pass = rw (ap (λ (p : PassNo). p.0) is) r.stands.is_pass; in_turn = n; idle = inl over }) x.so_far;
       others = others_idle lay calls clients lines c.pass.0 number pass (ap (λ (p : PassNo). p.0) is) x.others;
@@ -168,7 +167,7 @@ finished_turn lay calls words clients lines c number pass settled x r none n is 
 -- A reply
 
 -- the client stands at its next call
-behind : (lay : Layout) (calls : List Call) (lines : List Line) (old new : Client) (command : Command) (said : ℕ → Option History) → length calls ≤ 65536 → Rests (record (view lay calls lines old.pass.0) { linked = said }) old → next_command calls lines old.pass.0 ≡ Some command → IsBehind calls old new → Rests (record { layout = lay; calls = calls; past = history lay.mode lines; answered = suc (answered lines old.pass.0); start = history lay.mode lines; steps = 0; won = None; linked = said }) new
+behind : (lay : Layout) (calls : List Call) (lines : List Line) (old new : Client) (command : Command) (said : ℕ → Option History) → length calls ≤ 65536 → Rests (record (client_view lay calls lines old.pass.0) { linked = said }) old → next_command calls lines old.pass.0 ≡ Some command → IsAtNextCall calls old new → Rests (record { layout = lay; calls = calls; past = history lay.mode lines; answered = suc (answered lines old.pass.0); start = history lay.mode lines; steps = 0; won = None; linked = said }) new
 behind lay calls lines old new command said few r is b = go old.next refl
   where
     go : (next : Option ℕ) → old.next ≡ next → Rests (record { layout = lay; calls = calls; past = history lay.mode lines; answered = suc (answered lines old.pass.0); start = history lay.mode lines; steps = 0; won = None; linked = said }) new
@@ -198,19 +197,19 @@ behind lay calls lines old new command said few r is b = go old.next refl
 -- what is known of a call that has ended, but for its reply
 pub record IsOver (lay : Layout) (calls : List Call) (lines : List Line) (i : ℕ) (c : Client) (command : Command) (answer : Answer) : Type 0 where
   pub is : next_command calls lines i ≡ Some command
-  pub rests : Rests (record (view lay calls lines i) { linked = linked_by (view lay calls lines i) command answer }) c
+  pub rests : Rests (record (client_view lay calls lines i) { linked = linked_by (client_view lay calls lines i) command answer }) c
   pub number : c.number ≡ answered lines i
   pub began : begin lines i ≡ Some c.begin
   pub last : last_client lines ≡ Some i
   pub owed : entry_owed lay lines ≡ None
   pub fits : IsFitting lines command answer
   pub right : IsRight lay i (history lay.mode lines) (start lay.mode lines i) (linked calls lay.mode lines i) command answer
-  pub entry : IsEntered answer (won lay lines i)
+  pub entry : HasItsEntry answer (won lay lines i)
   pub took : HasTakenOne lay i (history lay.mode lines) (start lay.mode lines i)
   pub late : (turn : ℕ) → won lay lines i ≡ Some turn → c.begin ≤ turn
 
 -- what the lines say to the client once its reply is written down
-view_replied : (lay : Layout) (calls : List Call) (lines : List Line) (reply : Reply) (command : Command) (c : ℕ) → reply.client.0 ≡ c → next_command calls lines c ≡ Some command → (let v : View = record { layout = lay; calls = calls; past = history lay.mode lines; answered = suc (answered lines c); start = history lay.mode lines; steps = 0; won = None; linked = linked_by (view lay calls lines c) command reply.answer } in v) ≡ view lay calls (ReplyLine reply ∷ lines) c
+view_replied : (lay : Layout) (calls : List Call) (lines : List Line) (reply : Reply) (command : Command) (c : ℕ) → reply.client.0 ≡ c → next_command calls lines c ≡ Some command → (let v : ClientView = record { layout = lay; calls = calls; past = history lay.mode lines; answered = suc (answered lines c); start = history lay.mode lines; steps = 0; won = None; linked = linked_by (client_view lay calls lines c) command reply.answer } in v) ≡ client_view lay calls (ReplyLine reply ∷ lines) c
 view_replied lay calls lines reply command c is next = λ i. record {
   layout = lay;
   calls = calls;
@@ -225,11 +224,11 @@ view_replied lay calls lines reply command c is next = λ i. record {
     here : eqb reply.client.0 c ≡ true
     here = eq-eqb reply.client.0 c is
 
-    said : (n : ℕ) → linked_by (view lay calls lines c) command reply.answer n ≡ linked calls lay.mode (ReplyLine reply ∷ lines) c n
+    said : (n : ℕ) → linked_by (client_view lay calls lines c) command reply.answer n ≡ linked calls lay.mode (ReplyLine reply ∷ lines) c n
     said n = rw (here, next) refl
 
 -- the moment of an answer is that of the lines
-moment_same : (answer : Answer) (first last : ℕ) (said won : Option ℕ) → IsEntered answer won → ((turn : ℕ) → won ≡ Some turn → said ≡ Some turn) → moment_of answer first last said ≡ moment_of answer first last won
+moment_same : (answer : Answer) (first last : ℕ) (said won : Option ℕ) → HasItsEntry answer won → ((turn : ℕ) → won ≡ Some turn → said ≡ Some turn) → moment_of answer first last said ≡ moment_of answer first last won
 moment_same Done first last said (Some turn) x f = f turn refl
 moment_same Done first last said None x f = absurd x
 moment_same (Snapshot left right) first last said won x f = refl
@@ -254,7 +253,7 @@ moment_within (Unlinked node) first last m won i f e = cc
 moment_within (Full what left) first last m won i f e = cc
 
 -- the reply to a call that has ended
-pub replied : (lay : Layout) (calls : List Call) (words : Contents) (clients : List Client) (lines : List Line) (old new : Client) (answer : Answer) (said : Option ℕ) (reply : Reply) (command : Command) (number : ℕ) → length calls ≤ 65536 → IsTurnOf lay calls words clients lines old → IsOver lay calls lines old.pass.0 old command answer → ((turn : ℕ) → won lay lines old.pass.0 ≡ Some turn → said ≡ Some turn) → number ≡ turns lines → IsEnd calls old new number answer said reply → IsBetween lay calls words (set clients old.pass.0 new) (ReplyLine reply ∷ lines)
+pub replied : (lay : Layout) (calls : List Call) (words : Contents) (clients : List Client) (lines : List Line) (old new : Client) (answer : Answer) (said : Option ℕ) (reply : Reply) (command : Command) (number : ℕ) → length calls ≤ 65536 → IsTurnOf lay calls words clients lines old → IsOver lay calls lines old.pass.0 old command answer → ((turn : ℕ) → won lay lines old.pass.0 ≡ Some turn → said ≡ Some turn) → number ≡ turns lines → IsEnd calls old new number answer said reply → AreBetweenTurns lay calls words (set clients old.pass.0 new) (ReplyLine reply ∷ lines)
 replied lay calls words clients lines old new answer said reply command number few x o wins n e =
     turn_ends lay calls words (set clients old.pass.0 new) (ReplyLine reply ∷ lines) new
     record { entry = refl; reply = λ y. y }
@@ -285,11 +284,11 @@ replied lay calls words clients lines old new answer said reply command number f
     here : eqb reply.client.0 new.pass.0 ≡ true
     here = eq-eqb reply.client.0 new.pass.0 to_new
 
-    rests : Rests (view lay calls (ReplyLine reply ∷ lines) new.pass.0) new
+    rests : Rests (client_view lay calls (ReplyLine reply ∷ lines) new.pass.0) new
     rests =
-        subst (λ (k : ℕ). Rests (view lay calls (ReplyLine reply ∷ lines) k) new) (ap (λ (p : PassNo). p.0) (sym pass))
-        (subst (λ (v : View). Rests v new) (view_replied lay calls lines reply command old.pass.0 client o.is)
-        (behind lay calls lines old new command (linked_by (view lay calls lines old.pass.0) command reply.answer) few (rw e.answers o.rests) o.is e.behind))
+        subst (λ (k : ℕ). Rests (client_view lay calls (ReplyLine reply ∷ lines) k) new) (ap (λ (p : PassNo). p.0) (sym pass))
+        (subst (λ (v : ClientView). Rests v new) (view_replied lay calls lines reply command old.pass.0 client o.is)
+        (behind lay calls lines old new command (linked_by (client_view lay calls lines old.pass.0) command reply.answer) few (rw e.answers o.rests) o.is e.behind))
 
     begins : old.begin ≤ turns lines
     begins = begin_within lay calls lines old.pass.0 old.begin x.so_far.in_order o.began
@@ -313,17 +312,17 @@ replied lay calls words clients lines old new answer said reply command number f
       took = subst (λ (k : ℕ). HasTakenOne lay k (history lay.mode lines) (start lay.mode lines k)) (sym client) o.took;
       moment = subst (λ (k : ℕ). reply.moment ≡ moment_of reply.answer reply.begin reply.end (won lay lines k)) (sym client) moment;
       within = within;
-      entry = subst (λ (k : ℕ). IsEntered reply.answer (won lay lines k)) (sym client) (rw e.answers o.entry);
+      entry = subst (λ (k : ℕ). HasItsEntry reply.answer (won lay lines k)) (sym client) (rw e.answers o.entry);
     }
 
 -- The turn of a client whose call is refused
 
 -- a refusal in place of a first step leaves the snapshots, and is no done SCX
-record IsRefusal (v : View) (command : Command) (answer : Answer) : Type 0 where
+record IsRefusal (v : ClientView) (command : Command) (answer : Answer) : Type 0 where
   leaves : (n : ℕ) → linked_by v command answer n ≡ v.linked n
   not_done : answer ≡ Done → ⊥
 
-is_refusal : (v : View) (command : Command) (answer : Answer) → IsAnswerAtOnce command answer → IsRefusal v command answer
+is_refusal : (v : ClientView) (command : Command) (answer : Answer) → IsAnswerAtOnce command answer → IsRefusal v command answer
 is_refusal v (ScxOf update) (Unlinked node) x = record { leaves = λ n. refl; not_done = λ e. cc }
 is_refusal v (ScxOf update) (Full what left) x = record { leaves = λ n. refl; not_done = λ e. cc }
 is_refusal v (VlxOf cells) (Unlinked node) x = record { leaves = λ n. refl; not_done = λ e. cc }
@@ -345,7 +344,7 @@ is_refusal v (VlxOf cells) (Full what left) x = absurd x
 is_refusal v (LlxOf cell) answer x = absurd x
 is_refusal v (SetOf field value) answer x = absurd x
 
-pub refused_turn : (lay : Layout) (calls : List Call) (words : Contents) (clients : List Client) (lines : List Line) (c new : Client) (number : ℕ) (pass : PassNo) (answer : Answer) (said : Option ℕ) (reply : Reply) → length calls ≤ 65536 → OwesNothing lay calls lines → IsTurnOf lay calls words clients lines c → Refuses (view lay calls lines c.pass.0) c answer → begin lines c.pass.0 ≡ None → c.begin ≡ number → number ≡ suc (turns lines) → pass ≡ c.pass → IsEnd calls c new number answer said reply → IsBetween lay calls words (set clients c.pass.0 new) (ReplyLine reply ∷ Step (Idle number pass) ∷ lines)
+pub refused_turn : (lay : Layout) (calls : List Call) (words : Contents) (clients : List Client) (lines : List Line) (c new : Client) (number : ℕ) (pass : PassNo) (answer : Answer) (said : Option ℕ) (reply : Reply) → length calls ≤ 65536 → OwesNothing lay calls lines → IsTurnOf lay calls words clients lines c → Refuses (client_view lay calls lines c.pass.0) c answer → begin lines c.pass.0 ≡ None → c.begin ≡ number → number ≡ suc (turns lines) → pass ≡ c.pass → IsEnd calls c new number answer said reply → AreBetweenTurns lay calls words (set clients c.pass.0 new) (ReplyLine reply ∷ Step (Idle number pass) ∷ lines)
 refused_turn lay calls words clients lines c new number pass answer said reply few settled x r unbegun begins n is e =
     replied lay calls words clients (Step (Idle number pass) ∷ lines) c new answer said reply r.command number few
     record {
@@ -355,8 +354,8 @@ refused_turn lay calls words clients lines c new number pass answer said reply f
     }
     record {
       is = r.is;
-      rests = subst (λ (l : ℕ → Option History). Rests (record (view lay calls (Step (Idle number pass) ∷ lines) c.pass.0) { linked = l }) c) (λ k m. sym (refusal.leaves m) k)
-          record { stands = stands_from (view lay calls lines c.pass.0) c _ _ (no_hand c.share) r.rests.stands; none = r.rests.none };
+      rests = subst (λ (l : ℕ → Option History). Rests (record (client_view lay calls (Step (Idle number pass) ∷ lines) c.pass.0) { linked = l }) c) (λ k m. sym (refusal.leaves m) k)
+          record { stands = stands_from (client_view lay calls lines c.pass.0) c _ _ (no_hand c.share) r.rests.stands; none = r.rests.none };
       number = r.rests.stands.number;
       began = rw (eq-eqb pass.0 c.pass.0 is0) (ap (λ (k : ℕ). Some k) (rw unbegun (sym begins)));
       last = ap (λ (k : ℕ). Some k) is0;
@@ -372,8 +371,8 @@ refused_turn lay calls words clients lines c new number pass answer said reply f
     is0 : pass.0 ≡ c.pass.0
     is0 = ap (λ (p : PassNo). p.0) is
 
-    refusal : IsRefusal (view lay calls lines c.pass.0) r.command answer
-    refusal = is_refusal (view lay calls lines c.pass.0) r.command answer r.refusal
+    refusal : IsRefusal (client_view lay calls lines c.pass.0) r.command answer
+    refusal = is_refusal (client_view lay calls lines c.pass.0) r.command answer r.refusal
 
     never : (turn : ℕ) → won lay lines c.pass.0 ≡ Some turn → (X : Type 0) → X
     never turn w X = absurd (let none : won lay lines c.pass.0 ≡ None = r.unwon in cc)
@@ -410,23 +409,23 @@ wins_step lay lines pushed after number passes row old new many line is changed 
 
 -- The entry of the newest step
 
-made_row : (lay : Layout) (calls : List Call) (words : Contents) (older : List Line) (number : ℕ) (row : Row) → IsSoFar lay calls words (Step (Made number row) ∷ older) → IsLawful lay (history lay.mode older) row
+made_row : (lay : Layout) (calls : List Call) (words : Contents) (older : List Line) (number : ℕ) (row : Row) → IsLawfulSoFar lay calls words (Step (Made number row) ∷ older) → IsLawful lay (history lay.mode older) row
 made_row lay calls words older number row x = lawful_row lay (history lay.mode older) row x.sound.lawful
 
 -- its word is one of the table, and so is the info of its node
 pub made_info : (p : Player) (number : ℕ) (row : Row) (n : NodeNo) (part : NodeWord) → IsMade p number row → row.word ≡ Node n part → n.0 < all_nodes p.words.layout
 made_info p number row n part m e =
-    let x : IsSoFar p.script.layout p.script.calls.items p.words (Step (Made number row) ∷ m.older) = rw (sym m.lines) m.so_far in
+    let x : IsLawfulSoFar p.script.layout p.script.calls.items p.words (Step (Made number row) ∷ m.older) = rw (sym m.lines) m.so_far in
     let y : IsWord p.script.layout row.word = (made_row p.script.layout p.script.calls.items p.words m.older number row x).word in
     rw x.layout (rw e at y)
 
 -- the info of the field of an update that has won names an SCX-record of the table
-pub made_winner : (p : Player) (number : ℕ) (row : Row) (n : NodeNo) (side : Side) → IsMade p number row → row.kind ≡ Update → row.before ≢ row.after → row.word ≡ Node n (Child side) → (0 < held p.words (info n.0)) × (held p.words (info n.0) < all_scx p.script.layout)
+pub made_winner : (p : Player) (number : ℕ) (row : Row) (n : NodeNo) (side : Side) → IsMade p number row → row.kind ≡ Update → row.before ≢ row.after → row.word ≡ Node n (Child side) → (0 < word_at p.words (info n.0)) × (word_at p.words (info n.0) < all_scx p.script.layout)
 made_winner p number row n side m kind changed word =
-    let x : IsSoFar p.script.layout p.script.calls.items p.words (Step (Made number row) ∷ m.older) = rw (sym m.lines) m.so_far in
+    let x : IsLawfulSoFar p.script.layout p.script.calls.items p.words (Step (Made number row) ∷ m.older) = rw (sym m.lines) m.so_far in
     let w = winner_holds p.script.layout (history p.script.layout.mode m.older) row n.0 side x.sound.lawful kind changed word in
     let y : IsWord p.script.layout row.word = (made_row p.script.layout p.script.calls.items p.words m.older number row x).word in
-    let same : held p.words (info n.0) ≡ value (history p.script.layout.mode m.older) (info n.0) = x.holds (info n.0) (rw word at y) ∙ info_kept p.script.layout (history p.script.layout.mode m.older) row n.0 n.0 side word in
+    let same : word_at p.words (info n.0) ≡ value (history p.script.layout.mode m.older) (info n.0) = x.holds (info n.0) (rw word at y) ∙ info_kept p.script.layout (history p.script.layout.mode m.older) row n.0 n.0 side word in
     rw same (let d = w.0 in omega arith, w.1)
 
 -- equal parts make equal entries
@@ -434,7 +433,7 @@ same_entry : (place place' number scx scx' call call' owner' : ℕ) (client : Pa
 same_entry place place' number scx scx' call call' owner' client p s o c = rw (p, s, o, c) refl
 
 -- what the player reads of a winning update is its entry
-pub made_entry : (p : Player) (number : ℕ) (row : Row) (n : NodeNo) (side : Side) (place scx call : ℕ) (client : PassNo) → IsMade p number row → row.kind ≡ Update → row.before ≢ row.after → row.word ≡ Node n (Child side) → place ≡ suc (entries (newest p.lines)) → scx ≡ held p.words (info n.0) → call ≡ held p.words (scx_word scx CallWord) → first_scx p.script.layout client.0 ≤ scx → scx < first_scx p.script.layout client.0 + p.script.layout.scx → Some (record { place = place; step = number; scx = record { 0 = scx }; client = client; call = call }) ≡ entry_owed p.script.layout (newest p.lines)
+pub made_entry : (p : Player) (number : ℕ) (row : Row) (n : NodeNo) (side : Side) (place scx call : ℕ) (client : PassNo) → IsMade p number row → row.kind ≡ Update → row.before ≢ row.after → row.word ≡ Node n (Child side) → place ≡ suc (entries (newest p.lines)) → scx ≡ word_at p.words (info n.0) → call ≡ word_at p.words (scx_word scx CallWord) → first_scx p.script.layout client.0 ≤ scx → scx < first_scx p.script.layout client.0 + p.script.layout.scx → Some (record { place = place; step = number; scx = record { 0 = scx }; client = client; call = call }) ≡ entry_owed p.script.layout (newest p.lines)
 made_entry p number row n side place scx call client m kind changed word pl sc ca from below =
     rw m.lines (same_entry place (suc (entries m.older)) number scx (value h (info n.0)) call (value h (scx_word (value h (info n.0)) CallWord)) (owner p.script.layout (value h (info n.0))) client
     (rw m.lines at pl) holder (rw (sym holder) (owner_is p.script.layout scx client.0 from below)) called ∙ sym owed)
@@ -442,7 +441,7 @@ made_entry p number row n side place scx call client m kind changed word pl sc c
     h : History
     h = history p.script.layout.mode m.older
 
-    x : IsSoFar p.script.layout p.script.calls.items p.words (Step (Made number row) ∷ m.older)
+    x : IsLawfulSoFar p.script.layout p.script.calls.items p.words (Step (Made number row) ∷ m.older)
     x = rw (sym m.lines) m.so_far
 
     y : IsWord p.script.layout row.word
@@ -455,7 +454,7 @@ made_entry p number row n side place scx call client m kind changed word pl sc c
     holder = sc ∙ x.holds (info n.0) (rw word at y) ∙ info_kept p.script.layout h row n.0 n.0 side word
 
     called : call ≡ value h (scx_word (value h (info n.0)) CallWord)
-    called = ca ∙ ap (λ (s : ℕ). held p.words (scx_word s CallWord)) holder ∙ x.holds (scx_word (value h (info n.0)) CallWord) (w.1, tt) ∙ call_kept p.script.layout h row n.0 (value h (info n.0)) side word
+    called = ca ∙ ap (λ (s : ℕ). word_at p.words (scx_word s CallWord)) holder ∙ x.holds (scx_word (value h (info n.0)) CallWord) (w.1, tt) ∙ call_kept p.script.layout h row n.0 (value h (info n.0)) side word
 
     owed : entry_owed p.script.layout (Step (Made number row) ∷ m.older) ≡ entry_at p.script.layout h (suc (entries m.older)) number (Node n (Child side))
     owed = rw kind (rw (ne_eqb row.before row.after changed) (ap (λ (u : Word). entry_at p.script.layout h (suc (entries m.older)) number u) word))

@@ -12,12 +12,12 @@ use Rattle.player.specs.declared.client.Client.{Client}
 use Rattle.player.specs.declared.player.Player.{Player}
 use Rattle.player.specs.Lines.{newest}
 use Rattle.record.specs.Turns.{history, clients}
-use Rattle.player.specs.View.{view, Rests}
+use Rattle.player.specs.ClientView.{client_view, Rests}
 use Rattle.record.specs.LawfulRun.{AreLines, IsLawfulRun}
-use Rattle.player.specs.Played.{IsBetween, IsPlayed, AreWins}
+use Rattle.player.specs.BetweenTurns.{AreBetweenTurns, IsBetweenTurns, AreWins}
 
 -- words as they are at the start, and clients that rest, are between two turns
-pub opening_between : (lay : Layout) (calls : List Call) (words : Contents) (all : List Client) → words.layout ≡ lay → IsOpening words → ((j : ℕ) (d : Client) → slice_get all j ≡ Some d → (d.pass.0 ≡ j) × Rests (view lay calls [] j) d) → IsBetween lay calls words all []
+pub opening_between : (lay : Layout) (calls : List Call) (words : Contents) (all : List Client) → words.layout ≡ lay → IsOpening words → ((j : ℕ) (d : Client) → slice_get all j ≡ Some d → (d.pass.0 ≡ j) × Rests (client_view lay calls [] j) d) → AreBetweenTurns lay calls words all []
 unfolding value Lawful Shaped AreLines
 opening_between lay calls words all same opening each = record {
   so_far = record {
@@ -35,7 +35,7 @@ pub no_wins : (lay : Layout) (wins : List (Option ℕ)) → AreWins lay [] wins
 no_wins lay wins c turn e = cc
 
 -- the lines of a player are a lawful run of the turns that it made
-pub played_record : (p : Player) → IsPlayed p → (turns : List ℕ) → clients (newest p.lines) ≡ reverse turns → IsLawfulRun p.script.layout p.script.calls.items turns p.lines.list.items
+pub played_record : (p : Player) → IsBetweenTurns p → (turns : List ℕ) → clients (newest p.lines) ≡ reverse turns → IsLawfulRun p.script.layout p.script.calls.items turns p.lines.list.items
 played_record p x turns e = record {
   turns = e;
   in_order = x.between.so_far.in_order;

@@ -5,12 +5,12 @@ use Rattle.arena.specs.declared.number.ScxNo.{ScxNo}
 use Rattle.arena.specs.Words.{state}
 use Rattle.arena.specs.History.{History, value}
 use Rattle.arena.specs.Machines.{Call}
-use Rattle.prims.specs.PutKnown.{put_answers}
+use Rattle.prims.specs.Put.Known.{PutAnswers}
 use Rattle.prims.specs.declared.put.PutRun.{PutRun}
 use Rattle.prims.specs.declared.scx.Scx.TheVariants.{Done, Lost}
 
-pub put_committed : (m : PutRun) (call : Call) (h : History) → put_answers m call h Done → value h (state m.scx.scx.0) ≡ 1
+pub put_committed : (m : PutRun) (call : Call) (h : History) → PutAnswers m call h Done → value h (state m.scx.scx.0) ≡ 1
 put_committed m call h x = x.1.done.committed
 
-pub put_aborted : (m : PutRun) (call : Call) (h : History) (node : NodeNo) (scx : ScxNo) → put_answers m call h (Lost node scx) → value h (state m.scx.scx.0) ≡ 2
+pub put_aborted : (m : PutRun) (call : Call) (h : History) (node : NodeNo) (scx : ScxNo) → PutAnswers m call h (Lost node scx) → value h (state m.scx.scx.0) ≡ 2
 put_aborted m call h node scx x = x.1.aborted

@@ -3,22 +3,21 @@ use Rattle.std.proofs.Common.{◌≡◌, ℕ, ◌+◌, ◌<◌, ◌≤◌, ◌�
 use Rattle.std.proofs.Math.ListN.{set}
 use Rattle.arena.specs.declared.layout.Layout.{Layout}
 use Rattle.arena.specs.declared.word.Side.{Side}
-use Rattle.arena.specs.Share.{Left, HasNode as HasOwnNode, HasScx, taken}
+use Rattle.arena.specs.Share.{Remaining, HasNode as HasOwnNode, HasScx, after_taking}
 use Rattle.arena.specs.declared.step.Kind.TheVariants.{LoadInfo}
-use Rattle.arena.specs.History.{History, EndsWith}
+use Rattle.arena.specs.History.{History, Extends}
 use Rattle.arena.specs.Found.{IsLastStep}
-use Rattle.arena.proofs.Found.{last_now}
+use Rattle.arena.proofs.Lemmas.{last_now, ends_self}
 use Rattle.arena.specs.Fills.{IsOwnNode, IsOwnScx, IsTakenNode, IsTakenScx}
 use Rattle.arena.specs.Lawful.{HasWon}
-use Rattle.arena.proofs.Values.{ends_self}
 use Rattle.arena.specs.declared.number.NodeNo.{NodeNo}
-use Rattle.arena.specs.ScxRecords.{removes, side_of}
-use Rattle.prims.specs.Updates.{field_place}
+use Rattle.arena.specs.ScxRecords.{plan_finalizes, side_of}
+use Rattle.prims.specs.Updates.{update_field_index}
 use Rattle.prims.specs.declared.update.Update.{Update}
-use Rattle.prims.specs.Snaps.{HasNode}
-use Rattle.prims.specs.ScxKnown.{IsUpdateOver, nodes_of}
+use Rattle.prims.specs.Snaps.{ListsNode}
+use Rattle.prims.specs.Scx.Known.{IsUpdateOver, nodes_of}
 use Rattle.prims.specs.Snap.{snap_at}
-use Rattle.prims.specs.PutSteps.{put_left}
+use Rattle.prims.specs.Put.Steps.{put_left}
 use Rattle.prims.specs.declared.snap.Snap.{Snap}
 use Rattle.prims.specs.declared.llx.LlxRun.{LlxRun}
 use Rattle.prims.specs.declared.put.PutRun.{PutRun}
@@ -37,16 +36,14 @@ use Rattle.record.specs.declared.record.Answer.{Answer}
 use Rattle.record.specs.declared.record.Answer.TheVariants.{Snapshot, Finalized, Fail, Done, Lost, Same, Changed, Unlinked, Full}
 use Rattle.arena.specs.declared.fault.Resource.{Resource}
 use Rattle.arena.specs.declared.fault.Resource.TheVariants.{Nodes, Scx as ScxRecords}
-use Rattle.player.specs.Kept.{IsUnspent, kept_of, node_of, found_of}
+use Rattle.player.specs.KeptSnaps.{IsUnspent, kept_of, node_of, found_of}
 use Rattle.record.specs.Commands.{commands}
 use Rattle.record.specs.Snapshots.{IsLastLook}
 use Rattle.record.specs.CommandRules.{most_steps}
 use Rattle.record.specs.Answers.{IsEmpty}
-use Rattle.player.specs.View.{View, IsSound, IsLlxOf, IsPutOf, no_hand, Stands, Rests, Starts, Answered, Told, TellsFull, CanPut, Puts, Begins}
-use Rattle.prims.specs.Begun.{taken_since}
-use Rattle.prims.proofs.UntakenNodes.{taken_node_since}
-use Rattle.prims.proofs.Shares.{left_own_node, left_own_scx, taken_share, free_unnamed, all_over}
-use Rattle.prims.proofs.Usable.{put_ready_first}
+use Rattle.player.specs.ClientView.{ClientView, IsSound, IsLlxOf, IsPutOf, no_hand, IsClientState, Rests, Starts, Answered, Told, TellsFull, CanPut, Puts, BeginsOrRefuses}
+use Rattle.prims.specs.Laws.Begun.{taken_since}
+use Rattle.prims.proofs.Lemmas.{taken_node_since, left_own_node, left_own_scx, taken_share, free_unnamed, all_over, put_ready_first}
 use Rattle.prims.specs.Shares.{IsShare}
 use Rattle.player.proofs.Over.{taken_one}
 use Rattle.player.proofs.Snapshots.{has_snap, dropped, kept_without, unkept_without}
@@ -62,13 +59,13 @@ pub record IsFullAnswer (lay : Layout) (c : ℕ) (h : History) (answer : Answer)
   pub empty : IsEmpty lay c h what left
 
 -- a share with a node left has one that is not taken
-next_node : (lay : Layout) (h : History) (c : ℕ) (left : Left) → IsShare lay h c left left.next_node left.next_scx → 0 < left.nodes → (n : ℕ) × IsOwnNode lay c n × ¬ IsTakenNode h n
+next_node : (lay : Layout) (h : History) (c : ℕ) (left : Remaining) → IsShare lay h c left left.next_node left.next_scx → 0 < left.nodes → (n : ℕ) × IsOwnNode lay c n × ¬ IsTakenNode h n
 next_node lay h c left share some = (left.next_node, left_own_node lay h c left _ _ left.next_node share own, share.untaken_nodes left.next_node own)
   where
     own : HasOwnNode left left.next_node
     own = record { from = omega arith; below = omega arith }
 
-pub full_answer : (lay : Layout) (h : History) (c : ℕ) (left : Left) (answer : Answer) → IsShare lay h c left left.next_node left.next_scx → TellsFull left answer → IsFullAnswer lay c h answer
+pub full_answer : (lay : Layout) (h : History) (c : ℕ) (left : Remaining) (answer : Answer) → IsShare lay h c left left.next_node left.next_scx → TellsFull left answer → IsFullAnswer lay c h answer
 full_answer lay h c left (Full Nodes k) share full = record { what = Nodes; left = k; is = refl; empty = (full.1, λ n own. share.taken_nodes n own (let a = own.below in let b = share.to_node in omega (arith, full.0))) }
 full_answer lay h c left (Full ScxRecords k) share full = record { what = ScxRecords; left = k; is = refl; empty = (full.2, λ s own. share.taken_scx s own (let a = own.below in let b = share.to_scx in omega (arith, full.1)), next_node lay h c left share full.0) }
 full_answer lay h c left (Snapshot a b) share full = absurd full
@@ -83,7 +80,7 @@ full_answer lay h c left (Unlinked node) share full = absurd full
 -- The SCX of a set
 
 -- what is said of the snapshots if the SCX of the command is refused: that of a `set` has been taken now
-abbrev pub linked_now : View → Command → ℕ → Option History
+abbrev pub linked_now : ClientView → Command → ℕ → Option History
 linked_now v (SetOf field x) n = cond (eqb field.0 n) (Some v.past) (v.linked n)
 linked_now v _ n = v.linked n
 
@@ -91,7 +88,7 @@ single_snap : (snap : Snap) (i : ℕ) → i < length (snap ∷ []) → snap_at (
 single_snap snap i p = rw (let e : i ≡ 0 = omega arith in e) refl
 
 -- a snapshot that an SCX follows is that of a set, and with it the SCX may begin
-pub can_put : (v : View) (old : Client) (kept : Kept) (m : LlxRun) (put : Put) (snap : Snap) → IsSound v → (x : Answered v old (Llx m) (Some put) (ended.Llx (LlxSnapshot snap))) → kept.found ≡ set old.kept.found (node_of (LlxSnapshot snap)) (found_of (LlxSnapshot snap)) → CanPut v (linked_now v x.works.command) (record old { kept = kept }) (snap ∷ []) [] (snap.node.0, put.side) put.value
+pub can_put : (v : ClientView) (old : Client) (kept : Kept) (m : LlxRun) (put : Put) (snap : Snap) → IsSound v → (x : Answered v old (Llx m) (Some put) (ended.Llx (LlxSnapshot snap))) → kept.found ≡ set old.kept.found (node_of (LlxSnapshot snap)) (found_of (LlxSnapshot snap)) → CanPut v (linked_now v x.works.command) (record old { kept = kept }) (snap ∷ []) [] (snap.node.0, put.side) put.value
 can_put v old kept m put snap sound x e = go x.works.command x.works.is x.works.run_of.1 x.few
   where
     unspent : IsUnspent v.layout old.pass.0 v.past snap v.past
@@ -99,14 +96,14 @@ can_put v old kept m put snap sound x e = go x.works.command x.works.is x.works.
 
     -- its LLX has just loaded the info of the cell
     looked : IsLastLook old.pass.0 v.past v.start v.past snap.node.0
-    looked = let y = x.answers.1 in record { row = y.row; before = y.before; is = y.is; since = subst (λ (s : History). EndsWith y.before s) x.works.begun y.since; last = subst (λ (h : History). IsLastStep old.pass.0 h LoadInfo snap.node.0 y.row y.before) (sym y.is) (last_now old.pass.0 y.before LoadInfo snap.node.0 y.row y.own y.kind (rw x.answers.0.node y.word)) }
+    looked = let y = x.answers.1 in record { row = y.row; before = y.before; is = y.is; since = subst (λ (s : History). Extends y.before s) x.works.begun y.since; last = subst (λ (h : History). IsLastStep old.pass.0 h LoadInfo snap.node.0 y.row y.before) (sym y.is) (last_now old.pass.0 y.before LoadInfo snap.node.0 y.row y.own y.kind (rw x.answers.0.node y.word)) }
 
-    go : (command : Command) → slice_get (commands v.calls old.pass.0) v.answered ≡ Some command → IsLlxOf command m.node.0 (Some put) → ((taken : ℕ) → v.steps + 40 ≤ most_steps command taken) → CanPut v (linked_now v command) (record old { kept = kept }) (snap ∷ []) [] (snap.node.0, put.side) put.value
+    go : (command : Command) → slice_get (commands v.calls old.pass.0) v.answered ≡ Some command → IsLlxOf command m.node.0 (Some put) → ((after_taking : ℕ) → v.steps + 40 ≤ most_steps command after_taking) → CanPut v (linked_now v command) (record old { kept = kept }) (snap ∷ []) [] (snap.node.0, put.side) put.value
     go (SetOf field y) is f few = record {
       mode = x.works.mode;
       rests = rests_kept v old kept m (Some put) (LlxSnapshot snap) (linked_now v (SetOf field y)) sound x e (λ n. rw (x.answers.0.node ∙ f.0) refl);
       others = λ n d. rw (ne_eqb field.0 n (λ q. d record { at = 0; within = omega arith; is = x.answers.0.node ∙ f.0 ∙ q })) refl;
-      since = subst (λ (s : History). EndsWith v.past s) x.works.begun x.works.since;
+      since = subst (λ (s : History). Extends v.past s) x.works.begun x.works.since;
       unwon = x.works.won;
       unspent = λ i p. (v.past, rw (single_snap snap i p) unspent);
       command = SetOf field y;
@@ -128,7 +125,7 @@ can_put v old kept m put snap sound x e = go x.works.command x.works.is x.works.
     go (VlxOf cells) is f few = absurd f
 
 -- what it answers then
-pub told_put : (v : View) (old new : Client) (kept : Kept) (m : LlxRun) (put : Put) (snap : Snap) (answer : Option Answer) → (x : Answered v old (Llx m) (Some put) (ended.Llx (LlxSnapshot snap))) → Puts v (linked_now v x.works.command) (record old { kept = kept }) new answer → Told v old new answer
+pub told_put : (v : ClientView) (old new : Client) (kept : Kept) (m : LlxRun) (put : Put) (snap : Snap) (answer : Option Answer) → (x : Answered v old (Llx m) (Some put) (ended.Llx (LlxSnapshot snap))) → Puts v (linked_now v x.works.command) (record old { kept = kept }) new answer → Told v old new answer
 told_put v old new kept m put snap None x p = record { same = record { pass = p.same.pass; number = p.same.number; next = p.same.next }; begin = p.begin; running = p.running; is = p.is; waits = p.waits }
 told_put v old new kept m put snap (Some answer) x p = go x.works.command x.works.is x.works.run_of.1 p.2
   where
@@ -153,13 +150,13 @@ told_put v old new kept m put snap (Some answer) x p = go x.works.command x.work
     go (VlxOf cells) is f rests = absurd f
 
 -- the same with what it has answered written out
-pub answered_put : (v : View) (c : Client) (m : LlxRun) (next : Option Put) (put : Put) (a : LlxAnswer) (snap : Snap) → next ≡ Some put → a ≡ LlxSnapshot snap → Answered v c (Llx m) next (ended.Llx a) → Answered v c (Llx m) (Some put) (ended.Llx (LlxSnapshot snap))
+pub answered_put : (v : ClientView) (c : Client) (m : LlxRun) (next : Option Put) (put : Put) (a : LlxAnswer) (snap : Snap) → next ≡ Some put → a ≡ LlxSnapshot snap → Answered v c (Llx m) next (ended.Llx a) → Answered v c (Llx m) (Some put) (ended.Llx (LlxSnapshot snap))
 answered_put v c m next put a snap e d x = subst (λ t. Answered v c (Llx m) t (ended.Llx (LlxSnapshot snap))) e (subst (λ t. Answered v c (Llx m) next (ended.Llx t)) d x)
 
 -- An SCX takes the next records of the share
 
 -- an SCX over an update of these snapshots
-pub put_of : (m : PutRun) (u : Update) (number : ℕ) (snaps : List Snap) (finalize : List NodeNo) (field : NodeNo × Side) (x : ℕ) → m.scx.update ≡ u → m.scx.call ≡ number → m.value ≡ x → u.snaps ≡ snaps → (snap_at snaps (field_place u)).node.0 ≡ field.0.0 → side_of u.plan.0 ≡ field.1 → ((j : ℕ) → j < length snaps → (removes u.plan.0 j ≡ true) ↔ HasNode finalize (snap_at snaps j).node.0) → IsPutOf m number (nodes_of snaps) (map (λ (n : NodeNo). n.0) finalize) (field.0.0, field.1) x
+pub put_of : (m : PutRun) (u : Update) (number : ℕ) (snaps : List Snap) (finalize : List NodeNo) (field : NodeNo × Side) (x : ℕ) → m.scx.update ≡ u → m.scx.call ≡ number → m.value ≡ x → u.snaps ≡ snaps → (snap_at snaps (update_field_index u)).node.0 ≡ field.0.0 → side_of u.plan.0 ≡ field.1 → ((j : ℕ) → j < length snaps → (plan_finalizes u.plan.0 j ≡ true) ↔ ListsNode finalize (snap_at snaps j).node.0) → IsPutOf m number (nodes_of snaps) (map (λ (n : NodeNo). n.0) finalize) (field.0.0, field.1) x
 put_of m u number snaps finalize field x e k w is at side removed = record {
   called = k;
   covers = rw (e, is) refl;
@@ -170,7 +167,7 @@ put_of m u number snaps finalize field x e k w is at side removed = record {
 }
 
 -- with them the SCX may begin
-pub put_starts : (v : View) (linked : ℕ → Option History) (c : Client) (snaps : List Snap) (removed : List ℕ) (field : ℕ × Side) (x : ℕ) (kept : Kept) (m : PutRun) → IsSound v → CanPut v linked c snaps removed field x → 0 < c.share.nodes → 0 < c.share.scx → ((n : ℕ) → kept_of kept n ≡ (if has_snap snaps n then None else kept_of c.kept n)) → IsUpdateOver m.scx.update → m.scx.update.snaps ≡ snaps → m.scx.update.fresh.0 ≡ c.share.next_node → m.scx.scx.0 ≡ c.share.next_scx → m.scx.at ≡ ScxStart → m.at ≡ PutStart → IsPutOf m c.number (nodes_of snaps) removed field x → put_left m ≤ 40 → Starts v (record c { share = taken c.share; kept = kept }) (Scx m) None
+pub put_starts : (v : ClientView) (linked : ℕ → Option History) (c : Client) (snaps : List Snap) (removed : List ℕ) (field : ℕ × Side) (x : ℕ) (kept : Kept) (m : PutRun) → IsSound v → CanPut v linked c snaps removed field x → 0 < c.share.nodes → 0 < c.share.scx → ((n : ℕ) → kept_of kept n ≡ (if has_snap snaps n then None else kept_of c.kept n)) → IsUpdateOver m.scx.update → m.scx.update.snaps ≡ snaps → m.scx.update.fresh.0 ≡ c.share.next_node → m.scx.scx.0 ≡ c.share.next_scx → m.scx.at ≡ ScxStart → m.at ≡ PutStart → IsPutOf m c.number (nodes_of snaps) removed field x → put_left m ≤ 40 → Starts v (record c { share = after_taking c.share; kept = kept }) (Scx m) None
 put_starts v linked c snaps removed field x kept m sound can some_node some_scx left over is fresh scx start at of bound = record {
   works = record {
     mode = can.mode;
@@ -211,10 +208,10 @@ put_starts v linked c snaps removed field x kept m sound can some_node some_scx 
       (rw scx y.share.taken_scx) free
       (rw fresh (left_own_node v.layout v.past c.pass.0 c.share _ _ c.share.next_node y.share own_node))
       (rw fresh y.share.taken_nodes) (rw fresh (y.share.unmentioned c.share.next_node own_node)) (rw fresh (y.share.untaken_nodes c.share.next_node own_node)) (all_over v.layout v.past c.pass.0 c.share _ _ y.share y.over);
-  few = λ taken. let few = can.few taken in omega (arith, bound);
+  few = λ after_taking. let few = can.few after_taking in omega (arith, bound);
 }
   where
-    y : Stands (record v { linked = linked }) c (no_hand c.share)
+    y : IsClientState (record v { linked = linked }) c (no_hand c.share)
     y = can.rests.stands
 
     own_node : HasOwnNode c.share c.share.next_node
@@ -235,12 +232,12 @@ put_starts v linked c snaps removed field x kept m sound can some_node some_scx 
     unwon : ¬ HasWon v.past m.scx.scx.0
     unwon = (free_unnamed v.layout v.past c.pass.0 m.scx.scx.0 sound.lawful own free).1
 
-puts : (v : View) (linked : ℕ → Option History) (old : Client) (share : Left) (kept : Kept) (new : Client) (answer : Option Answer) → answer ≡ None → Begins v old.begin (record old { share = share; kept = kept }) new answer → Puts v linked old new answer
+puts : (v : ClientView) (linked : ℕ → Option History) (old : Client) (share : Remaining) (kept : Kept) (new : Client) (answer : Option Answer) → answer ≡ None → BeginsOrRefuses v old.begin (record old { share = share; kept = kept }) new answer → Puts v linked old new answer
 puts v linked old share kept new None e x = record { same = record { pass = x.0.pass; number = x.0.number; next = x.0.next }; begin = x.1; running = x.2.0; is = x.2.1; waits = x.2.2 }
 puts v linked old share kept new (Some answer) e x = absurd cc
 
 -- an SCX asks for a step first
-pub put_runs : (v : View) (linked : ℕ → Option History) (old mid : Client) (kept : Kept) (new : Client) (m : PutRun) (answer : Option Answer) → mid ≡ record old { share = taken old.share } → (Starts v (record mid { kept = kept }) (Scx m) None → (answer ≡ None) × Begins v mid.begin (record mid { kept = kept }) new answer) → Starts v (record old { share = taken old.share; kept = kept }) (Scx m) None → Puts v linked old new answer
+pub put_runs : (v : ClientView) (linked : ℕ → Option History) (old mid : Client) (kept : Kept) (new : Client) (m : PutRun) (answer : Option Answer) → mid ≡ record old { share = after_taking old.share } → (Starts v (record mid { kept = kept }) (Scx m) None → (answer ≡ None) × BeginsOrRefuses v mid.begin (record mid { kept = kept }) new answer) → Starts v (record old { share = after_taking old.share; kept = kept }) (Scx m) None → Puts v linked old new answer
 put_runs v linked old mid kept new m answer e f starts =
-    let x = subst (λ (n : Client). Starts v (record n { kept = kept }) (Scx m) None → (answer ≡ None) × Begins v n.begin (record n { kept = kept }) new answer) e f starts in
-    puts v linked old (taken old.share) kept new answer x.0 x.1
+    let x = subst (λ (n : Client). Starts v (record n { kept = kept }) (Scx m) None → (answer ≡ None) × BeginsOrRefuses v n.begin (record n { kept = kept }) new answer) e f starts in
+    puts v linked old (after_taking old.share) kept new answer x.0 x.1

@@ -5,14 +5,14 @@ use Rattle.arena.specs.declared.limits.Mode.TheVariants.{Records}
 use Rattle.arena.specs.declared.layout.Layout.{Layout}
 use Rattle.arena.specs.History.{History}
 use Rattle.arena.specs.Machines.{IsRun}
-use Rattle.arena.proofs.Shapes.{run_as}
-use Rattle.prims.specs.Cells.{allows_all}
-use Rattle.player.specs.Allowed.{allowed_in, played_allows}
+use Rattle.arena.proofs.Lemmas.{run_as}
+use Rattle.prims.specs.Cells.{AllowsAll}
+use Rattle.player.specs.Allowed.{AllowsIn, PlayedAllows}
 
 -- cells ask nothing
-pub as_cells : (lay : Layout) (h : History) → IsRun played_allows lay h → IsRun allows_all lay h
-as_cells lay h run = run_as played_allows allows_all lay (λ k s a. tt) h run
+pub as_cells : (lay : Layout) (h : History) → IsRun PlayedAllows lay h → IsRun AllowsAll lay h
+as_cells lay h run = run_as PlayedAllows AllowsAll lay (λ k s a. tt) h run
 
 -- in records mode nothing else is asked
-pub as_played : (lay : Layout) (h : History) → lay.mode ≡ Records → IsRun allows_all lay h → IsRun played_allows lay h
-as_played lay h mode run = run_as allows_all played_allows lay (λ k s a. subst (λ (m : Mode). allowed_in m lay k s) (sym mode) tt) h run
+pub as_played : (lay : Layout) (h : History) → lay.mode ≡ Records → IsRun AllowsAll lay h → IsRun PlayedAllows lay h
+as_played lay h mode run = run_as AllowsAll PlayedAllows lay (λ k s a. subst (λ (m : Mode). AllowsIn m lay k s) (sym mode) tt) h run

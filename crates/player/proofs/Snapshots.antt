@@ -3,7 +3,7 @@ use Rattle.std.proofs.Common.{◌≡◌, ◌≢◌, ℕ, zero, suc, ◌<◌, ◌
 use Rattle.std.proofs.Math.ListN.{set}
 use Rattle.std.specs.List.{list_any}
 use Rattle.std.proofs.lemmas.Bool.{or_left}
-use Rattle.arena.proofs.Bools.{or_right, or_split}
+use Rattle.arena.proofs.Lemmas.{or_right, or_split}
 use native.Mathlib.Decide.{ℕ_discrete}
 use Rattle.arena.specs.declared.layout.Layout.{Layout}
 use Rattle.arena.specs.History.{History}
@@ -13,7 +13,7 @@ use Rattle.prims.specs.declared.snap.Snap.{Snap}
 use Rattle.prims.specs.declared.llx.Llx.{Llx}
 use Rattle.player.specs.declared.kept.Found.{Found}
 use Rattle.player.specs.declared.kept.Kept.{Kept}
-use Rattle.player.specs.Kept.{AreKept, AllKept, IsFirstUnkept, IsUnspent, kept_of, node_of, found_of, parts, snap_of}
+use Rattle.player.specs.KeptSnaps.{AreKept, AllKept, IsFirstUnkept, IsUnspent, kept_of, node_of, found_of, parts, snap_of}
 use Rattle.record.specs.Snapshots.{IsFirstUnlinked}
 
 -- what is read after a write was written, or stood there before

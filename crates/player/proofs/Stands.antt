@@ -12,14 +12,14 @@ use Rattle.record.specs.declared.record.Row.TheVariants.{Idle}
 use Rattle.record.specs.declared.record.Reply.{Reply}
 use Rattle.record.specs.declared.record.Answer.{Answer}
 use Rattle.player.specs.declared.client.Client.{Client}
-use Rattle.player.specs.declared.client.Standing.TheVariants.{Finished, Answers, Asks}
+use Rattle.player.specs.declared.client.NextAction.TheVariants.{Finished, Answers, Asks}
 use Rattle.player.specs.declared.player.Player.{Player}
 use Rattle.player.specs.Lines.{newest}
 use Rattle.player.specs.Place.{IsAt}
 use Rattle.record.specs.Commands.{commands, next_command}
 use Rattle.record.specs.Turns.{turns, begin, answered}
-use Rattle.player.specs.View.{View, view, Rests, Refuses, Waits, IsClient, Stood, command_of}
-use Rattle.player.specs.Played.{IsTurnOf, IsBetween, IsPlayed, IsAsked, IsEnd}
+use Rattle.player.specs.ClientView.{ClientView, client_view, Rests, Refuses, Waits, IsClient, IsNextAction, command_of}
+use Rattle.player.specs.BetweenTurns.{IsTurnOf, AreBetweenTurns, IsBetweenTurns, IsAsked, IsEnd}
 use Rattle.player.proofs.Commands.{none_left, next_at}
 use Rattle.player.proofs.Middles.{turn_begins, turn_changed, finished_turn, refused_turn}
 use Rattle.player.proofs.Steps.{few_calls}
@@ -29,7 +29,7 @@ pub client_there : (p : Player) (i : ℕ) (c : Client) → i < p.script.layout.p
 client_there p i c inside e = slice_get_read p.clients.items (length p.clients.items) i c refl (omega (arith, inside, p.all_clients, p.clients.ok.0)) e
 
 -- a client at rest that has a call left has not begun it
-not_begun : (v : View) (began : Option ℕ) (old new : Client) (command : Command) → new.pass ≡ old.pass → IsClient v began old → Rests v old → command_of v new ≡ Some command → began ≡ None
+not_begun : (v : ClientView) (began : Option ℕ) (old new : Client) (command : Command) → new.pass ≡ old.pass → IsClient v began old → Rests v old → command_of v new ≡ Some command → began ≡ None
 not_begun v began old new command same (inl (x, inr u)) r is = u.none
 not_begun v began old new command same (inr (q, runs, w, e)) r is = absurd (let d = r.none in cc)
 not_begun v began old new command same (inl (x, inl none)) r is =
@@ -38,11 +38,11 @@ not_begun v began old new command same (inl (x, inl none)) r is =
     absurd cc
 
 -- a client whose call runs began it at its first turn since its last reply
-has_begun : (v : View) (began : Option ℕ) (old : Client) → IsClient v began old → old.running ≢ None → began ≡ Some old.begin
+has_begun : (v : ClientView) (began : Option ℕ) (old : Client) → IsClient v began old → old.running ≢ None → began ≡ Some old.begin
 has_begun v began old (inl x) d = absurd (d x.0.none)
 has_begun v began old (inr (q, runs, w, e)) d = e
 
-module _ (p : Player) (i number : ℕ) (old new : Client) (played : IsPlayed p) (there : slice_get p.clients.items i ≡ Some old) where
+module _ (p : Player) (i number : ℕ) (old new : Client) (played : IsBetweenTurns p) (there : slice_get p.clients.items i ≡ Some old) where
   abbrev lay : Layout
   lay = p.script.layout
 
@@ -52,8 +52,8 @@ module _ (p : Player) (i number : ℕ) (old new : Client) (played : IsPlayed p) 
   abbrev lines : List Line
   lines = newest p.lines
 
-  abbrev v : View
-  v = view lay calls lines i
+  abbrev v : ClientView
+  v = client_view lay calls lines i
 
   is_i : old.pass.0 ≡ i
   is_i = (played.between.each i old there).0
@@ -69,7 +69,7 @@ module _ (p : Player) (i number : ℕ) (old new : Client) (played : IsPlayed p) 
   new_i same = ap (λ (k : PassNo). k.0) same ∙ is_i
 
   -- it asks for a step
-  pub stood_asked : (q : Player) (step : Ask) → q.script.layout ≡ lay → q.script.calls.items ≡ calls → q.words ≡ p.words → q.clients.items ≡ set p.clients.items i new → newest q.lines ≡ lines → q.wins.items ≡ p.wins.items → number ≡ suc (turns (newest q.lines)) → Stood v number old new (Asks step) → IsAsked q i number step
+  pub stood_asked : (q : Player) (step : Ask) → q.script.layout ≡ lay → q.script.calls.items ≡ calls → q.words ≡ p.words → q.clients.items ≡ set p.clients.items i new → newest q.lines ≡ lines → q.wins.items ≡ p.wins.items → number ≡ suc (turns (newest q.lines)) → IsNextAction v number old new (Asks step) → IsAsked q i number step
   stood_asked q step a b w d e f n s = record {
     wins = rw (a, e, f) played.wins;
     client = new;
@@ -80,7 +80,7 @@ module _ (p : Player) (i number : ℕ) (old new : Client) (played : IsPlayed p) 
     running = s.1;
     runs = s.2;
     asks = s.3;
-    waits = rw (a, b, e) (subst (λ (k : ℕ). Waits (view lay calls lines k) new s.1) (sym (new_i s.0.pass)) s.4);
+    waits = rw (a, b, e) (subst (λ (k : ℕ). Waits (client_view lay calls lines k) new s.1) (sym (new_i s.0.pass)) s.4);
     began = began s.5;
   }
     where
@@ -92,18 +92,18 @@ module _ (p : Player) (i number : ℕ) (old new : Client) (played : IsPlayed p) 
       began (inr (d, x)) = inr (same_begin ∙ has_begun v (begin lines i) old is_client d ∙ ap (λ (k : ℕ). Some k) (sym x))
 
   -- it has no call left
-  pub stood_finished : (pass : PassNo) → pass.0 ≡ i → number ≡ suc (turns lines) → Stood v number old new Finished → IsBetween lay calls p.words (set p.clients.items i new) (Step (Idle number pass) ∷ lines)
+  pub stood_finished : (pass : PassNo) → pass.0 ≡ i → number ≡ suc (turns lines) → IsNextAction v number old new Finished → AreBetweenTurns lay calls p.words (set p.clients.items i new) (Step (Idle number pass) ∷ lines)
   stood_finished pass is n s =
       let same : new.pass ≡ old.pass = ap (λ (k : Client). k.pass) s.0 in
       finished_turn lay calls p.words (set p.clients.items i new) lines new number pass played.between.settled (own_turn same)
-      (subst (λ (k : ℕ). Rests (view lay calls lines k) new) (sym (new_i same)) (subst (λ (k : Client). Rests v k) (sym s.0) s.2))
+      (subst (λ (k : ℕ). Rests (client_view lay calls lines k) new) (sym (new_i same)) (subst (λ (k : Client). Rests v k) (sym s.0) s.2))
       (ap (λ (k : Client). k.next) s.0 ∙ s.1) n (ap (λ (k : ℕ). let x : PassNo = record { 0 = k } in x) (is ∙ sym (new_i same)))
 
   -- its call is refused
-  pub stood_refused : (pass : PassNo) (answer : Answer) (said : Option ℕ) (reply : Reply) (end : Client) → pass.0 ≡ i → number ≡ suc (turns lines) → Stood v number old new (Answers answer) → IsEnd calls new end number answer said reply → IsBetween lay calls p.words (set (set p.clients.items i new) new.pass.0 end) (ReplyLine reply ∷ Step (Idle number pass) ∷ lines)
+  pub stood_refused : (pass : PassNo) (answer : Answer) (said : Option ℕ) (reply : Reply) (end : Client) → pass.0 ≡ i → number ≡ suc (turns lines) → IsNextAction v number old new (Answers answer) → IsEnd calls new end number answer said reply → AreBetweenTurns lay calls p.words (set (set p.clients.items i new) new.pass.0 end) (ReplyLine reply ∷ Step (Idle number pass) ∷ lines)
   stood_refused pass answer said reply end is n s e =
       refused_turn lay calls p.words (set p.clients.items i new) lines new end number pass answer said reply (few_calls p) played.between.settled (own_turn s.0.pass)
-      (subst (λ (k : ℕ). Refuses (view lay calls lines k) new answer) (sym (new_i s.0.pass)) s.2)
+      (subst (λ (k : ℕ). Refuses (client_view lay calls lines k) new answer) (sym (new_i s.0.pass)) s.2)
       (ap (λ (k : ℕ). begin lines k) (new_i s.0.pass) ∙ not_begun v (begin lines i) old new s.2.command s.0.pass is_client s.1 s.2.is)
       s.3 n (ap (λ (k : ℕ). let x : PassNo = record { 0 = k } in x) (is ∙ sym (new_i s.0.pass))) e
 

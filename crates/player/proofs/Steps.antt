@@ -8,16 +8,16 @@ use Rattle.arena.specs.declared.step.Row.{Row}
 use Rattle.arena.specs.declared.step.Step.{Step as Ask}
 use Rattle.arena.specs.declared.step.Kind.{Kind}
 use Rattle.arena.specs.declared.word.Word.{Word}
-use Rattle.arena.specs.Words.{deed_after}
-use Rattle.arena.specs.declared.step.Deed.{Deed}
-use Rattle.arena.specs.declared.step.Deed.TheVariants.{Load, Store, Exchange}
+use Rattle.arena.specs.Words.{word_after}
+use Rattle.arena.specs.declared.step.Access.{Access}
+use Rattle.arena.specs.declared.step.Access.TheVariants.{Load, Store, Exchange}
 use Rattle.arena.specs.Layout.{IsWord}
-use Rattle.arena.specs.PlainWords.{Contents, held, IsChanged}
+use Rattle.arena.specs.PlainWords.{Contents, word_at, IsChanged}
 use Rattle.arena.specs.History.{◌⊳◌, value}
 use Rattle.arena.specs.Lawful.{IsLawful, IsWin}
 use Rattle.arena.specs.Machines.{IsRun, IsTold}
 use Rattle.histories.proofs.Lemmas.{facts_before, lawful_row, update_win}
-use Rattle.player.specs.Allowed.{played_allows}
+use Rattle.player.specs.Allowed.{PlayedAllows}
 use Rattle.script.specs.declared.command.Call.{Call}
 use Rattle.script.specs.declared.command.Command.{Command}
 use Rattle.record.specs.declared.record.Line.{Line}
@@ -38,8 +38,8 @@ use Rattle.record.specs.Linked.{linked}
 use Rattle.record.specs.Answers.{HasTakenOne}
 use Rattle.record.specs.Replies.{IsFitting, IsReplyOwed}
 use Rattle.record.specs.Entries.{IsWinOf}
-use Rattle.player.specs.View.{View, view, IsSound, Hears, IsClient, GoesOn, Ends}
-use Rattle.player.specs.Played.{IsSoFar, IsTurnOf, IsBetween, IsAsked, IsEnd, AreWins}
+use Rattle.player.specs.ClientView.{ClientView, client_view, IsSound, Hears, IsClient, GoesOn, Ends}
+use Rattle.player.specs.BetweenTurns.{IsLawfulSoFar, IsTurnOf, AreBetweenTurns, IsAsked, IsEnd, AreWins}
 use Rattle.player.proofs.Views.{own_row, step_sound, hears}
 use Rattle.player.proofs.Middles.{IsOver, get_there, others_step, others_log, so_far_same, step_made, turn_changed, turn_ends, replied}
 use Rattle.player.proofs.MayMakes.{may_make}
@@ -50,7 +50,7 @@ use Rattle.player.proofs.Entered.{IsEntryFrom, entry_by_others, entry_by_own, re
 -- the client that makes the turn is about to hear what its step found; turn number `number` has been written down in full
 pub record IsHeard (lay : Layout) (calls : List Call) (words : Contents) (all : List Client) (lines : List Line) (c : Client) (q : Running) (found number : ℕ) : Type 0 where
   pub turn : IsTurnOf lay calls words all lines c
-  pub told : Hears (view lay calls lines c.pass.0) c q found
+  pub told : Hears (client_view lay calls lines c.pass.0) c q found
   pub runs : c.running ≡ Some q
   pub began : begin lines c.pass.0 ≡ Some c.begin
   pub last : last_client lines ≡ Some c.pass.0
@@ -60,7 +60,7 @@ pub record IsHeard (lay : Layout) (calls : List Call) (words : Contents) (all : 
   pub in_turn : number ≡ turns lines
 
 -- a machine may be told what its step found
-told_all : (deed : Deed) (v : ℕ) → IsTold deed v v
+told_all : (access : Access) (v : ℕ) → IsTold access v v
 told_all Load v = refl
 told_all (Store new) v = tt
 told_all (Exchange expected new) v = refl
@@ -84,14 +84,14 @@ module _ (p : Player) (i number : ℕ) (step : Ask) (a : IsAsked p i number step
   abbrev lines : List Line
   lines = newest p.lines
 
-  abbrev v : View
-  v = view lay calls lines a.client.pass.0
+  abbrev v : ClientView
+  v = client_view lay calls lines a.client.pass.0
 
   abbrev made : Row
   made = own_row v a.client a.running.step
 
   -- the step goes on with the run
-  sound : IsRun played_allows lay (made ⊳ history lay.mode lines)
+  sound : IsRun PlayedAllows lay (made ⊳ history lay.mode lines)
   sound = step_sound v a.client a.running a.turn.so_far.sound a.waits v.won
 
   lawful : IsLawful lay (history lay.mode lines) made
@@ -112,27 +112,27 @@ module _ (p : Player) (i number : ℕ) (step : Ask) (a : IsAsked p i number step
   asked_begun = rw (eq-eqb a.client.pass.0 a.client.pass.0 refl) (ap (λ (k : ℕ). Some k) (begun_at lines number a.client a.began))
 
   -- what the player has found, and left there
-  asked_value : held p.words step.word ≡ value (history lay.mode lines) a.running.step.word
-  asked_value = subst (λ (s : Ask). held p.words s.word ≡ value (history lay.mode lines) a.running.step.word) a.asks (a.turn.so_far.holds a.running.step.word lawful.word)
+  asked_value : word_at p.words step.word ≡ value (history lay.mode lines) a.running.step.word
+  asked_value = subst (λ (s : Ask). word_at p.words s.word ≡ value (history lay.mode lines) a.running.step.word) a.asks (a.turn.so_far.holds a.running.step.word lawful.word)
 
-  pub asked_changed : (words : Contents) (found : ℕ) → found ≡ held p.words step.word → IsChanged p.words words step.word (deed_after step.deed found) → IsChanged p.words words made.word made.after
+  pub asked_changed : (words : Contents) (found : ℕ) → found ≡ word_at p.words step.word → IsChanged p.words words step.word (word_after step.access found) → IsChanged p.words words made.word made.after
   asked_changed words found e x =
-      let y : IsChanged p.words words step.word (deed_after step.deed made.before) = rw (sym asked_value, sym e) x in
-      subst (λ (s : Ask). IsChanged p.words words s.word (deed_after s.deed made.before)) (sym a.asks) y
+      let y : IsChanged p.words words step.word (word_after step.access made.before) = rw (sym asked_value, sym e) x in
+      subst (λ (s : Ask). IsChanged p.words words s.word (word_after s.access made.before)) (sym a.asks) y
 
   -- the row that it writes down is that of the client's step
-  pub asked_row : (pass : PassNo) (call found after : ℕ) → pass.0 ≡ i → call ≡ a.client.number → found ≡ held p.words step.word → after ≡ deed_after step.deed found → (let r : Row = record { pass = pass; call = call; kind = step.kind; word = step.word; before = found; after = after } in r) ≡ made
+  pub asked_row : (pass : PassNo) (call found after : ℕ) → pass.0 ≡ i → call ≡ a.client.number → found ≡ word_at p.words step.word → after ≡ word_after step.access found → (let r : Row = record { pass = pass; call = call; kind = step.kind; word = step.word; before = found; after = after } in r) ≡ made
   asked_row pass call found after e n f g =
       subst (λ (s : Ask). (let r : Row = record { pass = pass; call = call; kind = s.kind; word = s.word; before = found; after = after } in r) ≡ made) a.asks
       (row_same pass a.client.pass.0 call a.client.number a.running.step.kind a.running.step.word found made.before after made.after (e ∙ sym a.is) n (f ∙ asked_value)
-      (subst (λ (s : Ask). after ≡ deed_after s.deed found) (sym a.asks) g ∙ ap (λ (k : ℕ). deed_after a.running.step.deed k) (f ∙ asked_value)))
+      (subst (λ (s : Ask). after ≡ word_after s.access found) (sym a.asks) g ∙ ap (λ (k : ℕ). word_after a.running.step.access k) (f ∙ asked_value)))
 
   -- its call has begun in this turn, or before
   begun_before : a.client.begin ≤ number
   begun_before = ⊎_elim (λ x. let e = x.1 in omega arith) (λ e. let i = begin_within lay calls lines a.client.pass.0 a.client.begin a.turn.so_far.in_order e in let n = a.in_turn in omega arith) a.began
 
   -- what the entry of the step is to say, where its owner has this in hand
-  win_of : (entry : Entry) (s : ℕ) → IsEntryOfWin lay (history lay.mode lines) made entry s → (c : Client) → c.pass.0 ≡ entry.client.0 → IsEntryFrom (view lay calls lines entry.client.0) c made s → (made.pass.0 ≢ entry.client.0 → IsSome (begin lines entry.client.0)) → IsWinOf lay calls lines made entry
+  win_of : (entry : Entry) (s : ℕ) → IsEntryOfWin lay (history lay.mode lines) made entry s → (c : Client) → c.pass.0 ≡ entry.client.0 → IsEntryFrom (client_view lay calls lines entry.client.0) c made s → (made.pass.0 ≢ entry.client.0 → IsSome (begin lines entry.client.0)) → IsWinOf lay calls lines made entry
   win_of entry s w c is x begun = record {
     begun = begun;
     wins = subst (λ (k : ℕ). IsWin (history lay.mode lines) made k) (sym w.scx_is) (update_win (facts_before lay (history lay.mode lines) made sound.lawful) w.wins);
@@ -155,19 +155,19 @@ module _ (p : Player) (i number : ℕ) (step : Ask) (a : IsAsked p i number step
       w : (s : ℕ) × IsEntryOfWin lay (history lay.mode lines) made entry s
       w = entry_wins lay lines number made sound.lawful entry e
 
-      of_other : (c : Client) → c.pass.0 ≡ entry.client.0 → entry.client.0 ≢ a.client.pass.0 → IsClient (view lay calls lines entry.client.0) (begin lines entry.client.0) c → IsEntryFrom (view lay calls lines entry.client.0) c made w.0
-      of_other c is d (inr (q, runs, x, b)) = entry_by_others (view lay calls lines entry.client.0) c q made w.0 a.turn.so_far.sound x sound (λ z. d (sym is ∙ sym z)) w.1.wins (subst (λ (k : ℕ). IsOwnScx lay k w.0) (sym is) w.1.own)
-      of_other c is d (inl (x, b)) = absurd (rest_wins_not (view lay calls lines entry.client.0) c a.turn.so_far.sound made w.0 sound.lawful w.1.wins (subst (λ (k : ℕ). IsOwnScx lay k w.0) (sym is) w.1.own) x)
+      of_other : (c : Client) → c.pass.0 ≡ entry.client.0 → entry.client.0 ≢ a.client.pass.0 → IsClient (client_view lay calls lines entry.client.0) (begin lines entry.client.0) c → IsEntryFrom (client_view lay calls lines entry.client.0) c made w.0
+      of_other c is d (inr (q, runs, x, b)) = entry_by_others (client_view lay calls lines entry.client.0) c q made w.0 a.turn.so_far.sound x sound (λ z. d (sym is ∙ sym z)) w.1.wins (subst (λ (k : ℕ). IsOwnScx lay k w.0) (sym is) w.1.own)
+      of_other c is d (inl (x, b)) = absurd (rest_wins_not (client_view lay calls lines entry.client.0) c a.turn.so_far.sound made w.0 sound.lawful w.1.wins (subst (λ (k : ℕ). IsOwnScx lay k w.0) (sym is) w.1.own) x)
 
-      has_begun : (c : Client) → c.pass.0 ≡ entry.client.0 → entry.client.0 ≢ a.client.pass.0 → IsClient (view lay calls lines entry.client.0) (begin lines entry.client.0) c → IsSome (begin lines entry.client.0)
+      has_begun : (c : Client) → c.pass.0 ≡ entry.client.0 → entry.client.0 ≢ a.client.pass.0 → IsClient (client_view lay calls lines entry.client.0) (begin lines entry.client.0) c → IsSome (begin lines entry.client.0)
       has_begun c is d (inr (q, runs, x, b)) = rw b refl
-      has_begun c is d (inl (x, b)) = absurd (rest_wins_not (view lay calls lines entry.client.0) c a.turn.so_far.sound made w.0 sound.lawful w.1.wins (subst (λ (k : ℕ). IsOwnScx lay k w.0) (sym is) w.1.own) x)
+      has_begun c is d (inl (x, b)) = absurd (rest_wins_not (client_view lay calls lines entry.client.0) c a.turn.so_far.sound made w.0 sound.lawful w.1.wins (subst (λ (k : ℕ). IsOwnScx lay k w.0) (sym is) w.1.own) x)
 
       go : Dec (entry.client.0 ≡ a.client.pass.0) → IsWinOf lay calls lines made entry
       go (yes is) =
           win_of entry w.0 w.1 a.client (sym is)
-          (subst (λ (k : ℕ). IsEntryFrom (view lay calls lines k) a.client made w.0) (sym is)
-          (entry_by_own v a.client a.running w.0 a.turn.so_far.sound a.waits w.1.wins (subst (λ (k : ℕ). IsOwnScx lay k w.0) is w.1.own) (told_all a.running.step.deed made.before)))
+          (subst (λ (k : ℕ). IsEntryFrom (client_view lay calls lines k) a.client made w.0) (sym is)
+          (entry_by_own v a.client a.running w.0 a.turn.so_far.sound a.waits w.1.wins (subst (λ (k : ℕ). IsOwnScx lay k w.0) is w.1.own) (told_all a.running.step.access made.before)))
           (λ d. absurd (d (sym is)))
       go (no d) =
           let there = get_there p.clients.items entry.client.0 (omega (arith, w.1.is_pass, p.all_clients, p.clients.ok.0)) in
@@ -181,8 +181,8 @@ module _ (p : Player) (i number : ℕ) (step : Ask) (a : IsAsked p i number step
       x : IsTurnOf lay calls words p.clients.items (Step (Made number made) ∷ lines) a.client
       x = asked_made words changed
 
-      h : Hears (view lay calls (Step (Made number made) ∷ lines) a.client.pass.0) a.client a.running made.before
-      h = rw (eq-eqb a.client.pass.0 a.client.pass.0 refl) (hears v a.client a.running a.turn.so_far.sound a.waits number (won lay (Step (Made number made) ∷ lines) a.client.pass.0) (tells_won lay lines number made sound.lawful calls a.client.pass.0) begun_before made.before (told_all a.running.step.deed made.before))
+      h : Hears (client_view lay calls (Step (Made number made) ∷ lines) a.client.pass.0) a.client a.running made.before
+      h = rw (eq-eqb a.client.pass.0 a.client.pass.0 refl) (hears v a.client a.running a.turn.so_far.sound a.waits number (won lay (Step (Made number made) ∷ lines) a.client.pass.0) (tells_won lay lines number made sound.lawful calls a.client.pass.0) begun_before made.before (told_all a.running.step.access made.before))
 
       go : (owed : Option Entry) → entry_owed lay (Step (Made number made) ∷ lines) ≡ owed → MatchOption owed (after ≡ Step (Made number made) ∷ lines) (λ e. after ≡ Log e ∷ Step (Made number made) ∷ lines) → IsHeard lay calls words p.clients.items after a.client a.running made.before number
       go None e is = subst (λ l. IsHeard lay calls words p.clients.items l a.client a.running made.before number) (sym is)
@@ -201,12 +201,12 @@ module _ (p : Player) (i number : ℕ) (step : Ask) (a : IsAsked p i number step
           }
 
   -- the lines with the row that the player writes down
-  pub asked_so_far : (row : Row) (words : Contents) (after : List Line) → row ≡ made → IsChanged p.words words made.word made.after → after ≡ Step (Made number row) ∷ lines → IsSoFar lay calls words after
+  pub asked_so_far : (row : Row) (words : Contents) (after : List Line) → row ≡ made → IsChanged p.words words made.word made.after → after ≡ Step (Made number row) ∷ lines → IsLawfulSoFar lay calls words after
   asked_so_far row words after e changed is =
-      subst (λ l. IsSoFar lay calls words l) (sym is) (subst (λ (r : Row). IsSoFar lay calls words (Step (Made number r) ∷ lines)) (sym e) (asked_made words changed).so_far)
+      subst (λ l. IsLawfulSoFar lay calls words l) (sym is) (subst (λ (r : Row). IsLawfulSoFar lay calls words (Step (Made number r) ∷ lines)) (sym e) (asked_made words changed).so_far)
 
   -- and what the client hears behind them
-  pub asked_hears : (row : Row) (words : Contents) (pushed after : List Line) (found : ℕ) → row ≡ made → found ≡ held p.words step.word → IsChanged p.words words made.word made.after → pushed ≡ Step (Made number row) ∷ lines → MatchOption (entry_owed lay pushed) (after ≡ pushed) (λ e. after ≡ Log e ∷ pushed) → IsHeard lay calls words p.clients.items after a.client a.running found number
+  pub asked_hears : (row : Row) (words : Contents) (pushed after : List Line) (found : ℕ) → row ≡ made → found ≡ word_at p.words step.word → IsChanged p.words words made.word made.after → pushed ≡ Step (Made number row) ∷ lines → MatchOption (entry_owed lay pushed) (after ≡ pushed) (λ e. after ≡ Log e ∷ pushed) → IsHeard lay calls words p.clients.items after a.client a.running found number
   asked_hears row words pushed after found e f changed is m =
       let same : pushed ≡ Step (Made number made) ∷ lines = is ∙ ap (λ (r : Row). Step (Made number r) ∷ lines) e in
       subst (λ (k : ℕ). IsHeard lay calls words p.clients.items after a.client a.running k number) (sym (f ∙ asked_value))
@@ -215,16 +215,16 @@ module _ (p : Player) (i number : ℕ) (step : Ask) (a : IsAsked p i number step
 -- Behind what the client has heard
 
 -- it asks for another step
-pub heard_on : (lay : Layout) (calls : List Call) (words : Contents) (all : List Client) (lines : List Line) (c new : Client) (q : Running) (found number : ℕ) → IsHeard lay calls words all lines c q found number → GoesOn (view lay calls lines c.pass.0) c new → IsBetween lay calls words (set all c.pass.0 new) lines
+pub heard_on : (lay : Layout) (calls : List Call) (words : Contents) (all : List Client) (lines : List Line) (c new : Client) (q : Running) (found number : ℕ) → IsHeard lay calls words all lines c q found number → GoesOn (client_view lay calls lines c.pass.0) c new → AreBetweenTurns lay calls words (set all c.pass.0 new) lines
 heard_on lay calls words all lines c new q found number x g =
     turn_ends lay calls words (set all c.pass.0 new) lines new record { entry = x.entry; reply = x.none_owed }
-    (subst (λ (k : ℕ). IsClient (view lay calls lines k) (begin lines k) new) (ap (λ (p : PassNo). p.0) (sym g.same.pass)) (inr (g.running, g.is, g.waits, x.began ∙ ap (λ (k : ℕ). Some k) (sym g.begin))))
+    (subst (λ (k : ℕ). IsClient (client_view lay calls lines k) (begin lines k) new) (ap (λ (p : PassNo). p.0) (sym g.same.pass)) (inr (g.running, g.is, g.waits, x.began ∙ ap (λ (k : ℕ). Some k) (sym g.begin))))
     (turn_changed lay calls words all lines c new g.same.pass x.turn)
 
 -- its call ends, and the reply is written down
-pub heard_end : (lay : Layout) (calls : List Call) (words : Contents) (all : List Client) (lines : List Line) (c mid new : Client) (q : Running) (found number : ℕ) (answer : Answer) (said : Option ℕ) (reply : Reply) → length calls ≤ 65536 → IsHeard lay calls words all lines c q found number → Ends (view lay calls lines c.pass.0) c mid answer → ((turn : ℕ) → won lay lines c.pass.0 ≡ Some turn → said ≡ Some turn) → IsEnd calls mid new number answer said reply → IsBetween lay calls words (set (set all c.pass.0 mid) c.pass.0 new) (ReplyLine reply ∷ lines)
+pub heard_end : (lay : Layout) (calls : List Call) (words : Contents) (all : List Client) (lines : List Line) (c mid new : Client) (q : Running) (found number : ℕ) (answer : Answer) (said : Option ℕ) (reply : Reply) → length calls ≤ 65536 → IsHeard lay calls words all lines c q found number → Ends (client_view lay calls lines c.pass.0) c mid answer → ((turn : ℕ) → won lay lines c.pass.0 ≡ Some turn → said ≡ Some turn) → IsEnd calls mid new number answer said reply → AreBetweenTurns lay calls words (set (set all c.pass.0 mid) c.pass.0 new) (ReplyLine reply ∷ lines)
 heard_end lay calls words all lines c mid new q found number answer said reply few x g wins e =
-    subst (λ (k : ℕ). IsBetween lay calls words (set (set all c.pass.0 mid) k new) (ReplyLine reply ∷ lines)) pass0
+    subst (λ (k : ℕ). AreBetweenTurns lay calls words (set (set all c.pass.0 mid) k new) (ReplyLine reply ∷ lines)) pass0
     (replied lay calls words (set all c.pass.0 mid) lines mid new answer said reply g.command number few
     (turn_changed lay calls words all lines c mid g.same.pass x.turn)
     (subst (λ (k : ℕ). IsOver lay calls lines k mid g.command answer) (sym pass0) over)
@@ -252,7 +252,7 @@ heard_end lay calls words all lines c mid new q found number answer said reply f
 -- What the player makes of it
 
 -- the same under other names
-pub between_at : (lay lay' : Layout) (calls calls' : List Call) (words words' : Contents) (all all' : List Client) (lines lines' : List Line) → lay' ≡ lay → calls' ≡ calls → words' ≡ words → all' ≡ all → lines' ≡ lines → IsBetween lay calls words all lines → IsBetween lay' calls' words' all' lines'
+pub between_at : (lay lay' : Layout) (calls calls' : List Call) (words words' : Contents) (all all' : List Client) (lines lines' : List Line) → lay' ≡ lay → calls' ≡ calls → words' ≡ words → all' ≡ all → lines' ≡ lines → AreBetweenTurns lay calls words all lines → AreBetweenTurns lay' calls' words' all' lines'
 between_at lay lay' calls calls' words words' all all' lines lines' a b c d e x = rw (a, b, c, d, e) x
 
 -- what is remembered of a client is the turn that the lines say
@@ -271,10 +271,10 @@ turns_logged lay pushed after m = go (entry_owed lay pushed) m
     go (Some entry) e = ap (λ (l : List Line). clients l) e
 
 -- what is told to the client as the player has it, is told to that client
-pub told_goes : (v : View) (now c new : Client) (q : Running) (found : ℕ) → now ≡ c → IsSound v → c.running ≡ Some q → Hears v c q found → ((w : View) (r : Running) → IsSound w → now.running ≡ Some r → Hears w now r found → GoesOn w now new) → GoesOn v c new
+pub told_goes : (v : ClientView) (now c new : Client) (q : Running) (found : ℕ) → now ≡ c → IsSound v → c.running ≡ Some q → Hears v c q found → ((w : ClientView) (r : Running) → IsSound w → now.running ≡ Some r → Hears w now r found → GoesOn w now new) → GoesOn v c new
 told_goes v now c new q found e sound runs h f = subst (λ (k : Client). GoesOn v k new) e (f v q sound (subst (λ (k : Client). k.running ≡ Some q) (sym e) runs) (subst (λ (k : Client). Hears v k q found) (sym e) h))
 
-pub told_ends : (v : View) (now c new : Client) (q : Running) (found : ℕ) (answer : Answer) → now ≡ c → IsSound v → c.running ≡ Some q → Hears v c q found → ((w : View) (r : Running) → IsSound w → now.running ≡ Some r → Hears w now r found → Ends w now new answer) → Ends v c new answer
+pub told_ends : (v : ClientView) (now c new : Client) (q : Running) (found : ℕ) (answer : Answer) → now ≡ c → IsSound v → c.running ≡ Some q → Hears v c q found → ((w : ClientView) (r : Running) → IsSound w → now.running ≡ Some r → Hears w now r found → Ends w now new answer) → Ends v c new answer
 told_ends v now c new q found answer e sound runs h f = subst (λ (k : Client). Ends v k new answer) e (f v q sound (subst (λ (k : Client). k.running ≡ Some q) (sym e) runs) (subst (λ (k : Client). Hears v k q found) (sym e) h))
 
 -- a script has few calls

@@ -21,7 +21,7 @@ use Rattle.record.specs.Commands.{commands, next_command}
 use Rattle.record.specs.CommandRules.{most_steps}
 use Rattle.record.specs.LawfulRun.{OwesNothing, AreLines}
 use Rattle.record.specs.Replies.{IsReply}
-use Rattle.player.specs.Played.{IsPlayed, IsSameScript, IsTurnMore}
+use Rattle.player.specs.BetweenTurns.{IsBetweenTurns, IsSameScript, IsTurnMore}
 use Rattle.record.specs.OneClient.{HasCall, AwaitsSteps, AreMadeWhile}
 use Rattle.player.specs.TurnsMore.{AreTurnsWhile, to_go}
 
@@ -78,7 +78,7 @@ pub one_more : (p q : Player) (c : ℕ) (row : Row) → IsTurnMore p q c row →
 one_more p q c row t = turns_are (lines_of q) ∙ ap (λ (l : List ℕ). length l) t.turns ∙ ap suc (sym (turns_are (lines_of p)))
 
 -- before the first turn
-pub no_turns : (so : List Line → Type 0) (c : ℕ) (p : Player) → IsPlayed p → AreTurnsWhile so c p p
+pub no_turns : (so : List Line → Type 0) (c : ℕ) (p : Player) → IsBetweenTurns p → AreTurnsWhile so c p p
 unfolding AreMadeWhile
 no_turns so c p played = record { played = played; script = record { limits = refl; layout = refl; calls = refl }; behind = []; lines = refl; each = tt; turns = refl }
 

@@ -3,20 +3,19 @@ use Rattle.std.proofs.Common.{◌≡◌, ◌≢◌, ℕ, suc, ◌≤◌, ◌⊎�
 use Rattle.arena.specs.declared.layout.Layout.{Layout}
 use Rattle.arena.specs.declared.step.Row.{Row}
 use Rattle.arena.specs.declared.step.Step.{Step as Ask}
-use Rattle.arena.specs.Share.{Left}
-use Rattle.arena.specs.Words.{deed_after}
-use Rattle.arena.specs.History.{History, ◌⊳◌, value, EndsWith}
+use Rattle.arena.specs.Share.{Remaining}
+use Rattle.arena.specs.Words.{word_after}
+use Rattle.arena.specs.History.{History, ◌⊳◌, value, Extends}
 use Rattle.arena.specs.Blame.{IsMember, IsInProgress}
-use Rattle.arena.proofs.Found.{last_more}
+use Rattle.arena.proofs.Lemmas.{last_more, ends_self}
 use Rattle.arena.specs.Fills.{IsOwnNode, IsOwnScx, IsTakenNode, IsTakenScx}
 use Rattle.arena.specs.Lawful.{Lawful, HasWon}
 use Rattle.arena.specs.Machines.{Call, IsTold, row_of}
-use Rattle.arena.proofs.Values.{ends_self}
 use Rattle.histories.proofs.Lemmas.{Logs, UpdateWins, facts_before, logs, same as log_same, update_split, update_won, wins as log_wins, won_more}
-use Rattle.prims.specs.Cells.{allows_all}
-use Rattle.prims.specs.Moments.{AreOver}
-use Rattle.prims.specs.Begun.{TakesOnly, takes_by_others}
-use Rattle.prims.proofs.Alone.{alone_more, moment_more, over_more}
+use Rattle.prims.specs.Cells.{AllowsAll}
+use Rattle.prims.specs.Moments.{AreFinished}
+use Rattle.prims.specs.Laws.Begun.{TakesOnly, takes_by_others}
+use Rattle.prims.proofs.Lemmas.{alone_more, moment_more, over_more, put_covers, put_covers_then, share_by_others, share_by_step, share_by_put, own_in_hand, next_idle, wins_in_progress, usable_since, llx_fills_not, vlx_fills_not, put_looks_not, untaken_node_by_others}
 use Rattle.prims.specs.Snaps.{IsAmong}
 use Rattle.prims.specs.Snap.{snap_at}
 use Rattle.prims.specs.declared.snap.Snap.{Snap}
@@ -28,42 +27,36 @@ use Rattle.player.specs.declared.client.Client.{Client}
 use Rattle.player.specs.declared.client.Running.{Running}
 use Rattle.player.specs.declared.client.Put.{Put}
 use Rattle.player.specs.declared.kept.Found.{Found}
-use Rattle.player.specs.Kept.{IsUnspent, kept_of, snap_of}
+use Rattle.player.specs.KeptSnaps.{IsUnspent, kept_of, snap_of}
 use Rattle.record.specs.Answers.{HasRoom}
-use Rattle.player.specs.RunKnown.{run_waits, run_ready, run_keeps, run_lawful, run_made}
-use Rattle.player.specs.View.{View, Hand, no_hand, in_hand, snaps_of, IsSound, HasNewest, IsStart, IsSource, IsRunOf, HasTaken, HaveMoments, IsRoomy, IsWonAs, IsWonBy, Stands, Rests, Works, Waits, Hears, IsClient, machine_call}
-use Rattle.prims.proofs.PutEntries.{put_covers, put_covers_then}
+use Rattle.player.specs.RunKnown.{RunWaits, RunIsReady, run_keeps, run_lawful, run_made}
+use Rattle.player.specs.ClientView.{ClientView, Hand, no_hand, in_hand, snaps_of, IsSound, HasNewest, IsStart, IsSource, IsMachineOf, HasTaken, HaveMoments, IsRoomy, IsWonAs, IsWonBy, IsClientState, Rests, Works, Waits, Hears, IsClient, machine_call}
 use Rattle.player.proofs.Shapes.{as_cells, as_played}
-use Rattle.prims.proofs.Shares.{share_by_others, share_by_step, share_by_put, own_in_hand, next_idle, wins_in_progress}
-use Rattle.prims.proofs.Usable.{usable_since}
 use Rattle.prims.specs.Shares.{IsShare}
 use Rattle.player.proofs.Over.{takes_by_own, nodes_by_own}
-use Rattle.prims.proofs.FillsNot.{llx_fills_not, vlx_fills_not}
-use Rattle.prims.proofs.LooksNot.{put_looks_not}
 use Rattle.prims.specs.declared.put.PutRun.{PutRun}
 use Rattle.arena.specs.declared.step.Kind.TheVariants.{LoadInfo}
-use Rattle.prims.proofs.UntakenNodes.{untaken_node_by_others}
 
 some_number : (a b : ℕ) → Some a ≡ Some b → a ≡ b
 some_number a b e = cc
 
 -- Its own machine's step leaves what the share still has untouched
 
-pub share_by_own : (run : Run) (call : Call) (h : History) (step : Ask) (left : Left) (node scx : ℕ) → Lawful call.layout (row_of call step h ⊳ h) → run_waits run call h step → HasNewest left run → IsShare call.layout h call.pass left node scx → IsShare call.layout (row_of call step h ⊳ h) call.pass left node scx
-share_by_own (Llx m) call h step left node scx l w newest x = share_by_step call.layout h (row_of call step h) call.pass left node scx l (llx_fills_not allows_all m call h step w) x
+pub share_by_own : (run : Run) (call : Call) (h : History) (step : Ask) (left : Remaining) (node scx : ℕ) → Lawful call.layout (row_of call step h ⊳ h) → RunWaits run call h step → HasNewest left run → IsShare call.layout h call.pass left node scx → IsShare call.layout (row_of call step h ⊳ h) call.pass left node scx
+share_by_own (Llx m) call h step left node scx l w newest x = share_by_step call.layout h (row_of call step h) call.pass left node scx l (llx_fills_not AllowsAll m call h step w) x
 share_by_own (Vlx m) call h step left node scx l w newest x = share_by_step call.layout h (row_of call step h) call.pass left node scx l (vlx_fills_not m.snaps m.asked call h step w) x
-share_by_own (Scx m) call h step left node scx l w newest x = share_by_put allows_all m call h step left node scx l w newest.0 newest.1 x
+share_by_own (Scx m) call h step left node scx l w newest x = share_by_put AllowsAll m call h step left node scx l w newest.0 newest.1 x
 
 -- the view with one row more, with this begin of the call, so many steps of its own, and this turn of its update
-abbrev pub after_row : View → Row → History → ℕ → Option ℕ → View
+abbrev pub after_row : ClientView → Row → History → ℕ → Option ℕ → ClientView
 after_row v r start steps won = record { layout = v.layout; calls = v.calls; past = r ⊳ v.past; answered = v.answered; start = start; steps = steps; won = won; linked = v.linked }
 
 -- the row of a client's own step
-abbrev pub own_row : View → Client → Ask → Row
-own_row v c step = record { pass = record { 0 = c.pass.0 }; call = c.number; kind = step.kind; word = step.word; before = value v.past step.word; after = deed_after step.deed (value v.past step.word) }
+abbrev pub own_row : ClientView → Client → Ask → Row
+own_row v c step = record { pass = record { 0 = c.pass.0 }; call = c.number; kind = step.kind; word = step.word; before = value v.past step.word; after = word_after step.access (value v.past step.word) }
 
 -- what a client has does not ask when its call began, nor whether an update has won
-pub stands_from : (v : View) (c : Client) (start : History) (won : Option ℕ) (hand : Hand) → Stands v c hand → Stands (record v { start = start; won = won }) c hand
+pub stands_from : (v : ClientView) (c : Client) (start : History) (won : Option ℕ) (hand : Hand) → IsClientState v c hand → IsClientState (record v { start = start; won = won }) c hand
 stands_from v c start won hand x = record { is_pass = x.is_pass; number = x.number; place = x.place; kept = x.kept; unkept = x.unkept; dropped = x.dropped; share = x.share; over = x.over }
 
 -- What a client has in hand
@@ -73,18 +66,18 @@ abbrev pub Covers : Layout → History → ℕ → Hand → Type 0
 Covers lay h c hand = (n : ℕ) → IsOwnScx lay c hand.scx → IsInProgress h hand.scx → IsMember h hand.scx n → IsAmong hand.snaps n
 
 -- a client without one covers nothing
-covers_none : (lay : Layout) (h : History) (c : ℕ) (left : Left) (node scx : ℕ) → Lawful lay h → IsShare lay h c left node scx → Covers lay h c (no_hand left)
+covers_none : (lay : Layout) (h : History) (c : ℕ) (left : Remaining) (node scx : ℕ) → Lawful lay h → IsShare lay h c left node scx → Covers lay h c (no_hand left)
 covers_none lay h c left node scx l share n own p m = absurd (next_idle lay h c left node scx l share own p)
 
-covers_waits : (run : Run) (call : Call) (h : History) (step : Ask) (left : Left) → Lawful call.layout h → run_waits run call h step → IsShare call.layout h call.pass left (in_hand left run).node (in_hand left run).scx → Covers call.layout h call.pass (in_hand left run)
+covers_waits : (run : Run) (call : Call) (h : History) (step : Ask) (left : Remaining) → Lawful call.layout h → RunWaits run call h step → IsShare call.layout h call.pass left (in_hand left run).node (in_hand left run).scx → Covers call.layout h call.pass (in_hand left run)
 covers_waits (Llx m) call h step left l w share = covers_none call.layout h call.pass left _ _ l share
 covers_waits (Vlx m) call h step left l w share = covers_none call.layout h call.pass left _ _ l share
-covers_waits (Scx m) call h step left l w share = λ n own p x. put_covers allows_all m call h step n w p x
+covers_waits (Scx m) call h step left l w share = λ n own p x. put_covers AllowsAll m call h step n w p x
 
-covers_ready : (run : Run) (call : Call) (h : History) (v : ℕ) (left : Left) → Lawful call.layout h → run_ready run call h (Some v) → IsShare call.layout h call.pass left (in_hand left run).node (in_hand left run).scx → Covers call.layout h call.pass (in_hand left run)
+covers_ready : (run : Run) (call : Call) (h : History) (v : ℕ) (left : Remaining) → Lawful call.layout h → RunIsReady run call h (Some v) → IsShare call.layout h call.pass left (in_hand left run).node (in_hand left run).scx → Covers call.layout h call.pass (in_hand left run)
 covers_ready (Llx m) call h v left l w share = covers_none call.layout h call.pass left _ _ l share
 covers_ready (Vlx m) call h v left l w share = covers_none call.layout h call.pass left _ _ l share
-covers_ready (Scx m) call h v left l w share = λ n own p x. put_covers_then allows_all m call h v n w p x
+covers_ready (Scx m) call h v left l w share = λ n own p x. put_covers_then AllowsAll m call h v n w p x
 
 -- One more row
 
@@ -93,7 +86,7 @@ unspent_more : (lay : Layout) (c : ℕ) (h : History) (r : Row) (snap : Snap) (m
 unspent_more lay c h r snap moment l none x = record { usable = usable_since lay (r ⊳ h) h snap moment l (inr (ends_self h)) x.usable; alone = alone_more lay c h r snap none x.alone }
 
 -- it leaves what a client has, if it leaves its share and what it has taken, and what it has in hand covers its snapshots
-stands_more : (v : View) (c : Client) (r : Row) (start : History) (steps : ℕ) (won : Option ℕ) (hand : Hand) → IsSound (after_row v r start steps won) → IsShare v.layout (r ⊳ v.past) c.pass.0 c.share hand.node hand.scx → AreOver v.layout c.pass.0 hand.scx (r ⊳ v.past) → Covers v.layout (r ⊳ v.past) c.pass.0 hand → Stands v c hand → Stands (after_row v r start steps won) c hand
+stands_more : (v : ClientView) (c : Client) (r : Row) (start : History) (steps : ℕ) (won : Option ℕ) (hand : Hand) → IsSound (after_row v r start steps won) → IsShare v.layout (r ⊳ v.past) c.pass.0 c.share hand.node hand.scx → AreFinished v.layout c.pass.0 hand.scx (r ⊳ v.past) → Covers v.layout (r ⊳ v.past) c.pass.0 hand → IsClientState v c hand → IsClientState (after_row v r start steps won) c hand
 stands_more v c r start steps won hand run share over covers x = record {
   is_pass = x.is_pass;
   number = x.number;
@@ -113,7 +106,7 @@ stands_more v c r start steps won hand run share over covers x = record {
         cc
 
 -- what a row says of the update of client c: it has won in this turn, or its turn is as it was
-pub record TellsWon (v : View) (c : ℕ) (r : Row) (number : ℕ) (won : Option ℕ) : Type 0 where
+pub record TellsWon (v : ClientView) (c : ℕ) (r : Row) (number : ℕ) (won : Option ℕ) : Type 0 where
   pub yes : (s : ℕ) → UpdateWins v.past r s → IsOwnScx v.layout c s → won ≡ Some number
   pub no : (won ≡ v.won) ⊎ ((won ≡ Some number) × ((s : ℕ) × UpdateWins v.past r s × IsOwnScx v.layout c s))
 
@@ -125,9 +118,9 @@ won_by lay h r s l w = go (logs lay h r l)
     go (log_same e back) = inl (back s w)
     go (log_wins u x e) = ⊎_elim (λ q. inr (rw q x)) (λ y. inl y) (update_split (facts_before lay h r l) x s w)
 
-module _ (v : View) (c : Client) (r : Row) (number : ℕ) (start : History) (steps : ℕ) (won : Option ℕ) (sound : IsSound v) (run : IsSound (after_row v r start steps won)) (tells : TellsWon v c.pass.0 r number won) where
+module _ (v : ClientView) (c : Client) (r : Row) (number : ℕ) (start : History) (steps : ℕ) (won : Option ℕ) (sound : IsSound v) (run : IsSound (after_row v r start steps won)) (tells : TellsWon v c.pass.0 r number won) where
   -- without an SCX in hand no update of the client's wins
-  no_win : (hand : Hand) → Stands v c hand → hand.scx ≡ c.share.next_scx → v.won ≡ None → won ≡ None
+  no_win : (hand : Hand) → IsClientState v c hand → hand.scx ≡ c.share.next_scx → v.won ≡ None → won ≡ None
   no_win hand x e none = ⊎_elim (λ q. q ∙ none) (λ y. absurd (bad y.1)) tells.no
     where
       bad : ((s : ℕ) × UpdateWins v.past r s × IsOwnScx v.layout c.pass.0 s) → ⊥
@@ -137,7 +130,7 @@ module _ (v : View) (c : Client) (r : Row) (number : ℕ) (start : History) (ste
           next_idle v.layout v.past c.pass.0 c.share hand.node hand.scx sound.lawful x.share (rw same at y.2) (rw same at p)
 
   -- the update of the SCX in hand has won where its SCX-record has
-  won_as : (hand : Hand) → Stands v c hand → IsWonAs v c.pass.0 hand.scx → IsWonAs (after_row v r start steps won) c.pass.0 hand.scx
+  won_as : (hand : Hand) → IsClientState v c hand → IsWonAs v c.pass.0 hand.scx → IsWonAs (after_row v r start steps won) c.pass.0 hand.scx
   won_as hand x w = record { own = w.own; yes = yes; no = no }
     where
       still : (turn : ℕ) → v.won ≡ Some turn → (turn : ℕ) × (won ≡ Some turn)
@@ -154,7 +147,7 @@ module _ (v : View) (c : Client) (r : Row) (number : ℕ) (start : History) (ste
               let same : z.0 ≡ hand.scx = own_in_hand v.layout v.past c.pass.0 z.0 hand.scx sound.lawful x.over z.2 (wins_in_progress v.layout v.past r z.0 run.lawful z.1) in
               y (rw same at (update_won (facts_before v.layout v.past r run.lawful) z.1))
 
-  won_more_by : (q : Run) → Stands v c (in_hand c.share q) → IsWonBy v c.pass.0 q → IsWonBy (after_row v r start steps won) c.pass.0 q
+  won_more_by : (q : Run) → IsClientState v c (in_hand c.share q) → IsWonBy v c.pass.0 q → IsWonBy (after_row v r start steps won) c.pass.0 q
   won_more_by (Scx m) x w = won_as (in_hand c.share (Scx m)) x w
   won_more_by (Llx m) x w = no_win (no_hand c.share) x refl w
   won_more_by (Vlx m) x w = no_win (no_hand c.share) x refl w
@@ -169,13 +162,13 @@ module _ (v : View) (c : Client) (r : Row) (number : ℕ) (start : History) (ste
       record { moment = y.moment; found = moment_more v.layout v.past r (snap_at snaps i) y.moment y.found; source = source_more command (snap_at snaps i).node.0 y.moment y.source }
     where
       source_more : (command : Command) (n : ℕ) (moment : History) → IsSource v c.pass.0 command n moment → IsSource (after_row v r start steps won) c.pass.0 command n moment
-      source_more (SetOf field x) n moment y = record { row = y.row; before = y.before; is = y.is; since = subst (λ (k : History). EndsWith y.before k) (sym since) y.since; last = last_more c.pass.0 v.past LoadInfo n r y.row y.before looks y.last }
+      source_more (SetOf field x) n moment y = record { row = y.row; before = y.before; is = y.is; since = subst (λ (k : History). Extends y.before k) (sym since) y.since; last = last_more c.pass.0 v.past LoadInfo n r y.row y.before looks y.last }
       source_more (ScxOf update) n moment y = y
       source_more (VlxOf cells) n moment y = y
       source_more (LlxOf cell) n moment y = y
 
   -- an LLX has no snapshots yet, and those of a VLX are kept ones
-  moments_by : (q : Run) (then : Option Put) (command : Command) → start ≡ v.start → ((m : PutRun) → q ≡ Scx m → r.pass.0 ≡ c.pass.0 → r.kind ≢ LoadInfo) → IsRunOf command c.number q then → HaveMoments v c.pass.0 command (snaps_of q) → HaveMoments (after_row v r start steps won) c.pass.0 command (snaps_of q)
+  moments_by : (q : Run) (then : Option Put) (command : Command) → start ≡ v.start → ((m : PutRun) → q ≡ Scx m → r.pass.0 ≡ c.pass.0 → r.kind ≢ LoadInfo) → IsMachineOf command c.number q then → HaveMoments v c.pass.0 command (snaps_of q) → HaveMoments (after_row v r start steps won) c.pass.0 command (snaps_of q)
   moments_by (Llx m) then command since looks of x = λ i p. absurd (omega arith)
   moments_by (Scx m) then command since looks of x = moments_more command m.scx.update.snaps since (looks m refl) x
   moments_by (Vlx m) then (VlxOf cells) since looks of x = λ i p. let y = x i p in record { moment = y.moment; found = moment_more v.layout v.past r (snap_at m.snaps i) y.moment y.found; source = y.source }
@@ -195,7 +188,7 @@ module _ (v : View) (c : Client) (r : Row) (number : ℕ) (start : History) (ste
   roomy (Vlx m) e y = tt
 
   -- a machine still runs
-  works_more : (q : Run) (then : Option Put) → start ≡ v.start → c.begin ≤ number → ((m : PutRun) → q ≡ Scx m → r.pass.0 ≡ c.pass.0 → r.kind ≢ LoadInfo) → TakesOnly v.layout c.pass.0 (in_hand c.share q).scx v.past r → ((n : ℕ) → IsOwnNode v.layout c.pass.0 n → n ≢ (in_hand c.share q).node → ¬ IsTakenNode v.past n → ¬ IsTakenNode (r ⊳ v.past) n) → Stands (after_row v r start steps won) c (in_hand c.share q) → Works v c q then → Works (after_row v r start steps won) c q then
+  works_more : (q : Run) (then : Option Put) → start ≡ v.start → c.begin ≤ number → ((m : PutRun) → q ≡ Scx m → r.pass.0 ≡ c.pass.0 → r.kind ≢ LoadInfo) → TakesOnly v.layout c.pass.0 (in_hand c.share q).scx v.past r → ((n : ℕ) → IsOwnNode v.layout c.pass.0 n → n ≢ (in_hand c.share q).node → ¬ IsTakenNode v.past n → ¬ IsTakenNode (r ⊳ v.past) n) → IsClientState (after_row v r start steps won) c (in_hand c.share q) → Works v c q then → Works (after_row v r start steps won) c q then
   works_more q then same i looks takes nodes stands x = record {
     mode = x.mode;
     stands = stands;
@@ -217,11 +210,11 @@ module _ (v : View) (c : Client) (r : Row) (number : ℕ) (start : History) (ste
 
 -- Rows of others
 
-module _ (v : View) (c : Client) (r : Row) (number : ℕ) (start : History) (won : Option ℕ) (sound : IsSound v) (run : IsSound (after_row v r start v.steps won)) (tells : TellsWon v c.pass.0 r number won) (other : r.pass.0 ≢ c.pass.0) where
-  share_then : (hand : Hand) → Stands v c hand → IsShare v.layout (r ⊳ v.past) c.pass.0 c.share hand.node hand.scx
+module _ (v : ClientView) (c : Client) (r : Row) (number : ℕ) (start : History) (won : Option ℕ) (sound : IsSound v) (run : IsSound (after_row v r start v.steps won)) (tells : TellsWon v c.pass.0 r number won) (other : r.pass.0 ≢ c.pass.0) where
+  share_then : (hand : Hand) → IsClientState v c hand → IsShare v.layout (r ⊳ v.past) c.pass.0 c.share hand.node hand.scx
   share_then hand x = share_by_others v.layout v.past r c.pass.0 c.share hand.node hand.scx run.lawful x.is_pass other x.share
 
-  stands_by_others : (hand : Hand) → Covers v.layout (r ⊳ v.past) c.pass.0 hand → Stands v c hand → Stands (after_row v r start v.steps won) c hand
+  stands_by_others : (hand : Hand) → Covers v.layout (r ⊳ v.past) c.pass.0 hand → IsClientState v c hand → IsClientState (after_row v r start v.steps won) c hand
   stands_by_others hand covers x = stands_more v c r start v.steps won hand run (share_then hand x) (over_more v.layout c.pass.0 hand.scx v.past r run.lawful (takes_by_others v.layout c.pass.0 hand.scx v.past r run.lawful other) x.over) covers x
 
   rests_by_others : Rests v c → Rests (after_row v r start v.steps won) c
@@ -240,7 +233,7 @@ module _ (v : View) (c : Client) (r : Row) (number : ℕ) (start : History) (won
 
 -- Its own step
 
-module _ (v : View) (c : Client) (q : Running) (sound : IsSound v) (w : Waits v c q) where
+module _ (v : ClientView) (c : Client) (q : Running) (sound : IsSound v) (w : Waits v c q) where
   abbrev call : Call
   call = machine_call v c w.works.is_pass w.works.start
 
@@ -251,11 +244,11 @@ module _ (v : View) (c : Client) (q : Running) (sound : IsSound v) (w : Waits v 
   step_sound won = as_played v.layout (own_row v c q.step ⊳ v.past) w.works.mode (run_lawful q.run call v.past q.step (as_cells v.layout v.past sound) w.waits)
 
   -- the machine may be told what the step found
-  pub hears : (number : ℕ) (won : Option ℕ) → TellsWon v c.pass.0 (own_row v c q.step) number won → c.begin ≤ number → (found : ℕ) → IsTold q.step.deed (value v.past q.step.word) found → Hears (after_row v (own_row v c q.step) v.start (suc v.steps) won) c q found
+  pub hears : (number : ℕ) (won : Option ℕ) → TellsWon v c.pass.0 (own_row v c q.step) number won → c.begin ≤ number → (found : ℕ) → IsTold q.step.access (value v.past q.step.word) found → Hears (after_row v (own_row v c q.step) v.start (suc v.steps) won) c q found
   unfolding works_more
   hears number won tells late found told =
       let run = step_sound won in
       let ready = run_made q.run call v.past q.step found (as_cells v.layout (own_row v c q.step ⊳ v.past) run) told w.waits in
       let share = share_by_own q.run call v.past q.step c.share _ _ run.lawful w.waits w.works.newest w.works.stands.share in
       let stands = stands_more v c (own_row v c q.step) v.start (suc v.steps) won hand run share (over_more v.layout c.pass.0 hand.scx v.past (own_row v c q.step) run.lawful (takes_by_own q.run call c.share v.past q.step w.waits) w.works.stands.over) (covers_ready q.run call (own_row v c q.step ⊳ v.past) found c.share run.lawful ready share) w.works.stands in
-      record { works = works_more v c (own_row v c q.step) number v.start (suc v.steps) won sound run tells q.run q.then refl late (λ m z own. put_looks_not allows_all m call v.past q.step (subst (λ (k : Run). run_waits k call v.past q.step) z w.waits)) (takes_by_own q.run call c.share v.past q.step w.waits) (λ n own d. nodes_by_own q.run call c.share v.past q.step w.waits n d) stands w.works; ready = ready; few = λ taken. let few = w.few taken in omega arith }
+      record { works = works_more v c (own_row v c q.step) number v.start (suc v.steps) won sound run tells q.run q.then refl late (λ m z own. put_looks_not AllowsAll m call v.past q.step (subst (λ (k : Run). RunWaits k call v.past q.step) z w.waits)) (takes_by_own q.run call c.share v.past q.step w.waits) (λ n own d. nodes_by_own q.run call c.share v.past q.step w.waits n d) stands w.works; ready = ready; few = λ taken. let few = w.few taken in omega arith }

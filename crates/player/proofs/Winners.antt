@@ -16,7 +16,7 @@ use Rattle.arena.specs.History.{History, ◌⊳◌, value}
 use Rattle.arena.specs.ScxRecords.{plan, side_of, field_index, member}
 use Rattle.arena.specs.Lawful.{Lawful}
 use Rattle.arena.specs.Log.{owner}
-use Rattle.arena.proofs.Values.{value_apart, node_word_apart}
+use Rattle.arena.proofs.Lemmas.{value_apart, node_word_apart}
 use Rattle.histories.specs.Descriptor.{descriptor}
 use Rattle.histories.specs.Progress.{IsStarted}
 use Rattle.histories.proofs.Lemmas.{Change, Facts, IsFlagged, IsOwned, UpdateWins, aborts, change, child_node, commits, facts, facts_before, fills_node, fills_scx, freezes, lawful_tail, marks, named_scx_inside, nothing, one_scx_owner, sets_frozen, some_is_real, update_changes, update_flagged, update_holds, updates}
@@ -26,7 +26,7 @@ use Rattle.record.specs.declared.record.Line.TheVariants.{Step}
 use Rattle.record.specs.declared.record.Row.TheVariants.{Step as Made}
 use Rattle.record.specs.declared.record.Entry.{Entry}
 use Rattle.record.specs.Turns.{history, entries, is_update, entry_at, entry_of, is_entry_of, won}
-use Rattle.player.specs.View.{view}
+use Rattle.player.specs.ClientView.{client_view}
 use Rattle.player.proofs.Views.{TellsWon}
 
 -- an update that changes its field finds in the info of the field's node an SCX-record of the table, and not the dummy
@@ -143,7 +143,7 @@ module _ (lay : Layout) (lines : List Line) (number : ℕ) (row : Row) (l : Lawf
       go (updates u w) = let y = win_enters u w in (u, subst (λ (k : Entry). IsEntryOfWin lay h row k u) (some_entry y.entry entry (sym y.is ∙ e)) y.of_win)
 
   -- so the lines tell of the update of each client whether it has won
-  pub tells_won : (calls : List CallOf) (j : ℕ) → TellsWon (view lay calls lines j) j row number (won lay (Step (Made number row) ∷ lines) j)
+  pub tells_won : (calls : List CallOf) (j : ℕ) → TellsWon (client_view lay calls lines j) j row number (won lay (Step (Made number row) ∷ lines) j)
   tells_won calls j = record { yes = yes; no = no (entry_of lay lines number row) refl }
     where
       yes : (s : ℕ) → UpdateWins h row s → IsOwnScx lay j s → won lay (Step (Made number row) ∷ lines) j ≡ Some number

@@ -4,14 +4,14 @@ use Rattle.arena.specs.declared.limits.Mode.{Mode}
 use Rattle.arena.specs.declared.limits.Mode.TheVariants.{Records, Tree}
 use Rattle.arena.specs.declared.layout.Layout.{Layout}
 use Rattle.arena.specs.History.{History}
-use Rattle.prims.specs.Cells.{allows_all}
+use Rattle.prims.specs.Cells.{AllowsAll}
 
 -- which SCX-records may begin in this mode: in cells all; in
 -- tree mode none, as no call there begins one yet
-abbrev pub allowed_in : Mode → Layout → History → ℕ → Type 0
-allowed_in Records lay h s = allows_all lay h s
-allowed_in Tree lay h s = ⊥
+abbrev pub AllowsIn : Mode → Layout → History → ℕ → Type 0
+AllowsIn Records lay h s = AllowsAll lay h s
+AllowsIn Tree lay h s = ⊥
 
 -- which SCX-records may begin in a player's run: those that the mode of its layout allows
-abbrev pub played_allows : Layout → History → ℕ → Type 0
-played_allows lay h s = allowed_in lay.mode lay h s
+abbrev pub PlayedAllows : Layout → History → ℕ → Type 0
+PlayedAllows lay h s = AllowsIn lay.mode lay h s

@@ -3,8 +3,8 @@ pub mod RunSteps
 pub mod RunKnown
 pub mod Lines
 pub mod Player
-pub mod Kept
 pub mod Place
-pub mod View
-pub mod Played
 pub mod TurnsMore
+pub mod ClientView
+pub mod BetweenTurns
+pub mod KeptSnaps

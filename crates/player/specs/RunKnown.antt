@@ -7,13 +7,13 @@ use Rattle.arena.specs.declared.step.Row.{Row}
 use Rattle.arena.specs.declared.step.Step.{Step}
 use Rattle.arena.specs.History.{History, ◌⊳◌, value}
 use Rattle.arena.specs.Machines.{Call, IsRun, IsTold, row_of}
-use Rattle.prims.specs.Cells.{allows_all}
-use Rattle.prims.specs.LlxKnown.{llx_ready, llx_waits, llx_answers}
-use Rattle.prims.specs.LlxLaws.{llx_keeps, llx_lawful, llx_made}
-use Rattle.prims.specs.VlxKnown.{vlx_ready, vlx_waits, vlx_answers}
-use Rattle.prims.specs.VlxLaws.{vlx_keeps, vlx_lawful, vlx_made}
-use Rattle.prims.specs.PutKnown.{put_ready, put_waits, put_answers}
-use Rattle.prims.specs.PutLaws.{put_keeps, put_lawful, put_made}
+use Rattle.prims.specs.Cells.{AllowsAll}
+use Rattle.prims.specs.Llx.Known.{LlxIsReady, LlxWaits, LlxAnswers}
+use Rattle.prims.specs.Llx.Laws.{llx_keeps, llx_lawful, llx_made}
+use Rattle.prims.specs.Vlx.Known.{VlxIsReady, VlxWaits, VlxAnswers}
+use Rattle.prims.specs.Vlx.Laws.{vlx_keeps, vlx_lawful, vlx_made}
+use Rattle.prims.specs.Put.Known.{PutIsReady, PutWaits, PutAnswers}
+use Rattle.prims.specs.Put.Laws.{put_keeps, put_lawful, put_made}
 use Rattle.prims.specs.declared.llx.Llx.TheVariants.{Snapshot as LlxSnapshot, Finalized as LlxFinalized, Fail as LlxFail}
 use Rattle.prims.specs.declared.scx.Scx.TheVariants.{Done as ScxDone, Lost as ScxLost}
 use Rattle.prims.specs.declared.vlx.Vlx.TheVariants.{Same as VlxSame, Changed as VlxChanged}
@@ -25,23 +25,23 @@ use Rattle.player.specs.declared.run.Ended.{Ended}
 use Rattle.player.specs.declared.run.Ended.TheVariants as ended
 
 -- the machine of a call may be called with this, as the one inside
-abbrev pub run_ready : Run → Call → History → Option ℕ → Type 0
-run_ready (Llx m) c h got = llx_ready allows_all m c h got
-run_ready (Scx m) c h got = put_ready allows_all m c h got
-run_ready (Vlx m) c h got = vlx_ready m.snaps m.asked c h got
+abbrev pub RunIsReady : Run → Call → History → Option ℕ → Type 0
+RunIsReady (Llx m) c h got = LlxIsReady AllowsAll m c h got
+RunIsReady (Scx m) c h got = PutIsReady AllowsAll m c h got
+RunIsReady (Vlx m) c h got = VlxIsReady m.snaps m.asked c h got
 
 -- the machine of a call waits for this step, as the one inside
-abbrev pub run_waits : Run → Call → History → Step → Type 0
-run_waits (Llx m) c h s = llx_waits allows_all m c h s
-run_waits (Scx m) c h s = put_waits allows_all m c h s
-run_waits (Vlx m) c h s = vlx_waits m.snaps m.asked c h s
+abbrev pub RunWaits : Run → Call → History → Step → Type 0
+RunWaits (Llx m) c h s = LlxWaits AllowsAll m c h s
+RunWaits (Scx m) c h s = PutWaits AllowsAll m c h s
+RunWaits (Vlx m) c h s = VlxWaits m.snaps m.asked c h s
 
 -- what the answer of the machine says, which is one of its own kind
-abbrev pub run_answers : Run → Call → History → Ended → Type 0
-run_answers (Llx m) c h (ended.Llx a) = llx_answers m c h a
-run_answers (Scx m) c h (ended.Scx a) = put_answers m c h a
-run_answers (Vlx m) c h (ended.Vlx a) = vlx_answers m.snaps c h a
-run_answers _ c h _ = ⊥
+abbrev pub RunAnswers : Run → Call → History → Ended → Type 0
+RunAnswers (Llx m) c h (ended.Llx a) = LlxAnswers m c h a
+RunAnswers (Scx m) c h (ended.Scx a) = PutAnswers m c h a
+RunAnswers (Vlx m) c h (ended.Vlx a) = VlxAnswers m.snaps c h a
+RunAnswers _ c h _ = ⊥
 
 -- what the record says where a machine has answered so
 abbrev pub answer_of : Ended → Answer
@@ -54,34 +54,34 @@ answer_of (ended.Vlx VlxSame) = Same
 answer_of (ended.Vlx (VlxChanged node scx)) = Changed node scx
 
 -- the two are machines of one kind, and of one call
-abbrev pub run_same : Run → Run → Type 0
-run_same (Llx old) (Llx now) = now.node ≡ old.node
-run_same (Scx old) (Scx now) = (now.scx.scx ≡ old.scx.scx) × (now.scx.update ≡ old.scx.update) × (now.scx.call ≡ old.scx.call) × (now.value ≡ old.value)
-run_same (Vlx old) (Vlx now) = now.snaps ≡ old.snaps
-run_same _ _ = ⊥
+abbrev pub IsSameMachine : Run → Run → Type 0
+IsSameMachine (Llx old) (Llx now) = now.node ≡ old.node
+IsSameMachine (Scx old) (Scx now) = (now.scx.scx ≡ old.scx.scx) × (now.scx.update ≡ old.scx.update) × (now.scx.call ≡ old.scx.call) × (now.value ≡ old.value)
+IsSameMachine (Vlx old) (Vlx now) = now.snaps ≡ old.snaps
+IsSameMachine _ _ = ⊥
 
 -- the mode in whose scripts the machine runs: all those of cells run in records mode
 abbrev pub run_mode : Run → Mode
 run_mode m = Records
 
 -- the machine makes a step before it answers: all those of cells do
-abbrev pub run_asks_first : Run → Type 0
-run_asks_first m = Unit {0}
+abbrev pub RunAsksFirst : Run → Type 0
+RunAsksFirst m = Unit {0}
 
 -- rows of other passes leave the machine waiting for the same step
-pub run_keeps : (m : Run) (c : Call) (h : History) (s : Step) (r : Row) → IsRun allows_all c.layout (r ⊳ h) → r.pass.0 ≢ c.pass → run_waits m c h s → run_waits m c (r ⊳ h) s
-run_keeps (Llx m) c h s r run other w = llx_keeps allows_all m c h s r run other w
-run_keeps (Scx m) c h s r run other w = put_keeps allows_all m c h s r run other w
-run_keeps (Vlx m) c h s r run other w = vlx_keeps allows_all m.snaps m.asked c h s r run other w
+pub run_keeps : (m : Run) (c : Call) (h : History) (s : Step) (r : Row) → IsRun AllowsAll c.layout (r ⊳ h) → r.pass.0 ≢ c.pass → RunWaits m c h s → RunWaits m c (r ⊳ h) s
+run_keeps (Llx m) c h s r run other w = llx_keeps AllowsAll m c h s r run other w
+run_keeps (Scx m) c h s r run other w = put_keeps AllowsAll m c h s r run other w
+run_keeps (Vlx m) c h s r run other w = vlx_keeps AllowsAll m.snaps m.asked c h s r run other w
 
 -- the step that the machine waits for continues the run
-pub run_lawful : (m : Run) (c : Call) (h : History) (s : Step) → IsRun allows_all c.layout h → run_waits m c h s → IsRun allows_all c.layout (row_of c s h ⊳ h)
-run_lawful (Llx m) c h s run w = llx_lawful allows_all m c h s run w
-run_lawful (Scx m) c h s run w = put_lawful allows_all m c h s run w
-run_lawful (Vlx m) c h s run w = vlx_lawful allows_all m.snaps m.asked c h s run w
+pub run_lawful : (m : Run) (c : Call) (h : History) (s : Step) → IsRun AllowsAll c.layout h → RunWaits m c h s → IsRun AllowsAll c.layout (row_of c s h ⊳ h)
+run_lawful (Llx m) c h s run w = llx_lawful AllowsAll m c h s run w
+run_lawful (Scx m) c h s run w = put_lawful AllowsAll m c h s run w
+run_lawful (Vlx m) c h s run w = vlx_lawful AllowsAll m.snaps m.asked c h s run w
 
 -- once the step is made, the machine may be called with what it told
-pub run_made : (m : Run) (c : Call) (h : History) (s : Step) (v : ℕ) → IsRun allows_all c.layout (row_of c s h ⊳ h) → IsTold s.deed (value h s.word) v → run_waits m c h s → run_ready m c (row_of c s h ⊳ h) (Some v)
-run_made (Llx m) c h s v run told w = llx_made allows_all m c h s v run told w
-run_made (Scx m) c h s v run told w = put_made allows_all m c h s v run told w
-run_made (Vlx m) c h s v run told w = vlx_made allows_all m.snaps m.asked c h s v run told w
+pub run_made : (m : Run) (c : Call) (h : History) (s : Step) (v : ℕ) → IsRun AllowsAll c.layout (row_of c s h ⊳ h) → IsTold s.access (value h s.word) v → RunWaits m c h s → RunIsReady m c (row_of c s h ⊳ h) (Some v)
+run_made (Llx m) c h s v run told w = llx_made AllowsAll m c h s v run told w
+run_made (Scx m) c h s v run told w = put_made AllowsAll m c h s v run told w
+run_made (Vlx m) c h s v run told w = vlx_made AllowsAll m.snaps m.asked c h s v run told w

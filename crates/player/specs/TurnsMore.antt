@@ -4,7 +4,7 @@ use Rattle.script.specs.declared.command.Call.{Call}
 use Rattle.record.specs.declared.record.Line.{Line}
 use Rattle.player.specs.declared.player.Player.{Player}
 use Rattle.player.specs.Player.{lines_of}
-use Rattle.player.specs.Played.{IsPlayed, IsSameScript}
+use Rattle.player.specs.BetweenTurns.{IsBetweenTurns, IsSameScript}
 use Rattle.record.specs.Turns.{turns, clients, answered, steps}
 use Rattle.record.specs.Commands.{commands}
 use Rattle.record.specs.OneClient.{AreMadeWhile}
@@ -12,7 +12,7 @@ use Rattle.record.specs.OneClient.{AreMadeWhile}
 -- the new lines are turns of this client alone, each made where `so` held
 -- of the lines before it; the script is the same
 pub record AreTurnsWhile (so : List Line → Type 0) (c : ℕ) (old new : Player) : Type 0 where
-  pub played : IsPlayed new
+  pub played : IsBetweenTurns new
   pub script : IsSameScript old.script new.script
   pub behind : List Line
   pub lines : lines_of new ≡ behind ++ lines_of old

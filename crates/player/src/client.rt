@@ -27,7 +27,7 @@ struct Running {
 
 /// How a client stands before a turn.
 #[derive(Clone, Copy, Debug, PartialEq, Eq)]
-pub(crate) enum Standing {
+pub(crate) enum NextAction {
     /// It has no call left.
     Finished,
     /// Its next call answers without a step.
@@ -62,13 +62,13 @@ impl Client {
     ghost use Rattle.player.specs.declared.run.Ended.TheVariants.{Llx as LlxEnded};
     ghost use Rattle.player.specs.declared.client.Running.{Running};
     ghost use Rattle.record.specs.Answers.{moment_of};
-    ghost use Rattle.player.specs.RunKnown.{run_asks_first};
-    ghost use Rattle.player.specs.View.{View, view, IsSound, IsBehind, Rests, command_of, Starts, Hears, Answered, Told, CanPut, Puts, Begins, Stood, IsUnbegun, IsClient};
+    ghost use Rattle.player.specs.RunKnown.{RunAsksFirst};
+    ghost use Rattle.player.specs.ClientView.{ClientView, client_view, IsSound, IsAtNextCall, Rests, command_of, Starts, Hears, Answered, Told, CanPut, Puts, BeginsOrRefuses, IsNextAction, IsUnbegun, IsClient};
 
     pub(crate) fn new(layout: &Layout, pass: PassNo, calls: &[Call]) -> Client
         requires { pass.0 < layout.now.passes }
         ensures pass { result.pass ≡ pass }
-        ensures rests { Rests (view layout.now calls.now [] pass.0) result }
+        ensures rests { Rests (client_view layout.now calls.now [] pass.0) result }
     {
         Client {
             pass,
@@ -94,8 +94,8 @@ impl Client {
     }
 
     /// How the client stands at this turn, with its next call begun.
-    pub(crate) fn stand(&mut self, calls: &[Call], turn: u64) -> Standing
-        ensures { (v : View) (began : Option ℕ) → IsSound v → (length v.calls ≢ 0 → v.layout.mode ≡ Records) → calls.now ≡ v.calls → IsClient v began self.old → Stood v turn self.old self.new result }
+    pub(crate) fn next_action(&mut self, calls: &[Call], turn: u64) -> NextAction
+        ensures { (v : ClientView) (began : Option ℕ) → IsSound v → (length v.calls ≢ 0 → v.layout.mode ≡ Records) → calls.now ≡ v.calls → IsClient v began self.old → IsNextAction v turn self.old self.new result }
     {
         if self.running.is_some() {
             return self.asked();
@@ -104,34 +104,34 @@ impl Client {
     }
 
     /// The step that the client waits for, if a call runs.
-    fn asked(&self) -> Standing
-        ensures { MatchOption self.now.running (result ≡ Standing.Finished) (λ r. result ≡ Standing.Asks r.step) }
+    fn asked(&self) -> NextAction
+        ensures { MatchOption self.now.running (result ≡ NextAction.Finished) (λ r. result ≡ NextAction.Asks r.step) }
     {
         match &self.running {
-            Some(running) => Standing::Asks(running.step),
-            None => Standing::Finished,
+            Some(running) => NextAction::Asks(running.step),
+            None => NextAction::Finished,
         }
     }
 
     /// Begins the next call, if there is one.
-    fn begin_next(&mut self, calls: &[Call], turn: u64) -> Standing
-        ensures { (v : View) (began : Option ℕ) → IsSound v → (length v.calls ≢ 0 → v.layout.mode ≡ Records) → calls.now ≡ v.calls → Rests v self.old → (self.old.next ≢ None → IsUnbegun v began) → Stood v turn self.old self.new result }
+    fn begin_next(&mut self, calls: &[Call], turn: u64) -> NextAction
+        ensures { (v : ClientView) (began : Option ℕ) → IsSound v → (length v.calls ≢ 0 → v.layout.mode ≡ Records) → calls.now ≡ v.calls → Rests v self.old → (self.old.next ≢ None → IsUnbegun v began) → IsNextAction v turn self.old self.new result }
     {
         let Some(at) = self.next else {
-            return Standing::Finished;
+            return NextAction::Finished;
         };
         let Some(call) = calls.get(at) else {
-            return Standing::Finished;
+            return NextAction::Finished;
         };
         if let Some(answer) = self.begin(call.command, turn) {
-            return Standing::Answers(answer);
+            return NextAction::Answers(answer);
         }
         self.asked()
     }
 
     /// Begins a call, which answers at once or asks for a step.
     fn begin(&mut self, command: Command, turn: u64) -> Option<Answer>
-        ensures { (v : View) (began : Option ℕ) → IsSound v → v.layout.mode ≡ Records → Rests v self.old → IsUnbegun v began → command_of v self.old ≡ Some command → Begins v turn self.old self.new result }
+        ensures { (v : ClientView) (began : Option ℕ) → IsSound v → v.layout.mode ≡ Records → Rests v self.old → IsUnbegun v began → command_of v self.old ≡ Some command → BeginsOrRefuses v turn self.old self.new result }
     {
         self.begin = turn;
         match command {
@@ -154,7 +154,7 @@ impl Client {
 
     /// Takes the snapshots and the records of an `scx`, if they are there.
     fn begin_scx(&mut self, update: &script::Update) -> Option<Answer>
-        ensures { (v : View) (began : Option ℕ) → IsSound v → v.layout.mode ≡ Records → Rests v self.old → IsUnbegun v began → command_of v self.old ≡ Some (ScxCommand update.now) → Begins v self.old.begin self.old self.new result }
+        ensures { (v : ClientView) (began : Option ℕ) → IsSound v → v.layout.mode ≡ Records → Rests v self.old → IsUnbegun v began → command_of v self.old ≡ Some (ScxCommand update.now) → BeginsOrRefuses v self.old.begin self.old self.new result }
     {
         let cells = update.cells();
         match self.kept.linked(cells) {
@@ -179,7 +179,7 @@ impl Client {
         requires fits { length snaps.now ≤ 4 }
         requires distinct { AreDistinct snaps.now }
         requires among { IsAmong snaps.now field.0.0 }
-        ensures { (v : View) (linked : ℕ → Option History) → IsSound v → CanPut v linked self.old snaps.now (map (λ n. n.0) finalize.now) (field.0.0, field.1) value → Puts v linked self.old self.new result }
+        ensures { (v : ClientView) (linked : ℕ → Option History) → IsSound v → CanPut v linked self.old snaps.now (map (λ n. n.0) finalize.now) (field.0.0, field.1) value → Puts v linked self.old self.new result }
     {
         let (fresh, scx) = match self.share.take() {
             Ok(records) => records,
@@ -193,8 +193,8 @@ impl Client {
 
     /// Runs a machine from its start. It may answer at once; the call then makes no step.
     fn run(&mut self, mut run: Run, then: Option<Put>) -> Option<Answer>
-        ensures begins { (v : View) → IsSound v → Starts v self.old run then → Begins v self.old.begin self.old self.new result }
-        ensures asks { (v : View) → IsSound v → Starts v self.old run then → run_asks_first run → result ≡ None }
+        ensures begins { (v : ClientView) → IsSound v → Starts v self.old run then → BeginsOrRefuses v self.old.begin self.old self.new result }
+        ensures asks { (v : ClientView) → IsSound v → Starts v self.old run then → RunAsksFirst run → result ≡ None }
     {
         match Machine::<Cells>::next(&mut run, None) {
             Turn::Ask(step) => {
@@ -207,7 +207,7 @@ impl Client {
 
     /// Tells the client what the step that it had asked for found: it asks for another, or answers.
     pub(crate) fn tell(&mut self, found: u64) -> Option<Answer>
-        ensures { (v : View) (q : Running) → IsSound v → self.old.running ≡ Some q → Hears v self.old q found → Told v self.old self.new result }
+        ensures { (v : ClientView) (q : Running) → IsSound v → self.old.running ≡ Some q → Hears v self.old q found → Told v self.old self.new result }
     {
         let Running {
             mut run,
@@ -225,7 +225,7 @@ impl Client {
 
     /// What follows a machine that has answered: the client's answer, or the SCX of a `set`.
     fn after(&mut self, ended: Ended, then: Option<Put>) -> Option<Answer>
-        ensures { (v : View) (run : Run) → IsSound v → Answered v self.old run then ended → Told v self.old self.new result }
+        ensures { (v : ClientView) (run : Run) → IsSound v → Answered v self.old run then ended → Told v self.old self.new result }
     {
         match ended {
             Ended::Llx(llx) => self.after_llx(llx, then),
@@ -234,7 +234,7 @@ impl Client {
     }
 
     fn after_llx(&mut self, llx: Llx, then: Option<Put>) -> Option<Answer>
-        ensures { (v : View) (m : LlxRun) → IsSound v → Answered v self.old (LlxOf m) then (LlxEnded llx) → Told v self.old self.new result }
+        ensures { (v : ClientView) (m : LlxRun) → IsSound v → Answered v self.old (LlxOf m) then (LlxEnded llx) → Told v self.old self.new result }
     {
         self.kept.keep(llx);
         match (llx, then) {
@@ -263,7 +263,7 @@ impl Client {
         ensures end { result.end ≡ turn }
         ensures answer { result.answer ≡ answer }
         ensures moment { result.moment ≡ moment_of answer self.old.begin turn won }
-        ensures next { IsBehind calls.now self.old self.new }
+        ensures next { IsAtNextCall calls.now self.old self.new }
     {
         let reply = Reply {
             client: self.pass,

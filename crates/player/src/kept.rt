@@ -23,7 +23,7 @@ pub(crate) struct Kept {
 }
 
 impl Kept {
-    ghost use Rattle.player.specs.Kept.{AllKept, IsFirstUnkept, kept_of, node_of, found_of};
+    ghost use Rattle.player.specs.KeptSnaps.{AllKept, IsFirstUnkept, kept_of, node_of, found_of};
 
     pub(crate) fn new() -> Kept
         ensures { (n : ℕ) → kept_of result n ≡ None }

@@ -1,10 +1,10 @@
 //! The player.
 ghost use Rattle.std.specs.Prelude.{◌≡◌, ℕ, ◌+◌, ◌<◌, ◌≤◌, [], Some, vec_len, slice_get, map, IfOk, All};
 ghost use Rattle.player.specs.declared.client.Client.{Client};
-ghost use Rattle.player.specs.View.{view, Rests};
+ghost use Rattle.player.specs.ClientView.{client_view, Rests};
 ghost use Rattle.record.specs.LawfulRun.{IsLawfulRun};
 
-use crate::client::{Client, Standing};
+use crate::client::{Client, NextAction};
 use crate::lines::Lines;
 use arena::{Kind, NoMemory, NodeNo, NodeWord, PassNo, PlainWords, ScxNo, ScxWord, Step, Word};
 use record::{Answer, Entry, Line, Record, Row};
@@ -31,7 +31,7 @@ impl Player {
     ghost use Rattle.arena.specs.declared.step.Kind.TheVariants.{Update};
     ghost use Rattle.arena.specs.Layout.{IsWord, all_scx};
     ghost use Rattle.arena.specs.Words.{child, info};
-    ghost use Rattle.arena.specs.PlainWords.{held};
+    ghost use Rattle.arena.specs.PlainWords.{word_at};
     ghost use Rattle.record.specs.declared.record.Line.{Line};
     ghost use Rattle.player.specs.Player.{passes_of, calls_of, lines_of};
     ghost use Rattle.record.specs.Commands.{next_command};
@@ -39,11 +39,11 @@ impl Player {
     ghost use Rattle.player.specs.TurnsMore.{AreTurnsWhile};
     ghost use Rattle.player.specs.Lines.{room, newest};
     ghost use Rattle.record.specs.Turns.{turns, clients, answered, made, entry_owed};
-    ghost use Rattle.player.specs.Played.{IsPlayed, IsAsked, IsMade, IsReplied, IsTurnMore, IsSameScript, HasSameClients, HasSameWords};
+    ghost use Rattle.player.specs.BetweenTurns.{IsBetweenTurns, IsAsked, IsMade, IsReplied, IsTurnMore, IsSameScript, HasSameClients, HasSameWords};
 
     /// A player of a copy of the script, with no turn made. The only error is want of memory.
     pub fn new(alloc: Global, script: &Script) -> Result<Player, NoMemory>
-        ensures played { IfOk result IsPlayed }
+        ensures played { IfOk result IsBetweenTurns }
         ensures limits { IfOk result (λ p. p.script.limits ≡ script.now.limits) }
         ensures layout { IfOk result (λ p. p.script.layout ≡ script.now.layout) }
         ensures calls { IfOk result (λ p. p.script.calls.items ≡ script.now.calls.items) }
@@ -67,21 +67,21 @@ impl Player {
     /// asked again.
     pub fn step(&mut self, client: PassNo) -> Result<Row, NoMemory>
         requires client { client.0 < passes_of self.old }
-        requires played { IsPlayed self.old }
+        requires played { IsBetweenTurns self.old }
         ensures turn { IfOk result (λ row. IsTurnMore self.old self.new client.0 row) }
         ensures refused { IfErr result (λ e. HasSameClients self.old self.new × (newest self.new.lines ≡ newest self.old.lines) × (self.new.wins ≡ self.old.wins)) }
     {
         self.lines.reserve()?;
         let number = self.lines.next_turn();
-        let standing = self.clients[client.0 as usize].stand(&self.script.calls, number);
-        match standing {
-            Standing::Asks(step) => Ok(self.make(client, number, step)),
-            Standing::Answers(answer) => {
+        let action = self.clients[client.0 as usize].next_action(&self.script.calls, number);
+        match action {
+            NextAction::Asks(step) => Ok(self.make(client, number, step)),
+            NextAction::Answers(answer) => {
                 let row = self.idle(client, number);
                 self.reply(client, number, answer);
                 Ok(row)
             }
-            Standing::Finished => Ok(self.idle(client, number)),
+            NextAction::Finished => Ok(self.idle(client, number)),
         }
     }
 
@@ -175,7 +175,7 @@ impl Player {
     /// Whether a client has a call left.
     fn has_call(&self, client: PassNo) -> bool
         requires client { client.0 < passes_of self.now }
-        requires played { IsPlayed self.now }
+        requires played { IsBetweenTurns self.now }
         ensures { result ≡ is_some (next_command (calls_of self.now) (lines_of self.now) client.0) }
     {
         self.clients[client.0 as usize].has_call()
@@ -184,7 +184,7 @@ impl Player {
     /// How many calls of a client are answered.
     fn answered(&self, client: PassNo) -> u64
         requires client { client.0 < passes_of self.now }
-        requires played { IsPlayed self.now }
+        requires played { IsBetweenTurns self.now }
         ensures { result ≡ answered (lines_of self.now) client.0 }
     {
         self.clients[client.0 as usize].number()
@@ -194,7 +194,7 @@ impl Player {
     /// made before a refusal stay made.
     pub fn call(&mut self, client: PassNo) -> Result<(), NoMemory>
         requires client { client.0 < passes_of self.old }
-        requires played { IsPlayed self.old }
+        requires played { IsBetweenTurns self.old }
         ensures turns { AreTurnsWhile (AwaitsReply (calls_of self.old) client.0 (lines_of self.old)) client.0 self.old self.new }
         ensures replied { OnOk result (HasCall (calls_of self.old) client.0 (lines_of self.old) → answered (lines_of self.new) client.0 ≡ suc (answered (lines_of self.old) client.0)) }
         ensures none { HasNoCall (calls_of self.old) client.0 (lines_of self.old) → lines_of self.new ≡ lines_of self.old }
@@ -210,7 +210,7 @@ impl Player {
     /// that were made before a refusal stay made.
     pub fn run_until(&mut self, client: PassNo, kind: Kind, times: u32) -> Result<(), NoMemory>
         requires client { client.0 < passes_of self.old }
-        requires played { IsPlayed self.old }
+        requires played { IsBetweenTurns self.old }
         ensures turns { AreTurnsWhile (AwaitsSteps (calls_of self.old) client.0 kind times (lines_of self.old)) client.0 self.old self.new }
         ensures made { OnOk result ((made (lines_of self.new) client.0 kind ≡ made (lines_of self.old) client.0 kind + times) ⊎ HasNoCall (calls_of self.old) client.0 (lines_of self.new)) }
         ensures at_most { made (lines_of self.new) client.0 kind ≤ made (lines_of self.old) client.0 kind + times }
@@ -229,7 +229,7 @@ impl Player {
     /// made.
     pub fn finish(&mut self, client: PassNo) -> Result<(), NoMemory>
         requires client { client.0 < passes_of self.old }
-        requires played { IsPlayed self.old }
+        requires played { IsBetweenTurns self.old }
         ensures turns { AreTurnsWhile (HasCall (calls_of self.old) client.0) client.0 self.old self.new }
         ensures finished { OnOk result (HasNoCall (calls_of self.old) client.0 (lines_of self.new)) }
     {
@@ -243,7 +243,7 @@ impl Player {
     pub fn record(self) -> Record
         ensures script { result.script ≡ self.script }
         ensures lines { result.lines.items ≡ self.lines.list.items }
-        ensures lawful { IsPlayed self → IsLawfulRun self.script.layout self.script.calls.items (reverse (clients (newest self.lines))) result.lines.items }
+        ensures lawful { IsBetweenTurns self → IsLawfulRun self.script.layout self.script.calls.items (reverse (clients (newest self.lines))) result.lines.items }
     {
         Record {
             script: self.script,
@@ -255,7 +255,7 @@ impl Player {
 /// The clients of a script before their first turns.
 fn clients(alloc: Global, script: &Script) -> Result<Vec<Client>, NoMemory>
     ensures count { IfOk result (λ c. vec_len c ≡ script.now.layout.passes) }
-    ensures each { IfOk result (λ c. (j : ℕ) (d : Client) → slice_get c.items j ≡ Some d → (d.pass.0 ≡ j) × Rests (view script.now.layout script.now.calls.items [] j) d) }
+    ensures each { IfOk result (λ c. (j : ℕ) (d : Client) → slice_get c.items j ≡ Some d → (d.pass.0 ≡ j) × Rests (client_view script.now.layout script.now.calls.items [] j) d) }
 {
     let mut clients = Vec::new(alloc);
     for pass in 0..script.layout.passes {

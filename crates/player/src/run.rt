@@ -49,21 +49,21 @@ impl Machine<Cells> for Run {
 
     ghost use Rattle.std.specs.Prelude.{ℕ};
     ghost use Rattle.player.specs.RunSteps.{run_left};
-    ghost use Rattle.player.specs.RunKnown.{run_ready, run_waits, run_answers, run_same, run_asks_first, run_keeps, run_lawful, run_made};
+    ghost use Rattle.player.specs.RunKnown.{RunIsReady, RunWaits, RunAnswers, IsSameMachine, RunAsksFirst, run_keeps, run_lawful, run_made};
 
-    ghost ready = { run_ready };
+    ghost ready = { RunIsReady };
 
-    ghost waits = { run_waits };
+    ghost waits = { RunWaits };
 
-    ghost answers = { run_answers };
+    ghost answers = { RunAnswers };
 
-    ghost same = { run_same };
+    ghost same = { IsSameMachine };
 
     ghost left = { λ m nodes. run_left m };
 
     ghost fits = { λ m got nodes. Unit {0} };
 
-    ghost asks_first = { run_asks_first };
+    ghost asks_first = { RunAsksFirst };
 
     fn next(&mut self, got: Option<u64>) -> Turn<Ended> {
         match self {

@@ -5,20 +5,20 @@ use Rattle.arena.specs.declared.layout.Layout.{Layout}
 use Rattle.arena.specs.declared.step.Row.{Row}
 use Rattle.arena.specs.declared.step.Step.{Step}
 use Rattle.arena.specs.Words.{state}
-use Rattle.arena.specs.History.{History, ◌⊳◌, value, EndsWith}
+use Rattle.arena.specs.History.{History, ◌⊳◌, value, Extends}
 use Rattle.arena.specs.Fills.{IsOwnScx}
 use Rattle.arena.specs.Lawful.{Lawful}
 use Rattle.arena.specs.Blame.{IsMember, IsInProgress}
 use Rattle.arena.specs.Machines.{Call, row_of}
-use Rattle.arena.proofs.Values.{ends_self, same_moment}
+use Rattle.arena.proofs.Lemmas.{ends_self, same_moment}
 use Rattle.histories.proofs.Lemmas.{finished_stays}
-use Rattle.prims.specs.Idle.{IsIdle}
-use Rattle.prims.specs.Moments.{IsMoment, IsLeftAlone, AreOver}
-use Rattle.prims.specs.Linked.{in_field_named}
-use Rattle.prims.specs.Begun.{TakesOnly}
-use Rattle.prims.specs.Blamed.{moment_since}
-use Rattle.prims.specs.LlxKnown.{IsSnapshot}
-use Rattle.prims.specs.PutKnown.{put_waits}
+use Rattle.prims.specs.Laws.Idle.{IsIdle}
+use Rattle.prims.specs.Moments.{IsMoment, IsLeftAlone, AreFinished}
+use Rattle.prims.specs.Laws.Linked.{in_field_named}
+use Rattle.prims.specs.Laws.Begun.{TakesOnly}
+use Rattle.prims.specs.Laws.Blamed.{moment_since}
+use Rattle.prims.specs.Llx.Known.{IsSnapshot}
+use Rattle.prims.specs.Put.Known.{PutWaits}
 use Rattle.prims.specs.declared.snap.Snap.{Snap}
 use Rattle.prims.specs.declared.put.PutRun.{PutRun}
 use Rattle.prims.proofs.PutRows.{put_untaken}
@@ -42,14 +42,14 @@ moment_more lay h r snap m x = moment_since lay (r ⊳ h) h m snap (inr (ends_se
 -- The SCX-records of a pass
 
 -- a row that takes none but s leaves the others over
-pub over_more : (lay : Layout) (c s : ℕ) (h : History) (r : Row) → Lawful lay (r ⊳ h) → TakesOnly lay c s h r → AreOver lay c s h → AreOver lay c s (r ⊳ h)
+pub over_more : (lay : Layout) (c s : ℕ) (h : History) (r : Row) → Lawful lay (r ⊳ h) → TakesOnly lay c s h r → AreFinished lay c s h → AreFinished lay c s (r ⊳ h)
 over_more lay c s h r l takes over t own d taken e = takes t own d (λ before. finished_stays lay h r t l (over t own d before) e) taken
 
 -- where a call on s begins, and where s is finished
-pub over_begins : (lay : Layout) (c s : ℕ) (h : History) → AreOver lay c 0 h → AreOver lay c s h
+pub over_begins : (lay : Layout) (c s : ℕ) (h : History) → AreFinished lay c 0 h → AreFinished lay c s h
 over_begins lay c s h over t own d taken = over t own (λ e. let i = own.from in omega arith) taken
 
-pub over_ends : (lay : Layout) (c s : ℕ) (h : History) → AreOver lay c s h → value h (state s) ≢ 0 → AreOver lay c 0 h
+pub over_ends : (lay : Layout) (c s : ℕ) (h : History) → AreFinished lay c s h → value h (state s) ≢ 0 → AreFinished lay c 0 h
 over_ends lay c s h over finished t own real taken = go (ℕ_discrete t s)
   where
     go : Dec (t ≡ s) → value h (state t) ≢ 0
@@ -57,7 +57,7 @@ over_ends lay c s h over finished t own real taken = go (ℕ_discrete t s)
     go (no d) = over t own d taken
 
 -- a row of an SCX with a fresh cell takes none but its own
-pub put_takes : (allows : Layout → History → ℕ → Type 0) (m : PutRun) (c : Call) (h : History) (s : Step) → put_waits allows m c h s → TakesOnly c.layout c.pass m.scx.scx.0 h (row_of c s h)
+pub put_takes : (allows : Layout → History → ℕ → Type 0) (m : PutRun) (c : Call) (h : History) (s : Step) → PutWaits allows m c h s → TakesOnly c.layout c.pass m.scx.scx.0 h (row_of c s h)
 put_takes allows m c h s w t own d free = put_untaken allows m c h s t w d free
 
 -- Snapshots
@@ -74,6 +74,6 @@ alone_now lay c h n snap idle x = record {
 pub alone_more : (lay : Layout) (c : ℕ) (h : History) (r : Row) (snap : Snap) → ((s : ℕ) → IsOwnScx lay c s → IsInProgress (r ⊳ h) s → ¬ IsMember (r ⊳ h) s snap.node.0) → IsLeftAlone lay c h snap → IsLeftAlone lay c (r ⊳ h) snap
 alone_more lay c h r snap none x = record { moment = x.moment; found = moment_more lay h r snap x.moment x.found; idle = idle }
   where
-    idle : (k : History) → EndsWith (r ⊳ h) k → EndsWith k x.moment → (s : ℕ) → IsOwnScx lay c s → IsInProgress k s → ¬ IsMember k s snap.node.0
+    idle : (k : History) → Extends (r ⊳ h) k → Extends k x.moment → (s : ℕ) → IsOwnScx lay c s → IsInProgress k s → ¬ IsMember k s snap.node.0
     idle k (inl e) after s own p m = none s own (rw e at p) (rw e at m)
     idle k (inr e) after s own p m = x.idle k e after s own p m

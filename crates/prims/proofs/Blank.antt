@@ -14,7 +14,7 @@ use Rattle.arena.specs.History.{History, Start, ◌⊳◌, value}
 use Rattle.arena.specs.ScxRecords.{member, plan, side_of, field_index}
 use Rattle.arena.specs.Fills.{IsOwnNode, IsTakenNode}
 use Rattle.arena.specs.Lawful.{Lawful}
-use Rattle.arena.proofs.Values.{value_quiet, value_apart, held_at, held_more, node_apart, node_word_apart}
+use Rattle.arena.proofs.Lemmas.{value_quiet, value_apart, held_at, held_more, node_apart, node_word_apart}
 use Rattle.histories.specs.Unmentioned.{IsUnmentioned}
 use Rattle.histories.proofs.Lemmas.{Change, nothing, fills_node, fills_scx, freezes, sets_frozen, marks, updates, commits, aborts, change, lawful_row}
 use Rattle.prims.specs.BlankNodes.{IsBlank}

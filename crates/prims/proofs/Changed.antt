@@ -8,14 +8,14 @@ use Rattle.arena.specs.declared.step.Row.{Row}
 use Rattle.arena.specs.declared.word.Word.TheVariants.{Node}
 use Rattle.arena.specs.declared.word.NodeWord.TheVariants.{Info}
 use Rattle.arena.specs.Words.{info}
-use Rattle.arena.specs.History.{History, ◌⊳◌, value, EndsWith}
+use Rattle.arena.specs.History.{History, ◌⊳◌, value, Extends}
 use Rattle.arena.specs.Found.{IsLastStep, HasFound}
 use Rattle.arena.specs.Machines.{Call}
 use Rattle.prims.specs.Moments.{IsBlamed}
-use Rattle.prims.specs.PutKnown.{put_answers}
+use Rattle.prims.specs.Put.Known.{PutAnswers}
 use Rattle.prims.specs.Snap.{snap_at}
-use Rattle.prims.specs.VlxKnown.{vlx_answers}
-use Rattle.prims.specs.Wins.{ends_either}
+use Rattle.prims.specs.Vlx.Known.{VlxAnswers}
+use Rattle.prims.specs.Laws.Wins.{ends_either}
 use Rattle.prims.specs.declared.snap.Snap.{Snap}
 use Rattle.prims.specs.declared.put.PutRun.{PutRun}
 use Rattle.prims.specs.declared.scx.Scx.TheVariants.{Lost}
@@ -29,16 +29,16 @@ pub record IsChanged (kind : Kind) (call : Call) (h : History) (snaps : List Sna
   pub blamed : IsBlamed call h (snap_at snaps index) scx
   pub found : HasFound call.pass h call.start kind node scx
 
-abbrev pub put_changed : (m : PutRun) (call : Call) (h : History) (node : NodeNo) (scx : ScxNo) → put_answers m call h (Lost node scx) → IsChanged Freeze call h m.scx.update.snaps node.0 scx.0
+abbrev pub put_changed : (m : PutRun) (call : Call) (h : History) (node : NodeNo) (scx : ScxNo) → PutAnswers m call h (Lost node scx) → IsChanged Freeze call h m.scx.update.snaps node.0 scx.0
 put_changed m call h node scx x = record { index = x.1.index; within = x.1.within; is = x.1.node; blamed = x.1.blamed; found = x.1.found }
 
-abbrev pub vlx_changed : (snaps : List Snap) (call : Call) (h : History) (node : NodeNo) (scx : ScxNo) → vlx_answers snaps call h (Changed node scx) → IsChanged LoadInfo call h snaps node.0 scx.0
+abbrev pub vlx_changed : (snaps : List Snap) (call : Call) (h : History) (node : NodeNo) (scx : ScxNo) → VlxAnswers snaps call h (Changed node scx) → IsChanged LoadInfo call h snaps node.0 scx.0
 vlx_changed snaps call h node scx x = record { index = x.index; within = x.within; is = x.node; blamed = x.blamed; found = x.found }
 
 -- What a call has found
 
 -- the last of two rows of a pass and a kind is the other too
-one_last : (c : ℕ) (h : History) (kind : Kind) (n m : ℕ) (a b : Row) (i k : History) → IsLastStep c h kind n a i → IsLastStep c h kind m b k → EndsWith (a ⊳ i) (b ⊳ k) → b ⊳ k ≡ a ⊳ i
+one_last : (c : ℕ) (h : History) (kind : Kind) (n m : ℕ) (a b : Row) (i k : History) → IsLastStep c h kind n a i → IsLastStep c h kind m b k → Extends (a ⊳ i) (b ⊳ k) → b ⊳ k ≡ a ⊳ i
 one_last c h kind n m a b i k x y (inl e) = e
 one_last c h kind n m a b i k x y (inr e) = absurd (y.none_since a i x.within e x.own x.is_kind)
 

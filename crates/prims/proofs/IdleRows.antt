@@ -12,13 +12,13 @@ use Rattle.arena.specs.History.{History, Start, ◌⊳◌, value}
 use Rattle.arena.specs.Blame.{IsInProgress}
 use Rattle.arena.specs.Lawful.{Lawful}
 use Rattle.arena.specs.Machines.{Call, row_of}
-use Rattle.arena.proofs.Values.{held_start, opening_info, ends_self}
-use Rattle.prims.specs.Idle.{IsIdle, IsIdleBut, out_by_others, out_by_no_freeze, out_by_help, idle_by_no_freeze}
-use Rattle.prims.specs.LlxKnown.{llx_waits}
-use Rattle.prims.specs.LlxLaws.{idle_at}
-use Rattle.prims.specs.VlxKnown.{vlx_waits}
-use Rattle.prims.specs.ScxKnown.{Job, job_of, FillWaits, scx_waits_at, scx_answers}
-use Rattle.prims.specs.PutKnown.{put_step, put_waits_at}
+use Rattle.arena.proofs.Lemmas.{held_start, opening_info, ends_self}
+use Rattle.prims.specs.Laws.Idle.{IsIdle, IsIdleBut, out_by_others, out_by_no_freeze, out_by_help, idle_by_no_freeze}
+use Rattle.prims.specs.Llx.Known.{LlxWaits}
+use Rattle.prims.specs.Llx.Laws.{idle_at}
+use Rattle.prims.specs.Vlx.Known.{VlxWaits}
+use Rattle.prims.specs.Scx.Known.{Job, job_of, FillWaits, ScxWaitsAt, ScxAnswers}
+use Rattle.prims.specs.Put.Known.{put_step, PutWaitsAt}
 use Rattle.prims.specs.declared.put.PutRun.{PutRun}
 use Rattle.prims.specs.declared.put.PutAt.{PutAt}
 use Rattle.prims.specs.declared.put.PutAt.TheVariants.{Start as PutStart, Fill as AtFill, Scx as AtScx}
@@ -40,11 +40,11 @@ idle_at_opening lay c mode s own x =
 -- LLX and VLX
 
 -- a row of an LLX leaves its pass idle
-pub idle_by_llx : (allows : Layout → History → ℕ → Type 0) (m : LlxRun) (c : Call) (h : History) (step : Step) → Lawful c.layout (row_of c step h ⊳ h) → llx_waits allows m c h step → IsIdle c.layout c.pass (row_of c step h ⊳ h)
+pub idle_by_llx : (allows : Layout → History → ℕ → Type 0) (m : LlxRun) (c : Call) (h : History) (step : Step) → Lawful c.layout (row_of c step h ⊳ h) → LlxWaits allows m c h step → IsIdle c.layout c.pass (row_of c step h ⊳ h)
 idle_by_llx allows m c h step l w = idle_at allows c h m.node.0 m.at step l w.known w.asked (w.quiet h (ends_self h) w.since)
 
 -- so does a row of a VLX
-pub idle_by_vlx : (snaps : List Snap) (asked : ℕ) (c : Call) (h : History) (step : Step) → Lawful c.layout (row_of c step h ⊳ h) → vlx_waits snaps asked c h step → IsIdle c.layout c.pass h → IsIdle c.layout c.pass (row_of c step h ⊳ h)
+pub idle_by_vlx : (snaps : List Snap) (asked : ℕ) (c : Call) (h : History) (step : Step) → Lawful c.layout (row_of c step h ⊳ h) → VlxWaits snaps asked c h step → IsIdle c.layout c.pass h → IsIdle c.layout c.pass (row_of c step h ⊳ h)
 idle_by_vlx snaps asked c h step l w idle = idle_by_no_freeze c.layout c.pass h (row_of c step h) l (λ f. let e = ap (λ (t : Step). t.kind) w.asked in cc) idle
 
 -- SCX
@@ -76,7 +76,7 @@ module _ (allows : Layout → History → ℕ → Type 0) (c : Call) (h : Histor
   by_fill at w = out_by_no_freeze c.layout h (row_of c step h) t l (λ f. let e = ap (λ (u : Step). u.kind) w.asked in cc) out
 
   -- a fill, or a row of HELP of its own
-  pub out_by_scx : (at : ScxAt) → scx_waits_at allows c h m at step → ¬ IsInProgress (row_of c step h ⊳ h) t
+  pub out_by_scx : (at : ScxAt) → ScxWaitsAt allows c h m at step → ¬ IsInProgress (row_of c step h ⊳ h) t
   out_by_scx ScxStart w = absurd w
   out_by_scx AtPlan w = by_fill AtPlan w
   out_by_scx AtNew w = by_fill AtNew w
@@ -87,11 +87,11 @@ module _ (allows : Layout → History → ℕ → Type 0) (c : Call) (h : Histor
   out_by_scx (Help help) w = out_by_help allows c h help step t l w.0 (λ e. absurd (other (e ∙ ap (λ (u : ScxNo). u.0) w.1))) out
 
 -- so the pass stays idle but for that
-pub idle_but_by_scx : (allows : Layout → History → ℕ → Type 0) (m : Job) (c : Call) (h : History) (step : Step) (at : ScxAt) → Lawful c.layout (row_of c step h ⊳ h) → scx_waits_at allows c h m at step → IsIdleBut c.layout c.pass m.scx.0 h → IsIdleBut c.layout c.pass m.scx.0 (row_of c step h ⊳ h)
+pub idle_but_by_scx : (allows : Layout → History → ℕ → Type 0) (m : Job) (c : Call) (h : History) (step : Step) (at : ScxAt) → Lawful c.layout (row_of c step h ⊳ h) → ScxWaitsAt allows c h m at step → IsIdleBut c.layout c.pass m.scx.0 h → IsIdleBut c.layout c.pass m.scx.0 (row_of c step h ⊳ h)
 idle_but_by_scx allows m c h step at l w idle t own d = out_by_scx allows c h m step t l d (idle t own d) at w
 
 -- as it stays by the rows of an SCX with a fresh node
-pub idle_but_by_put : (allows : Layout → History → ℕ → Type 0) (m : PutRun) (c : Call) (h : History) (step : Step) (at : PutAt) → Lawful c.layout (row_of c step h ⊳ h) → put_waits_at allows c h m at step → IsIdleBut c.layout c.pass m.scx.scx.0 h → IsIdleBut c.layout c.pass m.scx.scx.0 (row_of c step h ⊳ h)
+pub idle_but_by_put : (allows : Layout → History → ℕ → Type 0) (m : PutRun) (c : Call) (h : History) (step : Step) (at : PutAt) → Lawful c.layout (row_of c step h ⊳ h) → PutWaitsAt allows c h m at step → IsIdleBut c.layout c.pass m.scx.scx.0 h → IsIdleBut c.layout c.pass m.scx.scx.0 (row_of c step h ⊳ h)
 idle_but_by_put allows m c h step PutStart l w idle = absurd w
 idle_but_by_put allows m c h step AtFill l w idle =
     let e : step ≡ put_step m = assumption in
@@ -99,6 +99,6 @@ idle_but_by_put allows m c h step AtFill l w idle =
 idle_but_by_put allows m c h step AtScx l w idle = idle_but_by_scx allows (job_of m.scx) c h step m.scx.at l w.1 idle
 
 -- when it answers, its own SCX-record is finished, and the pass is idle
-pub idle_by_answer : (m : ScxRun) (c : Call) (h : History) (a : Scx) → scx_answers m c h a → IsIdleBut c.layout c.pass m.scx.0 h → IsIdle c.layout c.pass h
+pub idle_by_answer : (m : ScxRun) (c : Call) (h : History) (a : Scx) → ScxAnswers m c h a → IsIdleBut c.layout c.pass m.scx.0 h → IsIdle c.layout c.pass h
 idle_by_answer m c h Done x idle = idle_again c.layout c.pass m.scx.0 h (λ z. let e = x.committed in omega arith) idle
 idle_by_answer m c h (Lost node found) x idle = idle_again c.layout c.pass m.scx.0 h (λ z. let e = x.aborted in omega arith) idle

@@ -1,17 +1,21 @@
-pub mod FillsNot
-pub mod LooksNot
-pub mod IdleRows
-pub mod LlxAnswers
-pub mod OnePass
-pub mod PutRows
-pub mod UntakenNodes
-pub mod Blank
-pub mod PutBegins
-pub mod PutEntries
-pub mod Alone
-pub mod Shares
-pub mod Usable
-pub mod Changed
-pub mod Snapshots
-pub mod Planned
-pub mod Lists
+mod FillsNot
+mod LooksNot
+mod IdleRows
+mod LlxAnswers
+mod OnePass
+mod PutRows
+mod UntakenNodes
+mod Blank
+mod PutBegins
+mod PutEntries
+mod Alone
+mod Shares
+mod Usable
+mod Changed
+mod Snapshots
+mod Planned
+mod Lists
+mod LlxTurns
+mod PutTurns
+mod ScxTurns
+pub mod Lemmas

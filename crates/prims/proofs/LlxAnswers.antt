@@ -5,15 +5,15 @@ use Rattle.arena.specs.declared.layout.Layout.{Layout}
 use Rattle.arena.specs.declared.number.ScxNo.{ScxNo}
 use Rattle.arena.specs.declared.step.Step.{Step}
 use Rattle.arena.specs.Layout.{opening_nodes}
-use Rattle.arena.specs.History.{History, EndsWith}
+use Rattle.arena.specs.History.{History, Extends}
 use Rattle.arena.specs.Lawful.{Lawful}
 use Rattle.arena.specs.Log.{log, is_final}
 use Rattle.arena.specs.Machines.{Call}
-use Rattle.arena.proofs.Values.{ends_self}
+use Rattle.arena.proofs.Lemmas.{ends_self}
 use Rattle.histories.proofs.Lemmas.{lawful_since}
-use Rattle.prims.specs.Idle.{IsIdle, IsQuietSince, quiet_at_start}
-use Rattle.prims.specs.InTheWay.{final_since, open_before}
-use Rattle.prims.specs.LlxKnown.{IsOpened, IsSnapshot, IsFinalBy, llx_known, llx_waits, llx_ready, llx_answers}
+use Rattle.prims.specs.Laws.Idle.{IsIdle, IsQuietSince, quiet_at_start}
+use Rattle.prims.specs.Laws.InTheWay.{final_since, open_before}
+use Rattle.prims.specs.Llx.Known.{IsOpened, IsSnapshot, IsFinalBy, LlxKnows, LlxWaits, LlxIsReady, LlxAnswers}
 use Rattle.prims.specs.declared.snap.Snap.{Snap}
 use Rattle.prims.specs.declared.llx.Llx.{Llx}
 use Rattle.prims.specs.declared.llx.Llx.TheVariants.{Snapshot, Finalized, Fail}
@@ -27,12 +27,12 @@ pub quiet_from : (c : Call) (h : History) → h ≡ c.start → IsIdle c.layout 
 quiet_from c h e idle = subst (λ k. IsQuietSince c.layout c.pass k h) e (quiet_at_start c.layout c.pass h idle)
 
 -- so a run that has not begun, of a node that the caller may look at, is ready
-pub ready_at_start : (allows : Layout → History → ℕ → Type 0) (m : LlxRun) (c : Call) (h : History) → h ≡ c.start → m.at ≡ Start → IsOpened c.layout h m.node.0 → IsIdle c.layout c.pass h → llx_ready allows m c h None
+pub ready_at_start : (allows : Layout → History → ℕ → Type 0) (m : LlxRun) (c : Call) (h : History) → h ≡ c.start → m.at ≡ Start → IsOpened c.layout h m.node.0 → IsIdle c.layout c.pass h → LlxIsReady allows m c h None
 ready_at_start allows m c h e a o idle = record {
   opened = o;
-  since = subst (EndsWith h) e (ends_self h);
+  since = subst (Extends h) e (ends_self h);
   quiet = quiet_from c h e idle;
-  known = subst (llx_known c h m.node.0) (sym a) tt;
+  known = subst (LlxKnows c h m.node.0) (sym a) tt;
   told = a;
 }
 
@@ -44,24 +44,24 @@ cell_opened lay h n e i = record { in_field = inl early; inside = let a = early 
     early = rw e (omega arith)
 
 -- while it runs its pass is idle
-pub idle_where_ready : (allows : Layout → History → ℕ → Type 0) (m : LlxRun) (c : Call) (h : History) (got : Option ℕ) → llx_ready allows m c h got → IsIdle c.layout c.pass h
+pub idle_where_ready : (allows : Layout → History → ℕ → Type 0) (m : LlxRun) (c : Call) (h : History) (got : Option ℕ) → LlxIsReady allows m c h got → IsIdle c.layout c.pass h
 idle_where_ready allows m c h got r = r.quiet h (ends_self h) r.since
 
-pub idle_where_waits : (allows : Layout → History → ℕ → Type 0) (m : LlxRun) (c : Call) (h : History) (step : Step) → llx_waits allows m c h step → IsIdle c.layout c.pass h
+pub idle_where_waits : (allows : Layout → History → ℕ → Type 0) (m : LlxRun) (c : Call) (h : History) (step : Step) → LlxWaits allows m c h step → IsIdle c.layout c.pass h
 idle_where_waits allows m c h step w = w.quiet h (ends_self h) w.since
 
 -- What the answers say
 
 -- the node of a snapshot has not been final at any moment
-pub snapshot_open : (lay : Layout) (h m : History) (n : ℕ) (snap : Snap) → Lawful lay h → EndsWith h m → IsSnapshot lay h n snap → is_final (log lay m) n ≡ false
+pub snapshot_open : (lay : Layout) (h m : History) (n : ℕ) (snap : Snap) → Lawful lay h → Extends h m → IsSnapshot lay h n snap → is_final (log lay m) n ≡ false
 snapshot_open lay h m n snap l e x = open_before lay h m n l e x.not_final
 
 -- of a node that is final at the call's begin the answer is that it is finalized
-pub finalized_at_start : (m : LlxRun) (c : Call) (h : History) (a : Llx) → Lawful c.layout h → EndsWith h c.start → is_final (log c.layout c.start) m.node.0 ≡ true → llx_answers m c h a → (s : ScxNo) × (a ≡ Finalized m.node s)
+pub finalized_at_start : (m : LlxRun) (c : Call) (h : History) (a : Llx) → Lawful c.layout h → Extends h c.start → is_final (log c.layout c.start) m.node.0 ≡ true → LlxAnswers m c h a → (s : ScxNo) × (a ≡ Finalized m.node s)
 finalized_at_start m c h (Snapshot snap) l e f x = absurd (let q = snapshot_open c.layout h c.start m.node.0 snap l e x.0 in cc)
 finalized_at_start m c h (Finalized node s) l e f x = (s, λ i. Finalized record { 0 = x.0 i } s)
 finalized_at_start m c h (Fail node s) l e f x = absurd (let q = x.1.not_final in cc)
 
 -- once an LLX has answered that a node is finalized, every later one of the node answers so
-pub finalized_for_ever : (m : LlxRun) (c : Call) (h k : History) (a : Llx) (u : ℕ) → IsFinalBy c.layout k m.node.0 u → Lawful c.layout h → EndsWith h c.start → EndsWith c.start k → llx_answers m c h a → (s : ScxNo) × (a ≡ Finalized m.node s)
+pub finalized_for_ever : (m : LlxRun) (c : Call) (h k : History) (a : Llx) (u : ℕ) → IsFinalBy c.layout k m.node.0 u → Lawful c.layout h → Extends h c.start → Extends c.start k → LlxAnswers m c h a → (s : ScxNo) × (a ≡ Finalized m.node s)
 finalized_for_ever m c h k a u x l e f = finalized_at_start m c h a l e (final_since c.layout c.start k m.node.0 (lawful_since c.layout h c.start l e) f x.final)

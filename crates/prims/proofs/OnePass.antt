@@ -6,10 +6,10 @@ use Rattle.arena.specs.declared.number.ScxNo.{ScxNo}
 use Rattle.arena.specs.History.{History}
 use Rattle.arena.specs.Fills.{IsOthersScx}
 use Rattle.arena.specs.Machines.{Call}
-use Rattle.prims.specs.LlxKnown.{llx_answers}
+use Rattle.prims.specs.Llx.Known.{LlxAnswers}
 use Rattle.prims.specs.Moments.{AreLeftAlone}
-use Rattle.prims.specs.PutKnown.{put_answers}
-use Rattle.prims.specs.VlxKnown.{vlx_answers}
+use Rattle.prims.specs.Put.Known.{PutAnswers}
+use Rattle.prims.specs.Vlx.Known.{VlxAnswers}
 use Rattle.prims.specs.declared.llx.LlxRun.{LlxRun}
 use Rattle.prims.specs.declared.llx.Llx.TheVariants.{Fail}
 use Rattle.prims.specs.declared.put.PutRun.{PutRun}
@@ -22,11 +22,11 @@ pub no_others : (lay : Layout) (c s : ℕ) → lay.passes ≡ 1 → c < lay.pass
 no_others lay c s one is_pass o = let p = o.is_pass in o.is_other (omega arith)
 
 -- so LLX never fails, and over snapshots that the pass has left alone SCX never loses, and VLX finds no change
-pub alone_never_fails : (m : LlxRun) (c : Call) (h : History) (node : NodeNo) (s : ScxNo) → c.layout.passes ≡ 1 → llx_answers m c h (Fail node s) → ⊥
+pub alone_never_fails : (m : LlxRun) (c : Call) (h : History) (node : NodeNo) (s : ScxNo) → c.layout.passes ≡ 1 → LlxAnswers m c h (Fail node s) → ⊥
 alone_never_fails m c h node s one x = no_others c.layout c.pass s.0 one c.is_pass x.1.others
 
-pub alone_never_loses : (m : PutRun) (c : Call) (h : History) (node : NodeNo) (s : ScxNo) → c.layout.passes ≡ 1 → AreLeftAlone c.layout c.pass c.start m.scx.update.snaps → put_answers m c h (Lost node s) → ⊥
+pub alone_never_loses : (m : PutRun) (c : Call) (h : History) (node : NodeNo) (s : ScxNo) → c.layout.passes ≡ 1 → AreLeftAlone c.layout c.pass c.start m.scx.update.snaps → PutAnswers m c h (Lost node s) → ⊥
 alone_never_loses m c h node s one alone x = no_others c.layout c.pass s.0 one c.is_pass (x.1.blamed.others (alone x.1.index x.1.within))
 
-pub alone_never_changes : (snaps : List Snap) (c : Call) (h : History) (node : NodeNo) (s : ScxNo) → c.layout.passes ≡ 1 → AreLeftAlone c.layout c.pass c.start snaps → vlx_answers snaps c h (Changed node s) → ⊥
+pub alone_never_changes : (snaps : List Snap) (c : Call) (h : History) (node : NodeNo) (s : ScxNo) → c.layout.passes ≡ 1 → AreLeftAlone c.layout c.pass c.start snaps → VlxAnswers snaps c h (Changed node s) → ⊥
 alone_never_changes snaps c h node s one alone x = no_others c.layout c.pass s.0 one c.is_pass (x.blamed.others (alone x.index x.within))

@@ -12,10 +12,10 @@ use Rattle.histories.specs.Descriptor.{Descriptor}
 use Rattle.histories.specs.Unmentioned.{IsUnmentioned}
 use Rattle.histories.proofs.Lemmas.{finished_taken, named_scx_taken, unmentioned_unnamed}
 use Rattle.help.specs.Allowed.{IsLater, IsAllowed}
-use Rattle.prims.specs.Cells.{allows_all}
-use Rattle.prims.specs.VlxKnown.{AllLinked}
-use Rattle.prims.specs.ScxKnown.{Job, job_of, IsUpdateOver, Says, InHand}
-use Rattle.prims.specs.PutKnown.{PutHand}
+use Rattle.prims.specs.Cells.{AllowsAll}
+use Rattle.prims.specs.Vlx.Known.{AllLinked}
+use Rattle.prims.specs.Scx.Known.{Job, job_of, IsUpdateOver, Says, InHand}
+use Rattle.prims.specs.Put.Known.{PutHand}
 use Rattle.prims.specs.declared.scx.ScxRun.{ScxRun}
 use Rattle.prims.specs.declared.scx.ScxAt.TheVariants.{Start}
 
@@ -51,7 +51,7 @@ pub put_begin : (allows : Layout → History → ℕ → Type 0) (lay : Layout) 
     → ((k : History) (r : Row) (d : Descriptor) → IsLater c m.scx.0 h k → IsFillOfNode m.update.fresh.0 r → Says d (job_of m) → IsAllowed allows lay c (r ⊳ k) m.scx.0 d)
     → PutHand allows lay c h m
 put_begin allows lay c h m l over linked start own_scx scx_in_order free own_node node_in_order u promised = record {
-  hand = scx_begin allows_all lay c h (job_of m) l over linked own_scx scx_in_order free own_node u (λ d y k later run e b w. tt);
+  hand = scx_begin AllowsAll lay c h (job_of m) l over linked own_scx scx_in_order free own_node u (λ d y k later run e b w. tt);
   start = start;
   in_order = node_in_order;
   allowed = promised;

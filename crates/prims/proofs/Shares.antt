@@ -7,20 +7,20 @@ use Rattle.arena.specs.declared.step.Row.{Row}
 use Rattle.arena.specs.declared.step.Step.{Step}
 use Rattle.arena.specs.declared.step.Kind.TheVariants.{Fill}
 use Rattle.arena.specs.Layout.{opening_nodes, first_node, first_scx}
-use Rattle.arena.specs.Share.{Left, whole_share, HasNode, HasScx, taken}
+use Rattle.arena.specs.Share.{Remaining, whole_share, HasNode, HasScx, after_taking}
 use Rattle.arena.specs.History.{History, Start, ◌⊳◌}
 use Rattle.arena.specs.ScxRecords.{member}
 use Rattle.arena.specs.Blame.{IsInProgress}
 use Rattle.arena.specs.Fills.{IsOwnNode, IsOwnScx, IsTakenNode, IsTakenScx}
 use Rattle.arena.specs.Lawful.{Lawful, HasWon}
 use Rattle.arena.specs.Machines.{Call, row_of}
-use Rattle.arena.proofs.Taken.{taken_node_more, taken_scx_more}
+use Rattle.arena.proofs.Lemmas.{taken_node_more, taken_scx_more}
 use Rattle.histories.specs.Unmentioned.{IsUnmentioned}
 use Rattle.histories.proofs.Lemmas.{Facts, UpdateWins, facts, facts_before, named_scx_taken, unmentioned_by_others, unmentioned_by_step, unmentioned_start, untaken_by_others, untaken_by_step, update_flagged, update_in_progress, won_named}
-use Rattle.prims.specs.Idle.{IsIdle, idle_if_over}
-use Rattle.prims.specs.Moments.{AreOver}
-use Rattle.prims.specs.PutKnown.{put_waits}
-use Rattle.prims.specs.ScxKnown.{job_of, scx_waits}
+use Rattle.prims.specs.Laws.Idle.{IsIdle, idle_if_over}
+use Rattle.prims.specs.Moments.{AreFinished}
+use Rattle.prims.specs.Put.Known.{PutWaits}
+use Rattle.prims.specs.Scx.Known.{job_of, ScxWaits}
 use Rattle.prims.specs.Shares.{IsShare}
 use Rattle.prims.specs.declared.put.PutRun.{PutRun}
 use Rattle.prims.specs.declared.scx.ScxRun.{ScxRun}
@@ -50,14 +50,14 @@ unfolding IsTakenScx
 none_taken mode s t = t
 
 -- what a share still has is the pass's own
-pub left_own_node : (lay : Layout) (h : History) (c : ℕ) (left : Left) (node scx n : ℕ) → IsShare lay h c left node scx → HasNode left n → IsOwnNode lay c n
+pub left_own_node : (lay : Layout) (h : History) (c : ℕ) (left : Remaining) (node scx n : ℕ) → IsShare lay h c left node scx → HasNode left n → IsOwnNode lay c n
 left_own_node lay h c left node scx n x p = record { from = let a = x.from_node in let b = p.from in omega arith; below = let a = x.to_node in let b = p.below in omega arith }
 
-pub left_own_scx : (lay : Layout) (h : History) (c : ℕ) (left : Left) (node scx s : ℕ) → IsShare lay h c left node scx → HasScx left s → IsOwnScx lay c s
+pub left_own_scx : (lay : Layout) (h : History) (c : ℕ) (left : Remaining) (node scx s : ℕ) → IsShare lay h c left node scx → HasScx left s → IsOwnScx lay c s
 left_own_scx lay h c left node scx s x p = record { from = let a = x.from_scx in let b = p.from in omega arith; below = let a = x.to_scx in let b = p.below in omega arith }
 
 -- a row that touches nothing of what is left
-share_kept : (lay : Layout) (h : History) (r : Row) (c : ℕ) (left : Left) (node scx : ℕ) → ((n : ℕ) → HasNode left n → opening_nodes lay.mode ≤ n → IsUnmentioned h n → IsUnmentioned (r ⊳ h) n) → ((n : ℕ) → HasNode left n → ¬ IsTakenNode h n → ¬ IsTakenNode (r ⊳ h) n) → ((s : ℕ) → HasScx left s → ¬ IsTakenScx h s → ¬ IsTakenScx (r ⊳ h) s) → IsShare lay h c left node scx → IsShare lay (r ⊳ h) c left node scx
+share_kept : (lay : Layout) (h : History) (r : Row) (c : ℕ) (left : Remaining) (node scx : ℕ) → ((n : ℕ) → HasNode left n → opening_nodes lay.mode ≤ n → IsUnmentioned h n → IsUnmentioned (r ⊳ h) n) → ((n : ℕ) → HasNode left n → ¬ IsTakenNode h n → ¬ IsTakenNode (r ⊳ h) n) → ((s : ℕ) → HasScx left s → ¬ IsTakenScx h s → ¬ IsTakenScx (r ⊳ h) s) → IsShare lay h c left node scx → IsShare lay (r ⊳ h) c left node scx
 share_kept lay h r c left node scx f t g x = record {
   from_node = x.from_node;
   to_node = x.to_node;
@@ -71,7 +71,7 @@ share_kept lay h r c left node scx f t g x = record {
 }
 
 -- one of another pass
-pub share_by_others : (lay : Layout) (h : History) (r : Row) (c : ℕ) (left : Left) (node scx : ℕ) → Lawful lay (r ⊳ h) → c < lay.passes → r.pass.0 ≢ c → IsShare lay h c left node scx → IsShare lay (r ⊳ h) c left node scx
+pub share_by_others : (lay : Layout) (h : History) (r : Row) (c : ℕ) (left : Remaining) (node scx : ℕ) → Lawful lay (r ⊳ h) → c < lay.passes → r.pass.0 ≢ c → IsShare lay h c left node scx → IsShare lay (r ⊳ h) c left node scx
 share_by_others lay h r c left node scx l is_pass other x = share_kept lay h r c left node scx
     (λ n p i u. unmentioned_by_others lay h r c n l is_pass other (left_own_node lay h c left node scx n x p) u)
     (λ n p u. untaken_node_by_others lay h r c n l other (left_own_node lay h c left node scx n x p) u)
@@ -79,11 +79,11 @@ share_by_others lay h r c left node scx l is_pass other x = share_kept lay h r c
     x
 
 -- one that is no fill
-pub share_by_step : (lay : Layout) (h : History) (r : Row) (c : ℕ) (left : Left) (node scx : ℕ) → Lawful lay (r ⊳ h) → r.kind ≢ Fill → IsShare lay h c left node scx → IsShare lay (r ⊳ h) c left node scx
+pub share_by_step : (lay : Layout) (h : History) (r : Row) (c : ℕ) (left : Remaining) (node scx : ℕ) → Lawful lay (r ⊳ h) → r.kind ≢ Fill → IsShare lay h c left node scx → IsShare lay (r ⊳ h) c left node scx
 share_by_step lay h r c left node scx l no_fill x = share_kept lay h r c left node scx (λ n p i u. unmentioned_by_step lay h r n l no_fill u) (λ n p u. untaken_node_by_step h r n no_fill u) (λ s p u. untaken_by_step h r s no_fill u) x
 
 -- one of an SCX that has the newest records of the share in hand
-pub share_by_put : (allows : Layout → History → ℕ → Type 0) (m : PutRun) (call : Call) (h : History) (step : Step) (left : Left) (node scx : ℕ) → Lawful call.layout (row_of call step h ⊳ h) → put_waits allows m call h step → left.next_node ≡ suc m.scx.update.fresh.0 → left.next_scx ≡ suc m.scx.scx.0 → IsShare call.layout h call.pass left node scx → IsShare call.layout (row_of call step h ⊳ h) call.pass left node scx
+pub share_by_put : (allows : Layout → History → ℕ → Type 0) (m : PutRun) (call : Call) (h : History) (step : Step) (left : Remaining) (node scx : ℕ) → Lawful call.layout (row_of call step h ⊳ h) → PutWaits allows m call h step → left.next_node ≡ suc m.scx.update.fresh.0 → left.next_scx ≡ suc m.scx.scx.0 → IsShare call.layout h call.pass left node scx → IsShare call.layout (row_of call step h ⊳ h) call.pass left node scx
 share_by_put allows m call h step left node scx l w next_node next_scx x = share_kept call.layout h (row_of call step h) call.pass left node scx
     (λ n p i u. put_unmentioned allows m call h step n l w i (λ e. let a = p.from in omega arith) u)
     (λ n p u. put_untaken_node allows m call h step n w (λ e. let a = p.from in omega arith) u)
@@ -91,7 +91,7 @@ share_by_put allows m call h step left node scx l w next_node next_scx x = share
     x
 
 -- one of an SCX that has its SCX-record and its fresh nodes, which it has filled before, from the share
-pub share_by_scx : (allows : Layout → History → ℕ → Type 0) (m : ScxRun) (call : Call) (h : History) (step : Step) (left : Left) (node scx : ℕ) → Lawful call.layout (row_of call step h ⊳ h) → scx_waits allows m call h step → m.update.fresh.0 < left.next_node → m.scx.0 < left.next_scx → IsShare call.layout h call.pass left node scx → IsShare call.layout (row_of call step h ⊳ h) call.pass left node scx
+pub share_by_scx : (allows : Layout → History → ℕ → Type 0) (m : ScxRun) (call : Call) (h : History) (step : Step) (left : Remaining) (node scx : ℕ) → Lawful call.layout (row_of call step h ⊳ h) → ScxWaits allows m call h step → m.update.fresh.0 < left.next_node → m.scx.0 < left.next_scx → IsShare call.layout h call.pass left node scx → IsShare call.layout (row_of call step h ⊳ h) call.pass left node scx
 share_by_scx allows m call h step left node scx l w next_node next_scx x = share_kept call.layout h (row_of call step h) call.pass left node scx
     (λ n p i u. unmentioned_at allows (job_of m) call h n i (λ e. let a = p.from in omega arith) u m.at step l w)
     (λ n p u. not_filled h (row_of call step h) n (fills_no_node allows (job_of m) call h m.at step n w) u)
@@ -99,11 +99,11 @@ share_by_scx allows m call h step left node scx l w next_node next_scx x = share
     x
 
 -- what is left once the next node is taken
-abbrev pub less_a_node : Left → Left
+abbrev pub less_a_node : Remaining → Remaining
 less_a_node left = record left { next_node = left.next_node + 1; nodes = left.nodes - 1 }
 
 -- a node that the share gives is in hand, behind those that are so already
-pub node_in_hand : (lay : Layout) (h : History) (c : ℕ) (left : Left) (node scx : ℕ) → 0 < left.nodes → IsShare lay h c left node scx → IsShare lay h c (less_a_node left) node scx
+pub node_in_hand : (lay : Layout) (h : History) (c : ℕ) (left : Remaining) (node scx : ℕ) → 0 < left.nodes → IsShare lay h c left node scx → IsShare lay h c (less_a_node left) node scx
 node_in_hand lay h c left node scx some x = record {
   from_node = let a = x.from_node in omega arith;
   to_node = let a = x.to_node in omega arith;
@@ -117,7 +117,7 @@ node_in_hand lay h c left node scx some x = record {
 }
 
 -- an SCX that begins has the next records of the share in hand
-pub taken_share : (lay : Layout) (h : History) (c : ℕ) (left : Left) → 0 < left.nodes → 0 < left.scx → IsShare lay h c left left.next_node left.next_scx → IsShare lay h c (taken left) left.next_node left.next_scx
+pub taken_share : (lay : Layout) (h : History) (c : ℕ) (left : Remaining) → 0 < left.nodes → 0 < left.scx → IsShare lay h c left left.next_node left.next_scx → IsShare lay h c (after_taking left) left.next_node left.next_scx
 taken_share lay h c left some_node some_scx x = record {
   from_node = y.from_node;
   to_node = y.to_node;
@@ -138,7 +138,7 @@ below_or_from : (n k : ℕ) → (n < k) ⊎ (k ≤ n)
 below_or_from n k = grind arith
 
 -- where all that the share has given is taken, nothing of it is in hand
-pub share_spent : (lay : Layout) (h : History) (c : ℕ) (left : Left) (node scx : ℕ) → ((n : ℕ) → IsOwnNode lay c n → node ≤ n → n < left.next_node → IsTakenNode h n) → ((s : ℕ) → IsOwnScx lay c s → scx ≤ s → s < left.next_scx → IsTakenScx h s) → IsShare lay h c left node scx → IsShare lay h c left left.next_node left.next_scx
+pub share_spent : (lay : Layout) (h : History) (c : ℕ) (left : Remaining) (node scx : ℕ) → ((n : ℕ) → IsOwnNode lay c n → node ≤ n → n < left.next_node → IsTakenNode h n) → ((s : ℕ) → IsOwnScx lay c s → scx ≤ s → s < left.next_scx → IsTakenScx h s) → IsShare lay h c left node scx → IsShare lay h c left left.next_node left.next_scx
 share_spent lay h c left node scx t u x = record {
   from_node = x.from_node;
   to_node = x.to_node;
@@ -152,7 +152,7 @@ share_spent lay h c left node scx t u x = record {
 }
 
 -- so it is of an SCX that ends
-pub share_ends : (lay : Layout) (h : History) (c : ℕ) (left : Left) (node scx : ℕ) → left.next_node ≡ suc node → left.next_scx ≡ suc scx → IsTakenNode h node → IsTakenScx h scx → IsShare lay h c left node scx → IsShare lay h c left left.next_node left.next_scx
+pub share_ends : (lay : Layout) (h : History) (c : ℕ) (left : Remaining) (node scx : ℕ) → left.next_node ≡ suc node → left.next_scx ≡ suc scx → IsTakenNode h node → IsTakenScx h scx → IsShare lay h c left node scx → IsShare lay h c left left.next_node left.next_scx
 share_ends lay h c left node scx next_node next_scx t u = share_spent lay h c left node scx
     (λ n own from less. (let e : node ≡ n = omega (arith, next_node) in subst (IsTakenNode h) e t))
     (λ s own from less. (let e : scx ≡ s = omega (arith, next_scx) in subst (IsTakenScx h) e u))
@@ -160,7 +160,7 @@ share_ends lay h c left node scx next_node next_scx t u = share_spent lay h c le
 -- The pass's SCX-records
 
 -- the next one of the share is not taken
-pub next_free : (lay : Layout) (h : History) (c : ℕ) (left : Left) (node scx : ℕ) → IsShare lay h c left node scx → IsOwnScx lay c left.next_scx → ¬ IsTakenScx h left.next_scx
+pub next_free : (lay : Layout) (h : History) (c : ℕ) (left : Remaining) (node scx : ℕ) → IsShare lay h c left node scx → IsOwnScx lay c left.next_scx → ¬ IsTakenScx h left.next_scx
 next_free lay h c left node scx share own = share.untaken left.next_scx record { from = omega arith; below = let a = own.below in let b = share.to_scx in omega arith }
 
 -- one that is not taken is not named
@@ -174,15 +174,15 @@ free_unnamed lay h c s l own free = (
     real e = let a = own.from in omega arith
 
 -- so the next one is not in progress
-pub next_idle : (lay : Layout) (h : History) (c : ℕ) (left : Left) (node scx : ℕ) → Lawful lay h → IsShare lay h c left node scx → IsOwnScx lay c left.next_scx → ¬ IsInProgress h left.next_scx
+pub next_idle : (lay : Layout) (h : History) (c : ℕ) (left : Remaining) (node scx : ℕ) → Lawful lay h → IsShare lay h c left node scx → IsOwnScx lay c left.next_scx → ¬ IsInProgress h left.next_scx
 next_idle lay h c left node scx l share own = (free_unnamed lay h c left.next_scx l own (next_free lay h c left node scx share own)).0
 
 -- nor has its update won
-pub next_unwon : (lay : Layout) (h : History) (c : ℕ) (left : Left) (node scx : ℕ) → Lawful lay h → IsShare lay h c left node scx → IsOwnScx lay c left.next_scx → ¬ HasWon h left.next_scx
+pub next_unwon : (lay : Layout) (h : History) (c : ℕ) (left : Remaining) (node scx : ℕ) → Lawful lay h → IsShare lay h c left node scx → IsOwnScx lay c left.next_scx → ¬ HasWon h left.next_scx
 next_unwon lay h c left node scx l share own = (free_unnamed lay h c left.next_scx l own (next_free lay h c left node scx share own)).1
 
 -- that which is in progress is the one in hand
-pub own_in_hand : (lay : Layout) (h : History) (c s u : ℕ) → Lawful lay h → AreOver lay c u h → IsOwnScx lay c s → IsInProgress h s → s ≡ u
+pub own_in_hand : (lay : Layout) (h : History) (c s u : ℕ) → Lawful lay h → AreFinished lay c u h → IsOwnScx lay c s → IsInProgress h s → s ≡ u
 own_in_hand lay h c s u l over own p = go (ℕ_discrete s u)
   where
     go : Dec (s ≡ u) → s ≡ u
@@ -190,11 +190,11 @@ own_in_hand lay h c s u l over own p = go (ℕ_discrete s u)
     go (no d) = absurd (over s own d (named_scx_taken lay h s l (λ e. let a = own.from in omega arith) p.named) p.unfinished)
 
 -- where none is in hand all are finished
-pub all_over : (lay : Layout) (h : History) (c : ℕ) (left : Left) (node scx : ℕ) → IsShare lay h c left node scx → AreOver lay c left.next_scx h → AreOver lay c 0 h
+pub all_over : (lay : Layout) (h : History) (c : ℕ) (left : Remaining) (node scx : ℕ) → IsShare lay h c left node scx → AreFinished lay c left.next_scx h → AreFinished lay c 0 h
 all_over lay h c left node scx share over s own real t = over s own (λ e. share.untaken s record { from = omega (arith, e); below = let a = own.below in let b = share.to_scx in omega (arith, e) } t) t
 
 -- so none is in progress
-pub all_idle : (lay : Layout) (h : History) (c : ℕ) (left : Left) (node scx : ℕ) → Lawful lay h → IsShare lay h c left node scx → AreOver lay c left.next_scx h → IsIdle lay c h
+pub all_idle : (lay : Layout) (h : History) (c : ℕ) (left : Remaining) (node scx : ℕ) → Lawful lay h → IsShare lay h c left node scx → AreFinished lay c left.next_scx h → IsIdle lay c h
 all_idle lay h c left node scx l share over = idle_if_over lay c h l (λ s own t. all_over lay h c left node scx share over s own (λ e. let a = own.from in omega arith) t)
 
 -- one whose update wins is in progress

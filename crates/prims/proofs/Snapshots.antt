@@ -3,17 +3,17 @@ use Rattle.std.proofs.Common.{◌≡◌, ℕ, zero, suc, true, eqb, eqb-true, eq
 use Rattle.std.proofs.lemmas.Bool.{or_left}
 use Rattle.std.specs.List.{Contains}
 use Rattle.arena.specs.declared.number.NodeNo.{NodeNo}
-use Rattle.arena.proofs.Bools.{or_right, or_split}
-use Rattle.prims.specs.Snaps.{IsAmong, HasNode, has_node}
+use Rattle.arena.proofs.Lemmas.{or_right, or_split}
+use Rattle.prims.specs.Snaps.{IsAmong, ListsNode, has_node}
 use Rattle.prims.specs.declared.snap.Snap.{Snap}
 
 -- the test finds a node of the list
-pub has_from : (nodes : List NodeNo) (n : ℕ) → has_node nodes n ≡ true → HasNode nodes n
+pub has_from : (nodes : List NodeNo) (n : ℕ) → has_node nodes n ≡ true → ListsNode nodes n
 has_from [] n e = cc
 has_from (m ∷ ms) n e = ⊎_elim (λ q. (0, omega arith, eqb-true m.0 n q)) (λ q. let x = has_from ms n q in (suc x.0, omega (arith, x.1), x.2)) (or_split (eqb m.0 n) (has_node ms n) e)
 
 -- and each of them
-pub has_to : (nodes : List NodeNo) (n : ℕ) → HasNode nodes n → has_node nodes n ≡ true
+pub has_to : (nodes : List NodeNo) (n : ℕ) → ListsNode nodes n → has_node nodes n ≡ true
 has_to [] n x = absurd (let i = x.1 in omega arith)
 has_to (m ∷ ms) n (zero, i, e) = or_left (eqb m.0 n) (has_node ms n) (eq-eqb m.0 n e)
 has_to (m ∷ ms) n (suc k, i, e) = or_right (eqb m.0 n) (has_node ms n) (has_to ms n (k, omega arith, e))

@@ -9,15 +9,15 @@ use Rattle.arena.specs.declared.step.Row.{Row}
 use Rattle.arena.specs.declared.step.Step.{Step}
 use Rattle.arena.specs.declared.step.Kind.TheVariants.{Fill}
 use Rattle.arena.specs.Words.{node, scx}
-use Rattle.arena.specs.History.{History, Start, ◌⊳◌, EndsWith}
+use Rattle.arena.specs.History.{History, Start, ◌⊳◌, Extends}
 use Rattle.arena.specs.Fills.{IsOwnNode, IsFillOfNode, IsTakenNode, MayFill}
 use Rattle.arena.specs.Lawful.{Lawful, Obeys}
 use Rattle.arena.specs.Machines.{Call, row_of}
-use Rattle.arena.proofs.Taken.{taken_node_more}
+use Rattle.arena.proofs.Lemmas.{taken_node_more}
 use Rattle.histories.proofs.Lemmas.{lawful_row, one_node_owner}
-use Rattle.help.specs.HelpLawful.{help_fills_not}
-use Rattle.prims.specs.ScxKnown.{Job, job_of, part_at, FillWaits, scx_waits_at}
-use Rattle.prims.specs.PutKnown.{put_waits_at, put_waits}
+use Rattle.help.specs.Help.Lawful.{help_fills_not}
+use Rattle.prims.specs.Scx.Known.{Job, job_of, part_at, FillWaits, ScxWaitsAt}
+use Rattle.prims.specs.Put.Known.{PutWaitsAt, PutWaits}
 use Rattle.prims.specs.declared.scx.ScxAt.{ScxAt}
 use Rattle.prims.specs.declared.scx.ScxAt.TheVariants.{Start as ScxStart, Plan as AtPlan, New as AtNew, Old as AtOld, Member as AtMember, Seen as AtSeen, Call as AtCall, Help}
 use Rattle.prims.specs.declared.put.PutRun.{PutRun}
@@ -31,7 +31,7 @@ not_filled h r n d free (inl x) = d x
 not_filled h r n d free (inr x) = free x
 
 -- a taken node stays taken
-pub taken_node_since : (h m : History) (n : ℕ) → EndsWith h m → IsTakenNode m n → IsTakenNode h n
+pub taken_node_since : (h m : History) (n : ℕ) → Extends h m → IsTakenNode m n → IsTakenNode h n
 taken_node_since (Start mode) m n e t = subst (λ k. IsTakenNode k n) e t
 taken_node_since (r ⊳ h) m n (inl e) t = subst (λ k. IsTakenNode k n) e t
 taken_node_since (r ⊳ h) m n (inr e) t = taken_node_more r h n (taken_node_since h m n e t)
@@ -65,7 +65,7 @@ of_scx : (allows : Layout → History → ℕ → Type 0) (m : Job) (c : Call) (
 of_scx allows m c h at s n w x = let e : scx m.scx.0 (part_at at) ≡ node n x.0 = rw w.asked at x.2 in cc
 
 -- nor does a row of the SCX
-pub fills_no_node : (allows : Layout → History → ℕ → Type 0) (m : Job) (c : Call) (h : History) (at : ScxAt) (s : Step) (n : ℕ) → scx_waits_at allows c h m at s → ¬ IsFillOfNode n (row_of c s h)
+pub fills_no_node : (allows : Layout → History → ℕ → Type 0) (m : Job) (c : Call) (h : History) (at : ScxAt) (s : Step) (n : ℕ) → ScxWaitsAt allows c h m at s → ¬ IsFillOfNode n (row_of c s h)
 fills_no_node allows m c h ScxStart s n w = absurd w
 fills_no_node allows m c h (Help help) s n w = λ x. help_fills_not allows help c h s w.0 x.1
 fills_no_node allows m c h AtPlan s n w = of_scx allows m c h AtPlan s n w
@@ -80,11 +80,11 @@ node_number (Node n part) = n.0
 node_number (ScxOf s part) = 0
 
 -- nor a row at a place, but of its fresh node
-fills_no_other : (allows : Layout → History → ℕ → Type 0) (m : PutRun) (c : Call) (h : History) (at : PutAt) (s : Step) (n : ℕ) → put_waits_at allows c h m at s → n ≢ m.scx.update.fresh.0 → ¬ IsFillOfNode n (row_of c s h)
+fills_no_other : (allows : Layout → History → ℕ → Type 0) (m : PutRun) (c : Call) (h : History) (at : PutAt) (s : Step) (n : ℕ) → PutWaitsAt allows c h m at s → n ≢ m.scx.update.fresh.0 → ¬ IsFillOfNode n (row_of c s h)
 fills_no_other allows m c h Start s n w other = absurd w
 fills_no_other allows m c h AtFill s n w other = λ x. (let e : node m.scx.update.fresh.0 Value ≡ node n x.0 = rw w.2 at x.2 in other (λ i. node_number (sym e i)))
 fills_no_other allows m c h Scx s n w other = fills_no_node allows (job_of m.scx) c h m.scx.at s n w.1
 
 -- it takes no node but its own
-pub put_untaken_node : (allows : Layout → History → ℕ → Type 0) (m : PutRun) (c : Call) (h : History) (s : Step) (n : ℕ) → put_waits allows m c h s → n ≢ m.scx.update.fresh.0 → ¬ IsTakenNode h n → ¬ IsTakenNode (row_of c s h ⊳ h) n
+pub put_untaken_node : (allows : Layout → History → ℕ → Type 0) (m : PutRun) (c : Call) (h : History) (s : Step) (n : ℕ) → PutWaits allows m c h s → n ≢ m.scx.update.fresh.0 → ¬ IsTakenNode h n → ¬ IsTakenNode (row_of c s h ⊳ h) n
 put_untaken_node allows m c h s n w other = not_filled h (row_of c s h) n (fills_no_other allows m c h m.at s n w other)

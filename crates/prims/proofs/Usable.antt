@@ -1,20 +1,20 @@
 -- Snapshots that a pass may use, and how its calls over them begin.
 use Rattle.std.proofs.Common.{◌≡◌, ℕ, ◌<◌, List, length, None, refl}
 use Rattle.arena.specs.declared.layout.Layout.{Layout}
-use Rattle.arena.specs.History.{History, EndsWith}
+use Rattle.arena.specs.History.{History, Extends}
 use Rattle.arena.specs.Fills.{IsOwnNode, IsOwnScx, IsTakenNode, IsTakenScx}
 use Rattle.arena.specs.Lawful.{Lawful}
 use Rattle.histories.specs.Unmentioned.{IsUnmentioned}
-use Rattle.prims.specs.Blamed.{moment_since}
-use Rattle.prims.specs.Cells.{allows_all}
-use Rattle.prims.specs.Linked.{linked_since}
-use Rattle.prims.specs.LlxKnown.{IsSnapshot}
-use Rattle.prims.specs.Moments.{AreOver}
-use Rattle.prims.specs.PutKnown.{put_ready}
-use Rattle.prims.specs.ScxKnown.{IsUpdateOver}
+use Rattle.prims.specs.Laws.Blamed.{moment_since}
+use Rattle.prims.specs.Cells.{AllowsAll}
+use Rattle.prims.specs.Laws.Linked.{linked_since}
+use Rattle.prims.specs.Llx.Known.{IsSnapshot}
+use Rattle.prims.specs.Moments.{AreFinished}
+use Rattle.prims.specs.Put.Known.{PutIsReady}
+use Rattle.prims.specs.Scx.Known.{IsUpdateOver}
 use Rattle.prims.specs.Shares.{IsUsable}
 use Rattle.prims.specs.Snap.{snap_at}
-use Rattle.prims.specs.VlxKnown.{IsClear, vlx_ready}
+use Rattle.prims.specs.Vlx.Known.{IsClear, VlxIsReady}
 use Rattle.prims.specs.declared.snap.Snap.{Snap}
 use Rattle.prims.specs.declared.put.PutRun.{PutRun}
 use Rattle.prims.specs.declared.put.PutAt.TheVariants.{Start as PutStart}
@@ -28,13 +28,13 @@ pub usable_now : (lay : Layout) (h : History) (n : ℕ) (snap : Snap) → IsSnap
 usable_now lay h n snap x = record { linked = x.linked; found = snapshot_moment lay h n snap x }
 
 -- it may be used for ever
-pub usable_since : (lay : Layout) (h m : History) (snap : Snap) (moment : History) → Lawful lay h → EndsWith h m → IsUsable lay m snap moment → IsUsable lay h snap moment
+pub usable_since : (lay : Layout) (h m : History) (snap : Snap) (moment : History) → Lawful lay h → Extends h m → IsUsable lay m snap moment → IsUsable lay h snap moment
 usable_since lay h m snap moment l e x = record { linked = linked_since lay h m snap l e x.linked; found = moment_since lay h m moment snap e x.found }
 
 -- How calls begin
 
 -- where all that the pass has taken is finished, a call over usable snapshots may begin
-is_clear : (lay : Layout) (c : ℕ) (h : History) (snaps : List Snap) → ((i : ℕ) → i < length snaps → (moment : History) × IsUsable lay h (snap_at snaps i) moment) → AreOver lay c 0 h → IsClear lay c h snaps
+is_clear : (lay : Layout) (c : ℕ) (h : History) (snaps : List Snap) → ((i : ℕ) → i < length snaps → (moment : History) × IsUsable lay h (snap_at snaps i) moment) → AreFinished lay c 0 h → IsClear lay c h snaps
 is_clear lay c h snaps usable over = record {
   over = over;
   found = λ i p. let x = usable i p in (x.0, x.1.found);
@@ -44,18 +44,18 @@ is_clear lay c h snaps usable over = record {
 pub put_ready_first : (lay : Layout) (c number : ℕ) (is_pass : c < lay.passes) (h : History) (m : PutRun) → Lawful lay h → IsUpdateOver m.scx.update → ((i : ℕ) → i < length m.scx.update.snaps → (moment : History) × IsUsable lay h (snap_at m.scx.update.snaps i) moment) → m.at ≡ PutStart → m.scx.at ≡ ScxStart
     → IsOwnScx lay c m.scx.scx.0 → ((t : ℕ) → IsOwnScx lay c t → t < m.scx.scx.0 → IsTakenScx h t) → ¬ IsTakenScx h m.scx.scx.0
     → IsOwnNode lay c m.scx.update.fresh.0 → ((n : ℕ) → IsOwnNode lay c n → n < m.scx.update.fresh.0 → IsTakenNode h n) → IsUnmentioned h m.scx.update.fresh.0 → ¬ IsTakenNode h m.scx.update.fresh.0
-    → AreOver lay c 0 h
-    → put_ready allows_all m (record { layout = lay; pass = c; is_pass = is_pass; number = number; start = h }) h None
+    → AreFinished lay c 0 h
+    → PutIsReady AllowsAll m (record { layout = lay; pass = c; is_pass = is_pass; number = number; start = h }) h None
 put_ready_first lay c number is_pass h m l over usable at start own in_order free own_node nodes unmentioned free_node all_over = record {
   stands = at;
-  hand = put_begin allows_all lay c h m.scx l over (λ i p. (usable i p).1.linked) start own in_order free own_node nodes unmentioned (λ k r d later f y n later_n run e b w. tt);
+  hand = put_begin AllowsAll lay c h m.scx l over (λ i p. (usable i p).1.linked) start own in_order free own_node nodes unmentioned (λ k r d later f y n later_n run e b w. tt);
   begins = refl;
   clear = is_clear lay c h m.scx.update.snaps usable all_over;
   free = free;
   blank = blank_at_first lay c h m.scx.scx.0 m.scx.update.fresh.0 l own_node unmentioned free_node;
 }
 
-pub vlx_ready_first : (lay : Layout) (c number : ℕ) (is_pass : c < lay.passes) (h : History) (snaps : List Snap) (asked : ℕ) → asked ≡ 0 → 0 < length snaps → ((i : ℕ) → i < length snaps → (moment : History) × IsUsable lay h (snap_at snaps i) moment) → AreOver lay c 0 h → vlx_ready snaps asked (record { layout = lay; pass = c; is_pass = is_pass; number = number; start = h }) h None
+pub vlx_ready_first : (lay : Layout) (c number : ℕ) (is_pass : c < lay.passes) (h : History) (snaps : List Snap) (asked : ℕ) → asked ≡ 0 → 0 < length snaps → ((i : ℕ) → i < length snaps → (moment : History) × IsUsable lay h (snap_at snaps i) moment) → AreFinished lay c 0 h → VlxIsReady snaps asked (record { layout = lay; pass = c; is_pass = is_pass; number = number; start = h }) h None
 vlx_ready_first lay c number is_pass h snaps asked start some usable all_over = record {
   asked = start;
   some = some;

@@ -4,7 +4,7 @@ use Rattle.std.specs.Prelude.{◌≡◌, ◌≢◌, ℕ}
 use Rattle.arena.specs.declared.word.Side.{Side}
 use Rattle.arena.specs.declared.word.ScxWord.TheVariants.{New, Member}
 use Rattle.arena.specs.Words.{scx, child}
-use Rattle.arena.specs.History.{History, value, HasHeld, EndsWith}
+use Rattle.arena.specs.History.{History, value, HasHeld, Extends}
 use Rattle.arena.specs.Lawful.{HasWon}
 
 -- the node n is blank: its fields are 0, no field has ever held it, no SCX-record has covered it,
@@ -17,5 +17,5 @@ pub record IsBlank (h : History) (s n : ℕ) : Type 0 where
 
 -- n was blank at each moment since `start` at which no update of s had won
 pub record WasBlank (start h : History) (s n : ℕ) : Type 0 where
-  pub since : EndsWith h start
-  pub blank : (k : History) → EndsWith h k → EndsWith k start → ¬ HasWon k s → IsBlank k s n
+  pub since : Extends h start
+  pub blank : (k : History) → Extends h k → Extends k start → ¬ HasWon k s → IsBlank k s n

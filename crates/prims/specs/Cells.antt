@@ -4,5 +4,5 @@ use Rattle.arena.specs.declared.layout.Layout.{Layout}
 use Rattle.arena.specs.History.{History}
 
 -- cells let every SCX-record begin
-abbrev pub allows_all : Layout → History → ℕ → Type 0
-allows_all lay h s = Unit {0}
+abbrev pub AllowsAll : Layout → History → ℕ → Type 0
+AllowsAll lay h s = Unit {0}

@@ -1,19 +1,19 @@
 -- A node whose info names what a usable snapshot found is as its snapshot found it.
 use Rattle.std.proofs.Common.{◌≡◌, ⊎_elim, sym}
 use Rattle.arena.specs.Words.{info}
-use Rattle.arena.specs.History.{History, value, EndsWith}
+use Rattle.arena.specs.History.{History, value, Extends}
 use Rattle.arena.specs.Lawful.{Lawful}
 use Rattle.arena.specs.Log.{log, last}
 use Rattle.arena.specs.Machines.{Call}
 use Rattle.histories.proofs.Lemmas.{last_since, lawful_since, not_final}
 use Rattle.prims.specs.Moments.{IsMoment, IsAsFound}
-use Rattle.prims.specs.Linked.{IsLinked, in_field_named}
+use Rattle.prims.specs.Laws.Linked.{IsLinked, in_field_named}
 use Rattle.prims.specs.declared.snap.Snap.{Snap}
-use Rattle.prims.specs.Wins.{ends_either}
+use Rattle.prims.specs.Laws.Wins.{ends_either}
 
 -- a node whose info names, as the call begins, what a
 -- usable snapshot found is then as that found it
-pub found_at : (c : Call) (h : History) (snap : Snap) → Lawful c.layout h → EndsWith h c.start → IsLinked c.layout c.start snap → value c.start (info snap.node.0) ≡ snap.scx.0 → IsAsFound c.layout h c.start snap
+pub found_at : (c : Call) (h : History) (snap : Snap) → Lawful c.layout h → Extends h c.start → IsLinked c.layout c.start snap → value c.start (info snap.node.0) ≡ snap.scx.0 → IsAsFound c.layout h c.start snap
 found_at c h snap l e x same = record { last = same_last; not_final = not_final c.layout c.start snap.node.0 ls (x.unmarked same) }
   where
     ls : Lawful c.layout c.start

@@ -3,7 +3,7 @@
 use Rattle.std.specs.Prelude.{◌≡◌, ◌≢◌, ℕ, ◌<◌, false, List, length}
 use Rattle.arena.specs.declared.layout.Layout.{Layout}
 use Rattle.arena.specs.Words.{info, state}
-use Rattle.arena.specs.History.{History, value, EndsWith}
+use Rattle.arena.specs.History.{History, value, Extends}
 use Rattle.arena.specs.Fills.{IsNamed, IsOwnScx, IsOthersScx, IsTakenScx}
 use Rattle.arena.specs.Log.{log, last, is_final}
 use Rattle.arena.specs.Blame.{IsMember, IsInProgress, WasInTheWay}
@@ -14,7 +14,7 @@ use Rattle.prims.specs.declared.snap.Snap.{Snap}
 -- at the moment k of the history the node was as the snapshot found it: named and not final, with
 -- an info that named the snapshot's SCX-record, which was finished
 pub record IsMoment (lay : Layout) (h : History) (snap : Snap) (k : History) : Type 0 where
-  pub within : EndsWith h k
+  pub within : Extends h k
   pub named : IsNamed lay k snap.node.0
   pub rest : value k (state snap.scx.0) ≢ 0
   pub info : value k (info snap.node.0) ≡ snap.scx.0
@@ -31,15 +31,15 @@ pub record IsAsFound (lay : Layout) (h k : History) (snap : Snap) : Type 0 where
 pub record IsLeftAlone (lay : Layout) (c : ℕ) (h : History) (snap : Snap) : Type 0 where
   pub moment : History
   pub found : IsMoment lay h snap moment
-  pub idle : (k : History) → EndsWith h k → EndsWith k moment → (t : ℕ) → IsOwnScx lay c t → IsInProgress k t → ¬ IsMember k t snap.node.0
+  pub idle : (k : History) → Extends h k → Extends k moment → (t : ℕ) → IsOwnScx lay c t → IsInProgress k t → ¬ IsMember k t snap.node.0
 
 -- the pass c has left each of these snapshots alone
 abbrev pub AreLeftAlone : Layout → ℕ → History → List Snap → Type 0
 AreLeftAlone lay c h snaps = (i : ℕ) → i < length snaps → IsLeftAlone lay c h (snap_at snaps i)
 
 -- each SCX-record that the pass c has taken is finished, but perhaps s
-abbrev pub AreOver : Layout → ℕ → ℕ → History → Type 0
-AreOver lay c s h = (t : ℕ) → IsOwnScx lay c t → t ≢ s → IsTakenScx h t → value h (state t) ≢ 0
+abbrev pub AreFinished : Layout → ℕ → ℕ → History → Type 0
+AreFinished lay c s h = (t : ℕ) → IsOwnScx lay c t → t ≢ s → IsTakenScx h t → value h (state t) ≢ 0
 
 -- since the moment `start` the pass c has taken no SCX-record of its own but s
 abbrev pub HasTakenOnly : Layout → ℕ → ℕ → History → History → Type 0

@@ -2,17 +2,17 @@
 use Rattle.std.specs.Prelude.{◌≡◌, ℕ, ◌+◌, ◌<◌, ◌≤◌}
 use Rattle.arena.specs.declared.layout.Layout.{Layout}
 use Rattle.arena.specs.Layout.{first_node, first_scx}
-use Rattle.arena.specs.Share.{Left, HasNode, HasScx}
+use Rattle.arena.specs.Share.{Remaining, HasNode, HasScx}
 use Rattle.arena.specs.History.{History}
 use Rattle.arena.specs.Fills.{IsOwnNode, IsOwnScx, IsTakenNode, IsTakenScx}
 use Rattle.histories.specs.Unmentioned.{IsUnmentioned}
-use Rattle.prims.specs.Linked.{IsLinked}
+use Rattle.prims.specs.Laws.Linked.{IsLinked}
 use Rattle.prims.specs.Moments.{IsMoment}
 use Rattle.prims.specs.declared.snap.Snap.{Snap}
 
 -- what is left of pass c's share is untouched, and all
 -- before this node and this SCX-record is taken
-pub record IsShare (lay : Layout) (h : History) (c : ℕ) (left : Left) (node scx : ℕ) : Type 0 where
+pub record IsShare (lay : Layout) (h : History) (c : ℕ) (left : Remaining) (node scx : ℕ) : Type 0 where
   -- what is left is the upper end of the pass's share
   pub from_node : first_node lay c ≤ left.next_node
   pub to_node : left.next_node + left.nodes ≡ first_node lay c + lay.nodes

@@ -16,8 +16,8 @@ pub record IsAmong (snaps : List Snap) (n : ℕ) : Type 0 where
   pub is : (snap_at snaps at).node.0 ≡ n
 
 -- node n is one of the list
-abbrev pub HasNode : List NodeNo → ℕ → Type 0
-HasNode nodes n = Contains (map (λ (m : NodeNo). m.0) nodes) n
+abbrev pub ListsNode : List NodeNo → ℕ → Type 0
+ListsNode nodes n = Contains (map (λ (m : NodeNo). m.0) nodes) n
 
 -- whether node n is one of the list
 abbrev pub has_node : List NodeNo → ℕ → Bool

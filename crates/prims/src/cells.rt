@@ -1,6 +1,6 @@
 //! The shape of cells.
 ghost use Rattle.arena.specs.declared.limits.Mode.TheVariants.{Records};
-ghost use Rattle.prims.specs.Cells.{allows_all};
+ghost use Rattle.prims.specs.Cells.{AllowsAll};
 
 use arena::Shape;
 
@@ -11,7 +11,7 @@ pub struct Cells;
 impl Shape for Cells {
     ghost mode = { Records };
 
-    ghost allows = { allows_all };
+    ghost allows = { AllowsAll };
 
     ghost holds = { λ lay h. Unit {0} };
 

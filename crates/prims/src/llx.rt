@@ -3,7 +3,7 @@ ghost use Rattle.std.specs.Prelude.{◌≡◌, ℕ, ◌+◌, ◌<◌, ◌≤◌}
 
 use crate::snap::Snap;
 use arena::{
-    ABORTED, COMMITTED, Deed, IN_PROGRESS, Kind, Machine, NodeNo, NodeWord, ScxNo, ScxWord, Shape,
+    ABORTED, COMMITTED, Access, IN_PROGRESS, Kind, Machine, NodeNo, NodeWord, ScxNo, ScxWord, Shape,
     Side, Step, Turn, Word,
 };
 use help::HelpRun;
@@ -97,9 +97,9 @@ impl LlxRun {
     ghost use Rattle.std.specs.Prelude.{◌≡◌, ◌+◌, ◌<◌, ◌≤◌, ◌⊎◌};
     ghost use Rattle.arena.specs.History.{History};
     ghost use Rattle.arena.specs.Machines.{MatchTurn, Call};
-    ghost use Rattle.prims.specs.LlxKnown.{HasStopped, IsToBlame, Helps, Meets, Asks, Reads, Declines, Differs, Snaps, Finalizes, LooksLast, llx_turn};
-    ghost use Rattle.help.specs.HelpSteps.{help_left};
-    ghost use Rattle.prims.specs.LlxSteps.{llx_left};
+    ghost use Rattle.prims.specs.Llx.Known.{HasStopped, IsToBlame, LlxHelps, Meets, LlxAsks, Reads, Declines, Differs, Snaps, Finalizes, LooksLast, LlxTurn};
+    ghost use Rattle.help.specs.Help.Steps.{help_left};
+    ghost use Rattle.prims.specs.Llx.Steps.{llx_left};
 
     /// A run that has not begun. It asks for at most 64 steps.
     pub fn new(node: NodeNo) -> LlxRun
@@ -115,42 +115,42 @@ impl LlxRun {
 
     /// Asks for a load, and stands there.
     fn ask(&mut self, at: LlxAt, kind: Kind, word: Word) -> Turn<Llx>
-        ensures { Asks self.old self.new result at record { kind = kind; word = word; deed = Deed.Load } }
+        ensures { LlxAsks self.old self.new result at record { kind = kind; word = word; access = Access.Load } }
     {
         self.at = at;
-        let deed = Deed::Load;
-        Turn::Ask(Step { kind, word, deed })
+        let access = Access::Load;
+        Turn::Ask(Step { kind, word, access })
     }
 
     /// Loads a word of the node.
     fn load(&mut self, at: LlxAt, kind: Kind, part: NodeWord) -> Turn<Llx>
-        ensures { Asks self.old self.new result at record { kind = kind; word = Word.Node self.old.node part; deed = Deed.Load } }
+        ensures { LlxAsks self.old self.new result at record { kind = kind; word = Word.Node self.old.node part; access = Access.Load } }
     {
         self.ask(at, kind, Word::Node(self.node, part))
     }
 
     fn load_child(&mut self, at: LlxAt, side: Side) -> Turn<Llx>
-        ensures { Asks self.old self.new result at record { kind = Kind.LoadChild; word = Word.Node self.old.node (NodeWord.Child side); deed = Deed.Load } }
+        ensures { LlxAsks self.old self.new result at record { kind = Kind.LoadChild; word = Word.Node self.old.node (NodeWord.Child side); access = Access.Load } }
     {
         self.load(at, Kind::LoadChild, NodeWord::Child(side))
     }
 
     fn load_state(&mut self, at: LlxAt, scx: ScxNo) -> Turn<Llx>
-        ensures { Asks self.old self.new result at record { kind = Kind.LoadState; word = Word.Scx scx ScxWord.State; deed = Deed.Load } }
+        ensures { LlxAsks self.old self.new result at record { kind = Kind.LoadState; word = Word.Scx scx ScxWord.State; access = Access.Load } }
     {
         self.ask(at, Kind::LoadState, Word::Scx(scx, ScxWord::State))
     }
 
     /// Reads the info of the node, after its mark.
     fn load_info(&mut self, marked: bool) -> Turn<Llx>
-        ensures { Asks self.old self.new result (LlxAt.Info marked) record { kind = Kind.LoadInfo; word = Word.Node self.old.node NodeWord.Info; deed = Deed.Load } }
+        ensures { LlxAsks self.old self.new result (LlxAt.Info marked) record { kind = Kind.LoadInfo; word = Word.Node self.old.node NodeWord.Info; access = Access.Load } }
     {
         self.load(LlxAt::Info { marked }, Kind::LoadInfo, NodeWord::Info)
     }
 
     /// Reads the mark of the node once more, after the state of what its info names.
     fn load_mark_again(&mut self, marked: bool, scx: ScxNo, state: u64) -> Turn<Llx>
-        ensures { Asks self.old self.new result (LlxAt.MarkedAgain marked scx state) record { kind = Kind.LoadMarked; word = Word.Node self.old.node NodeWord.Marked; deed = Deed.Load } }
+        ensures { LlxAsks self.old self.new result (LlxAt.MarkedAgain marked scx state) record { kind = Kind.LoadMarked; word = Word.Node self.old.node NodeWord.Marked; access = Access.Load } }
     {
         let at = LlxAt::MarkedAgain { marked, scx, state };
         self.load(at, Kind::LoadMarked, NodeWord::Marked)
@@ -158,7 +158,7 @@ impl LlxRun {
 
     /// Reads the right field, after the left one.
     fn load_right(&mut self, marked: bool, scx: ScxNo, left: u64) -> Turn<Llx>
-        ensures { Asks self.old self.new result (LlxAt.Right marked scx left) record { kind = Kind.LoadChild; word = Word.Node self.old.node (NodeWord.Child Side.Right); deed = Deed.Load } }
+        ensures { LlxAsks self.old self.new result (LlxAt.Right marked scx left) record { kind = Kind.LoadChild; word = Word.Node self.old.node (NodeWord.Child Side.Right); access = Access.Load } }
     {
         self.load_child(LlxAt::Right { marked, scx, left }, Side::Right)
     }
@@ -176,7 +176,7 @@ impl LlxRun {
 
     /// Reads the info of the node once more, after its fields.
     fn load_info_again(&mut self, marked: bool, scx: ScxNo, left: u64, right: u64) -> Turn<Llx>
-        ensures { Asks self.old self.new result (LlxAt.InfoAgain marked scx left right) record { kind = Kind.LoadInfo; word = Word.Node self.old.node NodeWord.Info; deed = Deed.Load } }
+        ensures { LlxAsks self.old self.new result (LlxAt.InfoAgain marked scx left right) record { kind = Kind.LoadInfo; word = Word.Node self.old.node NodeWord.Info; access = Access.Load } }
     {
         let at = LlxAt::InfoAgain {
             marked,
@@ -213,7 +213,7 @@ impl LlxRun {
     /// Helps the SCX-record that was met, or goes on at once if it is finished.
     fn meet<S: Shape>(&mut self, marked: bool, scx: ScxNo, state: u64) -> Turn<Llx>
         ensures node { self.new.node ≡ self.old.node }
-        ensures turn { (c : Call) (h : History) → Meets S.allows c h self.old.node.0 marked scx.0 state → llx_turn S.allows c h self.new result }
+        ensures turn { (c : Call) (h : History) → Meets S.allows c h self.old.node.0 marked scx.0 state → LlxTurn S.allows c h self.new result }
         ensures nearer { MatchTurn result (λ _. llx_left self.new.at < 46) (λ _. Unit {0}) }
     {
         if state == IN_PROGRESS {
@@ -225,7 +225,7 @@ impl LlxRun {
 
     fn help_on<S: Shape>(&mut self, marked: bool, mut help: HelpRun, got: Option<u64>) -> Turn<Llx>
         ensures node { self.new.node ≡ self.old.node }
-        ensures turn { (c : Call) (h : History) → Helps S.allows c h self.old.node.0 help got → HasStopped c h self.old.node.0 marked help.scx.0 → llx_turn S.allows c h self.new result }
+        ensures turn { (c : Call) (h : History) → LlxHelps S.allows c h self.old.node.0 help got → HasStopped c h self.old.node.0 marked help.scx.0 → LlxTurn S.allows c h self.new result }
         ensures nearer { MatchTurn result (λ _. llx_left self.new.at < 24 + help_left help.at) (λ _. Unit {0}) }
     {
         let scx = help.scx;
@@ -254,7 +254,7 @@ impl LlxRun {
     /// Helps the SCX-record that stands in the info now, and fails.
     fn help_last<S: Shape>(&mut self, scx: ScxNo, mut help: HelpRun, got: Option<u64>) -> Turn<Llx>
         ensures node { self.new.node ≡ self.old.node }
-        ensures turn { (c : Call) (h : History) → Helps S.allows c h self.old.node.0 help got → IsToBlame c h self.old.node.0 scx.0 → help.scx ≡ scx → llx_turn S.allows c h self.new result }
+        ensures turn { (c : Call) (h : History) → LlxHelps S.allows c h self.old.node.0 help got → IsToBlame c h self.old.node.0 scx.0 → help.scx ≡ scx → LlxTurn S.allows c h self.new result }
         ensures nearer { MatchTurn result (λ _. llx_left self.new.at < help_left help.at) (λ _. Unit {0}) }
     {
         match Machine::<S>::next(&mut help, got) {
@@ -278,15 +278,15 @@ impl<S: Shape> Machine<S> for LlxRun {
     type Answer = Llx;
 
     ghost use Rattle.std.specs.Prelude.{◌≡◌, ℕ};
-    ghost use Rattle.prims.specs.LlxSteps.{llx_left};
-    ghost use Rattle.prims.specs.LlxKnown.{llx_ready, llx_waits, llx_answers};
-    ghost use Rattle.prims.specs.LlxLaws.{llx_keeps, llx_lawful, llx_made};
+    ghost use Rattle.prims.specs.Llx.Steps.{llx_left};
+    ghost use Rattle.prims.specs.Llx.Known.{LlxIsReady, LlxWaits, LlxAnswers};
+    ghost use Rattle.prims.specs.Llx.Laws.{llx_keeps, llx_lawful, llx_made};
 
-    ghost ready = { llx_ready S.allows };
+    ghost ready = { LlxIsReady S.allows };
 
-    ghost waits = { llx_waits S.allows };
+    ghost waits = { LlxWaits S.allows };
 
-    ghost answers = { llx_answers };
+    ghost answers = { LlxAnswers };
 
     ghost same = { λ old now. now.node ≡ old.node };
 

@@ -2,7 +2,7 @@
 ghost use Rattle.std.specs.Prelude.{◌≡◌, ℕ, ◌+◌, ◌<◌, ◌≤◌};
 
 use crate::scx::{Scx, ScxRun};
-use arena::{Deed, Kind, Machine, NodeWord, Shape, Step, Turn, Word};
+use arena::{Access, Kind, Machine, NodeWord, Shape, Step, Turn, Word};
 
 /// The step that a run of SCX with a fresh cell has asked for.
 #[derive(Clone, Copy, Debug, PartialEq, Eq)]
@@ -28,7 +28,7 @@ pub struct PutRun {
 
 impl PutRun {
     ghost use Rattle.std.specs.Prelude.{◌≡◌, ◌≤◌, ◌+◌};
-    ghost use Rattle.prims.specs.PutSteps.{put_left};
+    ghost use Rattle.prims.specs.Put.Steps.{put_left};
 
     /// A run that has not begun, over an SCX that has not begun. It asks for at most 40 steps.
     pub fn new(value: u64, scx: ScxRun) -> PutRun
@@ -45,22 +45,22 @@ impl PutRun {
         }
     }
 
-    ghost use Rattle.prims.specs.ScxSteps.{scx_left};
+    ghost use Rattle.prims.specs.Scx.Steps.{scx_left};
 }
 
 impl<S: Shape> Machine<S> for PutRun {
     type Answer = Scx;
 
     ghost use Rattle.std.specs.Prelude.{◌≡◌, ℕ};
-    ghost use Rattle.prims.specs.PutSteps.{put_left};
-    ghost use Rattle.prims.specs.PutKnown.{put_ready, put_waits, put_answers};
-    ghost use Rattle.prims.specs.PutLaws.{put_keeps, put_lawful, put_made};
+    ghost use Rattle.prims.specs.Put.Steps.{put_left};
+    ghost use Rattle.prims.specs.Put.Known.{PutIsReady, PutWaits, PutAnswers};
+    ghost use Rattle.prims.specs.Put.Laws.{put_keeps, put_lawful, put_made};
 
-    ghost ready = { put_ready S.allows };
+    ghost ready = { PutIsReady S.allows };
 
-    ghost waits = { put_waits S.allows };
+    ghost waits = { PutWaits S.allows };
 
-    ghost answers = { put_answers };
+    ghost answers = { PutAnswers };
 
     ghost same = { λ old now. (now.scx.scx ≡ old.scx.scx) × (now.scx.update ≡ old.scx.update) × (now.scx.call ≡ old.scx.call) × (now.value ≡ old.value) };
 
@@ -77,7 +77,7 @@ impl<S: Shape> Machine<S> for PutRun {
                 Turn::Ask(Step {
                     kind: Kind::Fill,
                     word: Word::Node(self.scx.update.fresh, NodeWord::Value),
-                    deed: Deed::Store(self.value),
+                    access: Access::Store(self.value),
                 })
             }
             PutAt::Fill => {

@@ -2,7 +2,7 @@
 ghost use Rattle.std.specs.Prelude.{◌≡◌, ℕ, ◌+◌, ◌<◌, ◌≤◌};
 
 use crate::update::Update;
-use arena::{Deed, Kind, Machine, MemberNo, NodeNo, ScxNo, ScxWord, Shape, Step, Turn, Word};
+use arena::{Access, Kind, Machine, MemberIndex, NodeNo, ScxNo, ScxWord, Shape, Step, Turn, Word};
 use help::HelpRun;
 
 /// What an SCX answers.
@@ -28,9 +28,9 @@ pub enum ScxAt {
     /// The fill of `old`.
     Old,
     /// The fill of the j-th `v` word.
-    Member { j: MemberNo },
+    Member { j: MemberIndex },
     /// The fill of the j-th `i` word.
-    Seen { j: MemberNo },
+    Seen { j: MemberIndex },
     /// The fill of the call's number.
     Call,
     /// A step of HELP of the SCX-record.
@@ -53,13 +53,13 @@ pub struct ScxRun {
 
 impl ScxRun {
     ghost use Rattle.std.specs.Prelude.{◌≡◌, ◌≤◌, ◌<◌, ◌+◌, ◌⊎◌};
-    ghost use Rattle.arena.specs.MemberNo.{index_of};
+    ghost use Rattle.arena.specs.MemberIndex.{member_index};
     ghost use Rattle.arena.specs.History.{History};
     ghost use Rattle.arena.specs.Machines.{MatchTurn, Call};
     ghost use Rattle.prims.specs.Snap.{snap_at};
-    ghost use Rattle.prims.specs.ScxKnown.{FillsAt, FillsNext, FillsLast, Helps, scx_turn};
-    ghost use Rattle.help.specs.HelpSteps.{help_left};
-    ghost use Rattle.prims.specs.ScxSteps.{scx_left};
+    ghost use Rattle.prims.specs.Scx.Known.{FillsAt, FillsNext, FillsLast, ScxHelps, ScxTurn};
+    ghost use Rattle.help.specs.Help.Steps.{help_left};
+    ghost use Rattle.prims.specs.Scx.Steps.{scx_left};
 
     /// A run that has not begun, on the next SCX-record of the caller's share, in its call of this
     /// number. It asks for at most 39 steps.
@@ -81,18 +81,18 @@ impl ScxRun {
     /// Fills a word of the SCX-record.
     fn fill(&mut self, at: ScxAt, part: ScxWord, value: u64) -> Turn<Scx>
         ensures stands { self.new ≡ record self.old { at = at } }
-        ensures asked { result ≡ Turn.Ask (record { kind = Kind.Fill; word = Word.Scx self.old.scx part; deed = Deed.Store value }) }
+        ensures asked { result ≡ Turn.Ask (record { kind = Kind.Fill; word = Word.Scx self.old.scx part; access = Access.Store value }) }
     {
         self.at = at;
         Turn::Ask(Step {
             kind: Kind::Fill,
             word: Word::Scx(self.scx, part),
-            deed: Deed::Store(value),
+            access: Access::Store(value),
         })
     }
 
     /// Fills the j-th node.
-    fn fill_member(&mut self, j: MemberNo) -> Turn<Scx>
+    fn fill_member(&mut self, j: MemberIndex) -> Turn<Scx>
         ensures { FillsAt self.old self.new result (ScxAt.Member j) }
     {
         let node = self.update.snaps.at(j).node.0;
@@ -100,25 +100,25 @@ impl ScxRun {
     }
 
     /// Fills what the info of the j-th node was.
-    fn fill_seen(&mut self, j: MemberNo) -> Turn<Scx>
+    fn fill_seen(&mut self, j: MemberIndex) -> Turn<Scx>
         ensures { FillsAt self.old self.new result (ScxAt.Seen j) }
     {
         let seen = self.update.snaps.at(j).scx.0;
         self.fill(ScxAt::Seen { j }, ScxWord::Seen(j.number()), seen)
     }
 
-    fn after_member(&mut self, j: MemberNo) -> Turn<Scx>
-        ensures turn { FillsNext self.old self.new result j (λ k. ScxAt.Member k) ⊎ FillsLast self.old self.new result j (ScxAt.Seen MemberNo.First) }
+    fn after_member(&mut self, j: MemberIndex) -> Turn<Scx>
+        ensures turn { FillsNext self.old self.new result j (λ k. ScxAt.Member k) ⊎ FillsLast self.old self.new result j (ScxAt.Seen MemberIndex.First) }
         ensures same { (self.new.scx ≡ self.old.scx) × (self.new.update ≡ self.old.update) × (self.new.call ≡ self.old.call) }
         ensures nearer { scx_left self.new.at < scx_left (ScxAt.Member j) }
     {
         match self.update.plan.member_behind(j) {
             Some(j) => self.fill_member(j),
-            None => self.fill_seen(MemberNo::First),
+            None => self.fill_seen(MemberIndex::First),
         }
     }
 
-    fn after_seen(&mut self, j: MemberNo) -> Turn<Scx>
+    fn after_seen(&mut self, j: MemberIndex) -> Turn<Scx>
         ensures turn { FillsNext self.old self.new result j (λ k. ScxAt.Seen k) ⊎ FillsLast self.old self.new result j ScxAt.Call }
         ensures same { (self.new.scx ≡ self.old.scx) × (self.new.update ≡ self.old.update) × (self.new.call ≡ self.old.call) }
         ensures nearer { scx_left self.new.at < scx_left (ScxAt.Seen j) }
@@ -133,7 +133,7 @@ impl ScxRun {
     }
 
     fn help_on<S: Shape>(&mut self, mut help: HelpRun, got: Option<u64>) -> Turn<Scx>
-        ensures turn { (c : Call) (h : History) → Helps S.allows c h self.old help got → scx_turn S.allows c h self.new result }
+        ensures turn { (c : Call) (h : History) → ScxHelps S.allows c h self.old help got → ScxTurn S.allows c h self.new result }
         ensures same { (self.new.scx ≡ self.old.scx) × (self.new.update ≡ self.old.update) × (self.new.call ≡ self.old.call) }
         ensures nearer { MatchTurn result (λ _. scx_left self.new.at < help_left help.at) (λ _. Unit {0}) }
     {
@@ -155,16 +155,16 @@ impl<S: Shape> Machine<S> for ScxRun {
     type Answer = Scx;
 
     ghost use Rattle.std.specs.Prelude.{◌≡◌, ℕ};
-    ghost use Rattle.prims.specs.ScxSteps.{scx_left};
-    ghost use Rattle.prims.specs.ScxKnown.{scx_ready, scx_waits, scx_answers};
-    ghost use Rattle.prims.specs.ScxLaws.{scx_keeps, scx_lawful};
-    ghost use Rattle.prims.specs.ScxMade.{scx_made};
+    ghost use Rattle.prims.specs.Scx.Steps.{scx_left};
+    ghost use Rattle.prims.specs.Scx.Known.{ScxIsReady, ScxWaits, ScxAnswers};
+    ghost use Rattle.prims.specs.Scx.Laws.{scx_keeps, scx_lawful};
+    ghost use Rattle.prims.specs.Scx.Made.{scx_made};
 
-    ghost ready = { scx_ready S.allows };
+    ghost ready = { ScxIsReady S.allows };
 
-    ghost waits = { scx_waits S.allows };
+    ghost waits = { ScxWaits S.allows };
 
-    ghost answers = { scx_answers };
+    ghost answers = { ScxAnswers };
 
     ghost same = { λ old now. (now.scx ≡ old.scx) × (now.update ≡ old.update) × (now.call ≡ old.call) };
 
@@ -189,7 +189,7 @@ impl<S: Shape> Machine<S> for ScxRun {
                 let old = self.update.old.0;
                 self.fill(ScxAt::Old, ScxWord::Old, old)
             }
-            ScxAt::Old => self.fill_member(MemberNo::First),
+            ScxAt::Old => self.fill_member(MemberIndex::First),
             ScxAt::Member { j } => self.after_member(j),
             ScxAt::Seen { j } => self.after_seen(j),
             ScxAt::Call => self.help_on::<S>(HelpRun::new(self.scx), None),

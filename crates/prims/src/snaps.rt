@@ -1,11 +1,11 @@
 //! Lists of snapshots.
 ghost use Rattle.std.specs.Prelude.{◌≡◌, ◌≤◌, List, length};
-ghost use Rattle.arena.specs.MemberNo.{index_of};
+ghost use Rattle.arena.specs.MemberIndex.{member_index};
 ghost use Rattle.prims.specs.Snap.{snap_at};
 ghost use Rattle.prims.specs.declared.snap.Snap.{Snap};
 
 use crate::snap::Snap;
-use arena::MemberNo;
+use arena::MemberIndex;
 use std::marker::Model;
 
 /// A list of snapshots, in whatever holds it.
@@ -67,8 +67,8 @@ impl Snaps {
 
     /// The snapshot at a place, which is blank behind the last.
     #[inline(always)]
-    pub fn at(&self, place: MemberNo) -> Snap
-        ensures { result ≡ snap_at self.now (index_of place) }
+    pub fn at(&self, place: MemberIndex) -> Snap
+        ensures { result ≡ snap_at self.now (member_index place) }
     {
         self.slots[place.index()]
     }

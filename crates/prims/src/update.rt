@@ -1,12 +1,12 @@
 //! What an SCX is to do.
 ghost use Rattle.std.specs.Prelude.{◌≡◌, ℕ, ◌+◌, ◌*◌, ◌<◌, ◌≤◌, ◌^◌, false, length, slice_index_or};
-ghost use Rattle.arena.specs.MemberNo.{index_of};
+ghost use Rattle.arena.specs.MemberIndex.{member_index};
 ghost use Rattle.prims.specs.Snap.{snap_at};
 ghost use Rattle.prims.specs.Snaps.{IsAmong, finalizes};
 
 use crate::snap::Snap;
 use crate::snaps::Snaps;
-use arena::{Fresh, MemberNo, NodeNo, Side};
+use arena::{Fresh, MemberIndex, NodeNo, Side};
 use help::Plan;
 
 /// The nodes that an SCX covers, as their snapshots found them, which of them it finalizes, and the
@@ -25,11 +25,11 @@ pub struct Update {
 
 impl Update {
     ghost use Rattle.std.specs.Prelude.{◌≡◌, ℕ, ◌<◌, ◌≤◌, ◌↔◌, true, length};
-    ghost use Rattle.arena.specs.ScxRecords.{removes, side_of};
-    ghost use Rattle.prims.specs.ScxKnown.{IsUpdateOver};
+    ghost use Rattle.arena.specs.ScxRecords.{plan_finalizes, side_of};
+    ghost use Rattle.prims.specs.Scx.Known.{IsUpdateOver};
     ghost use Rattle.prims.specs.Snap.{snap_at};
-    ghost use Rattle.prims.specs.Snaps.{AreDistinct, IsAmong, HasNode};
-    ghost use Rattle.prims.specs.Updates.{field_place};
+    ghost use Rattle.prims.specs.Snaps.{AreDistinct, IsAmong, ListsNode};
+    ghost use Rattle.prims.specs.Updates.{update_field_index};
 
     /// An update of 1 to 4 snapshots of different nodes, of which the field's node is one. It
     /// finalizes those that are in `finalize`.
@@ -38,9 +38,9 @@ impl Update {
         requires distinct { AreDistinct snaps.now }
         requires among { IsAmong snaps.now field.0.0 }
         ensures over { IsUpdateOver result }
-        ensures field { (snap_at snaps.now (field_place result)).node.0 ≡ field.0.0 }
+        ensures field { (snap_at snaps.now (update_field_index result)).node.0 ≡ field.0.0 }
         ensures side { side_of result.plan.0 ≡ field.1 }
-        ensures removed { (j : ℕ) → j < length snaps.now → (removes result.plan.0 j ≡ true) ↔ HasNode finalize.now (snap_at snaps.now j).node.0 }
+        ensures removed { (j : ℕ) → j < length snaps.now → (plan_finalizes result.plan.0 j ≡ true) ↔ ListsNode finalize.now (snap_at snaps.now j).node.0 }
         ensures snaps { result.snaps ≡ snaps.now }
         ensures fresh { result.fresh.0 ≡ fresh }
     {
@@ -55,14 +55,14 @@ impl Update {
 }
 
 /// The place of a node among those of the snapshots.
-fn place_of(node: NodeNo, snaps: &[Snap]) -> MemberNo
+fn place_of(node: NodeNo, snaps: &[Snap]) -> MemberIndex
     requires fits { length snaps.now ≤ 4 }
     requires among { IsAmong snaps.now node.0 }
-    ensures within { index_of result < length snaps.now }
-    ensures is { (snap_at snaps.now (index_of result)).node.0 ≡ node.0 }
+    ensures within { member_index result < length snaps.now }
+    ensures is { (snap_at snaps.now (member_index result)).node.0 ≡ node.0 }
 {
     let at = snaps.iter().position(|s| s.node == node).unwrap_or(0);
-    MemberNo::new(at).unwrap_or(MemberNo::First)
+    MemberIndex::new(at).unwrap_or(MemberIndex::First)
 }
 
 /// Which of the snapshots' nodes are to be finalized.
@@ -71,15 +71,15 @@ fn removed(snaps: &[Snap], finalize: &[NodeNo]) -> [bool; 4]
     ensures bits { (j : ℕ) → j < 4 → slice_index_or result j false ≡ finalizes snaps.now finalize.now j }
 {
     [
-        is_removed(snaps, finalize, 0),
-        is_removed(snaps, finalize, 1),
-        is_removed(snaps, finalize, 2),
-        is_removed(snaps, finalize, 3),
+        is_finalized(snaps, finalize, 0),
+        is_finalized(snaps, finalize, 1),
+        is_finalized(snaps, finalize, 2),
+        is_finalized(snaps, finalize, 3),
     ]
 }
 
 /// Whether there is a snapshot at the place, of a node that is to be finalized.
-fn is_removed(snaps: &[Snap], finalize: &[NodeNo], j: usize) -> bool
+fn is_finalized(snaps: &[Snap], finalize: &[NodeNo], j: usize) -> bool
     ensures { result ≡ finalizes snaps.now finalize.now j }
 {
     j < snaps.len() && finalize.contains(&snaps[j].node)

@@ -2,7 +2,7 @@
 ghost use Rattle.std.specs.Prelude.{◌≡◌, ℕ, ◌+◌, ◌<◌, ◌≤◌};
 
 use crate::snaps::SnapList;
-use arena::{Deed, Kind, Machine, NodeNo, NodeWord, ScxNo, Shape, Step, Turn, Word};
+use arena::{Access, Kind, Machine, NodeNo, NodeWord, ScxNo, Shape, Step, Turn, Word};
 
 /// What a VLX answers.
 #[derive(Clone, Copy, Debug, PartialEq, Eq)]
@@ -27,8 +27,8 @@ pub struct VlxRun<L> {
 impl<L: SnapList> VlxRun<L> {
     ghost use Rattle.std.specs.Prelude.{◌≡◌, ◌+◌, ◌-◌, ◌<◌, ◌≤◌, ◌⊎◌, length};
     ghost use Rattle.arena.specs.Machines.{MatchTurn};
-    ghost use Rattle.prims.specs.VlxSteps.{vlx_left};
-    ghost use Rattle.prims.specs.VlxKnown.{AsksNext, IsThrough};
+    ghost use Rattle.prims.specs.Vlx.Steps.{vlx_left};
+    ghost use Rattle.prims.specs.Vlx.Known.{AsksNext, IsThrough};
 
     /// A run that has not begun, over some snapshots. It asks for a step a snapshot at most.
     pub fn new(snaps: L) -> VlxRun<L>
@@ -52,7 +52,7 @@ impl<L: SnapList> VlxRun<L> {
         Turn::Ask(Step {
             kind: Kind::LoadInfo,
             word: info,
-            deed: Deed::Load,
+            access: Access::Load,
         })
     }
 }
@@ -61,15 +61,15 @@ impl<S: Shape, L: SnapList> Machine<S> for VlxRun<L> {
     type Answer = Vlx;
 
     ghost use Rattle.std.specs.Prelude.{◌≡◌, ℕ};
-    ghost use Rattle.prims.specs.VlxSteps.{vlx_left};
-    ghost use Rattle.prims.specs.VlxKnown.{vlx_ready, vlx_waits, vlx_answers};
-    ghost use Rattle.prims.specs.VlxLaws.{vlx_keeps, vlx_lawful, vlx_made};
+    ghost use Rattle.prims.specs.Vlx.Steps.{vlx_left};
+    ghost use Rattle.prims.specs.Vlx.Known.{VlxIsReady, VlxWaits, VlxAnswers};
+    ghost use Rattle.prims.specs.Vlx.Laws.{vlx_keeps, vlx_lawful, vlx_made};
 
-    ghost ready = { λ m. vlx_ready (L.list m.snaps) m.asked };
+    ghost ready = { λ m. VlxIsReady (L.list m.snaps) m.asked };
 
-    ghost waits = { λ m. vlx_waits (L.list m.snaps) m.asked };
+    ghost waits = { λ m. VlxWaits (L.list m.snaps) m.asked };
 
-    ghost answers = { λ m. vlx_answers (L.list m.snaps) };
+    ghost answers = { λ m. VlxAnswers (L.list m.snaps) };
 
     ghost same = { λ old now. now.snaps ≡ old.snaps };
 

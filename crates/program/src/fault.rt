@@ -48,7 +48,7 @@ impl Fault {
 
     /// Tells it in a line, and answers its status. Where the line cannot be written, the status
     /// alone tells it.
-    pub fn tell<E: Write>(self, err: &mut E) -> u8
+    pub fn print<E: Write>(self, err: &mut E) -> u8
         ensures { result ≡ status_of self }
     {
         let _ = writeln!(err, "{self}");

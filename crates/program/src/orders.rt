@@ -1,7 +1,7 @@
 //! The run of a script by a schedule.
 ghost use Rattle.std.specs.Prelude.{◌≡◌, ◌<◌, All, IfOk, OnOk};
 ghost use Rattle.player.specs.Player.{passes_of, calls_of, lines_of};
-ghost use Rattle.player.specs.Played.{IsPlayed, IsSameScript};
+ghost use Rattle.player.specs.BetweenTurns.{IsBetweenTurns, IsSameScript};
 ghost use Rattle.player.specs.TurnsMore.{AreTurnsWhile};
 ghost use Rattle.record.specs.Schedules.{AsksForMore, IsObeyed, IsOrdered, IsRunOf};
 ghost use Rattle.script.specs.Orders.{IsOrder};
@@ -21,16 +21,16 @@ pub fn run(alloc: Global, script: &Script, schedule: &Schedule) -> Result<Record
 {
     let mut player = Player::new(alloc, script)?;
     for order in schedule.orders.iter() {
-        obey(&mut player, *order)?;
+        follow(&mut player, *order)?;
     }
     Ok(player.record())
 }
 
 /// Makes the turns that an order means.
-fn obey(player: &mut Player, order: Order) -> Result<(), NoMemory>
+fn follow(player: &mut Player, order: Order) -> Result<(), NoMemory>
     requires order { IsOrder (passes_of player.old) order }
-    requires played { IsPlayed player.old }
-    ensures played { IsPlayed player.new }
+    requires played { IsBetweenTurns player.old }
+    ensures played { IsBetweenTurns player.new }
     ensures script { IsSameScript player.old.script player.new.script }
     ensures ordered { OnOk result (IsOrdered (calls_of player.old) order (lines_of player.old) (lines_of player.new)) }
 {
@@ -49,8 +49,8 @@ fn obey(player: &mut Player, order: Order) -> Result<(), NoMemory>
 /// Makes so many turns of a client. Turns that were made before a refusal stay made.
 fn make_turns(player: &mut Player, client: PassNo, turns: u32) -> Result<(), NoMemory>
     requires client { client.0 < passes_of player.old }
-    requires played { IsPlayed player.old }
-    ensures played { IsPlayed player.new }
+    requires played { IsBetweenTurns player.old }
+    ensures played { IsBetweenTurns player.new }
     ensures script { IsSameScript player.old.script player.new.script }
     ensures turns { AreTurnsWhile (AsksForMore (calls_of player.old) (Order.Step client turns) (lines_of player.old)) client.0 player.old player.new }
     ensures all { OnOk result (IsObeyed (calls_of player.old) (Order.Step client turns) (lines_of player.old) (lines_of player.new)) }

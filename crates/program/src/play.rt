@@ -34,7 +34,7 @@ pub fn play_over<S: Read, T: Read, O: Write, E: Write>(
 {
     match play(alloc, mode, script, schedule, out) {
         Ok(()) => 0,
-        Err(fault) => fault.tell(err),
+        Err(fault) => fault.print(err),
     }
 }
 

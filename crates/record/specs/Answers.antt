@@ -35,7 +35,7 @@ pub record IsSnapshotAt (lay : Layout) (now : History) (n left right : ℕ) : Ty
 
 -- a failed LLX of node n is right: at some step of the call an SCX-record
 -- of another client that covers n was in progress
-pub record HasFailed (lay : Layout) (c : ℕ) (now start : History) (n node scx : ℕ) : Type 0 where
+pub record IsFailOf (lay : Layout) (c : ℕ) (now start : History) (n node scx : ℕ) : Type 0 where
   pub is : node ≡ n
   pub others : IsOthersScx lay c scx
   -- it was in the way behind the call's begin
@@ -97,8 +97,8 @@ pub record HasTakenOne (lay : Layout) (c : ℕ) (now start : History) : Type 0 w
   pub scx_records : (s : ℕ) → IsOwnScx lay c s → s ≢ scx_number → ¬ IsTakenScx start s → ¬ IsTakenScx now s
 
 -- the call's update is in the log if the answer is `done`, and only then
-abbrev pub IsEntered : Answer → Option ℕ → Type 0
-IsEntered Done (Some turn) = Unit {0}
-IsEntered Done None = ⊥
-IsEntered _ None = Unit {0}
-IsEntered _ (Some turn) = ⊥
+abbrev pub HasItsEntry : Answer → Option ℕ → Type 0
+HasItsEntry Done (Some turn) = Unit {0}
+HasItsEntry Done None = ⊥
+HasItsEntry _ None = Unit {0}
+HasItsEntry _ (Some turn) = ⊥

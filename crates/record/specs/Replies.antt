@@ -9,7 +9,7 @@ use Rattle.record.specs.declared.record.Row.TheVariants.{Idle}
 use Rattle.record.specs.declared.record.Reply.{Reply}
 use Rattle.record.specs.declared.record.Answer.{Answer}
 use Rattle.record.specs.Turns.{history, turns, last_client, answered, begin, start, won}
-use Rattle.record.specs.Answers.{moment_of, HasTakenOne, IsEntered}
+use Rattle.record.specs.Answers.{moment_of, HasTakenOne, HasItsEntry}
 use Rattle.record.specs.CommandRules.{IsAnswerAtOnce, IsAnswerAfterStep, IsRight}
 use Rattle.record.specs.Commands.{next_command}
 use Rattle.record.specs.Linked.{linked}
@@ -42,4 +42,4 @@ pub record IsReply (lay : Layout) (calls : List Call) (lines : List Line) (reply
   -- the moment, if there is one, is within the call
   pub within : (m : ℕ) → reply.moment ≡ Some m → (reply.begin ≤ m) × (m ≤ reply.end)
   -- the call's update is in the log if it answers `done`, and only then
-  pub entry : IsEntered reply.answer (won lay lines reply.client.0)
+  pub entry : HasItsEntry reply.answer (won lay lines reply.client.0)

@@ -3,7 +3,7 @@ use Rattle.std.specs.Prelude.{◌≡◌, ℕ, ◌<◌, List, Option, Some, None,
 use Rattle.std.specs.List.{Contains}
 use Rattle.arena.specs.declared.step.Row.{Row as StepRow}
 use Rattle.arena.specs.declared.step.Kind.TheVariants.{LoadInfo}
-use Rattle.arena.specs.History.{History, ◌⊳◌, EndsWith}
+use Rattle.arena.specs.History.{History, ◌⊳◌, Extends}
 use Rattle.arena.specs.Found.{IsLastStep}
 use Rattle.arena.specs.Log.{last}
 use Rattle.record.specs.declared.record.Answer.{Answer}
@@ -34,5 +34,5 @@ pub record IsLastLook (c : ℕ) (now start moment : History) (n : ℕ) : Type 0 
   pub row : StepRow
   pub before : History
   pub is : moment ≡ row ⊳ before
-  pub since : EndsWith before start
+  pub since : Extends before start
   pub last : IsLastStep c now LoadInfo n row before

@@ -25,7 +25,7 @@ pub record IsStep (lay : Layout) (calls : List Call) (lines : List Line) (number
   pub may : MayMake command row.kind
 
 -- a turn without a step: of a client with no call left, or the whole of a call that has not begun
-pub record IsIdle (lay : Layout) (calls : List Call) (lines : List Line) (number c : ℕ) : Type 0 where
+pub record IsIdleTurn (lay : Layout) (calls : List Call) (lines : List Line) (number c : ℕ) : Type 0 where
   pub is_pass : c < lay.passes
   pub in_turn : number ≡ suc (turns lines)
   pub idle : (next_command calls lines c ≡ None) ⊎ (begin lines c ≡ None)
@@ -33,4 +33,4 @@ pub record IsIdle (lay : Layout) (calls : List Call) (lines : List Line) (number
 -- a turn that fits the lines before it: with a step, or idle
 abbrev pub IsTurn : Layout → List Call → List Line → Row → Type 0
 IsTurn lay calls lines (Made number row) = IsStep lay calls lines number row
-IsTurn lay calls lines (Idle number client) = IsIdle lay calls lines number client.0
+IsTurn lay calls lines (Idle number client) = IsIdleTurn lay calls lines number client.0

@@ -6,7 +6,7 @@ use Rattle.std.proofs.KnownBytes.{Appends-kept}
 use Rattle.std.specs.Io.KnownBytes.{Appends, Keeps}
 use Rattle.script.specs.declared.command.Call.{Call}
 use Rattle.texts.specs.Pages.{line_of, rows_text}
-use Rattle.report.specs.Report.{call_row, call_rows}
+use Rattle.report.specs.Report.{reported_call_row, call_rows}
 use Rattle.report.proofs.Texts.{rows_after}
 
 -- the calls that were made after the first one and these
@@ -17,17 +17,17 @@ pub call_rows_after : (earlier xs ys : List Call) → call_rows earlier (xs ++ y
 unfolding call_rows
 call_rows_after earlier [] ys = refl
 call_rows_after earlier (x ∷ xs) ys =
-    ap (λ rows. call_row earlier x ∷ rows) (call_rows_after (x ∷ earlier) xs ys ∙ ap (λ before. call_rows (x ∷ earlier) xs ++ call_rows before ys) (reverse_after x xs earlier))
+    ap (λ rows. reported_call_row earlier x ∷ rows) (call_rows_after (x ∷ earlier) xs ys ∙ ap (λ before. call_rows (x ∷ earlier) xs ++ call_rows before ys) (reverse_after x xs earlier))
 
 -- the text of the rows of two parts of the calls
 pub call_text_append : (earlier xs ys : List Call) → rows_text (call_rows earlier (xs ++ ys)) ≡ rows_text (call_rows earlier xs) ++ rows_text (call_rows (reverse xs ++ earlier) ys)
 call_text_append earlier xs ys = ap rows_text (call_rows_after earlier xs ys) ∙ rows_after (call_rows earlier xs) (call_rows (reverse xs ++ earlier) ys)
 
 -- one more call after others
-pub call_text_more : (earlier done : List Call) (call : Call) → rows_text (call_rows earlier (done ++ call ∷ [])) ≡ rows_text (call_rows earlier done) ++ line_of (call_row (reverse done ++ earlier) call)
+pub call_text_more : (earlier done : List Call) (call : Call) → rows_text (call_rows earlier (done ++ call ∷ [])) ≡ rows_text (call_rows earlier done) ++ line_of (reported_call_row (reverse done ++ earlier) call)
 unfolding call_rows rows_text
 call_text_more earlier done call =
-    call_text_append earlier done (call ∷ []) ∙ ap (λ text. rows_text (call_rows earlier done) ++ text) (append-nil (line_of (call_row (reverse done ++ earlier) call)))
+    call_text_append earlier done (call ∷ []) ∙ ap (λ text. rows_text (call_rows earlier done) ++ text) (append-nil (line_of (reported_call_row (reverse done ++ earlier) call)))
 
 pub calls_before_more : (earlier done : List Call) (call : Call) → reverse (done ++ call ∷ []) ++ earlier ≡ call ∷ (reverse done ++ earlier)
 calls_before_more earlier done call = ap (λ calls. calls ++ earlier) (reverse-append done (call ∷ []))

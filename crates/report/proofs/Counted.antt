@@ -10,7 +10,7 @@ use Rattle.record.specs.declared.record.Row.TheVariants.{Step as Made, Idle}
 use Rattle.record.specs.declared.record.Reply.{Reply as ReplyLine}
 use Rattle.record.specs.Turns.{answered}
 use Rattle.report.specs.Numbered.{AreNumbered, IsOfNextCall}
-use Rattle.report.specs.Counts.{HasCounted, HasCountedReplies, count_of}
+use Rattle.report.specs.Counts.{HasCounted, HasCountedReplies, calls_counted}
 
 -- a client has no more calls than there are
 pub calls_by_bound : (client : ℕ) (calls : List Call) → calls_by client calls ≤ length calls
@@ -21,22 +21,22 @@ calls_by_bound client (call ∷ calls) = go (eqb call.client.0 client) (calls_by
   go false bound = omega (arith, bound)
 
 -- the count of a client after one more of some client
-one_more : (old new : Counts) (c client n : ℕ) → count_of old client ≡ n → n < 2 ^ 64 - 1
-    → (c ≡ client → count_of new c ≡ min (count_of old c + 1) (2 ^ 64 - 1))
-    → (client ≢ c → count_of new client ≡ count_of old client)
-    → count_of new client ≡ cond (eqb c client) (suc n) n
+one_more : (old new : Counts) (c client n : ℕ) → calls_counted old client ≡ n → n < 2 ^ 64 - 1
+    → (c ≡ client → calls_counted new c ≡ min (calls_counted old c + 1) (2 ^ 64 - 1))
+    → (client ≢ c → calls_counted new client ≡ calls_counted old client)
+    → calls_counted new client ≡ cond (eqb c client) (suc n) n
 one_more old new c client n before fits more other = go (eqb c client) refl where
-  go : (same : Bool) → eqb c client ≡ same → count_of new client ≡ cond same (suc n) n
+  go : (same : Bool) → eqb c client ≡ same → calls_counted new client ≡ cond same (suc n) n
   go true same =
       let is : c ≡ client = eqb-true c client same in
-      let told : count_of new client ≡ min (count_of old client + 1) (2 ^ 64 - 1) = rw (← is) (more is) in
+      let told : calls_counted new client ≡ min (calls_counted old client + 1) (2 ^ 64 - 1) = rw (← is) (more is) in
       omega (arith, told, before, fits)
   go false same = other (λ is. eqb-false c client same (sym is)) ∙ before
 
 -- the counts after one more call
 pub counted_more : (old new : Counts) (earlier : List Call) (call : Call) → HasCounted old earlier → length earlier < 2 ^ 64 - 1
-    → count_of new call.client.0 ≡ min (count_of old call.client.0 + 1) (2 ^ 64 - 1)
-    → ((other : ℕ) → other ≢ call.client.0 → count_of new other ≡ count_of old other)
+    → calls_counted new call.client.0 ≡ min (calls_counted old call.client.0 + 1) (2 ^ 64 - 1)
+    → ((other : ℕ) → other ≢ call.client.0 → calls_counted new other ≡ calls_counted old other)
     → HasCounted new (call ∷ earlier)
 counted_more old new earlier call counted fits more others client =
     one_more old new call.client.0 client (calls_by client earlier) (counted client) (omega (arith, fits, calls_by_bound client earlier)) (λ _. more) (others client)
@@ -53,14 +53,14 @@ answered_bound client (Reply reply ∷ lines) = go (eqb reply.client.0 client) (
 
 -- the counts after one more reply
 pub counted_reply : (old new : Counts) (passes : ℕ) (lines : List Line) (reply : ReplyLine) → HasCountedReplies old passes lines → length lines < 2 ^ 64 - 1
-    → (reply.client.0 < passes → count_of new reply.client.0 ≡ min (count_of old reply.client.0 + 1) (2 ^ 64 - 1))
-    → ((other : ℕ) → other < passes → other ≢ reply.client.0 → count_of new other ≡ count_of old other)
+    → (reply.client.0 < passes → calls_counted new reply.client.0 ≡ min (calls_counted old reply.client.0 + 1) (2 ^ 64 - 1))
+    → ((other : ℕ) → other < passes → other ≢ reply.client.0 → calls_counted new other ≡ calls_counted old other)
     → HasCountedReplies new passes (Reply reply ∷ lines)
 counted_reply old new passes lines reply counted fits more others client below =
     one_more old new reply.client.0 client (answered lines client) (counted client below) (omega (arith, fits, answered_bound client lines)) (λ is. more (rw is below)) (others client below)
 
 -- a step of the call that comes next, behind numbered lines
-pub numbered_more : (passes : ℕ) (counts : Counts) (lines : List Line) (line : Line) → HasCountedReplies counts passes lines → IsOfNextCall (count_of counts) line → AreNumbered passes lines → AreNumbered passes (line ∷ lines)
+pub numbered_more : (passes : ℕ) (counts : Counts) (lines : List Line) (line : Line) → HasCountedReplies counts passes lines → IsOfNextCall (calls_counted counts) line → AreNumbered passes lines → AreNumbered passes (line ∷ lines)
 numbered_more passes counts lines (Step (Made number row)) counted next numbered = (λ below. next ∙ counted row.pass.0 below, numbered)
 numbered_more passes counts lines (Step (Idle number client)) counted next numbered = numbered
 numbered_more passes counts lines (Log entry) counted next numbered = numbered

@@ -4,7 +4,7 @@ use Rattle.std.specs.Io.KnownBytes.{Appends}
 use Rattle.script.specs.declared.script.Script.{Script}
 use Rattle.record.specs.declared.record.Line.{Line}
 use Rattle.script.specs.Rows.{limits_row}
-use Rattle.report.specs.Report.{call_rows, end_row, line_row, report_text, title_row}
+use Rattle.report.specs.Report.{call_rows, report_end_row, line_row, report_text, title_row}
 use Rattle.texts.specs.Pages.{BeginsWith, rows_text}
 use Rattle.report.proofs.Texts.{IsSent, all_sent, none_sent, part_sent, piece_sent, rows_after}
 
@@ -19,13 +19,13 @@ module _ (script : Script) (lines : List Line) where
   run = rows_text (map line_row lines)
 
   abbrev pub end : List ℕ
-  end = rows_text (end_row lines ∷ [])
+  end = rows_text (report_end_row lines ∷ [])
 
   parts : head ++ (calls ++ (run ++ end)) ≡ report_text script lines
   parts = sym
-      (rows_after (title_row script.layout.mode ∷ limits_row script.limits ∷ []) (call_rows [] script.calls.items ++ (map line_row lines ++ end_row lines ∷ []))
-      ∙ ap (λ text. head ++ text) (rows_after (call_rows [] script.calls.items) (map line_row lines ++ end_row lines ∷ [])
-      ∙ ap (λ text. calls ++ text) (rows_after (map line_row lines) (end_row lines ∷ []))))
+      (rows_after (title_row script.layout.mode ∷ limits_row script.limits ∷ []) (call_rows [] script.calls.items ++ (map line_row lines ++ report_end_row lines ∷ []))
+      ∙ ap (λ text. head ++ text) (rows_after (call_rows [] script.calls.items) (map line_row lines ++ report_end_row lines ∷ [])
+      ∙ ap (λ text. calls ++ text) (rows_after (map line_row lines) (report_end_row lines ∷ []))))
 
   pub part_of_head : (old new : Option (List ℕ)) → BeginsWith old new head → BeginsWith old new (report_text script lines)
   part_of_head old new x = part_sent old old new head (calls ++ (run ++ end)) (report_text script lines) (subst (λ text. IsSent old old text (report_text script lines)) (sym parts) (none_sent old (report_text script lines))) x

@@ -7,13 +7,13 @@ use Rattle.report.specs.declared.count.Counts.{Counts}
 use Rattle.report.specs.Report.{calls_by}
 
 -- how many calls of a client were counted
-abbrev pub count_of : Counts → ℕ → ℕ
-count_of counts client = get_or counts.calls.items client 0
+abbrev pub calls_counted : Counts → ℕ → ℕ
+calls_counted counts client = get_or counts.calls.items client 0
 
 -- of each client as many calls were counted as these have
 abbrev pub HasCounted : Counts → List Call → Type 0
-HasCounted counts calls = (client : ℕ) → count_of counts client ≡ calls_by client calls
+HasCounted counts calls = (client : ℕ) → calls_counted counts client ≡ calls_by client calls
 
 -- of each of so many clients as many replies were counted as these lines have, the newest first
 abbrev pub HasCountedReplies : Counts → ℕ → List Line → Type 0
-HasCountedReplies counts passes lines = (client : ℕ) → client < passes → count_of counts client ≡ answered lines client
+HasCountedReplies counts passes lines = (client : ℕ) → client < passes → calls_counted counts client ≡ answered lines client

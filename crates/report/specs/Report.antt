@@ -34,13 +34,13 @@ calls_by c [] = 0
 calls_by c (call ∷ calls) = cond (eqb call.client.0 c) (suc (calls_by c calls)) (calls_by c calls)
 
 -- the row of a call behind these: its client's number, its own among the client's, and its command
-abbrev pub call_row : List Call → Call → List (List ℕ)
-call_row earlier call = codes "call" ∷ decimal call.client.0 ∷ decimal (calls_by call.client.0 earlier) ∷ command_row call.command
+abbrev pub reported_call_row : List Call → Call → List (List ℕ)
+reported_call_row earlier call = codes "call" ∷ decimal call.client.0 ∷ decimal (calls_by call.client.0 earlier) ∷ command_row call.command
 
 -- the rows of these calls, behind earlier ones of which the last comes first
 unfoldable pub call_rows : List Call → List Call → List (List (List ℕ))
 call_rows earlier [] = []
-call_rows earlier (call ∷ calls) = call_row earlier call ∷ call_rows (call ∷ earlier) calls
+call_rows earlier (call ∷ calls) = reported_call_row earlier call ∷ call_rows (call ∷ earlier) calls
 
 -- Lines
 
@@ -80,14 +80,14 @@ entries_in (Log entry ∷ lines) = suc (entries_in lines)
 entries_in (Reply reply ∷ lines) = entries_in lines
 
 -- the row that counts the others by their kind
-abbrev pub end_row : List Line → List (List ℕ)
-end_row lines = codes "end" ∷ decimal (steps_in lines) ∷ decimal (replies_in lines) ∷ decimal (entries_in lines) ∷ []
+abbrev pub report_end_row : List Line → List (List ℕ)
+report_end_row lines = codes "end" ∷ decimal (steps_in lines) ∷ decimal (replies_in lines) ∷ decimal (entries_in lines) ∷ []
 
 -- The whole
 
 -- all rows of a report, in order
 abbrev pub report_rows : Script → List Line → List (List (List ℕ))
-report_rows script lines = title_row script.layout.mode ∷ limits_row script.limits ∷ (call_rows [] script.calls.items ++ (map line_row lines ++ end_row lines ∷ []))
+report_rows script lines = title_row script.layout.mode ∷ limits_row script.limits ∷ (call_rows [] script.calls.items ++ (map line_row lines ++ report_end_row lines ∷ []))
 
 -- the text of a report: its rows, one a line
 abbrev pub report_text : Script → List Line → List ℕ

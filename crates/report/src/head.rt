@@ -2,7 +2,7 @@
 ghost use Rattle.std.specs.Prelude.{◌≡◌, [], ◌∷◌, IfOk, OnOk};
 ghost use Rattle.std.specs.Io.KnownBytes.{Appends};
 ghost use Rattle.script.specs.Rows.{limits_row};
-ghost use Rattle.report.specs.Report.{end_row, title_row};
+ghost use Rattle.report.specs.Report.{report_end_row, title_row};
 ghost use Rattle.texts.specs.Pages.{IsReady, line_of, page_row, page_text, rows_text};
 
 use crate::totals::Totals;
@@ -56,7 +56,7 @@ fn limits_line(page: &mut Page, limits: &Limits) -> Result<(), AllocError>
 
 /// The line that counts the others by their kind.
 pub fn end_text(alloc: Global, lines: &[Line]) -> Result<Vec<u8>, AllocError>
-    ensures { IfOk result (λ text. text.items ≡ rows_text (end_row lines.now ∷ [])) }
+    ensures { IfOk result (λ text. text.items ≡ rows_text (report_end_row lines.now ∷ [])) }
 {
     let totals = Totals::of(lines);
     let mut page = Page::new(alloc);

@@ -5,9 +5,9 @@ ghost use Rattle.script.specs.Rows.{limits_row};
 ghost use Rattle.script.specs.declared.script.Script.{Script};
 ghost use Rattle.record.specs.declared.record.Line.{Line};
 ghost use Rattle.report.specs.Numbered.{AreNumbered};
-ghost use Rattle.texts.specs.Reads.{HasRead, Stands};
+ghost use Rattle.texts.specs.Reads.{HasRead, IsAtRow};
 ghost use Rattle.texts.specs.Texts.{AreRows};
-ghost use Rattle.report.specs.Report.{call_rows, end_row, line_row, report_rows, report_text, title_row};
+ghost use Rattle.report.specs.Report.{call_rows, report_end_row, line_row, report_rows, report_text, title_row};
 ghost use Rattle.texts.specs.Pages.{seven};
 
 use crate::fault::{NotLawful, ReportFault, RowFault};
@@ -20,7 +20,7 @@ use record::{Line, Record};
 use script::Script;
 use std::alloc::Global;
 use std::io::Read;
-use texts::{Metered, Rows, settled};
+use texts::{Metered, Rows, by_failure_count};
 
 /// Reads a report of either mode: its rows are those of the record, and no others. Whether the run
 /// is lawful is not asked here, only what a row says by itself, the numbers of the calls and the
@@ -40,7 +40,7 @@ pub fn read_record<R: Read>(alloc: Global, from: &mut Metered<R>) -> Result<Reco
 {
     let before = from.failures;
     let read = record_of(alloc, from);
-    Ok(settled(read, before, from.failures)?)
+    Ok(by_failure_count(read, before, from.failures)?)
 }
 
 fn record_of<R: Read>(alloc: Global, from: &mut Metered<R>) -> Result<Record, RowFault>
@@ -61,7 +61,7 @@ fn record_of<R: Read>(alloc: Global, from: &mut Metered<R>) -> Result<Record, Ro
 fn script_of<R: Read + Drop>(alloc: Global, rows: &mut Rows<R>) -> Result<Script, RowFault>
     ensures accepted { IfOk result (λ script. IsAccepted script.limits) }
     ensures layout { IfOk result (λ script. IsLayoutOf script.limits script.layout.mode script.layout) }
-    ensures rows { (bytes : List ℕ) → HasRead R.remaining bytes [] rows.old → IfOk result (λ script. Stands R.remaining bytes (map seven (title_row script.layout.mode ∷ limits_row script.limits ∷ call_rows [] script.calls.items)) 7 rows.new) }
+    ensures rows { (bytes : List ℕ) → HasRead R.remaining bytes [] rows.old → IfOk result (λ script. IsAtRow R.remaining bytes (map seven (title_row script.layout.mode ∷ limits_row script.limits ∷ call_rows [] script.calls.items)) 7 rows.new) }
 {
     next_row(rows)?;
     let Some(mode) = mode_of(row_fields(rows)) else {
@@ -82,7 +82,7 @@ fn script_of<R: Read + Drop>(alloc: Global, rows: &mut Rows<R>) -> Result<Script
 
 /// Tests the end row, and that no row follows.
 fn end_of<R: Read + Drop>(rows: &mut Rows<R>, lines: &[Line]) -> Result<(), RowFault>
-    ensures { (bytes : List ℕ) (before : List (List (List ℕ))) → Stands R.remaining bytes before 7 rows.old → OnOk result (AreRows bytes (before ++ seven (end_row lines.now) ∷ [])) }
+    ensures { (bytes : List ℕ) (before : List (List (List ℕ))) → IsAtRow R.remaining bytes before 7 rows.old → OnOk result (AreRows bytes (before ++ seven (report_end_row lines.now) ∷ [])) }
 {
     if !is_end_of(row_fields(rows), lines) || advance(rows)? {
         return Err(rows.fault(NotLawful));

@@ -4,8 +4,8 @@ ghost use Rattle.arena.specs.declared.limits.Mode.TheVariants.{Records};
 ghost use Rattle.script.specs.Commands.{command_row, texts};
 ghost use Rattle.script.specs.declared.command.Call.{Call};
 ghost use Rattle.report.specs.Counts.{HasCounted};
-ghost use Rattle.texts.specs.Reads.{Stands, last_row};
-ghost use Rattle.report.specs.Report.{call_row, call_rows};
+ghost use Rattle.texts.specs.Reads.{IsAtRow, last_row};
+ghost use Rattle.report.specs.Report.{reported_call_row, call_rows};
 ghost use Rattle.texts.specs.Pages.{seven};
 
 use crate::count::Counts;
@@ -29,7 +29,7 @@ pub fn calls_of<R: Read + Drop>(
 ) -> Result<Vec<Call>, RowFault>
     ensures few { IfOk result (λ calls. vec_len calls ≤ 65536) }
     ensures accepted { IfOk result (λ calls. All (λ call. (call.client.0 < layout.passes) × (layout.mode ≡ Records)) calls.items) }
-    ensures rows { (bytes : List ℕ) (before : List (List (List ℕ))) → Stands R.remaining bytes before 7 rows.old → IfOk result (λ calls. Stands R.remaining bytes (before ++ map seven (call_rows [] calls.items)) 7 rows.new) }
+    ensures rows { (bytes : List ℕ) (before : List (List (List ℕ))) → IsAtRow R.remaining bytes before 7 rows.old → IfOk result (λ calls. IsAtRow R.remaining bytes (before ++ map seven (call_rows [] calls.items)) 7 rows.new) }
 {
     let mut calls = Vec::new(alloc);
     let mut counts = Counts::new(alloc);
@@ -53,7 +53,7 @@ fn next_call<R: Read + Drop>(
     counts: &mut Counts,
 ) -> Result<Call, RowFault>
     ensures accepted { IfOk result (λ call. (call.client.0 < layout.passes) × (layout.mode ≡ Records)) }
-    ensures row { (earlier : List Call) → HasCounted counts.old earlier → length (last_row rows.now) ≡ 7 → IfOk result (λ call. last_row rows.now ≡ seven (call_row earlier call)) }
+    ensures row { (earlier : List Call) → HasCounted counts.old earlier → length (last_row rows.now) ≡ 7 → IfOk result (λ call. last_row rows.now ≡ seven (reported_call_row earlier call)) }
     ensures counted { (earlier : List Call) → HasCounted counts.old earlier → length earlier < 2 ^ 64 - 1 → IfOk result (λ call. HasCounted counts.new (call ∷ earlier)) }
 {
     let Some((call, number)) = call_of(row_fields(rows), layout) else {

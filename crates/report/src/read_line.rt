@@ -2,10 +2,10 @@
 ghost use Rattle.std.specs.Prelude.{◌≡◌, ◌<◌, ◌-◌, ◌^◌, List, ◌∷◌, ◌++◌, ℕ, IfOk, IfSome, length, map, reverse};
 ghost use Rattle.record.specs.declared.record.Line.{Line};
 ghost use Rattle.record.specs.declared.record.Line.TheVariants.{Step as StepLine, Log, Reply as ReplyLine};
-ghost use Rattle.report.specs.Counts.{HasCountedReplies, count_of};
+ghost use Rattle.report.specs.Counts.{HasCountedReplies, calls_counted};
 ghost use Rattle.report.specs.Numbered.{AreNumbered, IsOfNextCall};
 ghost use Rattle.script.specs.Commands.{texts};
-ghost use Rattle.texts.specs.Reads.{Stands, last_row};
+ghost use Rattle.texts.specs.Reads.{IsAtRow, last_row};
 ghost use Rattle.report.specs.Report.{line_row, moment_text};
 ghost use Rattle.texts.specs.Pages.{seven};
 
@@ -28,7 +28,7 @@ pub fn lines_of<R: Read + Drop>(
     passes: u32,
 ) -> Result<Vec<Line>, RowFault>
     ensures calls { IfOk result (λ lines. AreNumbered passes (reverse lines.items)) }
-    ensures rows { (bytes : List ℕ) (before : List (List (List ℕ))) → Stands R.remaining bytes before 7 rows.old → IfOk result (λ lines. Stands R.remaining bytes (before ++ map seven (map line_row lines.items)) 7 rows.new) }
+    ensures rows { (bytes : List ℕ) (before : List (List (List ℕ))) → IsAtRow R.remaining bytes before 7 rows.old → IfOk result (λ lines. IsAtRow R.remaining bytes (before ++ map seven (map line_row lines.items)) 7 rows.new) }
 {
     let mut lines = Vec::new(alloc);
     let mut replies = Counts::new(alloc);
@@ -47,7 +47,7 @@ fn next_line<R: Read + Drop>(
     replies: &mut Counts,
 ) -> Result<Line, RowFault>
     ensures row { length (last_row rows.now) ≡ 7 → IfOk result (λ line. last_row rows.now ≡ seven (line_row line)) }
-    ensures call { IfOk result (IsOfNextCall (count_of replies.old)) }
+    ensures call { IfOk result (IsOfNextCall (calls_counted replies.old)) }
     ensures counted { (lines : List Line) → HasCountedReplies replies.old passes lines → length lines < 2 ^ 64 - 1 → IfOk result (λ line. HasCountedReplies replies.new passes (line ∷ lines)) }
 {
     let Some(line) = line_of(row_fields(rows), replies) else {
@@ -65,7 +65,7 @@ fn next_line<R: Read + Drop>(
 /// yet.
 fn line_of(fields: [&str; 7], replies: &Counts) -> Option<Line>
     ensures row { IfSome result (λ line. texts fields.entry ≡ seven (line_row line)) }
-    ensures call { IfSome result (IsOfNextCall (count_of replies.now)) }
+    ensures call { IfSome result (IsOfNextCall (calls_counted replies.now)) }
 {
     match fields[0] {
         "step" => Some(Line::Step(turn_of(fields, replies)?)),
@@ -77,7 +77,7 @@ fn line_of(fields: [&str; 7], replies: &Counts) -> Option<Line>
 
 fn turn_of(fields: [&str; 7], replies: &Counts) -> Option<Row>
     ensures row { IfSome result (λ row. texts fields.entry ≡ seven (line_row (StepLine row))) }
-    ensures call { IfSome result (λ row. IsOfNextCall (count_of replies.now) (StepLine row)) }
+    ensures call { IfSome result (λ row. IsOfNextCall (calls_counted replies.now) (StepLine row)) }
 {
     if let ["step", number, client, "idle", "", "", ""] = fields {
         let number = number_of(number)?;

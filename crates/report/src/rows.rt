@@ -3,7 +3,7 @@ ghost use Rattle.std.specs.Prelude.{◌≡◌, ◌++◌, List, ℕ, IfOk, MatchB
 ghost use Rattle.csv.specs.Records.{fields_of};
 ghost use Rattle.script.specs.Commands.{texts};
 ghost use Rattle.texts.specs.Fields.{field_of};
-ghost use Rattle.texts.specs.Reads.{HasRead, Stands, last_row};
+ghost use Rattle.texts.specs.Reads.{HasRead, IsAtRow, last_row};
 ghost use Rattle.texts.specs.Texts.{AreRows};
 
 use crate::fault::{NotLawful, RowFault};
@@ -16,14 +16,14 @@ const WIDTH: usize = 7;
 
 /// Goes on to the next row, or to the place behind the last row, where it answers false.
 pub fn advance<R: Read + Drop>(rows: &mut Rows<R>) -> Result<bool, RowFault>
-    ensures { (bytes : List ℕ) (so_far : List (List (List ℕ))) → HasRead R.remaining bytes so_far rows.old → IfOk result (λ found. MatchBool found (Stands R.remaining bytes so_far 7 rows.new) (AreRows bytes so_far)) }
+    ensures { (bytes : List ℕ) (so_far : List (List (List ℕ))) → HasRead R.remaining bytes so_far rows.old → IfOk result (λ found. MatchBool found (IsAtRow R.remaining bytes so_far 7 rows.new) (AreRows bytes so_far)) }
 {
     rows.advance(WIDTH)
 }
 
 /// Goes on to the next row, which has to be there.
 pub fn next_row<R: Read + Drop>(rows: &mut Rows<R>) -> Result<(), RowFault>
-    ensures { (bytes : List ℕ) (so_far : List (List (List ℕ))) → HasRead R.remaining bytes so_far rows.old → OnOk result (Stands R.remaining bytes so_far 7 rows.new) }
+    ensures { (bytes : List ℕ) (so_far : List (List (List ℕ))) → HasRead R.remaining bytes so_far rows.old → OnOk result (IsAtRow R.remaining bytes so_far 7 rows.new) }
 {
     if advance(rows)? {
         Ok(())

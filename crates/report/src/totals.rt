@@ -1,6 +1,6 @@
 //! How many lines of each kind a run has.
 ghost use Rattle.std.specs.Prelude.{◌≡◌, IsTrue};
-ghost use Rattle.report.specs.Report.{end_row, entries_in, replies_in, steps_in};
+ghost use Rattle.report.specs.Report.{report_end_row, entries_in, replies_in, steps_in};
 ghost use Rattle.script.specs.Commands.{texts};
 ghost use Rattle.texts.specs.Pages.{seven};
 
@@ -38,7 +38,7 @@ impl Totals {
 
 /// Whether a row is the end row of these lines.
 pub fn is_end_of(fields: [&str; 7], lines: &[Line]) -> bool
-    ensures { IsTrue result → texts fields.entry ≡ seven (end_row lines.now) }
+    ensures { IsTrue result → texts fields.entry ≡ seven (report_end_row lines.now) }
 {
     let ["end", steps, replies, entries, "", "", ""] = fields else {
         return false;

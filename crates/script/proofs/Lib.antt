@@ -1,8 +1,9 @@
-pub mod Differ
-pub mod Parts
-pub mod Fields
-pub mod OfCells
-pub mod LimitsRows
-pub mod Spaced
-pub mod Updates
-pub mod Calls
+mod Differ
+mod Parts
+mod Fields
+mod OfCells
+mod LimitsRows
+mod Spaced
+mod Updates
+mod Calls
+pub mod Lemmas

@@ -5,7 +5,7 @@ use Rattle.arena.specs.declared.limits.Limits.{Limits}
 use Rattle.csv.specs.Records.{field_at}
 use Rattle.texts.specs.Fields.{field_of}
 use Rattle.script.specs.Rows.{limits_row}
-use Rattle.texts.proofs.Numbers.{same_number}
+use Rattle.texts.proofs.Lemmas.{same_number}
 
 pub record Fields (fields : List (List ℕ)) (limits : Limits) : Type 0 where
   pub name : field_of fields 0 ≡ codes "limits"

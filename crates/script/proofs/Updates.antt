@@ -7,7 +7,7 @@ use Rattle.std.proofs.lemmas.Fmt.{decimal_injective}
 use Rattle.std.proofs.lemmas.List.Splits.{slice_split_at}
 use Rattle.script.specs.Commands.{numbers_text, change_text, command_row, side_text, texts, IsCell, AreCells, IsCommand}
 use Rattle.script.proofs.Spaced.{parts_of, no_space, small}
-use Rattle.script.specs.Part.{is_part}
+use Rattle.script.specs.Part.{is_subsequence}
 use Rattle.script.specs.Update.{update_cells, update_finalize, update_field, update_value}
 use Rattle.script.specs.declared.command.Command.{Command}
 use Rattle.script.specs.declared.command.Command.TheVariants.{Llx, Scx, Vlx, Set}
@@ -35,12 +35,12 @@ no_update cells finalize change none (Scx update) valid row =
 no_update cells finalize change none (Vlx others) valid row = absurd (omega (arith, ap (letter 0) row))
 no_update cells finalize change none (Set field value) valid row = absurd (omega (arith, ap (letter 1) row))
 
-taken_or_left : (x y : ℕ) (part whole : List ℕ) (b : Bool) → (b ≡ true → x ≡ y) → IsCell y → (is_part part whole ≡ true → All IsCell part) → (is_part (x ∷ part) whole ≡ true → All IsCell (x ∷ part)) → cond b (is_part part whole) (is_part (x ∷ part) whole) ≡ true → All IsCell (x ∷ part)
+taken_or_left : (x y : ℕ) (part whole : List ℕ) (b : Bool) → (b ≡ true → x ≡ y) → IsCell y → (is_subsequence part whole ≡ true → All IsCell part) → (is_subsequence (x ∷ part) whole ≡ true → All IsCell (x ∷ part)) → cond b (is_subsequence part whole) (is_subsequence (x ∷ part) whole) ≡ true → All IsCell (x ∷ part)
 taken_or_left x y part whole true same cell taken left is = All-cons IsCell x part (rw (same refl) cell) (taken is)
 taken_or_left x y part whole false same cell taken left is = left is
 
 -- a part of some cells has only cells
-pub part_of_cells : (part whole : List ℕ) → is_part part whole ≡ true → All IsCell whole → All IsCell part
+pub part_of_cells : (part whole : List ℕ) → is_subsequence part whole ≡ true → All IsCell whole → All IsCell part
 part_of_cells [] whole is all = All-nil IsCell
 part_of_cells (x ∷ part) [] is all = absurd (cc)
 part_of_cells (x ∷ part) (y ∷ whole) is all =

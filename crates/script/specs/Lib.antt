@@ -5,7 +5,7 @@ pub mod Update
 pub mod Orders
 pub mod Fields
 pub mod Rows
-pub mod What
+pub mod OrderKind
 pub mod Commands
 pub mod Calls
 pub mod Grammars

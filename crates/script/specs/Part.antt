@@ -2,7 +2,7 @@
 use Rattle.std.specs.Prelude.{ℕ, Bool, true, false, cond, eqb, List, [], ◌∷◌}
 
 -- whether the first list is the second with some of its elements left out
-abbrev pub is_part : List ℕ → List ℕ → Bool
-is_part [] whole = true
-is_part (x ∷ part) [] = false
-is_part (x ∷ part) (y ∷ whole) = cond (eqb x y) (is_part part whole) (is_part (x ∷ part) whole)
+abbrev pub is_subsequence : List ℕ → List ℕ → Bool
+is_subsequence [] whole = true
+is_subsequence (x ∷ part) [] = false
+is_subsequence (x ∷ part) (y ∷ whole) = cond (eqb x y) (is_subsequence part whole) (is_subsequence (x ∷ part) whole)

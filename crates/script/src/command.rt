@@ -1,6 +1,6 @@
 //! Calls of a script.
 ghost use Rattle.std.specs.Prelude.{◌≡◌, ◌≢◌, ◌≤◌, ◌↔◌, IsTrue, IsSome, IfSome, AllPairs, Contains, length};
-ghost use Rattle.script.specs.Part.{is_part};
+ghost use Rattle.script.specs.Part.{is_subsequence};
 ghost use Rattle.script.specs.Cells.{cells_of, maybe_cells_of};
 
 use crate::cells::{Cell, Cells};
@@ -27,7 +27,7 @@ pub struct Update {
     finalize: Option<Cells>,
     field: (Cell, Side),
     value: u64,
-    ghost part: { IsTrue (is_part (maybe_cells_of finalize) (cells_of cells)) },
+    ghost part: { IsTrue (is_subsequence (maybe_cells_of finalize) (cells_of cells)) },
     ghost inside: { ∥ Contains (cells_of cells) field.0 ∥₁ },
 }
 
@@ -42,17 +42,17 @@ impl Update {
         field: (Cell, Side),
         value: u64,
     ) -> Option<Update>
-        ensures valid { IsSome result ↔ (IsTrue (is_part (maybe_cells_of finalize) (cells_of cells)) × Contains (cells_of cells) field.0) }
+        ensures valid { IsSome result ↔ (IsTrue (is_subsequence (maybe_cells_of finalize) (cells_of cells)) × Contains (cells_of cells) field.0) }
         ensures cells { IfSome result (λ u. update_cells u ≡ cells_of cells) }
         ensures finalize { IfSome result (λ u. update_finalize u ≡ maybe_cells_of finalize) }
         ensures field { IfSome result (λ u. update_field u ≡ field) }
         ensures value { IfSome result (λ u. update_value u ≡ value) }
     {
-        let is_part = match &finalize {
-            Some(some) => is_part(some.as_slice(), cells.as_slice()),
+        let is_subsequence = match &finalize {
+            Some(some) => is_subsequence(some.as_slice(), cells.as_slice()),
             None => true,
         };
-        if !is_part || !cells.as_slice().contains(&field.0) {
+        if !is_subsequence || !cells.as_slice().contains(&field.0) {
             return None;
         }
         Some(Update {
@@ -76,7 +76,7 @@ impl Update {
     /// Those of the cells that are finalized, in their order.
     pub fn finalize(&self) -> &[Cell]
         ensures cells { result.now ≡ update_finalize self.now }
-        ensures part { IsTrue (is_part result.now (update_cells self.now)) }
+        ensures part { IsTrue (is_subsequence result.now (update_cells self.now)) }
     {
         match &self.finalize {
             Some(cells) => cells.as_slice(),
@@ -101,8 +101,8 @@ impl Update {
 }
 
 /// Whether `whole` gives `part`, where some of its cells are left out.
-fn is_part(part: &[Cell], whole: &[Cell]) -> bool
-    ensures { result ≡ is_part part.now whole.now }
+fn is_subsequence(part: &[Cell], whole: &[Cell]) -> bool
+    ensures { result ≡ is_subsequence part.now whole.now }
 {
     let mut found = 0;
     for cell in whole {

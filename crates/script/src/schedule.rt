@@ -1,11 +1,11 @@
 //! Schedules of turns.
 ghost use Rattle.texts.specs.declared.fault.TextFault.{TextFault};
 ghost use Rattle.std.specs.Prelude.{◌≡◌, ◌≢◌, ◌≤◌, ◌<◌, ◌^◌, ◌-◌, ℕ, [], ◌∷◌, decimal, IfOk, IfSome, IfNone, OnOk, OnErr, IfErr, IsErrOf, All, Some, List, refl, length, vec_len};
-ghost use Rattle.script.specs.declared.schedule.What.{What};
+ghost use Rattle.script.specs.declared.schedule.OrderKind.{OrderKind};
 ghost use Rattle.script.specs.Grammars.{IsScheduleFault, SayOrders, order_grammar};
 ghost use Rattle.script.specs.Orders.{IsNoOrder, IsOrder, IsUnfit, NamesTimes, order_row};
 ghost use Rattle.texts.specs.Texts.{IfBad};
-ghost use Rattle.script.specs.What.{what_text};
+ghost use Rattle.script.specs.OrderKind.{order_kind_text};
 ghost use Rattle.csv.specs.Records.{fields_of};
 
 use crate::client::client_of;
@@ -16,7 +16,7 @@ use arena::{Kind, PassNo};
 use csv::StringRecord;
 use std::alloc::Global;
 use std::io::Read;
-use texts::{Format, Metered, Rows, field, settled, small_number_of};
+use texts::{Format, Metered, Rows, field, by_failure_count, small_number_of};
 
 /// What one row of a schedule orders.
 #[derive(Clone, Copy, Debug, PartialEq, Eq)]
@@ -69,7 +69,7 @@ pub fn read_schedule<R: Read>(
 {
     let before = from.failures;
     let schedule = schedule_of(alloc, script.layout.passes, from);
-    settled(schedule, before, from.failures)
+    by_failure_count(schedule, before, from.failures)
 }
 
 fn schedule_of<R: Read>(
@@ -93,7 +93,7 @@ struct OrderRows {
 
 /// What a row of a schedule orders.
 #[derive(Clone, Copy)]
-enum What {
+enum OrderKind {
     Step,
     Call,
     Until,
@@ -116,7 +116,7 @@ impl Format for OrderRows {
         ensures row { IfOk result (λ order. length (fields_of row.now) ≡ 4 → fields_of row.now ≡ order_row order) }
         ensures cause { IfErr result (IsNoOrder self.now.passes (fields_of row.now)) }
     {
-        let what = what_of(field(row, 0)).ok_or(ScheduleCause::Command)?;
+        let what = order_kind_of(field(row, 0)).ok_or(ScheduleCause::Command)?;
         let client = client_of(field(row, 1), self.passes).ok_or(ScheduleCause::Client)?;
         order_of(what, client, field(row, 2), field(row, 3))
     }
@@ -128,37 +128,37 @@ impl Format for OrderRows {
     ghost causes = { λ _. (refl, refl, refl) };
 }
 
-fn what_of(text: &str) -> Option<What>
-    ensures some { IfSome result (λ what. text.now ≡ what_text what) }
-    ensures none { IfNone result ((what : What) → text.now ≢ what_text what) }
+fn order_kind_of(text: &str) -> Option<OrderKind>
+    ensures some { IfSome result (λ what. text.now ≡ order_kind_text what) }
+    ensures none { IfNone result ((what : OrderKind) → text.now ≢ order_kind_text what) }
 {
     match text {
-        "step" => Some(What::Step),
-        "call" => Some(What::Call),
-        "until" => Some(What::Until),
-        "finish" => Some(What::Finish),
+        "step" => Some(OrderKind::Step),
+        "call" => Some(OrderKind::Call),
+        "until" => Some(OrderKind::Until),
+        "finish" => Some(OrderKind::Finish),
         _ => None,
     }
 }
 
 /// The order of a row with these last fields.
-fn order_of(what: What, client: PassNo, kind: &str, number: &str) -> Result<Order, ScheduleCause>
+fn order_of(what: OrderKind, client: PassNo, kind: &str, number: &str) -> Result<Order, ScheduleCause>
     ensures order { (passes : ℕ) → client.0 < passes → IfOk result (IsOrder passes) }
-    ensures row { IfOk result (λ order. order_row order ≡ what_text what ∷ decimal client.0 ∷ kind.now ∷ number.now ∷ []) }
+    ensures row { IfOk result (λ order. order_row order ≡ order_kind_text what ∷ decimal client.0 ∷ kind.now ∷ number.now ∷ []) }
     ensures cause { IfErr result (IsUnfit what kind.now number.now) }
 {
     match what {
-        What::Step => {
+        OrderKind::Step => {
             no_kind(kind)?;
             let turns = times_of(number)?;
             Ok(Order::Step { client, turns })
         }
-        What::Call => {
+        OrderKind::Call => {
             no_kind(kind)?;
             no_number(number)?;
             Ok(Order::Call { client })
         }
-        What::Until => {
+        OrderKind::Until => {
             let kind = kind_of(kind).ok_or(ScheduleCause::Kind)?;
             let times = times_of(number)?;
             Ok(Order::Until {
@@ -167,7 +167,7 @@ fn order_of(what: What, client: PassNo, kind: &str, number: &str) -> Result<Orde
                 times,
             })
         }
-        What::Finish => {
+        OrderKind::Finish => {
             no_kind(kind)?;
             no_number(number)?;
             Ok(Order::Finish { client })

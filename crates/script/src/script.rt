@@ -15,7 +15,7 @@ use arena::{Layout, Limits, Mode, NoMemory};
 use csv::StringRecord;
 use std::alloc::Global;
 use std::io::Read;
-use texts::{Metered, Rows, field, settled, small_number_of};
+use texts::{Metered, Rows, field, by_failure_count, small_number_of};
 
 /// The limits of a table, and the calls of its clients in the order of the script.
 #[derive(Debug, Drop)]
@@ -69,7 +69,7 @@ pub fn read_script<R: Read>(
 {
     let before = from.failures;
     let script = script_of(alloc, mode, from);
-    settled(script, before, from.failures)
+    by_failure_count(script, before, from.failures)
 }
 
 fn script_of<R: Read>(

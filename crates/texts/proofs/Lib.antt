@@ -1,5 +1,6 @@
-pub mod Numbers
-pub mod HaveRead
-pub mod EndRows
-pub mod Refusals
-pub mod Entries
+mod Numbers
+mod HaveRead
+mod EndRows
+mod Refusals
+mod Entries
+pub mod Lemmas

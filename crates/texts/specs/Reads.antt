@@ -27,6 +27,6 @@ pub record HasRead {R : Type 0} (remaining : R → Option (List ℕ)) (bytes : L
   pub reached : Reached default_config state.StartRecord (strip_bom bytes) so_far (reader_state rows.reader) rest
 
 -- the row that was read last stands behind these, and has so many fields
-pub record Stands {R : Type 0} (remaining : R → Option (List ℕ)) (bytes : List ℕ) (before : List (List (List ℕ))) (width : ℕ) (rows : Rows R) : Type 0 where
+pub record IsAtRow {R : Type 0} (remaining : R → Option (List ℕ)) (bytes : List ℕ) (before : List (List (List ℕ))) (width : ℕ) (rows : Rows R) : Type 0 where
   pub read : HasRead remaining bytes (before ++ last_row rows ∷ []) rows
   pub row : IsRow width (last_row rows)

@@ -3,7 +3,7 @@ ghost use Rattle.std.specs.Prelude.{◌≡◌, ◌≢◌, ◌≤◌, ◌<◌, �
 ghost use Rattle.texts.specs.declared.fault.TextFault.{TextFault};
 ghost use Rattle.csv.specs.Records.{fields_of};
 ghost use Rattle.texts.specs.Fields.{field_of};
-ghost use Rattle.texts.specs.Reads.{HasRead, Stands, last_row};
+ghost use Rattle.texts.specs.Reads.{HasRead, IsAtRow, last_row};
 ghost use Rattle.texts.specs.Texts.{AreRows, BeginWithRows, Grammar, IfBad, IsEndFault, IsEndRow, IsFirstFault, IsRow, SayEntries, end_row};
 
 use crate::fault::{Cause, TextFault};
@@ -162,8 +162,8 @@ impl<R: Read + Drop> Rows<R> {
 
     /// Tests the end row, and that no row follows. Another fault of that row goes first.
     fn end<F: Format>(&mut self, format: &F, entries: usize) -> Result<(), TextFault<F::Cause>>
-        ensures ok { (bytes : List ℕ) (before : List (List (List ℕ))) → Stands R.remaining bytes before (F.grammar format.now).width self.old → IsEndRow (F.grammar format.now) (last_row self.old) → OnOk result ((last_row self.old ≡ end_row (F.grammar format.now).width entries) × AreRows bytes (before ++ last_row self.old ∷ [])) }
-        ensures fault { (bytes : List ℕ) (before : List (List (List ℕ))) → Stands R.remaining bytes before (F.grammar format.now).width self.old → IsEndRow (F.grammar format.now) (last_row self.old) → self.old.number < 2 ^ 64 - 1 → IfErr result (IfBad (IsEndFault (F.grammar format.now) bytes before (last_row self.old) entries self.old.number)) }
+        ensures ok { (bytes : List ℕ) (before : List (List (List ℕ))) → IsAtRow R.remaining bytes before (F.grammar format.now).width self.old → IsEndRow (F.grammar format.now) (last_row self.old) → OnOk result ((last_row self.old ≡ end_row (F.grammar format.now).width entries) × AreRows bytes (before ++ last_row self.old ∷ [])) }
+        ensures fault { (bytes : List ℕ) (before : List (List (List ℕ))) → IsAtRow R.remaining bytes before (F.grammar format.now).width self.old → IsEndRow (F.grammar format.now) (last_row self.old) → self.old.number < 2 ^ 64 - 1 → IfErr result (IfBad (IsEndFault (F.grammar format.now) bytes before (last_row self.old) entries self.old.number)) }
     {
         if !counts(&self.row, entries) {
             return Err(self.fault(F::Cause::END));
@@ -180,7 +180,7 @@ impl<R: Read + Drop> Rows<R> {
 
 /// What is told of a text, by the count of its reader's failures before and after: `Read` exactly
 /// where it rose. Where it can't rise, `Read` is told of a failed read too.
-pub fn settled<T: Drop, C: Drop>(
+pub fn by_failure_count<T: Drop, C: Drop>(
     read: Result<T, TextFault<C>>,
     before: u64,
     after: u64,

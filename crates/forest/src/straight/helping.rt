@@ -1,20 +1,20 @@
 //! HELP with its steps in line.
 ghost use Rattle.std.specs.Prelude.{◌≡◌, ◌≢◌, ◌+◌, ◌≤◌, ◌<◌, ◌⊎◌, ℕ, suc, true, false, IfSome, IfNone};
-ghost use Rattle.arena.specs.MemberNo.{index_of};
-ghost use Rattle.help.specs.Plan.{is_removed};
-ghost use Rattle.help.specs.HelpSteps.{help_left};
-ghost use Rattle.help.specs.HelpKnown.{first_place};
+ghost use Rattle.arena.specs.MemberIndex.{member_index};
+ghost use Rattle.help.specs.Plan.{finalizes_in};
+ghost use Rattle.help.specs.Help.Steps.{help_left};
+ghost use Rattle.help.specs.Help.Known.{first_place};
 ghost use Rattle.arena.specs.Machines.{Call};
 ghost use Rattle.help.specs.declared.state.HelpRun.{HelpRun};
-ghost use Rattle.forest.specs.Kept.{IsTableOf};
-ghost use Rattle.forest.specs.Courses.{steps_of};
-ghost use Rattle.forest.specs.StraightHelp.{HelpBegins, HelpWaits, HelpTold, HelpMarks, HelpEnds};
+ghost use Rattle.forest.specs.TableRule.{IsTableOf};
+ghost use Rattle.forest.specs.Traces.{seat_steps};
+ghost use Rattle.forest.specs.StraightHelp.{SeatHelpBegins, SeatHelpWaits, SeatHelpTold, SeatHelpMarks, SeatHelpEnds};
 
 use crate::steps::{complete, step_of};
-use crate::view::View;
+use crate::view::SeatView;
 use crate::words::Words;
 use arena::{
-    COMMITTED, Deed, Kind, Layout, MemberNo, NodeNo, NodeWord, ScxNo, ScxWord, Shape, Step, Turn,
+    COMMITTED, Access, Kind, Layout, MemberIndex, NodeNo, NodeWord, ScxNo, ScxWord, Shape, Step, Turn,
     Word,
 };
 use atomic_table::Seat;
@@ -25,17 +25,17 @@ use help::{HelpAt, HelpRun, Plan};
 fn act<S: Shape>(
     words: &Words<S>,
     layout: &Layout,
-    seat: &mut Seat<u8, View>,
+    seat: &mut Seat<u8, SeatView>,
     number: u64,
     run: &HelpRun,
     at: HelpAt,
     step: Step,
 ) -> u64
     requires table { IsTableOf words.now.table.shared.table_id words.now.table.shared.key layout.now × (seat.old.table_id ≡ words.now.table.shared.table_id) }
-    requires waits { (c : Call) × (first : HelpRun) × (c.layout ≡ layout.now) × (c.number ≡ number) × HelpWaits S.allows c seat.old.me.0.passes first (record run.now { at = at }) step }
+    requires waits { (c : Call) × (first : HelpRun) × (c.layout ≡ layout.now) × (c.number ≡ number) × SeatHelpWaits S.allows c seat.old.me.0.passes first (record run.now { at = at }) step }
     ensures table { (seat.new.table_id ≡ seat.old.table_id) × (seat.new.me.1 ≡ seat.old.me.1) }
-    ensures one { steps_of seat.new.me.0.passes ≡ suc (steps_of seat.old.me.0.passes) }
-    ensures told { (c : Call) (first : HelpRun) → c.layout ≡ layout.now → c.number ≡ number → HelpWaits S.allows c seat.old.me.0.passes first (record run.now { at = at }) step → HelpTold S.allows c seat.new.me.0.passes first (record run.now { at = at }) result }
+    ensures one { seat_steps seat.new.me.0.passes ≡ suc (seat_steps seat.old.me.0.passes) }
+    ensures told { (c : Call) (first : HelpRun) → c.layout ≡ layout.now → c.number ≡ number → SeatHelpWaits S.allows c seat.old.me.0.passes first (record run.now { at = at }) step → SeatHelpTold S.allows c seat.new.me.0.passes first (record run.now { at = at }) result }
 {
     let here = HelpRun {
         scx: run.scx,
@@ -48,13 +48,13 @@ fn act<S: Shape>(
 
 #[inline(always)]
 fn settled(scx: ScxNo, part: ScxWord) -> Step
-    ensures { result ≡ record { kind = Kind.LoadSettled; word = Word.Scx scx part; deed = Deed.Load } }
+    ensures { result ≡ record { kind = Kind.LoadSettled; word = Word.Scx scx part; access = Access.Load } }
 {
     let word = Word::Scx(scx, part);
     Step {
         kind: Kind::LoadSettled,
         word,
-        deed: Deed::Load,
+        access: Access::Load,
     }
 }
 
@@ -72,24 +72,24 @@ fn is_frozen(found: u64, seen: u64, scx: ScxNo) -> bool
 fn freeze_all<S: Shape>(
     words: &Words<S>,
     layout: &Layout,
-    seat: &mut Seat<u8, View>,
+    seat: &mut Seat<u8, SeatView>,
     number: u64,
     run: &mut HelpRun,
 ) -> bool
     requires table { IsTableOf words.now.table.shared.table_id words.now.table.shared.key layout.now × (seat.old.table_id ≡ words.now.table.shared.table_id) }
-    requires waits { (c : Call) × (first : HelpRun) × (c.layout ≡ layout.now) × (c.number ≡ number) × HelpWaits S.allows c seat.old.me.0.passes first (record run.old { at = HelpAt.Member MemberNo.First }) record { kind = Kind.LoadSettled; word = Word.Scx run.old.scx (ScxWord.Member 0); deed = Deed.Load } }
+    requires waits { (c : Call) × (first : HelpRun) × (c.layout ≡ layout.now) × (c.number ≡ number) × SeatHelpWaits S.allows c seat.old.me.0.passes first (record run.old { at = HelpAt.Member MemberIndex.First }) record { kind = Kind.LoadSettled; word = Word.Scx run.old.scx (ScxWord.Member 0); access = Access.Load } }
     ensures table { (seat.new.table_id ≡ seat.old.table_id) × (seat.new.me.1 ≡ seat.old.me.1) }
-    ensures steps { steps_of seat.new.me.0.passes ≤ steps_of seat.old.me.0.passes + 12 }
+    ensures steps { seat_steps seat.new.me.0.passes ≤ seat_steps seat.old.me.0.passes + 12 }
     ensures left { result ≡ false → help_left run.new.at ≤ 2 }
     ensures same { run.new.scx ≡ run.old.scx }
     ensures frozen { result ≡ true → (c : Call) (first : HelpRun) → c.layout ≡ layout.now → c.number ≡ number
-        → HelpWaits S.allows c seat.old.me.0.passes first (record run.old { at = HelpAt.Member MemberNo.First }) record { kind = Kind.LoadSettled; word = Word.Scx run.old.scx (ScxWord.Member 0); deed = Deed.Load }
-        → HelpWaits S.allows c seat.new.me.0.passes first (record run.new { at = HelpAt.SetFrozen }) record { kind = Kind.SetFrozen; word = Word.Scx run.new.scx ScxWord.AllFrozen; deed = Deed.Store 1 } }
+        → SeatHelpWaits S.allows c seat.old.me.0.passes first (record run.old { at = HelpAt.Member MemberIndex.First }) record { kind = Kind.LoadSettled; word = Word.Scx run.old.scx (ScxWord.Member 0); access = Access.Load }
+        → SeatHelpWaits S.allows c seat.new.me.0.passes first (record run.new { at = HelpAt.SetFrozen }) record { kind = Kind.SetFrozen; word = Word.Scx run.new.scx ScxWord.AllFrozen; access = Access.Store 1 } }
     ensures blocked { result ≡ false → (c : Call) (first : HelpRun) → c.layout ≡ layout.now → c.number ≡ number
-        → HelpWaits S.allows c seat.old.me.0.passes first (record run.old { at = HelpAt.Member MemberNo.First }) record { kind = Kind.LoadSettled; word = Word.Scx run.old.scx (ScxWord.Member 0); deed = Deed.Load }
-        → HelpWaits S.allows c seat.new.me.0.passes first run.new record { kind = Kind.LoadAllFrozen; word = Word.Scx run.new.scx ScxWord.AllFrozen; deed = Deed.Load } }
+        → SeatHelpWaits S.allows c seat.old.me.0.passes first (record run.old { at = HelpAt.Member MemberIndex.First }) record { kind = Kind.LoadSettled; word = Word.Scx run.old.scx (ScxWord.Member 0); access = Access.Load }
+        → SeatHelpWaits S.allows c seat.new.me.0.passes first run.new record { kind = Kind.LoadAllFrozen; word = Word.Scx run.new.scx ScxWord.AllFrozen; access = Access.Load } }
 {
-    let mut j = MemberNo::First;
+    let mut j = MemberIndex::First;
     loop {
         let asked = settled(run.scx, ScxWord::Member(j.number()));
         let member = act(
@@ -115,7 +115,7 @@ fn freeze_all<S: Shape>(
         let freeze = Step {
             kind: Kind::Freeze,
             word: Word::Node(run.members[j.index()], NodeWord::Info),
-            deed: Deed::Exchange {
+            access: Access::Exchange {
                 expected: seen,
                 new: run.scx.0,
             },
@@ -142,11 +142,11 @@ fn freeze_all<S: Shape>(
 
 /// The first node to be finalized, from a place on.
 #[inline(always)]
-fn removed_behind(plan: Plan, from: Option<MemberNo>) -> Option<MemberNo>
-    ensures removed { IfSome result (λ k. (first_place from ≤ index_of k) × (is_removed plan.0 (index_of k) ≡ true) × ((i : ℕ) → first_place from ≤ i → i < index_of k → is_removed plan.0 i ≡ false)) }
-    ensures none { IfNone result ((i : ℕ) → first_place from ≤ i → i < 4 → is_removed plan.0 i ≡ false) }
+fn removed_behind(plan: Plan, from: Option<MemberIndex>) -> Option<MemberIndex>
+    ensures removed { IfSome result (λ k. (first_place from ≤ member_index k) × (finalizes_in plan.0 (member_index k) ≡ true) × ((i : ℕ) → first_place from ≤ i → i < member_index k → finalizes_in plan.0 i ≡ false)) }
+    ensures none { IfNone result ((i : ℕ) → first_place from ≤ i → i < 4 → finalizes_in plan.0 i ≡ false) }
 {
-    plan.removed_from(from?)
+    plan.first_finalized_from(from?)
 }
 
 /// Marks those nodes of an SCX-record whose flag is set that it finalizes.
@@ -154,19 +154,19 @@ fn removed_behind(plan: Plan, from: Option<MemberNo>) -> Option<MemberNo>
 fn mark_all<S: Shape>(
     words: &Words<S>,
     layout: &Layout,
-    seat: &mut Seat<u8, View>,
+    seat: &mut Seat<u8, SeatView>,
     number: u64,
     run: &HelpRun,
 )
     requires table { IsTableOf words.now.table.shared.table_id words.now.table.shared.key layout.now × (seat.old.table_id ≡ words.now.table.shared.table_id) }
-    requires marks { (c : Call) × (first : HelpRun) × (c.layout ≡ layout.now) × (c.number ≡ number) × HelpMarks S.allows c seat.old.me.0.passes first run.now 0 }
+    requires marks { (c : Call) × (first : HelpRun) × (c.layout ≡ layout.now) × (c.number ≡ number) × SeatHelpMarks S.allows c seat.old.me.0.passes first run.now 0 }
     ensures table { (seat.new.table_id ≡ seat.old.table_id) × (seat.new.me.1 ≡ seat.old.me.1) }
-    ensures steps { steps_of seat.new.me.0.passes ≤ steps_of seat.old.me.0.passes + 4 }
+    ensures steps { seat_steps seat.new.me.0.passes ≤ seat_steps seat.old.me.0.passes + 4 }
     ensures marked { (c : Call) (first : HelpRun) → c.layout ≡ layout.now → c.number ≡ number
-        → HelpMarks S.allows c seat.old.me.0.passes first run.now 0
-        → HelpWaits S.allows c seat.new.me.0.passes first (record run.now { at = HelpAt.New }) record { kind = Kind.LoadSettled; word = Word.Scx run.now.scx ScxWord.New; deed = Deed.Load } }
+        → SeatHelpMarks S.allows c seat.old.me.0.passes first run.now 0
+        → SeatHelpWaits S.allows c seat.new.me.0.passes first (record run.now { at = HelpAt.New }) record { kind = Kind.LoadSettled; word = Word.Scx run.now.scx ScxWord.New; access = Access.Load } }
 {
-    let mut from = Some(MemberNo::First);
+    let mut from = Some(MemberIndex::First);
     loop {
         let Some(j) = removed_behind(run.plan, from) else {
             return;
@@ -174,7 +174,7 @@ fn mark_all<S: Shape>(
         let mark = Step {
             kind: Kind::Mark,
             word: Word::Node(run.members[j.index()], NodeWord::Marked),
-            deed: Deed::Store(1),
+            access: Access::Store(1),
         };
         act(words, layout, seat, number, run, HelpAt::Mark { j }, mark);
         from = j.next();
@@ -187,16 +187,16 @@ fn mark_all<S: Shape>(
 pub(crate) fn call<S: Shape>(
     words: &Words<S>,
     layout: &Layout,
-    seat: &mut Seat<u8, View>,
+    seat: &mut Seat<u8, SeatView>,
     number: u64,
     unbegun: HelpRun,
 ) -> (HelpRun, bool)
     requires table { IsTableOf words.now.table.shared.table_id words.now.table.shared.key layout.now × (seat.old.table_id ≡ words.now.table.shared.table_id) }
     requires start { unbegun.at ≡ HelpAt.Start }
-    requires begins { (c : Call) × (c.layout ≡ layout.now) × (c.number ≡ number) × HelpBegins S.allows c seat.old.me.0.passes unbegun }
+    requires begins { (c : Call) × (c.layout ≡ layout.now) × (c.number ≡ number) × SeatHelpBegins S.allows c seat.old.me.0.passes unbegun }
     ensures table { (seat.new.table_id ≡ seat.old.table_id) × (seat.new.me.1 ≡ seat.old.me.1) }
-    ensures steps { steps_of seat.new.me.0.passes ≤ steps_of seat.old.me.0.passes + 27 }
-    ensures ends { (c : Call) → c.layout ≡ layout.now → c.number ≡ number → HelpBegins S.allows c seat.old.me.0.passes unbegun → HelpEnds S.allows c seat.new.me.0.passes unbegun result.0 result.1 }
+    ensures steps { seat_steps seat.new.me.0.passes ≤ seat_steps seat.old.me.0.passes + 27 }
+    ensures ends { (c : Call) → c.layout ≡ layout.now → c.number ≡ number → SeatHelpBegins S.allows c seat.old.me.0.passes unbegun → SeatHelpEnds S.allows c seat.new.me.0.passes unbegun result.0 result.1 }
 {
     let mut run = unbegun;
     let asked = settled(run.scx, ScxWord::Plan);
@@ -206,7 +206,7 @@ pub(crate) fn call<S: Shape>(
         let turn = Turn::Ask(Step {
             kind: Kind::LoadAllFrozen,
             word: Word::Scx(run.scx, ScxWord::AllFrozen),
-            deed: Deed::Load,
+            access: Access::Load,
         });
         // A copy, so that the layout above, which is not handed out of line, stays in registers.
         let layout = *layout;
@@ -215,7 +215,7 @@ pub(crate) fn call<S: Shape>(
     let flag = Step {
         kind: Kind::SetFrozen,
         word: Word::Scx(run.scx, ScxWord::AllFrozen),
-        deed: Deed::Store(1),
+        access: Access::Store(1),
     };
     act(words, layout, seat, number, &run, HelpAt::SetFrozen, flag);
     mark_all(words, layout, seat, number, &run);
@@ -235,13 +235,13 @@ pub(crate) fn call<S: Shape>(
     let update = Step {
         kind: Kind::Update,
         word: Word::Node(node, NodeWord::Child(run.plan.side())),
-        deed: Deed::Exchange { expected: old, new },
+        access: Access::Exchange { expected: old, new },
     };
     act(words, layout, seat, number, &run, HelpAt::Update, update);
     let commit = Step {
         kind: Kind::Commit,
         word: Word::Scx(run.scx, ScxWord::State),
-        deed: Deed::Store(COMMITTED),
+        access: Access::Store(COMMITTED),
     };
     act(words, layout, seat, number, &run, HelpAt::Commit, commit);
     run.at = HelpAt::Commit;

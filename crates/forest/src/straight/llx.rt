@@ -1,17 +1,17 @@
 //! LLX.
 ghost use Rattle.std.specs.Prelude.{◌≡◌, ◌≢◌, ◌≤◌, ◌+◌, ◌⊎◌, suc, true, false};
 ghost use Rattle.arena.specs.Machines.{Call};
-ghost use Rattle.forest.specs.Kept.{IsTableOf};
-ghost use Rattle.forest.specs.Courses.{steps_of};
-ghost use Rattle.forest.specs.StraightLlx.{LlxBegins, LlxWaits, LlxEnds};
-ghost use Rattle.prims.specs.LlxSteps.{llx_left};
-ghost use Rattle.prims.specs.LlxKnown.{load};
+ghost use Rattle.forest.specs.TableRule.{IsTableOf};
+ghost use Rattle.forest.specs.Traces.{seat_steps};
+ghost use Rattle.forest.specs.StraightLlx.{SeatLlxBegins, SeatLlxWaits, SeatLlxEnds};
+ghost use Rattle.prims.specs.Llx.Steps.{llx_left};
+ghost use Rattle.prims.specs.Llx.Known.{load};
 
 use crate::steps::{complete, step_of};
-use crate::view::View;
+use crate::view::SeatView;
 use crate::words::Words;
 use arena::{
-    ABORTED, COMMITTED, Deed, Kind, Layout, NodeNo, NodeWord, ScxNo, ScxWord, Shape, Side, Step,
+    ABORTED, COMMITTED, Access, Kind, Layout, NodeNo, NodeWord, ScxNo, ScxWord, Shape, Side, Step,
     Turn, Word,
 };
 use atomic_table::Seat;
@@ -22,8 +22,8 @@ use prims::{Llx, LlxAt, LlxRun, Snap};
 fn load(kind: Kind, word: Word) -> Step
     ensures { result ≡ load kind word }
 {
-    let deed = Deed::Load;
-    Step { kind, word, deed }
+    let access = Access::Load;
+    Step { kind, word, access }
 }
 
 /// Whether an SCX-record in this state leaves the node in place.
@@ -41,17 +41,17 @@ fn leaves(state: u64, marked: bool) -> bool
 fn hand_over<S: Shape>(
     words: &Words<S>,
     layout: &Layout,
-    seat: &mut Seat<u8, View>,
+    seat: &mut Seat<u8, SeatView>,
     number: u64,
     node: NodeNo,
     marked: bool,
     scx: ScxNo,
 ) -> Llx
     requires table { IsTableOf words.now.table.shared.table_id words.now.table.shared.key layout.now × (seat.old.table_id ≡ words.now.table.shared.table_id) }
-    requires waits { (c : Call) × (c.layout ≡ layout.now) × (c.number ≡ number) × LlxWaits S.allows c seat.old.me.0.passes node (LlxAt.StateAgain marked scx) (load Kind.LoadState (Word.Scx scx ScxWord.State)) }
+    requires waits { (c : Call) × (c.layout ≡ layout.now) × (c.number ≡ number) × SeatLlxWaits S.allows c seat.old.me.0.passes node (LlxAt.StateAgain marked scx) (load Kind.LoadState (Word.Scx scx ScxWord.State)) }
     ensures table { (seat.new.table_id ≡ seat.old.table_id) × (seat.new.me.1 ≡ seat.old.me.1) }
-    ensures ends { (c : Call) → c.layout ≡ layout.now → c.number ≡ number → LlxWaits S.allows c seat.old.me.0.passes node (LlxAt.StateAgain marked scx) (load Kind.LoadState (Word.Scx scx ScxWord.State)) → LlxEnds S.allows c seat.new.me.0.passes node result }
-    ensures steps { steps_of seat.new.me.0.passes ≤ steps_of seat.old.me.0.passes + suc (llx_left (LlxAt.StateAgain marked scx)) }
+    ensures ends { (c : Call) → c.layout ≡ layout.now → c.number ≡ number → SeatLlxWaits S.allows c seat.old.me.0.passes node (LlxAt.StateAgain marked scx) (load Kind.LoadState (Word.Scx scx ScxWord.State)) → SeatLlxEnds S.allows c seat.new.me.0.passes node result }
+    ensures steps { seat_steps seat.new.me.0.passes ≤ seat_steps seat.old.me.0.passes + suc (llx_left (LlxAt.StateAgain marked scx)) }
 {
     let at = LlxAt::StateAgain { marked, scx };
     let turn = Turn::Ask(load(Kind::LoadState, Word::Scx(scx, ScxWord::State)));
@@ -63,15 +63,15 @@ fn hand_over<S: Shape>(
 pub(crate) fn call<S: Shape>(
     words: &Words<S>,
     layout: &Layout,
-    seat: &mut Seat<u8, View>,
+    seat: &mut Seat<u8, SeatView>,
     number: u64,
     node: NodeNo,
 ) -> Llx
     requires table { IsTableOf words.now.table.shared.table_id words.now.table.shared.key layout.now × (seat.old.table_id ≡ words.now.table.shared.table_id) }
-    requires begins { (c : Call) × (c.layout ≡ layout.now) × (c.number ≡ number) × LlxBegins S.allows c seat.old.me.0.passes node }
+    requires begins { (c : Call) × (c.layout ≡ layout.now) × (c.number ≡ number) × SeatLlxBegins S.allows c seat.old.me.0.passes node }
     ensures table { (seat.new.table_id ≡ seat.old.table_id) × (seat.new.me.1 ≡ seat.old.me.1) }
-    ensures ends { (c : Call) → c.layout ≡ layout.now → c.number ≡ number → LlxBegins S.allows c seat.old.me.0.passes node → LlxEnds S.allows c seat.new.me.0.passes node result }
-    ensures steps { steps_of seat.new.me.0.passes ≤ steps_of seat.old.me.0.passes + 64 }
+    ensures ends { (c : Call) → c.layout ≡ layout.now → c.number ≡ number → SeatLlxBegins S.allows c seat.old.me.0.passes node → SeatLlxEnds S.allows c seat.new.me.0.passes node result }
+    ensures steps { seat_steps seat.new.me.0.passes ≤ seat_steps seat.old.me.0.passes + 64 }
 {
     let mark = load(Kind::LoadMarked, Word::Node(node, NodeWord::Marked));
     let info = load(Kind::LoadInfo, Word::Node(node, NodeWord::Info));

@@ -3,15 +3,15 @@ ghost use Rattle.std.specs.Prelude.{◌≡◌, ◌≤◌, ◌+◌, suc, length};
 ghost use Rattle.arena.specs.Machines.{Call};
 ghost use Rattle.prims.specs.declared.put.PutRun.{PutRun};
 ghost use Rattle.prims.specs.Snap.{snap_at};
-ghost use Rattle.forest.specs.Kept.{IsTableOf};
-ghost use Rattle.forest.specs.Courses.{steps_of};
-ghost use Rattle.forest.specs.StraightScx.{PutBegins, PutWaits, PutTold, PutEnds, put_same, run_of, scx_at, standing, fill_of};
+ghost use Rattle.forest.specs.TableRule.{IsTableOf};
+ghost use Rattle.forest.specs.Traces.{seat_steps};
+ghost use Rattle.forest.specs.StraightScx.{SeatPutBegins, SeatPutWaits, SeatPutTold, SeatPutEnds, IsSamePut, fresh_put, scx_at, standing, fill_of};
 
 use crate::steps::step_of;
 use crate::straight;
-use crate::view::View;
+use crate::view::SeatView;
 use crate::words::Words;
-use arena::{Deed, Kind, Layout, MemberNo, NodeNo, NodeWord, ScxNo, ScxWord, Shape, Step, Word};
+use arena::{Access, Kind, Layout, MemberIndex, NodeNo, NodeWord, ScxNo, ScxWord, Shape, Step, Word};
 use atomic_table::Seat;
 use help::{HelpRun, Plan};
 use prims::{PutAt, PutRun, Scx, ScxAt, ScxRun, Snap, Snaps, Update};
@@ -57,7 +57,7 @@ fn machine(snaps: &[Snap], put: Put, number: u64, scx: ScxAt, at: PutAt) -> PutR
 fn fill<S: Shape>(
     words: &Words<S>,
     layout: &Layout,
-    seat: &mut Seat<u8, View>,
+    seat: &mut Seat<u8, SeatView>,
     number: u64,
     snaps: &[Snap],
     put: Put,
@@ -67,15 +67,15 @@ fn fill<S: Shape>(
 ) -> u64
     requires table { IsTableOf words.now.table.shared.table_id words.now.table.shared.key layout.now × (seat.old.table_id ≡ words.now.table.shared.table_id) }
     requires fits { length snaps.now ≤ 4 }
-    requires waits { (c : Call) × (first : PutRun) × (c.layout ≡ layout.now) × (c.number ≡ number) × PutWaits S.allows c seat.old.me.0.passes first (scx_at (run_of snaps.now put number) at) (fill_of (run_of snaps.now put number) part wanted) }
+    requires waits { (c : Call) × (first : PutRun) × (c.layout ≡ layout.now) × (c.number ≡ number) × SeatPutWaits S.allows c seat.old.me.0.passes first (scx_at (fresh_put snaps.now put number) at) (fill_of (fresh_put snaps.now put number) part wanted) }
     ensures table { (seat.new.table_id ≡ seat.old.table_id) × (seat.new.me.1 ≡ seat.old.me.1) }
-    ensures one { steps_of seat.new.me.0.passes ≡ suc (steps_of seat.old.me.0.passes) }
-    ensures told { (c : Call) (first : PutRun) → c.layout ≡ layout.now → c.number ≡ number → PutWaits S.allows c seat.old.me.0.passes first (scx_at (run_of snaps.now put number) at) (fill_of (run_of snaps.now put number) part wanted) → PutTold S.allows c seat.new.me.0.passes first (scx_at (run_of snaps.now put number) at) result }
+    ensures one { seat_steps seat.new.me.0.passes ≡ suc (seat_steps seat.old.me.0.passes) }
+    ensures told { (c : Call) (first : PutRun) → c.layout ≡ layout.now → c.number ≡ number → SeatPutWaits S.allows c seat.old.me.0.passes first (scx_at (fresh_put snaps.now put number) at) (fill_of (fresh_put snaps.now put number) part wanted) → SeatPutTold S.allows c seat.new.me.0.passes first (scx_at (fresh_put snaps.now put number) at) result }
 {
     let step = Step {
         kind: Kind::Fill,
         word: Word::Scx(put.scx, part),
-        deed: Deed::Store(wanted),
+        access: Access::Store(wanted),
     };
     let run = machine(snaps, put, number, at, PutAt::Scx);
     step_of::<S, PutRun>(words, layout, seat, number, &run, step)
@@ -86,19 +86,19 @@ fn fill<S: Shape>(
 fn fill_members<S: Shape>(
     words: &Words<S>,
     layout: &Layout,
-    seat: &mut Seat<u8, View>,
+    seat: &mut Seat<u8, SeatView>,
     number: u64,
     snaps: &[Snap],
     put: Put,
 )
     requires table { IsTableOf words.now.table.shared.table_id words.now.table.shared.key layout.now × (seat.old.table_id ≡ words.now.table.shared.table_id) }
     requires fits { length snaps.now ≤ 4 }
-    requires waits { (c : Call) × (first : PutRun) × (c.layout ≡ layout.now) × (c.number ≡ number) × PutWaits S.allows c seat.old.me.0.passes first (scx_at (run_of snaps.now put number) (ScxAt.Member MemberNo.First)) (fill_of (run_of snaps.now put number) (ScxWord.Member 0) (snap_at snaps.now 0).node.0) }
+    requires waits { (c : Call) × (first : PutRun) × (c.layout ≡ layout.now) × (c.number ≡ number) × SeatPutWaits S.allows c seat.old.me.0.passes first (scx_at (fresh_put snaps.now put number) (ScxAt.Member MemberIndex.First)) (fill_of (fresh_put snaps.now put number) (ScxWord.Member 0) (snap_at snaps.now 0).node.0) }
     ensures table { (seat.new.table_id ≡ seat.old.table_id) × (seat.new.me.1 ≡ seat.old.me.1) }
-    ensures steps { steps_of seat.new.me.0.passes ≤ steps_of seat.old.me.0.passes + 4 }
-    ensures waits { (c : Call) (first : PutRun) → c.layout ≡ layout.now → c.number ≡ number → PutWaits S.allows c seat.old.me.0.passes first (scx_at (run_of snaps.now put number) (ScxAt.Member MemberNo.First)) (fill_of (run_of snaps.now put number) (ScxWord.Member 0) (snap_at snaps.now 0).node.0) → PutWaits S.allows c seat.new.me.0.passes first (scx_at (run_of snaps.now put number) (ScxAt.Seen MemberNo.First)) (fill_of (run_of snaps.now put number) (ScxWord.Seen 0) (snap_at snaps.now 0).scx.0) }
+    ensures steps { seat_steps seat.new.me.0.passes ≤ seat_steps seat.old.me.0.passes + 4 }
+    ensures waits { (c : Call) (first : PutRun) → c.layout ≡ layout.now → c.number ≡ number → SeatPutWaits S.allows c seat.old.me.0.passes first (scx_at (fresh_put snaps.now put number) (ScxAt.Member MemberIndex.First)) (fill_of (fresh_put snaps.now put number) (ScxWord.Member 0) (snap_at snaps.now 0).node.0) → SeatPutWaits S.allows c seat.new.me.0.passes first (scx_at (fresh_put snaps.now put number) (ScxAt.Seen MemberIndex.First)) (fill_of (fresh_put snaps.now put number) (ScxWord.Seen 0) (snap_at snaps.now 0).scx.0) }
 {
-    let mut j = MemberNo::First;
+    let mut j = MemberIndex::First;
     loop {
         let at = ScxAt::Member { j };
         let part = ScxWord::Member(j.number());
@@ -116,19 +116,19 @@ fn fill_members<S: Shape>(
 fn fill_seen<S: Shape>(
     words: &Words<S>,
     layout: &Layout,
-    seat: &mut Seat<u8, View>,
+    seat: &mut Seat<u8, SeatView>,
     number: u64,
     snaps: &[Snap],
     put: Put,
 )
     requires table { IsTableOf words.now.table.shared.table_id words.now.table.shared.key layout.now × (seat.old.table_id ≡ words.now.table.shared.table_id) }
     requires fits { length snaps.now ≤ 4 }
-    requires waits { (c : Call) × (first : PutRun) × (c.layout ≡ layout.now) × (c.number ≡ number) × PutWaits S.allows c seat.old.me.0.passes first (scx_at (run_of snaps.now put number) (ScxAt.Seen MemberNo.First)) (fill_of (run_of snaps.now put number) (ScxWord.Seen 0) (snap_at snaps.now 0).scx.0) }
+    requires waits { (c : Call) × (first : PutRun) × (c.layout ≡ layout.now) × (c.number ≡ number) × SeatPutWaits S.allows c seat.old.me.0.passes first (scx_at (fresh_put snaps.now put number) (ScxAt.Seen MemberIndex.First)) (fill_of (fresh_put snaps.now put number) (ScxWord.Seen 0) (snap_at snaps.now 0).scx.0) }
     ensures table { (seat.new.table_id ≡ seat.old.table_id) × (seat.new.me.1 ≡ seat.old.me.1) }
-    ensures steps { steps_of seat.new.me.0.passes ≤ steps_of seat.old.me.0.passes + 4 }
-    ensures waits { (c : Call) (first : PutRun) → c.layout ≡ layout.now → c.number ≡ number → PutWaits S.allows c seat.old.me.0.passes first (scx_at (run_of snaps.now put number) (ScxAt.Seen MemberNo.First)) (fill_of (run_of snaps.now put number) (ScxWord.Seen 0) (snap_at snaps.now 0).scx.0) → PutWaits S.allows c seat.new.me.0.passes first (scx_at (run_of snaps.now put number) ScxAt.Call) (fill_of (run_of snaps.now put number) ScxWord.Call number) }
+    ensures steps { seat_steps seat.new.me.0.passes ≤ seat_steps seat.old.me.0.passes + 4 }
+    ensures waits { (c : Call) (first : PutRun) → c.layout ≡ layout.now → c.number ≡ number → SeatPutWaits S.allows c seat.old.me.0.passes first (scx_at (fresh_put snaps.now put number) (ScxAt.Seen MemberIndex.First)) (fill_of (fresh_put snaps.now put number) (ScxWord.Seen 0) (snap_at snaps.now 0).scx.0) → SeatPutWaits S.allows c seat.new.me.0.passes first (scx_at (fresh_put snaps.now put number) ScxAt.Call) (fill_of (fresh_put snaps.now put number) ScxWord.Call number) }
 {
-    let mut j = MemberNo::First;
+    let mut j = MemberIndex::First;
     loop {
         let at = ScxAt::Seen { j };
         let part = ScxWord::Seen(j.number());
@@ -146,22 +146,22 @@ fn fill_seen<S: Shape>(
 fn fill_value<S: Shape>(
     words: &Words<S>,
     layout: &Layout,
-    seat: &mut Seat<u8, View>,
+    seat: &mut Seat<u8, SeatView>,
     number: u64,
     snaps: &[Snap],
     put: Put,
 )
     requires table { IsTableOf words.now.table.shared.table_id words.now.table.shared.key layout.now × (seat.old.table_id ≡ words.now.table.shared.table_id) }
     requires fits { length snaps.now ≤ 4 }
-    requires begins { (c : Call) × (c.layout ≡ layout.now) × (c.number ≡ number) × PutBegins S.allows c seat.old.me.0.passes (run_of snaps.now put number) }
+    requires begins { (c : Call) × (c.layout ≡ layout.now) × (c.number ≡ number) × SeatPutBegins S.allows c seat.old.me.0.passes (fresh_put snaps.now put number) }
     ensures table { (seat.new.table_id ≡ seat.old.table_id) × (seat.new.me.1 ≡ seat.old.me.1) }
-    ensures one { steps_of seat.new.me.0.passes ≡ suc (steps_of seat.old.me.0.passes) }
-    ensures waits { (c : Call) → c.layout ≡ layout.now → c.number ≡ number → PutBegins S.allows c seat.old.me.0.passes (run_of snaps.now put number) → PutWaits S.allows c seat.new.me.0.passes (run_of snaps.now put number) (scx_at (run_of snaps.now put number) ScxAt.Plan) (fill_of (run_of snaps.now put number) ScxWord.Plan put.plan.0) }
+    ensures one { seat_steps seat.new.me.0.passes ≡ suc (seat_steps seat.old.me.0.passes) }
+    ensures waits { (c : Call) → c.layout ≡ layout.now → c.number ≡ number → SeatPutBegins S.allows c seat.old.me.0.passes (fresh_put snaps.now put number) → SeatPutWaits S.allows c seat.new.me.0.passes (fresh_put snaps.now put number) (scx_at (fresh_put snaps.now put number) ScxAt.Plan) (fill_of (fresh_put snaps.now put number) ScxWord.Plan put.plan.0) }
 {
     let step = Step {
         kind: Kind::Fill,
         word: Word::Node(put.fresh, NodeWord::Value),
-        deed: Deed::Store(put.value),
+        access: Access::Store(put.value),
     };
     let run = machine(snaps, put, number, ScxAt::Start, PutAt::Fill);
     step_of::<S, PutRun>(words, layout, seat, number, &run, step);
@@ -172,17 +172,17 @@ fn fill_value<S: Shape>(
 pub(crate) fn call<S: Shape>(
     words: &Words<S>,
     layout: &Layout,
-    seat: &mut Seat<u8, View>,
+    seat: &mut Seat<u8, SeatView>,
     number: u64,
     snaps: &[Snap],
     put: Put,
 ) -> Scx
     requires table { IsTableOf words.now.table.shared.table_id words.now.table.shared.key layout.now × (seat.old.table_id ≡ words.now.table.shared.table_id) }
     requires fits { length snaps.now ≤ 4 }
-    requires begins { (c : Call) × (c.layout ≡ layout.now) × (c.number ≡ number) × PutBegins S.allows c seat.old.me.0.passes (run_of snaps.now put number) }
+    requires begins { (c : Call) × (c.layout ≡ layout.now) × (c.number ≡ number) × SeatPutBegins S.allows c seat.old.me.0.passes (fresh_put snaps.now put number) }
     ensures table { (seat.new.table_id ≡ seat.old.table_id) × (seat.new.me.1 ≡ seat.old.me.1) }
-    ensures steps { steps_of seat.new.me.0.passes ≤ steps_of seat.old.me.0.passes + 40 }
-    ensures ends { (c : Call) → c.layout ≡ layout.now → c.number ≡ number → PutBegins S.allows c seat.old.me.0.passes (run_of snaps.now put number) → (m : PutRun) × PutEnds S.allows c seat.new.me.0.passes (run_of snaps.now put number) m result }
+    ensures steps { seat_steps seat.new.me.0.passes ≤ seat_steps seat.old.me.0.passes + 40 }
+    ensures ends { (c : Call) → c.layout ≡ layout.now → c.number ≡ number → SeatPutBegins S.allows c seat.old.me.0.passes (fresh_put snaps.now put number) → (m : PutRun) × SeatPutEnds S.allows c seat.new.me.0.passes (fresh_put snaps.now put number) m result }
 {
     fill_value(words, layout, seat, number, snaps, put);
     let plan = put.plan.0;

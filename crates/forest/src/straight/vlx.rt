@@ -1,14 +1,14 @@
 //! VLX.
 ghost use Rattle.std.specs.Prelude.{◌≡◌, ◌≤◌, ◌+◌, length};
 ghost use Rattle.arena.specs.Machines.{Call};
-ghost use Rattle.forest.specs.Kept.{IsTableOf};
-ghost use Rattle.forest.specs.Courses.{steps_of};
-ghost use Rattle.forest.specs.StraightVlx.{VlxBegins, VlxEnds};
+ghost use Rattle.forest.specs.TableRule.{IsTableOf};
+ghost use Rattle.forest.specs.Traces.{seat_steps};
+ghost use Rattle.forest.specs.StraightVlx.{SeatVlxBegins, SeatVlxEnds};
 
 use crate::steps::step_of;
-use crate::view::View;
+use crate::view::SeatView;
 use crate::words::Words;
-use arena::{Deed, Kind, Layout, NodeWord, ScxNo, Shape, Step, Word};
+use arena::{Access, Kind, Layout, NodeWord, ScxNo, Shape, Step, Word};
 use atomic_table::Seat;
 use prims::{SnapList, Vlx, VlxRun};
 
@@ -18,15 +18,15 @@ use prims::{SnapList, Vlx, VlxRun};
 pub(crate) fn call<S: Shape, L: SnapList + Copy>(
     words: &Words<S>,
     layout: &Layout,
-    seat: &mut Seat<u8, View>,
+    seat: &mut Seat<u8, SeatView>,
     number: u64,
     snaps: L,
 ) -> Vlx
     requires table { IsTableOf words.now.table.shared.table_id words.now.table.shared.key layout.now × (seat.old.table_id ≡ words.now.table.shared.table_id) }
-    requires begins { (c : Call) × (c.layout ≡ layout.now) × (c.number ≡ number) × VlxBegins L.list S.allows c seat.old.me.0.passes snaps }
+    requires begins { (c : Call) × (c.layout ≡ layout.now) × (c.number ≡ number) × SeatVlxBegins L.list S.allows c seat.old.me.0.passes snaps }
     ensures table { (seat.new.table_id ≡ seat.old.table_id) × (seat.new.me.1 ≡ seat.old.me.1) }
-    ensures ends { (c : Call) → c.layout ≡ layout.now → c.number ≡ number → VlxBegins L.list S.allows c seat.old.me.0.passes snaps → VlxEnds L.list S.allows c seat.new.me.0.passes snaps result }
-    ensures steps { steps_of seat.new.me.0.passes ≤ steps_of seat.old.me.0.passes + length (L.list snaps) }
+    ensures ends { (c : Call) → c.layout ≡ layout.now → c.number ≡ number → SeatVlxBegins L.list S.allows c seat.old.me.0.passes snaps → SeatVlxEnds L.list S.allows c seat.new.me.0.passes snaps result }
+    ensures steps { seat_steps seat.new.me.0.passes ≤ seat_steps seat.old.me.0.passes + length (L.list snaps) }
 {
     let layout = *layout;
     for index in 0..snaps.len() {
@@ -34,7 +34,7 @@ pub(crate) fn call<S: Shape, L: SnapList + Copy>(
         let step = Step {
             kind: Kind::LoadInfo,
             word: Word::Node(snap.node, NodeWord::Info),
-            deed: Deed::Load,
+            access: Access::Load,
         };
         let asked = index + 1;
         let run = VlxRun { snaps, asked };

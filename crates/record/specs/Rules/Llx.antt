@@ -6,30 +6,30 @@ use Rattle.arena.specs.History.{History}
 use Rattle.arena.specs.Log.{log, is_final}
 use Rattle.record.specs.declared.record.Answer.{Answer}
 use Rattle.record.specs.declared.record.Answer.TheVariants.{Snapshot, Finalized, Fail}
-use Rattle.record.specs.Answers.{IsSnapshotAt, HasFailed}
+use Rattle.record.specs.Answers.{IsSnapshotAt, IsFailOf}
 use Rattle.record.specs.Rules.{Rules}
 use Rattle.record.specs.Snapshots.{snapshot_of}
 
 -- the answers of an LLX that has run: it tells something, or fails
-abbrev pub llx_after_step : Answer → Type 0
-llx_after_step (Snapshot left right) = Unit {0}
-llx_after_step Finalized = Unit {0}
-llx_after_step (Fail node scx) = Unit {0}
-llx_after_step _ = ⊥
+abbrev pub LlxAfterStep : Answer → Type 0
+LlxAfterStep (Snapshot left right) = Unit {0}
+LlxAfterStep Finalized = Unit {0}
+LlxAfterStep (Fail node scx) = Unit {0}
+LlxAfterStep _ = ⊥
 
 -- an LLX renews or drops the client's snapshot of its cell
 abbrev pub llx_linked : ℕ → Answer → History → ℕ → Option History → Option History
 llx_linked cell answer now n old = cond (eqb cell n) (snapshot_of answer now) old
 
 -- what its answers say of the cell
-abbrev pub llx_right : ℕ → Layout → ℕ → History → History → (ℕ → Option History) → Answer → Type 0
+abbrev pub LlxIsRight : ℕ → Layout → ℕ → History → History → (ℕ → Option History) → Answer → Type 0
 -- these are its fields now, where it is not final
-llx_right cell lay c now start linked (Snapshot left right) = IsSnapshotAt lay now cell left.0 right.0
+LlxIsRight cell lay c now start linked (Snapshot left right) = IsSnapshotAt lay now cell left.0 right.0
 -- the cell is final now
-llx_right cell lay c now start linked Finalized = is_final (log lay now) cell ≡ true
+LlxIsRight cell lay c now start linked Finalized = is_final (log lay now) cell ≡ true
 -- another client's SCX-record was in the way
-llx_right cell lay c now start linked (Fail node scx) = HasFailed lay c now start cell node.0 scx.0
-llx_right cell lay c now start linked _ = ⊥
+LlxIsRight cell lay c now start linked (Fail node scx) = IsFailOf lay c now start cell node.0 scx.0
+LlxIsRight cell lay c now start linked _ = ⊥
 
 -- at most 64 steps, none of them a fill; it never answers at once, and puts nothing into the log
 abbrev pub llx_rules : ℕ → Rules
@@ -37,8 +37,8 @@ llx_rules cell = record {
   most_steps = λ taken. 64;
   MayMake = λ kind. kind ≢ Fill;
   IsAtOnce = λ answer. ⊥;
-  IsAfterStep = llx_after_step;
+  IsAfterStep = LlxAfterStep;
   linked_then = llx_linked cell;
-  IsRight = llx_right cell;
+  IsRight = LlxIsRight cell;
   IsEntryFor = λ lay c before start linked e. ⊥;
 }

@@ -14,16 +14,16 @@ use Rattle.record.specs.Snapshots.{AreLinked, IsFirstUnlinked}
 use Rattle.record.specs.Updates.{IsEntryOver}
 
 -- an SCX may be refused before its first step
-abbrev pub scx_at_once : Answer → Type 0
-scx_at_once (Unlinked node) = Unit {0}
-scx_at_once (Full what left) = Unit {0}
-scx_at_once _ = ⊥
+abbrev pub ScxAtOnce : Answer → Type 0
+ScxAtOnce (Unlinked node) = Unit {0}
+ScxAtOnce (Full what left) = Unit {0}
+ScxAtOnce _ = ⊥
 
 -- an SCX that has run is done or lost
-abbrev pub scx_after_step : Answer → Type 0
-scx_after_step Done = Unit {0}
-scx_after_step (Lost node scx) = Unit {0}
-scx_after_step _ = ⊥
+abbrev pub ScxAfterStep : Answer → Type 0
+ScxAfterStep Done = Unit {0}
+ScxAfterStep (Lost node scx) = Unit {0}
+ScxAfterStep _ = ⊥
 
 -- whether this is the answer of an SCX that has run
 abbrev pub has_run : Answer → Bool
@@ -36,29 +36,29 @@ abbrev pub scx_linked : Update → Answer → History → ℕ → Option History
 scx_linked update answer now n old = cond (has_run answer && has (update_cells update) n) None old
 
 -- what its answers say; of one that is done, its entry says all the rest
-abbrev pub scx_right : Update → Layout → ℕ → History → History → (ℕ → Option History) → Answer → Type 0
+abbrev pub ScxIsRight : Update → Layout → ℕ → History → History → (ℕ → Option History) → Answer → Type 0
 -- the first of its cells of which the client keeps no snapshot
-scx_right update lay c now start linked (Unlinked node) = IsFirstUnlinked linked (update_cells update) node.0
+ScxIsRight update lay c now start linked (Unlinked node) = IsFirstUnlinked linked (update_cells update) node.0
 -- all snapshots are there, and the share has none left of this
-scx_right update lay c now start linked (Full what left) = AreLinked linked (update_cells update) × IsEmpty lay c now what left
+ScxIsRight update lay c now start linked (Full what left) = AreLinked linked (update_cells update) × IsEmpty lay c now what left
 -- another client's SCX-record has come to this cell since its snapshot
-scx_right update lay c now start linked (Lost node scx) = AreLinked linked (update_cells update) × HasRoom lay c start × IsInTheWay lay c now start Freeze (update_cells update) node.0 scx.0 (λ moment. linked node.0 ≡ Some moment)
-scx_right update lay c now start linked Done = HasRoom lay c start
-scx_right update lay c now start linked _ = ⊥
+ScxIsRight update lay c now start linked (Lost node scx) = AreLinked linked (update_cells update) × HasRoom lay c start × IsInTheWay lay c now start Freeze (update_cells update) node.0 scx.0 (λ moment. linked node.0 ≡ Some moment)
+ScxIsRight update lay c now start linked Done = HasRoom lay c start
+ScxIsRight update lay c now start linked _ = ⊥
 
 -- its entry covers and finalizes the cells asked for and sets the field; just before it each of
 -- them was as the client's snapshot found it
-abbrev pub scx_entry : Update → Layout → ℕ → History → History → (ℕ → Option History) → Entered → Type 0
-scx_entry update lay c before start linked e = IsEntryOver lay c before e (update_cells update) (update_finalize update) (update_field update) (update_value update) × AreUnchanged lay before linked (update_cells update)
+abbrev pub IsScxEntry : Update → Layout → ℕ → History → History → (ℕ → Option History) → Entered → Type 0
+IsScxEntry update lay c before start linked e = IsEntryOver lay c before e (update_cells update) (update_finalize update) (update_field update) (update_value update) × AreUnchanged lay before linked (update_cells update)
 
 -- at most 40 steps, of any kind
 abbrev pub scx_rules : Update → Rules
 scx_rules update = record {
   most_steps = λ taken. 40;
   MayMake = λ kind. Unit {0};
-  IsAtOnce = scx_at_once;
-  IsAfterStep = scx_after_step;
+  IsAtOnce = ScxAtOnce;
+  IsAfterStep = ScxAfterStep;
   linked_then = scx_linked update;
-  IsRight = scx_right update;
-  IsEntryFor = scx_entry update;
+  IsRight = ScxIsRight update;
+  IsEntryFor = IsScxEntry update;
 }

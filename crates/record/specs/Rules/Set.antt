@@ -3,23 +3,23 @@ use Rattle.std.specs.Prelude.{◌≡◌, ℕ, true, false, cond, eqb, [], ◌∷
 use Rattle.arena.specs.declared.layout.Layout.{Layout}
 use Rattle.arena.specs.declared.word.Side.{Side}
 use Rattle.arena.specs.declared.step.Kind.TheVariants.{Freeze}
-use Rattle.arena.specs.History.{History, value, EndsWith}
+use Rattle.arena.specs.History.{History, value, Extends}
 use Rattle.arena.specs.Log.{Entry as Entered, log, is_final}
 use Rattle.record.specs.declared.record.Answer.{Answer}
 use Rattle.record.specs.declared.record.Answer.TheVariants.{Finalized, Fail, Done, Lost, Full}
-use Rattle.record.specs.Answers.{HasFailed, IsUnchanged, IsInTheWay, IsEmpty, HasRoom}
+use Rattle.record.specs.Answers.{IsFailOf, IsUnchanged, IsInTheWay, IsEmpty, HasRoom}
 use Rattle.record.specs.Rules.{Rules}
 use Rattle.record.specs.Snapshots.{snapshot_of, IsLastLook}
 use Rattle.record.specs.Updates.{IsEntryOver}
 
 -- the answers of a `set`, which is an LLX and, if that gives a snapshot, an SCX over it
-abbrev pub set_after_step : Answer → Type 0
-set_after_step Finalized = Unit {0}
-set_after_step (Fail node scx) = Unit {0}
-set_after_step (Full what left) = Unit {0}
-set_after_step Done = Unit {0}
-set_after_step (Lost node scx) = Unit {0}
-set_after_step _ = ⊥
+abbrev pub SetAfterStep : Answer → Type 0
+SetAfterStep Finalized = Unit {0}
+SetAfterStep (Fail node scx) = Unit {0}
+SetAfterStep (Full what left) = Unit {0}
+SetAfterStep Done = Unit {0}
+SetAfterStep (Lost node scx) = Unit {0}
+SetAfterStep _ = ⊥
 
 -- a `set` drops the client's snapshot of its cell; one
 -- whose share is too small keeps that of its LLX
@@ -27,22 +27,22 @@ abbrev pub set_linked : ℕ × Side → Answer → History → ℕ → Option Hi
 set_linked field answer now n old = cond (eqb field.0 n) (snapshot_of answer now) old
 
 -- what its answers say of the cell; of one that is done, its entry says all the rest
-abbrev pub set_right : ℕ × Side → ℕ → Layout → ℕ → History → History → (ℕ → Option History) → Answer → Type 0
+abbrev pub SetIsRight : ℕ × Side → ℕ → Layout → ℕ → History → History → (ℕ → Option History) → Answer → Type 0
 -- the cell is final now
-set_right field value lay c now start linked Finalized = is_final (log lay now) field.0 ≡ true
+SetIsRight field value lay c now start linked Finalized = is_final (log lay now) field.0 ≡ true
 -- another client's SCX-record was in the way of its LLX
-set_right field value lay c now start linked (Fail node scx) = HasFailed lay c now start field.0 node.0 scx.0
+SetIsRight field value lay c now start linked (Fail node scx) = IsFailOf lay c now start field.0 node.0 scx.0
 -- the share has none left of this, and the cell is not final
-set_right field value lay c now start linked (Full what left) = IsEmpty lay c now what left × (is_final (log lay now) field.0 ≡ false)
+SetIsRight field value lay c now start linked (Full what left) = IsEmpty lay c now what left × (is_final (log lay now) field.0 ≡ false)
 -- another client's SCX-record has come to the cell since the snapshot of its own LLX
-set_right field value lay c now start linked (Lost node scx) = HasRoom lay c start × IsInTheWay lay c now start Freeze (field.0 ∷ []) node.0 scx.0 (λ moment. IsLastLook c now start moment field.0 × (is_final (log lay moment) field.0 ≡ false))
-set_right field value lay c now start linked Done = HasRoom lay c start
-set_right field value lay c now start linked _ = ⊥
+SetIsRight field value lay c now start linked (Lost node scx) = HasRoom lay c start × IsInTheWay lay c now start Freeze (field.0 ∷ []) node.0 scx.0 (λ moment. IsLastLook c now start moment field.0 × (is_final (log lay moment) field.0 ≡ false))
+SetIsRight field value lay c now start linked Done = HasRoom lay c start
+SetIsRight field value lay c now start linked _ = ⊥
 
 -- its entry covers the one cell and sets its field; just before it the cell was as the snapshot of
 -- the LLX in the call itself found it
-abbrev pub set_entry : ℕ × Side → ℕ → Layout → ℕ → History → History → (ℕ → Option History) → Entered → Type 0
-set_entry field x lay c before start linked e = IsEntryOver lay c before e (field.0 ∷ []) [] field x × ((moment : History) × EndsWith before moment × IsLastLook c before start moment field.0 × IsUnchanged lay before moment field.0)
+abbrev pub IsSetEntry : ℕ × Side → ℕ → Layout → ℕ → History → History → (ℕ → Option History) → Entered → Type 0
+IsSetEntry field x lay c before start linked e = IsEntryOver lay c before e (field.0 ∷ []) [] field x × ((moment : History) × Extends before moment × IsLastLook c before start moment field.0 × IsUnchanged lay before moment field.0)
 
 -- at most the steps of an LLX and those of an SCX, of any kind; it never answers at once
 abbrev pub set_rules : ℕ × Side → ℕ → Rules
@@ -50,8 +50,8 @@ set_rules field value = record {
   most_steps = λ taken. 104;
   MayMake = λ kind. Unit {0};
   IsAtOnce = λ answer. ⊥;
-  IsAfterStep = set_after_step;
+  IsAfterStep = SetAfterStep;
   linked_then = set_linked field;
-  IsRight = set_right field value;
-  IsEntryFor = set_entry field value;
+  IsRight = SetIsRight field value;
+  IsEntryFor = IsSetEntry field value;
 }

@@ -12,39 +12,39 @@ use Rattle.record.specs.Snapshots.{AreLinked, IsFirstUnlinked}
 use Rattle.script.specs.declared.cells.Cells.{Cells}
 
 -- a VLX may be refused before its first step
-abbrev pub vlx_at_once : Answer → Type 0
-vlx_at_once (Unlinked node) = Unit {0}
-vlx_at_once _ = ⊥
+abbrev pub VlxAtOnce : Answer → Type 0
+VlxAtOnce (Unlinked node) = Unit {0}
+VlxAtOnce _ = ⊥
 
 -- a VLX that has run tells whether its cells still are as found
-abbrev pub vlx_after_step : Answer → Type 0
-vlx_after_step Same = Unit {0}
-vlx_after_step (Changed node scx) = Unit {0}
-vlx_after_step _ = ⊥
+abbrev pub VlxAfterStep : Answer → Type 0
+VlxAfterStep Same = Unit {0}
+VlxAfterStep (Changed node scx) = Unit {0}
+VlxAfterStep _ = ⊥
 
 -- a VLX leaves all the client's snapshots
 abbrev pub vlx_linked : Answer → History → ℕ → Option History → Option History
 vlx_linked answer now n old = old
 
 -- what its answers say
-abbrev pub vlx_right : Cells → Layout → ℕ → History → History → (ℕ → Option History) → Answer → Type 0
+abbrev pub VlxIsRight : Cells → Layout → ℕ → History → History → (ℕ → Option History) → Answer → Type 0
 -- the first of its cells of which the client keeps no snapshot
-vlx_right cells lay c now start linked (Unlinked node) = IsFirstUnlinked linked (cells_of cells) node.0
+VlxIsRight cells lay c now start linked (Unlinked node) = IsFirstUnlinked linked (cells_of cells) node.0
 -- as the call began, each cell was as the client's snapshot found it
-vlx_right cells lay c now start linked Same = AreUnchanged lay start linked (cells_of cells)
+VlxIsRight cells lay c now start linked Same = AreUnchanged lay start linked (cells_of cells)
 -- another client's SCX-record has come to this cell since its snapshot, which may have aborted; as
 -- the call began, the cells before it were as their snapshots found them
-vlx_right cells lay c now start linked (Changed node scx) = AreLinked linked (cells_of cells) × IsInTheWay lay c now start LoadInfo (cells_of cells) node.0 scx.0 (λ moment. linked node.0 ≡ Some moment) × IsFirstChanged lay start linked (cells_of cells) node.0
-vlx_right cells lay c now start linked _ = ⊥
+VlxIsRight cells lay c now start linked (Changed node scx) = AreLinked linked (cells_of cells) × IsInTheWay lay c now start LoadInfo (cells_of cells) node.0 scx.0 (λ moment. linked node.0 ≡ Some moment) × IsFirstChanged lay start linked (cells_of cells) node.0
+VlxIsRight cells lay c now start linked _ = ⊥
 
 -- at most one step a cell, each a load of its info; it puts nothing into the log
 abbrev pub vlx_rules : Cells → Rules
 vlx_rules cells = record {
   most_steps = λ taken. length (cells_of cells);
   MayMake = λ kind. kind ≡ LoadInfo;
-  IsAtOnce = vlx_at_once;
-  IsAfterStep = vlx_after_step;
+  IsAtOnce = VlxAtOnce;
+  IsAfterStep = VlxAfterStep;
   linked_then = vlx_linked;
-  IsRight = vlx_right cells;
+  IsRight = VlxIsRight cells;
   IsEntryFor = λ lay c before start linked e. ⊥;
 }

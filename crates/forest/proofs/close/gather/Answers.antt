@@ -1,6 +1,6 @@
 use Rattle.std.proofs.Common.{List, [], ◌∷◌, ◌++◌, inl, refl, sym, ◌∙◌, ap, subst, append_assoc}
-use Rattle.forest.specs.Passes.{Sight, ground, AreOf}
-use Rattle.forest.specs.Gathered.{AreIn}
+use Rattle.forest.specs.Passes.{PassView, ground, AreOf}
+use Rattle.forest.specs.JoinedSeats.{AreIn}
 use Rattle.forest.proofs.Closes.{in_more, of_append}
 use Rattle.forest.proofs.close.gather.Goals as goal
 
@@ -22,7 +22,7 @@ seat_of-own-requires-clause-pass g c = (of_append (ground c.args.words.now.table
 pub loop-pass-preserved : goal.loop-pass-preserved
 loop-pass-preserved g c = let k = c.seat_of-own.ensures.pass in let inv = c.loop-pass.invariant in record {
   gone = c.in-Some.pass ∷ inv.gone;
-  were = inv.were ∙ ap (λ (l : List Sight). l ++ inv.gone) c.in-Some.ensures.items ∙ append_assoc c.pop-in-loop-pass.new.self.items (c.in-Some.pass ∷ []) inv.gone;
+  were = inv.were ∙ ap (λ (l : List PassView). l ++ inv.gone) c.in-Some.ensures.items ∙ append_assoc c.pop-in-loop-pass.new.self.items (c.in-Some.pass ∷ []) inv.gone;
   are_in = in_more c.in-Some.pass inv.gone c.loop-pass.all.me.0.passes c.seat_of-own.result.me.0.passes c.take_in.new.seat.me.0.passes k.0 k.1 c.take_in.ensures.passes k.2 inv.are_in;
   left = (of_append (ground c.args.words.now.table.shared.table_id c.args.layout.now) c.pop-in-loop-pass.new.self.items (c.in-Some.pass ∷ []) (subst (λ l. AreOf (ground c.args.words.now.table.shared.table_id c.args.layout.now) l) c.in-Some.ensures.items inv.left)).0;
   table = c.take_in.ensures.table.0 ∙ inv.table;

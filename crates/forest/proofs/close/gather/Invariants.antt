@@ -1,11 +1,11 @@
 use Rattle.std.proofs.Common.{◌≡◌, ◌++◌, List, vec_len}
-use Rattle.forest.specs.Passes.{Sight, AreOf, ground}
-use Rattle.forest.specs.Gathered.{AreIn}
+use Rattle.forest.specs.Passes.{PassView, AreOf, ground}
+use Rattle.forest.specs.JoinedSeats.{AreIn}
 use Rattle.forest.proofs.close.gather.Given as goal
 
 abbrev pub invariant-loop-pass : goal.invariant-loop-pass
 invariant-loop-pass g l = record {
-  gone : List Sight;
+  gone : List PassView;
   were : l.fn.passes.items ≡ l.passes.items ++ gone;
   are_in : AreIn g.S.Shape.allows gone l.all.me.0.passes;
   left : AreOf (ground l.words.table.shared.table_id l.layout) l.passes.items;

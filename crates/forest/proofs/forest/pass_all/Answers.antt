@@ -1,7 +1,7 @@
 use Rattle.std.proofs.Common.{rules, ◌≡◌, ◌∙◌, slice_get, sym, ap}
-use Rattle.forest.specs.Kept.{rest_of, first_of}
-use Rattle.forest.specs.Passes.{Sight, ground, beginner}
-use Rattle.prims.proofs.Lists.{get_more}
+use Rattle.forest.specs.TableRule.{rest_of, first_of}
+use Rattle.forest.specs.Passes.{PassView, ground, new_pass}
+use Rattle.prims.proofs.Lemmas.{get_more}
 use Rattle.forest.proofs.Openings.{first_left, rest_left}
 use Rattle.forest.proofs.forest.pass_all.Goals as goal
 
@@ -11,10 +11,10 @@ new-requires-clause-seat c = (c.deal-own.ensures.passes.1 ∙ ap first_of c.loop
 pub loop-number-preserved : goal.loop-number-preserved
 loop-number-preserved c = record {
   count = search rules;
-  each = λ j d get. get_more (λ k (d : Sight). d ≡ beginner (ground c.args.words.now.table.shared.table_id c.args.layout.now) k) c.loop-number.passes.items c.new.result c.loop-number.number
+  each = λ j d get. get_more (λ k (d : PassView). d ≡ new_pass (ground c.args.words.now.table.shared.table_id c.args.layout.now) k) c.loop-number.passes.items c.new.result c.loop-number.number
       (search rules)
       c.loop-number.invariant.each
-      (c.new.ensures ∙ ap (λ t. beginner (ground t c.args.layout.now) c.loop-number.number) (c.deal-own.ensures.table.1 ∙ c.loop-number.invariant.table))
+      (c.new.ensures ∙ ap (λ t. new_pass (ground t c.args.layout.now) c.loop-number.number) (c.deal-own.ensures.table.1 ∙ c.loop-number.invariant.table))
       j d (sym (ap (λ l. slice_get l j) c.in_ok-push.ensures.items) ∙ get);
   table = c.deal-own.ensures.table.0 ∙ c.loop-number.invariant.table;
   bare = c.deal-own.ensures.bare.0 ∙ c.loop-number.invariant.bare;

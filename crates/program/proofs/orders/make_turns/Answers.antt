@@ -1,5 +1,5 @@
 use Rattle.std.proofs.Common.{arith}
-use Rattle.player.proofs.TurnsMore.{no_turns, turn_more, one_more}
+use Rattle.player.proofs.Lemmas.{no_turns, turn_more, one_more}
 use Rattle.program.proofs.orders.make_turns.Goals as goal
 
 pub loop-init : goal.loop-init

@@ -3,4 +3,4 @@ use Rattle.program.proofs.play.play_over.Goals as goal
 
 pub returns-in-Err-clause-deserved : goal.returns-in-Err-clause-deserved
 returns-in-Err-clause-deserved g c said ordered script_tells schedule_tells one =
-    (c.in-Err.fault, sym c.tell.ensures ∙ one, c.in-Err.ensures.deserved said ordered script_tells schedule_tells)
+    (c.in-Err.fault, sym c.print.ensures ∙ one, c.in-Err.ensures.deserved said ordered script_tells schedule_tells)

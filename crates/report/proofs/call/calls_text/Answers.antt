@@ -2,7 +2,7 @@ use Rattle.std.proofs.Common.{arith, ◌≡◌, ◌+◌, ◌-◌, ◌^◌, ◌<�
 use Rattle.std.proofs.KnownBytes.{Appends-trans}
 use Rattle.std.proofs.lemmas.List.{take_more, take_all}
 use Rattle.std.specs.Io.KnownBytes.{Appends}
-use Rattle.report.specs.Report.{call_row, call_rows, calls_by}
+use Rattle.report.specs.Report.{reported_call_row, call_rows, calls_by}
 use Rattle.texts.specs.Pages.{line_of, page_text, rows_text}
 use Rattle.report.proofs.Counted.{counted_more}
 use Rattle.report.proofs.CallRows.{call_text_more, calls_before_length, calls_before_more, made_text, no_call_text, so_on_ok}
@@ -31,7 +31,7 @@ loop-call-preserved c =
           let before = reverse done ++ earlier in
           let number : c.in_ok-number.number ≡ calls_by call.client.0 before = c.in_ok-number.ensures.before ∙ inv.counted earlier counted fits call.client.0 in
           let text = rows_text (call_rows earlier done) in
-          let line = line_of (call_row before call) in
+          let line = line_of (reported_call_row before call) in
           let added : Appends (page_text c.loop-call.page) (page_text c.call_line.new.page) line = rw (← number) c.in_ok-call_line.ensures.line in
           rw (now, call_text_more earlier done call) (Appends-trans (Some []) (page_text c.loop-call.page) (page_text c.call_line.new.page) text line (inv.rows earlier counted fits) added);
       counted = λ earlier counted fits.

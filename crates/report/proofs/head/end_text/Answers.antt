@@ -1,6 +1,6 @@
 use Rattle.std.proofs.Common.{subst, ◌≡◌, [], ◌∷◌, IfOk, Some, append-nil, rules}
 use Rattle.std.specs.Io.KnownBytes.{Keeps}
-use Rattle.report.specs.Report.{end_row}
+use Rattle.report.specs.Report.{report_end_row}
 use Rattle.texts.specs.Pages.{page_row, page_text, rows_text}
 use Rattle.report.proofs.head.end_text.Goals as goal
 
@@ -8,6 +8,6 @@ pub returns : goal.returns
 unfolding rows_text
 returns c =
     let lines = c.args.lines.now in
-    let row : page_row c.number-3.new.self ≡ end_row lines = search rules in
-    let whole : page_text c.end_line.new.self ≡ Some (rows_text (end_row lines ∷ [])) = search (rules, append-nil) in
+    let row : page_row c.number-3.new.self ≡ report_end_row lines = search rules in
+    let whole : page_text c.end_line.new.self ≡ Some (rows_text (report_end_row lines ∷ [])) = search (rules, append-nil) in
     subst (λ known. IfOk c.into_text.result (λ text. Keeps known (Some text.items))) whole c.into_text.ensures

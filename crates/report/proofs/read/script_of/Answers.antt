@@ -1,7 +1,7 @@
 use Rattle.std.proofs.Common.{arith, ◌≡◌, [], ◌∷◌, ◌∙◌, ap, map, rules, subst, sym}
-use Rattle.script.proofs.OfCells.{told_by_some}
+use Rattle.script.proofs.Lemmas.{told_by_some}
 use Rattle.script.specs.Rows.{limits_row}
-use Rattle.texts.specs.Reads.{Stands, last_row}
+use Rattle.texts.specs.Reads.{IsAtRow, last_row}
 use Rattle.report.specs.Report.{call_rows, title_row}
 use Rattle.texts.specs.Pages.{seven}
 use Rattle.report.proofs.read.script_of.Goals as goal
@@ -20,6 +20,6 @@ returns-clause-rows g c = λ bytes none.
     let limits : last_row c.next_row-2.new.rows ≡ seven (limits_row c.in-Some-limits_of.limits) = sym (c.row_fields-2.ensures second.row.0) ∙ c.in-Some-limits_of.ensures.row in
     let third = c.in_ok-next_row-3.ensures bytes (last_row c.next_row.new.rows ∷ last_row c.next_row-2.new.rows ∷ []) second.read in
     let calls = map seven (call_rows [] c.in_ok-calls.calls.items) in
-    subst (λ row. Stands g.R.Read.remaining bytes (row ∷ seven (limits_row c.in-Some-limits_of.limits) ∷ calls) 7 c.calls_of.new.rows) title
-    (subst (λ row. Stands g.R.Read.remaining bytes (last_row c.next_row.new.rows ∷ row ∷ calls) 7 c.calls_of.new.rows) limits
+    subst (λ row. IsAtRow g.R.Read.remaining bytes (row ∷ seven (limits_row c.in-Some-limits_of.limits) ∷ calls) 7 c.calls_of.new.rows) title
+    (subst (λ row. IsAtRow g.R.Read.remaining bytes (last_row c.next_row.new.rows ∷ row ∷ calls) 7 c.calls_of.new.rows) limits
     (c.in_ok-calls.ensures.rows bytes (last_row c.next_row.new.rows ∷ last_row c.next_row-2.new.rows ∷ []) third))

@@ -5,7 +5,7 @@ use Rattle.std.specs.Result.{is_ok}
 use Rattle.arena.specs.declared.limits.Mode.TheVariants.{Records}
 use Rattle.script.specs.declared.command.Call.{Call}
 use Rattle.report.specs.Counts.{HasCounted}
-use Rattle.texts.specs.Reads.{Stands, last_row}
+use Rattle.texts.specs.Reads.{IsAtRow, last_row}
 use Rattle.report.specs.Report.{call_rows}
 use Rattle.texts.specs.Pages.{seven}
 use Rattle.report.proofs.Reading.{call_read}
@@ -38,7 +38,7 @@ loop-layout-preserved g c =
       rows = λ bytes before start.
           let here = inv.rows bytes before start in
           let row = call_read before calls call (last_row c.loop-layout.rows) (c.in_ok-call.ensures.row (reverse calls) inv.counted here.row.0) in
-          subst (λ rows. Stands g.R.Read.remaining bytes rows 7 c.next_row.new.rows)
+          subst (λ rows. IsAtRow g.R.Read.remaining bytes rows 7 c.next_row.new.rows)
           (row ∙ ap (λ all. before ++ map seven (call_rows [] all)) (sym items))
           (c.in_ok-next_row.ensures bytes _ here.read);
     }

@@ -1,7 +1,7 @@
 use Rattle.std.proofs.Common.{◌≡◌, ◌<◌, ◌≤◌, ℕ, ◌-◌, All, List, [], ◌++◌, map, reverse, vec_len}
 use Rattle.arena.specs.declared.limits.Mode.TheVariants.{Records}
 use Rattle.report.specs.Counts.{HasCounted}
-use Rattle.texts.specs.Reads.{Stands}
+use Rattle.texts.specs.Reads.{IsAtRow}
 use Rattle.report.specs.Report.{call_rows}
 use Rattle.texts.specs.Pages.{seven}
 use Rattle.report.proofs.read_call.calls_of.Given as goal
@@ -11,8 +11,8 @@ invariant-loop-layout g l = record {
   few : vec_len l.calls ≤ 65536;
   accepted : All (λ call. (call.client.0 < l.layout.passes) × (l.layout.mode ≡ Records)) l.calls.items;
   counted : HasCounted l.counts (reverse l.calls.items);
-  rows : (bytes : List ℕ) (before : List (List (List ℕ))) → Stands g.R.Read.remaining bytes before 7 l.fn.rows
-      → Stands g.R.Read.remaining bytes (before ++ map seven (call_rows [] l.calls.items)) 7 l.rows;
+  rows : (bytes : List ℕ) (before : List (List (List ℕ))) → IsAtRow g.R.Read.remaining bytes before 7 l.fn.rows
+      → IsAtRow g.R.Read.remaining bytes (before ++ map seven (call_rows [] l.calls.items)) 7 l.rows;
 }
 
 abbrev pub decreases-loop-layout : goal.decreases-loop-layout

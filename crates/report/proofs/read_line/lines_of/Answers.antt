@@ -3,7 +3,7 @@ use Rattle.std.proofs.lemmas.List.{length-reverse, reverse-append}
 use Rattle.std.specs.Result.{is_ok}
 use Rattle.report.specs.Counts.{HasCountedReplies}
 use Rattle.report.specs.Numbered.{AreNumbered}
-use Rattle.texts.specs.Reads.{Stands, last_row}
+use Rattle.texts.specs.Reads.{IsAtRow, last_row}
 use Rattle.report.specs.Report.{line_row}
 use Rattle.texts.specs.Pages.{seven}
 use Rattle.report.proofs.Counted.{numbered_more}
@@ -25,7 +25,7 @@ loop-rows-preserved g c =
       rows = λ bytes before start.
           let here = inv.rows bytes before start in
           let row = line_read before lines line (last_row c.loop-rows.rows) (c.in_ok-line.ensures.row here.row.0) in
-          subst (λ rows. Stands g.R.Read.remaining bytes rows 7 c.next_row.new.rows)
+          subst (λ rows. IsAtRow g.R.Read.remaining bytes rows 7 c.next_row.new.rows)
           (row ∙ ap (λ all. before ++ map seven (map line_row all)) (sym items))
           (c.in_ok-next_row.ensures bytes _ here.read);
     }

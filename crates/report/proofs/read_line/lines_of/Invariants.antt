@@ -1,7 +1,7 @@
 use Rattle.std.proofs.Common.{ℕ, ◌-◌, ◌^◌, List, ◌++◌, map, reverse, vec_len}
 use Rattle.report.specs.Counts.{HasCountedReplies}
 use Rattle.report.specs.Numbered.{AreNumbered}
-use Rattle.texts.specs.Reads.{Stands}
+use Rattle.texts.specs.Reads.{IsAtRow}
 use Rattle.report.specs.Report.{line_row}
 use Rattle.texts.specs.Pages.{seven}
 use Rattle.report.proofs.read_line.lines_of.Given as goal
@@ -10,8 +10,8 @@ abbrev pub invariant-loop-rows : goal.invariant-loop-rows
 invariant-loop-rows g l = record {
   counted : HasCountedReplies l.replies l.fn.passes (reverse l.lines.items);
   calls : AreNumbered l.fn.passes (reverse l.lines.items);
-  rows : (bytes : List ℕ) (before : List (List (List ℕ))) → Stands g.R.Read.remaining bytes before 7 l.fn.rows
-      → Stands g.R.Read.remaining bytes (before ++ map seven (map line_row l.lines.items)) 7 l.rows;
+  rows : (bytes : List ℕ) (before : List (List (List ℕ))) → IsAtRow g.R.Read.remaining bytes before 7 l.fn.rows
+      → IsAtRow g.R.Read.remaining bytes (before ++ map seven (map line_row l.lines.items)) 7 l.rows;
 }
 
 abbrev pub decreases-loop-rows : goal.decreases-loop-rows

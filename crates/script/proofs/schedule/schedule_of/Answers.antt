@@ -1,5 +1,5 @@
 use Rattle.std.proofs.Common.{[], lit<, rules}
-use Rattle.texts.proofs.Refusals.{passed_on}
+use Rattle.texts.proofs.Lemmas.{passed_on}
 use Rattle.script.proofs.schedule.schedule_of.Goals as goal
 
 pub returns-in_err-orders-clause-fault : goal.returns-in_err-orders-clause-fault

@@ -1,12 +1,12 @@
 use Rattle.std.proofs.Common.{rules}
 use Rattle.script.specs.Grammars.{IsScriptFault, SayScript}
-use Rattle.texts.proofs.Refusals.{settled_bad, settled_ok}
+use Rattle.texts.proofs.Lemmas.{settled_bad, settled_ok}
 use Rattle.script.proofs.script.read_script.Goals as goal
 
 pub returns-clause-says : goal.returns-clause-says
 returns-clause-says g c bytes told =
-    settled_ok (λ s. SayScript c.args.mode bytes s.limits s.layout s.calls.items) c.script_of-script.result c.settled.result (search rules) (c.script_of-script.ensures.says bytes told)
+    settled_ok (λ s. SayScript c.args.mode bytes s.limits s.layout s.calls.items) c.script_of-script.result c.by_failure_count.result (search rules) (c.script_of-script.ensures.says bytes told)
 
 pub returns-clause-fault : goal.returns-clause-fault
 returns-clause-fault g c bytes told =
-    settled_bad (IsScriptFault c.args.mode bytes) c.script_of-script.result c.settled.result c.settled.ensures.bad (c.script_of-script.ensures.fault bytes told)
+    settled_bad (IsScriptFault c.args.mode bytes) c.script_of-script.result c.by_failure_count.result c.by_failure_count.ensures.bad (c.script_of-script.ensures.fault bytes told)

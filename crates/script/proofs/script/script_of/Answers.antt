@@ -1,8 +1,7 @@
 use Rattle.std.proofs.Common.{◌≡◌, [], ◌∷◌, ◌∙◌, ap, inl, inr, length, refl, sym, lit<, arith, rules}
 use Rattle.texts.specs.Reads.{HasRead, last_row}
 use Rattle.script.specs.Rows.{limits_row}
-use Rattle.texts.proofs.HaveRead.{begins}
-use Rattle.texts.proofs.Refusals.{passed_on}
+use Rattle.texts.proofs.Lemmas.{begins, passed_on}
 use Rattle.script.proofs.OfCells.{told_by_some}
 use Rattle.script.proofs.script.script_of.Goals as goal
 

@@ -1,11 +1,11 @@
 use Rattle.std.proofs.Common.{◌≡◌, ◌∙◌, arith, ℕ, List, refl, sym, ap, subst}
-use Rattle.prims.specs.Cells.{allows_all}
-use Rattle.forest.specs.Passes.{Sight, CanUse, Each, taken_of}
-use Rattle.forest.specs.Held.{sight}
-use Rattle.forest.specs.Puts.{IsPutOf}
-use Rattle.forest.specs.StraightScx.{run_of, PutBegins}
+use Rattle.prims.specs.Cells.{AllowsAll}
+use Rattle.forest.specs.Passes.{PassView, CanUse, Each, taken_of}
+use Rattle.forest.specs.PassInvariant.{pass_view}
+use Rattle.forest.specs.Puts.{IsPutOver}
+use Rattle.forest.specs.StraightScx.{fresh_put, SeatPutBegins}
 use Rattle.forest.specs.declared.straight.scx.Put.{Put}
-use Rattle.prims.specs.ScxKnown.{IsUpdateOver}
+use Rattle.prims.specs.Scx.Known.{IsUpdateOver}
 use Rattle.prims.specs.declared.update.Update.{Update}
 use Rattle.prims.specs.declared.snap.Snap.{Snap}
 use Rattle.forest.specs.declared.pass.Pass.TheInside.{Inside}
@@ -29,7 +29,7 @@ over_them : (u : Update) (snaps : List Snap) → u.snaps ≡ snaps → IsUpdateO
 over_them u snaps is x = rw (← is) x
 
 -- the run that the call makes
-is_of : (c : goal.After-layout-2-1) (number : ℕ) → IsPutOf (run_of c.args.snaps.now (put_of c) number) c.args.snaps.now c.args.finalize.now (c.args.field.0.0, c.args.field.1) c.args.value c.pass.inside.share.next_node c.pass.inside.share.next_scx number
+is_of : (c : goal.After-layout-2-1) (number : ℕ) → IsPutOver (fresh_put c.args.snaps.now (put_of c) number) c.args.snaps.now c.args.finalize.now (c.args.field.0.0, c.args.field.1) c.args.value c.pass.inside.share.next_node c.pass.inside.share.next_scx number
 is_of c number = let u = c.new-update.ensures in let records = c.in-Ok.ensures.records in record {
   over = over_them c.new-update.result c.args.snaps.now u.snaps u.over;
   snaps_are = refl;
@@ -44,12 +44,12 @@ is_of c number = let u = c.new-update.ensures in let records = c.in-Ok.ensures.r
 
 -- the number of the call
 abbrev called : {T : Type 0} → Inside T → ℕ
-called p = taken_of (sight p)
+called p = taken_of (pass_view p)
 
 -- the call may begin
-begins : (c : goal.After-layout-2-1) (number : ℕ) → PutBegins allows_all (call_of c.pass.inside c.pass.invariant number) c.pass.inside.seat.me.0.passes (run_of c.args.snaps.now (put_of c) number)
+begins : (c : goal.After-layout-2-1) (number : ℕ) → SeatPutBegins AllowsAll (call_of c.pass.inside c.pass.invariant number) c.pass.inside.seat.me.0.passes (fresh_put c.args.snaps.now (put_of c) number)
 begins c number = let some = c.in-Ok.ensures.some in
-    put_begins c.pass.inside c.pass.invariant some.0 some.1 c.args.snaps.now c.args.finalize.now (c.args.field.0.0, c.args.field.1) c.args.value number _ (is_of c number) refl refl (subst (λ (v : Sight). Each (CanUse v) c.args.snaps.now) (sym c.pass.view_is) c.requires.may.3)
+    put_begins c.pass.inside c.pass.invariant some.0 some.1 c.args.snaps.now c.args.finalize.now (c.args.field.0.0, c.args.field.1) c.args.value number _ (is_of c number) refl refl (subst (λ (v : PassView). Each (CanUse v) c.args.snaps.now) (sym c.pass.view_is) c.requires.may.3)
 
 -- its number as the code has it
 named : (c : goal.After-layout-2-1) → called c.pass.inside ≡ c.taken-number.result

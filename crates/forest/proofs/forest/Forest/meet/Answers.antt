@@ -1,6 +1,6 @@
 use Rattle.std.proofs.Common.{◌∙◌, sym, ap}
-use Rattle.arena.proofs.Values.{ends_trans}
-use Rattle.forest.specs.Passes.{Sight}
+use Rattle.arena.proofs.Lemmas.{ends_trans}
+use Rattle.forest.specs.Passes.{PassView}
 use Rattle.forest.proofs.Passes.{layout_of, called_pass}
 use Rattle.forest.proofs.Meets.{have_met, met_left, looked_once}
 use Rattle.forest.proofs.forest.Forest.meet.Goals as goal
@@ -37,4 +37,4 @@ returns-clause-know g c = let m = have_met c.one.inside c.other.inside c.one.inv
 
 pub returns-clause-left : goal.returns-clause-left
 returns-clause-left g c = let m = have_met c.one.inside c.other.inside c.one.invariant c.other.invariant c.meet.new.one c.meet.new.other c.meet.ensures.met in
-    met_left c.one.inside c.other.inside c.one.invariant c.other.invariant c.meet.new.one c.meet.new.other (ap (λ (v : Sight). v.layout) c.one.view_is ∙ c.requires.one.1 ∙ sym (ap (λ (v : Sight). v.layout) c.other.view_is ∙ c.requires.other.1)) m
+    met_left c.one.inside c.other.inside c.one.invariant c.other.invariant c.meet.new.one c.meet.new.other (ap (λ (v : PassView). v.layout) c.one.view_is ∙ c.requires.one.1 ∙ sym (ap (λ (v : PassView). v.layout) c.other.view_is ∙ c.requires.other.1)) m

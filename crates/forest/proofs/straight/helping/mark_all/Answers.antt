@@ -1,6 +1,6 @@
 use Rattle.std.proofs.Common.{◌∙◌, sym, arith}
-use Rattle.help.specs.HelpKnown.{first_place}
-use Rattle.help.specs.HelpTurns.{place_behind}
+use Rattle.help.specs.Help.Known.{first_place}
+use Rattle.help.proofs.Lemmas.{place_behind}
 use Rattle.forest.proofs.StraightHelp.{to_mark, to_new, more_marks}
 use Rattle.forest.proofs.straight.helping.mark_all.Goals as goal
 

@@ -1,30 +1,30 @@
-use Rattle.prims.specs.LlxTurns.{not_zero, is_zero}
+use Rattle.prims.proofs.Lemmas.{not_zero, is_zero}
 use Rattle.prims.specs.declared.llx.LlxAt.TheVariants.{Start}
-use Rattle.forest.specs.StraightLlx.{run_at}
+use Rattle.forest.specs.StraightLlx.{llx_at}
 use Rattle.forest.proofs.StraightLlx.{to_mark, to_info, to_state, to_mark_again, to_left, declines, to_right, to_info_again, differs, snaps}
 use Rattle.forest.proofs.straight.llx.call.Goals as goal
 
 pub step_of-found-requires-clause-waits : goal.step_of-found-requires-clause-waits
 step_of-found-requires-clause-waits g c = let r = c.requires.begins in let k = r.0 in let lay = r.1 in let number = r.2 in let x = r.3 in
-    let first = run_at c.args.node Start in
+    let first = llx_at c.args.node Start in
     (k, first, lay, number, rw c.load-mark.ensures (to_mark g.S.Shape.allows k _ c.args.node x))
 
 pub step_of-scx-requires-clause-waits : goal.step_of-scx-requires-clause-waits
 step_of-scx-requires-clause-waits g c = let r = c.requires.begins in let k = r.0 in let lay = r.1 in let number = r.2 in let x = r.3 in
-    let first = run_at c.args.node Start in
+    let first = llx_at c.args.node Start in
     let t1 = c.step_of-found.ensures.told k first lay number (rw c.load-mark.ensures (to_mark g.S.Shape.allows k _ c.args.node x)) in
     (k, first, lay, number, rw c.load-info.ensures (to_info g.S.Shape.allows k _ c.args.node c.step_of-found.result _ (not_zero c.step_of-found.result) (is_zero c.step_of-found.result) t1))
 
 pub step_of-state-requires-clause-waits : goal.step_of-state-requires-clause-waits
 step_of-state-requires-clause-waits g c = let r = c.requires.begins in let k = r.0 in let lay = r.1 in let number = r.2 in let x = r.3 in
-    let first = run_at c.args.node Start in
+    let first = llx_at c.args.node Start in
     let t1 = c.step_of-found.ensures.told k first lay number (rw c.load-mark.ensures (to_mark g.S.Shape.allows k _ c.args.node x)) in
     let t2 = c.step_of-scx.ensures.told k first lay number (rw c.load-info.ensures (to_info g.S.Shape.allows k _ c.args.node c.step_of-found.result _ (not_zero c.step_of-found.result) (is_zero c.step_of-found.result) t1)) in
     (k, first, lay, number, rw c.load-finished.ensures (to_state g.S.Shape.allows k _ c.args.node _ c.step_of-scx.result t2))
 
 pub step_of-again-requires-clause-waits : goal.step_of-again-requires-clause-waits
 step_of-again-requires-clause-waits g c = let r = c.requires.begins in let k = r.0 in let lay = r.1 in let number = r.2 in let x = r.3 in
-    let first = run_at c.args.node Start in
+    let first = llx_at c.args.node Start in
     let t1 = c.step_of-found.ensures.told k first lay number (rw c.load-mark.ensures (to_mark g.S.Shape.allows k _ c.args.node x)) in
     let t2 = c.step_of-scx.ensures.told k first lay number (rw c.load-info.ensures (to_info g.S.Shape.allows k _ c.args.node c.step_of-found.result _ (not_zero c.step_of-found.result) (is_zero c.step_of-found.result) t1)) in
     let t3 = c.step_of-state.ensures.told k first lay number (rw c.load-finished.ensures (to_state g.S.Shape.allows k _ c.args.node _ c.step_of-scx.result t2)) in
@@ -32,7 +32,7 @@ step_of-again-requires-clause-waits g c = let r = c.requires.begins in let k = r
 
 pub step_of-left-requires-clause-waits : goal.step_of-left-requires-clause-waits
 step_of-left-requires-clause-waits g c = let r = c.requires.begins in let k = r.0 in let lay = r.1 in let number = r.2 in let x = r.3 in
-    let first = run_at c.args.node Start in
+    let first = llx_at c.args.node Start in
     let t1 = c.step_of-found.ensures.told k first lay number (rw c.load-mark.ensures (to_mark g.S.Shape.allows k _ c.args.node x)) in
     let t2 = c.step_of-scx.ensures.told k first lay number (rw c.load-info.ensures (to_info g.S.Shape.allows k _ c.args.node c.step_of-found.result _ (not_zero c.step_of-found.result) (is_zero c.step_of-found.result) t1)) in
     let t3 = c.step_of-state.ensures.told k first lay number (rw c.load-finished.ensures (to_state g.S.Shape.allows k _ c.args.node _ c.step_of-scx.result t2)) in
@@ -41,7 +41,7 @@ step_of-left-requires-clause-waits g c = let r = c.requires.begins in let k = r.
 
 pub step_of-right-requires-clause-waits : goal.step_of-right-requires-clause-waits
 step_of-right-requires-clause-waits g c = let r = c.requires.begins in let k = r.0 in let lay = r.1 in let number = r.2 in let x = r.3 in
-    let first = run_at c.args.node Start in
+    let first = llx_at c.args.node Start in
     let t1 = c.step_of-found.ensures.told k first lay number (rw c.load-mark.ensures (to_mark g.S.Shape.allows k _ c.args.node x)) in
     let t2 = c.step_of-scx.ensures.told k first lay number (rw c.load-info.ensures (to_info g.S.Shape.allows k _ c.args.node c.step_of-found.result _ (not_zero c.step_of-found.result) (is_zero c.step_of-found.result) t1)) in
     let t3 = c.step_of-state.ensures.told k first lay number (rw c.load-finished.ensures (to_state g.S.Shape.allows k _ c.args.node _ c.step_of-scx.result t2)) in
@@ -51,7 +51,7 @@ step_of-right-requires-clause-waits g c = let r = c.requires.begins in let k = r
 
 pub step_of-last-requires-clause-waits : goal.step_of-last-requires-clause-waits
 step_of-last-requires-clause-waits g c = let r = c.requires.begins in let k = r.0 in let lay = r.1 in let number = r.2 in let x = r.3 in
-    let first = run_at c.args.node Start in
+    let first = llx_at c.args.node Start in
     let t1 = c.step_of-found.ensures.told k first lay number (rw c.load-mark.ensures (to_mark g.S.Shape.allows k _ c.args.node x)) in
     let t2 = c.step_of-scx.ensures.told k first lay number (rw c.load-info.ensures (to_info g.S.Shape.allows k _ c.args.node c.step_of-found.result _ (not_zero c.step_of-found.result) (is_zero c.step_of-found.result) t1)) in
     let t3 = c.step_of-state.ensures.told k first lay number (rw c.load-finished.ensures (to_state g.S.Shape.allows k _ c.args.node _ c.step_of-scx.result t2)) in
@@ -62,7 +62,7 @@ step_of-last-requires-clause-waits g c = let r = c.requires.begins in let k = r.
 
 pub hand_over-requires-clause-waits : goal.hand_over-requires-clause-waits
 hand_over-requires-clause-waits g c = let r = c.requires.begins in let k = r.0 in let lay = r.1 in let number = r.2 in let x = r.3 in
-    let first = run_at c.args.node Start in
+    let first = llx_at c.args.node Start in
     let t1 = c.step_of-found.ensures.told k first lay number (rw c.load-mark.ensures (to_mark g.S.Shape.allows k _ c.args.node x)) in
     let t2 = c.step_of-scx.ensures.told k first lay number (rw c.load-info.ensures (to_info g.S.Shape.allows k _ c.args.node c.step_of-found.result _ (not_zero c.step_of-found.result) (is_zero c.step_of-found.result) t1)) in
     let t3 = c.step_of-state.ensures.told k first lay number (rw c.load-finished.ensures (to_state g.S.Shape.allows k _ c.args.node _ c.step_of-scx.result t2)) in
@@ -71,7 +71,7 @@ hand_over-requires-clause-waits g c = let r = c.requires.begins in let k = r.0 i
 
 pub returns-then-not-leaves-clause-ends : goal.returns-then-not-leaves-clause-ends
 returns-then-not-leaves-clause-ends g c = λ k lay number x.
-    let first = run_at c.args.node Start in
+    let first = llx_at c.args.node Start in
     let t1 = c.step_of-found.ensures.told k first lay number (rw c.load-mark.ensures (to_mark g.S.Shape.allows k _ c.args.node x)) in
     let t2 = c.step_of-scx.ensures.told k first lay number (rw c.load-info.ensures (to_info g.S.Shape.allows k _ c.args.node c.step_of-found.result _ (not_zero c.step_of-found.result) (is_zero c.step_of-found.result) t1)) in
     let t3 = c.step_of-state.ensures.told k first lay number (rw c.load-finished.ensures (to_state g.S.Shape.allows k _ c.args.node _ c.step_of-scx.result t2)) in
@@ -80,7 +80,7 @@ returns-then-not-leaves-clause-ends g c = λ k lay number x.
 
 pub hand_over-requires-then-last-scx-clause-waits : goal.hand_over-requires-then-last-scx-clause-waits
 hand_over-requires-then-last-scx-clause-waits g c = let r = c.requires.begins in let k = r.0 in let lay = r.1 in let number = r.2 in let x = r.3 in
-    let first = run_at c.args.node Start in
+    let first = llx_at c.args.node Start in
     let t1 = c.step_of-found.ensures.told k first lay number (rw c.load-mark.ensures (to_mark g.S.Shape.allows k _ c.args.node x)) in
     let t2 = c.step_of-scx.ensures.told k first lay number (rw c.load-info.ensures (to_info g.S.Shape.allows k _ c.args.node c.step_of-found.result _ (not_zero c.step_of-found.result) (is_zero c.step_of-found.result) t1)) in
     let t3 = c.step_of-state.ensures.told k first lay number (rw c.load-finished.ensures (to_state g.S.Shape.allows k _ c.args.node _ c.step_of-scx.result t2)) in
@@ -92,7 +92,7 @@ hand_over-requires-then-last-scx-clause-waits g c = let r = c.requires.begins in
 
 pub returns-then-last-scx-clause-ends : goal.returns-then-last-scx-clause-ends
 returns-then-last-scx-clause-ends g c = λ k lay number x.
-    let first = run_at c.args.node Start in
+    let first = llx_at c.args.node Start in
     let t1 = c.step_of-found.ensures.told k first lay number (rw c.load-mark.ensures (to_mark g.S.Shape.allows k _ c.args.node x)) in
     let t2 = c.step_of-scx.ensures.told k first lay number (rw c.load-info.ensures (to_info g.S.Shape.allows k _ c.args.node c.step_of-found.result _ (not_zero c.step_of-found.result) (is_zero c.step_of-found.result) t1)) in
     let t3 = c.step_of-state.ensures.told k first lay number (rw c.load-finished.ensures (to_state g.S.Shape.allows k _ c.args.node _ c.step_of-scx.result t2)) in
@@ -104,7 +104,7 @@ returns-then-last-scx-clause-ends g c = λ k lay number x.
 
 pub returns-clause-ends : goal.returns-clause-ends
 returns-clause-ends g c = λ k lay number x.
-    let first = run_at c.args.node Start in
+    let first = llx_at c.args.node Start in
     let t1 = c.step_of-found.ensures.told k first lay number (rw c.load-mark.ensures (to_mark g.S.Shape.allows k _ c.args.node x)) in
     let t2 = c.step_of-scx.ensures.told k first lay number (rw c.load-info.ensures (to_info g.S.Shape.allows k _ c.args.node c.step_of-found.result _ (not_zero c.step_of-found.result) (is_zero c.step_of-found.result) t1)) in
     let t3 = c.step_of-state.ensures.told k first lay number (rw c.load-finished.ensures (to_state g.S.Shape.allows k _ c.args.node _ c.step_of-scx.result t2)) in

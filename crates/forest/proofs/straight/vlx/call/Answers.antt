@@ -1,6 +1,6 @@
 use Rattle.std.proofs.Common.{◌+◌, ◌∙◌, ℕ, refl, sym, ap, subst, arith}
 use Rattle.prims.specs.declared.snap.Snap.{Snap}
-use Rattle.forest.specs.StraightVlx.{VlxLooked}
+use Rattle.forest.specs.StraightVlx.{SeatVlxLooked}
 use Rattle.forest.proofs.StraightVlx.{to_none, to_info, to_next, to_changed, to_same}
 use Rattle.forest.proofs.straight.vlx.call.Goals as goal
 
@@ -27,4 +27,4 @@ returns-then-found-snap-clause-ends g c = λ k lay number x. rw c.get-snap.ensur
     (c.step_of-found.ensures.told k record { snaps = c.args.snaps; asked = 0 } lay number (rw c.get-snap.ensures (to_info g.L.SnapList.list g.S.Shape.allows k _ c.args.snaps c.loop-index.index (c.loop-index.index + 1) (omega arith) (let e = c.len-index-end.ensures in omega arith) (c.loop-index.invariant.looked k lay number x)))))
 
 pub returns-clause-ends : goal.returns-clause-ends
-returns-clause-ends g c = λ k lay number x. to_same g.L.SnapList.list g.S.Shape.allows k _ c.args.snaps (subst (λ (n : ℕ). VlxLooked g.L.SnapList.list g.S.Shape.allows k c.loop-index.seat.me.0.passes c.args.snaps n) (let e = c.len-index-end.ensures in omega arith) (c.loop-index.invariant.looked k lay number x))
+returns-clause-ends g c = λ k lay number x. to_same g.L.SnapList.list g.S.Shape.allows k _ c.args.snaps (subst (λ (n : ℕ). SeatVlxLooked g.L.SnapList.list g.S.Shape.allows k c.loop-index.seat.me.0.passes c.args.snaps n) (let e = c.len-index-end.ensures in omega arith) (c.loop-index.invariant.looked k lay number x))

@@ -1,11 +1,11 @@
 use Rattle.std.proofs.Common.{[], ◌∷◌, ◌++◌}
 use Rattle.std.proofs.lemmas.List.Elements.{All-rest, All-same, All-push}
-use Rattle.forest.specs.Passes.{Sight, IsOf}
+use Rattle.forest.specs.Passes.{PassView, IsOf}
 use Rattle.forest.proofs.tests.threads.look_all.Goals as goal
 
 pub loop-pass-preserved : goal.loop-pass-preserved
 loop-pass-preserved c =
-    let P : Sight → Type 0 = IsOf c.args.forest.now in
+    let P : PassView → Type 0 = IsOf c.args.forest.now in
     let inv = c.loop-pass.invariant in (
       tt,
       tt,

@@ -2,13 +2,13 @@ use Rattle.std.proofs.Common.{◌≡◌, ◌≢◌, ℕ, eqb-true, eq-eqb, true,
 use Rattle.std.specs.Prelude.{unwrap_or}
 use Rattle.arena.specs.declared.layout.Layout.{Layout}
 use Rattle.arena.specs.declared.machine.Turn.{Turn}
-use Rattle.arena.specs.declared.number.MemberNo.{MemberNo}
+use Rattle.arena.specs.declared.number.MemberIndex.{MemberIndex}
 use Rattle.arena.specs.declared.step.Step.{Step}
 use Rattle.arena.specs.History.{History}
 use Rattle.arena.specs.Lawful.{Lawful}
 use Rattle.arena.specs.Machines.{MatchTurn}
-use Rattle.help.specs.HelpKnown.{Marks, Asks, HasNext, IsLast, MarksNext, MarksNone, reading, help_told, help_ready, help_waits, help_waits_at, help_answers}
-use Rattle.help.specs.HelpTurns.{to_member, to_seen, to_freeze, to_next, to_set_frozen, to_all_frozen, to_abort, to_committed, to_aborted, to_mark, to_new, to_old, to_update, to_commit, place_behind}
+use Rattle.help.specs.Help.Known.{Marks, HelpAsks, HasNext, IsLast, MarksNext, MarksNone, reading, HelpIsTold, HelpIsReady, HelpWaits, HelpWaitsAt, HelpAnswers}
+use Rattle.help.proofs.HelpTurns.{to_member, to_seen, to_freeze, to_next, to_set_frozen, to_all_frozen, to_abort, to_committed, to_aborted, to_mark, to_new, to_old, to_update, to_commit, place_behind}
 use Rattle.help.specs.declared.state.HelpRun.{HelpRun}
 use Rattle.help.specs.declared.state.HelpAt.{HelpAt}
 use Rattle.help.specs.declared.state.HelpAt.TheVariants.{Start, Plan, Member, Seen, Freeze, AllFrozen, Abort, SetFrozen, Mark, New, Old, Update}
@@ -20,21 +20,21 @@ clash e f = cc
 
 module _ (allows : Layout → History → ℕ → Type 0) (lay : Layout) (c : ℕ) (h : History) where
   -- what it has been told where it stands
-  told : (m : HelpRun) (got : Option ℕ) (found : ℕ) (at : HelpAt) → m.at ≡ at → (at ≡ Start → ⊥) → found ≡ unwrap_or got 0 → help_ready allows lay c m h got → help_told allows lay c h (reading m) at found
+  told : (m : HelpRun) (got : Option ℕ) (found : ℕ) (at : HelpAt) → m.at ≡ at → (at ≡ Start → ⊥) → found ≡ unwrap_or got 0 → HelpIsReady allows lay c m h got → HelpIsTold allows lay c h (reading m) at found
   told m None found at is d e r = absurd (d (sym is ∙ r.0))
   told m (Some v) found at is d e r = rw (e, sym is) r
 
   -- it asks for a step at a place where it may wait for it
-  asks : {old now : HelpRun} {turn : Turn Bool} {at : HelpAt} {step : Step} → Asks old now turn at step → help_waits_at allows lay c h (reading old) at step → MatchTurn turn (help_waits allows lay c now h) (help_answers lay c now h)
+  asks : {old now : HelpRun} {turn : Turn Bool} {at : HelpAt} {step : Step} → HelpAsks old now turn at step → HelpWaitsAt allows lay c h (reading old) at step → MatchTurn turn (HelpWaits allows lay c now h) (HelpAnswers lay c now h)
   asks a w = rw (a.asked, a.stands) w
 
   -- behind a frozen node
-  behind : {old now : HelpRun} {turn : Turn Bool} {j : MemberNo} {expected v : ℕ} → Lawful lay h → (v ≡ expected) ⊎ (v ≡ old.scx.0) → help_told allows lay c h (reading old) (Freeze j expected) v → HasNext old now turn j ⊎ IsLast old now turn j → MatchTurn turn (help_waits allows lay c now h) (help_answers lay c now h)
+  behind : {old now : HelpRun} {turn : Turn Bool} {j : MemberIndex} {expected v : ℕ} → Lawful lay h → (v ≡ expected) ⊎ (v ≡ old.scx.0) → HelpIsTold allows lay c h (reading old) (Freeze j expected) v → HasNext old now turn j ⊎ IsLast old now turn j → MatchTurn turn (HelpWaits allows lay c now h) (HelpAnswers lay c now h)
   behind {old} {j} {expected} {v} l won t (inl y) = asks y.asks (to_next (reading old) l j y.next expected v won y.is y.within t)
   behind {old} {j} {expected} {v} l won t (inr y) = asks y.asks (to_set_frozen (reading old) l j expected v won y.none t)
 
   -- behind the nodes that are marked
-  marks : {old now : HelpRun} {turn : Turn Bool} {p : ℕ} → Lawful lay h → Marks h (reading old) p → MarksNext old now turn p ⊎ MarksNone old now turn p → MatchTurn turn (help_waits allows lay c now h) (help_answers lay c now h)
+  marks : {old now : HelpRun} {turn : Turn Bool} {p : ℕ} → Lawful lay h → Marks h (reading old) p → MarksNext old now turn p ⊎ MarksNone old now turn p → MatchTurn turn (HelpWaits allows lay c now h) (HelpAnswers lay c now h)
   marks {old} {p} l x (inl y) = asks y.asks (to_mark (reading old) l p y.next y.is y.first x)
   marks {old} {p} l x (inr y) = asks y.asks (to_new (reading old) l p y.none x)
 

@@ -1,5 +1,5 @@
 use Rattle.std.proofs.Common.{refl, inr}
-use Rattle.prims.proofs.Shares.{whole_untouched, none_taken}
+use Rattle.prims.proofs.Lemmas.{whole_untouched, none_taken}
 use Rattle.player.proofs.Begins.{nothing_kept}
 use Rattle.player.proofs.Ends.{among_none}
 use Rattle.player.proofs.client.Client.new.Goals as goal

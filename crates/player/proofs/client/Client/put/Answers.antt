@@ -1,6 +1,6 @@
 use Rattle.std.proofs.Common.{◌∙◌, ap}
 use Rattle.prims.specs.declared.scx.ScxRun.{ScxRun}
-use Rattle.arena.specs.Share.{Left}
+use Rattle.arena.specs.Share.{Remaining}
 use Rattle.player.proofs.Putting.{put_of, put_starts, put_runs}
 use Rattle.player.proofs.client.Client.put.Goals as goal
 
@@ -8,7 +8,7 @@ pub returns : goal.returns
 returns c v linked sound x =
     let run = c.new.ensures.scx in
     let update = ap (λ (r : ScxRun). r.update) run ∙ c.new-scx.ensures.update in
-    let left = ap (λ (s : Left). record c.args.self.now { share = s }) c.in-Ok.ensures.left in
+    let left = ap (λ (s : Remaining). record c.args.self.now { share = s }) c.in-Ok.ensures.left in
     let number = ap (λ (r : ScxRun). r.call) run ∙ c.new-scx.ensures.call in
     let u = c.new-update.ensures in
     let of = put_of c.new.result c.new-update.result _ c.args.snaps.now c.args.finalize.now c.args.field _ update number c.new.ensures.value u.snaps u.field u.side u.removed in

@@ -1,5 +1,5 @@
 use Rattle.std.proofs.Common.{refl}
-use Rattle.player.specs.View.{machine_call}
+use Rattle.player.specs.ClientView.{machine_call}
 use Rattle.player.proofs.Clients.{goes_on}
 use Rattle.player.proofs.Begins.{begins_so}
 use Rattle.player.proofs.Shapes.{as_cells}

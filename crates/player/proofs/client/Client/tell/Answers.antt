@@ -1,6 +1,6 @@
 use Rattle.player.proofs.Clients.{goes_on, hears_as, answered_so, told_from}
 use Rattle.player.proofs.Shapes.{as_cells}
-use Rattle.player.specs.View.{machine_call}
+use Rattle.player.specs.ClientView.{machine_call}
 use Rattle.player.proofs.client.Client.tell.Goals as goal
 
 pub returns-in-Ask : goal.returns-in-Ask

@@ -1,6 +1,6 @@
 use Rattle.std.proofs.Common.{◌≡◌, ℕ, ◌==◌, if◌then◌else◌, take, None}
 use Rattle.std.specs.List.{list_any}
-use Rattle.player.specs.Kept.{kept_of}
+use Rattle.player.specs.KeptSnaps.{kept_of}
 use Rattle.player.proofs.kept.Kept.forget.Given as goal
 
 abbrev pub invariant-loop-snap : goal.invariant-loop-snap

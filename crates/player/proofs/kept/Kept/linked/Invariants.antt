@@ -1,5 +1,5 @@
 use Rattle.std.proofs.Common.{◌≡◌, ℕ, ◌<◌, map, take, get_or, IsSome}
-use Rattle.player.specs.Kept.{kept_of, AllKept}
+use Rattle.player.specs.KeptSnaps.{kept_of, AllKept}
 use Rattle.player.proofs.kept.Kept.linked.Given as goal
 
 abbrev pub invariant-loop-cell : goal.invariant-loop-cell

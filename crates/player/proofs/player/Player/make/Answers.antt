@@ -3,8 +3,8 @@ use Rattle.record.specs.declared.record.Line.{Line}
 use Rattle.record.specs.declared.record.Line.TheVariants.{Reply}
 use Rattle.player.specs.Lines.{newest}
 use Rattle.record.specs.Turns.{clients}
-use Rattle.player.specs.View.{view}
-use Rattle.player.specs.Played.{IsEnd}
+use Rattle.player.specs.ClientView.{client_view}
+use Rattle.player.specs.BetweenTurns.{IsEnd}
 use Rattle.script.specs.declared.command.Call.{Call}
 use Rattle.arena.specs.declared.number.PassNo.{PassNo}
 use Rattle.player.proofs.Middles.{get_own, wins_step, wins_reply}
@@ -43,7 +43,7 @@ returns-in-Some c =
     let row = asked_row p i c.args.number c.args.step a c.args.client c.number.result c.apply-before.result c.get.result refl (c.number.ensures ∙ ap (λ (k : Client). k.number) own) c.apply-before.ensures.found (c.get.ensures ∙ c.apply-before.ensures.after.changed) in
     let changed = asked_changed p i c.args.number c.args.step a c.apply-before.new.self c.apply-before.result c.apply-before.ensures.found c.apply-before.ensures.after in
     let heard = asked_hears p i c.args.number c.args.step a _ c.apply-before.new.self _ (newest c.log.new.self.lines) c.apply-before.result row c.apply-before.ensures.found changed c.push_row.ensures.line c.log.ensures.line in
-    let v = view p.script.layout p.script.calls.items (newest c.log.new.self.lines) a.client.pass.0 in
+    let v = client_view p.script.layout p.script.calls.items (newest c.log.new.self.lines) a.client.pass.0 in
     let seen = c.index_mut.ensures.value ∙ get_or_from_slice_get c.log.new.self.clients.items i a.client c.index_mut.result.now (ap (λ (l : List Client). slice_get l i) c.log.ensures.same.clients ∙ there) in
     let new = c.tell.new.self in
     let answer = c.in-Some.answer in
@@ -74,7 +74,7 @@ returns-in_default c =
     let row = asked_row p i c.args.number c.args.step a c.args.client c.number.result c.apply-before.result c.get.result refl (c.number.ensures ∙ ap (λ (k : Client). k.number) own) c.apply-before.ensures.found (c.get.ensures ∙ c.apply-before.ensures.after.changed) in
     let changed = asked_changed p i c.args.number c.args.step a c.apply-before.new.self c.apply-before.result c.apply-before.ensures.found c.apply-before.ensures.after in
     let heard = asked_hears p i c.args.number c.args.step a _ c.apply-before.new.self _ (newest c.log.new.self.lines) c.apply-before.result row c.apply-before.ensures.found changed c.push_row.ensures.line c.log.ensures.line in
-    let v = view p.script.layout p.script.calls.items (newest c.log.new.self.lines) a.client.pass.0 in
+    let v = client_view p.script.layout p.script.calls.items (newest c.log.new.self.lines) a.client.pass.0 in
     let seen = c.index_mut.ensures.value ∙ get_or_from_slice_get c.log.new.self.clients.items i a.client c.index_mut.result.now (ap (λ (l : List Client). slice_get l i) c.log.ensures.same.clients ∙ there) in
     let goes = told_goes v c.index_mut.result.now a.client c.tell.new.self a.running c.apply-before.result seen heard.turn.so_far.sound heard.runs heard.told c.in_default.ensures in
     let between = heard_on p.script.layout p.script.calls.items c.apply-before.new.self p.clients.items (newest c.log.new.self.lines) a.client c.tell.new.self a.running c.apply-before.result c.args.number heard goes in

@@ -1,7 +1,7 @@
 use Rattle.std.proofs.Common.{◌≡◌, List, [], sym, subst}
 use Rattle.record.specs.declared.record.Line.{Line}
 use Rattle.player.specs.Lines.{newest}
-use Rattle.player.specs.Played.{IsBetween, AreWins}
+use Rattle.player.specs.BetweenTurns.{AreBetweenTurns, AreWins}
 use Rattle.player.proofs.Plays.{opening_between, no_wins}
 use Rattle.player.proofs.player.Player.new.Goals as goal
 
@@ -10,7 +10,7 @@ returns-clause-played c =
     let script = c.in_ok-script.script in
     let none : newest c.new-2.result ≡ [] = c.new-2.ensures in
     record {
-      between = subst (λ (l : List Line). IsBetween script.layout script.calls.items c.in_ok-words.words c.in_ok-clients.clients.items l) (sym none)
+      between = subst (λ (l : List Line). AreBetweenTurns script.layout script.calls.items c.in_ok-words.words c.in_ok-clients.clients.items l) (sym none)
           (opening_between script.layout script.calls.items c.in_ok-words.words c.in_ok-clients.clients.items c.in_ok-words.ensures.layout c.in_ok-words.ensures.opening c.in_ok-clients.ensures.each);
       wins = subst (λ (l : List Line). AreWins script.layout l c.in_ok-wins.wins.items) (sym none) (no_wins script.layout c.in_ok-wins.wins.items);
     }

@@ -1,7 +1,7 @@
 use Rattle.std.proofs.Common.{[], ◌≡◌, suc, List, ◌∷◌, set, slice_get, reverse, refl, ◌∙◌, ap, subst}
 use Rattle.arena.specs.declared.number.PassNo.{PassNo}
 use Rattle.script.specs.declared.command.Call.{Call}
-use Rattle.script.proofs.OfCells.{calls_are_of_cells}
+use Rattle.script.proofs.Lemmas.{calls_are_of_cells}
 use Rattle.record.specs.declared.record.Line.{Line}
 use Rattle.record.specs.declared.record.Line.TheVariants.{Step, Reply}
 use Rattle.record.specs.declared.record.Row.{Row}
@@ -9,8 +9,8 @@ use Rattle.record.specs.declared.record.Row.TheVariants.{Idle}
 use Rattle.player.specs.declared.client.Client.{Client}
 use Rattle.player.specs.Lines.{newest}
 use Rattle.record.specs.Turns.{turns, clients, begin}
-use Rattle.player.specs.View.{view}
-use Rattle.player.specs.Played.{IsEnd}
+use Rattle.player.specs.ClientView.{client_view}
+use Rattle.player.specs.BetweenTurns.{IsEnd}
 use Rattle.player.proofs.Middles.{get_own}
 use Rattle.player.proofs.Steps.{between_at, wins_at}
 use Rattle.player.proofs.Middles.{wins_idle, wins_reply}
@@ -22,12 +22,12 @@ make-requires-clause-asked c =
     let p = c.args.self.now in
     let i = c.args.client.0 in
     let old = c.index_mut.result.now in
-    let new = c.stand-standing.new.self in
+    let new = c.next_action-action.new.self in
     let number = c.next_turn-number.result in
     let there = client_there p i old c.requires.client c.index_mut.ensures.value in
     let lines = ap (λ (l : List Line). reverse l) c.in_ok-reserve.ensures.same in
     let client = is_client p i number old new c.requires.played there in
-    let stood = c.in-Asks.ensures (view p.script.layout p.script.calls.items (newest p.lines) i) (begin (newest p.lines) i) c.requires.played.between.so_far.sound (calls_are_of_cells p.script) c.deref.ensures.value client in
+    let stood = c.in-Asks.ensures (client_view p.script.layout p.script.calls.items (newest p.lines) i) (begin (newest p.lines) i) c.requires.played.between.so_far.sound (calls_are_of_cells p.script) c.deref.ensures.value client in
     stood_asked p i number old new c.requires.played there _ c.in-Asks.step refl refl refl refl lines refl c.next_turn-number.ensures stood
 
 pub returns-in-Finished-clause-turn : goal.returns-in-Finished-clause-turn
@@ -35,12 +35,12 @@ returns-in-Finished-clause-turn c =
     let p = c.args.self.now in
     let i = c.args.client.0 in
     let old = c.index_mut.result.now in
-    let new = c.stand-standing.new.self in
+    let new = c.next_action-action.new.self in
     let number = c.next_turn-number.result in
     let there = client_there p i old c.requires.client c.index_mut.ensures.value in
     let lines = ap (λ (l : List Line). reverse l) c.in_ok-reserve.ensures.same in
     let client = is_client p i number old new c.requires.played there in
-    let stood = c.in-Finished.ensures (view p.script.layout p.script.calls.items (newest p.lines) i) (begin (newest p.lines) i) c.requires.played.between.so_far.sound (calls_are_of_cells p.script) c.deref.ensures.value client in
+    let stood = c.in-Finished.ensures (client_view p.script.layout p.script.calls.items (newest p.lines) i) (begin (newest p.lines) i) c.requires.played.between.so_far.sound (calls_are_of_cells p.script) c.deref.ensures.value client in
     let between = stood_finished p i number old new c.requires.played there c.args.client refl (c.next_turn-number.ensures ∙ ap (λ (l : List Line). suc (turns l)) lines) stood in
     let line = c.idle.ensures.line ∙ ap (λ (l : List Line). Step c.idle.result ∷ l) lines in
     let idle = ap (λ (r : Row). Step r ∷ newest p.lines) c.idle.ensures.row in
@@ -60,13 +60,13 @@ returns-in-Answers-clause-turn c =
     let p = c.args.self.now in
     let i = c.args.client.0 in
     let old = c.index_mut.result.now in
-    let new = c.stand-standing.new.self in
+    let new = c.next_action-action.new.self in
     let number = c.next_turn-number.result in
     let there = client_there p i old c.requires.client c.index_mut.ensures.value in
     let lines = ap (λ (l : List Line). reverse l) c.in_ok-reserve.ensures.same in
     let client = is_client p i number old new c.requires.played there in
     let answer = c.in-Answers.answer in
-    let stood = c.in-Answers.ensures (view p.script.layout p.script.calls.items (newest p.lines) i) (begin (newest p.lines) i) c.requires.played.between.so_far.sound (calls_are_of_cells p.script) c.deref.ensures.value client in
+    let stood = c.in-Answers.ensures (client_view p.script.layout p.script.calls.items (newest p.lines) i) (begin (newest p.lines) i) c.requires.played.between.so_far.sound (calls_are_of_cells p.script) c.deref.ensures.value client in
     let pass : new.pass.0 ≡ i = ap (λ (k : PassNo). k.0) stood.0.pass ∙ (c.requires.played.between.each i old there).0 in
     let idle = c.idle-row.ensures in
     let r = c.reply.ensures.replied new (ap (λ (l : List Client). slice_get l i) idle.same.clients ∙ get_own p.clients.items i old new there) pass in

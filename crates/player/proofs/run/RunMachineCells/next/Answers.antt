@@ -2,7 +2,7 @@ use Rattle.std.proofs.Common.{◌≡◌, None}
 use Rattle.arena.specs.declared.machine.Turn.{Turn}
 use Rattle.arena.specs.declared.machine.Turn.TheVariants.{Ask, Done}
 use Rattle.arena.specs.Machines.{MatchTurn}
-use Rattle.prims.specs.VlxKnown.{vlx_ready}
+use Rattle.prims.specs.Vlx.Known.{VlxIsReady}
 use Rattle.player.proofs.run.RunMachineCells.next.Goals as goal
 
 -- a turn that asks still asks once its answer is mapped
@@ -30,5 +30,5 @@ returns-in-Vlx-clause-nearer c nodes fits = rw c.in-Vlx.is (still c.next-in-Vlx.
 
 pub returns-in-Vlx-clause-begins : goal.returns-in-Vlx-clause-begins
 returns-in-Vlx-clause-begins c none first d h r =
-    let x : vlx_ready c.in-Vlx.run'.snaps c.in-Vlx.run'.asked d h None = rw c.in-Vlx.is at r in
+    let x : VlxIsReady c.in-Vlx.run'.snaps c.in-Vlx.run'.asked d h None = rw c.in-Vlx.is at r in
     asks_still c.next-in-Vlx.result c.map-in-Vlx.result _ c.map-in-Vlx.ensures (c.next-in-Vlx.ensures.begins none tt d h x)

@@ -1,5 +1,5 @@
 use Rattle.std.proofs.Common.{arith}
-use Rattle.prims.specs.LlxTurns.{turn_fail, over_state}
+use Rattle.prims.proofs.LlxTurns.{turn_fail, over_state}
 use Rattle.prims.proofs.llx.LlxRun.help_last.Goals as goal
 
 pub returns-in-Done-clause-turn : goal.returns-in-Done-clause-turn

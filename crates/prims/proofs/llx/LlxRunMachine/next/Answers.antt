@@ -1,6 +1,6 @@
 use Rattle.std.proofs.Common.{sym, ◌∙◌}
 use Rattle.prims.specs.declared.llx.LlxAt.TheVariants.{Marked, Info, State, MarkedAgain, InfoAgain, LastInfo, LastState}
-use Rattle.prims.specs.LlxTurns.{knows, new_help, turn_info, turn_state, turn_mark, turn_read, turn_compare, turn_last, turn_fail, not_zero, is_zero}
+use Rattle.prims.proofs.LlxTurns.{knows, new_help, turn_info, turn_state, turn_mark, turn_read, turn_compare, turn_last, turn_fail, not_zero, is_zero}
 use Rattle.prims.proofs.llx.LlxRunMachine.next.Goals as goal
 
 pub returns-in-Marked-clause-turn : goal.returns-in-Marked-clause-turn

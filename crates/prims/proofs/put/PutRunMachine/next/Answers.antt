@@ -1,9 +1,9 @@
 use Rattle.std.proofs.Common.{refl}
-use Rattle.prims.specs.PutTurns.{told_first, told_scx, turn_start, turn_scx}
+use Rattle.prims.proofs.PutTurns.{told_first, told_scx, put_turn_start, turn_scx}
 use Rattle.prims.proofs.put.PutRunMachine.next.Goals as goal
 
 pub returns-in-Start-clause-turn : goal.returns-in-Start-clause-turn
-returns-in-Start-clause-turn g c d h run r = turn_start g.S.Shape.allows c.args.self.now d h (told_first g.S.Shape.allows c.args.self.now d h c.args.got c.in-Start.is r)
+returns-in-Start-clause-turn g c d h run r = put_turn_start g.S.Shape.allows c.args.self.now d h (told_first g.S.Shape.allows c.args.self.now d h c.args.got c.in-Start.is r)
 
 pub returns-in-Scx-clause-turn : goal.returns-in-Scx-clause-turn
 returns-in-Scx-clause-turn g c d h run r =

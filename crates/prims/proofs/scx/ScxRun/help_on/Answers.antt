@@ -1,8 +1,8 @@
 use Rattle.std.proofs.Common.{sym, subst, arith}
 use Rattle.arena.specs.declared.number.NodeNo.{NodeNo}
 use Rattle.arena.specs.declared.number.ScxNo.{ScxNo}
-use Rattle.prims.specs.ScxKnown.{IsLost}
-use Rattle.prims.specs.ScxTurns.{done_at, lost_at}
+use Rattle.prims.specs.Scx.Known.{IsLost}
+use Rattle.prims.proofs.ScxTurns.{done_at, lost_at}
 use Rattle.prims.proofs.scx.ScxRun.help_on.Goals as goal
 
 pub returns-in-Done-true-clause-turn : goal.returns-in-Done-true-clause-turn

@@ -1,5 +1,5 @@
 use Rattle.prims.specs.declared.scx.ScxAt.TheVariants.{Plan, New, Old, Member, Seen, Call}
-use Rattle.prims.specs.ScxTurns.{turn_plan, turn_new, turn_old, turn_member, turn_seen, begin_help, made_then}
+use Rattle.prims.proofs.ScxTurns.{turn_plan, turn_new, turn_old, turn_member, turn_seen, begin_help, made_then}
 use Rattle.prims.proofs.scx.ScxRunMachine.next.Goals as goal
 
 pub returns-in-Plan-clause-turn : goal.returns-in-Plan-clause-turn

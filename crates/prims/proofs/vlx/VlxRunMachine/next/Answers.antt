@@ -1,13 +1,13 @@
 use Rattle.std.proofs.Common.{sym, ◌∙◌, ap, arith}
 use Rattle.prims.specs.declared.snap.Snap.{Snap}
-use Rattle.prims.specs.VlxLaws.{vlx_turn, told_some, told_none, turn_first, first_asks, turn_on, turn_changed}
+use Rattle.prims.specs.Vlx.Laws.{VlxTurn, told_some, told_none, turn_first, first_asks, turn_on, turn_changed}
 use Rattle.prims.proofs.vlx.VlxRunMachine.next.Goals.{in_default-via-in-Some+in_default, in_default-via-in_default}
 use Rattle.prims.proofs.vlx.VlxRunMachine.next.Goals as goal
 
 pub returns-in_default-clause-turn : goal.returns-in_default-clause-turn
 returns-in_default-clause-turn g c d h run r =
     let snaps = g.L.SnapList.list c.args.self.now.snaps in
-    rw c.ask_next.ensures.same (elim c.in_default.branch as (λ _. vlx_turn snaps c.ask_next.new.self.asked d h c.ask_next.result) [
+    rw c.ask_next.ensures.same (elim c.in_default.branch as (λ _. VlxTurn snaps c.ask_next.new.self.asked d h c.ask_next.result) [
       | in_default-via-in-Some+in_default w ↦ absurd (w.in_default.ensures (let x = told_some d h snaps c.args.self.now.asked c.args.got w.in_default.field-0-0 w.in_default.is-0 r in let y = x.looks.is in omega arith))
       | in_default-via-in_default w ↦ turn_first d h snaps c.args.self.now.asked c.ask_next.new.self.asked c.ask_next.result run.lawful (told_none d h snaps c.args.self.now.asked c.args.got w.in_default.is-0 r) c.ask_next.ensures.turn
     ])

@@ -1,0 +1,69 @@
+//! The words of the command line.
+use clap::error::ErrorKind;
+use clap::{Arg, ArgAction, Command, Error};
+use program::Fault;
+use std::alloc::Global;
+use std::convert::AsStr;
+use std::rt::Env;
+use std::{env, io};
+
+/// What the words ask for.
+#[derive(Clone, Copy, Debug, PartialEq, Eq)]
+pub enum Request<'a> {
+    /// To play the calls of a script on cells.
+    Records { script: &'a str, schedule: &'a str },
+}
+
+/// The words that the program was given, of which the first is its own name.
+pub fn words_of<R: Env + AllocGlobal>(rt: &R) -> Result<Vec<String>, Fault> {
+    match env::args(rt) {
+        Ok(words) => words.collect(rt.alloc()).map_err(|_| Fault::NoMemory),
+        Err(error) if error.kind() == io::ErrorKind::OutOfMemory => Err(Fault::NoMemory),
+        Err(_) => Err(Fault::Usage),
+    }
+}
+
+/// What these words ask for, of which the first is the program's own name. A wish for help is a
+/// fault of usage too.
+pub fn read_words<'a, S: AsStr>(alloc: Global, words: &'a [S]) -> Result<Request<'a>, Fault> {
+    match request_of(alloc, words) {
+        Ok(Some(request)) => Ok(request),
+        Ok(None) => Err(Fault::Usage),
+        Err(error) => match error.kind() {
+            ErrorKind::OutOfMemory => Err(Fault::NoMemory),
+            _ => Err(Fault::Usage),
+        },
+    }
+}
+
+fn request_of<'a, S: AsStr>(alloc: Global, words: &'a [S]) -> Result<Option<Request<'a>>, Error> {
+    let matches = command(alloc)?.try_get_matches_from(words)?;
+    let Some((name, given)) = matches.subcommand() else {
+        return Ok(None);
+    };
+    let (script, schedule) = match (given.get_str("SCRIPT"), given.get_str("SCHEDULE")) {
+        (Some(script), Some(schedule)) => (script, schedule),
+        _ => return Ok(None),
+    };
+    Ok(match name {
+        "records" => Some(Request::Records { script, schedule }),
+        _ => None,
+    })
+}
+
+/// The commands and their arguments.
+fn command<'a>(alloc: Global) -> Result<Command<'a>, Error> {
+    let records = Command::new(alloc, "records")
+        .arg(file(alloc, "SCRIPT"))?
+        .arg(file(alloc, "SCHEDULE"))?;
+    Ok(
+        Command::new(alloc, "regnubas")
+            .subcommand_required(true)
+            .subcommand(records)?,
+    )
+}
+
+/// The name of a file, which a command needs.
+fn file<'a>(alloc: Global, name: &'a str) -> Arg<'a> {
+    Arg::new(alloc, name).required(true).action(ArgAction::Set)
+}

@@ -1,0 +1,34 @@
+-- Passes whose seats have been joined.
+use Rattle.std.specs.Prelude.{◌≡◌, ◌<◌, ◌⊎◌, ℕ, suc, List, [], ◌∷◌}
+use Rattle.arena.specs.declared.layout.Layout.{Layout}
+use Rattle.arena.specs.History.{History, Extends}
+use Rattle.arena.specs.Log.{log}
+use Rattle.arena.specs.Machines.{IsRun}
+use Rattle.forest.specs.declared.view.SeatedPass.{SeatedPass}
+use Rattle.forest.specs.TableRule.{history_of, seated_pass}
+use Rattle.forest.specs.Traces.{rows_of}
+use Rattle.forest.specs.Shares.{IsBetweenCalls, entries_of}
+use Rattle.forest.specs.Passes.{PassView, AreOfCall, HasBlamed, run_of, done_of, steps_of}
+
+-- the pass p, one step later, which is of no call (its number is 0):
+-- it has no entry more, and is between two calls
+pub record IsFrom (allows : Layout → History → ℕ → Type 0) (p : PassView) (k : SeatedPass) : Type 0 where
+  pub is : k ≡ seated_pass p.number p.layout k.known
+  pub is_pass : p.number < p.layout.passes
+  pub sound : IsRun allows p.layout (history_of p.layout.mode k.known)
+  pub rest : IsBetweenCalls p.layout p.number (history_of p.layout.mode k.known) p.share
+  pub ends : Extends (history_of p.layout.mode k.known) (run_of p)
+  pub done : entries_of p.number (log p.layout (history_of p.layout.mode k.known)) ≡ done_of p
+  pub steps : rows_of p.number k.known ≡ suc (steps_of p)
+  pub calls : AreOfCall p.number 0 (run_of p) (history_of p.layout.mode k.known)
+  pub blamed : HasBlamed p
+
+-- this pass is one of the list
+abbrev pub IsOneOf : SeatedPass → List SeatedPass → Type 0
+IsOneOf k [] = ⊥
+IsOneOf k (q ∷ qs) = (k ≡ q) ⊎ IsOneOf k qs
+
+-- each of the passes, one step later, is one of these
+abbrev pub AreIn : (Layout → History → ℕ → Type 0) → List PassView → List SeatedPass → Type 0
+AreIn allows [] ks = Unit {0}
+AreIn allows (p ∷ ps) ks = ((k : SeatedPass) × IsOneOf k ks × IsFrom allows p k) × AreIn allows ps ks

@@ -1,0 +1,26 @@
+-- What is true of the fields of every pass.
+use Rattle.std.specs.Prelude.{◌≡◌, ◌<◌, ℕ, [], ◌∷◌}
+use Rattle.arena.specs.declared.limits.Mode.{Mode}
+use Rattle.arena.specs.declared.layout.Layout.{Layout}
+use Rattle.arena.specs.History.{History}
+use Rattle.arena.specs.Machines.{IsRun}
+use Rattle.forest.specs.declared.pass.Pass.TheInside.{Inside}
+use Rattle.forest.specs.TableRule.{history_of, seated_pass}
+use Rattle.forest.specs.Traces.{known_of}
+use Rattle.forest.specs.Shares.{IsBetweenCalls}
+use Rattle.forest.specs.Passes.{PassView, HasBlamed}
+
+-- what contracts see of a pass
+abbrev pub pass_view : {T : Type 0} → Inside T → PassView
+pass_view p = record { table = p.seat.table_id; layout = p.layout; number = p.number.0; share = p.share; known = known_of p.seat.me.0.passes; blamed = p.blamed }
+
+-- what holds of every pass: its seat has it alone; in the run that it knows, a lawful one of a
+-- table of this mode, it is between two calls, and all that it has blamed is finished
+pub record IsPass (allows : Layout → History → ℕ → Type 0) (mode : Mode) {T : Type 0} (p : Inside T) : Type 0 where
+  pub seat : p.seat.me.0.passes ≡ seated_pass p.number.0 p.layout (known_of p.seat.me.0.passes) ∷ []
+  pub bare : p.seat.me.1 ≡ []
+  pub is_mode : p.layout.mode ≡ mode
+  pub is_pass : p.number.0 < p.layout.passes
+  pub sound : IsRun allows p.layout (history_of p.layout.mode (known_of p.seat.me.0.passes))
+  pub rest : IsBetweenCalls p.layout p.number.0 (history_of p.layout.mode (known_of p.seat.me.0.passes)) p.share
+  pub blamed : HasBlamed (pass_view p)

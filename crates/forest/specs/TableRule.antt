@@ -1,0 +1,176 @@
+-- The rule of the table: what its words and the views of all seats have to do with one lawful run.
+use Rattle.std.specs.Prelude.{◌≡◌, ◌≢◌, ◌<◌, ℕ, zero, suc, List, [], ◌∷◌, ◌++◌, length, slice_index}
+use mathlib.Core.Option.{some}
+use lib.ListN.{get_elem?}
+use Rattle.atomic_table.specs.Seated.{TableId}
+use Rattle.atomic_table.specs.Table.{State}
+use Rattle.arena.specs.declared.limits.Mode.{Mode}
+use Rattle.arena.specs.declared.layout.Layout.{Layout}
+use Rattle.arena.specs.declared.word.NodeWord.TheVariants.{Head}
+use Rattle.arena.specs.declared.word.Word.{Word}
+use Rattle.arena.specs.declared.step.Kind.TheVariants.{LoadSettled}
+use Rattle.arena.specs.declared.step.Access.TheVariants.{Load}
+use Rattle.arena.specs.declared.step.Row.{Row}
+use Rattle.arena.specs.Layout.{place, table_size, IsWord}
+use Rattle.arena.specs.Words.{node, word_after}
+use Rattle.arena.specs.History.{History, Start, ◌⊳◌, value}
+use Rattle.arena.specs.Machines.{IsRun, IsTold}
+use Rattle.forest.specs.declared.rule.Asked.{Asked}
+use Rattle.forest.specs.declared.view.SeatedPass.{SeatedPass}
+use Rattle.forest.specs.declared.view.SeatView.{SeatView}
+
+-- the history that these rows make, the newest first
+abbrev pub history_of : Mode → List Row → History
+history_of mode [] = Start mode
+history_of mode (r ∷ rs) = r ⊳ history_of mode rs
+
+-- the pass of this number, which knows these rows
+abbrev pub seated_pass : ℕ → Layout → List Row → SeatedPass
+seated_pass n lay rows = record { number = record { 0 = n }; layout = lay; known = rows }
+
+-- what a seat knows that has these passes
+abbrev pub seat_view : List SeatedPass → SeatView
+seat_view ps = record { passes = ps }
+
+-- none of these rows is of pass c
+abbrev pub ByOthers : ℕ → List Row → Type 0
+ByOthers c [] = Unit {0}
+ByOthers c (r ∷ rs) = (r.pass.0 ≢ c) × ByOthers c rs
+
+-- the run is what the pass knows, and behind that rows of others alone
+abbrev pub Behind : List Row → SeatedPass → Type 0
+Behind run p = (others : List Row) × (run ≡ others ++ p.known) × ByOthers p.number.0 others
+
+-- none of these passes has the number n
+abbrev pub Absent : ℕ → List SeatedPass → Type 0
+Absent n [] = Unit {0}
+Absent n (p ∷ ps) = (p.number.0 ≢ n) × Absent n ps
+
+-- each of these passes is of this seat alone, and knows a beginning of the run
+abbrev pub Owns : Layout → List Row → (ℕ → ℕ) → ℕ → List SeatedPass → Type 0
+Owns lay run owner id [] = Unit {0}
+Owns lay run owner id (p ∷ ps) = (owner p.number.0 ≡ id) × (p.layout ≡ lay) × Behind run p × Absent p.number.0 ps × Owns lay run owner id ps
+
+-- the rule of the table: some lawful run has left the words as they are
+pub record TableIsLawful (allows : Layout → History → ℕ → Type 0) (lay : Layout) (s : State ℕ SeatView) : Type 0 where
+  pub run : List Row
+  pub size : length s.words ≡ table_size lay
+  pub holds : (w : Word) → IsWord lay w → slice_index s.words (place lay w) ≡ value (history_of lay.mode run) w
+  pub sound : IsRun allows lay (history_of lay.mode run)
+  -- each pass is of one seat, and knows a beginning of
+  -- the run, behind which are rows of others alone
+  pub owner : ℕ → ℕ
+  pub passes : (id : ℕ) (v : SeatView) → get_elem? s.views id ≡ some v → Owns lay run owner id v.passes
+
+-- Steps
+
+-- the run that a pass knows, and behind it these rows of others
+abbrev pub past_of : SeatedPass → List Row → History
+past_of p others = history_of p.layout.mode (others ++ p.known)
+
+-- the row that a step of pass c leaves when it is made after the history
+abbrev pub row : ℕ → Asked → History → Row
+row c said h = record { pass = record { 0 = c }; call = said.call; kind = said.step.kind; word = said.step.word; before = value h said.step.word; after = word_after said.step.access (value h said.step.word) }
+
+-- the step may be made after what the pass knows and any rows of others
+abbrev pub MayStep : (Layout → History → ℕ → Type 0) → Asked → SeatedPass → Type 0
+MayStep allows said p = (others : List Row) → ByOthers p.number.0 others → IsRun allows p.layout (past_of p others) → IsRun allows p.layout (row p.number.0 said (past_of p others) ⊳ past_of p others)
+
+-- the only pass of a seat has made the step behind rows of others;
+-- it was told n, and knows the run up to its step
+pub record Made (allows : Layout → History → ℕ → Type 0) (said : Asked) (ps : List SeatedPass) (n : ℕ) (qs : List SeatedPass) : Type 0 where
+  pub pass : SeatedPass
+  pub others : List Row
+  pub was : ps ≡ pass ∷ []
+  pub by_others : ByOthers pass.number.0 others
+  pub before : IsRun allows pass.layout (past_of pass others)
+  pub after : IsRun allows pass.layout (row pass.number.0 said (past_of pass others) ⊳ past_of pass others)
+  pub told : IsTold said.step.access (value (past_of pass others) said.step.word) n
+  pub is : qs ≡ seated_pass pass.number.0 pass.layout (row pass.number.0 said (past_of pass others) ∷ (others ++ pass.known)) ∷ []
+
+-- a look at the table: a load of the head of node 0, which is of no call
+abbrev pub look : Asked
+look = record { call = 0; step = record { kind = LoadSettled; word = node 0 Head; access = Load } }
+
+-- the first of two passes of a seat has looked at the table behind a run of which both knew a
+-- beginning, and stands behind the other now
+pub record Looked (allows : Layout → History → ℕ → Type 0) (ps qs : List SeatedPass) : Type 0 where
+  pub first : SeatedPass
+  pub second : SeatedPass
+  pub run : List Row
+  pub were : ps ≡ first ∷ second ∷ []
+  pub behind_first : Behind run first
+  pub behind_second : Behind run second
+  pub apart : first.number.0 ≢ second.number.0
+  pub same : second.layout ≡ first.layout
+  pub before : IsRun allows first.layout (history_of first.layout.mode run)
+  pub after : IsRun allows first.layout (row first.number.0 look (history_of first.layout.mode run) ⊳ history_of first.layout.mode run)
+  pub are : qs ≡ second ∷ seated_pass first.number.0 first.layout (row first.number.0 look (history_of first.layout.mode run) ∷ run) ∷ []
+
+-- Dealing and joining
+
+-- n passes, numbered from `from` on, that know nothing yet
+abbrev pub new_passes : Layout → ℕ → ℕ → List SeatedPass
+new_passes lay from zero = []
+new_passes lay from (suc n) = seated_pass from lay [] ∷ new_passes lay (suc from) n
+
+-- the passes behind the first
+abbrev pub rest_of : List SeatedPass → List SeatedPass
+rest_of [] = []
+rest_of (p ∷ ps) = ps
+
+-- the first of the passes, if there is one
+abbrev pub first_of : List SeatedPass → List SeatedPass
+first_of [] = []
+first_of (p ∷ ps) = p ∷ []
+
+-- what a seat knows without its first pass
+abbrev pub rest_of_seat : SeatView → SeatView
+rest_of_seat v = seat_view (rest_of v.passes)
+
+-- what a seat knows that has its first pass alone
+abbrev pub first_of_seat : SeatView → SeatView
+first_of_seat v = seat_view (first_of v.passes)
+
+-- what a seat knows that has the passes of two
+abbrev pub joined_seat : SeatView → SeatView → SeatView
+joined_seat v w = seat_view (v.passes ++ w.passes)
+
+-- the table has as many words as this layout
+abbrev pub IsTableOf : TableId → Layout → Layout → Type 0
+IsTableOf id key lay = (id.words ≡ table_size lay) × (key ≡ lay)
+
+-- a seat of one pass, of this layout
+pub record IsAlone (lay : Layout) (ps : List SeatedPass) : Type 0 where
+  pub pass : SeatedPass
+  pub is : ps ≡ pass ∷ []
+  pub layout : pass.layout ≡ lay
+  pub is_pass : pass.number.0 < lay.passes
+
+-- a pass that has looked at the table behind this run
+abbrev pub after_look : SeatedPass → List Row → SeatedPass
+after_look p run = seated_pass p.number.0 p.layout (row p.number.0 look (history_of p.layout.mode run) ∷ run)
+
+-- the pass knew a beginning of the run, and its look is lawful behind the run
+pub record HasLookedBehind (allows : Layout → History → ℕ → Type 0) (p : SeatedPass) (run : List Row) : Type 0 where
+  pub behind : Behind run p
+  pub before : IsRun allows p.layout (history_of p.layout.mode run)
+  pub after : IsRun allows p.layout (row p.number.0 look (history_of p.layout.mode run) ⊳ history_of p.layout.mode run)
+
+-- two passes have met: the second has looked behind a run of which both knew a beginning
+pub record Met (allows : Layout → History → ℕ → Type 0) (ps qs new_ps new_qs : List SeatedPass) : Type 0 where
+  pub one : SeatedPass
+  pub other : SeatedPass
+  pub early : List Row
+  pub late : List Row
+  pub was_one : ps ≡ one ∷ []
+  pub was_other : qs ≡ other ∷ []
+  pub apart : one.number.0 ≢ other.number.0
+  pub same : one.layout ≡ other.layout
+  pub knew_one : Behind early one
+  pub other_looked : HasLookedBehind allows other early
+  -- the first has looked behind a run that goes on from the second's look
+  pub one_looked : HasLookedBehind allows one late
+  pub goes_on : Behind late (after_look other early)
+  pub is_one : new_ps ≡ after_look one late ∷ []
+  pub is_other : new_qs ≡ after_look other early ∷ []

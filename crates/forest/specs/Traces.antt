@@ -1,0 +1,76 @@
+-- The course of a call: how the run went on while it was made.
+use Rattle.std.specs.Prelude.{◌≡◌, ◌≢◌, ◌==◌, if◌then◌else◌, ℕ, suc, ◌*◌, List, [], ◌∷◌, Option, Some, None}
+use Rattle.arena.specs.declared.layout.Layout.{Layout}
+use Rattle.arena.specs.declared.step.Row.{Row}
+use Rattle.arena.specs.declared.step.Step.{Step}
+use Rattle.arena.specs.History.{History, ◌⊳◌}
+use Rattle.arena.specs.Machines.{Call, IsRun, MatchTurn, row_of}
+use Rattle.arena.specs.declared.machine.Turn.{Turn}
+use Rattle.arena.specs.declared.machine.Turn.TheVariants.{Ask, Done}
+use Rattle.forest.specs.declared.view.SeatedPass.{SeatedPass}
+use Rattle.forest.specs.TableRule.{history_of, seated_pass}
+
+-- how a call, begun with the machine `first`, has come to the machine m and the history h
+pub data Trace {M : Type 0} (allows : Layout → History → ℕ → Type 0) (waits : M → Call → History → Step → Type 0) (same : M → M → Type 0) (c : Call) (first : M) : M → History → Type 0 where
+  -- it begins now
+  begins : {m : M} {h : History} → m ≡ first → h ≡ c.start → Trace allows waits same c first m h
+  -- a row of another pass has come while the machine waited for a step
+  others : {m : M} {h : History} (s : Step) (r : Row) (before : History) → h ≡ r ⊳ before → waits m c h s → r.pass.0 ≢ c.pass → IsRun allows c.layout h → Trace allows waits same c first m before → Trace allows waits same c first m h
+  -- the step that the machine waited for was made
+  makes : {m : M} {h : History} (s : Step) (before : History) → h ≡ row_of c s before ⊳ before → waits m c before s → IsRun allows c.layout h → Trace allows waits same c first m before → Trace allows waits same c first m h
+  -- the machine went on, with what it was told
+  goes_on : {m : M} {h : History} (old : M) → same old m → Trace allows waits same c first old h → Trace allows waits same c first m h
+
+-- the seat has the pass of the call alone, and P holds of the run that the pass knows
+pub record HoldsForCall (allows : Layout → History → ℕ → Type 0) (ps : List SeatedPass) (c : Call) (P : History → Type 0) : Type 0 where
+  pub known : List Row
+  pub is : ps ≡ seated_pass c.pass c.layout known ∷ []
+  pub sound : IsRun allows c.layout (history_of c.layout.mode known)
+  pub so : P (history_of c.layout.mode known)
+
+-- Where a call of a machine stands that began with the
+-- machine `first`, as the one pass of a seat knows it
+module _ {M : Type 0} (allows : Layout → History → ℕ → Type 0) (waits : M → Call → History → Step → Type 0) (same : M → M → Type 0) (c : Call) (ps : List SeatedPass) (first : M) where
+  -- the machine waits for this step
+  abbrev pub Waits : M → Step → Type 0
+  Waits m step = HoldsForCall allows ps c (λ h. waits m c h step × Trace allows waits same c first m h)
+
+  -- the machine may be told v, which its step has found
+  abbrev pub Told : (M → Call → History → Option ℕ → Type 0) → M → ℕ → Type 0
+  Told ready m v = HoldsForCall allows ps c (λ h. ready m c h (Some v) × Trace allows waits same c first m h)
+
+  -- the machine has answered a
+  abbrev pub Ends : {A : Type 0} → (M → Call → History → A → Type 0) → M → A → Type 0
+  Ends answers m a = HoldsForCall allows ps c (λ h. answers m c h a × Trace allows waits same c first m h)
+
+  -- the machine waits for the step of this turn, or has answered as the turn says
+  abbrev pub Stands : {A : Type 0} → (M → Call → History → A → Type 0) → M → Turn A → Type 0
+  Stands answers m turn = MatchTurn turn (Waits m) (Ends answers m)
+
+-- a call begins with this machine
+abbrev pub CallBegins : {M : Type 0} → (Layout → History → ℕ → Type 0) → (M → Call → History → Option ℕ → Type 0) → Call → List SeatedPass → M → Type 0
+CallBegins allows ready c ps first = HoldsForCall allows ps c (λ h. (c.start ≡ h) × ready first c h None)
+
+-- how many of these rows are of the pass c
+abbrev pub rows_of : ℕ → List Row → ℕ
+rows_of c [] = 0
+rows_of c (r ∷ rs) = if r.pass.0 == c then suc (rows_of c rs) else rows_of c rs
+
+-- how many steps the pass of a seat has made
+abbrev pub seat_steps : List SeatedPass → ℕ
+seat_steps [] = 0
+seat_steps (p ∷ ps) = rows_of p.number.0 p.known
+
+-- how many nodes the shares of all passes have together
+abbrev pub shared_nodes : Layout → ℕ
+shared_nodes lay = lay.passes * lay.nodes
+
+-- how many turns a machine that has so many steps left may still take
+abbrev pub weight : {A : Type 0} → Turn A → ℕ → ℕ
+weight (Ask s) n = suc n
+weight (Done a) n = 0
+
+-- the run that the one pass of a seat knows
+abbrev pub known_of : List SeatedPass → List Row
+known_of [] = []
+known_of (p ∷ ps) = p.known

@@ -1,0 +1,131 @@
+-- What is true of a player between two turns, and in the middle of one.
+use Rattle.std.specs.Prelude.{◌≡◌, ◌≢◌, ℕ, suc, ◌⊎◌, List, ◌∷◌, set, Option, Some, None, slice_get, ◌++◌}
+use Rattle.arena.specs.declared.layout.Layout.{Layout}
+use Rattle.arena.specs.declared.word.Word.{Word}
+use Rattle.arena.specs.Layout.{IsWord}
+use Rattle.arena.specs.PlainWords.{Contents, word_at}
+use Rattle.arena.specs.History.{value}
+use Rattle.arena.specs.Machines.{IsRun}
+use Rattle.script.specs.declared.command.Call.{Call}
+use Rattle.script.specs.declared.script.Script.{Script}
+use Rattle.arena.specs.declared.step.Step.{Step as Ask}
+use Rattle.arena.specs.declared.step.Row.{Row}
+use Rattle.record.specs.declared.record.Line.{Line}
+use Rattle.record.specs.declared.record.Line.TheVariants.{Step, Reply as ReplyLine}
+use Rattle.record.specs.declared.record.Row.{Row as Turn}
+use Rattle.record.specs.declared.record.Row.TheVariants.{Step as Made}
+use Rattle.record.specs.declared.record.Reply.{Reply}
+use Rattle.record.specs.declared.record.Answer.{Answer}
+use Rattle.player.specs.declared.client.Running.{Running}
+use Rattle.player.specs.Allowed.{PlayedAllows}
+use Rattle.player.specs.Lines.{newest}
+use Rattle.player.specs.declared.client.Client.{Client}
+use Rattle.player.specs.declared.player.Player.{Player}
+use Rattle.record.specs.Turns.{history, begin, turns, clients, won}
+use Rattle.record.specs.Answers.{moment_of}
+use Rattle.record.specs.LawfulRun.{AreLines, OwesNothing}
+use Rattle.player.specs.ClientView.{client_view, IsClient, Waits, IsAtNextCall}
+
+-- the words hold what the steps have left in them, the steps
+-- are a lawful run, and the lines fit one by one
+pub record IsLawfulSoFar (lay : Layout) (calls : List Call) (words : Contents) (lines : List Line) : Type 0 where
+  pub layout : words.layout ≡ lay
+  pub holds : (w : Word) → IsWord lay w → word_at words w ≡ value (history lay.mode lines) w
+  pub sound : IsRun PlayedAllows lay (history lay.mode lines)
+  pub in_order : AreLines lay calls lines
+
+-- each client but the i-th is as the lines say
+abbrev pub AreOthers : Layout → List Call → List Client → List Line → ℕ → Type 0
+AreOthers lay calls clients lines i =
+    (j : ℕ) (c : Client) → j ≢ i → slice_get clients j ≡ Some c → (c.pass.0 ≡ j) × IsClient (client_view lay calls lines j) (begin lines j) c
+
+-- the player is in the middle of a turn of this client, whose state the lines do not say
+pub record IsTurnOf (lay : Layout) (calls : List Call) (words : Contents) (clients : List Client) (lines : List Line) (c : Client) : Type 0 where
+  pub so_far : IsLawfulSoFar lay calls words lines
+  pub others : AreOthers lay calls clients lines c.pass.0
+  pub own : slice_get clients c.pass.0 ≡ Some c
+
+-- the player is between two turns: nothing is owed, and each client is as the lines say
+pub record AreBetweenTurns (lay : Layout) (calls : List Call) (words : Contents) (clients : List Client) (lines : List Line) : Type 0 where
+  pub so_far : IsLawfulSoFar lay calls words lines
+  pub settled : OwesNothing lay calls lines
+  pub each : (j : ℕ) (c : Client) → slice_get clients j ≡ Some c → (c.pass.0 ≡ j) × IsClient (client_view lay calls lines j) (begin lines j) c
+
+-- of each client whose update has won since its last reply, the turn in which it did is remembered
+abbrev pub AreWins : Layout → List Line → List (Option ℕ) → Type 0
+AreWins lay lines wins = (c turn : ℕ) → won lay lines c ≡ Some turn → slice_get wins c ≡ Some (Some turn)
+
+-- what holds of a player between two turns
+pub record IsBetweenTurns (p : Player) : Type 0 where
+  pub between : AreBetweenTurns p.script.layout p.script.calls.items p.words p.clients.items (newest p.lines)
+  pub wins : AreWins p.script.layout (newest p.lines) p.wins.items
+
+-- In the middle of a turn
+
+-- the i-th client, whose turn it is, asks for this step
+pub record IsAsked (p : Player) (i number : ℕ) (step : Ask) : Type 0 where
+  pub client : Client
+  pub is : client.pass.0 ≡ i
+  pub settled : OwesNothing p.script.layout p.script.calls.items (newest p.lines)
+  pub turn : IsTurnOf p.script.layout p.script.calls.items p.words p.clients.items (newest p.lines) client
+  pub in_turn : number ≡ suc (turns (newest p.lines))
+  pub running : Running
+  pub runs : client.running ≡ Some running
+  pub asks : running.step ≡ step
+  pub waits : Waits (client_view p.script.layout p.script.calls.items (newest p.lines) client.pass.0) client running
+  pub wins : AreWins p.script.layout (newest p.lines) p.wins.items
+  -- its call began at this turn, or at the turn that the lines say
+  pub began : ((begin (newest p.lines) client.pass.0 ≡ None) × (client.begin ≡ number)) ⊎ (begin (newest p.lines) client.pass.0 ≡ Some client.begin)
+
+-- the newest line is this step
+pub record IsMade (p : Player) (number : ℕ) (row : Row) : Type 0 where
+  pub older : List Line
+  pub lines : newest p.lines ≡ Step (Made number row) ∷ older
+  pub so_far : IsLawfulSoFar p.script.layout p.script.calls.items p.words (newest p.lines)
+
+-- the reply ends the client's call in this turn; `won` is the turn of its last update that has won
+pub record IsEnd (calls : List Call) (old new : Client) (turn : ℕ) (answer : Answer) (won : Option ℕ) (reply : Reply) : Type 0 where
+  pub client : reply.client ≡ old.pass
+  pub call : reply.call ≡ old.number
+  pub begin : reply.begin ≡ old.begin
+  pub end : reply.end ≡ turn
+  pub answers : reply.answer ≡ answer
+  pub moment : reply.moment ≡ moment_of answer old.begin turn won
+  pub behind : IsAtNextCall calls old new
+
+-- the lines have one reply more, to the call of this client, which stands at its next call then
+pub record IsReplied (old new : Player) (turn : ℕ) (answer : Answer) (c : Client) : Type 0 where
+  pub client : Client
+  pub reply : Reply
+  pub won : Option ℕ
+  pub wins : slice_get old.wins.items c.pass.0 ≡ Some won
+  pub end : IsEnd old.script.calls.items c client turn answer won reply
+  pub clients : new.clients.items ≡ set old.clients.items c.pass.0 client
+  pub line : newest new.lines ≡ ReplyLine reply ∷ newest old.lines
+
+-- the two scripts say the same
+pub record IsSameScript (old new : Script) : Type 0 where
+  pub limits : new.limits ≡ old.limits
+  pub layout : new.layout ≡ old.layout
+  pub calls : new.calls.items ≡ old.calls.items
+
+-- script, words and clients are as they were
+pub record HasSameClients (old new : Player) : Type 0 where
+  pub script : IsSameScript old.script new.script
+  pub words : new.words ≡ old.words
+  pub clients : new.clients.items ≡ old.clients.items
+
+-- script, words and the turns of winning updates are as they were
+pub record HasSameWords (old new : Player) : Type 0 where
+  pub script : IsSameScript old.script new.script
+  pub words : new.words ≡ old.words
+  pub wins : new.wins.items ≡ old.wins.items
+
+-- the lines have this one turn of the i-th client more, and the entry and
+-- reply behind it; the player is between two turns
+pub record IsTurnMore (old new : Player) (i : ℕ) (row : Turn) : Type 0 where
+  pub played : IsBetweenTurns new
+  pub script : IsSameScript old.script new.script
+  pub behind : List Line
+  pub lines : newest new.lines ≡ behind ++ Step row ∷ newest old.lines
+  pub turns : clients (newest new.lines) ≡ i ∷ clients (newest old.lines)

@@ -1,0 +1,9 @@
+pub mod Begun
+pub mod Blamed
+pub mod BlankRows
+pub mod Entered
+pub mod Idle
+pub mod InTheWay
+pub mod Linked
+pub mod Unfilled
+pub mod Wins

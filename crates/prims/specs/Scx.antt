@@ -1,0 +1,4 @@
+pub mod Steps
+pub mod Known
+pub mod Laws
+pub mod Made

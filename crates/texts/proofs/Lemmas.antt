@@ -1,0 +1,5 @@
+-- What the layers above know of texts beside their clauses, passed on from one
+-- place: no other module of these proofs can be named outside. Declares nothing.
+pub use Rattle.texts.proofs.Numbers.{same_number}
+pub use Rattle.texts.proofs.HaveRead.{begins}
+pub use Rattle.texts.proofs.Refusals.{passed_on, settled_bad, settled_ok}
