@@ -5,6 +5,7 @@ mod Shares
 mod Values
 mod Found
 mod Plans
+mod Packed
 mod Taken
 mod TakenNodes
 mod Bools

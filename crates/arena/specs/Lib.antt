@@ -8,6 +8,7 @@ pub mod PlainWords
 pub mod MemberIndex
 pub mod History
 pub mod ScxRecords
+pub mod Heads
 pub mod Fills
 pub mod Lawful
 pub mod Blame

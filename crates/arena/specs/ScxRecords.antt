@@ -1,6 +1,6 @@
 -- What the words of an SCX-record say: the nodes that it covers, those
 -- that it finalizes, and the field that it changes.
-use Rattle.std.specs.Prelude.{ℕ, ◌/◌, ◌%◌, ◌^◌, ◌<◌, Bool, cond, ◌&&◌, eqb, ltb, leb}
+use Rattle.std.specs.Prelude.{ℕ, ◌+◌, ◌*◌, ◌/◌, ◌%◌, ◌^◌, ◌<◌, Bool, cond, ◌&&◌, eqb, ltb, leb, List, [], ◌∷◌}
 use Rattle.arena.specs.declared.word.Side.{Side}
 use Rattle.arena.specs.declared.word.Side.TheVariants.{Left, Right}
 use Rattle.arena.specs.declared.word.ScxWord.TheVariants.{Plan, New, Old, Member, Seen}
@@ -10,6 +10,10 @@ use Rattle.arena.specs.History.{History, value}
 
 -- A plan word packs n + 8 * R + 128 * at + 512 * side: how many nodes, a bit for each node that is
 -- finalized, which node has the field, and its side.
+
+-- how many nodes a word names in its lowest bits, be it a plan or not
+abbrev pub raw_count : ℕ → ℕ
+raw_count p = p % 8
 
 -- how many nodes a plan word covers, at most four; a word that says more of them, or is 1024 or
 -- more, is no plan and covers none
@@ -27,6 +31,19 @@ field_index_of p = p / 128 % 4
 -- on which side of its node the field is
 abbrev pub side_of : ℕ → Side
 side_of p = cond (eqb (p / 512) 0) Left Right
+
+-- the side as a plan word packs it
+abbrev pub side_no : Side → ℕ
+side_no Left = 0
+side_no Right = 1
+
+-- a bit, and the bits of the nodes that are to be finalized, the first node's lowest
+abbrev pub bit : Bool → ℕ
+bit b = cond b 1 0
+
+abbrev pub removed_bits : List Bool → ℕ
+removed_bits [] = 0
+removed_bits (b ∷ bs) = bit b + 2 * removed_bits bs
 
 -- a plan: of one to four nodes, with those that are finalized and that of the field among them
 pub record IsPlan (p : ℕ) : Type 0 where

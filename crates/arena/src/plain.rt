@@ -9,8 +9,9 @@ use crate::fault::NoMemory;
 use crate::layout::Layout;
 use crate::limits::Mode;
 use crate::number::{NodeNo, ScxNo};
+use crate::opening::opening_word;
 use crate::step::{Access, Step};
-use crate::word::{NodeWord, ScxWord, Side, Word};
+use crate::word::{ABORTED, NodeWord, ScxWord, Side, Word};
 use std::alloc::Global;
 use std::marker::Model;
 
@@ -47,7 +48,7 @@ impl PlainWords {
         ensures opening { IfOk result IsOpening }
     {
         let mut words = PlainWords::zeros(alloc, layout)?;
-        words.set(Word::Scx(ScxNo(0), ScxWord::State), 2);
+        words.set(Word::Scx(ScxNo(0), ScxWord::State), ABORTED);
         if let Mode::Tree = layout.mode {
             words.plant();
         }
@@ -65,17 +66,25 @@ impl PlainWords {
         })
     }
 
-    /// The opening tree: a root of class 2 over a leaf of class 1 and a leaf of class 2.
+    /// The opening tree.
     fn plant(&mut self)
         requires { (w : Word) → IsWord self.old.layout w → word_at self.old w ≡ records_opening w }
         ensures layout { self.new.layout ≡ self.old.layout }
         ensures opening { (w : Word) → IsWord self.old.layout w → word_at self.new w ≡ tree_opening w }
     {
-        self.set(Word::Node(NodeNo(0), NodeWord::Head), 2);
-        self.set(Word::Node(NodeNo(0), NodeWord::Child(Side::Left)), 1);
-        self.set(Word::Node(NodeNo(0), NodeWord::Child(Side::Right)), 2);
-        self.set(Word::Node(NodeNo(1), NodeWord::Head), 13);
-        self.set(Word::Node(NodeNo(2), NodeWord::Head), 14);
+        self.open(Word::Node(NodeNo(0), NodeWord::Head));
+        self.open(Word::Node(NodeNo(0), NodeWord::Child(Side::Left)));
+        self.open(Word::Node(NodeNo(0), NodeWord::Child(Side::Right)));
+        self.open(Word::Node(NodeNo(1), NodeWord::Head));
+        self.open(Word::Node(NodeNo(2), NodeWord::Head));
+    }
+
+    /// Gives a word what it holds in the opening tree.
+    fn open(&mut self, word: Word)
+        requires { IsWord self.old.layout word }
+        ensures { IsChanged self.old self.new word (tree_opening word) }
+    {
+        self.set(word, opening_word(Mode::Tree, word));
     }
 
     fn set(&mut self, word: Word, value: u64)

@@ -1,5 +1,6 @@
 -- From place to place of an SCX with a fresh cell, in line.
 use Rattle.std.proofs.Common.{◌≡◌, ℕ, suc, ◌<◌, length, List, Bool, true, false, refl, sym, subst, ◌∙◌, inl, inr}
+use Rattle.arena.specs.ScxRecords.{raw_count}
 use Rattle.arena.specs.declared.layout.Layout.{Layout}
 use Rattle.arena.specs.declared.number.MemberIndex.{MemberIndex}
 use Rattle.arena.specs.declared.number.MemberIndex.TheVariants.{First}
@@ -11,7 +12,6 @@ use Rattle.arena.specs.declared.word.ScxWord.TheVariants.{Plan, New, Old, Member
 use Rattle.arena.specs.MemberIndex.{member_index}
 use Rattle.arena.specs.History.{History, ◌⊳◌, value}
 use Rattle.arena.specs.Machines.{Call, IsRun, IsTold, row_of}
-use Rattle.help.specs.Plan.{count as planned}
 use Rattle.help.specs.Help.Known.{blocked_at}
 use Rattle.help.specs.declared.state.HelpAt.TheVariants.{Start as HelpStart}
 use Rattle.help.specs.declared.state.HelpRun.{HelpRun}
@@ -79,19 +79,19 @@ module _ (allows : Layout → History → ℕ → Type 0) (c : Call) (ps : List 
   pub within_member : (m : PutRun) (j : MemberIndex) (step : Step) → SeatPutWaits allows c ps first (scx_at m (AtMember j)) step → member_index j < length m.scx.update.snaps
   within_member m j step x = x.so.0.1.fills.within
 
-  pub next_member : (m : PutRun) (j next : MemberIndex) (v : ℕ) → member_index next ≡ suc (member_index j) → member_index next < planned m.scx.update.plan.0 → SeatPutTold allows c ps first (scx_at m (AtMember j)) v → SeatPutWaits allows c ps first (scx_at m (AtMember next)) (fill_of m (Member (member_index next)) (snap_at m.scx.update.snaps (member_index next)).node.0)
+  pub next_member : (m : PutRun) (j next : MemberIndex) (v : ℕ) → member_index next ≡ suc (member_index j) → member_index next < raw_count m.scx.update.plan.0 → SeatPutTold allows c ps first (scx_at m (AtMember j)) v → SeatPutWaits allows c ps first (scx_at m (AtMember next)) (fill_of m (Member (member_index next)) (snap_at m.scx.update.snaps (member_index next)).node.0)
   next_member m j next v is within = fills m (AtMember j) (AtMember next) v _ (λ h x. x) (λ h x. turn_member allows c h (scx_at m (AtMember j)).scx j (scx_at m (AtMember next)).scx (Ask _) x (inl record { next = next; is = is; within = within; fills = record { stands = refl; asked = refl } }))
 
-  pub to_seen : (m : PutRun) (j : MemberIndex) (v : ℕ) → ((member_index j < 3) × (suc (member_index j) < planned m.scx.update.plan.0) → ⊥) → SeatPutTold allows c ps first (scx_at m (AtMember j)) v → SeatPutWaits allows c ps first (scx_at m (AtSeen First)) (fill_of m (Seen 0) (snap_at m.scx.update.snaps 0).scx.0)
+  pub to_seen : (m : PutRun) (j : MemberIndex) (v : ℕ) → ((member_index j < 3) × (suc (member_index j) < raw_count m.scx.update.plan.0) → ⊥) → SeatPutTold allows c ps first (scx_at m (AtMember j)) v → SeatPutWaits allows c ps first (scx_at m (AtSeen First)) (fill_of m (Seen 0) (snap_at m.scx.update.snaps 0).scx.0)
   to_seen m j v none = fills m (AtMember j) (AtSeen First) v _ (λ h x. x) (λ h x. turn_member allows c h (scx_at m (AtMember j)).scx j (scx_at m (AtSeen First)).scx (Ask _) x (inr record { none = none; fills = record { stands = refl; asked = refl } }))
 
   pub within_seen : (m : PutRun) (j : MemberIndex) (step : Step) → SeatPutWaits allows c ps first (scx_at m (AtSeen j)) step → member_index j < length m.scx.update.snaps
   within_seen m j step x = x.so.0.1.fills.within
 
-  pub next_seen : (m : PutRun) (j next : MemberIndex) (v : ℕ) → member_index next ≡ suc (member_index j) → member_index next < planned m.scx.update.plan.0 → SeatPutTold allows c ps first (scx_at m (AtSeen j)) v → SeatPutWaits allows c ps first (scx_at m (AtSeen next)) (fill_of m (Seen (member_index next)) (snap_at m.scx.update.snaps (member_index next)).scx.0)
+  pub next_seen : (m : PutRun) (j next : MemberIndex) (v : ℕ) → member_index next ≡ suc (member_index j) → member_index next < raw_count m.scx.update.plan.0 → SeatPutTold allows c ps first (scx_at m (AtSeen j)) v → SeatPutWaits allows c ps first (scx_at m (AtSeen next)) (fill_of m (Seen (member_index next)) (snap_at m.scx.update.snaps (member_index next)).scx.0)
   next_seen m j next v is within = fills m (AtSeen j) (AtSeen next) v _ (λ h x. x) (λ h x. turn_seen allows c h (scx_at m (AtSeen j)).scx j (scx_at m (AtSeen next)).scx (Ask _) x (inl record { next = next; is = is; within = within; fills = record { stands = refl; asked = refl } }))
 
-  pub to_call : (m : PutRun) (j : MemberIndex) (v : ℕ) → ((member_index j < 3) × (suc (member_index j) < planned m.scx.update.plan.0) → ⊥) → SeatPutTold allows c ps first (scx_at m (AtSeen j)) v → SeatPutWaits allows c ps first (scx_at m AtCall) (fill_of m CallWord m.scx.call)
+  pub to_call : (m : PutRun) (j : MemberIndex) (v : ℕ) → ((member_index j < 3) × (suc (member_index j) < raw_count m.scx.update.plan.0) → ⊥) → SeatPutTold allows c ps first (scx_at m (AtSeen j)) v → SeatPutWaits allows c ps first (scx_at m AtCall) (fill_of m CallWord m.scx.call)
   to_call m j v none = fills m (AtSeen j) AtCall v _ (λ h x. x) (λ h x. turn_seen allows c h (scx_at m (AtSeen j)).scx j (scx_at m AtCall).scx (Ask _) x (inr record { none = none; fills = record { stands = refl; asked = refl } }))
 
 -- HELP in a call of SCX

@@ -14,13 +14,12 @@ use Rattle.arena.specs.declared.word.ScxWord.TheVariants.{AllFrozen, Plan, New, 
 use Rattle.arena.specs.MemberIndex.{member_index}
 use Rattle.arena.specs.Words.{scx, info, marked, child, state}
 use Rattle.arena.specs.History.{History, value}
-use Rattle.arena.specs.ScxRecords.{IsPlan, count_of, plan_finalizes, side_of, field_index_of as field_of, plan, member, count, scx_finalizes, field_index}
+use Rattle.arena.specs.ScxRecords.{IsPlan, count_of, plan_finalizes, side_of, field_index_of, plan, member, count, scx_finalizes, field_index, raw_count}
 use Rattle.arena.specs.Lawful.{Lawful}
 use Rattle.arena.proofs.Lemmas.{plan_counted, ends_self}
 use Rattle.histories.specs.Descriptor.{descriptor}
 use Rattle.histories.specs.Progress.{IsOver, IsStuck}
 use Rattle.histories.proofs.Lemmas.{aborted_no_entry, about, committed_won, facts, free_unset, over_committed}
-use Rattle.help.specs.Plan.{count as planned, finalizes_in as removed}
 use Rattle.help.specs.Help.Known.{IsServed, Reading, HasReadMembers, Marks, HasAborted, node_at, first_place, settled_load, HelpIsTold, HelpWaitsAt}
 use Rattle.help.specs.Help.Lawful.{index_small}
 use Rattle.help.specs.declared.state.HelpAt.TheVariants.{Plan as AtPlan, Member as AtMember, Seen as AtSeen, Freeze as AtFreeze, AllFrozen as AtAllFrozen, Abort as AtAbort, SetFrozen as AtSetFrozen, Mark as AtMark, New as AtNew, Old as AtOld, Update as AtUpdate, Commit as AtCommit}
@@ -67,11 +66,11 @@ module _ (h : History) (m : Reading) where
       go (yes q) = rw q (ap (λ (n : NodeNo). n.0) (get_or-set_same m.members j record { 0 = v } record { 0 = 0 } inside) ∙ sym e)
       go (no d) = ap (λ (n : NodeNo). n.0) (get_or-set_other m.members j i record { 0 = v } record { 0 = 0 } d) ∙ x i (omega arith)
 
-  counted : (j : ℕ) → plan h m.scx ≡ m.plan → j < count h m.scx → (count h m.scx ≡ planned m.plan) × (planned m.plan ≤ 4)
+  counted : (j : ℕ) → plan h m.scx ≡ m.plan → j < count h m.scx → (count h m.scx ≡ raw_count m.plan) × (raw_count m.plan ≤ 4)
   counted j e i = let a = plan_counted (plan h m.scx) (let z = i in omega arith) in (rw (← e) a.count, rw (← e) a.few)
 
   -- a node that it finalizes is marked where all those before a place are, and none stands between
-  marked_up_to : (p n : ℕ) → Marks h m p → ((i : ℕ) → p ≤ i → i < n → i < count h m.scx → removed m.plan i ≡ false) → Marks h m n
+  marked_up_to : (p n : ℕ) → Marks h m p → ((i : ℕ) → p ≤ i → i < n → i < count h m.scx → plan_finalizes m.plan i ≡ false) → Marks h m n
   marked_up_to p n x none = record { started = x.started; plan = x.plan; read = x.read; flag = x.flag; marked = λ i q w t. at i q w t (either i p) }
     where
       at : (i : ℕ) → i < n → i < count h m.scx → scx_finalizes h m.scx i ≡ true → (i < p) ⊎ (p ≤ i) → value h (marked (member h m.scx i)) ≡ 1
@@ -125,7 +124,7 @@ module _ {allows : Layout → History → ℕ → Type 0} {lay : Layout} {c : �
   to_freeze j v t = record { known = t; asked = rw (t.0.read (member_index j) (omega arith), t.1) refl }
 
   -- once a node is frozen that is not the last, it loads the next `v` word
-  pub to_next : (j next : MemberIndex) (expected v : ℕ) → (v ≡ expected) ⊎ (v ≡ m.scx) → member_index next ≡ suc (member_index j) → member_index next < planned m.plan → HelpIsTold allows lay c h m (AtFreeze j expected) v → HelpWaitsAt allows lay c h m (AtMember next) (settled_load m.scx (Member (member_index next)))
+  pub to_next : (j next : MemberIndex) (expected v : ℕ) → (v ≡ expected) ⊎ (v ≡ m.scx) → member_index next ≡ suc (member_index j) → member_index next < raw_count m.plan → HelpIsTold allows lay c h m (AtFreeze j expected) v → HelpWaitsAt allows lay c h m (AtMember next) (settled_load m.scx (Member (member_index next)))
   to_next j next expected v won is within t =
       let w = t.won won in
       let n = counted h m (member_index j) t.plan t.within in
@@ -135,11 +134,11 @@ module _ {allows : Layout → History → ℕ → Type 0} {lay : Layout} {c : �
       }
 
   -- once the last node is frozen, it sets `allfrozen`
-  pub to_set_frozen : (j : MemberIndex) (expected v : ℕ) → (v ≡ expected) ⊎ (v ≡ m.scx) → ((member_index j < 3) × (suc (member_index j) < planned m.plan) → ⊥) → HelpIsTold allows lay c h m (AtFreeze j expected) v → HelpWaitsAt allows lay c h m AtSetFrozen record { kind = SetFrozen; word = scx m.scx AllFrozen; access = Store 1 }
+  pub to_set_frozen : (j : MemberIndex) (expected v : ℕ) → (v ≡ expected) ⊎ (v ≡ m.scx) → ((member_index j < 3) × (suc (member_index j) < raw_count m.plan) → ⊥) → HelpIsTold allows lay c h m (AtFreeze j expected) v → HelpWaitsAt allows lay c h m AtSetFrozen record { kind = SetFrozen; word = scx m.scx AllFrozen; access = Store 1 }
   to_set_frozen j expected v won last t =
       let w = t.won won in
       let n = counted h m (member_index j) t.plan t.within in
-      let few : count h m.scx ≤ suc (member_index j) = no_more (count h m.scx) (planned m.plan) (member_index j) n.0 n.1 last in
+      let few : count h m.scx ≤ suc (member_index j) = no_more (count h m.scx) (raw_count m.plan) (member_index j) n.0 n.1 last in
       record {
         known = record { started = w.0; plan = t.plan; frozen = λ i q. w.1 i (omega (arith, few)); read = λ i q. t.read i (omega (arith, few)) };
         asked = refl;
@@ -161,7 +160,7 @@ module _ {allows : Layout → History → ℕ → Type 0} {lay : Layout} {c : �
   -- Those that it finalizes are marked
 
   -- once all before it is marked, it marks the next node to be finalized
-  pub to_mark : (p : ℕ) (next : MemberIndex) → removed m.plan (member_index next) ≡ true → ((i : ℕ) → p ≤ i → i < member_index next → removed m.plan i ≡ false) → Marks h m p → HelpWaitsAt allows lay c h m (AtMark next) record { kind = Mark; word = marked (node_at m.members (member_index next)); access = Store 1 }
+  pub to_mark : (p : ℕ) (next : MemberIndex) → plan_finalizes m.plan (member_index next) ≡ true → ((i : ℕ) → p ≤ i → i < member_index next → plan_finalizes m.plan i ≡ false) → Marks h m p → HelpWaitsAt allows lay c h m (AtMark next) record { kind = Mark; word = marked (node_at m.members (member_index next)); access = Store 1 }
   to_mark p next is first x = record {
     known = (marked_up_to h m p (member_index next) x (λ i e q w. first i e q), within, rw x.plan is);
     asked = rw (x.read (member_index next) within) refl;
@@ -171,7 +170,7 @@ module _ {allows : Layout → History → ℕ → Type 0} {lay : Layout} {c : �
       within = removed_within (plan h m.scx) (member_index next) (planned_of lay h m l p x) (index_small next) (rw x.plan is)
 
   -- once all that is finalized is marked, it loads `new`
-  pub to_new : (p : ℕ) → ((i : ℕ) → p ≤ i → i < 4 → removed m.plan i ≡ false) → Marks h m p → HelpWaitsAt allows lay c h m AtNew (settled_load m.scx New)
+  pub to_new : (p : ℕ) → ((i : ℕ) → p ≤ i → i < 4 → plan_finalizes m.plan i ≡ false) → Marks h m p → HelpWaitsAt allows lay c h m AtNew (settled_load m.scx New)
   to_new p none x = record { known = marked_up_to h m p (count h m.scx) x (λ i e q w. none i e (omega (arith, few))); asked = refl }
     where
       few : count h m.scx ≤ 4
@@ -184,10 +183,10 @@ module _ {allows : Layout → History → ℕ → Type 0} {lay : Layout} {c : �
   to_old v t = record { known = t; asked = refl }
 
   -- once it has read `old`, it tries the update
-  pub to_update : (new v : ℕ) → HelpIsTold allows lay c h m (AtOld new) v → HelpWaitsAt allows lay c h m AtUpdate record { kind = Update; word = child (node_at m.members (field_of m.plan)) (side_of m.plan); access = Exchange v new }
+  pub to_update : (new v : ℕ) → HelpIsTold allows lay c h m (AtOld new) v → HelpWaitsAt allows lay c h m AtUpdate record { kind = Update; word = child (node_at m.members (field_index_of m.plan)) (side_of m.plan); access = Exchange v new }
   to_update new v t = record { known = t.0; asked = rw (t.2, t.1) (ap (λ w. record { kind = Update; word = w; access = Exchange v new }) (word m.plan t.0.plan)) }
     where
-      word : (q : ℕ) → plan h m.scx ≡ q → child (node_at m.members (field_of q)) (side_of q) ≡ child (member h m.scx (field_index h m.scx)) (side_of (plan h m.scx))
+      word : (q : ℕ) → plan h m.scx ≡ q → child (node_at m.members (field_index_of q)) (side_of q) ≡ child (member h m.scx (field_index h m.scx)) (side_of (plan h m.scx))
       word q e = rw (← e) (ap (λ n. child n (side_of (plan h m.scx))) (t.0.read (field_index h m.scx) (planned_of lay h m l _ t.0).field))
 
   -- once the update is tried, it commits

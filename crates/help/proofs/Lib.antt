@@ -1,3 +1,2 @@
-mod Packed
 mod HelpTurns
 pub mod Lemmas

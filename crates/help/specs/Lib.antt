@@ -1,3 +1,2 @@
-pub mod Plan
 pub mod Allowed
 pub mod Help

@@ -2,8 +2,6 @@
 #![tactic(auto)]
 
 mod machine;
-mod plan;
 mod state;
 
-pub use plan::Plan;
 pub use state::{HelpAt, HelpRun};

@@ -1,17 +1,13 @@
 //! The steps of HELP.
 ghost use Rattle.std.specs.Prelude.{◌≡◌, ℕ, ◌+◌, ◌<◌, ◌≤◌, IfSome};
 
-use crate::plan::Plan;
 use crate::state::{HelpAt, HelpRun};
-use arena::{
-    ABORTED, COMMITTED, Access, Kind, Machine, MemberIndex, NodeNo, NodeWord, ScxWord, Shape, Step,
-    Turn, Word,
-};
+use arena::{ABORTED, Access, COMMITTED, Kind, Machine, MemberIndex, NodeNo, NodeWord, Plan, ScxWord, Shape, Step, Turn, Word};
 
 impl HelpRun {
     ghost use Rattle.std.specs.Prelude.{◌≡◌, ◌<◌, ◌≤◌, ◌+◌, ◌-◌, true, false, ◌⊎◌, MatchOption};
+    ghost use Rattle.arena.specs.ScxRecords.{raw_count, plan_finalizes, field_index_of, side_of};
     ghost use Rattle.arena.specs.MemberIndex.{member_index};
-    ghost use Rattle.help.specs.Plan.{count, finalizes_in, field_at, side_of};
     ghost use Rattle.help.specs.Help.Known.{HelpAsks, HasNext, IsLast, MarksNext, MarksNone, node_at, first_place};
     ghost use Rattle.help.specs.Help.Steps.{help_left};
 
@@ -87,7 +83,7 @@ impl HelpRun {
     }
 
     fn update(&mut self, old: u64, new: u64) -> Turn<bool>
-        ensures { HelpAsks self.old self.new result HelpAt.Update record { kind = Kind.Update; word = Word.Node record { 0 = node_at self.old.members (field_at self.old.plan.0) } (NodeWord.Child (side_of self.old.plan.0)); access = Access.Exchange old new } }
+        ensures { HelpAsks self.old self.new result HelpAt.Update record { kind = Kind.Update; word = Word.Node record { 0 = node_at self.old.members (field_index_of self.old.plan.0) } (NodeWord.Child (side_of self.old.plan.0)); access = Access.Exchange old new } }
     {
         let node = self.members[self.plan.at().index()];
         let field = Word::Node(node, NodeWord::Child(self.plan.side()));

@@ -1,8 +1,7 @@
 //! Where a run of HELP stands.
 ghost use Rattle.std.specs.Prelude.{◌≡◌, ◌≤◌};
 
-use crate::plan::Plan;
-use arena::{MemberIndex, NodeNo, ScxNo};
+use arena::{MemberIndex, NodeNo, Plan, ScxNo};
 
 /// The step that a run of HELP has asked for.
 #[derive(Clone, Copy, Debug, PartialEq, Eq)]

@@ -12,7 +12,7 @@ ghost use Rattle.arena.specs.declared.word.ScxWord.TheVariants.{New};
 ghost use Rattle.judge.specs.Histories.{history_after};
 ghost use Rattle.judge.specs.Tests.{in_field, in_other_new};
 
-use crate::records::{count, field, field_index_of, is_plan, member, of_node, of_scx, plan};
+use crate::records::{count, field, member, of_node, of_scx, plan};
 use crate::words::value_of;
 use arena::{Layout, NodeWord, PassNo, Row, ScxWord, Word};
 
@@ -114,7 +114,7 @@ fn are_unmarked(layout: &Layout, rows: &[Row], scx: u64, count: u8) -> bool
 fn shows_old(layout: &Layout, rows: &[Row], scx: u64) -> bool
     ensures { IsTrue result → value (history_after layout.now rows.now) (info (member (history_after layout.now rows.now) scx (field_index (history_after layout.now rows.now) scx))) ≡ seen (history_after layout.now rows.now) scx (field_index (history_after layout.now rows.now) scx) → value (history_after layout.now rows.now) (field (history_after layout.now rows.now) scx) ≡ old (history_after layout.now rows.now) scx }
 {
-    let place = field_index_of(plan(layout, rows, scx));
+    let place = plan(layout, rows, scx).at().number();
     let shown = value_of(layout, rows, field(layout, rows, scx));
     !is_as_seen(layout, rows, scx, place) || shown == of_scx(layout, rows, scx, ScxWord::Old)
 }
@@ -176,7 +176,7 @@ pub fn may_begin(layout: &Layout, rows: &[Row], pass: PassNo, scx: u64) -> bool
 {
     let new = of_scx(layout, rows, scx, ScxWord::New);
     is_own_scx(layout, pass, scx)
-        && is_plan(plan(layout, rows, scx))
+        && plan(layout, rows, scx).is_valid()
         && are_ready(layout, rows, scx, count(layout, rows, scx))
         && shows_old(layout, rows, scx)
         && is_own_node(layout, pass, new)

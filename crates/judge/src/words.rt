@@ -1,28 +1,12 @@
 //! What words hold, and have held, after some rows.
 ghost use Rattle.std.specs.Prelude.{◌≡◌, ◌↔◌, IsTrue, cond};
 ghost use Rattle.arena.specs.History.{value, HasHeld};
-ghost use Rattle.arena.specs.Layout.{opening};
 ghost use Rattle.arena.specs.Words.{same_word};
 ghost use Rattle.std.specs.List.{list_any};
 ghost use Rattle.judge.specs.Histories.{history_after};
 ghost use Rattle.judge.specs.Tests.{leaves};
 
-use arena::{Layout, Mode, NodeNo, NodeWord, Row, ScxNo, ScxWord, Side, Word};
-
-/// What a word holds at the start.
-fn opening_value(mode: Mode, word: Word) -> u64
-    ensures { result ≡ opening mode word }
-{
-    match (mode, word) {
-        (_, Word::Scx(ScxNo(0), ScxWord::State)) => 2,
-        (Mode::Tree, Word::Node(NodeNo(0), NodeWord::Head)) => 2,
-        (Mode::Tree, Word::Node(NodeNo(1), NodeWord::Head)) => 13,
-        (Mode::Tree, Word::Node(NodeNo(2), NodeWord::Head)) => 14,
-        (Mode::Tree, Word::Node(NodeNo(0), NodeWord::Child(Side::Left))) => 1,
-        (Mode::Tree, Word::Node(NodeNo(0), NodeWord::Child(Side::Right))) => 2,
-        _ => 0,
-    }
-}
+use arena::{Layout, Row, Word, opening_word};
 
 /// Whether two words are the same.
 pub fn is_same(one: Word, other: Word) -> bool
@@ -47,7 +31,7 @@ fn held_after(row: &Row, word: Word, before: u64) -> u64
 pub fn value_of(layout: &Layout, rows: &[Row], word: Word) -> u64
     ensures { result ≡ value (history_after layout.now rows.now) word }
 {
-    let mut held = opening_value(layout.mode, word);
+    let mut held = opening_word(layout.mode, word);
     for row in rows {
         held = held_after(row, word, held);
     }
@@ -72,6 +56,6 @@ fn is_left(rows: &[Row], word: Word, value: u64) -> bool
 pub fn has_held(layout: &Layout, rows: &[Row], word: Word, value: u64) -> bool
     ensures { IsTrue result ↔ HasHeld (history_after layout.now rows.now) word value }
 {
-    let opened = opening_value(layout.mode, word) == value;
+    let opened = opening_word(layout.mode, word) == value;
     opened || is_left(rows, word, value)
 }

@@ -9,7 +9,7 @@ use Rattle.arena.specs.declared.word.ScxWord.TheVariants.{Plan, New, Old, Member
 use Rattle.arena.specs.MemberIndex.{member_index}
 use Rattle.arena.specs.Words.{info, state, child}
 use Rattle.arena.specs.History.{History, ◌⊳◌, value, Extends}
-use Rattle.arena.specs.ScxRecords.{count_of, field_index_of as field_of, side_of, plan, member, seen, new, old, count}
+use Rattle.arena.specs.ScxRecords.{count_of, field_index_of, side_of, plan, member, seen, new, old, count, raw_count}
 use Rattle.arena.specs.Machines.{IsRun, Call}
 use Rattle.arena.proofs.Lemmas.{plan_counted, ends_self, ends_trans}
 use Rattle.histories.specs.Begins.{Begins}
@@ -21,7 +21,6 @@ use Rattle.prims.proofs.LlxTurns.{committed_state}
 use Rattle.help.specs.declared.state.HelpRun.{HelpRun}
 use Rattle.help.specs.declared.state.HelpAt.{HelpAt}
 use Rattle.help.specs.declared.state.HelpAt.TheVariants.{Start as HelpStart, Abort as AtAbort}
-use Rattle.help.specs.Plan.{count as planned}
 use Rattle.help.specs.Allowed.{IsPrepared}
 use Rattle.prims.specs.Laws.Linked.{in_field_named}
 use Rattle.prims.specs.Snap.{snap_at}
@@ -84,10 +83,10 @@ module _ (allows : Layout → History → ℕ → Type 0) (c : Call) (h : Histor
   fewer u j i = rw u.count at i
 
   -- a place of the plan, or what is behind the last
-  next_within : IsUpdateOver m.update → (j : MemberIndex) → member_index j < planned m.update.plan.0 → member_index j < length m.update.snaps
+  next_within : IsUpdateOver m.update → (j : MemberIndex) → member_index j < raw_count m.update.plan.0 → member_index j < length m.update.snaps
   next_within u j i = let a = plan_counted m.update.plan.0 u.planned.some in let b = a.count in fewer u (member_index j) (omega arith)
 
-  last_covers : IsUpdateOver m.update → (j : MemberIndex) → ((member_index j < 3) × (suc (member_index j) < planned m.update.plan.0) → ⊥) → length m.update.snaps ≤ suc (member_index j)
+  last_covers : IsUpdateOver m.update → (j : MemberIndex) → ((member_index j < 3) × (suc (member_index j) < raw_count m.update.plan.0) → ⊥) → length m.update.snaps ≤ suc (member_index j)
   last_covers u j d = go (three (member_index j))
     where
       e : length m.update.snaps ≡ m.update.plan.0 % 8
@@ -160,18 +159,18 @@ module _ (allows : Layout → History → ℕ → Type 0) (c : Call) (h : Histor
       less : (j : ℕ) → j < count h m.scx.0 → j < length m.update.snaps
       less j i = fewer x.hand.update j (rw ep at i)
 
-      at_field : (q : ℕ) → plan h m.scx.0 ≡ q → q ≡ m.update.plan.0 → value h (info (member h m.scx.0 (field_of q))) ≡ seen h m.scx.0 (field_of q) → value h (child (member h m.scx.0 (field_of q)) (side_of q)) ≡ old h m.scx.0
+      at_field : (q : ℕ) → plan h m.scx.0 ≡ q → q ≡ m.update.plan.0 → value h (info (member h m.scx.0 (field_index_of q))) ≡ seen h m.scx.0 (field_index_of q) → value h (child (member h m.scx.0 (field_index_of q)) (side_of q)) ≡ old h m.scx.0
       at_field q e f y =
-          let i : field_of m.update.plan.0 < length m.update.snaps = fewer x.hand.update (field_of m.update.plan.0) x.hand.update.planned.field in
-          let z : value h (info (snap_at m.update.snaps (field_of m.update.plan.0)).node.0) ≡ (snap_at m.update.snaps (field_of m.update.plan.0)).scx.0 = rw (f, em (field_of m.update.plan.0) i, es (field_of m.update.plan.0) i) at y in
-          rw (f, em (field_of m.update.plan.0) i, eo, x.hand.update.old) ((x.hand.linked (field_of m.update.plan.0) i).fields (side_of m.update.plan.0) z)
+          let i : field_index_of m.update.plan.0 < length m.update.snaps = fewer x.hand.update (field_index_of m.update.plan.0) x.hand.update.planned.field in
+          let z : value h (info (snap_at m.update.snaps (field_index_of m.update.plan.0)).node.0) ≡ (snap_at m.update.snaps (field_index_of m.update.plan.0)).scx.0 = rw (f, em (field_index_of m.update.plan.0) i, es (field_index_of m.update.plan.0) i) at y in
+          rw (f, em (field_index_of m.update.plan.0) i, eo, x.hand.update.old) ((x.hand.linked (field_index_of m.update.plan.0) i).fields (side_of m.update.plan.0) z)
 
       begins : Begins c.layout (descriptor h m.scx.0) h c.pass m.scx.0
       begins = record {
         own = x.hand.is_open.own;
         free = x.hand.is_open.unnamed;
         unfinished = x.hand.unfinished;
-        planned = rw ep x.hand.update.planned;
+        raw_count = rw ep x.hand.update.planned;
         inside = λ j i. rw (em j (less j i)) (x.hand.linked j (less j i)).inside;
         distinct = λ j k p q d. rw (em j (less j p), em k (less k q)) (x.hand.update.distinct j k (less j p) (less k q) d);
         named = λ j i. rw (em j (less j i)) (in_field_named (snap_at m.update.snaps j).node.0 (x.hand.linked j (less j i)).in_field);
@@ -190,7 +189,7 @@ module _ (allows : Layout → History → ℕ → Type 0) (c : Call) (h : Histor
     own = x.hand.is_open.own;
     way = x.way;
     over = x.hand.update;
-    planned = x.filled Plan tt;
+    raw_count = x.filled Plan tt;
     fresh = x.filled New tt;
     expected = x.filled Old tt;
     members = λ j i. x.filled (Member j) i;

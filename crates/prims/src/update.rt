@@ -6,8 +6,7 @@ ghost use Rattle.prims.specs.Snaps.{IsAmong, finalizes};
 
 use crate::snap::Snap;
 use crate::snaps::Snaps;
-use arena::{Fresh, MemberIndex, NodeNo, Side};
-use help::Plan;
+use arena::{Fresh, MemberIndex, NodeNo, Plan, Side};
 
 /// The nodes that an SCX covers, as their snapshots found them, which of them it finalizes, and the
 /// field of one of them that gets the fresh node.

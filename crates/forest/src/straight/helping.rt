@@ -1,7 +1,7 @@
 //! HELP with its steps in line.
 ghost use Rattle.std.specs.Prelude.{◌≡◌, ◌≢◌, ◌+◌, ◌≤◌, ◌<◌, ◌⊎◌, ℕ, suc, true, false, IfSome, IfNone};
+ghost use Rattle.arena.specs.ScxRecords.{plan_finalizes};
 ghost use Rattle.arena.specs.MemberIndex.{member_index};
-ghost use Rattle.help.specs.Plan.{finalizes_in};
 ghost use Rattle.help.specs.Help.Steps.{help_left};
 ghost use Rattle.help.specs.Help.Known.{first_place};
 ghost use Rattle.arena.specs.Machines.{Call};
@@ -13,12 +13,9 @@ ghost use Rattle.forest.specs.StraightHelp.{SeatHelpBegins, SeatHelpWaits, SeatH
 use crate::steps::{complete, step_of};
 use crate::view::SeatView;
 use crate::words::Words;
-use arena::{
-    COMMITTED, Access, Kind, Layout, MemberIndex, NodeNo, NodeWord, ScxNo, ScxWord, Shape, Step, Turn,
-    Word,
-};
+use arena::{Access, COMMITTED, Kind, Layout, MemberIndex, NodeNo, NodeWord, Plan, ScxNo, ScxWord, Shape, Step, Turn, Word};
 use atomic_table::Seat;
-use help::{HelpAt, HelpRun, Plan};
+use help::{HelpAt, HelpRun};
 
 /// Makes the step that a HELP waits for.
 #[inline(always)]
@@ -143,8 +140,8 @@ fn freeze_all<S: Shape>(
 /// The first node to be finalized, from a place on.
 #[inline(always)]
 fn removed_behind(plan: Plan, from: Option<MemberIndex>) -> Option<MemberIndex>
-    ensures removed { IfSome result (λ k. (first_place from ≤ member_index k) × (finalizes_in plan.0 (member_index k) ≡ true) × ((i : ℕ) → first_place from ≤ i → i < member_index k → finalizes_in plan.0 i ≡ false)) }
-    ensures none { IfNone result ((i : ℕ) → first_place from ≤ i → i < 4 → finalizes_in plan.0 i ≡ false) }
+    ensures removed { IfSome result (λ k. (first_place from ≤ member_index k) × (plan_finalizes plan.0 (member_index k) ≡ true) × ((i : ℕ) → first_place from ≤ i → i < member_index k → plan_finalizes plan.0 i ≡ false)) }
+    ensures none { IfNone result ((i : ℕ) → first_place from ≤ i → i < 4 → plan_finalizes plan.0 i ≡ false) }
 {
     plan.first_finalized_from(from?)
 }

@@ -16,13 +16,12 @@ use Rattle.arena.specs.MemberIndex.{member_index}
 use Rattle.arena.specs.Words.{scx, info, marked, state}
 use Rattle.arena.specs.History.{History, value}
 use Rattle.arena.specs.Found.{IsLastStep}
-use Rattle.arena.specs.ScxRecords.{plan, member, seen, new, old, count, scx_finalizes, field}
+use Rattle.arena.specs.ScxRecords.{plan, member, seen, new, old, count, scx_finalizes, field, raw_count, plan_finalizes}
 use Rattle.arena.specs.Fills.{IsNamed, IsNamedScx, IsOwnScx}
 use Rattle.arena.specs.Lawful.{AreFrozen, AllAreFrozen, HasWon}
 use Rattle.arena.specs.Log.{log, IsEntered}
 use Rattle.histories.specs.Descriptor.{descriptor}
 use Rattle.histories.specs.Progress.{IsOver, IsStarted, IsStuck}
-use Rattle.help.specs.Plan.{count as planned, finalizes_in as removed}
 use Rattle.help.specs.Allowed.{IsPrepared}
 use Rattle.help.specs.declared.state.HelpRun.{HelpRun}
 use Rattle.help.specs.declared.state.HelpAt.{HelpAt}
@@ -230,23 +229,23 @@ first_place (Some j) = member_index j
 pub record HasNext (old now : HelpRun) (turn : Turn Bool) (j : MemberIndex) : Type 0 where
   pub next : MemberIndex
   pub is : member_index next ≡ suc (member_index j)
-  pub within : member_index next < planned old.plan.0
+  pub within : member_index next < raw_count old.plan.0
   pub asks : HelpAsks old now turn (AtMember next) (settled_load old.scx.0 (Member (member_index next)))
 
 -- the j-th node is the last that the plan covers, and the run asks to set `allfrozen` next
 pub record IsLast (old now : HelpRun) (turn : Turn Bool) (j : MemberIndex) : Type 0 where
-  pub none : (member_index j < 3) × (suc (member_index j) < planned old.plan.0) → ⊥
+  pub none : (member_index j < 3) × (suc (member_index j) < raw_count old.plan.0) → ⊥
   pub asks : HelpAsks old now turn AtSetFrozen record { kind = SetFrozen; word = scx old.scx.0 AllFrozen; access = Store 1 }
 
 -- the run asks to mark the first node to be finalized from the place `from` on
 pub record MarksNext (old now : HelpRun) (turn : Turn Bool) (from : ℕ) : Type 0 where
   pub next : MemberIndex
   pub behind : from ≤ member_index next
-  pub is : removed old.plan.0 (member_index next) ≡ true
-  pub first : (i : ℕ) → from ≤ i → i < member_index next → removed old.plan.0 i ≡ false
+  pub is : plan_finalizes old.plan.0 (member_index next) ≡ true
+  pub first : (i : ℕ) → from ≤ i → i < member_index next → plan_finalizes old.plan.0 i ≡ false
   pub asks : HelpAsks old now turn (AtMark next) record { kind = Mark; word = marked (node_at old.members (member_index next)); access = Store 1 }
 
 -- no node is to be finalized from the place `from` on, and the run asks for `new`
 pub record MarksNone (old now : HelpRun) (turn : Turn Bool) (from : ℕ) : Type 0 where
-  pub none : (i : ℕ) → from ≤ i → i < 4 → removed old.plan.0 i ≡ false
+  pub none : (i : ℕ) → from ≤ i → i < 4 → plan_finalizes old.plan.0 i ≡ false
   pub asks : HelpAsks old now turn AtNew (settled_load old.scx.0 New)

@@ -11,7 +11,7 @@ use Rattle.arena.specs.declared.word.ScxWord.TheVariants.{Plan, New, Old, Member
 use Rattle.arena.specs.MemberIndex.{member_index}
 use Rattle.arena.specs.Words.{scx, state, child}
 use Rattle.arena.specs.History.{History, ◌⊳◌, value, HasHeld, Extends}
-use Rattle.arena.specs.ScxRecords.{IsPlan, count_of, plan_finalizes, side_of, field_index_of as field_of, plan, new, old, member, seen}
+use Rattle.arena.specs.ScxRecords.{IsPlan, count_of, plan_finalizes, side_of, field_index_of, plan, new, old, member, seen, raw_count}
 use Rattle.arena.specs.Fills.{IsOwnNode, IsOwnScx, IsOpenScx, IsNamed, IsTakenScx}
 use Rattle.arena.specs.Lawful.{IsWin, HasWon}
 use Rattle.arena.specs.Found.{HasFound}
@@ -20,7 +20,6 @@ use Rattle.arena.specs.declared.machine.Turn.{Turn}
 use Rattle.arena.specs.declared.machine.Turn.TheVariants.{Ask}
 use Rattle.arena.specs.declared.number.MemberIndex.{MemberIndex}
 use Rattle.arena.specs.declared.number.ScxNo.{ScxNo}
-use Rattle.help.specs.Plan.{count as planned}
 use Rattle.help.specs.declared.state.HelpRun.{HelpRun}
 use Rattle.arena.specs.Machines.{Call, IsRun, MatchTurn}
 use Rattle.histories.specs.Descriptor.{Descriptor}
@@ -50,10 +49,10 @@ job_of m = record { scx = m.scx; call = m.call; update = m.update }
 -- an update over different nodes, by a plan of as many, which
 -- expects in its field what the snapshot found there
 pub record IsUpdateOver (u : Update) : Type 0 where
-  pub planned : IsPlan u.plan.0
+  pub raw_count : IsPlan u.plan.0
   pub count : count_of u.plan.0 ≡ length u.snaps
   pub distinct : (i j : ℕ) → i < length u.snaps → j < length u.snaps → i ≢ j → (snap_at u.snaps i).node.0 ≢ (snap_at u.snaps j).node.0
-  pub old : u.old.0 ≡ (child_of (snap_at u.snaps (field_of u.plan.0)) (side_of u.plan.0)).0
+  pub old : u.old.0 ≡ (child_of (snap_at u.snaps (field_index_of u.plan.0)) (side_of u.plan.0)).0
 
 -- what each settled word of the SCX-record is to hold
 abbrev pub wanted : Job → ScxWord → ℕ
@@ -186,7 +185,7 @@ pub record HasFilled (c : Call) (h : History) (s number : ℕ) (u : Update) : Ty
   pub own : IsOwnScx c.layout c.pass s
   pub way : IsUnderWay c h s u.snaps
   pub over : IsUpdateOver u
-  pub planned : plan h s ≡ u.plan.0
+  pub raw_count : plan h s ≡ u.plan.0
   pub fresh : new h s ≡ u.fresh.0
   pub expected : old h s ≡ u.old.0
   pub members : (j : ℕ) → j < length u.snaps → member h s j ≡ (snap_at u.snaps j).node.0
@@ -232,7 +231,7 @@ update_entry c m =
       call = m.call;
       members = nodes_of m.update.snaps;
       removed = removed_nodes m.update.plan.0 m.update.snaps 0;
-      node = (snap_at m.update.snaps (field_of m.update.plan.0)).node.0;
+      node = (snap_at m.update.snaps (field_index_of m.update.plan.0)).node.0;
       side = side_of m.update.plan.0;
       new = m.update.fresh.0;
     }
@@ -288,12 +287,12 @@ pub record FillsAt (old now : ScxRun) (turn : Turn Scx) (at : ScxAt) : Type 0 wh
 pub record FillsNext (old now : ScxRun) (turn : Turn Scx) (j : MemberIndex) (place : MemberIndex → ScxAt) : Type 0 where
   pub next : MemberIndex
   pub is : member_index next ≡ suc (member_index j)
-  pub within : member_index next < planned old.update.plan.0
+  pub within : member_index next < raw_count old.update.plan.0
   pub fills : FillsAt old now turn (place next)
 
 -- the j-th node is the last, and the run fills the word behind those of the nodes
 pub record FillsLast (old now : ScxRun) (turn : Turn Scx) (j : MemberIndex) (at : ScxAt) : Type 0 where
-  pub none : (member_index j < 3) × (suc (member_index j) < planned old.update.plan.0) → ⊥
+  pub none : (member_index j < 3) × (suc (member_index j) < raw_count old.update.plan.0) → ⊥
   pub fills : FillsAt old now turn at
 
 -- a turn of SCX is right: the run waits for the step that it asks, or the answer holds

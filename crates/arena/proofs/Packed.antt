@@ -2,9 +2,8 @@
 use Rattle.std.proofs.Common.{◌≡◌, ℕ, zero, suc, ◌+◌, ◌*◌, ◌/◌, ◌%◌, ◌^◌, ◌<◌, ◌≤◌, Bool, true, false, eqb, eq-eqb, ne_eqb, List, [], ◌∷◌, length, get_or, refl, ◌∙◌, ap, arith}
 use Rattle.arena.specs.declared.word.Side.{Side}
 use Rattle.arena.specs.declared.word.Side.TheVariants.{Left, Right}
-use Rattle.arena.specs.ScxRecords.{count_of, plan_finalizes, field_index_of, side_of}
-use Rattle.arena.proofs.Lemmas.{count_is}
-use Rattle.help.specs.Plan.{side_no, bit, removed_bits}
+use Rattle.arena.specs.ScxRecords.{count_of, plan_finalizes, field_index_of, side_of, side_no, bit, removed_bits}
+use Rattle.arena.proofs.Plans.{count_is}
 
 bit_small : (b : Bool) → bit b ≤ 1
 bit_small true = omega arith

@@ -1,12 +1,13 @@
 //! The word `plan` of an SCX-record.
 ghost use Rattle.std.specs.Prelude.{◌≡◌, ℕ, ◌+◌, ◌*◌, ◌/◌, ◌%◌, ◌^◌, ◌<◌, ◌≤◌, ◌↔◌, true, false, IsTrue, IsSome, IfSome, IfNone};
 ghost use Rattle.arena.specs.MemberIndex.{member_index};
-ghost use Rattle.help.specs.Plan.{count, side_of, side_no, field_at, finalizes_in, removed_bits};
+ghost use Rattle.arena.specs.ScxRecords.{IsPlan, count_of, raw_count, side_of, side_no, field_index_of, plan_finalizes, removed_bits};
 
-use arena::{MemberIndex, Side};
+use crate::number::MemberIndex;
+use crate::word::Side;
 
 /// How many nodes an SCX-record covers, which of them it finalizes, and which field of which of
-/// them it changes: `count + 8 * removed + 128 * index_of at + 512 * side`, where bit j of
+/// them it changes: `count + 8 * removed + 128 * member_index at + 512 * side`, where bit j of
 /// `removed` is set for the j-th node if it is to be finalized.
 #[derive(Clone, Copy, Debug, PartialEq, Eq)]
 pub struct Plan(pub u64);
@@ -27,9 +28,31 @@ impl Plan {
         Plan(count as u64 + 8 * removed + 128 * at.index() as u64 + side)
     }
 
+    /// How many nodes the plan covers: none where the word is no plan, for it is too large or names
+    /// more than four.
+    pub fn count(self) -> u8
+        ensures count { result ≡ count_of self.0 }
+        ensures few { result ≤ 4 }
+    {
+        if self.0 < 1024 && self.0 % 8 <= 4 {
+            (self.0 % 8) as u8
+        } else {
+            0
+        }
+    }
+
+    /// Whether the word is a plan: of one to four nodes, with those that are finalized and that of the
+    /// field among them.
+    pub fn is_valid(self) -> bool
+        ensures { IsTrue result ↔ IsPlan self.0 }
+    {
+        let count = self.count();
+        0 < count && self.0 / 8 % 16 < power(count) && self.at().number() < count
+    }
+
     /// The place behind this one, if the plan covers so many nodes.
     pub fn member_behind(self, j: MemberIndex) -> Option<MemberIndex>
-        ensures valid { IsSome result ↔ ((member_index j < 3) × (member_index j + 1 < count self.0)) }
+        ensures valid { IsSome result ↔ ((member_index j < 3) × (member_index j + 1 < raw_count self.0)) }
         ensures value { IfSome result (λ k. member_index k ≡ member_index j + 1) }
     {
         let next = j.next()?;
@@ -42,15 +65,15 @@ impl Plan {
 
     /// Whether the j-th node is to be finalized.
     pub fn finalizes(self, j: MemberIndex) -> bool
-        ensures { result ≡ finalizes_in self.0 (member_index j) }
+        ensures { result ≡ plan_finalizes self.0 (member_index j) }
     {
         (self.0 / 8 >> j.index()) % 2 == 1
     }
 
     /// The first node to be finalized, from the j-th on.
     pub fn first_finalized_from(self, j: MemberIndex) -> Option<MemberIndex>
-        ensures removed { IfSome result (λ k. (member_index j ≤ member_index k) × (finalizes_in self.0 (member_index k) ≡ true) × ((i : ℕ) → member_index j ≤ i → i < member_index k → finalizes_in self.0 i ≡ false)) }
-        ensures none { IfNone result ((i : ℕ) → member_index j ≤ i → i < 4 → finalizes_in self.0 i ≡ false) }
+        ensures removed { IfSome result (λ k. (member_index j ≤ member_index k) × (plan_finalizes self.0 (member_index k) ≡ true) × ((i : ℕ) → member_index j ≤ i → i < member_index k → plan_finalizes self.0 i ≡ false)) }
+        ensures none { IfNone result ((i : ℕ) → member_index j ≤ i → i < 4 → plan_finalizes self.0 i ≡ false) }
     {
         for index in j.index()..4 {
             let j = MemberIndex::new(index)?;
@@ -63,7 +86,7 @@ impl Plan {
 
     /// The place of the node whose field is changed.
     pub fn at(self) -> MemberIndex
-        ensures { member_index result ≡ field_at self.0 }
+        ensures { member_index result ≡ field_index_of self.0 }
     {
         MemberIndex::new((self.0 / 128 % 4) as usize).unwrap()
     }
@@ -77,5 +100,19 @@ impl Plan {
         } else {
             Side::Right
         }
+    }
+}
+
+/// A power of two.
+fn power(exponent: u8) -> u64
+    requires { exponent ≤ 4 }
+    ensures { result ≡ 2 ^ exponent }
+{
+    match exponent {
+        0 => 1,
+        1 => 2,
+        2 => 4,
+        3 => 8,
+        _ => 16,
     }
 }

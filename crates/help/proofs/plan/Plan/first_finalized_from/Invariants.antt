@@ -1,7 +1,0 @@
-use Rattle.std.proofs.Common.{◌≡◌, ℕ, ◌<◌, ◌≤◌, false}
-use Rattle.arena.specs.MemberIndex.{member_index}
-use Rattle.help.specs.Plan.{finalizes_in}
-use Rattle.help.proofs.plan.Plan.first_finalized_from.Given as goal
-
-abbrev pub invariant-loop-index : goal.invariant-loop-index
-invariant-loop-index l = (i : ℕ) → member_index l.fn.j ≤ i → i < l.index → finalizes_in l.self.0 i ≡ false
