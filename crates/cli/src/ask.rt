@@ -1,4 +1,6 @@
 //! What the program does with its words.
+ghost use Rattle.std.specs.Prelude.{◌≤◌};
+
 use crate::args::{Request, read_words};
 use arena::Mode;
 use program::{Fault, play_over};
@@ -14,7 +16,9 @@ pub fn run_words<R: Files + AllocGlobal, O: Write, E: Write>(
     words: &[String],
     out: &mut O,
     err: &mut E,
-) -> u8 {
+) -> u8
+    ensures { result ≤ 4 }
+{
     let opened = match read_words(rt.alloc(), words) {
         Ok(Request::Records { script, schedule }) => open_both(rt, script, schedule),
         Err(fault) => Err(fault),

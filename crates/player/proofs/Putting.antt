@@ -87,6 +87,12 @@ linked_now v _ n = v.linked n
 single_snap : (snap : Snap) (i : ℕ) → i < length (snap ∷ []) → snap_at (snap ∷ []) i ≡ snap
 single_snap snap i p = rw (let e : i ≡ 0 = omega arith in e) refl
 
+-- its LLX has just loaded the info of the cell
+just_looked : (v : ClientView) (c : Client) (m : LlxRun) (next : Option Put) (snap : Snap) → Answered v c (Llx m) next (ended.Llx (LlxSnapshot snap)) → IsLastLook c.pass.0 v.past v.start v.past snap.node.0
+just_looked v c m next snap x =
+    let y = x.answers.1 in
+    record { row = y.row; before = y.before; is = y.is; since = subst (λ (s : History). Extends y.before s) x.works.begun y.since; last = subst (λ (h : History). IsLastStep c.pass.0 h LoadInfo snap.node.0 y.row y.before) (sym y.is) (last_now c.pass.0 y.before LoadInfo snap.node.0 y.row y.own y.kind (rw x.answers.0.node y.word)) }
+
 -- a snapshot that an SCX follows is that of a set, and with it the SCX may begin
 pub can_put : (v : ClientView) (old : Client) (kept : Kept) (m : LlxRun) (put : Put) (snap : Snap) → IsSound v → (x : Answered v old (Llx m) (Some put) (ended.Llx (LlxSnapshot snap))) → kept.found ≡ set old.kept.found (node_of (LlxSnapshot snap)) (found_of (LlxSnapshot snap)) → CanPut v (linked_now v x.works.command) (record old { kept = kept }) (snap ∷ []) [] (snap.node.0, put.side) put.value
 can_put v old kept m put snap sound x e = go x.works.command x.works.is x.works.run_of.1 x.few
@@ -94,11 +100,7 @@ can_put v old kept m put snap sound x e = go x.works.command x.works.is x.works.
     unspent : IsUnspent v.layout old.pass.0 v.past snap v.past
     unspent = snapshot_unspent v old m (Some put) snap sound x
 
-    -- its LLX has just loaded the info of the cell
-    looked : IsLastLook old.pass.0 v.past v.start v.past snap.node.0
-    looked = let y = x.answers.1 in record { row = y.row; before = y.before; is = y.is; since = subst (λ (s : History). Extends y.before s) x.works.begun y.since; last = subst (λ (h : History). IsLastStep old.pass.0 h LoadInfo snap.node.0 y.row y.before) (sym y.is) (last_now old.pass.0 y.before LoadInfo snap.node.0 y.row y.own y.kind (rw x.answers.0.node y.word)) }
-
-    go : (command : Command) → slice_get (commands v.calls old.pass.0) v.answered ≡ Some command → IsLlxOf command m.node.0 (Some put) → ((after_taking : ℕ) → v.steps + 40 ≤ most_steps command after_taking) → CanPut v (linked_now v command) (record old { kept = kept }) (snap ∷ []) [] (snap.node.0, put.side) put.value
+    go : (command : Command) → slice_get (commands v.calls old.pass.0) v.answered ≡ Some command → IsLlxOf command m.node.0 (Some put) → ((taken : ℕ) → v.steps + 40 ≤ most_steps command taken) → CanPut v (linked_now v command) (record old { kept = kept }) (snap ∷ []) [] (snap.node.0, put.side) put.value
     go (SetOf field y) is f few = record {
       mode = x.works.mode;
       rests = rests_kept v old kept m (Some put) (LlxSnapshot snap) (linked_now v (SetOf field y)) sound x e (λ n. rw (x.answers.0.node ∙ f.0) refl);
@@ -108,7 +110,7 @@ can_put v old kept m put snap sound x e = go x.works.command x.works.is x.works.
       unspent = λ i p. (v.past, rw (single_snap snap i p) unspent);
       command = SetOf field y;
       is = is;
-      moments = λ i p. record { moment = v.past; found = rw (single_snap snap i p) unspent.usable.found; source = rw (single_snap snap i p) looked };
+      moments = λ i p. record { moment = v.past; found = rw (single_snap snap i p) unspent.usable.found; source = rw (single_snap snap i p) (just_looked v old m (Some put) snap x) };
       took = x.works.took;
       serves = λ k z. record {
         called = z.called;
@@ -140,7 +142,7 @@ told_put v old new kept m put snap (Some answer) x p = go x.works.command x.work
           is = rw p.0.pass is;
           rests = record { stands = rests.stands; none = rests.none };
           answers = tt;
-          right = (w.empty, rw (sym (x.answers.0.node ∙ f.0)) (rw x.answers.0.node x.answers.0.not_final));
+          right = (w.empty, rw (sym (x.answers.0.node ∙ f.0)) (rw x.answers.0.node x.answers.0.not_final), rw (p.0.pass, sym (x.answers.0.node ∙ f.0)) (just_looked v old m (Some put) snap x));
           entry = entered_none (Full w.what w.left) v.won x.works.won (λ e. cc);
           took = rw p.0.pass (taken_one v old.pass.0 (no_hand old.share) x.works.took);
           late = λ turn e. rw p.1 (x.works.late turn e);
@@ -208,7 +210,7 @@ put_starts v linked c snaps removed field x kept m sound can some_node some_scx 
       (rw scx y.share.taken_scx) free
       (rw fresh (left_own_node v.layout v.past c.pass.0 c.share _ _ c.share.next_node y.share own_node))
       (rw fresh y.share.taken_nodes) (rw fresh (y.share.unmentioned c.share.next_node own_node)) (rw fresh (y.share.untaken_nodes c.share.next_node own_node)) (all_over v.layout v.past c.pass.0 c.share _ _ y.share y.over);
-  few = λ after_taking. let few = can.few after_taking in omega (arith, bound);
+  few = λ taken. let few = can.few taken in omega (arith, bound);
 }
   where
     y : IsClientState (record v { linked = linked }) c (no_hand c.share)

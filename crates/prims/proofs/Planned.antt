@@ -6,8 +6,7 @@ use Rattle.arena.specs.declared.number.NodeNo.{NodeNo}
 use Rattle.arena.specs.declared.word.Side.{Side}
 use Rattle.arena.specs.Log.{has}
 use Rattle.arena.specs.ScxRecords.{IsPlan, count_of, plan_finalizes, field_index_of, side_of, side_no, removed_bits}
-use Rattle.arena.proofs.Lemmas.{or_right, or_split}
-use Rattle.help.proofs.Lemmas.{packed_count, packed_field, packed_side, packed_within, packed_removes}
+use Rattle.arena.proofs.Lemmas.{or_right, or_split, packed_count, packed_field, packed_side, packed_within, packed_removes}
 use Rattle.prims.specs.Snap.{child_of, snap_at}
 use Rattle.prims.specs.Snaps.{AreDistinct, IsAmong, ListsNode, has_node, finalizes}
 use Rattle.prims.specs.Scx.Known.{IsUpdateOver, removed_nodes}

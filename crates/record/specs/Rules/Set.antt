@@ -32,8 +32,8 @@ abbrev pub SetIsRight : ℕ × Side → ℕ → Layout → ℕ → History → H
 SetIsRight field value lay c now start linked Finalized = is_final (log lay now) field.0 ≡ true
 -- another client's SCX-record was in the way of its LLX
 SetIsRight field value lay c now start linked (Fail node scx) = IsFailOf lay c now start field.0 node.0 scx.0
--- the share has none left of this, and the cell is not final
-SetIsRight field value lay c now start linked (Full what left) = IsEmpty lay c now what left × (is_final (log lay now) field.0 ≡ false)
+-- the share has none left of this; the call's LLX has just looked at the cell, which is not final
+SetIsRight field value lay c now start linked (Full what left) = IsEmpty lay c now what left × (is_final (log lay now) field.0 ≡ false) × IsLastLook c now start now field.0
 -- another client's SCX-record has come to the cell since the snapshot of its own LLX
 SetIsRight field value lay c now start linked (Lost node scx) = HasRoom lay c start × IsInTheWay lay c now start Freeze (field.0 ∷ []) node.0 scx.0 (λ moment. IsLastLook c now start moment field.0 × (is_final (log lay moment) field.0 ≡ false))
 SetIsRight field value lay c now start linked Done = HasRoom lay c start
