@@ -3,7 +3,8 @@ use Rattle.std.specs.Prelude.{◌≡◌, ℕ, ◌+◌, ◌*◌, ◌/◌, ◌%◌
 use Rattle.arena.specs.declared.head.Head.{Head}
 use Rattle.arena.specs.ScxRecords.{bit}
 
--- what a word says as a head: its class in the two lowest bits, then whether it is a leaf, then its level
+-- what a word says as a head: its class in the two lowest bits, above them whether it is a leaf,
+-- and its level in the rest
 abbrev pub head_of : ℕ → Head
 head_of w = record { level = w / 8; leaf = eqb (w / 4 % 2) 1; class = w % 4 }
 

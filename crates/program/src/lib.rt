@@ -13,4 +13,6 @@ pub use play::play_over;
 #[cfg(test)]
 mod read_tests;
 #[cfg(test)]
+mod stories;
+#[cfg(test)]
 mod tests;

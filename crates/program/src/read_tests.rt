@@ -1,7 +1,7 @@
 //! Reports that are read back, and texts that are no reports.
 use crate::fault::Fault;
 use crate::orders::run;
-use crate::tests::{IN_TURN, SET, SET_REPORT, UNTOUCHED_REPORT};
+use crate::tests::{IN_TURN, SET, SET_REPORT};
 use arena::Mode;
 use record::Record;
 use report::{ReportFault, read_record, write_record};
@@ -41,7 +41,7 @@ fn with_ends(alloc: Global, text: &str, end: &str) -> Result<String, Fail> {
 
 #[test]
 fn whole_reports_are_read_back(rt: HostRuntime) -> Result<(), Fail> {
-    for report in [SET_REPORT, UNTOUCHED_REPORT, TREE_REPORT] {
+    for report in [SET_REPORT, TREE_REPORT] {
         let record = read(rt.alloc(), report.as_bytes())?;
         let text = written(rt.alloc(), &record)?;
         assert_eq!(rt; text.as_slice(), report.as_bytes());

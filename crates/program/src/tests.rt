@@ -51,33 +51,18 @@ reply,1,0,24,30,30,snap 9 0
 end,30,2,1,,,
 ";
 
-/// A snapshot of a cell that no one has changed, and its report.
-const UNTOUCHED: &str = "limits,1,0,0,1\n0,llx,8,,\nend,1,,,\n";
-
-pub(crate) const UNTOUCHED_REPORT: &str = "\
-report,1,records,,,,
-limits,1,0,0,1,,
-call,0,0,llx,8,,
-step,1,0,marked,n8.marked,0,0
-step,2,0,info,n8.info,0,0
-step,3,0,state,s0.state,2,2
-step,4,0,marked,n8.marked,0,0
-step,5,0,child,n8.left,0,0
-step,6,0,child,n8.right,0,0
-step,7,0,info,n8.info,0,0
-reply,0,0,1,7,7,snap 0 0
-end,7,1,0,,,
-";
+/// A snapshot of a cell that no one has changed.
+pub(crate) const UNTOUCHED: &str = "limits,1,0,0,1\n0,llx,8,,\nend,1,,,\n";
 
 /// What a command wrote, and its status.
 #[derive(Drop)]
-struct Ended {
-    status: u8,
-    out: Vec<u8>,
-    err: Vec<u8>,
+pub(crate) struct Ended {
+    pub(crate) status: u8,
+    pub(crate) out: Vec<u8>,
+    pub(crate) err: Vec<u8>,
 }
 
-fn played(alloc: Global, script: &str, schedule: &str) -> Ended {
+pub(crate) fn played(alloc: Global, script: &str, schedule: &str) -> Ended {
     let (mut script, mut schedule) = (script.as_bytes(), schedule.as_bytes());
     let (mut out, mut err) = (Metered::new(Vec::new(alloc)), Vec::new(alloc));
     let status = play_over(
@@ -93,7 +78,7 @@ fn played(alloc: Global, script: &str, schedule: &str) -> Ended {
 }
 
 /// The lines that begin so.
-fn lines_of(alloc: Global, text: &[u8], start: &str) -> Result<Vec<u8>, Fail> {
+pub(crate) fn lines_of(alloc: Global, text: &[u8], start: &str) -> Result<Vec<u8>, Fail> {
     let mut lines = Vec::new(alloc);
     for line in text.split(|byte| *byte == b'\n') {
         if line.starts_with(start.as_bytes()) {
@@ -105,137 +90,11 @@ fn lines_of(alloc: Global, text: &[u8], start: &str) -> Result<Vec<u8>, Fail> {
 }
 
 #[test]
-fn whole_reports(rt: HostRuntime) {
-    let cases = [
-        (SET, IN_TURN, SET_REPORT),
-        (UNTOUCHED, "finish,0,,\nend,1,,\n", UNTOUCHED_REPORT),
-    ];
-    for (script, schedule, report) in cases {
-        let ended = played(rt.alloc(), script, schedule);
-        assert_eq!(rt; ended.err.as_slice(), b"".as_slice());
-        assert_eq!(rt; ended.out.as_slice(), report.as_bytes());
-        assert_eq!(rt; ended.status, 0);
-    }
-}
-
-#[test]
-fn replies(rt: HostRuntime) -> Result<(), Fail> {
-    // The clients race for cells: one finalizes a cell that the other has a snapshot of, one is
-    // stopped before it freezes its cell, and one sees that a cell has changed.
-    let cases = [
-        (
-            "limits,2,10,10,1\n1,llx,2,,\n0,llx,1,,\n0,llx,2,,\n0,scx,1 2,2,1 left 70\n0,llx,2,,\n\
-             1,scx,2,,2 left 80\nend,6,,,\n",
-            "call,1,,\nfinish,0,,\nfinish,1,,\nend,3,,\n",
-            "reply,1,0,1,7,7,snap 0 0\nreply,0,0,8,14,14,snap 0 0\nreply,0,1,15,21,21,snap 0 0\n\
-             reply,0,2,22,43,42,done\nreply,0,3,44,48,48,finalized\nreply,1,1,49,61,,lost n2 s1\n",
-            "end,61,6,1,,,\n",
-        ),
-        (
-            "limits,2,10,10,1\n0,set,1,left,70\n1,set,1,left,71\nend,2,,,\n",
-            "until,0,fill,7\nfinish,1,,\nfinish,0,,\nend,3,,\n",
-            "reply,1,0,15,37,36,done\nreply,0,0,1,43,,lost n1 s11\n",
-            "end,43,2,1,,,\n",
-        ),
-        (
-            "limits,2,10,10,1\n0,llx,1,,\n0,llx,2,,\n0,vlx,1 2,,\n1,set,2,left,5\nend,4,,,\n",
-            "step,0,,14\nfinish,1,,\nfinish,0,,\nend,3,,\n",
-            "reply,0,0,1,7,7,snap 0 0\nreply,0,1,8,14,14,snap 0 0\nreply,1,0,15,37,36,done\n\
-             reply,0,2,38,39,,changed n2 s11\n",
-            "end,39,4,1,,,\n",
-        ),
-        // The cell changes between the two loads of its info, for an `llx` and for a `set`.
-        (
-            "limits,2,10,10,1\n0,llx,1,,\n1,set,1,left,70\nend,2,,,\n",
-            "step,0,,2\nfinish,1,,\nfinish,0,,\nend,3,,\n",
-            "reply,1,0,3,25,24,done\nreply,0,0,1,33,,fail n1 s11\n",
-            "end,33,2,1,,,\n",
-        ),
-        (
-            "limits,2,10,10,1\n0,set,1,left,60\n1,set,1,left,70\nend,2,,,\n",
-            "step,0,,2\nfinish,1,,\nfinish,0,,\nend,3,,\n",
-            "reply,1,0,3,25,24,done\nreply,0,0,1,33,,fail n1 s11\n",
-            "end,33,2,1,,,\n",
-        ),
-        // An `llx` helps the one that is in its way to its end, and fails; where that one
-        // finalizes the cell, it answers so.
-        (
-            "limits,2,10,10,1\n0,llx,1,,\n1,set,1,left,70\nend,2,,,\n",
-            "until,1,freeze,1\nfinish,0,,\nfinish,1,,\nend,3,,\n",
-            "reply,0,0,19,34,,fail n1 s11\nreply,1,0,1,39,31,done\n",
-            "end,39,2,1,,,\n",
-        ),
-        (
-            "limits,2,10,10,1\n0,llx,1,,\n1,llx,1,,\n1,scx,1,1,1 left 5\nend,3,,,\n",
-            "until,1,mark,1\nfinish,0,,\nfinish,1,,\nend,3,,\n",
-            "reply,1,0,1,7,7,snap 0 0\nreply,0,0,21,35,35,finalized\nreply,1,1,8,39,34,done\n",
-            "end,39,3,1,,,\n",
-        ),
-        // Which snapshots a client has: an unlinked call drops none, its own SCX drops those of its
-        // cells, and an `llx` or a `set` of a finalized cell gives none.
-        (
-            "limits,1,10,10,1\n0,llx,1,,\n0,scx,1 2,,1 left 5\n0,vlx,1,,\n0,vlx,3 2 1,,\n\
-             0,scx,1,1,1 left 5\n0,vlx,1,,\n0,llx,1,,\n0,llx,2,,\n0,set,1,left,3\n\
-             0,scx,2 1,,2 right 4\n0,vlx,2,,\nend,11,,,\n",
-            "finish,0,,\nend,1,,\n",
-            "reply,0,0,1,7,7,snap 0 0\nreply,0,1,8,8,,unlinked n2\nreply,0,2,9,9,9,same\n\
-             reply,0,3,10,10,,unlinked n3\nreply,0,4,11,27,26,done\nreply,0,5,28,28,,unlinked n1\n\
-             reply,0,6,29,33,33,finalized\nreply,0,7,34,40,40,snap 0 0\n\
-             reply,0,8,41,45,45,finalized\nreply,0,9,46,46,,unlinked n1\nreply,0,10,47,47,47,same\n",
-            "end,47,11,1,,,\n",
-        ),
-        // Of an empty share, the nodes are named first, but a cell without a snapshot before them;
-        // what is refused keeps its snapshot.
-        (
-            "limits,1,0,0,1\n0,scx,1,,1 left 5\n0,llx,1,,\n0,scx,1,,1 left 5\n0,vlx,1,,\n\
-             0,set,2,left,5\n0,vlx,1 2,,\nend,6,,,\n",
-            "finish,0,,\nend,1,,\n",
-            "reply,0,0,1,1,,unlinked n1\nreply,0,1,2,8,8,snap 0 0\nreply,0,2,9,9,,full nodes 0\n\
-             reply,0,3,10,10,10,same\nreply,0,4,11,17,,full nodes 0\nreply,0,5,18,19,18,same\n",
-            "end,19,6,0,,,\n",
-        ),
-        (
-            "limits,1,1,0,1\n0,llx,1,,\n0,scx,1,,1 left 5\n0,set,1,left,5\n0,vlx,1,,\n\
-             end,4,,,\n",
-            "finish,0,,\nend,1,,\n",
-            "reply,0,0,1,7,7,snap 0 0\nreply,0,1,8,8,,full scx 0\nreply,0,2,9,15,,full scx 0\n\
-             reply,0,3,16,16,16,same\n",
-            "end,16,4,0,,,\n",
-        ),
-        // Shares that are used up: of client 0's nodes and of client 1's SCX-records there is one.
-        (
-            "limits,1,1,2,1\n0,set,1,left,5\n0,set,1,left,6\nend,2,,,\n",
-            "finish,0,,\nend,1,,\n",
-            "reply,0,0,1,23,22,done\nreply,0,1,24,30,,full nodes 0\n",
-            "end,30,2,1,,,\n",
-        ),
-        (
-            "limits,2,2,1,1\n1,set,1,left,5\n1,llx,1,,\n1,scx,1,,1 left 6\n0,set,1,left,7\n\
-             end,4,,,\n",
-            "finish,1,,\nfinish,0,,\nend,2,,\n",
-            "reply,1,0,1,23,22,done\nreply,1,1,24,30,30,snap 11 0\nreply,1,2,31,31,,full scx 0\n\
-             reply,0,0,32,54,53,done\n",
-            "end,54,4,2,,,\n",
-        ),
-        // A client with no call left, no turn at all, and a schedule that ends in mid-call.
-        (
-            UNTOUCHED,
-            "finish,0,,\nstep,0,,2\nend,2,,\n",
-            "reply,0,0,1,7,7,snap 0 0\n",
-            "end,9,1,0,,,\n",
-        ),
-        (UNTOUCHED, "end,0,,\n", "", "end,0,0,0,,,\n"),
-        (UNTOUCHED, "step,0,,6\nend,1,,\n", "", "end,6,0,0,,,\n"),
-    ];
-    for (script, schedule, replies, end) in cases {
-        let ended = played(rt.alloc(), script, schedule);
-        let told = lines_of(rt.alloc(), ended.out.as_slice(), "reply,")?;
-        assert_eq!(rt; ended.err.as_slice(), b"".as_slice());
-        assert_eq!(rt; told.as_slice(), replies.as_bytes());
-        assert!(rt; ended.out.as_slice().ends_with(end.as_bytes()), "{end}");
-        assert_eq!(rt; ended.status, 0);
-    }
-    Ok(())
+fn whole_report(rt: HostRuntime) {
+    let ended = played(rt.alloc(), SET, IN_TURN);
+    assert_eq!(rt; ended.err.as_slice(), b"".as_slice());
+    assert_eq!(rt; ended.out.as_slice(), SET_REPORT.as_bytes());
+    assert_eq!(rt; ended.status, 0);
 }
 
 /// Other spellings of a script and its schedule: both line ends, blank lines, quotes, and no
@@ -396,72 +255,60 @@ fn refused_texts(rt: HostRuntime) {
     ];
     for (script, schedule, line) in cases {
         let ended = played(rt.alloc(), script, schedule);
-        assert_eq!(rt; ended.err.as_slice(), line.as_bytes());
-        assert_eq!(rt; ended.out.as_slice(), b"".as_slice());
-        assert_eq!(rt; ended.status, 1);
+        assert_eq!(rt; ended.err.as_slice(), line.as_bytes(), "{line}");
+        assert_eq!(rt; ended.out.as_slice(), b"".as_slice(), "{line}");
+        assert_eq!(rt; ended.status, 1, "{line}");
     }
+}
+
+/// What a failing device makes of the run: the script gives so many bytes, the schedule so many, and
+/// so many can be written.
+fn played_short(alloc: Global, script: usize, schedule: usize, written: usize) -> Ended {
+    let mut script = FailAt::new(SET.as_bytes(), script);
+    let mut schedule = FailAt::new(IN_TURN.as_bytes(), schedule);
+    let mut out = Metered::new(FailAt::new(Vec::new(alloc), written));
+    let mut err = Vec::new(alloc);
+    let status = play_over(
+        alloc,
+        Mode::Records,
+        &mut script,
+        &mut schedule,
+        &mut out,
+        &mut err,
+    );
+    let out = out.inner.inner;
+    Ended { status, out, err }
 }
 
 #[test]
 fn reader_fails_at_each_byte(rt: HostRuntime) {
-    let alloc = rt.alloc();
-    for bytes in 0..=SET.len() {
-        let (mut out, mut err) = (Metered::new(Vec::new(alloc)), Vec::new(alloc));
-        let mut script = FailAt::new(SET.as_bytes(), bytes);
-        let mut schedule = IN_TURN.as_bytes();
-        let status = play_over(
-            alloc,
-            Mode::Records,
-            &mut script,
-            &mut schedule,
-            &mut out,
-            &mut err,
-        );
+    let (script, schedule, report) = (SET.len(), IN_TURN.len(), SET_REPORT.len());
+    for bytes in 0..=script {
+        let ended = played_short(rt.alloc(), bytes, schedule + 1, report);
         assert_eq!(rt;
-            (status, out.inner.len()),
+            (ended.status, ended.out.len()),
             (4, 0),
             "after {bytes} bytes of the script"
         );
-        assert_eq!(rt; err.as_slice(), b"read failed\n".as_slice());
+        assert_eq!(rt; ended.err.as_slice(), b"read failed\n".as_slice());
     }
-    for bytes in 0..=IN_TURN.len() {
-        let (mut out, mut err) = (Metered::new(Vec::new(alloc)), Vec::new(alloc));
-        let mut script = SET.as_bytes();
-        let mut schedule = FailAt::new(IN_TURN.as_bytes(), bytes);
-        let status = play_over(
-            alloc,
-            Mode::Records,
-            &mut script,
-            &mut schedule,
-            &mut out,
-            &mut err,
-        );
+    for bytes in 0..=schedule {
+        let ended = played_short(rt.alloc(), script + 1, bytes, report);
         assert_eq!(rt;
-            (status, out.inner.len()),
+            (ended.status, ended.out.len()),
             (4, 0),
             "after {bytes} bytes of the schedule"
         );
-        assert_eq!(rt; err.as_slice(), b"read failed\n".as_slice());
+        assert_eq!(rt; ended.err.as_slice(), b"read failed\n".as_slice());
     }
 }
 
 #[test]
 fn writer_fails_at_each_byte(rt: HostRuntime) {
-    let alloc = rt.alloc();
     for bytes in 0..SET_REPORT.len() {
-        let (mut script, mut schedule) = (SET.as_bytes(), IN_TURN.as_bytes());
-        let mut out = Metered::new(FailAt::new(Vec::new(alloc), bytes));
-        let mut err = Vec::new(alloc);
-        let status = play_over(
-            alloc,
-            Mode::Records,
-            &mut script,
-            &mut schedule,
-            &mut out,
-            &mut err,
-        );
-        assert_eq!(rt; status, 4, "after {bytes} bytes");
-        assert_eq!(rt; err.as_slice(), b"write failed\n".as_slice());
-        assert_eq!(rt; out.inner.inner.as_slice(), &SET_REPORT.as_bytes()[..bytes]);
+        let ended = played_short(rt.alloc(), SET.len() + 1, IN_TURN.len() + 1, bytes);
+        assert_eq!(rt; ended.status, 4, "after {bytes} bytes");
+        assert_eq!(rt; ended.err.as_slice(), b"write failed\n".as_slice());
+        assert_eq!(rt; ended.out.as_slice(), &SET_REPORT.as_bytes()[..bytes]);
     }
 }
