@@ -114,7 +114,7 @@ fn set_of(arguments: [&str; 3]) -> Option<Command>
     })
 }
 
-#[tactic(auto, using(texts::proofs::Numbers::same_number))]
+#[tactic(auto, using(texts::proofs::Lemmas::same_number))]
 fn cell_of(text: &str) -> Option<Cell>
     ensures { MatchOption result ((node : ℕ) → IsCell node → text.now ≢ decimal node) (λ cell. IsCell cell × (text.now ≡ decimal cell)) }
 {

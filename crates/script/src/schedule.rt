@@ -198,7 +198,7 @@ fn no_number(text: &str) -> Result<(), ScheduleCause>
 }
 
 /// How many turns, or steps of a kind: 1 to 1,000,000.
-#[tactic(auto, using(texts::proofs::Numbers::same_number))]
+#[tactic(auto, using(texts::proofs::Lemmas::same_number))]
 fn times_of(text: &str) -> Result<u32, ScheduleCause>
     ensures ok { IfOk result (λ n. (1 ≤ n) × (n ≤ 1000000) × (text.now ≡ decimal n)) }
     ensures err { OnErr result (¬ (NamesTimes text.now)) }
