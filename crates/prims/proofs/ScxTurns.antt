@@ -170,7 +170,7 @@ module _ (allows : Layout → History → ℕ → Type 0) (c : Call) (h : Histor
         own = x.hand.is_open.own;
         free = x.hand.is_open.unnamed;
         unfinished = x.hand.unfinished;
-        raw_count = rw ep x.hand.update.planned;
+        planned = rw ep x.hand.update.planned;
         inside = λ j i. rw (em j (less j i)) (x.hand.linked j (less j i)).inside;
         distinct = λ j k p q d. rw (em j (less j p), em k (less k q)) (x.hand.update.distinct j k (less j p) (less k q) d);
         named = λ j i. rw (em j (less j i)) (in_field_named (snap_at m.update.snaps j).node.0 (x.hand.linked j (less j i)).in_field);
@@ -189,7 +189,7 @@ module _ (allows : Layout → History → ℕ → Type 0) (c : Call) (h : Histor
     own = x.hand.is_open.own;
     way = x.way;
     over = x.hand.update;
-    raw_count = x.filled Plan tt;
+    planned = x.filled Plan tt;
     fresh = x.filled New tt;
     expected = x.filled Old tt;
     members = λ j i. x.filled (Member j) i;

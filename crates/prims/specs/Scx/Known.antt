@@ -49,7 +49,7 @@ job_of m = record { scx = m.scx; call = m.call; update = m.update }
 -- an update over different nodes, by a plan of as many, which
 -- expects in its field what the snapshot found there
 pub record IsUpdateOver (u : Update) : Type 0 where
-  pub raw_count : IsPlan u.plan.0
+  pub planned : IsPlan u.plan.0
   pub count : count_of u.plan.0 ≡ length u.snaps
   pub distinct : (i j : ℕ) → i < length u.snaps → j < length u.snaps → i ≢ j → (snap_at u.snaps i).node.0 ≢ (snap_at u.snaps j).node.0
   pub old : u.old.0 ≡ (child_of (snap_at u.snaps (field_index_of u.plan.0)) (side_of u.plan.0)).0
@@ -185,7 +185,7 @@ pub record HasFilled (c : Call) (h : History) (s number : ℕ) (u : Update) : Ty
   pub own : IsOwnScx c.layout c.pass s
   pub way : IsUnderWay c h s u.snaps
   pub over : IsUpdateOver u
-  pub raw_count : plan h s ≡ u.plan.0
+  pub planned : plan h s ≡ u.plan.0
   pub fresh : new h s ≡ u.fresh.0
   pub expected : old h s ≡ u.old.0
   pub members : (j : ℕ) → j < length u.snaps → member h s j ≡ (snap_at u.snaps j).node.0
