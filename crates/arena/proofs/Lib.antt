@@ -3,6 +3,7 @@ mod Openings
 mod Shapes
 mod Shares
 mod Values
+mod Named
 mod Found
 mod Plans
 mod Packed

@@ -5,20 +5,13 @@ use Rattle.arena.specs.declared.layout.Layout.{Layout}
 use Rattle.arena.specs.ScxRecords.{count_of}
 use Rattle.arena.specs.Fills.{IsOwnScx}
 use Rattle.arena.specs.Log.{owner}
+use Rattle.arena.proofs.Bools.{and_left, and_right}
 
 -- its count stands in the lowest three bits, and is at most four
 pub record IsCounted (p : ℕ) : Type 0 where
   pub count : count_of p ≡ p % 8
   pub few : p % 8 ≤ 4
   pub small : p < 1024
-
-and_left : (a b : Bool) → a && b ≡ true → a ≡ true
-and_left true b e = refl
-and_left false b e = e
-
-and_right : (a b : Bool) → a && b ≡ true → b ≡ true
-and_right true b e = e
-and_right false b e = cc
 
 pub plan_counted : (p : ℕ) → 0 < count_of p → IsCounted p
 plan_counted p i = go (ltb p 1024 && leb (p % 8) 4) refl i

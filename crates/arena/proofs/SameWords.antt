@@ -1,5 +1,5 @@
 -- Two words are the same where the test says so, and only there.
-use Rattle.std.proofs.Common.{◌≡◌, ◌≢◌, ℕ, Bool, true, false, ◌&&◌, eqb, refl, sym, ap, ◌∙◌, eqb-true, eq-eqb}
+use Rattle.std.proofs.Common.{◌≡◌, ◌≢◌, ℕ, true, false, eqb, refl, sym, ap, ◌∙◌, eqb-true, eq-eqb}
 use Rattle.arena.specs.declared.word.Side.{Side}
 use Rattle.arena.specs.declared.word.Side.TheVariants.{Left, Right}
 use Rattle.arena.specs.declared.word.NodeWord.{NodeWord}
@@ -9,12 +9,7 @@ use Rattle.arena.specs.declared.word.ScxWord.TheVariants.{State, AllFrozen, Plan
 use Rattle.arena.specs.declared.word.Word.{Word}
 use Rattle.arena.specs.declared.word.Word.TheVariants.{Node, Scx}
 use Rattle.arena.specs.Words.{same_word, same_side, same_node_word, same_scx_word}
-
-and_left : (a b : Bool) → a && b ≡ true → a ≡ true
-and_left a b e = elim a as (λ v. v && b ≡ true → v ≡ true) [ true ↦ λ _. refl | false ↦ λ f. f ] e
-
-and_right : (a b : Bool) → a && b ≡ true → b ≡ true
-and_right a b e = elim a as (λ v. v && b ≡ true → b ≡ true) [ true ↦ λ f. f | false ↦ λ f. cc ] e
+use Rattle.arena.proofs.Bools.{and_left, and_right}
 
 side_same : (a b : Side) → same_side a b ≡ true → a ≡ b
 side_same Left Left e = refl

@@ -1,5 +1,5 @@
 -- What the word `head` of a node of the tree packs.
-use Rattle.std.specs.Prelude.{◌≡◌, ℕ, ◌+◌, ◌*◌, ◌/◌, ◌%◌, ◌^◌, ◌<◌, eqb}
+use Rattle.std.specs.Prelude.{ℕ, ◌+◌, ◌*◌, ◌/◌, ◌%◌, ◌^◌, ◌<◌, eqb}
 use Rattle.arena.specs.declared.head.Head.{Head}
 use Rattle.arena.specs.ScxRecords.{bit}
 

@@ -28,9 +28,24 @@ fn opening_head(node: NodeNo) -> u64
     ensures { result ≡ tree_opening (Word.Node node NodeWord.Head) }
 {
     match node {
-        NodeNo(0) => Head { level: 0, leaf: false, class: 2 }.word(),
-        NodeNo(1) => Head { level: 1, leaf: true, class: 1 }.word(),
-        NodeNo(2) => Head { level: 1, leaf: true, class: 2 }.word(),
+        NodeNo(0) => Head {
+            level: 0,
+            leaf: false,
+            class: 2,
+        }
+        .word(),
+        NodeNo(1) => Head {
+            level: 1,
+            leaf: true,
+            class: 1,
+        }
+        .word(),
+        NodeNo(2) => Head {
+            level: 1,
+            leaf: true,
+            class: 2,
+        }
+        .word(),
         _ => 0,
     }
 }

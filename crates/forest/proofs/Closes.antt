@@ -2,6 +2,8 @@
 use Rattle.std.proofs.Common.{◌≡◌, ℕ, zero, suc, inl, inr, List, [], ◌∷◌, ◌++◌, slice_index, refl, sym, ◌∙◌, subst}
 use mathlib.Core.Option.{some, some-injective, some-ne-none}
 use lib.ListN.{get_elem?}
+use Rattle.std.specs.List.{All}
+use Rattle.std.proofs.lemmas.List.Elements.{All-nil, All-cons, All-head, All-tail, All-weaker}
 use Rattle.atomic_table.specs.declared.shared.Seat.{Seat}
 use Rattle.atomic_table.specs.Table.{Final, Seen}
 use Rattle.arena.specs.declared.layout.Layout.{Layout}
@@ -24,14 +26,14 @@ use Rattle.forest.specs.TableRule.{history_of, seated_pass, look, after_look, Ma
 use Rattle.forest.specs.Traces.{known_of, rows_of}
 use Rattle.prims.specs.Shares.{IsShare}
 use Rattle.forest.specs.Shares.{entries_of}
-use Rattle.forest.specs.Passes.{PassView, Ground, ground, AreOf, AreOfCall, Each, AreBegun, HasBlamed, HaveLeftShares, IsClosed, run_of, done_of, steps_of}
+use Rattle.forest.specs.Passes.{PassView, ground, IsOf, AreOfCall, AreBegun, HasBlamed, HaveLeftShares, IsClosed, run_of, done_of, steps_of}
 use Rattle.forest.specs.JoinedSeats.{IsFrom, IsOneOf, AreIn}
 use Rattle.forest.specs.PassInvariant.{pass_view, IsPass}
 use Rattle.forest.proofs.Called.{calls_others}
 use Rattle.forest.proofs.Advances.{keeps_all, rows_by_others, same_knower}
 use Rattle.prims.proofs.Lemmas.{next_unwon}
 use Rattle.forest.proofs.Calls.{IsQuiet, quiet_start, quiet_other}
-use Rattle.forest.proofs.Blames.{each_by, blames_left}
+use Rattle.forest.proofs.Blames.{blames_left}
 use Rattle.forest.proofs.Passes.{HasCalled, seated, called_pass, called_nothing}
 use Rattle.forest.proofs.Meets.{look_called, look_steps}
 
@@ -98,10 +100,6 @@ in_left allows (d ∷ ds) ps qs a = ((a.0.0, one_left a.0.0 ps qs a.0.1, a.0.2),
 pub in_more : {allows : Layout → History → ℕ → Type 0} (d : PassView) (ds : List PassView) (all own joined : List SeatedPass) (k : SeatedPass) → own ≡ k ∷ [] → joined ≡ all ++ own → IsFrom allows d k → AreIn allows ds all → AreIn allows (d ∷ ds) joined
 in_more {allows} d ds all own joined k e j f a = rw (j, e) ((k, one_right k all (k ∷ []) (inl refl), f), in_left allows ds all (k ∷ []) a)
 
-pub of_append : (f : Ground) (xs ys : List PassView) → AreOf f (xs ++ ys) → AreOf f xs × AreOf f ys
-of_append f [] ys a = (tt, a)
-of_append f (x ∷ xs) ys a = let z = of_append f xs ys a.1 in ((a.0, z.0), z.1)
-
 -- The end
 
 owned_behind : (lay : Layout) (run : List Row) (owner : ℕ → ℕ) (id : ℕ) (k : SeatedPass) (ps : List SeatedPass) → Owns lay run owner id ps → IsOneOf k ps → (k.layout ≡ lay) × Behind run k
@@ -137,31 +135,34 @@ one_ended {allows} d k lay run same f sound b =
       blamed = f.blamed;
     })
 
-all_ended : {allows : Layout → History → ℕ → Type 0} (id : _) (lay : Layout) (run : List Row) (owner : ℕ → ℕ) (seat : ℕ) (ks : List SeatedPass) → IsRun allows lay (history_of lay.mode run) → Owns lay run owner seat ks → (ds : List PassView) → AreOf (ground id lay) ds → AreIn allows ds ks → Each (IsAtEnd lay run) ds
-all_ended id lay run owner seat ks sound o [] of a = tt
+all_ended : {allows : Layout → History → ℕ → Type 0} (id : _) (lay : Layout) (run : List Row) (owner : ℕ → ℕ) (seat : ℕ) (ks : List SeatedPass) → IsRun allows lay (history_of lay.mode run) → Owns lay run owner seat ks → (ds : List PassView) → All (IsOf (ground id lay)) ds → AreIn allows ds ks → All (IsAtEnd lay run) ds
+all_ended id lay run owner seat ks sound o [] of a = All-nil (IsAtEnd lay run)
 all_ended id lay run owner seat ks sound o (d ∷ ds) of a =
     let k = a.0.0 in
     let b = owned_behind lay run owner seat k ks o a.0.1 in
-    (one_ended d k lay run of.0.1 a.0.2 sound b.1, all_ended id lay run owner seat ks sound o ds of.1 a.1)
+    All-cons (IsAtEnd lay run) d ds (one_ended d k lay run (All-head (IsOf (ground id lay)) d ds of).1 a.0.2 sound b.1) (all_ended id lay run owner seat ks sound o ds (All-tail (IsOf (ground id lay)) d ds of) a.1)
 
-all_begun : (lay : Layout) (run : List Row) (ds : List PassView) → Each (IsAtEnd lay run) ds → AreBegun ds run
+all_begun : (lay : Layout) (run : List Row) (ds : List PassView) → All (IsAtEnd lay run) ds → AreBegun ds run
 all_begun lay run [] a = tt
-all_begun lay run (d ∷ ds) a = (a.0.ends, a.0.done, a.0.steps, a.0.calls, all_begun lay run ds a.1)
+all_begun lay run (d ∷ ds) a = let b = All-head (IsAtEnd lay run) d ds a in (b.ends, b.done, b.steps, b.calls, all_begun lay run ds (All-tail (IsAtEnd lay run) d ds a))
 
 -- what they have blamed is taken, and their shares are not
-all_left : (lay : Layout) (rows : List Row) (ds : List PassView) → Lawful lay (history_of lay.mode rows) → Each (IsAtEnd lay rows) ds → HaveLeftShares ds
-all_left lay rows ds l all = let run : History = history_of lay.mode rows in each_by (IsAtEnd lay rows) (λ p. Each (λ q. Each (λ s. ¬ HasScx q.share s) p.blamed) ds) ds
-    (λ p a. each_by (IsAtEnd lay rows) (λ q. Each (λ s. ¬ HasScx q.share s) p.blamed) ds
-    (λ q b. blames_left lay run p q q.number _ _ (lawful_since lay run (run_of p) l (ends_at p a)) (ends_at p a) b.share a.blamed) all) all
+all_left : (lay : Layout) (rows : List Row) (ds : List PassView) → Lawful lay (history_of lay.mode rows) → All (IsAtEnd lay rows) ds → HaveLeftShares ds
+all_left lay rows ds l all = All-weaker (IsAtEnd lay rows) (λ p. All (λ q. All (λ s. ¬ HasScx q.share s) p.blamed) ds)
+    (λ p a. All-weaker (IsAtEnd lay rows) (λ q. All (λ s. ¬ HasScx q.share s) p.blamed)
+    (λ q b. blames_left lay run p q q.number _ _ (lawful_since lay run (run_of p) l (ends_at p a)) (ends_at p a) b.share a.blamed) ds all) ds all
   where
+    run : History
+    run = history_of lay.mode rows
+
     ends_at : (p : PassView) → IsAtEnd lay rows p → Extends (history_of lay.mode rows) (run_of p)
     ends_at p a = subst (λ (l : Layout). Extends (history_of l.mode rows) (run_of p)) a.same a.ends
 
-pub closes : {allows : Layout → History → ℕ → Type 0} (id : _) (lay : Layout) (ds : List PassView) (seat : ℕ) (v : SeatView) (words : List ℕ) (slots : List ℕ) → AreOf (ground id lay) ds → AreIn allows ds v.passes → Final (Seen (TableIsLawful allows lay) seat v) words slots → IsClosed allows lay ds (record { layout = lay; words = words })
+pub closes : {allows : Layout → History → ℕ → Type 0} (id : _) (lay : Layout) (ds : List PassView) (seat : ℕ) (v : SeatView) (words : List ℕ) (slots : List ℕ) → All (IsOf (ground id lay)) ds → AreIn allows ds v.passes → Final (Seen (TableIsLawful allows lay) seat v) words slots → IsClosed allows lay ds (record { layout = lay; words = words })
 closes {allows} id lay ds seat v words slots of a f =
     let kept : TableIsLawful allows lay f.0 = f.1.0 in
     let holds : (w : Word) → IsWord lay w → slice_index words (place lay w) ≡ value (history_of lay.mode kept.run) w = λ w i. rw (← f.2) (kept.holds w i) in
-    let all : Each (IsAtEnd lay kept.run) ds = all_ended id lay kept.run kept.owner seat v.passes kept.sound (kept.passes seat v f.1.1) ds of a in
+    let all : All (IsAtEnd lay kept.run) ds = all_ended id lay kept.run kept.owner seat v.passes kept.sound (kept.passes seat v f.1.1) ds of a in
     record {
       rows = kept.run;
       sound = kept.sound;

@@ -1,15 +1,10 @@
 -- Passes of one forest.
-use Rattle.std.proofs.Common.{List, [], ◌∷◌, ap, get_or}
+use Rattle.std.proofs.Common.{List, ap, get_or}
 use Rattle.std.specs.List.{All}
-use Rattle.std.proofs.lemmas.List.Elements.{All-head, All-tail}
 use Rattle.std.proofs.lemmas.Option.{slice_get-get_or}
-use Rattle.forest.specs.Passes.{PassView, Ground, IsOf, AreOf, AreNew}
+use Rattle.forest.specs.Passes.{PassView, Ground, IsOf, AreNew}
 
 -- new passes are of their forest
 pub new_are_of : (f : Ground) (passes : List PassView) → AreNew f passes → All (IsOf f) passes
 new_are_of f passes new k d less = let e = new.each k (get_or passes k d) (slice_get-get_or passes k d less) in
     (ap (λ (p : PassView). p.table) e, ap (λ (p : PassView). p.layout) e)
-
-pub all_are_of : (f : Ground) (passes : List PassView) → All (IsOf f) passes → AreOf f passes
-all_are_of f [] all = tt
-all_are_of f (p ∷ ps) all = (All-head (IsOf f) p ps all, all_are_of f ps (All-tail (IsOf f) p ps all))

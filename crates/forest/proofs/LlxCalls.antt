@@ -50,9 +50,7 @@ module _ {allows : Layout → History → ℕ → Type 0} {mode : Mode} {T : Typ
       let z : IsSnapshot p.layout (run_of (pass_view (seated p s))) node.0 snap = subst (λ (k : NodeNo). IsSnapshot p.layout (run_of (pass_view (seated p s))) k.0 snap) y.answers.1 y.answers.2.0 in
       (z, (run_of (pass_view (seated p s)), usable_now p.layout _ node.0 snap z), alone_now p.layout p.number.0 _ node.0 snap (all_idle p.layout _ p.number.0 p.share _ _ y.goes.sound.lawful y.goes.share y.goes.over) z)
   llx_says blamed (Finalized n u) y = rw y.answers.1 at y.answers.2
-  llx_says blamed (Fail n u) y =
-      let z = rw y.answers.1 at y.answers.2 in
-      (z.0, record { found = z.1.found; others = z.1.others; in_the_way = z.1.in_the_way; over = z.1.over; not_final = z.1.not_final })
+  llx_says blamed (Fail n u) y = rw y.answers.1 at y.answers.2
 
   pub llx_finalized : (a : Llx) → HasCalled allows p s number (Answered p x number node a) → is_final (seen_of (pass_view p)) node.0 ≡ true → IsFinalizedAnswer a
   llx_finalized a y final =

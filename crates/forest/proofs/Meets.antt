@@ -1,6 +1,9 @@
 -- How two passes meet.
+use Rattle.std.specs.List.{All}
+use Rattle.std.proofs.lemmas.List.Elements.{All-nil, All-cons}
 use Rattle.std.proofs.Common.{◌≡◌, ◌≢◌, ℕ, suc, List, [], ◌∷◌, ◌++◌, refl, sym, ◌∙◌, ap, subst, eq-eqb, inr, arith}
 use Rattle.atomic_table.specs.declared.shared.Seat.{Seat}
+use Rattle.arena.specs.Share.{HasScx}
 use Rattle.arena.specs.declared.layout.Layout.{Layout}
 use Rattle.arena.specs.declared.limits.Mode.{Mode}
 use Rattle.arena.specs.declared.step.Row.{Row}
@@ -13,7 +16,7 @@ use Rattle.forest.specs.declared.view.SeatView.{SeatView}
 use Rattle.forest.specs.declared.pass.Pass.TheInside.{Inside}
 use Rattle.forest.specs.TableRule.{history_of, seated_pass, row, look, Looked, HasLookedBehind, Met, after_look, Behind}
 use Rattle.forest.specs.Traces.{known_of, rows_of}
-use Rattle.forest.specs.Passes.{AreOfCall, HasLookedOnce, HaveLeftShares, IsLaterView, run_of, steps_of}
+use Rattle.forest.specs.Passes.{PassView, AreOfCall, HasLookedOnce, HaveLeftShares, IsLaterView, run_of, steps_of}
 use Rattle.forest.specs.PassInvariant.{pass_view, IsPass}
 use Rattle.forest.proofs.Advances.{keeps_all, rows_by_others, same_knower}
 use Rattle.forest.proofs.Calls.{IsQuiet, quiet_start, quiet_other, quiet_step}
@@ -146,16 +149,19 @@ have_met {allows} p q x y s t m = record {
 
 -- what either has blamed has left both shares
 pub met_left : {allows : Layout → History → ℕ → Type 0} {mode : Mode} {T : Type 0} (p q : Inside T) (x : IsPass allows mode p) (y : IsPass allows mode q) (s t : Seat ℕ SeatView) → p.layout ≡ q.layout → HaveMet allows p q s t → HaveLeftShares (pass_view (seated p s) ∷ pass_view (seated q t) ∷ [])
-met_left p q x y s t same m = (
-  (
-    blames_left p.layout _ (pass_view p) (pass_view (seated p s)) p.number.0 _ _ x.sound.lawful m.one.goes.since m.one.goes.share x.blamed,
-    (blames_left q.layout _ (pass_view p) (pass_view (seated q t)) q.number.0 _ _ (subst (λ (l : Layout). Lawful l (run_of (pass_view p))) same x.sound.lawful) (ends_trans _ _ _ m.other.answers m.knew) m.other.goes.share x.blamed, tt),
-  ),
-  (
-    (
-      blames_left p.layout _ (pass_view q) (pass_view (seated p s)) p.number.0 _ _ (subst (λ (l : Layout). Lawful l (run_of (pass_view q))) (sym same) y.sound.lawful) (ends_trans _ _ _ (ends_trans _ _ _ m.one.answers m.goes_on) m.other.goes.since) m.one.goes.share y.blamed,
-      (blames_left q.layout _ (pass_view q) (pass_view (seated q t)) q.number.0 _ _ y.sound.lawful m.other.goes.since m.other.goes.share y.blamed, tt),
-    ),
-    tt,
-  ),
-)
+met_left {allows} {mode} {T} p q x y s t same m = both (λ a. All (λ b. All (λ n. ¬ HasScx b.share n) a.blamed) (d ∷ e ∷ [])) d e
+    (both (λ b. All (λ n. ¬ HasScx b.share n) d.blamed) d e
+    (blames_left p.layout _ (pass_view p) d p.number.0 _ _ x.sound.lawful m.one.goes.since m.one.goes.share x.blamed)
+    (blames_left q.layout _ (pass_view p) e q.number.0 _ _ (subst (λ (l : Layout). Lawful l (run_of (pass_view p))) same x.sound.lawful) (ends_trans _ _ _ m.other.answers m.knew) m.other.goes.share x.blamed))
+    (both (λ b. All (λ n. ¬ HasScx b.share n) e.blamed) d e
+    (blames_left p.layout _ (pass_view q) d p.number.0 _ _ (subst (λ (l : Layout). Lawful l (run_of (pass_view q))) (sym same) y.sound.lawful) (ends_trans _ _ _ (ends_trans _ _ _ m.one.answers m.goes_on) m.other.goes.since) m.one.goes.share y.blamed)
+    (blames_left q.layout _ (pass_view q) e q.number.0 _ _ y.sound.lawful m.other.goes.since m.other.goes.share y.blamed))
+  where
+    d : PassView
+    d = pass_view (seated p s)
+
+    e : PassView
+    e = pass_view (seated q t)
+
+    both : (P : PassView → Type 0) (a b : PassView) → P a → P b → All P (a ∷ b ∷ [])
+    both P a b here there = All-cons P a (b ∷ []) here (All-cons P b [] there (All-nil P))

@@ -13,13 +13,13 @@ use Rattle.histories.proofs.Lemmas.{IsIn, Logs, aborted_never_won, lawful_tail, 
 use Rattle.arena.specs.declared.step.Kind.TheVariants.{Freeze}
 use Rattle.arena.specs.declared.limits.Mode.TheVariants.{Records}
 use Rattle.prims.specs.Cells.{AllowsAll}
-use Rattle.prims.specs.Moments.{IsAsFound}
+use Rattle.prims.specs.Moments.{IsAsFound, HasChanged}
 use Rattle.prims.specs.Snaps.{IsAmong, ListsNode}
 use Rattle.prims.specs.Updates.{update_field_index}
 use Rattle.prims.specs.Snap.{snap_at}
 use Rattle.prims.specs.Scx.Known.{IsEntryAt, IsDone as IsScxDone, removed_nodes, nodes_of, update_entry}
 use Rattle.prims.specs.Put.Known.{PutIsReady, PutWaits, PutAnswers}
-use Rattle.prims.proofs.Lemmas.{put_changed, removed_those, left_own_node, left_own_scx, taken_share, next_free, next_unwon, all_over, put_ready_first}
+use Rattle.prims.proofs.Lemmas.{removed_those, left_own_node, left_own_scx, taken_share, next_free, next_unwon, all_over, put_ready_first}
 use Rattle.prims.specs.declared.snap.Snap.{Snap}
 use Rattle.prims.specs.declared.scx.Scx.{Scx}
 use Rattle.prims.specs.declared.scx.Scx.TheVariants.{Done, Lost}
@@ -43,7 +43,7 @@ use Rattle.forest.proofs.Calls.{HasHand, course_keeps, put_goes, put_rests}
 use Rattle.forest.proofs.Called.{course_calls}
 use Rattle.forest.proofs.Passes.{call_of, can_use_later, steps_are}
 use Rattle.forest.proofs.Blames.{blamed_later}
-use Rattle.forest.proofs.VlxCalls.{each_at, was_changed}
+use Rattle.forest.proofs.VlxCalls.{each_at}
 
 -- Entries
 
@@ -242,7 +242,7 @@ module _ {T : Type 0} (p : Inside T) (x : IsPass AllowsAll Records p) (some_node
       same = once_same z.0 e (log p.layout h) (once p.layout h y.goes.sound.lawful) (z.1 ∙ sym y.is_of.record_is) (in_entries p.number.0 z.0 (log p.layout h) (done_of (pass_view p)) z.2)
           (in_since p.layout h (d.entry.row ⊳ d.entry.before) e y.goes.sound.lawful at.within (subst (λ l. IsIn e l) (sym at.logged) (newest _)))
   put_says s (Lost n u) is y = (
-    was_changed Freeze (pass_view p) (pass_view (spent s)) refl refl x.is_pass number _ snaps y.is_of.snaps_are n.0 u.0 (put_changed y.run (call_of p x number) h n u y.answers),
+    subst (λ l. HasChanged p.layout p.number.0 Freeze h start l n.0 u.0) y.is_of.snaps_are y.answers.1.changed,
     y.goes.unwon (λ w. aborted_never_won p.layout h y.run.scx.scx.0 y.goes.sound.lawful y.answers.1.aborted (rw y.is_of.record_is w.1)),
     subst (λ (k : ℕ). value h (state k) ≡ 2) y.is_of.record_is y.answers.1.aborted,
   )

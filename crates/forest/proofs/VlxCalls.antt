@@ -1,16 +1,13 @@
 -- What a call of `vlx` says.
-use Rattle.std.proofs.Common.{◌≡◌, ◌≢◌, ◌<◌, ℕ, zero, suc, inl, inr, List, [], ◌∷◌, length, refl, sym, ◌∙◌, ap, subst, arith}
+use Rattle.std.proofs.Common.{◌≡◌, ◌≢◌, ◌<◌, ℕ, zero, suc, inl, inr, List, [], ◌∷◌, length, refl, sym, ◌∙◌, ap, arith}
 use Rattle.atomic_table.specs.declared.shared.Seat.{Seat}
 use Rattle.arena.specs.declared.layout.Layout.{Layout}
 use Rattle.arena.specs.History.{History}
-use Rattle.arena.specs.Blame.{WasInTheWay}
-use Rattle.arena.specs.declared.step.Kind.{Kind}
-use Rattle.arena.specs.declared.step.Kind.TheVariants.{LoadInfo}
 use Rattle.arena.specs.declared.limits.Mode.{Mode}
 use Rattle.prims.specs.Snaps.{AreDistinct, IsAmong}
 use Rattle.prims.specs.Snap.{snap_at}
 use Rattle.prims.specs.Vlx.Known.{VlxAnswers}
-use Rattle.prims.proofs.Lemmas.{vlx_fills_not, IsChanged, vlx_changed, all_over, vlx_ready_first}
+use Rattle.prims.proofs.Lemmas.{vlx_fills_not, all_over, vlx_ready_first}
 use Rattle.prims.specs.declared.snap.Snap.{Snap}
 use Rattle.prims.specs.declared.vlx.Vlx.{Vlx}
 use Rattle.prims.specs.declared.vlx.Vlx.TheVariants.{Same, Changed}
@@ -19,7 +16,7 @@ use Rattle.forest.specs.declared.view.SeatView.{SeatView}
 use Rattle.forest.specs.declared.pass.Pass.TheInside.{Inside}
 use Rattle.forest.specs.Traces.{known_of}
 use Rattle.forest.specs.StraightVlx.{vlx_at, AreSameSnaps, waits_over, SeatVlxBegins, SeatVlxEnds}
-use Rattle.forest.specs.Passes.{PassView, CanUse, Each, AreApart, HasNodeOf, WasChanged, VlxSays, run_of}
+use Rattle.forest.specs.Passes.{CanUse, Each, AreApart, HasNodeOf, VlxSays}
 use Rattle.forest.specs.PassInvariant.{pass_view, IsPass}
 use Rattle.forest.proofs.Calls.{course_keeps}
 use Rattle.forest.proofs.Passes.{HasCalled, call_of, seated, called}
@@ -42,17 +39,6 @@ pub among_at : (snaps : List Snap) (n : ℕ) → HasNodeOf snaps n → IsAmong s
 among_at [] n x = absurd x
 among_at (snap ∷ snaps) n (inl e) = record { at = 0; within = omega arith; is = e }
 among_at (snap ∷ snaps) n (inr x) = let y = among_at snaps n x in record { at = suc y.at; within = let i = y.within in omega arith; is = y.is }
-
--- a node that was changed since its snapshot
-abbrev pub was_changed : (kind : Kind) (old new : PassView) → new.layout ≡ old.layout → new.number ≡ old.number → (is_pass : new.number < new.layout.passes) (number : ℕ) (items snaps : List Snap) → items ≡ snaps → (n s : ℕ) → IsChanged kind (record { layout = new.layout; pass = new.number; is_pass = is_pass; number = number; start = run_of old }) (run_of new) items n s → WasChanged kind old new snaps n s
-was_changed kind old new layout pass is_pass number items snaps is n s z = record {
-  index = z.index;
-  within = rw is at z.within;
-  is = rw is at z.is;
-  found = z.found;
-  in_the_way = λ moment q. subst (λ (k : ℕ). WasInTheWay (run_of new) moment k s) z.is (z.blamed.in_the_way moment (rw is q));
-  others = λ alone. z.blamed.others (rw (layout, pass, is) alone);
-}
 
 -- Calls
 
@@ -79,4 +65,4 @@ module _ {L : Type 0} (list : L → List Snap) {allows : Layout → History → 
 
   pub vlx_says : (s : Seat ℕ SeatView) (snaps : L) (a : Vlx) → HasCalled allows p s number (Looked snaps a) → VlxSays (pass_view p) (pass_view (seated p s)) (list snaps) a
   vlx_says s snaps Same y = y.answers.found
-  vlx_says s snaps (Changed n u) y = (was_changed LoadInfo (pass_view p) (pass_view (seated p s)) refl refl x.is_pass number _ (list snaps) refl n.0 u.0 (vlx_changed (list snaps) (call_of p x number) _ n u y.answers), y.answers.before)
+  vlx_says s snaps (Changed n u) y = (y.answers.changed, y.answers.before)

@@ -1,10 +1,9 @@
 -- What contracts see of a pass, and what its calls say.
-use Rattle.std.specs.Prelude.{◌≡◌, ◌≢◌, ◌+◌, ◌-◌, ◌<◌, ◌≤◌, ◌⊎◌, ◌↔◌, ℕ, suc, false, true, List, [], ◌∷◌, length, slice_get, Some, map}
-use Rattle.std.specs.List.{Contains}
+use Rattle.std.specs.Prelude.{◌≡◌, ◌≢◌, ◌+◌, ◌-◌, ◌<◌, ◌≤◌, ◌⊎◌, ◌↔◌, ℕ, suc, true, List, [], ◌∷◌, length, slice_get, Some, map}
+use Rattle.std.specs.List.{All, AllPairs, Contains}
 use Rattle.atomic_table.specs.Seated.{TableId}
 use Rattle.arena.specs.declared.layout.Layout.{Layout}
 use Rattle.arena.specs.declared.step.Row.{Row}
-use Rattle.arena.specs.declared.step.Kind.{Kind}
 use Rattle.arena.specs.declared.step.Kind.TheVariants.{Freeze, LoadInfo}
 use Rattle.arena.specs.Share.{Remaining, whole_share, HasScx, IsFull}
 use Rattle.arena.specs.declared.number.NodeNo.{NodeNo}
@@ -17,15 +16,14 @@ use Rattle.arena.specs.PlainWords.{Contents, word_at}
 use Rattle.arena.specs.Words.{state, child, node as node_word}
 use Rattle.arena.specs.History.{History, ◌⊳◌, value, Extends}
 use Rattle.arena.specs.Fills.{IsOthersScx, IsOwnNode, IsOwnScx, IsTakenNode, IsTakenScx}
-use Rattle.arena.specs.Blame.{WasInTheWay}
-use Rattle.arena.specs.Found.{HasFound}
+use Rattle.arena.specs.Blame.{HasFailed}
 use Rattle.arena.specs.Lawful.{IsWin}
-use Rattle.arena.specs.Log.{Entry, log, is_final, has, fields}
+use Rattle.arena.specs.Log.{Entry, log, has, fields}
 use Rattle.prims.specs.Llx.Known.{IsSnapshot, IsFinalBy}
 use Rattle.prims.specs.declared.snap.Snap.{Snap}
 use Rattle.prims.specs.declared.llx.Llx.{Llx}
 use Rattle.prims.specs.declared.llx.Llx.TheVariants.{Snapshot, Finalized, Fail}
-use Rattle.prims.specs.Moments.{IsMoment, IsAsFound, IsLeftAlone}
+use Rattle.prims.specs.Moments.{IsAsFound, IsLeftAlone, HasChanged}
 use Rattle.prims.specs.Scx.Known.{nodes_of}
 use Rattle.prims.specs.Shares.{IsUsable}
 use Rattle.prims.specs.Snaps.{IsAmong, ListsNode}
@@ -106,24 +104,20 @@ CanUse p snap = (moment : History) × IsUsable p.layout (run_of p) snap moment
 abbrev pub HasLeftAlone : PassView → Snap → Type 0
 HasLeftAlone p snap = IsLeftAlone p.layout p.number (run_of p) snap
 
--- P holds of each in the list
+-- P holds of each in the list. What a call asks of its snapshots is said of one after the other,
+-- so that a caller that lists them has it without a proof by hand
 abbrev pub Each : {A : Type 0} → (A → Type 0) → List A → Type 0
 Each P [] = Unit {0}
 Each P (x ∷ xs) = P x × Each P xs
 
 -- Blame lists
 
--- no number stands twice in the list
-abbrev pub AreDifferent : List ℕ → Type 0
-AreDifferent [] = Unit {0}
-AreDifferent (s ∷ ss) = Each (λ other. s ≢ other) ss × AreDifferent ss
-
 -- the blame list has SCX-records of other passes' shares, each finished in the
 -- run that the pass knows, and none of them twice
 pub record HasBlamed (p : PassView) : Type 0 where
-  pub others : Each (λ s. IsOthersScx p.layout p.number s) p.blamed
-  pub over : Each (λ s. value (run_of p) (state s) ≢ 0) p.blamed
-  pub different : AreDifferent p.blamed
+  pub others : All (λ s. IsOthersScx p.layout p.number s) p.blamed
+  pub over : All (λ s. value (run_of p) (state s) ≢ 0) p.blamed
+  pub different : AllPairs (λ s t. s ≢ t) p.blamed
 
 -- What every call leaves
 
@@ -150,16 +144,6 @@ pub record HasTakenNothing (old new : PassView) : Type 0 where
 
 -- What `llx` says
 
--- another pass's SCX-record s was in progress over n behind the call's
--- begin, where n was not final, and is finished now
-pub record CallHasFailed (old new : PassView) (n s : ℕ) : Type 0 where
-  -- it is the one that the call's last look at the node's info has found
-  pub found : HasFound new.number (run_of new) (run_of old) LoadInfo n s
-  pub others : IsOthersScx new.layout new.number s
-  pub in_the_way : WasInTheWay (run_of new) (run_of old) n s
-  pub over : value (run_of new) (state s) ≢ 0
-  pub not_final : is_final (seen_of old) n ≡ false
-
 -- what an answer of `llx` of node n says
 abbrev pub LlxSays : PassView → PassView → ℕ → Llx → Type 0
 -- the snapshot gives the fields of the node in the run that is known now, in which it is not final;
@@ -168,7 +152,7 @@ LlxSays old new n (Snapshot snap) = IsSnapshot new.layout (run_of new) n snap ×
 -- the node is final in the run that is known now, and s finalizes it
 LlxSays old new n (Finalized node s) = (node.0 ≡ n) × IsFinalBy new.layout (run_of new) n s.0
 -- another pass's SCX-record was in the way
-LlxSays old new n (Fail node s) = (node.0 ≡ n) × CallHasFailed old new n s.0
+LlxSays old new n (Fail node s) = (node.0 ≡ n) × HasFailed new.layout new.number (run_of new) (run_of old) n s.0
 
 -- the blame list after this answer: `Fail` blames its SCX-record
 abbrev pub blamed_by : Llx → List ℕ → List ℕ
@@ -201,18 +185,6 @@ MayPut p snaps n = (length snaps ≤ 4) × AreApart snaps × HasNodeOf snaps n �
 
 -- What `vlx` says
 
--- another SCX-record, s, has come to node n since a snapshot of it among these
-pub record WasChanged (kind : Kind) (old new : PassView) (snaps : List Snap) (n s : ℕ) : Type 0 where
-  pub index : ℕ
-  pub within : index < length snaps
-  pub is : (snap_at snaps index).node.0 ≡ n
-  -- the call's last step of this kind has found it in the node's info
-  pub found : HasFound new.number (run_of new) (run_of old) kind n s
-  -- at some step behind each moment of the snapshot it was in progress over n
-  pub in_the_way : (moment : History) → IsMoment new.layout (run_of new) (snap_at snaps index) moment → WasInTheWay (run_of new) moment n s
-  -- it is another pass's, where this one had left the snapshot alone before the call
-  pub others : HasLeftAlone old (snap_at snaps index) → IsOthersScx new.layout new.number s
-
 -- in the run that was known before, the nodes of the first k snapshots had the last entry that they
 -- had at their snapshots, and were not final
 abbrev pub AreAsFound : PassView → PassView → List Snap → ℕ → Type 0
@@ -222,7 +194,7 @@ AreAsFound old new snaps k = (i : ℕ) → i < k → IsAsFound new.layout (run_o
 -- them, and those before it were as found
 abbrev pub VlxSays : PassView → PassView → List Snap → Vlx → Type 0
 VlxSays old new snaps Same = AreAsFound old new snaps (length snaps)
-VlxSays old new snaps (Changed node s) = (c : WasChanged LoadInfo old new snaps node.0 s.0) × AreAsFound old new snaps c.index
+VlxSays old new snaps (Changed node s) = (c : HasChanged new.layout new.number LoadInfo (run_of new) (run_of old) snaps node.0 s.0) × AreAsFound old new snaps c.index
 
 -- What `scx` says
 
@@ -267,7 +239,7 @@ abbrev pub ScxSays : PassView → PassView → List Snap → List NodeNo → ℕ
 ScxSays old new snaps finalize field v Done = (e : Entry) × IsDoneCall old new snaps finalize field v e
 -- there is none, now or later: the SCX-record is aborted, and
 -- another had come to a node since its snapshot
-ScxSays old new snaps finalize field v (Lost node s) = WasChanged Freeze old new snaps node.0 s.0 × (done_of new ≡ done_of old) × (value (run_of new) (state old.share.next_scx) ≡ 2)
+ScxSays old new snaps finalize field v (Lost node s) = HasChanged new.layout new.number Freeze (run_of new) (run_of old) snaps node.0 s.0 × (done_of new ≡ done_of old) × (value (run_of new) (state old.share.next_scx) ≡ 2)
 
 -- Passes that come together
 
@@ -280,7 +252,7 @@ pub record HasLookedOnce (allows : Layout → History → ℕ → Type 0) (old n
 
 -- no share of these passes still holds an SCX-record that one of them has blamed
 abbrev pub HaveLeftShares : List PassView → Type 0
-HaveLeftShares passes = Each (λ p. Each (λ q. Each (λ s. ¬ HasScx q.share s) p.blamed) passes) passes
+HaveLeftShares passes = All (λ p. All (λ q. All (λ s. ¬ HasScx q.share s) p.blamed) passes) passes
 
 -- New passes
 
@@ -294,11 +266,6 @@ pub record AreNew (f : Ground) (passes : List PassView) : Type 0 where
   pub each : (j : ℕ) (d : PassView) → slice_get passes j ≡ Some d → d ≡ new_pass f j
 
 -- All passes
-
--- all these passes are of this forest
-abbrev pub AreOf : Ground → List PassView → Type 0
-AreOf f [] = Unit {0}
-AreOf f (p ∷ ps) = IsOf f p × AreOf f ps
 
 -- one of these passes has the number n
 abbrev pub HasPass : List PassView → ℕ → Type 0

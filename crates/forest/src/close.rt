@@ -1,5 +1,6 @@
 //! The end of a forest, once all passes are back.
 ghost use Rattle.std.specs.Prelude.{◌≡◌, ◌<◌, ◌↔◌, [], ◌∷◌, vec_len, IsSome, IfSome};
+ghost use Rattle.std.specs.List.{All};
 ghost use Rattle.std.specs.Slots.{IsFull, slots_len};
 ghost use Rattle.arena.specs.declared.word.Side.TheVariants.{Left, Right};
 ghost use Rattle.arena.specs.Layout.{all_nodes, table_size, IsWord};
@@ -7,7 +8,7 @@ ghost use Rattle.arena.specs.PlainWords.{Contents, word_at};
 ghost use Rattle.arena.specs.Words.{child};
 ghost use Rattle.forest.specs.declared.view.SeatedPass.{SeatedPass};
 ghost use Rattle.forest.specs.TableRule.{IsTableOf};
-ghost use Rattle.forest.specs.Passes.{ground, IsOf, AreOf, AreAllBack, IsClosed};
+ghost use Rattle.forest.specs.Passes.{ground, IsOf, AreAllBack, IsClosed};
 ghost use Rattle.forest.specs.JoinedSeats.{IsFrom, AreIn};
 
 use crate::forest::Forest;
@@ -67,7 +68,7 @@ impl Drop for Closed {
 impl<S: Shape> Forest<S> {
     /// Ends the forest: each of its passes, which are all there, looks at the table once more.
     pub fn close(self, passes: Vec<Pass<S>>) -> Closed
-        requires passes { AreOf self passes.items }
+        requires passes { All (IsOf self) passes.items }
         requires all { AreAllBack self.layout passes.items }
         ensures layout { result.layout ≡ self.layout }
         ensures closed { IsClosed S.allows self.layout passes.items result }
@@ -90,7 +91,7 @@ fn gather<S: Shape>(
     mut passes: Vec<Pass<S>>,
 ) -> Option<Seat<u8, SeatView>>
     requires table { IsTableOf words.now.table.shared.table_id words.now.table.shared.key layout.now }
-    requires passes { AreOf (ground words.now.table.shared.table_id layout.now) passes.items }
+    requires passes { All (IsOf (ground words.now.table.shared.table_id layout.now)) passes.items }
     ensures some { 0 < vec_len passes → IsSome result }
     ensures table { IfSome result (λ s. s.table_id ≡ words.now.table.shared.table_id) }
     ensures all { IfSome result (λ s. AreIn S.allows passes.items s.me.0.passes) }

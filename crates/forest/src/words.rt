@@ -37,7 +37,12 @@ impl<S: Shape> Words<S> {
 
     /// Makes the step that is said, which stands at this place, and answers what is told of it.
     #[inline(always)]
-    pub(crate) fn make<J: Says>(&self, seat: &mut Seat<u8, SeatView>, said: &Asked, at: usize) -> u64
+    pub(crate) fn make<J: Says>(
+        &self,
+        seat: &mut Seat<u8, SeatView>,
+        said: &Asked,
+        at: usize,
+    ) -> u64
         requires said { said.now ≡ J.said }
         requires table { (seat.old.table_id ≡ self.now.table.shared.table_id) × (self.now.table.shared.table_id.words ≡ table_size self.now.table.shared.key) }
         requires word { IsWord self.now.table.shared.key said.now.step.word }
@@ -84,7 +89,12 @@ impl<S: Shape> Words<S> {
     }
 
     /// A seat takes in the passes of another.
-    pub(crate) fn take_in(&self, layout: &Layout, seat: &mut Seat<u8, SeatView>, other: Seat<u8, SeatView>)
+    pub(crate) fn take_in(
+        &self,
+        layout: &Layout,
+        seat: &mut Seat<u8, SeatView>,
+        other: Seat<u8, SeatView>,
+    )
         requires table { IsTableOf self.now.table.shared.table_id self.now.table.shared.key layout.now × (seat.old.table_id ≡ self.now.table.shared.table_id) × (other.table_id ≡ self.now.table.shared.table_id) }
         requires bare { other.me.1 ≡ [] }
         ensures table { (seat.new.table_id ≡ seat.old.table_id) × (seat.new.me.1 ≡ seat.old.me.1) }

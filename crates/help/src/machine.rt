@@ -2,7 +2,10 @@
 ghost use Rattle.std.specs.Prelude.{◌≡◌, ℕ, ◌+◌, ◌<◌, ◌≤◌, IfSome};
 
 use crate::state::{HelpAt, HelpRun};
-use arena::{ABORTED, Access, COMMITTED, Kind, Machine, MemberIndex, NodeNo, NodeWord, Plan, ScxWord, Shape, Step, Turn, Word};
+use arena::{
+    ABORTED, Access, COMMITTED, Kind, Machine, MemberIndex, NodeNo, NodeWord, Plan, ScxWord, Shape,
+    Step, Turn, Word,
+};
 
 impl HelpRun {
     ghost use Rattle.std.specs.Prelude.{◌≡◌, ◌<◌, ◌≤◌, ◌+◌, ◌-◌, true, false, ◌⊎◌, MatchOption};
@@ -23,7 +26,12 @@ impl HelpRun {
     fn load(&mut self, at: HelpAt, part: ScxWord) -> Turn<bool>
         ensures { HelpAsks self.old self.new result at record { kind = Kind.LoadSettled; word = Word.Scx self.old.scx part; access = Access.Load } }
     {
-        self.ask(at, Kind::LoadSettled, Word::Scx(self.scx, part), Access::Load)
+        self.ask(
+            at,
+            Kind::LoadSettled,
+            Word::Scx(self.scx, part),
+            Access::Load,
+        )
     }
 
     fn freeze(&mut self, j: MemberIndex, seen: u64) -> Turn<bool>

@@ -1,5 +1,5 @@
 -- The log has one entry for each SCX-record whose update has won, and none for any other.
-use Rattle.std.proofs.Common.{◌≡◌, ◌≢◌, ℕ, Bool, true, false, cond, ◌||◌, ◌⊎◌, inl, inr, ⊎_elim, List, [], ◌∷◌, zero, suc, refl, sym, ◌∙◌, ap, arith}
+use Rattle.std.proofs.Common.{◌≡◌, ◌≢◌, ℕ, true, cond, ◌⊎◌, inl, inr, ⊎_elim, List, [], ◌∷◌, zero, suc, refl, sym, ◌∙◌, ap, arith}
 use Rattle.arena.specs.declared.limits.Mode.{Mode}
 use Rattle.arena.specs.declared.layout.Layout.{Layout}
 use Rattle.arena.specs.declared.step.Row.{Row}
@@ -7,6 +7,7 @@ use Rattle.arena.specs.History.{History, Start, ◌⊳◌}
 use Rattle.arena.specs.ScxRecords.{plan, plan_finalizes, side_of, count, member}
 use Rattle.arena.specs.Fills.{IsNamedScx}
 use Rattle.arena.specs.Lawful.{HasWon, Lawful}
+use Rattle.arena.proofs.Lemmas.{or_right, or_split}
 use Rattle.arena.specs.Log.{Entry, owner, log, members_from, finalized_from, has, is_final, IsEntered, AreOnce}
 use Rattle.histories.specs.Descriptor.{Descriptor, descriptor, count_in, field_index_in}
 use Rattle.histories.specs.Finalizing.{IsRemoved}
@@ -149,14 +150,6 @@ finalized_by_stays lay h r n s l x =
     let f : Facts lay h = facts_before lay h r l in
     record { won = won_more r h s x.won; removed = removed_stays h (r ⊳ h) n s (descriptor_stays lay h r s l (won_real s f x.won) (won_named s f x.won)) x.removed }
 
-either : (a b : Bool) → a || b ≡ true → (a ≡ true) ⊎ (b ≡ true)
-either true b e = inl refl
-either false b e = inr e
-
-or_right : (a b : Bool) → b ≡ true → a || b ≡ true
-or_right true b e = refl
-or_right false b e = e
-
 pub final_by : (lay : Layout) (h : History) (n : ℕ) → Lawful lay h → is_final (log lay h) n ≡ true → (s : ℕ) × IsFinalizedBy h n s
 final_by lay (Start mode) n l e = let x : is_final [] n ≡ true = rw (empty_log lay mode) at e in cc
 final_by lay (r ⊳ h) n l e = go (logs lay h r l) (final_by lay h n (lawful_tail lay h r l))
@@ -169,7 +162,7 @@ final_by lay (r ⊳ h) n l e = go (logs lay h r l) (final_by lay h n (lawful_tai
 
     go : Logs lay h r → (is_final (log lay h) n ≡ true → (s : ℕ) × IsFinalizedBy h n s) → (s : ℕ) × IsFinalizedBy (r ⊳ h) n s
     go (same q back) before = more (before (rw q at e))
-    go (wins u x q) before = split (either _ _ (rw q at e))
+    go (wins u x q) before = split (or_split _ _ (rw q at e))
       where
         split : (has (entry_of lay h u).removed n ≡ true) ⊎ (is_final (log lay h) n ≡ true) → (s : ℕ) × IsFinalizedBy (r ⊳ h) n s
         split (inr y) = more (before y)

@@ -1,22 +1,12 @@
 -- The nodes that an entry names are those of its SCX-record.
-use Rattle.std.proofs.Common.{◌≡◌, ℕ, ◌+◌, ◌<◌, ◌≤◌, Bool, true, false, cond, ◌||◌, ◌⊎◌, inl, inr, ⊎_elim, ◌∷◌, zero, suc, refl, arith, eqb-true, eq-eqb}
+use Rattle.std.proofs.Common.{◌≡◌, ℕ, ◌+◌, ◌<◌, ◌≤◌, Bool, true, false, cond, ◌⊎◌, inl, inr, ⊎_elim, ◌∷◌, zero, suc, refl, arith, eqb-true, eq-eqb}
+use Rattle.std.proofs.lemmas.Bool.{or_left}
 use Rattle.arena.specs.History.{History}
 use Rattle.arena.specs.ScxRecords.{count, member, scx_finalizes}
 use Rattle.arena.specs.Log.{members_from, finalized_from, has}
 use Rattle.arena.specs.Blame.{IsMember}
+use Rattle.arena.proofs.Lemmas.{or_right, or_split}
 use Rattle.histories.specs.Finalizing.{IsRemoved}
-
-either : (a b : Bool) → a || b ≡ true → (a ≡ true) ⊎ (b ≡ true)
-either true b e = inl refl
-either false b e = inr e
-
-or_left : (a b : Bool) → a ≡ true → a || b ≡ true
-or_left true b e = refl
-or_left false b e = cc
-
-or_right : (a b : Bool) → b ≡ true → a || b ≡ true
-or_right true b e = refl
-or_right false b e = e
 
 -- n is one of the nodes of s from its j-th on
 pub record IsAmong (h : History) (s j k n : ℕ) : Type 0 where
@@ -33,7 +23,7 @@ among h s j zero n e = cc
 among h s j (suc k) n e = ⊎_elim
     (λ a. record { index = j; from = omega arith; below = omega arith; is = eqb-true _ _ a })
     (λ b. later h s j k n (among h s (suc j) k n b))
-    (either _ _ e)
+    (or_split _ _ e)
 
 has_among : (h : History) (s j k n i : ℕ) → j ≤ i → i < j + k → member h s i ≡ n → has (members_from h s j k) n ≡ true
 has_among h s j zero n i a b e = absurd (omega arith)
@@ -71,7 +61,7 @@ among_removed h s j (suc k) n e = go (scx_finalizes h s j) refl e (among_removed
     go true q e more = ⊎_elim
         (λ a. record { index = j; from = omega arith; below = omega arith; is = eqb-true _ _ a; removed = q })
         (λ b. removed_later h s j k n (more b))
-        (either _ _ e)
+        (or_split _ _ e)
 
 has_among_removed : (h : History) (s j k n i : ℕ) → j ≤ i → i < j + k → member h s i ≡ n → scx_finalizes h s i ≡ true → has (finalized_from h s j k) n ≡ true
 has_among_removed h s j zero n i a b e r = absurd (omega arith)

@@ -11,7 +11,7 @@ use Rattle.arena.specs.declared.word.ScxWord.TheVariants.{State, AllFrozen, New}
 use Rattle.arena.specs.declared.step.Row.{Row}
 use Rattle.arena.specs.declared.step.Kind.TheVariants.{Fill}
 use Rattle.arena.specs.Layout.{opening_nodes}
-use Rattle.arena.specs.Words.{same_word, same_scx_word, scx, info, marked, child, state}
+use Rattle.arena.specs.Words.{same_word, scx, info, marked, child, state}
 use Rattle.arena.specs.History.{History, Start, ◌⊳◌, value, HasHeld}
 use Rattle.arena.specs.ScxRecords.{member, new}
 use Rattle.arena.specs.Fills.{IsOwnNode, NamesNode, IsNamed, opening_node, by_field, by_scx}
@@ -20,7 +20,8 @@ use Rattle.arena.proofs.Lemmas.{word_same, value_at, value_quiet, value_apart, v
 use Rattle.histories.specs.Unmentioned.{IsUnmentioned}
 use Rattle.histories.proofs.Changes.{Change, nothing, fills_node, fills_scx, freezes, sets_frozen, marks, updates, commits, aborts, change, lawful_row}
 use Rattle.histories.proofs.Openings.{opening_field, some_open, value_start}
-use Rattle.histories.proofs.Unnamed.{field_back, word_back}
+use Rattle.histories.proofs.Quiet.{not_flag, not_state}
+use Rattle.histories.proofs.Unnamed.{field_back, names_fill, word_back}
 
 -- such a node of a share is not named
 pub unmentioned_unnamed : (lay : Layout) (h : History) (c n : ℕ) → IsOwnNode lay c n → IsUnmentioned h n → ¬ IsNamed lay h n
@@ -55,19 +56,11 @@ unmentioned_by_others lay h r c n l is_pass other own u = record {
 
 -- At the start
 
-never_state : (part : ScxWord) → NamesNode part → same_scx_word State part ≡ false
-never_state State i = absurd i
-never_state _ i = refl
-
-never_flag : (part : ScxWord) → NamesNode part → same_scx_word AllFrozen part ≡ false
-never_flag AllFrozen i = absurd i
-never_flag _ i = refl
-
 -- at the start no word names a node that is not there yet
 pub unmentioned_start : (mode : Mode) (n : ℕ) → opening_nodes mode ≤ n → IsUnmentioned (Start mode) n
 unmentioned_start mode n late = record {
   in_no_field = λ m side p. let e = sym (value_start mode (child m side)) ∙ held_start mode (child m side) n p in let i = opening_field mode m side in omega arith;
-  in_no_scx = λ s part i p. let e = sym (opening_scx mode s part (never_state part i)) ∙ held_start mode (scx s part) n p in let some = some_open mode in omega arith;
+  in_no_scx = λ s part i p. let e = sym (opening_scx mode s part (not_state part (names_fill part i))) ∙ held_start mode (scx s part) n p in let some = some_open mode in omega arith;
 }
 
 -- Any row
@@ -107,7 +100,7 @@ unmentioned_by_step lay h r n l no_fill u = go (change lay h r l)
     }
 
     of_state : (t : ℕ) → r.word ≡ state t → IsUnmentioned (r ⊳ h) n
-    of_state t e = untouched (λ m side. value_apart r h (state t) (child m side) e refl) (λ s part i. value_apart r h (state t) (scx s part) e (scx_word_apart t s State part (never_state part i)))
+    of_state t e = untouched (λ m side. value_apart r h (state t) (child m side) e refl) (λ s part i. value_apart r h (state t) (scx s part) e (scx_word_apart t s State part (not_state part (names_fill part i))))
 
     go : Change lay h r → IsUnmentioned (r ⊳ h) n
     go (nothing i a) = let b = (lawful_row lay h r l).before in untouched (λ m side. value_quiet r h b a (child m side)) (λ s part i. value_quiet r h b a (scx s part))
@@ -118,7 +111,7 @@ unmentioned_by_step lay h r n l no_fill u = go (change lay h r l)
         (λ s part i. value_apart r h (info (member h t j)) (scx s part) w.freeze.word refl)
     go (sets_frozen t k x) = untouched
         (λ m side. value_apart r h (scx t AllFrozen) (child m side) x.word refl)
-        (λ s part i. value_apart r h (scx t AllFrozen) (scx s part) x.word (scx_word_apart t s AllFrozen part (never_flag part i)))
+        (λ s part i. value_apart r h (scx t AllFrozen) (scx s part) x.word (scx_word_apart t s AllFrozen part (not_flag part (names_fill part i))))
     go (marks t j k x) = untouched
         (λ m side. value_apart r h (marked (member h t j)) (child m side) x.word (node_word_apart (member h t j) m Marked (Child side) refl))
         (λ s part i. value_apart r h (marked (member h t j)) (scx s part) x.word refl)

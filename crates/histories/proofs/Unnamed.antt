@@ -12,14 +12,15 @@ use Rattle.arena.specs.declared.word.ScxWord.{ScxWord}
 use Rattle.arena.specs.declared.word.ScxWord.TheVariants.{State, AllFrozen, Plan, New, Old, Member, Seen, Call}
 use Rattle.arena.specs.declared.step.Row.{Row}
 use Rattle.arena.specs.Layout.{opening_nodes}
-use Rattle.arena.specs.Words.{same_word, same_scx_word, node, scx, info, marked, child, state}
+use Rattle.arena.specs.Words.{same_word, node, scx, info, marked, child, state}
 use Rattle.arena.specs.History.{History, Start, ◌⊳◌, value, HasHeld}
 use Rattle.arena.specs.ScxRecords.{plan, side_of, member, new, field_index, field}
 use Rattle.arena.specs.Fills.{IsOwnNode, IsOwnScx, IsOthersNode, NamesNode, IsNamed, opening_node, by_field, by_scx, IsInField, IsNamedScx, MayFill}
 use Rattle.arena.specs.Lawful.{Lawful}
 use Rattle.arena.proofs.Lemmas.{word_same, value_at, value_quiet, value_apart, value_other, held_at, held_split, held_start, opening_scx, node_apart, scx_word_apart}
 use Rattle.histories.specs.Descriptor.{descriptor}
-use Rattle.histories.proofs.Changes.{Change, nothing, fills_node, fills_scx, freezes, sets_frozen, marks, updates, commits, aborts, FreezeWins, change, lawful_tail, lawful_row}
+use Rattle.histories.proofs.Changes.{Change, IsScxFill, nothing, fills_node, fills_scx, freezes, sets_frozen, marks, updates, commits, aborts, FreezeWins, change, lawful_tail, lawful_row}
+use Rattle.histories.proofs.Quiet.{not_flag, not_state}
 use Rattle.histories.proofs.Facts.{IsFlagged, Facts, member_named, child_node}
 use Rattle.histories.proofs.Updates.{update_flagged}
 use Rattle.histories.proofs.Always.{facts_before}
@@ -104,16 +105,14 @@ may_name lay h c s Plan n i m = absurd i
 may_name lay h c s (Seen j) n i m = absurd i
 may_name lay h c s Call n i m = absurd i
 
-never_state : (part : ScxWord) → NamesNode part → same_scx_word State part ≡ false
-never_state State i = absurd i
-never_state _ i = refl
-
-never_flag : (part : ScxWord) → NamesNode part → same_scx_word AllFrozen part ≡ false
-never_flag AllFrozen i = absurd i
-never_flag _ i = refl
+-- a word that names nodes may be filled
+pub names_fill : (part : ScxWord) → NamesNode part → IsScxFill part
+names_fill State i = absurd i
+names_fill AllFrozen i = absurd i
+names_fill _ i = tt
 
 pub scx_written : (lay : Layout) (h : History) (s : ℕ) (part : ScxWord) (n : ℕ) → Lawful lay h → NamesNode part → HasHeld h (scx s part) n → IsScxWritten lay h s n
-scx_written lay (Start mode) s part n l i p = inl (sym (held_start mode (scx s part) n p) ∙ opening_scx mode s part (never_state part i))
+scx_written lay (Start mode) s part n l i p = inl (sym (held_start mode (scx s part) n p) ∙ opening_scx mode s part (not_state part (names_fill part i)))
 scx_written lay (r ⊳ h) s part n l i p = go (held_split r h (scx s part) n p) (λ q. scx_written_more r s n (scx_written lay h s part n (lawful_tail lay h r l) i q))
   where
     go : (value (r ⊳ h) (scx s part) ≡ n) ⊎ HasHeld h (scx s part) n → (HasHeld h (scx s part) n → IsScxWritten lay (r ⊳ h) s n) → IsScxWritten lay (r ⊳ h) s n
@@ -137,11 +136,11 @@ scx_written lay (r ⊳ h) s part n l i p = go (held_split r h (scx s part) n p) 
         by_change (fills_node m a x) = same (value_apart r h (node m a) (scx s part) x.word refl)
         by_change (fills_scx u b x) = by_fill u b x.word x.may (same_word (scx u b) (scx s part)) refl
         by_change (freezes u j w) = same (value_apart r h (info (member h u j)) (scx s part) w.freeze.word refl)
-        by_change (sets_frozen u k x) = same (value_apart r h (scx u AllFrozen) (scx s part) x.word (scx_word_apart u s AllFrozen part (never_flag part i)))
+        by_change (sets_frozen u k x) = same (value_apart r h (scx u AllFrozen) (scx s part) x.word (scx_word_apart u s AllFrozen part (not_flag part (names_fill part i))))
         by_change (marks u j k x) = same (value_apart r h (marked (member h u j)) (scx s part) x.word refl)
         by_change (updates u w) = same (value_apart r h (field h u) (scx s part) w.update.word refl)
-        by_change (commits u k x) = same (value_apart r h (state u) (scx s part) x.word (scx_word_apart u s State part (never_state part i)))
-        by_change (aborts u j k x) = same (value_apart r h (state u) (scx s part) x.word (scx_word_apart u s State part (never_state part i)))
+        by_change (commits u k x) = same (value_apart r h (state u) (scx s part) x.word (scx_word_apart u s State part (not_state part (names_fill part i))))
+        by_change (aborts u j k x) = same (value_apart r h (state u) (scx s part) x.word (scx_word_apart u s State part (not_state part (names_fill part i))))
 
 -- Rows of others
 
@@ -223,11 +222,11 @@ module _ (lay : Layout) (h : History) (r : Row) (c : ℕ) (l : Lawful lay (r ⊳
           by_change (fills_node m a y) = same (value_apart r h (node m a) (scx s part) y.word refl)
           by_change (fills_scx u b y) = by_fill u b y.word y.may (same_word (scx u b) (scx s part)) refl
           by_change (freezes u j w) = same (value_apart r h (info (member h u j)) (scx s part) w.freeze.word refl)
-          by_change (sets_frozen u k y) = same (value_apart r h (scx u AllFrozen) (scx s part) y.word (scx_word_apart u s AllFrozen part (never_flag part i)))
+          by_change (sets_frozen u k y) = same (value_apart r h (scx u AllFrozen) (scx s part) y.word (scx_word_apart u s AllFrozen part (not_flag part (names_fill part i))))
           by_change (marks u j k y) = same (value_apart r h (marked (member h u j)) (scx s part) y.word refl)
           by_change (updates u w) = same (value_apart r h (field h u) (scx s part) w.update.word refl)
-          by_change (commits u k y) = same (value_apart r h (state u) (scx s part) y.word (scx_word_apart u s State part (never_state part i)))
-          by_change (aborts u j k y) = same (value_apart r h (state u) (scx s part) y.word (scx_word_apart u s State part (never_state part i)))
+          by_change (commits u k y) = same (value_apart r h (state u) (scx s part) y.word (scx_word_apart u s State part (not_state part (names_fill part i))))
+          by_change (aborts u j k y) = same (value_apart r h (state u) (scx s part) y.word (scx_word_apart u s State part (not_state part (names_fill part i))))
 
   -- an SCX-record of another comes to name a node only where it was named before
   scx_back : (s : ℕ) (part : ScxWord) (n : ℕ) → NamesNode part → IsOwnNode lay c n → HasHeld (r ⊳ h) (scx s part) n → IsNamedScx h s ⊎ IsOwnScx lay r.pass.0 s → IsNamed lay h n

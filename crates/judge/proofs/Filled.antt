@@ -15,9 +15,10 @@ use Rattle.arena.specs.declared.step.Row.{Row}
 use Rattle.arena.specs.Words.{same_word, node, child, scx}
 use Rattle.arena.specs.History.{History, ◌⊳◌, rows_after}
 use Rattle.arena.specs.Fills.{IsInField, IsTakenNode, IsTakenScx}
+use Rattle.arena.specs.Log.{is_fill}
 use Rattle.arena.proofs.Lemmas.{word_refl, taken_node_more, taken_scx_more, fill_takes_node, fill_takes_scx, and_left, and_right, or_right, or_split}
 use Rattle.judge.specs.Names.{AreNamed}
-use Rattle.judge.specs.Tests.{leaves, is_fill, is_of_node, is_of_scx, fills_node, fills_scx, is_known, is_known_field, in_known_field}
+use Rattle.judge.specs.Tests.{leaves, is_of_node, is_of_scx, fills_node, fills_scx, is_known, is_known_field, in_known_field}
 use Rattle.judge.specs.Histories.{history_after}
 use Rattle.judge.proofs.Helds.{held_left}
 use Rattle.judge.proofs.Flags.{known_named}

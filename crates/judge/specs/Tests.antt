@@ -7,10 +7,9 @@ use Rattle.arena.specs.declared.word.ScxWord.TheVariants.{New, Old, Member}
 use Rattle.arena.specs.declared.word.Word.{Word}
 use Rattle.arena.specs.declared.word.Word.TheVariants.{Node, Scx}
 use Rattle.arena.specs.declared.layout.Layout.{Layout}
-use Rattle.arena.specs.declared.step.Kind.{Kind}
-use Rattle.arena.specs.declared.step.Kind.TheVariants.{Fill}
 use Rattle.arena.specs.declared.step.Row.{Row}
 use Rattle.arena.specs.Layout.{opening_nodes}
+use Rattle.arena.specs.Log.{is_fill}
 use Rattle.arena.specs.Words.{same_word}
 
 -- whether the row leaves the word with the value
@@ -43,11 +42,6 @@ is_new_of_other s _ = false
 -- whether the row leaves `new` of another SCX-record than s naming n
 abbrev pub in_other_new : ℕ → ℕ → Row → Bool
 in_other_new s n r = is_new_of_other s r.word && eqb r.after n
-
--- whether steps of this kind are fills
-abbrev pub is_fill : Kind → Bool
-is_fill Fill = true
-is_fill _ = false
 
 -- whether the word is one of node n
 abbrev pub is_of_node : ℕ → Word → Bool

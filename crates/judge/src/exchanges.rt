@@ -7,7 +7,9 @@ ghost use Rattle.arena.specs.Words.{state, marked};
 ghost use Rattle.judge.specs.Histories.{history_after};
 
 use crate::beginning::{is_as_seen, is_own_scx, may_begin};
-use crate::records::{are_frozen, count, field, finalizes, is_frozen, member, of_node, of_scx, plan};
+use crate::records::{
+    are_frozen, count, field, finalizes, is_frozen, member, of_node, of_scx, plan,
+};
 use crate::words::is_same;
 use arena::{Kind, Layout, NodeNo, NodeWord, PassNo, Row, ScxNo, ScxWord, Word};
 

@@ -8,14 +8,13 @@ use Rattle.arena.specs.Words.{state}
 use Rattle.arena.specs.declared.step.Kind.{Kind}
 use Rattle.arena.specs.declared.step.Kind.TheVariants.{Freeze, LoadInfo}
 use Rattle.arena.specs.History.{History, value, Extends}
-use Rattle.arena.specs.Found.{HasFound}
 use Rattle.arena.proofs.Lemmas.{found_wider, ends_self}
-use Rattle.arena.specs.Blame.{WasInTheWay}
+use Rattle.arena.specs.Blame.{WasInTheWay, HasFailed}
 use Rattle.arena.specs.Log.{log, is_final, has}
 use Rattle.histories.proofs.Lemmas.{aborted_never_won, committed_won, finished_taken}
-use Rattle.prims.specs.Moments.{IsMoment, IsAsFound, AreLeftAlone}
+use Rattle.prims.specs.Moments.{IsMoment, IsAsFound, AreLeftAlone, HasChanged}
 use Rattle.prims.specs.Snaps.{IsAmong}
-use Rattle.prims.proofs.Lemmas.{alone_now, over_begins, over_ends, share_ends, all_idle, usable_now, among, put_finished, IsChanged, put_changed, vlx_changed}
+use Rattle.prims.proofs.Lemmas.{alone_now, over_begins, over_ends, share_ends, all_idle, usable_now, among, put_finished}
 use Rattle.prims.specs.Put.Known.{PutAnswers}
 use Rattle.prims.specs.Snap.{snap_at}
 use Rattle.prims.specs.Vlx.Known.{VlxAnswers}
@@ -45,8 +44,8 @@ use Rattle.record.specs.declared.record.Answer.{Answer}
 use Rattle.record.specs.declared.record.Answer.TheVariants.{Snapshot, Finalized, Fail, Done, Lost, Same, Changed, Unlinked, Full}
 use Rattle.player.specs.KeptSnaps.{IsUnspent, kept_of, node_of, found_of, parts, snap_of}
 use Rattle.record.specs.CommandRules.{IsAnswerAfterStep, IsRight}
-use Rattle.record.specs.Snapshots.{IsLastLook, AreLinked}
-use Rattle.record.specs.Answers.{HasRoom, IsFailOf, IsInTheWay, IsUnchanged, IsFirstChanged, HasItsEntry}
+use Rattle.record.specs.Snapshots.{IsLastLook, AreLinked, IsBehindAll}
+use Rattle.record.specs.Answers.{HasRoom, IsInTheWay, IsAsSnapped, HasItsEntry}
 use Rattle.player.specs.RunKnown.{answer_of}
 use Rattle.prims.specs.Scx.Known.{nodes_of}
 use Rattle.player.specs.ClientView.{ClientView, IsSound, IsLlxOf, IsScxOf, IsVlxOf, no_hand, in_hand, HaveMoments, IsClientState, Rests, Answered, Ends, machine_call, linked_by}
@@ -131,8 +130,8 @@ entered_none (Full what left) None e d = tt
 entered_none answer (Some k) e d = cc
 
 -- one of the nodes was changed by another client
-blamed_is : (kind : Kind) (v : ClientView) (c : Client) (command : Command) (snaps : List Snap) (nodes : List ℕ) (start : History) → Extends start v.start → (is_pass : c.pass.0 < v.layout.passes) (node scx : ℕ) (IsSuch : History → Type 0) → nodes_of snaps ≡ nodes → HaveMoments v c.pass.0 command snaps → AreLeftAlone v.layout c.pass.0 start snaps → ((i : ℕ) → i < length snaps → (snap_at snaps i).node.0 ≡ node → (moment : History) × IsMoment v.layout v.past (snap_at snaps i) moment × IsSuch moment) → IsChanged kind (machine_call v c is_pass start) v.past snaps node scx → IsInTheWay v.layout c.pass.0 v.past v.start kind nodes node scx IsSuch
-blamed_is kind v c command snaps nodes start since is_pass node scx IsSuch e x alone f b =
+blamed_is : (kind : Kind) (v : ClientView) (c : Client) (command : Command) (snaps : List Snap) (nodes : List ℕ) (start : History) → Extends start v.start → (node scx : ℕ) (IsSuch : History → Type 0) → nodes_of snaps ≡ nodes → HaveMoments v c.pass.0 command snaps → AreLeftAlone v.layout c.pass.0 start snaps → ((i : ℕ) → i < length snaps → (snap_at snaps i).node.0 ≡ node → (moment : History) × IsMoment v.layout v.past (snap_at snaps i) moment × IsSuch moment) → HasChanged v.layout c.pass.0 kind v.past start snaps node scx → IsInTheWay v.layout c.pass.0 v.past v.start kind nodes node scx IsSuch
+blamed_is kind v c command snaps nodes start since node scx IsSuch e x alone f b =
     let y = f b.index b.within b.is in
     record {
       among = subst (λ (n : ℕ). Contains nodes n) b.is (subst (λ (l : List ℕ). Contains l (snap_at snaps b.index).node.0) e (contains_node snaps b.index b.within));
@@ -175,9 +174,9 @@ scx_outcome v c (ScxOf update) m None (ScxLost node scx) start since is_pass x m
   right = (
     are_linked v c (ScxOf update) m.scx.update.snaps (update_cells update) x.covers (λ i p. let z = moments i p in (z.moment, z.source)),
     room,
-    blamed_is Freeze v c (ScxOf update) m.scx.update.snaps (update_cells update) start since is_pass node.0 scx.0 (λ moment. v.linked node.0 ≡ Some moment) x.covers moments alone
+    blamed_is Freeze v c (ScxOf update) m.scx.update.snaps (update_cells update) start since node.0 scx.0 (λ moment. v.linked node.0 ≡ Some moment) x.covers moments alone
         (λ i p e. let z = moments i p in (z.moment, z.found, subst (λ (n : ℕ). v.linked n ≡ Some z.moment) e z.source))
-        (put_changed m (machine_call v c is_pass start) v.past node scx y),
+        y.1.changed,
   );
   entry = entered_none (Lost node scx) v.won (lost (λ e. cc)) (λ e. cc);
   drops = drop_nodes m.scx.update.snaps (update_cells update) v.linked x.covers;
@@ -186,9 +185,9 @@ scx_outcome v c (SetOf field value) m None (ScxLost node scx) start since is_pas
   answers = tt;
   right = (
     room,
-    blamed_is Freeze v c (SetOf field value) m.scx.update.snaps (field.0 ∷ []) start since is_pass node.0 scx.0 (λ moment. IsLastLook c.pass.0 v.past v.start moment field.0 × (is_final (log v.layout moment) field.0 ≡ false)) x.covers moments alone
+    blamed_is Freeze v c (SetOf field value) m.scx.update.snaps (field.0 ∷ []) start since node.0 scx.0 (λ moment. IsLastLook c.pass.0 v.past v.start moment field.0 × (is_final (log v.layout moment) field.0 ≡ false)) x.covers moments alone
         (λ i p e. let z = moments i p in (z.moment, z.found, subst (λ (n : ℕ). IsLastLook c.pass.0 v.past v.start z.moment n × (is_final (log v.layout z.moment) n ≡ false)) (only_node m.scx.update.snaps field.0 i x.covers p) (z.source, z.found.not_final)))
-        (put_changed m (machine_call v c is_pass start) v.past node scx y),
+        y.1.changed,
   );
   entry = entered_none (Lost node scx) v.won (lost (λ e. cc)) (λ e. cc);
   drops = drop_one m.scx.update.snaps field.0 v.linked x.covers;
@@ -274,16 +273,16 @@ cell_is (snap ∷ snaps) zero p = refl
 cell_is (snap ∷ snaps) (suc i) p = cell_is snaps i (omega arith)
 
 -- it names the first that was changed
-first_changed : (v : ClientView) (c : ℕ) (cells : _) (snaps : List Snap) (node index : ℕ) → nodes_of snaps ≡ cells_of cells → HaveMoments v c (VlxOf cells) snaps → index < length snaps → (snap_at snaps index).node.0 ≡ node → ((i : ℕ) → i < index → IsAsFound v.layout v.past v.start (snap_at snaps i)) → IsFirstChanged v.layout v.start v.linked (cells_of cells) node
+first_changed : (v : ClientView) (c : ℕ) (cells : _) (snaps : List Snap) (node index : ℕ) → nodes_of snaps ≡ cells_of cells → HaveMoments v c (VlxOf cells) snaps → index < length snaps → (snap_at snaps index).node.0 ≡ node → ((i : ℕ) → i < index → IsAsFound v.layout v.past v.start (snap_at snaps i)) → IsBehindAll (IsAsSnapped v.layout v.start v.linked) (cells_of cells) node
 first_changed v c cells snaps node index e moments within is found =
-    subst (λ (l : List ℕ). IsFirstChanged v.layout v.start v.linked l node) e
+    subst (λ (l : List ℕ). IsBehindAll (IsAsSnapped v.layout v.start v.linked) l node) e
     record { place = index; is = cell_there snaps index within ∙ ap (λ (n : ℕ). Some n) is; before = before }
   where
-    before : (i : ℕ) → i < index → (moment : History) × (v.linked (get_or (nodes_of snaps) i 0) ≡ Some moment) × IsUnchanged v.layout v.start moment (get_or (nodes_of snaps) i 0)
+    before : (i : ℕ) → i < index → IsAsSnapped v.layout v.start v.linked (get_or (nodes_of snaps) i 0)
     before i p =
         let z = moments i (omega (arith, within)) in
         let w = found i p in
-        subst (λ (k : ℕ). (moment : History) × (v.linked k ≡ Some moment) × IsUnchanged v.layout v.start moment k) (sym (cell_is snaps i (omega (arith, within)))) (z.moment, z.source, record { same = w.last z.moment z.found; not_final = w.not_final })
+        subst (IsAsSnapped v.layout v.start v.linked) (sym (cell_is snaps i (omega (arith, within)))) (z.moment, z.source, record { same = w.last z.moment z.found; not_final = w.not_final })
 
 -- what the answer of a VLX says: it leaves the snapshots
 vlx_outcome : (v : ClientView) (c : Client) (command : Command) (m : VlxRun (List Snap)) (then : Option Put) (a : VlxAnswer) → IsVlxOf command m.snaps then → HaveMoments v c.pass.0 command m.snaps → AreLeftAlone v.layout c.pass.0 v.start m.snaps → v.won ≡ None → (is_pass : c.pass.0 < v.layout.passes) → VlxAnswers m.snaps (machine_call v c is_pass v.start) v.past a → IsOutcome v c.pass.0 [] command (answer_of (ended.Vlx a))
@@ -294,20 +293,20 @@ vlx_outcome v c (VlxOf cells) m None VlxSame x moments alone won is_pass y = rec
   drops = record { gone = λ n z. absurd (among_none n z); others = λ n z. refl };
 }
   where
-    same : (n : ℕ) → Contains (nodes_of m.snaps) n → (moment : History) × (v.linked n ≡ Some moment) × IsUnchanged v.layout v.start moment n
+    same : (n : ℕ) → Contains (nodes_of m.snaps) n → IsAsSnapped v.layout v.start v.linked n
     same n q =
         let i = among m.snaps n q in
         let z = moments i.at i.within in
         let w = y.found i.at i.within in
-        subst (λ (k : ℕ). (moment : History) × (v.linked k ≡ Some moment) × IsUnchanged v.layout v.start moment k) i.is (z.moment, z.source, record { same = w.last z.moment z.found; not_final = w.not_final })
+        subst (IsAsSnapped v.layout v.start v.linked) i.is (z.moment, z.source, record { same = w.last z.moment z.found; not_final = w.not_final })
 vlx_outcome v c (VlxOf cells) m None (VlxChanged node scx) x moments alone won is_pass y = record {
   answers = tt;
   right = (
     are_linked v c (VlxOf cells) m.snaps (cells_of cells) x (λ i p. let z = moments i p in (z.moment, z.source)),
-    blamed_is LoadInfo v c (VlxOf cells) m.snaps (cells_of cells) v.start (ends_self v.start) is_pass node.0 scx.0 (λ moment. v.linked node.0 ≡ Some moment) x moments alone
+    blamed_is LoadInfo v c (VlxOf cells) m.snaps (cells_of cells) v.start (ends_self v.start) node.0 scx.0 (λ moment. v.linked node.0 ≡ Some moment) x moments alone
         (λ i p e. let z = moments i p in (z.moment, z.found, subst (λ (n : ℕ). v.linked n ≡ Some z.moment) e z.source))
-        (vlx_changed m.snaps (machine_call v c is_pass v.start) v.past node scx y),
-    first_changed v c.pass.0 cells m.snaps node.0 y.index x moments y.within y.node y.before,
+        y.changed,
+    first_changed v c.pass.0 cells m.snaps node.0 y.changed.index x moments y.changed.within y.changed.is y.before,
   );
   entry = entered_none (Changed node scx) v.won won (λ e. cc);
   drops = record { gone = λ n z. absurd (among_none n z); others = λ n z. refl };
@@ -408,15 +407,8 @@ rests_kept v c kept m then a linked sound x e said = record {
     unspent (LlxFail node scx) z found d = cc
 
 -- a failed LLX failed since the call's begin
-failed_since : (v : ClientView) (c : Client) (m : LlxRun) (then : Option Put) (node : NodeNo) (scx : ScxNo) → Answered v c (Llx m) then (ended.Llx (LlxFail node scx)) → IsFailOf v.layout c.pass.0 v.past v.start m.node.0 node.0 scx.0
-failed_since v c m then node scx x = record {
-  is = x.answers.0;
-  others = x.answers.1.others;
-  way = subst (λ (k : History). WasInTheWay v.past k m.node.0 scx.0) x.works.begun x.answers.1.in_the_way;
-  found = subst (λ (k : History). HasFound c.pass.0 v.past k LoadInfo m.node.0 scx.0) x.works.begun x.answers.1.found;
-  over = x.answers.1.over;
-  not_final = subst (λ (k : History). is_final (log v.layout k) m.node.0 ≡ false) x.works.begun x.answers.1.not_final;
-}
+failed_since : (v : ClientView) (c : Client) (m : LlxRun) (then : Option Put) (node : NodeNo) (scx : ScxNo) → Answered v c (Llx m) then (ended.Llx (LlxFail node scx)) → (node.0 ≡ m.node.0) × HasFailed v.layout c.pass.0 v.past v.start m.node.0 scx.0
+failed_since v c m then node scx x = (x.answers.0, subst (λ (k : History). HasFailed v.layout c.pass.0 v.past k m.node.0 scx.0) x.works.begun x.answers.1)
 
 -- what an LLX answers that ends a call
 record IsLlxOutcome (v : ClientView) (c : ℕ) (command : Command) (a : LlxAnswer) : Type 0 where

@@ -101,7 +101,7 @@ kept_linked lay c h linked kept snaps those x i below = x (snap_at snaps i).node
 
 -- the first cell of which nothing is kept is the first of which no snapshot is said
 pub first_unlinked : (lay : Layout) (c : ℕ) (h : History) (linked : ℕ → Option History) (kept : Kept) (cells : List ℕ) (node : ℕ) → AreKept lay c h linked kept → ((n : ℕ) → n ≤ 8 → kept_of kept n ≡ None → linked n ≡ None) → IsFirstUnkept kept cells node → IsFirstUnlinked linked cells node
-first_unlinked lay c h linked kept cells node those unkept x = record { place = x.place; is = x.is; none = unkept node x.small x.unkept; before = λ i p. some (get_or cells i 0) (kept_of kept (get_or cells i 0)) refl (x.before i p) }
+first_unlinked lay c h linked kept cells node those unkept x = (unkept node x.0 x.1, record { place = x.2.place; is = x.2.is; before = λ i p. some (get_or cells i 0) (kept_of kept (get_or cells i 0)) refl (x.2.before i p) })
   where
     some : (n : ℕ) (found : Option Found) → kept_of kept n ≡ found → IsSome found → IsSome (linked n)
     some n (Some found) e = λ y. let z = those n found e in subst (λ (m : Option History). IsSome m) (sym z.1) refl

@@ -1,5 +1,5 @@
 -- What a client keeps of the snapshots that it took.
-use Rattle.std.specs.Prelude.{◌≡◌, ℕ, ◌<◌, ◌≤◌, List, length, get_or, Option, Some, None, IsSome, slice_get}
+use Rattle.std.specs.Prelude.{◌≡◌, ℕ, ◌<◌, ◌≤◌, List, length, get_or, Option, Some, None, IsSome}
 use Rattle.arena.specs.declared.layout.Layout.{Layout}
 use Rattle.arena.specs.History.{History}
 use Rattle.prims.specs.Moments.{IsLeftAlone}
@@ -8,6 +8,7 @@ use Rattle.prims.specs.Snap.{snap_at}
 use Rattle.prims.specs.declared.snap.Snap.{Snap}
 use Rattle.prims.specs.declared.llx.Llx.{Llx}
 use Rattle.prims.specs.declared.llx.Llx.TheVariants.{Snapshot, Finalized, Fail}
+use Rattle.record.specs.Snapshots.{IsBehindAll}
 use Rattle.player.specs.declared.kept.Found.{Found}
 use Rattle.player.specs.declared.kept.Kept.{Kept}
 
@@ -50,9 +51,5 @@ abbrev pub AllKept : Kept → List Snap → Type 0
 AllKept kept snaps = (i : ℕ) → i < length snaps → kept_of kept (snap_at snaps i).node.0 ≡ Some (parts (snap_at snaps i))
 
 -- the node is the first of the cells of which nothing is kept
-pub record IsFirstUnkept (kept : Kept) (cells : List ℕ) (node : ℕ) : Type 0 where
-  pub place : ℕ
-  pub is : slice_get cells place ≡ Some node
-  pub small : node ≤ 8
-  pub unkept : kept_of kept node ≡ None
-  pub before : (i : ℕ) → i < place → IsSome (kept_of kept (get_or cells i 0))
+abbrev pub IsFirstUnkept : Kept → List ℕ → ℕ → Type 0
+IsFirstUnkept kept cells node = (node ≤ 8) × (kept_of kept node ≡ None) × IsBehindAll (λ n. IsSome (kept_of kept n)) cells node

@@ -1,41 +1,14 @@
--- What the answers of an SCX with a fresh cell, and of a VLX, say of a node that was changed: they name what the call's last step of a kind has found, which is one.
-use Rattle.std.proofs.Common.{◌≡◌, ℕ, ◌<◌, inl, inr, ⊎_elim, sym, ◌∙◌, ap, length, List}
+-- What the call's last step of a kind has found is one node and one SCX-record.
+use Rattle.std.proofs.Common.{◌≡◌, ℕ, inl, inr, ⊎_elim, sym, ◌∙◌, ap}
 use Rattle.arena.specs.declared.number.NodeNo.{NodeNo}
-use Rattle.arena.specs.declared.number.ScxNo.{ScxNo}
 use Rattle.arena.specs.declared.step.Kind.{Kind}
-use Rattle.arena.specs.declared.step.Kind.TheVariants.{Freeze, LoadInfo}
 use Rattle.arena.specs.declared.step.Row.{Row}
 use Rattle.arena.specs.declared.word.Word.TheVariants.{Node}
 use Rattle.arena.specs.declared.word.NodeWord.TheVariants.{Info}
 use Rattle.arena.specs.Words.{info}
 use Rattle.arena.specs.History.{History, ◌⊳◌, value, Extends}
 use Rattle.arena.specs.Found.{IsLastStep, HasFound}
-use Rattle.arena.specs.Machines.{Call}
-use Rattle.prims.specs.Moments.{IsBlamed}
-use Rattle.prims.specs.Put.Known.{PutAnswers}
-use Rattle.prims.specs.Snap.{snap_at}
-use Rattle.prims.specs.Vlx.Known.{VlxAnswers}
 use Rattle.prims.specs.Laws.Wins.{ends_either}
-use Rattle.prims.specs.declared.snap.Snap.{Snap}
-use Rattle.prims.specs.declared.put.PutRun.{PutRun}
-use Rattle.prims.specs.declared.scx.Scx.TheVariants.{Lost}
-use Rattle.prims.specs.declared.vlx.Vlx.TheVariants.{Changed}
-
--- the node is that of one of the snapshots, and the SCX-record, which the call's last row of this kind has found in its info, has changed it since
-pub record IsChanged (kind : Kind) (call : Call) (h : History) (snaps : List Snap) (node scx : ℕ) : Type 0 where
-  pub index : ℕ
-  pub within : index < length snaps
-  pub is : (snap_at snaps index).node.0 ≡ node
-  pub blamed : IsBlamed call h (snap_at snaps index) scx
-  pub found : HasFound call.pass h call.start kind node scx
-
-abbrev pub put_changed : (m : PutRun) (call : Call) (h : History) (node : NodeNo) (scx : ScxNo) → PutAnswers m call h (Lost node scx) → IsChanged Freeze call h m.scx.update.snaps node.0 scx.0
-put_changed m call h node scx x = record { index = x.1.index; within = x.1.within; is = x.1.node; blamed = x.1.blamed; found = x.1.found }
-
-abbrev pub vlx_changed : (snaps : List Snap) (call : Call) (h : History) (node : NodeNo) (scx : ScxNo) → VlxAnswers snaps call h (Changed node scx) → IsChanged LoadInfo call h snaps node.0 scx.0
-vlx_changed snaps call h node scx x = record { index = x.index; within = x.within; is = x.node; blamed = x.blamed; found = x.found }
-
--- What a call has found
 
 -- the last of two rows of a pass and a kind is the other too
 one_last : (c : ℕ) (h : History) (kind : Kind) (n m : ℕ) (a b : Row) (i k : History) → IsLastStep c h kind n a i → IsLastStep c h kind m b k → Extends (a ⊳ i) (b ⊳ k) → b ⊳ k ≡ a ⊳ i

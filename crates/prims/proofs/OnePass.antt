@@ -26,7 +26,7 @@ pub alone_never_fails : (m : LlxRun) (c : Call) (h : History) (node : NodeNo) (s
 alone_never_fails m c h node s one x = no_others c.layout c.pass s.0 one c.is_pass x.1.others
 
 pub alone_never_loses : (m : PutRun) (c : Call) (h : History) (node : NodeNo) (s : ScxNo) → c.layout.passes ≡ 1 → AreLeftAlone c.layout c.pass c.start m.scx.update.snaps → PutAnswers m c h (Lost node s) → ⊥
-alone_never_loses m c h node s one alone x = no_others c.layout c.pass s.0 one c.is_pass (x.1.blamed.others (alone x.1.index x.1.within))
+alone_never_loses m c h node s one alone x = no_others c.layout c.pass s.0 one c.is_pass (x.1.changed.blamed.others (alone x.1.changed.index x.1.changed.within))
 
 pub alone_never_changes : (snaps : List Snap) (c : Call) (h : History) (node : NodeNo) (s : ScxNo) → c.layout.passes ≡ 1 → AreLeftAlone c.layout c.pass c.start snaps → VlxAnswers snaps c h (Changed node s) → ⊥
-alone_never_changes snaps c h node s one alone x = no_others c.layout c.pass s.0 one c.is_pass (x.blamed.others (alone x.index x.within))
+alone_never_changes snaps c h node s one alone x = no_others c.layout c.pass s.0 one c.is_pass (x.changed.blamed.others (alone x.changed.index x.changed.within))

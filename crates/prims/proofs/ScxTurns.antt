@@ -1,5 +1,5 @@
 -- What a run of SCX knows and waits for after each of its turns.
-use Rattle.std.proofs.Common.{◌≡◌, ℕ, suc, ◌<◌, ◌≤◌, ◌%◌, Bool, true, false, Option, Some, None, ◌⊎◌, inl, inr, refl, sym, ◌∙◌, ap, arith, length, subst}
+use Rattle.std.proofs.Common.{◌≡◌, ℕ, suc, ◌<◌, ◌≤◌, ◌%◌, Bool, true, false, Option, Some, None, ◌⊎◌, inl, inr, ⊎_elim, refl, sym, ◌∙◌, ap, arith, length, subst}
 use Rattle.arena.specs.declared.layout.Layout.{Layout}
 use Rattle.arena.specs.declared.number.MemberIndex.{MemberIndex}
 use Rattle.arena.specs.declared.number.MemberIndex.TheVariants.{First}
@@ -38,6 +38,13 @@ three a = grind arith
 not_less : (a b : ℕ) → (a < b → ⊥) → b ≤ a
 not_less a b d = grind arith
 
+-- what is filled up to a place is filled before it, or there
+up_to : (word : ℕ → ScxWord) (i j : ℕ) → i < suc j → (i < j) ⊎ (word j ≡ word i)
+up_to word i j p = ⊎_elim inl (λ e. inr (ap word (sym e))) (less_or_same i j p)
+  where
+    less_or_same : (i j : ℕ) → i < suc j → (i < j) ⊎ (i ≡ j)
+    less_or_same i j p = grind arith
+
 module _ (allows : Layout → History → ℕ → Type 0) (c : Call) (h : History) (m : ScxRun) where
   -- the next word is filled
   turn_fill : (at : ScxAt) (now : ScxRun) (turn : Turn Scx) → InHand allows c.layout c.pass h (job_of m) → IsUnderWay c h m.scx.0 m.update.snaps → IsWithin (length m.update.snaps) at → Holds h (job_of m) (IsFilled (length m.update.snaps) at)
@@ -56,7 +63,7 @@ module _ (allows : Layout → History → ℕ → Type 0) (c : Call) (h : Histor
   turn_plan now turn x a = turn_fill AtNew now turn x.hand x.way tt (λ part p. x.filled part (filled part p)) (λ s y. y) a
     where
       filled : (part : ScxWord) → IsFilled (length m.update.snaps) AtNew part → IsFilledThen (length m.update.snaps) AtPlan part
-      filled Plan p = tt
+      filled Plan p = inr refl
       filled _ p = absurd p
 
   -- after `new` it fills `old`
@@ -64,8 +71,8 @@ module _ (allows : Layout → History → ℕ → Type 0) (c : Call) (h : Histor
   turn_new now turn x a = turn_fill AtOld now turn x.hand x.way tt (λ part p. x.filled part (filled part p)) (λ s y. y) a
     where
       filled : (part : ScxWord) → IsFilled (length m.update.snaps) AtOld part → IsFilledThen (length m.update.snaps) AtNew part
-      filled Plan p = tt
-      filled New p = tt
+      filled Plan p = inl tt
+      filled New p = inr refl
       filled _ p = absurd p
 
   -- after `old` it fills the first `v` word
@@ -73,9 +80,9 @@ module _ (allows : Layout → History → ℕ → Type 0) (c : Call) (h : Histor
   turn_old now turn x a = turn_fill (AtMember First) now turn x.hand x.way (rw (sym x.hand.update.count) x.hand.update.planned.some) (λ part p. x.filled part (filled part p)) (λ s y. y) a
     where
       filled : (part : ScxWord) → IsFilled (length m.update.snaps) (AtMember First) part → IsFilledThen (length m.update.snaps) AtOld part
-      filled Plan p = tt
-      filled New p = tt
-      filled Old p = tt
+      filled Plan p = inl tt
+      filled New p = inl tt
+      filled Old p = inr refl
       filled (Member i) p = absurd (omega arith)
       filled _ p = absurd p
 
@@ -101,18 +108,18 @@ module _ (allows : Layout → History → ℕ → Type 0) (c : Call) (h : Histor
   turn_member j now turn x (inl a) = turn_fill (AtMember a.next) now turn x.hand x.way (next_within x.hand.update a.next a.within) (λ part p. x.filled part (filled part p)) (λ s y. y) a.fills
     where
       filled : (part : ScxWord) → IsFilled (length m.update.snaps) (AtMember a.next) part → IsFilledThen (length m.update.snaps) (AtMember j) part
-      filled Plan p = tt
-      filled New p = tt
-      filled Old p = tt
-      filled (Member i) p = let e = a.is in omega arith
+      filled Plan p = inl tt
+      filled New p = inl tt
+      filled Old p = inl tt
+      filled (Member i) p = up_to Member i (member_index j) (let e = a.is in omega arith)
       filled _ p = absurd p
   turn_member j now turn x (inr a) = turn_fill (AtSeen First) now turn x.hand x.way (fewer x.hand.update 0 x.hand.update.planned.some) (λ part p. x.filled part (filled part p)) (λ s y. y) a.fills
     where
       filled : (part : ScxWord) → IsFilled (length m.update.snaps) (AtSeen First) part → IsFilledThen (length m.update.snaps) (AtMember j) part
-      filled Plan p = tt
-      filled New p = tt
-      filled Old p = tt
-      filled (Member i) p = let e = last_covers x.hand.update j a.none in omega arith
+      filled Plan p = inl tt
+      filled New p = inl tt
+      filled Old p = inl tt
+      filled (Member i) p = up_to Member i (member_index j) (let e = last_covers x.hand.update j a.none in omega arith)
       filled (Seen i) p = absurd (omega arith)
       filled _ p = absurd p
 
@@ -121,40 +128,40 @@ module _ (allows : Layout → History → ℕ → Type 0) (c : Call) (h : Histor
   turn_seen j now turn x (inl a) = turn_fill (AtSeen a.next) now turn x.hand x.way (next_within x.hand.update a.next a.within) (λ part p. x.filled part (filled part p)) (λ s y. y) a.fills
     where
       filled : (part : ScxWord) → IsFilled (length m.update.snaps) (AtSeen a.next) part → IsFilledThen (length m.update.snaps) (AtSeen j) part
-      filled Plan p = tt
-      filled New p = tt
-      filled Old p = tt
-      filled (Member i) p = p
-      filled (Seen i) p = let e = a.is in omega arith
+      filled Plan p = inl tt
+      filled New p = inl tt
+      filled Old p = inl tt
+      filled (Member i) p = inl p
+      filled (Seen i) p = up_to Seen i (member_index j) (let e = a.is in omega arith)
       filled _ p = absurd p
   turn_seen j now turn x (inr a) = turn_fill AtCall now turn x.hand x.way tt (λ part p. x.filled part (filled part p)) (λ s y. y) a.fills
     where
       filled : (part : ScxWord) → IsFilled (length m.update.snaps) AtCall part → IsFilledThen (length m.update.snaps) (AtSeen j) part
-      filled Plan p = tt
-      filled New p = tt
-      filled Old p = tt
-      filled (Member i) p = p
-      filled (Seen i) p = let e = last_covers x.hand.update j a.none in omega arith
+      filled Plan p = inl tt
+      filled New p = inl tt
+      filled Old p = inl tt
+      filled (Member i) p = inl p
+      filled (Seen i) p = up_to Seen i (member_index j) (let e = last_covers x.hand.update j a.none in omega arith)
       filled _ p = absurd p
 
   -- all is filled, so HELP may begin
   prepared : FillMade allows c h (job_of m) AtCall → IsPrepared allows c.layout c.pass h m.scx.0
-  prepared x = record { begins = begins; allowed = x.hand.allowed (descriptor h m.scx.0) record { plan = ep; new = en; old = eo; member = em; seen = es; call = x.filled CallWord tt } }
+  prepared x = record { begins = begins; allowed = x.hand.allowed (descriptor h m.scx.0) record { plan = ep; new = en; old = eo; member = em; seen = es; call = x.filled CallWord (inr refl) } }
     where
       ep : plan h m.scx.0 ≡ m.update.plan.0
-      ep = x.filled Plan tt
+      ep = x.filled Plan (inl tt)
 
       en : new h m.scx.0 ≡ m.update.fresh.0
-      en = x.filled New tt
+      en = x.filled New (inl tt)
 
       eo : old h m.scx.0 ≡ m.update.old.0
-      eo = x.filled Old tt
+      eo = x.filled Old (inl tt)
 
       em : (j : ℕ) → j < length m.update.snaps → member h m.scx.0 j ≡ (snap_at m.update.snaps j).node.0
-      em j i = x.filled (Member j) i
+      em j i = x.filled (Member j) (inl i)
 
       es : (j : ℕ) → j < length m.update.snaps → seen h m.scx.0 j ≡ (snap_at m.update.snaps j).scx.0
-      es j i = x.filled (Seen j) i
+      es j i = x.filled (Seen j) (inl i)
 
       less : (j : ℕ) → j < count h m.scx.0 → j < length m.update.snaps
       less j i = fewer x.hand.update j (rw ep at i)
@@ -189,12 +196,12 @@ module _ (allows : Layout → History → ℕ → Type 0) (c : Call) (h : Histor
     own = x.hand.is_open.own;
     way = x.way;
     over = x.hand.update;
-    planned = x.filled Plan tt;
-    fresh = x.filled New tt;
-    expected = x.filled Old tt;
-    members = λ j i. x.filled (Member j) i;
-    found = λ j i. x.filled (Seen j) i;
-    called = x.filled CallWord tt;
+    planned = x.filled Plan (inl tt);
+    fresh = x.filled New (inl tt);
+    expected = x.filled Old (inl tt);
+    members = λ j i. x.filled (Member j) (inl i);
+    found = λ j i. x.filled (Seen j) (inl i);
+    called = x.filled CallWord (inr refl);
   }
 
   -- once all is filled, HELP may begin
@@ -222,11 +229,13 @@ module _ (c : Call) (h : History) (m : ScxRun) (help : HelpRun) (l : Lawful c.la
     aborted = a;
     no_entry = aborted_no_entry c.layout h h m.scx.0 l (ends_self h) a;
     blocked = b;
-    found = record { row = b.row; before = b.before; since = behind; last = b.last; found = b.found };
-    index = b.index;
-    within = within;
-    node = sym (x.members b.index within) ∙ b.is;
-    blamed = blamed_behind c h m.scx.0 m.update.snaps l x.way.begun b.index within b.before v (λ _. b.not_own) ends behind (rw (sym b.is ∙ x.members b.index within) at b.found) (λ e. b.other (sym e ∙ sym (x.found b.index within)));
+    changed = record {
+      index = b.index;
+      within = within;
+      is = sym (x.members b.index within) ∙ b.is;
+      found = record { row = b.row; before = b.before; since = behind; last = b.last; found = b.found };
+      blamed = blamed_behind c h m.scx.0 m.update.snaps l x.way.begun b.index within b.before v (λ _. b.not_own) ends behind (rw (sym b.is ∙ x.members b.index within) at b.found) (λ e. b.other (sym e ∙ sym (x.found b.index within)));
+    };
   }
     where
       ends : Extends h b.before

@@ -2,12 +2,13 @@
 -- snapshot found it, and who was in the way since.
 use Rattle.std.specs.Prelude.{◌≡◌, ◌≢◌, ℕ, ◌<◌, false, List, length}
 use Rattle.arena.specs.declared.layout.Layout.{Layout}
+use Rattle.arena.specs.declared.step.Kind.{Kind}
 use Rattle.arena.specs.Words.{info, state}
 use Rattle.arena.specs.History.{History, value, Extends}
 use Rattle.arena.specs.Fills.{IsNamed, IsOwnScx, IsOthersScx, IsTakenScx}
 use Rattle.arena.specs.Log.{log, last, is_final}
 use Rattle.arena.specs.Blame.{IsMember, IsInProgress, WasInTheWay}
-use Rattle.arena.specs.Machines.{Call}
+use Rattle.arena.specs.Found.{HasFound}
 use Rattle.prims.specs.Snap.{snap_at}
 use Rattle.prims.specs.declared.snap.Snap.{Snap}
 
@@ -45,10 +46,20 @@ AreFinished lay c s h = (t : ℕ) → IsOwnScx lay c t → t ≢ s → IsTakenSc
 abbrev pub HasTakenOnly : Layout → ℕ → ℕ → History → History → Type 0
 HasTakenOnly lay c s start h = (t : ℕ) → IsOwnScx lay c t → t ≢ s → ¬ IsTakenScx start t → ¬ IsTakenScx h t
 
--- another SCX-record, v, has come to the node since the snapshot
-pub record IsBlamed (c : Call) (h : History) (snap : Snap) (v : ℕ) : Type 0 where
+-- another SCX-record, s, has come to the node since the snapshot, by a call of the pass c that
+-- began at `start`
+pub record IsBlamed (lay : Layout) (c : ℕ) (now start : History) (snap : Snap) (s : ℕ) : Type 0 where
   -- at some step behind each moment at which the node was as found, it was in progress over the
   -- node
-  pub in_the_way : (moment : History) → IsMoment c.layout h snap moment → WasInTheWay h moment snap.node.0 v
+  pub in_the_way : (moment : History) → IsMoment lay now snap moment → WasInTheWay now moment snap.node.0 s
   -- it is another pass's, where this one had left the snapshot alone as its call began
-  pub others : IsLeftAlone c.layout c.pass c.start snap → IsOthersScx c.layout c.pass v
+  pub others : IsLeftAlone lay c start snap → IsOthersScx lay c s
+
+-- another SCX-record, s, has come to node n, of which one of the snapshots is, since that was taken
+pub record HasChanged (lay : Layout) (c : ℕ) (kind : Kind) (now start : History) (snaps : List Snap) (n s : ℕ) : Type 0 where
+  pub index : ℕ
+  pub within : index < length snaps
+  pub is : (snap_at snaps index).node.0 ≡ n
+  -- the call's last step of this kind has found it in the node's info
+  pub found : HasFound c now start kind n s
+  pub blamed : IsBlamed lay c now start (snap_at snaps index) s

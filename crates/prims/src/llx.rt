@@ -3,8 +3,8 @@ ghost use Rattle.std.specs.Prelude.{◌≡◌, ℕ, ◌+◌, ◌<◌, ◌≤◌}
 
 use crate::snap::Snap;
 use arena::{
-    ABORTED, COMMITTED, Access, IN_PROGRESS, Kind, Machine, NodeNo, NodeWord, ScxNo, ScxWord, Shape,
-    Side, Step, Turn, Word,
+    ABORTED, Access, COMMITTED, IN_PROGRESS, Kind, Machine, NodeNo, NodeWord, ScxNo, ScxWord,
+    Shape, Side, Step, Turn, Word,
 };
 use help::HelpRun;
 

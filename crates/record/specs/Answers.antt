@@ -1,12 +1,10 @@
 -- What answers say.
-use Rattle.std.specs.Prelude.{◌≡◌, ◌≢◌, ℕ, ◌<◌, false, List, Option, Some, None, slice_get, get_or}
+use Rattle.std.specs.Prelude.{◌≡◌, ◌≢◌, ℕ, false, List, Option, Some, None}
 use Rattle.std.specs.List.{Contains}
 use Rattle.arena.specs.declared.layout.Layout.{Layout}
 use Rattle.arena.specs.declared.word.Side.TheVariants.{Left, Right}
 use Rattle.arena.specs.declared.step.Kind.{Kind}
-use Rattle.arena.specs.declared.step.Kind.TheVariants.{LoadInfo}
-use Rattle.arena.specs.Words.{state}
-use Rattle.arena.specs.History.{History, value}
+use Rattle.arena.specs.History.{History}
 use Rattle.arena.specs.Fills.{IsOwnNode, IsOwnScx, IsOthersScx, IsTakenNode, IsTakenScx}
 use Rattle.arena.specs.Blame.{WasInTheWay}
 use Rattle.arena.specs.Found.{HasFound}
@@ -33,28 +31,19 @@ pub record IsSnapshotAt (lay : Layout) (now : History) (n left right : ℕ) : Ty
   pub right_is : right ≡ fields lay now n Right
   pub not_final : is_final (log lay now) n ≡ false
 
--- a failed LLX of node n is right: at some step of the call an SCX-record
--- of another client that covers n was in progress
-pub record IsFailOf (lay : Layout) (c : ℕ) (now start : History) (n node scx : ℕ) : Type 0 where
-  pub is : node ≡ n
-  pub others : IsOthersScx lay c scx
-  -- it was in the way behind the call's begin
-  pub way : WasInTheWay now start n scx
-  -- it is the one that the call's last look at the node's info has found, and is finished now
-  pub found : HasFound c now start LoadInfo n scx
-  pub over : value now (state scx) ≢ 0
-  -- the node was not final at the call's begin
-  pub not_final : is_final (log lay start) n ≡ false
-
 -- the cell at this moment is as at the snapshot's
 -- moment: it has the same last entry, and is not final
 pub record IsUnchanged (lay : Layout) (at moment : History) (n : ℕ) : Type 0 where
   pub same : last (log lay at) n ≡ last (log lay moment) n
   pub not_final : is_final (log lay at) n ≡ false
 
+-- the client keeps a snapshot of the cell, which at this moment is as that found it
+abbrev pub IsAsSnapped : Layout → History → (ℕ → Option History) → ℕ → Type 0
+IsAsSnapped lay at linked n = (moment : History) × (linked n ≡ Some moment) × IsUnchanged lay at moment n
+
 -- the client keeps a snapshot of each of the cells, and each is as its snapshot found it
 abbrev pub AreUnchanged : Layout → History → (ℕ → Option History) → List ℕ → Type 0
-AreUnchanged lay at linked cells = (n : ℕ) → Contains cells n → (moment : History) × (linked n ≡ Some moment) × IsUnchanged lay at moment n
+AreUnchanged lay at linked cells = (n : ℕ) → Contains cells n → IsAsSnapped lay at linked n
 
 -- another client's SCX-record has come to one of the cells since the snapshot of it
 pub record IsInTheWay (lay : Layout) (c : ℕ) (now start : History) (kind : Kind) (cells : List ℕ) (node scx : ℕ) (IsMoment : History → Type 0) : Type 0 where
@@ -67,12 +56,6 @@ pub record IsInTheWay (lay : Layout) (c : ℕ) (now start : History) (kind : Kin
   -- the last step of this kind in the call has found it in the cell's info
   pub found : HasFound c now start kind node scx
   pub others : IsOthersScx lay c scx
-
--- this cell stands among them, and those before it are as the client's snapshots found them
-pub record IsFirstChanged (lay : Layout) (at : History) (linked : ℕ → Option History) (cells : List ℕ) (node : ℕ) : Type 0 where
-  pub place : ℕ
-  pub is : slice_get cells place ≡ Some node
-  pub before : (i : ℕ) → i < place → (moment : History) × (linked (get_or cells i 0) ≡ Some moment) × IsUnchanged lay at moment (get_or cells i 0)
 
 -- none of this resource is left: the client has taken all nodes of its share, or all its
 -- SCX-records though not all its nodes

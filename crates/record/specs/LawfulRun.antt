@@ -7,7 +7,7 @@ use Rattle.histories.specs.Laws.{SpellFields, StaysFinalized}
 use Rattle.script.specs.declared.command.Call.{Call}
 use Rattle.record.specs.declared.record.Line.{Line}
 use Rattle.record.specs.declared.record.Line.TheVariants.{Step, Log, Reply as ReplyLine}
-use Rattle.record.specs.Turns.{history, turns, clients, entry_owed}
+use Rattle.record.specs.Turns.{history, clients, entry_owed}
 use Rattle.record.specs.Entries.{IsLog}
 use Rattle.record.specs.Replies.{IsReplyOwed, IsReply}
 use Rattle.record.specs.Steps.{IsTurn}

@@ -5,7 +5,6 @@ use Rattle.arena.specs.declared.step.Row.{Row as StepRow}
 use Rattle.arena.specs.declared.step.Kind.TheVariants.{LoadInfo}
 use Rattle.arena.specs.History.{History, ◌⊳◌, Extends}
 use Rattle.arena.specs.Found.{IsLastStep}
-use Rattle.arena.specs.Log.{last}
 use Rattle.record.specs.declared.record.Answer.{Answer}
 use Rattle.record.specs.declared.record.Answer.TheVariants.{Snapshot, Full}
 
@@ -21,12 +20,15 @@ snapshot_of _ now = None
 abbrev pub AreLinked : (ℕ → Option History) → List ℕ → Type 0
 AreLinked linked cells = (n : ℕ) → Contains cells n → IsSome (linked n)
 
--- this is the first of the cells of which the client keeps no snapshot
-pub record IsFirstUnlinked (linked : ℕ → Option History) (cells : List ℕ) (node : ℕ) : Type 0 where
+-- the node is one of the cells, and P holds of each cell before it
+pub record IsBehindAll (P : ℕ → Type 0) (cells : List ℕ) (node : ℕ) : Type 0 where
   pub place : ℕ
   pub is : slice_get cells place ≡ Some node
-  pub none : linked node ≡ None
-  pub before : (i : ℕ) → i < place → IsSome (linked (get_or cells i 0))
+  pub before : (i : ℕ) → i < place → P (get_or cells i 0)
+
+-- this is the first of the cells of which the client keeps no snapshot
+abbrev pub IsFirstUnlinked : (ℕ → Option History) → List ℕ → ℕ → Type 0
+IsFirstUnlinked linked cells node = (linked node ≡ None) × IsBehindAll (λ n. IsSome (linked n)) cells node
 
 -- the moment of a `set` of client c, which began at `start`, at which its LLX has looked at the
 -- cell for the last time: it has just loaded the cell's info, and no info word since

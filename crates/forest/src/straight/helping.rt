@@ -13,7 +13,10 @@ ghost use Rattle.forest.specs.StraightHelp.{SeatHelpBegins, SeatHelpWaits, SeatH
 use crate::steps::{complete, step_of};
 use crate::view::SeatView;
 use crate::words::Words;
-use arena::{Access, COMMITTED, Kind, Layout, MemberIndex, NodeNo, NodeWord, Plan, ScxNo, ScxWord, Shape, Step, Turn, Word};
+use arena::{
+    Access, COMMITTED, Kind, Layout, MemberIndex, NodeNo, NodeWord, Plan, ScxNo, ScxWord, Shape,
+    Step, Turn, Word,
+};
 use atomic_table::Seat;
 use help::{HelpAt, HelpRun};
 

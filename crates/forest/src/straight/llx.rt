@@ -11,7 +11,7 @@ use crate::steps::{complete, step_of};
 use crate::view::SeatView;
 use crate::words::Words;
 use arena::{
-    ABORTED, COMMITTED, Access, Kind, Layout, NodeNo, NodeWord, ScxNo, ScxWord, Shape, Side, Step,
+    ABORTED, Access, COMMITTED, Kind, Layout, NodeNo, NodeWord, ScxNo, ScxWord, Shape, Side, Step,
     Turn, Word,
 };
 use atomic_table::Seat;

@@ -11,7 +11,9 @@ use crate::steps::step_of;
 use crate::straight;
 use crate::view::SeatView;
 use crate::words::Words;
-use arena::{Access, Kind, Layout, MemberIndex, NodeNo, NodeWord, Plan, ScxNo, ScxWord, Shape, Step, Word};
+use arena::{
+    Access, Kind, Layout, MemberIndex, NodeNo, NodeWord, Plan, ScxNo, ScxWord, Shape, Step, Word,
+};
 use atomic_table::Seat;
 use help::HelpRun;
 use prims::{PutAt, PutRun, Scx, ScxAt, ScxRun, Snap, Snaps, Update};

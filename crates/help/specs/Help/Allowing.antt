@@ -4,12 +4,12 @@ use Rattle.std.proofs.Common.{◌≡◌, ◌≢◌, ℕ, ◌<◌, ◌⊎◌, inl
 use Rattle.arena.specs.declared.layout.Layout.{Layout}
 use Rattle.arena.specs.declared.step.Row.{Row}
 use Rattle.arena.specs.declared.word.Word.{Word}
-use Rattle.arena.specs.Words.{scx}
+use Rattle.arena.specs.Words.{scx, info, child}
 use Rattle.arena.specs.History.{History, Start, ◌⊳◌, value}
 use Rattle.arena.specs.ScxRecords.{plan, member, seen, new, old, field}
-use Rattle.arena.specs.Fills.{IsNamed, opening_node, by_field, by_scx, IsNamedScx}
+use Rattle.arena.specs.Fills.{IsNamedScx}
 use Rattle.arena.specs.Lawful.{Lawful}
-use Rattle.arena.proofs.Lemmas.{value_quiet, held_back}
+use Rattle.arena.proofs.Lemmas.{named_before, named_scx_before, value_quiet, held_back}
 use Rattle.histories.specs.Begins.{Begins}
 use Rattle.histories.specs.Descriptor.{Descriptor, descriptor, field_in}
 use Rattle.histories.proofs.Lemmas.{begins_kept, descriptor_same, lawful_row, named_more, own_words_stay}
@@ -67,13 +67,8 @@ module _ (lay : Layout) (h : History) (r : Row) (before : r.before ≡ value h r
   same_word_quiet w = value_quiet r h before q.same w
 
   -- an SCX-record that is named after the row was named before it
-  pub free_back : (s : ℕ) → IsNamedScx (r ⊳ h) s → IsNamedScx h s
-  free_back s p = (p.0, held_back r h _ s (same_word_quiet _) p.1)
-
-  unnamed_back : {n : ℕ} → IsNamed lay (r ⊳ h) n → IsNamed lay h n
-  unnamed_back (opening_node i) = opening_node i
-  unnamed_back (by_field m side p x) = by_field m side (unnamed_back p) (held_back r h _ _ (same_word_quiet _) x)
-  unnamed_back (by_scx s part p i x) = by_scx s part (free_back s p) i (held_back r h _ _ (same_word_quiet _) x)
+  pub quiet_named_scx : (s : ℕ) → IsNamedScx (r ⊳ h) s → IsNamedScx h s
+  quiet_named_scx s = named_scx_before r h s (λ n. same_word_quiet (info n))
 
   -- the settled words of each SCX-record are as they were
   pub quiet_words : (s : ℕ) → descriptor (r ⊳ h) s ≡ descriptor h s
@@ -82,7 +77,7 @@ module _ (lay : Layout) (h : History) (r : Row) (before : r.before ≡ value h r
   begins_quiet : (c s : ℕ) → Begins lay (descriptor h s) h c s → Begins lay (descriptor (r ⊳ h) s) (r ⊳ h) c s
   begins_quiet c s b = subst (λ d. Begins lay d (r ⊳ h) c s) (sym (quiet_words s)) record {
     own = b.own;
-    free = λ p. b.free (free_back s p);
+    free = λ p. b.free (quiet_named_scx s p);
     unfinished = same_word_quiet _ ∙ b.unfinished;
     planned = b.planned;
     inside = b.inside;
@@ -92,7 +87,7 @@ module _ (lay : Layout) (h : History) (r : Row) (before : r.before ≡ value h r
     unmarked = λ j i e. same_word_quiet _ ∙ b.unmarked j i (sym (same_word_quiet _) ∙ e);
     shows = λ e. same_word_quiet _ ∙ b.shows (sym (same_word_quiet _) ∙ e);
     new_own = b.new_own;
-    new_unnamed = λ p. b.new_unnamed (unnamed_back p);
+    new_unnamed = λ p. b.new_unnamed (named_before lay r h (λ n. same_word_quiet (info n)) (λ n side. same_word_quiet (child n side)) (λ u part i. same_word_quiet (scx u part)) p);
     new_in_no_field = λ n side p. b.new_in_no_field n side (held_back r h _ _ (same_word_quiet _) p);
     new_in_no_other = λ u d p. b.new_in_no_other u d (held_back r h _ _ (same_word_quiet _) p);
   }

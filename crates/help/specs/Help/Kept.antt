@@ -16,7 +16,7 @@ use Rattle.arena.proofs.Lemmas.{last_more, held_more}
 use Rattle.histories.specs.Descriptor.{descriptor}
 use Rattle.histories.specs.Progress.{IsStarted, IsStuck}
 use Rattle.histories.proofs.Lemmas.{all_frozen_stays, descriptor_same, descriptor_stays, finished_stays, lawful_row, marked_stays, named_more, over_stays, own_words_stay, passed_stays, started_more, stays_free, stuck_stays, won_more}
-use Rattle.help.specs.Help.Allowing.{IsOutside, same_plan, same_member, same_seen, same_new, same_old, same_field, free_words, prepared_more, quiet_words, free_back}
+use Rattle.help.specs.Help.Allowing.{IsOutside, same_plan, same_member, same_seen, same_new, same_old, same_field, free_words, prepared_more, quiet_words, quiet_named_scx}
 use Rattle.help.specs.Help.Known.{IsServed, HasReadMembers, node_at, Freezes, HasLost, IsBlocked, Blocked, Aborts, Frozen, Marks, Reading, reading, HelpKnows, help_step, HelpWaits}
 use Rattle.help.specs.declared.state.HelpRun.{HelpRun}
 use Rattle.help.specs.declared.state.HelpAt.{HelpAt}
@@ -135,7 +135,7 @@ module _ (allows : Layout → History → ℕ → Type 0) (lay : Layout) (c : �
     where
       free : IsOutside c r → ¬ IsNamedScx (r ⊳ h) s
       free (inl other) p = stays_free lay h r c s l other x.own x.free p
-      free (inr q) p = x.free (free_back lay h r (lawful_row lay h r l).before q s p)
+      free (inr q) p = x.free (quiet_named_scx lay h r (lawful_row lay h r l).before q s p)
 
   over_words : (m : Reading) (P : Type 0) → (IsStarted h m.scx × P) ⊎ HasLost lay c h m.scx → descriptor (r ⊳ h) m.scx ≡ descriptor h m.scx
   over_words m P (inl x) = started_words lay h r l m.scx x.0

@@ -82,7 +82,7 @@ module _ (c : Call) (h : History) (s : ℕ) (snaps : List Snap) (l : Lawful c.la
 
   -- an SCX-record that the info names now, and that the snapshot had not found
   -- there, has come to the node since the snapshot
-  pub blamed_now : (v : ℕ) → (IsOwnScx c.layout c.pass v → v ≢ s) → value h (info (snap_at snaps i).node.0) ≡ v → (snap_at snaps i).scx.0 ≢ v → IsBlamed c h (snap_at snaps i) v
+  pub blamed_now : (v : ℕ) → (IsOwnScx c.layout c.pass v → v ≢ s) → value h (info (snap_at snaps i).node.0) ≡ v → (snap_at snaps i).scx.0 ≢ v → IsBlamed c.layout c.pass h c.start (snap_at snaps i) v
   blamed_now v d e other = record { in_the_way = way; others = others_of v d way }
     where
       way : (m : History) → IsMoment c.layout h (snap_at snaps i) m → WasInTheWay h m (snap_at snaps i).node.0 v
@@ -90,7 +90,7 @@ module _ (c : Call) (h : History) (s : ℕ) (snaps : List Snap) (l : Lawful c.la
 
   -- so has one that the info named at a moment behind the call's begin, and that the snapshot had
   -- not found there
-  pub blamed_behind : (k : History) (v : ℕ) → (IsOwnScx c.layout c.pass v → v ≢ s) → Extends h k → Extends k c.start → value k (info (snap_at snaps i).node.0) ≡ v → (snap_at snaps i).scx.0 ≢ v → IsBlamed c h (snap_at snaps i) v
+  pub blamed_behind : (k : History) (v : ℕ) → (IsOwnScx c.layout c.pass v → v ≢ s) → Extends h k → Extends k c.start → value k (info (snap_at snaps i).node.0) ≡ v → (snap_at snaps i).scx.0 ≢ v → IsBlamed c.layout c.pass h c.start (snap_at snaps i) v
   blamed_behind k v d e behind held other = record { in_the_way = way; others = others_of v d way }
     where
       lk : Lawful c.layout k

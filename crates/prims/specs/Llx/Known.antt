@@ -11,9 +11,9 @@ use Rattle.arena.specs.declared.step.Kind.TheVariants.{LoadInfo, LoadState, Load
 use Rattle.arena.specs.Layout.{all_nodes}
 use Rattle.arena.specs.Words.{info, marked, child, state}
 use Rattle.arena.specs.History.{History, ◌⊳◌, value, HasHeld, Extends}
-use Rattle.arena.specs.Blame.{WasInTheWay}
+use Rattle.arena.specs.Blame.{WasInTheWay, HasFailed}
 use Rattle.arena.specs.Found.{HasFound}
-use Rattle.arena.specs.Fills.{IsOthersScx, IsInField}
+use Rattle.arena.specs.Fills.{IsInField}
 use Rattle.arena.specs.Log.{log, fields, is_final}
 use Rattle.arena.specs.Machines.{Call, IsRun, MatchTurn}
 use Rattle.arena.specs.declared.machine.Turn.{Turn}
@@ -164,21 +164,11 @@ pub record IsFinalBy (lay : Layout) (h : History) (n s : ℕ) : Type 0 where
   pub by : IsFinalizing h n s
   pub committed : value h (state s) ≡ 1
 
--- the failure is right: s is another pass's, was in the way of the call, at whose begin the node
--- was not final, and is finished now
-pub record HasFailed (c : Call) (h : History) (n s : ℕ) : Type 0 where
-  -- the call's last look at the node's info has found s
-  pub found : HasFound c.pass h c.start LoadInfo n s
-  pub others : IsOthersScx c.layout c.pass s
-  pub in_the_way : WasInTheWay h c.start n s
-  pub over : value h (state s) ≢ 0
-  pub not_final : is_final (log c.layout c.start) n ≡ false
-
 -- what an answer of LLX says: the node's snapshot now, that it is finalized, or who was in the way
 abbrev pub LlxAnswers : LlxRun → Call → History → Llx → Type 0
 LlxAnswers m c h (Snapshot snap) = IsSnapshot c.layout h m.node.0 snap × HasJustLooked c h m.node.0
 LlxAnswers m c h (Finalized node s) = (node.0 ≡ m.node.0) × IsFinalBy c.layout h m.node.0 s.0
-LlxAnswers m c h (Fail node s) = (node.0 ≡ m.node.0) × HasFailed c h m.node.0 s.0
+LlxAnswers m c h (Fail node s) = (node.0 ≡ m.node.0) × HasFailed c.layout c.pass h c.start m.node.0 s.0
 
 -- What its turns leave
 

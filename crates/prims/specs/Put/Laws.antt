@@ -4,13 +4,14 @@ use Rattle.arena.specs.declared.layout.Layout.{Layout}
 use Rattle.arena.specs.declared.step.Row.{Row}
 use Rattle.arena.specs.declared.step.Step.{Step}
 use Rattle.arena.specs.declared.word.NodeWord.TheVariants.{Value, Child, Info}
-use Rattle.arena.specs.declared.word.ScxWord.TheVariants.{New}
-use Rattle.arena.specs.Words.{node, scx, info, state, child}
+use Rattle.arena.specs.declared.word.Side.{Side}
+use Rattle.arena.specs.declared.word.ScxWord.{ScxWord}
+use Rattle.arena.specs.declared.word.ScxWord.TheVariants.{State, New}
+use Rattle.arena.specs.Words.{node, scx, info, child}
 use Rattle.arena.specs.History.{History, ◌⊳◌, value}
-use Rattle.arena.specs.Fills.{IsNamed, opening_node, by_field, by_scx, IsNamedScx}
 use Rattle.arena.specs.Lawful.{Lawful}
 use Rattle.arena.specs.Machines.{IsRun, Call, row_of, IsTold}
-use Rattle.arena.proofs.Lemmas.{value_at, value_apart, held_back, node_word_apart, taken_node_more, fill_takes_node}
+use Rattle.arena.proofs.Lemmas.{named_before, named_scx_before, value_at, value_apart, held_back, node_word_apart, taken_node_more, fill_takes_node}
 use Rattle.histories.proofs.Lemmas.{lawful_more, own_node_inside, shaped_more}
 use Rattle.help.specs.Help.Allowing.{later_self, later_trans}
 use Rattle.prims.specs.Cells.{AllowsAll}
@@ -75,24 +76,25 @@ module _ (allows : Layout → History → ℕ → Type 0) (m : PutRun) (c : Call
   abbrev r : Row
   r = row_of c (put_step m) h
 
-  free_back : (s : ℕ) → IsNamedScx (r ⊳ h) s → IsNamedScx h s
-  free_back s p = (p.0, held_back r h (info p.0) s (value_apart r h (node m.scx.update.fresh.0 Value) (info p.0) refl (node_word_apart m.scx.update.fresh.0 p.0 Value Info refl)) p.1)
+  same_info : (n : ℕ) → value (r ⊳ h) (info n) ≡ value h (info n)
+  same_info n = value_apart r h (node m.scx.update.fresh.0 Value) (info n) refl (node_word_apart m.scx.update.fresh.0 n Value Info refl)
 
-  unnamed_back : {n : ℕ} → IsNamed c.layout (r ⊳ h) n → IsNamed c.layout h n
-  unnamed_back (opening_node i) = opening_node i
-  unnamed_back (by_field k side p q) = by_field k side (unnamed_back p) (held_back r h (child k side) _ (value_apart r h (node m.scx.update.fresh.0 Value) (child k side) refl (node_word_apart m.scx.update.fresh.0 k Value (Child side) refl)) q)
-  unnamed_back (by_scx u part p i q) = by_scx u part (free_back u p) i (held_back r h (scx u part) _ (value_apart r h (node m.scx.update.fresh.0 Value) (scx u part) refl refl) q)
+  same_field : (n : ℕ) (side : Side) → value (r ⊳ h) (child n side) ≡ value h (child n side)
+  same_field n side = value_apart r h (node m.scx.update.fresh.0 Value) (child n side) refl (node_word_apart m.scx.update.fresh.0 n Value (Child side) refl)
+
+  same_part : (u : ℕ) (part : ScxWord) → value (r ⊳ h) (scx u part) ≡ value h (scx u part)
+  same_part u part = value_apart r h (node m.scx.update.fresh.0 Value) (scx u part) refl refl
 
   hand_put : Lawful c.layout (r ⊳ h) → PutHand allows c.layout c.pass h m.scx → InHand allows c.layout c.pass (r ⊳ h) (job_of m.scx)
   hand_put l y = record {
     update = y.hand.update;
     linked = λ j p. linked_more c.layout h r (snap_at m.scx.update.snaps j) l (y.hand.linked j p);
-    is_open = record { own = y.hand.is_open.own; in_order = λ t o p. taken_more r h t (y.hand.is_open.in_order t o p); unnamed = λ p. y.hand.is_open.unnamed (free_back m.scx.scx.0 p) };
-    unfinished = value_apart r h (node m.scx.update.fresh.0 Value) (state m.scx.scx.0) refl refl ∙ y.hand.unfinished;
+    is_open = record { own = y.hand.is_open.own; in_order = λ t o p. taken_more r h t (y.hand.is_open.in_order t o p); unnamed = λ p. y.hand.is_open.unnamed (named_scx_before r h m.scx.scx.0 same_info p) };
+    unfinished = same_part m.scx.scx.0 State ∙ y.hand.unfinished;
     fresh = y.hand.fresh;
-    unnamed = λ p. y.hand.unnamed (unnamed_back p);
-    in_no_field = λ n side p. y.hand.in_no_field n side (held_back r h (child n side) m.scx.update.fresh.0 (value_apart r h (node m.scx.update.fresh.0 Value) (child n side) refl (node_word_apart m.scx.update.fresh.0 n Value (Child side) refl)) p);
-    in_no_other = λ u d p. y.hand.in_no_other u d (held_back r h (scx u New) m.scx.update.fresh.0 (value_apart r h (node m.scx.update.fresh.0 Value) (scx u New) refl refl) p);
+    unnamed = λ p. y.hand.unnamed (named_before c.layout r h same_info same_field (λ u part q. same_part u part) p);
+    in_no_field = λ n side p. y.hand.in_no_field n side (held_back r h (child n side) m.scx.update.fresh.0 (same_field n side) p);
+    in_no_other = λ u d p. y.hand.in_no_other u d (held_back r h (scx u New) m.scx.update.fresh.0 (same_part u New) p);
     allowed = λ d z. y.allowed h r d (later_self c.pass m.scx.scx.0 h) (Value, refl, refl) z;
   }
 

@@ -1,5 +1,5 @@
 -- When a run of SCX may go on, what it waits for, and what its answer says.
-use Rattle.std.specs.Prelude.{◌≡◌, ◌≢◌, ℕ, suc, ◌<◌, cond, List, [], ◌∷◌, length, map, Option, Some, None}
+use Rattle.std.specs.Prelude.{◌≡◌, ◌≢◌, ◌⊎◌, ℕ, suc, ◌<◌, cond, List, [], ◌∷◌, length, map, Option, Some, None}
 use Rattle.arena.specs.declared.layout.Layout.{Layout}
 use Rattle.arena.specs.declared.step.Row.{Row}
 use Rattle.arena.specs.declared.step.Step.{Step}
@@ -14,7 +14,6 @@ use Rattle.arena.specs.History.{History, ◌⊳◌, value, HasHeld, Extends}
 use Rattle.arena.specs.ScxRecords.{IsPlan, count_of, plan_finalizes, side_of, field_index_of, plan, new, old, member, seen, raw_count}
 use Rattle.arena.specs.Fills.{IsOwnNode, IsOwnScx, IsOpenScx, IsNamed, IsTakenScx}
 use Rattle.arena.specs.Lawful.{IsWin, HasWon}
-use Rattle.arena.specs.Found.{HasFound}
 use Rattle.arena.specs.Log.{Entry, log, IsEntered}
 use Rattle.arena.specs.declared.machine.Turn.{Turn}
 use Rattle.arena.specs.declared.machine.Turn.TheVariants.{Ask}
@@ -26,7 +25,7 @@ use Rattle.histories.specs.Descriptor.{Descriptor}
 use Rattle.help.specs.Allowed.{IsAllowed}
 use Rattle.help.specs.Help.Known.{IsBlocked, HelpIsReady, HelpWaits}
 use Rattle.prims.specs.Snap.{child_of, snap_at}
-use Rattle.prims.specs.Moments.{IsAsFound, IsBlamed}
+use Rattle.prims.specs.Moments.{IsAsFound, HasChanged}
 use Rattle.prims.specs.Vlx.Known.{AllLinked, HasBegun}
 use Rattle.prims.specs.declared.snap.Snap.{Snap}
 use Rattle.prims.specs.declared.scx.ScxRun.{ScxRun}
@@ -124,28 +123,7 @@ IsFilled k _ _ = ⊥
 
 -- the words that are filled once the one of this place is too
 abbrev pub IsFilledThen : ℕ → ScxAt → ScxWord → Type 0
-IsFilledThen k AtPlan Plan = Unit {0}
-IsFilledThen k AtNew Plan = Unit {0}
-IsFilledThen k AtNew New = Unit {0}
-IsFilledThen k AtOld Plan = Unit {0}
-IsFilledThen k AtOld New = Unit {0}
-IsFilledThen k AtOld Old = Unit {0}
-IsFilledThen k (AtMember j) Plan = Unit {0}
-IsFilledThen k (AtMember j) New = Unit {0}
-IsFilledThen k (AtMember j) Old = Unit {0}
-IsFilledThen k (AtMember j) (Member i) = i < suc (member_index j)
-IsFilledThen k (AtSeen j) Plan = Unit {0}
-IsFilledThen k (AtSeen j) New = Unit {0}
-IsFilledThen k (AtSeen j) Old = Unit {0}
-IsFilledThen k (AtSeen j) (Member i) = i < k
-IsFilledThen k (AtSeen j) (Seen i) = i < suc (member_index j)
-IsFilledThen k AtCall Plan = Unit {0}
-IsFilledThen k AtCall New = Unit {0}
-IsFilledThen k AtCall Old = Unit {0}
-IsFilledThen k AtCall (Member i) = i < k
-IsFilledThen k AtCall (Seen i) = i < k
-IsFilledThen k AtCall CallWord = Unit {0}
-IsFilledThen k _ _ = ⊥
+IsFilledThen k at part = IsFilled k at part ⊎ (part_at at ≡ part)
 
 -- those words of the SCX-record that are filled hold what they are to hold
 abbrev pub Holds : History → Job → (ScxWord → Type 0) → Type 0
@@ -263,12 +241,7 @@ pub record IsLost (c : Call) (h : History) (m : ScxRun) (n v : ℕ) : Type 0 whe
   pub aborted : value h (state m.scx.0) ≡ 2
   pub no_entry : ¬ IsEntered (log c.layout h) m.scx.0
   pub blocked : IsBlocked c.pass h m.scx.0 n v
-  -- the call's last freeze has found v in the node's info
-  pub found : HasFound c.pass h c.start Freeze n v
-  pub index : ℕ
-  pub within : index < length m.update.snaps
-  pub node : (snap_at m.update.snaps index).node.0 ≡ n
-  pub blamed : IsBlamed c h (snap_at m.update.snaps index) v
+  pub changed : HasChanged c.layout c.pass Freeze h c.start m.update.snaps n v
 
 -- what an answer of SCX says: its update is in the log,
 -- or it is lost, at this node to this SCX-record

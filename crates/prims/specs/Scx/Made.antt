@@ -1,20 +1,21 @@
 -- Once the step is made, a run of SCX may go on with what that told.
-use Rattle.std.proofs.Common.{◌≡◌, ◌≢◌, ℕ, suc, ◌<◌, Bool, true, false, Some, ◌⊎◌, inl, inr, refl, sym, ◌∙◌, ap, arith, length}
+use Rattle.std.proofs.Common.{◌≡◌, ◌≢◌, ℕ, Bool, true, false, Some, ◌⊎◌, inl, inr, refl, sym, ◌∙◌, ap, length}
 use Rattle.arena.specs.declared.layout.Layout.{Layout}
 use Rattle.arena.specs.declared.step.Row.{Row}
 use Rattle.arena.specs.declared.step.Step.{Step}
+use Rattle.arena.specs.declared.word.Side.{Side}
 use Rattle.arena.specs.declared.word.Word.{Word}
 use Rattle.arena.specs.declared.word.Word.TheVariants.{Node, Scx}
 use Rattle.arena.specs.declared.word.NodeWord.TheVariants.{Value}
 use Rattle.arena.specs.declared.word.ScxWord.{ScxWord}
-use Rattle.arena.specs.declared.word.ScxWord.TheVariants.{State, Plan, New, Old, Member, Seen, Call as CallWord}
+use Rattle.arena.specs.declared.word.ScxWord.TheVariants.{State, Plan, New, Member}
 use Rattle.arena.specs.MemberIndex.{member_index}
 use Rattle.arena.specs.Words.{same_word, node, scx, info, state, child}
 use Rattle.arena.specs.History.{History, ◌⊳◌, value}
-use Rattle.arena.specs.Fills.{IsNamed, opening_node, by_field, by_scx, IsNamedScx}
+use Rattle.arena.specs.Fills.{IsNamed, IsNamedScx}
 use Rattle.arena.specs.Lawful.{Lawful}
 use Rattle.arena.specs.Machines.{IsRun, Call, row_of, IsTold}
-use Rattle.arena.proofs.Lemmas.{word_same, value_at, value_other, value_apart, held_back, scx_apart, scx_word_apart}
+use Rattle.arena.proofs.Lemmas.{named_before, named_scx_before, word_same, value_at, value_other, value_apart, held_back, scx_apart, scx_word_apart}
 use Rattle.histories.proofs.Lemmas.{never_state}
 use Rattle.help.specs.Help.Allowing.{allowed_more}
 use Rattle.help.specs.Help.Lawful.{help_fills_not}
@@ -34,49 +35,6 @@ abbrev part_of : Word → ScxWord
 part_of (Scx s part) = part
 part_of (Node n part) = Plan
 
-one_more : (i j : ℕ) → i < suc j → (i < j) ⊎ (i ≡ j)
-one_more i j p = grind arith
-
--- what is filled then was filled before, or is the word that is filled
-split : (k : ℕ) (at : ScxAt) (part : ScxWord) → IsFilledThen k at part → IsFilled k at part ⊎ (part_at at ≡ part)
-split k AtPlan Plan p = inr refl
-split k AtPlan _ p = absurd p
-split k AtNew Plan p = inl tt
-split k AtNew New p = inr refl
-split k AtNew _ p = absurd p
-split k AtOld Plan p = inl tt
-split k AtOld New p = inl tt
-split k AtOld Old p = inr refl
-split k AtOld _ p = absurd p
-split k (AtMember j) Plan p = inl tt
-split k (AtMember j) New p = inl tt
-split k (AtMember j) Old p = inl tt
-split k (AtMember j) (Member i) p = at_member (one_more i (member_index j) p)
-  where
-    at_member : (i < member_index j) ⊎ (i ≡ member_index j) → (i < member_index j) ⊎ (Member (member_index j) ≡ Member i)
-    at_member (inl q) = inl q
-    at_member (inr q) = inr (ap Member (sym q))
-split k (AtMember j) _ p = absurd p
-split k (AtSeen j) Plan p = inl tt
-split k (AtSeen j) New p = inl tt
-split k (AtSeen j) Old p = inl tt
-split k (AtSeen j) (Member i) p = inl p
-split k (AtSeen j) (Seen i) p = at_seen (one_more i (member_index j) p)
-  where
-    at_seen : (i < member_index j) ⊎ (i ≡ member_index j) → (i < member_index j) ⊎ (Seen (member_index j) ≡ Seen i)
-    at_seen (inl q) = inl q
-    at_seen (inr q) = inr (ap Seen (sym q))
-split k (AtSeen j) _ p = absurd p
-split k AtCall Plan p = inl tt
-split k AtCall New p = inl tt
-split k AtCall Old p = inl tt
-split k AtCall (Member i) p = inl p
-split k AtCall (Seen i) p = inl p
-split k AtCall CallWord p = inr refl
-split k AtCall _ p = absurd p
-split k Start _ p = absurd p
-split k (Help m) _ p = absurd p
-
 module _ (allows : Layout → History → ℕ → Type 0) (m : Job) (c : Call) (h : History) (at : ScxAt) where
   abbrev r : Row
   r = row_of c (fill_step m (part_at at)) h
@@ -84,36 +42,31 @@ module _ (allows : Layout → History → ℕ → Type 0) (m : Job) (c : Call) (
   same_info : (n : ℕ) → value (r ⊳ h) (info n) ≡ value h (info n)
   same_info n = value_apart r h (scx m.scx.0 (part_at at)) (info n) refl refl
 
-  free_back : (s : ℕ) → IsNamedScx (r ⊳ h) s → IsNamedScx h s
-  free_back s p = (p.0, held_back r h (info p.0) s (same_info p.0) p.1)
+  same_field : (n : ℕ) (side : Side) → value (r ⊳ h) (child n side) ≡ value h (child n side)
+  same_field n side = value_apart r h (scx m.scx.0 (part_at at)) (child n side) refl refl
 
   other_word : (u : ℕ) (part : ScxWord) → u ≢ m.scx.0 → value (r ⊳ h) (scx u part) ≡ value h (scx u part)
   other_word u part d = value_apart r h (scx m.scx.0 (part_at at)) (scx u part) refl (scx_apart m.scx.0 u (part_at at) part (λ e. d (sym e)))
 
   -- its own fill names no node, since nothing names its SCX-record
   unnamed_back : ¬ IsNamedScx h m.scx.0 → {n : ℕ} → IsNamed c.layout (r ⊳ h) n → IsNamed c.layout h n
-  unnamed_back free (opening_node i) = opening_node i
-  unnamed_back free (by_field k side p q) = by_field k side (unnamed_back free p) (held_back r h (child k side) _ (value_apart r h (scx m.scx.0 (part_at at)) (child k side) refl refl) q)
-  unnamed_back free (by_scx u part p i q) =
-      let x : IsNamedScx h u = free_back u p in
-      let d : u ≢ m.scx.0 = λ e. free (rw e at x) in
-      by_scx u part x i (held_back r h (scx u part) _ (other_word u part d) q)
+  unnamed_back free = named_before c.layout r h same_info same_field (λ u part x. other_word u part (λ e. free (rw e at x)))
 
   hand_filled : Lawful c.layout (r ⊳ h) → InHand allows c.layout c.pass h m → InHand allows c.layout c.pass (r ⊳ h) m
   hand_filled l x = record {
     update = x.update;
     linked = λ j p. linked_more c.layout h r (snap_at m.update.snaps j) l (x.linked j p);
-    is_open = record { own = x.is_open.own; in_order = λ t o p. taken_more r h t (x.is_open.in_order t o p); unnamed = λ p. x.is_open.unnamed (free_back m.scx.0 p) };
+    is_open = record { own = x.is_open.own; in_order = λ t o p. taken_more r h t (x.is_open.in_order t o p); unnamed = λ p. x.is_open.unnamed (named_scx_before r h m.scx.0 same_info p) };
     unfinished = value_apart r h (scx m.scx.0 (part_at at)) (state m.scx.0) refl (scx_word_apart m.scx.0 m.scx.0 (part_at at) State (never_state (part_at at) (part_fill at))) ∙ x.unfinished;
     fresh = x.fresh;
     unnamed = λ p. x.unnamed (unnamed_back x.is_open.unnamed p);
-    in_no_field = λ n side p. x.in_no_field n side (held_back r h (child n side) m.update.fresh.0 (value_apart r h (scx m.scx.0 (part_at at)) (child n side) refl refl) p);
+    in_no_field = λ n side p. x.in_no_field n side (held_back r h (child n side) m.update.fresh.0 (same_field n side) p);
     in_no_other = λ u d p. x.in_no_other u d (held_back r h (scx u New) m.update.fresh.0 (other_word u New d) p);
     allowed = λ d y. allowed_more allows c.layout c.pass h r m.scx.0 d (inr (inl (part_at at, refl, refl))) (x.allowed d y);
   }
 
   holds_then : Holds h m (IsFilled (length m.update.snaps) at) → Holds (r ⊳ h) m (IsFilledThen (length m.update.snaps) at)
-  holds_then x part p = test (same_word (scx m.scx.0 (part_at at)) (scx m.scx.0 part)) refl (split (length m.update.snaps) at part p)
+  holds_then x part p = test (same_word (scx m.scx.0 (part_at at)) (scx m.scx.0 part)) refl p
     where
       here : part_at at ≡ part → value (r ⊳ h) (scx m.scx.0 part) ≡ wanted m part
       here e = value_at r h (scx m.scx.0 part) (ap (scx m.scx.0) e) ∙ ap (wanted m) e

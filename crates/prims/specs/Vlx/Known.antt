@@ -11,7 +11,7 @@ use Rattle.arena.specs.Found.{HasFound}
 use Rattle.arena.specs.Machines.{Call}
 use Rattle.prims.specs.Laws.Linked.{IsLinked}
 use Rattle.prims.specs.Snap.{snap_at}
-use Rattle.prims.specs.Moments.{IsMoment, IsAsFound, AreFinished, HasTakenOnly, IsBlamed}
+use Rattle.prims.specs.Moments.{IsMoment, IsAsFound, AreFinished, HasTakenOnly, HasChanged}
 use Rattle.prims.specs.Llx.Known.{load}
 use Rattle.prims.specs.declared.snap.Snap.{Snap}
 use Rattle.prims.specs.declared.vlx.Vlx.{Vlx}
@@ -81,23 +81,19 @@ pub record IsSame (c : Call) (h : History) (snaps : List Snap) : Type 0 where
 
 -- the call's answer `Changed` is right: another
 -- SCX-record, v, has come to the node n since its snapshot
-pub record HasChanged (c : Call) (h : History) (snaps : List Snap) (n v : ℕ) : Type 0 where
-  pub index : ℕ
-  pub within : index < length snaps
-  pub node : (snap_at snaps index).node.0 ≡ n
-  -- the info of n names v, which the call's last look has found there, and the snapshot had not
+pub record IsFirstChange (c : Call) (h : History) (snaps : List Snap) (n v : ℕ) : Type 0 where
+  pub changed : HasChanged c.layout c.pass LoadInfo h c.start snaps n v
+  -- the info of n names it, and the snapshot had not
   pub info : value h (info n) ≡ v
-  pub found : HasFound c.pass h c.start LoadInfo n v
-  pub other : (snap_at snaps index).scx.0 ≢ v
-  pub blamed : IsBlamed c h (snap_at snaps index) v
+  pub other : (snap_at snaps changed.index).scx.0 ≢ v
   -- the nodes before it were as their snapshots found them as the call began
-  pub before : (i : ℕ) → i < index → IsAsFound c.layout h c.start (snap_at snaps i)
+  pub before : (i : ℕ) → i < changed.index → IsAsFound c.layout h c.start (snap_at snaps i)
 
 -- what an answer of VLX says: that all nodes were as
 -- found, or which one another SCX-record has come to
 abbrev pub VlxAnswers : List Snap → Call → History → Vlx → Type 0
 VlxAnswers snaps c h Same = IsSame c h snaps
-VlxAnswers snaps c h (Changed node s) = HasChanged c h snaps node.0 s.0
+VlxAnswers snaps c h (Changed node s) = IsFirstChange c h snaps node.0 s.0
 
 -- there is a next snapshot, and the run asks for the info of its node
 pub record AsksNext (snaps : List Snap) (old now : ℕ) (turn : Turn Vlx) : Type 0 where

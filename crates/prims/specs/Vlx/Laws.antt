@@ -21,7 +21,7 @@ use Rattle.prims.specs.Looked.{found_at}
 use Rattle.prims.specs.declared.snap.Snap.{Snap}
 use Rattle.prims.specs.Snap.{snap_at}
 use Rattle.prims.specs.Llx.Known.{load}
-use Rattle.prims.specs.Vlx.Known.{IsSame, HasLooked, Looks, VlxWaits, VlxIsTold, VlxIsReady, VlxAnswers, HasChanged, AsksNext, IsThrough}
+use Rattle.prims.specs.Vlx.Known.{IsSame, HasLooked, Looks, VlxWaits, VlxIsTold, VlxIsReady, VlxAnswers, IsFirstChange, AsksNext, IsThrough}
 use Rattle.prims.specs.declared.vlx.Vlx.{Vlx}
 
 looks_more : (c : Call) (h : History) (r : Row) (snaps : List Snap) (asked k : ℕ) → TakesOnly c.layout c.pass 0 h r → Looks c h snaps asked k → Looks c (r ⊳ h) snaps asked k
@@ -94,14 +94,19 @@ one_more c h snaps asked v l x e = record { begun = y.begun; linked = y.linked; 
     go i p (yes q) = rw q here
     go i p (no d) = let z = x.looks.is in y.same i (omega arith)
 
-changed : (c : Call) (h : History) (snaps : List Snap) (asked : ℕ) (v : ℕ) → Lawful c.layout h → (x : VlxIsTold snaps asked c h v) → (snap_at snaps x.index).scx.0 ≢ v → HasChanged c h snaps (snap_at snaps x.index).node.0 v
-changed c h snaps asked v l x d = record { index = x.index; within = x.looks.within; node = refl; info = x.told; found = x.found; other = d; blamed = blamed_now c h 0 snaps l x.looks.looked.begun x.index x.looks.within v (λ own e. let f = own.from in omega arith) x.told d; before = before }
+changed : (c : Call) (h : History) (snaps : List Snap) (asked : ℕ) (v : ℕ) → Lawful c.layout h → (x : VlxIsTold snaps asked c h v) → (snap_at snaps x.index).scx.0 ≢ v → IsFirstChange c h snaps (snap_at snaps x.index).node.0 v
+changed c h snaps asked v l x d = record {
+  changed = record { index = x.index; within = x.looks.within; is = refl; found = x.found; blamed = blamed_now c h 0 snaps l x.looks.looked.begun x.index x.looks.within v (λ own e. let f = own.from in omega arith) x.told d };
+  info = x.told;
+  other = d;
+  before = before;
+}
   where
     before : (i : ℕ) → i < x.index → IsAsFound c.layout h c.start (snap_at snaps i)
     before i p = let y = x.looks.looked in found_at c h (snap_at snaps i) l y.begun.since (y.linked i (let w = x.looks.within in omega arith)) (y.same i p)
 
 -- where the info is not what the snapshot found, another SCX-record has come to the node
-pub turn_changed : (c : Call) (h : History) (snaps : List Snap) (asked : ℕ) (k v : ℕ) (snap : Snap) → Lawful c.layout h → VlxIsTold snaps asked c h v → suc k ≡ asked → snap ≡ snap_at snaps k → snap.scx.0 ≢ v → HasChanged c h snaps snap.node.0 v
+pub turn_changed : (c : Call) (h : History) (snaps : List Snap) (asked : ℕ) (k v : ℕ) (snap : Snap) → Lawful c.layout h → VlxIsTold snaps asked c h v → suc k ≡ asked → snap ≡ snap_at snaps k → snap.scx.0 ≢ v → IsFirstChange c h snaps snap.node.0 v
 turn_changed c h snaps asked k v snap l x e q d =
     let i : k ≡ x.index = let y = x.looks.is in omega arith in
     let a : snap ≡ snap_at snaps x.index = q ∙ ap (snap_at snaps) i in

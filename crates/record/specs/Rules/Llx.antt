@@ -3,10 +3,11 @@ use Rattle.std.specs.Prelude.{◌≡◌, ◌≢◌, ℕ, true, cond, eqb, Option
 use Rattle.arena.specs.declared.layout.Layout.{Layout}
 use Rattle.arena.specs.declared.step.Kind.TheVariants.{Fill}
 use Rattle.arena.specs.History.{History}
+use Rattle.arena.specs.Blame.{HasFailed}
 use Rattle.arena.specs.Log.{log, is_final}
 use Rattle.record.specs.declared.record.Answer.{Answer}
 use Rattle.record.specs.declared.record.Answer.TheVariants.{Snapshot, Finalized, Fail}
-use Rattle.record.specs.Answers.{IsSnapshotAt, IsFailOf}
+use Rattle.record.specs.Answers.{IsSnapshotAt}
 use Rattle.record.specs.Rules.{Rules}
 use Rattle.record.specs.Snapshots.{snapshot_of}
 
@@ -28,7 +29,7 @@ LlxIsRight cell lay c now start linked (Snapshot left right) = IsSnapshotAt lay 
 -- the cell is final now
 LlxIsRight cell lay c now start linked Finalized = is_final (log lay now) cell ≡ true
 -- another client's SCX-record was in the way
-LlxIsRight cell lay c now start linked (Fail node scx) = IsFailOf lay c now start cell node.0 scx.0
+LlxIsRight cell lay c now start linked (Fail node scx) = (node.0 ≡ cell) × HasFailed lay c now start cell scx.0
 LlxIsRight cell lay c now start linked _ = ⊥
 
 -- at most 64 steps, none of them a fill; it never answers at once, and puts nothing into the log

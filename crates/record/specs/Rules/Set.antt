@@ -4,10 +4,11 @@ use Rattle.arena.specs.declared.layout.Layout.{Layout}
 use Rattle.arena.specs.declared.word.Side.{Side}
 use Rattle.arena.specs.declared.step.Kind.TheVariants.{Freeze}
 use Rattle.arena.specs.History.{History, value, Extends}
+use Rattle.arena.specs.Blame.{HasFailed}
 use Rattle.arena.specs.Log.{Entry as Entered, log, is_final}
 use Rattle.record.specs.declared.record.Answer.{Answer}
 use Rattle.record.specs.declared.record.Answer.TheVariants.{Finalized, Fail, Done, Lost, Full}
-use Rattle.record.specs.Answers.{IsFailOf, IsUnchanged, IsInTheWay, IsEmpty, HasRoom}
+use Rattle.record.specs.Answers.{IsUnchanged, IsInTheWay, IsEmpty, HasRoom}
 use Rattle.record.specs.Rules.{Rules}
 use Rattle.record.specs.Snapshots.{snapshot_of, IsLastLook}
 use Rattle.record.specs.Updates.{IsEntryOver}
@@ -31,7 +32,7 @@ abbrev pub SetIsRight : ℕ × Side → ℕ → Layout → ℕ → History → H
 -- the cell is final now
 SetIsRight field value lay c now start linked Finalized = is_final (log lay now) field.0 ≡ true
 -- another client's SCX-record was in the way of its LLX
-SetIsRight field value lay c now start linked (Fail node scx) = IsFailOf lay c now start field.0 node.0 scx.0
+SetIsRight field value lay c now start linked (Fail node scx) = (node.0 ≡ field.0) × HasFailed lay c now start field.0 scx.0
 -- the share has none left of this; the call's LLX has just looked at the cell, which is not final
 SetIsRight field value lay c now start linked (Full what left) = IsEmpty lay c now what left × (is_final (log lay now) field.0 ≡ false) × IsLastLook c now start now field.0
 -- another client's SCX-record has come to the cell since the snapshot of its own LLX

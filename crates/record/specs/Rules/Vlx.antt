@@ -6,9 +6,9 @@ use Rattle.arena.specs.History.{History}
 use Rattle.script.specs.Cells.{cells_of}
 use Rattle.record.specs.declared.record.Answer.{Answer}
 use Rattle.record.specs.declared.record.Answer.TheVariants.{Same, Changed, Unlinked}
-use Rattle.record.specs.Answers.{AreUnchanged, IsInTheWay, IsFirstChanged}
+use Rattle.record.specs.Answers.{IsAsSnapped, AreUnchanged, IsInTheWay}
 use Rattle.record.specs.Rules.{Rules}
-use Rattle.record.specs.Snapshots.{AreLinked, IsFirstUnlinked}
+use Rattle.record.specs.Snapshots.{AreLinked, IsBehindAll, IsFirstUnlinked}
 use Rattle.script.specs.declared.cells.Cells.{Cells}
 
 -- a VLX may be refused before its first step
@@ -34,7 +34,7 @@ VlxIsRight cells lay c now start linked (Unlinked node) = IsFirstUnlinked linked
 VlxIsRight cells lay c now start linked Same = AreUnchanged lay start linked (cells_of cells)
 -- another client's SCX-record has come to this cell since its snapshot, which may have aborted; as
 -- the call began, the cells before it were as their snapshots found them
-VlxIsRight cells lay c now start linked (Changed node scx) = AreLinked linked (cells_of cells) × IsInTheWay lay c now start LoadInfo (cells_of cells) node.0 scx.0 (λ moment. linked node.0 ≡ Some moment) × IsFirstChanged lay start linked (cells_of cells) node.0
+VlxIsRight cells lay c now start linked (Changed node scx) = AreLinked linked (cells_of cells) × IsInTheWay lay c now start LoadInfo (cells_of cells) node.0 scx.0 (λ moment. linked node.0 ≡ Some moment) × IsBehindAll (IsAsSnapped lay start linked) (cells_of cells) node.0
 VlxIsRight cells lay c now start linked _ = ⊥
 
 -- at most one step a cell, each a load of its info; it puts nothing into the log

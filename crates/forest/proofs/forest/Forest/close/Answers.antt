@@ -1,6 +1,7 @@
 use Rattle.std.proofs.Common.{sym, subst}
+use Rattle.std.specs.List.{All}
 use Rattle.arena.specs.PlainWords.{Contents}
-use Rattle.forest.specs.Passes.{Ground, AreOf, IsClosed}
+use Rattle.forest.specs.Passes.{Ground, IsOf, IsClosed}
 use Rattle.arena.specs.declared.layout.Layout.{Layout}
 use Rattle.atomic_table.specs.Table.{Final, Seen}
 use Rattle.forest.specs.TableRule.{TableIsLawful}
@@ -9,5 +10,5 @@ use Rattle.forest.proofs.forest.Forest.close.Goals as goal
 
 pub returns-clause-closed : goal.returns-clause-closed
 returns-clause-closed g c = let words : Contents = record { layout = c.self.inside.layout; words = c.close.result.words.items } in
-    subst (λ (f : Ground). IsClosed g.S.Shape.allows f.layout c.args.passes.items words) c.self.view_is (closes c.self.inside.words.table.shared.table_id c.self.inside.layout c.args.passes.items c.in-Some.seat.id c.in-Some.seat.me.0 c.close.result.words.items c.close.result.slots.items (subst (λ (f : Ground). AreOf f c.args.passes.items) (sym c.self.view_is) c.requires.passes) c.in-Some.ensures.all
+    subst (λ (f : Ground). IsClosed g.S.Shape.allows f.layout c.args.passes.items words) c.self.view_is (closes c.self.inside.words.table.shared.table_id c.self.inside.layout c.args.passes.items c.in-Some.seat.id c.in-Some.seat.me.0 c.close.result.words.items c.close.result.slots.items (subst (λ (f : Ground). All (IsOf f) c.args.passes.items) (sym c.self.view_is) c.requires.passes) c.in-Some.ensures.all
     (subst (λ (l : Layout). Final (Seen (TableIsLawful g.S.Shape.allows l) c.in-Some.seat.id c.in-Some.seat.me.0) c.close.result.words.items c.close.result.slots.items) c.self.invariant.0.1 c.close.ensures.values.2))
