@@ -8,6 +8,6 @@ pub use Rattle.arena.proofs.Named.{named_before, named_scx_before}
 pub use Rattle.arena.proofs.Found.{found_more, found_wider, last_more, last_now}
 pub use Rattle.arena.proofs.Plans.{count_is, owner_is, plan_counted}
 pub use Rattle.arena.proofs.Taken.{fill_takes_node, fill_takes_scx, taken_node_more, taken_scx_more}
-pub use Rattle.arena.proofs.TakenNodes.{taken_few}
+pub use Rattle.arena.proofs.TakenNodes.{taken_few, taken_more}
 pub use Rattle.arena.proofs.Bools.{and_left, and_right, or_right, or_split}
 pub use Rattle.arena.proofs.Packed.{packed_count, packed_field, packed_removes, packed_side, packed_within}

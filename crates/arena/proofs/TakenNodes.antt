@@ -10,6 +10,7 @@ use Rattle.arena.specs.declared.word.NodeWord.{NodeWord}
 use Rattle.arena.specs.declared.word.NodeWord.TheVariants.{Head, Key, Value, Child, Info, Marked}
 use Rattle.arena.specs.declared.layout.Layout.{Layout}
 use Rattle.arena.specs.declared.step.Kind.{Kind}
+use Rattle.arena.specs.declared.step.Row.{Row}
 use Rattle.arena.specs.declared.step.Kind.TheVariants.{Fill}
 use Rattle.arena.specs.Layout.{opening_nodes}
 use Rattle.arena.specs.History.{History, Start, ◌⊳◌}
@@ -84,3 +85,17 @@ taken_few lay h l =
     let x = are_taken lay h l in
     let y = length-le_from_distinct_below (from_first (opening_nodes lay.mode) (taken_nodes h)) (lay.passes * lay.nodes) x.distinct (below_size (opening_nodes lay.mode) (lay.passes * lay.nodes) (taken_nodes h) x.between) in
     rw (length-map (taken_nodes h) (λ n. n - opening_nodes lay.mode)) at y
+
+-- a row takes none back
+pub taken_more : (h : History) (r : Row) → length (taken_nodes h) ≤ length (taken_nodes (r ⊳ h))
+unfolding taken_nodes
+taken_more h r = go r.kind r.word (taken_nodes h)
+  where
+    add : (b : Bool) (n : ℕ) (ns : List ℕ) → length ns ≤ length (cond b ns (n ∷ ns))
+    add true n ns = omega arith
+    add false n ns = omega arith
+
+    go : (kind : Kind) (w : Word) (ns : List ℕ) → length ns ≤ length (with_fill kind w ns)
+    go Fill (Node n part) ns = add (has ns n.0) n.0 ns
+    go Fill (Scx s part) ns = omega arith
+    go _ w ns = omega arith

@@ -95,6 +95,13 @@ impl PlainWords {
         self.words[place] = value;
     }
 
+    /// The table that these words are of.
+    pub fn layout(&self) -> &Layout
+        ensures { result.now ≡ self.now.layout }
+    {
+        &self.layout
+    }
+
     /// What a word holds.
     pub fn get(&self, word: Word) -> u64
         requires { IsWord self.now.layout word }

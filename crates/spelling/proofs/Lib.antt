@@ -1,0 +1,25 @@
+mod Trees
+mod Local
+mod Searches
+mod Next
+mod Pending
+mod Moved
+mod TreeFacts
+mod Edited
+mod Grown
+mod Past
+mod Inside
+mod Growing
+mod Runs
+mod Meanings
+mod Removed
+mod Blamed
+mod Levels
+mod ChangedFields
+mod Taken
+mod TreeRuns
+mod Reading
+mod LeafLists
+mod Maps
+mod WorkedInsert
+pub mod Lemmas

@@ -1,0 +1,28 @@
+use Rattle.spelling.proofs.Meanings.{log_edits, one_spelling, win_makes, walk_answers, spells_log}
+use Rattle.spelling.proofs.Runs.{makes_one}
+use Rattle.spelling.proofs.TreeRuns.{tree_not_final, passed_depth}
+use Rattle.spelling.proofs.laws.laws_hold.Goals as goal
+
+pub returns-clause-edits : goal.returns-clause-edits
+returns-clause-edits c = log_edits
+
+pub returns-clause-one_edit : goal.returns-clause-one_edit
+returns-clause-one_edit c lay h s a b g x y = makes_one lay h s a b g.1.lawful x y
+
+pub returns-clause-spelled : goal.returns-clause-spelled
+returns-clause-spelled c = spells_log
+
+pub returns-clause-one_map : goal.returns-clause-one_map
+returns-clause-one_map c = one_spelling
+
+pub returns-clause-updates : goal.returns-clause-updates
+returns-clause-updates c = win_makes
+
+pub returns-clause-walks : goal.returns-clause-walks
+returns-clause-walks c = walk_answers
+
+pub returns-clause-depth : goal.returns-clause-depth
+returns-clause-depth c = passed_depth
+
+pub returns-clause-not_final : goal.returns-clause-not_final
+returns-clause-not_final c = tree_not_final

@@ -1,0 +1,10 @@
+pub mod OrderedMap
+pub mod TreeWords
+pub mod Spelled
+pub mod Paths
+pub mod Edits
+pub mod TreeShape
+pub mod Runs
+pub mod Parts
+pub mod Laws
+pub mod MapLaws
