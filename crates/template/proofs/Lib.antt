@@ -1,0 +1,3 @@
+mod WalkTurns
+mod WalkBounds
+pub mod Lemmas

@@ -1,0 +1,149 @@
+-- What a walk waits for after each of its turns.
+use Rattle.std.proofs.Common.{◌≡◌, ◌≢◌, ℕ, ◌*◌, ◌+◌, ◌-◌, ◌^◌, ◌<◌, true, false, cond, ltb, eq-eqb, ne_eqb, lt-ltb, inr, refl, sym, ◌∙◌, ap, arith, subst, Option, Some, None}
+use Rattle.std.specs.Prelude.{unwrap_or}
+use Rattle.arena.specs.declared.head.Head.{Head as HeadParts}
+use Rattle.arena.specs.declared.machine.Turn.{Turn}
+use Rattle.arena.specs.declared.machine.Turn.TheVariants.{Ask, Done}
+use Rattle.arena.specs.declared.step.Step.{Step}
+use Rattle.arena.specs.declared.word.Side.{Side}
+use Rattle.arena.specs.declared.word.Side.TheVariants.{Left, Right}
+use Rattle.arena.specs.declared.word.NodeWord.TheVariants.{Head as HeadWord, Key as KeyWord, Value as ValueWord, Child as ChildWord}
+use Rattle.arena.specs.Heads.{head_of}
+use Rattle.arena.specs.Words.{child}
+use Rattle.arena.specs.History.{History, value, Extends}
+use Rattle.arena.specs.Machines.{Call, MatchTurn}
+use Rattle.spelling.proofs.Lemmas.{walk_first, walk_next, walk_rises, below_root}
+use Rattle.spelling.specs.Paths.{Passed}
+use Rattle.spelling.specs.Runs.{IsTreeRun}
+use Rattle.spelling.specs.TreeWords.{class, is_leaf, level, rank, toward, said}
+use Rattle.template.specs.Trails.{OnTrail, IsOwnMoment}
+use Rattle.template.specs.declared.walk.Trail.{Trail}
+use Rattle.template.specs.declared.walk.Found.{Found}
+use Rattle.template.specs.declared.walk.WalkRun.{WalkRun}
+use Rattle.template.specs.declared.walk.WalkAt.{WalkAt}
+use Rattle.template.specs.declared.walk.WalkAt.TheVariants.{Start, Root, Head}
+use Rattle.template.specs.Walk.Known.{here, WalkKnows, walk_step, WalkIsReady, WalkIsTold, WalkTurn, WalkAsks, WalkEnds, WalkStands}
+
+own_since : (c : Call) (h : History) → IsOwnMoment c h → Extends h c.start
+own_since c h b = subst (λ k. Extends k c.start) (sym b.is) (inr b.since)
+
+-- it waits at a place
+pub waits_at : (c : Call) (h : History) (old now : WalkRun) (turn : Turn Found) (at : WalkAt) (step : Step) → WalkStands old c h → WalkAsks old now turn at step → WalkKnows c h (record old { at = at }) at → step ≡ walk_step old at → WalkTurn c h now turn
+waits_at c h old now turn at step k a known e = rw (a.asked, a.stands) record { run = k.run; small = k.small; since = own_since c h k.own; known = known; asked = e }
+
+-- it has ended
+pub answers_at : (c : Call) (h : History) (old now : WalkRun) (turn : Turn Found) (head : HeadParts) (key : ℕ) (found : Option ℕ) → WalkStands old c h → WalkEnds old now turn head key found → is_leaf (value h) old.trail.node.0 ≡ true → head_of (here h old HeadWord) ≡ head → (head.class ≡ 0 → here h old KeyWord ≡ key) → found ≡ said (value h) old.key old.trail.node.0 → WalkTurn c h now turn
+answers_at c h old now turn head key found k a leaf e d says = rw (a.done, a.stands) record { trail = k.trail; leaf = leaf; head = e; key = d; says = says }
+
+module _ (c : Call) (h : History) (m : WalkRun) (k : WalkStands m c h) (head : HeadParts) (e : head_of (here h m HeadWord) ≡ head) where
+  abbrev n : ℕ
+  n = m.trail.node.0
+
+  class_is : class (value h) n ≡ head.class
+  class_is = ap (λ w. w.class) e
+
+  pub level_is : level (value h) n ≡ head.level
+  level_is = ap (λ w. w.level) e
+
+  -- a head that says so is a leaf's, or a fork's
+  pub leaf_is : head.leaf ≡ true → is_leaf (value h) n ≡ true
+  leaf_is q = ap (λ w. w.leaf) e ∙ q
+
+  pub fork_is : head.leaf ≡ false → is_leaf (value h) n ≡ false
+  fork_is q = ap (λ w. w.leaf) e ∙ q
+
+  -- above all keys
+  high : head.class ≢ 0 → m.key < rank (value h) n
+  high q = let s = k.small in let x = class_is in omega (arith, s, x, q)
+
+  pub left_above : head.class ≢ 0 → toward (value h) n m.key ≡ Left
+  left_above q = rw (lt-ltb m.key (rank (value h) n) (high q)) refl
+
+  pub says_nothing_above : head.class ≢ 0 → None ≡ said (value h) m.key n
+  says_nothing_above q = rw (ne_eqb (class (value h) n) 0 (λ x. q (sym class_is ∙ x))) refl
+
+  -- at a key
+  module _ (low : head.class ≡ 0) (key : ℕ) (d : here h m KeyWord ≡ key) where
+    class_zero : class (value h) n ≡ 0
+    class_zero = class_is ∙ low
+
+    at_key : rank (value h) n ≡ key
+    at_key = let x = class_zero in omega (arith, x, d)
+
+    pub says_nothing : key ≢ m.key → None ≡ said (value h) m.key n
+    says_nothing q = rw (eq-eqb (class (value h) n) 0 class_zero, ne_eqb m.key (here h m KeyWord) (λ x. q (sym d ∙ sym x))) refl
+
+    pub goes_by_key : toward (value h) n m.key ≡ cond (ltb m.key key) Left Right
+    goes_by_key = ap (λ r. cond (ltb m.key r) Left Right) at_key
+
+    pub says_value : key ≡ m.key → (v : ℕ) → here h m ValueWord ≡ v → Some v ≡ said (value h) m.key n
+    says_value q v x = rw (eq-eqb (class (value h) n) 0 class_zero, eq-eqb m.key (here h m KeyWord) (sym q ∙ sym d)) (ap Some (sym x))
+
+-- the root was passed
+pub stands_at_root : (c : Call) (h : History) (m : WalkRun) → IsTreeRun c.layout h → m.key < 2 ^ 64 → IsOwnMoment c h → m.trail.node.0 ≡ 0 → WalkStands m c h
+stands_at_root c h m run small own e = record {
+  run = run;
+  small = small;
+  own = own;
+  trail = record {
+    node = record { first = h; own = own; passed = rw e (walk_first c.layout h m.key run) };
+    parent = λ d. absurd (d e);
+    grand = λ d. absurd (d e);
+    high = λ d. absurd (d e);
+  };
+}
+
+-- one node further down
+abbrev pub below : Trail → Side → ℕ → Trail
+below t side n = record { grand = t.parent; grand_side = t.side; parent = t.node; side = side; node = record { 0 = n } }
+
+trail_below : (c : Call) (h : History) (m : WalkRun) (side : Side) (n : ℕ) → WalkStands m c h → is_leaf (value h) m.trail.node.0 ≡ false → toward (value h) m.trail.node.0 m.key ≡ side → here h m (ChildWord side) ≡ n → OnTrail c h m.key (below m.trail side n)
+trail_below c h m side n k fork s e = record {
+  node = record { first = k.trail.node.first; own = k.trail.node.own; passed = subst (Passed h k.trail.node.first m.key) next (walk_next c.layout h k.trail.node.first m.key m.trail.node.0 k.run k.trail.node.passed fork) };
+  parent = λ d. record { passed = k.trail.node; fork = fork; side_is = s };
+  grand = λ d p. k.trail.parent p;
+  high = λ d z leaf low. below_root c.layout h m.key k.run k.small
+      (subst (λ n. is_leaf (value h) n ≡ true) (here_root z) leaf)
+      (subst (λ n. class (value h) n ≡ 0) (here_root z) low);
+}
+  where
+    here_root : m.trail.node.0 ≡ 0 → n ≡ value h (child 0 (toward (value h) 0 m.key))
+    here_root z = sym e ∙ (λ i. value h (child (z i) (sym s i))) ∙ ap (λ q. value h (child 0 (toward (value h) q m.key))) z
+
+    next : value h (child m.trail.node.0 (toward (value h) m.trail.node.0 m.key)) ≡ n
+    next = ap (λ z. value h (child m.trail.node.0 z)) s ∙ e
+
+level_below : (c : Call) (h : History) (m : WalkRun) (side : Side) (n low : ℕ) → WalkStands m c h → level (value h) m.trail.node.0 ≡ low → is_leaf (value h) m.trail.node.0 ≡ false → here h m (ChildWord side) ≡ n → low < level (value h) n
+level_below c h m side n low k e fork d =
+    let x : level (value h) m.trail.node.0 < level (value h) (value h (child m.trail.node.0 side)) = walk_rises c.layout h k.trail.node.first m.key m.trail.node.0 side k.run k.trail.node.passed fork in
+    let y : level (value h) m.trail.node.0 < level (value h) n = rw d at x in
+    subst (λ l. l < level (value h) n) e y
+
+-- it waits for the head of the child to which it goes
+pub turn_down : (c : Call) (h : History) (m now : WalkRun) (turn : Turn Found) (low : ℕ) (side : Side) (n : ℕ) → WalkStands m c h → level (value h) m.trail.node.0 ≡ low → is_leaf (value h) m.trail.node.0 ≡ false → toward (value h) m.trail.node.0 m.key ≡ side → here h m (ChildWord side) ≡ n
+    → WalkAsks (record m { trail = below m.trail side n }) now turn (Head low) (walk_step (record m { trail = below m.trail side n }) (Head low)) → WalkTurn c h now turn
+turn_down c h m now turn low side n k e fork s d a =
+    let t : OnTrail c h m.key (below m.trail side n) = trail_below c h m side n k fork s d in
+    waits_at c h (record m { trail = below m.trail side n }) now turn (Head low) (walk_step (record m { trail = below m.trail side n }) (Head low))
+    (record { run = k.run; small = k.small; own = k.own; trail = t }) a (t, level_below c h m side n low k e fork d) refl
+
+-- what it has been told, at a place behind its start
+pub told_at : (m : WalkRun) (c : Call) (h : History) (got : Option ℕ) (found : ℕ) (at : WalkAt) → m.at ≡ at → (at ≡ Start → ⊥) → found ≡ unwrap_or got 0 → WalkIsReady m c h got → WalkIsTold m c h found
+told_at m c h None found at is d e r = absurd (d (sym is ∙ r.at))
+told_at m c h (Some v) found at is d e r = subst (WalkIsTold m c h) (sym e) r
+
+pub told_root : (m : WalkRun) (c : Call) (h : History) (found : ℕ) → m.at ≡ Root → WalkIsTold m c h found → WalkStands m c h × (here h m HeadWord ≡ found)
+told_root m c h found is t =
+    let k : m.trail.node.0 ≡ 0 = subst (WalkKnows c h m) is t.known in
+    (stands_at_root c h m t.run t.small t.own k, rw is at t.told)
+
+-- Its steps
+
+-- what is left at a node is no more than was left as its head was asked for
+pub nearer_root : (turn : Turn Found) (nodes deep left : ℕ) → MatchTurn turn (λ _. left < 3 * (2 + nodes - deep) - 1) (λ _. Unit {0}) → MatchTurn turn (λ _. left < 3 * (2 + nodes) - 1) (λ _. Unit {0})
+nearer_root (Ask s) nodes deep left x = omega (arith, x)
+nearer_root (Done f) nodes deep left x = tt
+
+pub nearer_below : (turn : Turn Found) (nodes above deep left : ℕ) → above < deep → MatchTurn turn (λ _. left < 3 * (2 + nodes - deep) - 1) (λ _. Unit {0}) → MatchTurn turn (λ _. left < 3 * (1 + nodes - above) - 1) (λ _. Unit {0})
+nearer_below (Ask s) nodes above deep left rises x = omega (arith, rises, x)
+nearer_below (Done f) nodes above deep left rises x = tt

@@ -1,0 +1,3 @@
+pub mod TreeKept
+pub mod Trails
+pub mod Walk

@@ -1,0 +1,39 @@
+-- Which nodes a call has passed on its way down the tree.
+use Rattle.std.specs.Prelude.{◌≡◌, ◌≢◌, ℕ, true, false}
+use Rattle.arena.specs.declared.step.Row.{Row}
+use Rattle.arena.specs.declared.word.Side.{Side}
+use Rattle.arena.specs.History.{History, ◌⊳◌, value, Extends}
+use Rattle.arena.specs.Machines.{Call}
+use Rattle.spelling.specs.Paths.{Passed}
+use Rattle.spelling.specs.TreeWords.{class, is_leaf, toward}
+use Rattle.template.specs.declared.walk.Trail.{Trail}
+
+-- the newest row of h is the call's own
+pub record IsOwnMoment (c : Call) (h : History) : Type 0 where
+  pub row : Row
+  pub before : History
+  pub is : h ≡ row ⊳ before
+  pub since : Extends before c.start
+  pub own : row.pass.0 ≡ c.pass
+
+-- node n was on the search path of k, in the tree, at a moment of the call that is not before its
+-- first own row
+pub record WasPassed (c : Call) (h : History) (k n : ℕ) : Type 0 where
+  pub first : History
+  pub own : IsOwnMoment c first
+  pub passed : Passed h first k n
+
+-- so was this fork, and on this side of it k stands
+pub record HasTurned (c : Call) (h : History) (k n : ℕ) (side : Side) : Type 0 where
+  pub passed : WasPassed c h k n
+  pub fork : is_leaf (value h) n ≡ false
+  pub side_is : toward (value h) n k ≡ side
+
+-- The call has passed the nodes of the trail on its way to k. The root, which is node 0, has no
+-- fork above it, and a child of the root has one.
+pub record OnTrail (c : Call) (h : History) (k : ℕ) (t : Trail) : Type 0 where
+  pub node : WasPassed c h k t.node.0
+  pub parent : t.node.0 ≢ 0 → HasTurned c h k t.parent.0 t.side
+  pub grand : t.node.0 ≢ 0 → t.parent.0 ≢ 0 → HasTurned c h k t.grand.0 t.grand_side
+  -- a leaf below the root is above all keys
+  pub high : t.node.0 ≢ 0 → t.parent.0 ≡ 0 → is_leaf (value h) t.node.0 ≡ true → class (value h) t.node.0 ≡ 0 → ⊥

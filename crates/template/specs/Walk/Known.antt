@@ -1,0 +1,112 @@
+-- When a walk may go on, what it waits for, and what its answer says.
+use Rattle.std.specs.Prelude.{◌≡◌, ℕ, ◌^◌, ◌<◌, true, false, Option, Some, None}
+use Rattle.arena.specs.declared.head.Head.{Head as HeadParts}
+use Rattle.arena.specs.declared.machine.Turn.{Turn}
+use Rattle.arena.specs.declared.machine.Turn.TheVariants.{Ask, Done}
+use Rattle.arena.specs.declared.step.Step.{Step}
+use Rattle.arena.specs.declared.step.Kind.{Kind}
+use Rattle.arena.specs.declared.step.Kind.TheVariants.{LoadSettled, LoadChild}
+use Rattle.arena.specs.declared.word.NodeWord.{NodeWord}
+use Rattle.arena.specs.declared.word.NodeWord.TheVariants.{Head as HeadWord, Key as KeyWord, Value as ValueWord, Child as ChildWord}
+use Rattle.arena.specs.Heads.{head_of}
+use Rattle.arena.specs.Words.{node}
+use Rattle.arena.specs.History.{History, value, Extends}
+use Rattle.arena.specs.Machines.{Call, MatchTurn}
+use Rattle.prims.specs.Llx.Known.{load}
+use Rattle.spelling.specs.Runs.{IsTreeRun}
+use Rattle.spelling.specs.TreeWords.{is_leaf, level, toward, said}
+use Rattle.template.specs.Trails.{OnTrail, IsOwnMoment}
+use Rattle.template.specs.declared.walk.Found.{Found}
+use Rattle.template.specs.declared.walk.WalkRun.{WalkRun}
+use Rattle.template.specs.declared.walk.WalkAt.{WalkAt}
+use Rattle.template.specs.declared.walk.WalkAt.TheVariants.{Start, Root, Head, Key, Child, Value}
+
+-- what a word of the node that the walk has come to holds
+abbrev pub here : History → WalkRun → NodeWord → ℕ
+here h m part = value h (node m.trail.node.0 part)
+
+-- what holds while a walk waits at this place
+abbrev pub WalkKnows : Call → History → WalkRun → WalkAt → Type 0
+WalkKnows c h m Start = ⊥
+WalkKnows c h m Root = m.trail.node.0 ≡ 0
+WalkKnows c h m (Head above) = OnTrail c h m.key m.trail × (above < level (value h) m.trail.node.0)
+WalkKnows c h m (Key head) = OnTrail c h m.key m.trail × (head_of (here h m HeadWord) ≡ head) × (head.class ≡ 0)
+WalkKnows c h m (Child low side) = OnTrail c h m.key m.trail × (level (value h) m.trail.node.0 ≡ low) × (is_leaf (value h) m.trail.node.0 ≡ false) × (toward (value h) m.trail.node.0 m.key ≡ side)
+WalkKnows c h m (Value head) = OnTrail c h m.key m.trail × (head_of (here h m HeadWord) ≡ head) × (head.class ≡ 0) × (head.leaf ≡ true) × (here h m KeyWord ≡ m.key)
+
+-- the word that it loads at this place
+abbrev pub walk_part : WalkAt → NodeWord
+walk_part (Key head) = KeyWord
+walk_part (Child low side) = ChildWord side
+walk_part (Value head) = ValueWord
+walk_part _ = HeadWord
+
+-- the kind of the load
+abbrev pub walk_kind : WalkAt → Kind
+walk_kind (Child low side) = LoadChild
+walk_kind _ = LoadSettled
+
+-- the step that it waits for at this place: a load of a word of its node
+abbrev pub walk_step : WalkRun → WalkAt → Step
+walk_step m at = load (walk_kind at) (node m.trail.node.0 (walk_part at))
+
+-- a walk waits for this step, at a moment of its call
+pub record WalkWaits (m : WalkRun) (c : Call) (h : History) (step : Step) : Type 0 where
+  pub run : IsTreeRun c.layout h
+  pub small : m.key < 2 ^ 64
+  pub since : Extends h c.start
+  pub known : WalkKnows c h m m.at
+  pub asked : step ≡ walk_step m m.at
+
+-- an own row has told v, which is what the word of its place holds
+pub record WalkIsTold (m : WalkRun) (c : Call) (h : History) (v : ℕ) : Type 0 where
+  pub run : IsTreeRun c.layout h
+  pub small : m.key < 2 ^ 64
+  pub own : IsOwnMoment c h
+  pub known : WalkKnows c h m m.at
+  pub told : here h m (walk_part m.at) ≡ v
+
+-- a walk may begin, at the root
+pub record WalkBegins (m : WalkRun) (c : Call) (h : History) : Type 0 where
+  pub run : IsTreeRun c.layout h
+  pub small : m.key < 2 ^ 64
+  pub since : Extends h c.start
+  pub at : m.at ≡ Start
+  pub root : m.trail.node.0 ≡ 0
+
+-- a walk may be called with this
+abbrev pub WalkIsReady : WalkRun → Call → History → Option ℕ → Type 0
+WalkIsReady m c h None = WalkBegins m c h
+WalkIsReady m c h (Some v) = WalkIsTold m c h v
+
+-- the walk has passed this leaf on its way to the key; what its words say, of the key too
+pub record WalkAnswers (m : WalkRun) (c : Call) (h : History) (f : Found) : Type 0 where
+  pub trail : OnTrail c h m.key f.trail
+  pub leaf : is_leaf (value h) f.trail.node.0 ≡ true
+  pub head : head_of (value h (node f.trail.node.0 HeadWord)) ≡ f.head
+  pub key : f.head.class ≡ 0 → value h (node f.trail.node.0 KeyWord) ≡ f.key
+  pub says : f.value ≡ said (value h) m.key f.trail.node.0
+
+-- a walk waits for the step of the turn, or its answer is right
+abbrev pub WalkTurn : Call → History → WalkRun → Turn Found → Type 0
+WalkTurn c h m turn = MatchTurn turn (WalkWaits m c h) (WalkAnswers m c h)
+
+-- What its turns leave
+
+-- it asks for a step, and stands at this place
+pub record WalkAsks (old now : WalkRun) (turn : Turn Found) (at : WalkAt) (step : Step) : Type 0 where
+  pub stands : now ≡ record old { at = at }
+  pub asked : turn ≡ Ask step
+
+-- it ends at its node, of which it has found this
+pub record WalkEnds (old now : WalkRun) (turn : Turn Found) (head : HeadParts) (key : ℕ) (found : Option ℕ) : Type 0 where
+  pub stands : now ≡ old
+  pub done : turn ≡ Done record { trail = old.trail; head = head; key = key; value = found }
+
+-- what a walk knows as it is told something, but for what it is told: it stands at a node that was
+-- on its path
+pub record WalkStands (m : WalkRun) (c : Call) (h : History) : Type 0 where
+  pub run : IsTreeRun c.layout h
+  pub small : m.key < 2 ^ 64
+  pub own : IsOwnMoment c h
+  pub trail : OnTrail c h m.key m.trail

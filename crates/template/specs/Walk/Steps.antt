@@ -1,0 +1,35 @@
+-- How many steps a walk may still ask for: three a node, of levels that rise.
+use Rattle.std.specs.Prelude.{ℕ, ◌+◌, ◌-◌, ◌*◌, ◌<◌, ◌≤◌, length, Option, unwrap_or}
+use Rattle.arena.specs.Heads.{head_of}
+use Rattle.arena.specs.History.{History}
+use Rattle.arena.specs.TakenNodes.{taken_nodes}
+use Rattle.template.specs.declared.walk.WalkRun.{WalkRun}
+use Rattle.template.specs.declared.walk.WalkAt.{WalkAt}
+use Rattle.template.specs.declared.walk.WalkAt.TheVariants.{Start, Root, Head, Key, Child, Value}
+
+-- how many steps a walk may still ask for at this place, where no more nodes than these are taken:
+-- with the first two leaves no path has more forks than they are many
+abbrev pub walk_left : WalkAt → ℕ → ℕ
+walk_left Start nodes = 3 * (2 + nodes)
+walk_left Root nodes = 3 * (2 + nodes) - 1
+walk_left (Head above) nodes = 3 * (1 + nodes - above) - 1
+walk_left (Key head) nodes = 3 * (2 + nodes - head.level) - 2
+walk_left (Child level side) nodes = 3 * (2 + nodes - level) - 3
+walk_left (Value head) nodes = 3 * (2 + nodes - head.level) - 3
+
+-- what a walk is told at this place does not lead it deeper than so many taken nodes allow
+abbrev pub WalkFitsAt : WalkAt → ℕ → ℕ → Type 0
+WalkFitsAt Root v nodes = (head_of v).level < 2 + nodes
+WalkFitsAt (Head above) v nodes = (above < (head_of v).level) × ((head_of v).level < 2 + nodes)
+WalkFitsAt (Key head) v nodes = head.level < 2 + nodes
+WalkFitsAt (Child level side) v nodes = level + 1 < 2 + nodes
+WalkFitsAt _ v nodes = Unit {0}
+
+-- what a walk is told fits so many taken nodes
+abbrev pub WalkFits : WalkRun → Option ℕ → ℕ → Type 0
+WalkFits m got nodes = WalkFitsAt m.at (unwrap_or got 0) nodes
+
+-- with what it has left, a walk that has asked for so many steps stays within its bound: three
+-- steps for each node that is taken by its end, and for two more
+abbrev pub WalkStaysWithin : ℕ → WalkRun → History → Type 0
+WalkStaysWithin asked m h = (nodes : ℕ) → length (taken_nodes h) ≤ nodes → asked + walk_left m.at nodes ≤ 3 * (2 + nodes)

@@ -1,0 +1,229 @@
+//! Walks from the root of the tree down to a leaf.
+ghost use Rattle.std.specs.Prelude.{◌≡◌, ℕ};
+
+use crate::shape::Tree;
+use arena::{Access, Head, Kind, Machine, NodeNo, NodeWord, Side, Step, Turn, Word};
+
+/// The last nodes of a walk: the node that it has come to, and the two forks above it with the sides
+/// to which it has gone there. A walk that stands at the root has no fork above it, and one that
+/// stands at a child of the root has one.
+#[derive(Clone, Copy, Debug, PartialEq, Eq)]
+pub struct Trail {
+    pub grand: NodeNo,
+    pub grand_side: Side,
+    pub parent: NodeNo,
+    pub side: Side,
+    pub node: NodeNo,
+}
+
+/// The step that a walk has asked for: a load of a word of the node that it has come to.
+#[derive(Clone, Copy, Debug, PartialEq, Eq)]
+pub enum WalkAt {
+    /// None yet.
+    Start,
+    /// The load of the root's head.
+    Root,
+    /// The load of the head of a node that is below a fork of the level `above`.
+    Head { above: u64 },
+    /// The load of the key of a node of class 0.
+    Key { head: Head },
+    /// The load of a field of a fork of this level.
+    Child { level: u64, side: Side },
+    /// The load of the value of a leaf that has the walk's key.
+    Value { head: Head },
+}
+
+/// The leaf at which a walk has ended: its head, its key if it is of class 0 (else 0), and its value
+/// if its key is the walk's.
+#[derive(Clone, Copy, Debug, PartialEq, Eq)]
+pub struct Found {
+    pub trail: Trail,
+    pub head: Head,
+    pub key: u64,
+    pub value: Option<u64>,
+}
+
+/// A walk from the root to the leaf where a key stands, or would stand. Of each fork it loads the
+/// head, the key if that is of class 0, and a field; of the leaf the head, the key if that is of class
+/// 0, and the value if that key is the walk's.
+#[derive(Clone, Copy, Debug, PartialEq, Eq)]
+pub struct WalkRun {
+    /// The key.
+    pub key: u64,
+    /// The nodes that it has come to.
+    pub trail: Trail,
+    /// Where it stands.
+    pub at: WalkAt,
+}
+
+impl WalkRun {
+    ghost use Rattle.std.specs.Prelude.{◌≡◌, ℕ, ◌+◌, ◌-◌, ◌*◌, ◌^◌, ◌<◌, ◌≤◌, true, false, cond, ltb};
+    ghost use Rattle.arena.specs.Heads.{head_of};
+    ghost use Rattle.arena.specs.declared.word.NodeWord.TheVariants.{Head as HeadWord, Key as KeyWord, Child as ChildWord};
+    ghost use Rattle.arena.specs.History.{History, value};
+    ghost use Rattle.arena.specs.Machines.{MatchTurn, Call};
+    ghost use Rattle.spelling.specs.TreeWords.{is_leaf, level, toward};
+    ghost use Rattle.template.specs.Walk.Steps.{walk_left};
+    ghost use Rattle.template.specs.Walk.Known.{WalkAsks, WalkEnds, WalkStands, WalkTurn, here};
+
+    /// A walk that has not begun. It asks for at most three steps for each node that has been taken
+    /// when it ends, and for six more.
+    pub fn new(key: u64) -> WalkRun
+        ensures key { result.key ≡ key }
+        ensures start { result.at ≡ WalkAt.Start }
+        ensures root { result.trail.node.0 ≡ 0 }
+        ensures bound { (nodes : ℕ) → walk_left result.at nodes ≤ 3 * (2 + nodes) }
+    {
+        let root = NodeNo(0);
+        let side = Side::Left;
+        WalkRun {
+            key,
+            trail: Trail {
+                grand: root,
+                grand_side: side,
+                parent: root,
+                side,
+                node: root,
+            },
+            at: WalkAt::Start,
+        }
+    }
+
+    /// Asks for a load of a word of the node, and stands there.
+    fn load(&mut self, at: WalkAt, kind: Kind, part: NodeWord) -> Turn<Found>
+        ensures { WalkAsks self.old self.new result at record { kind = kind; word = Word.Node self.old.trail.node part; access = Access.Load } }
+    {
+        self.at = at;
+        let word = Word::Node(self.trail.node, part);
+        let access = Access::Load;
+        Turn::Ask(Step { kind, word, access })
+    }
+
+    fn load_settled(&mut self, at: WalkAt, part: NodeWord) -> Turn<Found>
+        ensures { WalkAsks self.old self.new result at record { kind = Kind.LoadSettled; word = Word.Node self.old.trail.node part; access = Access.Load } }
+    {
+        self.load(at, Kind::LoadSettled, part)
+    }
+
+    /// Asks for a field of a fork of this level.
+    fn load_child(&mut self, level: u64, side: Side) -> Turn<Found>
+        ensures { WalkAsks self.old self.new result (WalkAt.Child level side) record { kind = Kind.LoadChild; word = Word.Node self.old.trail.node (NodeWord.Child side); access = Access.Load } }
+    {
+        let at = WalkAt::Child { level, side };
+        self.load(at, Kind::LoadChild, NodeWord::Child(side))
+    }
+
+    /// Ends at the node that it has come to.
+    fn end(&mut self, head: Head, key: u64, value: Option<u64>) -> Turn<Found>
+        ensures { WalkEnds self.old self.new result head key value }
+    {
+        let trail = self.trail;
+        Turn::Done(Found {
+            trail,
+            head,
+            key,
+            value,
+        })
+    }
+
+    /// Where the walk goes at a fork of class 0 with this key. At any other fork it goes left.
+    fn side(&self, key: u64) -> Side
+        ensures { result ≡ cond (ltb self.now.key key) Side.Left Side.Right }
+    {
+        if self.key < key {
+            Side::Left
+        } else {
+            Side::Right
+        }
+    }
+
+    /// Goes on with the head of the node.
+    fn read_head(&mut self, head: Head) -> Turn<Found>
+        ensures turn { (c : Call) (h : History) → WalkStands self.old c h → head_of (here h self.old HeadWord) ≡ head → WalkTurn c h self.new result }
+        ensures same { self.new.key ≡ self.old.key }
+        ensures nearer { (nodes : ℕ) → head.level < 2 + nodes → MatchTurn result (λ _. walk_left self.new.at nodes < 3 * (2 + nodes - head.level) - 1) (λ _. Unit {0}) }
+    {
+        if head.class == 0 {
+            self.load_settled(WalkAt::Key { head }, NodeWord::Key)
+        } else if head.leaf {
+            self.end(head, 0, None)
+        } else {
+            self.load_child(head.level, Side::Left)
+        }
+    }
+
+    /// Goes on with the key of a node of class 0.
+    fn read_key(&mut self, head: Head, key: u64) -> Turn<Found>
+        ensures turn { (c : Call) (h : History) → WalkStands self.old c h → head_of (here h self.old HeadWord) ≡ head → head.class ≡ 0 → here h self.old KeyWord ≡ key → WalkTurn c h self.new result }
+        ensures same { self.new.key ≡ self.old.key }
+        ensures nearer { (nodes : ℕ) → head.level < 2 + nodes → MatchTurn result (λ _. walk_left self.new.at nodes < walk_left (WalkAt.Key head) nodes) (λ _. Unit {0}) }
+    {
+        if !head.leaf {
+            self.load_child(head.level, self.side(key))
+        } else if key == self.key {
+            self.load_settled(WalkAt::Value { head }, NodeWord::Value)
+        } else {
+            self.end(head, key, None)
+        }
+    }
+
+    /// Goes down to a child of a fork of the level `above`.
+    fn go_down(&mut self, above: u64, side: Side, child: u64) -> Turn<Found>
+        ensures turn { (c : Call) (h : History) → WalkStands self.old c h → level (value h) self.old.trail.node.0 ≡ above → is_leaf (value h) self.old.trail.node.0 ≡ false → toward (value h) self.old.trail.node.0 self.old.key ≡ side → here h self.old (ChildWord side) ≡ child → WalkTurn c h self.new result }
+        ensures same { self.new.key ≡ self.old.key }
+        ensures nearer { (nodes : ℕ) → above + 1 < 2 + nodes → MatchTurn result (λ _. walk_left self.new.at nodes < walk_left (WalkAt.Child above side) nodes) (λ _. Unit {0}) }
+    {
+        let trail = self.trail;
+        self.trail = Trail {
+            grand: trail.parent,
+            grand_side: trail.side,
+            parent: trail.node,
+            side,
+            node: NodeNo(child),
+        };
+        self.load_settled(WalkAt::Head { above }, NodeWord::Head)
+    }
+}
+
+impl Machine<Tree> for WalkRun {
+    type Answer = Found;
+
+    ghost use Rattle.std.specs.Prelude.{◌≡◌, ℕ};
+    ghost use Rattle.template.specs.Walk.Steps.{walk_left, WalkFits};
+    ghost use Rattle.template.specs.Walk.Known.{WalkIsReady, WalkWaits, WalkAnswers};
+    ghost use Rattle.template.specs.Walk.Laws.{walk_keeps, walk_lawful, walk_made, walk_told};
+
+    ghost ready = { WalkIsReady };
+
+    ghost waits = { WalkWaits };
+
+    ghost answers = { WalkAnswers };
+
+    ghost same = { λ old now. now.key ≡ old.key };
+
+    ghost left = { λ m nodes. walk_left m.at nodes };
+
+    ghost fits = { WalkFits };
+
+    ghost asks_first = { λ _. Unit {0} };
+
+    fn next(&mut self, got: Option<u64>) -> Turn<Found> {
+        let found = got.unwrap_or(0);
+        match self.at {
+            WalkAt::Start => self.load_settled(WalkAt::Root, NodeWord::Head),
+            WalkAt::Root => self.read_head(Head::of(found)),
+            WalkAt::Head { above: _ } => self.read_head(Head::of(found)),
+            WalkAt::Key { head } => self.read_key(head, found),
+            WalkAt::Child { level, side } => self.go_down(level, side, found),
+            WalkAt::Value { head } => self.end(head, self.key, Some(found)),
+        }
+    }
+
+    ghost keeps = { walk_keeps };
+
+    ghost lawful = { walk_lawful };
+
+    ghost made = { walk_made };
+
+    ghost told = { walk_told };
+}

@@ -1,0 +1,2 @@
+mod GetTurns
+pub mod Lemmas

@@ -1,0 +1,240 @@
+ghost use Rattle.std.specs.Prelude.{◌≡◌};
+ghost use Rattle.arena.specs.PlainWords.{Contents};
+
+use crate::{GetRun, Tree};
+use arena::NodeWord::{Child, Head, Key, Value};
+use arena::Side::{Left, Right};
+use arena::{
+    Access, Kind, Layout, Limits, Machine, Mode, NodeNo, NodeWord, PlainWords, Step, Turn, Word,
+};
+use std::alloc::Global;
+use std::marker::Model;
+use std::process::Abort;
+use std::test::Fail;
+
+/// Words, and the layout by which they stand.
+#[derive(Drop)]
+struct Table {
+    layout: Layout,
+    words: PlainWords,
+}
+
+impl Model for Table {
+    ghost Value = { Contents };
+
+    ghost view = { λ t. t.words };
+
+    ghost invariant = { λ t. t.words.layout ≡ t.layout };
+}
+
+impl Table {
+    /// The opening tree, with room for ten nodes more.
+    fn new(alloc: Global) -> Result<Table, Fail> {
+        let limits = Limits {
+            passes: 1,
+            nodes: 10,
+            scx: 10,
+            tries: 3,
+        };
+        let layout = limits.check(Mode::Tree)?;
+        let words = PlainWords::new(alloc, &layout)?;
+        Ok(Table { layout, words })
+    }
+
+    /// Makes a step; one on a word outside of the table finds 0.
+    fn make(&mut self, step: Step) -> u64 {
+        if self.layout.has(step.word) {
+            self.words.apply(step)
+        } else {
+            0
+        }
+    }
+
+    /// Gives words of nodes what they are to hold.
+    fn put(&mut self, changes: &[(u64, NodeWord, u64)]) {
+        for (node, part, value) in changes {
+            self.make(Step {
+                kind: Kind::Fill,
+                word: Word::Node(NodeNo(*node), *part),
+                access: Access::Store(*value),
+            });
+        }
+    }
+}
+
+/// A load of a word of a node, of the kind that the word has, and what it is to find.
+type Load = (u64, NodeWord, u64);
+
+fn step_of(node: u64, part: NodeWord) -> Step {
+    let kind = match part {
+        Child(_) => Kind::LoadChild,
+        _ => Kind::LoadSettled,
+    };
+    let word = Word::Node(NodeNo(node), part);
+    let access = Access::Load;
+    Step { kind, word, access }
+}
+
+/// Plays a get by itself: it makes these loads, one after the other, and gives this answer.
+fn plays(
+    rt: &impl Abort,
+    table: &mut Table,
+    key: u64,
+    loads: &[Load],
+    answer: Option<u64>,
+) -> Result<(), Fail> {
+    let mut run = GetRun::new(key);
+    let mut found = None;
+    for (node, part, value) in loads {
+        let step = step_of(*node, *part);
+        assert_eq!(rt; Machine::<Tree>::next(&mut run, found), Turn::Ask(step));
+        let got = table.make(step);
+        assert_eq!(rt; got, *value);
+        found = Some(got);
+    }
+    assert_eq!(rt; Machine::<Tree>::next(&mut run, found), Turn::Done(answer));
+    Ok(())
+}
+
+/// The tree that has 5 at 50: fork 5 stands over leaf 3 of the key and leaf 4, of class 1.
+const ONE_PAIR: [(u64, NodeWord, u64); 9] = [
+    (3, Head, 20),
+    (3, Key, 5),
+    (3, Value, 50),
+    (4, Head, 21),
+    (5, Head, 9),
+    (5, Child(Left), 3),
+    (5, Child(Right), 4),
+    (0, Child(Left), 5),
+    (1, Value, 7),
+];
+
+/// Then 9 at 90 as well: fork 8, of the key 9, stands over leaf 7 of the key 5 and leaf 6.
+const ONE_PAIR_MORE: [(u64, NodeWord, u64); 11] = [
+    (6, Head, 28),
+    (6, Key, 9),
+    (6, Value, 90),
+    (7, Head, 28),
+    (7, Key, 5),
+    (7, Value, 50),
+    (8, Head, 16),
+    (8, Key, 9),
+    (8, Child(Left), 7),
+    (8, Child(Right), 6),
+    (5, Child(Left), 8),
+];
+
+#[test]
+fn the_empty_map_has_no_key(rt: HostRuntime) -> Result<(), Fail> {
+    let mut table = Table::new(rt.alloc())?;
+    let loads = [(0, Head, 2), (0, Child(Left), 1), (1, Head, 13)];
+    plays(&rt, &mut table, 0, &loads, None)?;
+    plays(&rt, &mut table, 18446744073709551615, &loads, None)
+}
+
+#[test]
+fn the_leaf_of_the_key_is_asked_for_its_value(rt: HostRuntime) -> Result<(), Fail> {
+    let mut table = Table::new(rt.alloc())?;
+    table.put(&ONE_PAIR);
+    let present = [
+        (0, Head, 2),
+        (0, Child(Left), 5),
+        (5, Head, 9),
+        (5, Child(Left), 3),
+        (3, Head, 20),
+        (3, Key, 5),
+        (3, Value, 50),
+    ];
+    plays(&rt, &mut table, 5, &present, Some(50))?;
+    let absent = [
+        (0, Head, 2),
+        (0, Child(Left), 5),
+        (5, Head, 9),
+        (5, Child(Left), 3),
+        (3, Head, 20),
+        (3, Key, 5),
+    ];
+    plays(&rt, &mut table, 4, &absent, None)?;
+    plays(&rt, &mut table, 6, &absent, None)
+}
+
+#[test]
+fn the_key_0_may_have_the_value_0(rt: HostRuntime) -> Result<(), Fail> {
+    let mut table = Table::new(rt.alloc())?;
+    table.put(&ONE_PAIR);
+    table.put(&[(3, Key, 0), (3, Value, 0)]);
+    let loads = [
+        (0, Head, 2),
+        (0, Child(Left), 5),
+        (5, Head, 9),
+        (5, Child(Left), 3),
+        (3, Head, 20),
+        (3, Key, 0),
+        (3, Value, 0),
+    ];
+    plays(&rt, &mut table, 0, &loads, Some(0))
+}
+
+#[test]
+fn a_key_goes_right_at_a_fork_of_the_same_key(rt: HostRuntime) -> Result<(), Fail> {
+    let mut table = Table::new(rt.alloc())?;
+    table.put(&ONE_PAIR);
+    table.put(&ONE_PAIR_MORE);
+    let same = [
+        (0, Head, 2),
+        (0, Child(Left), 5),
+        (5, Head, 9),
+        (5, Child(Left), 8),
+        (8, Head, 16),
+        (8, Key, 9),
+        (8, Child(Right), 6),
+        (6, Head, 28),
+        (6, Key, 9),
+        (6, Value, 90),
+    ];
+    plays(&rt, &mut table, 9, &same, Some(90))?;
+    let below = [
+        (0, Head, 2),
+        (0, Child(Left), 5),
+        (5, Head, 9),
+        (5, Child(Left), 8),
+        (8, Head, 16),
+        (8, Key, 9),
+        (8, Child(Left), 7),
+        (7, Head, 28),
+        (7, Key, 5),
+        (7, Value, 50),
+    ];
+    plays(&rt, &mut table, 5, &below, Some(50))
+}
+
+#[test]
+fn absent_keys_go_to_the_leaf_where_they_would_stand(rt: HostRuntime) -> Result<(), Fail> {
+    let mut table = Table::new(rt.alloc())?;
+    table.put(&ONE_PAIR);
+    table.put(&ONE_PAIR_MORE);
+    let below = [
+        (0, Head, 2),
+        (0, Child(Left), 5),
+        (5, Head, 9),
+        (5, Child(Left), 8),
+        (8, Head, 16),
+        (8, Key, 9),
+        (8, Child(Left), 7),
+        (7, Head, 28),
+        (7, Key, 5),
+    ];
+    plays(&rt, &mut table, 8, &below, None)?;
+    let above = [
+        (0, Head, 2),
+        (0, Child(Left), 5),
+        (5, Head, 9),
+        (5, Child(Left), 8),
+        (8, Head, 16),
+        (8, Key, 9),
+        (8, Child(Right), 6),
+        (6, Head, 28),
+        (6, Key, 9),
+    ];
+    plays(&rt, &mut table, 18446744073709551615, &above, None)
+}
