@@ -1,4 +1,5 @@
 //! The words of the command line.
+use arena::Mode;
 use clap::error::ErrorKind;
 use clap::{Arg, ArgAction, Command, Error};
 use program::Fault;
@@ -10,8 +11,12 @@ use std::{env, io};
 /// What the words ask for.
 #[derive(Clone, Copy, Debug, PartialEq, Eq)]
 pub enum Request<'a> {
-    /// To play the calls of a script on cells.
-    Records { script: &'a str, schedule: &'a str },
+    /// To play the calls of a script: on the tree, or on cells.
+    Play {
+        mode: Mode,
+        script: &'a str,
+        schedule: &'a str,
+    },
 }
 
 /// The words that the program was given, of which the first is its own name.
@@ -45,21 +50,34 @@ fn request_of<'a, S: AsStr>(alloc: Global, words: &'a [S]) -> Result<Option<Requ
         (Some(script), Some(schedule)) => (script, schedule),
         _ => return Ok(None),
     };
-    Ok(match name {
-        "records" => Some(Request::Records { script, schedule }),
-        _ => None,
-    })
+    let mode = match name {
+        "play" => Mode::Tree,
+        "records" => Mode::Records,
+        _ => return Ok(None),
+    };
+    Ok(Some(Request::Play {
+        mode,
+        script,
+        schedule,
+    }))
 }
 
 /// The commands and their arguments.
 fn command<'a>(alloc: Global) -> Result<Command<'a>, Error> {
-    let records = Command::new(alloc, "records")
-        .arg(file(alloc, "SCRIPT"))?
-        .arg(file(alloc, "SCHEDULE"))?;
     Ok(
         Command::new(alloc, "regnubas")
             .subcommand_required(true)
-            .subcommand(records)?,
+            .subcommand(playing(alloc, "play")?)?
+            .subcommand(playing(alloc, "records")?)?,
+    )
+}
+
+/// A command that plays a script by a schedule.
+fn playing<'a>(alloc: Global, name: &'a str) -> Result<Command<'a>, Error> {
+    Ok(
+        Command::new(alloc, name)
+            .arg(file(alloc, "SCRIPT"))?
+            .arg(file(alloc, "SCHEDULE"))?,
     )
 }
 

@@ -20,14 +20,20 @@ pub fn run_words<R: Files + AllocGlobal, O: Write, E: Write>(
     ensures { result ≤ 4 }
 {
     let opened = match read_words(rt.alloc(), words) {
-        Ok(Request::Records { script, schedule }) => open_both(rt, script, schedule),
+        Ok(
+            Request::Play {
+                mode,
+                script,
+                schedule,
+            },
+        ) => open_both(rt, mode, script, schedule),
         Err(fault) => Err(fault),
     };
     match opened {
-        Ok((mut script, mut schedule)) => {
+        Ok((mode, mut script, mut schedule)) => {
             play_over(
                 rt.alloc(),
-                Mode::Records,
+                mode,
                 &mut script,
                 &mut schedule,
                 &mut Metered::new(out),
@@ -38,6 +44,11 @@ pub fn run_words<R: Files + AllocGlobal, O: Write, E: Write>(
     }
 }
 
-fn open_both<R: Files>(rt: &R, first: &str, second: &str) -> Result<(R::File, R::File), Fault> {
-    Ok((fs::open(rt, first)?, fs::open(rt, second)?))
+fn open_both<R: Files>(
+    rt: &R,
+    mode: Mode,
+    first: &str,
+    second: &str,
+) -> Result<(Mode, R::File, R::File), Fault> {
+    Ok((mode, fs::open(rt, first)?, fs::open(rt, second)?))
 }

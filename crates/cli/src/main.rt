@@ -1,11 +1,11 @@
 //! The program: plays a script by a schedule, and prints the report.
 #![tactic(auto)]
 
-mod ask;
 mod args;
+mod ask;
 
-use crate::ask::run_words;
 use crate::args::words_of;
+use crate::ask::run_words;
 use std::process::ExitCode;
 
 fn main(rt: HostRuntime) -> ExitCode {

@@ -1,6 +1,11 @@
 -- What calls need to begin.
-use Rattle.std.proofs.Common.{◌≡◌, ◌≢◌, ℕ, suc, ◌+◌, ◌<◌, ◌≤◌, inl, List, Option, Some, None, refl, sym, ◌∙◌, ap, subst, arith, length, zero, [], ◌∷◌, ◌⊎◌, ⊎_elim, slice_index_or, slice_get, get_or, nat_lt, map, AllPairs, Contains, MatchOption, Bool, true, false}
-use Rattle.arena.specs.declared.limits.Mode.TheVariants.{Records}
+use Rattle.std.proofs.Common.{◌≡◌, ◌≢◌, ℕ, suc, ◌+◌, ◌<◌, ◌≤◌, inl, List, Option, Some, None, refl, sym, ◌∙◌, ap, subst, arith, length, zero, [], ◌∷◌, ◌⊎◌, ⊎_elim, slice_index_or, slice_get, get_or, nat_lt, map, AllPairs, Contains, MatchOption, Bool, true, false, All}
+use Rattle.tree.specs.declared.get.GetRun.{GetRun}
+use Rattle.tree.specs.Get.Known.{GetIsReady}
+use Rattle.script.specs.Commands.{mode_of}
+use Rattle.arena.specs.declared.limits.Mode.{Mode}
+use Rattle.arena.specs.declared.limits.Mode.TheVariants.{Records, Tree}
+use Rattle.template.specs.declared.walk.WalkAt.TheVariants.{Start as WalkStart}
 use Rattle.arena.specs.History.{History, value}
 use Rattle.arena.proofs.Lemmas.{ends_self}
 use Rattle.prims.specs.Cells.{AllowsAll}
@@ -28,8 +33,8 @@ use Rattle.prims.specs.declared.llx.LlxRun.{LlxRun}
 use Rattle.prims.specs.declared.llx.LlxAt.TheVariants.{Start}
 use Rattle.prims.specs.declared.vlx.VlxRun.{VlxRun}
 use Rattle.script.specs.declared.command.Command.{Command}
-use Rattle.script.specs.declared.command.Command.TheVariants.{Llx as LlxCommand, Vlx as VlxCommand, Scx as ScxCommand, Set as SetCommand}
-use Rattle.player.specs.declared.run.Run.TheVariants.{Llx, Vlx}
+use Rattle.script.specs.declared.command.Command.TheVariants.{Llx as LlxCommand, Vlx as VlxCommand, Scx as ScxCommand, Set as SetCommand, Get as GetCommand}
+use Rattle.player.specs.declared.run.Run.TheVariants.{Llx, Vlx, Get}
 use Rattle.player.specs.declared.client.Client.{Client}
 use Rattle.player.specs.declared.client.Put.{Put}
 use Rattle.record.specs.declared.record.Answer.{Answer}
@@ -42,7 +47,7 @@ use Rattle.player.specs.ClientView.{ClientView, no_hand, IsSound, Rests, Refuses
 use Rattle.player.specs.declared.client.NextAction.{NextAction}
 use Rattle.player.specs.declared.client.NextAction.TheVariants.{Finished, Answers, Asks}
 use Rattle.script.specs.declared.command.Call.{Call}
-use Rattle.std.proofs.lemmas.Option.{slice_get_read}
+use Rattle.std.proofs.lemmas.Option.{slice_get_read, slice_get_within, get_or_from_slice_get}
 use Rattle.player.proofs.Commands.{next_at}
 
 none_late : (won : Option ℕ) (turn begin : ℕ) → won ≡ None → won ≡ Some turn → begin ≤ turn
@@ -60,6 +65,7 @@ llx_few (LlxCommand cell) n (Some put) f taken = absurd f
 llx_few (SetCommand field value) n None f taken = absurd f
 llx_few (ScxCommand update) n then f taken = absurd f
 llx_few (VlxCommand cells) n then f taken = absurd f
+llx_few (GetCommand key) n then f taken = absurd f
 
 -- an LLX of a cell
 pub llx_starts : (v : ClientView) (began : Option ℕ) (c : Client) (m : LlxRun) (then : Option Put) (command : Command) → IsSound v → v.layout.mode ≡ Records → Rests v c → IsUnbegun v began → m.at ≡ Start → m.node.0 ≤ 8 → command_of v c ≡ Some command → IsLlxOf command m.node.0 then → Starts v c (Llx m) then
@@ -67,7 +73,7 @@ llx_starts v began c m then command sound mode r u start i is f = record {
   works = record { mode = mode; stands = r.stands; newest = tt; command = command; is = is; run_of = (i, f); is_pass = r.stands.is_pass; start = v.past; since = ends_self v.past; begun = sym u.start; moments = λ j p. absurd (omega arith); alone = λ j p. absurd (omega arith); room = tt; took = taken_none v c.pass.0 (no_hand c.share) u.start; won = u.won; late = λ turn e. none_late v.won turn c.begin u.won e };
   none = r.none;
   ready = ready_at_start AllowsAll m (machine_call v c r.stands.is_pass v.past) v.past refl start (cell_opened v.layout v.past m.node.0 mode i) (all_idle v.layout v.past c.pass.0 c.share _ _ sound.lawful r.stands.share r.stands.over);
-  few = λ taken. let few = llx_few command m.node.0 then f taken in rw (u.steps, start) (omega arith);
+  few = λ taken i. let few = llx_few command m.node.0 then f taken in rw (u.steps, start) (omega arith);
 }
 
 -- a VLX of unspent snapshots
@@ -76,7 +82,16 @@ vlx_starts v began c m cells sound mode r u start some nodes l is left = record 
   works = record { mode = mode; stands = r.stands; newest = tt; command = VlxCommand cells; is = is; run_of = nodes; is_pass = r.stands.is_pass; start = v.past; since = ends_self v.past; begun = sym u.start; moments = λ i p. let x = l i p in record { moment = x.0; found = x.2.usable.found; source = x.1 }; alone = λ i p. let x = l i p in x.2.alone; room = tt; took = taken_none v c.pass.0 (no_hand c.share) u.start; won = u.won; late = λ turn e. none_late v.won turn c.begin u.won e };
   none = r.none;
   ready = vlx_ready_first v.layout c.pass.0 c.number r.stands.is_pass v.past m.snaps m.asked start some (λ i p. let x = l i p in (x.0, x.2.usable)) (all_over v.layout v.past c.pass.0 c.share _ _ r.stands.share r.stands.over);
-  few = λ taken. omega (arith, u.steps, left);
+  few = λ taken i. omega (arith, u.steps, left);
+}
+
+-- a get from its start
+pub get_starts : (v : ClientView) (began : Option ℕ) (c : Client) (m : GetRun) (key : ℕ) → IsSound v → v.layout.mode ≡ Tree → (r : Rests v c) → IsUnbegun v began → m.walk.key ≡ key → m.walk.at ≡ WalkStart → GetIsReady m (machine_call v c r.stands.is_pass v.past) v.past None → command_of v c ≡ Some (GetCommand key) → Starts v c (Get m) None
+get_starts v began c m key sound mode r u at start ready is = record {
+  works = record { mode = mode; stands = r.stands; newest = tt; command = GetCommand key; is = is; run_of = at; is_pass = r.stands.is_pass; start = v.past; since = ends_self v.past; begun = sym u.start; moments = λ j p. absurd (omega arith); alone = λ j p. absurd (omega arith); room = tt; took = taken_none v c.pass.0 (no_hand c.share) u.start; won = u.won; late = λ turn e. none_late v.won turn c.begin u.won e };
+  none = r.none;
+  ready = ready;
+  few = λ taken i. rw (u.steps, start) (omega arith);
 }
 
 -- as many snapshots as cells
@@ -178,10 +193,9 @@ next_is v c calls at call r e is get =
     let y : Some call ≡ Some (record { client = record { 0 = c.pass.0 }; command = x.0 }) = sym get ∙ ap (λ (l : List Call). slice_get l at) e ∙ x.1 in
     rw (sym r.stands.number) (x.2 ∙ ap (λ (k : Command). Some k) (sym (ap (λ (k : Call). k.command) (some_call call _ y))))
 
--- a script with a call at some place has calls
-pub some_calls : (calls : List Call) (at : ℕ) (call : Call) → slice_get calls at ≡ Some call → length calls ≢ 0
-some_calls [] at call e = absurd cc
-some_calls (x ∷ calls) at call e = λ d. omega arith
+-- a call of a script whose calls are of its mode
+pub mode_there : (mode : Mode) (calls : List Call) (at : ℕ) (call : Call) → All (λ (k : Call). mode_of k.command ≡ mode) calls → slice_get calls at ≡ Some call → mode ≡ mode_of call.command
+mode_there mode calls at call all e = sym (subst (λ (k : Call). mode_of k.command ≡ mode) (get_or_from_slice_get calls at call call e) (all at call (slice_get_within calls at call e)))
 
 -- what a lookup found
 pub get_there : (calls : List Call) (at : ℕ) (call : Call) → true ≡ nat_lt at (length calls) → call ≡ get_or calls at call → slice_get calls at ≡ Some call

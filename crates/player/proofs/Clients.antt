@@ -1,16 +1,18 @@
 -- What a client's machine leaves of what it has.
-use Rattle.std.proofs.Common.{◌≡◌, ℕ, ◌+◌, ◌<◌, ◌≤◌, List, Option, Some, None, refl, ◌∙◌, subst, arith}
+use Rattle.std.proofs.Common.{◌≡◌, ℕ, ◌+◌, ◌<◌, ◌≤◌, List, length, Option, Some, None, refl, ◌∙◌, subst, arith}
+use Rattle.arena.specs.declared.layout.Layout.{Layout}
+use Rattle.arena.specs.TakenNodes.{taken_nodes}
 use Rattle.arena.specs.declared.word.Side.{Side}
 use Rattle.arena.specs.declared.step.Step.{Step}
 use Rattle.arena.specs.Share.{Remaining}
 use Rattle.arena.specs.History.{History}
 use Rattle.script.specs.declared.command.Command.{Command}
-use Rattle.script.specs.declared.command.Command.TheVariants.{Llx as LlxOf, Scx as ScxOf, Vlx as VlxOf, Set as SetOf}
+use Rattle.script.specs.declared.command.Command.TheVariants.{Llx as LlxOf, Scx as ScxOf, Vlx as VlxOf, Set as SetOf, Get as GetOf}
 use Rattle.prims.specs.declared.put.PutRun.{PutRun}
 use Rattle.prims.specs.declared.llx.LlxRun.{LlxRun}
 use Rattle.prims.specs.declared.llx.Llx.{Llx as LlxAnswer}
 use Rattle.player.specs.declared.run.Run.{Run}
-use Rattle.player.specs.declared.run.Run.TheVariants.{Llx, Scx, Vlx}
+use Rattle.player.specs.declared.run.Run.TheVariants.{Llx, Scx, Vlx, Get}
 use Rattle.player.specs.declared.run.Ended.{Ended}
 use Rattle.player.specs.declared.run.Ended.TheVariants as ended
 use Rattle.player.specs.declared.client.Client.{Client}
@@ -18,7 +20,7 @@ use Rattle.player.specs.declared.client.Running.{Running}
 use Rattle.player.specs.declared.client.Put.{Put}
 use Rattle.record.specs.declared.record.Answer.{Answer}
 use Rattle.record.specs.CommandRules.{most_steps}
-use Rattle.player.specs.RunKnown.{RunWaits, RunAnswers, IsSameMachine}
+use Rattle.player.specs.RunKnown.{RunWaits, RunAnswers, IsSameMachine, run_mode}
 use Rattle.player.specs.RunSteps.{run_left, left_of}
 use Rattle.player.specs.ClientView.{ClientView, Hand, in_hand, snaps_of, IsStart, IsPutOf, IsScxOf, HasNewest, IsMachineOf, IsRoomy, IsWonBy, IsClientState, Works, Hears, Answered, machine_call, GoesOn, Told}
 
@@ -31,6 +33,7 @@ record IsKept (left : Remaining) (old now : Run) : Type 0 where
   snaps : snaps_of now ≡ snaps_of old
   won : (v : ClientView) (c : ℕ) → IsWonBy v c old → IsWonBy v c now
   room : (v : ClientView) (c : ℕ) → IsRoomy v c old → IsRoomy v c now
+  mode : (lay : Layout) → lay.mode ≡ run_mode old → lay.mode ≡ run_mode now
 
 put_same : (a b : PutRun) (number : ℕ) (nodes removed : List ℕ) (field : ℕ × Side) (x : ℕ) → b.scx.update ≡ a.scx.update → b.scx.call ≡ a.scx.call → b.value ≡ a.value → IsPutOf a number nodes removed field x → IsPutOf b number nodes removed field x
 put_same a b number nodes removed field x u k w y = record { called = rw k y.called; covers = rw u y.covers; finalizes = rw u y.finalizes; node = rw u y.node; side = rw u y.side; value = rw w y.value }
@@ -42,11 +45,19 @@ scx_same (ScxOf update) number a b (Some put) x y = absurd y
 scx_same (SetOf field value) number a b (Some put) x y = absurd y
 scx_same (LlxOf cell) number a b then x y = absurd y
 scx_same (VlxOf cells) number a b then x y = absurd y
+scx_same (GetOf key) number a b then x y = absurd y
 
 is_kept : (left : Remaining) (old now : Run) → IsSameMachine old now → IsKept left old now
-is_kept left (Llx a) (Llx b) x = record { hand = refl; newest = λ p. p; run_of = λ command number then p. rw x p; begun = λ start begin p. p; snaps = refl; won = λ v c p. p; room = λ v c p. p }
-is_kept left (Scx a) (Scx b) x = record { hand = rw (x.0, x.1) refl; newest = λ p. rw (x.0, x.1) p; run_of = λ command number then p. scx_same command number a b then x p; begun = λ start begin p. p; snaps = rw x.1 refl; won = λ v c p. rw x.0 p; room = λ v c p. p }
-is_kept left (Vlx a) (Vlx b) x = record { hand = refl; newest = λ p. p; run_of = λ command number then p. rw x p; begun = λ start begin p. p; snaps = rw x refl; won = λ v c p. p; room = λ v c p. p }
+is_kept left (Llx a) (Llx b) x = record { hand = refl; newest = λ p. p; run_of = λ command number then p. rw x p; begun = λ start begin p. p; snaps = refl; won = λ v c p. p; room = λ v c p. p; mode = λ lay e. e }
+is_kept left (Scx a) (Scx b) x = record { hand = rw (x.0, x.1) refl; newest = λ p. rw (x.0, x.1) p; run_of = λ command number then p. scx_same command number a b then x p; begun = λ start begin p. p; snaps = rw x.1 refl; won = λ v c p. rw x.0 p; room = λ v c p. p; mode = λ lay e. e }
+is_kept left (Vlx a) (Vlx b) x = record { hand = refl; newest = λ p. p; run_of = λ command number then p. rw x p; begun = λ start begin p. p; snaps = rw x refl; won = λ v c p. p; room = λ v c p. p; mode = λ lay e. e }
+is_kept left (Get a) (Get b) x = record { hand = refl; newest = λ p. p; run_of = λ command number then p. rw x p; begun = λ start begin p. p; snaps = refl; won = λ v c p. p; room = λ v c p. p; mode = λ lay e. e }
+is_kept left (Get a) (Llx b) x = absurd x
+is_kept left (Get a) (Scx b) x = absurd x
+is_kept left (Get a) (Vlx b) x = absurd x
+is_kept left (Llx a) (Get b) x = absurd x
+is_kept left (Scx a) (Get b) x = absurd x
+is_kept left (Vlx a) (Get b) x = absurd x
 is_kept left (Llx a) (Scx b) x = absurd x
 is_kept left (Llx a) (Vlx b) x = absurd x
 is_kept left (Scx a) (Llx b) x = absurd x
@@ -62,7 +73,7 @@ works_so : (v : ClientView) (c : Client) (running : Option Running) (old now : R
 works_so v c running old now then same w =
     let k = is_kept c.share old now same in
     record {
-      mode = w.mode;
+      mode = k.mode v.layout w.mode;
       stands = rw k.hand (stands_so v c running (in_hand c.share old) w.stands);
       newest = k.newest w.newest;
       command = w.command;
@@ -81,14 +92,14 @@ works_so v c running old now then same w =
     }
 
 -- a machine that asks for a step waits for it, and has fewer steps left
-pub goes_on : (v : ClientView) (c : Client) (old now : Run) (then : Option Put) (step : Step) (w : Works v c old then) → IsSameMachine old now → RunWaits now (machine_call v c w.is_pass w.start) v.past step → ((taken : ℕ) → v.steps + left_of old then ≤ most_steps w.command taken) → run_left now < run_left old → GoesOn v c (record c { running = Some (record { run = now; then = then; step = step }) })
+pub goes_on : (v : ClientView) (c : Client) (old now : Run) (then : Option Put) (step : Step) (w : Works v c old then) → IsSameMachine old now → RunWaits now (machine_call v c w.is_pass w.start) v.past step → ((taken : ℕ) → length (taken_nodes v.past) ≤ taken → v.steps + left_of old then taken ≤ most_steps w.command taken) → ((taken : ℕ) → length (taken_nodes v.past) ≤ taken → run_left now taken < run_left old taken) → GoesOn v c (record c { running = Some (record { run = now; then = then; step = step }) })
 unfolding works_so
 goes_on v c old now then step w same waits few nearer = record {
   same = record { pass = refl; number = refl; next = refl };
   begin = refl;
   running = record { run = now; then = then; step = step };
   is = refl;
-  waits = record { works = works_so v c (Some (record { run = now; then = then; step = step })) old now then same w; waits = waits; few = λ taken. let enough = few taken in omega (arith, nearer) };
+  waits = record { works = works_so v c (Some (record { run = now; then = then; step = step })) old now then same w; waits = waits; few = λ taken i. let enough = few taken i in let less = nearer taken i in omega arith };
 }
 
 -- The answer of a machine
@@ -101,7 +112,7 @@ hears_as v c q p found e d x = rw (some_same p q (e ∙ d)) x
 
 pub answered_so : (v : ClientView) (c : Client) (p : Running) (now : Run) (ended : Ended) (found : ℕ) (rest : Option Running) (x : Hears v c p found) → rest ≡ None → IsSameMachine p.run now → RunAnswers now (machine_call v c x.works.is_pass x.works.start) v.past ended → Answered v (record c { running = rest }) now p.then ended
 unfolding works_so
-answered_so v c p now ended found rest x e same a = record { works = works_so v c rest p.run now p.then same x.works; none = e; answers = a; few = λ taken. let few = x.few taken in omega arith }
+answered_so v c p now ended found rest x e same a = record { works = works_so v c rest p.run now p.then same x.works; none = e; answers = a; few = λ taken i. let few = x.few taken i in omega arith }
 
 -- what is told does not ask whether a machine ran
 pub told_from : (v : ClientView) (c new : Client) (rest : Option Running) (answer : Option Answer) → Told v (record c { running = rest }) new answer → Told v c new answer
@@ -116,3 +127,4 @@ after_run v c new run then end a answer e x f = go run (subst (λ t. Answered v 
     go (Llx m) y = f m y
     go (Scx m) y = absurd y.answers
     go (Vlx m) y = absurd y.answers
+    go (Get m) y = absurd y.answers

@@ -2,6 +2,9 @@
 use Rattle.std.proofs.Common.{◌≡◌, ◌≢◌, ℕ, zero, suc, ◌<◌, ◌≤◌, ◌⊎◌, inl, inr, ⊎_elim, Bool, true, false, cond, ◌||◌, eqb, List, [], ◌∷◌, length, get_or, slice_get, Option, Some, None, IsSome, refl, sym, ◌∙◌, ap, subst, arith}
 use Rattle.std.proofs.Math.ListN.{set}
 use Rattle.std.specs.List.{Contains}
+use Rattle.tree.specs.declared.get.GetRun.{GetRun}
+use Rattle.tree.proofs.Lemmas.{get_says}
+use Rattle.spelling.specs.Paths.{IsAnswerAt}
 use Rattle.arena.specs.declared.number.NodeNo.{NodeNo}
 use Rattle.arena.specs.declared.number.ScxNo.{ScxNo}
 use Rattle.arena.specs.Words.{state}
@@ -29,11 +32,11 @@ use Rattle.prims.specs.declared.llx.Llx.TheVariants.{Snapshot as LlxSnapshot, Fi
 use Rattle.prims.specs.declared.scx.Scx.TheVariants.{Done as ScxDone, Lost as ScxLost}
 use Rattle.prims.specs.declared.vlx.Vlx.TheVariants.{Same as VlxSame, Changed as VlxChanged}
 use Rattle.script.specs.declared.command.Command.{Command}
-use Rattle.script.specs.declared.command.Command.TheVariants.{Llx as LlxOf, Scx as ScxOf, Vlx as VlxOf, Set as SetOf}
+use Rattle.script.specs.declared.command.Command.TheVariants.{Llx as LlxOf, Scx as ScxOf, Vlx as VlxOf, Set as SetOf, Get as GetOf}
 use Rattle.script.specs.Cells.{cells_of}
 use Rattle.script.specs.Update.{update_cells}
 use Rattle.player.specs.declared.run.Run.{Run}
-use Rattle.player.specs.declared.run.Run.TheVariants.{Llx, Scx, Vlx}
+use Rattle.player.specs.declared.run.Run.TheVariants.{Llx, Scx, Vlx, Get}
 use Rattle.player.specs.declared.run.Ended.{Ended}
 use Rattle.player.specs.declared.run.Ended.TheVariants as ended
 use Rattle.player.specs.declared.client.Client.{Client}
@@ -41,14 +44,14 @@ use Rattle.player.specs.declared.client.Put.{Put}
 use Rattle.player.specs.declared.kept.Kept.{Kept}
 use Rattle.player.specs.declared.kept.Found.{Found}
 use Rattle.record.specs.declared.record.Answer.{Answer}
-use Rattle.record.specs.declared.record.Answer.TheVariants.{Snapshot, Finalized, Fail, Done, Lost, Same, Changed, Unlinked, Full}
+use Rattle.record.specs.declared.record.Answer.TheVariants.{Snapshot, Finalized, Fail, Done, Lost, Same, Changed, Unlinked, Full, Value}
 use Rattle.player.specs.KeptSnaps.{IsUnspent, kept_of, node_of, found_of, parts, snap_of}
 use Rattle.record.specs.CommandRules.{IsAnswerAfterStep, IsRight}
 use Rattle.record.specs.Snapshots.{IsLastLook, AreLinked, IsBehindAll}
 use Rattle.record.specs.Answers.{HasRoom, IsInTheWay, IsAsSnapped, HasItsEntry}
 use Rattle.player.specs.RunKnown.{answer_of}
 use Rattle.prims.specs.Scx.Known.{nodes_of}
-use Rattle.player.specs.ClientView.{ClientView, IsSound, IsLlxOf, IsScxOf, IsVlxOf, no_hand, in_hand, HaveMoments, IsClientState, Rests, Answered, Ends, machine_call, linked_by}
+use Rattle.player.specs.ClientView.{ClientView, IsSound, IsLlxOf, IsScxOf, IsVlxOf, IsGetOf, no_hand, in_hand, HaveMoments, IsClientState, Rests, Answered, Ends, machine_call, linked_by}
 use Rattle.player.proofs.Puts.{put_committed, put_aborted}
 use Rattle.player.proofs.Snapshots.{has_snap, snap_there, snap_found, kept_after, unkept_after}
 use Rattle.player.proofs.Over.{taken_one}
@@ -127,6 +130,7 @@ entered_none Same None e d = tt
 entered_none (Changed node scx) None e d = tt
 entered_none (Unlinked node) None e d = tt
 entered_none (Full what left) None e d = tt
+entered_none (Value value) None e d = tt
 entered_none answer (Some k) e d = cc
 
 -- one of the nodes was changed by another client
@@ -196,6 +200,7 @@ scx_outcome v c (ScxOf update) m (Some put) a start since is_pass x moments alon
 scx_outcome v c (SetOf field value) m (Some put) a start since is_pass x moments alone room done lost y = absurd x
 scx_outcome v c (LlxOf cell) m then a start since is_pass x moments alone room done lost y = absurd x
 scx_outcome v c (VlxOf cells) m then a start since is_pass x moments alone room done lost y = absurd x
+scx_outcome v c (GetOf key) m then a start since is_pass x moments alone room done lost y = absurd x
 
 -- a client whose SCX has ended has taken what it had in hand, and drops its snapshots
 rests_scx : (v : ClientView) (c : Client) (m : PutRun) (then : Option Put) (a : ScxAnswer) (linked : ℕ → Option History) → IsSound v → IsDropped m.scx.update.snaps v.linked linked → Answered v c (Scx m) then (ended.Scx a) → IsClientState (record v { linked = linked }) c (no_hand c.share)
@@ -258,6 +263,7 @@ ends_scx v c (Scx m) then a sound x =
     o = scx_outcome v c x.works.command m then a x.works.start x.works.begun x.works.is_pass x.works.run_of x.works.moments x.works.alone x.works.room (done a x.answers) (lost a x.answers) x.answers
 ends_scx v c (Llx m) then a sound x = absurd x.answers
 ends_scx v c (Vlx m) then a sound x = absurd x.answers
+ends_scx v c (Get m) then a sound x = absurd x.answers
 
 -- The end of a VLX
 
@@ -315,6 +321,7 @@ vlx_outcome v c (VlxOf cells) m (Some put) a x moments alone won is_pass y = abs
 vlx_outcome v c (LlxOf cell) m then a x moments alone won is_pass y = absurd x
 vlx_outcome v c (ScxOf update) m then a x moments alone won is_pass y = absurd x
 vlx_outcome v c (SetOf field value) m then a x moments alone won is_pass y = absurd x
+vlx_outcome v c (GetOf key) m then a x moments alone won is_pass y = absurd x
 
 -- what is said of the snapshots as before leaves a client at rest
 rests_as : (v : ClientView) (c : Client) (linked : ℕ → Option History) → IsDropped [] v.linked linked → IsClientState v c (no_hand c.share) → IsClientState (record v { linked = linked }) c (no_hand c.share)
@@ -348,10 +355,52 @@ ends_vlx v c (Vlx m) then a x =
     }
 ends_vlx v c (Llx m) then a x = absurd x.answers
 ends_vlx v c (Scx m) then a x = absurd x.answers
+ends_vlx v c (Get m) then a x = absurd x.answers
 
-pub ends_other : (v : ClientView) (c : Client) (run : Run) (then : Option Put) (end : Ended) → ((a : ScxAnswer) × (end ≡ ended.Scx a)) ⊎ ((a : VlxAnswer) × (end ≡ ended.Vlx a)) → IsSound v → Answered v c run then end → Ends v c c (answer_of end)
+-- The end of a get
+
+-- its answer stood at a moment of the call
+get_right : (v : ClientView) (c : Client) (m : GetRun) (command : Command) (then : Option Put) (a : Option ℕ) → IsGetOf command m.walk.key then → IsAnswerAt v.layout v.past v.start m.walk.key a → IsAnswerAfterStep command (Value a) × IsRight v.layout c.pass.0 v.past v.start v.linked command (Value a)
+get_right v c m (GetOf key) None a of x = (tt, rw (sym of) x)
+get_right v c m (GetOf key) (Some put) a of x = absurd of
+get_right v c m (LlxOf cell) then a of x = absurd of
+get_right v c m (ScxOf update) then a of x = absurd of
+get_right v c m (VlxOf cells) then a of x = absurd of
+get_right v c m (SetOf field value) then a of x = absurd of
+
+-- and it leaves the snapshots
+get_drops : (v : ClientView) (m : GetRun) (command : Command) (then : Option Put) (a : Option ℕ) → IsGetOf command m.walk.key then → IsDropped [] v.linked (linked_by v command (Value a))
+get_drops v m (GetOf key) then a of = record { gone = λ n z. absurd (among_none n z); others = λ n z. refl }
+get_drops v m (LlxOf cell) then a of = absurd of
+get_drops v m (ScxOf update) then a of = absurd of
+get_drops v m (VlxOf cells) then a of = absurd of
+get_drops v m (SetOf field value) then a of = absurd of
+
+ends_get : (v : ClientView) (c : Client) (run : Run) (then : Option Put) (a : Option ℕ) → IsSound v → Answered v c run then (ended.Get a) → Ends v c c (answer_of (ended.Get a))
+ends_get v c (Get m) then a sound x =
+    let call = machine_call v c x.works.is_pass x.works.start in
+    let at = subst (λ (k : History). IsAnswerAt v.layout v.past k m.walk.key a) x.works.begun (get_says m call v.past a x.answers) in
+    let o = get_right v c m x.works.command then a x.works.run_of at in
+    record {
+      same = record { pass = refl; number = refl; next = refl };
+      begin = refl;
+      command = x.works.command;
+      is = x.works.is;
+      rests = record { stands = rests_as v c (linked_by v x.works.command (Value a)) (get_drops v m x.works.command then a x.works.run_of) x.works.stands; none = x.none };
+      answers = o.0;
+      right = o.1;
+      entry = entered_none (Value a) v.won x.works.won (λ e. cc);
+      took = taken_one v c.pass.0 _ x.works.took;
+      late = x.works.late;
+    }
+ends_get v c (Llx m) then a sound x = absurd x.answers
+ends_get v c (Scx m) then a sound x = absurd x.answers
+ends_get v c (Vlx m) then a sound x = absurd x.answers
+
+pub ends_other : (v : ClientView) (c : Client) (run : Run) (then : Option Put) (end : Ended) → ((a : ScxAnswer) × (end ≡ ended.Scx a)) ⊎ (((a : VlxAnswer) × (end ≡ ended.Vlx a)) ⊎ ((a : Option ℕ) × (end ≡ ended.Get a))) → IsSound v → Answered v c run then end → Ends v c c (answer_of end)
 ends_other v c run then end (inl (a, e)) sound x = rw e (ends_scx v c run then a sound (subst (λ t. Answered v c run then t) e x))
-ends_other v c run then end (inr (a, e)) sound x = rw e (ends_vlx v c run then a (subst (λ t. Answered v c run then t) e x))
+ends_other v c run then end (inr (inl (a, e))) sound x = rw e (ends_vlx v c run then a (subst (λ t. Answered v c run then t) e x))
+ends_other v c run then end (inr (inr (a, e))) sound x = rw e (ends_get v c run then a sound (subst (λ t. Answered v c run then t) e x))
 
 -- The end of an LLX
 
@@ -433,6 +482,7 @@ llx_outcome v c (LlxOf cell) m (Some put) a d x y = absurd x
 llx_outcome v c (SetOf field value) m None a d x y = absurd x
 llx_outcome v c (ScxOf update) m then a d x y = absurd x
 llx_outcome v c (VlxOf cells) m then a d x y = absurd x
+llx_outcome v c (GetOf key) m then a d x y = absurd x
 
 -- its call ends, where no SCX follows
 pub ends_llx : (v : ClientView) (old : Client) (kept : Kept) (m : LlxRun) (then : Option Put) (a : LlxAnswer) → IsSound v → Answered v old (Llx m) then (ended.Llx a) → kept.found ≡ set old.kept.found (node_of a) (found_of a) → ((then ≡ None) ⊎ ((snap : Snap) → a ≢ LlxSnapshot snap)) → Ends v old (record old { kept = kept }) (answer_of (ended.Llx a))

@@ -26,9 +26,9 @@ use Rattle.prims.proofs.Lemmas.{moment_more, put_full, put_entry, put_entry_then
 use Rattle.script.specs.Part.{is_subsequence}
 use Rattle.script.specs.Update.{update_cells, update_finalize, update_field, update_value}
 use Rattle.script.specs.declared.command.Command.{Command}
-use Rattle.script.specs.declared.command.Command.TheVariants.{Llx as LlxOf, Scx as ScxOf, Vlx as VlxOf, Set as SetOf}
+use Rattle.script.specs.declared.command.Command.TheVariants.{Llx as LlxOf, Scx as ScxOf, Vlx as VlxOf, Set as SetOf, Get as GetOf}
 use Rattle.player.specs.declared.run.Run.{Run}
-use Rattle.player.specs.declared.run.Run.TheVariants.{Llx, Scx, Vlx}
+use Rattle.player.specs.declared.run.Run.TheVariants.{Llx, Scx, Vlx, Get}
 use Rattle.player.specs.declared.client.Client.{Client}
 use Rattle.player.specs.declared.client.Running.{Running}
 use Rattle.player.specs.declared.client.Put.{Put}
@@ -36,9 +36,9 @@ use Rattle.record.specs.Snapshots.{IsLastLook}
 use Rattle.record.specs.Answers.{IsUnchanged, AreUnchanged}
 use Rattle.record.specs.Updates.{IsEntryOver}
 use Rattle.record.specs.CommandRules.{IsEntryFor}
-use Rattle.player.proofs.Shapes.{as_cells}
 use Rattle.player.specs.Allowed.{PlayedAllows}
-use Rattle.player.specs.RunKnown.{RunWaits, RunIsReady, run_keeps, run_made}
+use Rattle.player.specs.RunKnown.{RunWaits, RunIsReady}
+use Rattle.player.proofs.RunLaws.{run_keeps, run_made}
 use Rattle.player.specs.ClientView.{ClientView, IsSound, IsPutOf, IsScxOf, HaveMoments, no_hand, IsClientState, Rests, Works, Waits, machine_call, command_of}
 use Rattle.player.proofs.Ends.{has_nodes}
 use Rattle.player.proofs.Snapshots.{snap_there}
@@ -146,6 +146,7 @@ module _ (v : ClientView) (c : Client) (row : Row) (m : PutRun) (start : History
       )
   does (LlxOf cell) p z = absurd p
   does (VlxOf cells) p z = absurd p
+  does (GetOf key) p z = absurd p
 
 -- a row that wins wins for the SCX that its owner has in hand
 module _ (v : ClientView) (c : Client) (sound : IsSound v) (row : Row) (s : ℕ) (l : Lawful v.layout (row ⊳ v.past)) (wins : UpdateWins v.past row s) (own : IsOwnScx v.layout c.pass.0 s) where
@@ -186,6 +187,7 @@ module _ (v : ClientView) (c : Client) (sound : IsSound v) (row : Row) (s : ℕ)
       called (SetOf field y) (Some put) p = absurd p
       called (LlxOf cell) then p = absurd p
       called (VlxOf cells) then p = absurd p
+      called (GetOf key) then p = absurd p
 
       by_then : (then : Option Put) → IsScxOf x.command c.number m then → HaveMoments v c.pass.0 x.command m.scx.update.snaps → IsOfPut v c row m x.start x.is_pass → IsEntryFor v.layout c.pass.0 v.past v.start v.linked (update_entry c.pass.0 m.scx) x.command
       by_then None p z y = does v c row m x.start x.is_pass y x.command p z
@@ -196,8 +198,10 @@ module _ (v : ClientView) (c : Client) (sound : IsSound v) (row : Row) (s : ℕ)
           none_then (SetOf field y) put p = p
           none_then (LlxOf cell) put p = p
           none_then (VlxOf cells) put p = p
+          none_then (GetOf key) put p = p
   from_run (Llx m) then x f = absurd (no_hand_wins x.stands)
   from_run (Vlx m) then x f = absurd (no_hand_wins x.stands)
+  from_run (Get m) then x f = absurd (no_hand_wins x.stands)
 
   -- and none wins for a client at rest
   pub rest_wins_not : Rests v c → ⊥
@@ -213,7 +217,7 @@ entry_by_others v c q row s sound w run other wins own = from_run v c sound row 
     of_put : (m : PutRun) → q.run ≡ Scx m → m.scx.scx.0 ≡ s → IsOfPut v c row m w.works.start w.works.is_pass
     of_put m e same =
         let before : PutWaits AllowsAll m call v.past q.step = subst (λ (k : Run). RunWaits k call v.past q.step) e w.waits in
-        let after : PutWaits AllowsAll m call (row ⊳ v.past) q.step = subst (λ (k : Run). RunWaits k call (row ⊳ v.past) q.step) e (run_keeps q.run call v.past q.step row (as_cells v.layout (row ⊳ v.past) run) other w.waits) in
+        let after : PutWaits AllowsAll m call (row ⊳ v.past) q.step = subst (λ (k : Run). RunWaits k call (row ⊳ v.past) q.step) e (run_keeps q.run call v.past q.step row w.works.mode run other w.waits) in
         let win : IsWin v.past row m.scx.scx.0 = rw same (is_win v c sound row s run.lawful wins own) in
         let named : IsNamedScx v.past m.scx.scx.0 = rw same (in_progress v c sound row s run.lawful wins own).named in
         let y = put_entry AllowsAll m call (row ⊳ v.past) q.step row v.past run.lawful (inl refl) win after in
@@ -233,7 +237,7 @@ entry_by_own v c q s sound w wins own told = from_run v c sound (own_row v c q.s
     of_put : (m : PutRun) → q.run ≡ Scx m → m.scx.scx.0 ≡ s → IsOfPut v c (own_row v c q.step) m w.works.start w.works.is_pass
     of_put m e same =
         let before : PutWaits AllowsAll m call v.past q.step = subst (λ (k : Run). RunWaits k call v.past q.step) e w.waits in
-        let after : PutIsReady AllowsAll m call (own_row v c q.step ⊳ v.past) (Some (value v.past q.step.word)) = subst (λ (k : Run). RunIsReady k call (own_row v c q.step ⊳ v.past) (Some (value v.past q.step.word))) e (run_made q.run call v.past q.step (value v.past q.step.word) (as_cells v.layout (own_row v c q.step ⊳ v.past) run) told w.waits) in
+        let after : PutIsReady AllowsAll m call (own_row v c q.step ⊳ v.past) (Some (value v.past q.step.word)) = subst (λ (k : Run). RunIsReady k call (own_row v c q.step ⊳ v.past) (Some (value v.past q.step.word))) e (run_made q.run call v.past q.step (value v.past q.step.word) w.works.mode run told w.waits) in
         let win : IsWin v.past (own_row v c q.step) m.scx.scx.0 = rw same (is_win v c sound (own_row v c q.step) s run.lawful wins own) in
         let named : IsNamedScx v.past m.scx.scx.0 = rw same (in_progress v c sound (own_row v c q.step) s run.lawful wins own).named in
         let y = put_entry_then AllowsAll m call (own_row v c q.step ⊳ v.past) (value v.past q.step.word) (own_row v c q.step) v.past run.lawful (inl refl) win after in

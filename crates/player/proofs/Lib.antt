@@ -1,4 +1,6 @@
 mod Shapes
+mod RunLaws
+mod Readings
 mod Over
 mod Puts
 mod Views

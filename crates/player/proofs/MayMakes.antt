@@ -1,14 +1,15 @@
 -- The kinds of step that a call makes.
 use Rattle.std.proofs.Common.{ℕ, Option, refl}
+use Rattle.tree.proofs.Lemmas.{get_loads}
 use Rattle.arena.specs.declared.step.Step.{Step}
 use Rattle.arena.specs.History.{History}
 use Rattle.arena.specs.Machines.{Call}
 use Rattle.prims.specs.Cells.{AllowsAll}
 use Rattle.prims.proofs.Lemmas.{llx_fills_not}
 use Rattle.script.specs.declared.command.Command.{Command}
-use Rattle.script.specs.declared.command.Command.TheVariants.{Llx as LlxOf, Scx as ScxOf, Vlx as VlxOf, Set as SetOf}
+use Rattle.script.specs.declared.command.Command.TheVariants.{Llx as LlxOf, Scx as ScxOf, Vlx as VlxOf, Set as SetOf, Get as GetOf}
 use Rattle.player.specs.declared.run.Run.{Run}
-use Rattle.player.specs.declared.run.Run.TheVariants.{Llx, Scx, Vlx}
+use Rattle.player.specs.declared.run.Run.TheVariants.{Llx, Scx, Vlx, Get}
 use Rattle.player.specs.declared.client.Put.{Put}
 use Rattle.record.specs.CommandRules.{MayMake}
 use Rattle.player.specs.RunKnown.{RunWaits}
@@ -22,5 +23,11 @@ may_make (VlxOf cells) number (Llx m) then call h step of w = absurd of.1
 may_make (VlxOf cells) number (Scx m) then call h step of w = absurd of
 may_make (LlxOf cell) number (Scx m) then call h step of w = absurd of
 may_make (LlxOf cell) number (Vlx m) then call h step of w = absurd of
+may_make (GetOf key) number (Get m) then call h step of w = (get_loads m call h step w).0
+may_make (GetOf key) number (Llx m) then call h step of w = absurd of.1
+may_make (GetOf key) number (Scx m) then call h step of w = absurd of
+may_make (GetOf key) number (Vlx m) then call h step of w = absurd of
+may_make (VlxOf cells) number (Get m) then call h step of w = absurd of
+may_make (LlxOf cell) number (Get m) then call h step of w = absurd of
 may_make (ScxOf update) number run then call h step of w = tt
 may_make (SetOf field value) number run then call h step of w = tt

@@ -2,6 +2,7 @@
 use Rattle.std.proofs.Common.{◌≡◌, ◌≢◌, ℕ, zero, suc, ◌+◌, ◌<◌, ◌≤◌, Bool, true, false, cond, eqb, eqb-true, is_some, inl, inr, List, [], ◌∷◌, set, length, Option, Some, None, MatchOption, slice_get, refl, sym, ◌∙◌, ap, subst, ne_eqb, eq-eqb, arith}
 use Rattle.std.proofs.lemmas.Option.{slice_get_within}
 use native.Mathlib.Decide.{ℕ_discrete}
+use Rattle.player.proofs.Readings.{placed}
 use Rattle.arena.specs.declared.limits.Mode.{Mode}
 use Rattle.arena.specs.declared.layout.Layout.{Layout}
 use Rattle.arena.specs.declared.number.PassNo.{PassNo}
@@ -35,8 +36,8 @@ use Rattle.record.specs.declared.record.Row.TheVariants.{Step as Made, Idle}
 use Rattle.record.specs.declared.record.Reply.{Reply}
 use Rattle.record.specs.declared.record.Entry.{Entry}
 use Rattle.record.specs.declared.record.Answer.{Answer}
-use Rattle.record.specs.declared.record.Answer.TheVariants.{Snapshot, Finalized, Fail, Done, Lost, Same, Changed, Unlinked, Full}
-use Rattle.script.specs.declared.command.Command.TheVariants.{Llx as LlxOf, Scx as ScxOf, Vlx as VlxOf, Set as SetOf}
+use Rattle.record.specs.declared.record.Answer.TheVariants.{Snapshot, Finalized, Fail, Done, Lost, Same, Changed, Unlinked, Full, Value}
+use Rattle.script.specs.declared.command.Command.TheVariants.{Llx as LlxOf, Scx as ScxOf, Vlx as VlxOf, Set as SetOf, Get as GetOf}
 use Rattle.player.specs.declared.client.Client.{Client}
 use Rattle.player.specs.Lines.{newest}
 use Rattle.record.specs.Turns.{history, turns, entries, answered, begin, start, steps, won, last_client, entry_of, entry_owed, entry_at}
@@ -133,13 +134,14 @@ turn_ends lay calls words clients lines c settled is x = record { so_far = x.so_
 -- a line that no client waits for is written down
 pub so_far_same : (lay : Layout) (calls : List Call) (words : Contents) (lines : List Line) (line : Line) → history lay.mode (line ∷ lines) ≡ history lay.mode lines → IsNext lay calls lines line → IsLawfulSoFar lay calls words lines → IsLawfulSoFar lay calls words (line ∷ lines)
 unfolding AreLines
-so_far_same lay calls words lines line e next x = record { layout = x.layout; holds = λ w i. x.holds w i ∙ ap (λ (h : History). value h w) (sym e); sound = rw e x.sound; in_order = (x.in_order, next) }
+so_far_same lay calls words lines line e next x = record { layout = x.layout; holds = λ w i. x.holds w i ∙ ap (λ (h : History). value h w) (sym e); sound = rw e x.sound; in_order = (x.in_order, next); of_mode = x.of_mode }
 
 -- a step of the client: the words change as the row says
 pub step_made : (lay : Layout) (calls : List Call) (old new : Contents) (lines : List Line) (number : ℕ) (row : Row) → IsChanged old new row.word row.after → IsRun PlayedAllows lay (row ⊳ history lay.mode lines) → IsNext lay calls lines (Step (Made number row)) → IsLawfulSoFar lay calls old lines → IsLawfulSoFar lay calls new (Step (Made number row) ∷ lines)
 unfolding AreLines
 step_made lay calls old new lines number row changed run next x = record {
   layout = changed.layout ∙ x.layout;
+  of_mode = x.of_mode;
   holds = λ w i. go w i (same_word row.word w) refl;
   sound = run;
   in_order = (x.in_order, next);
@@ -239,11 +241,13 @@ moment_same Same first last said won x f = refl
 moment_same (Changed node scx) first last said won x f = refl
 moment_same (Unlinked node) first last said won x f = refl
 moment_same (Full what left) first last said won x f = refl
+moment_same (Value value) first last said won x f = refl
 
 -- and lies between the first turn and the last
 moment_within : (answer : Answer) (first last m : ℕ) (won : Option ℕ) → first ≤ last → ((turn : ℕ) → won ≡ Some turn → (first ≤ turn) × (turn ≤ last)) → moment_of answer first last won ≡ Some m → (first ≤ m) × (m ≤ last)
 moment_within Done first last m won i f e = f m e
 moment_within (Snapshot left right) first last m won i f e = let same : last ≡ m = some_turn last m e in (omega arith, omega arith)
+moment_within (Value value) first last m won i f e = let same : last ≡ m = some_turn last m e in (omega arith, omega arith)
 moment_within Finalized first last m won i f e = let same : last ≡ m = some_turn last m e in (omega arith, omega arith)
 moment_within Same first last m won i f e = let same : first ≡ m = some_turn first m e in (omega arith, omega arith)
 moment_within (Fail node scx) first last m won i f e = cc
@@ -310,7 +314,7 @@ replied lay calls words clients lines old new answer said reply command number f
       fits = rw e.answers o.fits;
       right = subst (λ (k : ℕ). IsRight lay k (history lay.mode lines) (start lay.mode lines k) (linked calls lay.mode lines k) command reply.answer) (sym client) (rw e.answers o.right);
       took = subst (λ (k : ℕ). HasTakenOne lay k (history lay.mode lines) (start lay.mode lines k)) (sym client) o.took;
-      moment = subst (λ (k : ℕ). reply.moment ≡ moment_of reply.answer reply.begin reply.end (won lay lines k)) (sym client) moment;
+      placed = placed lay calls words lines reply old.pass.0 command x.so_far (rw e.answers o.right) o.is (rw (e.begin, e.end, n) begins) (subst (λ (k : ℕ). reply.moment ≡ moment_of reply.answer reply.begin reply.end (won lay lines k)) (sym client) moment);
       within = within;
       entry = subst (λ (k : ℕ). HasItsEntry reply.answer (won lay lines k)) (sym client) (rw e.answers o.entry);
     }
@@ -343,6 +347,9 @@ is_refusal v (VlxOf cells) (Changed node scx) x = absurd x
 is_refusal v (VlxOf cells) (Full what left) x = absurd x
 is_refusal v (LlxOf cell) answer x = absurd x
 is_refusal v (SetOf field value) answer x = absurd x
+is_refusal v (GetOf key) answer x = absurd x
+is_refusal v (ScxOf update) (Value value) x = absurd x
+is_refusal v (VlxOf cells) (Value value) x = absurd x
 
 pub refused_turn : (lay : Layout) (calls : List Call) (words : Contents) (clients : List Client) (lines : List Line) (c new : Client) (number : ℕ) (pass : PassNo) (answer : Answer) (said : Option ℕ) (reply : Reply) → length calls ≤ 65536 → OwesNothing lay calls lines → IsTurnOf lay calls words clients lines c → Refuses (client_view lay calls lines c.pass.0) c answer → begin lines c.pass.0 ≡ None → c.begin ≡ number → number ≡ suc (turns lines) → pass ≡ c.pass → IsEnd calls c new number answer said reply → AreBetweenTurns lay calls words (set clients c.pass.0 new) (ReplyLine reply ∷ Step (Idle number pass) ∷ lines)
 refused_turn lay calls words clients lines c new number pass answer said reply few settled x r unbegun begins n is e =

@@ -1,5 +1,6 @@
 -- What a client has taken stays finished, but for the SCX-record that it has in hand.
 use Rattle.std.proofs.Common.{◌≡◌, ◌≢◌, ℕ, subst}
+use Rattle.tree.proofs.Lemmas.{get_fills_not}
 use Rattle.arena.specs.declared.step.Step.{Step as Ask}
 use Rattle.arena.specs.Share.{Remaining}
 use Rattle.arena.specs.History.{History, ◌⊳◌}
@@ -9,7 +10,7 @@ use Rattle.prims.specs.Cells.{AllowsAll}
 use Rattle.prims.specs.Laws.Begun.{TakesOnly, takes_by_step}
 use Rattle.prims.proofs.Lemmas.{put_takes, llx_fills_not, vlx_fills_not, untaken_node_by_step, put_untaken_node}
 use Rattle.player.specs.declared.run.Run.{Run}
-use Rattle.player.specs.declared.run.Run.TheVariants.{Llx, Scx, Vlx}
+use Rattle.player.specs.declared.run.Run.TheVariants.{Llx, Scx, Vlx, Get}
 use Rattle.record.specs.Answers.{HasTakenOne}
 use Rattle.player.specs.RunKnown.{RunWaits}
 use Rattle.player.specs.ClientView.{ClientView, Hand, HasTaken, in_hand}
@@ -19,11 +20,13 @@ pub takes_by_own : (run : Run) (call : Call) (left : Remaining) (h : History) (s
 takes_by_own (Llx m) call left h step w = takes_by_step call.layout call.pass left.next_scx h (row_of call step h) (llx_fills_not AllowsAll m call h step w)
 takes_by_own (Vlx m) call left h step w = takes_by_step call.layout call.pass left.next_scx h (row_of call step h) (vlx_fills_not m.snaps m.asked call h step w)
 takes_by_own (Scx m) call left h step w = put_takes AllowsAll m call h step w
+takes_by_own (Get m) call left h step w = takes_by_step call.layout call.pass left.next_scx h (row_of call step h) (get_fills_not m call h step w)
 
 pub nodes_by_own : (run : Run) (call : Call) (left : Remaining) (h : History) (step : Ask) → RunWaits run call h step → (n : ℕ) → n ≢ (in_hand left run).node → ¬ IsTakenNode h n → ¬ IsTakenNode (row_of call step h ⊳ h) n
 nodes_by_own (Llx m) call left h step w n other = untaken_node_by_step h (row_of call step h) n (llx_fills_not AllowsAll m call h step w)
 nodes_by_own (Vlx m) call left h step w n other = untaken_node_by_step h (row_of call step h) n (vlx_fills_not m.snaps m.asked call h step w)
 nodes_by_own (Scx m) call left h step w n other = put_untaken_node AllowsAll m call h step n w other
+nodes_by_own (Get m) call left h step w n other = untaken_node_by_step h (row_of call step h) n (get_fills_not m call h step w)
 
 -- what a client has in hand is all that it has taken in its call
 pub taken_one : (v : ClientView) (c : ℕ) (hand : Hand) → HasTaken v c hand → HasTakenOne v.layout c v.past v.start

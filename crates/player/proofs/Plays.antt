@@ -1,5 +1,5 @@
 -- What is true of a player before its first turn and after its last.
-use Rattle.std.proofs.Common.{◌≡◌, ℕ, ◌+◌, ◌<◌, List, [], ◌∷◌, length, map, reverse, take, get_or, Option, Some, slice_get, inl, inr, refl, ◌∙◌, ap}
+use Rattle.std.proofs.Common.{◌≡◌, ℕ, ◌+◌, ◌<◌, List, [], ◌∷◌, length, map, reverse, take, get_or, Option, Some, slice_get, All, inl, inr, refl, ◌∙◌, ap}
 use Rattle.std.proofs.lemmas.List.{map_more, reverse-append}
 use Rattle.arena.specs.declared.layout.Layout.{Layout}
 use Rattle.arena.specs.PlainWords.{Contents, IsOpening}
@@ -8,6 +8,8 @@ use Rattle.arena.specs.Lawful.{Lawful}
 use Rattle.arena.specs.Shape.{Shaped}
 use Rattle.histories.proofs.Lemmas.{fields_are, finalized_since, lawful_since, once}
 use Rattle.script.specs.declared.command.Call.{Call}
+use Rattle.script.specs.Commands.{mode_of}
+use Rattle.player.proofs.Readings.{whole}
 use Rattle.player.specs.declared.client.Client.{Client}
 use Rattle.player.specs.declared.player.Player.{Player}
 use Rattle.player.specs.Lines.{newest}
@@ -17,14 +19,15 @@ use Rattle.record.specs.LawfulRun.{AreLines, IsLawfulRun}
 use Rattle.player.specs.BetweenTurns.{AreBetweenTurns, IsBetweenTurns, AreWins}
 
 -- words as they are at the start, and clients that rest, are between two turns
-pub opening_between : (lay : Layout) (calls : List Call) (words : Contents) (all : List Client) → words.layout ≡ lay → IsOpening words → ((j : ℕ) (d : Client) → slice_get all j ≡ Some d → (d.pass.0 ≡ j) × Rests (client_view lay calls [] j) d) → AreBetweenTurns lay calls words all []
+pub opening_between : (lay : Layout) (calls : List Call) (words : Contents) (all : List Client) → words.layout ≡ lay → IsOpening words → All (λ (call : Call). mode_of call.command ≡ lay.mode) calls → ((j : ℕ) (d : Client) → slice_get all j ≡ Some d → (d.pass.0 ≡ j) × Rests (client_view lay calls [] j) d) → AreBetweenTurns lay calls words all []
 unfolding value Lawful Shaped AreLines
-opening_between lay calls words all same opening each = record {
+opening_between lay calls words rests same opening all each = record {
   so_far = record {
     layout = same;
     holds = λ w i. opening w (rw same i) ∙ rw same refl;
     sound = record { lawful = refl; shaped = tt };
     in_order = tt;
+    of_mode = all;
   };
   settled = record { entry = refl; reply = λ y. y };
   each = λ j d get. let y = each j d get in (y.0, inl (y.1, inr record { none = refl; start = refl; steps = refl; won = refl }));
@@ -44,6 +47,7 @@ played_record p x turns e = record {
   spell = λ past n side e. fields_are p.script.layout past n side (lawful_since p.script.layout (history p.script.layout.mode (newest p.lines)) past x.between.so_far.sound.lawful e);
   once = once p.script.layout (history p.script.layout.mode (newest p.lines)) x.between.so_far.sound.lawful;
   finalized = λ past n part ends final. finalized_since p.script.layout (history p.script.layout.mode (newest p.lines)) past n part x.between.so_far.sound.lawful ends final;
+  whole = whole p.script.layout p.script.calls.items p.words (newest p.lines) x.between.so_far;
 }
 
 -- one more element comes first in the reverse

@@ -1,6 +1,7 @@
 -- How an SCX begins: with the next records of the share, and with snapshots that may be used.
 use Rattle.std.proofs.Common.{◌≡◌, ℕ, ◌+◌, ◌<◌, ◌≤◌, ◌↔◌, map, ⊎_elim, true, cond, eqb, ne_eqb, List, [], ◌∷◌, length, if◌then◌else◌, Option, Some, None, slice_get, refl, sym, ◌∙◌, ap, subst, arith}
 use Rattle.std.proofs.Math.ListN.{set}
+use Rattle.arena.specs.TakenNodes.{taken_nodes}
 use Rattle.arena.specs.declared.layout.Layout.{Layout}
 use Rattle.arena.specs.declared.word.Side.{Side}
 use Rattle.arena.specs.Share.{Remaining, HasNode as HasOwnNode, HasScx, after_taking}
@@ -26,14 +27,14 @@ use Rattle.prims.specs.declared.llx.Llx.TheVariants.{Snapshot as LlxSnapshot}
 use Rattle.prims.specs.declared.scx.ScxAt.TheVariants.{Start as ScxStart}
 use Rattle.prims.specs.declared.put.PutAt.TheVariants.{Start as PutStart}
 use Rattle.script.specs.declared.command.Command.{Command}
-use Rattle.script.specs.declared.command.Command.TheVariants.{Llx as LlxOf, Scx as ScxOf, Vlx as VlxOf, Set as SetOf}
+use Rattle.script.specs.declared.command.Command.TheVariants.{Llx as LlxOf, Scx as ScxOf, Vlx as VlxOf, Set as SetOf, Get as GetOf}
 use Rattle.player.specs.declared.run.Run.TheVariants.{Llx, Scx}
 use Rattle.player.specs.declared.run.Ended.TheVariants as ended
 use Rattle.player.specs.declared.client.Client.{Client}
 use Rattle.player.specs.declared.client.Put.{Put}
 use Rattle.player.specs.declared.kept.Kept.{Kept}
 use Rattle.record.specs.declared.record.Answer.{Answer}
-use Rattle.record.specs.declared.record.Answer.TheVariants.{Snapshot, Finalized, Fail, Done, Lost, Same, Changed, Unlinked, Full}
+use Rattle.record.specs.declared.record.Answer.TheVariants.{Snapshot, Finalized, Fail, Done, Lost, Same, Changed, Unlinked, Full, Value}
 use Rattle.arena.specs.declared.fault.Resource.{Resource}
 use Rattle.arena.specs.declared.fault.Resource.TheVariants.{Nodes, Scx as ScxRecords}
 use Rattle.player.specs.KeptSnaps.{IsUnspent, kept_of, node_of, found_of}
@@ -76,6 +77,7 @@ full_answer lay h c left (Lost node scx) share full = absurd full
 full_answer lay h c left Same share full = absurd full
 full_answer lay h c left (Changed node scx) share full = absurd full
 full_answer lay h c left (Unlinked node) share full = absurd full
+full_answer lay h c left (Value value) share full = absurd full
 
 -- The SCX of a set
 
@@ -100,7 +102,7 @@ can_put v old kept m put snap sound x e = go x.works.command x.works.is x.works.
     unspent : IsUnspent v.layout old.pass.0 v.past snap v.past
     unspent = snapshot_unspent v old m (Some put) snap sound x
 
-    go : (command : Command) → slice_get (commands v.calls old.pass.0) v.answered ≡ Some command → IsLlxOf command m.node.0 (Some put) → ((taken : ℕ) → v.steps + 40 ≤ most_steps command taken) → CanPut v (linked_now v command) (record old { kept = kept }) (snap ∷ []) [] (snap.node.0, put.side) put.value
+    go : (command : Command) → slice_get (commands v.calls old.pass.0) v.answered ≡ Some command → IsLlxOf command m.node.0 (Some put) → ((taken : ℕ) → length (taken_nodes v.past) ≤ taken → v.steps + 40 ≤ most_steps command taken) → CanPut v (linked_now v command) (record old { kept = kept }) (snap ∷ []) [] (snap.node.0, put.side) put.value
     go (SetOf field y) is f few = record {
       mode = x.works.mode;
       rests = rests_kept v old kept m (Some put) (LlxSnapshot snap) (linked_now v (SetOf field y)) sound x e (λ n. rw (x.answers.0.node ∙ f.0) refl);
@@ -120,11 +122,12 @@ can_put v old kept m put snap sound x e = go x.works.command x.works.is x.works.
         side = z.side ∙ f.1;
         value = z.value ∙ f.2;
       };
-      few = few;
+      few = λ taken. few (length (taken_nodes v.past)) (omega arith);
     }
     go (LlxOf cell) is f few = absurd f
     go (ScxOf update) is f few = absurd f
     go (VlxOf cells) is f few = absurd f
+    go (GetOf key) is f few = absurd f
 
 -- what it answers then
 pub told_put : (v : ClientView) (old new : Client) (kept : Kept) (m : LlxRun) (put : Put) (snap : Snap) (answer : Option Answer) → (x : Answered v old (Llx m) (Some put) (ended.Llx (LlxSnapshot snap))) → Puts v (linked_now v x.works.command) (record old { kept = kept }) new answer → Told v old new answer
@@ -150,6 +153,7 @@ told_put v old new kept m put snap (Some answer) x p = go x.works.command x.work
     go (LlxOf cell) is f rests = absurd f
     go (ScxOf update) is f rests = absurd f
     go (VlxOf cells) is f rests = absurd f
+    go (GetOf key) is f rests = absurd f
 
 -- the same with what it has answered written out
 pub answered_put : (v : ClientView) (c : Client) (m : LlxRun) (next : Option Put) (put : Put) (a : LlxAnswer) (snap : Snap) → next ≡ Some put → a ≡ LlxSnapshot snap → Answered v c (Llx m) next (ended.Llx a) → Answered v c (Llx m) (Some put) (ended.Llx (LlxSnapshot snap))
@@ -210,7 +214,7 @@ put_starts v linked c snaps removed field x kept m sound can some_node some_scx 
       (rw scx y.share.taken_scx) free
       (rw fresh (left_own_node v.layout v.past c.pass.0 c.share _ _ c.share.next_node y.share own_node))
       (rw fresh y.share.taken_nodes) (rw fresh (y.share.unmentioned c.share.next_node own_node)) (rw fresh (y.share.untaken_nodes c.share.next_node own_node)) (all_over v.layout v.past c.pass.0 c.share _ _ y.share y.over);
-  few = λ taken. let few = can.few taken in omega (arith, bound);
+  few = λ taken i. let few = can.few taken in omega (arith, bound);
 }
   where
     y : IsClientState (record v { linked = linked }) c (no_hand c.share)

@@ -1,18 +1,26 @@
--- A player's run as one of cells, under whose shape their machines run, and back.
+-- A player's run as one of cells or of the tree, under whose shapes their machines run, and back.
 use Rattle.std.proofs.Common.{◌≡◌, subst, sym}
 use Rattle.arena.specs.declared.limits.Mode.{Mode}
-use Rattle.arena.specs.declared.limits.Mode.TheVariants.{Records}
+use Rattle.arena.specs.declared.limits.Mode.TheVariants.{Records, Tree}
 use Rattle.arena.specs.declared.layout.Layout.{Layout}
 use Rattle.arena.specs.History.{History}
 use Rattle.arena.specs.Machines.{IsRun}
 use Rattle.arena.proofs.Lemmas.{run_as}
 use Rattle.prims.specs.Cells.{AllowsAll}
+use Rattle.spelling.specs.TreeShape.{TreeAllows}
 use Rattle.player.specs.Allowed.{AllowsIn, PlayedAllows}
 
 -- cells ask nothing
-pub as_cells : (lay : Layout) (h : History) → IsRun PlayedAllows lay h → IsRun AllowsAll lay h
-as_cells lay h run = run_as PlayedAllows AllowsAll lay (λ k s a. tt) h run
+pub as_cells : (lay : Layout) (h : History) → lay.mode ≡ Records → IsRun PlayedAllows lay h → IsRun AllowsAll lay h
+as_cells lay h mode run = run_as PlayedAllows AllowsAll lay (λ k s a. tt) h run
 
 -- in records mode nothing else is asked
 pub as_played : (lay : Layout) (h : History) → lay.mode ≡ Records → IsRun AllowsAll lay h → IsRun PlayedAllows lay h
 as_played lay h mode run = run_as AllowsAll PlayedAllows lay (λ k s a. subst (λ (m : Mode). AllowsIn m lay k s) (sym mode) tt) h run
+
+-- in tree mode what the tree asks, and back
+pub as_tree : (lay : Layout) (h : History) → lay.mode ≡ Tree → IsRun PlayedAllows lay h → IsRun TreeAllows lay h
+as_tree lay h mode run = run_as PlayedAllows TreeAllows lay (λ k s a. subst (λ (m : Mode). AllowsIn m lay k s) mode a) h run
+
+pub as_played_tree : (lay : Layout) (h : History) → lay.mode ≡ Tree → IsRun TreeAllows lay h → IsRun PlayedAllows lay h
+as_played_tree lay h mode run = run_as TreeAllows PlayedAllows lay (λ k s a. subst (λ (m : Mode). AllowsIn m lay k s) (sym mode) a) h run

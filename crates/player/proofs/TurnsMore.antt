@@ -1,12 +1,16 @@
 -- What the turns of one client add.
-use Rattle.std.proofs.Common.{◌≡◌, ◌≢◌, ℕ, suc, ◌+◌, ◌-◌, ◌<◌, ◌≤◌, ◌⊎◌, inl, inr, Bool, true, false, cond, eqb, eqb-true, eq-eqb, append_assoc, length-append, List, [], ◌∷◌, ◌++◌, length, replicate, Option, Some, None, is_some, refl, sym, ◌∙◌, ap, subst, arith}
+use Rattle.std.proofs.Common.{◌≡◌, ◌≢◌, ℕ, suc, ◌+◌, ◌*◌, ◌-◌, ◌<◌, ◌≤◌, ◌⊎◌, inl, inr, Bool, true, false, cond, eqb, eqb-true, eq-eqb, append_assoc, length-append, List, [], ◌∷◌, ◌++◌, length, replicate, Option, Some, None, is_some, refl, sym, ◌∙◌, ap, subst, arith}
+use Rattle.std.proofs.Math.Nat.{mul-le-mul_left}
 use Rattle.std.proofs.lemmas.Option.{slice_get_within}
 use Rattle.std.proofs.lemmas.List.{length-take}
+use Rattle.histories.proofs.Lemmas.{lawful_tail}
+use Rattle.arena.proofs.Lemmas.{taken_few}
+use Rattle.arena.specs.Lawful.{Lawful}
 use Rattle.arena.specs.declared.layout.Layout.{Layout}
 use Rattle.arena.specs.declared.step.Kind.{Kind}
 use Rattle.script.specs.declared.command.Call.{Call}
 use Rattle.script.specs.declared.command.Command.{Command}
-use Rattle.script.specs.declared.command.Command.TheVariants.{Llx, Scx, Vlx, Set}
+use Rattle.script.specs.declared.command.Command.TheVariants.{Llx, Scx, Vlx, Set, Get}
 use Rattle.record.specs.declared.record.Line.{Line}
 use Rattle.record.specs.declared.record.Line.TheVariants.{Step, Log, Reply}
 use Rattle.record.specs.declared.record.Reply.{Reply as ReplyOf}
@@ -23,7 +27,7 @@ use Rattle.record.specs.LawfulRun.{OwesNothing, AreLines}
 use Rattle.record.specs.Replies.{IsReply}
 use Rattle.player.specs.BetweenTurns.{IsBetweenTurns, IsSameScript, IsTurnMore}
 use Rattle.record.specs.OneClient.{HasCall, AwaitsSteps, AreMadeWhile}
-use Rattle.player.specs.TurnsMore.{AreTurnsWhile, to_go}
+use Rattle.player.specs.TurnsMore.{AreTurnsWhile, most_of_all, to_go}
 
 -- One turn
 
@@ -153,40 +157,57 @@ moves lay calls c older row (Step row' ∷ behind) x settled quiet own has = abs
 moves lay calls c older row (Log entry ∷ Step row' ∷ behind) x settled quiet own has = absurd cc
 moves lay calls c older row (Reply reply ∷ Step row' ∷ behind) x settled quiet own has = absurd cc
 
--- no call may make more steps than a set
-most_few : (command : Command) (taken : ℕ) → most_steps command taken ≤ 104
-most_few (Llx cell) taken = omega arith
-most_few (Scx update) taken = omega arith
-most_few (Vlx cells) taken = let few = cells.few in grind (arith, length-take)
-most_few (Set field value) taken = omega arith
+-- no call may make more steps than these
+most_few : (lay : Layout) (command : Command) (taken : ℕ) → taken ≤ lay.passes * lay.nodes → most_steps command taken ≤ most_of_all lay
+most_few lay (Llx cell) taken i = omega arith
+most_few lay (Scx update) taken i = omega arith
+most_few lay (Vlx cells) taken i = let few = cells.few in grind (arith, length-take)
+most_few lay (Set field value) taken i = omega arith
+most_few lay (Get key) taken i = omega (arith, i)
 
 -- so the client of a lawful run has made few since its last reply
-steps_few : (lay : Layout) (calls : List Call) (lines : List Line) (c : ℕ) → AreLines lay calls lines → steps lines c ≤ 104
+steps_few : (lay : Layout) (calls : List Call) (lines : List Line) (c : ℕ) → Lawful lay (history lay.mode lines) → AreLines lay calls lines → steps lines c ≤ most_of_all lay
 unfolding AreLines
-steps_few lay calls [] c x = omega arith
-steps_few lay calls (Step (Made number row) ∷ lines) c x = go (eqb row.pass.0 c) refl (steps_few lay calls lines c x.0)
+steps_few lay calls [] c l x = omega arith
+steps_few lay calls (Step (Made number row) ∷ lines) c l x = go (eqb row.pass.0 c) refl (steps_few lay calls lines c before x.0)
   where
-    go : (b : Bool) → eqb row.pass.0 c ≡ b → steps lines c ≤ 104 → cond b (suc (steps lines c)) (steps lines c) ≤ 104
-    go true e before = let few = x.1.1.few in let most = most_few x.1.1.command (length (taken_nodes (history lay.mode lines))) in rw (sym (eqb-true row.pass.0 c e)) (omega arith)
-    go false e before = before
-steps_few lay calls (Step (Idle number client) ∷ lines) c x = steps_few lay calls lines c x.0
-steps_few lay calls (Log entry ∷ lines) c x = steps_few lay calls lines c x.0
-steps_few lay calls (Reply reply ∷ lines) c x = go (eqb reply.client.0 c) (steps_few lay calls lines c x.0)
+    before : Lawful lay (history lay.mode lines)
+    before = lawful_tail lay (history lay.mode lines) row l
+
+    go : (b : Bool) → eqb row.pass.0 c ≡ b → steps lines c ≤ most_of_all lay → cond b (suc (steps lines c)) (steps lines c) ≤ most_of_all lay
+    go true e many = let few = x.1.1.few in let most = most_few lay x.1.1.command (length (taken_nodes (history lay.mode lines))) (taken_few lay (history lay.mode lines) before) in rw (sym (eqb-true row.pass.0 c e)) (omega arith)
+    go false e many = many
+steps_few lay calls (Step (Idle number client) ∷ lines) c l x = steps_few lay calls lines c l x.0
+steps_few lay calls (Log entry ∷ lines) c l x = steps_few lay calls lines c l x.0
+steps_few lay calls (Reply reply ∷ lines) c l x = go (eqb reply.client.0 c) (steps_few lay calls lines c l x.0)
   where
-    go : (b : Bool) → steps lines c ≤ 104 → cond b 0 (steps lines c) ≤ 104
+    go : (b : Bool) → steps lines c ≤ most_of_all lay → cond b 0 (steps lines c) ≤ most_of_all lay
     go true before = omega arith
     go false before = before
 
+one_call : (most a : ℕ) → suc most * suc a ≡ suc most * a + suc most
+one_call most a = grind arith
+
+-- one more call fits below a larger number of calls
+call_fits : (most a b : ℕ) → a < b → suc most * a + suc most ≤ suc most * b
+call_fits most a b i = let fits : suc most * suc a ≤ suc most * b = mul-le-mul_left (suc most) (omega arith) in rw (one_call most a) at fits
+
 -- a client that makes a step or gets its reply has less to go
-nearer : (calls : List Call) (c : ℕ) (old new : List Line) → HasCall calls c old → steps old c ≤ 104 → Moves c old new → to_go calls c new < to_go calls c old
-nearer calls c old new has few m =
+nearer : (lay : Layout) (calls : List Call) (c : ℕ) (old new : List Line) → HasCall calls c old → steps old c ≤ most_of_all lay → Moves c old new → to_go lay calls c new < to_go lay calls c old
+nearer lay calls c old new has few m =
     let x = some_value (next_command calls old c) has in
     let below : answered old c < length (commands calls c) = slice_get_within (commands calls c) (answered old c) x.0 x.1 in
-    go below m
+    go (call_fits (most_of_all lay) (answered old c) (length (commands calls c)) below) (one_call (most_of_all lay) (answered old c)) m
   where
-    go : answered old c < length (commands calls c) → Moves c old new → to_go calls c new < to_go calls c old
-    go below (inl y) = rw (y.0, y.1) (omega arith)
-    go below (inr y) = rw (y.0, y.1) (omega arith)
+    less : (a b s most : ℕ) → a + suc most ≤ b → s ≤ most → b - (a + suc s) < b - (a + s)
+    less a b s most i j = omega arith
+
+    next : (a b s most : ℕ) → a + suc most ≤ b → s ≤ most → b - (a + suc most + 0) < b - (a + s)
+    next a b s most i j = omega arith
+
+    go : suc (most_of_all lay) * answered old c + suc (most_of_all lay) ≤ suc (most_of_all lay) * length (commands calls c) → suc (most_of_all lay) * suc (answered old c) ≡ suc (most_of_all lay) * answered old c + suc (most_of_all lay) → Moves c old new → to_go lay calls c new < to_go lay calls c old
+    go fits more (inl y) = rw (y.0, y.1) (less (suc (most_of_all lay) * answered old c) (suc (most_of_all lay) * length (commands calls c)) (steps old c) (most_of_all lay) fits few)
+    go fits more (inr y) = rw (y.0, y.1, more) (next (suc (most_of_all lay) * answered old c) (suc (most_of_all lay) * length (commands calls c)) (steps old c) (most_of_all lay) fits few)
 
 -- a turn of a player's client that has a call left
 pub turn_moves : (so : List Line → Type 0) (c : ℕ) (old p q : Player) (row : Row) → AreTurnsWhile so c old p → HasCall (calls_of old) c (lines_of p) → IsTurnMore p q c row → Moves c (lines_of p) (lines_of q)
@@ -197,8 +218,8 @@ turn_moves so c old p q row x has t = subst (λ (l : List Line). Moves c (lines_
     only = only_turn t.behind row (lines_of p) c (ap (λ (l : List Line). clients l) (sym t.lines) ∙ t.turns)
 
 -- so each of its turns leaves it less to go
-pub turn_nearer : (so : List Line → Type 0) (c : ℕ) (old p q : Player) (row : Row) → AreTurnsWhile so c old p → HasCall (calls_of old) c (lines_of p) → IsTurnMore p q c row → to_go (calls_of old) c (lines_of q) < to_go (calls_of old) c (lines_of p)
-turn_nearer so c old p q row x has t = nearer (calls_of old) c (lines_of p) (lines_of q) has (steps_few p.script.layout (calls_of p) (lines_of p) c x.played.between.so_far.in_order) (turn_moves so c old p q row x has t)
+pub turn_nearer : (so : List Line → Type 0) (c : ℕ) (old p q : Player) (row : Row) → AreTurnsWhile so c old p → HasCall (calls_of old) c (lines_of p) → IsTurnMore p q c row → to_go old.script.layout (calls_of old) c (lines_of q) < to_go old.script.layout (calls_of old) c (lines_of p)
+turn_nearer so c old p q row x has t = nearer old.script.layout (calls_of old) c (lines_of p) (lines_of q) has (subst (λ (lay : Layout). steps (lines_of p) c ≤ most_of_all lay) x.script.layout (steps_few p.script.layout (calls_of p) (lines_of p) c x.played.between.so_far.sound.lawful x.played.between.so_far.in_order)) (turn_moves so c old p q row x has t)
 
 -- a client that had no reply more has at most one
 pub replies_more : (n c : ℕ) (old new : List Line) → answered old c ≡ n → Moves c old new → (answered new c ≡ n) ⊎ (answered new c ≡ suc n)

@@ -1,5 +1,6 @@
 -- What each row leaves of what the clients know.
 use Rattle.std.proofs.Common.{◌≡◌, ◌≢◌, ℕ, suc, ◌≤◌, ◌⊎◌, inl, inr, ⊎_elim, Option, Some, None, List, refl, sym, ◌∙◌, subst, arith}
+use Rattle.tree.proofs.Lemmas.{get_fills_not}
 use Rattle.arena.specs.declared.layout.Layout.{Layout}
 use Rattle.arena.specs.declared.step.Row.{Row}
 use Rattle.arena.specs.declared.step.Step.{Step as Ask}
@@ -7,7 +8,7 @@ use Rattle.arena.specs.Share.{Remaining}
 use Rattle.arena.specs.Words.{word_after}
 use Rattle.arena.specs.History.{History, ◌⊳◌, value, Extends}
 use Rattle.arena.specs.Blame.{IsMember, IsInProgress}
-use Rattle.arena.proofs.Lemmas.{last_more, ends_self}
+use Rattle.arena.proofs.Lemmas.{last_more, ends_self, taken_more}
 use Rattle.arena.specs.Fills.{IsOwnNode, IsOwnScx, IsTakenNode, IsTakenScx}
 use Rattle.arena.specs.Lawful.{Lawful, HasWon}
 use Rattle.arena.specs.Machines.{Call, IsTold, row_of}
@@ -20,18 +21,18 @@ use Rattle.prims.specs.Snaps.{IsAmong}
 use Rattle.prims.specs.Snap.{snap_at}
 use Rattle.prims.specs.declared.snap.Snap.{Snap}
 use Rattle.script.specs.declared.command.Command.{Command}
-use Rattle.script.specs.declared.command.Command.TheVariants.{Llx as LlxOf, Scx as ScxOf, Vlx as VlxOf, Set as SetOf}
+use Rattle.script.specs.declared.command.Command.TheVariants.{Llx as LlxOf, Scx as ScxOf, Vlx as VlxOf, Set as SetOf, Get as GetOf}
 use Rattle.player.specs.declared.run.Run.{Run}
-use Rattle.player.specs.declared.run.Run.TheVariants.{Llx, Scx, Vlx}
+use Rattle.player.specs.declared.run.Run.TheVariants.{Llx, Scx, Vlx, Get}
 use Rattle.player.specs.declared.client.Client.{Client}
 use Rattle.player.specs.declared.client.Running.{Running}
 use Rattle.player.specs.declared.client.Put.{Put}
 use Rattle.player.specs.declared.kept.Found.{Found}
 use Rattle.player.specs.KeptSnaps.{IsUnspent, kept_of, snap_of}
 use Rattle.record.specs.Answers.{HasRoom}
-use Rattle.player.specs.RunKnown.{RunWaits, RunIsReady, run_keeps, run_lawful, run_made}
+use Rattle.player.specs.RunKnown.{RunWaits, RunIsReady}
+use Rattle.player.proofs.RunLaws.{run_keeps, run_lawful, run_made}
 use Rattle.player.specs.ClientView.{ClientView, Hand, no_hand, in_hand, snaps_of, IsSound, HasNewest, IsStart, IsSource, IsMachineOf, HasTaken, HaveMoments, IsRoomy, IsWonAs, IsWonBy, IsClientState, Rests, Works, Waits, Hears, IsClient, machine_call}
-use Rattle.player.proofs.Shapes.{as_cells, as_played}
 use Rattle.prims.specs.Shares.{IsShare}
 use Rattle.player.proofs.Over.{takes_by_own, nodes_by_own}
 use Rattle.prims.specs.declared.put.PutRun.{PutRun}
@@ -45,6 +46,7 @@ some_number a b e = cc
 pub share_by_own : (run : Run) (call : Call) (h : History) (step : Ask) (left : Remaining) (node scx : ℕ) → Lawful call.layout (row_of call step h ⊳ h) → RunWaits run call h step → HasNewest left run → IsShare call.layout h call.pass left node scx → IsShare call.layout (row_of call step h ⊳ h) call.pass left node scx
 share_by_own (Llx m) call h step left node scx l w newest x = share_by_step call.layout h (row_of call step h) call.pass left node scx l (llx_fills_not AllowsAll m call h step w) x
 share_by_own (Vlx m) call h step left node scx l w newest x = share_by_step call.layout h (row_of call step h) call.pass left node scx l (vlx_fills_not m.snaps m.asked call h step w) x
+share_by_own (Get m) call h step left node scx l w newest x = share_by_step call.layout h (row_of call step h) call.pass left node scx l (get_fills_not m call h step w) x
 share_by_own (Scx m) call h step left node scx l w newest x = share_by_put AllowsAll m call h step left node scx l w newest.0 newest.1 x
 
 -- the view with one row more, with this begin of the call, so many steps of its own, and this turn of its update
@@ -72,11 +74,13 @@ covers_none lay h c left node scx l share n own p m = absurd (next_idle lay h c 
 covers_waits : (run : Run) (call : Call) (h : History) (step : Ask) (left : Remaining) → Lawful call.layout h → RunWaits run call h step → IsShare call.layout h call.pass left (in_hand left run).node (in_hand left run).scx → Covers call.layout h call.pass (in_hand left run)
 covers_waits (Llx m) call h step left l w share = covers_none call.layout h call.pass left _ _ l share
 covers_waits (Vlx m) call h step left l w share = covers_none call.layout h call.pass left _ _ l share
+covers_waits (Get m) call h step left l w share = covers_none call.layout h call.pass left _ _ l share
 covers_waits (Scx m) call h step left l w share = λ n own p x. put_covers AllowsAll m call h step n w p x
 
 covers_ready : (run : Run) (call : Call) (h : History) (v : ℕ) (left : Remaining) → Lawful call.layout h → RunIsReady run call h (Some v) → IsShare call.layout h call.pass left (in_hand left run).node (in_hand left run).scx → Covers call.layout h call.pass (in_hand left run)
 covers_ready (Llx m) call h v left l w share = covers_none call.layout h call.pass left _ _ l share
 covers_ready (Vlx m) call h v left l w share = covers_none call.layout h call.pass left _ _ l share
+covers_ready (Get m) call h v left l w share = covers_none call.layout h call.pass left _ _ l share
 covers_ready (Scx m) call h v left l w share = λ n own p x. put_covers_then AllowsAll m call h v n w p x
 
 -- One more row
@@ -151,6 +155,7 @@ module _ (v : ClientView) (c : Client) (r : Row) (number : ℕ) (start : History
   won_more_by (Scx m) x w = won_as (in_hand c.share (Scx m)) x w
   won_more_by (Llx m) x w = no_win (no_hand c.share) x refl w
   won_more_by (Vlx m) x w = no_win (no_hand c.share) x refl w
+  won_more_by (Get m) x w = no_win (no_hand c.share) x refl w
 
   late_more : c.begin ≤ number → ((turn : ℕ) → v.won ≡ Some turn → c.begin ≤ turn) → (turn : ℕ) → won ≡ Some turn → c.begin ≤ turn
   late_more i f turn e = ⊎_elim (λ q. f turn (sym q ∙ e)) (λ y. let same : number ≡ turn = some_number number turn (sym y.0 ∙ e) in rw same at i) tells.no
@@ -166,13 +171,16 @@ module _ (v : ClientView) (c : Client) (r : Row) (number : ℕ) (start : History
       source_more (ScxOf update) n moment y = y
       source_more (VlxOf cells) n moment y = y
       source_more (LlxOf cell) n moment y = y
+      source_more (GetOf key) n moment y = y
 
   -- an LLX has no snapshots yet, and those of a VLX are kept ones
   moments_by : (q : Run) (then : Option Put) (command : Command) → start ≡ v.start → ((m : PutRun) → q ≡ Scx m → r.pass.0 ≡ c.pass.0 → r.kind ≢ LoadInfo) → IsMachineOf command c.number q then → HaveMoments v c.pass.0 command (snaps_of q) → HaveMoments (after_row v r start steps won) c.pass.0 command (snaps_of q)
   moments_by (Llx m) then command since looks of x = λ i p. absurd (omega arith)
   moments_by (Scx m) then command since looks of x = moments_more command m.scx.update.snaps since (looks m refl) x
   moments_by (Vlx m) then (VlxOf cells) since looks of x = λ i p. let y = x i p in record { moment = y.moment; found = moment_more v.layout v.past r (snap_at m.snaps i) y.moment y.found; source = y.source }
+  moments_by (Get m) then command since looks of x = λ i p. absurd (omega arith)
   moments_by (Vlx m) then (LlxOf cell) since looks of x = absurd of
+  moments_by (Vlx m) then (GetOf key) since looks of x = absurd of
   moments_by (Vlx m) then (ScxOf update) since looks of x = absurd of
   moments_by (Vlx m) then (SetOf field x) since looks of y = absurd of
 
@@ -186,6 +194,7 @@ module _ (v : ClientView) (c : Client) (r : Row) (number : ℕ) (start : History
   roomy (Scx m) e y = subst (λ (k : History). HasRoom v.layout c.pass.0 k) (sym e) y
   roomy (Llx m) e y = tt
   roomy (Vlx m) e y = tt
+  roomy (Get m) e y = tt
 
   -- a machine still runs
   works_more : (q : Run) (then : Option Put) → start ≡ v.start → c.begin ≤ number → ((m : PutRun) → q ≡ Scx m → r.pass.0 ≡ c.pass.0 → r.kind ≢ LoadInfo) → TakesOnly v.layout c.pass.0 (in_hand c.share q).scx v.past r → ((n : ℕ) → IsOwnNode v.layout c.pass.0 n → n ≢ (in_hand c.share q).node → ¬ IsTakenNode v.past n → ¬ IsTakenNode (r ⊳ v.past) n) → IsClientState (after_row v r start steps won) c (in_hand c.share q) → Works v c q then → Works (after_row v r start steps won) c q then
@@ -226,10 +235,10 @@ module _ (v : ClientView) (c : Client) (r : Row) (number : ℕ) (start : History
   client_by_others began f g (inl (x, inr u)) = inl (rests_by_others x, inr record { none = u.none; start = f u.none; steps = u.steps; won = no_win v c r number start v.steps won sound run tells (no_hand c.share) x.stands refl u.won })
   client_by_others began f g (inr (q, is, w, e)) =
       let call = machine_call v c w.works.is_pass w.works.start in
-      let waits = run_keeps q.run call v.past q.step r (as_cells v.layout (r ⊳ v.past) run) other w.waits in
+      let waits = run_keeps q.run call v.past q.step r w.works.mode run other w.waits in
       let hand = in_hand c.share q.run in
       let stands = stands_by_others hand (covers_waits q.run call (r ⊳ v.past) q.step c.share run.lawful waits (share_then hand w.works.stands)) w.works.stands in
-      inr (q, is, record { works = works_more v c r number start v.steps won sound run tells q.run q.then (g c.begin e).0 (g c.begin e).1 (λ m z own. absurd (other own)) (takes_by_others v.layout c.pass.0 hand.scx v.past r run.lawful other) (λ n own d. untaken_node_by_others v.layout v.past r c.pass.0 n run.lawful other own) stands w.works; waits = waits; few = w.few }, e)
+      inr (q, is, record { works = works_more v c r number start v.steps won sound run tells q.run q.then (g c.begin e).0 (g c.begin e).1 (λ m z own. absurd (other own)) (takes_by_others v.layout c.pass.0 hand.scx v.past r run.lawful other) (λ n own d. untaken_node_by_others v.layout v.past r c.pass.0 n run.lawful other own) stands w.works; waits = waits; few = λ taken i. w.few taken (let more = taken_more v.past r in omega (arith, i)) }, e)
 
 -- Its own step
 
@@ -241,14 +250,14 @@ module _ (v : ClientView) (c : Client) (q : Running) (sound : IsSound v) (w : Wa
   hand = in_hand c.share q.run
 
   pub step_sound : (won : Option ℕ) → IsSound (after_row v (own_row v c q.step) v.start (suc v.steps) won)
-  step_sound won = as_played v.layout (own_row v c q.step ⊳ v.past) w.works.mode (run_lawful q.run call v.past q.step (as_cells v.layout v.past sound) w.waits)
+  step_sound won = run_lawful q.run call v.past q.step w.works.mode sound w.waits
 
   -- the machine may be told what the step found
   pub hears : (number : ℕ) (won : Option ℕ) → TellsWon v c.pass.0 (own_row v c q.step) number won → c.begin ≤ number → (found : ℕ) → IsTold q.step.access (value v.past q.step.word) found → Hears (after_row v (own_row v c q.step) v.start (suc v.steps) won) c q found
   unfolding works_more
   hears number won tells late found told =
       let run = step_sound won in
-      let ready = run_made q.run call v.past q.step found (as_cells v.layout (own_row v c q.step ⊳ v.past) run) told w.waits in
+      let ready = run_made q.run call v.past q.step found w.works.mode run told w.waits in
       let share = share_by_own q.run call v.past q.step c.share _ _ run.lawful w.waits w.works.newest w.works.stands.share in
       let stands = stands_more v c (own_row v c q.step) v.start (suc v.steps) won hand run share (over_more v.layout c.pass.0 hand.scx v.past (own_row v c q.step) run.lawful (takes_by_own q.run call c.share v.past q.step w.waits) w.works.stands.over) (covers_ready q.run call (own_row v c q.step ⊳ v.past) found c.share run.lawful ready share) w.works.stands in
-      record { works = works_more v c (own_row v c q.step) number v.start (suc v.steps) won sound run tells q.run q.then refl late (λ m z own. put_looks_not AllowsAll m call v.past q.step (subst (λ (k : Run). RunWaits k call v.past q.step) z w.waits)) (takes_by_own q.run call c.share v.past q.step w.waits) (λ n own d. nodes_by_own q.run call c.share v.past q.step w.waits n d) stands w.works; ready = ready; few = λ taken. let few = w.few taken in omega arith }
+      record { works = works_more v c (own_row v c q.step) number v.start (suc v.steps) won sound run tells q.run q.then refl late (λ m z own. put_looks_not AllowsAll m call v.past q.step (subst (λ (k : Run). RunWaits k call v.past q.step) z w.waits)) (takes_by_own q.run call c.share v.past q.step w.waits) (λ n own d. nodes_by_own q.run call c.share v.past q.step w.waits n d) stands w.works; ready = ready; few = λ taken i. let few = w.few taken (let more = taken_more v.past (own_row v c q.step) in omega (arith, i)) in omega arith }

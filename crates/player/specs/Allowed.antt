@@ -5,12 +5,12 @@ use Rattle.arena.specs.declared.limits.Mode.TheVariants.{Records, Tree}
 use Rattle.arena.specs.declared.layout.Layout.{Layout}
 use Rattle.arena.specs.History.{History}
 use Rattle.prims.specs.Cells.{AllowsAll}
+use Rattle.spelling.specs.TreeShape.{TreeAllows}
 
--- which SCX-records may begin in this mode: in cells all; in
--- tree mode none, as no call there begins one yet
+-- which SCX-records may begin in this mode: in cells all, in the tree those of its edits
 abbrev pub AllowsIn : Mode → Layout → History → ℕ → Type 0
 AllowsIn Records lay h s = AllowsAll lay h s
-AllowsIn Tree lay h s = ⊥
+AllowsIn Tree lay h s = TreeAllows lay h s
 
 -- which SCX-records may begin in a player's run: those that the mode of its layout allows
 abbrev pub PlayedAllows : Layout → History → ℕ → Type 0

@@ -1,5 +1,5 @@
 -- What is true of a player between two turns, and in the middle of one.
-use Rattle.std.specs.Prelude.{◌≡◌, ◌≢◌, ℕ, suc, ◌⊎◌, List, ◌∷◌, set, Option, Some, None, slice_get, ◌++◌}
+use Rattle.std.specs.Prelude.{◌≡◌, ◌≢◌, ℕ, suc, ◌⊎◌, List, ◌∷◌, set, Option, Some, None, slice_get, ◌++◌, All}
 use Rattle.arena.specs.declared.layout.Layout.{Layout}
 use Rattle.arena.specs.declared.word.Word.{Word}
 use Rattle.arena.specs.Layout.{IsWord}
@@ -8,6 +8,7 @@ use Rattle.arena.specs.History.{value}
 use Rattle.arena.specs.Machines.{IsRun}
 use Rattle.script.specs.declared.command.Call.{Call}
 use Rattle.script.specs.declared.script.Script.{Script}
+use Rattle.script.specs.Commands.{mode_of}
 use Rattle.arena.specs.declared.step.Step.{Step as Ask}
 use Rattle.arena.specs.declared.step.Row.{Row}
 use Rattle.record.specs.declared.record.Line.{Line}
@@ -33,6 +34,8 @@ pub record IsLawfulSoFar (lay : Layout) (calls : List Call) (words : Contents) (
   pub holds : (w : Word) → IsWord lay w → word_at words w ≡ value (history lay.mode lines) w
   pub sound : IsRun PlayedAllows lay (history lay.mode lines)
   pub in_order : AreLines lay calls lines
+  -- each call has a command of the mode
+  pub of_mode : All (λ call. mode_of call.command ≡ lay.mode) calls
 
 -- each client but the i-th is as the lines say
 abbrev pub AreOthers : Layout → List Call → List Client → List Line → ℕ → Type 0

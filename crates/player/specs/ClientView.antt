@@ -1,6 +1,7 @@
 -- What a client knows at a moment of the run, and what a turn of it leaves.
 use Rattle.std.specs.Prelude.{◌≡◌, ◌≢◌, ℕ, suc, ◌+◌, ◌^◌, ◌<◌, ◌≤◌, ◌⊎◌, ◌↔◌, true, List, [], ◌∷◌, length, drop, Option, Some, None, slice_get}
 use Rattle.std.specs.List.{Contains}
+use Rattle.arena.specs.TakenNodes.{taken_nodes}
 use Rattle.arena.specs.declared.word.Side.{Side}
 use Rattle.arena.specs.declared.limits.Mode.TheVariants.{Records}
 use Rattle.arena.specs.declared.layout.Layout.{Layout}
@@ -20,14 +21,14 @@ use Rattle.prims.specs.declared.put.PutRun.{PutRun}
 use Rattle.prims.specs.declared.snap.Snap.{Snap}
 use Rattle.script.specs.declared.command.Call.{Call}
 use Rattle.script.specs.declared.command.Command.{Command}
-use Rattle.script.specs.declared.command.Command.TheVariants.{Llx as LlxOf, Scx as ScxOf, Vlx as VlxOf, Set as SetOf}
+use Rattle.script.specs.declared.command.Command.TheVariants.{Llx as LlxOf, Scx as ScxOf, Vlx as VlxOf, Set as SetOf, Get as GetOf}
 use Rattle.record.specs.declared.record.Line.{Line}
 use Rattle.record.specs.declared.record.Answer.{Answer}
 use Rattle.script.specs.Cells.{cells_of}
 use Rattle.script.specs.Update.{update_cells, update_finalize, update_field, update_value}
 use Rattle.record.specs.declared.record.Answer.TheVariants.{Full}
 use Rattle.player.specs.declared.run.Run.{Run}
-use Rattle.player.specs.declared.run.Run.TheVariants.{Llx, Scx, Vlx}
+use Rattle.player.specs.declared.run.Run.TheVariants.{Llx, Scx, Vlx, Get}
 use Rattle.player.specs.declared.client.Client.{Client}
 use Rattle.player.specs.declared.client.Running.{Running}
 use Rattle.player.specs.declared.client.Put.{Put}
@@ -120,11 +121,17 @@ abbrev pub IsVlxOf : Command → List Snap → Option Put → Type 0
 IsVlxOf (VlxOf cells) snaps None = nodes_of snaps ≡ cells_of cells
 IsVlxOf _ snaps _ = ⊥
 
+-- a machine over this key serves a `get` of it
+abbrev pub IsGetOf : Command → ℕ → Option Put → Type 0
+IsGetOf (GetOf key) k None = k ≡ key
+IsGetOf _ k then = ⊥
+
 -- the machine, with what follows it, is that of the command in the client's call of this number
 abbrev pub IsMachineOf : Command → ℕ → Run → Option Put → Type 0
 IsMachineOf command number (Llx m) then = (m.node.0 ≤ 8) × IsLlxOf command m.node.0 then
 IsMachineOf command number (Scx m) then = IsScxOf command number m then
 IsMachineOf command number (Vlx m) then = IsVlxOf command m.snaps then
+IsMachineOf command number (Get m) then = IsGetOf command m.walk.key then
 
 -- a client between two turns, but for its machine: its next call is the first that is not answered
 pub record IsClientState (v : ClientView) (c : Client) (hand : Hand) : Type 0 where
@@ -164,6 +171,7 @@ abbrev pub snaps_of : Run → List Snap
 snaps_of (Llx m) = []
 snaps_of (Scx m) = m.scx.update.snaps
 snaps_of (Vlx m) = m.snaps
+snaps_of (Get m) = []
 
 -- the moment is that of the snapshot of node n: for a `set` one of the call itself, else that of
 -- the snapshot which the client keeps
@@ -235,26 +243,26 @@ pub record Starts (v : ClientView) (c : Client) (run : Run) (then : Option Put) 
   pub works : Works v c run then
   pub none : c.running ≡ None
   pub ready : RunIsReady run (machine_call v c works.is_pass works.start) v.past None
-  pub few : (taken : ℕ) → v.steps + left_of run then ≤ most_steps works.command taken
+  pub few : (taken : ℕ) → length (taken_nodes v.past) ≤ taken → v.steps + left_of run then taken ≤ most_steps works.command taken
 
 -- the machine has answered
 pub record Answered (v : ClientView) (c : Client) (run : Run) (then : Option Put) (ended : Ended) : Type 0 where
   pub works : Works v c run then
   pub none : c.running ≡ None
   pub answers : RunAnswers run (machine_call v c works.is_pass works.start) v.past ended
-  pub few : (taken : ℕ) → v.steps + then_left then ≤ most_steps works.command taken
+  pub few : (taken : ℕ) → length (taken_nodes v.past) ≤ taken → v.steps + then_left then ≤ most_steps works.command taken
 
 -- the machine waits for a step
 pub record Waits (v : ClientView) (c : Client) (running : Running) : Type 0 where
   pub works : Works v c running.run running.then
   pub waits : RunWaits running.run (machine_call v c works.is_pass works.start) v.past running.step
-  pub few : (taken : ℕ) → suc (v.steps + left_of running.run running.then) ≤ most_steps works.command taken
+  pub few : (taken : ℕ) → length (taken_nodes v.past) ≤ taken → suc (v.steps + left_of running.run running.then taken) ≤ most_steps works.command taken
 
 -- the machine may be called with what its step has found
 pub record Hears (v : ClientView) (c : Client) (running : Running) (found : ℕ) : Type 0 where
   pub works : Works v c running.run running.then
   pub ready : RunIsReady running.run (machine_call v c works.is_pass works.start) v.past (Some found)
-  pub few : (taken : ℕ) → v.steps + left_of running.run running.then ≤ most_steps works.command taken
+  pub few : (taken : ℕ) → length (taken_nodes v.past) ≤ taken → v.steps + left_of running.run running.then taken ≤ most_steps works.command taken
 
 -- the client's next call has not begun
 pub record IsUnbegun (v : ClientView) (began : Option ℕ) : Type 0 where

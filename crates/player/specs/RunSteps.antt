@@ -3,15 +3,17 @@ use Rattle.std.specs.Prelude.{ℕ, ◌+◌, Option, Some, None}
 use Rattle.prims.specs.Llx.Steps.{llx_left}
 use Rattle.prims.specs.Put.Steps.{put_left}
 use Rattle.prims.specs.Vlx.Steps.{vlx_left}
+use Rattle.template.specs.Walk.Steps.{walk_left}
 use Rattle.player.specs.declared.client.Put.{Put}
 use Rattle.player.specs.declared.run.Run.{Run}
-use Rattle.player.specs.declared.run.Run.TheVariants.{Llx, Scx, Vlx}
+use Rattle.player.specs.declared.run.Run.TheVariants.{Llx, Scx, Vlx, Get}
 
--- how many steps the machine of a call may still ask for
-abbrev pub run_left : Run → ℕ
-run_left (Llx run) = llx_left run.at
-run_left (Scx run) = put_left run
-run_left (Vlx run) = vlx_left run.snaps run.asked
+-- how many steps the machine of a call may still ask for, where no more nodes than these are taken
+abbrev pub run_left : Run → ℕ → ℕ
+run_left (Llx run) nodes = llx_left run.at
+run_left (Scx run) nodes = put_left run
+run_left (Vlx run) nodes = vlx_left run.snaps run.asked
+run_left (Get run) nodes = walk_left run.walk.at nodes
 
 -- how many steps what follows the machine may ask for: 40 for the SCX of a `set`
 abbrev pub then_left : Option Put → ℕ
@@ -19,5 +21,5 @@ then_left None = 0
 then_left (Some put) = 40
 
 -- how many steps a call may still ask for: its machine, and what follows it
-abbrev pub left_of : Run → Option Put → ℕ
-left_of run then = run_left run + then_left then
+abbrev pub left_of : Run → Option Put → ℕ → ℕ
+left_of run then nodes = run_left run nodes + then_left then

@@ -1,5 +1,6 @@
 -- Turns of one client that a player has made one after another.
-use Rattle.std.specs.Prelude.{◌≡◌, ℕ, ◌+◌, ◌-◌, ◌*◌, List, ◌++◌, length, replicate}
+use Rattle.std.specs.Prelude.{◌≡◌, ℕ, suc, ◌+◌, ◌-◌, ◌*◌, List, ◌++◌, length, replicate}
+use Rattle.arena.specs.declared.layout.Layout.{Layout}
 use Rattle.script.specs.declared.command.Call.{Call}
 use Rattle.record.specs.declared.record.Line.{Line}
 use Rattle.player.specs.declared.player.Player.{Player}
@@ -19,7 +20,12 @@ pub record AreTurnsWhile (so : List Line → Type 0) (c : ℕ) (old new : Player
   pub each : AreMadeWhile so c (lines_of old) behind
   pub turns : clients (lines_of new) ≡ replicate (turns behind) c ++ clients (lines_of old)
 
--- a number that falls with each turn of a client that has a call left: 105 for each call not
--- answered, more than the steps that any call may make, less the steps that the next one has made
-abbrev pub to_go : List Call → ℕ → List Line → ℕ
-to_go calls c lines = 105 * length (commands calls c) - (105 * answered lines c + steps lines c)
+-- no call makes more steps than these: a `set` makes 104 at most, and a get three for each node of
+-- all shares and for two more
+abbrev pub most_of_all : Layout → ℕ
+most_of_all lay = 104 + 3 * (2 + lay.passes * lay.nodes)
+
+-- a number that falls with each turn of a client that has a call left: for each call not answered
+-- one more than the steps that any call may make, less the steps that the next one has made
+abbrev pub to_go : Layout → List Call → ℕ → List Line → ℕ
+to_go lay calls c lines = suc (most_of_all lay) * length (commands calls c) - (suc (most_of_all lay) * answered lines c + steps lines c)

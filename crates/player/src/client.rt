@@ -4,11 +4,12 @@ ghost use Rattle.std.specs.Prelude.{◌≡◌, ℕ, ◌+◌, ◌<◌, ◌≤◌,
 use crate::kept::Kept;
 use crate::place::next_call;
 use crate::run::{Ended, Run};
-use arena::{Full, Layout, Machine, NodeNo, PassNo, Share, Side, Step, Turn};
+use arena::{Full, Layout, NodeNo, PassNo, Share, Side, Step, Turn};
 use arrayvec::ArrayVec;
-use prims::{Cells, Llx, LlxRun, PutRun, ScxRun, Snap, Snaps, Update, VlxRun};
+use prims::{Llx, LlxRun, PutRun, ScxRun, Snap, Snaps, Update, VlxRun};
 use record::{Answer, Reply};
 use script::{Call, Cell, Command};
+use tree::GetRun;
 
 /// What a `set` does once its LLX has given a snapshot.
 #[derive(Clone, Copy, Debug, PartialEq, Eq)]
@@ -50,7 +51,8 @@ pub(crate) struct Client {
 }
 
 impl Client {
-    ghost use Rattle.std.specs.Prelude.{◌≡◌, ◌≢◌, ◌<◌, ◌+◌, ◌-◌, Option, Some, None, is_some, IfOk, IfErr, List, [], length, map, MatchOption};
+    ghost use Rattle.std.specs.Prelude.{◌≡◌, ◌≢◌, ◌<◌, ◌+◌, ◌-◌, Option, Some, None, is_some, IfOk, IfErr, List, [], length, map, MatchOption, All};
+    ghost use Rattle.script.specs.Commands.{mode_of};
     ghost use Rattle.arena.specs.declared.limits.Mode.TheVariants.{Records};
     ghost use Rattle.script.specs.declared.command.Command.TheVariants.{Scx as ScxCommand};
     ghost use Rattle.arena.specs.History.{History};
@@ -95,7 +97,7 @@ impl Client {
 
     /// How the client stands at this turn, with its next call begun.
     pub(crate) fn next_action(&mut self, calls: &[Call], turn: u64) -> NextAction
-        ensures { (v : ClientView) (began : Option ℕ) → IsSound v → (length v.calls ≢ 0 → v.layout.mode ≡ Records) → calls.now ≡ v.calls → IsClient v began self.old → IsNextAction v turn self.old self.new result }
+        ensures { (v : ClientView) (began : Option ℕ) → IsSound v → All (λ call. mode_of call.command ≡ v.layout.mode) v.calls → calls.now ≡ v.calls → IsClient v began self.old → IsNextAction v turn self.old self.new result }
     {
         if self.running.is_some() {
             return self.asked();
@@ -115,7 +117,7 @@ impl Client {
 
     /// Begins the next call, if there is one.
     fn begin_next(&mut self, calls: &[Call], turn: u64) -> NextAction
-        ensures { (v : ClientView) (began : Option ℕ) → IsSound v → (length v.calls ≢ 0 → v.layout.mode ≡ Records) → calls.now ≡ v.calls → Rests v self.old → (self.old.next ≢ None → IsUnbegun v began) → IsNextAction v turn self.old self.new result }
+        ensures { (v : ClientView) (began : Option ℕ) → IsSound v → All (λ call. mode_of call.command ≡ v.layout.mode) v.calls → calls.now ≡ v.calls → Rests v self.old → (self.old.next ≢ None → IsUnbegun v began) → IsNextAction v turn self.old self.new result }
     {
         let Some(at) = self.next else {
             return NextAction::Finished;
@@ -131,7 +133,7 @@ impl Client {
 
     /// Begins a call, which answers at once or asks for a step.
     fn begin(&mut self, command: Command, turn: u64) -> Option<Answer>
-        ensures { (v : ClientView) (began : Option ℕ) → IsSound v → v.layout.mode ≡ Records → Rests v self.old → IsUnbegun v began → command_of v self.old ≡ Some command → BeginsOrRefuses v turn self.old self.new result }
+        ensures { (v : ClientView) (began : Option ℕ) → IsSound v → v.layout.mode ≡ mode_of command → Rests v self.old → IsUnbegun v began → command_of v self.old ≡ Some command → BeginsOrRefuses v turn self.old self.new result }
     {
         self.begin = turn;
         match command {
@@ -149,6 +151,7 @@ impl Client {
                 Ok(snaps) => self.run(Run::Vlx(VlxRun::new(Snaps::new(&snaps))), None),
                 Err(node) => Some(Answer::Unlinked { node }),
             },
+            Command::Get { key } => self.run(Run::Get(GetRun::new(key)), None),
         }
     }
 
@@ -196,7 +199,7 @@ impl Client {
         ensures begins { (v : ClientView) → IsSound v → Starts v self.old run then → BeginsOrRefuses v self.old.begin self.old self.new result }
         ensures asks { (v : ClientView) → IsSound v → Starts v self.old run then → RunAsksFirst run → result ≡ None }
     {
-        match Machine::<Cells>::next(&mut run, None) {
+        match run.next(None) {
             Turn::Ask(step) => {
                 self.running = Some(Running { run, then, step });
                 None
@@ -214,7 +217,7 @@ impl Client {
             then,
             step: _,
         } = self.running.take()?;
-        match Machine::<Cells>::next(&mut run, Some(found)) {
+        match run.next(Some(found)) {
             Turn::Ask(step) => {
                 self.running = Some(Running { run, then, step });
                 None
@@ -229,7 +232,7 @@ impl Client {
     {
         match ended {
             Ended::Llx(llx) => self.after_llx(llx, then),
-            Ended::Scx(_) | Ended::Vlx(_) => Some(ended.answer()),
+            Ended::Scx(_) | Ended::Vlx(_) | Ended::Get(_) => Some(ended.answer()),
         }
     }
 
@@ -281,7 +284,7 @@ impl Client {
     }
 
     /// The turn at which an answer stands: of a done SCX that of its update, of a VLX its first, of
-    /// an LLX its last.
+    /// an LLX or a get its last.
     fn moment(&self, turn: u64, answer: Answer, won: Option<u64>) -> Option<u64>
         ensures { result ≡ moment_of answer self.now.begin turn won }
     {
@@ -290,6 +293,7 @@ impl Client {
             Answer::Same => Some(self.begin),
             Answer::Snapshot { left: _, right: _ } => Some(turn),
             Answer::Finalized => Some(turn),
+            Answer::Value(_) => Some(turn),
             _ => None,
         }
     }

@@ -1,9 +1,16 @@
 //! The machine of a call.
-ghost use Rattle.std.specs.Prelude.{◌≡◌, ℕ};
+ghost use Rattle.std.specs.Prelude.{◌≡◌, ◌<◌, ◌≤◌, ℕ, None, length};
+ghost use Rattle.arena.specs.History.{History};
+ghost use Rattle.arena.specs.Machines.{Call, IsRun, MatchTurn};
+ghost use Rattle.arena.specs.TakenNodes.{taken_nodes};
+ghost use Rattle.player.specs.Allowed.{PlayedAllows};
+ghost use Rattle.player.specs.RunKnown.{RunIsReady, RunWaits, RunAnswers, RunAsksFirst, IsSameMachine, run_mode};
+ghost use Rattle.player.specs.RunSteps.{run_left};
 
 use arena::{Machine, Turn};
 use prims::{Cells, Llx, LlxRun, PutRun, Scx, Snaps, Vlx, VlxRun};
 use record::Answer;
+use tree::{GetRun, Tree};
 
 /// A call that has begun. A `set` is first an LLX and then an SCX.
 #[derive(Debug, Drop)]
@@ -11,6 +18,7 @@ pub(crate) enum Run {
     Llx(LlxRun),
     Scx(PutRun),
     Vlx(VlxRun<Snaps>),
+    Get(GetRun),
 }
 
 /// What a machine answered.
@@ -19,6 +27,7 @@ pub(crate) enum Ended {
     Llx(Llx),
     Scx(Scx),
     Vlx(Vlx),
+    Get(Option<u64>),
 }
 
 impl Ended {
@@ -40,44 +49,36 @@ impl Ended {
             Ended::Scx(Scx::Lost { node, scx }) => Answer::Lost { node, scx },
             Ended::Vlx(Vlx::Same) => Answer::Same,
             Ended::Vlx(Vlx::Changed { node, scx }) => Answer::Changed { node, scx },
+            Ended::Get(value) => Answer::Value(value),
         }
     }
 }
 
-impl Machine<Cells> for Run {
-    type Answer = Ended;
-
-    ghost use Rattle.std.specs.Prelude.{ℕ};
-    ghost use Rattle.player.specs.RunSteps.{run_left};
-    ghost use Rattle.player.specs.RunKnown.{RunIsReady, RunWaits, RunAnswers, IsSameMachine, RunAsksFirst, run_keeps, run_lawful, run_made};
-
-    ghost ready = { RunIsReady };
-
-    ghost waits = { RunWaits };
-
-    ghost answers = { RunAnswers };
-
-    ghost same = { IsSameMachine };
-
-    ghost left = { λ m nodes. run_left m };
-
-    ghost fits = { λ m got nodes. Unit {0} };
-
-    ghost asks_first = { RunAsksFirst };
-
-    fn next(&mut self, got: Option<u64>) -> Turn<Ended> {
+impl Run {
+    /// Goes on with what the last step found, as the machine inside, in a run of its mode.
+    pub(crate) fn next(&mut self, got: Option<u64>) -> Turn<Ended>
+        ensures turn { (c : Call) (h : History) → c.layout.mode ≡ run_mode self.old → IsRun PlayedAllows c.layout h → RunIsReady self.old c h got → MatchTurn result (RunWaits self.new c h) (RunAnswers self.new c h) }
+        ensures begins { got ≡ None → RunAsksFirst self.old → (c : Call) (h : History) → RunIsReady self.old c h None → MatchTurn result (λ _. Unit {0}) (λ _. ⊥) }
+        ensures same { IsSameMachine self.old self.new }
+        ensures nearer { (c : Call) (h : History) (nodes : ℕ) → c.layout.mode ≡ run_mode self.old → IsRun PlayedAllows c.layout h → RunIsReady self.old c h got → length (taken_nodes h) ≤ nodes → MatchTurn result (λ _. run_left self.new nodes < run_left self.old nodes) (λ _. Unit {0}) }
+    {
         match self {
-            Run::Llx(run) => Machine::<Cells>::next(run, got).map(|llx| Ended::Llx(llx)),
-            Run::Scx(run) => Machine::<Cells>::next(run, got).map(|scx| Ended::Scx(scx)),
-            Run::Vlx(run) => Machine::<Cells>::next(run, got).map(|vlx| Ended::Vlx(vlx)),
+            Run::Llx(run) => match Machine::<Cells>::next(run, got) {
+                Turn::Ask(step) => Turn::Ask(step),
+                Turn::Done(llx) => Turn::Done(Ended::Llx(llx)),
+            },
+            Run::Scx(run) => match Machine::<Cells>::next(run, got) {
+                Turn::Ask(step) => Turn::Ask(step),
+                Turn::Done(scx) => Turn::Done(Ended::Scx(scx)),
+            },
+            Run::Vlx(run) => match Machine::<Cells>::next(run, got) {
+                Turn::Ask(step) => Turn::Ask(step),
+                Turn::Done(vlx) => Turn::Done(Ended::Vlx(vlx)),
+            },
+            Run::Get(run) => match Machine::<Tree>::next(run, got) {
+                Turn::Ask(step) => Turn::Ask(step),
+                Turn::Done(value) => Turn::Done(Ended::Get(value)),
+            },
         }
     }
-
-    ghost keeps = { run_keeps };
-
-    ghost lawful = { run_lawful };
-
-    ghost made = { run_made };
-
-    ghost told = { λ m c h got nodes run ready few. tt };
 }

@@ -1,7 +1,7 @@
 //! Reports that are read back, and texts that are no reports.
 use crate::fault::Fault;
 use crate::orders::run;
-use crate::tests::{IN_TURN, SET, SET_REPORT};
+use crate::tests::{GET_REPORT, IN_TURN, SET, SET_REPORT};
 use arena::Mode;
 use record::Record;
 use report::{ReportFault, read_record, write_record};
@@ -9,9 +9,6 @@ use script::{read_schedule, read_script};
 use std::alloc::Global;
 use std::test::Fail;
 use texts::{FailAt, Metered};
-
-/// A report in tree mode, in which no command is known.
-const TREE_REPORT: &str = "report,1,tree,,,,\nlimits,1,10,10,3,,\nend,0,0,0,,,\n";
 
 fn read(alloc: Global, text: &[u8]) -> Result<Record, ReportFault> {
     read_record(alloc, &mut Metered::new(text))
@@ -41,7 +38,7 @@ fn with_ends(alloc: Global, text: &str, end: &str) -> Result<String, Fail> {
 
 #[test]
 fn whole_reports_are_read_back(rt: HostRuntime) -> Result<(), Fail> {
-    for report in [SET_REPORT, TREE_REPORT] {
+    for report in [SET_REPORT, GET_REPORT] {
         let record = read(rt.alloc(), report.as_bytes())?;
         let text = written(rt.alloc(), &record)?;
         assert_eq!(rt; text.as_slice(), report.as_bytes());

@@ -3,6 +3,7 @@ use crate::tests::{UNTOUCHED, lines_of, played};
 use std::test::Fail;
 
 /// A script played by a schedule: the report's reply rows and its last row.
+#[derive(Clone, Copy)]
 struct Story {
     name: &'static str,
     script: &'static str,

@@ -63,16 +63,13 @@ pub(crate) struct Ended {
 }
 
 pub(crate) fn played(alloc: Global, script: &str, schedule: &str) -> Ended {
+    played_in(alloc, Mode::Records, script, schedule)
+}
+
+pub(crate) fn played_in(alloc: Global, mode: Mode, script: &str, schedule: &str) -> Ended {
     let (mut script, mut schedule) = (script.as_bytes(), schedule.as_bytes());
     let (mut out, mut err) = (Metered::new(Vec::new(alloc)), Vec::new(alloc));
-    let status = play_over(
-        alloc,
-        Mode::Records,
-        &mut script,
-        &mut schedule,
-        &mut out,
-        &mut err,
-    );
+    let status = play_over(alloc, mode, &mut script, &mut schedule, &mut out, &mut err);
     let out = out.inner;
     Ended { status, out, err }
 }
@@ -87,6 +84,28 @@ pub(crate) fn lines_of(alloc: Global, text: &[u8], start: &str) -> Result<Vec<u8
         }
     }
     Ok(lines)
+}
+
+/// A get of the empty map, and its report.
+pub(crate) const GET: &str = "limits,1,10,10,3\n0,get,0,,\nend,1,,,\n";
+
+pub(crate) const GET_REPORT: &str = "\
+report,1,tree,,,,
+limits,1,10,10,3,,
+call,0,0,get,0,,
+step,1,0,settled,n0.head,2,2
+step,2,0,child,n0.left,1,1
+step,3,0,settled,n1.head,13,13
+reply,0,0,1,3,3,none
+end,3,1,0,,,
+";
+
+#[test]
+fn whole_report_of_a_get(rt: HostRuntime) {
+    let ended = played_in(rt.alloc(), Mode::Tree, GET, "finish,0,,\nend,1,,\n");
+    assert_eq!(rt; ended.err.as_slice(), b"".as_slice());
+    assert_eq!(rt; ended.out.as_slice(), GET_REPORT.as_bytes());
+    assert_eq!(rt; ended.status, 0);
 }
 
 #[test]

@@ -11,10 +11,13 @@ use Rattle.arena.specs.Found.{HasFound}
 use Rattle.arena.specs.Log.{log, fields, last, is_final}
 use Rattle.arena.specs.declared.fault.Resource.{Resource}
 use Rattle.arena.specs.declared.fault.Resource.TheVariants.{Nodes, Scx as ScxRecords}
+use Rattle.record.specs.declared.record.Line.{Line}
+use Rattle.record.specs.declared.record.Reply.{Reply}
 use Rattle.record.specs.declared.record.Answer.{Answer}
-use Rattle.record.specs.declared.record.Answer.TheVariants.{Snapshot, Finalized, Done, Same}
+use Rattle.record.specs.Turns.{won}
+use Rattle.record.specs.declared.record.Answer.TheVariants.{Snapshot, Finalized, Done, Same, Value}
 
--- where a finished call took place: an LLX that told something in its last turn, a VLX
+-- where a finished call of cells took place: an LLX that told something in its last turn, a VLX
 -- that found its cells as they were in its first, an SCX that is done in the turn of
 -- its entry; all other calls took place nowhere
 abbrev pub moment_of : Answer → ℕ → ℕ → Option ℕ → Option ℕ
@@ -22,7 +25,12 @@ moment_of (Snapshot left right) first last won = Some last
 moment_of Finalized first last won = Some last
 moment_of Same first last won = Some first
 moment_of Done first last won = won
+moment_of (Value answer) first last won = Some last
 moment_of _ first last won = None
+
+-- a call of cells took place where its answer says
+abbrev pub IsPlacedCell : Layout → List Line → Reply → Type 0
+IsPlacedCell lay lines reply = reply.moment ≡ moment_of reply.answer reply.begin reply.end (won lay lines reply.client.0)
 
 -- the snapshot is right: left and right are the node's
 -- fields in the log, where the node is not final

@@ -1,14 +1,18 @@
 -- The rules of each command, and what follows by them.
-use Rattle.std.specs.Prelude.{ℕ, Option, Some, None}
+use Rattle.std.specs.Prelude.{ℕ, List, Option, Some, None}
 use Rattle.arena.specs.declared.layout.Layout.{Layout}
 use Rattle.arena.specs.declared.step.Kind.{Kind}
 use Rattle.arena.specs.History.{History, value}
 use Rattle.arena.specs.Log.{Entry as Entered}
+use Rattle.script.specs.declared.command.Call.{Call}
 use Rattle.script.specs.declared.command.Command.{Command}
-use Rattle.script.specs.declared.command.Command.TheVariants.{Llx, Scx, Vlx, Set}
+use Rattle.script.specs.declared.command.Command.TheVariants.{Llx, Scx, Vlx, Set, Get}
+use Rattle.record.specs.declared.record.Line.{Line}
+use Rattle.record.specs.declared.record.Reply.{Reply}
 use Rattle.record.specs.declared.record.Answer.{Answer}
 use Rattle.record.specs.Turns.{start}
 use Rattle.record.specs.Rules.{Rules}
+use Rattle.record.specs.Rules.Get.{get_rules}
 use Rattle.record.specs.Rules.Llx.{llx_rules}
 use Rattle.record.specs.Rules.Scx.{scx_rules}
 use Rattle.record.specs.Rules.Set.{set_rules}
@@ -20,6 +24,7 @@ rules (Llx cell) = llx_rules cell
 rules (Scx update) = scx_rules update
 rules (Vlx cells) = vlx_rules cells
 rules (Set field value) = set_rules field value
+rules (Get key) = get_rules key
 
 -- how many steps a call may make while so many nodes are taken, by any client;
 -- those of cells make no more where nodes are taken
@@ -47,6 +52,10 @@ linked_then (Some command) answer now n old = (rules command).linked_then answer
 -- those up to now, with the snapshots that the client keeps
 abbrev pub IsRight : Layout → ℕ → History → History → (ℕ → Option History) → Command → Answer → Type 0
 IsRight lay c now start linked command = (rules command).IsRight lay c now start linked
+
+-- the call of the reply took place where the reply says, with the lines before the reply
+abbrev pub IsPlaced : Layout → List Call → List Line → Reply → Command → Type 0
+IsPlaced lay calls lines reply command = (rules command).IsPlaced lay calls lines reply
 
 -- the entry is one that a call of client c with this command makes
 abbrev pub IsEntryFor : Layout → ℕ → History → History → (ℕ → Option History) → Entered → Command → Type 0

@@ -1,5 +1,7 @@
 -- What a record says: a run that was made turn by turn, in which every step is lawful.
 use Rattle.std.specs.Prelude.{◌≡◌, ℕ, List, [], ◌∷◌, None, reverse}
+use Rattle.arena.specs.declared.limits.Mode.{Mode}
+use Rattle.arena.specs.declared.limits.Mode.TheVariants.{Tree, Records}
 use Rattle.arena.specs.declared.layout.Layout.{Layout}
 use Rattle.arena.specs.Lawful.{Lawful}
 use Rattle.arena.specs.Log.{log, AreOnce}
@@ -11,6 +13,7 @@ use Rattle.record.specs.Turns.{history, clients, entry_owed}
 use Rattle.record.specs.Entries.{IsLog}
 use Rattle.record.specs.Replies.{IsReplyOwed, IsReply}
 use Rattle.record.specs.Steps.{IsTurn}
+use Rattle.record.specs.SpelledMap.{AreSpelled}
 
 -- nothing has to stand behind the newest line: neither an entry nor a reply
 pub record OwesNothing (lay : Layout) (calls : List Call) (lines : List Line) : Type 0 where
@@ -29,6 +32,11 @@ unfoldable pub AreLines : Layout → List Call → List Line → Type 0
 AreLines lay calls [] = Unit {0}
 AreLines lay calls (line ∷ lines) = AreLines lay calls lines × IsNext lay calls lines line
 
+-- what is said of the run of a mode beside its lines
+abbrev pub IsWhole : Mode → Layout → List Call → List Line → Type 0
+IsWhole Tree lay calls lines = AreSpelled lay calls lines
+IsWhole Records lay calls lines = Unit {0}
+
 -- The main statement: the lines, the first in front, are a lawful run of the calls, in which turn i
 -- was made by the i-th of these clients. That the steps are a lawful history is said of each step
 -- in `in_order`, and once more of all in `lawful`.
@@ -44,3 +52,5 @@ pub record IsLawfulRun (lay : Layout) (calls : List Call) (passes : List ℕ) (l
   pub once : AreOnce (log lay (history lay.mode (reverse lines)))
   -- once an SCX-record that finalizes a node is committed, no word of that node changes again
   pub finalized : StaysFinalized (history lay.mode (reverse lines))
+  -- in tree mode the words spell the map so far after every step
+  pub whole : IsWhole lay.mode lay calls (reverse lines)

@@ -2,6 +2,9 @@ pub mod Turns
 pub mod Commands
 pub mod Snapshots
 pub mod Answers
+pub mod MapRecord
+pub mod Placed
+pub mod SpelledMap
 pub mod Updates
 pub mod Rules
 pub mod CommandRules

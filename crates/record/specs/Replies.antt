@@ -9,8 +9,8 @@ use Rattle.record.specs.declared.record.Row.TheVariants.{Idle}
 use Rattle.record.specs.declared.record.Reply.{Reply}
 use Rattle.record.specs.declared.record.Answer.{Answer}
 use Rattle.record.specs.Turns.{history, turns, last_client, answered, begin, start, won}
-use Rattle.record.specs.Answers.{moment_of, HasTakenOne, HasItsEntry}
-use Rattle.record.specs.CommandRules.{IsAnswerAtOnce, IsAnswerAfterStep, IsRight}
+use Rattle.record.specs.Answers.{HasTakenOne, HasItsEntry}
+use Rattle.record.specs.CommandRules.{IsAnswerAtOnce, IsAnswerAfterStep, IsRight, IsPlaced}
 use Rattle.record.specs.Commands.{next_command}
 use Rattle.record.specs.Linked.{linked}
 
@@ -38,7 +38,8 @@ pub record IsReply (lay : Layout) (calls : List Call) (lines : List Line) (reply
   pub right : IsRight lay reply.client.0 (history lay.mode lines) (start lay.mode lines reply.client.0) (linked calls lay.mode lines reply.client.0) command reply.answer
   -- the call has taken one node and one SCX-record at most
   pub took : HasTakenOne lay reply.client.0 (history lay.mode lines) (start lay.mode lines reply.client.0)
-  pub moment : reply.moment ≡ moment_of reply.answer reply.begin reply.end (won lay lines reply.client.0)
+  -- the call took place where the reply says
+  pub placed : IsPlaced lay calls lines reply command
   -- the moment, if there is one, is within the call
   pub within : (m : ℕ) → reply.moment ≡ Some m → (reply.begin ≤ m) × (m ≤ reply.end)
   -- the call's update is in the log if it answers `done`, and only then

@@ -3,11 +3,15 @@ pub mod Llx
 pub mod Scx
 pub mod Vlx
 pub mod Set
-use Rattle.std.specs.Prelude.{ℕ, Option}
+pub mod Get
+use Rattle.std.specs.Prelude.{ℕ, List, Option}
 use Rattle.arena.specs.declared.layout.Layout.{Layout}
 use Rattle.arena.specs.declared.step.Kind.{Kind}
 use Rattle.arena.specs.History.{History}
 use Rattle.arena.specs.Log.{Entry as Entered}
+use Rattle.script.specs.declared.command.Call.{Call}
+use Rattle.record.specs.declared.record.Line.{Line}
+use Rattle.record.specs.declared.record.Reply.{Reply}
 use Rattle.record.specs.declared.record.Answer.{Answer}
 
 -- what is said of one command, and of no other
@@ -29,3 +33,5 @@ pub record Rules : Type 1 where
   -- what an entry of client c does: after the steps just before it and those up to the call's
   -- begin, with the snapshots that the client keeps
   pub IsEntryFor : Layout → ℕ → History → History → (ℕ → Option History) → Entered → Type 0
+  -- where the call of a reply took place, with the lines before the reply
+  pub IsPlaced : Layout → List Call → List Line → Reply → Type 0

@@ -102,6 +102,8 @@ pub enum Answer {
     Changed { node: NodeNo, scx: ScxNo },
     /// `scx`, `vlx`: the client keeps no snapshot of this cell, the first such.
     Unlinked { node: NodeNo },
+    /// `get`: the value of its key in the map, if the key has one, at the reply's moment.
+    Value(Option<u64>),
     /// `scx`, `set`: `left` of the resource are left in the client's share, too few for the call.
     Full { what: Resource, left: u32 },
 }

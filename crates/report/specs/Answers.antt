@@ -1,8 +1,8 @@
 -- Answers as text.
-use Rattle.std.specs.Prelude.{ℕ, List, ◌++◌, codes, decimal}
+use Rattle.std.specs.Prelude.{ℕ, List, ◌++◌, Some, None, codes, decimal}
 use Rattle.arena.specs.declared.fault.Resource.TheVariants.{Nodes, Scx}
 use Rattle.record.specs.declared.record.Answer.{Answer}
-use Rattle.record.specs.declared.record.Answer.TheVariants.{Snapshot, Finalized, Fail, Done, Lost, Same, Changed, Unlinked, Full}
+use Rattle.record.specs.declared.record.Answer.TheVariants.{Snapshot, Finalized, Fail, Done, Lost, Same, Changed, Unlinked, Full, Value}
 
 -- what an answer says, in words parted by one space
 abbrev pub answer_text : Answer → List ℕ
@@ -14,5 +14,7 @@ answer_text (Lost node scx) = codes "lost n" ++ (decimal node.0 ++ (codes " s" +
 answer_text Same = codes "same"
 answer_text (Changed node scx) = codes "changed n" ++ (decimal node.0 ++ (codes " s" ++ decimal scx.0))
 answer_text (Unlinked node) = codes "unlinked n" ++ decimal node.0
+answer_text (Value (Some value)) = codes "some " ++ decimal value
+answer_text (Value None) = codes "none"
 answer_text (Full Nodes left) = codes "full nodes " ++ decimal left
 answer_text (Full Scx left) = codes "full scx " ++ decimal left

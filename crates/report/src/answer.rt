@@ -21,6 +21,8 @@ pub fn answer_text(alloc: Global, answer: Answer) -> Result<String, AllocError>
         Answer::Same => format!(in alloc; "same"),
         Answer::Changed { node, scx } => format!(in alloc; "changed n{} s{}", node.0, scx.0),
         Answer::Unlinked { node } => format!(in alloc; "unlinked n{}", node.0),
+        Answer::Value(Some(value)) => format!(in alloc; "some {value}"),
+        Answer::Value(None) => format!(in alloc; "none"),
         Answer::Full {
             what: Resource::Nodes,
             left,
@@ -40,6 +42,7 @@ pub fn answer_of(text: &str) -> Option<Answer>
         "finalized" => Some(Answer::Finalized),
         "done" => Some(Answer::Done),
         "same" => Some(Answer::Same),
+        "none" => Some(Answer::Value(None)),
         _ => {
             let (name, told) = text.split_once(' ')?;
             telling_answer_of(name, told)
@@ -71,6 +74,7 @@ fn telling_answer_of(name: &str, told: &str) -> Option<Answer>
         "unlinked" => Some(Answer::Unlinked {
             node: node_of(told)?,
         }),
+        "some" => Some(Answer::Value(Some(number_of(told)?))),
         "full" => full_of(told),
         _ => None,
     }

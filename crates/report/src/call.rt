@@ -83,6 +83,12 @@ impl CommandText {
                 b: format!(in alloc; "{}", side_name(field.1))?,
                 c: format!(in alloc; "{value}")?,
             }),
+            Command::Get { key } => Ok(CommandText {
+                name: "get",
+                a: format!(in alloc; "{key}")?,
+                b: String::new(alloc),
+                c: String::new(alloc),
+            }),
         }
     }
 }

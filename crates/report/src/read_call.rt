@@ -1,7 +1,6 @@
 //! The calls of a report's script, as rows say them.
 ghost use Rattle.std.specs.Prelude.{◌≡◌, ◌≢◌, ◌≤◌, ◌<◌, ◌^◌, ◌-◌, List, [], ◌∷◌, ◌++◌, ℕ, All, IfOk, IfSome, codes, decimal, length, map, vec_len};
-ghost use Rattle.arena.specs.declared.limits.Mode.TheVariants.{Records};
-ghost use Rattle.script.specs.Commands.{command_row, texts};
+ghost use Rattle.script.specs.Commands.{command_row, mode_of, texts};
 ghost use Rattle.script.specs.declared.command.Call.{Call};
 ghost use Rattle.report.specs.Counts.{HasCounted};
 ghost use Rattle.texts.specs.Reads.{IsAtRow, last_row};
@@ -28,7 +27,7 @@ pub fn calls_of<R: Read + Drop>(
     layout: Layout,
 ) -> Result<Vec<Call>, RowFault>
     ensures few { IfOk result (λ calls. vec_len calls ≤ 65536) }
-    ensures accepted { IfOk result (λ calls. All (λ call. (call.client.0 < layout.passes) × (layout.mode ≡ Records)) calls.items) }
+    ensures accepted { IfOk result (λ calls. All (λ call. (call.client.0 < layout.passes) × (mode_of call.command ≡ layout.mode)) calls.items) }
     ensures rows { (bytes : List ℕ) (before : List (List (List ℕ))) → IsAtRow R.remaining bytes before 7 rows.old → IfOk result (λ calls. IsAtRow R.remaining bytes (before ++ map seven (call_rows [] calls.items)) 7 rows.new) }
 {
     let mut calls = Vec::new(alloc);
@@ -52,7 +51,7 @@ fn next_call<R: Read + Drop>(
     layout: Layout,
     counts: &mut Counts,
 ) -> Result<Call, RowFault>
-    ensures accepted { IfOk result (λ call. (call.client.0 < layout.passes) × (layout.mode ≡ Records)) }
+    ensures accepted { IfOk result (λ call. (call.client.0 < layout.passes) × (mode_of call.command ≡ layout.mode)) }
     ensures row { (earlier : List Call) → HasCounted counts.old earlier → length (last_row rows.now) ≡ 7 → IfOk result (λ call. last_row rows.now ≡ seven (reported_call_row earlier call)) }
     ensures counted { (earlier : List Call) → HasCounted counts.old earlier → length earlier < 2 ^ 64 - 1 → IfOk result (λ call. HasCounted counts.new (call ∷ earlier)) }
 {
@@ -70,7 +69,7 @@ fn next_call<R: Read + Drop>(
 
 /// The call that a row says, and its number among the client's calls.
 fn call_of(fields: [&str; 7], layout: Layout) -> Option<(Call, u64)>
-    ensures accepted { IfSome result (λ told. (told.0.client.0 < layout.passes) × (layout.mode ≡ Records)) }
+    ensures accepted { IfSome result (λ told. (told.0.client.0 < layout.passes) × (mode_of told.0.command ≡ layout.mode)) }
     ensures row { IfSome result (λ told. texts fields.entry ≡ codes "call" ∷ decimal told.0.client.0 ∷ decimal told.1 ∷ command_row told.0.command) }
 {
     let ["call", client, number, name, a, b, c] = fields else {

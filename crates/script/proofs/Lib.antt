@@ -1,7 +1,7 @@
 mod Differ
 mod Parts
 mod Fields
-mod OfCells
+mod OfMode
 mod LimitsRows
 mod Spaced
 mod Updates

@@ -2,7 +2,7 @@
 use Rattle.std.specs.Prelude.{ℕ, ◌≡◌, ◌≢◌, ◌⊎◌, None, List, ◌∷◌, codes, decimal}
 use Rattle.arena.specs.declared.layout.Layout.{Layout}
 use Rattle.arena.specs.declared.limits.Mode.{Mode}
-use Rattle.arena.specs.declared.limits.Mode.TheVariants.{Records}
+use Rattle.arena.specs.declared.limits.Mode.TheVariants.{Records, Tree}
 use Rattle.script.specs.declared.command.Call.{Call}
 use Rattle.script.specs.declared.fault.ScriptCause.{ScriptCause}
 use Rattle.script.specs.declared.fault.ScriptCause.TheVariants as cause
@@ -14,9 +14,10 @@ use Rattle.script.specs.Fields.{NamesClient}
 abbrev pub call_row : Call → List (List ℕ)
 call_row call = decimal call.client.0 ∷ command_row call.command
 
--- the field names a command of the mode; there are commands in records mode alone
+-- the field names a command of the mode
 abbrev pub NamesCommand : Mode → List ℕ → Type 0
-NamesCommand mode field = (mode ≡ Records) × ((field ≡ codes "llx") ⊎ (field ≡ codes "scx") ⊎ (field ≡ codes "vlx") ⊎ (field ≡ codes "set"))
+NamesCommand Records field = (field ≡ codes "llx") ⊎ (field ≡ codes "scx") ⊎ (field ≡ codes "vlx") ⊎ (field ≡ codes "set")
+NamesCommand Tree field = field ≡ codes "get"
 
 -- why a name with arguments says no command: the first cause that fits it
 abbrev pub IsNoCommand : Mode → List ℕ → List (List ℕ) → ScriptCause → Type 0

@@ -1,12 +1,14 @@
 -- Commands as fields of a row.
 use Rattle.std.specs.Prelude.{ℕ, ◌≢◌, ◌≡◌, ◌≤◌, ◌<◌, ◌^◌, Option, Some, None, List, [], ◌∷◌, ◌++◌, All, codes, decimal, length, map}
 use denote.Ref.{Bor}
+use Rattle.arena.specs.declared.limits.Mode.{Mode}
+use Rattle.arena.specs.declared.limits.Mode.TheVariants.{Records, Tree}
 use Rattle.arena.specs.declared.word.Side.{Side}
 use Rattle.arena.specs.declared.word.Side.TheVariants.{Left, Right}
 use Rattle.script.specs.Cells.{cells_of}
 use Rattle.script.specs.Update.{update_cells, update_finalize, update_field, update_value}
 use Rattle.script.specs.declared.command.Command.{Command}
-use Rattle.script.specs.declared.command.Command.TheVariants.{Llx, Scx, Vlx, Set}
+use Rattle.script.specs.declared.command.Command.TheVariants.{Llx, Scx, Vlx, Set, Get}
 
 -- the word for a side
 abbrev pub side_text : Side → List ℕ
@@ -33,6 +35,12 @@ command_row (Llx cell) = codes "llx" ∷ decimal cell ∷ [] ∷ [] ∷ []
 command_row (Scx update) = codes "scx" ∷ numbers_text (update_cells update) ∷ numbers_text (update_finalize update) ∷ change_text (update_field update) (update_value update) ∷ []
 command_row (Vlx cells) = codes "vlx" ∷ numbers_text (cells_of cells) ∷ [] ∷ [] ∷ []
 command_row (Set field value) = codes "set" ∷ decimal field.0 ∷ side_text field.1 ∷ decimal value ∷ []
+command_row (Get key) = codes "get" ∷ decimal key ∷ [] ∷ [] ∷ []
+
+-- the mode whose scripts have the command
+abbrev pub mode_of : Command → Mode
+mode_of (Get key) = Tree
+mode_of _ = Records
 
 -- the texts behind references
 abbrev pub texts : List (Bor (List ℕ)) → List (List ℕ)
@@ -47,13 +55,14 @@ IsCell node = (1 ≤ node) × (node ≤ 8)
 abbrev pub AreCells : List ℕ → Type 0
 AreCells nodes = (1 ≤ length nodes) × All IsCell nodes
 
--- the command is one that there is: its nodes are cells, and its value fits a word; an `Update`
+-- the command is one that there is: its nodes are cells, its key and value fit a word; an `Update`
 -- itself says that those finalized are a part of its cells, and that its field belongs to one
 abbrev pub IsCommand : Command → Type 0
 IsCommand (Llx cell) = IsCell cell
 IsCommand (Scx update) = AreCells (update_cells update) × (update_value update < 2 ^ 64)
 IsCommand (Vlx cells) = AreCells (cells_of cells)
 IsCommand (Set field value) = IsCell field.0 × (value < 2 ^ 64)
+IsCommand (Get key) = key < 2 ^ 64
 
 -- what is found is the command that has this row, or nothing where no command has it
 abbrev pub IsCommandOf : List (List ℕ) → Option Command → Type 0

@@ -1,6 +1,5 @@
 //! The rows of a script that are calls.
 ghost use Rattle.std.specs.Prelude.{◌≡◌, ◌≢◌, ◌<◌, ◌^◌, ◌↔◌, ℕ, [], ◌∷◌, ◌++◌, All, Contains, length, decimal, codes, refl, IsSome, IfSome, MatchOption, Option, IfOk, IfErr};
-ghost use Rattle.arena.specs.declared.limits.Mode.TheVariants.{Records};
 ghost use Rattle.arena.specs.declared.word.Side.{Side};
 ghost use Rattle.csv.specs.Records.{fields_of};
 ghost use Rattle.script.specs.declared.cells.Cells.{Cells};
@@ -8,7 +7,7 @@ ghost use Rattle.script.specs.declared.command.Call.{Call};
 ghost use Rattle.script.specs.Calls.{call_row, IsNoCall, IsNoCommand};
 ghost use Rattle.script.specs.Grammars.{call_grammar};
 ghost use Rattle.script.specs.Cells.{cells_of, maybe_cells_of};
-ghost use Rattle.script.specs.Commands.{command_row, change_text, numbers_text, side_text, texts, AreCells, IsCell, IsCommand, IsCommandOf};
+ghost use Rattle.script.specs.Commands.{command_row, mode_of, change_text, numbers_text, side_text, texts, AreCells, IsCell, IsCommand, IsCommandOf};
 
 use crate::cells::{Cell, Cells};
 use crate::client::client_of;
@@ -36,7 +35,7 @@ impl Format for CallRows {
     ghost grammar = { λ rows. call_grammar rows.layout };
 
     fn entry(&self, row: &StringRecord) -> Result<Call, ScriptCause>
-        ensures accepted { IfOk result (λ call. (call.client.0 < self.now.layout.passes) × (self.now.layout.mode ≡ Records) × IsCommand call.command) }
+        ensures accepted { IfOk result (λ call. (call.client.0 < self.now.layout.passes) × (mode_of call.command ≡ self.now.layout.mode) × IsCommand call.command) }
         ensures row { IfOk result (λ call. length (fields_of row.now) ≡ 5 → fields_of row.now ≡ call_row call) }
         ensures cause { IfErr result (λ cause. length (fields_of row.now) ≡ 5 → IsNoCall self.now.layout (fields_of row.now) cause) }
     {
@@ -57,7 +56,7 @@ impl Format for CallRows {
 /// where no command of the mode has the name, and else `Argument`: none of the name has these
 /// arguments.
 pub fn command_of(mode: Mode, name: &str, arguments: [&str; 3]) -> Result<Command, ScriptCause>
-    ensures command { IfOk result (λ command. (mode ≡ Records) × IsCommand command × (name.now ∷ texts arguments.entry ≡ command_row command)) }
+    ensures command { IfOk result (λ command. (mode_of command ≡ mode) × IsCommand command × (name.now ∷ texts arguments.entry ≡ command_row command)) }
     ensures cause { IfErr result (IsNoCommand mode name.now (texts arguments.entry)) }
 {
     let command = match (mode, name) {
@@ -65,6 +64,7 @@ pub fn command_of(mode: Mode, name: &str, arguments: [&str; 3]) -> Result<Comman
         (Mode::Records, "scx") => scx_of(arguments),
         (Mode::Records, "vlx") => vlx_of(arguments),
         (Mode::Records, "set") => set_of(arguments),
+        (Mode::Tree, "get") => get_of(arguments),
         _ => return Err(ScriptCause::Command),
     };
     match command {
@@ -111,6 +111,17 @@ fn set_of(arguments: [&str; 3]) -> Option<Command>
     Some(Command::Set {
         field: (cell_of(cell)?, side_of(side)?),
         value: number_of(value)?,
+    })
+}
+
+fn get_of(arguments: [&str; 3]) -> Option<Command>
+    ensures { IsCommandOf (codes "get" ∷ texts arguments.entry) result }
+{
+    let [key, "", ""] = arguments else {
+        return None;
+    };
+    Some(Command::Get {
+        key: number_of(key)?,
     })
 }
 

@@ -17,6 +17,8 @@ pub enum Command {
     Vlx { cells: Cells },
     /// LLX of a cell, then SCX of it alone.
     Set { field: (Cell, Side), value: u64 },
+    /// Looks up a key of the map, in tree mode.
+    Get { key: u64 },
 }
 
 /// What an SCX changes: a field of one of its cells gets a fresh cell with this value, and some of

@@ -16,7 +16,7 @@ use arena::{Kind, PassNo};
 use csv::StringRecord;
 use std::alloc::Global;
 use std::io::Read;
-use texts::{Format, Metered, Rows, field, by_failure_count, small_number_of};
+use texts::{Format, Metered, Rows, by_failure_count, field, small_number_of};
 
 /// What one row of a schedule orders.
 #[derive(Clone, Copy, Debug, PartialEq, Eq)]
@@ -142,7 +142,12 @@ fn order_kind_of(text: &str) -> Option<OrderKind>
 }
 
 /// The order of a row with these last fields.
-fn order_of(what: OrderKind, client: PassNo, kind: &str, number: &str) -> Result<Order, ScheduleCause>
+fn order_of(
+    what: OrderKind,
+    client: PassNo,
+    kind: &str,
+    number: &str,
+) -> Result<Order, ScheduleCause>
     ensures order { (passes : ℕ) → client.0 < passes → IfOk result (IsOrder passes) }
     ensures row { IfOk result (λ order. order_row order ≡ order_kind_text what ∷ decimal client.0 ∷ kind.now ∷ number.now ∷ []) }
     ensures cause { IfErr result (IsUnfit what kind.now number.now) }

@@ -4,7 +4,7 @@ ghost use Rattle.std.specs.Prelude.{◌≡◌, ◌≢◌, ◌≤◌, ◌<◌, �
 ghost use Rattle.script.specs.Grammars.{IsScriptFault, SayScript};
 ghost use Rattle.texts.specs.Texts.{IfBad};
 ghost use Rattle.arena.specs.Limits.{IsAccepted, IsLayoutOf};
-ghost use Rattle.arena.specs.declared.limits.Mode.TheVariants.{Records};
+ghost use Rattle.script.specs.Commands.{mode_of};
 ghost use Rattle.csv.specs.Records.{fields_of};
 ghost use Rattle.script.specs.Rows.{limits_row};
 
@@ -15,7 +15,7 @@ use arena::{Layout, Limits, Mode, NoMemory};
 use csv::StringRecord;
 use std::alloc::Global;
 use std::io::Read;
-use texts::{Metered, Rows, field, by_failure_count, small_number_of};
+use texts::{Metered, Rows, by_failure_count, field, small_number_of};
 
 /// The limits of a table, and the calls of its clients in the order of the script.
 #[derive(Debug, Drop)]
@@ -28,7 +28,7 @@ pub struct Script {
     pub calls: Vec<Call>,
     ghost clients: { All (λ call. call.client.0 < layout.passes) calls.items },
     ghost few: { vec_len calls ≤ 65536 },
-    ghost of_cells: { vec_len calls ≢ 0 → layout.mode ≡ Records },
+    ghost of_mode: { All (λ call. mode_of call.command ≡ layout.mode) calls.items },
 }
 
 impl Script {

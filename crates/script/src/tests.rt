@@ -304,6 +304,39 @@ fn the_mode_decides_which_commands_there_are(rt: HostRuntime) -> Result<(), Fail
     let tree = read_script(rt.alloc(), Mode::Tree, &mut Metered::new(text));
     assert_eq!(rt; tree.err(), Some(fault));
     assert!(rt; script(rt.alloc(), text).is_ok());
+    let text = b"limits,1,1,1,1\n0,get,1,,\nend,1,,,\n".as_slice();
+    assert_eq!(rt; script(rt.alloc(), text).err(), Some(fault));
+    let tree = read_script(rt.alloc(), Mode::Tree, &mut Metered::new(text))?;
+    let get = Command::Get { key: 1 };
+    assert!(rt; tree.calls.as_slice().iter().all(|call| call.command == get));
+    assert_eq!(rt; tree.calls.len(), 1);
+    Ok(())
+}
+
+/// Rows of a script on the tree that say no call, and why.
+const BAD_TREE_ROWS: [(&str, ScriptCause); 9] = [
+    ("0,get,5,", ScriptCause::Fields),
+    ("1,get,5,,", ScriptCause::Client),
+    ("0,set,1,left,2", ScriptCause::Command),
+    ("0,Get,5,,", ScriptCause::Command),
+    ("0,get,,,", ScriptCause::Argument),
+    ("0,get,05,,", ScriptCause::Argument),
+    ("0,get,5,6,", ScriptCause::Argument),
+    ("0,get,-1,,", ScriptCause::Argument),
+    ("0,get,18446744073709551616,,", ScriptCause::Argument),
+];
+
+#[test]
+fn rows_on_the_tree_are_refused(rt: HostRuntime) -> Result<(), Fail> {
+    for (row, cause) in BAD_TREE_ROWS {
+        let text = format!(in rt.alloc(); "limits,1,10,10,3\n{row}\nend,1,,,\n")?;
+        let got = read_script(rt.alloc(), Mode::Tree, &mut Metered::new(text.as_bytes()));
+        assert_eq!(rt;
+            got.err(),
+            Some(ScriptFault::Bad { row: 2, cause }),
+            "{row}"
+        );
+    }
     Ok(())
 }
 

@@ -14,5 +14,5 @@ pub use fault::{Cause, TextFault, WriteFault};
 pub use metered::Metered;
 pub use number::{is_number, number_of, small_number_of};
 pub use page::Page;
-pub use rows::{Format, Rows, field, by_failure_count};
+pub use rows::{Format, Rows, by_failure_count, field};
 pub use sending::send;

@@ -7,7 +7,7 @@ use Rattle.arena.specs.Blame.{HasFailed}
 use Rattle.arena.specs.Log.{log, is_final}
 use Rattle.record.specs.declared.record.Answer.{Answer}
 use Rattle.record.specs.declared.record.Answer.TheVariants.{Snapshot, Finalized, Fail}
-use Rattle.record.specs.Answers.{IsSnapshotAt}
+use Rattle.record.specs.Answers.{IsSnapshotAt, IsPlacedCell}
 use Rattle.record.specs.Rules.{Rules}
 use Rattle.record.specs.Snapshots.{snapshot_of}
 
@@ -42,4 +42,5 @@ llx_rules cell = record {
   linked_then = llx_linked cell;
   IsRight = LlxIsRight cell;
   IsEntryFor = λ lay c before start linked e. ⊥;
+  IsPlaced = λ lay calls lines reply. IsPlacedCell lay lines reply;
 }

@@ -8,7 +8,7 @@ use Rattle.script.specs.Update.{update_cells, update_finalize, update_field, upd
 use Rattle.record.specs.declared.record.Answer.{Answer}
 use Rattle.record.specs.declared.record.Answer.TheVariants.{Done, Lost, Unlinked, Full}
 use Rattle.script.specs.declared.command.Update.{Update}
-use Rattle.record.specs.Answers.{AreUnchanged, IsInTheWay, IsEmpty, HasRoom}
+use Rattle.record.specs.Answers.{AreUnchanged, IsInTheWay, IsEmpty, HasRoom, IsPlacedCell}
 use Rattle.record.specs.Rules.{Rules}
 use Rattle.record.specs.Snapshots.{AreLinked, IsFirstUnlinked}
 use Rattle.record.specs.Updates.{IsEntryOver}
@@ -61,4 +61,5 @@ scx_rules update = record {
   linked_then = scx_linked update;
   IsRight = ScxIsRight update;
   IsEntryFor = IsScxEntry update;
+  IsPlaced = λ lay calls lines reply. IsPlacedCell lay lines reply;
 }

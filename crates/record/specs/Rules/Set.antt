@@ -8,7 +8,7 @@ use Rattle.arena.specs.Blame.{HasFailed}
 use Rattle.arena.specs.Log.{Entry as Entered, log, is_final}
 use Rattle.record.specs.declared.record.Answer.{Answer}
 use Rattle.record.specs.declared.record.Answer.TheVariants.{Finalized, Fail, Done, Lost, Full}
-use Rattle.record.specs.Answers.{IsUnchanged, IsInTheWay, IsEmpty, HasRoom}
+use Rattle.record.specs.Answers.{IsUnchanged, IsInTheWay, IsEmpty, HasRoom, IsPlacedCell}
 use Rattle.record.specs.Rules.{Rules}
 use Rattle.record.specs.Snapshots.{snapshot_of, IsLastLook}
 use Rattle.record.specs.Updates.{IsEntryOver}
@@ -55,4 +55,5 @@ set_rules field value = record {
   linked_then = set_linked field;
   IsRight = SetIsRight field value;
   IsEntryFor = IsSetEntry field value;
+  IsPlaced = λ lay calls lines reply. IsPlacedCell lay lines reply;
 }

@@ -6,7 +6,7 @@ use Rattle.arena.specs.History.{History}
 use Rattle.script.specs.Cells.{cells_of}
 use Rattle.record.specs.declared.record.Answer.{Answer}
 use Rattle.record.specs.declared.record.Answer.TheVariants.{Same, Changed, Unlinked}
-use Rattle.record.specs.Answers.{IsAsSnapped, AreUnchanged, IsInTheWay}
+use Rattle.record.specs.Answers.{IsAsSnapped, AreUnchanged, IsInTheWay, IsPlacedCell}
 use Rattle.record.specs.Rules.{Rules}
 use Rattle.record.specs.Snapshots.{AreLinked, IsBehindAll, IsFirstUnlinked}
 use Rattle.script.specs.declared.cells.Cells.{Cells}
@@ -47,4 +47,5 @@ vlx_rules cells = record {
   linked_then = vlx_linked;
   IsRight = VlxIsRight cells;
   IsEntryFor = λ lay c before start linked e. ⊥;
+  IsPlaced = λ lay calls lines reply. IsPlacedCell lay lines reply;
 }

@@ -1,15 +1,12 @@
 use Rattle.std.proofs.Common.{arith, ◌≡◌, [], ◌∷◌, ◌∙◌, ap, map, rules, subst, sym}
-use Rattle.script.proofs.Lemmas.{told_by_some}
 use Rattle.script.specs.Rows.{limits_row}
 use Rattle.texts.specs.Reads.{IsAtRow, last_row}
 use Rattle.report.specs.Report.{call_rows, title_row}
 use Rattle.texts.specs.Pages.{seven}
 use Rattle.report.proofs.read.script_of.Goals as goal
 
-pub invariant_of-result-clause-of_cells : goal.invariant_of-result-clause-of_cells
-invariant_of-result-clause-of_cells g c some =
-    let calls = c.in_ok-calls.calls in
-    told_by_some calls.items (λ k d lt. (c.in_ok-calls.ensures.accepted k d lt).1) (omega (arith, calls.ok.0))
+pub invariant_of-result-clause-of_mode : goal.invariant_of-result-clause-of_mode
+invariant_of-result-clause-of_mode g c k d lt = (c.in_ok-calls.ensures.accepted k d lt).1
 
 pub returns-clause-rows : goal.returns-clause-rows
 returns-clause-rows g c = λ bytes none.

@@ -2,7 +2,7 @@ use Rattle.std.proofs.Common.{arith, ◌≡◌, ◌<◌, ◌-◌, ◌^◌, [], �
 use Rattle.std.proofs.lemmas.List.{append-nil, length-reverse, reverse-append}
 use Rattle.std.proofs.lemmas.List.Elements.{All-nil, All-push}
 use Rattle.std.specs.Result.{is_ok}
-use Rattle.arena.specs.declared.limits.Mode.TheVariants.{Records}
+use Rattle.script.specs.Commands.{mode_of}
 use Rattle.script.specs.declared.command.Call.{Call}
 use Rattle.report.specs.Counts.{HasCounted}
 use Rattle.texts.specs.Reads.{IsAtRow, last_row}
@@ -17,7 +17,7 @@ loop-layout-init g c =
     let none : c.new-calls.result.items ≡ [] = c.new-calls.ensures.items in
     record {
       few = search rules;
-      accepted = rw none (All-nil (λ (told : Call). (told.client.0 < c.args.layout.passes) × (c.args.layout.mode ≡ Records)));
+      accepted = rw none (All-nil (λ (told : Call). (told.client.0 < c.args.layout.passes) × (mode_of told.command ≡ c.args.layout.mode)));
       counted = rw none c.new-counts.ensures;
       rows = λ bytes before start. rw (none, append-nil before) start;
     }
@@ -33,7 +33,7 @@ loop-layout-preserved g c =
     let few : length (reverse calls) < 2 ^ 64 - 1 = omega (arith, length-reverse calls, c.loop-layout.calls.ok.0, inv.few) in
     record {
       few = omega (arith, inv.few, rw added at c.extend_from_slice.ensures.len);
-      accepted = rw items (All-push (λ (told : Call). (told.client.0 < c.args.layout.passes) × (c.args.layout.mode ≡ Records)) calls call inv.accepted c.in_ok-call.ensures.accepted);
+      accepted = rw items (All-push (λ (told : Call). (told.client.0 < c.args.layout.passes) × (mode_of told.command ≡ c.args.layout.mode)) calls call inv.accepted c.in_ok-call.ensures.accepted);
       counted = subst (λ all. HasCounted c.next_call.new.counts all) newest (c.in_ok-call.ensures.counted (reverse calls) inv.counted few);
       rows = λ bytes before start.
           let here = inv.rows bytes before start in

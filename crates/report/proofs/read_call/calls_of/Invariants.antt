@@ -1,5 +1,5 @@
 use Rattle.std.proofs.Common.{◌≡◌, ◌<◌, ◌≤◌, ℕ, ◌-◌, All, List, [], ◌++◌, map, reverse, vec_len}
-use Rattle.arena.specs.declared.limits.Mode.TheVariants.{Records}
+use Rattle.script.specs.Commands.{mode_of}
 use Rattle.report.specs.Counts.{HasCounted}
 use Rattle.texts.specs.Reads.{IsAtRow}
 use Rattle.report.specs.Report.{call_rows}
@@ -9,7 +9,7 @@ use Rattle.report.proofs.read_call.calls_of.Given as goal
 abbrev pub invariant-loop-layout : goal.invariant-loop-layout
 invariant-loop-layout g l = record {
   few : vec_len l.calls ≤ 65536;
-  accepted : All (λ call. (call.client.0 < l.layout.passes) × (l.layout.mode ≡ Records)) l.calls.items;
+  accepted : All (λ call. (call.client.0 < l.layout.passes) × (mode_of call.command ≡ l.layout.mode)) l.calls.items;
   counted : HasCounted l.counts (reverse l.calls.items);
   rows : (bytes : List ℕ) (before : List (List (List ℕ))) → IsAtRow g.R.Read.remaining bytes before 7 l.fn.rows
       → IsAtRow g.R.Read.remaining bytes (before ++ map seven (call_rows [] l.calls.items)) 7 l.rows;

@@ -2,13 +2,10 @@ use Rattle.std.proofs.Common.{◌≡◌, [], ◌∷◌, ◌∙◌, ap, inl, inr,
 use Rattle.texts.specs.Reads.{HasRead, last_row}
 use Rattle.script.specs.Rows.{limits_row}
 use Rattle.texts.proofs.Lemmas.{begins, passed_on}
-use Rattle.script.proofs.OfCells.{told_by_some}
 use Rattle.script.proofs.script.script_of.Goals as goal
 
-pub invariant_of-result-clause-of_cells : goal.invariant_of-result-clause-of_cells
-invariant_of-result-clause-of_cells g c some =
-    let calls = c.in_ok-calls.calls in
-    told_by_some calls.items (λ k d lt. (c.in_ok-calls.ensures.accepted k d lt).1) (omega (arith, calls.ok.0))
+pub invariant_of-result-clause-of_mode : goal.invariant_of-result-clause-of_mode
+invariant_of-result-clause-of_mode g c k d lt = (c.in_ok-calls.ensures.accepted k d lt).1
 
 pub returns-in_err-advance-clause-fault : goal.returns-in_err-advance-clause-fault
 returns-in_err-advance-clause-fault g c bytes told =

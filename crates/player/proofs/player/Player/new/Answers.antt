@@ -1,4 +1,5 @@
 use Rattle.std.proofs.Common.{◌≡◌, List, [], sym, subst}
+use Rattle.script.proofs.Lemmas.{calls_are_of_mode}
 use Rattle.record.specs.declared.record.Line.{Line}
 use Rattle.player.specs.Lines.{newest}
 use Rattle.player.specs.BetweenTurns.{AreBetweenTurns, AreWins}
@@ -11,6 +12,6 @@ returns-clause-played c =
     let none : newest c.new-2.result ≡ [] = c.new-2.ensures in
     record {
       between = subst (λ (l : List Line). AreBetweenTurns script.layout script.calls.items c.in_ok-words.words c.in_ok-clients.clients.items l) (sym none)
-          (opening_between script.layout script.calls.items c.in_ok-words.words c.in_ok-clients.clients.items c.in_ok-words.ensures.layout c.in_ok-words.ensures.opening c.in_ok-clients.ensures.each);
+          (opening_between script.layout script.calls.items c.in_ok-words.words c.in_ok-clients.clients.items c.in_ok-words.ensures.layout c.in_ok-words.ensures.opening (calls_are_of_mode script) c.in_ok-clients.ensures.each);
       wins = subst (λ (l : List Line). AreWins script.layout l c.in_ok-wins.wins.items) (sym none) (no_wins script.layout c.in_ok-wins.wins.items);
     }

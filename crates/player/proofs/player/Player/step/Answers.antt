@@ -1,7 +1,7 @@
 use Rattle.std.proofs.Common.{[], ◌≡◌, suc, List, ◌∷◌, set, slice_get, reverse, refl, ◌∙◌, ap, subst}
 use Rattle.arena.specs.declared.number.PassNo.{PassNo}
 use Rattle.script.specs.declared.command.Call.{Call}
-use Rattle.script.proofs.Lemmas.{calls_are_of_cells}
+use Rattle.script.proofs.Lemmas.{calls_are_of_mode}
 use Rattle.record.specs.declared.record.Line.{Line}
 use Rattle.record.specs.declared.record.Line.TheVariants.{Step, Reply}
 use Rattle.record.specs.declared.record.Row.{Row}
@@ -27,7 +27,7 @@ make-requires-clause-asked c =
     let there = client_there p i old c.requires.client c.index_mut.ensures.value in
     let lines = ap (λ (l : List Line). reverse l) c.in_ok-reserve.ensures.same in
     let client = is_client p i number old new c.requires.played there in
-    let stood = c.in-Asks.ensures (client_view p.script.layout p.script.calls.items (newest p.lines) i) (begin (newest p.lines) i) c.requires.played.between.so_far.sound (calls_are_of_cells p.script) c.deref.ensures.value client in
+    let stood = c.in-Asks.ensures (client_view p.script.layout p.script.calls.items (newest p.lines) i) (begin (newest p.lines) i) c.requires.played.between.so_far.sound (calls_are_of_mode p.script) c.deref.ensures.value client in
     stood_asked p i number old new c.requires.played there _ c.in-Asks.step refl refl refl refl lines refl c.next_turn-number.ensures stood
 
 pub returns-in-Finished-clause-turn : goal.returns-in-Finished-clause-turn
@@ -40,7 +40,7 @@ returns-in-Finished-clause-turn c =
     let there = client_there p i old c.requires.client c.index_mut.ensures.value in
     let lines = ap (λ (l : List Line). reverse l) c.in_ok-reserve.ensures.same in
     let client = is_client p i number old new c.requires.played there in
-    let stood = c.in-Finished.ensures (client_view p.script.layout p.script.calls.items (newest p.lines) i) (begin (newest p.lines) i) c.requires.played.between.so_far.sound (calls_are_of_cells p.script) c.deref.ensures.value client in
+    let stood = c.in-Finished.ensures (client_view p.script.layout p.script.calls.items (newest p.lines) i) (begin (newest p.lines) i) c.requires.played.between.so_far.sound (calls_are_of_mode p.script) c.deref.ensures.value client in
     let between = stood_finished p i number old new c.requires.played there c.args.client refl (c.next_turn-number.ensures ∙ ap (λ (l : List Line). suc (turns l)) lines) stood in
     let line = c.idle.ensures.line ∙ ap (λ (l : List Line). Step c.idle.result ∷ l) lines in
     let idle = ap (λ (r : Row). Step r ∷ newest p.lines) c.idle.ensures.row in
@@ -66,7 +66,7 @@ returns-in-Answers-clause-turn c =
     let lines = ap (λ (l : List Line). reverse l) c.in_ok-reserve.ensures.same in
     let client = is_client p i number old new c.requires.played there in
     let answer = c.in-Answers.answer in
-    let stood = c.in-Answers.ensures (client_view p.script.layout p.script.calls.items (newest p.lines) i) (begin (newest p.lines) i) c.requires.played.between.so_far.sound (calls_are_of_cells p.script) c.deref.ensures.value client in
+    let stood = c.in-Answers.ensures (client_view p.script.layout p.script.calls.items (newest p.lines) i) (begin (newest p.lines) i) c.requires.played.between.so_far.sound (calls_are_of_mode p.script) c.deref.ensures.value client in
     let pass : new.pass.0 ≡ i = ap (λ (k : PassNo). k.0) stood.0.pass ∙ (c.requires.played.between.each i old there).0 in
     let idle = c.idle-row.ensures in
     let r = c.reply.ensures.replied new (ap (λ (l : List Client). slice_get l i) idle.same.clients ∙ get_own p.clients.items i old new there) pass in

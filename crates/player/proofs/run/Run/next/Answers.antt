@@ -1,0 +1,66 @@
+use Rattle.std.proofs.Common.{◌≡◌, None}
+use Rattle.arena.specs.declared.limits.Mode.TheVariants.{Records, Tree}
+use Rattle.prims.specs.Cells.{AllowsAll}
+use Rattle.prims.specs.Llx.Known.{LlxIsReady}
+use Rattle.prims.specs.Put.Known.{PutIsReady}
+use Rattle.prims.specs.Vlx.Known.{VlxIsReady}
+use Rattle.tree.specs.Get.Known.{GetIsReady}
+use Rattle.tree.specs.Get.Laws.{get_told}
+use Rattle.player.proofs.Shapes.{as_cells, as_tree}
+use Rattle.player.proofs.run.Run.next.Goals as goal
+
+pub returns-in-Ask-clause-turn : goal.returns-in-Ask-clause-turn
+returns-in-Ask-clause-turn c d h mode run ready =
+    let records : d.layout.mode ≡ Records = rw c.in-Llx.is at mode in
+    let r : LlxIsReady AllowsAll c.in-Llx.run' d h c.args.got = rw c.in-Llx.is at ready in
+    c.in-Ask.ensures.turn d h (as_cells d.layout h records run) r
+
+pub returns-in-Done-clause-turn : goal.returns-in-Done-clause-turn
+returns-in-Done-clause-turn c d h mode run ready =
+    let records : d.layout.mode ≡ Records = rw c.in-Llx.is at mode in
+    let r : LlxIsReady AllowsAll c.in-Llx.run' d h c.args.got = rw c.in-Llx.is at ready in
+    c.in-Done.ensures.turn d h (as_cells d.layout h records run) r
+
+pub returns-in-Ask-clause-nearer : goal.returns-in-Ask-clause-nearer
+returns-in-Ask-clause-nearer c d h nodes mode run ready few = rw c.in-Llx.is (c.in-Ask.ensures.nearer nodes tt)
+
+pub returns-in-Ask-next-clause-turn : goal.returns-in-Ask-next-clause-turn
+returns-in-Ask-next-clause-turn c d h mode run ready =
+    let records : d.layout.mode ≡ Records = rw c.in-Scx.is at mode in
+    let r : PutIsReady AllowsAll c.in-Scx.run' d h c.args.got = rw c.in-Scx.is at ready in
+    c.in-Ask-next.ensures.turn d h (as_cells d.layout h records run) r
+
+pub returns-in-Done-next-clause-turn : goal.returns-in-Done-next-clause-turn
+returns-in-Done-next-clause-turn c d h mode run ready =
+    let records : d.layout.mode ≡ Records = rw c.in-Scx.is at mode in
+    let r : PutIsReady AllowsAll c.in-Scx.run' d h c.args.got = rw c.in-Scx.is at ready in
+    c.in-Done-next.ensures.turn d h (as_cells d.layout h records run) r
+
+pub returns-in-Ask-next-clause-nearer : goal.returns-in-Ask-next-clause-nearer
+returns-in-Ask-next-clause-nearer c d h nodes mode run ready few = rw c.in-Scx.is (c.in-Ask-next.ensures.nearer nodes tt)
+
+pub returns-in-Ask-next-2-clause-turn : goal.returns-in-Ask-next-2-clause-turn
+returns-in-Ask-next-2-clause-turn c d h mode run ready =
+    let records : d.layout.mode ≡ Records = rw c.in-Vlx.is at mode in
+    let r : VlxIsReady c.in-Vlx.run'.snaps c.in-Vlx.run'.asked d h c.args.got = rw c.in-Vlx.is at ready in
+    c.in-Ask-next-2.ensures.turn d h (as_cells d.layout h records run) r
+
+pub returns-in-Done-next-2-clause-turn : goal.returns-in-Done-next-2-clause-turn
+returns-in-Done-next-2-clause-turn c d h mode run ready =
+    let records : d.layout.mode ≡ Records = rw c.in-Vlx.is at mode in
+    let r : VlxIsReady c.in-Vlx.run'.snaps c.in-Vlx.run'.asked d h c.args.got = rw c.in-Vlx.is at ready in
+    c.in-Done-next-2.ensures.turn d h (as_cells d.layout h records run) r
+
+pub returns-in-Ask-next-2-clause-nearer : goal.returns-in-Ask-next-2-clause-nearer
+returns-in-Ask-next-2-clause-nearer c d h nodes mode run ready few = rw c.in-Vlx.is (c.in-Ask-next-2.ensures.nearer nodes tt)
+
+pub returns-in-Done-next-2-clause-begins : goal.returns-in-Done-next-2-clause-begins
+returns-in-Done-next-2-clause-begins c none first d h ready =
+    let r : VlxIsReady c.in-Vlx.run'.snaps c.in-Vlx.run'.asked d h None = rw c.in-Vlx.is at ready in
+    c.in-Done-next-2.ensures.begins none tt d h r
+
+pub returns-in-Ask-next-3-clause-nearer : goal.returns-in-Ask-next-3-clause-nearer
+returns-in-Ask-next-3-clause-nearer c d h nodes mode run ready few =
+    let tree : d.layout.mode ≡ Tree = rw c.in-Get.is at mode in
+    let r : GetIsReady c.in-Get.run' d h c.args.got = rw c.in-Get.is at ready in
+    rw c.in-Get.is (c.in-Ask-next-3.ensures.nearer nodes (get_told c.in-Get.run' d h c.args.got nodes (as_tree d.layout h tree run) r few))

@@ -1,0 +1,63 @@
+-- What the lines of a record say of the map: its calls, the log, the map after each turn. Lines
+-- stand here with the newest first.
+use Rattle.std.specs.Prelude.{ℕ, suc, Bool, cond, ◌&&◌, eqb, leb, List, [], ◌∷◌, Option, Some, None, slice_get}
+use Rattle.spelling.specs.declared.pair.Pair.{Pair}
+use Rattle.spelling.specs.OrderedMap.{MapCall, Get, MapReply, OneValue, after}
+use Rattle.script.specs.declared.command.Call.{Call}
+use Rattle.script.specs.declared.command.Command.{Command}
+use Rattle.script.specs.declared.command.Command.TheVariants.{Get as GetOf}
+use Rattle.record.specs.declared.record.Line.{Line}
+use Rattle.record.specs.declared.record.Line.TheVariants.{Step, Log, Reply as ReplyLine}
+use Rattle.record.specs.declared.record.Entry.{Entry}
+use Rattle.record.specs.declared.record.Answer.{Answer}
+use Rattle.record.specs.declared.record.Answer.TheVariants.{Value}
+use Rattle.record.specs.Commands.{commands}
+
+-- a command as a call of the map, if it is one
+abbrev pub map_call : Option Command → Option MapCall
+map_call (Some (GetOf key)) = Some (Get key)
+map_call _ = None
+
+-- call j of client c, in the script, as a call of the map
+abbrev pub map_call_of : List Call → ℕ → ℕ → Option MapCall
+map_call_of calls c j = map_call (slice_get (commands calls c) j)
+
+-- what an answer tells of the map; a refusal tells nothing
+abbrev pub reply_told : Answer → Option MapReply
+reply_told (Value v) = Some (OneValue v)
+reply_told _ = None
+
+-- the entries that were written down, the newest first
+abbrev pub written_log : List Line → List Entry
+written_log [] = []
+written_log (Step row ∷ lines) = written_log lines
+written_log (Log entry ∷ lines) = entry ∷ written_log lines
+written_log (ReplyLine reply ∷ lines) = written_log lines
+
+-- those of the turns up to m
+abbrev pub entries_until : ℕ → List Entry → List Entry
+entries_until m [] = []
+entries_until m (e ∷ es) = cond (leb e.step m) (e ∷ entries_until m es) (entries_until m es)
+
+-- whether the entry is of call j of client c
+abbrev pub is_of_call : ℕ → ℕ → Entry → Bool
+is_of_call c j e = eqb c e.client.0 && eqb j e.call
+
+-- how many entries call j of client c has
+abbrev pub entries_of_call : ℕ → ℕ → List Entry → ℕ
+entries_of_call c j [] = 0
+entries_of_call c j (e ∷ es) = cond (is_of_call c j e) (suc (entries_of_call c j es)) (entries_of_call c j es)
+
+-- the map that the call leaves, if it is a call of the map
+abbrev pub after_maybe : Option MapCall → List Pair → List Pair
+after_maybe (Some call) m = after call m
+after_maybe None m = m
+
+-- the empty map, after the calls of these entries
+abbrev pub map_of : List Call → List Entry → List Pair
+map_of calls [] = []
+map_of calls (e ∷ es) = after_maybe (map_call_of calls e.client.0 e.call) (map_of calls es)
+
+-- the map after turn m
+abbrev pub map_at : List Call → List Line → ℕ → List Pair
+map_at calls lines m = map_of calls (entries_until m (written_log lines))

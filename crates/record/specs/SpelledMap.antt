@@ -1,0 +1,31 @@
+-- In tree mode the words spell the map so far after every step.
+use Rattle.std.specs.Prelude.{◌≡◌, ℕ, ◌<◌, false, ◌⊎◌, List, [], ◌∷◌, None}
+use Rattle.arena.specs.declared.layout.Layout.{Layout}
+use Rattle.arena.specs.declared.word.Side.{Side}
+use Rattle.arena.specs.Words.{child}
+use Rattle.arena.specs.History.{History, value, HasHeld}
+use Rattle.spelling.specs.TreeWords.{level, is_leaf}
+use Rattle.spelling.specs.Spelled.{Spells}
+use Rattle.script.specs.declared.command.Call.{Call}
+use Rattle.record.specs.declared.record.Line.{Line}
+use Rattle.record.specs.Turns.{history, entry_owed}
+use Rattle.record.specs.MapRecord.{written_log, map_of}
+
+-- the node is there from the start, or a field has named it at some moment
+abbrev pub WasNamedByField : History → ℕ → Type 0
+WasNamedByField h n = (n < 3) ⊎ ((m : ℕ) × (from : Side) × HasHeld h (child m from) n)
+
+-- each fork that a field has ever named, in the tree or removed, has a level below its children's
+abbrev pub HasRisingLevels : History → Type 0
+HasRisingLevels h = (n : ℕ) (side : Side) → WasNamedByField h n → is_leaf (value h) n ≡ false → level (value h) n < level (value h) (value h (child n side))
+
+-- the words after these lines spell the map of their entries
+pub record IsSpelledAfter (lay : Layout) (calls : List Call) (lines : List Line) : Type 0 where
+  pub spelled : Spells lay (value (history lay.mode lines)) (map_of calls (written_log lines))
+  pub rising : HasRisingLevels (history lay.mode lines)
+
+-- at the start and line by line, but between an update that won and its entry: so after each step
+-- the words spell the map so far
+unfoldable pub AreSpelled : Layout → List Call → List Line → Type 0
+AreSpelled lay calls [] = IsSpelledAfter lay calls []
+AreSpelled lay calls (line ∷ lines) = AreSpelled lay calls lines × (entry_owed lay (line ∷ lines) ≡ None → IsSpelledAfter lay calls (line ∷ lines))

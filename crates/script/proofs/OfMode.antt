@@ -1,0 +1,9 @@
+-- The mode of a script's calls.
+use Rattle.std.proofs.Common.{◌≡◌, ℕ, ◌<◌, length, get_or, All}
+use Rattle.script.specs.declared.command.Call.{Call}
+use Rattle.script.specs.declared.script.Script.{Script}
+use Rattle.script.specs.Commands.{mode_of}
+
+-- each call of a script has a command of the script's mode
+pub calls_are_of_mode : (s : Script) → All (λ (call : Call). mode_of call.command ≡ s.layout.mode) s.calls.items
+calls_are_of_mode s = s.of_mode
