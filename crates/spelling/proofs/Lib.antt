@@ -1,0 +1,21 @@
+mod Trees
+mod Local
+mod Searches
+mod Next
+mod Pending
+mod Moved
+mod TreeFacts
+mod Edited
+mod Grown
+mod Past
+mod Inside
+mod Spelled
+mod Runs
+mod Meanings
+mod Removed
+mod Blamed
+mod Levels
+mod ChangedFields
+mod Taken
+mod TreeRuns
+pub mod Lemmas

@@ -1,0 +1,7 @@
+pub mod OrderedMap
+pub mod TreeWords
+pub mod Spelled
+pub mod Paths
+pub mod Edits
+pub mod TreeShape
+pub mod Runs

@@ -1,0 +1,35 @@
+-- Which nodes a search for a key passes, now or at a moment before, and what it may answer.
+use Rattle.std.specs.Prelude.{◌≡◌, ℕ, List, Option}
+use Rattle.arena.specs.declared.layout.Layout.{Layout}
+use Rattle.arena.specs.History.{History, value, Extends}
+use Rattle.spelling.specs.OrderedMap.{Pair, get}
+use Rattle.spelling.specs.TreeWords.{Tree, Passes}
+use Rattle.spelling.specs.Spelled.{IsTree, Spells}
+
+-- after the history n stands in the tree, on the search path of k
+pub record IsOnPath (h : History) (k n : ℕ) : Type 0 where
+  pub tree : Tree
+  pub is_tree : IsTree (value h) tree
+  pub passes : Passes (value h) k tree n
+
+-- n was on the search path of k, in the tree, at a moment of the history
+abbrev pub WasOnPath : History → ℕ → ℕ → Type 0
+WasOnPath h k n = (m : History) × Extends h m × IsOnPath m k n
+
+-- n was on the search path of k, in the tree, at a moment that is not before `start`
+abbrev pub Passed : History → History → ℕ → ℕ → Type 0
+Passed h start k n = (m : History) × Extends h m × Extends m start × IsOnPath m k n
+
+-- at a moment of the history that is not before `start` the map gives this value of k
+pub record IsAnswerAt (lay : Layout) (h start : History) (k : ℕ) (answer : Option ℕ) : Type 0 where
+  pub moment : History
+  pub within : Extends h moment
+  pub since : Extends moment start
+  pub gives : (m : List Pair) → Spells lay (value moment) m → get k m ≡ answer
+
+-- the greatest moment of the history, from `start` on, of which P holds
+pub record IsGreatest (P : History → Type 0) (h start moment : History) : Type 0 where
+  pub within : Extends h moment
+  pub since : Extends moment start
+  pub holds : P moment
+  pub last : (m : History) → Extends h m → Extends m moment → P m → m ≡ moment

@@ -1,0 +1,2 @@
+//! What map the words of a tree spell.
+#![tactic(auto)]

@@ -1,0 +1,11 @@
+pub mod Promises
+pub mod WalkSteps
+pub mod WalkKnown
+pub mod WalkTurns
+pub mod WalkLaws
+pub mod GetKnown
+pub mod AgainKnown
+pub mod Tracked
+pub mod FreshFills
+pub mod TreeKept
+pub mod WalkFits
