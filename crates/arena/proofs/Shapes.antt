@@ -7,7 +7,8 @@ use Rattle.arena.specs.Lawful.{Lawful}
 use Rattle.arena.specs.Shape.{Shaped}
 use Rattle.arena.specs.Machines.{IsRun}
 
--- what is true before the first row, and what every row of a run keeps true, is true of every run: with a shape's laws
+-- what is true before the first row, and what every row of a run keeps true, is true of every run:
+-- with a shape's laws
 pub run_holds : (allows : Layout → History → ℕ → Type 0) (holds : Layout → History → Type 0) → ((lay : Layout) → holds lay (Start lay.mode)) → ((lay : Layout) (h : History) (r : Row) → IsRun allows lay (r ⊳ h) → holds lay h → holds lay (r ⊳ h)) → (lay : Layout) (h : History) → IsRun allows lay h → holds lay h
 unfolding Lawful Shaped
 run_holds allows holds opens stays lay (Start mode) run = subst (λ m. holds lay (Start m)) (sym run.lawful) (opens lay)

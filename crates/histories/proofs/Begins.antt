@@ -1,4 +1,5 @@
--- An SCX-record of a pass that no info word names yet: rows of others keep what its first freezing exchange needs.
+-- An SCX-record of a pass that no info word names yet: rows of others keep what its first freezing
+-- exchange needs.
 use Rattle.std.proofs.Common.{◌≡◌, ◌≢◌, ℕ, ◌<◌, inl, ⊎_elim, sym, ◌∙◌, arith, subst}
 use native.Mathlib.Decide.{ℕ_discrete}
 use Rattle.arena.specs.declared.layout.Layout.{Layout}

@@ -1,4 +1,5 @@
--- What holds after every lawful history: the facts about each SCX-record that an info word names, and about marks.
+-- What holds after every lawful history: the facts about each SCX-record that an info word names,
+-- and about marks.
 use Rattle.std.proofs.Common.{◌≡◌, ◌≢◌, ℕ, ◌<◌, true, ◌⊎◌, inl, inr, refl, arith}
 use Rattle.arena.specs.declared.word.ScxWord.{ScxWord}
 use Rattle.arena.specs.declared.word.ScxWord.TheVariants.{AllFrozen, Plan, New, Old, Member, Seen, Call}

@@ -1,4 +1,5 @@
--- Final nodes: at rest a node is final where it is marked, and only there; it stays final, and never changes again.
+-- Final nodes: at rest a node is final where it is marked, and only there; it stays final, and
+-- never changes again.
 use Rattle.std.proofs.Common.{◌≡◌, ◌≢◌, ℕ, Bool, true, false, inl, inr, ⊎_elim, refl, sym, ◌∙◌, arith}
 use native.Mathlib.Decide.{ℕ_discrete}
 use Rattle.arena.specs.declared.layout.Layout.{Layout}
@@ -52,7 +53,8 @@ one_finalizing f x y = sym (finalizing_holds f x) ∙ finalizing_holds f y
 pub final_marked : (lay : Layout) (h : History) (n : ℕ) → Lawful lay h → is_final (log lay h) n ≡ true → value h (marked n) ≡ 1
 final_marked lay h n l e = let x : (s : ℕ) × IsFinalizedBy h n s = final_by lay h n l e in finalized_marked (facts lay h l) x.1
 
--- and a marked node whose info names a finished SCX-record is final: that SCX-record is committed and finalizes it
+-- and a marked node whose info names a finished SCX-record is final: that SCX-record is committed
+-- and finalizes it
 pub record IsFinalAtRest (h : History) (n s : ℕ) : Type 0 where
   pub committed : value h (state s) ≡ 1
   pub by : IsFinalizedBy h n s

@@ -1,4 +1,5 @@
--- What a helper of an SCX-record that an info word names may do, whatever lawful rows of others come between.
+-- What a helper of an SCX-record that an info word names may do, whatever lawful rows of others
+-- come between.
 use Rattle.std.proofs.Common.{◌≡◌, ◌≢◌, ℕ, ◌<◌, ◌⊎◌, inl, inr, ⊎_elim, sym, ◌∙◌, arith, subst}
 use native.Mathlib.Decide.{ℕ_discrete}
 use Rattle.arena.specs.declared.layout.Layout.{Layout}
@@ -34,7 +35,8 @@ started_first lay h s l x = first_frozen h s x.named.0 x.named.1 ((facts lay h l
 three : (a b : ℕ) → (a < b) ⊎ ((b < a) ⊎ (b ≡ a))
 three a b = grind arith
 
--- A freezing exchange of a node, all earlier ones being frozen, can win only while the SCX-record is in progress.
+-- A freezing exchange of a node, all earlier ones being frozen, can win only while the SCX-record
+-- is in progress.
 pub wins_in_progress : (lay : Layout) (h : History) (s j : ℕ) → Lawful lay h → IsStarted h s → j < count h s → AreFrozen h s j → value h (info (member h s j)) ≡ seen h s j → value h (state s) ≡ 0
 wins_in_progress lay h s j l started i earlier e = go (ℕ_discrete (value h (state s)) 0)
   where

@@ -1,4 +1,5 @@
--- The last entry of a node, and whether it is final, stay while its info names one finished SCX-record, and while one that holds it has not won.
+-- The last entry of a node, and whether it is final, stay while its info names one finished
+-- SCX-record, and while one that holds it has not won.
 use Rattle.std.proofs.Common.{◌≡◌, ◌≢◌, ℕ, Bool, true, false, cond, ◌||◌, inl, inr, List, ◌∷◌, length, suc, refl, sym, ◌∙◌, subst}
 use Rattle.arena.specs.declared.layout.Layout.{Layout}
 use Rattle.arena.specs.declared.step.Row.{Row}

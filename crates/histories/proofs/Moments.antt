@@ -123,7 +123,8 @@ pub record Still (m h : History) (n s : ℕ) : Type 0 where
   pub fields : (side : Side) → value h (child n side) ≡ value m (child n side)
   pub mark : value h (marked n) ≡ value m (marked n)
 
--- Where the info of a node names a finished SCX-record after a row, it did before the row, and the row left the fields and the mark.
+-- Where the info of a node names a finished SCX-record after a row, it did before the row, and the
+-- row left the fields and the mark.
 pub still : (lay : Layout) (h : History) (r : Row) (n s : ℕ) → Lawful lay (r ⊳ h) → IsNamed lay h n → value h (state s) ≢ 0 → value (r ⊳ h) (info n) ≡ s → Still h (r ⊳ h) n s
 still lay h r n s l named d here = go (effect lay h r l)
   where
@@ -208,7 +209,8 @@ pub node_since : (lay : Layout) (h m : History) (n : ℕ) (a : NodeWord) → Law
 node_since lay h m n a l e i p =
     (since (λ k. IsNamed lay k n × (value k (node n a) ≡ value m (node n a))) lay (λ h r l q. (named_more r q.0, node_stays lay h r n a l i q.0 ∙ q.1)) h m l e (p, refl)).1
 
--- At rest nothing moves: an info word that names at the end what was finished at a moment, named it ever since.
+-- At rest nothing moves: an info word that names at the end what was finished at a moment, named it
+-- ever since.
 pub still_since : (lay : Layout) (h m : History) (n s : ℕ) → Lawful lay h → Extends h m → IsNamed lay m n → value m (state s) ≢ 0 → value h (info n) ≡ s → Still m h n s
 still_since lay (Start mode) m n s l e p d here = subst (λ k. Still k (Start mode) n s) (sym e) record { info = here; fields = λ side. refl; mark = refl }
 still_since lay (r ⊳ h) m n s l (inl e) p d here = subst (λ k. Still k (r ⊳ h) n s) (sym e) record { info = here; fields = λ side. refl; mark = refl }

@@ -1,4 +1,5 @@
--- Each record has one owner, and rows of others leave an SCX-record of its owner's alone that no info word names.
+-- Each record has one owner, and rows of others leave an SCX-record of its owner's alone that no
+-- info word names.
 use Rattle.std.proofs.Common.{◌≡◌, ◌≢◌, ℕ, ◌<◌, ◌≤◌, ◌+◌, ◌*◌, ◌⊎◌, inl, inr, ⊎_elim, refl, arith, suc}
 use Rattle.std.proofs.Math.Nat.{mul-le-mul_right}
 use native.Mathlib.Decide.{ℕ_discrete}

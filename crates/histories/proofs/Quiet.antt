@@ -1,4 +1,5 @@
--- Loads, lost exchanges, fills, and the rows that set a flag, a mark or a state, each keep what they must.
+-- Loads, lost exchanges, fills, and the rows that set a flag, a mark or a state, each keep what
+-- they must.
 use Rattle.std.proofs.Common.{◌≡◌, ◌≢◌, ℕ, ◌≤◌, false, ◌⊎◌, inl, inr, ⊎_elim, refl, sym, ◌∙◌, arith}
 use native.Mathlib.Decide.{ℕ_discrete}
 use Rattle.arena.specs.declared.word.NodeWord.{NodeWord}

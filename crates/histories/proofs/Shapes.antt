@@ -1,4 +1,5 @@
--- Only the owner's first freezing exchange begins an SCX-record; so what a helper does asks nothing of the shape.
+-- Only the owner's first freezing exchange begins an SCX-record; so what a helper does asks nothing
+-- of the shape.
 use Rattle.std.proofs.Common.{◌≡◌, ℕ, inl, inr, sym, ◌∙◌, ap, arith, subst}
 use native.Mathlib.Decide.{ℕ_discrete}
 use Rattle.arena.specs.declared.layout.Layout.{Layout}
@@ -54,7 +55,8 @@ begins_once lay h r s l g = go (change lay h r l)
         at_place (yes q) = record { own = ((w.freeze.may_win w.found).1 q).own; never = none q }
         at_place (no q) = absurd (freeze_distinct f w j 0 w.freeze.within (let x = w.freeze.within in omega arith) q place)
 
--- A row keeps to the shape if what it begins is allowed; and it begins only what is its own pass's and not named yet.
+-- A row keeps to the shape if what it begins is allowed; and it begins only what is its own pass's
+-- and not named yet.
 pub shaped_more : (allows : Layout → History → ℕ → Type 0) (lay : Layout) (h : History) (r : Row) → Lawful lay (r ⊳ h) → Shaped allows lay h → ((s : ℕ) → IsFirst lay h r s → IsBegin h r s → allows lay h s) → Shaped allows lay (r ⊳ h)
 unfolding Shaped
 shaped_more allows lay h r l p own = (p, λ s g. own s (begins_once lay h r s l g) g)

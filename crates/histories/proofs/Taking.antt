@@ -1,4 +1,5 @@
--- Which SCX-records are taken: each that an info word names or that is finished, and no pass takes one of another's.
+-- Which SCX-records are taken: each that an info word names or that is finished, and no pass takes
+-- one of another's.
 use Rattle.std.proofs.Common.{◌≡◌, ◌≢◌, ℕ, ◌<◌, Bool, true, false, ◌⊎◌, inl, inr, refl, sym, ◌∙◌, arith, subst}
 use native.Mathlib.Decide.{ℕ_discrete}
 use Rattle.arena.specs.declared.layout.Layout.{Layout}

@@ -1,4 +1,5 @@
--- A node that no field and no SCX-record has ever named: rows of others leave it so, and so do rows that do not store its number and all rows but fills.
+-- A node that no field and no SCX-record has ever named: rows of others leave it so, and so do rows
+-- that do not store its number and all rows but fills.
 use Rattle.std.proofs.Common.{◌≡◌, ◌≢◌, ℕ, ◌<◌, ◌≤◌, Bool, true, false, ◌⊎◌, inl, inr, ⊎_elim, refl, sym, ◌∙◌, arith, subst}
 use Rattle.arena.specs.declared.layout.Layout.{Layout}
 use Rattle.arena.specs.declared.word.Side.{Side}
@@ -89,7 +90,8 @@ unmentioned_by_fill h r n d u = record {
         go (inr q) = q
         go (inl q) = test (same_word r.word w) refl q
 
--- a lawful row that is no fill: an update stores what its SCX-record's `new` holds, and the others change no word that names nodes
+-- a lawful row that is no fill: an update stores what its SCX-record's `new` holds, and the others
+-- change no word that names nodes
 pub unmentioned_by_step : (lay : Layout) (h : History) (r : Row) (n : ℕ) → Lawful lay (r ⊳ h) → r.kind ≢ Fill → IsUnmentioned h n → IsUnmentioned (r ⊳ h) n
 unmentioned_by_step lay h r n l no_fill u = go (change lay h r l)
   where

@@ -1,4 +1,5 @@
--- A node of a pass's own share that is not named is its own: rows of others leave its words, and do not name it.
+-- A node of a pass's own share that is not named is its own: rows of others leave its words, and do
+-- not name it.
 use Rattle.std.proofs.Common.{◌≡◌, ◌≢◌, ℕ, ◌<◌, Bool, true, false, ◌⊎◌, inl, inr, ⊎_elim, refl, sym, ◌∙◌, arith, subst, ne_eqb}
 use native.Mathlib.Decide.{ℕ_discrete}
 use Rattle.arena.specs.declared.limits.Mode.{Mode}
@@ -33,7 +34,8 @@ in_field_named n (inr x) = by_field x.0 x.1 x.2 x.3
 
 -- Who wrote a number
 
--- the number that names n is 0, or the field's node is named, or the pass that owns that node may have written it
+-- the number that names n is 0, or the field's node is named, or the pass that owns that node may
+-- have written it
 abbrev pub IsWritten : Layout → History → ℕ → ℕ → Type 0
 IsWritten lay h m n = (n ≡ 0) ⊎ (IsNamed lay h m ⊎ ((d : ℕ) × IsOwnNode lay d m × (IsOthersNode lay d n → IsNamed lay h n)))
 
@@ -87,7 +89,8 @@ field_written lay (r ⊳ h) m side n l p = go (held_split r h (child m side) n p
         test false e = before (held_at h _ _ (sym (value_other r h (child m side) e) ∙ q))
         test true e = by_word q before (word_same r.word (child m side) e) (change lay h r l)
 
--- the number in a word of an SCX-record is 0, or the pass that owns the SCX-record may have written it
+-- the number in a word of an SCX-record is 0, or the pass that owns the SCX-record may have written
+-- it
 abbrev pub IsScxWritten : Layout → History → ℕ → ℕ → Type 0
 IsScxWritten lay h s n = (n ≡ 0) ⊎ ((d : ℕ) × IsOwnScx lay d s × (IsOthersNode lay d n → IsNamed lay h n))
 
@@ -155,7 +158,8 @@ module _ (lay : Layout) (h : History) (r : Row) (c : ℕ) (l : Lawful lay (r ⊳
   zero_named : (n : ℕ) → n ≡ 0 → IsNamed lay h n
   zero_named n e = opening_node (rw e (some_opening lay.mode))
 
-  -- a field of another comes to name a node only where the node was named, or was in that field before
+  -- a field of another comes to name a node only where the node was named, or was in that field
+  -- before
   pub field_back : (m : ℕ) (side : Side) (n : ℕ) → IsOwnNode lay c n → HasHeld (r ⊳ h) (child m side) n → IsNamed lay h n ⊎ HasHeld h (child m side) n
   field_back m side n own p = go (held_split r h (child m side) n p)
     where
@@ -198,7 +202,8 @@ module _ (lay : Layout) (h : History) (r : Row) (c : ℕ) (l : Lawful lay (r ⊳
   by_old_word s part n i own p (inr o) (inl e) = zero_named n e
   by_old_word s part n i own p (inr o) (inr x) = x.2 (others x.0 n (λ e. other (one_scx_owner lay r.pass.0 x.0 s o x.1 ∙ e)) own)
 
-  -- a word of an SCX-record comes to name a node only where the node was named, or was in that word before
+  -- a word of an SCX-record comes to name a node only where the node was named, or was in that word
+  -- before
   pub word_back : (s : ℕ) (part : ScxWord) (n : ℕ) → NamesNode part → IsOwnNode lay c n → HasHeld (r ⊳ h) (scx s part) n → IsNamed lay h n ⊎ HasHeld h (scx s part) n
   word_back s part n i own p = go (held_split r h (scx s part) n p)
     where

@@ -1,4 +1,5 @@
--- What the entry of a row that wins says: the update of the call that the owner of its SCX-record has in hand.
+-- What the entry of a row that wins says: the update of the call that the owner of its SCX-record
+-- has in hand.
 use Rattle.std.proofs.Common.{◌≡◌, ◌≢◌, ℕ, zero, suc, ◌<◌, inl, ⊎_elim, Bool, true, false, cond, eqb, eqb-true, eq-eqb, ◌↔◌, List, [], ◌∷◌, length, Option, Some, None, refl, sym, ◌∙◌, subst, arith}
 use Rattle.std.specs.List.{Contains}
 use Rattle.arena.specs.declared.step.Row.{Row}

@@ -81,7 +81,8 @@ full_answer lay h c left (Value value) share full = absurd full
 
 -- The SCX of a set
 
--- what is said of the snapshots if the SCX of the command is refused: that of a `set` has been taken now
+-- what is said of the snapshots if the SCX of the command is refused: that of a `set` has been
+-- taken now
 abbrev pub linked_now : ClientView → Command → ℕ → Option History
 linked_now v (SetOf field x) n = cond (eqb field.0 n) (Some v.past) (v.linked n)
 linked_now v _ n = v.linked n

@@ -1,4 +1,5 @@
--- Where the calls of a run took place: those of cells where their answer says; a get in its last turn,
+-- Where the calls of a run took place: those of cells where their answer says; a get in its last
+-- turn,
 -- since a run of gets alone leaves the words as they were at the start, which spell the empty map.
 use Rattle.std.proofs.Common.{◌≡◌, ℕ, zero, suc, ◌<◌, ◌≤◌, ◌⊎◌, inl, inr, ⊎_elim, Bool, true, false, cond, eqb, List, [], ◌∷◌, length, Option, Some, None, slice_get, All, refl, sym, ◌∙◌, ap, subst, arith}
 use Rattle.std.proofs.lemmas.Option.{slice_get_cases}

@@ -29,7 +29,8 @@ read_other (z ∷ zs) zero (suc n) y d = refl
 read_other (z ∷ zs) (suc i) zero y d = refl
 read_other (z ∷ zs) (suc i) (suc n) y d = read_other zs i n y (λ e. d (ap suc e))
 
--- once an LLX of a cell is answered, what it found is kept of it in place of what was, and `moment` is said of it
+-- once an LLX of a cell is answered, what it found is kept of it in place of what was, and `moment`
+-- is said of it
 module _ (old new : Kept) (llx : Llx) (linked linked_after : ℕ → Option History) (moment : Option History) (e : new.found ≡ set old.found (node_of llx) (found_of llx)) (small : node_of llx ≤ 8) (said : (n : ℕ) → linked_after n ≡ cond (eqb (node_of llx) n) moment (linked n)) where
   read : (n : ℕ) → get_or new.found n None ≡ get_or (set old.found (node_of llx) (found_of llx)) n None
   read n = ap (λ (xs : List (Option Found)). get_or xs n None) e

@@ -47,7 +47,8 @@ use Rattle.player.proofs.Begun.{begin_within}
 use Rattle.player.proofs.Winners.{IsEntryOfWin, entry_wins, tells_won}
 use Rattle.player.proofs.Entered.{IsEntryFrom, entry_by_others, entry_by_own, rest_wins_not}
 
--- the client that makes the turn is about to hear what its step found; turn number `number` has been written down in full
+-- the client that makes the turn is about to hear what its step found; turn number `number` has
+-- been written down in full
 pub record IsHeard (lay : Layout) (calls : List Call) (words : Contents) (all : List Client) (lines : List Line) (c : Client) (q : Running) (found number : ℕ) : Type 0 where
   pub turn : IsTurnOf lay calls words all lines c
   pub told : Hears (client_view lay calls lines c.pass.0) c q found

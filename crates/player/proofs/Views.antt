@@ -49,7 +49,8 @@ share_by_own (Vlx m) call h step left node scx l w newest x = share_by_step call
 share_by_own (Get m) call h step left node scx l w newest x = share_by_step call.layout h (row_of call step h) call.pass left node scx l (get_fills_not m call h step w) x
 share_by_own (Scx m) call h step left node scx l w newest x = share_by_put AllowsAll m call h step left node scx l w newest.0 newest.1 x
 
--- the view with one row more, with this begin of the call, so many steps of its own, and this turn of its update
+-- the view with one row more, with this begin of the call, so many steps of its own, and this turn
+-- of its update
 abbrev pub after_row : ClientView → Row → History → ℕ → Option ℕ → ClientView
 after_row v r start steps won = record { layout = v.layout; calls = v.calls; past = r ⊳ v.past; answered = v.answered; start = start; steps = steps; won = won; linked = v.linked }
 
@@ -89,7 +90,8 @@ covers_ready (Scx m) call h v left l w share = λ n own p x. put_covers_then All
 unspent_more : (lay : Layout) (c : ℕ) (h : History) (r : Row) (snap : Snap) (moment : History) → Lawful lay (r ⊳ h) → ((s : ℕ) → IsOwnScx lay c s → IsInProgress (r ⊳ h) s → ¬ IsMember (r ⊳ h) s snap.node.0) → IsUnspent lay c h snap moment → IsUnspent lay c (r ⊳ h) snap moment
 unspent_more lay c h r snap moment l none x = record { usable = usable_since lay (r ⊳ h) h snap moment l (inr (ends_self h)) x.usable; alone = alone_more lay c h r snap none x.alone }
 
--- it leaves what a client has, if it leaves its share and what it has taken, and what it has in hand covers its snapshots
+-- it leaves what a client has, if it leaves its share and what it has taken, and what it has in
+-- hand covers its snapshots
 stands_more : (v : ClientView) (c : Client) (r : Row) (start : History) (steps : ℕ) (won : Option ℕ) (hand : Hand) → IsSound (after_row v r start steps won) → IsShare v.layout (r ⊳ v.past) c.pass.0 c.share hand.node hand.scx → AreFinished v.layout c.pass.0 hand.scx (r ⊳ v.past) → Covers v.layout (r ⊳ v.past) c.pass.0 hand → IsClientState v c hand → IsClientState (after_row v r start steps won) c hand
 stands_more v c r start steps won hand run share over covers x = record {
   is_pass = x.is_pass;

@@ -29,7 +29,8 @@ use Rattle.record.specs.Turns.{history, entries, is_update, entry_at, entry_of, 
 use Rattle.player.specs.ClientView.{client_view}
 use Rattle.player.proofs.Views.{TellsWon}
 
--- an update that changes its field finds in the info of the field's node an SCX-record of the table, and not the dummy
+-- an update that changes its field finds in the info of the field's node an SCX-record of the
+-- table, and not the dummy
 pub winner_holds : (lay : Layout) (h : History) (r : Row) (n : ℕ) (side : Side) → Lawful lay (r ⊳ h) → r.kind ≡ Update → r.before ≢ r.after → r.word ≡ child n side → (value h (info n) ≢ 0) × (value h (info n) < all_scx lay)
 winner_holds lay h r n side l k d e = go (change lay h r l)
   where

@@ -1,4 +1,5 @@
--- What a pass knows between its calls, and while one of them runs: its SCX-records are over, and its snapshots are left alone.
+-- What a pass knows between its calls, and while one of them runs: its SCX-records are over, and
+-- its snapshots are left alone.
 use Rattle.std.proofs.Common.{◌≡◌, ◌≢◌, ℕ, inl, inr, arith}
 use native.Mathlib.Decide.{ℕ_discrete}
 use Rattle.arena.specs.declared.layout.Layout.{Layout}

@@ -1,4 +1,5 @@
--- Which of its own rows leave a pass idle: those of an LLX and of a VLX, and those of an SCX but for its own SCX-record.
+-- Which of its own rows leave a pass idle: those of an LLX and of a VLX, and those of an SCX but
+-- for its own SCX-record.
 use Rattle.std.proofs.Common.{◌≡◌, ◌≢◌, ℕ, sym, ◌∙◌, ap, arith, List}
 use native.Mathlib.Decide.{ℕ_discrete}
 use Rattle.arena.specs.declared.limits.Mode.{Mode}

@@ -21,7 +21,8 @@ use Rattle.prims.specs.declared.vlx.Vlx.TheVariants.{Changed}
 pub no_others : (lay : Layout) (c s : ℕ) → lay.passes ≡ 1 → c < lay.passes → IsOthersScx lay c s → ⊥
 no_others lay c s one is_pass o = let p = o.is_pass in o.is_other (omega arith)
 
--- so LLX never fails, and over snapshots that the pass has left alone SCX never loses, and VLX finds no change
+-- so LLX never fails, and over snapshots that the pass has left alone SCX never loses, and VLX
+-- finds no change
 pub alone_never_fails : (m : LlxRun) (c : Call) (h : History) (node : NodeNo) (s : ScxNo) → c.layout.passes ≡ 1 → LlxAnswers m c h (Fail node s) → ⊥
 alone_never_fails m c h node s one x = no_others c.layout c.pass s.0 one c.is_pass x.1.others
 

@@ -68,7 +68,8 @@ module _ (snaps : List Snap) (nodes : List NodeNo) (at : ℕ) (side : Side) (bs 
 
 -- The nodes that it finalizes
 
--- a snapshot whose node the plan finalizes, where the first of the snapshots has this place in the plan
+-- a snapshot whose node the plan finalizes, where the first of the snapshots has this place in the
+-- plan
 record IsRemovedAt (p : ℕ) (snaps : List Snap) (from n : ℕ) : Type 0 where
   at : ℕ
   within : at < length snaps

@@ -1,4 +1,5 @@
--- What a pass needs to begin an SCX, with a fresh cell or with other fresh nodes that it has filled.
+-- What a pass needs to begin an SCX, with a fresh cell or with other fresh nodes that it has
+-- filled.
 use Rattle.std.proofs.Common.{◌≡◌, ◌≢◌, ℕ, ◌<◌, arith}
 use native.Mathlib.Decide.{ℕ_discrete}
 use Rattle.arena.specs.declared.layout.Layout.{Layout}
@@ -19,7 +20,8 @@ use Rattle.prims.specs.Put.Known.{PutHand}
 use Rattle.prims.specs.declared.scx.ScxRun.{ScxRun}
 use Rattle.prims.specs.declared.scx.ScxAt.TheVariants.{Start}
 
--- an update over usable snapshots, the next SCX-record of the pass's share, and a fresh node that nothing mentions: the update may begin where the layer above has promised to allow it
+-- an update over usable snapshots, the next SCX-record of the pass's share, and a fresh node that
+-- nothing mentions: the update may begin where the layer above has promised to allow it
 pub scx_begin : (allows : Layout → History → ℕ → Type 0) (lay : Layout) (c : ℕ) (h : History) (m : Job) → Lawful lay h → IsUpdateOver m.update → AllLinked lay h m.update.snaps
     → IsOwnScx lay c m.scx.0 → ((t : ℕ) → IsOwnScx lay c t → t < m.scx.0 → IsTakenScx h t) → ¬ IsTakenScx h m.scx.0
     → IsOwnNode lay c m.update.fresh.0 → IsUnmentioned h m.update.fresh.0
@@ -44,7 +46,8 @@ scx_begin allows lay c h m l over linked own_scx scx_in_order free own_node u pr
     unfinished (yes e) = e
     unfinished (no d) = absurd (free (finished_taken lay h m.scx.0 l real d))
 
--- with a fresh cell: the next node of the share; what it promises is for the time behind the fill of the cell
+-- with a fresh cell: the next node of the share; what it promises is for the time behind the fill
+-- of the cell
 pub put_begin : (allows : Layout → History → ℕ → Type 0) (lay : Layout) (c : ℕ) (h : History) (m : ScxRun) → Lawful lay h → IsUpdateOver m.update → AllLinked lay h m.update.snaps → m.at ≡ Start
     → IsOwnScx lay c m.scx.0 → ((t : ℕ) → IsOwnScx lay c t → t < m.scx.0 → IsTakenScx h t) → ¬ IsTakenScx h m.scx.0
     → IsOwnNode lay c m.update.fresh.0 → ((n : ℕ) → IsOwnNode lay c n → n < m.update.fresh.0 → IsTakenNode h n) → IsUnmentioned h m.update.fresh.0

@@ -1,4 +1,5 @@
--- Where a run of SCX with a fresh cell stands once an info word names its SCX-record: its words are filled, and as soon as it has won there is its entry.
+-- Where a run of SCX with a fresh cell stands once an info word names its SCX-record: its words are
+-- filled, and as soon as it has won there is its entry.
 use Rattle.std.proofs.Common.{◌≡◌, ◌≢◌, ℕ, ◌<◌, length, Some, sym, ◌∙◌, ap, arith}
 use Rattle.arena.specs.declared.layout.Layout.{Layout}
 use Rattle.arena.specs.declared.step.Row.{Row}

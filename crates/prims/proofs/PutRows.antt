@@ -1,4 +1,5 @@
--- What the rows of an SCX with a fresh cell leave as it was: nodes that nothing mentions, but for its own, and SCX-records that are not taken, but for its own.
+-- What the rows of an SCX with a fresh cell leave as it was: nodes that nothing mentions, but for
+-- its own, and SCX-records that are not taken, but for its own.
 use Rattle.std.proofs.Common.{◌≢◌, ℕ, ◌≤◌, inl, inr, refl, sym, arith, subst, length}
 use Rattle.arena.specs.declared.layout.Layout.{Layout}
 use Rattle.arena.specs.declared.step.Step.{Step}
@@ -26,7 +27,8 @@ use Rattle.prims.specs.declared.put.PutAt.TheVariants.{Start, Fill as AtFill, Sc
 -- Nodes that nothing mentions
 
 module _ (allows : Layout → History → ℕ → Type 0) (m : Job) (c : Call) (h : History) (n : ℕ) (late : opening_nodes c.layout.mode ≤ n) (other : n ≢ m.update.fresh.0) (u : IsUnmentioned h n) where
-  -- what a word that names nodes is to hold is another node: the fresh one, or one that a field has held
+  -- what a word that names nodes is to hold is another node: the fresh one, or one that a field has
+  -- held
   not_wanted : (at : ScxAt) → Fills allows c h m at → IsMention (scx m.scx.0 (part_at at)) → wanted m (part_at at) ≢ n
   not_wanted at x = go at x.within
     where

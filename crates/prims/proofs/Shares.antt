@@ -90,7 +90,8 @@ share_by_put allows m call h step left node scx l w next_node next_scx x = share
     (λ s p u. put_untaken allows m call h step s w (λ e. let a = p.from in omega arith) u)
     x
 
--- one of an SCX that has its SCX-record and its fresh nodes, which it has filled before, from the share
+-- one of an SCX that has its SCX-record and its fresh nodes, which it has filled before, from the
+-- share
 pub share_by_scx : (allows : Layout → History → ℕ → Type 0) (m : ScxRun) (call : Call) (h : History) (step : Step) (left : Remaining) (node scx : ℕ) → Lawful call.layout (row_of call step h ⊳ h) → ScxWaits allows m call h step → m.update.fresh.0 < left.next_node → m.scx.0 < left.next_scx → IsShare call.layout h call.pass left node scx → IsShare call.layout (row_of call step h ⊳ h) call.pass left node scx
 share_by_scx allows m call h step left node scx l w next_node next_scx x = share_kept call.layout h (row_of call step h) call.pass left node scx
     (λ n p i u. unmentioned_at allows (job_of m) call h n i (λ e. let a = p.from in omega arith) u m.at step l w)

@@ -40,7 +40,8 @@ is_clear lay c h snaps usable over = record {
   found = λ i p. let x = usable i p in (x.0, x.1.found);
 }
 
--- an update over usable snapshots, with the next SCX-record and the next node of a share that nothing mentions
+-- an update over usable snapshots, with the next SCX-record and the next node of a share that
+-- nothing mentions
 pub put_ready_first : (lay : Layout) (c number : ℕ) (is_pass : c < lay.passes) (h : History) (m : PutRun) → Lawful lay h → IsUpdateOver m.scx.update → ((i : ℕ) → i < length m.scx.update.snaps → (moment : History) × IsUsable lay h (snap_at m.scx.update.snaps i) moment) → m.at ≡ PutStart → m.scx.at ≡ ScxStart
     → IsOwnScx lay c m.scx.scx.0 → ((t : ℕ) → IsOwnScx lay c t → t < m.scx.scx.0 → IsTakenScx h t) → ¬ IsTakenScx h m.scx.scx.0
     → IsOwnNode lay c m.scx.update.fresh.0 → ((n : ℕ) → IsOwnNode lay c n → n < m.scx.update.fresh.0 → IsTakenNode h n) → IsUnmentioned h m.scx.update.fresh.0 → ¬ IsTakenNode h m.scx.update.fresh.0

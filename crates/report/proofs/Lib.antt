@@ -1,7 +1,6 @@
-pub mod Texts
-pub mod Parts
-pub mod Numbers
-pub mod Counted
-pub mod CallRows
-pub mod Reading
-pub mod RoundTrip
+mod Texts
+mod Parts
+mod Counted
+mod CallRows
+mod Reading
+mod RoundTrip

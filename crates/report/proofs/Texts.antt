@@ -26,7 +26,8 @@ unfolding rows_text
 rows_after [] more = refl
 rows_after (row ∷ rows) more = ap (λ text. line_of row ++ text) (rows_after rows more) ∙ sym (append_assoc (line_of row) (rows_text rows) (rows_text more))
 
--- what a page has while the rows of some things go out one by one: those that are left make the text whole
+-- what a page has while the rows of some things go out one by one: those that are left make the
+-- text whole
 pub record IsMidway {A : Type 0} (row_of : A → List (List ℕ)) (left : List A) (text : Option (List ℕ)) (whole : List ℕ) : Type 0 where
   pub so_far : List ℕ
   pub is : text ≡ Some so_far

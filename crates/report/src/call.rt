@@ -3,14 +3,12 @@ ghost use Rattle.std.specs.Prelude.{◌≡◌, ◌+◌, ◌^◌, ◌<◌, List, 
 ghost use Rattle.std.specs.Io.KnownBytes.{Appends};
 ghost use Rattle.script.specs.declared.command.Call.{Call};
 ghost use Rattle.report.specs.Counts.{HasCounted};
-ghost use Rattle.script.specs.Commands.{change_text, command_row, numbers_text, side_text};
+ghost use Rattle.script.specs.Commands.{command_row};
 ghost use Rattle.report.specs.Report.{call_rows};
 ghost use Rattle.texts.specs.Pages.{IsReady, line_of, page_row, page_text, rows_text};
 
 use crate::count::Counts;
-use arena::Side;
-use itoa::Buffer;
-use script::{Call, Cell, Command};
+use script::{Call, CommandText};
 use std::alloc::{AllocError, Global};
 use texts::Page;
 
@@ -43,82 +41,4 @@ fn call_line(alloc: Global, page: &mut Page, call: &Call, number: u64) -> Result
     page.text(command.b.as_str())?;
     page.text(command.c.as_str())?;
     page.end_line()
-}
-
-/// The name of a command, and its arguments as a script has them.
-#[derive(Drop)]
-struct CommandText {
-    name: &'static str,
-    a: String,
-    b: String,
-    c: String,
-}
-
-impl CommandText {
-    fn of(alloc: Global, command: &Command) -> Result<CommandText, AllocError>
-        ensures { IfOk result (λ t. t.name.now ∷ string_bytes t.a ∷ string_bytes t.b ∷ string_bytes t.c ∷ [] ≡ command_row command.now) }
-    {
-        match command {
-            Command::Llx { cell } => Ok(CommandText {
-                name: "llx",
-                a: format!(in alloc; "{}", cell.node().0)?,
-                b: String::new(alloc),
-                c: String::new(alloc),
-            }),
-            Command::Scx(update) => Ok(CommandText {
-                name: "scx",
-                a: cells_text(alloc, update.cells())?,
-                b: cells_text(alloc, update.finalize())?,
-                c: change_text(alloc, update.field(), update.value())?,
-            }),
-            Command::Vlx { cells } => Ok(CommandText {
-                name: "vlx",
-                a: cells_text(alloc, cells.as_slice())?,
-                b: String::new(alloc),
-                c: String::new(alloc),
-            }),
-            Command::Set { field, value } => Ok(CommandText {
-                name: "set",
-                a: format!(in alloc; "{}", field.0.node().0)?,
-                b: format!(in alloc; "{}", side_name(field.1))?,
-                c: format!(in alloc; "{value}")?,
-            }),
-            Command::Get { key } => Ok(CommandText {
-                name: "get",
-                a: format!(in alloc; "{key}")?,
-                b: String::new(alloc),
-                c: String::new(alloc),
-            }),
-        }
-    }
-}
-
-/// The numbers of cells, parted by one space.
-fn cells_text(alloc: Global, cells: &[Cell]) -> Result<String, AllocError>
-    ensures { IfOk result (λ text. string_bytes text ≡ numbers_text cells.now) }
-{
-    let mut text = String::new(alloc);
-    for (place, cell) in cells.iter().enumerate() {
-        if place > 0 {
-            text.push(' ')?;
-        }
-        text.push_str(Buffer::new().format(cell.node().0))?;
-    }
-    Ok(text)
-}
-
-/// A field and the value that goes into it.
-fn change_text(alloc: Global, field: (Cell, Side), value: u64) -> Result<String, AllocError>
-    ensures { IfOk result (λ text. string_bytes text ≡ change_text field value) }
-{
-    format!(in alloc; "{} {} {value}", field.0.node().0, side_name(field.1))
-}
-
-fn side_name(side: Side) -> &'static str
-    ensures { result.now ≡ side_text side }
-{
-    match side {
-        Side::Left => "left",
-        Side::Right => "right",
-    }
 }

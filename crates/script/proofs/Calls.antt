@@ -9,7 +9,8 @@ use Rattle.script.specs.declared.fault.ScriptCause.{ScriptCause}
 use Rattle.script.specs.declared.fault.ScriptCause.TheVariants as cause
 use Rattle.script.proofs.Fields.{five_fields_say}
 
--- where a row's client is one, the row says no call for the cause for which its rest says no command
+-- where a row's client is one, the row says no call for the cause for which its rest says no
+-- command
 pub no_call : (layout : Layout) (fields : List (List ℕ)) (why : ScriptCause) → NamesClient layout.passes (field_of fields 0) → IsNoCommand layout.mode (field_of fields 1) (field_of fields 2 ∷ field_of fields 3 ∷ field_of fields 4 ∷ []) why → length fields ≡ 5 → IsNoCall layout fields why
 no_call layout fields cause.Command client none h = (client, none)
 no_call layout fields cause.Argument client none h =

@@ -4,6 +4,7 @@ mod Fields
 mod OfMode
 mod LimitsRows
 mod Spaced
+mod NumberTexts
 mod Updates
 mod Calls
 pub mod Lemmas

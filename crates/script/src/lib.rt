@@ -5,14 +5,15 @@ mod call_rows;
 mod cells;
 mod client;
 mod command;
+mod command_rows;
 mod fault;
 mod kind;
 mod schedule;
 mod script;
 
-pub use call_rows::command_of;
 pub use cells::{Cell, Cells};
 pub use command::{Call, Command, Update};
+pub use command_rows::{CommandText, command_of};
 pub use fault::{ScheduleCause, ScheduleFault, ScriptCause, ScriptFault};
 pub use kind::{kind_name, kind_of};
 pub use schedule::{Order, Schedule, read_schedule};

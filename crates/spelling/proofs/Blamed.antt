@@ -1,4 +1,5 @@
--- A node that a walk has passed and that is final at the end: what finalized it was in the way of the walk's call.
+-- A node that a walk has passed and that is final at the end: what finalized it was in the way of
+-- the walk's call.
 use Rattle.std.proofs.Common.{◌≡◌, ℕ, Bool, true, false, ◌||◌, inl, inr, refl, sym, ◌∙◌, ap, subst}
 use Rattle.arena.specs.declared.layout.Layout.{Layout}
 use Rattle.arena.specs.declared.step.Row.{Row}

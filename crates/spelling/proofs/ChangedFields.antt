@@ -1,4 +1,5 @@
--- A field that has changed since a moment: the SCX-record that its node's info names was in the way since then.
+-- A field that has changed since a moment: the SCX-record that its node's info names was in the way
+-- since then.
 use Rattle.std.proofs.Common.{◌≡◌, ◌≢◌, ℕ, inl, inr, refl, sym, ◌∙◌, ap, subst}
 use native.Mathlib.Decide.{ℕ_discrete}
 use Rattle.arena.specs.declared.layout.Layout.{Layout}

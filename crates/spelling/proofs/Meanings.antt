@@ -1,4 +1,5 @@
--- What a run under the shape of the tree says, whatever edits it makes: the map that the words spell, what a winning update makes of it, and what walks find.
+-- What a run under the shape of the tree says, whatever edits it makes: the map that the words
+-- spell, what a winning update makes of it, and what walks find.
 use Rattle.std.proofs.Common.{◌≡◌, ◌≢◌, ℕ, ◌^◌, ◌<◌, true, false, inl, inr, ⊎_elim, List, [], ◌∷◌, refl, sym, ◌∙◌, ap, arith, subst}
 use native.Mathlib.Decide.{ℕ_discrete}
 use Rattle.arena.specs.declared.limits.Mode.TheVariants.{Tree as TreeMode}

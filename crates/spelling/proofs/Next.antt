@@ -1,4 +1,5 @@
--- The search for the least key above k: the leaf of k, or else the first leaf on the right of the last left turn.
+-- The search for the least key above k: the leaf of k, or else the first leaf on the right of the
+-- last left turn.
 use Rattle.std.proofs.Common.{◌≡◌, ℕ, ◌<◌, ◌≤◌, Bool, true, false, ltb, ◌⊎◌, inl, inr, List, [], ◌∷◌, ◌++◌, refl, sym, ◌∙◌, ap, arith, lt-ltb, le-ltb, cond}
 use Rattle.std.specs.Prelude.{Option, Some, None}
 use Rattle.arena.specs.declared.word.NodeWord.TheVariants.{Value}

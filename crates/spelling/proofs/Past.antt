@@ -51,7 +51,8 @@ marked_keeps calls lay h r n g p d side = go (effect lay h r g.lawful)
             let e : value (r ⊳ h) (marked n) ≡ value h (marked n) = update_keeps_mark f w n in
             absurd (spot_unmarked calls lay h r s f w g.mode g.lawful t (rw q (λ y. d (e ∙ y))))
 
--- The latest moment at which a node was on the path: its settled words and its fields are still those of that moment.
+-- The latest moment at which a node was on the path: its settled words and its fields are still
+-- those of that moment.
 pub record Latest (h m : History) (k n : ℕ) : Type 0 where
   pub moment : History
   pub within : Extends h moment

@@ -165,7 +165,8 @@ module _ (calls : ℕ → MapEdit) (lay : Layout) (h : History) (r : Row) (g : I
     freeze_made : (s n : ℕ) → IsPending h s → IsMadeBy (r ⊳ h) s n → IsMadeBy h s n
     freeze_made s n p = made_back s n p.named (freeze_keeps_scx f w s New) (freeze_keeps_scx f w s Plan) (λ _ side. freeze_keeps_field f w (new h s) side)
 
-    -- what it begins with: its new node, which no field has named, or a leaf below it that nothing names
+    -- what it begins with: its new node, which no field has named, or a leaf below it that nothing
+    -- names
     begins_made : (n : ℕ) → j ≡ 0 → IsMadeBy (r ⊳ h) u n → (n ≡ new h u) ⊎ ¬ IsNamed lay h n
     begins_made n e (inl m) = inl (m ∙ freeze_keeps_scx f w u New)
     begins_made n e (inr m) =

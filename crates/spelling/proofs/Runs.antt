@@ -1,4 +1,5 @@
--- Runs under the shape of the tree: each SCX-record that has begun makes one edit, and the words spell the map that these edits give.
+-- Runs under the shape of the tree: each SCX-record that has begun makes one edit, and the words
+-- spell the map that these edits give.
 use Rattle.std.proofs.Common.{◌≡◌, ℕ, ◌+◌, ◌*◌, ◌^◌, ◌%◌, ◌<◌, true, false, cond, eqb, eq-eqb, ne_eqb, ◌⊎◌, inl, inr, refl, sym, ◌∙◌, ap, arith, subst}
 use native.Mathlib.Decide.{ℕ_discrete}
 use Rattle.arena.specs.declared.limits.Mode.{Mode}

@@ -1,4 +1,5 @@
--- The log is no longer than the nodes that were taken are many: so no walk is longer than they allow.
+-- The log is no longer than the nodes that were taken are many: so no walk is longer than they
+-- allow.
 use Rattle.std.proofs.Common.{◌≡◌, ◌≢◌, ℕ, ◌+◌, ◌<◌, ◌≤◌, suc, Bool, true, false, cond, eqb, eq-eqb, ne_eqb, length, ◌⊎◌, inl, inr, ⊎_elim, List, [], ◌∷◌, refl, sym, ◌∙◌, ap, arith, subst}
 use native.Mathlib.Decide.{ℕ_discrete}
 use Rattle.arena.specs.declared.limits.Mode.{Mode}
@@ -212,7 +213,8 @@ grown_log calls lay h g =
     let b : length (news (log lay h)) ≡ length (log lay h) = news_length (log lay h) in
     omega (arith, a, b)
 
--- a node that was passed has fewer above it than the nodes of the tree: two that are not taken, and those that are
+-- a node that was passed has fewer above it than the nodes of the tree: two that are not taken, and
+-- those that are
 pub grown_depth : (calls : ℕ → MapEdit) (lay : Layout) (h start : History) (k n : ℕ) → IsGrown calls lay h → Passed h start k n → level (value h) n < 2 + length (taken_nodes h)
 grown_depth calls lay h start k n g p =
     let a : level (value h) n ≤ suc (length (log lay h)) = grown_level calls lay h start k n g p in

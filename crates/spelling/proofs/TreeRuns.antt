@@ -1,4 +1,5 @@
--- What a history of the tree keeps, whatever edits it makes: levels, how deep it is, and which nodes are final.
+-- What a history of the tree keeps, whatever edits it makes: levels, how deep it is, and which
+-- nodes are final.
 use Rattle.std.proofs.Common.{◌≡◌, ◌+◌, ◌<◌, ◌≤◌, Bool, true, false, suc, ℕ, length, refl}
 use Rattle.arena.specs.declared.layout.Layout.{Layout}
 use Rattle.arena.specs.declared.word.Side.{Side}

@@ -1,4 +1,5 @@
--- An insert of key 7 at 70 into the empty map, row by row. Nothing cites this module, on purpose: it shows that what is asked of a run of the tree can be met.
+-- An insert of key 7 at 70 into the empty map, row by row. Nothing cites this module, on purpose:
+-- it shows that what is asked of a run of the tree can be met.
 use Rattle.std.proofs.Common.{◌≡◌, ◌≢◌, ℕ, suc, ◌<◌, ◌≤◌, Bool, true, false, cond, eqb, ◌⊎◌, inl, inr, List, [], ◌∷◌, refl, sym, ◌∙◌, ap, arith, subst, lit<, lit≤, zero, ⊎_elim}
 use Rattle.std.proofs.lemmas.List.Elements.{All-nil, All-cons}
 use Rattle.arena.specs.declared.limits.Mode.TheVariants.{Tree as TreeMode}

@@ -85,7 +85,8 @@ walk_fills_not m c h s w = no_fill s.kind (walk_loads m c h s w).0
 pub walk_ready_first : (m : WalkRun) (c : Call) (h : History) → IsTreeRun c.layout h → m.key < 2 ^ 64 → Extends h c.start → m.at ≡ Start → m.trail.node.0 ≡ 0 → WalkIsReady m c h None
 walk_ready_first m c h run small since at root = record { run = run; small = small; since = since; at = at; root = root }
 
--- what a walk has found of its key, the map gave at a moment that is not before its call's first row
+-- what a walk has found of its key, the map gave at a moment that is not before its call's first
+-- row
 pub walk_gives : (m : WalkRun) (c : Call) (h : History) (f : Found) → IsTreeRun c.layout h → m.key < 2 ^ 64 → (a : WalkAnswers m c h f) → IsAnswerAt c.layout h a.trail.node.first m.key f.value
 walk_gives m c h f run small a = subst (IsAnswerAt c.layout h a.trail.node.first m.key) (sym a.says) (walk_answers c.layout h a.trail.node.first m.key f.trail.node.0 small run a.trail.node.passed a.leaf)
 

@@ -1,3 +1,4 @@
--- What the layers above know of gets beside their clauses, passed on from one place: no other module
+-- What the layers above know of gets beside their clauses, passed on from one place: no other
+-- module
 -- of these proofs can be named outside. Declares nothing.
 pub use Rattle.tree.proofs.GetTurns.{get_ready_first, get_loads, get_fills_not, get_says}

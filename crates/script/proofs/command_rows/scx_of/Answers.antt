@@ -7,7 +7,7 @@ use Rattle.script.specs.declared.command.Command.{Command}
 use Rattle.script.specs.declared.command.Update.{Update}
 use Rattle.script.proofs.Spaced.{same_texts}
 use Rattle.script.proofs.Updates.{SaysUpdate, no_update, finalized_are_cells, field_is_of_cell, same_cell, three_texts, same_row}
-use Rattle.script.proofs.call_rows.scx_of.Goals as goal
+use Rattle.script.proofs.command_rows.scx_of.Goals as goal
 
 -- where no update has these texts, no command has this row
 none_says : (arguments : List (Bor (List ℕ))) (d : Bor (List ℕ)) → length arguments ≡ 3 → ((update : Update) → ¬ (SaysUpdate (get_or arguments 0 d).now (get_or arguments 1 d).now (get_or arguments 2 d).now update)) → (command : Command) → IsCommand command → codes "scx" ∷ texts arguments ≢ command_row command

@@ -1,7 +1,7 @@
 use Rattle.std.proofs.Common.{◌≡◌, All, decimal, map}
 use Rattle.script.specs.Cells.{maybe_cells_of}
 use Rattle.script.specs.Commands.{IsCell, texts}
-use Rattle.script.proofs.call_rows.cells_of.Given as goal
+use Rattle.script.proofs.command_rows.cells_of.Given as goal
 
 abbrev pub invariant-loop-part : goal.invariant-loop-part
 invariant-loop-part l =

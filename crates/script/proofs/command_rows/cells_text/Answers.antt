@@ -1,9 +1,9 @@
 use Rattle.std.proofs.Common.{arith, ◌≡◌, [], ◌++◌, decimal, string_bytes, ◌∙◌, ap, get_or, sym, take}
 use Rattle.std.proofs.lemmas.Grind.{get_or_default_zero}
 use Rattle.script.specs.Commands.{numbers_text}
-use Rattle.report.proofs.Numbers.{first_number, next_number}
-use Rattle.report.proofs.call.cells_text.Goals as goal
-use Rattle.report.proofs.call.cells_text.Goals.{then-place-gt0+in_ok-push, else-place-gt0}
+use Rattle.script.proofs.NumberTexts.{first_number, next_number}
+use Rattle.script.proofs.command_rows.cells_text.Goals as goal
+use Rattle.script.proofs.command_rows.cells_text.Goals.{then-place-gt0+in_ok-push, else-place-gt0}
 
 pub loop-place-preserved : goal.loop-place-preserved
 loop-place-preserved c =

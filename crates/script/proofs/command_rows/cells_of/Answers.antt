@@ -14,7 +14,7 @@ use Rattle.script.specs.declared.cells.Cells.{Cells}
 use Rattle.script.specs.Cells.{cells_of, maybe_cells_of}
 use Rattle.script.specs.Commands.{numbers_text, texts, IsCell, AreCells}
 use Rattle.script.proofs.Spaced.{parts_of, parts_are, part_at, from_parts, same_cells, small}
-use Rattle.script.proofs.call_rows.cells_of.Goals as goal
+use Rattle.script.proofs.command_rows.cells_of.Goals as goal
 
 -- the cells read so far are the first of those that the text has
 first_cells : (ns text found : List ℕ) (k : ℕ) (read : List (List ℕ)) → AreCells ns → All IsCell found → text ≡ numbers_text ns → read ≡ take k (parts_of text) → read ≡ map decimal found → found ≡ take k ns

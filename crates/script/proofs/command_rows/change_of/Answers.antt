@@ -6,7 +6,7 @@ use Rattle.arena.specs.declared.word.Side.{Side}
 use Rattle.arena.specs.declared.word.Side.TheVariants.{Left, Right}
 use Rattle.script.specs.Commands.{change_text, side_text, IsCell}
 use Rattle.script.proofs.Spaced.{no_space, small}
-use Rattle.script.proofs.call_rows.change_of.Goals as goal
+use Rattle.script.proofs.command_rows.change_of.Goals as goal
 
 not_32 : (b : ℕ) → eqb b 32 ≡ false → b ≢ 32
 not_32 b test is = grind (arith, nat_tests)

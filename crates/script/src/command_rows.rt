@@ -1,0 +1,225 @@
+//! Commands as fields of a row, read and written.
+ghost use Rattle.std.specs.Prelude.{◌≡◌, ◌≢◌, ◌<◌, ◌^◌, ◌↔◌, ℕ, [], ◌∷◌, ◌++◌, All, Contains, length, decimal, codes, IsSome, IfSome, MatchOption, Option, IfOk, IfErr, string_bytes};
+ghost use Rattle.arena.specs.declared.word.Side.{Side};
+ghost use Rattle.script.specs.declared.cells.Cells.{Cells};
+ghost use Rattle.script.specs.Calls.{IsNoCommand};
+ghost use Rattle.script.specs.Cells.{cells_of, maybe_cells_of};
+ghost use Rattle.script.specs.Commands.{command_row, mode_of, change_text, numbers_text, side_text, texts, AreCells, IsCell, IsCommand, IsCommandOf};
+
+use crate::cells::{Cell, Cells};
+use crate::command::{Command, Update};
+use crate::fault::ScriptCause;
+use arena::{Mode, Side};
+use itoa::Buffer;
+use std::alloc::{AllocError, Global};
+use texts::number_of;
+
+/// The command that a row of a script says by this name and these arguments. The cause is `Command`
+/// where no command of the mode has the name, and else `Argument`: none of the name has these
+/// arguments.
+pub fn command_of(mode: Mode, name: &str, arguments: [&str; 3]) -> Result<Command, ScriptCause>
+    ensures command { IfOk result (λ command. (mode_of command ≡ mode) × IsCommand command × (name.now ∷ texts arguments.entry ≡ command_row command)) }
+    ensures cause { IfErr result (IsNoCommand mode name.now (texts arguments.entry)) }
+{
+    let command = match (mode, name) {
+        (Mode::Records, "llx") => llx_of(arguments),
+        (Mode::Records, "scx") => scx_of(arguments),
+        (Mode::Records, "vlx") => vlx_of(arguments),
+        (Mode::Records, "set") => set_of(arguments),
+        (Mode::Tree, "get") => get_of(arguments),
+        _ => return Err(ScriptCause::Command),
+    };
+    match command {
+        Some(command) => Ok(command),
+        None => Err(ScriptCause::Argument),
+    }
+}
+
+fn llx_of(arguments: [&str; 3]) -> Option<Command>
+    ensures { IsCommandOf (codes "llx" ∷ texts arguments.entry) result }
+{
+    let [cell, "", ""] = arguments else {
+        return None;
+    };
+    Some(Command::Llx {
+        cell: cell_of(cell)?,
+    })
+}
+
+fn scx_of(arguments: [&str; 3]) -> Option<Command>
+    ensures { IsCommandOf (codes "scx" ∷ texts arguments.entry) result }
+{
+    let [cells, finalize, change] = arguments;
+    let (field, value) = change_of(change)?;
+    let update = Update::new(cells_of(cells)?, finalize_of(finalize)?, field, value)?;
+    Some(Command::Scx(update))
+}
+
+fn vlx_of(arguments: [&str; 3]) -> Option<Command>
+    ensures { IsCommandOf (codes "vlx" ∷ texts arguments.entry) result }
+{
+    let [cells, "", ""] = arguments else {
+        return None;
+    };
+    Some(Command::Vlx {
+        cells: cells_of(cells)?,
+    })
+}
+
+fn set_of(arguments: [&str; 3]) -> Option<Command>
+    ensures { IsCommandOf (codes "set" ∷ texts arguments.entry) result }
+{
+    let [cell, side, value] = arguments;
+    Some(Command::Set {
+        field: (cell_of(cell)?, side_of(side)?),
+        value: number_of(value)?,
+    })
+}
+
+fn get_of(arguments: [&str; 3]) -> Option<Command>
+    ensures { IsCommandOf (codes "get" ∷ texts arguments.entry) result }
+{
+    let [key, "", ""] = arguments else {
+        return None;
+    };
+    Some(Command::Get {
+        key: number_of(key)?,
+    })
+}
+
+#[tactic(auto, using(texts::proofs::Lemmas::same_number))]
+fn cell_of(text: &str) -> Option<Cell>
+    ensures { MatchOption result ((node : ℕ) → IsCell node → text.now ≢ decimal node) (λ cell. IsCell cell × (text.now ≡ decimal cell)) }
+{
+    Cell::new(number_of(text)?)
+}
+
+/// One to four cells that differ, with one space between two.
+fn cells_of(text: &str) -> Option<Cells>
+    ensures { MatchOption result ((cells : Cells) → AreCells (cells_of cells) → text.now ≢ numbers_text (cells_of cells)) (λ cells. AreCells (cells_of cells) × (text.now ≡ numbers_text (cells_of cells))) }
+{
+    let mut cells = None;
+    for part in text.split(' ') {
+        cells = Some(one_more(cells, cell_of(part)?)?);
+    }
+    cells
+}
+
+/// These cells, if any, and one that is none of them; four are the most.
+fn one_more(cells: Option<Cells>, cell: Cell) -> Option<Cells>
+    ensures fits { IsSome result ↔ ((length (maybe_cells_of cells) < 4) × ¬ (Contains (maybe_cells_of cells) cell)) }
+    ensures cells { IfSome result (λ more. cells_of more ≡ maybe_cells_of cells ++ cell ∷ []) }
+{
+    match cells {
+        Some(cells) => cells.with(cell),
+        None => Some(Cells::one(cell)),
+    }
+}
+
+/// The cells of an SCX that are finalized, if any.
+fn finalize_of(text: &str) -> Option<Option<Cells>>
+    ensures { MatchOption result ((cells : Option Cells) → All IsCell (maybe_cells_of cells) → text.now ≢ numbers_text (maybe_cells_of cells)) (λ cells. All IsCell (maybe_cells_of cells) × (text.now ≡ numbers_text (maybe_cells_of cells))) }
+{
+    match text {
+        "" => Some(None),
+        some => Some(Some(cells_of(some)?)),
+    }
+}
+
+/// A field and the value that goes into it: cell, side and value, with one space between two.
+fn change_of(text: &str) -> Option<((Cell, Side), u64)>
+    ensures { MatchOption result ((field : ℕ × Side) (value : ℕ) → IsCell field.0 → value < 2 ^ 64 → text.now ≢ change_text field value) (λ change. IsCell change.0.0 × (change.1 < 2 ^ 64) × (text.now ≡ change_text change.0 change.1)) }
+{
+    let (cell, rest) = text.split_once(' ')?;
+    let (side, value) = rest.split_once(' ')?;
+    Some(((cell_of(cell)?, side_of(side)?), number_of(value)?))
+}
+
+fn side_of(text: &str) -> Option<Side>
+    ensures { MatchOption result ((side : Side) → text.now ≢ side_text side) (λ side. text.now ≡ side_text side) }
+{
+    match text {
+        "left" => Some(Side::Left),
+        "right" => Some(Side::Right),
+        _ => None,
+    }
+}
+
+/// The name of a command, and its arguments as a script has them.
+#[derive(Drop)]
+pub struct CommandText {
+    pub name: &'static str,
+    pub a: String,
+    pub b: String,
+    pub c: String,
+}
+
+impl CommandText {
+    /// The text of a command. The only error is want of memory.
+    pub fn of(alloc: Global, command: &Command) -> Result<CommandText, AllocError>
+        ensures { IfOk result (λ t. t.name.now ∷ string_bytes t.a ∷ string_bytes t.b ∷ string_bytes t.c ∷ [] ≡ command_row command.now) }
+    {
+        match command {
+            Command::Llx { cell } => Ok(CommandText {
+                name: "llx",
+                a: format!(in alloc; "{}", cell.node().0)?,
+                b: String::new(alloc),
+                c: String::new(alloc),
+            }),
+            Command::Scx(update) => Ok(CommandText {
+                name: "scx",
+                a: cells_text(alloc, update.cells())?,
+                b: cells_text(alloc, update.finalize())?,
+                c: change_text(alloc, update.field(), update.value())?,
+            }),
+            Command::Vlx { cells } => Ok(CommandText {
+                name: "vlx",
+                a: cells_text(alloc, cells.as_slice())?,
+                b: String::new(alloc),
+                c: String::new(alloc),
+            }),
+            Command::Set { field, value } => Ok(CommandText {
+                name: "set",
+                a: format!(in alloc; "{}", field.0.node().0)?,
+                b: format!(in alloc; "{}", side_name(field.1))?,
+                c: format!(in alloc; "{value}")?,
+            }),
+            Command::Get { key } => Ok(CommandText {
+                name: "get",
+                a: format!(in alloc; "{key}")?,
+                b: String::new(alloc),
+                c: String::new(alloc),
+            }),
+        }
+    }
+}
+
+/// The numbers of cells, parted by one space.
+fn cells_text(alloc: Global, cells: &[Cell]) -> Result<String, AllocError>
+    ensures { IfOk result (λ text. string_bytes text ≡ numbers_text cells.now) }
+{
+    let mut text = String::new(alloc);
+    for (place, cell) in cells.iter().enumerate() {
+        if place > 0 {
+            text.push(' ')?;
+        }
+        text.push_str(Buffer::new().format(cell.node().0))?;
+    }
+    Ok(text)
+}
+
+/// A field and the value that goes into it.
+fn change_text(alloc: Global, field: (Cell, Side), value: u64) -> Result<String, AllocError>
+    ensures { IfOk result (λ text. string_bytes text ≡ change_text field value) }
+{
+    format!(in alloc; "{} {} {value}", field.0.node().0, side_name(field.1))
+}
+
+fn side_name(side: Side) -> &'static str
+    ensures { result.now ≡ side_text side }
+{
+    match side {
+        Side::Left => "left",
+        Side::Right => "right",
+    }
+}
