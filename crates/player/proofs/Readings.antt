@@ -1,6 +1,6 @@
 -- Where the calls of a run took place: those of cells where their answer says; a get in its last
--- turn,
--- since a run of gets alone leaves the words as they were at the start, which spell the empty map.
+-- turn, since a run of gets alone leaves the words as they were at the start, which spell the empty
+-- map. All replies of such a run are those of one map.
 use Rattle.std.proofs.Common.{◌≡◌, ℕ, zero, suc, ◌<◌, ◌≤◌, ◌⊎◌, inl, inr, ⊎_elim, Bool, true, false, cond, eqb, List, [], ◌∷◌, length, Option, Some, None, slice_get, All, refl, sym, ◌∙◌, ap, subst, arith}
 use Rattle.std.proofs.lemmas.Option.{slice_get_cases}
 use Rattle.std.proofs.lemmas.List.Elements.{All-get_or, All-tail}
@@ -23,7 +23,7 @@ use Rattle.arena.specs.declared.word.NodeWord.TheVariants.{Head}
 use Rattle.arena.proofs.Lemmas.{ends_self, held_split, value_quiet}
 use Rattle.histories.proofs.Lemmas.{lawful_since, shaped_since, lawful_tail, shaped_tail}
 use Rattle.arena.specs.Machines.{IsRun}
-use Rattle.spelling.specs.OrderedMap.{Get, Insert, get}
+use Rattle.spelling.specs.OrderedMap.{MapCall, Get, Insert, get}
 use Rattle.spelling.specs.TreeShape.{TreeAllows}
 use Rattle.spelling.specs.TreeWords.{level, is_leaf}
 use Rattle.spelling.specs.Spelled.{Spells}
@@ -45,10 +45,11 @@ use Rattle.record.specs.Commands.{commands, next_command}
 use Rattle.record.specs.Linked.{linked}
 use Rattle.record.specs.Answers.{moment_of}
 use Rattle.record.specs.CommandRules.{MayMake, IsEntryFor, IsRight, IsPlaced}
-use Rattle.record.specs.MapRecord.{written_log}
-use Rattle.record.specs.Placed.{IsReading}
+use Rattle.record.specs.MapRecord.{written_log, reply_told, map_call}
+use Rattle.record.specs.Placed.{IsReading, IsPlacedOnMap}
 use Rattle.record.specs.LawfulRun.{AreLines, IsWhole}
 use Rattle.record.specs.SpelledMap.{AreSpelled, IsSpelledAfter, WasNamedByField}
+use Rattle.record.proofs.Lemmas.{AreMapCalls, lawful_is_legal}
 use Rattle.player.specs.Allowed.{PlayedAllows}
 use Rattle.player.specs.BetweenTurns.{IsLawfulSoFar}
 use Rattle.player.proofs.Shapes.{as_tree}
@@ -226,7 +227,7 @@ placed lay calls words lines reply c (GetOf key) x right is within moment = go r
     mode : lay.mode ≡ Tree
     mode = sym (command_mode lay.mode calls c _ (GetOf key) x.of_mode is)
 
-    go : (answer : Answer) → reply.answer ≡ answer → IsReading calls lines (Get key) reply
+    go : (answer : Answer) → reply.answer ≡ answer → IsPlacedOnMap (reply_told answer) calls lines (Get key) reply
     go (Value a) e = reading lay calls mode x.of_mode lines key a (start lay.mode lines c) reply x.sound x.in_order e (rw e at right) within (rw e at moment)
     go (Snapshot left next) e = absurd (rw e at right)
     go Finalized e = absurd (rw e at right)
@@ -238,10 +239,17 @@ placed lay calls words lines reply c (GetOf key) x right is within moment = go r
     go (Unlinked node) e = absurd (rw e at right)
     go (Full what left) e = absurd (rw e at right)
 
+-- all calls of a tree are of the map
+map_calls : (mode : Mode) (calls : List Call) → mode ≡ Tree → AreOf mode calls → AreMapCalls calls
+map_calls mode calls e all c j command is = go (is_get command (command_mode mode calls c j command all is ∙ e))
+  where
+    go : (key : ℕ) × (command ≡ GetOf key) → (call : MapCall) × (map_call (Some command) ≡ Some call)
+    go (key, same) = (Get key, rw same refl)
+
 -- what is said of a whole run by its mode
 pub whole : (lay : Layout) (calls : List Call) (words : Contents) (lines : List Line) → IsLawfulSoFar lay calls words lines → IsWhole lay.mode lay calls lines
 whole lay calls words lines x = go lay.mode refl
   where
     go : (m : Mode) → lay.mode ≡ m → IsWhole m lay calls lines
     go Records e = tt
-    go Tree e = are_spelled lay calls e x.of_mode lines x.sound x.in_order
+    go Tree e = (are_spelled lay calls e x.of_mode lines x.sound x.in_order, lawful_is_legal lay calls lines (map_calls lay.mode calls e x.of_mode) x.in_order)

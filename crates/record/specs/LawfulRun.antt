@@ -14,6 +14,7 @@ use Rattle.record.specs.Entries.{IsLog}
 use Rattle.record.specs.Replies.{IsReplyOwed, IsReply}
 use Rattle.record.specs.Steps.{IsTurn}
 use Rattle.record.specs.SpelledMap.{AreSpelled}
+use Rattle.record.specs.Legal.{IsLegal}
 
 -- nothing has to stand behind the newest line: neither an entry nor a reply
 pub record OwesNothing (lay : Layout) (calls : List Call) (lines : List Line) : Type 0 where
@@ -32,9 +33,10 @@ unfoldable pub AreLines : Layout → List Call → List Line → Type 0
 AreLines lay calls [] = Unit {0}
 AreLines lay calls (line ∷ lines) = AreLines lay calls lines × IsNext lay calls lines line
 
--- what is said of the run of a mode beside its lines
+-- what is said of the run of a mode beside its lines: on the tree the words spell the map so far
+-- after every step, and all replies are those of one map
 abbrev pub IsWhole : Mode → Layout → List Call → List Line → Type 0
-IsWhole Tree lay calls lines = AreSpelled lay calls lines
+IsWhole Tree lay calls lines = AreSpelled lay calls lines × IsLegal calls lines
 IsWhole Records lay calls lines = Unit {0}
 
 -- The main statement: the lines, the first in front, are a lawful run of the calls, in which turn i
@@ -52,5 +54,5 @@ pub record IsLawfulRun (lay : Layout) (calls : List Call) (passes : List ℕ) (l
   pub once : AreOnce (log lay (history lay.mode (reverse lines)))
   -- once an SCX-record that finalizes a node is committed, no word of that node changes again
   pub finalized : StaysFinalized (history lay.mode (reverse lines))
-  -- in tree mode the words spell the map so far after every step
+  -- in tree mode the words spell the map so far after every step, and all replies are its
   pub whole : IsWhole lay.mode lay calls (reverse lines)

@@ -12,6 +12,7 @@ pub mod Linked
 pub mod Steps
 pub mod Entries
 pub mod Replies
+pub mod Legal
 pub mod LawfulRun
 pub mod OneClient
 pub mod Schedules

@@ -1,5 +1,5 @@
 -- The ordered map from keys to values: what each call replies, and the map that it leaves.
-use Rattle.std.specs.Prelude.{ℕ, ◌<◌, cond, ◌&&◌, eqb, leb, ltb, List, [], ◌∷◌, take, Option, Some, None}
+use Rattle.std.specs.Prelude.{ℕ, ◌<◌, Bool, true, false, cond, ◌&&◌, eqb, leb, ltb, List, [], ◌∷◌, take, Option, Some, None}
 use Rattle.spelling.specs.declared.pair.Pair.{Pair}
 
 -- A map is the list of its pairs by rising key; the empty list is the empty map.
@@ -90,3 +90,10 @@ after (Edit e) m = edited e m
 after (Get k) m = m
 after (Successor k) m = m
 after (Range low high most) m = m
+
+-- whether a call with this reply has changed the map: an insert always has, a delete where it tells
+-- a value; all other calls with a reply are readings
+abbrev pub changes : MapCall → MapReply → Bool
+changes (Edit (Insert k v)) told = true
+changes (Edit (Delete k)) (OneValue (Some v)) = true
+changes _ _ = false

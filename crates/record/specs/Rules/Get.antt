@@ -7,7 +7,8 @@ use Rattle.spelling.specs.OrderedMap.{Get}
 use Rattle.spelling.specs.Paths.{IsAnswerAt}
 use Rattle.record.specs.declared.record.Answer.{Answer}
 use Rattle.record.specs.declared.record.Answer.TheVariants.{Value}
-use Rattle.record.specs.Placed.{IsReading}
+use Rattle.record.specs.MapRecord.{reply_told}
+use Rattle.record.specs.Placed.{IsPlacedOnMap}
 use Rattle.record.specs.Rules.{Rules}
 
 -- it tells what the key has, and is never refused
@@ -31,5 +32,5 @@ get_rules key = record {
   linked_then = λ answer now n old. old;
   IsRight = GetIsRight key;
   IsEntryFor = λ lay c before start linked e. ⊥;
-  IsPlaced = λ lay calls lines reply. IsReading calls lines (Get key) reply;
+  IsPlaced = λ lay calls lines reply. IsPlacedOnMap (reply_told reply.answer) calls lines (Get key) reply;
 }

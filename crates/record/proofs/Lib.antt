@@ -1,0 +1,3 @@
+mod Ordered
+mod Legality
+pub mod Lemmas

@@ -1,0 +1,541 @@
+-- What the rules say of each reply by itself, at the turns of its own call, gives one order of all calls.
+use Rattle.std.proofs.Common.{◌≡◌, ℕ, zero, suc, ◌+◌, ◌*◌, ◌≤◌, Bool, true, false, cond, ◌&&◌, eqb, ltb, leb, List, [], ◌∷◌, ◌++◌, refl, sym, ◌∙◌, ap, subst, arith}
+use Rattle.std.proofs.lemmas.Bool.{ltb-true, ltb-false, le-ltb, le-leb, lt-leb, eqb-true, eq-eqb, and_parts}
+use Rattle.std.specs.Prelude.{Option, Some, None, is_none}
+use Rattle.spelling.specs.declared.pair.Pair.{Pair}
+use Rattle.spelling.specs.OrderedMap.{MapCall, Insert, Delete, Edit, Get, Successor, Range, MapReply, OneValue, get, delete, reply, after, changes}
+use Rattle.script.specs.declared.command.Call.{Call}
+use Rattle.record.specs.declared.record.Line.{Line}
+use Rattle.record.specs.declared.record.Line.TheVariants.{Step, Log, Reply as ReplyLine}
+use Rattle.record.specs.declared.record.Entry.{Entry}
+use Rattle.record.specs.declared.record.Reply.{Reply}
+use Rattle.record.specs.declared.record.Answer.{Answer}
+use Rattle.record.specs.MapRecord.{map_call_of, reply_told, after_maybe, written_log, entries_until, map_of, map_at, is_of_call, entries_of_call}
+use Rattle.record.specs.Placed.{IsChange, IsReading, IsRefused, IsToldAt, IsPlacedOnMap}
+use Rattle.record.specs.Legal.{Event, Change, Read, event_client, event_call, event_place, with_event, events, answer_to, IsReplyOn, AreReplies, times, times_due, HaveTheirPlaces, StandOnce, unanswered, AreFewUnanswered, IsLegal}
+
+-- Events in order
+
+abbrev AllFrom : ℕ → List Event → Type 0
+AllFrom p [] = Unit {0}
+AllFrom p (x ∷ xs) = (p ≤ event_place x) × AllFrom p xs
+
+abbrev pub AllUpTo : ℕ → List Event → Type 0
+AllUpTo p [] = Unit {0}
+AllUpTo p (x ∷ xs) = (event_place x ≤ p) × AllUpTo p xs
+
+abbrev IsSorted : List Event → Type 0
+IsSorted [] = Unit {0}
+IsSorted (x ∷ xs) = AllFrom (event_place x) xs × IsSorted xs
+
+from_place : (p : ℕ) (x : Event) (ys : List Event) → p ≤ event_place x → AllFrom p ys → AllFrom p (with_event x ys)
+from_place p x [] i a = (i, tt)
+from_place p x (y ∷ ys) i a = go (ltb (event_place x) (event_place y)) (from_place p x ys i a.1)
+  where
+    go : (b : Bool) → AllFrom p (with_event x ys) → AllFrom p (cond b (x ∷ y ∷ ys) (y ∷ with_event x ys))
+    go true rest = (i, a)
+    go false rest = (a.0, rest)
+
+weaker : (p q : ℕ) (xs : List Event) → p ≤ q → AllFrom q xs → AllFrom p xs
+weaker p q [] i a = tt
+weaker p q (x ∷ xs) i a = let j = a.0 in (omega (i, j, arith), weaker p q xs i a.1)
+
+sorted_place : (x : Event) (ys : List Event) → IsSorted ys → IsSorted (with_event x ys)
+sorted_place x [] s = (tt, tt)
+sorted_place x (y ∷ ys) s = go (ltb (event_place x) (event_place y)) refl (sorted_place x ys s.1)
+  where
+    go : (b : Bool) → ltb (event_place x) (event_place y) ≡ b → IsSorted (with_event x ys) → IsSorted (cond b (x ∷ y ∷ ys) (y ∷ with_event x ys))
+    go true e rest =
+        let i = ltb-true (event_place x) (event_place y) e in
+        let j : event_place x ≤ event_place y = omega (i, arith) in
+        ((j, weaker (event_place x) (event_place y) ys j s.0), s)
+    go false e rest = (from_place (event_place y) x ys (ltb-false (event_place x) (event_place y) e) s.0, rest)
+
+-- The entries among events, the newest first, before older ones
+
+abbrev pub onto : List Entry → List Event → List Entry
+onto es [] = es
+onto es (Change e ∷ xs) = onto (e ∷ es) xs
+onto es (Read m r ∷ xs) = onto es xs
+
+onto_read : (m : ℕ) (r : Reply) (es : List Entry) (xs : List Event) → onto es (with_event (Read m r) xs) ≡ onto es xs
+onto_read m r es [] = refl
+onto_read m r es (Change e ∷ xs) = go (ltb (2 * m + 1) (2 * e.step)) (onto_read m r (e ∷ es) xs)
+  where
+    go : (b : Bool) → onto (e ∷ es) (with_event (Read m r) xs) ≡ onto (e ∷ es) xs → onto es (cond b (Read m r ∷ Change e ∷ xs) (Change e ∷ with_event (Read m r) xs)) ≡ onto (e ∷ es) xs
+    go true rest = refl
+    go false rest = rest
+onto_read m r es (Read n q ∷ xs) = go (ltb (2 * m + 1) (2 * n + 1)) (onto_read m r es xs)
+  where
+    go : (b : Bool) → onto es (with_event (Read m r) xs) ≡ onto es xs → onto es (cond b (Read m r ∷ Read n q ∷ xs) (Read n q ∷ with_event (Read m r) xs)) ≡ onto es xs
+    go true rest = refl
+    go false rest = rest
+
+onto_change : (e : Entry) (es : List Entry) (xs : List Event) → AllUpTo (2 * e.step) xs → onto es (with_event (Change e) xs) ≡ e ∷ onto es xs
+onto_change e es [] a = refl
+onto_change e es (Change d ∷ xs) a = rw (le-ltb (2 * e.step) (2 * d.step) a.0) (onto_change e (d ∷ es) xs a.1)
+onto_change e es (Read n q ∷ xs) a = rw (le-ltb (2 * e.step) (2 * n + 1) a.0) (onto_change e es xs a.1)
+
+until_later : (m : ℕ) (es : List Entry) (xs : List Event) → AllFrom (2 * m + 2) xs → entries_until m (onto es xs) ≡ entries_until m es
+until_later m es [] a = refl
+until_later m es (Change e ∷ xs) a =
+    let i = a.0 in
+    let t : leb e.step m ≡ false = lt-leb e.step m (omega (i, arith)) in
+    until_later m (e ∷ es) xs a.1 ∙ rw t refl
+until_later m es (Read n q ∷ xs) a = until_later m es xs a.1
+
+-- Replies at their places, by the entries before
+
+pub record IsReadAt (calls : List Call) (answers : ℕ → ℕ → Option Answer) (r : Reply) (m : List Pair) : Type 0 where
+  pub silent : after_maybe (map_call_of calls r.client.0 r.call) m ≡ m
+  pub replies : IsReplyOn m (map_call_of calls r.client.0 r.call) (answers r.client.0 r.call)
+  pub answered : answers r.client.0 r.call ≡ Some r.answer
+
+abbrev pub AreRight : List Call → (ℕ → ℕ → Option Answer) → List Entry → List Event → Type 0
+AreRight calls answers es [] = Unit {0}
+AreRight calls answers es (Change e ∷ xs) = IsReplyOn (map_of calls es) (map_call_of calls e.client.0 e.call) (answers e.client.0 e.call) × AreRight calls answers (e ∷ es) xs
+AreRight calls answers es (Read m r ∷ xs) = IsReadAt calls answers r (map_of calls es) × AreRight calls answers es xs
+
+replay : (calls : List Call) (answers : ℕ → ℕ → Option Answer) (es : List Entry) (xs : List Event) → AreRight calls answers es xs → AreReplies calls answers (map_of calls es) xs
+replay calls answers es [] a = tt
+replay calls answers es (Change e ∷ xs) a = (a.0, replay calls answers (e ∷ es) xs a.1)
+replay calls answers es (Read m r ∷ xs) a = (a.0.replies, subst (λ n. AreReplies calls answers n xs) (sym a.0.silent) (replay calls answers es xs a.1))
+
+right_change : (calls : List Call) (answers : ℕ → ℕ → Option Answer) (e : Entry) (es : List Entry) (xs : List Event) → AllUpTo (2 * e.step) xs → IsReplyOn (map_of calls (onto es xs)) (map_call_of calls e.client.0 e.call) (answers e.client.0 e.call) → AreRight calls answers es xs → AreRight calls answers es (with_event (Change e) xs)
+right_change calls answers e es [] u r a = (r, tt)
+right_change calls answers e es (Change d ∷ xs) u r a = rw (le-ltb (2 * e.step) (2 * d.step) u.0) (a.0, right_change calls answers e (d ∷ es) xs u.1 r a.1)
+right_change calls answers e es (Read n q ∷ xs) u r a = rw (le-ltb (2 * e.step) (2 * n + 1) u.0) (a.0, right_change calls answers e es xs u.1 r a.1)
+
+right_read : (calls : List Call) (answers : ℕ → ℕ → Option Answer) (m : ℕ) (r : Reply) (es : List Entry) (xs : List Event) → IsSorted xs → entries_until m es ≡ es → IsReadAt calls answers r (map_of calls (entries_until m (onto es xs))) → AreRight calls answers es xs → AreRight calls answers es (with_event (Read m r) xs)
+right_read calls answers m r es [] s u x a = (subst (λ ds. IsReadAt calls answers r (map_of calls ds)) u x, tt)
+right_read calls answers m r es (Change e ∷ xs) s u x a = go (ltb (2 * m + 1) (2 * e.step)) refl (λ v. right_read calls answers m r (e ∷ es) xs s.1 v x a.1)
+  where
+    go : (b : Bool) → ltb (2 * m + 1) (2 * e.step) ≡ b → (entries_until m (e ∷ es) ≡ e ∷ es → AreRight calls answers (e ∷ es) (with_event (Read m r) xs)) → AreRight calls answers es (cond b (Read m r ∷ Change e ∷ xs) (Change e ∷ with_event (Read m r) xs))
+    go true t rest =
+        let i = ltb-true (2 * m + 1) (2 * e.step) t in
+        let j : 2 * m + 2 ≤ 2 * e.step = omega (i, arith) in
+        (subst (λ ds. IsReadAt calls answers r (map_of calls ds)) (until_later m es (Change e ∷ xs) (j, weaker (2 * m + 2) (2 * e.step) xs j s.0) ∙ u) x, a)
+    go false t rest =
+        let i = ltb-false (2 * m + 1) (2 * e.step) t in
+        let k : leb e.step m ≡ true = le-leb e.step m (omega (i, arith)) in
+        let u' : entries_until m (e ∷ es) ≡ e ∷ es = rw k (ap (λ ds. e ∷ ds) u) in
+        (a.0, rest u')
+right_read calls answers m r es (Read n q ∷ xs) s u x a = go (ltb (2 * m + 1) (2 * n + 1)) refl (right_read calls answers m r es xs s.1 u x a.1)
+  where
+    go : (b : Bool) → ltb (2 * m + 1) (2 * n + 1) ≡ b → AreRight calls answers es (with_event (Read m r) xs) → AreRight calls answers es (cond b (Read m r ∷ Read n q ∷ xs) (Read n q ∷ with_event (Read m r) xs))
+    go true t rest =
+        let i = ltb-true (2 * m + 1) (2 * n + 1) t in
+        let j : 2 * m + 2 ≤ 2 * n + 1 = omega (i, arith) in
+        (subst (λ ds. IsReadAt calls answers r (map_of calls ds)) (until_later m es (Read n q ∷ xs) (j, weaker (2 * m + 2) (2 * n + 1) xs j s.0) ∙ u) x, a)
+    go false t rest = (a.0, rest)
+
+-- One answer more
+
+abbrev with_answer : (ℕ → ℕ → Option Answer) → Reply → ℕ → ℕ → Option Answer
+with_answer answers r c j = cond (eqb r.client.0 c && eqb r.call j) (Some r.answer) (answers c j)
+
+none_left : {A : Type 0} (n : ℕ) → suc n ≡ 0 → A
+none_left n e = absurd (omega (e, arith))
+
+right_other : (calls : List Call) (answers : ℕ → ℕ → Option Answer) (r : Reply) (es : List Entry) (xs : List Event) → times r.client.0 r.call xs ≡ 0 → AreRight calls answers es xs → AreRight calls (with_answer answers r) es xs
+right_other calls answers r es [] t a = tt
+right_other calls answers r es (Change e ∷ xs) t a = go (eqb r.client.0 e.client.0 && eqb r.call e.call) t (λ u. right_other calls answers r (e ∷ es) xs u a.1)
+  where
+    go : (b : Bool) → cond b (suc (times r.client.0 r.call xs)) (times r.client.0 r.call xs) ≡ 0 → (times r.client.0 r.call xs ≡ 0 → AreRight calls (with_answer answers r) (e ∷ es) xs) → IsReplyOn (map_of calls es) (map_call_of calls e.client.0 e.call) (cond b (Some r.answer) (answers e.client.0 e.call)) × AreRight calls (with_answer answers r) (e ∷ es) xs
+    go true u rest = none_left (times r.client.0 r.call xs) u
+    go false u rest = (a.0, rest u)
+right_other calls answers r es (Read m q ∷ xs) t a = go (eqb r.client.0 q.client.0 && eqb r.call q.call) refl t (λ u. right_other calls answers r es xs u a.1)
+  where
+    go : (b : Bool) → (eqb r.client.0 q.client.0 && eqb r.call q.call) ≡ b → cond b (suc (times r.client.0 r.call xs)) (times r.client.0 r.call xs) ≡ 0 → (times r.client.0 r.call xs ≡ 0 → AreRight calls (with_answer answers r) es xs) → IsReadAt calls (with_answer answers r) q (map_of calls es) × AreRight calls (with_answer answers r) es xs
+    go true e u rest = none_left (times r.client.0 r.call xs) u
+    go false e u rest = (record { silent = a.0.silent; replies = rw e a.0.replies; answered = rw e a.0.answered }, rest u)
+
+-- the entries behind that of call j of client c
+abbrev behind : ℕ → ℕ → List Entry → List Entry
+behind c j [] = []
+behind c j (e ∷ es) = cond (is_of_call c j e) es (behind c j es)
+
+behind_onto : (c j : ℕ) (es : List Entry) (xs : List Event) → times c j xs ≡ 0 → behind c j (onto es xs) ≡ behind c j es
+behind_onto c j es [] t = refl
+behind_onto c j es (Change e ∷ xs) t = go (eqb c e.client.0 && eqb j e.call) refl t (λ u. behind_onto c j (e ∷ es) xs u)
+  where
+    go : (b : Bool) → (eqb c e.client.0 && eqb j e.call) ≡ b → cond b (suc (times c j xs)) (times c j xs) ≡ 0 → (times c j xs ≡ 0 → behind c j (onto (e ∷ es) xs) ≡ behind c j (e ∷ es)) → behind c j (onto (e ∷ es) xs) ≡ behind c j es
+    go true i u rest = none_left (times c j xs) u
+    go false i u rest = rest u ∙ rw i refl
+behind_onto c j es (Read m q ∷ xs) t = go (eqb c q.client.0 && eqb j q.call) t (λ u. behind_onto c j es xs u)
+  where
+    go : (b : Bool) → cond b (suc (times c j xs)) (times c j xs) ≡ 0 → (times c j xs ≡ 0 → behind c j (onto es xs) ≡ behind c j es) → behind c j (onto es xs) ≡ behind c j es
+    go true u rest = none_left (times c j xs) u
+    go false u rest = rest u
+
+-- an pending call is no reading
+unread : {A : Type 0} (calls : List Call) (answers : ℕ → ℕ → Option Answer) (c j : ℕ) (q : Reply) (m : List Pair) → (eqb c q.client.0 && eqb j q.call) ≡ true → answers c j ≡ None → IsReadAt calls answers q m → A
+unread calls answers c j q m e n x =
+    let p = and_parts (eqb c q.client.0) (eqb j q.call) e in
+    let i : c ≡ q.client.0 = eqb-true c q.client.0 p.0 in
+    let k : j ≡ q.call = eqb-true j q.call p.1 in
+    let y : None ≡ Some q.answer = sym n ∙ ap (λ d. answers d j) i ∙ ap (λ d. answers q.client.0 d) k ∙ x.answered in
+    absurd (cc)
+
+right_own : (calls : List Call) (answers : ℕ → ℕ → Option Answer) (r : Reply) (es : List Entry) (xs : List Event) → answers r.client.0 r.call ≡ None → times r.client.0 r.call xs ≡ 1 → IsReplyOn (map_of calls (behind r.client.0 r.call (onto es xs))) (map_call_of calls r.client.0 r.call) (Some r.answer) → AreRight calls answers es xs → AreRight calls (with_answer answers r) es xs
+right_own calls answers r es [] n t x a = tt
+right_own calls answers r es (Change e ∷ xs) n t x a = go (eqb r.client.0 e.client.0 && eqb r.call e.call) refl t (λ u. right_own calls answers r (e ∷ es) xs n u x a.1)
+  where
+    go : (b : Bool) → (eqb r.client.0 e.client.0 && eqb r.call e.call) ≡ b → cond b (suc (times r.client.0 r.call xs)) (times r.client.0 r.call xs) ≡ 1 → (times r.client.0 r.call xs ≡ 1 → AreRight calls (with_answer answers r) (e ∷ es) xs) → IsReplyOn (map_of calls es) (map_call_of calls e.client.0 e.call) (cond b (Some r.answer) (answers e.client.0 e.call)) × AreRight calls (with_answer answers r) (e ∷ es) xs
+    go true i u rest =
+        let p = and_parts (eqb r.client.0 e.client.0) (eqb r.call e.call) i in
+        let c : r.client.0 ≡ e.client.0 = eqb-true r.client.0 e.client.0 p.0 in
+        let j : r.call ≡ e.call = eqb-true r.call e.call p.1 in
+        let z : times r.client.0 r.call xs ≡ 0 = omega (u, arith) in
+        let m : behind r.client.0 r.call (onto (e ∷ es) xs) ≡ es = behind_onto r.client.0 r.call (e ∷ es) xs z ∙ rw i refl in
+        let y = subst (λ ds. IsReplyOn (map_of calls ds) (map_call_of calls r.client.0 r.call) (Some r.answer)) m x in
+        let w = subst (λ d. IsReplyOn (map_of calls es) (map_call_of calls d r.call) (Some r.answer)) c y in
+        (subst (λ d. IsReplyOn (map_of calls es) (map_call_of calls e.client.0 d) (Some r.answer)) j w, right_other calls answers r (e ∷ es) xs z a.1)
+    go false i u rest = (a.0, rest u)
+right_own calls answers r es (Read m q ∷ xs) n t x a = go (eqb r.client.0 q.client.0 && eqb r.call q.call) refl t (λ u. right_own calls answers r es xs n u x a.1)
+  where
+    go : (b : Bool) → (eqb r.client.0 q.client.0 && eqb r.call q.call) ≡ b → cond b (suc (times r.client.0 r.call xs)) (times r.client.0 r.call xs) ≡ 1 → (times r.client.0 r.call xs ≡ 1 → AreRight calls (with_answer answers r) es xs) → IsReadAt calls (with_answer answers r) q (map_of calls es) × AreRight calls (with_answer answers r) es xs
+    go true e u rest = unread calls answers r.client.0 r.call q (map_of calls es) e n a.0
+    go false e u rest = (record { silent = a.0.silent; replies = rw e a.0.replies; answered = rw e a.0.answered }, rest u)
+
+-- an pending call stands among the events as often as it has entries
+pub counted : (calls : List Call) (answers : ℕ → ℕ → Option Answer) (c j : ℕ) (es : List Entry) (xs : List Event) → answers c j ≡ None → AreRight calls answers es xs → entries_of_call c j (onto es xs) ≡ times c j xs + entries_of_call c j es
+counted calls answers c j es [] n a = omega arith
+counted calls answers c j es (Change e ∷ xs) n a = counted calls answers c j (e ∷ es) xs n a.1 ∙ go (eqb c e.client.0 && eqb j e.call)
+  where
+    go : (b : Bool) → times c j xs + cond b (suc (entries_of_call c j es)) (entries_of_call c j es) ≡ cond b (suc (times c j xs)) (times c j xs) + entries_of_call c j es
+    go true = omega arith
+    go false = refl
+counted calls answers c j es (Read m q ∷ xs) n a = counted calls answers c j es xs n a.1 ∙ go (eqb c q.client.0 && eqb j q.call) refl
+  where
+    go : (b : Bool) → (eqb c q.client.0 && eqb j q.call) ≡ b → times c j xs + entries_of_call c j es ≡ cond b (suc (times c j xs)) (times c j xs) + entries_of_call c j es
+    go true e = unread calls answers c j q (map_of calls es) e n a.0
+    go false e = refl
+
+-- A reading changes nothing
+
+cut_absent : (k : ℕ) (m : List Pair) → get k m ≡ None → delete k m ≡ m
+cut_absent k [] e = refl
+cut_absent k (p ∷ ps) e = go (eqb k p.key) e (cut_absent k ps)
+  where
+    go : (b : Bool) → cond b (Some p.value) (get k ps) ≡ None → (get k ps ≡ None → delete k ps ≡ ps) → cond b ps (p ∷ delete k ps) ≡ p ∷ ps
+    go true u rest = let x : Some p.value ≡ None = u in absurd (cc)
+    go false u rest = ap (λ qs. p ∷ qs) (rest u)
+
+silent_call : (call : MapCall) (m : List Pair) → changes call (reply call m) ≡ false → after call m ≡ m
+silent_call (Edit (Insert k v)) m e = let x : true ≡ false = e in absurd (cc)
+silent_call (Edit (Delete k)) m e = go (get k m) refl e
+  where
+    go : (a : Option ℕ) → get k m ≡ a → changes (Edit (Delete k)) (OneValue a) ≡ false → delete k m ≡ m
+    go (Some v) i u = let x : true ≡ false = u in absurd (cc)
+    go None i u = cut_absent k m i
+silent_call (Get k) m e = refl
+silent_call (Successor k) m e = refl
+silent_call (Range low high most) m e = refl
+
+-- Counts
+
+times_place : (c j : ℕ) (x : Event) (ys : List Event) → times c j (with_event x ys) ≡ times c j (x ∷ ys)
+times_place c j x [] = refl
+times_place c j x (y ∷ ys) = go (ltb (event_place x) (event_place y)) (eqb c (event_client x) && eqb j (event_call x)) (eqb c (event_client y) && eqb j (event_call y)) refl refl (times_place c j x ys)
+  where
+    go : (b d e : Bool) → (eqb c (event_client x) && eqb j (event_call x)) ≡ d → (eqb c (event_client y) && eqb j (event_call y)) ≡ e → times c j (with_event x ys) ≡ times c j (x ∷ ys) → times c j (cond b (x ∷ y ∷ ys) (y ∷ with_event x ys)) ≡ times c j (x ∷ y ∷ ys)
+    go true d e i k rest = refl
+    go false true true i k rest = rw (i, k) (ap suc (rest ∙ rw i refl))
+    go false true false i k rest = rw (i, k) (rest ∙ rw i refl)
+    go false false true i k rest = rw (i, k) (ap suc (rest ∙ rw i refl))
+    go false false false i k rest = rw (i, k) (rest ∙ rw i refl)
+
+unfinished_place : (answers : ℕ → ℕ → Option Answer) (c : ℕ) (x : Event) (ys : List Event) → unanswered answers c (with_event x ys) ≡ unanswered answers c (x ∷ ys)
+unfinished_place answers c x [] = refl
+unfinished_place answers c x (y ∷ ys) = go (ltb (event_place x) (event_place y)) (eqb c (event_client x) && is_none (answers c (event_call x))) (eqb c (event_client y) && is_none (answers c (event_call y))) refl refl (unfinished_place answers c x ys)
+  where
+    go : (b d e : Bool) → (eqb c (event_client x) && is_none (answers c (event_call x))) ≡ d → (eqb c (event_client y) && is_none (answers c (event_call y))) ≡ e → unanswered answers c (with_event x ys) ≡ unanswered answers c (x ∷ ys) → unanswered answers c (cond b (x ∷ y ∷ ys) (y ∷ with_event x ys)) ≡ unanswered answers c (x ∷ y ∷ ys)
+    go true d e i k rest = refl
+    go false true true i k rest = rw (i, k) (ap suc (rest ∙ rw i refl))
+    go false true false i k rest = rw (i, k) (rest ∙ rw i refl)
+    go false false true i k rest = rw (i, k) (ap suc (rest ∙ rw i refl))
+    go false false false i k rest = rw (i, k) (rest ∙ rw i refl)
+
+-- an answer more leaves no more unanswered
+fewer : (answers : ℕ → ℕ → Option Answer) (r : Reply) (c : ℕ) (xs : List Event) → unanswered (with_answer answers r) c xs ≤ unanswered answers c xs
+fewer answers r c [] = omega arith
+fewer answers r c (x ∷ xs) = go (eqb c (event_client x)) (eqb r.client.0 c && eqb r.call (event_call x)) (answers c (event_call x)) (fewer answers r c xs)
+  where
+    go : (b d : Bool) (a : Option Answer) → unanswered (with_answer answers r) c xs ≤ unanswered answers c xs → cond (b && is_none (cond d (Some r.answer) a)) (suc (unanswered (with_answer answers r) c xs)) (unanswered (with_answer answers r) c xs) ≤ cond (b && is_none a) (suc (unanswered answers c xs)) (unanswered answers c xs)
+    go false d a i = i
+    go true false (Some a) i = i
+    go true false None i = omega (i, arith)
+    go true true (Some a) i = i
+    go true true None i = omega (i, arith)
+
+once_each : (xs : List Event) → ((c j : ℕ) → times c j xs ≤ 1) → StandOnce xs
+once_each [] one = tt
+once_each (x ∷ xs) one = (first, once_each xs (λ c j. go (eqb c (event_client x) && eqb j (event_call x)) (times c j xs) (one c j)))
+  where
+    go : (b : Bool) (n : ℕ) → cond b (suc n) n ≤ 1 → n ≤ 1
+    go true n i = omega (i, arith)
+    go false n i = i
+
+    here : cond (eqb (event_client x) (event_client x) && eqb (event_call x) (event_call x)) (suc (times (event_client x) (event_call x) xs)) (times (event_client x) (event_call x) xs) ≤ 1
+    here = one (event_client x) (event_call x)
+
+    first : times (event_client x) (event_call x) xs ≡ 0
+    first =
+        let c : eqb (event_client x) (event_client x) ≡ true = eq-eqb (event_client x) (event_client x) refl in
+        let j : eqb (event_call x) (event_call x) ≡ true = eq-eqb (event_call x) (event_call x) refl in
+        let i : suc (times (event_client x) (event_call x) xs) ≤ 1 = rw (c, j) at here in
+        omega (i, arith)
+
+few_each : (answers : ℕ → ℕ → Option Answer) (xs : List Event) → ((c : ℕ) → unanswered answers c xs ≤ 1) → AreFewUnanswered answers xs
+few_each answers [] few = tt
+few_each answers (x ∷ xs) few = (few (event_client x), few_each answers xs (λ c. go (eqb c (event_client x) && is_none (answers c (event_call x))) (unanswered answers c xs) (few c)))
+  where
+    go : (b : Bool) (n : ℕ) → cond b (suc n) n ≤ 1 → n ≤ 1
+    go true n i = omega (i, arith)
+    go false n i = i
+
+-- an event of an pending call more leaves the finished calls their times_due
+finished_more : (lines : List Line) (x : Event) (xs : List Event) → answer_to lines (event_client x) (event_call x) ≡ None → HaveTheirPlaces lines xs → HaveTheirPlaces lines (with_event x xs)
+finished_more [] x xs n a = tt
+finished_more (Step row ∷ lines) x xs n a = finished_more lines x xs n a
+finished_more (Log e ∷ lines) x xs n a = finished_more lines x xs n a
+finished_more (ReplyLine r ∷ lines) x xs n a = go (eqb r.client.0 (event_client x) && eqb r.call (event_call x)) refl n (λ u. finished_more lines x xs u a.1)
+  where
+    go : (b : Bool) → (eqb r.client.0 (event_client x) && eqb r.call (event_call x)) ≡ b → cond b (Some r.answer) (answer_to lines (event_client x) (event_call x)) ≡ None → (answer_to lines (event_client x) (event_call x) ≡ None → HaveTheirPlaces lines (with_event x xs)) → (times r.client.0 r.call (with_event x xs) ≡ times_due (reply_told r.answer)) × HaveTheirPlaces lines (with_event x xs)
+    go true i u rest = let y : Some r.answer ≡ None = u in absurd (cc)
+    go false i u rest = (times_place r.client.0 r.call x xs ∙ rw i a.0, rest u)
+
+-- What the lines say one by one
+
+-- an entry is of a call of the map that is not answered and has no other; no other call of its client is entered and pending; all that was placed before stands before its turn
+pub record IsOrderlyEntry (calls : List Call) (lines : List Line) (e : Entry) : Type 0 where
+  pub call : MapCall
+  pub is : map_call_of calls e.client.0 e.call ≡ Some call
+  pub pending : answer_to lines e.client.0 e.call ≡ None
+  pub first : entries_of_call e.client.0 e.call (written_log lines) ≡ 0
+  pub alone : unanswered (answer_to lines) e.client.0 (events calls lines) ≡ 0
+  pub newest : AllUpTo (2 * e.step) (events calls lines)
+
+-- a reply is to a call of the map that is not answered, which took place where the rules say
+pub record IsOrderlyReply (calls : List Call) (lines : List Line) (r : Reply) : Type 0 where
+  pub call : MapCall
+  pub is : map_call_of calls r.client.0 r.call ≡ Some call
+  pub pending : answer_to lines r.client.0 r.call ≡ None
+  pub rule : IsPlacedOnMap (reply_told r.answer) calls lines call r
+
+abbrev pub AreOrderly : List Call → List Line → Type 0
+AreOrderly calls [] = Unit {0}
+AreOrderly calls (Step row ∷ lines) = AreOrderly calls lines
+AreOrderly calls (Log e ∷ lines) = AreOrderly calls lines × IsOrderlyEntry calls lines e
+AreOrderly calls (ReplyLine r ∷ lines) = AreOrderly calls lines × IsOrderlyReply calls lines r
+
+-- The order that they make
+
+pub record IsKept (calls : List Call) (lines : List Line) (xs : List Event) : Type 0 where
+  pub right : AreRight calls (answer_to lines) [] xs
+  pub sorted : IsSorted xs
+  pub logged : onto [] xs ≡ written_log lines
+  pub finished : HaveTheirPlaces lines xs
+  pub one : (c j : ℕ) → times c j xs ≤ 1
+  pub few : (c : ℕ) → unanswered (answer_to lines) c xs ≤ 1
+
+-- the entries behind that of a call which has one: those that the lines behind it have
+behind_entry : (c j : ℕ) (e : Entry) (newer older : List Line) → e.client.0 ≡ c → e.call ≡ j → entries_of_call c j (written_log (newer ++ Log e ∷ older)) ≡ 1 → behind c j (written_log (newer ++ Log e ∷ older)) ≡ written_log older
+behind_entry c j e [] older i k n =
+    let p = eq-eqb c e.client.0 (sym i) in
+    let q = eq-eqb j e.call (sym k) in
+    rw (p, q) refl
+behind_entry c j e (Step row ∷ newer) older i k n = behind_entry c j e newer older i k n
+behind_entry c j e (ReplyLine r ∷ newer) older i k n = behind_entry c j e newer older i k n
+behind_entry c j e (Log d ∷ newer) older i k n = go (eqb c d.client.0 && eqb j d.call) n (λ u. behind_entry c j e newer older i k u)
+  where
+    some : (ls : List Line) → suc zero ≤ entries_of_call c j (written_log (ls ++ Log e ∷ older))
+    some [] =
+        let p = eq-eqb c e.client.0 (sym i) in
+        let q = eq-eqb j e.call (sym k) in
+        rw (p, q) (omega arith)
+    some (Step row ∷ ls) = some ls
+    some (ReplyLine r ∷ ls) = some ls
+    some (Log f ∷ ls) = more (eqb c f.client.0 && eqb j f.call) (some ls)
+      where
+        more : (b : Bool) → suc zero ≤ entries_of_call c j (written_log (ls ++ Log e ∷ older)) → suc zero ≤ cond b (suc (entries_of_call c j (written_log (ls ++ Log e ∷ older)))) (entries_of_call c j (written_log (ls ++ Log e ∷ older)))
+        more true u = omega arith
+        more false u = u
+
+    go : (b : Bool) → cond b (suc (entries_of_call c j (written_log (newer ++ Log e ∷ older)))) (entries_of_call c j (written_log (newer ++ Log e ∷ older))) ≡ 1 → (entries_of_call c j (written_log (newer ++ Log e ∷ older)) ≡ 1 → behind c j (written_log (newer ++ Log e ∷ older)) ≡ written_log older) → cond b (written_log (newer ++ Log e ∷ older)) (behind c j (written_log (newer ++ Log e ∷ older))) ≡ written_log older
+    go true u rest = let v = some newer in absurd (omega (u, v, arith))
+    go false u rest = rest u
+
+-- a finished call stands as often as it has entries; its answer is known
+kept_answer : (calls : List Call) (lines : List Line) (r : Reply) (xs : List Event) → IsKept calls lines xs → AreRight calls (answer_to (ReplyLine r ∷ lines)) [] xs → times r.client.0 r.call xs ≡ times_due (reply_told r.answer) → IsKept calls (ReplyLine r ∷ lines) xs
+kept_answer calls lines r xs k a t = record {
+  right = a;
+  sorted = k.sorted;
+  logged = k.logged;
+  finished = (t, k.finished);
+  one = k.one;
+  few = λ c. let i = k.few c in let j = fewer (answer_to lines) r c xs in omega (i, j, arith);
+}
+
+kept_entry : (calls : List Call) (lines : List Line) (e : Entry) → IsOrderlyEntry calls lines e → IsKept calls lines (events calls lines) → IsKept calls (Log e ∷ lines) (with_event (Change e) (events calls lines))
+kept_entry calls lines e o k = record {
+  right = right_change calls (answer_to lines) e [] xs o.newest its_reply k.right;
+  sorted = sorted_place (Change e) xs k.sorted;
+  logged = onto_change e [] xs o.newest ∙ ap (λ es. e ∷ es) k.logged;
+  finished = finished_more lines (Change e) xs o.pending k.finished;
+  one = λ c j. rw (times_place c j (Change e) xs) (one_more c j (eqb c e.client.0 && eqb j e.call) refl (k.one c j));
+  few = λ c. rw (unfinished_place (answer_to lines) c (Change e) xs) (few_more c (eqb c e.client.0) refl (is_none (answer_to lines c e.call)) (k.few c));
+}
+  where
+    xs : List Event
+    xs = events calls lines
+
+    its_reply : IsReplyOn (map_of calls (onto [] xs)) (map_call_of calls e.client.0 e.call) (answer_to lines e.client.0 e.call)
+    its_reply = rw (o.is, o.pending) tt
+
+    absent : times e.client.0 e.call xs ≡ 0
+    absent =
+        let n : entries_of_call e.client.0 e.call (onto [] xs) ≡ 0 = ap (entries_of_call e.client.0 e.call) k.logged ∙ o.first in
+        let m = counted calls (answer_to lines) e.client.0 e.call [] xs o.pending k.right in
+        omega (n, m, arith)
+
+    one_more : (c j : ℕ) (b : Bool) → (eqb c e.client.0 && eqb j e.call) ≡ b → times c j xs ≤ 1 → cond b (suc (times c j xs)) (times c j xs) ≤ 1
+    one_more c j true i u =
+        let p = and_parts (eqb c e.client.0) (eqb j e.call) i in
+        let x : times c j xs ≡ 0 = ap (λ d. times d j xs) (eqb-true c e.client.0 p.0) ∙ ap (λ d. times e.client.0 d xs) (eqb-true j e.call p.1) ∙ absent in
+        omega (x, arith)
+    one_more c j false i u = u
+
+    few_more : (c : ℕ) (b : Bool) → eqb c e.client.0 ≡ b → (d : Bool) → unanswered (answer_to lines) c xs ≤ 1 → cond (b && d) (suc (unanswered (answer_to lines) c xs)) (unanswered (answer_to lines) c xs) ≤ 1
+    few_more c true i true u = let x : unanswered (answer_to lines) c xs ≡ 0 = ap (λ d. unanswered (answer_to lines) d xs) (eqb-true c e.client.0 i) ∙ o.alone in omega (x, arith)
+    few_more c true i false u = u
+    few_more c false i d u = u
+
+kept_change : (calls : List Call) (lines : List Line) (r : Reply) (o : IsOrderlyReply calls lines r) (a : MapReply) → reply_told r.answer ≡ Some a → IsChange calls lines o.call r → IsKept calls lines (events calls lines) → IsKept calls (ReplyLine r ∷ lines) (events calls lines)
+kept_change calls lines r o a t x k =
+    kept_answer calls lines r xs k (right_own calls (answer_to lines) r [] xs o.pending once at_entry k.right) (rw t once)
+  where
+    xs : List Event
+    xs = events calls lines
+
+    once : times r.client.0 r.call xs ≡ 1
+    once =
+        let n : entries_of_call r.client.0 r.call (onto [] xs) ≡ 1 = ap (entries_of_call r.client.0 r.call) k.logged ∙ x.once in
+        let m = counted calls (answer_to lines) r.client.0 r.call [] xs o.pending k.right in
+        omega (n, m, arith)
+
+    before : behind r.client.0 r.call (onto [] xs) ≡ written_log x.older
+    before =
+        ap (behind r.client.0 r.call) k.logged
+        ∙ subst (λ ls. entries_of_call r.client.0 r.call (written_log ls) ≡ 1 → behind r.client.0 r.call (written_log ls) ≡ written_log x.older) (sym x.entered) (behind_entry r.client.0 r.call x.entry x.newer x.older x.client x.number) x.once
+
+    at_entry : IsReplyOn (map_of calls (behind r.client.0 r.call (onto [] xs))) (map_call_of calls r.client.0 r.call) (Some r.answer)
+    at_entry = subst (λ es. IsReplyOn (map_of calls es) (map_call_of calls r.client.0 r.call) (Some r.answer)) (sym before) (rw o.is x.replies)
+
+kept_reading : (calls : List Call) (lines : List Line) (r : Reply) (o : IsOrderlyReply calls lines r) (a : MapReply) → reply_told r.answer ≡ Some a → changes o.call a ≡ false → (x : IsReading calls lines o.call r) → IsKept calls lines (events calls lines) → IsKept calls (ReplyLine r ∷ lines) (with_event (Read x.turn r) (events calls lines))
+kept_reading calls lines r o a t f x k = record {
+  right = right_read calls (answer_to (ReplyLine r ∷ lines)) x.turn r [] xs k.sorted refl read_now (right_other calls (answer_to lines) r [] xs absent k.right);
+  sorted = sorted_place (Read x.turn r) xs k.sorted;
+  logged = onto_read x.turn r [] xs ∙ k.logged;
+  finished = (its_due, finished_more lines (Read x.turn r) xs o.pending k.finished);
+  one = λ c j. rw (times_place c j (Read x.turn r) xs) (one_more c j (eqb c r.client.0 && eqb j r.call) refl (k.one c j));
+  few = λ c. rw (unfinished_place (answer_to (ReplyLine r ∷ lines)) c (Read x.turn r) xs) (few_more c (eqb c r.client.0) refl);
+}
+  where
+    xs : List Event
+    xs = events calls lines
+
+    absent : times r.client.0 r.call xs ≡ 0
+    absent =
+        let n : entries_of_call r.client.0 r.call (onto [] xs) ≡ 0 = ap (entries_of_call r.client.0 r.call) k.logged ∙ x.none in
+        let m = counted calls (answer_to lines) r.client.0 r.call [] xs o.pending k.right in
+        omega (n, m, arith)
+
+    same_client : eqb r.client.0 r.client.0 ≡ true
+    same_client = eq-eqb r.client.0 r.client.0 refl
+
+    same_call : eqb r.call r.call ≡ true
+    same_call = eq-eqb r.call r.call refl
+
+    now : List Pair
+    now = map_at calls lines x.turn
+
+    told_now : a ≡ reply o.call now
+    told_now = let e : Some a ≡ Some (reply o.call now) = sym t ∙ x.greatest.holds in cc
+
+    read_at : IsReadAt calls (answer_to (ReplyLine r ∷ lines)) r now
+    read_at = record {
+      silent = rw o.is (silent_call o.call now (ap (changes o.call) (sym told_now) ∙ f));
+      replies = rw (o.is, same_client, same_call) x.greatest.holds;
+      answered = rw (same_client, same_call) refl;
+    }
+
+    read_now : IsReadAt calls (answer_to (ReplyLine r ∷ lines)) r (map_of calls (entries_until x.turn (onto [] xs)))
+    read_now = subst (λ es. IsReadAt calls (answer_to (ReplyLine r ∷ lines)) r (map_of calls (entries_until x.turn es))) (sym k.logged) read_at
+
+    its_due : times r.client.0 r.call (with_event (Read x.turn r) xs) ≡ times_due (reply_told r.answer)
+    its_due = times_place r.client.0 r.call (Read x.turn r) xs ∙ rw (same_client, same_call, t) (ap suc absent)
+
+    one_more : (c j : ℕ) (b : Bool) → (eqb c r.client.0 && eqb j r.call) ≡ b → times c j xs ≤ 1 → cond b (suc (times c j xs)) (times c j xs) ≤ 1
+    one_more c j true i u =
+        let p = and_parts (eqb c r.client.0) (eqb j r.call) i in
+        let z : times c j xs ≡ 0 = ap (λ d. times d j xs) (eqb-true c r.client.0 p.0) ∙ ap (λ d. times r.client.0 d xs) (eqb-true j r.call p.1) ∙ absent in
+        omega (z, arith)
+    one_more c j false i u = u
+
+    fewer_now : (c : ℕ) → unanswered (answer_to (ReplyLine r ∷ lines)) c xs ≤ 1
+    fewer_now c = let i = k.few c in let j = fewer (answer_to lines) r c xs in omega (i, j, arith)
+
+    few_more : (c : ℕ) (b : Bool) → eqb c r.client.0 ≡ b → cond (b && is_none (answer_to (ReplyLine r ∷ lines) c r.call)) (suc (unanswered (answer_to (ReplyLine r ∷ lines)) c xs)) (unanswered (answer_to (ReplyLine r ∷ lines)) c xs) ≤ 1
+    few_more c true i =
+        let m : eqb r.client.0 c ≡ true = eq-eqb r.client.0 c (sym (eqb-true c r.client.0 i)) in
+        rw (m, same_call) (fewer_now c)
+    few_more c false i = fewer_now c
+
+kept_refused : (calls : List Call) (lines : List Line) (r : Reply) (o : IsOrderlyReply calls lines r) → reply_told r.answer ≡ None → IsRefused lines r → IsKept calls lines (events calls lines) → IsKept calls (ReplyLine r ∷ lines) (events calls lines)
+kept_refused calls lines r o t x k =
+    kept_answer calls lines r xs k (right_other calls (answer_to lines) r [] xs absent k.right) (rw t absent)
+  where
+    xs : List Event
+    xs = events calls lines
+
+    absent : times r.client.0 r.call xs ≡ 0
+    absent =
+        let n : entries_of_call r.client.0 r.call (onto [] xs) ≡ 0 = ap (entries_of_call r.client.0 r.call) k.logged ∙ x.none in
+        let m = counted calls (answer_to lines) r.client.0 r.call [] xs o.pending k.right in
+        omega (n, m, arith)
+
+kept_reply : (calls : List Call) (lines : List Line) (r : Reply) → IsOrderlyReply calls lines r → IsKept calls lines (events calls lines) → IsKept calls (ReplyLine r ∷ lines) (events calls (ReplyLine r ∷ lines))
+kept_reply calls lines r o k = go (reply_told r.answer) refl o.rule
+  where
+    tell : (a : MapReply) → reply_told r.answer ≡ Some a → (b : Bool) → changes o.call a ≡ b → IsToldAt b calls lines o.call r → IsKept calls (ReplyLine r ∷ lines) (events calls (ReplyLine r ∷ lines))
+    tell a t true c x =
+        let e : events calls (ReplyLine r ∷ lines) ≡ events calls lines = rw (o.is, t, c) refl in
+        subst (IsKept calls (ReplyLine r ∷ lines)) (sym e) (kept_change calls lines r o a t x k)
+    tell a t false c x =
+        let e : events calls (ReplyLine r ∷ lines) ≡ with_event (Read x.turn r) (events calls lines) = rw (o.is, t, c, x.moment) refl in
+        subst (IsKept calls (ReplyLine r ∷ lines)) (sym e) (kept_reading calls lines r o a t c x k)
+
+    go : (t : Option MapReply) → reply_told r.answer ≡ t → IsPlacedOnMap t calls lines o.call r → IsKept calls (ReplyLine r ∷ lines) (events calls (ReplyLine r ∷ lines))
+    go None t x =
+        let e : events calls (ReplyLine r ∷ lines) ≡ events calls lines = rw (o.is, t) refl in
+        subst (IsKept calls (ReplyLine r ∷ lines)) (sym e) (kept_refused calls lines r o t x k)
+    go (Some a) t x = tell a t (changes o.call a) refl x
+
+pub kept : (calls : List Call) (lines : List Line) → AreOrderly calls lines → IsKept calls lines (events calls lines)
+kept calls [] a = record { right = tt; sorted = tt; logged = refl; finished = tt; one = λ c j. omega arith; few = λ c. omega arith }
+kept calls (Step row ∷ lines) a = let k = kept calls lines a in record { right = k.right; sorted = k.sorted; logged = k.logged; finished = k.finished; one = k.one; few = k.few }
+kept calls (Log e ∷ lines) a = kept_entry calls lines e a.1 (kept calls lines a.0)
+kept calls (ReplyLine r ∷ lines) a = kept_reply calls lines r a.1 (kept calls lines a.0)
+
+-- Rules that are kept reply by reply make the whole record legal.
+pub legal : (calls : List Call) (lines : List Line) → AreOrderly calls lines → IsLegal calls lines
+legal calls lines a =
+    let k = kept calls lines a in
+    record {
+      replies = replay calls (answer_to lines) [] (events calls lines) k.right;
+      placed = k.finished;
+      once = once_each (events calls lines) k.one;
+      few = few_each (answer_to lines) (events calls lines) k.few;
+    }
