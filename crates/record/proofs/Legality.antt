@@ -233,7 +233,7 @@ orderly_entry lay calls (Step (Made n row) ∷ lines) e maps a x k =
     let m = maps e.client.0 (answered lines e.client.0) w.command w.is in
     let q = w.call in
     let s = log_step lay calls (Step (Made n row) ∷ lines) e a x in
-    let old : IsKept calls lines (events calls lines) = record { right = k.right; sorted = k.sorted; logged = k.logged; finished = k.finished; one = k.one; few = k.few } in
+    let old : IsKept calls lines (events calls lines) = record { right = k.right; sorted = k.sorted; logged = k.logged; placed = k.placed; one = k.one; few = k.few } in
     record {
       call = m.0;
       is = ap (map_call_of calls e.client.0) q ∙ ap map_call w.is ∙ m.1;

@@ -1,4 +1,5 @@
--- What the rules say of each reply by itself, at the turns of its own call, gives one order of all calls.
+-- What the rules say of each reply by itself, at the turns of its own call, gives one order of all
+-- calls.
 use Rattle.std.proofs.Common.{◌≡◌, ℕ, zero, suc, ◌+◌, ◌*◌, ◌≤◌, Bool, true, false, cond, ◌&&◌, eqb, ltb, leb, List, [], ◌∷◌, ◌++◌, refl, sym, ◌∙◌, ap, subst, arith}
 use Rattle.std.proofs.lemmas.Bool.{ltb-true, ltb-false, le-ltb, le-leb, lt-leb, eqb-true, eq-eqb, and_parts}
 use Rattle.std.specs.Prelude.{Option, Some, None, is_none}
@@ -168,7 +169,7 @@ behind_onto c j es (Read m q ∷ xs) t = go (eqb c q.client.0 && eqb j q.call) t
     go true u rest = none_left (times c j xs) u
     go false u rest = rest u
 
--- an pending call is no reading
+-- a call that is not answered is no reading
 unread : {A : Type 0} (calls : List Call) (answers : ℕ → ℕ → Option Answer) (c j : ℕ) (q : Reply) (m : List Pair) → (eqb c q.client.0 && eqb j q.call) ≡ true → answers c j ≡ None → IsReadAt calls answers q m → A
 unread calls answers c j q m e n x =
     let p = and_parts (eqb c q.client.0) (eqb j q.call) e in
@@ -198,7 +199,7 @@ right_own calls answers r es (Read m q ∷ xs) n t x a = go (eqb r.client.0 q.cl
     go true e u rest = unread calls answers r.client.0 r.call q (map_of calls es) e n a.0
     go false e u rest = (record { silent = a.0.silent; replies = rw e a.0.replies; answered = rw e a.0.answered }, rest u)
 
--- an pending call stands among the events as often as it has entries
+-- a call that is not answered stands among the events as often as it has entries
 pub counted : (calls : List Call) (answers : ℕ → ℕ → Option Answer) (c j : ℕ) (es : List Entry) (xs : List Event) → answers c j ≡ None → AreRight calls answers es xs → entries_of_call c j (onto es xs) ≡ times c j xs + entries_of_call c j es
 counted calls answers c j es [] n a = omega arith
 counted calls answers c j es (Change e ∷ xs) n a = counted calls answers c j (e ∷ es) xs n a.1 ∙ go (eqb c e.client.0 && eqb j e.call)
@@ -246,9 +247,9 @@ times_place c j x (y ∷ ys) = go (ltb (event_place x) (event_place y)) (eqb c (
     go false false true i k rest = rw (i, k) (ap suc (rest ∙ rw i refl))
     go false false false i k rest = rw (i, k) (rest ∙ rw i refl)
 
-unfinished_place : (answers : ℕ → ℕ → Option Answer) (c : ℕ) (x : Event) (ys : List Event) → unanswered answers c (with_event x ys) ≡ unanswered answers c (x ∷ ys)
-unfinished_place answers c x [] = refl
-unfinished_place answers c x (y ∷ ys) = go (ltb (event_place x) (event_place y)) (eqb c (event_client x) && is_none (answers c (event_call x))) (eqb c (event_client y) && is_none (answers c (event_call y))) refl refl (unfinished_place answers c x ys)
+unanswered_place : (answers : ℕ → ℕ → Option Answer) (c : ℕ) (x : Event) (ys : List Event) → unanswered answers c (with_event x ys) ≡ unanswered answers c (x ∷ ys)
+unanswered_place answers c x [] = refl
+unanswered_place answers c x (y ∷ ys) = go (ltb (event_place x) (event_place y)) (eqb c (event_client x) && is_none (answers c (event_call x))) (eqb c (event_client y) && is_none (answers c (event_call y))) refl refl (unanswered_place answers c x ys)
   where
     go : (b d e : Bool) → (eqb c (event_client x) && is_none (answers c (event_call x))) ≡ d → (eqb c (event_client y) && is_none (answers c (event_call y))) ≡ e → unanswered answers c (with_event x ys) ≡ unanswered answers c (x ∷ ys) → unanswered answers c (cond b (x ∷ y ∷ ys) (y ∷ with_event x ys)) ≡ unanswered answers c (x ∷ y ∷ ys)
     go true d e i k rest = refl
@@ -295,12 +296,12 @@ few_each answers (x ∷ xs) few = (few (event_client x), few_each answers xs (λ
     go true n i = omega (i, arith)
     go false n i = i
 
--- an event of an pending call more leaves the finished calls their times_due
-finished_more : (lines : List Line) (x : Event) (xs : List Event) → answer_to lines (event_client x) (event_call x) ≡ None → HaveTheirPlaces lines xs → HaveTheirPlaces lines (with_event x xs)
-finished_more [] x xs n a = tt
-finished_more (Step row ∷ lines) x xs n a = finished_more lines x xs n a
-finished_more (Log e ∷ lines) x xs n a = finished_more lines x xs n a
-finished_more (ReplyLine r ∷ lines) x xs n a = go (eqb r.client.0 (event_client x) && eqb r.call (event_call x)) refl n (λ u. finished_more lines x xs u a.1)
+-- one event more, of a call that is not answered, leaves those that are their places
+places_more : (lines : List Line) (x : Event) (xs : List Event) → answer_to lines (event_client x) (event_call x) ≡ None → HaveTheirPlaces lines xs → HaveTheirPlaces lines (with_event x xs)
+places_more [] x xs n a = tt
+places_more (Step row ∷ lines) x xs n a = places_more lines x xs n a
+places_more (Log e ∷ lines) x xs n a = places_more lines x xs n a
+places_more (ReplyLine r ∷ lines) x xs n a = go (eqb r.client.0 (event_client x) && eqb r.call (event_call x)) refl n (λ u. places_more lines x xs u a.1)
   where
     go : (b : Bool) → (eqb r.client.0 (event_client x) && eqb r.call (event_call x)) ≡ b → cond b (Some r.answer) (answer_to lines (event_client x) (event_call x)) ≡ None → (answer_to lines (event_client x) (event_call x) ≡ None → HaveTheirPlaces lines (with_event x xs)) → (times r.client.0 r.call (with_event x xs) ≡ times_due (reply_told r.answer)) × HaveTheirPlaces lines (with_event x xs)
     go true i u rest = let y : Some r.answer ≡ None = u in absurd (cc)
@@ -308,7 +309,8 @@ finished_more (ReplyLine r ∷ lines) x xs n a = go (eqb r.client.0 (event_clien
 
 -- What the lines say one by one
 
--- an entry is of a call of the map that is not answered and has no other; no other call of its client is entered and pending; all that was placed before stands before its turn
+-- An entry is of a call of the map that is not answered and has no other; no other call of its
+-- client is entered and not answered; all that was placed before stands before its turn.
 pub record IsOrderlyEntry (calls : List Call) (lines : List Line) (e : Entry) : Type 0 where
   pub call : MapCall
   pub is : map_call_of calls e.client.0 e.call ≡ Some call
@@ -332,13 +334,21 @@ AreOrderly calls (ReplyLine r ∷ lines) = AreOrderly calls lines × IsOrderlyRe
 
 -- The order that they make
 
+-- what the events of these lines keep
 pub record IsKept (calls : List Call) (lines : List Line) (xs : List Event) : Type 0 where
   pub right : AreRight calls (answer_to lines) [] xs
   pub sorted : IsSorted xs
   pub logged : onto [] xs ≡ written_log lines
-  pub finished : HaveTheirPlaces lines xs
+  pub placed : HaveTheirPlaces lines xs
   pub one : (c j : ℕ) → times c j xs ≤ 1
   pub few : (c : ℕ) → unanswered (answer_to lines) c xs ≤ 1
+
+-- a call that is not answered stands there as often as it has entries
+stands_as_entered : (calls : List Call) (lines : List Line) (c j n : ℕ) (xs : List Event) → IsKept calls lines xs → answer_to lines c j ≡ None → entries_of_call c j (written_log lines) ≡ n → times c j xs ≡ n
+stands_as_entered calls lines c j n xs k none e =
+    let i : entries_of_call c j (onto [] xs) ≡ n = ap (entries_of_call c j) k.logged ∙ e in
+    let m = counted calls (answer_to lines) c j [] xs none k.right in
+    omega (i, m, arith)
 
 -- the entries behind that of a call which has one: those that the lines behind it have
 behind_entry : (c j : ℕ) (e : Entry) (newer older : List Line) → e.client.0 ≡ c → e.call ≡ j → entries_of_call c j (written_log (newer ++ Log e ∷ older)) ≡ 1 → behind c j (written_log (newer ++ Log e ∷ older)) ≡ written_log older
@@ -367,25 +377,25 @@ behind_entry c j e (Log d ∷ newer) older i k n = go (eqb c d.client.0 && eqb j
     go true u rest = let v = some newer in absurd (omega (u, v, arith))
     go false u rest = rest u
 
--- a finished call stands as often as it has entries; its answer is known
-kept_answer : (calls : List Call) (lines : List Line) (r : Reply) (xs : List Event) → IsKept calls lines xs → AreRight calls (answer_to (ReplyLine r ∷ lines)) [] xs → times r.client.0 r.call xs ≡ times_due (reply_told r.answer) → IsKept calls (ReplyLine r ∷ lines) xs
-kept_answer calls lines r xs k a t = record {
+-- an answered call stands there as often as it has to, and its answer is known
+answer_keeps : (calls : List Call) (lines : List Line) (r : Reply) (xs : List Event) → IsKept calls lines xs → AreRight calls (answer_to (ReplyLine r ∷ lines)) [] xs → times r.client.0 r.call xs ≡ times_due (reply_told r.answer) → IsKept calls (ReplyLine r ∷ lines) xs
+answer_keeps calls lines r xs k a t = record {
   right = a;
   sorted = k.sorted;
   logged = k.logged;
-  finished = (t, k.finished);
+  placed = (t, k.placed);
   one = k.one;
   few = λ c. let i = k.few c in let j = fewer (answer_to lines) r c xs in omega (i, j, arith);
 }
 
-kept_entry : (calls : List Call) (lines : List Line) (e : Entry) → IsOrderlyEntry calls lines e → IsKept calls lines (events calls lines) → IsKept calls (Log e ∷ lines) (with_event (Change e) (events calls lines))
-kept_entry calls lines e o k = record {
+entry_keeps : (calls : List Call) (lines : List Line) (e : Entry) → IsOrderlyEntry calls lines e → IsKept calls lines (events calls lines) → IsKept calls (Log e ∷ lines) (with_event (Change e) (events calls lines))
+entry_keeps calls lines e o k = record {
   right = right_change calls (answer_to lines) e [] xs o.newest its_reply k.right;
   sorted = sorted_place (Change e) xs k.sorted;
   logged = onto_change e [] xs o.newest ∙ ap (λ es. e ∷ es) k.logged;
-  finished = finished_more lines (Change e) xs o.pending k.finished;
+  placed = places_more lines (Change e) xs o.pending k.placed;
   one = λ c j. rw (times_place c j (Change e) xs) (one_more c j (eqb c e.client.0 && eqb j e.call) refl (k.one c j));
-  few = λ c. rw (unfinished_place (answer_to lines) c (Change e) xs) (few_more c (eqb c e.client.0) refl (is_none (answer_to lines c e.call)) (k.few c));
+  few = λ c. rw (unanswered_place (answer_to lines) c (Change e) xs) (few_more c (eqb c e.client.0) refl (is_none (answer_to lines c e.call)) (k.few c));
 }
   where
     xs : List Event
@@ -395,10 +405,7 @@ kept_entry calls lines e o k = record {
     its_reply = rw (o.is, o.pending) tt
 
     absent : times e.client.0 e.call xs ≡ 0
-    absent =
-        let n : entries_of_call e.client.0 e.call (onto [] xs) ≡ 0 = ap (entries_of_call e.client.0 e.call) k.logged ∙ o.first in
-        let m = counted calls (answer_to lines) e.client.0 e.call [] xs o.pending k.right in
-        omega (n, m, arith)
+    absent = stands_as_entered calls lines e.client.0 e.call 0 xs k o.pending o.first
 
     one_more : (c j : ℕ) (b : Bool) → (eqb c e.client.0 && eqb j e.call) ≡ b → times c j xs ≤ 1 → cond b (suc (times c j xs)) (times c j xs) ≤ 1
     one_more c j true i u =
@@ -412,18 +419,15 @@ kept_entry calls lines e o k = record {
     few_more c true i false u = u
     few_more c false i d u = u
 
-kept_change : (calls : List Call) (lines : List Line) (r : Reply) (o : IsOrderlyReply calls lines r) (a : MapReply) → reply_told r.answer ≡ Some a → IsChange calls lines o.call r → IsKept calls lines (events calls lines) → IsKept calls (ReplyLine r ∷ lines) (events calls lines)
-kept_change calls lines r o a t x k =
-    kept_answer calls lines r xs k (right_own calls (answer_to lines) r [] xs o.pending once at_entry k.right) (rw t once)
+change_keeps : (calls : List Call) (lines : List Line) (r : Reply) (o : IsOrderlyReply calls lines r) (a : MapReply) → reply_told r.answer ≡ Some a → IsChange calls lines o.call r → IsKept calls lines (events calls lines) → IsKept calls (ReplyLine r ∷ lines) (events calls lines)
+change_keeps calls lines r o a t x k =
+    answer_keeps calls lines r xs k (right_own calls (answer_to lines) r [] xs o.pending once at_entry k.right) (rw t once)
   where
     xs : List Event
     xs = events calls lines
 
     once : times r.client.0 r.call xs ≡ 1
-    once =
-        let n : entries_of_call r.client.0 r.call (onto [] xs) ≡ 1 = ap (entries_of_call r.client.0 r.call) k.logged ∙ x.once in
-        let m = counted calls (answer_to lines) r.client.0 r.call [] xs o.pending k.right in
-        omega (n, m, arith)
+    once = stands_as_entered calls lines r.client.0 r.call 1 xs k o.pending x.once
 
     before : behind r.client.0 r.call (onto [] xs) ≡ written_log x.older
     before =
@@ -433,24 +437,21 @@ kept_change calls lines r o a t x k =
     at_entry : IsReplyOn (map_of calls (behind r.client.0 r.call (onto [] xs))) (map_call_of calls r.client.0 r.call) (Some r.answer)
     at_entry = subst (λ es. IsReplyOn (map_of calls es) (map_call_of calls r.client.0 r.call) (Some r.answer)) (sym before) (rw o.is x.replies)
 
-kept_reading : (calls : List Call) (lines : List Line) (r : Reply) (o : IsOrderlyReply calls lines r) (a : MapReply) → reply_told r.answer ≡ Some a → changes o.call a ≡ false → (x : IsReading calls lines o.call r) → IsKept calls lines (events calls lines) → IsKept calls (ReplyLine r ∷ lines) (with_event (Read x.turn r) (events calls lines))
-kept_reading calls lines r o a t f x k = record {
+reading_keeps : (calls : List Call) (lines : List Line) (r : Reply) (o : IsOrderlyReply calls lines r) (a : MapReply) → reply_told r.answer ≡ Some a → changes o.call a ≡ false → (x : IsReading calls lines o.call r) → IsKept calls lines (events calls lines) → IsKept calls (ReplyLine r ∷ lines) (with_event (Read x.turn r) (events calls lines))
+reading_keeps calls lines r o a t f x k = record {
   right = right_read calls (answer_to (ReplyLine r ∷ lines)) x.turn r [] xs k.sorted refl read_now (right_other calls (answer_to lines) r [] xs absent k.right);
   sorted = sorted_place (Read x.turn r) xs k.sorted;
   logged = onto_read x.turn r [] xs ∙ k.logged;
-  finished = (its_due, finished_more lines (Read x.turn r) xs o.pending k.finished);
+  placed = (its_due, places_more lines (Read x.turn r) xs o.pending k.placed);
   one = λ c j. rw (times_place c j (Read x.turn r) xs) (one_more c j (eqb c r.client.0 && eqb j r.call) refl (k.one c j));
-  few = λ c. rw (unfinished_place (answer_to (ReplyLine r ∷ lines)) c (Read x.turn r) xs) (few_more c (eqb c r.client.0) refl);
+  few = λ c. rw (unanswered_place (answer_to (ReplyLine r ∷ lines)) c (Read x.turn r) xs) (few_more c (eqb c r.client.0) refl);
 }
   where
     xs : List Event
     xs = events calls lines
 
     absent : times r.client.0 r.call xs ≡ 0
-    absent =
-        let n : entries_of_call r.client.0 r.call (onto [] xs) ≡ 0 = ap (entries_of_call r.client.0 r.call) k.logged ∙ x.none in
-        let m = counted calls (answer_to lines) r.client.0 r.call [] xs o.pending k.right in
-        omega (n, m, arith)
+    absent = stands_as_entered calls lines r.client.0 r.call 0 xs k o.pending x.none
 
     same_client : eqb r.client.0 r.client.0 ≡ true
     same_client = eq-eqb r.client.0 r.client.0 refl
@@ -493,41 +494,38 @@ kept_reading calls lines r o a t f x k = record {
         rw (m, same_call) (fewer_now c)
     few_more c false i = fewer_now c
 
-kept_refused : (calls : List Call) (lines : List Line) (r : Reply) (o : IsOrderlyReply calls lines r) → reply_told r.answer ≡ None → IsRefused lines r → IsKept calls lines (events calls lines) → IsKept calls (ReplyLine r ∷ lines) (events calls lines)
-kept_refused calls lines r o t x k =
-    kept_answer calls lines r xs k (right_other calls (answer_to lines) r [] xs absent k.right) (rw t absent)
+refusal_keeps : (calls : List Call) (lines : List Line) (r : Reply) (o : IsOrderlyReply calls lines r) → reply_told r.answer ≡ None → IsRefused lines r → IsKept calls lines (events calls lines) → IsKept calls (ReplyLine r ∷ lines) (events calls lines)
+refusal_keeps calls lines r o t x k =
+    answer_keeps calls lines r xs k (right_other calls (answer_to lines) r [] xs absent k.right) (rw t absent)
   where
     xs : List Event
     xs = events calls lines
 
     absent : times r.client.0 r.call xs ≡ 0
-    absent =
-        let n : entries_of_call r.client.0 r.call (onto [] xs) ≡ 0 = ap (entries_of_call r.client.0 r.call) k.logged ∙ x.none in
-        let m = counted calls (answer_to lines) r.client.0 r.call [] xs o.pending k.right in
-        omega (n, m, arith)
+    absent = stands_as_entered calls lines r.client.0 r.call 0 xs k o.pending x.none
 
-kept_reply : (calls : List Call) (lines : List Line) (r : Reply) → IsOrderlyReply calls lines r → IsKept calls lines (events calls lines) → IsKept calls (ReplyLine r ∷ lines) (events calls (ReplyLine r ∷ lines))
-kept_reply calls lines r o k = go (reply_told r.answer) refl o.rule
+reply_keeps : (calls : List Call) (lines : List Line) (r : Reply) → IsOrderlyReply calls lines r → IsKept calls lines (events calls lines) → IsKept calls (ReplyLine r ∷ lines) (events calls (ReplyLine r ∷ lines))
+reply_keeps calls lines r o k = go (reply_told r.answer) refl o.rule
   where
     tell : (a : MapReply) → reply_told r.answer ≡ Some a → (b : Bool) → changes o.call a ≡ b → IsToldAt b calls lines o.call r → IsKept calls (ReplyLine r ∷ lines) (events calls (ReplyLine r ∷ lines))
     tell a t true c x =
         let e : events calls (ReplyLine r ∷ lines) ≡ events calls lines = rw (o.is, t, c) refl in
-        subst (IsKept calls (ReplyLine r ∷ lines)) (sym e) (kept_change calls lines r o a t x k)
+        subst (IsKept calls (ReplyLine r ∷ lines)) (sym e) (change_keeps calls lines r o a t x k)
     tell a t false c x =
         let e : events calls (ReplyLine r ∷ lines) ≡ with_event (Read x.turn r) (events calls lines) = rw (o.is, t, c, x.moment) refl in
-        subst (IsKept calls (ReplyLine r ∷ lines)) (sym e) (kept_reading calls lines r o a t c x k)
+        subst (IsKept calls (ReplyLine r ∷ lines)) (sym e) (reading_keeps calls lines r o a t c x k)
 
     go : (t : Option MapReply) → reply_told r.answer ≡ t → IsPlacedOnMap t calls lines o.call r → IsKept calls (ReplyLine r ∷ lines) (events calls (ReplyLine r ∷ lines))
     go None t x =
         let e : events calls (ReplyLine r ∷ lines) ≡ events calls lines = rw (o.is, t) refl in
-        subst (IsKept calls (ReplyLine r ∷ lines)) (sym e) (kept_refused calls lines r o t x k)
+        subst (IsKept calls (ReplyLine r ∷ lines)) (sym e) (refusal_keeps calls lines r o t x k)
     go (Some a) t x = tell a t (changes o.call a) refl x
 
 pub kept : (calls : List Call) (lines : List Line) → AreOrderly calls lines → IsKept calls lines (events calls lines)
-kept calls [] a = record { right = tt; sorted = tt; logged = refl; finished = tt; one = λ c j. omega arith; few = λ c. omega arith }
-kept calls (Step row ∷ lines) a = let k = kept calls lines a in record { right = k.right; sorted = k.sorted; logged = k.logged; finished = k.finished; one = k.one; few = k.few }
-kept calls (Log e ∷ lines) a = kept_entry calls lines e a.1 (kept calls lines a.0)
-kept calls (ReplyLine r ∷ lines) a = kept_reply calls lines r a.1 (kept calls lines a.0)
+kept calls [] a = record { right = tt; sorted = tt; logged = refl; placed = tt; one = λ c j. omega arith; few = λ c. omega arith }
+kept calls (Step row ∷ lines) a = let k = kept calls lines a in record { right = k.right; sorted = k.sorted; logged = k.logged; placed = k.placed; one = k.one; few = k.few }
+kept calls (Log e ∷ lines) a = entry_keeps calls lines e a.1 (kept calls lines a.0)
+kept calls (ReplyLine r ∷ lines) a = reply_keeps calls lines r a.1 (kept calls lines a.0)
 
 -- Rules that are kept reply by reply make the whole record legal.
 pub legal : (calls : List Call) (lines : List Line) → AreOrderly calls lines → IsLegal calls lines
@@ -535,7 +533,7 @@ legal calls lines a =
     let k = kept calls lines a in
     record {
       replies = replay calls (answer_to lines) [] (events calls lines) k.right;
-      placed = k.finished;
+      placed = k.placed;
       once = once_each (events calls lines) k.one;
       few = few_each (answer_to lines) (events calls lines) k.few;
     }
