@@ -228,6 +228,22 @@ fn each_line(alloc: Global) -> Result<Vec<Line>, Fail> {
     Ok(lines)
 }
 
+/// What gets on a tree tell.
+const ON_THE_TREE: &str = "\
+report,1,tree,,,,
+limits,2,10,10,3,,
+call,0,0,get,5,,
+call,1,0,get,18446744073709551615,,
+call,0,1,get,0,,
+step,1,0,settled,n0.head,2,2
+reply,0,0,1,1,1,some 18446744073709551615
+step,2,1,settled,n0.head,2,2
+reply,1,0,2,2,2,none
+step,3,0,child,n0.left,1,1
+reply,0,1,3,3,,some 0
+end,3,3,0,,,
+";
+
 /// What goes out to a writer that takes so many bytes, and the answer.
 fn written(alloc: Global, record: &Record, bytes: usize) -> (Vec<u8>, Result<(), WriteFault>) {
     let mut to = Metered::new(FailAt::new(Vec::new(alloc), bytes));
@@ -249,7 +265,7 @@ fn whole_reports(rt: HostRuntime) -> Result<(), Fail> {
 /// Read back, and written again.
 #[test]
 fn reports_that_are_read_back(rt: HostRuntime) -> Result<(), Fail> {
-    for report in [UNTOUCHED, EACH_FORM] {
+    for report in [UNTOUCHED, EACH_FORM, ON_THE_TREE] {
         let record = read_record(rt.alloc(), &mut Metered::new(report.as_bytes()))?;
         let (text, result) = written(rt.alloc(), &record, 10000);
         assert_eq!(rt; result, Ok(()));
