@@ -30,9 +30,12 @@ pub record WasInTree (h : History) (n : ℕ) : Type 0 where
   pub is_tree : IsTree (value moment) tree
   pub has : Has tree n
 
--- at a moment of the history that is not before `start` the map gives this value of k
+-- at a moment of the history that is not before `start` the words spell a map that gives this value
+-- of k
 pub record IsAnswerAt (lay : Layout) (h start : History) (k : ℕ) (answer : Option ℕ) : Type 0 where
   pub moment : History
   pub within : Extends h moment
   pub since : Extends moment start
-  pub gives : (m : List Pair) → Spells lay (value moment) m → get k m ≡ answer
+  pub map : List Pair
+  pub spelled : Spells lay (value moment) map
+  pub gives : get k map ≡ answer
