@@ -142,6 +142,10 @@ opening_stays : (calls : ℕ → MapEdit) (lay : Layout) (h : History) (n : ℕ)
 opening_stays calls lay h n a g i s =
     node_since lay h (Start lay.mode) n a g.lawful (ends_start lay h g.lawful) s (opening_node (rw g.mode i)) ∙ ap (λ m. value (Start m) (node n a)) g.mode
 
+-- so node 0 is a fork above all keys
+pub grown_root : (calls : ℕ → MapEdit) (lay : Layout) (h : History) → IsGrown calls lay h → value h (node 0 Head) ≡ 2
+grown_root calls lay h g = opening_stays calls lay h 0 Head g (omega arith) tt ∙ opening_root
+
 right_stays : (calls : ℕ → MapEdit) (lay : Layout) (h : History) → IsGrown calls lay h → value h (child 0 Right) ≡ 2
 right_stays calls lay (Start mode) g = ap (λ m. value (Start m) (child 0 Right)) (start_mode lay mode g.lawful ∙ g.mode) ∙ right_start
 right_stays calls lay (r ⊳ h) g = go (effect lay h r g.lawful) (right_stays calls lay h (grown_tail calls lay h r g))
@@ -153,7 +157,7 @@ right_stays calls lay (r ⊳ h) g = go (effect lay h r g.lawful) (right_stays ca
     t = tree_facts calls lay h (grown_tail calls lay h r g)
 
     head : value h (node 0 Head) ≡ 2
-    head = opening_stays calls lay h 0 Head (grown_tail calls lay h r g) (omega arith) tt ∙ opening_root
+    head = grown_root calls lay h (grown_tail calls lay h r g)
 
     go : Effect lay h r → value h (child 0 Right) ≡ 2 → value (r ⊳ h) (child 0 Right) ≡ 2
     go (quiet k) e = k.node 0 (Child Right) tt (opening_node (rw g.mode (omega arith))) ∙ e
@@ -263,7 +267,7 @@ spells calls lay h g = record {
     risen = rising_split (map_of_log calls (log lay h)) (pair (2 * 2 ^ 64) 0 ∷ []) (pair (2 ^ 64) 0) (rw t.items at (items_rise (value h) t.tree _ _ t.is_tree.shows))
 
     head_0 : (value h) (node 0 Head) ≡ 2
-    head_0 = opening_stays calls lay h 0 Head g (omega arith) tt ∙ opening_root
+    head_0 = grown_root calls lay h g
 
     head_2 : (value h) (node 2 Head) ≡ 14
     head_2 = opening_stays calls lay h 2 Head g (omega arith) tt ∙ opening_two
@@ -330,7 +334,7 @@ root_leaf calls lay h g leaf low = some_found (2 ^ 64) 0 (map_of_log calls (log 
     t = tree_facts calls lay h g
 
     head : value h (node 0 Head) ≡ 2
-    head = opening_stays calls lay h 0 Head g (omega arith) tt ∙ opening_root
+    head = grown_root calls lay h g
 
     below : 2 ^ 64 < rank (value h) 0
     below = omega (arith, head)
@@ -355,4 +359,4 @@ root_leaf calls lay h g leaf low = some_found (2 ^ 64) 0 (map_of_log calls (log 
 
 -- each key is on the left of the root
 pub root_left : (calls : ℕ → MapEdit) (lay : Layout) (h : History) (k : ℕ) → IsGrown calls lay h → k < 2 ^ 64 → toward (value h) 0 k ≡ Left
-root_left calls lay h k g small = rw (lt-ltb k (rank (value h) 0) (let e = opening_stays calls lay h 0 Head g (omega arith) tt ∙ opening_root in omega (arith, e, small))) refl
+root_left calls lay h k g small = rw (lt-ltb k (rank (value h) 0) (let e = grown_root calls lay h g in omega (arith, e, small))) refl

@@ -12,9 +12,12 @@ mod Inside
 mod Growing
 mod Runs
 mod Meanings
+mod Stood
 mod Removed
 mod Blamed
 mod Levels
+mod Blanks
+mod Remaining
 mod ChangedFields
 mod Taken
 mod TreeRuns

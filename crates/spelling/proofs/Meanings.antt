@@ -222,7 +222,9 @@ walk_answers lay h start k n small g p d =
       moment = x.moment;
       within = x.within;
       since = x.since;
-      gives = λ ps s. ap (get k) (one_spelling lay (value x.moment) ps (map_of_log calls (log lay x.moment)) s (spells calls lay x.moment (grown_since calls lay h x.moment x.within (grown lay h g)))) ∙ x.gives;
+      map = map_of_log calls (log lay x.moment);
+      spelled = spells calls lay x.moment (grown_since calls lay h x.moment x.within (grown lay h g));
+      gives = x.gives;
     }
 
 -- The entry of an SCX-record that is known to make an edit

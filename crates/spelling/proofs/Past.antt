@@ -18,7 +18,7 @@ use Rattle.arena.proofs.Lemmas.{node_apart, ends_self, ends_trans}
 use Rattle.histories.proofs.Lemmas.{Effect, Facts, effect, facts_before, freeze, freeze_keeps_field, lawful_tail, named_since, node_since, node_stays, quiet, update, update_keeps_mark, update_keeps_other}
 use Rattle.spelling.specs.OrderedMap.{MapEdit, get}
 use Rattle.spelling.proofs.Trees.{items, ends, Same, same_rank, passes_has, has_root, Above, within, least}
-use Rattle.spelling.specs.Paths.{IsOnPath, Passed, IsGreatest}
+use Rattle.spelling.specs.Paths.{IsOnPath, Passed, WasInTree}
 use Rattle.spelling.specs.Runs.{map_of_log}
 use Rattle.spelling.specs.Spelled.{IsTree}
 use Rattle.spelling.specs.TreeWords.{Tree, Leaf, Fork, root, Shows, Has, Passes, is_leaf, level, rank, toward, said}
@@ -162,54 +162,6 @@ level_rises calls lay h m k n side g e p fork =
     let child_head : value h (node (value l (child n side)) Head) ≡ value l (node (value l (child n side)) Head) = node_since lay h l (value l (child n side)) Head g.lawful x.within tt named in
     rw (c, head, child_head) y.0
 
--- The greatest moment
-
-some_inj : (x y : ℕ) → Some x ≡ Some y → x ≡ y
-some_inj x y e = cc
-
-pub option_decides : (a b : Option ℕ) → Dec (a ≡ b)
-option_decides None None = yes refl
-option_decides None (Some y) = no (λ e. cc)
-option_decides (Some x) None = no (λ e. cc)
-option_decides (Some x) (Some y) = go (ℕ_discrete x y)
-  where
-    go : Dec (x ≡ y) → Dec (Some x ≡ Some y)
-    go (yes e) = yes (ap Some e)
-    go (no d) = no (λ e. d (some_inj x y e))
-
--- how many rows a history has
-abbrev pub steps : History → ℕ
-steps (Start mode) = 0
-steps (r ⊳ h) = suc (steps h)
-
-pub ends_steps : (h m : History) → Extends h m → steps m ≤ steps h
-ends_steps (Start mode) m e = rw e (omega arith)
-ends_steps (r ⊳ h) m (inl e) = rw e (omega arith)
-ends_steps (r ⊳ h) m (inr e) = let x : steps m ≤ steps h = ends_steps h m e in omega arith
-
--- there is one
-abbrev pub HasGreatest : (History → Type 0) → History → History → Type 0
-HasGreatest P h start = (moment : History) × IsGreatest P h start moment
-
-pub greatest : (P : History → Type 0) → ((m : History) → Dec (P m)) → (h start : History) → (m : History) → Extends h m → Extends m start → P m → HasGreatest P h start
-greatest P decides (Start mode) start m w s p = (Start mode, record { within = refl; since = rw w at s; holds = rw w at p; last = λ n e f q. e })
-greatest P decides (r ⊳ h) start m w s p = go (decides (r ⊳ h)) w (λ e. greatest P decides h start m e s p)
-  where
-    go : Dec (P (r ⊳ h)) → Extends (r ⊳ h) m → (Extends h m → HasGreatest P h start) → HasGreatest P (r ⊳ h) start
-    go (yes q) w more = (r ⊳ h, record { within = inl refl; since = ends_trans (r ⊳ h) m start w s; holds = q; last = last })
-      where
-        last : (n : History) → Extends (r ⊳ h) n → Extends n (r ⊳ h) → P n → n ≡ r ⊳ h
-        last n (inl e) f x = e
-        last n (inr e) f x = absurd (let a : steps n ≤ steps h = ends_steps h n e in let b : suc (steps h) ≤ steps n = ends_steps n (r ⊳ h) f in omega arith)
-    go (no d) (inl e) more = absurd (d (rw e at p))
-    go (no d) (inr e) more =
-        let x : HasGreatest P h start = more e in
-        (x.0, record { within = inr x.1.within; since = x.1.since; holds = x.1.holds; last = λ n i f q. last x n i f q })
-      where
-        last : (x : HasGreatest P h start) (n : History) → Extends (r ⊳ h) n → Extends n x.0 → P n → n ≡ x.0
-        last x n (inl e) f q = absurd (d (rw e at q))
-        last x n (inr e) f q = x.1.last n e f q
-
 -- A node that was on the path and is not marked is on it now.
 pub grown_on_path : (calls : ℕ → MapEdit) (lay : Layout) (h start : History) (k n : ℕ) → IsGrown calls lay h → Passed h start k n → value h (marked n) ≡ 0 → IsOnPath h k n
 grown_on_path calls lay h start k n g p e =
@@ -217,7 +169,7 @@ grown_on_path calls lay h start k n g p e =
     ⊎_elim (λ q. record { tree = t.tree; is_tree = t.is_tree; passes = q }) (λ d. absurd (d e)) (t.path p.0 k n p.1 p.3)
 
 -- every node of the tree is on the path of a key
-reach : (f : Word → ℕ) (t : Tree) (lo hi n : ℕ) → Shows f lo hi t → Has t n → (k : ℕ) × (lo ≤ k) × (k < hi) × Passes f k t n
+pub reach : (f : Word → ℕ) (t : Tree) (lo hi n : ℕ) → Shows f lo hi t → Has t n → (k : ℕ) × (lo ≤ k) × (k < hi) × Passes f k t n
 reach f (Leaf m) lo hi n s e = (rank f m, s.from, s.below, e)
 reach f (Fork m a b) lo hi n s (inl e) =
     let w : (lo ≤ least f (Fork m a b)) × (least f (Fork m a b) < hi) = within f (Fork m a b) lo hi s in
@@ -232,7 +184,7 @@ reach f (Fork m a b) lo hi n s (inr (inr q)) =
     (x.0, (let u = x.1 in let y = w.0 in let z = w.1 in omega arith), x.2, inr (inr (x.1, x.3)))
 
 -- in every node that was ever in the tree each child's level is above its own
-pub grown_rises : (calls : ℕ → MapEdit) (lay : Layout) (h m : History) (t : Tree) (n : ℕ) (side : Side) → IsGrown calls lay h → Extends h m → IsTree (value m) t → Has t n → is_leaf (value h) n ≡ false → level (value h) n < level (value h) (value h (child n side))
-grown_rises calls lay h m t n side g e i q d =
-    let x : (k : ℕ) × (0 ≤ k) × (k < 3 * 2 ^ 64) × Passes (value m) k t n = reach (value m) t _ _ n i.shows q in
-    level_rises calls lay h m x.0 n side g e record { tree = t; is_tree = i; passes = x.3 } d
+pub grown_rises : (calls : ℕ → MapEdit) (lay : Layout) (h : History) (n : ℕ) (side : Side) → IsGrown calls lay h → WasInTree h n → is_leaf (value h) n ≡ false → level (value h) n < level (value h) (value h (child n side))
+grown_rises calls lay h n side g w d =
+    let x : (k : ℕ) × (0 ≤ k) × (k < 3 * 2 ^ 64) × Passes (value w.moment) k w.tree n = reach (value w.moment) w.tree _ _ n w.is_tree.shows w.has in
+    level_rises calls lay h w.moment x.0 n side g w.within record { tree = w.tree; is_tree = w.is_tree; passes = x.3 } d

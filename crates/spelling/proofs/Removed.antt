@@ -26,15 +26,9 @@ use Rattle.spelling.specs.TreeShape.{MayEdit}
 use Rattle.spelling.specs.TreeWords.{Tree, Has, is_leaf}
 use Rattle.spelling.proofs.TreeFacts.{TreeFacts, all_named}
 use Rattle.spelling.proofs.Edited.{result, tree_now, removed_cut, born_made, spot_in}
-use Rattle.spelling.proofs.Grown.{IsGrown, tree_facts, first_begins, grown_tail}
-
--- the node stood in the tree at a moment
-pub record WasIn (h : History) (n : ℕ) : Type 0 where
-  pub moment : History
-  pub within : Extends h moment
-  pub tree : Tree
-  pub is_tree : IsTree (value moment) tree
-  pub in_it : Has tree n
+use Rattle.spelling.proofs.Grown.{IsGrown, first_begins, grown_tail}
+use Rattle.spelling.proofs.Stood.{facts_then, tree_then, tree_stays, one_tree, was_more, was_split, was_now, was_named, was_back, in_updated}
+use Rattle.spelling.specs.Paths.{WasInTree}
 
 -- it has begun, and has not won
 pub record IsPending (h : History) (s : ℕ) : Type 0 where
@@ -43,67 +37,34 @@ pub record IsPending (h : History) (s : ℕ) : Type 0 where
   pub unwon : ¬ HasWon h s
 
 pub record NodeFacts (lay : Layout) (h : History) : Type 0 where
-  pub unborn : (s n : ℕ) → IsPending h s → IsMadeBy h s n → ¬ WasIn h n
+  pub unborn : (s n : ℕ) → IsPending h s → IsMadeBy h s n → ¬ WasInTree h n
   pub once : (s u n : ℕ) → IsPending h s → IsPending h u → s ≢ u → IsMadeBy h s n → IsMadeBy h u n → ⊥
-  pub gone : (n : ℕ) → is_final (log lay h) n ≡ true → WasIn h n × ((t : Tree) → IsTree (value h) t → ¬ Has t n)
+  pub gone : (n : ℕ) → is_final (log lay h) n ≡ true → WasInTree h n × ((t : Tree) → IsTree (value h) t → ¬ Has t n)
 
-one_tree : (h : History) (t u : Tree) → IsTree (value h) t → IsTree (value h) u → t ≡ u
-one_tree h t u a b = same_tree (value h) t u _ _ _ _ a.shows b.shows (a.is ∙ sym b.is)
-
-was_more : (h : History) (r : Row) (n : ℕ) → WasIn h n → WasIn (r ⊳ h) n
-was_more h r n x = record { moment = x.moment; within = inr x.within; tree = x.tree; is_tree = x.is_tree; in_it = x.in_it }
-
--- it stood there before, or does so now
-was_split : (h : History) (r : Row) (n : ℕ) → WasIn (r ⊳ h) n → WasIn h n ⊎ ((t : Tree) × IsTree (value (r ⊳ h)) t × Has t n)
-was_split h r n x = go x.within
-  where
-    go : Extends (r ⊳ h) x.moment → WasIn h n ⊎ ((t : Tree) × IsTree (value (r ⊳ h)) t × Has t n)
-    go (inl e) = inr (x.tree, subst (λ m. IsTree (value m) x.tree) e x.is_tree, x.in_it)
-    go (inr e) = inl record { moment = x.moment; within = e; tree = x.tree; is_tree = x.is_tree; in_it = x.in_it }
-
-was_now : (h : History) (t : Tree) (n : ℕ) → IsTree (value h) t → Has t n → WasIn h n
-was_now h t n i x = record { moment = h; within = ends_self h; tree = t; is_tree = i; in_it = x }
-
--- a node that stood in the tree was named, and is the root or was in a field
-was_named : (lay : Layout) (h : History) (n : ℕ) → lay.mode ≡ TreeMode → Lawful lay h → WasIn h n → IsNamed lay h n
-was_named lay h n o l x = named_since lay h x.moment n l x.within (all_named lay x.moment x.tree n o x.is_tree x.in_it)
-
-was_field : (h : History) (n : ℕ) → WasIn h n → (n ≡ 0) ⊎ ((m : ℕ) × (side : Side) × HasHeld h (child m side) n)
+-- a node that stood in the tree is the root or was in a field
+was_field : (h : History) (n : ℕ) → WasInTree h n → (n ≡ 0) ⊎ ((m : ℕ) × (side : Side) × HasHeld h (child m side) n)
 was_field h n x = ⊎_elim
     (λ e. inl (e ∙ x.is_tree.is))
     (λ y. inr (y.0, y.1, held_since h x.moment (child y.0 y.1) n x.within (held_at x.moment (child y.0 y.1) n y.2)))
-    (tree_field x.moment x.tree _ _ n x.is_tree.shows x.in_it)
+    (tree_field x.moment x.tree _ _ n x.is_tree.shows x.has)
 
 -- One row more
 module _ (calls : ℕ → MapEdit) (lay : Layout) (h : History) (r : Row) (g : IsGrown calls lay (r ⊳ h)) (x : NodeFacts lay h) where
-  f : Facts lay h
-  f = facts_before lay h r g.lawful
+  abbrev f : Facts lay h
+  f = facts_then calls lay h r g
 
   before : IsGrown calls lay h
   before = grown_tail calls lay h r g
 
-  t : TreeFacts calls lay h
-  t = tree_facts calls lay h before
+  abbrev t : TreeFacts calls lay h
+  t = tree_then calls lay h r g
 
   -- a row that leaves the fields of named nodes
   module _ (fields : (n : ℕ) (side : Side) → IsNamed lay h n → value (r ⊳ h) (child n side) ≡ value h (child n side)) where
-    same_words : (n : ℕ) → IsNamed lay h n → Same (value h) (value (r ⊳ h)) n
-    same_words n p Head i = node_stays lay h r n Head g.lawful tt p
-    same_words n p Key i = node_stays lay h r n Key g.lawful tt p
-    same_words n p Value i = node_stays lay h r n Value g.lawful tt p
-    same_words n p (Child side) i = fields n side p
-    same_words n p _ i = absurd i
-
-    tree_stays : IsTree (value (r ⊳ h)) t.tree
-    tree_stays = record { shows = frame (value h) (value (r ⊳ h)) t.tree _ _ (λ n p. same_words n (all_named lay h t.tree n g.mode t.is_tree p)) t.is_tree.shows; is = t.is_tree.is }
-
-    was_back : (n : ℕ) → WasIn (r ⊳ h) n → WasIn h n
-    was_back n w = ⊎_elim (λ y. y) (λ y. was_now h t.tree n t.is_tree (subst (λ u. Has u n) (one_tree (r ⊳ h) y.0 t.tree y.1 tree_stays) y.2)) (was_split h r n w)
-
-    gone_stays : log lay (r ⊳ h) ≡ log lay h → (n : ℕ) → is_final (log lay (r ⊳ h)) n ≡ true → WasIn (r ⊳ h) n × ((u : Tree) → IsTree (value (r ⊳ h)) u → ¬ Has u n)
+    gone_stays : log lay (r ⊳ h) ≡ log lay h → (n : ℕ) → is_final (log lay (r ⊳ h)) n ≡ true → WasInTree (r ⊳ h) n × ((u : Tree) → IsTree (value (r ⊳ h)) u → ¬ Has u n)
     gone_stays e n q =
-        let y : WasIn h n × ((u : Tree) → IsTree (value h) u → ¬ Has u n) = x.gone n (subst (λ es. is_final es n ≡ true) e q) in
-        (was_more h r n y.0, λ u i p. y.1 t.tree t.is_tree (subst (λ v. Has v n) (one_tree (r ⊳ h) u t.tree i tree_stays) p))
+        let y : WasInTree h n × ((u : Tree) → IsTree (value h) u → ¬ Has u n) = x.gone n (subst (λ es. is_final es n ≡ true) e q) in
+        (was_more h r n y.0, λ u i p. y.1 t.tree t.is_tree (subst (λ v. Has v n) (one_tree (r ⊳ h) u t.tree i (tree_stays calls lay h r g fields)) p))
 
   -- what a pending SCX-record makes is the same
   made_back : (s n : ℕ) → IsNamedScx h s → new (r ⊳ h) s ≡ new h s → plan (r ⊳ h) s ≡ plan h s → (is_leaf (value h) (new h s) ≡ false → (side : Side) → value (r ⊳ h) (child (new h s) side) ≡ value h (child (new h s) side)) → IsMadeBy (r ⊳ h) s n → IsMadeBy h s n
@@ -134,7 +95,7 @@ module _ (calls : ℕ → MapEdit) (lay : Layout) (h : History) (r : Row) (g : I
 
     quiet_facts : NodeFacts lay (r ⊳ h)
     quiet_facts = record {
-      unborn = λ s n p m w. let q : IsPending h s = quiet_pending s p in x.unborn s n q (quiet_made s n q m) (was_back quiet_fields n w);
+      unborn = λ s n p m w. let q : IsPending h s = quiet_pending s p in x.unborn s n q (quiet_made s n q m) (was_back calls lay h r g quiet_fields n w);
       once = λ s u n p q d m o. let a : IsPending h s = quiet_pending s p in let b : IsPending h u = quiet_pending u q in x.once s u n a b d (quiet_made s n a m) (quiet_made u n b o);
       gone = gone_stays quiet_fields quiet_log;
     }
@@ -178,7 +139,7 @@ module _ (calls : ℕ → MapEdit) (lay : Layout) (h : History) (r : Row) (g : I
         let c : value h (child (new h u) m.2.0) ≡ n = sym (freeze_keeps_field f w (new h u) m.2.0) ∙ subst (λ z. value (r ⊳ h) (child z m.2.0) ≡ n) same_new m.2.1 in
         inr (λ p. (may_edit e).fresh two b m.2.0 (subst (IsNamed lay h) (sym c) p))
 
-    begins_unborn : (n : ℕ) → j ≡ 0 → (n ≡ new h u) ⊎ ¬ IsNamed lay h n → ¬ WasIn h n
+    begins_unborn : (n : ℕ) → j ≡ 0 → (n ≡ new h u) ⊎ ¬ IsNamed lay h n → ¬ WasInTree h n
     begins_unborn n e (inr d) y = d (was_named lay h n g.mode before.lawful y)
     begins_unborn n e (inl m) y = ⊎_elim
         (λ z. let a : new h u ≡ 0 = sym m ∙ z in let b = (may_begin e).new_own.from in let c : opening_nodes lay.mode ≡ 3 = rw g.mode refl in omega (arith, a, b, c))
@@ -191,12 +152,12 @@ module _ (calls : ℕ → MapEdit) (lay : Layout) (h : History) (r : Row) (g : I
     begins_once_only s n e d p (inr m) (inl o) = m (by_scx s New p.named tt (held_at h (scx s New) n (sym o)))
     begins_once_only s n e d p (inr m) (inr o) = m (by_field (new h s) o.2.0 (by_scx s New p.named tt (held_at h (scx s New) (new h s) refl)) (held_at h (child (new h s) o.2.0) n o.2.1))
 
-    freeze_unborn : (s n : ℕ) → IsPending (r ⊳ h) s → IsMadeBy (r ⊳ h) s n → ¬ WasIn (r ⊳ h) n
+    freeze_unborn : (s n : ℕ) → IsPending (r ⊳ h) s → IsMadeBy (r ⊳ h) s n → ¬ WasInTree (r ⊳ h) n
     freeze_unborn s n p m y = go (now_or_before s p)
       where
         go : ((s ≡ u) × (j ≡ 0)) ⊎ IsPending h s → ⊥
-        go (inl q) = begins_unborn n q.1 (begins_made n q.1 (subst (λ v. IsMadeBy (r ⊳ h) v n) q.0 m)) (was_back freeze_fields n y)
-        go (inr q) = x.unborn s n q (freeze_made s n q m) (was_back freeze_fields n y)
+        go (inl q) = begins_unborn n q.1 (begins_made n q.1 (subst (λ v. IsMadeBy (r ⊳ h) v n) q.0 m)) (was_back calls lay h r g freeze_fields n y)
+        go (inr q) = x.unborn s n q (freeze_made s n q m) (was_back calls lay h r g freeze_fields n y)
 
     freeze_once : (s v n : ℕ) → IsPending (r ⊳ h) s → IsPending (r ⊳ h) v → s ≢ v → IsMadeBy (r ⊳ h) s n → IsMadeBy (r ⊳ h) v n → ⊥
     freeze_once s v n p q d m o = go (now_or_before s p) (now_or_before v q)
@@ -228,34 +189,34 @@ module _ (calls : ℕ → MapEdit) (lay : Layout) (h : History) (r : Row) (g : I
       record { real = p.real; named = (p.named.0, update_held f w p.named.0 s p.named.1); unwon = λ y. p.unwon (won_more r h s y) },
     )
 
-    spot_was : WasIn h (member h u (field_index h u))
+    spot_was : WasInTree h (member h u (field_index h u))
     spot_was = was_now h t.tree (member h u (field_index h u)) t.is_tree (spot_in calls lay h r u f w g.mode g.lawful t)
 
     update_made : (s n : ℕ) → IsPending h s → IsMadeBy (r ⊳ h) s n → IsMadeBy h s n
     update_made s n p = made_back s n p.named (update_keeps_scx f w s New) (update_keeps_scx f w s Plan)
-        (λ _ side. update_keeps_other f w (child (new h s) side) (node_apart (member h u (field_index h u)) (new h s) (Child (side_of (plan h u))) (Child side) (λ e. x.unborn s (new h s) p (inl refl) (subst (WasIn h) e spot_was))))
+        (λ _ side. update_keeps_other f w (child (new h s) side) (node_apart (member h u (field_index h u)) (new h s) (Child (side_of (plan h u))) (Child side) (λ e. x.unborn s (new h s) p (inl refl) (subst (WasInTree h) e spot_was))))
 
     -- what stands in the tree now stood there before, or u has made it
     in_now : (tree : Tree) (n : ℕ) → IsTree (value (r ⊳ h)) tree → Has tree n → Has t.tree n ⊎ IsMadeBy h u n
-    in_now tree n i p = ⊎_elim inl (λ b. inr (born_made calls lay h r u f w g.mode g.lawful t n b)) ((result calls lay h r u f w g.mode g.lawful t).made n (subst (λ v. Has v n) (one_tree (r ⊳ h) tree (result calls lay h r u f w g.mode g.lawful t).tree i now_tree) p))
+    in_now tree n i p = ⊎_elim inl (λ b. inr (born_made calls lay h r u f w g.mode g.lawful t n b)) (in_updated calls lay h r g u w tree n i p)
 
-    update_unborn : (s n : ℕ) → IsPending (r ⊳ h) s → IsMadeBy (r ⊳ h) s n → ¬ WasIn (r ⊳ h) n
+    update_unborn : (s n : ℕ) → IsPending (r ⊳ h) s → IsMadeBy (r ⊳ h) s n → ¬ WasInTree (r ⊳ h) n
     update_unborn s n p m y =
         let q : (s ≢ u) × IsPending h s = update_pending s p in
         let o : IsMadeBy h s n = update_made s n q.1 m in
         ⊎_elim (x.unborn s n q.1 o) (λ z. ⊎_elim (λ a. x.unborn s n q.1 o (was_now h t.tree n t.is_tree a)) (λ a. x.once s u n q.1 u_pending q.0 o a) (in_now z.0 n z.1 z.2)) (was_split h r n y)
 
-    update_gone : (n : ℕ) → is_final (log lay (r ⊳ h)) n ≡ true → WasIn (r ⊳ h) n × ((tree : Tree) → IsTree (value (r ⊳ h)) tree → ¬ Has tree n)
+    update_gone : (n : ℕ) → is_final (log lay (r ⊳ h)) n ≡ true → WasInTree (r ⊳ h) n × ((tree : Tree) → IsTree (value (r ⊳ h)) tree → ¬ Has tree n)
     update_gone n e = ⊎_elim removed earlier (or_split (has (finalized_from h u 0 (count h u)) n) (is_final (log lay h) n) (subst (λ es. is_final es n ≡ true) (log_wins f w) e))
       where
-        removed : has (finalized_from h u 0 (count h u)) n ≡ true → WasIn (r ⊳ h) n × ((tree : Tree) → IsTree (value (r ⊳ h)) tree → ¬ Has tree n)
+        removed : has (finalized_from h u 0 (count h u)) n ≡ true → WasInTree (r ⊳ h) n × ((tree : Tree) → IsTree (value (r ⊳ h)) tree → ¬ Has tree n)
         removed q =
             let o : Has t.tree n × ¬ Has (result calls lay h r u f w g.mode g.lawful t).tree n = (result calls lay h r u f w g.mode g.lawful t).out n (removed_cut calls lay h r u f w g.mode g.lawful t n (is_removed_of h u n q)) in
             (was_more h r n (was_now h t.tree n t.is_tree o.0), λ tree i p. o.1 (subst (λ v. Has v n) (one_tree (r ⊳ h) tree (result calls lay h r u f w g.mode g.lawful t).tree i now_tree) p))
 
-        earlier : is_final (log lay h) n ≡ true → WasIn (r ⊳ h) n × ((tree : Tree) → IsTree (value (r ⊳ h)) tree → ¬ Has tree n)
+        earlier : is_final (log lay h) n ≡ true → WasInTree (r ⊳ h) n × ((tree : Tree) → IsTree (value (r ⊳ h)) tree → ¬ Has tree n)
         earlier q =
-            let y : WasIn h n × ((tree : Tree) → IsTree (value h) tree → ¬ Has tree n) = x.gone n q in
+            let y : WasInTree h n × ((tree : Tree) → IsTree (value h) tree → ¬ Has tree n) = x.gone n q in
             (was_more h r n y.0, λ tree i p. ⊎_elim (y.1 t.tree t.is_tree) (λ m. x.unborn u n u_pending m y.0) (in_now tree n i p))
 
     update_facts : NodeFacts lay (r ⊳ h)

@@ -30,6 +30,7 @@ use Rattle.spelling.proofs.Edited.{result, tree_now, new_in}
 use Rattle.spelling.proofs.Grown.{IsGrown, tree_facts, grown_tail}
 use Rattle.spelling.proofs.Inside.{no_head, has_head}
 use Rattle.spelling.proofs.Levels.{grown_level}
+use Rattle.spelling.proofs.Stood.{was_passed}
 
 -- Lists
 
@@ -217,6 +218,6 @@ grown_log calls lay h g =
 -- those that are
 pub grown_depth : (calls : ℕ → MapEdit) (lay : Layout) (h start : History) (k n : ℕ) → IsGrown calls lay h → Passed h start k n → level (value h) n < 2 + length (taken_nodes h)
 grown_depth calls lay h start k n g p =
-    let a : level (value h) n ≤ suc (length (log lay h)) = grown_level calls lay h start k n g p in
+    let a : level (value h) n ≤ suc (length (log lay h)) = grown_level calls lay h g n (was_passed h start k n p) in
     let b : length (log lay h) ≤ length (taken_nodes h) = grown_log calls lay h g in
     omega (arith, a, b)

@@ -1,19 +1,24 @@
--- What a history of the tree keeps, whatever edits it makes: levels, how deep it is, and which
--- nodes are final.
+-- What a history of the tree keeps, whatever edits it makes: levels, how deep it is, what is blank,
+-- and which nodes are final.
 use Rattle.std.proofs.Common.{◌≡◌, ◌+◌, ◌<◌, ◌≤◌, Bool, true, false, suc, ℕ, length, refl}
 use Rattle.arena.specs.declared.layout.Layout.{Layout}
 use Rattle.arena.specs.declared.word.Side.{Side}
-use Rattle.arena.specs.Words.{child, marked}
-use Rattle.arena.specs.History.{History, value, Extends}
+use Rattle.arena.specs.declared.word.NodeWord.TheVariants.{Head}
+use Rattle.arena.specs.Words.{node, child, marked}
+use Rattle.arena.specs.History.{History, value}
 use Rattle.arena.specs.Log.{log, is_final}
 use Rattle.arena.specs.TakenNodes.{taken_nodes}
-use Rattle.spelling.specs.TreeWords.{Tree, Has, is_leaf, level}
+use Rattle.spelling.specs.TreeWords.{Tree, Has, is_leaf, level, IsBlank}
 use Rattle.spelling.specs.Spelled.{IsTree}
-use Rattle.spelling.specs.Paths.{IsOnPath, Passed}
+use Rattle.spelling.specs.Paths.{IsOnPath, Passed, WasInTree}
 use Rattle.spelling.specs.Runs.{IsTreeRun}
 use Rattle.spelling.proofs.Past.{grown_on_path, grown_rises}
 use Rattle.spelling.proofs.Removed.{grown_not_final}
 use Rattle.spelling.proofs.Levels.{grown_level}
+use Rattle.spelling.proofs.Blanks.{grown_blank}
+use Rattle.spelling.proofs.Remaining.{grown_remains}
+use Rattle.spelling.proofs.Growing.{grown_root}
+use Rattle.spelling.proofs.Stood.{was_passed}
 use Rattle.spelling.proofs.Taken.{grown_log, grown_depth}
 use Rattle.spelling.proofs.Meanings.{edits_of, grown}
 
@@ -25,9 +30,25 @@ tree_not_final lay h t n g i p = go (is_final (log lay h) n) refl
     go false e = refl
     go true e = absurd (grown_not_final (edits_of lay h g).edits lay h t n (grown lay h g) i p e)
 
+-- a node that stood in the tree and is not final still stands there
+pub tree_remains : (lay : Layout) (h : History) (t : Tree) (n : ℕ) → IsTreeRun lay h → WasInTree h n → is_final (log lay h) n ≡ false → IsTree (value h) t → Has t n
+tree_remains lay h t n g x e i = grown_remains (edits_of lay h g).edits lay h t n (grown lay h g) x e i
+
 -- the levels of a node that was ever in the tree and of its children rise for ever
-pub levels_rise : (lay : Layout) (h m : History) (t : Tree) (n : ℕ) (side : Side) → IsTreeRun lay h → Extends h m → IsTree (value m) t → Has t n → is_leaf (value h) n ≡ false → level (value h) n < level (value h) (value h (child n side))
-levels_rise lay h m t n side g e i p fork = grown_rises (edits_of lay h g).edits lay h m t n side (grown lay h g) e i p fork
+pub levels_rise : (lay : Layout) (h : History) (n : ℕ) (side : Side) → IsTreeRun lay h → WasInTree h n → is_leaf (value h) n ≡ false → level (value h) n < level (value h) (value h (child n side))
+levels_rise lay h n side g x fork = grown_rises (edits_of lay h g).edits lay h n side (grown lay h g) x fork
+
+-- what was ever in the tree above all keys is blank
+pub stood_blank : (lay : Layout) (h : History) (n : ℕ) → IsTreeRun lay h → WasInTree h n → IsBlank (value h) n
+stood_blank lay h n g x = grown_blank (edits_of lay h g).edits lay h (grown lay h g) n x
+
+-- so is a node that was passed
+pub passed_blank : (lay : Layout) (h start : History) (k n : ℕ) → IsTreeRun lay h → Passed h start k n → IsBlank (value h) n
+passed_blank lay h start k n g p = stood_blank lay h n g (was_passed h start k n p)
+
+-- the root's head is as at the start: a fork of class 2, whose level is 0
+pub root_head : (lay : Layout) (h : History) → IsTreeRun lay h → value h (node 0 Head) ≡ 2
+root_head lay h g = grown_root (edits_of lay h g).edits lay h (grown lay h g)
 
 -- a node that was passed and is not marked is still on the path
 pub passed_unmarked : (lay : Layout) (h start : History) (k n : ℕ) → IsTreeRun lay h → Passed h start k n → value h (marked n) ≡ 0 → IsOnPath h k n
@@ -35,7 +56,7 @@ passed_unmarked lay h start k n g p e = grown_on_path (edits_of lay h g).edits l
 
 -- a node that was passed is at most as deep as the log is long, and one
 pub passed_level : (lay : Layout) (h start : History) (k n : ℕ) → IsTreeRun lay h → Passed h start k n → level (value h) n ≤ suc (length (log lay h))
-passed_level lay h start k n g p = grown_level (edits_of lay h g).edits lay h start k n (grown lay h g) p
+passed_level lay h start k n g p = grown_level (edits_of lay h g).edits lay h (grown lay h g) n (was_passed h start k n p)
 
 -- the log is no longer than the taken nodes are many
 pub log_short : (lay : Layout) (h : History) → IsTreeRun lay h → length (log lay h) ≤ length (taken_nodes h)

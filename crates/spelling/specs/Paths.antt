@@ -1,10 +1,11 @@
--- Which nodes a search for a key passes, now or at a moment before, and what it may answer.
+-- Which nodes a search for a key passes, and which stand in the tree, now or at a moment before, and
+-- what a search may answer.
 use Rattle.std.specs.Prelude.{◌≡◌, ℕ, List, Option}
 use Rattle.arena.specs.declared.layout.Layout.{Layout}
 use Rattle.arena.specs.History.{History, value, Extends}
 use Rattle.spelling.specs.declared.pair.Pair.{Pair}
 use Rattle.spelling.specs.OrderedMap.{get}
-use Rattle.spelling.specs.TreeWords.{Tree, Passes}
+use Rattle.spelling.specs.TreeWords.{Tree, Has, Passes}
 use Rattle.spelling.specs.Spelled.{IsTree, Spells}
 
 -- after the history n stands in the tree, on the search path of k
@@ -21,16 +22,20 @@ WasOnPath h k n = (m : History) × Extends h m × IsOnPath m k n
 abbrev pub Passed : History → History → ℕ → ℕ → Type 0
 Passed h start k n = (m : History) × Extends h m × Extends m start × IsOnPath m k n
 
--- at a moment of the history that is not before `start` the map gives this value of k
+-- n stood in the tree at a moment of the history
+pub record WasInTree (h : History) (n : ℕ) : Type 0 where
+  pub moment : History
+  pub within : Extends h moment
+  pub tree : Tree
+  pub is_tree : IsTree (value moment) tree
+  pub has : Has tree n
+
+-- at a moment of the history that is not before `start` the words spell a map that gives this value
+-- of k
 pub record IsAnswerAt (lay : Layout) (h start : History) (k : ℕ) (answer : Option ℕ) : Type 0 where
   pub moment : History
   pub within : Extends h moment
   pub since : Extends moment start
-  pub gives : (m : List Pair) → Spells lay (value moment) m → get k m ≡ answer
-
--- the greatest moment of the history, from `start` on, of which P holds
-pub record IsGreatest (P : History → Type 0) (h start moment : History) : Type 0 where
-  pub within : Extends h moment
-  pub since : Extends moment start
-  pub holds : P moment
-  pub last : (m : History) → Extends h m → Extends m moment → P m → m ≡ moment
+  pub map : List Pair
+  pub spelled : Spells lay (value moment) map
+  pub gives : get k map ≡ answer

@@ -1,5 +1,5 @@
 -- What the settled words of a node say, and the tree of nodes that words show.
-use Rattle.std.specs.Prelude.{◌≡◌, ℕ, ◌+◌, ◌*◌, ◌/◌, ◌%◌, ◌^◌, ◌<◌, ◌≤◌, Bool, true, false, cond, eqb, ltb, ◌⊎◌, List, [], ◌∷◌, ◌++◌, Option}
+use Rattle.std.specs.Prelude.{◌≡◌, ◌≢◌, ℕ, ◌+◌, ◌*◌, ◌/◌, ◌%◌, ◌^◌, ◌<◌, ◌≤◌, Bool, true, false, cond, eqb, ltb, ◌⊎◌, List, [], ◌∷◌, ◌++◌, Option}
 use Rattle.arena.specs.declared.word.Side.{Side}
 use Rattle.arena.specs.declared.word.Side.TheVariants.{Left, Right}
 use Rattle.arena.specs.declared.word.NodeWord.TheVariants.{Head, Key, Value}
@@ -25,6 +25,11 @@ level f n = f (node n Head) / 8
 -- class and key as one number: the class is compared first, since keys are below 2 ^ 64
 abbrev pub rank : (Word → ℕ) → ℕ → ℕ
 rank f n = class f n * 2 ^ 64 + f (node n Key)
+
+-- a node that is above all keys is blank: its key is 0, and if it is a leaf its value too
+pub record IsBlank (f : Word → ℕ) (n : ℕ) : Type 0 where
+  pub key : class f n ≢ 0 → f (node n Key) ≡ 0
+  pub value : class f n ≢ 0 → is_leaf f n ≡ true → f (node n Value) ≡ 0
 
 -- on which side of the fork n the key k stands
 abbrev pub toward : (Word → ℕ) → ℕ → ℕ → Side

@@ -9,18 +9,20 @@ ghost use Rattle.arena.specs.Log.{log, is_final};
 ghost use Rattle.arena.specs.TakenNodes.{taken_nodes};
 ghost use Rattle.spelling.specs.declared.pair.Pair.{Pair};
 ghost use Rattle.spelling.specs.OrderedMap.{MapEdit, IsRising, get, insert, delete, edited, successor, between};
-ghost use Rattle.spelling.specs.TreeWords.{Tree, Has, is_leaf, level, said};
+ghost use Rattle.spelling.specs.TreeWords.{Tree, Has, is_leaf, level, said, IsBlank};
 ghost use Rattle.spelling.specs.Spelled.{IsTree, Spells};
-ghost use Rattle.spelling.specs.Paths.{Passed, IsAnswerAt};
+ghost use Rattle.spelling.specs.Paths.{Passed, WasInTree, IsAnswerAt};
 ghost use Rattle.spelling.specs.Runs.{IsTreeRun, Makes, IsEditAt};
 ghost use Rattle.spelling.specs.Laws.{AreEdits, SpellsLog};
 ghost use Rattle.spelling.specs.MapLaws.{IsSuccessor, within};
 
-/// What every history of the tree keeps in which only edits of the map begin. Each SCX-record makes
-/// one edit; after each row the words spell one map, that of the log so far; an update leaves the map
-/// that its edit leaves, and its leaf tells the old value; a walk's leaf tells what the map gave at a
-/// moment of the walk, and is not deeper than the taken nodes are many; no node of the tree is final.
-/// It does nothing; a caller learns the laws from its contract.
+/// What every history of the tree keeps in which only edits of the map begin. Each SCX-record that has
+/// begun makes one edit; after each row the words spell one map, that of the log so far; an update
+/// leaves the map that its edit leaves, and its leaf tells the old value; a walk's leaf tells what the
+/// map gave at a moment of the walk, and is at most one level deeper than the taken nodes are many; of
+/// the nodes that ever stood in the tree just those that are not final still stand there; one that is
+/// above all keys has the key 0, and a leaf the value 0. It does nothing; a caller learns the laws
+/// from its contract.
 pub fn laws_hold()
     ensures edits { (lay : Layout) (h : History) → IsTreeRun lay h → (edits : ℕ → MapEdit) × AreEdits edits lay h }
     ensures one_edit { (lay : Layout) (h : History) (s : ℕ) (a b : MapEdit) → IsTreeRun lay h → Makes lay h s a → Makes lay h s b → a ≡ b }
@@ -30,6 +32,8 @@ pub fn laws_hold()
     ensures walks { (lay : Layout) (h start : History) (k n : ℕ) → k < 2 ^ 64 → IsTreeRun lay h → Passed h start k n → is_leaf (value h) n ≡ true → IsAnswerAt lay h start k (said (value h) k n) }
     ensures depth { (lay : Layout) (h start : History) (k n : ℕ) → IsTreeRun lay h → Passed h start k n → level (value h) n < 2 + length (taken_nodes h) }
     ensures not_final { (lay : Layout) (h : History) (t : Tree) (n : ℕ) → IsTreeRun lay h → IsTree (value h) t → Has t n → is_final (log lay h) n ≡ false }
+    ensures remains { (lay : Layout) (h : History) (t : Tree) (n : ℕ) → IsTreeRun lay h → WasInTree h n → is_final (log lay h) n ≡ false → IsTree (value h) t → Has t n }
+    ensures blank { (lay : Layout) (h : History) (n : ℕ) → IsTreeRun lay h → WasInTree h n → IsBlank (value h) n }
 {}
 
 /// What the calls of a map do, told by its values: an edit changes the value of its key alone and

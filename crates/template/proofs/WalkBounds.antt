@@ -1,61 +1,29 @@
--- A walk stays within its bound, whatever the others do, and asks for loads alone.
-use Rattle.std.proofs.Common.{◌≡◌, ◌≢◌, ℕ, suc, ◌+◌, ◌*◌, ◌^◌, ◌<◌, ◌≤◌, Bool, true, false, cond, length, List, ◌∷◌, ◌⊎◌, inl, inr, Option, Some, None, refl, sym, ap, arith, subst}
-use Rattle.arena.specs.declared.machine.Turn.{Turn}
-use Rattle.arena.specs.declared.machine.Turn.TheVariants.{Ask, Done}
-use Rattle.arena.specs.declared.step.Row.{Row}
+-- What else is known of walks: they ask for loads alone; how they begin, and what they have found.
+use Rattle.std.proofs.Common.{◌≡◌, ◌≢◌, ℕ, ◌^◌, ◌<◌, true, false, ◌⊎◌, inl, inr, Option, Some, None, refl, sym, ◌∙◌, ap, subst}
+use native.Mathlib.Decide.{ℕ_discrete}
 use Rattle.arena.specs.declared.step.Step.{Step}
 use Rattle.arena.specs.declared.step.Access.TheVariants.{Load}
 use Rattle.arena.specs.declared.step.Kind.{Kind}
 use Rattle.arena.specs.declared.step.Kind.TheVariants.{Fill, LoadSettled, LoadChild}
-use Rattle.arena.specs.declared.word.Word.{Word}
-use Rattle.arena.specs.declared.word.Word.TheVariants.{Node, Scx}
-use Rattle.arena.specs.History.{History, ◌⊳◌, Extends}
-use Rattle.arena.specs.Log.{has}
-use Rattle.arena.specs.Machines.{IsRun, Call, MatchTurn}
-use Rattle.arena.specs.TakenNodes.{with_fill, taken_nodes}
+use Rattle.arena.specs.declared.word.Side.{Side}
+use Rattle.arena.specs.declared.word.NodeWord.TheVariants.{Key as KeyWord, Value as ValueWord}
+use Rattle.arena.specs.Words.{node, info, child}
+use Rattle.arena.specs.History.{History, value, Extends}
+use Rattle.arena.specs.Fills.{IsNamed}
+use Rattle.arena.specs.Blame.{WasInTheWay}
+use Rattle.arena.specs.Machines.{Call}
+use Rattle.arena.proofs.Lemmas.{ends_trans}
 use Rattle.spelling.specs.Paths.{IsAnswerAt}
 use Rattle.spelling.specs.Runs.{IsTreeRun}
-use Rattle.spelling.specs.TreeShape.{TreeAllows}
-use Rattle.spelling.proofs.Lemmas.{walk_answers}
+use Rattle.spelling.specs.TreeWords.{class, is_leaf, IsBlank}
+use Rattle.spelling.proofs.Lemmas.{walk_answers, walk_named, run_since, root_head, passed_blank, blame_field}
 use Rattle.template.specs.declared.walk.Found.{Found}
 use Rattle.template.specs.declared.walk.WalkRun.{WalkRun}
 use Rattle.template.specs.declared.walk.WalkAt.{WalkAt}
 use Rattle.template.specs.declared.walk.WalkAt.TheVariants.{Start, Root, Head, Key, Child, Value}
-use Rattle.template.specs.Walk.Steps.{walk_left, WalkFits, WalkStaysWithin}
+use Rattle.template.specs.Trails.{HasTurned}
 use Rattle.template.specs.Walk.Known.{walk_kind, WalkWaits, WalkIsReady, WalkAnswers}
-use Rattle.template.specs.Walk.Laws.{walk_told}
-
--- Its bound
-
-cond_more : (b : Bool) (n : ℕ) (ns : List ℕ) → length ns ≤ length (cond b ns (n ∷ ns))
-cond_more true n ns = omega arith
-cond_more false n ns = omega arith
-
-fill_more : (k : Kind) (w : Word) (ns : List ℕ) → length ns ≤ length (with_fill k w ns)
-fill_more Fill (Node n part) ns = cond_more (has ns n.0) n.0 ns
-fill_more Fill (Scx s part) ns = omega arith
-fill_more _ w ns = omega arith
-
--- no row gives a node back
-taken_more : (h : History) (r : Row) → length (taken_nodes h) ≤ length (taken_nodes (r ⊳ h))
-unfolding taken_nodes
-taken_more h r = fill_more r.kind r.word (taken_nodes h)
-
--- a walk that has not begun has asked for nothing
-pub walk_within_first : (m : WalkRun) (h : History) → m.at ≡ Start → WalkStaysWithin 0 m h
-walk_within_first m h e nodes few = rw e (omega arith)
-
--- whatever row comes, it stays within its bound
-pub walk_within_more : (asked : ℕ) (m : WalkRun) (h : History) (r : Row) → WalkStaysWithin asked m h → WalkStaysWithin asked m (r ⊳ h)
-walk_within_more asked m h r within nodes few = let x = taken_more h r in within nodes (omega (arith, x, few))
-
--- With each step that it asks for it stays within. The premise on `turn` is what the contract of
--- `next` says of steps; once the walk has ended, its call has made three steps a node at most.
-pub walk_within_next : (asked : ℕ) (old now : WalkRun) (c : Call) (h : History) (got : Option ℕ) (turn : Turn Found) → IsRun TreeAllows c.layout h → WalkIsReady old c h got
-    → ((nodes : ℕ) → WalkFits old got nodes → MatchTurn turn (λ _. walk_left now.at nodes < walk_left old.at nodes) (λ _. Unit {0}))
-    → WalkStaysWithin asked old h → MatchTurn turn (λ _. WalkStaysWithin (suc asked) now h) (λ _. asked ≤ 3 * (2 + length (taken_nodes h)))
-walk_within_next asked old now c h got (Ask s) run ready nearer within = λ nodes few. let x = nearer nodes (walk_told old c h got nodes run ready few) in let y = within nodes few in omega (arith, x, y)
-walk_within_next asked old now c h got (Done f) run ready nearer within = let y = within (length (taken_nodes h)) (omega arith) in omega (arith, y)
+use Rattle.template.proofs.WalkTurns.{own_since}
 
 -- Its steps
 
@@ -94,3 +62,41 @@ walk_gives m c h f run small a = subst (IsAnswerAt c.layout h a.trail.node.first
 pub walk_ready_run : (m : WalkRun) (c : Call) (h : History) (got : Option ℕ) → WalkIsReady m c h got → IsTreeRun c.layout h × (m.key < 2 ^ 64)
 walk_ready_run m c h None r = (r.run, r.small)
 walk_ready_run m c h (Some v) r = (r.run, r.small)
+
+-- What it has found
+
+module _ (m : WalkRun) (c : Call) (h : History) (f : Found) (run : IsTreeRun c.layout h) (a : WalkAnswers m c h f) where
+  -- a leaf is not the root
+  pub found_below : f.trail.node.0 ≢ 0
+  found_below e =
+      let leaf : is_leaf (value h) 0 ≡ true = subst (λ n. is_leaf (value h) n ≡ true) e a.leaf in
+      let fork : is_leaf (value h) 0 ≡ false = rw (root_head c.layout h run) refl in
+      let x : true ≡ false = sym leaf ∙ fork in
+      cc
+
+  blank : IsBlank (value h) f.trail.node.0
+  blank = passed_blank c.layout h a.trail.node.first m.key f.trail.node.0 run a.trail.node.passed
+
+  high : f.head.class ≢ 0 → class (value h) f.trail.node.0 ≢ 0
+  high d e = d (sym (ap (λ w. w.class) a.head) ∙ e)
+
+  -- the key of the leaf is the one that is found, whether it was loaded or not
+  pub found_key : value h (node f.trail.node.0 KeyWord) ≡ f.key
+  found_key = go (ℕ_discrete f.head.class 0)
+    where
+      go : Dec (f.head.class ≡ 0) → value h (node f.trail.node.0 KeyWord) ≡ f.key
+      go (yes e) = a.key e
+      go (no d) = blank.key (high d) ∙ sym (a.blank d)
+
+  -- a leaf above all keys has the value 0
+  pub found_no_value : f.head.class ≢ 0 → value h (node f.trail.node.0 ValueWord) ≡ 0
+  found_no_value d = blank.value (high d) a.leaf
+
+-- A field by which the call went down, and that holds another node now: the SCX-record that its
+-- node's info names was in the way of the call.
+pub turned_lost : (c : Call) (h : History) (k n : ℕ) (side : Side) (next : ℕ) → IsTreeRun c.layout h → HasTurned c h k n side next → value h (child n side) ≢ next → WasInTheWay h c.start n (value h (info n))
+turned_lost c h k n side next run x d =
+    let s = x.shown in
+    let named : IsNamed c.layout s.moment n = walk_named c.layout s.moment s.passed.first k n (run_since c.layout h s.moment run s.within) s.passed.passed in
+    let w : WasInTheWay h s.moment n (value h (info n)) = blame_field c.layout h s.moment n side run.1.lawful s.within named (λ e. d (e ∙ s.held)) in
+    record { row = w.row; before = w.before; within = w.within; since = ends_trans w.before s.moment c.start w.since (own_since c s.moment s.own); running = w.running; covers = w.covers }

@@ -1,5 +1,5 @@
 -- What a walk waits for after each of its turns.
-use Rattle.std.proofs.Common.{◌≡◌, ◌≢◌, ℕ, ◌*◌, ◌+◌, ◌-◌, ◌^◌, ◌<◌, true, false, cond, ltb, eq-eqb, ne_eqb, lt-ltb, inr, refl, sym, ◌∙◌, ap, arith, subst, Option, Some, None}
+use Rattle.std.proofs.Common.{◌≡◌, ◌≢◌, ℕ, ◌*◌, ◌+◌, ◌-◌, ◌^◌, ◌<◌, true, false, cond, ltb, length, eq-eqb, ne_eqb, lt-ltb, inr, refl, sym, ◌∙◌, ap, arith, subst, Option, Some, None}
 use Rattle.std.specs.Prelude.{unwrap_or}
 use Rattle.arena.specs.declared.head.Head.{Head as HeadParts}
 use Rattle.arena.specs.declared.machine.Turn.{Turn}
@@ -12,7 +12,9 @@ use Rattle.arena.specs.Heads.{head_of}
 use Rattle.arena.specs.Words.{child}
 use Rattle.arena.specs.History.{History, value, Extends}
 use Rattle.arena.specs.Machines.{Call, MatchTurn}
-use Rattle.spelling.proofs.Lemmas.{walk_first, walk_next, walk_rises, below_root}
+use Rattle.arena.specs.TakenNodes.{taken_nodes}
+use Rattle.arena.proofs.Lemmas.{ends_self}
+use Rattle.spelling.proofs.Lemmas.{walk_first, walk_next, walk_rises, below_root, passed_depth}
 use Rattle.spelling.specs.Paths.{Passed}
 use Rattle.spelling.specs.Runs.{IsTreeRun}
 use Rattle.spelling.specs.TreeWords.{class, is_leaf, level, rank, toward, said}
@@ -21,10 +23,10 @@ use Rattle.template.specs.declared.walk.Trail.{Trail}
 use Rattle.template.specs.declared.walk.Found.{Found}
 use Rattle.template.specs.declared.walk.WalkRun.{WalkRun}
 use Rattle.template.specs.declared.walk.WalkAt.{WalkAt}
-use Rattle.template.specs.declared.walk.WalkAt.TheVariants.{Start, Root, Head}
+use Rattle.template.specs.declared.walk.WalkAt.TheVariants.{Start, Root, Head, Value}
 use Rattle.template.specs.Walk.Known.{here, WalkKnows, walk_step, WalkIsReady, WalkIsTold, WalkTurn, WalkAsks, WalkEnds, WalkStands}
 
-own_since : (c : Call) (h : History) → IsOwnMoment c h → Extends h c.start
+pub own_since : (c : Call) (h : History) → IsOwnMoment c h → Extends h c.start
 own_since c h b = subst (λ k. Extends k c.start) (sym b.is) (inr b.since)
 
 -- it waits at a place
@@ -32,8 +34,10 @@ pub waits_at : (c : Call) (h : History) (old now : WalkRun) (turn : Turn Found) 
 waits_at c h old now turn at step k a known e = rw (a.asked, a.stands) record { run = k.run; small = k.small; since = own_since c h k.own; known = known; asked = e }
 
 -- it has ended
-pub answers_at : (c : Call) (h : History) (old now : WalkRun) (turn : Turn Found) (head : HeadParts) (key : ℕ) (found : Option ℕ) → WalkStands old c h → WalkEnds old now turn head key found → is_leaf (value h) old.trail.node.0 ≡ true → head_of (here h old HeadWord) ≡ head → (head.class ≡ 0 → here h old KeyWord ≡ key) → found ≡ said (value h) old.key old.trail.node.0 → WalkTurn c h now turn
-answers_at c h old now turn head key found k a leaf e d says = rw (a.done, a.stands) record { trail = k.trail; leaf = leaf; head = e; key = d; says = says }
+answers_at : (c : Call) (h : History) (old now : WalkRun) (turn : Turn Found) (head : HeadParts) (key : ℕ) (found : Option ℕ) → WalkStands old c h → WalkEnds old now turn head key found → is_leaf (value h) old.trail.node.0 ≡ true → head_of (here h old HeadWord) ≡ head → (head.class ≡ 0 → here h old KeyWord ≡ key) → (head.class ≢ 0 → key ≡ 0) → found ≡ said (value h) old.key old.trail.node.0 → WalkTurn c h now turn
+answers_at c h old now turn head key found k a leaf e d blank says =
+    let deep : head.level < 2 + length (taken_nodes h) = subst (λ w. w.level < 2 + length (taken_nodes h)) e (passed_depth c.layout h k.trail.node.first old.key old.trail.node.0 k.run k.trail.node.passed) in
+    rw (a.done, a.stands) record { trail = k.trail; leaf = leaf; head = e; deep = deep; key = d; blank = blank; says = says }
 
 module _ (c : Call) (h : History) (m : WalkRun) (k : WalkStands m c h) (head : HeadParts) (e : head_of (here h m HeadWord) ≡ head) where
   abbrev n : ℕ
@@ -79,6 +83,14 @@ module _ (c : Call) (h : History) (m : WalkRun) (k : WalkStands m c h) (head : H
     pub says_value : key ≡ m.key → (v : ℕ) → here h m ValueWord ≡ v → Some v ≡ said (value h) m.key n
     says_value q v x = rw (eq-eqb (class (value h) n) 0 class_zero, eq-eqb m.key (here h m KeyWord) (sym q ∙ sym d)) (ap Some (sym x))
 
+-- it has ended at a leaf above all keys
+pub ends_above : (c : Call) (h : History) (old now : WalkRun) (turn : Turn Found) (head : HeadParts) → WalkStands old c h → WalkEnds old now turn head 0 None → head_of (here h old HeadWord) ≡ head → head.class ≢ 0 → head.leaf ≡ true → WalkTurn c h now turn
+ends_above c h old now turn head k a e high leaf = answers_at c h old now turn head 0 None k a (leaf_is c h old k head e leaf) e (λ q. absurd (high q)) (λ d. refl) (says_nothing_above c h old k head e high)
+
+-- it has ended at a leaf with a key
+pub ends_low : (c : Call) (h : History) (old now : WalkRun) (turn : Turn Found) (head : HeadParts) (key : ℕ) (found : Option ℕ) → WalkStands old c h → WalkEnds old now turn head key found → head_of (here h old HeadWord) ≡ head → head.class ≡ 0 → head.leaf ≡ true → here h old KeyWord ≡ key → found ≡ said (value h) old.key old.trail.node.0 → WalkTurn c h now turn
+ends_low c h old now turn head key found k a e low leaf d says = answers_at c h old now turn head key found k a (leaf_is c h old k head e leaf) e (λ q. d) (λ high. absurd (high low)) says
+
 -- the root was passed
 pub stands_at_root : (c : Call) (h : History) (m : WalkRun) → IsTreeRun c.layout h → m.key < 2 ^ 64 → IsOwnMoment c h → m.trail.node.0 ≡ 0 → WalkStands m c h
 stands_at_root c h m run small own e = record {
@@ -100,7 +112,7 @@ below t side n = record { grand = t.parent; grand_side = t.side; parent = t.node
 trail_below : (c : Call) (h : History) (m : WalkRun) (side : Side) (n : ℕ) → WalkStands m c h → is_leaf (value h) m.trail.node.0 ≡ false → toward (value h) m.trail.node.0 m.key ≡ side → here h m (ChildWord side) ≡ n → OnTrail c h m.key (below m.trail side n)
 trail_below c h m side n k fork s e = record {
   node = record { first = k.trail.node.first; own = k.trail.node.own; passed = subst (Passed h k.trail.node.first m.key) next (walk_next c.layout h k.trail.node.first m.key m.trail.node.0 k.run k.trail.node.passed fork) };
-  parent = λ d. record { passed = k.trail.node; fork = fork; side_is = s };
+  parent = λ d. record { passed = k.trail.node; fork = fork; side_is = s; shown = record { moment = h; within = ends_self h; own = k.own; passed = k.trail.node; held = e } };
   grand = λ d p. k.trail.parent p;
   high = λ d z leaf low. below_root c.layout h m.key k.run k.small
       (subst (λ n. is_leaf (value h) n ≡ true) (here_root z) leaf)
@@ -136,6 +148,13 @@ pub told_root : (m : WalkRun) (c : Call) (h : History) (found : ℕ) → m.at �
 told_root m c h found is t =
     let k : m.trail.node.0 ≡ 0 = subst (WalkKnows c h m) is t.known in
     (stands_at_root c h m t.run t.small t.own k, rw is at t.told)
+
+-- the value of a leaf that has its key is the last that it is told
+pub turn_value : (c : Call) (h : History) (old now : WalkRun) (turn : Turn Found) (head : HeadParts) (found : ℕ) → old.at ≡ Value head → WalkIsTold old c h found → WalkEnds old now turn head old.key (Some found) → WalkTurn c h now turn
+turn_value c h old now turn head found is t a =
+    let x : WalkKnows c h old (Value head) = subst (WalkKnows c h old) is t.known in
+    let k : WalkStands old c h = record { run = t.run; small = t.small; own = t.own; trail = x.0 } in
+    ends_low c h old now turn head old.key (Some found) k a x.1 x.2 x.3 x.4 (says_value c h old k head x.1 x.2 old.key x.4 refl found (rw is at t.told))
 
 -- Its steps
 

@@ -2,6 +2,7 @@
 use Rattle.std.specs.Prelude.{◌≡◌, ◌≢◌, ℕ, true, false}
 use Rattle.arena.specs.declared.step.Row.{Row}
 use Rattle.arena.specs.declared.word.Side.{Side}
+use Rattle.arena.specs.Words.{child}
 use Rattle.arena.specs.History.{History, ◌⊳◌, value, Extends}
 use Rattle.arena.specs.Machines.{Call}
 use Rattle.spelling.specs.Paths.{Passed}
@@ -23,17 +24,27 @@ pub record WasPassed (c : Call) (h : History) (k n : ℕ) : Type 0 where
   pub own : IsOwnMoment c first
   pub passed : Passed h first k n
 
--- so was this fork, and on this side of it k stands
-pub record HasTurned (c : Call) (h : History) (k n : ℕ) (side : Side) : Type 0 where
+-- at an own moment of the call, by which it had passed n on its way to k, the field of n on this side
+-- held the node `next`
+pub record HasShown (c : Call) (h : History) (k n : ℕ) (side : Side) (next : ℕ) : Type 0 where
+  pub moment : History
+  pub within : Extends h moment
+  pub own : IsOwnMoment c moment
+  pub passed : WasPassed c moment k n
+  pub held : value moment (child n side) ≡ next
+
+-- the call has passed this fork, on this side of which k stands, and there it has found `next`
+pub record HasTurned (c : Call) (h : History) (k n : ℕ) (side : Side) (next : ℕ) : Type 0 where
   pub passed : WasPassed c h k n
   pub fork : is_leaf (value h) n ≡ false
   pub side_is : toward (value h) n k ≡ side
+  pub shown : HasShown c h k n side next
 
--- The call has passed the nodes of the trail on its way to k. The root, which is node 0, has no
--- fork above it, and a child of the root has one.
+-- The call has passed the nodes of the trail on its way to k, each in a field of the one above it.
+-- The root, which is node 0, has no fork above it, and a child of the root has one.
 pub record OnTrail (c : Call) (h : History) (k : ℕ) (t : Trail) : Type 0 where
   pub node : WasPassed c h k t.node.0
-  pub parent : t.node.0 ≢ 0 → HasTurned c h k t.parent.0 t.side
-  pub grand : t.node.0 ≢ 0 → t.parent.0 ≢ 0 → HasTurned c h k t.grand.0 t.grand_side
+  pub parent : t.node.0 ≢ 0 → HasTurned c h k t.parent.0 t.side t.node.0
+  pub grand : t.node.0 ≢ 0 → t.parent.0 ≢ 0 → HasTurned c h k t.grand.0 t.grand_side t.parent.0
   -- a leaf below the root is above all keys
   pub high : t.node.0 ≢ 0 → t.parent.0 ≡ 0 → is_leaf (value h) t.node.0 ≡ true → class (value h) t.node.0 ≡ 0 → ⊥

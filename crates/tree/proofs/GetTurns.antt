@@ -1,6 +1,5 @@
 -- What a get answers once its walk has ended, and what it asks for.
 use Rattle.std.specs.Prelude.{◌≡◌, ◌≢◌, ℕ, ◌^◌, ◌<◌, ◌⊎◌, Option, None}
-use Rattle.std.proofs.Common.{inr}
 use Rattle.arena.specs.declared.machine.Turn.{Turn}
 use Rattle.arena.specs.declared.machine.Turn.TheVariants.{Done}
 use Rattle.arena.specs.declared.step.Step.{Step}
@@ -11,12 +10,11 @@ use Rattle.arena.specs.Machines.{MatchTurn, Call}
 use Rattle.arena.proofs.Lemmas.{ends_trans}
 use Rattle.spelling.specs.Paths.{IsAnswerAt}
 use Rattle.spelling.specs.Runs.{IsTreeRun}
-use Rattle.template.specs.Trails.{IsOwnMoment}
 use Rattle.template.specs.declared.walk.Found.{Found}
 use Rattle.template.specs.declared.walk.WalkRun.{WalkRun}
 use Rattle.template.specs.declared.walk.WalkAt.TheVariants.{Start}
 use Rattle.template.specs.Walk.Known.{WalkIsReady, WalkWaits, WalkAnswers}
-use Rattle.template.proofs.Lemmas.{walk_gives, walk_ready_run, walk_ready_first, walk_loads, walk_fills_not}
+use Rattle.template.proofs.Lemmas.{walk_gives, walk_ready_run, walk_ready_first, walk_loads, walk_fills_not, own_since}
 use Rattle.tree.specs.declared.get.GetRun.{GetRun}
 use Rattle.tree.specs.Get.Known.{GetIsReady, GetWaits, GetAnswers}
 
@@ -42,9 +40,6 @@ get_loads m c h s w = walk_loads m.walk c h s w
 pub get_fills_not : (m : GetRun) (c : Call) (h : History) (s : Step) → GetWaits m c h s → s.kind ≢ Fill
 get_fills_not m c h s w = walk_fills_not m.walk c h s w
 
-own_since : (c : Call) (h : History) → IsOwnMoment c h → Extends h c.start
-own_since c h x = rw x.is (inr x.since)
-
 -- what a get answers stood at a moment of its call
 pub get_says : (m : GetRun) (c : Call) (h : History) (a : Option ℕ) → GetAnswers m c h a → IsAnswerAt c.layout h c.start m.walk.key a
-get_says m c h a x = record { moment = x.right.moment; within = x.right.within; since = ends_trans x.right.moment x.first c.start x.right.since (own_since c x.first x.own); gives = x.right.gives }
+get_says m c h a x = record { moment = x.right.moment; within = x.right.within; since = ends_trans x.right.moment x.first c.start x.right.since (own_since c x.first x.own); map = x.right.map; spelled = x.right.spelled; gives = x.right.gives }

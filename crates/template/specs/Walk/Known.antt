@@ -1,5 +1,5 @@
 -- When a walk may go on, what it waits for, and what its answer says.
-use Rattle.std.specs.Prelude.{◌≡◌, ℕ, ◌^◌, ◌<◌, true, false, Option, Some, None}
+use Rattle.std.specs.Prelude.{◌≡◌, ◌≢◌, ℕ, ◌+◌, ◌^◌, ◌<◌, true, false, length, Option, Some, None}
 use Rattle.arena.specs.declared.head.Head.{Head as HeadParts}
 use Rattle.arena.specs.declared.machine.Turn.{Turn}
 use Rattle.arena.specs.declared.machine.Turn.TheVariants.{Ask, Done}
@@ -12,6 +12,7 @@ use Rattle.arena.specs.Heads.{head_of}
 use Rattle.arena.specs.Words.{node}
 use Rattle.arena.specs.History.{History, value, Extends}
 use Rattle.arena.specs.Machines.{Call, MatchTurn}
+use Rattle.arena.specs.TakenNodes.{taken_nodes}
 use Rattle.prims.specs.Llx.Known.{load}
 use Rattle.spelling.specs.Runs.{IsTreeRun}
 use Rattle.spelling.specs.TreeWords.{is_leaf, level, toward, said}
@@ -84,7 +85,11 @@ pub record WalkAnswers (m : WalkRun) (c : Call) (h : History) (f : Found) : Type
   pub trail : OnTrail c h m.key f.trail
   pub leaf : is_leaf (value h) f.trail.node.0 ≡ true
   pub head : head_of (value h (node f.trail.node.0 HeadWord)) ≡ f.head
+  -- it is not deeper than the taken nodes allow
+  pub deep : f.head.level < 2 + length (taken_nodes h)
   pub key : f.head.class ≡ 0 → value h (node f.trail.node.0 KeyWord) ≡ f.key
+  -- of a leaf above all keys no key is loaded
+  pub blank : f.head.class ≢ 0 → f.key ≡ 0
   pub says : f.value ≡ said (value h) m.key f.trail.node.0
 
 -- a walk waits for the step of the turn, or its answer is right

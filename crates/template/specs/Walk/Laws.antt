@@ -39,19 +39,20 @@ module _ (c : Call) (h : History) (r : Row) (g : IsTreeRun c.layout h) (run : Is
   settled_more : (k n : ℕ) → WasPassed c h k n → SameSettled (value h) (value (r ⊳ h)) n
   settled_more k n x part i = node_stays c.layout h r n part run.lawful i (walk_named c.layout h x.first k n g x.passed)
 
-  turned_more : (k n : ℕ) (side : Side) → HasTurned c h k n side → HasTurned c (r ⊳ h) k n side
-  turned_more k n side x = record {
+  turned_more : (k n : ℕ) (side : Side) (next : ℕ) → HasTurned c h k n side next → HasTurned c (r ⊳ h) k n side next
+  turned_more k n side next x = record {
     passed = passed_more k n x.passed;
     fork = settled_leaf (value h) (value (r ⊳ h)) n (settled_more k n x.passed) ∙ x.fork;
     side_is = settled_toward (value h) (value (r ⊳ h)) n k (settled_more k n x.passed) ∙ x.side_is;
+    shown = let s = x.shown in record { moment = s.moment; within = inr s.within; own = s.own; passed = s.passed; held = s.held };
   }
 
   -- what a call has passed it has passed
   pub trail_more : (k : ℕ) (t : Trail) → OnTrail c h k t → OnTrail c (r ⊳ h) k t
   trail_more k t x = record {
     node = passed_more k t.node.0 x.node;
-    parent = λ d. turned_more k t.parent.0 t.side (x.parent d);
-    grand = λ d p. turned_more k t.grand.0 t.grand_side (x.grand d p);
+    parent = λ d. turned_more k t.parent.0 t.side t.node.0 (x.parent d);
+    grand = λ d p. turned_more k t.grand.0 t.grand_side t.parent.0 (x.grand d p);
     high = λ d z leaf low. x.high d z (sym (settled_leaf (value h) (value (r ⊳ h)) t.node.0 same) ∙ leaf) (sym (settled_class (value h) (value (r ⊳ h)) t.node.0 same) ∙ low);
   }
     where

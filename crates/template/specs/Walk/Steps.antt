@@ -1,14 +1,12 @@
 -- How many steps a walk may still ask for: three a node, of levels that rise.
-use Rattle.std.specs.Prelude.{ℕ, ◌+◌, ◌-◌, ◌*◌, ◌<◌, ◌≤◌, length, Option, unwrap_or}
+use Rattle.std.specs.Prelude.{ℕ, ◌+◌, ◌-◌, ◌*◌, ◌<◌, Option, unwrap_or}
 use Rattle.arena.specs.Heads.{head_of}
-use Rattle.arena.specs.History.{History}
-use Rattle.arena.specs.TakenNodes.{taken_nodes}
 use Rattle.template.specs.declared.walk.WalkRun.{WalkRun}
 use Rattle.template.specs.declared.walk.WalkAt.{WalkAt}
 use Rattle.template.specs.declared.walk.WalkAt.TheVariants.{Start, Root, Head, Key, Child, Value}
 
--- how many steps a walk may still ask for at this place, where no more nodes than these are taken:
--- with the first two leaves no path has more forks than they are many
+-- how many steps a walk may still ask for at this place, where no more nodes than these are taken: a
+-- path has at most two nodes more than are taken
 abbrev pub walk_left : WalkAt → ℕ → ℕ
 walk_left Start nodes = 3 * (2 + nodes)
 walk_left Root nodes = 3 * (2 + nodes) - 1
@@ -28,8 +26,3 @@ WalkFitsAt _ v nodes = Unit {0}
 -- what a walk is told fits so many taken nodes
 abbrev pub WalkFits : WalkRun → Option ℕ → ℕ → Type 0
 WalkFits m got nodes = WalkFitsAt m.at (unwrap_or got 0) nodes
-
--- with what it has left, a walk that has asked for so many steps stays within its bound: three
--- steps for each node that is taken by its end, and for two more
-abbrev pub WalkStaysWithin : ℕ → WalkRun → History → Type 0
-WalkStaysWithin asked m h = (nodes : ℕ) → length (taken_nodes h) ≤ nodes → asked + walk_left m.at nodes ≤ 3 * (2 + nodes)

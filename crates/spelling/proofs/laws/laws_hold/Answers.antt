@@ -1,6 +1,6 @@
 use Rattle.spelling.proofs.Meanings.{log_edits, one_spelling, win_makes, walk_answers, spells_log}
 use Rattle.spelling.proofs.Runs.{makes_one}
-use Rattle.spelling.proofs.TreeRuns.{tree_not_final, passed_depth}
+use Rattle.spelling.proofs.TreeRuns.{tree_not_final, tree_remains, stood_blank, passed_depth}
 use Rattle.spelling.proofs.laws.laws_hold.Goals as goal
 
 pub returns-clause-edits : goal.returns-clause-edits
@@ -26,3 +26,9 @@ returns-clause-depth c = passed_depth
 
 pub returns-clause-not_final : goal.returns-clause-not_final
 returns-clause-not_final c = tree_not_final
+
+pub returns-clause-remains : goal.returns-clause-remains
+returns-clause-remains c = tree_remains
+
+pub returns-clause-blank : goal.returns-clause-blank
+returns-clause-blank c = stood_blank

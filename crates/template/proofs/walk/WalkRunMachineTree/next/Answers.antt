@@ -1,8 +1,8 @@
 use Rattle.std.proofs.Common.{◌+◌, ◌<◌, sym, ◌∙◌, ap}
 use Rattle.arena.specs.Heads.{head_of}
-use Rattle.template.specs.declared.walk.WalkAt.TheVariants.{Root}
+use Rattle.template.specs.declared.walk.WalkAt.TheVariants.{Root, Value}
 use Rattle.template.specs.Walk.Steps.{walk_left}
-use Rattle.template.proofs.WalkTurns.{told_at, told_root, nearer_root, nearer_below}
+use Rattle.template.proofs.WalkTurns.{told_at, told_root, turn_value, nearer_root, nearer_below}
 use Rattle.template.proofs.walk.WalkRunMachineTree.next.Goals as goal
 
 pub returns-in-Root-clause-turn : goal.returns-in-Root-clause-turn
@@ -16,6 +16,12 @@ returns-in-Root-clause-nearer c nodes fits =
     let low : (head_of c.unwrap_or-found.result).level < 2 + nodes = rw (c.in-Root.is, sym c.unwrap_or-found.ensures) at fits in
     let deep : c.of.result.level < 2 + nodes = rw c.of.ensures low in
     rw c.in-Root.is (nearer_root c.read_head.result nodes c.of.result.level (walk_left c.read_head.new.self.at nodes) (c.read_head.ensures.nearer nodes deep))
+
+pub returns-in-Value-clause-turn : goal.returns-in-Value-clause-turn
+returns-in-Value-clause-turn c d h run r =
+    let found = c.unwrap_or-found.result in
+    let t = told_at c.args.self.now d h c.args.got found (Value c.in-Value.head) c.in-Value.is (λ e. cc) c.unwrap_or-found.ensures r in
+    turn_value d h c.args.self.now c.end.new.self c.end.result c.in-Value.head found c.in-Value.is t c.end.ensures
 
 pub returns-in-Head-clause-nearer : goal.returns-in-Head-clause-nearer
 returns-in-Head-clause-nearer c nodes fits =
