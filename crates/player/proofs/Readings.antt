@@ -29,7 +29,7 @@ use Rattle.spelling.specs.TreeWords.{level, is_leaf}
 use Rattle.spelling.specs.Spelled.{Spells}
 use Rattle.spelling.specs.Paths.{IsAnswerAt}
 use Rattle.spelling.specs.Runs.{IsTreeRun, map_of_log}
-use Rattle.spelling.proofs.Lemmas.{run_spells_log}
+use Rattle.spelling.proofs.Lemmas.{one_spelling, run_spells_log}
 use Rattle.script.specs.declared.command.Call.{Call}
 use Rattle.script.specs.declared.command.Command.{Command}
 use Rattle.script.specs.declared.command.Command.TheVariants.{Llx as LlxOf, Scx as ScxOf, Vlx as VlxOf, Set as SetOf, Get as GetOf}
@@ -214,7 +214,7 @@ module _ (lay : Layout) (calls : List Call) (mode : lay.mode ≡ Tree) (all : Ar
   }
     where
       none : get key [] ≡ a
-      none = at.gives [] (at_moment lines at.moment run x at.within)
+      none = ap (get key) (one_spelling lay (value at.moment) [] at.map (at_moment lines at.moment run x at.within) at.spelled) ∙ at.gives
 
 -- where the call of a reply took place
 pub placed : (lay : Layout) (calls : List Call) (words : Contents) (lines : List Line) (reply : Reply) (c : ℕ) (command : Command) → IsLawfulSoFar lay calls words lines → IsRight lay c (history lay.mode lines) (start lay.mode lines c) (linked calls lay.mode lines c) command reply.answer → next_command calls lines c ≡ Some command → reply.begin ≤ reply.end → reply.moment ≡ moment_of reply.answer reply.begin reply.end (won lay lines reply.client.0) → IsPlaced lay calls lines reply command
