@@ -1,5 +1,5 @@
 -- What stood in the tree above all keys is blank.
-use Rattle.std.proofs.Common.{◌≡◌, ◌≢◌, ℕ, ◌<◌, ◌+◌, ◌*◌, ◌/◌, ◌%◌, true, false, eqb, zero, suc, ◌⊎◌, inl, inr, refl, sym, ◌∙◌, ap, arith, subst}
+use Rattle.std.proofs.Common.{◌≡◌, ◌≢◌, ℕ, ◌<◌, ◌/◌, ◌%◌, true, false, eqb, ◌⊎◌, inl, inr, refl, sym, ◌∙◌, ap, arith, subst}
 use Rattle.arena.specs.declared.limits.Mode.TheVariants.{Tree as TreeMode}
 use Rattle.arena.specs.declared.word.Side.{Side}
 use Rattle.arena.specs.declared.word.Side.TheVariants.{Left, Right}
@@ -15,7 +15,7 @@ use Rattle.arena.proofs.Lemmas.{node_word_apart}
 use Rattle.histories.proofs.Lemmas.{UpdateWins, node_stays, update_keeps_other}
 use Rattle.spelling.specs.OrderedMap.{MapEdit, Insert, Delete}
 use Rattle.spelling.specs.Paths.{WasInTree}
-use Rattle.spelling.specs.TreeShape.{IsInsert, IsDelete, IsEdit, leaf_place, sibling_place}
+use Rattle.spelling.specs.TreeShape.{IsInsert, IsEdit, leaf_place, sibling_place}
 use Rattle.spelling.specs.TreeWords.{Has, class, is_leaf, rank, toward, IsBlank}
 use Rattle.spelling.specs.Edits.{IsAlike, IsSwap, IsSplit, IsJoin}
 use Rattle.spelling.proofs.Moved.{SameSettled, settled_class, settled_leaf}

@@ -85,14 +85,18 @@ pairs_low f (Leaf n) lo hi s = go (ℕ_discrete (class f n) 0)
         let l : 2 ^ 64 ≤ rank f n = omega (arith, d) in
         rw (ne_eqb (class f n) 0 d, le-ltb (rank f n) (2 ^ 64) l) refl
 
+above_join : (k : ℕ) (xs ys : List Pair) → Above k xs → Above k ys → Above k (xs ++ ys)
+above_join k [] ys p q = q
+above_join k (x ∷ xs) ys p q = (p.0, above_join k xs ys p.1 q)
+
+above_split : (k : ℕ) (xs ys : List Pair) → Above k (xs ++ ys) → Above k xs × Above k ys
+above_split k [] ys a = (tt, a)
+above_split k (x ∷ xs) ys a = let q = above_split k xs ys a.1 in ((a.0, q.0), q.1)
+
 -- the items rise
 rising_join : (m : ℕ) (xs ys : List Pair) → Below m xs → IsRising xs → IsRising ys → ((k : ℕ) → k < m → Above k ys) → IsRising (xs ++ ys)
 rising_join m [] ys b r s a = s
-rising_join m (x ∷ xs) ys b r s a = (both x.key xs r.0 (a x.key b.0), rising_join m xs ys b.1 r.1 s a)
-  where
-    both : (k : ℕ) (xs : List Pair) → Above k xs → Above k ys → Above k (xs ++ ys)
-    both k [] p q = q
-    both k (x ∷ xs) p q = (p.0, both k xs p.1 q)
+rising_join m (x ∷ xs) ys b r s a = (above_join x.key xs ys r.0 (a x.key b.0), rising_join m xs ys b.1 r.1 s a)
 
 pub items_rise : (f : Word → ℕ) (t : Tree) (lo hi : ℕ) → Shows f lo hi t → IsRising (items f t)
 items_rise f (Leaf n) lo hi s = (tt, tt)
@@ -102,15 +106,8 @@ rising_split : (xs ys : List Pair) (y : Pair) → IsRising (xs ++ y ∷ ys) → 
 rising_split [] ys y r = (tt, tt)
 rising_split (x ∷ xs) ys y r =
     let q : IsRising xs × Below y.key xs = rising_split xs ys y r.1 in
-    ((first xs r.0, q.0), (last xs r.0, q.1))
-  where
-    first : (xs : List Pair) → Above x.key (xs ++ y ∷ ys) → Above x.key xs
-    first [] a = tt
-    first (z ∷ xs) a = (a.0, first xs a.1)
-
-    last : (xs : List Pair) → Above x.key (xs ++ y ∷ ys) → x.key < y.key
-    last [] a = a.0
-    last (z ∷ xs) a = last xs a.1
+    let a : Above x.key xs × Above x.key (y ∷ ys) = above_split x.key xs (y ∷ ys) r.0 in
+    ((a.0, q.0), (a.1.0, q.1))
 
 -- the right field of node 0 never changes
 ends_start : (lay : Layout) (h : History) → Lawful lay h → Extends h (Start lay.mode)
@@ -198,16 +195,20 @@ last_is d [] p = refl
 last_is d (x ∷ xs) p = last_is x.key xs p
 
 -- all but the last
-but_last : List Pair → List Pair
+but_last : {A : Type 0} → List A → List A
 but_last [] = []
-but_last (p ∷ []) = []
-but_last (p ∷ q ∷ ps) = p ∷ but_last (q ∷ ps)
+but_last (x ∷ []) = []
+but_last (x ∷ y ∷ ys) = x ∷ but_last (y ∷ ys)
 
-but_last_is : (xs : List Pair) (p : Pair) → but_last (xs ++ p ∷ []) ≡ xs
+but_last_is : {A : Type 0} (xs : List A) (x : A) → but_last (xs ++ x ∷ []) ≡ xs
 unfolding but_last
-but_last_is [] p = refl
-but_last_is (x ∷ []) p = refl
-but_last_is (x ∷ y ∷ xs) p = ap (λ z. x ∷ z) (but_last_is (y ∷ xs) p)
+but_last_is [] x = refl
+but_last_is (y ∷ []) x = refl
+but_last_is (y ∷ z ∷ xs) x = ap (λ w. y ∷ w) (but_last_is (z ∷ xs) x)
+
+-- lists that agree but for the last agree
+pub front_same : {A : Type 0} (xs ys : List A) (x y : A) → xs ++ x ∷ [] ≡ ys ++ y ∷ [] → xs ≡ ys
+front_same xs ys x y e = sym (but_last_is xs x) ∙ ap but_last e ∙ but_last_is ys y
 
 -- the leaves as items
 abbrev leaf_items : (Word → ℕ) → List ℕ → List Pair
@@ -296,10 +297,7 @@ spells calls lay h g = record {
     end_items = sym (leaf_items_join (value h) end.others (end.node_no ∷ [])) ∙ ap (leaf_items (value h)) (sym end.leaves_are) ∙ sym (items_leaves (value h) c.left) ∙ left_items
 
     others_items : leaf_items (value h) end.others ≡ map_of_log calls (log lay h)
-    others_items =
-        sym (but_last_is (leaf_items (value h) end.others) (pair (rank (value h) end.node_no) (value h (node end.node_no Value))))
-        ∙ ap but_last end_items
-        ∙ but_last_is (map_of_log calls (log lay h)) (pair (2 ^ 64) 0)
+    others_items = front_same (leaf_items (value h) end.others) (map_of_log calls (log lay h)) (pair (rank (value h) end.node_no) (value h (node end.node_no Value))) (pair (2 ^ 64) 0) end_items
 
     rank_one : rank (value h) end.node_no ≡ 2 ^ 64
     rank_one =

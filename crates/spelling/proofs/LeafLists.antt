@@ -12,7 +12,7 @@ use Rattle.spelling.specs.TreeWords.{class, leaf_pairs, Tree, Leaf, Fork, Shows,
 use Rattle.spelling.specs.Spelled.{IsTree, Spells}
 use Rattle.spelling.specs.Parts.{ShowLeaves, HasEnds, HoldPairs, AreInside, all_pairs}
 use Rattle.spelling.proofs.Trees.{items, same_tree}
-use Rattle.spelling.proofs.Growing.{low, low_rises, pairs_low, items_rise}
+use Rattle.spelling.proofs.Growing.{low, low_rises, pairs_low, items_rise, front_same}
 
 -- The leaves of a tree
 
@@ -35,23 +35,9 @@ others_inside c ns others a e = front (λ n. n < all_nodes c.layout) others (e.o
 
 -- The two last
 
-init : List ℕ → List ℕ
-init [] = []
-init (x ∷ []) = []
-init (x ∷ y ∷ ys) = x ∷ init (y ∷ ys)
-
-init_is : (xs : List ℕ) (x : ℕ) → init (xs ++ x ∷ []) ≡ xs
-unfolding init
-init_is [] x = refl
-init_is (y ∷ []) x = refl
-init_is (y ∷ z ∷ xs) x = ap (λ w. y ∷ w) (init_is (z ∷ xs) x)
-
-two_off : (xs : List ℕ) (x y : ℕ) → init (init (xs ++ x ∷ y ∷ [])) ≡ xs
-two_off xs x y = ap init (ap init (sym (append_assoc xs (x ∷ []) (y ∷ []))) ∙ init_is (xs ++ x ∷ []) y) ∙ init_is xs x
-
 -- what stands before them is determined
 others_same : (xs ys : List ℕ) (x y : ℕ) → xs ++ x ∷ 2 ∷ [] ≡ ys ++ y ∷ 2 ∷ [] → xs ≡ ys
-others_same xs ys x y e = sym (two_off xs x 2) ∙ ap (λ zs. init (init zs)) e ∙ two_off ys y 2
+others_same xs ys x y e = front_same xs ys x y (front_same (xs ++ x ∷ []) (ys ++ y ∷ []) 2 2 (append_assoc xs (x ∷ []) (2 ∷ []) ∙ e ∙ sym (append_assoc ys (y ∷ []) (2 ∷ []))))
 
 -- The pairs
 

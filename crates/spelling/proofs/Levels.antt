@@ -1,5 +1,5 @@
 -- No node of the tree is deeper than the log is long.
-use Rattle.std.proofs.Common.{◌≡◌, ℕ, ◌<◌, ◌/◌, ◌≤◌, zero, suc, length, inl, inr, refl, sym, ap, arith}
+use Rattle.std.proofs.Common.{◌≡◌, ℕ, ◌<◌, ◌/◌, ◌≤◌, zero, suc, length, refl, ap, arith}
 use Rattle.arena.specs.declared.limits.Mode.TheVariants.{Tree as TreeMode}
 use Rattle.arena.specs.declared.word.NodeWord.TheVariants.{Head, Child}
 use Rattle.arena.specs.declared.layout.Layout.{Layout}

@@ -98,12 +98,6 @@ module _ (f g : Word → ℕ) (p : ℕ) (e : Apart f g p) where
       lc : level g c ≡ level f c
       lc = apart_level f g p e c
 
-      lx : level g x ≡ level f x
-      lx = apart_level f g p e x
-
-      ly : level g y ≡ level f y
-      ly = apart_level f g p e y
-
       rc : rank g c ≡ rank f c
       rc = apart_rank f g p e c
 
@@ -125,63 +119,68 @@ module _ (f g : Word → ℕ) (p : ℕ) (e : Apart f g p) where
       deep : level f n ≤ level g c
       deep = let y : level f n ≡ level f l = ap (level f) q in let d = s.deep in omega (arith, lc, y, d)
 
+      low : level f c < level f x
+      low = let d = s.low in omega (arith, d)
+
+      high : level f c < level f y
+      high = let d = s.high in omega (arith, d)
+
+      -- the fork over the two leaves i and j, which are x and y
+      over : (i j : ℕ) → IsLeaf g i lo (rank g c) → IsLeaf g j (rank g c) hi → f (child c Left) ≡ i → f (child c Right) ≡ j → level f c < level f i → level f c < level f j
+          → pair (rank g i) (g (node i Value)) ∷ pair (rank g j) (g (node j Value)) ∷ [] ≡ insert k v (pair (rank f n) (f (node n Value)) ∷ [])
+          → ((m : ℕ) → (m ≡ i) ⊎ (m ≡ j) → (m ≡ x) ⊎ (m ≡ y)) → Replaced f g (insert k v) (λ n. l ≡ n) (λ n. (n ≡ c) ⊎ ((n ≡ x) ⊎ (n ≡ y))) c lo hi (Leaf n)
+      over i j first second left right below_i below_j items_are among = record {
+        tree = Fork c (Leaf i) (Leaf j);
+        shows = (
+          record {
+            fork = apart_leaf f g p e c ∙ s.fork;
+            left = e.field c Left pc ∙ left;
+            right = e.field c Right pc ∙ right;
+            low = let d = apart_level f g p e i in omega (arith, lc, d, below_i);
+            high = let d = apart_level f g p e j in omega (arith, lc, d, below_j);
+          },
+          first,
+          second,
+        );
+        is = refl;
+        deep = deep;
+        items = items_are;
+        paths = λ j m h. inr (sym q ∙ h);
+        made = λ m h. inr (put m h);
+        out = λ m h. (q ∙ h, λ i. not_l m h (put m i));
+      }
+        where
+          put : (m : ℕ) → Has (Fork c (Leaf i) (Leaf j)) m → (m ≡ c) ⊎ ((m ≡ x) ⊎ (m ≡ y))
+          put m (inl h) = inl (sym h)
+          put m (inr (inl h)) = inr (among m (inl (sym h)))
+          put m (inr (inr h)) = inr (among m (inr (sym h)))
+
+          not_l : (m : ℕ) → l ≡ m → (m ≡ c) ⊎ ((m ≡ x) ⊎ (m ≡ y)) → ⊥
+          not_l m h (inl i) = nc (h ∙ i)
+          not_l m h (inr (inl i)) = nx (h ∙ i)
+          not_l m h (inr (inr i)) = ny (h ∙ i)
+
       go : ((k < rank f l) × IsAlike f c l × (f (child c Left) ≡ x) × (f (child c Right) ≡ y)) ⊎ ((rank f l < k) × IsAlike f c x × (f (child c Left) ≡ y) × (f (child c Right) ≡ x)) → Replaced f g (insert k v) (λ n. l ≡ n) (λ n. (n ≡ c) ⊎ ((n ≡ x) ⊎ (n ≡ y))) c lo hi (Leaf n)
       go (inl o) =
           let ec : rank f c ≡ rank f l = alike_rank f c l o.1 in
           let tf = t.from in
           let tb = t.below in
-          record {
-            tree = Fork c (Leaf x) (Leaf y);
-            shows = (
-              record { fork = apart_leaf f g p e c ∙ s.fork; left = e.field c Left pc ∙ o.2; right = e.field c Right pc ∙ o.3; low = omega (arith, lc, lx, s.low); high = omega (arith, lc, ly, s.high) },
-              leaf_now x lo (rank g c) s.new.leaf (rw s.new.key small) (omega (arith, rx, rc, ec, o.0, tf, tb, rn, u, w)) (omega (arith, ry, rx, rc, ec, o.0, tf, tb, rn, u, w)),
-              leaf_now y (rank g c) hi s.copy.leaf small_y (omega (arith, ry, rc, ec, o.0, tf, tb, rn, rx, u, w)) (omega (arith, ry, rc, ec, o.0, tf, tb, rn, rx, u, w)),
-            );
-            is = refl;
-            deep = deep;
-            items = (λ i. ix i ∷ iy i ∷ []) ∙ sym (put_before k v (rank f n) (f (node n Value)) (omega (arith, o.0, rn)));
-            paths = λ j m h. inr (sym q ∙ h);
-            made = made;
-            out = λ m h. (q ∙ h, gone m h);
-          }
-        where
-          made : (m : ℕ) → Has (Fork c (Leaf x) (Leaf y)) m → Has (Leaf n) m ⊎ ((m ≡ c) ⊎ ((m ≡ x) ⊎ (m ≡ y)))
-          made m (inl h) = inr (inl (sym h))
-          made m (inr (inl h)) = inr (inr (inl (sym h)))
-          made m (inr (inr h)) = inr (inr (inr (sym h)))
-
-          gone : (m : ℕ) → l ≡ m → Has (Fork c (Leaf x) (Leaf y)) m → ⊥
-          gone m h (inl i) = nc (h ∙ sym i)
-          gone m h (inr (inl i)) = nx (h ∙ sym i)
-          gone m h (inr (inr i)) = ny (h ∙ sym i)
+          over x y
+          (leaf_now x lo (rank g c) s.new.leaf (rw s.new.key small) (omega (arith, rx, rc, ec, o.0, tf, tb, rn, u, w)) (omega (arith, ry, rx, rc, ec, o.0, tf, tb, rn, u, w)))
+          (leaf_now y (rank g c) hi s.copy.leaf small_y (omega (arith, ry, rc, ec, o.0, tf, tb, rn, rx, u, w)) (omega (arith, ry, rc, ec, o.0, tf, tb, rn, rx, u, w)))
+          o.2 o.3 low high
+          ((λ i. ix i ∷ iy i ∷ []) ∙ sym (put_before k v (rank f n) (f (node n Value)) (omega (arith, o.0, rn))))
+          (λ m h. h)
       go (inr o) =
           let ec : rank f c ≡ rank f x = alike_rank f c x o.1 in
           let tf = t.from in
           let tb = t.below in
-          record {
-            tree = Fork c (Leaf y) (Leaf x);
-            shows = (
-              record { fork = apart_leaf f g p e c ∙ s.fork; left = e.field c Left pc ∙ o.2; right = e.field c Right pc ∙ o.3; low = omega (arith, lc, ly, s.high); high = omega (arith, lc, lx, s.low) },
-              leaf_now y lo (rank g c) s.copy.leaf small_y (omega (arith, ry, rx, rc, ec, o.0, tf, tb, rn, u, w)) (omega (arith, ry, rx, rc, ec, o.0, tf, tb, rn, u, w)),
-              leaf_now x (rank g c) hi s.new.leaf (rw s.new.key small) (omega (arith, rx, rc, ec, o.0, tf, tb, rn, u, w)) (omega (arith, rx, rc, ec, o.0, tf, tb, rn, u, w)),
-            );
-            is = refl;
-            deep = deep;
-            items = (λ i. iy i ∷ ix i ∷ []) ∙ sym (put_behind k v (rank f n) (f (node n Value)) (omega (arith, o.0, rn)));
-            paths = λ j m h. inr (sym q ∙ h);
-            made = made;
-            out = λ m h. (q ∙ h, gone m h);
-          }
-        where
-          made : (m : ℕ) → Has (Fork c (Leaf y) (Leaf x)) m → Has (Leaf n) m ⊎ ((m ≡ c) ⊎ ((m ≡ x) ⊎ (m ≡ y)))
-          made m (inl h) = inr (inl (sym h))
-          made m (inr (inl h)) = inr (inr (inr (sym h)))
-          made m (inr (inr h)) = inr (inr (inl (sym h)))
-
-          gone : (m : ℕ) → l ≡ m → Has (Fork c (Leaf y) (Leaf x)) m → ⊥
-          gone m h (inl i) = nc (h ∙ sym i)
-          gone m h (inr (inl i)) = ny (h ∙ sym i)
-          gone m h (inr (inr i)) = nx (h ∙ sym i)
+          over y x
+          (leaf_now y lo (rank g c) s.copy.leaf small_y (omega (arith, ry, rx, rc, ec, o.0, tf, tb, rn, u, w)) (omega (arith, ry, rx, rc, ec, o.0, tf, tb, rn, u, w)))
+          (leaf_now x (rank g c) hi s.new.leaf (rw s.new.key small) (omega (arith, rx, rc, ec, o.0, tf, tb, rn, u, w)) (omega (arith, rx, rc, ec, o.0, tf, tb, rn, u, w)))
+          o.2 o.3 high low
+          ((λ i. iy i ∷ ix i ∷ []) ∙ sym (put_behind k v (rank f n) (f (node n Value)) (omega (arith, o.0, rn))))
+          (λ m. ⊎_elim inr inl)
 
   -- a copy c of the root z of a subtree
   copied : (z c : ℕ) → z ≢ c → (is_leaf f c ≡ false → p ≢ c) → f (node c Head) ≡ f (node z Head) → f (node c Key) ≡ f (node z Key) → (is_leaf f z ≡ true → f (node c Value) ≡ f (node z Value)) → HasFieldsOf f c z

@@ -1,5 +1,5 @@
 -- A walk by child loads visits only nodes that were on the search path at a moment since its begin.
-use Rattle.std.proofs.Common.{◌≡◌, ◌≢◌, ℕ, ◌<◌, ◌≤◌, ◌*◌, ◌/◌, ◌%◌, ◌^◌, true, false, eqb, ltb, ◌⊎◌, inl, inr, ⊎_elim, suc, refl, sym, ◌∙◌, ap, arith, subst, cond}
+use Rattle.std.proofs.Common.{◌≡◌, ◌≢◌, ℕ, ◌<◌, ◌≤◌, ◌*◌, ◌/◌, ◌%◌, ◌^◌, true, false, eqb, ltb, ◌⊎◌, inl, inr, ⊎_elim, refl, sym, ◌∙◌, ap, arith, subst, cond}
 use Rattle.std.specs.Prelude.{Option, Some, None}
 use native.Mathlib.Decide.{ℕ_discrete}
 use Rattle.arena.specs.declared.limits.Mode.TheVariants.{Tree as TreeMode}
@@ -20,7 +20,6 @@ use Rattle.spelling.specs.OrderedMap.{MapEdit, get}
 use Rattle.spelling.proofs.Trees.{items, ends, Same, same_rank, passes_has, has_root, Above, within, least}
 use Rattle.spelling.specs.Paths.{IsOnPath, Passed, WasInTree}
 use Rattle.spelling.specs.Runs.{map_of_log}
-use Rattle.spelling.specs.Spelled.{IsTree}
 use Rattle.spelling.specs.TreeWords.{Tree, Leaf, Fork, root, Shows, Has, Passes, is_leaf, level, rank, toward, said}
 use Rattle.spelling.proofs.Searches.{told, told_said, passes_root, path_child, get_left, get_leaf}
 use Rattle.spelling.proofs.TreeFacts.{TreeFacts, all_named, path_now}

@@ -1,12 +1,12 @@
 -- A node that stood in the tree, and is not final, still stands there.
-use Rattle.std.proofs.Common.{◌≡◌, ℕ, ◌<◌, ◌≤◌, ◌*◌, ◌^◌, true, false, Bool, ◌⊎◌, inl, inr, ⊎_elim, refl, sym, ◌∙◌, ap, subst}
+use Rattle.std.proofs.Common.{◌≡◌, ℕ, ◌<◌, ◌≤◌, ◌*◌, ◌^◌, true, false, Bool, ⊎_elim, refl, sym, ◌∙◌, subst}
 use Rattle.arena.specs.declared.layout.Layout.{Layout}
 use Rattle.arena.specs.declared.step.Row.{Row}
 use Rattle.arena.specs.declared.word.NodeWord.TheVariants.{Child}
 use Rattle.arena.specs.History.{History, Start, ◌⊳◌, value}
 use Rattle.arena.specs.ScxRecords.{plan_finalizes, member}
 use Rattle.arena.specs.Log.{log, is_final}
-use Rattle.histories.specs.Descriptor.{Descriptor, descriptor, count_in}
+use Rattle.histories.specs.Descriptor.{Descriptor, count_in}
 use Rattle.histories.specs.Finalizing.{IsRemoved}
 use Rattle.histories.proofs.Lemmas.{Effect, UpdateWins, by_final, descriptor_stays, effect, final_by, finalized_by_stays, freeze, freeze_keeps_field, lawful_tail, quiet, removed_stays, some_is_real, update, update_flagged, update_won}
 use Rattle.spelling.specs.OrderedMap.{MapEdit}

@@ -2,29 +2,27 @@
 use Rattle.std.proofs.Common.{◌≡◌, ◌≢◌, ℕ, true, false, ◌⊎◌, inl, inr, ⊎_elim, refl, sym, ◌∙◌, ap, arith, subst}
 use native.Mathlib.Decide.{ℕ_discrete}
 use Rattle.arena.specs.declared.limits.Mode.{Mode}
-use Rattle.arena.specs.declared.limits.Mode.TheVariants.{Tree as TreeMode}
 use Rattle.arena.specs.declared.word.Side.{Side}
-use Rattle.arena.specs.declared.word.NodeWord.TheVariants.{Head, Key, Value, Child, Info}
+use Rattle.arena.specs.declared.word.NodeWord.TheVariants.{Head, Child, Info}
 use Rattle.arena.specs.declared.word.ScxWord.TheVariants.{Plan, New}
 use Rattle.arena.specs.declared.layout.Layout.{Layout}
 use Rattle.arena.specs.declared.step.Row.{Row}
 use Rattle.arena.specs.declared.step.Kind.TheVariants.{Freeze, Update}
 use Rattle.arena.specs.Layout.{opening_nodes}
 use Rattle.arena.specs.Words.{node, scx, info, child}
-use Rattle.arena.specs.History.{History, Start, ◌⊳◌, value, HasHeld, Extends}
+use Rattle.arena.specs.History.{History, Start, ◌⊳◌, value, HasHeld}
 use Rattle.arena.specs.ScxRecords.{count, count_of, field_index, member, new, side_of, plan}
 use Rattle.arena.specs.Fills.{IsNamed, by_field, by_scx, IsNamedScx}
-use Rattle.arena.specs.Lawful.{MayBegin, HasWon, Lawful}
+use Rattle.arena.specs.Lawful.{MayBegin, HasWon}
 use Rattle.arena.specs.Log.{log, has, is_final, finalized_from}
-use Rattle.arena.proofs.Lemmas.{value_apart, held_at, held_back, held_since, held_start, opening_info, node_apart, node_word_apart, ends_self, or_split}
-use Rattle.histories.proofs.Lemmas.{Effect, Facts, FreezeWins, Kept, Logs, UpdateWins, effect, facts_before, freeze, freeze_held, freeze_keeps_field, freeze_keeps_scx, is_removed_of, log_same, log_wins, logs, named_since, node_stays, quiet, same, shaped_begin, some_is_real, update, update_flagged, update_held, update_is_first, update_keeps_other, update_keeps_scx, update_won, wins, won_more}
+use Rattle.arena.proofs.Lemmas.{value_apart, held_at, held_back, held_since, held_start, opening_info, node_apart, node_word_apart, or_split}
+use Rattle.histories.proofs.Lemmas.{Effect, Facts, FreezeWins, Kept, Logs, UpdateWins, effect, freeze, freeze_held, freeze_keeps_field, freeze_keeps_scx, is_removed_of, log_same, log_wins, logs, node_stays, quiet, same, shaped_begin, some_is_real, update, update_flagged, update_held, update_is_first, update_keeps_other, update_keeps_scx, update_won, wins, won_more}
 use Rattle.spelling.specs.OrderedMap.{MapEdit}
 use Rattle.spelling.proofs.Pending.{AllowsGiven, IsMadeBy, tree_field}
-use Rattle.spelling.proofs.Trees.{Same, frame, same_tree}
 use Rattle.spelling.specs.Spelled.{IsTree}
 use Rattle.spelling.specs.TreeShape.{MayEdit}
 use Rattle.spelling.specs.TreeWords.{Tree, Has, is_leaf}
-use Rattle.spelling.proofs.TreeFacts.{TreeFacts, all_named}
+use Rattle.spelling.proofs.TreeFacts.{TreeFacts}
 use Rattle.spelling.proofs.Edited.{result, tree_now, removed_cut, born_made, spot_in}
 use Rattle.spelling.proofs.Grown.{IsGrown, first_begins, grown_tail}
 use Rattle.spelling.proofs.Stood.{facts_then, tree_then, tree_stays, one_tree, was_more, was_split, was_now, was_named, was_back, in_updated}

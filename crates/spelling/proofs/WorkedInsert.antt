@@ -146,137 +146,93 @@ open_scx fs a = record {
   unnamed = λ p. let x : 1 ≡ 0 = unnamed_scx fs 1 a p in omega (arith, x);
 }
 
-fill_lawful : (f : Filled) (fs : List Filled) → Lawful lay (filled fs) → MayFill lay (filled fs) 0 f.0 f.1 → IsWord lay f.0 → Lawful lay (filled (f ∷ fs))
+-- nodes of which a word is filled
+abbrev HasNode : List Filled → ℕ → Type 0
+HasNode [] m = ⊥
+HasNode ((Node n part, v) ∷ fs) m = (n.0 ≡ m) ⊎ HasNode fs m
+HasNode ((Scx s part, v) ∷ fs) m = HasNode fs m
+
+taken : (fs : List Filled) (m : ℕ) → HasNode fs m → IsTakenNode (filled fs) m
+taken [] m x = absurd x
+taken ((Node n part, v) ∷ fs) m (inl e) = fill_takes_node (row Fill (Node n part) v (filled fs)) (filled fs) m part refl (ap (λ k. node k part) e)
+taken ((Node n part, v) ∷ fs) m (inr x) = taken_node_more (row Fill (Node n part) v (filled fs)) (filled fs) m (taken fs m x)
+taken ((Scx s part, v) ∷ fs) m x = taken_node_more (row Fill (Scx s part) v (filled fs)) (filled fs) m (taken fs m x)
+
+-- these are lawful fills of fresh records
+record AreLawful (fs : List Filled) : Type 0 where
+  fresh : AreFresh fs
+  lawful : Lawful lay (filled fs)
+
+none_filled : AreLawful []
 unfolding Lawful
-fill_lawful f fs l may inside = (l, record { before = refl; obeys = may; pass = lit< tt; word = inside })
+none_filled = record { fresh = tt; lawful = refl }
 
-later : (f : Filled) (fs : List Filled) (m : ℕ) → IsTakenNode (filled fs) m → IsTakenNode (filled (f ∷ fs)) m
-later f fs m t = taken_node_more (row Fill f.0 f.1 (filled fs)) (filled fs) m t
-
-taken_now : (n : ℕ) (part : NodeWord) (v : ℕ) (fs : List Filled) → IsTakenNode (filled ((node n part, v) ∷ fs)) n
-taken_now n part v fs = fill_takes_node (row Fill (node n part) v (filled fs)) (filled fs) n part refl refl
-
--- node 3
-abbrev n1 : List Filled
-n1 = (node 3 Head, 9) ∷ []
-
-abbrev n2 : List Filled
-n2 = (child 3 Left, 4) ∷ n1
-
-abbrev n3 : List Filled
-n3 = (child 3 Right, 5) ∷ n2
-
-none_before : (fs : List Filled) (m : ℕ) → 3 ≤ m → m < 3 → IsTakenNode (filled fs) m
-none_before fs m i j = absurd (omega (arith, i, j))
-
-fresh_1 : AreFresh n1
-fresh_1 = ((lit≤ tt, tt), tt)
-
-fresh_2 : AreFresh n2
-fresh_2 = ((lit≤ tt, tt), fresh_1)
-
-fresh_3 : AreFresh n3
-fresh_3 = ((lit≤ tt, tt), fresh_2)
-
-lawful_start : Lawful lay (Start TreeMode)
+fill_more : (f : Filled) (fs : List Filled) → IsFreshWord f.0 → MayFill lay (filled fs) 0 f.0 f.1 → IsWord lay f.0 → AreLawful fs → AreLawful (f ∷ fs)
 unfolding Lawful
-lawful_start = refl
+fill_more f fs fresh may inside x = record { fresh = (fresh, x.fresh); lawful = (x.lawful, record { before = refl; obeys = may; pass = lit< tt; word = inside }) }
 
-lawful_3 : Lawful lay (filled n3)
-lawful_3 =
-    fill_lawful (child 3 Right, 5) n2
-    (fill_lawful (child 3 Left, 4) n1
-    (fill_lawful (node 3 Head, 9) [] lawful_start (open_node [] 3 tt (lit≤ tt) (lit< tt) (none_before [])) (lit< tt))
-    (open_node n1 3 fresh_1 (lit≤ tt) (lit< tt) (none_before n1), λ o. absurd (alone_node 4 o)) (lit< tt))
-    (open_node n2 3 fresh_2 (lit≤ tt) (lit< tt) (none_before n2), λ o. absurd (alone_node 5 o)) (lit< tt)
+fill_node : (n : ℕ) (part : NodeWord) (v : ℕ) (fs : List Filled) → IsNodeFill part → 3 ≤ n → n < 6 → ((m : ℕ) → 3 ≤ m → m < n → HasNode fs m) → AreLawful fs → AreLawful ((node n part, v) ∷ fs)
+fill_node n part v fs fill from below before x = fill_more (node n part, v) fs (from, fill) (may part fill) below x
+  where
+    opened : IsOpenNode lay (filled fs) 0 n
+    opened = open_node fs n x.fresh from below (λ m i j. taken fs m (before m i j))
 
--- node 4
-abbrev n4 : List Filled
-n4 = (node 4 Head, 20) ∷ n3
+    may : (a : NodeWord) → IsNodeFill a → MayFill lay (filled fs) 0 (node n a) v
+    may Head i = opened
+    may Key i = opened
+    may Value i = opened
+    may (Child side) i = (opened, λ o. absurd (alone_node v o))
+    may Info i = absurd i
+    may Marked i = absurd i
 
-abbrev n5 : List Filled
-n5 = (node 4 Key, 7) ∷ n4
+-- the words of the SCX-record that are filled
+abbrev IsPlanned : ScxWord → Type 0
+IsPlanned Plan = Unit {0}
+IsPlanned New = Unit {0}
+IsPlanned Old = Unit {0}
+IsPlanned (Member j) = Unit {0}
+IsPlanned _ = ⊥
 
-abbrev n6 : List Filled
-n6 = (node 4 Value, 70) ∷ n5
-
-fresh_4 : AreFresh n4
-fresh_4 = ((lit≤ tt, tt), fresh_3)
-
-fresh_5 : AreFresh n5
-fresh_5 = ((lit≤ tt, tt), fresh_4)
-
-fresh_6 : AreFresh n6
-fresh_6 = ((lit≤ tt, tt), fresh_5)
-
-taken_3 : IsTakenNode (filled n3) 3
-taken_3 = taken_now 3 (Child Right) 5 n2
+fill_scx : (part : ScxWord) (v : ℕ) (fs : List Filled) → IsPlanned part → IsWord lay (scx 1 part) → AreLawful fs → AreLawful ((scx 1 part, v) ∷ fs)
+fill_scx part v fs planned inside x = fill_more (scx 1 part, v) fs (lit≤ tt) (may part planned) inside x
+  where
+    may : (a : ScxWord) → IsPlanned a → MayFill lay (filled fs) 0 (scx 1 a) v
+    may Plan i = open_scx fs x.fresh
+    may New i = (open_scx fs x.fresh, alone_node v)
+    may Old i = (open_scx fs x.fresh, λ o. absurd (alone_node v o))
+    may (Member j) i = (open_scx fs x.fresh, λ o. absurd (alone_node v o))
+    may _ i = absurd i
 
 is_three : (m : ℕ) → 3 ≤ m → m < 4 → 3 ≡ m
 is_three m i j = omega (arith, i, j)
 
-three_before : (fs : List Filled) → IsTakenNode (filled fs) 3 → (m : ℕ) → 3 ≤ m → m < 4 → IsTakenNode (filled fs) m
-three_before fs t m i j = subst (IsTakenNode (filled fs)) (is_three m i j) t
-
-three_4 : IsTakenNode (filled n4) 3
-three_4 = later (node 4 Head, 20) n3 3 taken_3
-
-three_5 : IsTakenNode (filled n5) 3
-three_5 = later (node 4 Key, 7) n4 3 three_4
-
-lawful_6 : Lawful lay (filled n6)
-lawful_6 =
-    fill_lawful (node 4 Value, 70) n5
-    (fill_lawful (node 4 Key, 7) n4
-    (fill_lawful (node 4 Head, 20) n3 lawful_3 (open_node n3 4 fresh_3 (lit≤ tt) (lit< tt) (three_before n3 taken_3)) (lit< tt))
-    (open_node n4 4 fresh_4 (lit≤ tt) (lit< tt) (three_before n4 three_4)) (lit< tt))
-    (open_node n5 4 fresh_5 (lit≤ tt) (lit< tt) (three_before n5 three_5)) (lit< tt)
-
--- node 5
-both_before : (m : ℕ) → 3 ≤ m → m < 5 → IsTakenNode (filled n6) m
-both_before m i j = go (ℕ_discrete 3 m)
+is_three_or_four : (m : ℕ) → 3 ≤ m → m < 5 → (3 ≡ m) ⊎ (4 ≡ m)
+is_three_or_four m i j = go (ℕ_discrete 3 m)
   where
-    go : Dec (3 ≡ m) → IsTakenNode (filled n6) m
-    go (yes e) = subst (IsTakenNode (filled n6)) e (later (node 4 Value, 70) n5 3 three_5)
-    go (no d) = subst (IsTakenNode (filled n6)) (omega (arith, i, j, d)) (taken_now 4 Value 70 n5)
+    go : Dec (3 ≡ m) → (3 ≡ m) ⊎ (4 ≡ m)
+    go (yes e) = inl e
+    go (no d) = inr (omega (arith, i, j, d))
 
-fresh_7 : AreFresh nodes
-fresh_7 = ((lit≤ tt, tt), fresh_6)
+-- node 3, node 4, node 5, and the SCX-record
+three_filled : AreLawful ((child 3 Right, 5) ∷ (child 3 Left, 4) ∷ (node 3 Head, 9) ∷ [])
+three_filled =
+    fill_node 3 (Child Right) 5 _ tt (lit≤ tt) (lit< tt) (λ m i j. absurd (omega (arith, i, j)))
+    (fill_node 3 (Child Left) 4 _ tt (lit≤ tt) (lit< tt) (λ m i j. absurd (omega (arith, i, j)))
+    (fill_node 3 Head 9 _ tt (lit≤ tt) (lit< tt) (λ m i j. absurd (omega (arith, i, j))) none_filled))
 
-lawful_7 : Lawful lay (filled nodes)
-lawful_7 = fill_lawful (node 5 Head, 21) n6 lawful_6 (open_node n6 5 fresh_6 (lit≤ tt) (lit< tt) both_before) (lit< tt)
+nodes_filled : AreLawful nodes
+nodes_filled =
+    fill_node 5 Head 21 _ tt (lit≤ tt) (lit< tt) (λ m i j. ⊎_elim (λ e. inr (inr (inr (inl e)))) inl (is_three_or_four m i j))
+    (fill_node 4 Value 70 _ tt (lit≤ tt) (lit< tt) (λ m i j. inr (inr (inl (is_three m i j))))
+    (fill_node 4 Key 7 _ tt (lit≤ tt) (lit< tt) (λ m i j. inr (inl (is_three m i j)))
+    (fill_node 4 Head 20 _ tt (lit≤ tt) (lit< tt) (λ m i j. inl (is_three m i j)) three_filled)))
 
--- SCX-record 1
-abbrev s1 : List Filled
-s1 = (scx 1 Plan, 18) ∷ nodes
-
-abbrev s2 : List Filled
-s2 = (scx 1 New, 3) ∷ s1
-
-abbrev s3 : List Filled
-s3 = (scx 1 Old, 1) ∷ s2
-
-fresh_8 : AreFresh s1
-fresh_8 = (lit≤ tt, fresh_7)
-
-fresh_9 : AreFresh s2
-fresh_9 = (lit≤ tt, fresh_8)
-
-fresh_10 : AreFresh s3
-fresh_10 = (lit≤ tt, fresh_9)
-
-fresh_11 : AreFresh fills
-fresh_11 = (lit≤ tt, fresh_10)
-
-lawful_11 : Lawful lay (filled fills)
-lawful_11 =
-    fill_lawful (scx 1 (Member 1), 1) s3
-    (fill_lawful (scx 1 Old, 1) s2
-    (fill_lawful (scx 1 New, 3) s1
-    (fill_lawful (scx 1 Plan, 18) nodes lawful_7 (open_scx nodes fresh_7) (lit< tt, tt))
-    (open_scx s1 fresh_8, alone_node 3) (lit< tt, tt))
-    (open_scx s2 fresh_9, λ o. absurd (alone_node 1 o)) (lit< tt, tt))
-    (open_scx s3 fresh_10, λ o. absurd (alone_node 1 o)) (lit< tt, lit< tt)
+all_filled : AreLawful fills
+all_filled =
+    fill_scx (Member 1) 1 _ tt (lit< tt, lit< tt)
+    (fill_scx Old 1 _ tt (lit< tt, tt)
+    (fill_scx New 3 _ tt (lit< tt, tt)
+    (fill_scx Plan 18 _ tt (lit< tt, tt) nodes_filled)))
 
 shaped_fills : (fs : List Filled) → Shaped TreeAllows lay (filled fs)
 unfolding Shaped
@@ -290,7 +246,7 @@ start_in [] = refl
 start_in (f ∷ fs) = inr (start_in fs)
 
 fresh_leaf : (n : ℕ) → 3 ≤ n → ¬ IsNamed lay (filled fills) n
-fresh_leaf n i p = let x : n < 3 = named_low fills n fresh_11 p in omega (arith, i, x)
+fresh_leaf n i p = let x : n < 3 = named_low fills n all_filled.fresh p in omega (arith, i, x)
 
 may_edit : MayEdit lay (filled fills) 1 (Insert 7 70)
 unfolding value
@@ -438,7 +394,7 @@ run_lawful = (
     (
       (
         (
-          lawful_11,
+          all_filled.lawful,
           record { before = refl; obeys = (1, 0, record { within = lit< tt; word = refl; earlier = λ i l. absurd (omega (arith, l)); exchange = record { won = λ e. refl; lost = λ d. absurd (d refl) }; may_win = λ e. (refl, λ z. may_begin) }); pass = lit< tt; word = lit< tt },
         ),
         record { before = refl; obeys = (1, 1, record { within = lit< tt; word = refl; earlier = first; exchange = record { won = λ e. refl; lost = λ d. absurd (d refl) }; may_win = λ e. (refl, λ z. absurd (omega (arith, z))) }); pass = lit< tt; word = lit< tt },

@@ -141,32 +141,39 @@ fn trees_spell_their_pairs(rt: HostRuntime) -> Result<(), Fail> {
     )
 }
 
+/// Three pairs under three forks: 1 to 3, at ten times as much. Of each leaf its number and level.
+fn three_pairs(forks: [Node; 3], leaves: [(u64, u32); 4]) -> [Node; 8] {
+    let [one, two, three, end] = leaves;
+    [
+        root(3),
+        forks[0],
+        forks[1],
+        forks[2],
+        leaf(one.0, one.1, 0, 1, 10),
+        leaf(two.0, two.1, 0, 2, 20),
+        leaf(three.0, three.1, 0, 3, 30),
+        leaf(end.0, end.1, 1, 0, 0),
+    ]
+}
+
 #[test]
 fn trees_that_lean_spell_the_same(rt: HostRuntime) -> Result<(), Fail> {
     let alloc = rt.alloc();
     let pairs = [(1, 10), (2, 20), (3, 30)];
     let to_the_left = [
-        root(3),
         fork(3, 1, 1, 0, (4, 5)),
-        leaf(5, 2, 1, 0, 0),
         fork(4, 2, 0, 3, (6, 7)),
-        leaf(7, 3, 0, 3, 30),
         fork(6, 3, 0, 2, (8, 9)),
-        leaf(8, 4, 0, 1, 10),
-        leaf(9, 4, 0, 2, 20),
     ];
     let to_the_right = [
-        root(3),
         fork(3, 1, 0, 2, (4, 5)),
-        leaf(4, 2, 0, 1, 10),
         fork(5, 2, 0, 3, (6, 7)),
-        leaf(6, 3, 0, 2, 20),
         fork(7, 3, 1, 0, (8, 9)),
-        leaf(8, 4, 0, 3, 30),
-        leaf(9, 4, 1, 0, 0),
     ];
-    spells(&rt, alloc, &to_the_left, &pairs)?;
-    spells(&rt, alloc, &to_the_right, &pairs)
+    let left = three_pairs(to_the_left, [(8, 4), (9, 4), (7, 3), (5, 2)]);
+    let right = three_pairs(to_the_right, [(4, 2), (6, 3), (8, 4), (9, 4)]);
+    spells(&rt, alloc, &left, &pairs)?;
+    spells(&rt, alloc, &right, &pairs)
 }
 
 #[test]

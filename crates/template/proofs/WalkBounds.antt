@@ -1,6 +1,7 @@
 -- What else is known of walks: they ask for loads alone; how they begin, and what they have found.
-use Rattle.std.proofs.Common.{◌≡◌, ◌≢◌, ℕ, ◌^◌, ◌<◌, true, false, ◌⊎◌, inl, inr, Option, Some, None, refl, sym, ◌∙◌, ap, subst}
+use Rattle.std.proofs.Common.{◌≡◌, ◌≢◌, ℕ, ◌+◌, ◌*◌, ◌^◌, ◌<◌, ◌≤◌, length, arith, true, false, ◌⊎◌, inl, inr, Option, Some, None, refl, sym, ◌∙◌, ap, subst}
 use native.Mathlib.Decide.{ℕ_discrete}
+use Rattle.std.proofs.lemmas.Nat.{mul-le}
 use Rattle.arena.specs.declared.step.Step.{Step}
 use Rattle.arena.specs.declared.step.Access.TheVariants.{Load}
 use Rattle.arena.specs.declared.step.Kind.{Kind}
@@ -12,7 +13,8 @@ use Rattle.arena.specs.History.{History, value, Extends}
 use Rattle.arena.specs.Fills.{IsNamed}
 use Rattle.arena.specs.Blame.{WasInTheWay}
 use Rattle.arena.specs.Machines.{Call}
-use Rattle.arena.proofs.Lemmas.{ends_trans}
+use Rattle.arena.specs.TakenNodes.{taken_nodes}
+use Rattle.arena.proofs.Lemmas.{ends_trans, taken_few}
 use Rattle.spelling.specs.Paths.{IsAnswerAt}
 use Rattle.spelling.specs.Runs.{IsTreeRun}
 use Rattle.spelling.specs.TreeWords.{class, is_leaf, IsBlank}
@@ -91,6 +93,14 @@ module _ (m : WalkRun) (c : Call) (h : History) (f : Found) (run : IsTreeRun c.l
   -- a leaf above all keys has the value 0
   pub found_no_value : f.head.class ≢ 0 → value h (node f.trail.node.0 ValueWord) ≡ 0
   found_no_value d = blank.value (high d) a.leaf
+
+  -- the level below it fits the word of a head, too: no table has as many nodes as there are levels
+  pub found_level : f.head.level + 1 < 2 ^ 61
+  found_level =
+      let deep : f.head.level < 2 + length (taken_nodes h) = a.deep in
+      let few : length (taken_nodes h) ≤ c.layout.passes * c.layout.nodes = taken_few c.layout h run.1.lawful in
+      let most : c.layout.passes * c.layout.nodes ≤ 32 * 32768 = mul-le c.layout.passes c.layout.nodes 32 32768 c.layout.passes_fit c.layout.nodes_fit in
+      omega (arith, deep, few, most)
 
 -- A field by which the call went down, and that holds another node now: the SCX-record that its
 -- node's info names was in the way of the call.
