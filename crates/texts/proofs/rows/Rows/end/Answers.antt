@@ -27,10 +27,10 @@ late g c bytes before st =
 
 pub returns-in_err-advance-clause-fault : goal.returns-in_err-advance-clause-fault
 returns-in_err-advance-clause-fault g c bytes before st is_end small =
-    let at = (goal.at.returns-in_err-advance-clause-fault g c).After-advance in
+    let here = (goal.at.returns-in_err-advance-clause-fault g c).After-advance in
     let width = g.met.F.Format.width c.args.format.now in
     passed_on c.advance.result c.from_residual.result c.in_err-advance.field-0.0 c.in_err-advance.was (search rules)
-    (λ row cause why. inr (why.0 ∙ next g at small, right g at bytes before st is_end, why.2, why.3, inl (λ r. why.4 (r.0 ∙ width.0 ∙ sym c.WIDTH.ensures, r.1), why.1 ∙ sym (g.met.F.Format.causes c.args.format.now).0)))
+    (λ row cause why. inr (why.0 ∙ next g here small, right g here bytes before st is_end, why.2, why.3, inl (λ r. why.4 (r.0 ∙ width.0 ∙ sym c.WIDTH.ensures, r.1), why.1 ∙ sym (g.met.F.Format.causes c.args.format.now).0)))
     (c.advance.ensures.fault bytes (before ++ last_row c.args.self.now ∷ []) st.read)
 
 pub returns-then-not-branch-clause-ok : goal.returns-then-not-branch-clause-ok
@@ -39,20 +39,20 @@ returns-then-not-branch-clause-ok g c bytes before st is_end =
 
 pub returns-in_err-entry-clause-fault : goal.returns-in_err-entry-clause-fault
 returns-in_err-entry-clause-fault g c bytes before st is_end small =
-    let at = goal.at.returns-in_err-entry-clause-fault g c in
-    let found = late g at.After-field bytes before st in
+    let here = goal.at.returns-in_err-entry-clause-fault g c in
+    let found = late g here.After-field bytes before st in
     let not_end : ¬ (IsEndRow (g.F.Format.grammar c.args.format.now) (last_row c.advance.new.self)) = search rules in
     passed_on c.entry.result c.from_residual-in_err-entry.result c.in_err-entry.field-0.0 c.in_err-entry.was (search rules)
-    (λ row cause why. inr (why.0 ∙ next g at.After-advance small, right g at.After-advance bytes before st is_end, last_row c.advance.new.self, begins _ bytes _ _ found.read, inr (inl (found.row, not_end, why.1))))
+    (λ row cause why. inr (why.0 ∙ next g here.After-advance small, right g here.After-advance bytes before st is_end, last_row c.advance.new.self, begins _ bytes _ _ found.read, inr (inl (found.row, not_end, why.1))))
     (c.entry.ensures.fault (found.row.0 ∙ (g.met.F.Format.width c.args.format.now).0))
 
 pub returns-clause-fault : goal.returns-clause-fault
 returns-clause-fault g c bytes before st is_end small =
-    let at = goal.at.returns-clause-fault g c in
-    let found = late g at.After-field bytes before st in
+    let here = goal.at.returns-clause-fault g c in
+    let found = late g here.After-field bytes before st in
     rw c.fault-2.ensures (inr (
-      next g at.After-advance small,
-      right g at.After-advance bytes before st is_end,
+      next g here.After-advance small,
+      right g here.After-advance bytes before st is_end,
       last_row c.advance.new.self,
       begins _ bytes _ _ found.read,
       inr (inr (

@@ -38,30 +38,30 @@ pub returns-in_err-end-clause-fault : goal.returns-in_err-end-clause-fault
 returns-in_err-end-clause-fault g c bytes head h start small =
     let grammar = g.F.Format.grammar c.args.format.now in
     let l = c.loop-entries in
-    let at = goal.at.returns-in_err-end-clause-fault g c in
-    let before = so_far g at.After-advance head start small in
-    let found = at_row g at.After-field bytes head h in
+    let here = goal.at.returns-in_err-end-clause-fault g c in
+    let before = so_far g here.After-advance head start small in
+    let found = at_row g here.After-field bytes head h in
     let is_end : IsEndRow grammar (last_row c.advance.new.self) = search rules in
     passed_on c.end.result c.from_residual-in_err-end.result c.in_err-end.field-0.0 c.in_err-end.was (search rules)
-    (λ r cause why. fault_at_end grammar bytes head l.entries.items (last_row c.advance.new.self) c.advance.new.self.number r cause before.0 found.row is_end (begins _ bytes _ _ found.read) before.1 (subst (λ (n : ℕ). IsEndFault grammar bytes (rows_of grammar head l.entries.items) (last_row c.advance.new.self) n c.advance.new.self.number r cause) (counted g at.After-len) why))
+    (λ r cause why. fault_at_end grammar bytes head l.entries.items (last_row c.advance.new.self) c.advance.new.self.number r cause before.0 found.row is_end (begins _ bytes _ _ found.read) before.1 (subst (λ (n : ℕ). IsEndFault grammar bytes (rows_of grammar head l.entries.items) (last_row c.advance.new.self) n c.advance.new.self.number r cause) (counted g here.After-len) why))
     (c.end.ensures.fault bytes (rows_of grammar head l.entries.items) found is_end (omega (arith, before.1, start, small, l.invariant.0, l.entries.ok.0, rows_before grammar head l.entries.items)))
 
 pub returns-then-eq-clause-entries : goal.returns-then-eq-clause-entries
 returns-then-eq-clause-entries g c bytes head h =
     let grammar = g.F.Format.grammar c.args.format.now in
     let l = c.loop-entries in
-    let at = goal.at.returns-then-eq-clause-entries g c in
+    let here = goal.at.returns-then-eq-clause-entries g c in
     let is_end : IsEndRow grammar (last_row c.advance.new.self) = search rules in
-    let all = c.in_ok-end.ensures.ok bytes (rows_of grammar head l.entries.items) (at_row g at.After-field bytes head h) is_end in
-    let last : last_row c.advance.new.self ≡ end_row grammar.width (length l.entries.items) = all.0 ∙ ap (λ (n : ℕ). end_row grammar.width n) (counted g at.After-len) in
+    let all = c.in_ok-end.ensures.ok bytes (rows_of grammar head l.entries.items) (at_row g here.After-field bytes head h) is_end in
+    let last : last_row c.advance.new.self ≡ end_row grammar.width (length l.entries.items) = all.0 ∙ ap (λ (n : ℕ). end_row grammar.width n) (counted g here.After-len) in
     ((l.invariant.1, omega (arith, l.invariant.0, l.entries.ok.0)), subst (λ (r : List (List ℕ)). AreRows bytes (rows_of grammar head l.entries.items ++ r ∷ [])) last all.1)
 
 pub returns-in_err-entry-clause-fault : goal.returns-in_err-entry-clause-fault
 returns-in_err-entry-clause-fault g c bytes head h start small =
     let grammar = g.F.Format.grammar c.args.format.now in
-    let at = goal.at.returns-in_err-entry-clause-fault g c in
-    let before = so_far g at.After-advance head start small in
-    let found = at_row g at.After-field bytes head h in
+    let here = goal.at.returns-in_err-entry-clause-fault g c in
+    let before = so_far g here.After-advance head start small in
+    let found = at_row g here.After-field bytes head h in
     let not_end : ¬ (IsEndRow grammar (last_row c.advance.new.self)) = search rules in
     passed_on c.entry.result c.from_residual-in_err-entry.result c.in_err-entry.field-0.0 c.in_err-entry.was (search rules)
     (λ r cause why. (c.loop-entries.entries.items, before.0, inr (inl (last_row c.advance.new.self, begins _ bytes _ _ found.read, why.0 ∙ before.1, inr (inr (inl (found.row, not_end, why.1)))))))
@@ -71,9 +71,9 @@ pub returns-then-len-eq-MOST_ENTRIES-clause-fault : goal.returns-then-len-eq-MOS
 returns-then-len-eq-MOST_ENTRIES-clause-fault g c bytes head h start small =
     let grammar = g.F.Format.grammar c.args.format.now in
     let l = c.loop-entries in
-    let at = goal.at.returns-then-len-eq-MOST_ENTRIES-clause-fault g c in
-    let before = so_far g at.After-advance head start small in
-    let found = at_row g at.After-field bytes head h in
+    let here = goal.at.returns-then-len-eq-MOST_ENTRIES-clause-fault g c in
+    let before = so_far g here.After-advance head start small in
+    let found = at_row g here.After-field bytes head h in
     let not_end : ¬ (IsEndRow grammar (last_row c.advance.new.self)) = search rules in
     let full : length l.entries.items ≡ 65536 = omega (arith, c.len-in-loop-entries.ensures, c.if-len-eq-MOST_ENTRIES.true, l.entries.ok.0) in
     rw c.fault.ensures (l.entries.items, before.0, inr (inl (last_row c.advance.new.self, begins _ bytes _ _ found.read, before.1, inr (inr (inr (found.row, not_end, (c.in_ok-entry.entry, c.in_ok-entry.ensures.accepted, c.in_ok-entry.ensures.row (found.row.0 ∙ (g.met.F.Format.width c.args.format.now).0)), full, c.LONG.ensures ∙ sym (g.met.F.Format.causes c.args.format.now).2))))))
