@@ -8,7 +8,7 @@ use Rattle.arena.specs.Words.{node, child, marked}
 use Rattle.arena.specs.History.{History, value}
 use Rattle.arena.specs.Log.{log, is_final}
 use Rattle.arena.specs.TakenNodes.{taken_nodes}
-use Rattle.spelling.specs.TreeWords.{Tree, Has, is_leaf, level, IsBlank}
+use Rattle.spelling.specs.TreeWords.{Tree, Has, is_leaf, level, IsBlankAboveKeys}
 use Rattle.spelling.specs.Spelled.{IsTree}
 use Rattle.spelling.specs.Paths.{IsOnPath, Passed, WasInTree}
 use Rattle.spelling.specs.Runs.{IsTreeRun}
@@ -39,11 +39,11 @@ pub levels_rise : (lay : Layout) (h : History) (n : ℕ) (side : Side) → IsTre
 levels_rise lay h n side g x fork = grown_rises (edits_of lay h g).edits lay h n side (grown lay h g) x fork
 
 -- what was ever in the tree above all keys is blank
-pub stood_blank : (lay : Layout) (h : History) (n : ℕ) → IsTreeRun lay h → WasInTree h n → IsBlank (value h) n
+pub stood_blank : (lay : Layout) (h : History) (n : ℕ) → IsTreeRun lay h → WasInTree h n → IsBlankAboveKeys (value h) n
 stood_blank lay h n g x = grown_blank (edits_of lay h g).edits lay h (grown lay h g) n x
 
 -- so is a node that was passed
-pub passed_blank : (lay : Layout) (h start : History) (k n : ℕ) → IsTreeRun lay h → Passed h start k n → IsBlank (value h) n
+pub passed_blank : (lay : Layout) (h start : History) (k n : ℕ) → IsTreeRun lay h → Passed h start k n → IsBlankAboveKeys (value h) n
 passed_blank lay h start k n g p = stood_blank lay h n g (was_passed h start k n p)
 
 -- the root's head is as at the start: a fork of class 2, whose level is 0

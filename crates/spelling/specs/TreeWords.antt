@@ -27,7 +27,7 @@ abbrev pub rank : (Word → ℕ) → ℕ → ℕ
 rank f n = class f n * 2 ^ 64 + f (node n Key)
 
 -- a node that is above all keys is blank: its key is 0, and if it is a leaf its value too
-pub record IsBlank (f : Word → ℕ) (n : ℕ) : Type 0 where
+pub record IsBlankAboveKeys (f : Word → ℕ) (n : ℕ) : Type 0 where
   pub key : class f n ≢ 0 → f (node n Key) ≡ 0
   pub value : class f n ≢ 0 → is_leaf f n ≡ true → f (node n Value) ≡ 0
 

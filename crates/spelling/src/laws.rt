@@ -9,7 +9,7 @@ ghost use Rattle.arena.specs.Log.{log, is_final};
 ghost use Rattle.arena.specs.TakenNodes.{taken_nodes};
 ghost use Rattle.spelling.specs.declared.pair.Pair.{Pair};
 ghost use Rattle.spelling.specs.OrderedMap.{MapEdit, IsRising, get, insert, delete, edited, successor, between};
-ghost use Rattle.spelling.specs.TreeWords.{Tree, Has, is_leaf, level, said, IsBlank};
+ghost use Rattle.spelling.specs.TreeWords.{Tree, Has, is_leaf, level, said, IsBlankAboveKeys};
 ghost use Rattle.spelling.specs.Spelled.{IsTree, Spells};
 ghost use Rattle.spelling.specs.Paths.{Passed, WasInTree, IsAnswerAt};
 ghost use Rattle.spelling.specs.Runs.{IsTreeRun, Makes, IsEditAt};
@@ -33,7 +33,7 @@ pub fn laws_hold()
     ensures depth { (lay : Layout) (h start : History) (k n : ℕ) → IsTreeRun lay h → Passed h start k n → level (value h) n < 2 + length (taken_nodes h) }
     ensures not_final { (lay : Layout) (h : History) (t : Tree) (n : ℕ) → IsTreeRun lay h → IsTree (value h) t → Has t n → is_final (log lay h) n ≡ false }
     ensures remains { (lay : Layout) (h : History) (t : Tree) (n : ℕ) → IsTreeRun lay h → WasInTree h n → is_final (log lay h) n ≡ false → IsTree (value h) t → Has t n }
-    ensures blank { (lay : Layout) (h : History) (n : ℕ) → IsTreeRun lay h → WasInTree h n → IsBlank (value h) n }
+    ensures blank { (lay : Layout) (h : History) (n : ℕ) → IsTreeRun lay h → WasInTree h n → IsBlankAboveKeys (value h) n }
 {}
 
 /// What the calls of a map do, told by its values: an edit changes the value of its key alone and

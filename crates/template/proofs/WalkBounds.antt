@@ -17,7 +17,7 @@ use Rattle.arena.specs.TakenNodes.{taken_nodes}
 use Rattle.arena.proofs.Lemmas.{ends_trans, taken_few}
 use Rattle.spelling.specs.Paths.{IsAnswerAt}
 use Rattle.spelling.specs.Runs.{IsTreeRun}
-use Rattle.spelling.specs.TreeWords.{class, is_leaf, IsBlank}
+use Rattle.spelling.specs.TreeWords.{class, is_leaf, IsBlankAboveKeys}
 use Rattle.spelling.proofs.Lemmas.{walk_answers, walk_named, run_since, root_head, passed_blank, blame_field}
 use Rattle.template.specs.declared.walk.Found.{Found}
 use Rattle.template.specs.declared.walk.WalkRun.{WalkRun}
@@ -76,7 +76,7 @@ module _ (m : WalkRun) (c : Call) (h : History) (f : Found) (run : IsTreeRun c.l
       let x : true ≡ false = sym leaf ∙ fork in
       cc
 
-  blank : IsBlank (value h) f.trail.node.0
+  blank : IsBlankAboveKeys (value h) f.trail.node.0
   blank = passed_blank c.layout h a.trail.node.first m.key f.trail.node.0 run a.trail.node.passed
 
   high : f.head.class ≢ 0 → class (value h) f.trail.node.0 ≢ 0
