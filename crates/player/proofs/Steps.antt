@@ -98,6 +98,10 @@ module _ (p : Player) (i number : ℕ) (step : Ask) (a : IsAsked p i number step
   lawful : IsLawful lay (history lay.mode lines) made
   lawful = lawful_row lay (history lay.mode lines) made sound.lawful
 
+  -- the client has its place among the clients
+  pub asked_there : slice_get p.clients.items i ≡ Some a.client
+  asked_there = subst (λ (k : ℕ). slice_get p.clients.items k ≡ Some a.client) a.is a.turn.own
+
   -- it is on a word of the table
   pub asked_word : IsWord p.words.layout step.word
   asked_word = rw (a.turn.so_far.layout, sym a.asks) lawful.word

@@ -1,4 +1,3 @@
-use Rattle.std.proofs.Common.{sym}
 use Rattle.player.proofs.Begins.{next_is, mode_there, stood_refused, stood_begun, get_there}
 use Rattle.player.proofs.client.Client.begin_next.Goals as goal
 

@@ -10,8 +10,28 @@ use Rattle.arena.specs.declared.number.PassNo.{PassNo}
 use Rattle.player.proofs.Middles.{get_own, wins_step, wins_reply}
 use Rattle.std.proofs.lemmas.Option.{get_or_from_slice_get}
 use Rattle.player.specs.declared.client.Client.{Client}
-use Rattle.player.proofs.Steps.{asked_word, asked_row, asked_changed, asked_so_far, asked_hears, heard_on, heard_end, told_goes, told_ends, between_at, wins_at, remembered, turns_logged, logged, few_calls}
+use Rattle.player.proofs.Steps.{IsHeard, asked_word, asked_there, asked_row, asked_changed, asked_so_far, asked_hears, heard_on, heard_end, told_goes, told_ends, between_at, wins_at, remembered, turns_logged, logged, few_calls}
+use Rattle.player.proofs.player.Player.make.Goals.{After-tell}
 use Rattle.player.proofs.player.Player.make.Goals as goal
+
+-- the client that makes the step, still there as it is told what the step has found
+there : (c : After-tell) → slice_get c.log.new.self.clients.items c.args.client.0 ≡ Some c.requires.asked.client
+there c = ap (λ (l : List Client). slice_get l c.args.client.0) c.log.ensures.same.clients ∙ asked_there c.args.self.now c.args.client.0 c.args.number c.args.step c.requires.asked
+
+-- it is the one that is told
+seen : (c : After-tell) → c.index_mut.result.now ≡ c.requires.asked.client
+seen c = c.index_mut.ensures.value ∙ get_or_from_slice_get c.log.new.self.clients.items c.args.client.0 c.requires.asked.client c.index_mut.result.now (there c)
+
+-- it hears what the step has found, once row and entry are written down
+heard : (c : After-tell) → IsHeard c.args.self.now.script.layout c.args.self.now.script.calls.items c.apply-before.new.self c.args.self.now.clients.items (newest c.log.new.self.lines) c.requires.asked.client c.requires.asked.running c.apply-before.result c.args.number
+heard c =
+    let p = c.args.self.now in
+    let a = c.requires.asked in
+    let i = c.args.client.0 in
+    let own = c.index.ensures ∙ get_or_from_slice_get p.clients.items i a.client c.index.result.now (asked_there p i c.args.number c.args.step a) in
+    let row = asked_row p i c.args.number c.args.step a c.args.client c.number.result c.apply-before.result c.get.result refl (c.number.ensures ∙ ap (λ (k : Client). k.number) own) c.apply-before.ensures.found (c.get.ensures ∙ c.apply-before.ensures.after.changed) in
+    let changed = asked_changed p i c.args.number c.args.step a c.apply-before.new.self c.apply-before.result c.apply-before.ensures.found c.apply-before.ensures.after in
+    asked_hears p i c.args.number c.args.step a _ c.apply-before.new.self _ (newest c.log.new.self.lines) c.apply-before.result row c.apply-before.ensures.found changed c.push_row.ensures.line c.log.ensures.line
 
 pub apply-before-requires : goal.apply-before-requires
 apply-before-requires c = asked_word c.args.self.now c.args.client.0 c.args.number c.args.step c.requires.asked
@@ -23,8 +43,7 @@ pub log-requires-clause-made : goal.log-requires-clause-made
 log-requires-clause-made c =
     let p = c.args.self.now in
     let a = c.requires.asked in
-    let there : slice_get p.clients.items c.args.client.0 ≡ Some a.client = subst (λ (k : ℕ). slice_get p.clients.items k ≡ Some a.client) a.is a.turn.own in
-    let own = c.index.ensures ∙ get_or_from_slice_get p.clients.items c.args.client.0 a.client c.index.result.now there in
+    let own = c.index.ensures ∙ get_or_from_slice_get p.clients.items c.args.client.0 a.client c.index.result.now (asked_there p c.args.client.0 c.args.number c.args.step a) in
     let row = asked_row p c.args.client.0 c.args.number c.args.step a c.args.client c.number.result c.apply-before.result c.get.result refl (c.number.ensures ∙ ap (λ (k : Client). k.number) own) c.apply-before.ensures.found (c.get.ensures ∙ c.apply-before.ensures.after.changed) in
     let changed = asked_changed p c.args.client.0 c.args.number c.args.step a c.apply-before.new.self c.apply-before.result c.apply-before.ensures.found c.apply-before.ensures.after in
     record {
@@ -35,23 +54,19 @@ log-requires-clause-made c =
 
 pub returns-in-Some : goal.returns-in-Some
 returns-in-Some c =
+    let here = (goal.at.returns-in-Some c).After-tell in
+    let hears = heard here in
     let p = c.args.self.now in
     let a = c.requires.asked in
     let i = c.args.client.0 in
-    let there : slice_get p.clients.items i ≡ Some a.client = subst (λ (k : ℕ). slice_get p.clients.items k ≡ Some a.client) a.is a.turn.own in
-    let own = c.index.ensures ∙ get_or_from_slice_get p.clients.items i a.client c.index.result.now there in
-    let row = asked_row p i c.args.number c.args.step a c.args.client c.number.result c.apply-before.result c.get.result refl (c.number.ensures ∙ ap (λ (k : Client). k.number) own) c.apply-before.ensures.found (c.get.ensures ∙ c.apply-before.ensures.after.changed) in
-    let changed = asked_changed p i c.args.number c.args.step a c.apply-before.new.self c.apply-before.result c.apply-before.ensures.found c.apply-before.ensures.after in
-    let heard = asked_hears p i c.args.number c.args.step a _ c.apply-before.new.self _ (newest c.log.new.self.lines) c.apply-before.result row c.apply-before.ensures.found changed c.push_row.ensures.line c.log.ensures.line in
     let v = client_view p.script.layout p.script.calls.items (newest c.log.new.self.lines) a.client.pass.0 in
-    let seen = c.index_mut.ensures.value ∙ get_or_from_slice_get c.log.new.self.clients.items i a.client c.index_mut.result.now (ap (λ (l : List Client). slice_get l i) c.log.ensures.same.clients ∙ there) in
     let new = c.tell.new.self in
     let answer = c.in-Some.answer in
-    let ends = told_ends v c.index_mut.result.now a.client new a.running c.apply-before.result answer seen heard.turn.so_far.sound heard.runs heard.told c.in-Some.ensures in
-    let r = c.reply.ensures.replied new (get_own c.log.new.self.clients.items i a.client new (ap (λ (l : List Client). slice_get l i) c.log.ensures.same.clients ∙ there)) (ap (λ (k : PassNo). k.0) ends.same.pass ∙ a.is) in
+    let ends = told_ends v c.index_mut.result.now a.client new a.running c.apply-before.result answer (seen here) hears.turn.so_far.sound hears.runs hears.told c.in-Some.ensures in
+    let r = c.reply.ensures.replied new (get_own c.log.new.self.clients.items i a.client new (there here)) (ap (λ (k : PassNo). k.0) ends.same.pass ∙ a.is) in
     let end : IsEnd p.script.calls.items new r.client c.args.number answer r.won r.reply = subst (λ (k : List Call). IsEnd k new r.client c.args.number answer r.won r.reply) c.log.ensures.same.script.calls r.end in
     let wins = wins_step p.script.layout (newest p.lines) _ (newest c.log.new.self.lines) c.args.number p.script.layout.passes _ p.wins.items c.log.new.self.wins.items (omega (arith, p.all_wins, p.wins.ok.0)) c.push_row.ensures.line c.log.ensures.line c.log.ensures.wins a.wins in
-    let between = heard_end p.script.layout p.script.calls.items c.apply-before.new.self p.clients.items (newest c.log.new.self.lines) a.client new r.client a.running c.apply-before.result c.args.number answer r.won r.reply (few_calls p) heard ends (remembered p.script.layout (newest c.log.new.self.lines) c.log.new.self.wins.items new.pass.0 a.client.pass.0 r.won wins r.wins (ap (λ (k : PassNo). k.0) ends.same.pass)) end in
+    let between = heard_end p.script.layout p.script.calls.items c.apply-before.new.self p.clients.items (newest c.log.new.self.lines) a.client new r.client a.running c.apply-before.result c.args.number answer r.won r.reply (few_calls p) hears ends (remembered p.script.layout (newest c.log.new.self.lines) c.log.new.self.wins.items new.pass.0 a.client.pass.0 r.won wins r.wins (ap (λ (k : PassNo). k.0) ends.same.pass)) end in
     record {
       played = record {
         between = between_at _ _ _ _ _ _ _ _ _ _ (c.reply.ensures.same.script.layout ∙ c.log.ensures.same.script.layout) (c.reply.ensures.same.script.calls ∙ c.log.ensures.same.script.calls) (c.reply.ensures.same.words ∙ c.log.ensures.same.words)
@@ -66,18 +81,14 @@ returns-in-Some c =
 
 pub returns-in_default : goal.returns-in_default
 returns-in_default c =
+    let here = (goal.at.returns-in_default c).After-tell in
+    let hears = heard here in
     let p = c.args.self.now in
     let a = c.requires.asked in
     let i = c.args.client.0 in
-    let there : slice_get p.clients.items i ≡ Some a.client = subst (λ (k : ℕ). slice_get p.clients.items k ≡ Some a.client) a.is a.turn.own in
-    let own = c.index.ensures ∙ get_or_from_slice_get p.clients.items i a.client c.index.result.now there in
-    let row = asked_row p i c.args.number c.args.step a c.args.client c.number.result c.apply-before.result c.get.result refl (c.number.ensures ∙ ap (λ (k : Client). k.number) own) c.apply-before.ensures.found (c.get.ensures ∙ c.apply-before.ensures.after.changed) in
-    let changed = asked_changed p i c.args.number c.args.step a c.apply-before.new.self c.apply-before.result c.apply-before.ensures.found c.apply-before.ensures.after in
-    let heard = asked_hears p i c.args.number c.args.step a _ c.apply-before.new.self _ (newest c.log.new.self.lines) c.apply-before.result row c.apply-before.ensures.found changed c.push_row.ensures.line c.log.ensures.line in
     let v = client_view p.script.layout p.script.calls.items (newest c.log.new.self.lines) a.client.pass.0 in
-    let seen = c.index_mut.ensures.value ∙ get_or_from_slice_get c.log.new.self.clients.items i a.client c.index_mut.result.now (ap (λ (l : List Client). slice_get l i) c.log.ensures.same.clients ∙ there) in
-    let goes = told_goes v c.index_mut.result.now a.client c.tell.new.self a.running c.apply-before.result seen heard.turn.so_far.sound heard.runs heard.told c.in_default.ensures in
-    let between = heard_on p.script.layout p.script.calls.items c.apply-before.new.self p.clients.items (newest c.log.new.self.lines) a.client c.tell.new.self a.running c.apply-before.result c.args.number heard goes in
+    let goes = told_goes v c.index_mut.result.now a.client c.tell.new.self a.running c.apply-before.result (seen here) hears.turn.so_far.sound hears.runs hears.told c.in_default.ensures in
+    let between = heard_on p.script.layout p.script.calls.items c.apply-before.new.self p.clients.items (newest c.log.new.self.lines) a.client c.tell.new.self a.running c.apply-before.result c.args.number hears goes in
     record {
       played = record {
         between = between_at _ _ _ _ _ _ _ _ _ _ c.log.ensures.same.script.layout c.log.ensures.same.script.calls c.log.ensures.same.words (ap (λ (l : List Client). set l i c.tell.new.self) c.log.ensures.same.clients ∙ ap (λ (k : ℕ). set p.clients.items k c.tell.new.self) (sym a.is)) refl between;

@@ -1,4 +1,4 @@
-use Rattle.std.proofs.Common.{[], ◌≡◌, suc, List, ◌∷◌, set, slice_get, reverse, refl, ◌∙◌, ap, subst}
+use Rattle.std.proofs.Common.{[], ◌≡◌, suc, List, ◌∷◌, Some, set, slice_get, reverse, refl, ◌∙◌, ap, subst}
 use Rattle.arena.specs.declared.number.PassNo.{PassNo}
 use Rattle.script.specs.declared.command.Call.{Call}
 use Rattle.script.proofs.Lemmas.{calls_are_of_mode}
@@ -9,40 +9,46 @@ use Rattle.record.specs.declared.record.Row.TheVariants.{Idle}
 use Rattle.player.specs.declared.client.Client.{Client}
 use Rattle.player.specs.Lines.{newest}
 use Rattle.record.specs.Turns.{turns, clients, begin}
-use Rattle.player.specs.ClientView.{client_view}
+use Rattle.player.specs.ClientView.{IsNextAction, client_view}
 use Rattle.player.specs.BetweenTurns.{IsEnd}
-use Rattle.player.proofs.Middles.{get_own}
+use Rattle.player.proofs.Middles.{get_own, wins_idle, wins_reply}
 use Rattle.player.proofs.Steps.{between_at, wins_at}
-use Rattle.player.proofs.Middles.{wins_idle, wins_reply}
 use Rattle.player.proofs.Stands.{client_there, is_client, stood_asked, stood_finished, stood_refused}
+use Rattle.player.proofs.player.Player.step.Goals.{After-next_action-action}
 use Rattle.player.proofs.player.Player.step.Goals as goal
+
+-- the client that makes the turn
+there : (c : After-next_action-action) → slice_get c.args.self.now.clients.items c.args.client.0 ≡ Some c.index_mut.result.now
+there c = client_there c.args.self.now c.args.client.0 c.index_mut.result.now c.requires.client c.index_mut.ensures.value
+
+-- that room was made leaves the lines
+same_lines : (c : After-next_action-action) → newest c.reserve.new.self ≡ newest c.args.self.now.lines
+same_lines c = ap (λ (l : List Line). reverse l) c.in_ok-reserve.ensures.same
+
+-- the turn has the number behind them
+numbered : (c : After-next_action-action) → c.next_turn-number.result ≡ suc (turns (newest c.args.self.now.lines))
+numbered c = c.next_turn-number.ensures ∙ ap (λ (l : List Line). suc (turns l)) (same_lines c)
+
+-- how the client stands at it
+stood : (c : After-next_action-action) → IsNextAction (client_view c.args.self.now.script.layout c.args.self.now.script.calls.items (newest c.args.self.now.lines) c.args.client.0) c.next_turn-number.result c.index_mut.result.now c.next_action-action.new.self c.next_action-action.result
+stood c =
+    let p = c.args.self.now in
+    let i = c.args.client.0 in
+    let client = is_client p i c.next_turn-number.result c.index_mut.result.now c.next_action-action.new.self c.requires.played (there c) in
+    c.next_action-action.ensures (client_view p.script.layout p.script.calls.items (newest p.lines) i) (begin (newest p.lines) i) c.requires.played.between.so_far.sound (calls_are_of_mode p.script) c.deref.ensures.value client
 
 pub make-requires-clause-asked : goal.make-requires-clause-asked
 make-requires-clause-asked c =
-    let p = c.args.self.now in
-    let i = c.args.client.0 in
-    let old = c.index_mut.result.now in
-    let new = c.next_action-action.new.self in
-    let number = c.next_turn-number.result in
-    let there = client_there p i old c.requires.client c.index_mut.ensures.value in
-    let lines = ap (λ (l : List Line). reverse l) c.in_ok-reserve.ensures.same in
-    let client = is_client p i number old new c.requires.played there in
-    let stood = c.in-Asks.ensures (client_view p.script.layout p.script.calls.items (newest p.lines) i) (begin (newest p.lines) i) c.requires.played.between.so_far.sound (calls_are_of_mode p.script) c.deref.ensures.value client in
-    stood_asked p i number old new c.requires.played there _ c.in-Asks.step refl refl refl refl lines refl c.next_turn-number.ensures stood
+    let here = (goal.at.make-requires-clause-asked c).After-next_action-action in
+    stood_asked c.args.self.now c.args.client.0 c.next_turn-number.result c.index_mut.result.now c.next_action-action.new.self c.requires.played (there here) _ c.in-Asks.step refl refl refl refl (same_lines here) refl c.next_turn-number.ensures (rw c.in-Asks.is at (stood here))
 
 pub returns-in-Finished-clause-turn : goal.returns-in-Finished-clause-turn
 returns-in-Finished-clause-turn c =
+    let here = (goal.at.returns-in-Finished-clause-turn c).After-next_action-action in
     let p = c.args.self.now in
-    let i = c.args.client.0 in
-    let old = c.index_mut.result.now in
-    let new = c.next_action-action.new.self in
     let number = c.next_turn-number.result in
-    let there = client_there p i old c.requires.client c.index_mut.ensures.value in
-    let lines = ap (λ (l : List Line). reverse l) c.in_ok-reserve.ensures.same in
-    let client = is_client p i number old new c.requires.played there in
-    let stood = c.in-Finished.ensures (client_view p.script.layout p.script.calls.items (newest p.lines) i) (begin (newest p.lines) i) c.requires.played.between.so_far.sound (calls_are_of_mode p.script) c.deref.ensures.value client in
-    let between = stood_finished p i number old new c.requires.played there c.args.client refl (c.next_turn-number.ensures ∙ ap (λ (l : List Line). suc (turns l)) lines) stood in
-    let line = c.idle.ensures.line ∙ ap (λ (l : List Line). Step c.idle.result ∷ l) lines in
+    let between = stood_finished p c.args.client.0 number c.index_mut.result.now c.next_action-action.new.self c.requires.played (there here) c.args.client refl (numbered here) (rw c.in-Finished.is at (stood here)) in
+    let line = c.idle.ensures.line ∙ ap (λ (l : List Line). Step c.idle.result ∷ l) (same_lines here) in
     let idle = ap (λ (r : Row). Step r ∷ newest p.lines) c.idle.ensures.row in
     record {
       played = record {
@@ -57,22 +63,19 @@ returns-in-Finished-clause-turn c =
 
 pub returns-in-Answers-clause-turn : goal.returns-in-Answers-clause-turn
 returns-in-Answers-clause-turn c =
+    let here = (goal.at.returns-in-Answers-clause-turn c).After-next_action-action in
     let p = c.args.self.now in
     let i = c.args.client.0 in
-    let old = c.index_mut.result.now in
     let new = c.next_action-action.new.self in
     let number = c.next_turn-number.result in
-    let there = client_there p i old c.requires.client c.index_mut.ensures.value in
-    let lines = ap (λ (l : List Line). reverse l) c.in_ok-reserve.ensures.same in
-    let client = is_client p i number old new c.requires.played there in
     let answer = c.in-Answers.answer in
-    let stood = c.in-Answers.ensures (client_view p.script.layout p.script.calls.items (newest p.lines) i) (begin (newest p.lines) i) c.requires.played.between.so_far.sound (calls_are_of_mode p.script) c.deref.ensures.value client in
-    let pass : new.pass.0 ≡ i = ap (λ (k : PassNo). k.0) stood.0.pass ∙ (c.requires.played.between.each i old there).0 in
+    let stands = rw c.in-Answers.is at (stood here) in
+    let pass : new.pass.0 ≡ i = ap (λ (k : PassNo). k.0) stands.0.pass ∙ (c.requires.played.between.each i c.index_mut.result.now (there here)).0 in
     let idle = c.idle-row.ensures in
-    let r = c.reply.ensures.replied new (ap (λ (l : List Client). slice_get l i) idle.same.clients ∙ get_own p.clients.items i old new there) pass in
+    let r = c.reply.ensures.replied new (ap (λ (l : List Client). slice_get l i) idle.same.clients ∙ get_own p.clients.items i c.index_mut.result.now new (there here)) pass in
     let end : IsEnd p.script.calls.items new r.client number answer r.won r.reply = subst (λ (k : List Call). IsEnd k new r.client number answer r.won r.reply) idle.same.script.calls r.end in
-    let between = stood_refused p i number old new c.requires.played there c.args.client answer r.won r.reply r.client refl (c.next_turn-number.ensures ∙ ap (λ (l : List Line). suc (turns l)) lines) stood end in
-    let line = r.line ∙ ap (λ (l : List Line). Reply r.reply ∷ l) (idle.line ∙ ap (λ (l : List Line). Step c.idle-row.result ∷ l) lines) in
+    let between = stood_refused p i number c.index_mut.result.now new c.requires.played (there here) c.args.client answer r.won r.reply r.client refl (numbered here) stands end in
+    let line = r.line ∙ ap (λ (l : List Line). Reply r.reply ∷ l) (idle.line ∙ ap (λ (l : List Line). Step c.idle-row.result ∷ l) (same_lines here)) in
     let row = ap (λ (r' : Row). Reply r.reply ∷ Step r' ∷ newest p.lines) idle.row in
     record {
       played = record {
