@@ -1,5 +1,5 @@
--- Which nodes a search for a key passes, and which stand in the tree, now or at a moment before, and
--- what a search may answer.
+-- Which nodes a search for a key passes, and which stand in the tree, now or at a moment before;
+-- and what a search may answer.
 use Rattle.std.specs.Prelude.{◌≡◌, ℕ, List, Option}
 use Rattle.arena.specs.declared.layout.Layout.{Layout}
 use Rattle.arena.specs.History.{History, value, Extends}

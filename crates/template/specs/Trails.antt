@@ -24,8 +24,8 @@ pub record WasPassed (c : Call) (h : History) (k n : ℕ) : Type 0 where
   pub own : IsOwnMoment c first
   pub passed : Passed h first k n
 
--- at an own moment of the call, by which it had passed n on its way to k, the field of n on this side
--- held the node `next`
+-- at an own moment of the call, by which it had passed n on its way to k, the field of n on this
+-- side held the node `next`
 pub record HasShown (c : Call) (h : History) (k n : ℕ) (side : Side) (next : ℕ) : Type 0 where
   pub moment : History
   pub within : Extends h moment

@@ -5,8 +5,8 @@ use Rattle.template.specs.declared.walk.WalkRun.{WalkRun}
 use Rattle.template.specs.declared.walk.WalkAt.{WalkAt}
 use Rattle.template.specs.declared.walk.WalkAt.TheVariants.{Start, Root, Head, Key, Child, Value}
 
--- how many steps a walk may still ask for at this place, where no more nodes than these are taken: a
--- path has at most two nodes more than are taken
+-- how many steps a walk may still ask for at this place, where no more nodes than these are taken:
+-- a path has at most two nodes more than are taken
 abbrev pub walk_left : WalkAt → ℕ → ℕ
 walk_left Start nodes = 3 * (2 + nodes)
 walk_left Root nodes = 3 * (2 + nodes) - 1
