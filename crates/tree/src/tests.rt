@@ -75,17 +75,19 @@ fn step_of(node: u64, part: NodeWord) -> Step {
     Step { kind, word, access }
 }
 
-/// Plays a get by itself: it makes these loads, one after the other, and gives this answer.
+/// Plays a get by itself: it makes the loads `above` and then these, one after the other, and gives
+/// this answer.
 fn plays(
     rt: &impl Abort,
     table: &mut Table,
     key: u64,
+    above: &[Load],
     loads: &[Load],
     answer: Option<u64>,
 ) -> Result<(), Fail> {
     let mut run = GetRun::new(key);
     let mut found = None;
-    for (node, part, value) in loads {
+    for (node, part, value) in above.iter().chain(loads) {
         let step = step_of(*node, *part);
         assert_eq!(rt; Machine::<Tree>::next(&mut run, found), Turn::Ask(step));
         let got = table.make(step);
@@ -124,12 +126,25 @@ const ONE_PAIR_MORE: [(u64, NodeWord, u64); 11] = [
     (5, Child(Left), 8),
 ];
 
+/// The loads on the way to the left field of fork 5.
+const TO_FORK_5: [Load; 3] = [(0, Head, 2), (0, Child(Left), 5), (5, Head, 9)];
+
+/// The loads on the way to the fields of fork 8.
+const TO_FORK_8: [Load; 6] = [
+    (0, Head, 2),
+    (0, Child(Left), 5),
+    (5, Head, 9),
+    (5, Child(Left), 8),
+    (8, Head, 16),
+    (8, Key, 9),
+];
+
 #[test]
 fn the_empty_map_has_no_key(rt: HostRuntime) -> Result<(), Fail> {
     let mut table = Table::new(rt.alloc())?;
     let loads = [(0, Head, 2), (0, Child(Left), 1), (1, Head, 13)];
-    plays(&rt, &mut table, 0, &loads, None)?;
-    plays(&rt, &mut table, 18446744073709551615, &loads, None)
+    plays(&rt, &mut table, 0, &[], &loads, None)?;
+    plays(&rt, &mut table, 18446744073709551615, &[], &loads, None)
 }
 
 #[test]
@@ -137,25 +152,15 @@ fn the_leaf_of_the_key_is_asked_for_its_value(rt: HostRuntime) -> Result<(), Fai
     let mut table = Table::new(rt.alloc())?;
     table.put(&ONE_PAIR);
     let present = [
-        (0, Head, 2),
-        (0, Child(Left), 5),
-        (5, Head, 9),
         (5, Child(Left), 3),
         (3, Head, 20),
         (3, Key, 5),
         (3, Value, 50),
     ];
-    plays(&rt, &mut table, 5, &present, Some(50))?;
-    let absent = [
-        (0, Head, 2),
-        (0, Child(Left), 5),
-        (5, Head, 9),
-        (5, Child(Left), 3),
-        (3, Head, 20),
-        (3, Key, 5),
-    ];
-    plays(&rt, &mut table, 4, &absent, None)?;
-    plays(&rt, &mut table, 6, &absent, None)
+    plays(&rt, &mut table, 5, &TO_FORK_5, &present, Some(50))?;
+    let absent = [(5, Child(Left), 3), (3, Head, 20), (3, Key, 5)];
+    plays(&rt, &mut table, 4, &TO_FORK_5, &absent, None)?;
+    plays(&rt, &mut table, 6, &TO_FORK_5, &absent, None)
 }
 
 #[test]
@@ -164,15 +169,12 @@ fn the_key_0_may_have_the_value_0(rt: HostRuntime) -> Result<(), Fail> {
     table.put(&ONE_PAIR);
     table.put(&[(3, Key, 0), (3, Value, 0)]);
     let loads = [
-        (0, Head, 2),
-        (0, Child(Left), 5),
-        (5, Head, 9),
         (5, Child(Left), 3),
         (3, Head, 20),
         (3, Key, 0),
         (3, Value, 0),
     ];
-    plays(&rt, &mut table, 0, &loads, Some(0))
+    plays(&rt, &mut table, 0, &TO_FORK_5, &loads, Some(0))
 }
 
 #[test]
@@ -181,31 +183,19 @@ fn a_key_goes_right_at_a_fork_of_the_same_key(rt: HostRuntime) -> Result<(), Fai
     table.put(&ONE_PAIR);
     table.put(&ONE_PAIR_MORE);
     let same = [
-        (0, Head, 2),
-        (0, Child(Left), 5),
-        (5, Head, 9),
-        (5, Child(Left), 8),
-        (8, Head, 16),
-        (8, Key, 9),
         (8, Child(Right), 6),
         (6, Head, 28),
         (6, Key, 9),
         (6, Value, 90),
     ];
-    plays(&rt, &mut table, 9, &same, Some(90))?;
+    plays(&rt, &mut table, 9, &TO_FORK_8, &same, Some(90))?;
     let below = [
-        (0, Head, 2),
-        (0, Child(Left), 5),
-        (5, Head, 9),
-        (5, Child(Left), 8),
-        (8, Head, 16),
-        (8, Key, 9),
         (8, Child(Left), 7),
         (7, Head, 28),
         (7, Key, 5),
         (7, Value, 50),
     ];
-    plays(&rt, &mut table, 5, &below, Some(50))
+    plays(&rt, &mut table, 5, &TO_FORK_8, &below, Some(50))
 }
 
 #[test]
@@ -213,28 +203,15 @@ fn absent_keys_go_to_the_leaf_where_they_would_stand(rt: HostRuntime) -> Result<
     let mut table = Table::new(rt.alloc())?;
     table.put(&ONE_PAIR);
     table.put(&ONE_PAIR_MORE);
-    let below = [
-        (0, Head, 2),
-        (0, Child(Left), 5),
-        (5, Head, 9),
-        (5, Child(Left), 8),
-        (8, Head, 16),
-        (8, Key, 9),
-        (8, Child(Left), 7),
-        (7, Head, 28),
-        (7, Key, 5),
-    ];
-    plays(&rt, &mut table, 8, &below, None)?;
-    let above = [
-        (0, Head, 2),
-        (0, Child(Left), 5),
-        (5, Head, 9),
-        (5, Child(Left), 8),
-        (8, Head, 16),
-        (8, Key, 9),
-        (8, Child(Right), 6),
-        (6, Head, 28),
-        (6, Key, 9),
-    ];
-    plays(&rt, &mut table, 18446744073709551615, &above, None)
+    let below = [(8, Child(Left), 7), (7, Head, 28), (7, Key, 5)];
+    plays(&rt, &mut table, 8, &TO_FORK_8, &below, None)?;
+    let above = [(8, Child(Right), 6), (6, Head, 28), (6, Key, 9)];
+    plays(
+        &rt,
+        &mut table,
+        18446744073709551615,
+        &TO_FORK_8,
+        &above,
+        None,
+    )
 }
