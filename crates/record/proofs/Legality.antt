@@ -1,5 +1,5 @@
 -- The lines of a lawful run are orderly: the rules of its replies make it legal as a whole.
-use Rattle.std.proofs.Common.{◌≡◌, ℕ, suc, ◌+◌, ◌*◌, ◌<◌, ◌≤◌, Bool, true, false, cond, ◌&&◌, eqb, ltb, List, [], ◌∷◌, refl, sym, ◌∙◌, ap, subst, arith, inl, inr, ⊎_elim}
+use Rattle.std.proofs.Common.{◌≡◌, ℕ, suc, ◌+◌, ◌*◌, ◌<◌, ◌≤◌, Bool, true, false, cond, ◌&&◌, eqb, List, [], ◌∷◌, refl, sym, ◌∙◌, ap, subst, arith, inl, inr, ⊎_elim}
 use Rattle.std.proofs.lemmas.Bool.{eqb-true, eq-eqb, eqb-false, ne_eqb, and_parts, cases_order}
 use Rattle.std.specs.Prelude.{Option, Some, None, is_none, slice_get, not}
 use Rattle.arena.specs.declared.layout.Layout.{Layout}
@@ -22,12 +22,12 @@ use Rattle.record.specs.Turns.{history, turns, answered, won, entry_at, entry_of
 use Rattle.record.specs.MapRecord.{map_call, map_call_of, reply_told, written_log, entries_of_call}
 use Rattle.record.specs.CommandRules.{IsPlaced}
 use Rattle.record.specs.Placed.{IsPlacedOnMap}
-use Rattle.record.specs.Legal.{Event, Change, Read, event_client, event_call, event_place, with_event, with_reading, has_read, events, answer_to, times, unanswered, IsLegal}
+use Rattle.record.specs.Legal.{Event, Change, Read, event_client, event_call, event_place, with_reading, has_read, events, answer_to, times, unanswered, IsLegal}
 use Rattle.record.specs.Commands.{commands}
 use Rattle.record.specs.Entries.{IsLog}
 use Rattle.record.specs.Replies.{IsReply}
 use Rattle.record.specs.LawfulRun.{AreLines}
-use Rattle.record.proofs.Ordered.{AllUpTo, IsOrderlyEntry, IsOrderlyReply, AreOrderly, IsKept, onto, counted, kept, legal}
+use Rattle.record.proofs.Ordered.{AllUpTo, all_with, IsOrderlyEntry, IsOrderlyReply, AreOrderly, IsKept, onto, counted, kept, legal}
 
 -- the calls are of the map
 abbrev pub AreMapCalls : List Call → Type 0
@@ -169,14 +169,6 @@ alone lay calls lines a c w k = none_open (answer_to lines) c (events calls line
 
 -- Turns
 
-upto_place : (p : ℕ) (x : Event) (ys : List Event) → event_place x ≤ p → AllUpTo p ys → AllUpTo p (with_event x ys)
-upto_place p x [] i a = (i, tt)
-upto_place p x (y ∷ ys) i a = go (ltb (event_place x) (event_place y)) (upto_place p x ys i a.1)
-  where
-    go : (b : Bool) → AllUpTo p (with_event x ys) → AllUpTo p (cond b (x ∷ y ∷ ys) (y ∷ with_event x ys))
-    go true rest = (i, a)
-    go false rest = (a.0, rest)
-
 upto_more : (p q : ℕ) (xs : List Event) → p ≤ q → AllUpTo p xs → AllUpTo q xs
 upto_more p q [] i a = tt
 upto_more p q (x ∷ xs) i a = let j = a.0 in (omega (i, j, arith), upto_more p q xs i a.1)
@@ -212,7 +204,7 @@ newest lay calls [] a = tt
 newest lay calls (Step row ∷ lines) a = upto_more (2 * turns lines + 1) (2 * suc (turns lines) + 1) (events calls lines) (omega arith) (newest lay calls lines a.0)
 newest lay calls (Log e ∷ lines) a =
     let i = log_step lay calls lines e a.0 a.1 in
-    upto_place (2 * turns lines + 1) (Change e) (events calls lines) (omega (i, arith)) (newest lay calls lines a.0)
+    all_with (λ (x : Event). event_place x ≤ 2 * turns lines + 1) (Change e) (events calls lines) (omega (i, arith)) (newest lay calls lines a.0)
 newest lay calls (ReplyLine r ∷ lines) a = go (has_read (map_call_of calls r.client.0 r.call) (reply_told r.answer)) r.moment refl (newest lay calls lines a.0)
   where
     go : (b : Bool) (m : Option ℕ) → r.moment ≡ m → AllUpTo (2 * turns lines + 1) (events calls lines) → AllUpTo (2 * turns lines + 1) (with_reading b m r (events calls lines))
@@ -220,7 +212,7 @@ newest lay calls (ReplyLine r ∷ lines) a = go (has_read (map_call_of calls r.c
         let w = a.1.1.within m q in
         let i = w.1 in
         let e = a.1.1.end in
-        upto_place (2 * turns lines + 1) (Read m r) (events calls lines) (omega (i, e, arith)) rest
+        all_with (λ (x : Event). event_place x ≤ 2 * turns lines + 1) (Read m r) (events calls lines) (omega (i, e, arith)) rest
     go true None q rest = rest
     go false m q rest = rest
 

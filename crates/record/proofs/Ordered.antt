@@ -17,23 +17,26 @@ use Rattle.record.specs.Legal.{Event, Change, Read, event_client, event_call, ev
 
 -- Events in order
 
+-- this is true of each of the events
+abbrev pub AllEvents : (Event → Type 0) → List Event → Type 0
+AllEvents P [] = Unit {0}
+AllEvents P (x ∷ xs) = P x × AllEvents P xs
+
 abbrev AllFrom : ℕ → List Event → Type 0
-AllFrom p [] = Unit {0}
-AllFrom p (x ∷ xs) = (p ≤ event_place x) × AllFrom p xs
+AllFrom p xs = AllEvents (λ (x : Event). p ≤ event_place x) xs
 
 abbrev pub AllUpTo : ℕ → List Event → Type 0
-AllUpTo p [] = Unit {0}
-AllUpTo p (x ∷ xs) = (event_place x ≤ p) × AllUpTo p xs
+AllUpTo p xs = AllEvents (λ (x : Event). event_place x ≤ p) xs
 
 abbrev IsSorted : List Event → Type 0
 IsSorted [] = Unit {0}
 IsSorted (x ∷ xs) = AllFrom (event_place x) xs × IsSorted xs
 
-from_place : (p : ℕ) (x : Event) (ys : List Event) → p ≤ event_place x → AllFrom p ys → AllFrom p (with_event x ys)
-from_place p x [] i a = (i, tt)
-from_place p x (y ∷ ys) i a = go (ltb (event_place x) (event_place y)) (from_place p x ys i a.1)
+pub all_with : (P : Event → Type 0) (x : Event) (ys : List Event) → P x → AllEvents P ys → AllEvents P (with_event x ys)
+all_with P x [] i a = (i, tt)
+all_with P x (y ∷ ys) i a = go (ltb (event_place x) (event_place y)) (all_with P x ys i a.1)
   where
-    go : (b : Bool) → AllFrom p (with_event x ys) → AllFrom p (cond b (x ∷ y ∷ ys) (y ∷ with_event x ys))
+    go : (b : Bool) → AllEvents P (with_event x ys) → AllEvents P (cond b (x ∷ y ∷ ys) (y ∷ with_event x ys))
     go true rest = (i, a)
     go false rest = (a.0, rest)
 
@@ -50,7 +53,7 @@ sorted_place x (y ∷ ys) s = go (ltb (event_place x) (event_place y)) refl (sor
         let i = ltb-true (event_place x) (event_place y) e in
         let j : event_place x ≤ event_place y = omega (i, arith) in
         ((j, weaker (event_place x) (event_place y) ys j s.0), s)
-    go false e rest = (from_place (event_place y) x ys (ltb-false (event_place x) (event_place y) e) s.0, rest)
+    go false e rest = (all_with (λ (z : Event). event_place y ≤ event_place z) x ys (ltb-false (event_place x) (event_place y) e) s.0, rest)
 
 -- The entries among events, the newest first, before older ones
 
@@ -388,13 +391,21 @@ answer_keeps calls lines r xs k a t = record {
   few = λ c. let i = k.few c in let j = fewer (answer_to lines) r c xs in omega (i, j, arith);
 }
 
+-- with a call that stood nowhere, each still stands once at most
+one_more : (c j client call : ℕ) (xs : List Event) → times client call xs ≡ 0 → (b : Bool) → (eqb c client && eqb j call) ≡ b → times c j xs ≤ 1 → cond b (suc (times c j xs)) (times c j xs) ≤ 1
+one_more c j client call xs absent true i u =
+    let p = and_parts (eqb c client) (eqb j call) i in
+    let z : times c j xs ≡ 0 = ap (λ d. times d j xs) (eqb-true c client p.0) ∙ ap (λ d. times client d xs) (eqb-true j call p.1) ∙ absent in
+    omega (z, arith)
+one_more c j client call xs absent false i u = u
+
 entry_keeps : (calls : List Call) (lines : List Line) (e : Entry) → IsOrderlyEntry calls lines e → IsKept calls lines (events calls lines) → IsKept calls (Log e ∷ lines) (with_event (Change e) (events calls lines))
 entry_keeps calls lines e o k = record {
   right = right_change calls (answer_to lines) e [] xs o.newest its_reply k.right;
   sorted = sorted_place (Change e) xs k.sorted;
   logged = onto_change e [] xs o.newest ∙ ap (λ es. e ∷ es) k.logged;
   placed = places_more lines (Change e) xs o.pending k.placed;
-  one = λ c j. rw (times_place c j (Change e) xs) (one_more c j (eqb c e.client.0 && eqb j e.call) refl (k.one c j));
+  one = λ c j. rw (times_place c j (Change e) xs) (one_more c j e.client.0 e.call xs absent (eqb c e.client.0 && eqb j e.call) refl (k.one c j));
   few = λ c. rw (unanswered_place (answer_to lines) c (Change e) xs) (few_more c (eqb c e.client.0) refl (is_none (answer_to lines c e.call)) (k.few c));
 }
   where
@@ -406,13 +417,6 @@ entry_keeps calls lines e o k = record {
 
     absent : times e.client.0 e.call xs ≡ 0
     absent = stands_as_entered calls lines e.client.0 e.call 0 xs k o.pending o.first
-
-    one_more : (c j : ℕ) (b : Bool) → (eqb c e.client.0 && eqb j e.call) ≡ b → times c j xs ≤ 1 → cond b (suc (times c j xs)) (times c j xs) ≤ 1
-    one_more c j true i u =
-        let p = and_parts (eqb c e.client.0) (eqb j e.call) i in
-        let x : times c j xs ≡ 0 = ap (λ d. times d j xs) (eqb-true c e.client.0 p.0) ∙ ap (λ d. times e.client.0 d xs) (eqb-true j e.call p.1) ∙ absent in
-        omega (x, arith)
-    one_more c j false i u = u
 
     few_more : (c : ℕ) (b : Bool) → eqb c e.client.0 ≡ b → (d : Bool) → unanswered (answer_to lines) c xs ≤ 1 → cond (b && d) (suc (unanswered (answer_to lines) c xs)) (unanswered (answer_to lines) c xs) ≤ 1
     few_more c true i true u = let x : unanswered (answer_to lines) c xs ≡ 0 = ap (λ d. unanswered (answer_to lines) d xs) (eqb-true c e.client.0 i) ∙ o.alone in omega (x, arith)
@@ -443,7 +447,7 @@ reading_keeps calls lines r o a t f x k = record {
   sorted = sorted_place (Read x.turn r) xs k.sorted;
   logged = onto_read x.turn r [] xs ∙ k.logged;
   placed = (its_due, places_more lines (Read x.turn r) xs o.pending k.placed);
-  one = λ c j. rw (times_place c j (Read x.turn r) xs) (one_more c j (eqb c r.client.0 && eqb j r.call) refl (k.one c j));
+  one = λ c j. rw (times_place c j (Read x.turn r) xs) (one_more c j r.client.0 r.call xs absent (eqb c r.client.0 && eqb j r.call) refl (k.one c j));
   few = λ c. rw (unanswered_place (answer_to (ReplyLine r ∷ lines)) c (Read x.turn r) xs) (few_more c (eqb c r.client.0) refl);
 }
   where
@@ -477,13 +481,6 @@ reading_keeps calls lines r o a t f x k = record {
 
     its_due : times r.client.0 r.call (with_event (Read x.turn r) xs) ≡ times_due (reply_told r.answer)
     its_due = times_place r.client.0 r.call (Read x.turn r) xs ∙ rw (same_client, same_call, t) (ap suc absent)
-
-    one_more : (c j : ℕ) (b : Bool) → (eqb c r.client.0 && eqb j r.call) ≡ b → times c j xs ≤ 1 → cond b (suc (times c j xs)) (times c j xs) ≤ 1
-    one_more c j true i u =
-        let p = and_parts (eqb c r.client.0) (eqb j r.call) i in
-        let z : times c j xs ≡ 0 = ap (λ d. times d j xs) (eqb-true c r.client.0 p.0) ∙ ap (λ d. times r.client.0 d xs) (eqb-true j r.call p.1) ∙ absent in
-        omega (z, arith)
-    one_more c j false i u = u
 
     fewer_now : (c : ℕ) → unanswered (answer_to (ReplyLine r ∷ lines)) c xs ≤ 1
     fewer_now c = let i = k.few c in let j = fewer (answer_to lines) r c xs in omega (i, j, arith)
