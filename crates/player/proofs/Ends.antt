@@ -46,7 +46,7 @@ use Rattle.player.specs.declared.kept.Found.{Found}
 use Rattle.record.specs.declared.record.Answer.{Answer}
 use Rattle.record.specs.declared.record.Answer.TheVariants.{Snapshot, Finalized, Fail, Done, Lost, Same, Changed, Unlinked, Full, Value}
 use Rattle.player.specs.KeptSnaps.{IsUnspent, kept_of, node_of, found_of, parts, snap_of}
-use Rattle.record.specs.CommandRules.{IsAnswerAfterStep, IsRight}
+use Rattle.record.specs.CommandRules.{MayAnswerAfterStep, IsRight}
 use Rattle.record.specs.Snapshots.{IsLastLook, AreLinked, IsBehindAll}
 use Rattle.record.specs.Answers.{HasRoom, IsInTheWay, IsAsSnapped, HasItsEntry}
 use Rattle.player.specs.RunKnown.{answer_of}
@@ -111,7 +111,7 @@ drop_one snaps node old e = record { gone = λ n x. single n ∙ x_gone n x; oth
 
 -- what an SCX answers
 record IsOutcome (v : ClientView) (c : ℕ) (snaps : List Snap) (command : Command) (answer : Answer) : Type 0 where
-  answers : IsAnswerAfterStep command answer
+  answers : MayAnswerAfterStep command answer
   right : IsRight v.layout c v.past v.start v.linked command answer
   entry : HasItsEntry answer v.won
   drops : IsDropped snaps v.linked (linked_by v command answer)
@@ -360,7 +360,7 @@ ends_vlx v c (Get m) then a x = absurd x.answers
 -- The end of a get
 
 -- its answer stood at a moment of the call
-get_right : (v : ClientView) (c : Client) (m : GetRun) (command : Command) (then : Option Put) (a : Option ℕ) → IsGetOf command m.walk.key then → IsAnswerAt v.layout v.past v.start m.walk.key a → IsAnswerAfterStep command (Value a) × IsRight v.layout c.pass.0 v.past v.start v.linked command (Value a)
+get_right : (v : ClientView) (c : Client) (m : GetRun) (command : Command) (then : Option Put) (a : Option ℕ) → IsGetOf command m.walk.key then → IsAnswerAt v.layout v.past v.start m.walk.key a → MayAnswerAfterStep command (Value a) × IsRight v.layout c.pass.0 v.past v.start v.linked command (Value a)
 get_right v c m (GetOf key) None a of x = (tt, rw (sym of) x)
 get_right v c m (GetOf key) (Some put) a of x = absurd of
 get_right v c m (LlxOf cell) then a of x = absurd of
@@ -461,7 +461,7 @@ failed_since v c m then node scx x = (x.answers.0, subst (λ (k : History). HasF
 
 -- what an LLX answers that ends a call
 record IsLlxOutcome (v : ClientView) (c : ℕ) (command : Command) (a : LlxAnswer) : Type 0 where
-  answers : IsAnswerAfterStep command (answer_of (ended.Llx a))
+  answers : MayAnswerAfterStep command (answer_of (ended.Llx a))
   right : IsRight v.layout c v.past v.start v.linked command (answer_of (ended.Llx a))
   said : (n : ℕ) → linked_by v command (answer_of (ended.Llx a)) n ≡ cond (eqb (node_of a) n) (moment_then a v.past) (v.linked n)
 

@@ -44,7 +44,7 @@ use Rattle.record.specs.Turns.{history, turns, entries, answered, begin, start, 
 use Rattle.record.specs.Commands.{next_command}
 use Rattle.record.specs.Linked.{linked}
 use Rattle.record.specs.Answers.{moment_of, HasTakenOne, HasItsEntry}
-use Rattle.record.specs.CommandRules.{IsAnswerAtOnce, IsRight}
+use Rattle.record.specs.CommandRules.{MayAnswerAtOnce, IsRight}
 use Rattle.record.specs.Replies.{IsFitting, IsReply}
 use Rattle.record.specs.LawfulRun.{OwesNothing, IsNext, AreLines}
 use Rattle.player.specs.ClientView.{ClientView, client_view, no_hand, linked_by, Rests, IsClient, IsAtNextCall, Refuses}
@@ -326,7 +326,7 @@ record IsRefusal (v : ClientView) (command : Command) (answer : Answer) : Type 0
   leaves : (n : ℕ) → linked_by v command answer n ≡ v.linked n
   not_done : answer ≡ Done → ⊥
 
-is_refusal : (v : ClientView) (command : Command) (answer : Answer) → IsAnswerAtOnce command answer → IsRefusal v command answer
+is_refusal : (v : ClientView) (command : Command) (answer : Answer) → MayAnswerAtOnce command answer → IsRefusal v command answer
 is_refusal v (ScxOf update) (Unlinked node) x = record { leaves = λ n. refl; not_done = λ e. cc }
 is_refusal v (ScxOf update) (Full what left) x = record { leaves = λ n. refl; not_done = λ e. cc }
 is_refusal v (VlxOf cells) (Unlinked node) x = record { leaves = λ n. refl; not_done = λ e. cc }

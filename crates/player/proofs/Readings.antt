@@ -48,7 +48,7 @@ use Rattle.record.specs.CommandRules.{MayMake, IsEntryFor, IsRight, IsPlaced}
 use Rattle.record.specs.MapRecord.{written_log, reply_told, map_call}
 use Rattle.record.specs.Placed.{IsReading, IsPlacedOnMap}
 use Rattle.record.specs.LawfulRun.{AreLines, IsWhole}
-use Rattle.record.specs.SpelledMap.{AreSpelled, IsSpelledAfter, WasNamedByField}
+use Rattle.record.specs.SpelledMap.{AreSpelled, IsSpelledAfter, HasStoodInField}
 use Rattle.record.proofs.Lemmas.{AreMapCalls, lawful_is_legal}
 use Rattle.player.specs.Allowed.{PlayedAllows}
 use Rattle.player.specs.BetweenTurns.{IsLawfulSoFar}
@@ -191,7 +191,7 @@ module _ (lay : Layout) (calls : List Call) (mode : lay.mode ≡ Tree) (all : Ar
     rising = λ n side named fork. opening_rises (value (history lay.mode lines)) n side (still lines x) (small n named) fork;
   }
     where
-      small : (n : ℕ) → WasNamedByField (history lay.mode lines) n → n < 3
+      small : (n : ℕ) → HasStoodInField (history lay.mode lines) n → n < 3
       small n (inl i) = i
       small n (inr (m, from, y)) = rw (held lines x (child m from) n y) (field_small m from)
 

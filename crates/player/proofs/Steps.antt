@@ -33,7 +33,7 @@ use Rattle.player.specs.Lines.{newest}
 use Rattle.arena.specs.TakenNodes.{taken_nodes}
 use Rattle.record.specs.Turns.{history, turns, answered, clients, begin, start, won, last_client, entry_of, entry_owed}
 use Rattle.record.specs.Commands.{commands}
-use Rattle.record.specs.CommandRules.{IsAnswerAfterStep, IsRight, IsEntryFor}
+use Rattle.record.specs.CommandRules.{MayAnswerAfterStep, IsRight, IsEntryFor}
 use Rattle.record.specs.Linked.{linked}
 use Rattle.record.specs.Answers.{HasTakenOne}
 use Rattle.record.specs.Replies.{IsFitting, IsReplyOwed}
@@ -57,7 +57,7 @@ pub record IsHeard (lay : Layout) (calls : List Call) (words : Contents) (all : 
   pub last : last_client lines ≡ Some c.pass.0
   pub entry : entry_owed lay lines ≡ None
   pub none_owed : ¬ IsReplyOwed calls lines
-  pub fits : (command : Command) (answer : Answer) → IsAnswerAfterStep command answer → IsFitting lines command answer
+  pub fits : (command : Command) (answer : Answer) → MayAnswerAfterStep command answer → IsFitting lines command answer
   pub in_turn : number ≡ turns lines
 
 -- a machine may be told what its step found

@@ -43,7 +43,7 @@ use Rattle.player.specs.Place.{IsAt}
 use Rattle.record.specs.Turns.{history, answered, start, steps, won}
 use Rattle.record.specs.Commands.{commands}
 use Rattle.record.specs.Linked.{linked}
-use Rattle.record.specs.CommandRules.{linked_then, most_steps, IsAnswerAtOnce, IsAnswerAfterStep, IsRight}
+use Rattle.record.specs.CommandRules.{linked_then, most_steps, MayAnswerAtOnce, MayAnswerAfterStep, IsRight}
 use Rattle.record.specs.Snapshots.{IsLastLook}
 use Rattle.record.specs.Answers.{HasRoom, HasTakenOne, HasItsEntry}
 
@@ -297,7 +297,7 @@ pub record Refuses (v : ClientView) (c : Client) (answer : Answer) : Type 0 wher
   pub rests : Rests v c
   pub command : Command
   pub is : command_of v c ≡ Some command
-  pub refusal : IsAnswerAtOnce command answer
+  pub refusal : MayAnswerAtOnce command answer
   pub right : IsRight v.layout c.pass.0 v.past v.start v.linked command answer
   pub unwon : v.won ≡ None
   pub took : HasTakenOne v.layout c.pass.0 v.past v.start
@@ -313,7 +313,7 @@ pub record Ends (v : ClientView) (old new : Client) (answer : Answer) : Type 0 w
   pub command : Command
   pub is : command_of v new ≡ Some command
   pub rests : Rests (record v { linked = linked_by v command answer }) new
-  pub answers : IsAnswerAfterStep command answer
+  pub answers : MayAnswerAfterStep command answer
   pub right : IsRight v.layout new.pass.0 v.past v.start v.linked command answer
   pub entry : HasItsEntry answer v.won
   pub took : HasTakenOne v.layout new.pass.0 v.past v.start

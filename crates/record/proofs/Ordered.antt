@@ -12,8 +12,8 @@ use Rattle.record.specs.declared.record.Entry.{Entry}
 use Rattle.record.specs.declared.record.Reply.{Reply}
 use Rattle.record.specs.declared.record.Answer.{Answer}
 use Rattle.record.specs.MapRecord.{map_call_of, reply_told, after_maybe, written_log, entries_until, map_of, map_at, is_of_call, entries_of_call}
-use Rattle.record.specs.Placed.{IsChange, IsReading, IsRefused, IsToldAt, IsPlacedOnMap}
-use Rattle.record.specs.Legal.{Event, Change, Read, event_client, event_call, event_place, with_event, events, answer_to, IsReplyOn, AreReplies, times, times_due, HaveTheirPlaces, StandOnce, unanswered, AreFewUnanswered, IsLegal}
+use Rattle.record.specs.Placed.{IsChange, IsReading, IsRefused, IsChangeOrReading, IsPlacedOnMap}
+use Rattle.record.specs.Legal.{Event, Change, Read, event_client, event_call, event_place, with_event, events, answer_to, IsReplyOn, AreReplies, times, times_due, StandAsDue, StandOnce, unanswered, AreFewUnanswered, IsLegal}
 
 -- Events in order
 
@@ -300,13 +300,13 @@ few_each answers (x ∷ xs) few = (few (event_client x), few_each answers xs (λ
     go false n i = i
 
 -- one event more, of a call that is not answered, leaves those that are their places
-places_more : (lines : List Line) (x : Event) (xs : List Event) → answer_to lines (event_client x) (event_call x) ≡ None → HaveTheirPlaces lines xs → HaveTheirPlaces lines (with_event x xs)
+places_more : (lines : List Line) (x : Event) (xs : List Event) → answer_to lines (event_client x) (event_call x) ≡ None → StandAsDue lines xs → StandAsDue lines (with_event x xs)
 places_more [] x xs n a = tt
 places_more (Step row ∷ lines) x xs n a = places_more lines x xs n a
 places_more (Log e ∷ lines) x xs n a = places_more lines x xs n a
 places_more (ReplyLine r ∷ lines) x xs n a = go (eqb r.client.0 (event_client x) && eqb r.call (event_call x)) refl n (λ u. places_more lines x xs u a.1)
   where
-    go : (b : Bool) → (eqb r.client.0 (event_client x) && eqb r.call (event_call x)) ≡ b → cond b (Some r.answer) (answer_to lines (event_client x) (event_call x)) ≡ None → (answer_to lines (event_client x) (event_call x) ≡ None → HaveTheirPlaces lines (with_event x xs)) → (times r.client.0 r.call (with_event x xs) ≡ times_due (reply_told r.answer)) × HaveTheirPlaces lines (with_event x xs)
+    go : (b : Bool) → (eqb r.client.0 (event_client x) && eqb r.call (event_call x)) ≡ b → cond b (Some r.answer) (answer_to lines (event_client x) (event_call x)) ≡ None → (answer_to lines (event_client x) (event_call x) ≡ None → StandAsDue lines (with_event x xs)) → (times r.client.0 r.call (with_event x xs) ≡ times_due (reply_told r.answer)) × StandAsDue lines (with_event x xs)
     go true i u rest = let y : Some r.answer ≡ None = u in absurd (cc)
     go false i u rest = (times_place r.client.0 r.call x xs ∙ rw i a.0, rest u)
 
@@ -342,7 +342,7 @@ pub record IsKept (calls : List Call) (lines : List Line) (xs : List Event) : Ty
   pub right : AreRight calls (answer_to lines) [] xs
   pub sorted : IsSorted xs
   pub logged : onto [] xs ≡ written_log lines
-  pub placed : HaveTheirPlaces lines xs
+  pub placed : StandAsDue lines xs
   pub one : (c j : ℕ) → times c j xs ≤ 1
   pub few : (c : ℕ) → unanswered (answer_to lines) c xs ≤ 1
 
@@ -504,7 +504,7 @@ refusal_keeps calls lines r o t x k =
 reply_keeps : (calls : List Call) (lines : List Line) (r : Reply) → IsOrderlyReply calls lines r → IsKept calls lines (events calls lines) → IsKept calls (ReplyLine r ∷ lines) (events calls (ReplyLine r ∷ lines))
 reply_keeps calls lines r o k = go (reply_told r.answer) refl o.rule
   where
-    tell : (a : MapReply) → reply_told r.answer ≡ Some a → (b : Bool) → changes o.call a ≡ b → IsToldAt b calls lines o.call r → IsKept calls (ReplyLine r ∷ lines) (events calls (ReplyLine r ∷ lines))
+    tell : (a : MapReply) → reply_told r.answer ≡ Some a → (b : Bool) → changes o.call a ≡ b → IsChangeOrReading b calls lines o.call r → IsKept calls (ReplyLine r ∷ lines) (events calls (ReplyLine r ∷ lines))
     tell a t true c x =
         let e : events calls (ReplyLine r ∷ lines) ≡ events calls lines = rw (o.is, t, c) refl in
         subst (IsKept calls (ReplyLine r ∷ lines)) (sym e) (change_keeps calls lines r o a t x k)
@@ -530,7 +530,7 @@ legal calls lines a =
     let k = kept calls lines a in
     record {
       replies = replay calls (answer_to lines) [] (events calls lines) k.right;
-      placed = k.placed;
+      counted = k.placed;
       once = once_each (events calls lines) k.one;
       few = few_each (answer_to lines) (events calls lines) k.few;
     }

@@ -17,9 +17,9 @@ use Rattle.record.specs.declared.record.Answer.{Answer}
 use Rattle.record.specs.Turns.{won}
 use Rattle.record.specs.declared.record.Answer.TheVariants.{Snapshot, Finalized, Done, Same, Value}
 
--- where a finished call of cells took place: an LLX that told something in its last turn, a VLX
--- that found its cells as they were in its first, an SCX that is done in the turn of
--- its entry; all other calls took place nowhere
+-- where an answered call of cells took place: an LLX that told something in its last turn, a VLX
+-- that found its cells as they were in its first, an SCX that is done in the turn of its entry; all
+-- others took place nowhere. Of a get, while no call changes the map: in its last turn.
 abbrev pub moment_of : Answer → ℕ → ℕ → Option ℕ → Option ℕ
 moment_of (Snapshot left right) first last won = Some last
 moment_of Finalized first last won = Some last

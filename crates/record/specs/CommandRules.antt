@@ -36,12 +36,12 @@ abbrev pub MayMake : Command → Kind → Type 0
 MayMake command = (rules command).MayMake
 
 -- the answers that a call may give in place of a first step
-abbrev pub IsAnswerAtOnce : Command → Answer → Type 0
-IsAnswerAtOnce command = (rules command).IsAtOnce
+abbrev pub MayAnswerAtOnce : Command → Answer → Type 0
+MayAnswerAtOnce command = (rules command).IsAtOnce
 
 -- the answers that a call may give after a step
-abbrev pub IsAnswerAfterStep : Command → Answer → Type 0
-IsAnswerAfterStep command = (rules command).IsAfterStep
+abbrev pub MayAnswerAfterStep : Command → Answer → Type 0
+MayAnswerAfterStep command = (rules command).IsAfterStep
 
 -- the snapshot of cell n once a call is answered
 abbrev pub linked_then : Option Command → Answer → History → ℕ → Option History → Option History

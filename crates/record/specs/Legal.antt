@@ -11,8 +11,8 @@ use Rattle.record.specs.declared.record.Reply.{Reply}
 use Rattle.record.specs.declared.record.Answer.{Answer}
 use Rattle.record.specs.MapRecord.{map_call_of, reply_told, after_maybe}
 
--- Events: the entries, those of unfinished calls too, and the finished reading calls, each with its
--- moment
+-- Events: the entries, those of calls that are not answered too, and the answered reading calls,
+-- each of these with its moment
 
 pub data Event : Type 0 where
   Change : Entry → Event
@@ -43,7 +43,7 @@ abbrev pub has_read : Option MapCall → Option MapReply → Bool
 has_read (Some call) (Some told) = not (changes call told)
 has_read _ _ = false
 
--- the events with that of a reading that has a moment
+-- the events, with this one if it is a reading and has a moment
 abbrev pub with_reading : Bool → Option ℕ → Reply → List Event → List Event
 with_reading true (Some m) r xs = with_event (Read m r) xs
 with_reading _ _ r xs = xs
@@ -57,14 +57,14 @@ events calls (ReplyLine r ∷ lines) = with_reading (has_read (map_call_of calls
 
 -- Replies
 
--- the answer to call j of client c, if it is finished
+-- the answer to call j of client c, if it is answered
 abbrev pub answer_to : List Line → ℕ → ℕ → Option Answer
 answer_to [] c j = None
 answer_to (Step row ∷ lines) c j = answer_to lines c j
 answer_to (Log e ∷ lines) c j = answer_to lines c j
 answer_to (ReplyLine r ∷ lines) c j = cond (eqb r.client.0 c && eqb r.call j) (Some r.answer) (answer_to lines c j)
 
--- it is a call of the map, and if it is finished it has told what it replies on the map m
+-- it is a call of the map, and if it is answered it has told what it replies on the map m
 abbrev pub IsReplyOn : List Pair → Option MapCall → Option Answer → Type 0
 IsReplyOn m (Some call) (Some answer) = reply_told answer ≡ Some (reply call m)
 IsReplyOn m (Some call) None = Unit {0}
@@ -90,11 +90,11 @@ times_due (Some told) = 1
 times_due None = 0
 
 -- each answered call stands there as often as it has to
-abbrev pub HaveTheirPlaces : List Line → List Event → Type 0
-HaveTheirPlaces [] xs = Unit {0}
-HaveTheirPlaces (Step row ∷ lines) xs = HaveTheirPlaces lines xs
-HaveTheirPlaces (Log e ∷ lines) xs = HaveTheirPlaces lines xs
-HaveTheirPlaces (ReplyLine r ∷ lines) xs = (times r.client.0 r.call xs ≡ times_due (reply_told r.answer)) × HaveTheirPlaces lines xs
+abbrev pub StandAsDue : List Line → List Event → Type 0
+StandAsDue [] xs = Unit {0}
+StandAsDue (Step row ∷ lines) xs = StandAsDue lines xs
+StandAsDue (Log e ∷ lines) xs = StandAsDue lines xs
+StandAsDue (ReplyLine r ∷ lines) xs = (times r.client.0 r.call xs ≡ times_due (reply_told r.answer)) × StandAsDue lines xs
 
 -- no call stands there twice
 abbrev pub StandOnce : List Event → Type 0
@@ -116,6 +116,6 @@ AreFewUnanswered answers (x ∷ xs) = (unanswered answers (event_client x) (x �
 -- one that is not answered.
 pub record IsLegal (calls : List Call) (lines : List Line) : Type 0 where
   pub replies : AreReplies calls (answer_to lines) [] (events calls lines)
-  pub placed : HaveTheirPlaces lines (events calls lines)
+  pub counted : StandAsDue lines (events calls lines)
   pub once : StandOnce (events calls lines)
   pub few : AreFewUnanswered (answer_to lines) (events calls lines)

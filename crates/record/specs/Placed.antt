@@ -42,11 +42,11 @@ pub record IsRefused (lines : List Line) (r : Reply) : Type 0 where
   pub moment : r.moment ≡ None
 
 -- A call that tells something has changed the map, or read it.
-abbrev pub IsToldAt : Bool → List Call → List Line → MapCall → Reply → Type 0
-IsToldAt true calls lines call r = IsChange calls lines call r
-IsToldAt false calls lines call r = IsReading calls lines call r
+abbrev pub IsChangeOrReading : Bool → List Call → List Line → MapCall → Reply → Type 0
+IsChangeOrReading true calls lines call r = IsChange calls lines call r
+IsChangeOrReading false calls lines call r = IsReading calls lines call r
 
 -- where a call of the map took place, by what it tells
 abbrev pub IsPlacedOnMap : Option MapReply → List Call → List Line → MapCall → Reply → Type 0
-IsPlacedOnMap (Some told) calls lines call r = IsToldAt (changes call told) calls lines call r
+IsPlacedOnMap (Some told) calls lines call r = IsChangeOrReading (changes call told) calls lines call r
 IsPlacedOnMap None calls lines call r = IsRefused lines r

@@ -10,7 +10,7 @@ use Rattle.record.specs.declared.record.Reply.{Reply}
 use Rattle.record.specs.declared.record.Answer.{Answer}
 use Rattle.record.specs.Turns.{history, turns, last_client, answered, begin, start, won}
 use Rattle.record.specs.Answers.{HasTakenOne, HasItsEntry}
-use Rattle.record.specs.CommandRules.{IsAnswerAtOnce, IsAnswerAfterStep, IsRight, IsPlaced}
+use Rattle.record.specs.CommandRules.{MayAnswerAtOnce, MayAnswerAfterStep, IsRight, IsPlaced}
 use Rattle.record.specs.Commands.{next_command}
 use Rattle.record.specs.Linked.{linked}
 
@@ -22,8 +22,8 @@ IsReplyOwed calls _ = ⊥
 
 -- the answer is one that the command may give: after a step, or in place of one
 abbrev pub IsFitting : List Line → Command → Answer → Type 0
-IsFitting (Step (Idle number client) ∷ lines) command answer = IsAnswerAtOnce command answer
-IsFitting lines command answer = IsAnswerAfterStep command answer
+IsFitting (Step (Idle number client) ∷ lines) command answer = MayAnswerAtOnce command answer
+IsFitting lines command answer = MayAnswerAfterStep command answer
 
 -- the reply to the next call of the client that made the newest turn, which is the call's last
 pub record IsReply (lay : Layout) (calls : List Call) (lines : List Line) (reply : Reply) : Type 0 where

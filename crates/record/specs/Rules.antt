@@ -30,8 +30,8 @@ pub record Rules : Type 1 where
   -- what an answer of client c says, between the steps up to the call's begin and those up to now,
   -- with the snapshots that the client keeps
   pub IsRight : Layout → ℕ → History → History → (ℕ → Option History) → Answer → Type 0
-  -- what an entry of client c does: after the steps just before it and those up to the call's
-  -- begin, with the snapshots that the client keeps
+  -- what an entry of client c does, between the steps up to the call's begin and those just before
+  -- the entry's, with the snapshots that the client keeps
   pub IsEntryFor : Layout → ℕ → History → History → (ℕ → Option History) → Entered → Type 0
   -- where the call of a reply took place, with the lines before the reply
   pub IsPlaced : Layout → List Call → List Line → Reply → Type 0

@@ -12,12 +12,12 @@ use Rattle.record.specs.Turns.{history, entry_owed}
 use Rattle.record.specs.MapRecord.{written_log, map_of}
 
 -- the node is there from the start, or a field has named it at some moment
-abbrev pub WasNamedByField : History → ℕ → Type 0
-WasNamedByField h n = (n < 3) ⊎ ((m : ℕ) × (from : Side) × HasHeld h (child m from) n)
+abbrev pub HasStoodInField : History → ℕ → Type 0
+HasStoodInField h n = (n < 3) ⊎ ((m : ℕ) × (from : Side) × HasHeld h (child m from) n)
 
 -- each fork that a field has ever named, in the tree or removed, has a level below its children's
 abbrev pub HasRisingLevels : History → Type 0
-HasRisingLevels h = (n : ℕ) (side : Side) → WasNamedByField h n → is_leaf (value h) n ≡ false → level (value h) n < level (value h) (value h (child n side))
+HasRisingLevels h = (n : ℕ) (side : Side) → HasStoodInField h n → is_leaf (value h) n ≡ false → level (value h) n < level (value h) (value h (child n side))
 
 -- the words after these lines spell the map of their entries
 pub record IsSpelledAfter (lay : Layout) (calls : List Call) (lines : List Line) : Type 0 where

@@ -25,7 +25,7 @@ pub record IsLeafCopy (f : Word → ℕ) (c l : ℕ) : Type 0 where
   pub alike : IsAlike f c l
   pub value : f (node c Value) ≡ f (node l Value)
 
--- a leaf of the key is replaced by a fresh leaf
+-- a leaf of the key is replaced by another leaf
 pub record IsSwap (f : Word → ℕ) (k v l c : ℕ) : Type 0 where
   pub leaf : is_leaf f l ≡ true
   pub class : class f l ≡ 0
@@ -33,7 +33,7 @@ pub record IsSwap (f : Word → ℕ) (k v l c : ℕ) : Type 0 where
   pub new : IsPairLeaf f c k v
   pub deep : level f c ≡ level f l
 
--- a leaf without the key is replaced by a fork over a fresh leaf x and a copy y of it
+-- a leaf without the key is replaced by a fork over a leaf x of the key and a copy y of it
 pub record IsSplit (f : Word → ℕ) (k v l c x y : ℕ) : Type 0 where
   pub leaf : is_leaf f l ≡ true
   pub fork : is_leaf f c ≡ false
@@ -56,7 +56,7 @@ pub record IsJoin (f : Word → ℕ) (k q l z c : ℕ) : Type 0 where
   pub same_key : f (node c Key) ≡ f (node z Key)
   pub same_value : is_leaf f z ≡ true → f (node c Value) ≡ f (node z Value)
 
--- the fields of q are l and z, l on the side of k
+-- the fields of q are l and z
 abbrev pub AreBelow : (Word → ℕ) → ℕ → ℕ → ℕ → Type 0
 AreBelow f q l z = ((f (child q Left) ≡ l) × (f (child q Right) ≡ z)) ⊎ ((f (child q Left) ≡ z) × (f (child q Right) ≡ l))
 
