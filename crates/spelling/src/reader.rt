@@ -11,10 +11,10 @@ use crate::part::{Part, Seen, look};
 use arena::{NoMemory, NodeNo, NodeWord, PlainWords, Word};
 use std::alloc::Global;
 
-/// The map that the words spell: the pairs of the tree that they show from node 0, by rising key. None
-/// where they spell no map: where what they show is no tree, with nodes of the table and rising
-/// levels, is not in order, or does not end with a leaf of class 1, the only one, and node 2, of class
-/// 2. The only error is want of memory.
+/// The map that the words spell: the pairs of the tree that they show from node 0, by rising key.
+/// None where they spell no map: where what they show is no tree, with nodes of the table and rising
+/// levels, is not in order, or does not end with a leaf of class 1, the only one, and node 2, of
+/// class 2. The only error is want of memory.
 pub fn spelled(alloc: Global, words: &PlainWords) -> Result<Option<Vec<Pair>>, NoMemory>
     ensures spells { IfOk result (λ o. IfSome o (λ m. Spells words.now.layout (word_at words.now) m.items)) }
     ensures none { IfOk result (λ o. IfNone o ((m : List Pair) → ¬ Spells words.now.layout (word_at words.now) m)) }

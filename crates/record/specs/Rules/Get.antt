@@ -16,7 +16,8 @@ abbrev pub GetAfterStep : Answer → Type 0
 GetAfterStep (Value answer) = Unit {0}
 GetAfterStep _ = ⊥
 
--- at a moment of the call, or just before its first turn, the map that the words spelled had this at the key
+-- at a moment of the call, or just before its first turn, the map that the words spelled had this
+-- at the key
 abbrev pub GetIsRight : ℕ → Layout → ℕ → History → History → (ℕ → Option History) → Answer → Type 0
 GetIsRight key lay c now start linked (Value answer) = IsAnswerAt lay now start key answer
 GetIsRight key lay c now start linked _ = ⊥
