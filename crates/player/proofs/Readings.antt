@@ -1,9 +1,8 @@
 -- Where the calls of a run took place: those of cells where their answer says; a get in its last
 -- turn, since a run of gets alone leaves the words as they were at the start, which spell the empty
 -- map. All replies of such a run are those of one map.
-use Rattle.std.proofs.Common.{◌≡◌, ℕ, zero, suc, ◌<◌, ◌≤◌, ◌⊎◌, inl, inr, ⊎_elim, Bool, true, false, cond, eqb, List, [], ◌∷◌, length, Option, Some, None, slice_get, All, refl, sym, ◌∙◌, ap, subst, arith}
-use Rattle.std.proofs.lemmas.Option.{slice_get_cases}
-use Rattle.std.proofs.lemmas.List.Elements.{All-get_or, All-tail}
+use Rattle.std.proofs.Common.{◌≡◌, ℕ, zero, suc, ◌<◌, ◌≤◌, ◌⊎◌, inl, inr, ⊎_elim, Bool, true, false, cond, eqb, List, [], ◌∷◌, Option, Some, slice_get, All, refl, sym, ◌∙◌, ap, subst, arith}
+use Rattle.std.proofs.lemmas.List.Elements.{All-tail}
 use Rattle.arena.specs.declared.limits.Mode.{Mode}
 use Rattle.arena.specs.declared.limits.Mode.TheVariants.{Records, Tree}
 use Rattle.arena.specs.declared.layout.Layout.{Layout}
@@ -12,7 +11,7 @@ use Rattle.arena.specs.declared.step.Kind.TheVariants.{LoadSettled, LoadChild}
 use Rattle.arena.specs.declared.step.Row.{Row}
 use Rattle.arena.specs.PlainWords.{Contents}
 use Rattle.arena.specs.History.{History, Start, ◌⊳◌, value, Extends, HasHeld}
-use Rattle.arena.specs.Lawful.{Lawful, Obeys}
+use Rattle.arena.specs.Lawful.{Obeys}
 use Rattle.arena.specs.Layout.{opening}
 use Rattle.arena.specs.Log.{Entry, IsEntered, log}
 use Rattle.arena.specs.Words.{node, child}
