@@ -1,5 +1,5 @@
 -- The mode of a script's calls.
-use Rattle.std.proofs.Common.{◌≡◌, ℕ, ◌<◌, length, get_or, All}
+use Rattle.std.proofs.Common.{◌≡◌, All}
 use Rattle.script.specs.declared.command.Call.{Call}
 use Rattle.script.specs.declared.script.Script.{Script}
 use Rattle.script.specs.Commands.{mode_of}

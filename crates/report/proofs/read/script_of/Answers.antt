@@ -1,4 +1,4 @@
-use Rattle.std.proofs.Common.{arith, ◌≡◌, [], ◌∷◌, ◌∙◌, ap, map, rules, subst, sym}
+use Rattle.std.proofs.Common.{◌≡◌, [], ◌∷◌, ◌∙◌, ap, map, rules, subst, sym}
 use Rattle.script.specs.Rows.{limits_row}
 use Rattle.texts.specs.Reads.{IsAtRow, last_row}
 use Rattle.report.specs.Report.{call_rows, title_row}
