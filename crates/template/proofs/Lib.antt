@@ -1,3 +1,6 @@
 mod WalkTurns
 mod WalkBounds
+mod Promised
+mod Inserting
+mod Tracking
 pub mod Lemmas

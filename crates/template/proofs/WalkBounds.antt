@@ -1,29 +1,37 @@
 -- What else is known of walks: they ask for loads alone; how they begin, and what they have found.
-use Rattle.std.proofs.Common.{◌≡◌, ◌≢◌, ℕ, ◌+◌, ◌*◌, ◌^◌, ◌<◌, ◌≤◌, length, arith, true, false, ◌⊎◌, inl, inr, Option, Some, None, refl, sym, ◌∙◌, ap, subst}
+use Rattle.std.proofs.Common.{◌≡◌, ◌≢◌, ℕ, ◌+◌, ◌*◌, ◌%◌, ◌^◌, ◌<◌, ◌≤◌, [], ◌∷◌, length, arith, true, false, cond, eqb, ◌⊎◌, inl, inr, Option, Some, None, refl, sym, ◌∙◌, ap, subst}
 use native.Mathlib.Decide.{ℕ_discrete}
 use Rattle.std.proofs.lemmas.Nat.{mul-le}
+use Rattle.arena.specs.declared.step.Row.{Row}
 use Rattle.arena.specs.declared.step.Step.{Step}
 use Rattle.arena.specs.declared.step.Access.TheVariants.{Load}
 use Rattle.arena.specs.declared.step.Kind.{Kind}
 use Rattle.arena.specs.declared.step.Kind.TheVariants.{Fill, LoadSettled, LoadChild}
 use Rattle.arena.specs.declared.word.Side.{Side}
-use Rattle.arena.specs.declared.word.NodeWord.TheVariants.{Key as KeyWord, Value as ValueWord}
+use Rattle.arena.specs.declared.word.NodeWord.TheVariants.{Head as HeadWord, Key as KeyWord, Value as ValueWord}
+use Rattle.arena.specs.declared.word.Word.{Word}
+use Rattle.arena.specs.Heads.{head_of}
 use Rattle.arena.specs.Words.{node, info, child}
-use Rattle.arena.specs.History.{History, value, Extends}
+use Rattle.arena.specs.History.{History, ◌⊳◌, value, Extends}
 use Rattle.arena.specs.Fills.{IsNamed}
 use Rattle.arena.specs.Blame.{WasInTheWay}
-use Rattle.arena.specs.Machines.{Call}
+use Rattle.arena.specs.Machines.{IsRun, Call}
 use Rattle.arena.specs.TakenNodes.{taken_nodes}
-use Rattle.arena.proofs.Lemmas.{ends_trans, taken_few}
+use Rattle.arena.proofs.Lemmas.{ends_trans, taken_few, taken_more}
+use Rattle.histories.proofs.Lemmas.{node_stays}
+use Rattle.spelling.specs.OrderedMap.{pair, get}
 use Rattle.spelling.specs.Paths.{IsAnswerAt}
 use Rattle.spelling.specs.Runs.{IsTreeRun}
-use Rattle.spelling.specs.TreeWords.{class, is_leaf, IsBlankAboveKeys}
-use Rattle.spelling.proofs.Lemmas.{walk_answers, walk_named, run_since, root_head, passed_blank, blame_field}
+use Rattle.spelling.specs.TreeShape.{TreeAllows}
+use Rattle.spelling.specs.TreeWords.{class, is_leaf, said, IsBlankAboveKeys}
+use Rattle.spelling.proofs.Lemmas.{walk_answers, walk_named, run_since, root_head, passed_blank, blame_field, SameSettled, settled_leaf}
 use Rattle.template.specs.declared.walk.Found.{Found}
 use Rattle.template.specs.declared.walk.WalkRun.{WalkRun}
 use Rattle.template.specs.declared.walk.WalkAt.{WalkAt}
 use Rattle.template.specs.declared.walk.WalkAt.TheVariants.{Start, Root, Head, Key, Child, Value}
+use Rattle.template.specs.FoundLeaf.{HasFoundLeaf}
 use Rattle.template.specs.Trails.{HasTurned}
+use Rattle.template.specs.Walk.Laws.{trail_more}
 use Rattle.template.specs.Walk.Known.{walk_kind, WalkWaits, WalkIsReady, WalkAnswers}
 use Rattle.template.proofs.WalkTurns.{own_since}
 
@@ -67,7 +75,7 @@ walk_ready_run m c h (Some v) r = (r.run, r.small)
 
 -- What it has found
 
-module _ (m : WalkRun) (c : Call) (h : History) (f : Found) (run : IsTreeRun c.layout h) (a : WalkAnswers m c h f) where
+module _ (k : ℕ) (c : Call) (h : History) (f : Found) (run : IsTreeRun c.layout h) (a : HasFoundLeaf c h k f) where
   -- a leaf is not the root
   pub found_below : f.trail.node.0 ≢ 0
   found_below e =
@@ -77,7 +85,7 @@ module _ (m : WalkRun) (c : Call) (h : History) (f : Found) (run : IsTreeRun c.l
       cc
 
   blank : IsBlankAboveKeys (value h) f.trail.node.0
-  blank = passed_blank c.layout h a.trail.node.first m.key f.trail.node.0 run a.trail.node.passed
+  blank = passed_blank c.layout h a.trail.node.first k f.trail.node.0 run a.trail.node.passed
 
   high : f.head.class ≢ 0 → class (value h) f.trail.node.0 ≢ 0
   high d e = d (sym (ap (λ w. w.class) a.head) ∙ e)
@@ -94,6 +102,10 @@ module _ (m : WalkRun) (c : Call) (h : History) (f : Found) (run : IsTreeRun c.l
   pub found_no_value : f.head.class ≢ 0 → value h (node f.trail.node.0 ValueWord) ≡ 0
   found_no_value d = blank.value (high d) a.leaf
 
+  -- its class is one that a word can hold
+  pub found_class : f.head.class < 4
+  found_class = let e : class (value h) f.trail.node.0 ≡ f.head.class = ap (λ w. w.class) a.head in omega (arith, e)
+
   -- the level below it fits the word of a head, too: no table has as many nodes as there are levels
   pub found_level : f.head.level + 1 < 2 ^ 61
   found_level =
@@ -101,6 +113,24 @@ module _ (m : WalkRun) (c : Call) (h : History) (f : Found) (run : IsTreeRun c.l
       let few : length (taken_nodes h) ≤ c.layout.passes * c.layout.nodes = taken_few c.layout h run.1.lawful in
       let most : c.layout.passes * c.layout.nodes ≤ 32 * 32768 = mul-le c.layout.passes c.layout.nodes 32 32768 c.layout.passes_fit c.layout.nodes_fit in
       omega (arith, deep, few, most)
+
+same_said : (f g : Word → ℕ) (k n : ℕ) → SameSettled f g n → said g k n ≡ said f k n
+same_said f g k n e = λ i. get k (cond (eqb (e HeadWord tt i % 4) 0) (pair (e KeyWord tt i) (e ValueWord tt i) ∷ []) [])
+
+-- what a call has found it has found, whatever row comes
+pub found_more : (c : Call) (h : History) (r : Row) (k : ℕ) (f : Found) → IsTreeRun c.layout h → IsRun TreeAllows c.layout (r ⊳ h) → HasFoundLeaf c h k f → HasFoundLeaf c (r ⊳ h) k f
+found_more c h r k f run run_now a = record {
+  trail = trail_more c h r run run_now k f.trail a.trail;
+  leaf = settled_leaf (value h) (value (r ⊳ h)) f.trail.node.0 same ∙ a.leaf;
+  head = ap head_of (same HeadWord tt) ∙ a.head;
+  deep = let deep : f.head.level < 2 + length (taken_nodes h) = a.deep in let more : length (taken_nodes h) ≤ length (taken_nodes (r ⊳ h)) = taken_more h r in omega (arith, deep, more);
+  key = λ low. same KeyWord tt ∙ a.key low;
+  blank = a.blank;
+  says = a.says ∙ sym (same_said (value h) (value (r ⊳ h)) k f.trail.node.0 same);
+}
+  where
+    same : SameSettled (value h) (value (r ⊳ h)) f.trail.node.0
+    same part i = node_stays c.layout h r f.trail.node.0 part run_now.lawful i (walk_named c.layout h a.trail.node.first k f.trail.node.0 run a.trail.node.passed)
 
 -- A field by which the call went down, and that holds another node now: the SCX-record that its
 -- node's info names was in the way of the call.

@@ -1,3 +1,7 @@
 pub mod TreeKept
 pub mod Trails
+pub mod FoundLeaf
 pub mod Walk
+pub mod Promises
+pub mod FreshNodes
+pub mod Tracked

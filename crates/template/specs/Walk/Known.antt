@@ -1,5 +1,5 @@
 -- When a walk may go on, what it waits for, and what its answer says.
-use Rattle.std.specs.Prelude.{◌≡◌, ◌≢◌, ℕ, ◌+◌, ◌^◌, ◌<◌, true, false, length, Option, Some, None}
+use Rattle.std.specs.Prelude.{◌≡◌, ℕ, ◌^◌, ◌<◌, true, false, Option, Some, None}
 use Rattle.arena.specs.declared.head.Head.{Head as HeadParts}
 use Rattle.arena.specs.declared.machine.Turn.{Turn}
 use Rattle.arena.specs.declared.machine.Turn.TheVariants.{Ask, Done}
@@ -12,10 +12,10 @@ use Rattle.arena.specs.Heads.{head_of}
 use Rattle.arena.specs.Words.{node}
 use Rattle.arena.specs.History.{History, value, Extends}
 use Rattle.arena.specs.Machines.{Call, MatchTurn}
-use Rattle.arena.specs.TakenNodes.{taken_nodes}
 use Rattle.prims.specs.Llx.Known.{load}
 use Rattle.spelling.specs.Runs.{IsTreeRun}
-use Rattle.spelling.specs.TreeWords.{is_leaf, level, toward, said}
+use Rattle.spelling.specs.TreeWords.{is_leaf, level, toward}
+use Rattle.template.specs.FoundLeaf.{HasFoundLeaf}
 use Rattle.template.specs.Trails.{OnTrail, IsOwnMoment}
 use Rattle.template.specs.declared.walk.Found.{Found}
 use Rattle.template.specs.declared.walk.WalkRun.{WalkRun}
@@ -80,17 +80,9 @@ abbrev pub WalkIsReady : WalkRun → Call → History → Option ℕ → Type 0
 WalkIsReady m c h None = WalkBegins m c h
 WalkIsReady m c h (Some v) = WalkIsTold m c h v
 
--- the walk has passed this leaf on its way to the key; what its words say, of the key too
-pub record WalkAnswers (m : WalkRun) (c : Call) (h : History) (f : Found) : Type 0 where
-  pub trail : OnTrail c h m.key f.trail
-  pub leaf : is_leaf (value h) f.trail.node.0 ≡ true
-  pub head : head_of (value h (node f.trail.node.0 HeadWord)) ≡ f.head
-  -- it is not deeper than the taken nodes allow
-  pub deep : f.head.level < 2 + length (taken_nodes h)
-  pub key : f.head.class ≡ 0 → value h (node f.trail.node.0 KeyWord) ≡ f.key
-  -- of a leaf above all keys the key told is 0
-  pub blank : f.head.class ≢ 0 → f.key ≡ 0
-  pub says : f.value ≡ said (value h) m.key f.trail.node.0
+-- the walk has found this leaf on its way to the key
+abbrev pub WalkAnswers : WalkRun → Call → History → Found → Type 0
+WalkAnswers m c h f = HasFoundLeaf c h m.key f
 
 -- a walk waits for the step of the turn, or its answer is right
 abbrev pub WalkTurn : Call → History → WalkRun → Turn Found → Type 0

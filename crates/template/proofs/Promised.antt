@@ -1,0 +1,234 @@
+-- What a pass has in hand for an insert or a delete allows its SCX-record, whatever rows come until
+-- that begins.
+use Rattle.std.proofs.Common.{◌≡◌, ◌≢◌, ℕ, ◌<◌, true, false, ◌⊎◌, inl, inr, refl, sym, ◌∙◌, ap, arith, subst}
+use Rattle.arena.specs.declared.layout.Layout.{Layout}
+use Rattle.arena.specs.declared.word.Side.{Side}
+use Rattle.arena.specs.declared.word.Side.TheVariants.{Left, Right}
+use Rattle.arena.specs.declared.word.NodeWord.{NodeWord}
+use Rattle.arena.specs.declared.word.NodeWord.TheVariants.{Child, Info}
+use Rattle.arena.specs.declared.word.ScxWord.{ScxWord}
+use Rattle.arena.specs.declared.word.Word.{Word}
+use Rattle.arena.specs.declared.step.Row.{Row}
+use Rattle.arena.specs.Words.{node, scx, info, child}
+use Rattle.arena.specs.History.{History, Start, ◌⊳◌, value, Extends}
+use Rattle.arena.specs.ScxRecords.{plan, count, count_of, member, seen, new, old}
+use Rattle.arena.specs.Fills.{IsOwnNode, IsNamed, IsNamedScx}
+use Rattle.arena.specs.Lawful.{Lawful}
+use Rattle.arena.proofs.Lemmas.{value_quiet, value_apart, held_more, scx_apart, ends_trans, named_before}
+use Rattle.histories.specs.Descriptor.{Descriptor, descriptor}
+use Rattle.histories.proofs.Lemmas.{lawful_row, lawful_tail, node_since, stays_unnamed, unnamed_stays}
+use Rattle.help.specs.Allowed.{MayComeBetween, IsLater, IsAllowed}
+use Rattle.help.specs.Help.Allowing.{later_self, later_trans}
+use Rattle.prims.specs.declared.snap.Snap.{Snap}
+use Rattle.prims.specs.Snap.{child_of}
+use Rattle.prims.specs.Laws.Linked.{IsLinked, linked_since}
+use Rattle.spelling.specs.OrderedMap.{MapEdit, Insert, Delete}
+use Rattle.spelling.specs.Paths.{WasOnPath}
+use Rattle.spelling.specs.TreeShape.{insert_plan, delete_plan, leaf_place, sibling_place, IsDelete, TreeAllows}
+use Rattle.spelling.specs.TreeWords.{is_leaf, rank, toward}
+use Rattle.spelling.specs.Edits.{IsAlike, IsSwap, IsSplit, IsJoin, HasFieldsOf}
+use Rattle.spelling.proofs.Lemmas.{plan_delete, SameSettled, settled_toward, settled_leaf, move_swap, move_split, move_join}
+use Rattle.template.specs.Promises.{IsPromised, IsFresh, IsInsertOver, WillInsert, IsSnapOf, WillDelete}
+
+-- what is promised is allowed
+pub promised_allowed : (lay : Layout) (c : ℕ) (h : History) (s : ℕ) (d : Descriptor) (e : MapEdit) → IsPromised lay c h s d e → IsAllowed TreeAllows lay c h s d
+promised_allowed lay c h s d e x k later run same begins now = (e, x k later run same begins now)
+
+-- what is promised of s stays promised after a row that may come before it begins
+pub promised_more : (lay : Layout) (c : ℕ) (h : History) (r : Row) (s : ℕ) (d : Descriptor) (e : MapEdit) → MayComeBetween c s r → IsPromised lay c h s d e → IsPromised lay c (r ⊳ h) s d e
+promised_more lay c h r s d e b x k later = x k (later_trans c s h (r ⊳ h) k later (inr (b, later_self c s h)))
+
+-- Later histories
+
+later_extends : (c s : ℕ) (h k : History) → IsLater c s h k → Extends k h
+later_extends c s h (Start mode) x = x
+later_extends c s h (r ⊳ k) (inl e) = inl e
+later_extends c s h (r ⊳ k) (inr x) = inr (later_extends c s h k x.1)
+
+-- no info word names s until then
+free_before : (h : History) (r : Row) (s : ℕ) → ¬ IsNamedScx (r ⊳ h) s → ¬ IsNamedScx h s
+free_before h r s free p = free (p.0, held_more r h _ s p.1)
+
+-- the words of a fresh node stay, and nothing names it
+record Stays (lay : Layout) (h k : History) (n : ℕ) : Type 0 where
+  unnamed : ¬ IsNamed lay k n
+  words : (part : NodeWord) → value k (node n part) ≡ value h (node n part)
+
+stays_step : (lay : Layout) (c s : ℕ) (h k : History) (r : Row) (n : ℕ) → c < lay.passes → Lawful lay (r ⊳ k) → MayComeBetween c s r → ¬ IsNamedScx k s → IsOwnNode lay c n → Stays lay h k n → Stays lay h (r ⊳ k) n
+stays_step lay c s h k r n i l (inl other) free own x = record {
+  unnamed = stays_unnamed lay k r c l i other n own x.unnamed;
+  words = λ part. unnamed_stays lay k r c l i other n part own x.unnamed ∙ x.words part;
+}
+stays_step lay c s h k r n i l (inr (inl fill)) free own x = record {
+  unnamed = λ p. x.unnamed (named_before lay r k (λ m. nodes m Info) (λ m side. nodes m (Child side)) (λ u part q. others u part (λ e. free (subst (IsNamedScx k) e q))) p);
+  words = λ part. nodes n part ∙ x.words part;
+}
+  where
+    nodes : (m : ℕ) (part : NodeWord) → value (r ⊳ k) (node m part) ≡ value k (node m part)
+    nodes m part = value_apart r k (scx s fill.0) (node m part) fill.2 refl
+
+    others : (u : ℕ) (part : ScxWord) → u ≢ s → value (r ⊳ k) (scx u part) ≡ value k (scx u part)
+    others u part d = value_apart r k (scx s fill.0) (scx u part) fill.2 (scx_apart s u fill.0 part (λ e. d (sym e)))
+stays_step lay c s h k r n i l (inr (inr q)) free own x = record {
+  unnamed = λ p. x.unnamed (named_before lay r k (λ m. same (info m)) (λ m side. same (child m side)) (λ u part _. same (scx u part)) p);
+  words = λ part. same (node n part) ∙ x.words part;
+}
+  where
+    same : (w : Word) → value (r ⊳ k) w ≡ value k w
+    same w = value_quiet r k (lawful_row lay k r l).before q.same w
+
+stays_later : (lay : Layout) (c s : ℕ) (h k : History) (n : ℕ) → c < lay.passes → Lawful lay k → IsLater c s h k → ¬ IsNamedScx k s → IsOwnNode lay c n → ¬ IsNamed lay h n → Stays lay h k n
+stays_later lay c s h (Start mode) n i l x free own d = subst (λ m. Stays lay m (Start mode) n) (sym x) record { unnamed = rw x at d; words = λ part. refl }
+stays_later lay c s h (r ⊳ k) n i l (inl e) free own d = subst (λ m. Stays lay m (r ⊳ k) n) (sym e) record { unnamed = rw e at d; words = λ part. refl }
+stays_later lay c s h (r ⊳ k) n i l (inr x) free own d =
+    let f : ¬ IsNamedScx k s = free_before k r s free in
+    stays_step lay c s h k r n i l x.0 f own (stays_later lay c s h k n i (lawful_tail lay k r l) x.1 f own d)
+
+-- the settled words of a named node stay
+named_words : (lay : Layout) (h k : History) (n : ℕ) → Lawful lay k → Extends k h → IsNamed lay h n → SameSettled (value h) (value k) n
+named_words lay h k n l e p a i = node_since lay k h n a l e i p
+
+fresh_words : {lay : Layout} {h k : History} {n : ℕ} → Stays lay h k n → SameSettled (value h) (value k) n
+fresh_words x a i = x.words a
+
+was_on_path_since : (h k : History) (key n : ℕ) → Extends k h → WasOnPath h key n → WasOnPath k key n
+was_on_path_since h k key n e p = (p.0, ends_trans k h p.0 e p.1, p.2)
+
+-- The words of an SCX-record whose descriptor is d
+
+module _ (k : History) (s : ℕ) (d : Descriptor) (e : descriptor k s ≡ d) where
+  abbrev is_plan : plan k s ≡ d.plan
+  is_plan = ap (λ (x : Descriptor). x.plan) e
+
+  abbrev is_member : (j : ℕ) → member k s j ≡ d.member j
+  is_member j = ap (λ (x : Descriptor). x.member j) e
+
+  abbrev is_seen : (j : ℕ) → seen k s j ≡ d.seen j
+  is_seen j = ap (λ (x : Descriptor). x.seen j) e
+
+  abbrev is_new : new k s ≡ d.new
+  is_new = ap (λ (x : Descriptor). x.new) e
+
+  abbrev is_old : old k s ≡ d.old
+  is_old = ap (λ (x : Descriptor). x.old) e
+
+-- The promises
+
+-- with this in hand an SCX-record makes the insert
+pub insert_promised : (lay : Layout) (c s : ℕ) (h : History) (d : Descriptor) (key v : ℕ) → c < lay.passes → WillInsert lay c h d key v → IsPromised lay c h s d (Insert key v)
+insert_promised lay c s h d key v is_pass w k later run same begins now = record {
+  small = w.small;
+  path = subst (WasOnPath k key) (sym (is_member k s d same 0)) (was_on_path_since h k key (d.member 0) ends w.path);
+  fork = subst (λ n. is_leaf (value k) n ≡ false) (sym (is_member k s d same 0)) (settled_leaf (value h) (value k) (d.member 0) parent ∙ w.fork);
+  edit = record {
+    plan = is_plan k s d same ∙ w.plan ∙ ap insert_plan (sym (settled_toward (value h) (value k) (d.member 0) key parent) ∙ ap (λ n. toward (value k) n key) (sym (is_member k s d same 0)));
+    old = is_old k s d same ∙ w.old ∙ sym (is_member k s d same 1);
+    edit = subst (λ n. IsSwap (value k) key v (member k s 1) n ⊎ ((x y : ℕ) × IsSplit (value k) key v (member k s 1) n x y)) (sym (is_new k s d same))
+        (subst (λ n. IsSwap (value k) key v n d.new ⊎ ((x y : ℕ) × IsSplit (value k) key v n d.new x y)) (sym (is_member k s d same 1)) (moved w.edit));
+  };
+  fresh = λ two fork side. subst (λ n. is_leaf (value k) n ≡ false → ¬ IsNamed lay k (value k (child n side))) (sym (is_new k s d same)) (λ f. unnamed_child w.edit f side) fork;
+}
+  where
+    ends : Extends k h
+    ends = later_extends c s h k later
+
+    parent : SameSettled (value h) (value k) (d.member 0)
+    parent = named_words lay h k (d.member 0) run.lawful ends w.named
+
+    leaf : SameSettled (value h) (value k) (d.member 1)
+    leaf = named_words lay h k (d.member 1) run.lawful ends w.leaf_named
+
+    stays : (n : ℕ) → IsFresh lay c h n → Stays lay h k n
+    stays n x = stays_later lay c s h k n is_pass run.lawful later begins.free x.own x.unnamed
+
+    unnamed_child : IsInsertOver lay c h key v (d.member 1) d.new → is_leaf (value k) d.new ≡ false → (side : Side) → ¬ IsNamed lay k (value k (child d.new side))
+    unnamed_child (inl e) f side p = absurd (let z : true ≡ false = sym e.new.leaf ∙ sym (settled_leaf (value h) (value k) d.new (fresh_words (stays d.new w.fresh))) ∙ f in cc)
+    unnamed_child (inr e) f side p = by_side e.4.order side ((stays d.new w.fresh).words (Child side)) p
+      where
+        not_x : ¬ IsNamed lay k e.0
+        not_x = (stays e.0 e.2).unnamed
+
+        not_y : ¬ IsNamed lay k e.1
+        not_y = (stays e.1 e.3).unnamed
+
+        by_side : ((key < rank (value h) (d.member 1)) × IsAlike (value h) d.new (d.member 1) × (value h (child d.new Left) ≡ e.0) × (value h (child d.new Right) ≡ e.1))
+            ⊎ ((rank (value h) (d.member 1) < key) × IsAlike (value h) d.new e.0 × (value h (child d.new Left) ≡ e.1) × (value h (child d.new Right) ≡ e.0))
+            → (z : Side) → value k (child d.new z) ≡ value h (child d.new z) → IsNamed lay k (value k (child d.new z)) → ⊥
+        by_side (inl o) Left q n = not_x (subst (IsNamed lay k) (q ∙ o.2) n)
+        by_side (inl o) Right q n = not_y (subst (IsNamed lay k) (q ∙ o.3) n)
+        by_side (inr o) Left q n = not_y (subst (IsNamed lay k) (q ∙ o.2) n)
+        by_side (inr o) Right q n = not_x (subst (IsNamed lay k) (q ∙ o.3) n)
+
+    moved : IsInsertOver lay c h key v (d.member 1) d.new → IsSwap (value k) key v (d.member 1) d.new ⊎ ((x y : ℕ) × IsSplit (value k) key v (d.member 1) d.new x y)
+    moved (inl e) = inl (move_swap (value h) (value k) key v (d.member 1) d.new leaf (fresh_words (stays d.new w.fresh)) e)
+    moved (inr e) = inr (e.0, e.1, move_split (value h) (value k) key v (d.member 1) d.new e.0 e.1 leaf (fresh_words (stays d.new w.fresh)) (fresh_words (stays e.0 e.2)) (fresh_words (stays e.1 e.3)) (λ side. (stays d.new w.fresh).words (Child side)) e.4)
+
+places_small : (side : Side) → (leaf_place side < 4) × (sibling_place side < 4)
+places_small Left = (omega arith, omega arith)
+places_small Right = (omega arith, omega arith)
+
+-- with this in hand an SCX-record makes the delete
+pub delete_promised : (lay : Layout) (c s : ℕ) (h : History) (d : Descriptor) (key : ℕ) (side : Side) → c < lay.passes → WillDelete lay c h d key side → IsPromised lay c h s d (Delete key)
+delete_promised lay c s h d key side is_pass w k later run same begins now = record {
+  small = w.small;
+  path = subst (WasOnPath k key) (sym (at 0)) (was_on_path_since h k key (d.member 0) ends w.path);
+  fork = subst (λ n. is_leaf (value k) n ≡ false) (sym (at 0)) (settled_leaf (value h) (value k) (d.member 0) (words 0 (omega arith)) ∙ w.fork);
+  edit = subst (IsDelete k s key) (sym side_now) record {
+    plan = is_plan k s d same ∙ w.plan ∙ ap delete_plan (sym (settled_toward (value h) (value k) (d.member 0) key (words 0 (omega arith))) ∙ ap (λ n. toward (value k) n key) (sym (at 0)));
+    old = is_old k s d same ∙ w.old ∙ sym (at 1);
+    edit = join_here;
+    fields = λ e. (left_here e, right_here e);
+    copied = copied_here;
+  };
+  fresh = λ two f z. absurd (let a : count k s ≡ 2 = two in let b : count k s ≡ 4 = four in omega (arith, a, b));
+}
+  where
+    four : count k s ≡ 4
+    four = ap count_of (is_plan k s d same ∙ w.plan) ∙ (plan_delete (delete_plan (toward (value h) (d.member 0) key)) (toward (value h) (d.member 0) key) refl).3
+
+    ends : Extends k h
+    ends = later_extends c s h k later
+
+    at : (j : ℕ) → member k s j ≡ d.member j
+    at j = is_member k s d same j
+
+    words : (j : ℕ) → j < 4 → SameSettled (value h) (value k) (d.member j)
+    words j i = named_words lay h k (d.member j) run.lawful ends (w.named j i)
+
+    stays : Stays lay h k d.new
+    stays = stays_later lay c s h k d.new is_pass run.lawful later begins.free w.fresh.own w.fresh.unnamed
+
+    side_now : toward (value k) (member k s 1) key ≡ side
+    side_now = ap (λ n. toward (value k) n key) (at 1) ∙ settled_toward (value h) (value k) (d.member 1) key (words 1 (omega arith)) ∙ w.side_is
+
+    small : (leaf_place side < 4) × (sibling_place side < 4)
+    small = places_small side
+
+    moved : IsJoin (value k) key (d.member 1) (d.member (leaf_place side)) (d.member (sibling_place side)) d.new
+    moved = move_join (value h) (value k) key (d.member 1) (d.member (leaf_place side)) (d.member (sibling_place side)) d.new (words 1 (omega arith)) (words (leaf_place side) small.0) (words (sibling_place side) small.1) (fresh_words stays) w.edit
+
+    join_here : IsJoin (value k) key (member k s 1) (member k s (leaf_place side)) (member k s (sibling_place side)) (new k s)
+    join_here =
+        subst (λ n. IsJoin (value k) key n (member k s (leaf_place side)) (member k s (sibling_place side)) (new k s)) (sym (at 1))
+        (subst (λ n. IsJoin (value k) key (d.member 1) n (member k s (sibling_place side)) (new k s)) (sym (at (leaf_place side)))
+        (subst (λ n. IsJoin (value k) key (d.member 1) (d.member (leaf_place side)) n (new k s)) (sym (at (sibling_place side)))
+        (subst (λ n. IsJoin (value k) key (d.member 1) (d.member (leaf_place side)) (d.member (sibling_place side)) n) (sym (is_new k s d same)) moved)))
+
+    -- what a snapshot found its node shows while its info is what was seen
+    shows : (j : ℕ) (snap : Snap) → IsSnapOf lay h d j snap → value k (info (member k s j)) ≡ seen k s j → (z : Side) → value k (child (member k s j) z) ≡ (child_of snap z).0
+    shows j snap x e z =
+        let l : IsLinked lay k snap = linked_since lay k h snap run.lawful ends x.linked in
+        let n : member k s j ≡ snap.node.0 = at j ∙ sym x.node in
+        let q : value k (info snap.node.0) ≡ snap.scx.0 = ap (λ m. value k (info m)) (sym n) ∙ e ∙ is_seen k s d same j ∙ sym x.scx in
+        ap (λ m. value k (child m z)) n ∙ l.fields z q
+
+    left_here : value k (info (member k s 1)) ≡ seen k s 1 → value k (child (member k s 1) Left) ≡ member k s 2
+    left_here e = shows 1 w.parent w.parent_is e Left ∙ w.left ∙ sym (at 2)
+
+    right_here : value k (info (member k s 1)) ≡ seen k s 1 → value k (child (member k s 1) Right) ≡ member k s 3
+    right_here e = shows 1 w.parent w.parent_is e Right ∙ w.right ∙ sym (at 3)
+
+    copied_here : value k (info (member k s (sibling_place side))) ≡ seen k s (sibling_place side) → HasFieldsOf (value k) (new k s) (member k s (sibling_place side))
+    copied_here e leaf z =
+        let q : is_leaf (value h) (d.member (sibling_place side)) ≡ false = sym (settled_leaf (value h) (value k) (d.member (sibling_place side)) (words (sibling_place side) small.1)) ∙ ap (is_leaf (value k)) (sym (at (sibling_place side))) ∙ leaf in
+        ap (λ n. value k (child n z)) (is_new k s d same) ∙ stays.words (Child z) ∙ w.copied q z ∙ sym (shows (sibling_place side) w.sibling w.sibling_is e z)

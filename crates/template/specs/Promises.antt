@@ -1,0 +1,80 @@
+-- What has to be known for an insert's or a delete's SCX-record to be allowed, whatever rows come
+-- until it begins.
+use Rattle.std.specs.Prelude.{◌≡◌, ℕ, ◌^◌, ◌<◌, false, ◌⊎◌}
+use Rattle.arena.specs.declared.layout.Layout.{Layout}
+use Rattle.arena.specs.declared.word.Side.{Side}
+use Rattle.arena.specs.Words.{info, child}
+use Rattle.arena.specs.History.{History, value}
+use Rattle.arena.specs.ScxRecords.{member, seen}
+use Rattle.arena.specs.Fills.{IsOwnNode, IsNamed}
+use Rattle.arena.specs.Machines.{IsRun}
+use Rattle.histories.specs.Begins.{Begins}
+use Rattle.histories.specs.Descriptor.{Descriptor, descriptor}
+use Rattle.help.specs.Allowed.{IsLater}
+use Rattle.prims.specs.Laws.Linked.{IsLinked}
+use Rattle.prims.specs.Snap.{child_of}
+use Rattle.prims.specs.declared.snap.Snap.{Snap}
+use Rattle.spelling.specs.Edits.{IsSwap, IsSplit, IsJoin}
+use Rattle.spelling.specs.OrderedMap.{MapEdit}
+use Rattle.spelling.specs.Paths.{WasOnPath}
+use Rattle.spelling.specs.TreeShape.{MayEdit, TreeAllows, insert_plan, delete_plan, leaf_place, sibling_place}
+use Rattle.spelling.specs.TreeWords.{is_leaf, toward}
+
+-- Whenever the pass c may begin s with these words, it makes the edit: after any run that goes on
+-- from h by such rows as may come before, in which s still is ready and the first info still is what
+-- was found.
+abbrev pub IsPromised : Layout → ℕ → History → ℕ → Descriptor → MapEdit → Type 0
+IsPromised lay c h s d e =
+    (k : History) → IsLater c s h k → IsRun TreeAllows lay k → descriptor k s ≡ d → Begins lay d k c s → value k (info (member k s 0)) ≡ seen k s 0 → MayEdit lay k s e
+
+-- a node of the pass's own that nothing names
+pub record IsFresh (lay : Layout) (c : ℕ) (h : History) (n : ℕ) : Type 0 where
+  pub own : IsOwnNode lay c n
+  pub unnamed : ¬ IsNamed lay h n
+
+-- the words of the leaf l and of fresh nodes are those of an insert of k and v, which puts the fresh
+-- node n into the place of l: n is a leaf, or a fork over two fresh leaves
+abbrev pub IsInsertOver : Layout → ℕ → History → ℕ → ℕ → ℕ → ℕ → Type 0
+IsInsertOver lay c h k v l n = IsSwap (value h) k v l n
+    ⊎ ((x y : ℕ) × IsFresh lay c h x × IsFresh lay c h y × IsSplit (value h) k v l n x y)
+
+-- What an insert of k and v has in hand: a fork that was on the key's path, its leaf on the side of
+-- the key, and the fresh node that is to replace that.
+pub record WillInsert (lay : Layout) (c : ℕ) (h : History) (d : Descriptor) (k v : ℕ) : Type 0 where
+  pub small : k < 2 ^ 64
+  pub path : WasOnPath h k (d.member 0)
+  pub named : IsNamed lay h (d.member 0)
+  pub fork : is_leaf (value h) (d.member 0) ≡ false
+  pub plan : d.plan ≡ insert_plan (toward (value h) (d.member 0) k)
+  pub old : d.old ≡ d.member 1
+  pub leaf_named : IsNamed lay h (d.member 1)
+  pub fresh : IsFresh lay c h d.new
+  pub edit : IsInsertOver lay c h k v (d.member 1) d.new
+
+-- the snapshot may be used, and is what the SCX-record has seen of its j-th node
+pub record IsSnapOf (lay : Layout) (h : History) (d : Descriptor) (j : ℕ) (snap : Snap) : Type 0 where
+  pub linked : IsLinked lay h snap
+  pub node : snap.node.0 ≡ d.member j
+  pub scx : snap.scx.0 ≡ d.seen j
+
+-- What a delete of k has in hand, where the leaf of the key is on this side of its parent: two forks
+-- that were on the key's path, the children of the lower one as its snapshot found them, of which
+-- one is the leaf, and a fresh copy of the other.
+pub record WillDelete (lay : Layout) (c : ℕ) (h : History) (d : Descriptor) (k : ℕ) (side : Side) : Type 0 where
+  pub small : k < 2 ^ 64
+  pub path : WasOnPath h k (d.member 0)
+  pub fork : is_leaf (value h) (d.member 0) ≡ false
+  pub plan : d.plan ≡ delete_plan (toward (value h) (d.member 0) k)
+  pub old : d.old ≡ d.member 1
+  pub side_is : toward (value h) (d.member 1) k ≡ side
+  pub named : (j : ℕ) → j < 4 → IsNamed lay h (d.member j)
+  pub fresh : IsFresh lay c h d.new
+  pub edit : IsJoin (value h) k (d.member 1) (d.member (leaf_place side)) (d.member (sibling_place side)) d.new
+  pub parent : Snap
+  pub parent_is : IsSnapOf lay h d 1 parent
+  pub left : parent.left.0 ≡ d.member 2
+  pub right : parent.right.0 ≡ d.member 3
+  pub sibling : Snap
+  pub sibling_is : IsSnapOf lay h d (sibling_place side) sibling
+  -- the copy of a fork has the fields that the snapshot of the sibling found
+  pub copied : is_leaf (value h) (d.member (sibling_place side)) ≡ false → (s : Side) → value h (child d.new s) ≡ (child_of sibling s).0
