@@ -1,0 +1,9 @@
+use Rattle.std.proofs.Common.{sym, ◌∙◌}
+use Rattle.updates.proofs.Nearer.{below, to_fill, to_load, some_left}
+use Rattle.updates.proofs.update.UpdateRun.load.Goals as goal
+
+pub returns-in_default-clause-nearer : goal.returns-in_default-clause-nearer
+returns-in_default-clause-nearer g c nodes = below c.fill.result _ _ _ (c.fill.ensures.nearer nodes) (to_fill _ _ _ _ (g.met.E.Edit.laws.fill_works _ _ _ _ _ (rw (sym c.as_slice-snaps.ensures.value) (sym c.load.ensures ∙ c.in_default.is)) _))
+
+pub returns-clause-nearer : goal.returns-clause-nearer
+returns-clause-nearer g c nodes = to_load _ _ _ (some_left _ _ (g.met.E.Edit.laws.load_works _ _ _ _ _ c.in-Some.part (rw (sym c.as_slice-snaps.ensures.value) (sym c.load.ensures ∙ c.in-Some.is)) 0))

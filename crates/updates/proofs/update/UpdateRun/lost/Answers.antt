@@ -1,0 +1,5 @@
+use Rattle.updates.proofs.Nearer.{below, try_less}
+use Rattle.updates.proofs.update.UpdateRun.lost.Goals as goal
+
+pub returns-clause-nearer : goal.returns-clause-nearer
+returns-clause-nearer g c nodes = below c.begin_walk.result _ _ _ (c.begin_walk.ensures.nearer nodes) (try_less _ _ c.if-self-eq0.false)

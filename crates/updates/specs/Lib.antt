@@ -1,0 +1,5 @@
+pub mod Pieces
+pub mod Edits
+pub mod Steps
+pub mod Known
+pub mod Laws
