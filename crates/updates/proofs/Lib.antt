@@ -1,1 +1,4 @@
-pub mod Nearer
+mod Nearer
+mod Turns
+mod Loading
+mod Looking

@@ -8,7 +8,7 @@ use Rattle.arena.specs.declared.step.Kind.TheVariants.{LoadSettled}
 use Rattle.arena.specs.declared.word.NodeWord.{NodeWord}
 use Rattle.arena.specs.declared.word.NodeWord.TheVariants.{Head as HeadWord, Key as KeyWord, Value as ValueWord}
 use Rattle.arena.specs.declared.word.Word.{Word}
-use Rattle.arena.specs.Fills.{IsNamed, IsOwnNode, IsTakenNode}
+use Rattle.arena.specs.Fills.{IsNamed, IsOwnNode, IsOwnScx, IsTakenNode}
 use Rattle.arena.specs.Heads.{head_of}
 use Rattle.arena.specs.History.{History, value, Extends}
 use Rattle.arena.specs.Lawful.{IsSettled}
@@ -175,6 +175,7 @@ module _ {E : Type 0} (e : EditMeaning E) where
     pub rests : Rests c h m.share
     pub room : HasRoom (e.needs m.edit f) m.share
     pub named : e.looks m.edit f m.snaps.items ≡ At llx.node
+    pub now : Extends h c.start
     pub since : Extends begin c.start
 
   -- the load of a word for a fresh node
@@ -199,11 +200,13 @@ module _ {E : Type 0} (e : EditMeaning E) where
     pub run : IsTreeRun c.layout h
     pub small : edit_key (e.edit m.edit) < 2 ^ 64
     pub found : HasFound c h (edit_key (e.edit m.edit)) f
+    pub now : Extends h c.start
     pub since : Extends begin c.start
     pub share : IsShare c.layout h c.pass m.share m.share.next_node scx.scx.0
     pub next_node : m.share.next_node ≡ suc scx.update.fresh.0
     pub next_scx : m.share.next_scx ≡ suc scx.scx.0
     pub own : IsOwnNode c.layout c.pass scx.update.fresh.0
+    pub own_scx : IsOwnScx c.layout c.pass scx.scx.0
     pub over : AreFinished c.layout c.pass scx.scx.0 h
 
   -- the walk is to the edit's key, and the pass is at rest
@@ -249,3 +252,28 @@ module _ {E : Type 0} (e : EditMeaning E) where
   -- it waits for this step where it stands
   abbrev pub UpdateWaits : UpdateRun E → Call → History → Step → Type 0
   UpdateWaits m c h s = UpdateWaitsAt m c h s m.at
+
+  -- What its turns are asked for
+
+  -- it may look at the next node, where these snapshots are there
+  pub record CanLook (m : UpdateRun E) (c : Call) (h : History) (f : Found) : Type 0 where
+    pub begins : Begins m c h
+    pub looked : HasLooked c h m.edit f m.snaps.items
+    pub room : HasRoom (e.needs m.edit f) m.share
+
+  -- it may load for the fresh node of this place
+  pub record CanLoad (m : UpdateRun E) (c : Call) (h : History) (f : Found) (nth : Nth) : Type 0 where
+    pub works : Works m c h f nth
+    pub full : AreFull m c h f nth
+    pub hand : IsInHand m f nth
+
+  -- it may fill this word of that node
+  pub record CanFill (m : UpdateRun E) (c : Call) (h : History) (f : Found) (nth : Nth) (part : NodeWord) : Type 0 where
+    pub fills : Fills m c h f nth part
+    pub same : piece m f (node_at m.nodes nth).0 ≡ e.pieces m.edit f m.snaps.items m.nodes m.loaded nth
+    pub may : FieldMay part (IsForField c.layout h m.nodes.first.0 (top m f) (word_of (piece m f (node_at m.nodes nth).0) part))
+    pub words : HoldsWords h (node_at m.nodes nth).0 (piece m f (node_at m.nodes nth).0) (IsBefore part)
+
+  -- it waits for the step that it asks for
+  abbrev pub UpdateTurn : Call → History → UpdateRun E → Turn Updated → Type 0
+  UpdateTurn c h m turn = MatchTurn turn (UpdateWaits m c h) (λ a. Unit {0})

@@ -116,6 +116,7 @@ impl<E: Edit + Drop> UpdateRun<E> {
 
     /// Begins a try. The try before it was lost to this SCX-record over this node.
     fn begin_walk(&mut self, node: NodeNo, scx: ScxNo) -> Turn<Updated>
+        ensures turn { (c : Call) (h : History) → IsRun TreeAllows c.layout h → Begins E.means self.old c h → UpdateTurn E.means c h self.new result }
         ensures same { (self.new.edit ≡ self.old.edit) × (self.new.call ≡ self.old.call) }
         ensures nearer { (nodes : ℕ) → IsNearer E.means self.new nodes result (self.old.tries * try_left E.means nodes + try_left E.means nodes) }
     {
@@ -131,6 +132,7 @@ impl<E: Edit + Drop> UpdateRun<E> {
 
     /// Ends a try that is lost, and begins the next if there is one.
     fn lost(&mut self, node: NodeNo, scx: ScxNo) -> Turn<Updated>
+        ensures turn { (c : Call) (h : History) → IsRun TreeAllows c.layout h → Begins E.means self.old c h → UpdateTurn E.means c h self.new result }
         ensures same { (self.new.edit ≡ self.old.edit) × (self.new.call ≡ self.old.call) }
         ensures nearer { (nodes : ℕ) → IsNearer E.means self.new nodes result (self.old.tries * try_left E.means nodes) }
     {
@@ -192,6 +194,7 @@ impl<E: Edit + Drop> UpdateRun<E> {
 
     /// Begins the LLX of a node.
     fn begin_look(&mut self, found: Found, node: NodeNo) -> Turn<Updated>
+        ensures turn { (c : Call) (h : History) → IsRun TreeAllows c.layout h → CanLook E.means self.old c h found → E.means.looks self.old.edit found self.old.snaps.items ≡ Look.At node → IsOpened c.layout h node.0 → UpdateTurn E.means c h self.new result }
         ensures same { (self.new.edit ≡ self.old.edit) × (self.new.call ≡ self.old.call) }
         ensures nearer { (nodes : ℕ) → IsNearer E.means self.new nodes result (self.old.tries * try_left E.means nodes + (64 + 64 * (E.means.most_looks - 1 - length self.old.snaps.items) + works_behind E.means First + 39)) }
     {
@@ -291,6 +294,7 @@ impl<E: Edit + Drop> UpdateRun<E> {
 
     /// Loads the next word for the fresh node of this place, or begins to fill it.
     fn load(&mut self, found: Found, nth: Nth) -> Turn<Updated>
+        ensures turn { (c : Call) (h : History) → IsRun TreeAllows c.layout h → LoadsWell E.means → CanLoad E.means self.old c h found nth → UpdateTurn E.means c h self.new result }
         ensures same { (self.new.edit ≡ self.old.edit) × (self.new.call ≡ self.old.call) }
         ensures nearer { (nodes : ℕ) → IsNearer E.means self.new nodes result (self.old.tries * try_left E.means nodes + (works_left E.means self.old found nth + 39)) }
     {
@@ -309,6 +313,7 @@ impl<E: Edit + Drop> UpdateRun<E> {
 
     /// Goes on with what that load has told.
     fn load_on(&mut self, found: Found, nth: Nth, part: NodeWord, told: u64) -> Turn<Updated>
+        ensures turn { (c : Call) (h : History) → IsRun TreeAllows c.layout h → LoadsWell E.means → Loads E.means self.old c h found nth part → value h (node (copied E.means self.old found) part) ≡ told → UpdateTurn E.means c h self.new result }
         ensures same { (self.new.edit ≡ self.old.edit) × (self.new.call ≡ self.old.call) }
         ensures nearer { (nodes : ℕ) → IsWanted E.means self.old found nth part → IsNearer E.means self.new nodes result (self.old.tries * try_left E.means nodes + (works_left E.means self.old found nth - 1 + 39)) }
     {
@@ -318,6 +323,7 @@ impl<E: Edit + Drop> UpdateRun<E> {
 
     /// Fills a word of the fresh node of this place.
     fn fill(&mut self, found: Found, nth: Nth, part: NodeWord) -> Turn<Updated>
+        ensures turn { (c : Call) (h : History) → IsRun TreeAllows c.layout h → CanFill E.means self.old c h found nth part → UpdateTurn E.means c h self.new result }
         ensures same { (self.new.edit ≡ self.old.edit) × (self.new.call ≡ self.old.call) }
         ensures nearer { (nodes : ℕ) → IsNearer E.means self.new nodes result (self.old.tries * try_left E.means nodes + (fills_left E.means self.old found nth part + 1 + 39)) }
     {
@@ -399,6 +405,7 @@ impl<E: Edit + Drop> UpdateRun<E> {
 
     /// Goes on with what the last step of the SCX found.
     fn scx_on(&mut self, found: Found, mut scx: ScxRun, got: Option<u64>) -> Turn<Updated>
+        ensures turn { (c : Call) (h : History) (begin : History) → IsRun TreeAllows c.layout h → Scxs E.means self.old c h found scx begin → ScxIsReady TreeAllows scx (from c begin) h got → UpdateTurn E.means c h self.new result }
         ensures same { (self.new.edit ≡ self.old.edit) × (self.new.call ≡ self.old.call) }
         ensures nearer { (nodes : ℕ) → IsNearer E.means self.new nodes result (self.old.tries * try_left E.means nodes + scx_left scx.at) }
     {
@@ -431,4 +438,13 @@ impl<E: Edit + Drop> UpdateRun<E> {
 
     ghost use Rattle.updates.specs.Steps.{IsWanted, UpdateFits, fills_left};
     ghost use Rattle.updates.specs.Pieces.{less_a_node};
+    ghost use Rattle.arena.specs.History.{History, value};
+    ghost use Rattle.arena.specs.Machines.{Call, IsRun};
+    ghost use Rattle.prims.specs.Llx.Known.{IsOpened};
+    ghost use Rattle.prims.specs.Scx.Known.{ScxIsReady};
+    ghost use Rattle.spelling.specs.TreeShape.{TreeAllows};
+    ghost use Rattle.updates.specs.Known.{Begins, CanLook, CanLoad, CanFill, Loads, Scxs, UpdateTurn, copied};
+    ghost use Rattle.updates.specs.Sound.{LoadsWell};
+    ghost use Rattle.arena.specs.Words.{node};
+    ghost use Rattle.updates.specs.Laws.HandScx.{from};
 }

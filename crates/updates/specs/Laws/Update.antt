@@ -69,6 +69,7 @@ module _ {E : Type 0} (e : EditMeaning E) where
     rests = rests_by_others c h r m.share run.lawful other x.rests;
     room = x.room;
     named = x.named;
+    now = inr x.now;
     since = x.since;
   }
 
@@ -80,11 +81,13 @@ module _ {E : Type 0} (e : EditMeaning E) where
     run = (x.run.0, run);
     small = x.small;
     found = found_more c h r (edit_key (e.edit m.edit)) f x.run run x.found;
+    now = inr x.now;
     since = x.since;
     share = share_by_others c.layout h r c.pass m.share m.share.next_node scx.scx.0 run.lawful c.is_pass other x.share;
     next_node = x.next_node;
     next_scx = x.next_scx;
     own = x.own;
+    own_scx = x.own_scx;
     over = over_more c.layout c.pass scx.scx.0 h r run.lawful (takes_by_others c.layout c.pass scx.scx.0 h r run.lawful other) x.over;
   }
 
@@ -136,6 +139,7 @@ module _ {E : Type 0} (e : EditMeaning E) where
     rests = rests_by_step c h r m.share run.lawful no_fill x.rests;
     room = x.room;
     named = x.named;
+    now = inr x.now;
     since = x.since;
   }
 
@@ -191,11 +195,13 @@ module _ {E : Type 0} (e : EditMeaning E) where
     run = (x.run.0, run);
     small = x.small;
     found = found_more c h (row_of c s h) (edit_key (e.edit m.edit)) f x.run run x.found;
+    now = inr x.now;
     since = x.since;
     share = share_by_scx TreeAllows scx (from c begin) h s m.share m.share.next_node scx.scx.0 run.lawful w (let a = x.next_node in omega (arith, a)) (let a = x.next_scx in omega (arith, a)) x.share;
     next_node = x.next_node;
     next_scx = x.next_scx;
     own = x.own;
+    own_scx = x.own_scx;
     over = over_more c.layout c.pass scx.scx.0 h (row_of c s h) run.lawful (λ t own d free. untaken_at TreeAllows (job_of scx) (from c begin) h scx.at s t w d free) x.over;
   }
 
