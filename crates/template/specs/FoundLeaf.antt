@@ -18,6 +18,6 @@ pub record HasFoundLeaf (c : Call) (h : History) (k : ℕ) (f : Found) : Type 0 
   -- it is not deeper than the taken nodes allow
   pub deep : f.head.level < 2 + length (taken_nodes h)
   pub key : f.head.class ≡ 0 → value h (node f.trail.node.0 Key) ≡ f.key
-  -- of a leaf above all keys no key is loaded
+  -- of a leaf above all keys the key told is 0
   pub blank : f.head.class ≢ 0 → f.key ≡ 0
   pub says : f.value ≡ said (value h) k f.trail.node.0

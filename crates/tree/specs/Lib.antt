@@ -1,1 +1,2 @@
 pub mod Get
+pub mod Insert

@@ -1,0 +1,70 @@
+-- The bounds of an insert.
+use Rattle.std.proofs.Common.{◌≡◌, ◌≢◌, ℕ, ◌<◌, ◌≤◌, ◌⊎◌, Bool, true, false, eqb, cond, List, [], ◌∷◌, length, Option, Some, None, inl, inr, refl, sym, ◌∙◌, ap, subst, arith}
+use Rattle.arena.specs.declared.number.NodeNo.{NodeNo}
+use Rattle.arena.specs.declared.word.NodeWord.{NodeWord}
+use Rattle.arena.specs.declared.word.NodeWord.TheVariants.{Head, Value}
+use Rattle.prims.specs.declared.snap.Snap.{Snap}
+use Rattle.template.specs.declared.walk.Found.{Found}
+use Rattle.tree.specs.declared.insert.Insert.{Insert}
+use Rattle.updates.specs.declared.edit.Loaded.{Loaded}
+use Rattle.updates.specs.declared.edit.Look.TheVariants.{At, Enough}
+use Rattle.updates.specs.declared.edit.Nodes.{Nodes}
+use Rattle.updates.specs.declared.edit.Nth.{Nth}
+use Rattle.updates.specs.declared.edit.Nth.TheVariants.{First, Second, Third}
+use Rattle.updates.specs.declared.edit.Piece.TheVariants.{Fork}
+use Rattle.updates.specs.Edits.{EditLaws}
+use Rattle.updates.specs.Pieces.{with_word, fills_behind}
+use Rattle.tree.specs.Insert.Means.{insert_means, insert_looks, insert_wants, insert_works, insert_pieces, value_if_none, copy_works, fork_over, is_below}
+
+few_looks : (f : Found) (snaps : List Snap) (n : NodeNo) → insert_looks f snaps ≡ At n → length snaps < 2
+few_looks f [] n e = omega arith
+few_looks f (p ∷ []) n e = omega arith
+few_looks f (p ∷ l ∷ snaps) n e = absurd (let d : Enough ≡ At n = e in cc)
+
+most_at_second : (b : Bool) (v : Option ℕ) → cond b (copy_works v) 3 ≤ 4
+most_at_second true None = omega arith
+most_at_second true (Some v) = omega arith
+most_at_second false v = omega arith
+
+few_works : (f : Found) (ld : Loaded) (nth : Nth) → insert_works f ld nth ≤ insert_means.most_works nth
+few_works f ld First = omega arith
+few_works f ld Second = most_at_second (eqb f.head.class 0) ld.value
+few_works f ld Third = omega arith
+
+load_at_second : (b : Bool) (old : Option ℕ) (ld : Loaded) (part : NodeWord) (v : ℕ) → ld.value ≡ old → cond b (value_if_none old) None ≡ Some part → cond b (copy_works (with_word ld part v).value) 3 < cond b (copy_works old) 3
+load_at_second false old ld part v is e = absurd (let d : None ≡ Some part = e in cc)
+load_at_second true (Some w) ld part v is e = absurd (let d : None ≡ Some part = e in cc)
+load_at_second true None ld part v is e = go part e
+  where
+    go : (q : NodeWord) → Some Value ≡ Some q → copy_works (with_word ld q v).value < 4
+    go Value d = omega arith
+    go q d = absurd (let z = d in cc)
+
+load_works : (f : Found) (ld : Loaded) (nth : Nth) (part : NodeWord) → insert_wants f ld nth ≡ Some part → (v : ℕ) → insert_works f (with_word ld part v) nth < insert_works f ld nth
+load_works f ld Second part e v = load_at_second (eqb f.head.class 0) ld.value ld part v refl e
+load_works f ld First part e v = absurd (let d : None ≡ Some part = e in cc)
+load_works f ld Third part e v = absurd (let d : None ≡ Some part = e in cc)
+
+fill_at_second : (b : Bool) (old : Option ℕ) → cond b (value_if_none old) None ≡ None → 2 < cond b (copy_works old) 3
+fill_at_second false old e = omega arith
+fill_at_second true (Some w) e = omega arith
+fill_at_second true None e = absurd (let d : Some Value ≡ None = e in cc)
+
+fork_fills : (b : Bool) (level class other key k : ℕ) (x y : NodeNo) → fills_behind (cond b (Fork level class key x y) (Fork level other k y x)) Head < 4
+fork_fills true level class other key k x y = omega arith
+fork_fills false level class other key k x y = omega arith
+
+fill_works : (e : Insert) (f : Found) (ld : Loaded) (nth : Nth) → insert_wants f ld nth ≡ None → (ns : Nodes) → fills_behind (insert_pieces e.key e.value f ns ld nth) Head < insert_works f ld nth
+fill_works e f ld First d ns = omega arith
+fill_works e f ld Second d ns = fill_at_second (eqb f.head.class 0) ld.value d
+fill_works e f ld Third d ns = fork_fills (is_below e.key f) f.head.level f.head.class 0 f.key e.key ns.first ns.second
+
+-- an insert looks at two nodes, and makes at most 11 loads and fills
+pub insert_laws : EditLaws insert_means
+insert_laws = record {
+  few_looks = λ e f snaps n d. few_looks f snaps n d;
+  small = omega arith;
+  few_works = λ e f snaps ld nth. few_works f ld nth;
+  load_works = λ e f snaps ld nth part d v. load_works f ld nth part d v;
+  fill_works = λ e f snaps ld nth d ns. fill_works e f ld nth d ns;
+}

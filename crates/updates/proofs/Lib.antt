@@ -1,0 +1,4 @@
+mod Nearer
+mod Turns
+mod Loading
+mod Looking

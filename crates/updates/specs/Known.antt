@@ -1,0 +1,279 @@
+-- When an update may go on, and what it waits for.
+use Rattle.std.specs.Prelude.{◌≡◌, ℕ, suc, ◌+◌, ◌-◌, ◌^◌, ◌<◌, ◌≤◌, true, eqb, cond, List, length, take, Option, Some, None}
+use Rattle.arena.specs.declared.number.NodeNo.{NodeNo}
+use Rattle.arena.specs.declared.layout.Layout.{Layout}
+use Rattle.arena.specs.declared.machine.Turn.{Turn}
+use Rattle.arena.specs.declared.step.Step.{Step}
+use Rattle.arena.specs.declared.step.Kind.TheVariants.{LoadSettled}
+use Rattle.arena.specs.declared.word.NodeWord.{NodeWord}
+use Rattle.arena.specs.declared.word.NodeWord.TheVariants.{Head as HeadWord, Key as KeyWord, Value as ValueWord}
+use Rattle.arena.specs.declared.word.Word.{Word}
+use Rattle.arena.specs.Fills.{IsNamed, IsOwnNode, IsOwnScx, IsTakenNode}
+use Rattle.arena.specs.Heads.{head_of}
+use Rattle.arena.specs.History.{History, value, Extends}
+use Rattle.arena.specs.Lawful.{IsSettled}
+use Rattle.arena.specs.Layout.{all_nodes}
+use Rattle.arena.specs.Machines.{Call, MatchTurn}
+use Rattle.arena.specs.Share.{Remaining}
+use Rattle.arena.specs.Words.{node}
+use Rattle.histories.proofs.Lemmas.{IsNodeFill}
+use Rattle.prims.specs.Llx.Known.{load, LlxIsReady, LlxWaits}
+use Rattle.prims.specs.Moments.{AreFinished}
+use Rattle.prims.specs.Scx.Known.{ScxIsReady, ScxWaits}
+use Rattle.prims.specs.Shares.{IsShare, IsUsable}
+use Rattle.prims.specs.Snap.{snap_at}
+use Rattle.prims.specs.declared.llx.LlxRun.{LlxRun}
+use Rattle.prims.specs.declared.scx.ScxRun.{ScxRun}
+use Rattle.prims.specs.declared.snap.Snap.{Snap}
+use Rattle.spelling.specs.OrderedMap.{edit_key}
+use Rattle.spelling.specs.Runs.{IsTreeRun}
+use Rattle.spelling.specs.TreeShape.{TreeAllows}
+use Rattle.spelling.specs.TreeWords.{is_leaf, said}
+use Rattle.template.specs.Trails.{OnTrail}
+use Rattle.template.specs.Walk.Known.{WalkIsReady, WalkWaits}
+use Rattle.template.specs.declared.walk.Found.{Found}
+use Rattle.updates.specs.declared.edit.Loaded.{Loaded}
+use Rattle.updates.specs.declared.edit.Look.TheVariants.{At, Enough}
+use Rattle.updates.specs.declared.edit.Need.{Need}
+use Rattle.updates.specs.declared.edit.Need.TheVariants.{One, Three}
+use Rattle.updates.specs.declared.edit.Nodes.{Nodes}
+use Rattle.updates.specs.declared.edit.Nth.{Nth}
+use Rattle.updates.specs.declared.edit.Nth.TheVariants.{First, Second, Third}
+use Rattle.updates.specs.declared.edit.Piece.{Piece}
+use Rattle.updates.specs.declared.update.Updated.{Updated}
+use Rattle.updates.specs.declared.update.UpdateAt.{UpdateAt}
+use Rattle.updates.specs.declared.update.UpdateAt.TheVariants.{Start, Walk, Look, Load, Fill, Scx}
+use Rattle.updates.specs.declared.update.UpdateRun.{UpdateRun}
+use Rattle.updates.specs.Edits.{EditMeaning}
+use Rattle.updates.specs.Laws.Hand.{IsBefore, IsUpTo, IsPart, HoldsWords, HasFilledTo, IsForField, FieldMay}
+use Rattle.updates.specs.Laws.HandScx.{from}
+use Rattle.updates.specs.Laws.NodeFills.{node_fill}
+use Rattle.updates.specs.Pieces.{node_at, word_of}
+
+-- Between its SCXs
+
+-- what is left of its share is untouched, and all its SCX-records are finished
+pub record Rests (c : Call) (h : History) (left : Remaining) : Type 0 where
+  pub share : IsShare c.layout h c.pass left left.next_node left.next_scx
+  pub over : AreFinished c.layout c.pass 0 h
+
+-- the share has as many nodes as are needed, and an SCX-record
+abbrev pub HasRoom : Need → Remaining → Type 0
+HasRoom One left = (0 < left.nodes) × (0 < left.scx)
+HasRoom Three left = (2 < left.nodes) × (0 < left.scx)
+HasRoom _ left = ⊥
+
+-- What it has found
+
+-- the walk to the key has ended at this leaf
+pub record HasFound (c : Call) (h : History) (k : ℕ) (f : Found) : Type 0 where
+  pub trail : OnTrail c h k f.trail
+  pub leaf : is_leaf (value h) f.trail.node.0 ≡ true
+  pub head : head_of (value h (node f.trail.node.0 HeadWord)) ≡ f.head
+  pub key : f.head.class ≡ 0 → value h (node f.trail.node.0 KeyWord) ≡ f.key
+  pub says : f.value ≡ said (value h) k f.trail.node.0
+
+-- each snapshot may be used
+abbrev pub AreUsable : Call → History → List Snap → Type 0
+AreUsable c h snaps = (i : ℕ) → i < length snaps → (moment : History) × IsUsable c.layout h (snap_at snaps i) moment
+
+-- these of the words loaded are what the node holds
+abbrev pub IsLoaded : Option ℕ → ℕ → Type 0
+IsLoaded None v = Unit {0}
+IsLoaded (Some w) v = w ≡ v
+
+-- the words that were loaded are those of this node
+pub record AreLoaded (f : Word → ℕ) (n : ℕ) (ld : Loaded) : Type 0 where
+  pub head : IsLoaded ld.head (f (node n HeadWord))
+  pub key : IsLoaded ld.key (f (node n KeyWord))
+  pub value : IsLoaded ld.value (f (node n ValueWord))
+
+-- Its fresh nodes
+
+-- this fresh node comes before that one
+abbrev pub ComesBefore : Nth → Nth → Type 0
+ComesBefore First Second = Unit {0}
+ComesBefore First Third = Unit {0}
+ComesBefore Second Third = Unit {0}
+ComesBefore _ _ = ⊥
+
+-- this one is needed
+abbrev pub IsNeeded : Need → Nth → Type 0
+IsNeeded One First = Unit {0}
+IsNeeded Three nth = Unit {0}
+IsNeeded _ _ = ⊥
+
+-- three nodes stand one behind the other
+abbrev pub AreInOrder : Need → Nodes → Type 0
+AreInOrder Three ns = (ns.second.0 ≡ suc ns.first.0) × (ns.third.0 ≡ suc ns.second.0)
+AreInOrder _ ns = Unit {0}
+
+-- the last of them
+abbrev pub top_of : Need → Nodes → ℕ
+top_of Three ns = ns.third.0
+top_of _ ns = ns.first.0
+
+-- what the edit says of them, by their numbers
+abbrev pub pieces_by : (Nth → Piece) → Nodes → ℕ → Piece
+pieces_by p ns n = cond (eqb n ns.first.0) (p First) (cond (eqb n ns.second.0) (p Second) (p Third))
+
+module _ {E : Type 0} (e : EditMeaning E) where
+  -- each snapshot is of the node that the edit has named behind those before it
+  abbrev pub AreSeen : E → Found → List Snap → Type 0
+  AreSeen ed f snaps = (i : ℕ) → i < length snaps → e.looks ed f (take i snaps) ≡ At (snap_at snaps i).node
+
+  -- what is known of the leaf and of the snapshots
+  pub record HasLooked (c : Call) (h : History) (ed : E) (f : Found) (snaps : List Snap) : Type 0 where
+    pub small : edit_key (e.edit ed) < 2 ^ 64
+    pub found : HasFound c h (edit_key (e.edit ed)) f
+    pub usable : AreUsable c h snaps
+    pub seen : AreSeen ed f snaps
+
+  -- what each fresh node is to hold
+  abbrev pub piece : UpdateRun E → Found → ℕ → Piece
+  piece m f n = pieces_by (λ nth. e.pieces m.edit f m.snaps.items m.nodes m.loaded nth) m.nodes n
+
+  -- the last fresh node
+  abbrev pub top : UpdateRun E → Found → ℕ
+  top m f = top_of (e.needs m.edit f) m.nodes
+
+  -- the node of which the edit copies words
+  abbrev pub copied : UpdateRun E → Found → ℕ
+  copied m f = (e.copies m.edit f m.snaps.items).0
+
+  -- all is looked at, and the fresh nodes before this one are done with
+  pub record Works (m : UpdateRun E) (c : Call) (h : History) (f : Found) (nth : Nth) : Type 0 where
+    pub run : IsTreeRun c.layout h
+    pub since : Extends h c.start
+    pub looked : HasLooked c h m.edit f m.snaps.items
+    pub enough : e.looks m.edit f m.snaps.items ≡ Enough
+    pub need : IsNeeded (e.needs m.edit f) nth
+    pub in_order : AreInOrder (e.needs m.edit f) m.nodes
+    pub some : 0 < m.share.scx
+    -- what is copied
+    pub named : IsNamed c.layout h (copied m f)
+    pub inside : copied m f < all_nodes c.layout
+    pub loaded : AreLoaded (value h) (copied m f) m.loaded
+    -- nothing more is to be loaded for the nodes before
+    pub before : (i : Nth) → ComesBefore i nth → e.wants m.edit f m.snaps.items m.loaded i ≡ None
+
+  -- those before it are full
+  abbrev pub AreFull : UpdateRun E → Call → History → Found → Nth → Type 0
+  AreFull m c h f nth = HasFilledTo c.layout h c.pass m.share m.nodes.first.0 (top m f) (node_at m.nodes nth).0 (piece m f)
+
+  -- this one is one of them
+  pub record IsInHand (m : UpdateRun E) (f : Found) (nth : Nth) : Type 0 where
+    pub lowest : m.nodes.first.0 ≤ (node_at m.nodes nth).0
+    pub highest : (node_at m.nodes nth).0 ≤ top m f
+
+  -- What it waits for
+
+  -- a step of an LLX, which has begun at a moment of the call
+  pub record Looks (m : UpdateRun E) (c : Call) (h : History) (f : Found) (llx : LlxRun) (begin : History) : Type 0 where
+    pub run : IsTreeRun c.layout h
+    pub looked : HasLooked c h m.edit f m.snaps.items
+    pub rests : Rests c h m.share
+    pub room : HasRoom (e.needs m.edit f) m.share
+    pub named : e.looks m.edit f m.snaps.items ≡ At llx.node
+    pub now : Extends h c.start
+    pub since : Extends begin c.start
+
+  -- the load of a word for a fresh node
+  pub record Loads (m : UpdateRun E) (c : Call) (h : History) (f : Found) (nth : Nth) (part : NodeWord) : Type 0 where
+    pub works : Works m c h f nth
+    pub full : AreFull m c h f nth
+    pub hand : IsInHand m f nth
+    pub wanted : e.wants m.edit f m.snaps.items m.loaded nth ≡ Some part
+    pub settled : IsSettled (node (copied m f) part)
+
+  -- the fill of a word of it, with what the piece says
+  pub record Fills (m : UpdateRun E) (c : Call) (h : History) (f : Found) (nth : Nth) (part : NodeWord) : Type 0 where
+    pub works : Works m c h f nth
+    pub full : AreFull m c h f nth
+    pub hand : IsInHand m f nth
+    pub done : e.wants m.edit f m.snaps.items m.loaded nth ≡ None
+    pub fill : IsNodeFill part
+    pub part_is : IsPart (piece m f (node_at m.nodes nth).0) part
+
+  -- a step of its SCX, which has the fresh nodes and an SCX-record in hand
+  pub record Scxs (m : UpdateRun E) (c : Call) (h : History) (f : Found) (scx : ScxRun) (begin : History) : Type 0 where
+    pub run : IsTreeRun c.layout h
+    pub small : edit_key (e.edit m.edit) < 2 ^ 64
+    pub found : HasFound c h (edit_key (e.edit m.edit)) f
+    pub now : Extends h c.start
+    pub since : Extends begin c.start
+    pub share : IsShare c.layout h c.pass m.share m.share.next_node scx.scx.0
+    pub next_node : m.share.next_node ≡ suc scx.update.fresh.0
+    pub next_scx : m.share.next_scx ≡ suc scx.scx.0
+    pub own : IsOwnNode c.layout c.pass scx.update.fresh.0
+    pub own_scx : IsOwnScx c.layout c.pass scx.scx.0
+    pub over : AreFinished c.layout c.pass scx.scx.0 h
+
+  -- the walk is to the edit's key, and the pass is at rest
+  pub record Walks (m : UpdateRun E) (c : Call) (h : History) (key : ℕ) : Type 0 where
+    pub small : edit_key (e.edit m.edit) < 2 ^ 64
+    pub rests : Rests c h m.share
+    pub same : key ≡ edit_key (e.edit m.edit)
+
+  -- the word that is filled
+  abbrev pub fill_step : UpdateRun E → Found → Nth → NodeWord → Step
+  fill_step m f nth part = node_fill (node_at m.nodes nth).0 part (word_of (piece m f (node_at m.nodes nth).0) part)
+
+  -- what holds while it waits for this step at this place
+  abbrev pub UpdateWaitsAt : UpdateRun E → Call → History → Step → UpdateAt → Type 0
+  UpdateWaitsAt m c h s Start = ⊥
+  UpdateWaitsAt m c h s (Walk walk) = Walks m c h walk.key × WalkWaits walk c h s
+  UpdateWaitsAt m c h s (Look f llx) = (begin : History) × Looks m c h f llx begin × LlxWaits TreeAllows llx (from c begin) h s
+  UpdateWaitsAt m c h s (Load f nth part) = Loads m c h f nth part × (s ≡ load LoadSettled (node (copied m f) part))
+  UpdateWaitsAt m c h s (Fill f nth part) = Fills m c h f nth part × FieldMay part (IsForField c.layout h m.nodes.first.0 (top m f) (word_of (piece m f (node_at m.nodes nth).0) part)) × HoldsWords h (node_at m.nodes nth).0 (piece m f (node_at m.nodes nth).0) (IsBefore part) × (s ≡ fill_step m f nth part)
+  UpdateWaitsAt m c h s (Scx f scx) = (begin : History) × Scxs m c h f scx begin × ScxWaits TreeAllows scx (from c begin) h s
+
+  -- what holds once the step of this place has told v
+  abbrev pub UpdateIsToldAt : UpdateRun E → Call → History → ℕ → UpdateAt → Type 0
+  UpdateIsToldAt m c h v Start = ⊥
+  UpdateIsToldAt m c h v (Walk walk) = Walks m c h walk.key × WalkIsReady walk c h (Some v)
+  UpdateIsToldAt m c h v (Look f llx) = (begin : History) × Looks m c h f llx begin × LlxIsReady TreeAllows llx (from c begin) h (Some v)
+  UpdateIsToldAt m c h v (Load f nth part) = Loads m c h f nth part × (value h (node (copied m f) part) ≡ v)
+  UpdateIsToldAt m c h v (Fill f nth part) = Fills m c h f nth part × HoldsWords h (node_at m.nodes nth).0 (piece m f (node_at m.nodes nth).0) (IsUpTo part) × IsTakenNode h (node_at m.nodes nth).0
+  UpdateIsToldAt m c h v (Scx f scx) = (begin : History) × Scxs m c h f scx begin × ScxIsReady TreeAllows scx (from c begin) h (Some v)
+
+  -- it may begin a try
+  pub record Begins (m : UpdateRun E) (c : Call) (h : History) : Type 0 where
+    pub run : IsTreeRun c.layout h
+    pub small : edit_key (e.edit m.edit) < 2 ^ 64
+    pub since : Extends h c.start
+    pub rests : Rests c h m.share
+
+  -- it may be called with this: with nothing at its start, then with what its step told
+  abbrev pub UpdateIsReady : UpdateRun E → Call → History → Option ℕ → Type 0
+  UpdateIsReady m c h None = Begins m c h × (m.at ≡ Start)
+  UpdateIsReady m c h (Some v) = UpdateIsToldAt m c h v m.at
+
+  -- it waits for this step where it stands
+  abbrev pub UpdateWaits : UpdateRun E → Call → History → Step → Type 0
+  UpdateWaits m c h s = UpdateWaitsAt m c h s m.at
+
+  -- What its turns are asked for
+
+  -- it may look at the next node, where these snapshots are there
+  pub record CanLook (m : UpdateRun E) (c : Call) (h : History) (f : Found) : Type 0 where
+    pub begins : Begins m c h
+    pub looked : HasLooked c h m.edit f m.snaps.items
+    pub room : HasRoom (e.needs m.edit f) m.share
+
+  -- it may load for the fresh node of this place
+  pub record CanLoad (m : UpdateRun E) (c : Call) (h : History) (f : Found) (nth : Nth) : Type 0 where
+    pub works : Works m c h f nth
+    pub full : AreFull m c h f nth
+    pub hand : IsInHand m f nth
+
+  -- it may fill this word of that node
+  pub record CanFill (m : UpdateRun E) (c : Call) (h : History) (f : Found) (nth : Nth) (part : NodeWord) : Type 0 where
+    pub fills : Fills m c h f nth part
+    pub same : piece m f (node_at m.nodes nth).0 ≡ e.pieces m.edit f m.snaps.items m.nodes m.loaded nth
+    pub may : FieldMay part (IsForField c.layout h m.nodes.first.0 (top m f) (word_of (piece m f (node_at m.nodes nth).0) part))
+    pub words : HoldsWords h (node_at m.nodes nth).0 (piece m f (node_at m.nodes nth).0) (IsBefore part)
+
+  -- it waits for the step that it asks for
+  abbrev pub UpdateTurn : Call → History → UpdateRun E → Turn Updated → Type 0
+  UpdateTurn c h m turn = MatchTurn turn (UpdateWaits m c h) (λ a. Unit {0})

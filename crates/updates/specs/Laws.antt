@@ -1,0 +1,5 @@
+pub mod NodeFills
+pub mod Hand
+pub mod HandScx
+pub mod Kept
+pub mod Update

@@ -1,0 +1,233 @@
+-- The laws of updates: rows of others leave them waiting, their steps are lawful, and what they are
+-- told is so.
+use Rattle.std.proofs.Common.{◌≡◌, ◌≢◌, ℕ, suc, ◌<◌, ◌≤◌, Some, None, Option, length, inl, inr, refl, sym, ◌∙◌, ap, subst, arith}
+use Rattle.arena.specs.declared.layout.Layout.{Layout}
+use Rattle.arena.specs.declared.step.Row.{Row}
+use Rattle.arena.specs.declared.step.Step.{Step}
+use Rattle.arena.specs.declared.step.Kind.TheVariants.{Fill as FillKind, LoadSettled}
+use Rattle.arena.specs.declared.word.NodeWord.{NodeWord}
+use Rattle.arena.specs.declared.word.NodeWord.TheVariants.{Head, Key, Value, Child, Info, Marked}
+use Rattle.arena.specs.History.{History, ◌⊳◌, value}
+use Rattle.arena.specs.Fills.{IsTakenNode}
+use Rattle.arena.specs.declared.word.Word.{Word}
+use Rattle.arena.specs.Machines.{IsRun, Call, row_of, IsTold}
+use Rattle.arena.specs.TakenNodes.{taken_nodes}
+use Rattle.arena.specs.Words.{node}
+use Rattle.arena.proofs.Lemmas.{value_quiet}
+use Rattle.prims.specs.Laws.Begun.{takes_by_others}
+use Rattle.prims.specs.Laws.Linked.{in_field_more}
+use Rattle.prims.specs.Llx.Known.{load, LlxWaits}
+use Rattle.prims.specs.Llx.Laws.{llx_keeps, llx_lawful, llx_made, load_lawful, load_told}
+use Rattle.prims.specs.Scx.Laws.{scx_keeps, scx_lawful}
+use Rattle.prims.specs.Scx.Made.{scx_made}
+use Rattle.prims.specs.Scx.Known.{job_of, ScxWaits}
+use Rattle.prims.specs.declared.llx.LlxRun.{LlxRun}
+use Rattle.prims.specs.declared.scx.ScxRun.{ScxRun}
+use Rattle.prims.proofs.Lemmas.{llx_fills_not, over_more, share_by_others, share_by_scx, untaken_at}
+use Rattle.spelling.specs.OrderedMap.{edit_key}
+use Rattle.spelling.specs.TreeShape.{TreeAllows}
+use Rattle.template.specs.Walk.Laws.{walk_keeps, walk_lawful, walk_made, walk_told}
+use Rattle.template.proofs.Lemmas.{walk_fills_not}
+use Rattle.template.specs.declared.walk.Found.{Found}
+use Rattle.updates.specs.declared.edit.Nth.{Nth}
+use Rattle.updates.specs.declared.edit.Piece.{Piece}
+use Rattle.updates.specs.declared.update.UpdateAt.{UpdateAt}
+use Rattle.updates.specs.declared.update.UpdateAt.TheVariants.{Start, Walk, Look, Load, Fill, Scx}
+use Rattle.updates.specs.declared.update.UpdateRun.{UpdateRun}
+use Rattle.updates.specs.Edits.{EditMeaning}
+use Rattle.updates.specs.Steps.{UpdateFitsAt, UpdateFits}
+use Rattle.updates.specs.Pieces.{node_at, word_of}
+use Rattle.updates.specs.Known.{Rests, Looks, Loads, Fills, Scxs, Walks, fill_step, UpdateWaitsAt, UpdateIsToldAt, UpdateWaits, UpdateIsReady, piece, top, copied}
+use Rattle.updates.specs.Laws.Hand.{IsBefore, IsUpTo, HoldsWords, HasFilledTo, IsForField, FieldMay, by_others, by_load, filled_more, words_by_others, words_more, taken_now, may_fill}
+use Rattle.updates.specs.Laws.HandScx.{from}
+use Rattle.updates.specs.Laws.Kept.{rests_by_others, rests_by_step, found_more, looked_more, works_more}
+use Rattle.updates.specs.Laws.NodeFills.{fill_lawful}
+
+-- what a field may get it may get after any row
+for_field_more : (lay : Layout) (h : History) (r : Row) (first top v : ℕ) → IsForField lay h first top v → IsForField lay (r ⊳ h) first top v
+for_field_more lay h r first top v (inl y) = inl y
+for_field_more lay h r first top v (inr y) = inr (in_field_more r v y)
+
+field_may_more : (part : NodeWord) (P Q : Type 0) → (P → Q) → FieldMay part P → FieldMay part Q
+field_may_more (Child side) P Q f x = f x
+field_may_more Head P Q f x = tt
+field_may_more Key P Q f x = tt
+field_may_more Value P Q f x = tt
+field_may_more Info P Q f x = tt
+field_may_more Marked P Q f x = tt
+
+module _ {E : Type 0} (e : EditMeaning E) where
+  -- Rows of other passes
+
+  walks_by_others : (m : UpdateRun E) (c : Call) (h : History) (r : Row) (key : ℕ) → IsRun TreeAllows c.layout (r ⊳ h) → r.pass.0 ≢ c.pass → Walks e m c h key → Walks e m c (r ⊳ h) key
+  walks_by_others m c h r key run other x = record { small = x.small; rests = rests_by_others c h r m.share run.lawful other x.rests; same = x.same }
+
+  looks_by_others : (m : UpdateRun E) (c : Call) (h : History) (r : Row) (f : Found) (llx : LlxRun) (begin : History) → IsRun TreeAllows c.layout (r ⊳ h) → r.pass.0 ≢ c.pass → Looks e m c h f llx begin → Looks e m c (r ⊳ h) f llx begin
+  looks_by_others m c h r f llx begin run other x = record {
+    run = (x.run.0, run);
+    looked = looked_more e c h r m.edit f m.snaps.items x.run run x.looked;
+    rests = rests_by_others c h r m.share run.lawful other x.rests;
+    room = x.room;
+    named = x.named;
+    now = inr x.now;
+    since = x.since;
+  }
+
+  full_by_others : (m : UpdateRun E) (c : Call) (h : History) (r : Row) (f : Found) (nth : Nth) → IsRun TreeAllows c.layout (r ⊳ h) → r.pass.0 ≢ c.pass → HasFilledTo c.layout h c.pass m.share m.nodes.first.0 (top e m f) (node_at m.nodes nth).0 (piece e m f) → HasFilledTo c.layout (r ⊳ h) c.pass m.share m.nodes.first.0 (top e m f) (node_at m.nodes nth).0 (piece e m f)
+  full_by_others m c h r f nth run other x = by_others c.layout h r c.pass m.share m.nodes.first.0 (top e m f) (piece e m f) c.is_pass run.lawful other (node_at m.nodes nth).0 x
+
+  scxs_by_others : (m : UpdateRun E) (c : Call) (h : History) (r : Row) (f : Found) (scx : ScxRun) (begin : History) → IsRun TreeAllows c.layout (r ⊳ h) → r.pass.0 ≢ c.pass → Scxs e m c h f scx begin → Scxs e m c (r ⊳ h) f scx begin
+  scxs_by_others m c h r f scx begin run other x = record {
+    run = (x.run.0, run);
+    small = x.small;
+    found = found_more c h r (edit_key (e.edit m.edit)) f x.run run x.found;
+    now = inr x.now;
+    since = x.since;
+    share = share_by_others c.layout h r c.pass m.share m.share.next_node scx.scx.0 run.lawful c.is_pass other x.share;
+    next_node = x.next_node;
+    next_scx = x.next_scx;
+    own = x.own;
+    own_scx = x.own_scx;
+    over = over_more c.layout c.pass scx.scx.0 h r run.lawful (takes_by_others c.layout c.pass scx.scx.0 h r run.lawful other) x.over;
+  }
+
+  kept_at : (m : UpdateRun E) (c : Call) (h : History) (s : Step) (r : Row) (at : UpdateAt) → IsRun TreeAllows c.layout (r ⊳ h) → r.pass.0 ≢ c.pass → UpdateWaitsAt e m c h s at → UpdateWaitsAt e m c (r ⊳ h) s at
+  kept_at m c h s r Start run other w = w
+  kept_at m c h s r (Walk walk) run other w = (walks_by_others m c h r walk.key run other w.0, walk_keeps walk c h s r run other w.1)
+  kept_at m c h s r (Look f llx) run other w = (w.0, looks_by_others m c h r f llx w.0 run other w.1, llx_keeps TreeAllows llx (from c w.0) h s r run other w.2)
+  kept_at m c h s r (Load f nth part) run other w = (
+    record { works = works_more e m c h r f nth run w.0.works; full = full_by_others m c h r f nth run other w.0.full; hand = w.0.hand; wanted = w.0.wanted; settled = w.0.settled },
+    w.1,
+  )
+  kept_at m c h s r (Fill f nth part) run other w = (
+    record { works = works_more e m c h r f nth run w.0.works; full = full_by_others m c h r f nth run other w.0.full; hand = w.0.hand; done = w.0.done; fill = w.0.fill; part_is = w.0.part_is },
+    field_may_more part _ _ (for_field_more c.layout h r m.nodes.first.0 (top e m f) (word_of (piece e m f (node_at m.nodes nth).0) part)) w.1,
+    words_by_others c.layout h r c.pass m.share m.nodes.first.0 (top e m f) (piece e m f) c.is_pass run.lawful other (node_at m.nodes nth).0 (piece e m f (node_at m.nodes nth).0) (IsBefore part) w.0.full.hand w.0.hand.lowest w.0.hand.highest w.2,
+    w.3,
+  )
+  kept_at m c h s r (Scx f scx) run other w = (w.0, scxs_by_others m c h r f scx w.0 run other w.1, scx_keeps TreeAllows scx (from c w.0) h s r run other w.2)
+
+  -- rows of other passes leave an update waiting for the same step
+  pub update_keeps : (m : UpdateRun E) (c : Call) (h : History) (s : Step) (r : Row) → IsRun TreeAllows c.layout (r ⊳ h) → r.pass.0 ≢ c.pass → UpdateWaits e m c h s → UpdateWaits e m c (r ⊳ h) s
+  update_keeps m c h s r run other w = kept_at m c h s r m.at run other w
+
+  -- The step that it waits for
+
+  lawful_at : (m : UpdateRun E) (c : Call) (h : History) (s : Step) (at : UpdateAt) → IsRun TreeAllows c.layout h → UpdateWaitsAt e m c h s at → IsRun TreeAllows c.layout (row_of c s h ⊳ h)
+  lawful_at m c h s Start run w = absurd w
+  lawful_at m c h s (Walk walk) run w = walk_lawful walk c h s run w.1
+  lawful_at m c h s (Look f llx) run w = llx_lawful TreeAllows llx (from c w.0) h s run w.2
+  lawful_at m c h s (Load f nth part) run w = load_lawful TreeAllows c h LoadSettled (node (copied e m f) part) s run w.1 record { word = w.0.settled; same = refl } (λ q. cc) w.0.works.inside
+  lawful_at m c h s (Fill f nth part) run w = fill_lawful TreeAllows c h (node_at m.nodes nth).0 part (word_of (piece e m f (node_at m.nodes nth).0) part) s run w.3
+      (w.0.full.hand.own (node_at m.nodes nth).0 w.0.hand.lowest w.0.hand.highest)
+      (may_fill c.layout h c.pass m.share m.nodes.first.0 (top e m f) (node_at m.nodes nth).0 (piece e m f) part (word_of (piece e m f (node_at m.nodes nth).0) part) w.0.fill w.0.hand.lowest w.0.hand.highest w.1 w.0.full)
+  lawful_at m c h s (Scx f scx) run w = scx_lawful TreeAllows scx (from c w.0) h s run w.2
+
+  -- the step that an update waits for continues the run
+  pub update_lawful : (m : UpdateRun E) (c : Call) (h : History) (s : Step) → IsRun TreeAllows c.layout h → UpdateWaits e m c h s → IsRun TreeAllows c.layout (row_of c s h ⊳ h)
+  update_lawful m c h s run w = lawful_at m c h s m.at run w
+
+  -- Its own row
+
+  walks_by_step : (m : UpdateRun E) (c : Call) (h : History) (r : Row) (key : ℕ) → IsRun TreeAllows c.layout (r ⊳ h) → r.kind ≢ FillKind → Walks e m c h key → Walks e m c (r ⊳ h) key
+  walks_by_step m c h r key run no_fill x = record { small = x.small; rests = rests_by_step c h r m.share run.lawful no_fill x.rests; same = x.same }
+
+  looks_by_step : (m : UpdateRun E) (c : Call) (h : History) (r : Row) (f : Found) (llx : LlxRun) (begin : History) → IsRun TreeAllows c.layout (r ⊳ h) → r.kind ≢ FillKind → Looks e m c h f llx begin → Looks e m c (r ⊳ h) f llx begin
+  looks_by_step m c h r f llx begin run no_fill x = record {
+    run = (x.run.0, run);
+    looked = looked_more e c h r m.edit f m.snaps.items x.run run x.looked;
+    rests = rests_by_step c h r m.share run.lawful no_fill x.rests;
+    room = x.room;
+    named = x.named;
+    now = inr x.now;
+    since = x.since;
+  }
+
+  -- a load changes nothing
+  loads_made : (m : UpdateRun E) (c : Call) (h : History) (s : Step) (f : Found) (nth : Nth) (part : NodeWord) → IsRun TreeAllows c.layout (row_of c s h ⊳ h) → s ≡ load LoadSettled (node (copied e m f) part) → Loads e m c h f nth part → Loads e m c (row_of c s h ⊳ h) f nth part
+  loads_made m c h s f nth part run asked x = record {
+    works = works_more e m c h (row_of c s h) f nth run x.works;
+    full = by_load c.layout h (row_of c s h) c.pass m.share m.nodes.first.0 (top e m f) (node_at m.nodes nth).0 (piece e m f) run.lawful (λ q. let z : LoadSettled ≡ FillKind = sym (ap (λ (t : Step). t.kind) asked) ∙ q in cc) same x.full;
+    hand = x.hand;
+    wanted = x.wanted;
+    settled = x.settled;
+  }
+    where
+      same : (w : Word) → value (row_of c s h ⊳ h) w ≡ value h w
+      same = value_quiet (row_of c s h) h refl (rw asked refl)
+
+  -- a fill of a word of the fresh node of this place
+  module _ (m : UpdateRun E) (c : Call) (h : History) (f : Found) (nth : Nth) (part : NodeWord) where
+    abbrev n : ℕ
+    n = (node_at m.nodes nth).0
+
+    abbrev p : Piece
+    p = piece e m f (node_at m.nodes nth).0
+
+    abbrev r : Row
+    r = row_of c (fill_step e m f nth part) h
+
+    abbrev May : Type 0
+    May = FieldMay part (IsForField c.layout h m.nodes.first.0 (top e m f) (word_of p part))
+
+    abbrev Then : History → Type 0
+    Then k = Fills e m c k f nth part × HoldsWords k n p (IsUpTo part) × IsTakenNode k n
+
+    fills_made : IsRun TreeAllows c.layout (r ⊳ h) → Fills e m c h f nth part → May → HoldsWords h n p (IsBefore part) → Then (r ⊳ h)
+    fills_made run x may words = (
+      record {
+        works = works_more e m c h r f nth run x.works;
+        full = filled_more c.layout h r c.pass m.share m.nodes.first.0 (top e m f) n (piece e m f) part run.lawful refl refl x.fill x.hand.lowest x.hand.highest may x.full;
+        hand = x.hand;
+        done = x.done;
+        fill = x.fill;
+        part_is = x.part_is;
+      },
+      words_more c.layout h r c.pass m.share m.nodes.first.0 (top e m f) n (piece e m f) part run.lawful refl refl x.fill x.hand.lowest x.hand.highest may x.full p refl words,
+      taken_now c.layout h r c.pass m.share m.nodes.first.0 (top e m f) n (piece e m f) part run.lawful refl refl x.fill x.hand.lowest x.hand.highest may x.full,
+    )
+
+    fills_then : (s : Step) → s ≡ fill_step e m f nth part → IsRun TreeAllows c.layout (row_of c s h ⊳ h) → Fills e m c h f nth part → May → HoldsWords h n p (IsBefore part) → Then (row_of c s h ⊳ h)
+    fills_then s asked run x may words = rw asked (fills_made (rw asked at run) x may words)
+
+  scxs_made : (m : UpdateRun E) (c : Call) (h : History) (s : Step) (f : Found) (scx : ScxRun) (begin : History) → IsRun TreeAllows c.layout (row_of c s h ⊳ h) → Scxs e m c h f scx begin → ScxWaits TreeAllows scx (from c begin) h s → Scxs e m c (row_of c s h ⊳ h) f scx begin
+  scxs_made m c h s f scx begin run x w = record {
+    run = (x.run.0, run);
+    small = x.small;
+    found = found_more c h (row_of c s h) (edit_key (e.edit m.edit)) f x.run run x.found;
+    now = inr x.now;
+    since = x.since;
+    share = share_by_scx TreeAllows scx (from c begin) h s m.share m.share.next_node scx.scx.0 run.lawful w (let a = x.next_node in omega (arith, a)) (let a = x.next_scx in omega (arith, a)) x.share;
+    next_node = x.next_node;
+    next_scx = x.next_scx;
+    own = x.own;
+    own_scx = x.own_scx;
+    over = over_more c.layout c.pass scx.scx.0 h (row_of c s h) run.lawful (λ t own d free. untaken_at TreeAllows (job_of scx) (from c begin) h scx.at s t w d free) x.over;
+  }
+
+  made_at : (m : UpdateRun E) (c : Call) (h : History) (s : Step) (v : ℕ) (at : UpdateAt) → IsRun TreeAllows c.layout (row_of c s h ⊳ h) → IsTold s.access (value h s.word) v → UpdateWaitsAt e m c h s at → UpdateIsToldAt e m c (row_of c s h ⊳ h) v at
+  made_at m c h s v Start run t w = w
+  made_at m c h s v (Walk walk) run t w = (walks_by_step m c h (row_of c s h) walk.key run (walk_fills_not walk c h s w.1) w.0, walk_made walk c h s v run t w.1)
+  made_at m c h s v (Look f llx) run t w = (w.0, looks_by_step m c h (row_of c s h) f llx w.0 run (llx_fills_not TreeAllows llx (from c w.0) h s w.2) w.1, llx_made TreeAllows llx (from c w.0) h s v run t w.2)
+  made_at m c h s v (Load f nth part) run t w = (loads_made m c h s f nth part run w.1 w.0, load_told c h LoadSettled (node (copied e m f) part) s v w.1 t)
+  made_at m c h s v (Fill f nth part) run t w = fills_then m c h f nth part s w.3 run w.0 w.1 w.2
+  made_at m c h s v (Scx f scx) run t w = (w.0, scxs_made m c h s f scx w.0 run w.1 w.2, scx_made TreeAllows scx (from c w.0) h s v run t w.2)
+
+  -- once the step is made, an update may be called with what it told
+  pub update_made : (m : UpdateRun E) (c : Call) (h : History) (s : Step) (v : ℕ) → IsRun TreeAllows c.layout (row_of c s h ⊳ h) → IsTold s.access (value h s.word) v → UpdateWaits e m c h s → UpdateIsReady e m c (row_of c s h ⊳ h) (Some v)
+  update_made m c h s v run t w = made_at m c h s v m.at run t w
+
+  -- What it is told
+
+  fits_at : (m : UpdateRun E) (c : Call) (h : History) (v nodes : ℕ) (at : UpdateAt) → IsRun TreeAllows c.layout h → UpdateIsToldAt e m c h v at → length (taken_nodes h) ≤ nodes → UpdateFitsAt e m (Some v) nodes at
+  fits_at m c h v nodes Start run x few = absurd x
+  fits_at m c h v nodes (Walk walk) run x few = walk_told walk c h (Some v) nodes run x.1 few
+  fits_at m c h v nodes (Look f llx) run x few = tt
+  fits_at m c h v nodes (Load f nth part) run x few = x.0.wanted
+  fits_at m c h v nodes (Fill f nth part) run x few = tt
+  fits_at m c h v nodes (Scx f scx) run x few = tt
+
+  -- what an update may be told fits the nodes that are taken by then
+  pub update_told : (m : UpdateRun E) (c : Call) (h : History) (got : Option ℕ) (nodes : ℕ) → IsRun TreeAllows c.layout h → UpdateIsReady e m c h got → length (taken_nodes h) ≤ nodes → UpdateFits e m got nodes
+  update_told m c h None nodes run x few = subst (λ at. UpdateFitsAt e m None nodes at) (sym x.1) tt
+  update_told m c h (Some v) nodes run x few = fits_at m c h v nodes m.at run x few

@@ -1,0 +1,6 @@
+pub mod Pieces
+pub mod Edits
+pub mod Steps
+pub mod Known
+pub mod Sound
+pub mod Laws

@@ -1,0 +1,63 @@
+-- What fresh nodes are to hold.
+use Rattle.std.specs.Prelude.{ℕ, ◌+◌, ◌-◌, ◌%◌, ◌^◌, min, Bool, true, false, Option, Some, None}
+use Rattle.arena.specs.declared.number.NodeNo.{NodeNo}
+use Rattle.arena.specs.declared.word.Side.TheVariants.{Left, Right}
+use Rattle.arena.specs.declared.word.NodeWord.{NodeWord}
+use Rattle.arena.specs.declared.word.NodeWord.TheVariants.{Head, Key, Value, Child}
+use Rattle.arena.specs.Heads.{head_word}
+use Rattle.arena.specs.Share.{Remaining}
+use Rattle.updates.specs.declared.edit.Loaded.{Loaded}
+use Rattle.updates.specs.declared.edit.Nodes.{Nodes}
+use Rattle.updates.specs.declared.edit.Nth.{Nth}
+use Rattle.updates.specs.declared.edit.Nth.TheVariants.{First, Second, Third}
+use Rattle.updates.specs.declared.edit.Piece.{Piece}
+use Rattle.updates.specs.declared.edit.Piece.TheVariants.{Leaf, Fork}
+
+-- the word of a head, of a level that a word can hold
+abbrev pub piece_head : ℕ → Bool → ℕ → ℕ
+piece_head level leaf class = head_word record { level = min level (2 ^ 61 - 1); leaf = leaf; class = class % 4 }
+
+-- what a word of the node is to hold
+abbrev pub word_of : Piece → NodeWord → ℕ
+word_of (Leaf level class key v) Head = piece_head level true class
+word_of (Leaf level class key v) Key = key
+word_of (Leaf level class key v) Value = v
+word_of (Fork level class key l r) Head = piece_head level false class
+word_of (Fork level class key l r) Key = key
+word_of (Fork level class key l r) (Child Left) = l.0
+word_of (Fork level class key l r) (Child Right) = r.0
+word_of _ _ = 0
+
+-- the word that is filled behind this one
+abbrev pub part_behind : Piece → NodeWord → Option NodeWord
+part_behind p Head = Some Key
+part_behind (Leaf level class key v) Key = Some Value
+part_behind (Fork level class key l r) Key = Some (Child Left)
+part_behind (Fork level class key l r) (Child Left) = Some (Child Right)
+part_behind _ _ = None
+
+-- how many words are filled behind this one
+abbrev pub fills_behind : Piece → NodeWord → ℕ
+fills_behind (Leaf level class key v) Head = 2
+fills_behind (Leaf level class key v) Key = 1
+fills_behind (Fork level class key l r) Head = 3
+fills_behind (Fork level class key l r) Key = 2
+fills_behind (Fork level class key l r) (Child Left) = 1
+fills_behind _ _ = 0
+
+-- the fresh node of this place
+abbrev pub node_at : Nodes → Nth → NodeNo
+node_at ns First = ns.first
+node_at ns Second = ns.second
+node_at ns Third = ns.third
+
+-- the words that were loaded, with one more
+abbrev pub with_word : Loaded → NodeWord → ℕ → Loaded
+with_word x Head v = record x { head = Some v }
+with_word x Key v = record x { key = Some v }
+with_word x Value v = record x { value = Some v }
+with_word x _ v = x
+
+-- what is left of a share once a node is taken
+abbrev pub less_a_node : Remaining → Remaining
+less_a_node left = record left { next_node = left.next_node + 1; nodes = left.nodes - 1 }

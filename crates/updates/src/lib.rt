@@ -1,0 +1,8 @@
+//! Updates of the tree: the machine that makes an edit, and what it asks of the edit.
+#![tactic(auto)]
+
+mod edit;
+mod update;
+
+pub use edit::{Edit, Loaded, Look, Need, Nodes, Nth, Piece};
+pub use update::{UpdateAt, UpdateRun, Updated};

@@ -1,0 +1,450 @@
+//! The machine of an edit of the tree.
+ghost use Rattle.std.specs.Prelude.{◌≡◌, ℕ, ◌+◌, ◌*◌, ◌-◌, ◌<◌, ◌≤◌, length};
+ghost use Rattle.arena.specs.Machines.{MatchTurn};
+ghost use Rattle.updates.specs.Steps.{try_left, works_behind, works_left, update_left, IsNearer};
+
+use crate::edit::{Edit, Loaded, Look, Need, Nodes, Nth};
+use arena::{
+    Access, Full, Kind, Machine, MemberIndex, NodeNo, NodeWord, Plan, Resource, ScxNo, Share, Step,
+    Turn, Word,
+};
+use arrayvec::ArrayVec;
+use prims::{Llx, LlxRun, Scx, ScxRun, Snap, Snaps, Update};
+use template::{Found, Tree, WalkRun};
+
+/// What an update answers.
+#[derive(Clone, Copy, Debug, PartialEq, Eq)]
+pub enum Updated {
+    /// It is made, or there was nothing to make. The key had this value.
+    Done { old: Option<u64> },
+    /// All tries were lost, the last to this SCX-record over this node.
+    Contended { node: NodeNo, scx: ScxNo },
+    /// The share has too little left for the next try.
+    Full(Full),
+}
+
+/// The step that an update has asked for.
+#[derive(Debug, Drop)]
+pub enum UpdateAt {
+    /// None yet.
+    Start,
+    /// A step of its walk.
+    Walk {
+        walk: WalkRun,
+    },
+    /// A step of an LLX.
+    Look {
+        found: Found,
+        llx: LlxRun,
+    },
+    /// The load of a settled word for the fresh node of this place.
+    Load {
+        found: Found,
+        nth: Nth,
+        part: NodeWord,
+    },
+    /// The fill of a word of the fresh node of this place.
+    Fill {
+        found: Found,
+        nth: Nth,
+        part: NodeWord,
+    },
+    /// A step of its SCX.
+    Scx {
+        found: Found,
+        scx: ScxRun,
+    },
+}
+
+/// An update of the tree, step by step: a walk, LLXs of the nodes that the edit names, loads and fills
+/// of fresh nodes, an SCX; and again where such a try is lost, as long as tries are left. From Brown,
+/// Ellen and Ruppert (PPoPP 2014).
+#[derive(Debug, Drop)]
+pub struct UpdateRun<E> {
+    /// What is to be done.
+    pub edit: E,
+    /// The nodes and SCX-records that it may take.
+    pub share: Share,
+    /// What the LLXs of this try have found.
+    pub snaps: ArrayVec<Snap, 4>,
+    /// The fresh nodes of this try.
+    pub nodes: Nodes,
+    /// What was loaded for them.
+    pub loaded: Loaded,
+    /// How many tries are left behind this one.
+    pub tries: u32,
+    /// The number of the call, as its maker counts.
+    pub call: u64,
+    /// Where the run stands.
+    pub at: UpdateAt,
+}
+
+impl<E: Edit + Drop> UpdateRun<E> {
+    ghost use Rattle.std.specs.Prelude.{◌≡◌, ℕ, ◌≤◌, ◌*◌, ◌+◌, ◌-◌, length};
+    ghost use Rattle.updates.specs.declared.edit.Nth.TheVariants.{First, Second, Third};
+    ghost use Rattle.template.specs.Walk.Steps.{WalkFits, walk_left};
+    ghost use Rattle.prims.specs.Llx.Steps.{llx_left};
+    ghost use Rattle.prims.specs.Scx.Steps.{scx_left};
+    ghost use Rattle.updates.specs.Pieces.{with_word, fills_behind};
+
+    /// A run that has not begun, in the caller's call of this number.
+    pub fn new(edit: E, share: Share, tries: u32, call: u64) -> UpdateRun<E>
+        ensures start { result.at ≡ UpdateAt.Start }
+        ensures share { result.share ≡ share }
+        ensures edit { result.edit ≡ edit }
+        ensures call { result.call ≡ call }
+        ensures tries { result.tries ≡ tries - 1 }
+    {
+        UpdateRun {
+            edit,
+            share,
+            snaps: ArrayVec::new(),
+            nodes: Nodes::default(),
+            loaded: Loaded::default(),
+            tries: tries.saturating_sub(1),
+            call,
+            at: UpdateAt::Start,
+        }
+    }
+
+    /// Gives the share back.
+    pub fn into_share(self) -> Share
+        ensures { result ≡ self.share }
+    {
+        self.share
+    }
+
+    /// Begins a try. The try before it was lost to this SCX-record over this node.
+    fn begin_walk(&mut self, node: NodeNo, scx: ScxNo) -> Turn<Updated>
+        ensures turn { (c : Call) (h : History) → IsRun TreeAllows c.layout h → Begins E.means self.old c h → UpdateTurn E.means c h self.new result }
+        ensures same { (self.new.edit ≡ self.old.edit) × (self.new.call ≡ self.old.call) }
+        ensures nearer { (nodes : ℕ) → IsNearer E.means self.new nodes result (self.old.tries * try_left E.means nodes + try_left E.means nodes) }
+    {
+        let mut walk = WalkRun::new(self.edit.key());
+        match Machine::<Tree>::next(&mut walk, None) {
+            Turn::Ask(step) => {
+                self.at = UpdateAt::Walk { walk };
+                Turn::Ask(step)
+            }
+            Turn::Done(_) => Turn::Done(Updated::Contended { node, scx }),
+        }
+    }
+
+    /// Ends a try that is lost, and begins the next if there is one.
+    fn lost(&mut self, node: NodeNo, scx: ScxNo) -> Turn<Updated>
+        ensures turn { (c : Call) (h : History) → IsRun TreeAllows c.layout h → Begins E.means self.old c h → UpdateTurn E.means c h self.new result }
+        ensures same { (self.new.edit ≡ self.old.edit) × (self.new.call ≡ self.old.call) }
+        ensures nearer { (nodes : ℕ) → IsNearer E.means self.new nodes result (self.old.tries * try_left E.means nodes) }
+    {
+        if self.tries == 0 {
+            return Turn::Done(Updated::Contended { node, scx });
+        }
+        self.tries -= 1;
+        self.begin_walk(node, scx)
+    }
+
+    /// Goes on with what the last step of the walk found.
+    fn walk_on(&mut self, mut walk: WalkRun, got: Option<u64>) -> Turn<Updated>
+        ensures same { (self.new.edit ≡ self.old.edit) × (self.new.call ≡ self.old.call) }
+        ensures nearer { (nodes : ℕ) → WalkFits walk got nodes → IsNearer E.means self.new nodes result (self.old.tries * try_left E.means nodes + (walk_left walk.at nodes + (64 * E.means.most_looks + works_behind E.means First + 39))) }
+    {
+        match Machine::<Tree>::next(&mut walk, got) {
+            Turn::Ask(step) => {
+                self.at = UpdateAt::Walk { walk };
+                Turn::Ask(step)
+            }
+            Turn::Done(found) => self.test_share(found),
+        }
+    }
+
+    /// Goes on behind the walk, if the share has what the edit needs.
+    fn test_share(&mut self, found: Found) -> Turn<Updated>
+        ensures same { (self.new.edit ≡ self.old.edit) × (self.new.call ≡ self.old.call) }
+        ensures nearer { (nodes : ℕ) → IsNearer E.means self.new nodes result (self.old.tries * try_left E.means nodes + (64 * E.means.most_looks + works_behind E.means First + 39)) }
+    {
+        let need = match self.edit.need(&found) {
+            Need::Nothing => return Turn::Done(Updated::Done { old: found.value }),
+            Need::One => 1,
+            Need::Three => 3,
+        };
+        let (nodes, scx) = self.share.left();
+        if nodes < need {
+            let what = Resource::Nodes;
+            return Turn::Done(Updated::Full(Full { what, left: nodes }));
+        }
+        if scx == 0 {
+            let what = Resource::Scx;
+            return Turn::Done(Updated::Full(Full { what, left: scx }));
+        }
+        self.snaps.clear();
+        self.look(found)
+    }
+
+    /// Looks at the next node that the edit names.
+    fn look(&mut self, found: Found) -> Turn<Updated>
+        ensures same { (self.new.edit ≡ self.old.edit) × (self.new.call ≡ self.old.call) }
+        ensures nearer { (nodes : ℕ) → IsNearer E.means self.new nodes result (self.old.tries * try_left E.means nodes + (64 * (E.means.most_looks - length self.old.snaps.items) + works_behind E.means First + 39)) }
+    {
+        match self.edit.look(&found, self.snaps.as_slice()) {
+            Look::At(node) => self.begin_look(found, node),
+            Look::Differs { node, scx } => self.lost(node, scx),
+            Look::Enough => self.begin_work(found),
+        }
+    }
+
+    /// Begins the LLX of a node.
+    fn begin_look(&mut self, found: Found, node: NodeNo) -> Turn<Updated>
+        ensures turn { (c : Call) (h : History) → IsRun TreeAllows c.layout h → CanLook E.means self.old c h found → E.means.looks self.old.edit found self.old.snaps.items ≡ Look.At node → IsOpened c.layout h node.0 → UpdateTurn E.means c h self.new result }
+        ensures same { (self.new.edit ≡ self.old.edit) × (self.new.call ≡ self.old.call) }
+        ensures nearer { (nodes : ℕ) → IsNearer E.means self.new nodes result (self.old.tries * try_left E.means nodes + (64 + 64 * (E.means.most_looks - 1 - length self.old.snaps.items) + works_behind E.means First + 39)) }
+    {
+        let mut llx = LlxRun::new(node);
+        match Machine::<Tree>::next(&mut llx, None) {
+            Turn::Ask(step) => {
+                self.at = UpdateAt::Look { found, llx };
+                Turn::Ask(step)
+            }
+            Turn::Done(_) => Turn::Done(Updated::Contended {
+                node,
+                scx: ScxNo(0),
+            }),
+        }
+    }
+
+    /// Goes on with what the last step of an LLX found.
+    fn look_on(&mut self, found: Found, mut llx: LlxRun, got: Option<u64>) -> Turn<Updated>
+        ensures same { (self.new.edit ≡ self.old.edit) × (self.new.call ≡ self.old.call) }
+        ensures nearer { (nodes : ℕ) → IsNearer E.means self.new nodes result (self.old.tries * try_left E.means nodes + (llx_left llx.at + 64 * (E.means.most_looks - 1 - length self.old.snaps.items) + works_behind E.means First + 39)) }
+    {
+        match Machine::<Tree>::next(&mut llx, got) {
+            Turn::Ask(step) => {
+                self.at = UpdateAt::Look { found, llx };
+                Turn::Ask(step)
+            }
+            Turn::Done(Llx::Snapshot(snap)) => self.looked(found, snap),
+            Turn::Done(Llx::Finalized { node, scx } | Llx::Fail { node, scx }) => {
+                self.lost(node, scx)
+            }
+        }
+    }
+
+    /// Keeps a snapshot, and goes on behind it.
+    fn looked(&mut self, found: Found, snap: Snap) -> Turn<Updated>
+        ensures same { (self.new.edit ≡ self.old.edit) × (self.new.call ≡ self.old.call) }
+        ensures nearer { (nodes : ℕ) → IsNearer E.means self.new nodes result (self.old.tries * try_left E.means nodes + (64 * (E.means.most_looks - 1 - length self.old.snaps.items) + works_behind E.means First + 39)) }
+    {
+        let _fits = self.snaps.try_push(snap);
+        self.look(found)
+    }
+
+    /// Takes the fresh nodes, once all snapshots are there.
+    fn begin_work(&mut self, found: Found) -> Turn<Updated>
+        ensures same { (self.new.edit ≡ self.old.edit) × (self.new.call ≡ self.old.call) }
+        ensures nearer { (nodes : ℕ) → IsNearer E.means self.new nodes result (self.old.tries * try_left E.means nodes + (works_behind E.means First + 39)) }
+    {
+        self.loaded = Loaded::default();
+        if self.edit.need(&found) == Need::Three {
+            self.begin_three(found)
+        } else {
+            self.begin_one(found)
+        }
+    }
+
+    /// Takes one fresh node.
+    fn begin_one(&mut self, found: Found) -> Turn<Updated>
+        ensures same { (self.new.edit ≡ self.old.edit) × (self.new.call ≡ self.old.call) }
+        ensures nearer { (nodes : ℕ) → IsNearer E.means self.new nodes result (self.old.tries * try_left E.means nodes + (works_behind E.means First + 39)) }
+    {
+        let first = self.take();
+        self.nodes = Nodes {
+            first,
+            second: NodeNo(0),
+            third: NodeNo(0),
+        };
+        self.load(found, Nth::First)
+    }
+
+    /// Takes three.
+    fn begin_three(&mut self, found: Found) -> Turn<Updated>
+        ensures same { (self.new.edit ≡ self.old.edit) × (self.new.call ≡ self.old.call) }
+        ensures nearer { (nodes : ℕ) → IsNearer E.means self.new nodes result (self.old.tries * try_left E.means nodes + (works_behind E.means First + 39)) }
+    {
+        let first = self.take();
+        let second = self.take();
+        let third = self.take();
+        self.nodes = Nodes {
+            first,
+            second,
+            third,
+        };
+        self.load(found, Nth::First)
+    }
+
+    /// Takes a fresh node.
+    fn take(&mut self) -> NodeNo
+        ensures taken { 0 < self.old.share.nodes → (result.0 ≡ self.old.share.next_node) × (self.new.share ≡ less_a_node self.old.share) }
+        ensures same { self.new ≡ record self.old { share = self.new.share } }
+        ensures tries { self.new.tries ≡ self.old.tries }
+    {
+        match self.share.fresh() {
+            Some(fresh) => fresh.node(),
+            None => NodeNo(0),
+        }
+    }
+
+    /// Loads the next word for the fresh node of this place, or begins to fill it.
+    fn load(&mut self, found: Found, nth: Nth) -> Turn<Updated>
+        ensures turn { (c : Call) (h : History) → IsRun TreeAllows c.layout h → LoadsWell E.means → CanLoad E.means self.old c h found nth → UpdateTurn E.means c h self.new result }
+        ensures same { (self.new.edit ≡ self.old.edit) × (self.new.call ≡ self.old.call) }
+        ensures nearer { (nodes : ℕ) → IsNearer E.means self.new nodes result (self.old.tries * try_left E.means nodes + (works_left E.means self.old found nth + 39)) }
+    {
+        let snaps = self.snaps.as_slice();
+        let Some(part) = self.edit.load(&found, snaps, &self.loaded, nth) else {
+            return self.fill(found, nth, NodeWord::Head);
+        };
+        let node = self.edit.copied(&found, snaps);
+        self.at = UpdateAt::Load { found, nth, part };
+        Turn::Ask(Step {
+            kind: Kind::LoadSettled,
+            word: Word::Node(node, part),
+            access: Access::Load,
+        })
+    }
+
+    /// Goes on with what that load has told.
+    fn load_on(&mut self, found: Found, nth: Nth, part: NodeWord, told: u64) -> Turn<Updated>
+        ensures turn { (c : Call) (h : History) → IsRun TreeAllows c.layout h → LoadsWell E.means → Loads E.means self.old c h found nth part → value h (node (copied E.means self.old found) part) ≡ told → UpdateTurn E.means c h self.new result }
+        ensures same { (self.new.edit ≡ self.old.edit) × (self.new.call ≡ self.old.call) }
+        ensures nearer { (nodes : ℕ) → IsWanted E.means self.old found nth part → IsNearer E.means self.new nodes result (self.old.tries * try_left E.means nodes + (works_left E.means self.old found nth - 1 + 39)) }
+    {
+        self.loaded = self.loaded.with(part, told);
+        self.load(found, nth)
+    }
+
+    /// Fills a word of the fresh node of this place.
+    fn fill(&mut self, found: Found, nth: Nth, part: NodeWord) -> Turn<Updated>
+        ensures turn { (c : Call) (h : History) → IsRun TreeAllows c.layout h → CanFill E.means self.old c h found nth part → UpdateTurn E.means c h self.new result }
+        ensures same { (self.new.edit ≡ self.old.edit) × (self.new.call ≡ self.old.call) }
+        ensures nearer { (nodes : ℕ) → IsNearer E.means self.new nodes result (self.old.tries * try_left E.means nodes + (fills_left E.means self.old found nth part + 1 + 39)) }
+    {
+        let snaps = self.snaps.as_slice();
+        let piece = self
+            .edit
+            .piece(&found, snaps, &self.nodes, &self.loaded, nth);
+        self.at = UpdateAt::Fill { found, nth, part };
+        Turn::Ask(Step {
+            kind: Kind::Fill,
+            word: Word::Node(self.nodes.at(nth), part),
+            access: Access::Store(piece.word(part)),
+        })
+    }
+
+    /// Goes on behind that fill: with the next word, the next node, or the SCX.
+    fn fill_on(&mut self, found: Found, nth: Nth, part: NodeWord) -> Turn<Updated>
+        ensures same { (self.new.edit ≡ self.old.edit) × (self.new.call ≡ self.old.call) }
+        ensures nearer { (nodes : ℕ) → IsNearer E.means self.new nodes result (self.old.tries * try_left E.means nodes + (fills_left E.means self.old found nth part + 39)) }
+    {
+        let snaps = self.snaps.as_slice();
+        let piece = self
+            .edit
+            .piece(&found, snaps, &self.nodes, &self.loaded, nth);
+        if let Some(next) = piece.behind(part) {
+            return self.fill(found, nth, next);
+        }
+        if self.edit.need(&found) == Need::Three {
+            match nth {
+                Nth::First => return self.load(found, Nth::Second),
+                Nth::Second => return self.load(found, Nth::Third),
+                Nth::Third => {}
+            }
+        }
+        self.begin_scx(found)
+    }
+
+    /// What its SCX is to do: it covers all that was looked at and finalizes all but the first, of
+    /// which a field gets the last fresh node.
+    fn update(&self, found: &Found) -> Update {
+        let side = self.edit.side(found);
+        let many = self.snaps.len();
+        let removed = [false, 1 < many, 2 < many, 3 < many];
+        let snaps = Snaps::new(self.snaps.as_slice());
+        let fresh = match self.edit.need(found) {
+            Need::Three => self.nodes.third,
+            _ => self.nodes.first,
+        };
+        Update {
+            snaps,
+            plan: Plan::new(many, removed, MemberIndex::First, side),
+            old: snaps.at(MemberIndex::First).child(side),
+            fresh,
+        }
+    }
+
+    /// Begins the SCX.
+    fn begin_scx(&mut self, found: Found) -> Turn<Updated>
+        ensures same { (self.new.edit ≡ self.old.edit) × (self.new.call ≡ self.old.call) }
+        ensures nearer { (nodes : ℕ) → IsNearer E.means self.new nodes result (self.old.tries * try_left E.means nodes + 39) }
+    {
+        let update = self.update(&found);
+        let Some(scx) = self.share.scx() else {
+            let what = Resource::Scx;
+            return Turn::Done(Updated::Full(Full { what, left: 0 }));
+        };
+        let mut run = ScxRun::new(update, scx, self.call);
+        match Machine::<Tree>::next(&mut run, None) {
+            Turn::Ask(step) => {
+                self.at = UpdateAt::Scx { found, scx: run };
+                Turn::Ask(step)
+            }
+            Turn::Done(_) => {
+                let node = NodeNo(0);
+                Turn::Done(Updated::Contended { node, scx })
+            }
+        }
+    }
+
+    /// Goes on with what the last step of the SCX found.
+    fn scx_on(&mut self, found: Found, mut scx: ScxRun, got: Option<u64>) -> Turn<Updated>
+        ensures turn { (c : Call) (h : History) (begin : History) → IsRun TreeAllows c.layout h → Scxs E.means self.old c h found scx begin → ScxIsReady TreeAllows scx (from c begin) h got → UpdateTurn E.means c h self.new result }
+        ensures same { (self.new.edit ≡ self.old.edit) × (self.new.call ≡ self.old.call) }
+        ensures nearer { (nodes : ℕ) → IsNearer E.means self.new nodes result (self.old.tries * try_left E.means nodes + scx_left scx.at) }
+    {
+        match Machine::<Tree>::next(&mut scx, got) {
+            Turn::Ask(step) => {
+                self.at = UpdateAt::Scx { found, scx };
+                Turn::Ask(step)
+            }
+            Turn::Done(Scx::Done) => Turn::Done(Updated::Done { old: found.value }),
+            Turn::Done(Scx::Lost { node, scx }) => self.lost(node, scx),
+        }
+    }
+
+    /// Goes on with what the last step found; with nothing at the first call, which asks for a step.
+    pub fn step(&mut self, got: Option<u64>) -> Turn<Updated>
+        ensures same { (self.new.edit ≡ self.old.edit) × (self.new.call ≡ self.old.call) }
+        ensures nearer { (nodes : ℕ) → UpdateFits E.means self.old got nodes → IsNearer E.means self.new nodes result (update_left E.means self.old nodes) }
+    {
+        match self.at {
+            UpdateAt::Start => self.begin_walk(NodeNo(0), ScxNo(0)),
+            UpdateAt::Walk { walk } => self.walk_on(walk, got),
+            UpdateAt::Look { found, llx } => self.look_on(found, llx, got),
+            UpdateAt::Load { found, nth, part } => {
+                self.load_on(found, nth, part, got.unwrap_or(0))
+            }
+            UpdateAt::Fill { found, nth, part } => self.fill_on(found, nth, part),
+            UpdateAt::Scx { found, scx } => self.scx_on(found, scx, got),
+        }
+    }
+
+    ghost use Rattle.updates.specs.Steps.{IsWanted, UpdateFits, fills_left};
+    ghost use Rattle.updates.specs.Pieces.{less_a_node};
+    ghost use Rattle.arena.specs.History.{History, value};
+    ghost use Rattle.arena.specs.Machines.{Call, IsRun};
+    ghost use Rattle.prims.specs.Llx.Known.{IsOpened};
+    ghost use Rattle.prims.specs.Scx.Known.{ScxIsReady};
+    ghost use Rattle.spelling.specs.TreeShape.{TreeAllows};
+    ghost use Rattle.updates.specs.Known.{Begins, CanLook, CanLoad, CanFill, Loads, Scxs, UpdateTurn, copied};
+    ghost use Rattle.updates.specs.Sound.{LoadsWell};
+    ghost use Rattle.arena.specs.Words.{node};
+    ghost use Rattle.updates.specs.Laws.HandScx.{from};
+}
