@@ -31,8 +31,8 @@ use Rattle.template.specs.Promises.{IsPromised}
 use Rattle.template.specs.Tracked.{Tracks, waits, begun, over}
 use Rattle.template.proofs.Promised.{promised_more}
 
--- What a row of HELP does of an SCX-record that no info word names: it changes nothing, begins it, or
--- aborts it
+-- What a row of HELP does of an SCX-record that no info word names: it changes nothing, begins it,
+-- or aborts it
 
 data FirstRow (h : History) (r : Row) (c s : ℕ) (lay : Layout) : Type 0 where
   quiet : IsQuiet r → FirstRow h r c s lay

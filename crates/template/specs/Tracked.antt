@@ -1,5 +1,5 @@
--- Which edit an SCX-record of the pass makes: as promised before it begins, and for ever once it has
--- begun.
+-- Which edit an SCX-record of the pass makes: as promised before it begins, and for ever once it
+-- has begun.
 use Rattle.std.specs.Prelude.{◌≡◌, ℕ}
 use Rattle.arena.specs.declared.layout.Layout.{Layout}
 use Rattle.arena.specs.Words.{state}
