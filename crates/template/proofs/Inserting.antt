@@ -184,12 +184,12 @@ module _ (c : Call) (h : History) (k v : ℕ) (f : Found) (run : IsTreeRun c.lay
     is_split : IsSplit (value h) k v old_leaf n x y
     is_split = by_class (ℕ_discrete f.head.class 0)
 
--- An SCX-record that puts a fresh leaf of the key into the place of the leaf that has it inserts the
--- key.
+-- An SCX-record that puts a fresh leaf of the key into the place of the leaf that has it inserts
+-- the key.
 pub swap_promised : (c : Call) (h : History) (s k v : ℕ) (f : Found) (d : Descriptor) (n old : ℕ) → IsTreeRun c.layout h → k < 2 ^ 64 → HasFoundLeaf c h k f → f.value ≡ Some old → IsInsertAt f d n → HasFreshLeaf c.layout c.pass h f k v n → IsPromised c.layout c.pass h s d (Insert k v)
 swap_promised c h s k v f d n old run small a found i w = insert_promised c.layout c.pass s h d k v c.is_pass (will_insert c h k v f run small a d n i w.fresh (inl (is_swap c h k v f run small a n old found w.words)))
 
--- So does one that puts a fresh fork, over a leaf of the key and a copy of the leaf, into the place of
--- a leaf that has not the key. A leaf above all keys is blank, so that its copy is.
+-- So does one that puts a fresh fork, over a leaf of the key and a copy of the leaf, into the place
+-- of a leaf that has not the key. A leaf above all keys is blank, so that its copy is.
 pub split_promised : (c : Call) (h : History) (s k v : ℕ) (f : Found) (d : Descriptor) (n x y : ℕ) → IsTreeRun c.layout h → k < 2 ^ 64 → HasFoundLeaf c h k f → f.value ≡ None → IsInsertAt f d n → HasFreshFork c.layout c.pass h f k v n x y → IsPromised c.layout c.pass h s d (Insert k v)
 split_promised c h s k v f d n x y run small a absent i w = insert_promised c.layout c.pass s h d k v c.is_pass (will_insert c h k v f run small a d n i w.fork_fresh (inr (x, y, w.leaf_fresh, w.copy_fresh, is_split c h k v f run small a n x y absent w)))

@@ -5,25 +5,30 @@ use Rattle.arena.specs.declared.layout.Layout.{Layout}
 use Rattle.arena.specs.declared.step.Row.{Row}
 use Rattle.arena.specs.declared.step.Step.{Step}
 use Rattle.arena.specs.declared.number.MemberIndex.{MemberIndex}
+use Rattle.arena.specs.declared.number.ScxNo.{ScxNo}
 use Rattle.arena.specs.MemberIndex.{member_index}
-use Rattle.arena.specs.Words.{info, state}
+use Rattle.arena.specs.Words.{scx, info, state}
 use Rattle.arena.specs.History.{History, ◌⊳◌, value}
 use Rattle.arena.specs.ScxRecords.{member, seen}
 use Rattle.arena.specs.Fills.{IsOwnScx, IsNamedScx}
 use Rattle.arena.specs.Lawful.{AreFrozen, HasWon, Lawful}
 use Rattle.arena.specs.Shape.{IsBegin}
 use Rattle.arena.specs.Machines.{IsRun, Call, row_of}
-use Rattle.arena.proofs.Lemmas.{value_at, held_at, exchange_won, exchange_lost, ends_self}
+use Rattle.arena.proofs.Lemmas.{value_at, value_apart, held_at, exchange_won, exchange_lost, ends_self, named_scx_before}
 use Rattle.histories.specs.Begins.{Begins}
-use Rattle.histories.specs.Descriptor.{descriptor}
+use Rattle.histories.specs.Descriptor.{Descriptor, descriptor}
 use Rattle.histories.specs.Progress.{IsStarted}
-use Rattle.histories.proofs.Lemmas.{descriptor_same, facts, own_words_stay, state_stays, stays_free, won_named}
+use Rattle.histories.proofs.Lemmas.{aborted_never_won, facts, state_stays, stays_free, won_named}
 use Rattle.help.specs.Allowed.{IsQuiet, MayComeBetween, IsPrepared}
-use Rattle.help.specs.Help.Allowing.{later_self, quiet_named_scx, quiet_words}
+use Rattle.help.specs.Help.Allowing.{later_self, quiet_named_scx}
 use Rattle.help.specs.Help.Known.{Freezes, Reading, reading, HelpKnows, help_step, HelpWaits}
 use Rattle.help.specs.declared.state.HelpRun.{HelpRun}
 use Rattle.help.specs.declared.state.HelpAt.{HelpAt}
 use Rattle.help.specs.declared.state.HelpAt.TheVariants.{Start, Plan as AtPlan, Member as AtMember, Seen as AtSeen, Freeze as AtFreeze, AllFrozen as AtAllFrozen, Abort as AtAbort, SetFrozen as AtSetFrozen, Mark as AtMark, New as AtNew, Old as AtOld, Update as AtUpdate, Commit as AtCommit}
+use Rattle.prims.specs.Scx.Known.{Job, job_of, Says, HasFilled, part_at, fill_step, FillWaits, ScxWaitsAt, ScxWaits}
+use Rattle.prims.specs.declared.scx.ScxRun.{ScxRun}
+use Rattle.prims.specs.declared.scx.ScxAt.{ScxAt}
+use Rattle.prims.specs.declared.scx.ScxAt.TheVariants.{Start as AtScxStart, Plan as AtFillPlan, New as AtFillNew, Old as AtFillOld, Member as AtFillMember, Seen as AtFillSeen, Call as AtFillCall, Help as AtHelp}
 use Rattle.spelling.specs.OrderedMap.{MapEdit}
 use Rattle.spelling.specs.Runs.{Makes}
 use Rattle.spelling.specs.TreeShape.{TreeAllows}
@@ -31,8 +36,8 @@ use Rattle.template.specs.Promises.{IsPromised}
 use Rattle.template.specs.Tracked.{Tracks, waits, begun, over}
 use Rattle.template.proofs.Promised.{promised_more}
 
--- What a row of HELP does of an SCX-record that no info word names: it changes nothing, begins it, or
--- aborts it
+-- What a row of HELP does of an SCX-record that no info word names: it changes nothing, begins it,
+-- or aborts it
 
 data FirstRow (h : History) (r : Row) (c s : ℕ) (lay : Layout) : Type 0 where
   quiet : IsQuiet r → FirstRow h r c s lay
@@ -86,35 +91,74 @@ module _ (c : Call) (h : History) (m : Reading) (free : ¬ IsNamedScx h m.scx) w
 
 -- One row more
 
-tracks_same : (lay : Layout) (c : ℕ) (h : History) (r : Row) (s : ℕ) (e : MapEdit) → IsPromised lay c h s (descriptor h s) e → MayComeBetween c s r → descriptor (r ⊳ h) s ≡ descriptor h s → ¬ IsNamedScx (r ⊳ h) s → Tracks lay c (r ⊳ h) s e
-tracks_same lay c h r s e promised between same free = waits (subst (λ d. IsPromised lay c (r ⊳ h) s d e) (sym same) (promised_more lay c h r s (descriptor h s) e between promised)) free
-
 makes_more : (lay : Layout) (h : History) (r : Row) (s : ℕ) (e : MapEdit) → Makes lay h s e → Makes lay (r ⊳ h) s e
 makes_more lay h r s e x = record { row = x.row; before = x.before; within = inr x.within; begins = x.begins; edit = x.edit }
 
 over_more : (lay : Layout) (h : History) (r : Row) (s : ℕ) → Lawful lay (r ⊳ h) → value h (state s) ≡ 2 → value (r ⊳ h) (state s) ≡ 2
 over_more lay h r s l x = state_stays lay h r s l (λ z. let y : 2 ≡ 0 = sym x ∙ z in omega (arith, y)) ∙ x
 
+-- of any kind that may come before its SCX-record begins, and does not begin it
+waits_more : (lay : Layout) (c : ℕ) (h : History) (r : Row) (m : Job) (e : MapEdit) → MayComeBetween c m.scx.0 r → ((d : Descriptor) → Says d m → IsPromised lay c h m.scx.0 d e) → ¬ IsNamedScx (r ⊳ h) m.scx.0 → Tracks lay c (r ⊳ h) m e
+waits_more lay c h r m e between promised free = waits (λ d x. promised_more lay c h r m.scx.0 d e between (promised d x)) free
+
 -- a row of another pass leaves it tracked
-pub tracks_by_others : (lay : Layout) (c : ℕ) (h : History) (r : Row) (s : ℕ) (e : MapEdit) → Lawful lay (r ⊳ h) → r.pass.0 ≢ c → IsOwnScx lay c s → Tracks lay c h s e → Tracks lay c (r ⊳ h) s e
-tracks_by_others lay c h r s e l other own (waits promised free) =
-    tracks_same lay c h r s e promised (inl other) (descriptor_same h (r ⊳ h) s (λ a i. own_words_stay lay h r c s l other own free a)) (stays_free lay h r c s l other own free)
-tracks_by_others lay c h r s e l other own (begun x) = begun (makes_more lay h r s e x)
-tracks_by_others lay c h r s e l other own (over x) = over (over_more lay h r s l x)
+pub tracks_by_others : (lay : Layout) (c : ℕ) (h : History) (r : Row) (m : Job) (e : MapEdit) → Lawful lay (r ⊳ h) → r.pass.0 ≢ c → IsOwnScx lay c m.scx.0 → Tracks lay c h m e → Tracks lay c (r ⊳ h) m e
+tracks_by_others lay c h r m e l other own (waits promised free) = waits_more lay c h r m e (inl other) promised (stays_free lay h r c m.scx.0 l other own free)
+tracks_by_others lay c h r m e l other own (begun x) = begun (makes_more lay h r m.scx.0 e x)
+tracks_by_others lay c h r m e l other own (over x) = over (over_more lay h r m.scx.0 l x)
 
--- so does a row of HELP of s, by the pass itself
-pub tracks_by_help : (c : Call) (h : History) (m : HelpRun) (step : Step) (e : MapEdit) → IsRun TreeAllows c.layout (row_of c step h ⊳ h) → IsRun TreeAllows c.layout h → HelpWaits TreeAllows c.layout c.pass m h step → Tracks c.layout c.pass h m.scx.0 e → Tracks c.layout c.pass (row_of c step h ⊳ h) m.scx.0 e
-tracks_by_help c h m step e run run_before w (begun x) = begun (makes_more c.layout h (row_of c step h) m.scx.0 e x)
-tracks_by_help c h m step e run run_before w (over x) = over (over_more c.layout h (row_of c step h) m.scx.0 run.lawful x)
-tracks_by_help c h m step e run run_before w (waits promised free) = rw w.asked (go (first_row c h (reading m) free m.at w.known))
-  where
-    go : FirstRow h (row_of c (help_step h m.scx.0 m.at) h) c.pass m.scx.0 c.layout → Tracks c.layout c.pass (row_of c (help_step h m.scx.0 m.at) h ⊳ h) m.scx.0 e
-    go (aborts x) = over x
-    go (begins b y now) = begun record { row = row_of c (help_step h m.scx.0 m.at) h; before = h; within = ends_self (row_of c (help_step h m.scx.0 m.at) h ⊳ h); begins = b; edit = promised h (later_self c.pass m.scx.0 h) run_before refl y now }
-    go (quiet q) = tracks_same c.layout c.pass h (row_of c (help_step h m.scx.0 m.at) h) m.scx.0 e promised (inr (inr q)) (quiet_words c.layout h (row_of c (help_step h m.scx.0 m.at) h) refl q m.scx.0) (λ p. free (quiet_named_scx c.layout h (row_of c (help_step h m.scx.0 m.at) h) refl q m.scx.0 p))
+-- A row of the SCX
 
--- an SCX-record that is tracked, has won and is committed has made its edit
-pub tracked_makes : (lay : Layout) (c : ℕ) (h : History) (s : ℕ) (e : MapEdit) → Lawful lay h → HasWon h s → value h (state s) ≡ 1 → Tracks lay c h s e → Makes lay h s e
-tracked_makes lay c h s e l w one (waits promised free) = absurd (free (won_named s (facts lay h l) w))
-tracked_makes lay c h s e l w one (begun x) = x
-tracked_makes lay c h s e l w one (over x) = absurd (let y : 2 ≡ 1 = sym x ∙ one in omega (arith, y))
+module _ (c : Call) (h : History) (m : Job) (step : Step) (e : MapEdit) (run : IsRun TreeAllows c.layout (row_of c step h ⊳ h)) where
+  made_before : Makes c.layout h m.scx.0 e → Tracks c.layout c.pass (row_of c step h ⊳ h) m e
+  made_before x = begun (makes_more c.layout h (row_of c step h) m.scx.0 e x)
+
+  aborted_before : value h (state m.scx.0) ≡ 2 → Tracks c.layout c.pass (row_of c step h ⊳ h) m e
+  aborted_before x = over (over_more c.layout h (row_of c step h) m.scx.0 run.lawful x)
+
+  by_fill : (at : ScxAt) → FillWaits TreeAllows c h m at step → Tracks c.layout c.pass h m e → Tracks c.layout c.pass (row_of c step h ⊳ h) m e
+  by_fill at w (begun x) = made_before x
+  by_fill at w (over x) = aborted_before x
+  by_fill at w (waits promised free) = rw w.asked (waits_more c.layout c.pass h r m e (inr (inl (part_at at, refl, refl))) promised (λ p. free (named_scx_before r h m.scx.0 same_info p)))
+    where
+      r : Row
+      r = row_of c (fill_step m (part_at at)) h
+
+      same_info : (n : ℕ) → value (r ⊳ h) (info n) ≡ value h (info n)
+      same_info n = value_apart r h (scx m.scx.0 (part_at at)) (info n) refl refl
+
+  by_help : (help : HelpRun) → IsRun TreeAllows c.layout h → HelpWaits TreeAllows c.layout c.pass help h step → help.scx ≡ m.scx → HasFilled c h m.scx.0 m.call m.update → Tracks c.layout c.pass h m e → Tracks c.layout c.pass (row_of c step h ⊳ h) m e
+  by_help help before w same filled (begun x) = made_before x
+  by_help help before w same filled (over x) = aborted_before x
+  by_help help before w same filled (waits promised free) = go (subst (λ (s : ScxNo). FirstRow h (row_of c step h) c.pass s.0 c.layout) same first)
+    where
+      first : FirstRow h (row_of c step h) c.pass help.scx.0 c.layout
+      first = rw w.asked (first_row c h (reading help) (λ p. free (subst (λ (s : ScxNo). IsNamedScx h s.0) same p)) help.at w.known)
+
+      says : Says (descriptor h m.scx.0) m
+      says = record { plan = filled.planned; new = filled.fresh; old = filled.expected; member = filled.members; seen = filled.found; call = filled.called }
+
+      go : FirstRow h (row_of c step h) c.pass m.scx.0 c.layout → Tracks c.layout c.pass (row_of c step h ⊳ h) m e
+      go (aborts x) = over x
+      go (begins b y now) = begun record { row = row_of c step h; before = h; within = ends_self (row_of c step h ⊳ h); begins = b; edit = promised (descriptor h m.scx.0) says h (later_self c.pass m.scx.0 h) before refl y now }
+      go (quiet q) = waits_more c.layout c.pass h (row_of c step h) m e (inr (inr q)) promised (λ p. free (quiet_named_scx c.layout h (row_of c step h) refl q m.scx.0 p))
+
+  by_scx : (at : ScxAt) → IsRun TreeAllows c.layout h → ScxWaitsAt TreeAllows c h m at step → Tracks c.layout c.pass h m e → Tracks c.layout c.pass (row_of c step h ⊳ h) m e
+  by_scx AtScxStart before w t = absurd w
+  by_scx AtFillPlan before w t = by_fill AtFillPlan w t
+  by_scx AtFillNew before w t = by_fill AtFillNew w t
+  by_scx AtFillOld before w t = by_fill AtFillOld w t
+  by_scx (AtFillMember j) before w t = by_fill (AtFillMember j) w t
+  by_scx (AtFillSeen j) before w t = by_fill (AtFillSeen j) w t
+  by_scx AtFillCall before w t = by_fill AtFillCall w t
+  by_scx (AtHelp help) before w t = by_help help before w.0 w.1 w.2 t
+
+-- so does a row of the SCX itself
+pub tracks_by_scx : (c : Call) (h : History) (m : ScxRun) (step : Step) (e : MapEdit) → IsRun TreeAllows c.layout (row_of c step h ⊳ h) → IsRun TreeAllows c.layout h → ScxWaits TreeAllows m c h step → Tracks c.layout c.pass h (job_of m) e → Tracks c.layout c.pass (row_of c step h ⊳ h) (job_of m) e
+tracks_by_scx c h m step e run before w t = by_scx c h (job_of m) step e run m.at before w t
+
+-- an SCX-record that is tracked and has won has made its edit
+pub tracked_makes : (lay : Layout) (c : ℕ) (h : History) (m : Job) (e : MapEdit) → Lawful lay h → HasWon h m.scx.0 → Tracks lay c h m e → Makes lay h m.scx.0 e
+tracked_makes lay c h m e l won (waits promised free) = absurd (free (won_named m.scx.0 (facts lay h l) won))
+tracked_makes lay c h m e l won (begun x) = x
+tracked_makes lay c h m e l won (over x) = absurd (aborted_never_won lay h m.scx.0 l x won)

@@ -43,9 +43,10 @@ pub record HasFreshLeaf (lay : Layout) (c : ℕ) (h : History) (f : Found) (k v 
   pub fresh : IsFresh lay c h n
   pub words : IsLeafWith (value h) n f.head.level 0 k v
 
--- In the place of a leaf that has not the key k: a fresh fork n over a fresh leaf x of k and v and a
--- fresh copy y of the leaf. What comes first is on the left, and the fork has the class and the key
--- of what comes last. The value of a leaf of class 0 is copied, that of any other is taken to be 0.
+-- In the place of a leaf that has not the key k: a fresh fork n over a fresh leaf x of k and v and
+-- a fresh copy y of the leaf. What comes first is on the left, and the fork has the class and the
+-- key of what comes last. The value of a leaf of class 0 is copied, that of any other is taken to
+-- be 0.
 pub record HasFreshFork (lay : Layout) (c : ℕ) (h : History) (f : Found) (k v n x y : ℕ) : Type 0 where
   pub fork_fresh : IsFresh lay c h n
   pub leaf_fresh : IsFresh lay c h x

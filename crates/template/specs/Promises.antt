@@ -21,8 +21,8 @@ use Rattle.spelling.specs.TreeShape.{MayEdit, TreeAllows, insert_plan, delete_pl
 use Rattle.spelling.specs.TreeWords.{is_leaf, toward}
 
 -- Whenever the pass c may begin s with these words, it makes the edit: after any run that goes on
--- from h by such rows as may come before, in which s still is ready and the first info still is what
--- was found.
+-- from h by such rows as may come before, in which s still is ready and the first info still is
+-- what was found.
 abbrev pub IsPromised : Layout → ℕ → History → ℕ → Descriptor → MapEdit → Type 0
 IsPromised lay c h s d e =
     (k : History) → IsLater c s h k → IsRun TreeAllows lay k → descriptor k s ≡ d → Begins lay d k c s → value k (info (member k s 0)) ≡ seen k s 0 → MayEdit lay k s e
@@ -32,8 +32,8 @@ pub record IsFresh (lay : Layout) (c : ℕ) (h : History) (n : ℕ) : Type 0 whe
   pub own : IsOwnNode lay c n
   pub unnamed : ¬ IsNamed lay h n
 
--- the words of the leaf l and of fresh nodes are those of an insert of k and v, which puts the fresh
--- node n into the place of l: n is a leaf, or a fork over two fresh leaves
+-- the words of the leaf l and of fresh nodes are those of an insert of k and v, which puts the
+-- fresh node n into the place of l: n is a leaf, or a fork over two fresh leaves
 abbrev pub IsInsertOver : Layout → ℕ → History → ℕ → ℕ → ℕ → ℕ → Type 0
 IsInsertOver lay c h k v l n = IsSwap (value h) k v l n
     ⊎ ((x y : ℕ) × IsFresh lay c h x × IsFresh lay c h y × IsSplit (value h) k v l n x y)
@@ -57,9 +57,9 @@ pub record IsSnapOf (lay : Layout) (h : History) (d : Descriptor) (j : ℕ) (sna
   pub node : snap.node.0 ≡ d.member j
   pub scx : snap.scx.0 ≡ d.seen j
 
--- What a delete of k has in hand, where the leaf of the key is on this side of its parent: two forks
--- that were on the key's path, the children of the lower one as its snapshot found them, of which
--- one is the leaf, and a fresh copy of the other.
+-- What a delete of k has in hand, where the leaf of the key is on this side of its parent: two
+-- forks that were on the key's path, the children of the lower one as its snapshot found them, of
+-- which one is the leaf, and a fresh copy of the other.
 pub record WillDelete (lay : Layout) (c : ℕ) (h : History) (d : Descriptor) (k : ℕ) (side : Side) : Type 0 where
   pub small : k < 2 ^ 64
   pub path : WasOnPath h k (d.member 0)
