@@ -214,6 +214,7 @@ impl<E: Edit + Drop> UpdateRun<E> {
 
     /// Goes on with what the last step of an LLX found.
     fn look_on(&mut self, found: Found, mut llx: LlxRun, got: Option<u64>) -> Turn<Updated>
+        ensures turn { (c : Call) (h begin : History) → IsRun TreeAllows c.layout h → LooksWell E.means → LoadsWell E.means → Looks E.means self.old c h found llx begin → LlxIsReady TreeAllows llx (from c begin) h got → UpdateTurn E.means c h self.new result }
         ensures same { (self.new.edit ≡ self.old.edit) × (self.new.call ≡ self.old.call) }
         ensures nearer { (nodes : ℕ) → IsNearer E.means self.new nodes result (self.old.tries * try_left E.means nodes + (llx_left llx.at + 64 * (E.means.most_looks - 1 - length self.old.snaps.items) + works_behind E.means First + 39)) }
     {
@@ -449,10 +450,10 @@ impl<E: Edit + Drop> UpdateRun<E> {
     ghost use Rattle.updates.specs.Pieces.{less_a_node};
     ghost use Rattle.arena.specs.History.{History, value};
     ghost use Rattle.arena.specs.Machines.{Call, IsRun};
-    ghost use Rattle.prims.specs.Llx.Known.{IsOpened, IsSnapshot};
+    ghost use Rattle.prims.specs.Llx.Known.{IsOpened, IsSnapshot, LlxIsReady};
     ghost use Rattle.prims.specs.Scx.Known.{ScxIsReady};
     ghost use Rattle.spelling.specs.TreeShape.{TreeAllows};
-    ghost use Rattle.updates.specs.Known.{Begins, CanLook, nothing_loaded, CanLoad, CanFill, Loads, Scxs, UpdateTurn, copied};
+    ghost use Rattle.updates.specs.Known.{Begins, CanLook, Looks, nothing_loaded, CanLoad, CanFill, Loads, Scxs, UpdateTurn, copied};
     ghost use Rattle.updates.specs.Sound.{LoadsWell, LooksWell};
     ghost use Rattle.arena.specs.Words.{node};
     ghost use Rattle.updates.specs.Laws.HandScx.{from};
