@@ -1,25 +1,42 @@
 -- What an update knows once a node more is looked at, and as it takes its fresh nodes.
 use Rattle.std.proofs.Common.{◌≡◌, ◌≢◌, ℕ, zero, suc, ◌+◌, ◌-◌, ◌<◌, ◌≤◌, ◌⊎◌, List, [], ◌∷◌, ◌++◌, length, inl, inr, ⊎_elim, refl, sym, ◌∙◌, ap, subst, arith}
-use Rattle.std.specs.Prelude.{take}
+use Rattle.std.specs.Prelude.{take, Result, Ok, Err, OnOk, OnErr}
 use Rattle.std.proofs.lemmas.List.{take-append-le}
 use Rattle.arena.specs.declared.layout.Layout.{Layout}
 use Rattle.arena.specs.declared.number.NodeNo.{NodeNo}
-use Rattle.arena.specs.Fills.{IsOwnNode}
-use Rattle.arena.specs.History.{History}
-use Rattle.arena.specs.Machines.{Call}
+use Rattle.arena.specs.Fills.{IsNamed, IsOwnNode}
+use Rattle.arena.specs.Layout.{all_nodes}
+use Rattle.arena.specs.History.{History, value}
+use Rattle.arena.specs.Machines.{Call, MatchTurn}
 use Rattle.arena.specs.Share.{Remaining, HasNode}
 use Rattle.histories.proofs.Lemmas.{unmentioned_unnamed}
-use Rattle.prims.specs.Llx.Known.{IsSnapshot}
+use Rattle.arena.specs.declared.machine.Turn.{Turn}
+use Rattle.arena.specs.declared.machine.Turn.TheVariants.{Ask, Done}
+use Rattle.arena.specs.declared.step.Step.{Step}
+use Rattle.prims.specs.Llx.Known.{IsSnapshot, LlxWaits, LlxAnswers}
+use Rattle.prims.specs.declared.llx.Llx.{Llx}
+use Rattle.prims.specs.declared.llx.Llx.TheVariants.{Snapshot}
+use Rattle.prims.specs.declared.llx.LlxRun.{LlxRun}
+use Rattle.spelling.specs.TreeShape.{TreeAllows}
+use Rattle.updates.specs.declared.edit.Nodes.{Nodes}
+use Rattle.updates.specs.declared.update.UpdateAt.TheVariants.{Look}
+use Rattle.updates.specs.Laws.HandScx.{from}
 use Rattle.prims.specs.Shares.{IsUsable}
 use Rattle.prims.specs.Snap.{snap_at}
 use Rattle.prims.specs.declared.snap.Snap.{Snap}
 use Rattle.prims.proofs.Lemmas.{left_own_node, usable_now}
 use Rattle.template.specs.declared.walk.Found.{Found}
-use Rattle.updates.specs.declared.edit.Look.TheVariants.{At}
+use Rattle.updates.specs.declared.edit.Look.TheVariants.{At, Enough}
+use Rattle.updates.specs.declared.edit.Need.{Need}
+use Rattle.updates.specs.declared.edit.Need.TheVariants.{Nothing, One, Three}
+use Rattle.updates.specs.declared.edit.Nth.{Nth}
+use Rattle.updates.specs.declared.edit.Nth.TheVariants.{First, Second, Third}
 use Rattle.updates.specs.declared.edit.Piece.{Piece}
 use Rattle.updates.specs.declared.update.UpdateRun.{UpdateRun}
 use Rattle.updates.specs.Edits.{EditMeaning}
-use Rattle.updates.specs.Known.{Rests, AreUsable, HasLooked, AreSeen, Begins, CanLook}
+use Rattle.updates.specs.Known.{Rests, HasRoom, AreUsable, AreLoaded, ComesBefore, HasLooked, AreSeen, Begins, CanLook, CanLoad, Looks, UpdateWaits, copied, piece, top_of, nothing_loaded}
+use Rattle.updates.specs.Pieces.{less_a_node}
+use Rattle.updates.specs.Sound.{LooksWell}
 use Rattle.updates.specs.Laws.Hand.{HasHand, HasFilledTo}
 
 -- A snapshot more
@@ -104,3 +121,189 @@ hand_begins c h left t piece some x = record {
 
     back : (n : ℕ) → HasNode (without left (suc t)) n → HasNode left n
     back n p = record { from = let a = p.from in omega (arith, a); below = let a = p.below in omega (arith, a, some) }
+
+-- Its fresh nodes are in hand
+
+no_nothing : (need : Need) (left : Remaining) → HasRoom need left → need ≢ Nothing
+no_nothing Nothing left x e = x
+no_nothing One left x e = cc
+no_nothing Three left x e = cc
+
+pub is_needed : {E : Type 0} (e : EditMeaning E) (m : UpdateRun E) (c : Call) (h : History) (f : Found) → CanLook e m c h f → e.needs m.edit f ≢ Nothing
+is_needed e m c h f x = no_nothing (e.needs m.edit f) m.share x.room
+
+module _ {E : Type 0} (e : EditMeaning E) (m : UpdateRun E) (c : Call) (h : History) (f : Found) (looks : LooksWell e) (x : CanLook e m c h f)
+    (enough : e.looks m.edit f m.snaps.items ≡ Enough) (blank : m.loaded ≡ nothing_loaded) where
+  is_copied : IsNamed c.layout h (copied e m f) × (copied e m f < all_nodes c.layout)
+  is_copied = looks.copied m.edit c h f m.snaps.items x.begins.run (is_needed e m c h f x) x.looked enough
+
+  loaded_blank : AreLoaded (value h) (copied e m f) m.loaded
+  loaded_blank = rw blank record { head = tt; key = tt; value = tt }
+
+  none_before : (i : Nth) → ComesBefore i First → ⊥
+  none_before First b = absurd b
+  none_before Second b = absurd b
+  none_before Third b = absurd b
+
+  -- one node
+  abbrev nodes_one : NodeNo → Nodes
+  nodes_one n = record { first = n; second = record { 0 = 0 }; third = record { 0 = 0 } }
+
+  abbrev one_taken : UpdateRun E
+  one_taken = record m { share = less_a_node m.share; nodes = nodes_one (record { 0 = m.share.next_node }) }
+
+  takes_one : e.needs m.edit f ≡ One → CanLoad e one_taken c h f First
+  takes_one one = record {
+    works = record {
+      run = x.begins.run;
+      since = x.begins.since;
+      looked = x.looked;
+      enough = enough;
+      need = rw one tt;
+      in_order = rw one tt;
+      some = room.1;
+      named = is_copied.0;
+      inside = is_copied.1;
+      loaded = loaded_blank;
+      before = λ i b. absurd (none_before i b);
+    };
+    full = subst (λ (t : ℕ). HasFilledTo c.layout h c.pass (less_a_node m.share) m.share.next_node t m.share.next_node (piece e one_taken f)) top_is (hand_begins c h m.share 0 (piece e one_taken f) room.0 x.begins.rests);
+    hand = record { lowest = omega arith; highest = rw one (omega arith) };
+  }
+    where
+      room : HasRoom One m.share
+      room = rw one at x.room
+
+      none_more : (k : ℕ) → k + 0 ≡ k
+      none_more k = omega arith
+
+      top_is : m.share.next_node + 0 ≡ top_of (e.needs m.edit f) (nodes_one (record { 0 = m.share.next_node }))
+      top_is = none_more m.share.next_node ∙ sym (ap (λ n. top_of n (nodes_one (record { 0 = m.share.next_node }))) one)
+
+  pub one_then : (now : UpdateRun E) (first : NodeNo) → e.needs m.edit f ≡ One → now ≡ record m { share = now.share } → (0 < m.share.nodes → (first.0 ≡ m.share.next_node) × (now.share ≡ less_a_node m.share)) → CanLoad e (record now { nodes = nodes_one first }) c h f First
+  one_then now first one same taken =
+      subst (λ (n : UpdateRun E). CanLoad e (record n { nodes = nodes_one first }) c h f First) (sym (same ∙ ap (λ (s : Remaining). record m { share = s }) t.1))
+      (subst (λ (k : NodeNo). CanLoad e (record m { share = less_a_node m.share; nodes = nodes_one k }) c h f First) (λ i. record { 0 = sym t.0 i }) (takes_one one))
+    where
+      room : HasRoom One m.share
+      room = rw one at x.room
+
+      t : (first.0 ≡ m.share.next_node) × (now.share ≡ less_a_node m.share)
+      t = taken room.0
+
+  -- three nodes
+  abbrev less_two : Remaining
+  less_two = less_a_node (less_a_node m.share)
+
+  abbrev less_three : Remaining
+  less_three = less_a_node less_two
+
+  abbrev nodes_three : Nodes
+  nodes_three = record { first = record { 0 = m.share.next_node }; second = record { 0 = m.share.next_node + 1 }; third = record { 0 = m.share.next_node + 1 + 1 } }
+
+  abbrev three_taken : UpdateRun E
+  three_taken = record m { share = less_three; nodes = nodes_three }
+
+  takes_three : e.needs m.edit f ≡ Three → CanLoad e three_taken c h f First
+  takes_three three = record {
+    works = record {
+      run = x.begins.run;
+      since = x.begins.since;
+      looked = x.looked;
+      enough = enough;
+      need = rw three tt;
+      in_order = rw three (omega arith, omega arith);
+      some = room.1;
+      named = is_copied.0;
+      inside = is_copied.1;
+      loaded = loaded_blank;
+      before = λ i b. absurd (none_before i b);
+    };
+    full = subst (λ (t : ℕ). HasFilledTo c.layout h c.pass less_three m.share.next_node t m.share.next_node (piece e three_taken f)) top_is
+        (subst (λ (s : Remaining). HasFilledTo c.layout h c.pass s m.share.next_node (m.share.next_node + 2) m.share.next_node (piece e three_taken f)) share_is
+        (hand_begins c h m.share 2 (piece e three_taken f) room.0 x.begins.rests));
+    hand = record { lowest = omega arith; highest = rw three (omega arith) };
+  }
+    where
+      room : HasRoom Three m.share
+      room = rw three at x.room
+
+      next_is : (k : ℕ) → k + 3 ≡ k + 1 + 1 + 1
+      next_is k = omega arith
+
+      left_is : (k : ℕ) → k - 3 ≡ k - 1 - 1 - 1
+      left_is k = omega arith
+
+      last_is : (k : ℕ) → k + 2 ≡ k + 1 + 1
+      last_is k = omega arith
+
+      share_is : without m.share 3 ≡ less_three
+      share_is i = record m.share { next_node = next_is m.share.next_node i; nodes = left_is m.share.nodes i }
+
+      top_is : m.share.next_node + 2 ≡ top_of (e.needs m.edit f) nodes_three
+      top_is = last_is m.share.next_node ∙ sym (ap (λ n. top_of n nodes_three) three)
+
+  pub three_then : (one two now : UpdateRun E) (first second third : NodeNo) → e.needs m.edit f ≡ Three
+      → one ≡ record m { share = one.share } → (0 < m.share.nodes → (first.0 ≡ m.share.next_node) × (one.share ≡ less_a_node m.share))
+      → two ≡ record one { share = two.share } → (0 < one.share.nodes → (second.0 ≡ one.share.next_node) × (two.share ≡ less_a_node one.share))
+      → now ≡ record two { share = now.share } → (0 < two.share.nodes → (third.0 ≡ two.share.next_node) × (now.share ≡ less_a_node two.share))
+      → CanLoad e (record now { nodes = record { first = first; second = second; third = third } }) c h f First
+  three_then one two now first second third three same_one taken_one same_two taken_two same_now taken_now =
+      subst (λ (n : UpdateRun E). CanLoad e (record n { nodes = record { first = first; second = second; third = third } }) c h f First) (sym is_now)
+      (subst (λ (ns : Nodes). CanLoad e (record m { share = less_three; nodes = ns }) c h f First) nodes_are (takes_three three))
+    where
+      room : HasRoom Three m.share
+      room = rw three at x.room
+
+      t : (first.0 ≡ m.share.next_node) × (one.share ≡ less_a_node m.share)
+      t = taken_one (let r = room.0 in omega (arith, r))
+
+      is_one : one ≡ record m { share = less_a_node m.share }
+      is_one = same_one ∙ ap (λ (s : Remaining). record m { share = s }) t.1
+
+      u : (second.0 ≡ one.share.next_node) × (two.share ≡ less_a_node one.share)
+      u = taken_two (subst (λ (s : Remaining). 0 < s.nodes) (sym t.1) (let r = room.0 in omega (arith, r)))
+
+      is_two : two ≡ record m { share = less_two }
+      is_two = same_two ∙ ap (λ (s : Remaining). record one { share = s }) u.1 ∙ ap (λ (n : UpdateRun E). record n { share = less_a_node n.share }) is_one
+
+      v : (third.0 ≡ two.share.next_node) × (now.share ≡ less_a_node two.share)
+      v = taken_now (subst (λ (n : UpdateRun E). 0 < n.share.nodes) (sym is_two) (let r = room.0 in omega (arith, r)))
+
+      is_now : now ≡ record m { share = less_three }
+      is_now = same_now ∙ ap (λ (s : Remaining). record two { share = s }) v.1 ∙ ap (λ (n : UpdateRun E). record n { share = less_a_node n.share }) is_two
+
+      second_is : second.0 ≡ m.share.next_node + 1
+      second_is = u.0 ∙ ap (λ (n : UpdateRun E). n.share.next_node) is_one
+
+      third_is : third.0 ≡ m.share.next_node + 1 + 1
+      third_is = v.0 ∙ ap (λ (n : UpdateRun E). n.share.next_node) is_two
+
+      nodes_are : nodes_three ≡ record { first = first; second = second; third = third }
+      nodes_are i = record { first = record { 0 = sym t.0 i }; second = record { 0 = sym second_is i }; third = record { 0 = sym third_is i } }
+
+-- A snapshot is kept
+
+pub pushed : {T E : Type 0} (r : Result T E) (P : Type 0) (n most : ℕ) → n < most → most ≤ 4 → OnOk r P → OnErr r (n ≡ 4) → P
+pushed (Ok v) P n most i j p full = p
+pushed (Err v) P n most i j p full = absurd (omega (arith, i, j, full))
+
+module _ {E : Type 0} (e : EditMeaning E) (m : UpdateRun E) (llx after : LlxRun) (f : Found) (begin : History) (c : Call) (h : History) (turn : Turn Llx) (x : Looks e m c h f llx begin) (same : after.node ≡ llx.node)
+    (w : MatchTurn turn (LlxWaits TreeAllows after (from c begin) h) (LlxAnswers after (from c begin) h)) where
+  -- its LLX asks for a step
+  pub looks_on : (step : Step) → turn ≡ Ask step → UpdateWaits e (record m { at = Look f after }) c h step
+  looks_on step asked = (
+    begin,
+    record { run = x.run; looked = x.looked; rests = x.rests; room = x.room; named = x.named ∙ ap At (sym same); now = x.now; since = x.since },
+    rw asked at w,
+  )
+
+  pub can_look : CanLook e m c h f
+  can_look = record { begins = record { run = x.run; small = x.looked.small; since = x.now; rests = x.rests }; looked = x.looked; room = x.room }
+
+  -- its LLX has taken a snapshot
+  pub snapped : (snap : Snap) → turn ≡ Done (Snapshot snap) → (e.looks m.edit f m.snaps.items ≡ At snap.node) × IsSnapshot c.layout h snap.node.0 snap
+  snapped snap done = (x.named ∙ ap At (sym same) ∙ (λ i. At (record { 0 = sym is.node i })), subst (λ n. IsSnapshot c.layout h n snap) (sym is.node) is)
+    where
+      is : IsSnapshot c.layout h after.node.0 snap
+      is = (rw done at w).0

@@ -88,6 +88,10 @@ pub record AreLoaded (f : Word → ℕ) (n : ℕ) (ld : Loaded) : Type 0 where
   pub key : IsLoaded ld.key (f (node n KeyWord))
   pub value : IsLoaded ld.value (f (node n ValueWord))
 
+-- none is loaded
+abbrev pub nothing_loaded : Loaded
+nothing_loaded = record { head = None; key = None; value = None }
+
 -- Its fresh nodes
 
 -- this fresh node comes before that one

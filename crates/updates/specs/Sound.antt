@@ -1,6 +1,15 @@
 -- What the laws of updates need of an edit, beside its bounds.
-use Rattle.std.specs.Prelude.{◌≡◌, ℕ, List, Option, Some}
+use Rattle.std.specs.Prelude.{◌≡◌, ◌≢◌, ℕ, ◌<◌, List, Option, Some}
+use Rattle.arena.specs.declared.number.NodeNo.{NodeNo}
 use Rattle.arena.specs.declared.word.NodeWord.{NodeWord}
+use Rattle.arena.specs.Fills.{IsNamed}
+use Rattle.arena.specs.History.{History}
+use Rattle.arena.specs.Layout.{all_nodes}
+use Rattle.arena.specs.Machines.{Call}
+use Rattle.prims.specs.Llx.Known.{IsOpened}
+use Rattle.spelling.specs.Runs.{IsTreeRun}
+use Rattle.updates.specs.declared.edit.Look.TheVariants.{At, Enough}
+use Rattle.updates.specs.declared.edit.Need.TheVariants.{Nothing}
 use Rattle.arena.specs.Lawful.{IsSettled}
 use Rattle.arena.specs.Words.{node}
 use Rattle.prims.specs.declared.snap.Snap.{Snap}
@@ -9,8 +18,13 @@ use Rattle.updates.specs.declared.edit.Loaded.{Loaded}
 use Rattle.updates.specs.declared.edit.Nodes.{Nodes}
 use Rattle.updates.specs.declared.edit.Nth.{Nth}
 use Rattle.updates.specs.Edits.{EditMeaning}
-use Rattle.updates.specs.Known.{ComesBefore}
+use Rattle.updates.specs.Known.{ComesBefore, HasLooked}
 use Rattle.updates.specs.Pieces.{with_word}
+
+-- what an edit looks at an LLX may look at, and what it copies every pass may know
+pub record LooksWell {E : Type 0} (m : EditMeaning E) : Type 0 where
+  pub opens : (e : E) (c : Call) (h : History) (f : Found) (snaps : List Snap) (n : NodeNo) → IsTreeRun c.layout h → m.needs e f ≢ Nothing → HasLooked m c h e f snaps → m.looks e f snaps ≡ At n → IsOpened c.layout h n.0
+  pub copied : (e : E) (c : Call) (h : History) (f : Found) (snaps : List Snap) → IsTreeRun c.layout h → m.needs e f ≢ Nothing → HasLooked m c h e f snaps → m.looks e f snaps ≡ Enough → IsNamed c.layout h (m.copies e f snaps).0 × ((m.copies e f snaps).0 < all_nodes c.layout)
 
 -- what an edit loads is settled, and what it loads for a fresh node does not change what it says of
 -- those before

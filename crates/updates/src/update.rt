@@ -182,6 +182,7 @@ impl<E: Edit + Drop> UpdateRun<E> {
 
     /// Looks at the next node that the edit names.
     fn look(&mut self, found: Found) -> Turn<Updated>
+        ensures turn { (c : Call) (h : History) → IsRun TreeAllows c.layout h → LooksWell E.means → LoadsWell E.means → CanLook E.means self.old c h found → UpdateTurn E.means c h self.new result }
         ensures same { (self.new.edit ≡ self.old.edit) × (self.new.call ≡ self.old.call) }
         ensures nearer { (nodes : ℕ) → IsNearer E.means self.new nodes result (self.old.tries * try_left E.means nodes + (64 * (E.means.most_looks - length self.old.snaps.items) + works_behind E.means First + 39)) }
     {
@@ -213,6 +214,7 @@ impl<E: Edit + Drop> UpdateRun<E> {
 
     /// Goes on with what the last step of an LLX found.
     fn look_on(&mut self, found: Found, mut llx: LlxRun, got: Option<u64>) -> Turn<Updated>
+        ensures turn { (c : Call) (h begin : History) → IsRun TreeAllows c.layout h → LooksWell E.means → LoadsWell E.means → Looks E.means self.old c h found llx begin → LlxIsReady TreeAllows llx (from c begin) h got → UpdateTurn E.means c h self.new result }
         ensures same { (self.new.edit ≡ self.old.edit) × (self.new.call ≡ self.old.call) }
         ensures nearer { (nodes : ℕ) → IsNearer E.means self.new nodes result (self.old.tries * try_left E.means nodes + (llx_left llx.at + 64 * (E.means.most_looks - 1 - length self.old.snaps.items) + works_behind E.means First + 39)) }
     {
@@ -230,6 +232,7 @@ impl<E: Edit + Drop> UpdateRun<E> {
 
     /// Keeps a snapshot, and goes on behind it.
     fn looked(&mut self, found: Found, snap: Snap) -> Turn<Updated>
+        ensures turn { (c : Call) (h : History) → IsRun TreeAllows c.layout h → LooksWell E.means → LoadsWell E.means → CanLook E.means self.old c h found → E.means.looks self.old.edit found self.old.snaps.items ≡ Look.At snap.node → IsSnapshot c.layout h snap.node.0 snap → UpdateTurn E.means c h self.new result }
         ensures same { (self.new.edit ≡ self.old.edit) × (self.new.call ≡ self.old.call) }
         ensures nearer { (nodes : ℕ) → IsNearer E.means self.new nodes result (self.old.tries * try_left E.means nodes + (64 * (E.means.most_looks - 1 - length self.old.snaps.items) + works_behind E.means First + 39)) }
     {
@@ -239,10 +242,15 @@ impl<E: Edit + Drop> UpdateRun<E> {
 
     /// Takes the fresh nodes, once all snapshots are there.
     fn begin_work(&mut self, found: Found) -> Turn<Updated>
+        ensures turn { (c : Call) (h : History) → IsRun TreeAllows c.layout h → LooksWell E.means → LoadsWell E.means → CanLook E.means self.old c h found → E.means.looks self.old.edit found self.old.snaps.items ≡ Look.Enough → UpdateTurn E.means c h self.new result }
         ensures same { (self.new.edit ≡ self.old.edit) × (self.new.call ≡ self.old.call) }
         ensures nearer { (nodes : ℕ) → IsNearer E.means self.new nodes result (self.old.tries * try_left E.means nodes + (works_behind E.means First + 39)) }
     {
-        self.loaded = Loaded::default();
+        self.loaded = Loaded {
+            head: None,
+            key: None,
+            value: None,
+        };
         if self.edit.need(&found) == Need::Three {
             self.begin_three(found)
         } else {
@@ -252,6 +260,7 @@ impl<E: Edit + Drop> UpdateRun<E> {
 
     /// Takes one fresh node.
     fn begin_one(&mut self, found: Found) -> Turn<Updated>
+        ensures turn { (c : Call) (h : History) → IsRun TreeAllows c.layout h → LooksWell E.means → LoadsWell E.means → CanLook E.means self.old c h found → E.means.looks self.old.edit found self.old.snaps.items ≡ Look.Enough → E.means.needs self.old.edit found ≡ Need.One → self.old.loaded ≡ nothing_loaded → UpdateTurn E.means c h self.new result }
         ensures same { (self.new.edit ≡ self.old.edit) × (self.new.call ≡ self.old.call) }
         ensures nearer { (nodes : ℕ) → IsNearer E.means self.new nodes result (self.old.tries * try_left E.means nodes + (works_behind E.means First + 39)) }
     {
@@ -266,6 +275,7 @@ impl<E: Edit + Drop> UpdateRun<E> {
 
     /// Takes three.
     fn begin_three(&mut self, found: Found) -> Turn<Updated>
+        ensures turn { (c : Call) (h : History) → IsRun TreeAllows c.layout h → LooksWell E.means → LoadsWell E.means → CanLook E.means self.old c h found → E.means.looks self.old.edit found self.old.snaps.items ≡ Look.Enough → E.means.needs self.old.edit found ≡ Need.Three → self.old.loaded ≡ nothing_loaded → UpdateTurn E.means c h self.new result }
         ensures same { (self.new.edit ≡ self.old.edit) × (self.new.call ≡ self.old.call) }
         ensures nearer { (nodes : ℕ) → IsNearer E.means self.new nodes result (self.old.tries * try_left E.means nodes + (works_behind E.means First + 39)) }
     {
@@ -440,11 +450,11 @@ impl<E: Edit + Drop> UpdateRun<E> {
     ghost use Rattle.updates.specs.Pieces.{less_a_node};
     ghost use Rattle.arena.specs.History.{History, value};
     ghost use Rattle.arena.specs.Machines.{Call, IsRun};
-    ghost use Rattle.prims.specs.Llx.Known.{IsOpened};
+    ghost use Rattle.prims.specs.Llx.Known.{IsOpened, IsSnapshot, LlxIsReady};
     ghost use Rattle.prims.specs.Scx.Known.{ScxIsReady};
     ghost use Rattle.spelling.specs.TreeShape.{TreeAllows};
-    ghost use Rattle.updates.specs.Known.{Begins, CanLook, CanLoad, CanFill, Loads, Scxs, UpdateTurn, copied};
-    ghost use Rattle.updates.specs.Sound.{LoadsWell};
+    ghost use Rattle.updates.specs.Known.{Begins, CanLook, Looks, nothing_loaded, CanLoad, CanFill, Loads, Scxs, UpdateTurn, copied};
+    ghost use Rattle.updates.specs.Sound.{LoadsWell, LooksWell};
     ghost use Rattle.arena.specs.Words.{node};
     ghost use Rattle.updates.specs.Laws.HandScx.{from};
 }
