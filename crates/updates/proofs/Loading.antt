@@ -1,5 +1,5 @@
 -- What an update waits for while it loads words for its fresh nodes.
-use Rattle.std.proofs.Common.{◌≡◌, ◌≢◌, ℕ, suc, ◌<◌, ◌≤◌, ◌⊎◌, Some, None, Option, eq-eqb, ne_eqb, inl, inr, ⊎_elim, refl, sym, ◌∙◌, ap, subst, arith}
+use Rattle.std.proofs.Common.{◌≡◌, ℕ, suc, ◌<◌, ◌≤◌, Some, None, eq-eqb, ne_eqb, refl, sym, ◌∙◌, subst, arith}
 use native.Mathlib.Decide.{ℕ_discrete}
 use Rattle.arena.specs.declared.layout.Layout.{Layout}
 use Rattle.arena.specs.declared.number.NodeNo.{NodeNo}
@@ -27,8 +27,8 @@ use Rattle.updates.specs.declared.update.UpdateAt.TheVariants.{Load}
 use Rattle.updates.specs.declared.update.UpdateRun.{UpdateRun}
 use Rattle.updates.specs.Edits.{EditMeaning}
 use Rattle.updates.specs.Known.{AreLoaded, ComesBefore, IsNeeded, AreInOrder, top_of, pieces_by, CanLoad, CanFill, Loads, UpdateWaits, piece, copied}
-use Rattle.updates.specs.Laws.Hand.{IsBefore, IsPart, HoldsWords, HasFilledTo}
-use Rattle.updates.specs.Pieces.{node_at, with_word}
+use Rattle.updates.specs.Laws.Hand.{IsBefore, IsPieceWord, HoldsWords, HasFilledTo}
+use Rattle.updates.specs.Pieces.{nth_node, with_word}
 use Rattle.updates.specs.Sound.{LoadsWell}
 
 -- Pieces by their numbers
@@ -44,7 +44,7 @@ module _ (p : Nth → Piece) (ns : Nodes) where
   piece_third e d = rw (ne_eqb ns.third.0 ns.first.0 (λ q. omega (arith, e, d, q)), ne_eqb ns.third.0 ns.second.0 (λ q. omega (arith, d, q))) refl
 
 -- the piece of a node that is needed is the one of its place
-pub piece_is : (p : Nth → Piece) (ns : Nodes) (need : Need) (nth : Nth) → IsNeeded need nth → AreInOrder need ns → pieces_by p ns (node_at ns nth).0 ≡ p nth
+pub piece_is : (p : Nth → Piece) (ns : Nodes) (need : Need) (nth : Nth) → IsNeeded need nth → AreInOrder need ns → pieces_by p ns (nth_node ns nth).0 ≡ p nth
 piece_is p ns Nothing nth i o = absurd i
 piece_is p ns One First i o = piece_first p ns
 piece_is p ns One Second i o = absurd i
@@ -54,7 +54,7 @@ piece_is p ns Three Second i o = piece_second p ns o.0
 piece_is p ns Three Third i o = piece_third p ns o.0 o.1
 
 -- what is below a needed node is of a place before
-below_is : (ns : Nodes) (need : Need) (nth : Nth) (k : ℕ) → IsNeeded need nth → AreInOrder need ns → ns.first.0 ≤ k → k < (node_at ns nth).0 → (i : Nth) × ComesBefore i nth × IsNeeded need i × (k ≡ (node_at ns i).0)
+below_is : (ns : Nodes) (need : Need) (nth : Nth) (k : ℕ) → IsNeeded need nth → AreInOrder need ns → ns.first.0 ≤ k → k < (nth_node ns nth).0 → (i : Nth) × ComesBefore i nth × IsNeeded need i × (k ≡ (nth_node ns i).0)
 below_is ns Nothing nth k i o from to = absurd i
 below_is ns One First k i o from to = absurd (omega (arith, from, to))
 below_is ns One Second k i o from to = absurd i
@@ -63,7 +63,7 @@ below_is ns Three First k i o from to = absurd (omega (arith, from, to))
 below_is ns Three Second k i o from to = (First, tt, tt, let e = o.0 in omega (arith, from, to, e))
 below_is ns Three Third k i o from to = go (ℕ_discrete k ns.first.0)
   where
-    go : Dec (k ≡ ns.first.0) → (j : Nth) × ComesBefore j Third × IsNeeded Three j × (k ≡ (node_at ns j).0)
+    go : Dec (k ≡ ns.first.0) → (j : Nth) × ComesBefore j Third × IsNeeded Three j × (k ≡ (nth_node ns j).0)
     go (yes e) = (First, tt, tt, e)
     go (no d) = (Second, tt, tt, let a = o.0 in let b = o.1 in omega (arith, from, to, a, b, d))
 
@@ -76,12 +76,12 @@ filled_same lay h c left first top n p q same x = record {
   next = x.next;
   over = x.over;
   taken = x.taken;
-  full = λ k i j t. subst (λ z. HoldsWords h k z (IsPart z)) (same k i j) (x.full k i j t);
+  full = λ k i j t. subst (λ z. HoldsWords h k z (IsPieceWord z)) (same k i j) (x.full k i j t);
 }
 
 -- Loads
 
-is_head : (p : Piece) → IsPart p Head
+is_head : (p : Piece) → IsPieceWord p Head
 is_head (Leaf level class key v) = tt
 is_head (Fork level class key l r) = tt
 
@@ -136,7 +136,7 @@ module _ {E : Type 0} (e : EditMeaning E) where
       hand = x.hand;
       done = done;
       fill = tt;
-      part_is = is_head (piece e m f (node_at m.nodes nth).0);
+      part_is = is_head (piece e m f (nth_node m.nodes nth).0);
     };
     same = piece_is (λ i. e.pieces m.edit f m.snaps.items m.nodes m.loaded i) m.nodes (e.needs m.edit f) nth x.works.need x.works.in_order;
     may = tt;
@@ -159,14 +159,14 @@ module _ {E : Type 0} (e : EditMeaning E) where
       loaded = loaded_one (value h) (copied e m f) m.loaded part v x.settled told x.works.loaded;
       before = λ i b. sound.steady_wants m.edit f m.snaps.items m.loaded nth part x.wanted v i b ∙ x.works.before i b;
     };
-    full = filled_same c.layout h c.pass m.share m.nodes.first.0 (top_of (e.needs m.edit f) m.nodes) (node_at m.nodes nth).0 (piece e m f) (pieces_by (λ i. e.pieces m.edit f m.snaps.items m.nodes (with_word m.loaded part v) i) m.nodes) same x.full;
+    full = filled_same c.layout h c.pass m.share m.nodes.first.0 (top_of (e.needs m.edit f) m.nodes) (nth_node m.nodes nth).0 (piece e m f) (pieces_by (λ i. e.pieces m.edit f m.snaps.items m.nodes (with_word m.loaded part v) i) m.nodes) same x.full;
     hand = record { lowest = x.hand.lowest; highest = x.hand.highest };
   }
     where
-      same : (k : ℕ) → m.nodes.first.0 ≤ k → k < (node_at m.nodes nth).0 → pieces_by (λ i. e.pieces m.edit f m.snaps.items m.nodes m.loaded i) m.nodes k ≡ pieces_by (λ i. e.pieces m.edit f m.snaps.items m.nodes (with_word m.loaded part v) i) m.nodes k
+      same : (k : ℕ) → m.nodes.first.0 ≤ k → k < (nth_node m.nodes nth).0 → pieces_by (λ i. e.pieces m.edit f m.snaps.items m.nodes m.loaded i) m.nodes k ≡ pieces_by (λ i. e.pieces m.edit f m.snaps.items m.nodes (with_word m.loaded part v) i) m.nodes k
       same k from to = go (below_is m.nodes (e.needs m.edit f) nth k x.works.need x.works.in_order from to)
         where
-          go : (i : Nth) × ComesBefore i nth × IsNeeded (e.needs m.edit f) i × (k ≡ (node_at m.nodes i).0) → pieces_by (λ i. e.pieces m.edit f m.snaps.items m.nodes m.loaded i) m.nodes k ≡ pieces_by (λ i. e.pieces m.edit f m.snaps.items m.nodes (with_word m.loaded part v) i) m.nodes k
+          go : (i : Nth) × ComesBefore i nth × IsNeeded (e.needs m.edit f) i × (k ≡ (nth_node m.nodes i).0) → pieces_by (λ i. e.pieces m.edit f m.snaps.items m.nodes m.loaded i) m.nodes k ≡ pieces_by (λ i. e.pieces m.edit f m.snaps.items m.nodes (with_word m.loaded part v) i) m.nodes k
           go y = rw y.3 (
               piece_is (λ i. e.pieces m.edit f m.snaps.items m.nodes m.loaded i) m.nodes (e.needs m.edit f) y.0 y.2 x.works.in_order
               ∙ sym (sound.steady_pieces m.edit f m.snaps.items m.loaded nth part x.wanted v y.0 y.1 m.nodes)

@@ -2,7 +2,6 @@
 use Rattle.std.proofs.Common.{◌≡◌, ◌≢◌, ℕ, zero, suc, ◌+◌, ◌-◌, ◌<◌, ◌≤◌, ◌⊎◌, List, [], ◌∷◌, ◌++◌, length, inl, inr, ⊎_elim, refl, sym, ◌∙◌, ap, subst, arith}
 use Rattle.std.specs.Prelude.{take, Result, Ok, Err, OnOk, OnErr}
 use Rattle.std.proofs.lemmas.List.{take-append-le}
-use Rattle.arena.specs.declared.layout.Layout.{Layout}
 use Rattle.arena.specs.declared.number.NodeNo.{NodeNo}
 use Rattle.arena.specs.Fills.{IsNamed, IsOwnNode}
 use Rattle.arena.specs.Layout.{all_nodes}
@@ -34,10 +33,10 @@ use Rattle.updates.specs.declared.edit.Nth.TheVariants.{First, Second, Third}
 use Rattle.updates.specs.declared.edit.Piece.{Piece}
 use Rattle.updates.specs.declared.update.UpdateRun.{UpdateRun}
 use Rattle.updates.specs.Edits.{EditMeaning}
-use Rattle.updates.specs.Known.{Rests, HasRoom, AreUsable, AreLoaded, ComesBefore, HasLooked, AreSeen, Begins, CanLook, CanLoad, Looks, UpdateWaits, copied, piece, top_of, nothing_loaded}
+use Rattle.updates.specs.Known.{RestsWith, HasNodesFor, AreUsable, AreLoaded, ComesBefore, AreSeen, CanLook, CanLoad, Looks, UpdateWaits, copied, piece, top_of, nothing_loaded}
 use Rattle.updates.specs.Pieces.{less_a_node}
 use Rattle.updates.specs.Sound.{LooksWell}
-use Rattle.updates.specs.Laws.Hand.{HasHand, HasFilledTo}
+use Rattle.updates.specs.Laws.Hand.{HasFilledTo}
 
 -- A snapshot more
 
@@ -87,7 +86,7 @@ abbrev pub without : Remaining → ℕ → Remaining
 without left many = record left { next_node = left.next_node + many; nodes = left.nodes - many }
 
 -- the fresh nodes that the share gives are in hand, and none is filled
-pub hand_begins : (c : Call) (h : History) (left : Remaining) (t : ℕ) (piece : ℕ → Piece) → t < left.nodes → Rests c h left → HasFilledTo c.layout h c.pass (without left (suc t)) left.next_node (left.next_node + t) left.next_node piece
+pub hand_begins : (c : Call) (h : History) (left : Remaining) (t : ℕ) (piece : ℕ → Piece) → t < left.nodes → RestsWith c h left → HasFilledTo c.layout h c.pass (without left (suc t)) left.next_node (left.next_node + t) left.next_node piece
 hand_begins c h left t piece some x = record {
   some = omega arith;
   hand = record {
@@ -124,7 +123,7 @@ hand_begins c h left t piece some x = record {
 
 -- Its fresh nodes are in hand
 
-no_nothing : (need : Need) (left : Remaining) → HasRoom need left → need ≢ Nothing
+no_nothing : (need : Need) (left : Remaining) → HasNodesFor need left → need ≢ Nothing
 no_nothing Nothing left x e = x
 no_nothing One left x e = cc
 no_nothing Three left x e = cc
@@ -171,7 +170,7 @@ module _ {E : Type 0} (e : EditMeaning E) (m : UpdateRun E) (c : Call) (h : Hist
     hand = record { lowest = omega arith; highest = rw one (omega arith) };
   }
     where
-      room : HasRoom One m.share
+      room : HasNodesFor One m.share
       room = rw one at x.room
 
       none_more : (k : ℕ) → k + 0 ≡ k
@@ -185,7 +184,7 @@ module _ {E : Type 0} (e : EditMeaning E) (m : UpdateRun E) (c : Call) (h : Hist
       subst (λ (n : UpdateRun E). CanLoad e (record n { nodes = nodes_one first }) c h f First) (sym (same ∙ ap (λ (s : Remaining). record m { share = s }) t.1))
       (subst (λ (k : NodeNo). CanLoad e (record m { share = less_a_node m.share; nodes = nodes_one k }) c h f First) (λ i. record { 0 = sym t.0 i }) (takes_one one))
     where
-      room : HasRoom One m.share
+      room : HasNodesFor One m.share
       room = rw one at x.room
 
       t : (first.0 ≡ m.share.next_node) × (now.share ≡ less_a_node m.share)
@@ -225,7 +224,7 @@ module _ {E : Type 0} (e : EditMeaning E) (m : UpdateRun E) (c : Call) (h : Hist
     hand = record { lowest = omega arith; highest = rw three (omega arith) };
   }
     where
-      room : HasRoom Three m.share
+      room : HasNodesFor Three m.share
       room = rw three at x.room
 
       next_is : (k : ℕ) → k + 3 ≡ k + 1 + 1 + 1
@@ -252,7 +251,7 @@ module _ {E : Type 0} (e : EditMeaning E) (m : UpdateRun E) (c : Call) (h : Hist
       subst (λ (n : UpdateRun E). CanLoad e (record n { nodes = record { first = first; second = second; third = third } }) c h f First) (sym is_now)
       (subst (λ (ns : Nodes). CanLoad e (record m { share = less_three; nodes = ns }) c h f First) nodes_are (takes_three three))
     where
-      room : HasRoom Three m.share
+      room : HasNodesFor Three m.share
       room = rw three at x.room
 
       t : (first.0 ≡ m.share.next_node) × (one.share ≡ less_a_node m.share)

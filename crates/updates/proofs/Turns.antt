@@ -1,5 +1,5 @@
 -- What an update waits for after each of its turns.
-use Rattle.std.proofs.Common.{◌≡◌, ◌≢◌, ℕ, suc, ◌<◌, ◌≤◌, ◌⊎◌, Some, None, inl, inr, ⊎_elim, refl, sym, ◌∙◌, ap, subst, arith}
+use Rattle.std.proofs.Common.{◌≡◌, ◌≢◌, ℕ, suc, ◌<◌, ◌⊎◌, None, ⊎_elim, sym, ◌∙◌, ap, subst, arith}
 use Rattle.arena.specs.declared.machine.Turn.{Turn}
 use Rattle.arena.specs.declared.machine.Turn.TheVariants.{Ask, Done}
 use Rattle.arena.specs.declared.number.NodeNo.{NodeNo}
@@ -31,7 +31,6 @@ use Rattle.prims.specs.declared.scx.ScxRun.{ScxRun}
 use Rattle.prims.specs.declared.update.Update.{Update}
 use Rattle.prims.proofs.Lemmas.{over_ends}
 use Rattle.spelling.specs.OrderedMap.{edit_key}
-use Rattle.spelling.specs.Runs.{IsTreeRun}
 use Rattle.spelling.specs.TreeShape.{TreeAllows}
 use Rattle.template.specs.Walk.Known.{WalkIsReady, WalkWaits, WalkAnswers}
 use Rattle.template.specs.declared.walk.Found.{Found}
@@ -43,16 +42,16 @@ use Rattle.updates.specs.declared.edit.Piece.{Piece}
 use Rattle.updates.specs.declared.update.UpdateAt.TheVariants.{Walk, Look, Fill, Scx}
 use Rattle.updates.specs.declared.update.UpdateRun.{UpdateRun}
 use Rattle.updates.specs.Edits.{EditMeaning}
-use Rattle.updates.specs.Known.{Rests, Begins, CanLook, CanFill, Scxs, Works, Fills, UpdateWaits}
+use Rattle.updates.specs.Known.{RestsWith, Begins, CanLook, CanFill, Scxs, UpdateWaits}
 use Rattle.updates.specs.Laws.HandScx.{from}
-use Rattle.updates.specs.Pieces.{node_at, word_of}
+use Rattle.updates.specs.Pieces.{nth_node, word_of}
 
 -- a pass at rest is idle
-pub idle_rests : (c : Call) (h : History) (left : Remaining) → Lawful c.layout h → Rests c h left → IsIdle c.layout c.pass h
+pub idle_rests : (c : Call) (h : History) (left : Remaining) → Lawful c.layout h → RestsWith c h left → IsIdle c.layout c.pass h
 idle_rests c h left l x = idle_if_over c.layout c.pass h l (λ s own t. x.over s own (λ e. let a = own.from in omega (arith, e)) t)
 
 -- where the SCX-record in hand is finished, the pass is at rest again
-rests_again : (c : Call) (h : History) (left : Remaining) (m : ScxRun) → Lawful c.layout h → IsShare c.layout h c.pass left left.next_node m.scx.0 → left.next_scx ≡ suc m.scx.0 → AreFinished c.layout c.pass m.scx.0 h → m.scx.0 ≢ 0 → value h (state m.scx.0) ≢ 0 → Rests c h left
+rests_again : (c : Call) (h : History) (left : Remaining) (m : ScxRun) → Lawful c.layout h → IsShare c.layout h c.pass left left.next_node m.scx.0 → left.next_scx ≡ suc m.scx.0 → AreFinished c.layout c.pass m.scx.0 h → m.scx.0 ≢ 0 → value h (state m.scx.0) ≢ 0 → RestsWith c h left
 rests_again c h left m l share next over real finished = record {
   share = record {
     from_node = share.from_node;
@@ -101,7 +100,7 @@ module _ {E : Type 0} (e : EditMeaning E) where
     },
   )
 
-  pub fills_word : (m : UpdateRun E) (f : Found) (nth : Nth) (part : NodeWord) (p : Piece) (n : NodeNo) (v : ℕ) (c : Call) (h : History) → CanFill e m c h f nth part → p ≡ e.pieces m.edit f m.snaps.items m.nodes m.loaded nth → n ≡ node_at m.nodes nth → v ≡ word_of p part → UpdateWaits e (record m { at = Fill f nth part }) c h record { kind = FillKind; word = NodeOf n part; access = Store v }
+  pub fills_word : (m : UpdateRun E) (f : Found) (nth : Nth) (part : NodeWord) (p : Piece) (n : NodeNo) (v : ℕ) (c : Call) (h : History) → CanFill e m c h f nth part → p ≡ e.pieces m.edit f m.snaps.items m.nodes m.loaded nth → n ≡ nth_node m.nodes nth → v ≡ word_of p part → UpdateWaits e (record m { at = Fill f nth part }) c h record { kind = FillKind; word = NodeOf n part; access = Store v }
   fills_word m f nth part p n v c h x is_p is_n is_v = (
     record {
       works = record {

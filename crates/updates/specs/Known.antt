@@ -1,7 +1,5 @@
 -- When an update may go on, and what it waits for.
-use Rattle.std.specs.Prelude.{◌≡◌, ℕ, suc, ◌+◌, ◌-◌, ◌^◌, ◌<◌, ◌≤◌, true, eqb, cond, List, length, take, Option, Some, None}
-use Rattle.arena.specs.declared.number.NodeNo.{NodeNo}
-use Rattle.arena.specs.declared.layout.Layout.{Layout}
+use Rattle.std.specs.Prelude.{◌≡◌, ℕ, suc, ◌^◌, ◌<◌, ◌≤◌, eqb, cond, List, length, take, Option, Some, None}
 use Rattle.arena.specs.declared.machine.Turn.{Turn}
 use Rattle.arena.specs.declared.step.Step.{Step}
 use Rattle.arena.specs.declared.step.Kind.TheVariants.{LoadSettled}
@@ -9,7 +7,6 @@ use Rattle.arena.specs.declared.word.NodeWord.{NodeWord}
 use Rattle.arena.specs.declared.word.NodeWord.TheVariants.{Head as HeadWord, Key as KeyWord, Value as ValueWord}
 use Rattle.arena.specs.declared.word.Word.{Word}
 use Rattle.arena.specs.Fills.{IsNamed, IsOwnNode, IsOwnScx, IsTakenNode}
-use Rattle.arena.specs.Heads.{head_of}
 use Rattle.arena.specs.History.{History, value, Extends}
 use Rattle.arena.specs.Lawful.{IsSettled}
 use Rattle.arena.specs.Layout.{all_nodes}
@@ -28,8 +25,7 @@ use Rattle.prims.specs.declared.snap.Snap.{Snap}
 use Rattle.spelling.specs.OrderedMap.{edit_key}
 use Rattle.spelling.specs.Runs.{IsTreeRun}
 use Rattle.spelling.specs.TreeShape.{TreeAllows}
-use Rattle.spelling.specs.TreeWords.{is_leaf, said}
-use Rattle.template.specs.Trails.{OnTrail}
+use Rattle.template.specs.FoundLeaf.{HasFoundLeaf}
 use Rattle.template.specs.Walk.Known.{WalkIsReady, WalkWaits}
 use Rattle.template.specs.declared.walk.Found.{Found}
 use Rattle.updates.specs.declared.edit.Loaded.{Loaded}
@@ -45,33 +41,25 @@ use Rattle.updates.specs.declared.update.UpdateAt.{UpdateAt}
 use Rattle.updates.specs.declared.update.UpdateAt.TheVariants.{Start, Walk, Look, Load, Fill, Scx}
 use Rattle.updates.specs.declared.update.UpdateRun.{UpdateRun}
 use Rattle.updates.specs.Edits.{EditMeaning}
-use Rattle.updates.specs.Laws.Hand.{IsBefore, IsUpTo, IsPart, HoldsWords, HasFilledTo, IsForField, FieldMay}
+use Rattle.updates.specs.Laws.Hand.{IsBefore, IsUpTo, IsPieceWord, HoldsWords, HasFilledTo, IsForField, FieldMay}
 use Rattle.updates.specs.Laws.HandScx.{from}
 use Rattle.updates.specs.Laws.NodeFills.{node_fill}
-use Rattle.updates.specs.Pieces.{node_at, word_of}
+use Rattle.updates.specs.Pieces.{nth_node, word_of}
 
 -- Between its SCXs
 
 -- what is left of its share is untouched, and all its SCX-records are finished
-pub record Rests (c : Call) (h : History) (left : Remaining) : Type 0 where
+pub record RestsWith (c : Call) (h : History) (left : Remaining) : Type 0 where
   pub share : IsShare c.layout h c.pass left left.next_node left.next_scx
   pub over : AreFinished c.layout c.pass 0 h
 
 -- the share has as many nodes as are needed, and an SCX-record
-abbrev pub HasRoom : Need → Remaining → Type 0
-HasRoom One left = (0 < left.nodes) × (0 < left.scx)
-HasRoom Three left = (2 < left.nodes) × (0 < left.scx)
-HasRoom _ left = ⊥
+abbrev pub HasNodesFor : Need → Remaining → Type 0
+HasNodesFor One left = (0 < left.nodes) × (0 < left.scx)
+HasNodesFor Three left = (2 < left.nodes) × (0 < left.scx)
+HasNodesFor _ left = ⊥
 
 -- What it has found
-
--- the walk to the key has ended at this leaf
-pub record HasFound (c : Call) (h : History) (k : ℕ) (f : Found) : Type 0 where
-  pub trail : OnTrail c h k f.trail
-  pub leaf : is_leaf (value h) f.trail.node.0 ≡ true
-  pub head : head_of (value h (node f.trail.node.0 HeadWord)) ≡ f.head
-  pub key : f.head.class ≡ 0 → value h (node f.trail.node.0 KeyWord) ≡ f.key
-  pub says : f.value ≡ said (value h) k f.trail.node.0
 
 -- each snapshot may be used
 abbrev pub AreUsable : Call → History → List Snap → Type 0
@@ -129,7 +117,7 @@ module _ {E : Type 0} (e : EditMeaning E) where
   -- what is known of the leaf and of the snapshots
   pub record HasLooked (c : Call) (h : History) (ed : E) (f : Found) (snaps : List Snap) : Type 0 where
     pub small : edit_key (e.edit ed) < 2 ^ 64
-    pub found : HasFound c h (edit_key (e.edit ed)) f
+    pub found : HasFoundLeaf c h (edit_key (e.edit ed)) f
     pub usable : AreUsable c h snaps
     pub seen : AreSeen ed f snaps
 
@@ -163,12 +151,12 @@ module _ {E : Type 0} (e : EditMeaning E) where
 
   -- those before it are full
   abbrev pub AreFull : UpdateRun E → Call → History → Found → Nth → Type 0
-  AreFull m c h f nth = HasFilledTo c.layout h c.pass m.share m.nodes.first.0 (top m f) (node_at m.nodes nth).0 (piece m f)
+  AreFull m c h f nth = HasFilledTo c.layout h c.pass m.share m.nodes.first.0 (top m f) (nth_node m.nodes nth).0 (piece m f)
 
   -- this one is one of them
   pub record IsInHand (m : UpdateRun E) (f : Found) (nth : Nth) : Type 0 where
-    pub lowest : m.nodes.first.0 ≤ (node_at m.nodes nth).0
-    pub highest : (node_at m.nodes nth).0 ≤ top m f
+    pub lowest : m.nodes.first.0 ≤ (nth_node m.nodes nth).0
+    pub highest : (nth_node m.nodes nth).0 ≤ top m f
 
   -- What it waits for
 
@@ -176,8 +164,8 @@ module _ {E : Type 0} (e : EditMeaning E) where
   pub record Looks (m : UpdateRun E) (c : Call) (h : History) (f : Found) (llx : LlxRun) (begin : History) : Type 0 where
     pub run : IsTreeRun c.layout h
     pub looked : HasLooked c h m.edit f m.snaps.items
-    pub rests : Rests c h m.share
-    pub room : HasRoom (e.needs m.edit f) m.share
+    pub rests : RestsWith c h m.share
+    pub room : HasNodesFor (e.needs m.edit f) m.share
     pub named : e.looks m.edit f m.snaps.items ≡ At llx.node
     pub now : Extends h c.start
     pub since : Extends begin c.start
@@ -197,13 +185,13 @@ module _ {E : Type 0} (e : EditMeaning E) where
     pub hand : IsInHand m f nth
     pub done : e.wants m.edit f m.snaps.items m.loaded nth ≡ None
     pub fill : IsNodeFill part
-    pub part_is : IsPart (piece m f (node_at m.nodes nth).0) part
+    pub part_is : IsPieceWord (piece m f (nth_node m.nodes nth).0) part
 
   -- a step of its SCX, which has the fresh nodes and an SCX-record in hand
   pub record Scxs (m : UpdateRun E) (c : Call) (h : History) (f : Found) (scx : ScxRun) (begin : History) : Type 0 where
     pub run : IsTreeRun c.layout h
     pub small : edit_key (e.edit m.edit) < 2 ^ 64
-    pub found : HasFound c h (edit_key (e.edit m.edit)) f
+    pub found : HasFoundLeaf c h (edit_key (e.edit m.edit)) f
     pub now : Extends h c.start
     pub since : Extends begin c.start
     pub share : IsShare c.layout h c.pass m.share m.share.next_node scx.scx.0
@@ -216,12 +204,12 @@ module _ {E : Type 0} (e : EditMeaning E) where
   -- the walk is to the edit's key, and the pass is at rest
   pub record Walks (m : UpdateRun E) (c : Call) (h : History) (key : ℕ) : Type 0 where
     pub small : edit_key (e.edit m.edit) < 2 ^ 64
-    pub rests : Rests c h m.share
+    pub rests : RestsWith c h m.share
     pub same : key ≡ edit_key (e.edit m.edit)
 
   -- the word that is filled
   abbrev pub fill_step : UpdateRun E → Found → Nth → NodeWord → Step
-  fill_step m f nth part = node_fill (node_at m.nodes nth).0 part (word_of (piece m f (node_at m.nodes nth).0) part)
+  fill_step m f nth part = node_fill (nth_node m.nodes nth).0 part (word_of (piece m f (nth_node m.nodes nth).0) part)
 
   -- what holds while it waits for this step at this place
   abbrev pub UpdateWaitsAt : UpdateRun E → Call → History → Step → UpdateAt → Type 0
@@ -229,7 +217,7 @@ module _ {E : Type 0} (e : EditMeaning E) where
   UpdateWaitsAt m c h s (Walk walk) = Walks m c h walk.key × WalkWaits walk c h s
   UpdateWaitsAt m c h s (Look f llx) = (begin : History) × Looks m c h f llx begin × LlxWaits TreeAllows llx (from c begin) h s
   UpdateWaitsAt m c h s (Load f nth part) = Loads m c h f nth part × (s ≡ load LoadSettled (node (copied m f) part))
-  UpdateWaitsAt m c h s (Fill f nth part) = Fills m c h f nth part × FieldMay part (IsForField c.layout h m.nodes.first.0 (top m f) (word_of (piece m f (node_at m.nodes nth).0) part)) × HoldsWords h (node_at m.nodes nth).0 (piece m f (node_at m.nodes nth).0) (IsBefore part) × (s ≡ fill_step m f nth part)
+  UpdateWaitsAt m c h s (Fill f nth part) = Fills m c h f nth part × FieldMay part (IsForField c.layout h m.nodes.first.0 (top m f) (word_of (piece m f (nth_node m.nodes nth).0) part)) × HoldsWords h (nth_node m.nodes nth).0 (piece m f (nth_node m.nodes nth).0) (IsBefore part) × (s ≡ fill_step m f nth part)
   UpdateWaitsAt m c h s (Scx f scx) = (begin : History) × Scxs m c h f scx begin × ScxWaits TreeAllows scx (from c begin) h s
 
   -- what holds once the step of this place has told v
@@ -238,7 +226,7 @@ module _ {E : Type 0} (e : EditMeaning E) where
   UpdateIsToldAt m c h v (Walk walk) = Walks m c h walk.key × WalkIsReady walk c h (Some v)
   UpdateIsToldAt m c h v (Look f llx) = (begin : History) × Looks m c h f llx begin × LlxIsReady TreeAllows llx (from c begin) h (Some v)
   UpdateIsToldAt m c h v (Load f nth part) = Loads m c h f nth part × (value h (node (copied m f) part) ≡ v)
-  UpdateIsToldAt m c h v (Fill f nth part) = Fills m c h f nth part × HoldsWords h (node_at m.nodes nth).0 (piece m f (node_at m.nodes nth).0) (IsUpTo part) × IsTakenNode h (node_at m.nodes nth).0
+  UpdateIsToldAt m c h v (Fill f nth part) = Fills m c h f nth part × HoldsWords h (nth_node m.nodes nth).0 (piece m f (nth_node m.nodes nth).0) (IsUpTo part) × IsTakenNode h (nth_node m.nodes nth).0
   UpdateIsToldAt m c h v (Scx f scx) = (begin : History) × Scxs m c h f scx begin × ScxIsReady TreeAllows scx (from c begin) h (Some v)
 
   -- it may begin a try
@@ -246,7 +234,7 @@ module _ {E : Type 0} (e : EditMeaning E) where
     pub run : IsTreeRun c.layout h
     pub small : edit_key (e.edit m.edit) < 2 ^ 64
     pub since : Extends h c.start
-    pub rests : Rests c h m.share
+    pub rests : RestsWith c h m.share
 
   -- it may be called with this: with nothing at its start, then with what its step told
   abbrev pub UpdateIsReady : UpdateRun E → Call → History → Option ℕ → Type 0
@@ -263,7 +251,7 @@ module _ {E : Type 0} (e : EditMeaning E) where
   pub record CanLook (m : UpdateRun E) (c : Call) (h : History) (f : Found) : Type 0 where
     pub begins : Begins m c h
     pub looked : HasLooked c h m.edit f m.snaps.items
-    pub room : HasRoom (e.needs m.edit f) m.share
+    pub room : HasNodesFor (e.needs m.edit f) m.share
 
   -- it may load for the fresh node of this place
   pub record CanLoad (m : UpdateRun E) (c : Call) (h : History) (f : Found) (nth : Nth) : Type 0 where
@@ -274,9 +262,9 @@ module _ {E : Type 0} (e : EditMeaning E) where
   -- it may fill this word of that node
   pub record CanFill (m : UpdateRun E) (c : Call) (h : History) (f : Found) (nth : Nth) (part : NodeWord) : Type 0 where
     pub fills : Fills m c h f nth part
-    pub same : piece m f (node_at m.nodes nth).0 ≡ e.pieces m.edit f m.snaps.items m.nodes m.loaded nth
-    pub may : FieldMay part (IsForField c.layout h m.nodes.first.0 (top m f) (word_of (piece m f (node_at m.nodes nth).0) part))
-    pub words : HoldsWords h (node_at m.nodes nth).0 (piece m f (node_at m.nodes nth).0) (IsBefore part)
+    pub same : piece m f (nth_node m.nodes nth).0 ≡ e.pieces m.edit f m.snaps.items m.nodes m.loaded nth
+    pub may : FieldMay part (IsForField c.layout h m.nodes.first.0 (top m f) (word_of (piece m f (nth_node m.nodes nth).0) part))
+    pub words : HoldsWords h (nth_node m.nodes nth).0 (piece m f (nth_node m.nodes nth).0) (IsBefore part)
 
   -- it waits for the step that it asks for
   abbrev pub UpdateTurn : Call → History → UpdateRun E → Turn Updated → Type 0

@@ -46,10 +46,10 @@ fills_behind (Fork level class key l r) (Child Left) = 1
 fills_behind _ _ = 0
 
 -- the fresh node of this place
-abbrev pub node_at : Nodes → Nth → NodeNo
-node_at ns First = ns.first
-node_at ns Second = ns.second
-node_at ns Third = ns.third
+abbrev pub nth_node : Nodes → Nth → NodeNo
+nth_node ns First = ns.first
+nth_node ns Second = ns.second
+nth_node ns Third = ns.third
 
 -- the words that were loaded, with one more
 abbrev pub with_word : Loaded → NodeWord → ℕ → Loaded

@@ -1,5 +1,5 @@
--- How many steps an update may still ask for: at most so many in a try, and as many in each try that
--- is left behind it.
+-- How many steps an update may still ask for: at most so many in a try, and as many in each try
+-- that is left behind it.
 use Rattle.std.specs.Prelude.{◌≡◌, ℕ, ◌+◌, ◌*◌, ◌-◌, ◌<◌, length, Option, Some}
 use Rattle.arena.specs.declared.machine.Turn.{Turn}
 use Rattle.arena.specs.declared.word.NodeWord.{NodeWord}

@@ -113,11 +113,11 @@ pub struct Nodes {
 
 impl Nodes {
     ghost use Rattle.std.specs.Prelude.{◌≡◌};
-    ghost use Rattle.updates.specs.Pieces.{node_at};
+    ghost use Rattle.updates.specs.Pieces.{nth_node};
 
     /// One of them.
     pub fn at(&self, nth: Nth) -> NodeNo
-        ensures { result ≡ node_at self.now nth }
+        ensures { result ≡ nth_node self.now nth }
     {
         match nth {
             Nth::First => self.first,

@@ -1,21 +1,18 @@
--- Several fresh nodes in hand: what a pass knows of them while it fills them one after the other, and
--- which rows leave that.
-use Rattle.std.proofs.Common.{◌≡◌, ◌≢◌, ℕ, ◌+◌, ◌<◌, ◌≤◌, ◌⊎◌, false, suc, arith, inl, inr, ⊎_elim, refl, sym, ◌∙◌, ap, subst}
-use native.Mathlib.Decide.{ℕ_discrete}
+-- Several fresh nodes in hand: what a pass knows of them while it fills them one after the other,
+-- and which rows leave that.
+use Rattle.std.proofs.Common.{◌≡◌, ◌≢◌, ℕ, ◌<◌, ◌≤◌, ◌⊎◌, false, suc, arith, inl, inr, ⊎_elim, refl, sym, ◌∙◌, ap, subst}
 use Rattle.arena.specs.declared.layout.Layout.{Layout}
 use Rattle.arena.specs.declared.step.Row.{Row}
 use Rattle.arena.specs.declared.step.Kind.TheVariants.{Fill}
-use Rattle.arena.specs.declared.word.Side.{Side}
 use Rattle.arena.specs.declared.word.Side.TheVariants.{Left, Right}
 use Rattle.arena.specs.declared.word.NodeWord.{NodeWord}
 use Rattle.arena.specs.declared.word.NodeWord.TheVariants.{Head, Key, Value, Child, Info, Marked}
-use Rattle.arena.specs.declared.word.ScxWord.{ScxWord}
 use Rattle.arena.specs.declared.word.Word.{Word}
 use Rattle.arena.specs.declared.word.Word.TheVariants.{Node, Scx as ScxOf}
-use Rattle.arena.specs.Share.{Remaining, HasNode}
+use Rattle.arena.specs.Share.{Remaining}
 use Rattle.arena.specs.Words.{node, scx, info, child, same_node_word}
-use Rattle.arena.specs.History.{History, ◌⊳◌, value, HasHeld}
-use Rattle.arena.specs.Fills.{IsOwnNode, IsOwnScx, IsOthersNode, IsOpenNode, IsNamed, opening_node, by_field, by_scx, NamesNode, IsNamedScx, IsInField, IsFillOfNode, IsTakenNode, IsTakenScx, MayFill}
+use Rattle.arena.specs.History.{History, ◌⊳◌, value}
+use Rattle.arena.specs.Fills.{IsOwnNode, IsOthersNode, IsOpenNode, IsNamed, opening_node, by_field, by_scx, IsInField, IsTakenNode, MayFill}
 use Rattle.arena.specs.Lawful.{Lawful}
 use Rattle.arena.proofs.Lemmas.{value_at, held_back, taken_node_more, taken_scx_more, fill_takes_node}
 use Rattle.histories.specs.Unmentioned.{IsUnmentioned}
@@ -61,12 +58,12 @@ IsUpTo (Child Right) (Child Right) = Unit {0}
 IsUpTo _ _ = ⊥
 
 -- all of them
-abbrev pub IsPart : Piece → NodeWord → Type 0
-IsPart p Head = Unit {0}
-IsPart p Key = Unit {0}
-IsPart (Leaf level class key v) Value = Unit {0}
-IsPart (Fork level class key l r) (Child side) = Unit {0}
-IsPart _ _ = ⊥
+abbrev pub IsPieceWord : Piece → NodeWord → Type 0
+IsPieceWord p Head = Unit {0}
+IsPieceWord p Key = Unit {0}
+IsPieceWord (Leaf level class key v) Value = Unit {0}
+IsPieceWord (Fork level class key l r) (Child side) = Unit {0}
+IsPieceWord _ _ = ⊥
 
 -- these words of the node hold what the piece says
 abbrev pub HoldsWords : History → ℕ → Piece → (NodeWord → Type 0) → Type 0
@@ -101,8 +98,8 @@ up_to _ _ i = absurd i
 
 -- What is known
 
--- the nodes from `first` to `top` are the pass's own, and nothing names them; nothing at all mentions
--- the top one
+-- the nodes from `first` to `top` are the pass's own, and nothing names them; nothing at all
+-- mentions the top one
 pub record HasHand (lay : Layout) (h : History) (c first top : ℕ) : Type 0 where
   pub own : (n : ℕ) → first ≤ n → n ≤ top → IsOwnNode lay c n
   pub before : (m : ℕ) → IsOwnNode lay c m → m < first → IsTakenNode h m
@@ -118,9 +115,10 @@ pub record HasFilledTo (lay : Layout) (h : History) (c : ℕ) (left : Remaining)
   pub next : left.next_node ≡ suc top
   pub over : AreFinished lay c 0 h
   pub taken : (k : ℕ) → first ≤ k → k < n → k ≤ top → IsTakenNode h k
-  pub full : (k : ℕ) → first ≤ k → k < n → k ≤ top → HoldsWords h k (piece k) (IsPart (piece k))
+  pub full : (k : ℕ) → first ≤ k → k < n → k ≤ top → HoldsWords h k (piece k) (IsPieceWord (piece k))
 
--- what a field of a fresh node may get: another one in hand below the top, or a node that a field has named
+-- what a field of a fresh node may get: another one in hand below the top, or a node that a field
+-- has named
 abbrev pub IsForField : Layout → History → ℕ → ℕ → ℕ → Type 0
 IsForField lay h first top v = ((first ≤ v) × (v < top)) ⊎ IsInField lay h v
 
@@ -276,7 +274,7 @@ module _ (lay : Layout) (h : History) (r : Row) (c : ℕ) (left : Remaining) (fi
     next = x.next;
     over = over_more lay c 0 h r l (takes_by_others lay c 0 h r l other) x.over;
     taken = λ k i j t. taken_node_more r h k (x.taken k i j t);
-    full = λ k i j t. words_by_others k (piece k) (IsPart (piece k)) x.hand i t (x.full k i j t);
+    full = λ k i j t. words_by_others k (piece k) (IsPieceWord (piece k)) x.hand i t (x.full k i j t);
   }
 
 -- A row that changes nothing and is no fill: a load
@@ -304,7 +302,7 @@ by_load lay h r c left first top n piece l no_fill same x = record {
 
 -- Behind the last word of a node
 
-pub filled_next : (lay : Layout) (h : History) (c : ℕ) (left : Remaining) (first top n : ℕ) (piece : ℕ → Piece) → IsTakenNode h n → HoldsWords h n (piece n) (IsPart (piece n)) → HasFilledTo lay h c left first top n piece → HasFilledTo lay h c left first top (suc n) piece
+pub filled_next : (lay : Layout) (h : History) (c : ℕ) (left : Remaining) (first top n : ℕ) (piece : ℕ → Piece) → IsTakenNode h n → HoldsWords h n (piece n) (IsPieceWord (piece n)) → HasFilledTo lay h c left first top n piece → HasFilledTo lay h c left first top (suc n) piece
 filled_next lay h c left first top n piece t w x = record {
   some = x.some;
   hand = x.hand;
@@ -312,7 +310,7 @@ filled_next lay h c left first top n piece t w x = record {
   next = x.next;
   over = x.over;
   taken = λ k i j b. ⊎_elim (λ e. x.taken k i e b) (λ e. rw e t) (less k j);
-  full = λ k i j b. ⊎_elim (λ e. x.full k i e b) (λ e. subst (λ m. HoldsWords h m (piece m) (IsPart (piece m))) (sym e) w) (less k j);
+  full = λ k i j b. ⊎_elim (λ e. x.full k i e b) (λ e. subst (λ m. HoldsWords h m (piece m) (IsPieceWord (piece m))) (sym e) w) (less k j);
 }
   where
     less : (k : ℕ) → k < suc n → (k < n) ⊎ (k ≡ n)

@@ -1,5 +1,5 @@
 -- From the last fill to the SCX: what the pass has in hand then.
-use Rattle.std.proofs.Common.{◌≡◌, ◌≢◌, ℕ, suc, ◌<◌, ◌-◌, ◌≤◌, ◌⊎◌, inl, inr, None, List, length, arith, refl, sym, ◌∙◌, subst}
+use Rattle.std.proofs.Common.{◌≡◌, ◌≢◌, ℕ, suc, ◌<◌, ◌-◌, ◌≤◌, ◌⊎◌, inl, inr, None, length, arith}
 use native.Mathlib.Decide.{ℕ_discrete}
 use Rattle.arena.specs.declared.layout.Layout.{Layout}
 use Rattle.arena.specs.declared.word.ScxWord.TheVariants.{New}
@@ -16,7 +16,6 @@ use Rattle.help.specs.Allowed.{IsAllowed}
 use Rattle.prims.specs.Shares.{IsShare, IsUsable}
 use Rattle.prims.specs.Snap.{snap_at}
 use Rattle.prims.specs.Scx.Known.{job_of, IsUpdateOver, Says, InHand, IsUnderWay, ScxIsReady}
-use Rattle.prims.specs.declared.snap.Snap.{Snap}
 use Rattle.prims.specs.declared.scx.ScxRun.{ScxRun}
 use Rattle.prims.specs.declared.scx.ScxAt.TheVariants.{Start}
 use Rattle.prims.proofs.Lemmas.{left_own_scx}

@@ -1,15 +1,13 @@
 -- What an update knows stays true after any row.
-use Rattle.std.proofs.Common.{◌≡◌, ◌≢◌, ℕ, true, false, Some, None, Option, List, inr, refl, sym, ◌∙◌, ap, subst}
+use Rattle.std.proofs.Common.{◌≡◌, ◌≢◌, ℕ, Some, None, Option, List, inr, refl, sym, ◌∙◌}
 use Rattle.arena.specs.declared.step.Row.{Row}
 use Rattle.arena.specs.declared.step.Kind.TheVariants.{Fill}
 use Rattle.arena.specs.declared.word.NodeWord.TheVariants.{Head, Key, Value}
 use Rattle.arena.specs.declared.word.Word.{Word}
-use Rattle.arena.specs.Heads.{head_of}
 use Rattle.arena.specs.History.{History, ◌⊳◌, value}
 use Rattle.arena.specs.Lawful.{Lawful}
 use Rattle.arena.specs.Machines.{IsRun, Call}
 use Rattle.arena.specs.Share.{Remaining}
-use Rattle.arena.specs.Words.{node}
 use Rattle.arena.proofs.Lemmas.{ends_self}
 use Rattle.histories.proofs.Lemmas.{named_more, node_stays}
 use Rattle.prims.specs.Laws.Begun.{takes_by_others, takes_by_step}
@@ -19,24 +17,24 @@ use Rattle.spelling.specs.OrderedMap.{edit_key}
 use Rattle.spelling.specs.Runs.{IsTreeRun}
 use Rattle.spelling.specs.TreeShape.{TreeAllows}
 use Rattle.spelling.specs.TreeWords.{said}
-use Rattle.spelling.proofs.Lemmas.{walk_named, SameSettled, settled_leaf}
-use Rattle.template.specs.Walk.Laws.{trail_more}
+use Rattle.spelling.proofs.Lemmas.{SameSettled}
 use Rattle.template.specs.declared.walk.Found.{Found}
 use Rattle.updates.specs.declared.edit.Loaded.{Loaded}
 use Rattle.updates.specs.declared.edit.Nth.{Nth}
 use Rattle.updates.specs.declared.update.UpdateRun.{UpdateRun}
 use Rattle.updates.specs.Edits.{EditMeaning}
-use Rattle.updates.specs.Known.{Rests, HasFound, AreUsable, IsLoaded, AreLoaded, HasLooked, Works, copied}
+use Rattle.template.proofs.Lemmas.{found_more}
+use Rattle.updates.specs.Known.{RestsWith, AreUsable, IsLoaded, AreLoaded, HasLooked, Works, copied}
 
 -- rows of other passes leave the pass at rest
-pub rests_by_others : (c : Call) (h : History) (r : Row) (left : Remaining) → Lawful c.layout (r ⊳ h) → r.pass.0 ≢ c.pass → Rests c h left → Rests c (r ⊳ h) left
+pub rests_by_others : (c : Call) (h : History) (r : Row) (left : Remaining) → Lawful c.layout (r ⊳ h) → r.pass.0 ≢ c.pass → RestsWith c h left → RestsWith c (r ⊳ h) left
 rests_by_others c h r left l other x = record {
   share = share_by_others c.layout h r c.pass left left.next_node left.next_scx l c.is_pass other x.share;
   over = over_more c.layout c.pass 0 h r l (takes_by_others c.layout c.pass 0 h r l other) x.over;
 }
 
 -- and so do rows that fill nothing
-pub rests_by_step : (c : Call) (h : History) (r : Row) (left : Remaining) → Lawful c.layout (r ⊳ h) → r.kind ≢ Fill → Rests c h left → Rests c (r ⊳ h) left
+pub rests_by_step : (c : Call) (h : History) (r : Row) (left : Remaining) → Lawful c.layout (r ⊳ h) → r.kind ≢ Fill → RestsWith c h left → RestsWith c (r ⊳ h) left
 rests_by_step c h r left l no_fill x = record {
   share = share_by_step c.layout h r c.pass left left.next_node left.next_scx l no_fill x.share;
   over = over_more c.layout c.pass 0 h r l (takes_by_step c.layout c.pass 0 h r no_fill) x.over;
@@ -44,19 +42,6 @@ rests_by_step c h r left l no_fill x = record {
 
 same_said : (f g : Word → ℕ) (k n : ℕ) → SameSettled f g n → said g k n ≡ said f k n
 same_said f g k n e = rw (e Head tt, e Key tt, e Value tt) refl
-
--- the leaf that was found stays as it was
-pub found_more : (c : Call) (h : History) (r : Row) (k : ℕ) (f : Found) → IsTreeRun c.layout h → IsRun TreeAllows c.layout (r ⊳ h) → HasFound c h k f → HasFound c (r ⊳ h) k f
-found_more c h r k f g run x = record {
-  trail = trail_more c h r g run k f.trail x.trail;
-  leaf = settled_leaf (value h) (value (r ⊳ h)) f.trail.node.0 same ∙ x.leaf;
-  head = ap head_of (same Head tt) ∙ x.head;
-  key = λ z. same Key tt ∙ x.key z;
-  says = x.says ∙ sym (same_said (value h) (value (r ⊳ h)) k f.trail.node.0 same);
-}
-  where
-    same : SameSettled (value h) (value (r ⊳ h)) f.trail.node.0
-    same part i = node_stays c.layout h r f.trail.node.0 part run.lawful i (walk_named c.layout h x.trail.node.first k f.trail.node.0 g x.trail.node.passed)
 
 -- snapshots may be used for ever
 pub usable_more : (c : Call) (h : History) (r : Row) (snaps : List Snap) → Lawful c.layout (r ⊳ h) → AreUsable c h snaps → AreUsable c (r ⊳ h) snaps

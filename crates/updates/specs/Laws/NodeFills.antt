@@ -1,5 +1,5 @@
--- Fills of the pass's own nodes that nothing names: they are lawful, name nothing, and leave the words
--- of all other nodes.
+-- Fills of the pass's own nodes that nothing names: they are lawful, name nothing, and leave the
+-- words of all other nodes.
 use Rattle.std.proofs.Common.{◌≡◌, ◌≢◌, ℕ, false, refl}
 use native.Mathlib.Decide.{ℕ_discrete}
 use Rattle.arena.specs.declared.layout.Layout.{Layout}
@@ -11,10 +11,10 @@ use Rattle.arena.specs.declared.word.NodeWord.{NodeWord}
 use Rattle.arena.specs.declared.word.NodeWord.TheVariants.{Child, Info}
 use Rattle.arena.specs.Words.{node, scx, info, child, same_node_word}
 use Rattle.arena.specs.History.{History, ◌⊳◌, value}
-use Rattle.arena.specs.Fills.{IsOwnNode, IsOpenNode, IsNamed, opening_node, by_field, by_scx, IsNamedScx, IsTakenNode, MayFill}
+use Rattle.arena.specs.Fills.{IsOwnNode, IsNamed, opening_node, by_field, by_scx, IsNamedScx, MayFill}
 use Rattle.arena.specs.Lawful.{Lawful}
 use Rattle.arena.specs.Machines.{IsRun, Call, row_of}
-use Rattle.arena.proofs.Lemmas.{value_apart, held_back, node_apart, node_word_apart, taken_node_more}
+use Rattle.arena.proofs.Lemmas.{value_apart, held_back, node_apart, node_word_apart}
 use Rattle.histories.proofs.Lemmas.{IsNodeFill, lawful_more, own_node_inside, shaped_more}
 
 -- the fill of a word of a node

@@ -1,6 +1,6 @@
 -- The laws of updates: rows of others leave them waiting, their steps are lawful, and what they are
 -- told is so.
-use Rattle.std.proofs.Common.{◌≡◌, ◌≢◌, ℕ, suc, ◌<◌, ◌≤◌, Some, None, Option, length, inl, inr, refl, sym, ◌∙◌, ap, subst, arith}
+use Rattle.std.proofs.Common.{◌≡◌, ◌≢◌, ℕ, ◌≤◌, Some, None, Option, length, inl, inr, refl, sym, ◌∙◌, ap, subst, arith}
 use Rattle.arena.specs.declared.layout.Layout.{Layout}
 use Rattle.arena.specs.declared.step.Row.{Row}
 use Rattle.arena.specs.declared.step.Step.{Step}
@@ -16,7 +16,7 @@ use Rattle.arena.specs.Words.{node}
 use Rattle.arena.proofs.Lemmas.{value_quiet}
 use Rattle.prims.specs.Laws.Begun.{takes_by_others}
 use Rattle.prims.specs.Laws.Linked.{in_field_more}
-use Rattle.prims.specs.Llx.Known.{load, LlxWaits}
+use Rattle.prims.specs.Llx.Known.{load}
 use Rattle.prims.specs.Llx.Laws.{llx_keeps, llx_lawful, llx_made, load_lawful, load_told}
 use Rattle.prims.specs.Scx.Laws.{scx_keeps, scx_lawful}
 use Rattle.prims.specs.Scx.Made.{scx_made}
@@ -27,7 +27,7 @@ use Rattle.prims.proofs.Lemmas.{llx_fills_not, over_more, share_by_others, share
 use Rattle.spelling.specs.OrderedMap.{edit_key}
 use Rattle.spelling.specs.TreeShape.{TreeAllows}
 use Rattle.template.specs.Walk.Laws.{walk_keeps, walk_lawful, walk_made, walk_told}
-use Rattle.template.proofs.Lemmas.{walk_fills_not}
+use Rattle.template.proofs.Lemmas.{found_more, walk_fills_not}
 use Rattle.template.specs.declared.walk.Found.{Found}
 use Rattle.updates.specs.declared.edit.Nth.{Nth}
 use Rattle.updates.specs.declared.edit.Piece.{Piece}
@@ -36,11 +36,11 @@ use Rattle.updates.specs.declared.update.UpdateAt.TheVariants.{Start, Walk, Look
 use Rattle.updates.specs.declared.update.UpdateRun.{UpdateRun}
 use Rattle.updates.specs.Edits.{EditMeaning}
 use Rattle.updates.specs.Steps.{UpdateFitsAt, UpdateFits}
-use Rattle.updates.specs.Pieces.{node_at, word_of}
-use Rattle.updates.specs.Known.{Rests, Looks, Loads, Fills, Scxs, Walks, fill_step, UpdateWaitsAt, UpdateIsToldAt, UpdateWaits, UpdateIsReady, piece, top, copied}
+use Rattle.updates.specs.Pieces.{nth_node, word_of}
+use Rattle.updates.specs.Known.{Looks, Loads, Fills, Scxs, Walks, fill_step, UpdateWaitsAt, UpdateIsToldAt, UpdateWaits, UpdateIsReady, piece, top, copied}
 use Rattle.updates.specs.Laws.Hand.{IsBefore, IsUpTo, HoldsWords, HasFilledTo, IsForField, FieldMay, by_others, by_load, filled_more, words_by_others, words_more, taken_now, may_fill}
 use Rattle.updates.specs.Laws.HandScx.{from}
-use Rattle.updates.specs.Laws.Kept.{rests_by_others, rests_by_step, found_more, looked_more, works_more}
+use Rattle.updates.specs.Laws.Kept.{rests_by_others, rests_by_step, looked_more, works_more}
 use Rattle.updates.specs.Laws.NodeFills.{fill_lawful}
 
 -- what a field may get it may get after any row
@@ -73,8 +73,8 @@ module _ {E : Type 0} (e : EditMeaning E) where
     since = x.since;
   }
 
-  full_by_others : (m : UpdateRun E) (c : Call) (h : History) (r : Row) (f : Found) (nth : Nth) → IsRun TreeAllows c.layout (r ⊳ h) → r.pass.0 ≢ c.pass → HasFilledTo c.layout h c.pass m.share m.nodes.first.0 (top e m f) (node_at m.nodes nth).0 (piece e m f) → HasFilledTo c.layout (r ⊳ h) c.pass m.share m.nodes.first.0 (top e m f) (node_at m.nodes nth).0 (piece e m f)
-  full_by_others m c h r f nth run other x = by_others c.layout h r c.pass m.share m.nodes.first.0 (top e m f) (piece e m f) c.is_pass run.lawful other (node_at m.nodes nth).0 x
+  full_by_others : (m : UpdateRun E) (c : Call) (h : History) (r : Row) (f : Found) (nth : Nth) → IsRun TreeAllows c.layout (r ⊳ h) → r.pass.0 ≢ c.pass → HasFilledTo c.layout h c.pass m.share m.nodes.first.0 (top e m f) (nth_node m.nodes nth).0 (piece e m f) → HasFilledTo c.layout (r ⊳ h) c.pass m.share m.nodes.first.0 (top e m f) (nth_node m.nodes nth).0 (piece e m f)
+  full_by_others m c h r f nth run other x = by_others c.layout h r c.pass m.share m.nodes.first.0 (top e m f) (piece e m f) c.is_pass run.lawful other (nth_node m.nodes nth).0 x
 
   scxs_by_others : (m : UpdateRun E) (c : Call) (h : History) (r : Row) (f : Found) (scx : ScxRun) (begin : History) → IsRun TreeAllows c.layout (r ⊳ h) → r.pass.0 ≢ c.pass → Scxs e m c h f scx begin → Scxs e m c (r ⊳ h) f scx begin
   scxs_by_others m c h r f scx begin run other x = record {
@@ -101,8 +101,8 @@ module _ {E : Type 0} (e : EditMeaning E) where
   )
   kept_at m c h s r (Fill f nth part) run other w = (
     record { works = works_more e m c h r f nth run w.0.works; full = full_by_others m c h r f nth run other w.0.full; hand = w.0.hand; done = w.0.done; fill = w.0.fill; part_is = w.0.part_is },
-    field_may_more part _ _ (for_field_more c.layout h r m.nodes.first.0 (top e m f) (word_of (piece e m f (node_at m.nodes nth).0) part)) w.1,
-    words_by_others c.layout h r c.pass m.share m.nodes.first.0 (top e m f) (piece e m f) c.is_pass run.lawful other (node_at m.nodes nth).0 (piece e m f (node_at m.nodes nth).0) (IsBefore part) w.0.full.hand w.0.hand.lowest w.0.hand.highest w.2,
+    field_may_more part _ _ (for_field_more c.layout h r m.nodes.first.0 (top e m f) (word_of (piece e m f (nth_node m.nodes nth).0) part)) w.1,
+    words_by_others c.layout h r c.pass m.share m.nodes.first.0 (top e m f) (piece e m f) c.is_pass run.lawful other (nth_node m.nodes nth).0 (piece e m f (nth_node m.nodes nth).0) (IsBefore part) w.0.full.hand w.0.hand.lowest w.0.hand.highest w.2,
     w.3,
   )
   kept_at m c h s r (Scx f scx) run other w = (w.0, scxs_by_others m c h r f scx w.0 run other w.1, scx_keeps TreeAllows scx (from c w.0) h s r run other w.2)
@@ -118,9 +118,9 @@ module _ {E : Type 0} (e : EditMeaning E) where
   lawful_at m c h s (Walk walk) run w = walk_lawful walk c h s run w.1
   lawful_at m c h s (Look f llx) run w = llx_lawful TreeAllows llx (from c w.0) h s run w.2
   lawful_at m c h s (Load f nth part) run w = load_lawful TreeAllows c h LoadSettled (node (copied e m f) part) s run w.1 record { word = w.0.settled; same = refl } (λ q. cc) w.0.works.inside
-  lawful_at m c h s (Fill f nth part) run w = fill_lawful TreeAllows c h (node_at m.nodes nth).0 part (word_of (piece e m f (node_at m.nodes nth).0) part) s run w.3
-      (w.0.full.hand.own (node_at m.nodes nth).0 w.0.hand.lowest w.0.hand.highest)
-      (may_fill c.layout h c.pass m.share m.nodes.first.0 (top e m f) (node_at m.nodes nth).0 (piece e m f) part (word_of (piece e m f (node_at m.nodes nth).0) part) w.0.fill w.0.hand.lowest w.0.hand.highest w.1 w.0.full)
+  lawful_at m c h s (Fill f nth part) run w = fill_lawful TreeAllows c h (nth_node m.nodes nth).0 part (word_of (piece e m f (nth_node m.nodes nth).0) part) s run w.3
+      (w.0.full.hand.own (nth_node m.nodes nth).0 w.0.hand.lowest w.0.hand.highest)
+      (may_fill c.layout h c.pass m.share m.nodes.first.0 (top e m f) (nth_node m.nodes nth).0 (piece e m f) part (word_of (piece e m f (nth_node m.nodes nth).0) part) w.0.fill w.0.hand.lowest w.0.hand.highest w.1 w.0.full)
   lawful_at m c h s (Scx f scx) run w = scx_lawful TreeAllows scx (from c w.0) h s run w.2
 
   -- the step that an update waits for continues the run
@@ -147,7 +147,7 @@ module _ {E : Type 0} (e : EditMeaning E) where
   loads_made : (m : UpdateRun E) (c : Call) (h : History) (s : Step) (f : Found) (nth : Nth) (part : NodeWord) → IsRun TreeAllows c.layout (row_of c s h ⊳ h) → s ≡ load LoadSettled (node (copied e m f) part) → Loads e m c h f nth part → Loads e m c (row_of c s h ⊳ h) f nth part
   loads_made m c h s f nth part run asked x = record {
     works = works_more e m c h (row_of c s h) f nth run x.works;
-    full = by_load c.layout h (row_of c s h) c.pass m.share m.nodes.first.0 (top e m f) (node_at m.nodes nth).0 (piece e m f) run.lawful (λ q. let z : LoadSettled ≡ FillKind = sym (ap (λ (t : Step). t.kind) asked) ∙ q in cc) same x.full;
+    full = by_load c.layout h (row_of c s h) c.pass m.share m.nodes.first.0 (top e m f) (nth_node m.nodes nth).0 (piece e m f) run.lawful (λ q. let z : LoadSettled ≡ FillKind = sym (ap (λ (t : Step). t.kind) asked) ∙ q in cc) same x.full;
     hand = x.hand;
     wanted = x.wanted;
     settled = x.settled;
@@ -159,10 +159,10 @@ module _ {E : Type 0} (e : EditMeaning E) where
   -- a fill of a word of the fresh node of this place
   module _ (m : UpdateRun E) (c : Call) (h : History) (f : Found) (nth : Nth) (part : NodeWord) where
     abbrev n : ℕ
-    n = (node_at m.nodes nth).0
+    n = (nth_node m.nodes nth).0
 
     abbrev p : Piece
-    p = piece e m f (node_at m.nodes nth).0
+    p = piece e m f (nth_node m.nodes nth).0
 
     abbrev r : Row
     r = row_of c (fill_step e m f nth part) h

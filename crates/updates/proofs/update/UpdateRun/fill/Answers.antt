@@ -1,4 +1,4 @@
-use Rattle.std.proofs.Common.{sym, ◌∙◌}
+use Rattle.std.proofs.Common.{sym}
 use Rattle.updates.proofs.Turns.{fills_word}
 use Rattle.updates.proofs.update.UpdateRun.fill.Goals as goal
 

@@ -1,5 +1,3 @@
-use Rattle.updates.specs.Known.{CanLoad}
-use Rattle.std.proofs.Common.{sym, subst}
 use Rattle.updates.proofs.Nearer.{below, from_load}
 use Rattle.updates.proofs.Loading.{loaded_word}
 use Rattle.updates.proofs.update.UpdateRun.load_on.Goals as goal

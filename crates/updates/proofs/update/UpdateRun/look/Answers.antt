@@ -1,5 +1,5 @@
 use Rattle.std.proofs.Common.{sym, ◌∙◌}
-use Rattle.updates.proofs.Nearer.{below, to_look, to_works, from_look, to_tries}
+use Rattle.updates.proofs.Nearer.{below, to_look, to_works, to_tries}
 use Rattle.updates.proofs.update.UpdateRun.look.Goals as goal
 
 pub returns-in-At-clause-nearer : goal.returns-in-At-clause-nearer
