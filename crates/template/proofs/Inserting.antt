@@ -1,5 +1,5 @@
 -- What an insert has filled makes its edit, whatever rows come until its SCX-record begins.
-use Rattle.std.proofs.Common.{◌≡◌, ◌≢◌, ℕ, ◌+◌, ◌*◌, ◌/◌, ◌%◌, ◌^◌, ◌<◌, ◌⊎◌, true, false, cond, eq-eqb, ne_eqb, lt-ltb, Some, None, inl, inr, refl, sym, ◌∙◌, ap, arith, subst}
+use Rattle.std.proofs.Common.{◌≡◌, ◌≢◌, ℕ, ◌+◌, ◌*◌, ◌/◌, ◌%◌, ◌^◌, ◌<◌, ◌⊎◌, true, false, cond, eq-eqb, ne_eqb, lt-ltb, Some, None, inl, inr, refl, sym, ◌∙◌, ap, arith, subst, length}
 use Rattle.std.proofs.lemmas.Bool.{le-ltb}
 use Rattle.std.proofs.Math.Decide.{dec_lt}
 use native.Mathlib.Decide.{ℕ_discrete}
@@ -11,6 +11,8 @@ use Rattle.arena.specs.History.{History, value}
 use Rattle.arena.specs.Fills.{IsNamed}
 use Rattle.arena.specs.Machines.{Call}
 use Rattle.histories.specs.Descriptor.{Descriptor}
+use Rattle.prims.specs.Scx.Known.{Job, Says}
+use Rattle.prims.specs.Snap.{snap_at}
 use Rattle.spelling.specs.Edits.{IsAlike, IsSwap, IsSplit}
 use Rattle.spelling.specs.OrderedMap.{Insert}
 use Rattle.spelling.specs.Paths.{WasOnPath}
@@ -150,6 +152,16 @@ module _ (c : Call) (h : History) (k v : ℕ) (f : Found) (run : IsTreeRun c.lay
 
     is_split : IsSplit (value h) k v old_leaf n x y
     is_split = by_class (ℕ_discrete f.head.class 0)
+
+-- the words that say a job over the leaf's parent and the leaf are those of an insert
+pub insert_words : (m : Job) (d : Descriptor) (f : Found) (n : ℕ) → Says d m → m.update.plan.0 ≡ insert_plan f.trail.side → length m.update.snaps ≡ 2 → (snap_at m.update.snaps 0).node.0 ≡ f.trail.parent.0 → (snap_at m.update.snaps 1).node.0 ≡ f.trail.node.0 → m.update.old.0 ≡ f.trail.node.0 → m.update.fresh.0 ≡ n → IsInsertAt f d n
+insert_words m d f n x plan two parent leaf old new = record {
+  plan = x.plan ∙ plan;
+  parent = x.member 0 (omega (arith, two)) ∙ parent;
+  leaf = x.member 1 (omega (arith, two)) ∙ leaf;
+  old = x.old ∙ old;
+  new = x.new ∙ new;
+}
 
 -- An SCX-record that puts a fresh leaf of the key into the place of the leaf that has it inserts
 -- the key.

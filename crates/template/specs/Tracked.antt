@@ -11,8 +11,8 @@ use Rattle.spelling.specs.OrderedMap.{MapEdit}
 use Rattle.spelling.specs.Runs.{Makes}
 use Rattle.template.specs.Promises.{IsPromised}
 
--- The SCX-record of this job, of the pass c, makes the edit e or none: it has not begun, and with the
--- words that the job asks for it makes this edit; or it has begun with it; or it is aborted.
+-- The SCX-record of this job, of the pass c, makes the edit e or none: it has not begun, and with
+-- the words that the job asks for it makes this edit; or it has begun with it; or it is aborted.
 pub data Tracks (lay : Layout) (c : ℕ) (h : History) (m : Job) (e : MapEdit) : Type 0 where
   waits : ((d : Descriptor) → Says d m → IsPromised lay c h m.scx.0 d e) → ¬ IsNamedScx h m.scx.0 → Tracks lay c h m e
   begun : Makes lay h m.scx.0 e → Tracks lay c h m e
