@@ -138,7 +138,8 @@ walk_ends calls lay h start k n small g p leaf =
 
 -- Levels rise, in the tree and in removed nodes.
 
-path_level : (f : Word → ℕ) (t : Tree) (lo hi n : ℕ) (side : Side) → Shows f lo hi t → Has t n → is_leaf f n ≡ false → (level f n < level f (f (child n side))) × Has t (f (child n side))
+-- the children of a fork of the tree stand in the tree, on levels above its own
+pub path_level : (f : Word → ℕ) (t : Tree) (lo hi n : ℕ) (side : Side) → Shows f lo hi t → Has t n → is_leaf f n ≡ false → (level f n < level f (f (child n side))) × Has t (f (child n side))
 path_level f (Leaf m) lo hi n side s e d = absurd (let x : true ≡ false = sym s.leaf ∙ rw (← e) at d in cc)
 path_level f (Fork m a b) lo hi n Left s (inl e) d =
     let q : f (child n Left) ≡ root a = rw (← e) s.0.left in

@@ -5,14 +5,14 @@ use Rattle.arena.specs.declared.layout.Layout.{Layout}
 use Rattle.arena.specs.declared.word.Side.{Side}
 use Rattle.arena.specs.declared.word.NodeWord.TheVariants.{Head}
 use Rattle.arena.specs.Words.{node, child, marked}
-use Rattle.arena.specs.History.{History, value}
+use Rattle.arena.specs.History.{History, value, Extends}
 use Rattle.arena.specs.Log.{log, is_final}
 use Rattle.arena.specs.TakenNodes.{taken_nodes}
 use Rattle.spelling.specs.TreeWords.{Tree, Has, is_leaf, level, IsBlankAboveKeys}
-use Rattle.spelling.specs.Spelled.{IsTree}
+use Rattle.spelling.specs.Spelled.{IsTree, Spells}
 use Rattle.spelling.specs.Paths.{IsOnPath, Passed, WasInTree}
 use Rattle.spelling.specs.Runs.{IsTreeRun}
-use Rattle.spelling.proofs.Past.{grown_on_path, grown_rises}
+use Rattle.spelling.proofs.Past.{path_level, grown_on_path, grown_rises}
 use Rattle.spelling.proofs.Removed.{grown_not_final}
 use Rattle.spelling.proofs.Levels.{grown_level}
 use Rattle.spelling.proofs.Blanks.{grown_blank}
@@ -20,7 +20,7 @@ use Rattle.spelling.proofs.Remaining.{grown_remains}
 use Rattle.spelling.proofs.Growing.{grown_root}
 use Rattle.spelling.proofs.Stood.{was_passed}
 use Rattle.spelling.proofs.Taken.{grown_log, grown_depth}
-use Rattle.spelling.proofs.Meanings.{edits_of, grown}
+use Rattle.spelling.proofs.Meanings.{edits_of, grown, run_since, run_spells}
 
 -- a node of the tree is not final
 pub tree_not_final : (lay : Layout) (h : History) (t : Tree) (n : ℕ) → IsTreeRun lay h → IsTree (value h) t → Has t n → is_final (log lay h) n ≡ false
@@ -65,3 +65,13 @@ log_short lay h g = grown_log (edits_of lay h g).edits lay h (grown lay h g)
 -- so a node that was passed is not as deep as they are many, and two
 pub passed_depth : (lay : Layout) (h start : History) (k n : ℕ) → IsTreeRun lay h → Passed h start k n → level (value h) n < 2 + length (taken_nodes h)
 passed_depth lay h start k n g p = grown_depth (edits_of lay h g).edits lay h start k n (grown lay h g) p
+
+-- what a fork holds in its fields that has stood in the tree and is not final stands in the tree
+pub child_stood : (lay : Layout) (h m : History) (n : ℕ) (side : Side) → IsTreeRun lay h → Extends h m → WasInTree m n → is_final (log lay m) n ≡ false → is_leaf (value m) n ≡ false → WasInTree h (value m (child n side))
+child_stood lay h m n side g e x not_final fork = record { moment = m; within = e; tree = spelled.tree; is_tree = spelled.is_tree; has = (path_level (value m) spelled.tree _ _ n side spelled.is_tree.shows (tree_remains lay m spelled.tree n run x not_final spelled.is_tree) fork).1 }
+  where
+    run : IsTreeRun lay m
+    run = run_since lay h m g e
+
+    spelled : Spells lay (value m) (run_spells lay m run).0
+    spelled = (run_spells lay m run).1

@@ -1,5 +1,5 @@
 -- What an insert has filled makes its edit, whatever rows come until its SCX-record begins.
-use Rattle.std.proofs.Common.{◌≡◌, ◌≢◌, ℕ, ◌+◌, ◌*◌, ◌/◌, ◌%◌, ◌^◌, ◌<◌, ◌⊎◌, true, false, cond, eq-eqb, ne_eqb, lt-ltb, Some, None, inl, inr, refl, sym, ◌∙◌, ap, arith, subst}
+use Rattle.std.proofs.Common.{◌≡◌, ◌≢◌, ℕ, ◌+◌, ◌*◌, ◌/◌, ◌%◌, ◌^◌, ◌<◌, ◌⊎◌, true, false, cond, eq-eqb, ne_eqb, lt-ltb, Some, None, inl, inr, refl, sym, ◌∙◌, ap, arith, subst, length}
 use Rattle.std.proofs.lemmas.Bool.{le-ltb}
 use Rattle.std.proofs.Math.Decide.{dec_lt}
 use native.Mathlib.Decide.{ℕ_discrete}
@@ -11,12 +11,14 @@ use Rattle.arena.specs.History.{History, value}
 use Rattle.arena.specs.Fills.{IsNamed}
 use Rattle.arena.specs.Machines.{Call}
 use Rattle.histories.specs.Descriptor.{Descriptor}
+use Rattle.prims.specs.Scx.Known.{Job, Says}
+use Rattle.prims.specs.Snap.{snap_at}
 use Rattle.spelling.specs.Edits.{IsAlike, IsSwap, IsSplit}
 use Rattle.spelling.specs.OrderedMap.{Insert}
 use Rattle.spelling.specs.Paths.{WasOnPath}
 use Rattle.spelling.specs.Runs.{IsTreeRun}
 use Rattle.spelling.specs.TreeShape.{insert_plan}
-use Rattle.spelling.specs.TreeWords.{class, is_leaf, level, rank, toward, said}
+use Rattle.spelling.specs.TreeWords.{class, is_leaf, level, rank, toward}
 use Rattle.spelling.proofs.Lemmas.{walk_named}
 use Rattle.template.specs.FoundLeaf.{HasFoundLeaf}
 use Rattle.template.specs.FreshNodes.{IsLeafWith, IsForkWith, comes_before, IsInsertAt, HasFreshLeaf, HasFreshFork}
@@ -24,40 +26,7 @@ use Rattle.template.specs.Promises.{IsPromised, IsFresh, IsInsertOver, WillInser
 use Rattle.template.specs.Trails.{HasTurned}
 use Rattle.template.specs.declared.walk.Found.{Found}
 use Rattle.template.proofs.Promised.{insert_promised}
-use Rattle.template.proofs.WalkBounds.{found_below, found_key, found_no_value, found_class}
-
--- What a leaf says of a key
-
--- of a leaf that tells a value: its key is that one
-said_some : (f : Word → ℕ) (k n old : ℕ) → Some old ≡ said f k n → (class f n ≡ 0) × (f (node n Key) ≡ k)
-said_some f k n old e = go (ℕ_discrete (class f n) 0)
-  where
-    nothing_above : class f n ≢ 0 → said f k n ≡ None
-    nothing_above d = rw (ne_eqb (class f n) 0 d) refl
-
-    nothing_of : class f n ≡ 0 → k ≢ f (node n Key) → said f k n ≡ None
-    nothing_of z d = rw (eq-eqb (class f n) 0 z, ne_eqb k (f (node n Key)) d) refl
-
-    at_key : class f n ≡ 0 → Dec (k ≡ f (node n Key)) → f (node n Key) ≡ k
-    at_key z (yes q) = sym q
-    at_key z (no d) = absurd (let y : Some old ≡ None = e ∙ nothing_of z d in cc)
-
-    go : Dec (class f n ≡ 0) → (class f n ≡ 0) × (f (node n Key) ≡ k)
-    go (no d) = absurd (let y : Some old ≡ None = e ∙ nothing_above d in cc)
-    go (yes z) = (z, at_key z (ℕ_discrete k (f (node n Key))))
-
--- of one that tells none: the key is another one
-said_none : (f : Word → ℕ) (k n : ℕ) → k < 2 ^ 64 → None ≡ said f k n → k ≢ rank f n
-said_none f k n small e at = absurd (let y : None ≡ Some (f (node n Value)) = e ∙ value_of low key in cc)
-  where
-    low : class f n ≡ 0
-    low = omega (arith, at, small)
-
-    key : k ≡ f (node n Key)
-    key = omega (arith, at, small)
-
-    value_of : class f n ≡ 0 → k ≡ f (node n Key) → said f k n ≡ Some (f (node n Value))
-    value_of z q = rw (eq-eqb (class f n) 0 z, eq-eqb k (f (node n Key)) q) refl
+use Rattle.template.proofs.WalkBounds.{said_some, said_none, found_below, found_key, found_no_value, found_class}
 
 -- What a filled head says
 
@@ -183,6 +152,16 @@ module _ (c : Call) (h : History) (k v : ℕ) (f : Found) (run : IsTreeRun c.lay
 
     is_split : IsSplit (value h) k v old_leaf n x y
     is_split = by_class (ℕ_discrete f.head.class 0)
+
+-- the words that say a job over the leaf's parent and the leaf are those of an insert
+pub insert_words : (m : Job) (d : Descriptor) (f : Found) (n : ℕ) → Says d m → m.update.plan.0 ≡ insert_plan f.trail.side → length m.update.snaps ≡ 2 → (snap_at m.update.snaps 0).node.0 ≡ f.trail.parent.0 → (snap_at m.update.snaps 1).node.0 ≡ f.trail.node.0 → m.update.old.0 ≡ f.trail.node.0 → m.update.fresh.0 ≡ n → IsInsertAt f d n
+insert_words m d f n x plan two parent leaf old new = record {
+  plan = x.plan ∙ plan;
+  parent = x.member 0 (omega (arith, two)) ∙ parent;
+  leaf = x.member 1 (omega (arith, two)) ∙ leaf;
+  old = x.old ∙ old;
+  new = x.new ∙ new;
+}
 
 -- An SCX-record that puts a fresh leaf of the key into the place of the leaf that has it inserts
 -- the key.

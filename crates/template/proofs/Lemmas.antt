@@ -4,4 +4,5 @@ pub use Rattle.template.proofs.WalkBounds.{walk_loads, walk_fills_not, walk_read
 pub use Rattle.template.proofs.WalkTurns.{own_since}
 pub use Rattle.template.proofs.Promised.{promised_allowed, promised_more, insert_promised, delete_promised}
 pub use Rattle.template.proofs.Tracking.{tracks_by_others, tracks_by_scx, tracked_makes}
-pub use Rattle.template.proofs.Inserting.{swap_promised, split_promised}
+pub use Rattle.template.proofs.Inserting.{insert_words, swap_promised, split_promised}
+pub use Rattle.template.proofs.Deleting.{join_promised}

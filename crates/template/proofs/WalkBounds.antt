@@ -1,5 +1,5 @@
 -- What else is known of walks: they ask for loads alone; how they begin, and what they have found.
-use Rattle.std.proofs.Common.{◌≡◌, ◌≢◌, ℕ, ◌+◌, ◌*◌, ◌%◌, ◌^◌, ◌<◌, ◌≤◌, [], ◌∷◌, length, arith, true, false, cond, eqb, ◌⊎◌, inl, inr, Option, Some, None, refl, sym, ◌∙◌, ap, subst}
+use Rattle.std.proofs.Common.{◌≡◌, ◌≢◌, ℕ, ◌+◌, ◌*◌, ◌%◌, ◌^◌, ◌<◌, ◌≤◌, [], ◌∷◌, length, arith, true, false, cond, eqb, ◌⊎◌, inl, inr, eq-eqb, ne_eqb, Option, Some, None, refl, sym, ◌∙◌, ap, subst}
 use native.Mathlib.Decide.{ℕ_discrete}
 use Rattle.std.proofs.lemmas.Nat.{mul-le}
 use Rattle.arena.specs.declared.step.Row.{Row}
@@ -23,7 +23,7 @@ use Rattle.spelling.specs.OrderedMap.{pair, get}
 use Rattle.spelling.specs.Paths.{IsAnswerAt}
 use Rattle.spelling.specs.Runs.{IsTreeRun}
 use Rattle.spelling.specs.TreeShape.{TreeAllows}
-use Rattle.spelling.specs.TreeWords.{class, is_leaf, said, IsBlankAboveKeys}
+use Rattle.spelling.specs.TreeWords.{class, is_leaf, rank, said, IsBlankAboveKeys}
 use Rattle.spelling.proofs.Lemmas.{walk_answers, walk_named, run_since, root_head, passed_blank, blame_field, SameSettled, settled_leaf}
 use Rattle.template.specs.declared.walk.Found.{Found}
 use Rattle.template.specs.declared.walk.WalkRun.{WalkRun}
@@ -72,6 +72,39 @@ walk_gives m c h f run small a = subst (IsAnswerAt c.layout h a.trail.node.first
 pub walk_ready_run : (m : WalkRun) (c : Call) (h : History) (got : Option ℕ) → WalkIsReady m c h got → IsTreeRun c.layout h × (m.key < 2 ^ 64)
 walk_ready_run m c h None r = (r.run, r.small)
 walk_ready_run m c h (Some v) r = (r.run, r.small)
+
+-- What a leaf says of a key
+
+-- of a leaf that tells a value: its key is that one
+pub said_some : (f : Word → ℕ) (k n old : ℕ) → Some old ≡ said f k n → (class f n ≡ 0) × (f (node n KeyWord) ≡ k)
+said_some f k n old e = go (ℕ_discrete (class f n) 0)
+  where
+    nothing_above : class f n ≢ 0 → said f k n ≡ None
+    nothing_above d = rw (ne_eqb (class f n) 0 d) refl
+
+    nothing_of : class f n ≡ 0 → k ≢ f (node n KeyWord) → said f k n ≡ None
+    nothing_of z d = rw (eq-eqb (class f n) 0 z, ne_eqb k (f (node n KeyWord)) d) refl
+
+    at_key : class f n ≡ 0 → Dec (k ≡ f (node n KeyWord)) → f (node n KeyWord) ≡ k
+    at_key z (yes q) = sym q
+    at_key z (no d) = absurd (let y : Some old ≡ None = e ∙ nothing_of z d in cc)
+
+    go : Dec (class f n ≡ 0) → (class f n ≡ 0) × (f (node n KeyWord) ≡ k)
+    go (no d) = absurd (let y : Some old ≡ None = e ∙ nothing_above d in cc)
+    go (yes z) = (z, at_key z (ℕ_discrete k (f (node n KeyWord))))
+
+-- of one that tells none: the key is another one
+pub said_none : (f : Word → ℕ) (k n : ℕ) → k < 2 ^ 64 → None ≡ said f k n → k ≢ rank f n
+said_none f k n small e at = absurd (let y : None ≡ Some (f (node n ValueWord)) = e ∙ value_of low key in cc)
+  where
+    low : class f n ≡ 0
+    low = omega (arith, at, small)
+
+    key : k ≡ f (node n KeyWord)
+    key = omega (arith, at, small)
+
+    value_of : class f n ≡ 0 → k ≡ f (node n KeyWord) → said f k n ≡ Some (f (node n ValueWord))
+    value_of z q = rw (eq-eqb (class f n) 0 z, eq-eqb k (f (node n KeyWord)) q) refl
 
 -- What it has found
 

@@ -1,6 +1,7 @@
--- What an insert has filled once it has found the leaf of its key.
+-- What an insert or a delete has filled once it has found the leaf of its key.
 use Rattle.std.specs.Prelude.{◌≡◌, ◌≢◌, ℕ, ◌+◌, Bool, true, false, cond, eqb, ltb}
 use Rattle.arena.specs.declared.layout.Layout.{Layout}
+use Rattle.arena.specs.declared.word.Side.{Side}
 use Rattle.arena.specs.declared.word.Side.TheVariants.{Left, Right}
 use Rattle.arena.specs.declared.word.NodeWord.TheVariants.{Head, Key, Value}
 use Rattle.arena.specs.declared.word.Word.{Word}
@@ -8,7 +9,10 @@ use Rattle.arena.specs.Heads.{head_word}
 use Rattle.arena.specs.Words.{node, child}
 use Rattle.arena.specs.History.{History, value}
 use Rattle.histories.specs.Descriptor.{Descriptor}
-use Rattle.spelling.specs.TreeShape.{insert_plan}
+use Rattle.prims.specs.Snap.{child_of}
+use Rattle.prims.specs.declared.snap.Snap.{Snap}
+use Rattle.spelling.specs.TreeShape.{insert_plan, delete_plan}
+use Rattle.spelling.specs.TreeWords.{class, is_leaf}
 use Rattle.template.specs.Promises.{IsFresh}
 use Rattle.template.specs.declared.walk.Found.{Found}
 
@@ -57,3 +61,26 @@ pub record HasFreshFork (lay : Layout) (c : ℕ) (h : History) (f : Found) (k v 
   pub copied_low : f.head.class ≡ 0 → copied ≡ value h (node f.trail.node.0 Value)
   pub copied_high : f.head.class ≢ 0 → copied ≡ 0
   pub fork : IsForkWith (value h) n f.head.level (cond (comes_before k f) f.head.class 0) (cond (comes_before k f) f.key k) (cond (comes_before k f) x y) (cond (comes_before k f) y x)
+
+-- the words of an SCX-record that puts the fresh node n into the place of the leaf's parent: it
+-- covers the fork above the parent, the parent, and the parent's children as this snapshot found
+-- them, and finalizes all but the first
+pub record IsDeleteAt (f : Found) (d : Descriptor) (snap : Snap) (n : ℕ) : Type 0 where
+  pub plan : d.plan ≡ delete_plan f.trail.grand_side
+  pub grand : d.member 0 ≡ f.trail.grand.0
+  pub parent : d.member 1 ≡ f.trail.parent.0
+  pub left : d.member 2 ≡ snap.left.0
+  pub right : d.member 3 ≡ snap.right.0
+  pub old : d.old ≡ f.trail.parent.0
+  pub new : d.new ≡ n
+
+-- A fresh copy n of the snapshot's node: a fork has the fields that the snapshot found. A key of
+-- class 0 and a leaf's value of class 0 are copied, those of any other class are taken to be 0.
+pub record HasFreshCopy (lay : Layout) (c : ℕ) (h : History) (snap : Snap) (n : ℕ) : Type 0 where
+  pub fresh : IsFresh lay c h n
+  pub head : value h (node n Head) ≡ value h (node snap.node.0 Head)
+  pub key_low : class (value h) snap.node.0 ≡ 0 → value h (node n Key) ≡ value h (node snap.node.0 Key)
+  pub key_high : class (value h) snap.node.0 ≢ 0 → value h (node n Key) ≡ 0
+  pub value_low : is_leaf (value h) snap.node.0 ≡ true → class (value h) snap.node.0 ≡ 0 → value h (node n Value) ≡ value h (node snap.node.0 Value)
+  pub value_high : is_leaf (value h) snap.node.0 ≡ true → class (value h) snap.node.0 ≢ 0 → value h (node n Value) ≡ 0
+  pub fields : is_leaf (value h) snap.node.0 ≡ false → (side : Side) → value h (child n side) ≡ (child_of snap side).0

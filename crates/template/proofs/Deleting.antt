@@ -1,0 +1,123 @@
+-- What a delete has filled makes its edit, whatever rows come until its SCX-record begins.
+use Rattle.std.proofs.Common.{◌≡◌, ◌≢◌, ℕ, zero, suc, ◌<◌, ◌^◌, true, false, Some, sym, ◌∙◌, ap, arith, subst}
+use native.Mathlib.Decide.{ℕ_discrete}
+use Rattle.arena.specs.declared.word.Side.{Side}
+use Rattle.arena.specs.declared.word.Side.TheVariants.{Left, Right}
+use Rattle.arena.specs.declared.word.NodeWord.TheVariants.{Key, Value}
+use Rattle.arena.specs.Words.{node, child}
+use Rattle.arena.specs.History.{History, value}
+use Rattle.arena.specs.Fills.{IsNamed}
+use Rattle.arena.specs.Machines.{Call}
+use Rattle.histories.specs.Descriptor.{Descriptor}
+use Rattle.prims.specs.Snap.{child_of}
+use Rattle.prims.specs.Laws.Linked.{in_field_named}
+use Rattle.prims.specs.declared.snap.Snap.{Snap}
+use Rattle.spelling.specs.Edits.{IsJoin}
+use Rattle.spelling.specs.OrderedMap.{Delete}
+use Rattle.spelling.specs.Paths.{WasOnPath, WasInTree}
+use Rattle.spelling.specs.Runs.{IsTreeRun}
+use Rattle.spelling.specs.TreeShape.{delete_plan, leaf_place, sibling_place}
+use Rattle.spelling.specs.TreeWords.{class, is_leaf, toward, IsBlankAboveKeys}
+use Rattle.spelling.proofs.Lemmas.{walk_named, stood_blank}
+use Rattle.template.specs.FoundLeaf.{HasFoundLeaf}
+use Rattle.template.specs.FreshNodes.{IsDeleteAt, HasFreshCopy}
+use Rattle.template.specs.Promises.{IsPromised, IsFresh, IsSnapOf, WillDelete}
+use Rattle.template.specs.Trails.{HasTurned}
+use Rattle.template.specs.declared.walk.Found.{Found}
+use Rattle.template.proofs.Promised.{delete_promised}
+use Rattle.template.proofs.WalkBounds.{said_some, found_below}
+
+module _ (c : Call) (h : History) (k old : ℕ) (f : Found) (d : Descriptor) (above sibling : Snap) (n : ℕ)
+    (run : IsTreeRun c.layout h) (small : k < 2 ^ 64) (a : HasFoundLeaf c h k f) (found : f.value ≡ Some old)
+    (i : IsDeleteAt f d above n) (above_is : IsSnapOf c.layout h d 1 above) (same : (child_of above f.trail.side).0 ≡ f.trail.node.0)
+    (sibling_is : IsSnapOf c.layout h d (sibling_place f.trail.side) sibling) (stood : WasInTree h sibling.node.0)
+    (w : HasFreshCopy c.layout c.pass h sibling n) where
+  says : (class (value h) f.trail.node.0 ≡ 0) × (value h (node f.trail.node.0 Key) ≡ k)
+  says = said_some (value h) k f.trail.node.0 old (sym found ∙ a.says)
+
+  below : f.trail.node.0 ≢ 0
+  below = found_below k c h f run a
+
+  parent : HasTurned c h k f.trail.parent.0 f.trail.side f.trail.node.0
+  parent = a.trail.parent below
+
+  -- a leaf of a key is not a child of the root
+  grand : HasTurned c h k f.trail.grand.0 f.trail.grand_side f.trail.parent.0
+  grand = a.trail.grand below (λ z. a.trail.high below z a.leaf says.0)
+
+  leaf_at : d.member (leaf_place f.trail.side) ≡ f.trail.node.0
+  leaf_at = go f.trail.side same
+    where
+      go : (side : Side) → (child_of above side).0 ≡ f.trail.node.0 → d.member (leaf_place side) ≡ f.trail.node.0
+      go Left e = i.left ∙ e
+      go Right e = i.right ∙ e
+
+  named : (j : ℕ) → j < 4 → IsNamed c.layout h (d.member j)
+  named = go f.trail.side
+      (subst (IsNamed c.layout h) (sym leaf_at) (walk_named c.layout h a.trail.node.first k f.trail.node.0 run a.trail.node.passed))
+      (subst (IsNamed c.layout h) sibling_is.node (in_field_named sibling.node.0 sibling_is.linked.in_field))
+    where
+      top : IsNamed c.layout h (d.member 0)
+      top = subst (IsNamed c.layout h) (sym i.grand) (walk_named c.layout h grand.passed.first k f.trail.grand.0 run grand.passed.passed)
+
+      next : IsNamed c.layout h (d.member 1)
+      next = subst (IsNamed c.layout h) (sym i.parent) (walk_named c.layout h parent.passed.first k f.trail.parent.0 run parent.passed.passed)
+
+      go : (side : Side) → IsNamed c.layout h (d.member (leaf_place side)) → IsNamed c.layout h (d.member (sibling_place side)) → (j : ℕ) → j < 4 → IsNamed c.layout h (d.member j)
+      go side x y zero few = top
+      go side x y (suc zero) few = next
+      go Left x y (suc (suc zero)) few = x
+      go Right x y (suc (suc zero)) few = y
+      go Left x y (suc (suc (suc zero))) few = y
+      go Right x y (suc (suc (suc zero))) few = x
+      go side x y (suc (suc (suc (suc j)))) few = absurd (omega (arith, few))
+
+  blank : IsBlankAboveKeys (value h) sibling.node.0
+  blank = stood_blank c.layout h sibling.node.0 run stood
+
+  same_key : Dec (class (value h) sibling.node.0 ≡ 0) → value h (node n Key) ≡ value h (node sibling.node.0 Key)
+  same_key (yes low) = w.key_low low
+  same_key (no high) = w.key_high high ∙ sym (blank.key high)
+
+  same_value : is_leaf (value h) sibling.node.0 ≡ true → Dec (class (value h) sibling.node.0 ≡ 0) → value h (node n Value) ≡ value h (node sibling.node.0 Value)
+  same_value leaf (yes low) = w.value_low leaf low
+  same_value leaf (no high) = w.value_high leaf high ∙ sym (blank.value high leaf)
+
+  is_join : IsJoin (value h) k f.trail.parent.0 f.trail.node.0 sibling.node.0 n
+  is_join = record {
+    fork = parent.fork;
+    leaf = a.leaf;
+    class = says.0;
+    key = says.1;
+    same_head = w.head;
+    same_key = same_key (ℕ_discrete (class (value h) sibling.node.0) 0);
+    same_value = λ leaf. same_value leaf (ℕ_discrete (class (value h) sibling.node.0) 0);
+  }
+
+  will_delete : WillDelete c.layout c.pass h d k f.trail.side
+  will_delete = record {
+    small = small;
+    path = let p = grand.passed.passed in subst (WasOnPath h k) (sym i.grand) (p.0, p.1, p.3);
+    fork = subst (λ m. is_leaf (value h) m ≡ false) (sym i.grand) grand.fork;
+    plan = i.plan ∙ ap delete_plan (sym (subst (λ m. toward (value h) m k ≡ f.trail.grand_side) (sym i.grand) grand.side_is));
+    old = i.old ∙ sym i.parent;
+    side_is = subst (λ m. toward (value h) m k ≡ f.trail.side) (sym i.parent) parent.side_is;
+    named = named;
+    fresh = subst (IsFresh c.layout c.pass h) (sym i.new) w.fresh;
+    edit = subst (λ q. IsJoin (value h) k q (d.member (leaf_place f.trail.side)) (d.member (sibling_place f.trail.side)) d.new) (sym i.parent)
+        (subst (λ l. IsJoin (value h) k f.trail.parent.0 l (d.member (sibling_place f.trail.side)) d.new) (sym leaf_at)
+        (subst (λ z. IsJoin (value h) k f.trail.parent.0 f.trail.node.0 z d.new) sibling_is.node
+        (subst (IsJoin (value h) k f.trail.parent.0 f.trail.node.0 sibling.node.0) (sym i.new) is_join)));
+    parent = above;
+    parent_is = above_is;
+    left = sym i.left;
+    right = sym i.right;
+    sibling = sibling;
+    sibling_is = sibling_is;
+    copied = λ fork side. subst (λ m. value h (child m side) ≡ (child_of sibling side).0) (sym i.new) (w.fields (subst (λ m. is_leaf (value h) m ≡ false) (sym sibling_is.node) fork) side);
+  }
+
+-- An SCX-record that puts a fresh copy of the sibling of the key's leaf into the place of their
+-- parent deletes the key. A sibling above all keys is blank, so that its copy is.
+pub join_promised : (c : Call) (h : History) (s k old : ℕ) (f : Found) (d : Descriptor) (above sibling : Snap) (n : ℕ) → IsTreeRun c.layout h → k < 2 ^ 64 → HasFoundLeaf c h k f → f.value ≡ Some old → IsDeleteAt f d above n → IsSnapOf c.layout h d 1 above → (child_of above f.trail.side).0 ≡ f.trail.node.0 → IsSnapOf c.layout h d (sibling_place f.trail.side) sibling → WasInTree h sibling.node.0 → HasFreshCopy c.layout c.pass h sibling n → IsPromised c.layout c.pass h s d (Delete k)
+join_promised c h s k old f d above sibling n run small a found i above_is same sibling_is stood w = delete_promised c.layout c.pass s h d k f.trail.side c.is_pass (will_delete c h k old f d above sibling n run small a found i above_is same sibling_is stood w)
