@@ -1,7 +1,5 @@
-ghost use Rattle.std.specs.Prelude.{◌≡◌};
-ghost use Rattle.arena.specs.PlainWords.{Contents};
-
 use crate::Insert;
+use crate::table::Table;
 use arena::Kind::{
     Commit, Fill, Freeze, LoadChild, LoadInfo, LoadMarked, LoadSettled, LoadState, Mark, SetFrozen,
     Update,
@@ -9,60 +7,10 @@ use arena::Kind::{
 use arena::NodeWord::{Child, Head, Info, Key, Marked, Value};
 use arena::ScxWord::{AllFrozen, Call, Member, New, Old, Plan, Seen, State};
 use arena::Side::{Left, Right};
-use arena::{
-    Full, Kind, Layout, Limits, Mode, NodeNo, NodeWord, PassNo, PlainWords, Resource, ScxNo,
-    ScxWord, Share, Step, Turn, Word,
-};
-use std::alloc::Global;
-use std::marker::Model;
+use arena::{Full, Kind, NodeNo, NodeWord, Resource, ScxNo, ScxWord, Share, Turn, Word};
 use std::process::Abort;
 use std::test::Fail;
 use updates::{UpdateRun, Updated};
-
-/// Words, and the layout by which they stand.
-#[derive(Drop)]
-struct Table {
-    layout: Layout,
-    words: PlainWords,
-}
-
-impl Model for Table {
-    ghost Value = { Contents };
-
-    ghost view = { λ t. t.words };
-
-    ghost invariant = { λ t. t.words.layout ≡ t.layout };
-}
-
-impl Table {
-    fn new(alloc: Global, passes: u32, nodes: u32, scx: u32) -> Result<Table, Fail> {
-        let limits = Limits {
-            passes,
-            nodes,
-            scx,
-            tries: 3,
-        };
-        let layout = limits.check(Mode::Tree)?;
-        let words = PlainWords::new(alloc, &layout)?;
-        Ok(Table { layout, words })
-    }
-
-    /// The share of a pass.
-    fn share(&self, rt: &impl Abort, pass: u32) -> Share {
-        assert!(rt; pass < self.layout.passes);
-        Share::of(&self.layout, PassNo(pass))
-    }
-
-    /// Makes a step: what its word held before and after it.
-    fn make(&mut self, step: Step) -> Option<(u64, u64)> {
-        if self.layout.has(step.word) {
-            let found = self.words.apply(step);
-            Some((found, self.words.get(step.word)))
-        } else {
-            None
-        }
-    }
-}
 
 /// What a turn made: a step, with what its word held before and after it; or an answer.
 #[derive(Clone, Copy, Debug, PartialEq, Eq)]

@@ -1,64 +1,27 @@
-ghost use Rattle.std.specs.Prelude.{◌≡◌};
-ghost use Rattle.arena.specs.PlainWords.{Contents};
-
+use crate::table::Table;
 use crate::{GetRun, Tree};
 use arena::NodeWord::{Child, Head, Key, Value};
 use arena::Side::{Left, Right};
-use arena::{
-    Access, Kind, Layout, Limits, Machine, Mode, NodeNo, NodeWord, PlainWords, Step, Turn, Word,
-};
-use std::alloc::Global;
-use std::marker::Model;
+use arena::{Access, Kind, Machine, NodeNo, NodeWord, Step, Turn, Word};
 use std::process::Abort;
 use std::test::Fail;
 
-/// Words, and the layout by which they stand.
-#[derive(Drop)]
-struct Table {
-    layout: Layout,
-    words: PlainWords,
+/// Makes a step, and tells what it found; 0 where its word is outside of the table.
+fn made(table: &mut Table, step: Step) -> u64 {
+    match table.make(step) {
+        Some((found, _)) => found,
+        None => 0,
+    }
 }
 
-impl Model for Table {
-    ghost Value = { Contents };
-
-    ghost view = { λ t. t.words };
-
-    ghost invariant = { λ t. t.words.layout ≡ t.layout };
-}
-
-impl Table {
-    /// The opening tree, with room for ten nodes more.
-    fn new(alloc: Global) -> Result<Table, Fail> {
-        let limits = Limits {
-            passes: 1,
-            nodes: 10,
-            scx: 10,
-            tries: 3,
-        };
-        let layout = limits.check(Mode::Tree)?;
-        let words = PlainWords::new(alloc, &layout)?;
-        Ok(Table { layout, words })
-    }
-
-    /// Makes a step; one on a word outside of the table finds 0.
-    fn make(&mut self, step: Step) -> u64 {
-        if self.layout.has(step.word) {
-            self.words.apply(step)
-        } else {
-            0
-        }
-    }
-
-    /// Gives words of nodes what they are to hold.
-    fn put(&mut self, changes: &[(u64, NodeWord, u64)]) {
-        for (node, part, value) in changes {
-            self.make(Step {
-                kind: Kind::Fill,
-                word: Word::Node(NodeNo(*node), *part),
-                access: Access::Store(*value),
-            });
-        }
+/// Gives words of nodes what they are to hold.
+fn put(table: &mut Table, changes: &[(u64, NodeWord, u64)]) {
+    for (node, part, value) in changes {
+        table.make(Step {
+            kind: Kind::Fill,
+            word: Word::Node(NodeNo(*node), *part),
+            access: Access::Store(*value),
+        });
     }
 }
 
@@ -90,7 +53,7 @@ fn plays(
     for (node, part, value) in above.iter().chain(loads) {
         let step = step_of(*node, *part);
         assert_eq!(rt; Machine::<Tree>::next(&mut run, found), Turn::Ask(step));
-        let got = table.make(step);
+        let got = made(table, step);
         assert_eq!(rt; got, *value);
         found = Some(got);
     }
@@ -141,7 +104,7 @@ const TO_FORK_8: [Load; 6] = [
 
 #[test]
 fn the_empty_map_has_no_key(rt: HostRuntime) -> Result<(), Fail> {
-    let mut table = Table::new(rt.alloc())?;
+    let mut table = Table::new(rt.alloc(), 1, 10, 10)?;
     let loads = [(0, Head, 2), (0, Child(Left), 1), (1, Head, 13)];
     plays(&rt, &mut table, 0, &[], &loads, None)?;
     plays(&rt, &mut table, 18446744073709551615, &[], &loads, None)
@@ -149,8 +112,8 @@ fn the_empty_map_has_no_key(rt: HostRuntime) -> Result<(), Fail> {
 
 #[test]
 fn the_leaf_of_the_key_is_asked_for_its_value(rt: HostRuntime) -> Result<(), Fail> {
-    let mut table = Table::new(rt.alloc())?;
-    table.put(&ONE_PAIR);
+    let mut table = Table::new(rt.alloc(), 1, 10, 10)?;
+    put(&mut table, &ONE_PAIR);
     let present = [
         (5, Child(Left), 3),
         (3, Head, 20),
@@ -165,9 +128,9 @@ fn the_leaf_of_the_key_is_asked_for_its_value(rt: HostRuntime) -> Result<(), Fai
 
 #[test]
 fn the_key_0_may_have_the_value_0(rt: HostRuntime) -> Result<(), Fail> {
-    let mut table = Table::new(rt.alloc())?;
-    table.put(&ONE_PAIR);
-    table.put(&[(3, Key, 0), (3, Value, 0)]);
+    let mut table = Table::new(rt.alloc(), 1, 10, 10)?;
+    put(&mut table, &ONE_PAIR);
+    put(&mut table, &[(3, Key, 0), (3, Value, 0)]);
     let loads = [
         (5, Child(Left), 3),
         (3, Head, 20),
@@ -179,9 +142,9 @@ fn the_key_0_may_have_the_value_0(rt: HostRuntime) -> Result<(), Fail> {
 
 #[test]
 fn a_key_goes_right_at_a_fork_of_the_same_key(rt: HostRuntime) -> Result<(), Fail> {
-    let mut table = Table::new(rt.alloc())?;
-    table.put(&ONE_PAIR);
-    table.put(&ONE_PAIR_MORE);
+    let mut table = Table::new(rt.alloc(), 1, 10, 10)?;
+    put(&mut table, &ONE_PAIR);
+    put(&mut table, &ONE_PAIR_MORE);
     let same = [
         (8, Child(Right), 6),
         (6, Head, 28),
@@ -200,9 +163,9 @@ fn a_key_goes_right_at_a_fork_of_the_same_key(rt: HostRuntime) -> Result<(), Fai
 
 #[test]
 fn absent_keys_go_to_the_leaf_where_they_would_stand(rt: HostRuntime) -> Result<(), Fail> {
-    let mut table = Table::new(rt.alloc())?;
-    table.put(&ONE_PAIR);
-    table.put(&ONE_PAIR_MORE);
+    let mut table = Table::new(rt.alloc(), 1, 10, 10)?;
+    put(&mut table, &ONE_PAIR);
+    put(&mut table, &ONE_PAIR_MORE);
     let below = [(8, Child(Left), 7), (7, Head, 28), (7, Key, 5)];
     plays(&rt, &mut table, 8, &TO_FORK_8, &below, None)?;
     let above = [(8, Child(Right), 6), (6, Head, 28), (6, Key, 9)];

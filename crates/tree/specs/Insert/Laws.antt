@@ -1,5 +1,5 @@
 -- The bounds of an insert.
-use Rattle.std.proofs.Common.{◌≡◌, ◌≢◌, ℕ, ◌<◌, ◌≤◌, ◌⊎◌, Bool, true, false, eqb, cond, List, [], ◌∷◌, length, Option, Some, None, inl, inr, refl, sym, ◌∙◌, ap, subst, arith}
+use Rattle.std.proofs.Common.{◌≡◌, ℕ, ◌<◌, ◌≤◌, Bool, true, false, eqb, cond, List, [], ◌∷◌, length, Option, Some, None, refl, arith}
 use Rattle.arena.specs.declared.number.NodeNo.{NodeNo}
 use Rattle.arena.specs.declared.word.NodeWord.{NodeWord}
 use Rattle.arena.specs.declared.word.NodeWord.TheVariants.{Head, Value}
@@ -14,7 +14,7 @@ use Rattle.updates.specs.declared.edit.Nth.TheVariants.{First, Second, Third}
 use Rattle.updates.specs.declared.edit.Piece.TheVariants.{Fork}
 use Rattle.updates.specs.Edits.{EditLaws}
 use Rattle.updates.specs.Pieces.{with_word, fills_behind}
-use Rattle.tree.specs.Insert.Means.{insert_means, insert_looks, insert_wants, insert_works, insert_pieces, value_if_none, copy_works, fork_over, is_below}
+use Rattle.tree.specs.Insert.Means.{insert_means, insert_looks, insert_wants, insert_works, insert_pieces, value_if_none, copy_works, is_below}
 
 few_looks : (f : Found) (snaps : List Snap) (n : NodeNo) → insert_looks f snaps ≡ At n → length snaps < 2
 few_looks f [] n e = omega arith

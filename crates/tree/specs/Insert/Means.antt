@@ -1,6 +1,5 @@
 -- What an insert needs, looks at, loads and fills.
-use Rattle.std.specs.Prelude.{ℕ, ◌+◌, ◌-◌, ◌^◌, min, ltb, eqb, cond, Bool, true, false, List, [], ◌∷◌, Option, Some, None, unwrap_or}
-use Rattle.arena.specs.declared.number.NodeNo.{NodeNo}
+use Rattle.std.specs.Prelude.{ℕ, ◌+◌, ◌-◌, ◌^◌, min, ltb, eqb, cond, Bool, true, List, [], ◌∷◌, Option, Some, None, unwrap_or}
 use Rattle.arena.specs.declared.word.NodeWord.{NodeWord}
 use Rattle.arena.specs.declared.word.NodeWord.TheVariants.{Value}
 use Rattle.prims.specs.declared.snap.Snap.{Snap}
