@@ -16,6 +16,33 @@ pub enum Need {
     Three,
 }
 
+impl Need {
+    ghost use Rattle.std.specs.Prelude.{◌≡◌};
+    ghost use Rattle.updates.specs.Pieces.{many_nodes, nth_behind};
+
+    /// How many that are.
+    pub fn many(self) -> u32
+        ensures { result ≡ many_nodes self }
+    {
+        match self {
+            Need::Nothing => 0,
+            Need::One => 1,
+            Need::Three => 3,
+        }
+    }
+
+    /// The place behind this one, if so many fresh nodes have one there.
+    pub fn behind(self, nth: Nth) -> Option<Nth>
+        ensures { result ≡ nth_behind self nth }
+    {
+        match (self, nth) {
+            (Need::Three, Nth::First) => Some(Nth::Second),
+            (Need::Three, Nth::Second) => Some(Nth::Third),
+            _ => None,
+        }
+    }
+}
+
 /// What an edit looks at next.
 #[derive(Clone, Copy, Debug, PartialEq, Eq)]
 pub enum Look {
@@ -113,7 +140,17 @@ pub struct Nodes {
 
 impl Nodes {
     ghost use Rattle.std.specs.Prelude.{◌≡◌};
-    ghost use Rattle.updates.specs.Pieces.{nth_node};
+    ghost use Rattle.updates.specs.Pieces.{nth_node, top_of};
+
+    /// The last of so many.
+    pub fn last(&self, need: Need) -> NodeNo
+        ensures { result.0 ≡ top_of need self.now }
+    {
+        match need {
+            Need::Three => self.third,
+            _ => self.first,
+        }
+    }
 
     /// One of them.
     pub fn at(&self, nth: Nth) -> NodeNo

@@ -145,6 +145,7 @@ impl<E: Edit + Drop> UpdateRun<E> {
 
     /// Goes on with what the last step of the walk found.
     fn walk_on(&mut self, mut walk: WalkRun, got: Option<u64>) -> Turn<Updated>
+        ensures turn { (c : Call) (h : History) → IsRun TreeAllows c.layout h → LooksWell E.means → LoadsWell E.means → Walks E.means self.old c h walk.key → WalkIsReady walk c h got → UpdateTurn E.means c h self.new result }
         ensures same { (self.new.edit ≡ self.old.edit) × (self.new.call ≡ self.old.call) }
         ensures nearer { (nodes : ℕ) → WalkFits walk got nodes → IsNearer E.means self.new nodes result (self.old.tries * try_left E.means nodes + (walk_left walk.at nodes + (64 * E.means.most_looks + works_behind E.means First + 39))) }
     {
@@ -157,24 +158,34 @@ impl<E: Edit + Drop> UpdateRun<E> {
         }
     }
 
-    /// Goes on behind the walk, if the share has what the edit needs.
-    fn test_share(&mut self, found: Found) -> Turn<Updated>
-        ensures same { (self.new.edit ≡ self.old.edit) × (self.new.call ≡ self.old.call) }
-        ensures nearer { (nodes : ℕ) → IsNearer E.means self.new nodes result (self.old.tries * try_left E.means nodes + (64 * E.means.most_looks + works_behind E.means First + 39)) }
+    /// What the share lacks of so many fresh nodes and an SCX-record.
+    fn lacks(&self, need: Need) -> Option<Full>
+        ensures { need ≢ Need.Nothing → IfNone result (HasNodesFor need self.now.share) }
     {
-        let need = match self.edit.need(&found) {
-            Need::Nothing => return Turn::Done(Updated::Done { old: found.value }),
-            Need::One => 1,
-            Need::Three => 3,
-        };
         let (nodes, scx) = self.share.left();
-        if nodes < need {
+        if nodes < need.many() {
             let what = Resource::Nodes;
-            return Turn::Done(Updated::Full(Full { what, left: nodes }));
+            return Some(Full { what, left: nodes });
         }
         if scx == 0 {
             let what = Resource::Scx;
-            return Turn::Done(Updated::Full(Full { what, left: scx }));
+            return Some(Full { what, left: scx });
+        }
+        None
+    }
+
+    /// Goes on behind the walk, if the share has what the edit needs.
+    fn test_share(&mut self, found: Found) -> Turn<Updated>
+        ensures turn { (c : Call) (h : History) → IsRun TreeAllows c.layout h → LooksWell E.means → LoadsWell E.means → Begins E.means self.old c h → HasFoundLeaf c h (edit_key (E.means.edit self.old.edit)) found → UpdateTurn E.means c h self.new result }
+        ensures same { (self.new.edit ≡ self.old.edit) × (self.new.call ≡ self.old.call) }
+        ensures nearer { (nodes : ℕ) → IsNearer E.means self.new nodes result (self.old.tries * try_left E.means nodes + (64 * E.means.most_looks + works_behind E.means First + 39)) }
+    {
+        let need = self.edit.need(&found);
+        if need == Need::Nothing {
+            return Turn::Done(Updated::Done { old: found.value });
+        }
+        if let Some(full) = self.lacks(need) {
+            return Turn::Done(Updated::Full(full));
         }
         self.snaps.clear();
         self.look(found)
@@ -351,6 +362,7 @@ impl<E: Edit + Drop> UpdateRun<E> {
 
     /// Goes on behind that fill: with the next word, the next node, or the SCX.
     fn fill_on(&mut self, found: Found, nth: Nth, part: NodeWord) -> Turn<Updated>
+        ensures turn { (c : Call) (h : History) → IsRun TreeAllows c.layout h → LoadsWell E.means → FillsWell E.means → MakesWell E.means → IsFilledUpTo E.means self.old c h found nth part → UpdateTurn E.means c h self.new result }
         ensures same { (self.new.edit ≡ self.old.edit) × (self.new.call ≡ self.old.call) }
         ensures nearer { (nodes : ℕ) → IsNearer E.means self.new nodes result (self.old.tries * try_left E.means nodes + (fills_left E.means self.old found nth part + 39)) }
     {
@@ -361,37 +373,37 @@ impl<E: Edit + Drop> UpdateRun<E> {
         if let Some(next) = piece.behind(part) {
             return self.fill(found, nth, next);
         }
-        if self.edit.need(&found) == Need::Three {
-            match nth {
-                Nth::First => return self.load(found, Nth::Second),
-                Nth::Second => return self.load(found, Nth::Third),
-                Nth::Third => {}
-            }
+        let need = self.edit.need(&found);
+        match need.behind(nth) {
+            Some(after) => self.load(found, after),
+            None => self.begin_scx(found),
         }
-        self.begin_scx(found)
     }
 
     /// What its SCX is to do: it covers all that was looked at and finalizes all but the first, of
     /// which a field gets the last fresh node.
-    fn update(&self, found: &Found) -> Update {
+    fn update(&self, found: &Found) -> Update
+        ensures snaps { result.snaps ≡ self.now.snaps.items }
+        ensures few { length self.now.snaps.items ≤ 4 }
+        ensures plan { result.plan.0 ≡ plan_over (length self.now.snaps.items) (E.means.side self.now.edit found.now) }
+        ensures old { result.old ≡ child_of (snap_at self.now.snaps.items 0) (E.means.side self.now.edit found.now) }
+        ensures fresh { result.fresh.0 ≡ top_of (E.means.needs self.now.edit found.now) self.now.nodes }
+    {
         let side = self.edit.side(found);
         let many = self.snaps.len();
         let removed = [false, 1 < many, 2 < many, 3 < many];
         let snaps = Snaps::new(self.snaps.as_slice());
-        let fresh = match self.edit.need(found) {
-            Need::Three => self.nodes.third,
-            _ => self.nodes.first,
-        };
         Update {
             snaps,
             plan: Plan::new(many, removed, MemberIndex::First, side),
             old: snaps.at(MemberIndex::First).child(side),
-            fresh,
+            fresh: self.nodes.last(self.edit.need(found)),
         }
     }
 
     /// Begins the SCX.
     fn begin_scx(&mut self, found: Found) -> Turn<Updated>
+        ensures turn { (c : Call) (h : History) → IsRun TreeAllows c.layout h → MakesWell E.means → CanScx E.means self.old c h found → UpdateTurn E.means c h self.new result }
         ensures same { (self.new.edit ≡ self.old.edit) × (self.new.call ≡ self.old.call) }
         ensures nearer { (nodes : ℕ) → IsNearer E.means self.new nodes result (self.old.tries * try_left E.means nodes + 39) }
     {
@@ -431,6 +443,7 @@ impl<E: Edit + Drop> UpdateRun<E> {
 
     /// Goes on with what the last step found; with nothing at the first call, which asks for a step.
     pub fn step(&mut self, got: Option<u64>) -> Turn<Updated>
+        ensures turn { (c : Call) (h : History) → IsRun TreeAllows c.layout h → LooksWell E.means → LoadsWell E.means → FillsWell E.means → MakesWell E.means → UpdateIsReady E.means self.old c h got → UpdateTurn E.means c h self.new result }
         ensures same { (self.new.edit ≡ self.old.edit) × (self.new.call ≡ self.old.call) }
         ensures nearer { (nodes : ℕ) → UpdateFits E.means self.old got nodes → IsNearer E.means self.new nodes result (update_left E.means self.old nodes) }
     {
@@ -446,6 +459,14 @@ impl<E: Edit + Drop> UpdateRun<E> {
         }
     }
 
+    ghost use Rattle.std.specs.Prelude.{◌≢◌, IfNone};
+    ghost use Rattle.spelling.specs.OrderedMap.{edit_key};
+    ghost use Rattle.template.specs.FoundLeaf.{HasFoundLeaf};
+    ghost use Rattle.template.specs.Walk.Known.{WalkIsReady};
+    ghost use Rattle.prims.specs.Snap.{child_of, snap_at};
+    ghost use Rattle.updates.specs.Known.{HasNodesFor, Walks, IsFilledUpTo, CanScx, UpdateIsReady};
+    ghost use Rattle.updates.specs.Sound.{FillsWell, MakesWell};
+    ghost use Rattle.updates.specs.Pieces.{plan_over, top_of};
     ghost use Rattle.updates.specs.Steps.{IsWanted, UpdateFits, fills_left};
     ghost use Rattle.updates.specs.Pieces.{less_a_node};
     ghost use Rattle.arena.specs.History.{History, value};
