@@ -1,4 +1,4 @@
--- What the laws of updates need of an edit, beside its bounds.
+-- The laws of an edit.
 use Rattle.std.specs.Prelude.{◌≡◌, ◌≢◌, ◌⊎◌, ℕ, ◌<◌, List, [], Some}
 use Rattle.arena.specs.declared.number.NodeNo.{NodeNo}
 use Rattle.arena.specs.declared.word.NodeWord.{NodeWord}
@@ -23,7 +23,7 @@ use Rattle.template.specs.declared.walk.Found.{Found}
 use Rattle.updates.specs.declared.edit.Loaded.{Loaded}
 use Rattle.updates.specs.declared.edit.Nodes.{Nodes}
 use Rattle.updates.specs.declared.edit.Nth.{Nth}
-use Rattle.updates.specs.Edits.{EditMeaning}
+use Rattle.updates.specs.Edits.{EditMeaning, EditBounds}
 use Rattle.updates.specs.Known.{ComesBefore, IsNeeded, HasLooked, HasFilledAll, IsUpdateFor}
 use Rattle.updates.specs.Laws.Hand.{IsPieceWord}
 use Rattle.updates.specs.Pieces.{nth_node, with_word, word_of}
@@ -51,3 +51,11 @@ pub record MakesWell {E : Type 0} (m : EditMeaning E) : Type 0 where
   pub some : (e : E) (f : Found) → m.looks e f [] ≢ Enough
   pub distinct : (e : E) (c : Call) (h : History) (f : Found) (snaps : List Snap) → IsTreeRun c.layout h → HasLooked m c h e f snaps → m.looks e f snaps ≡ Enough → AreDistinct snaps
   pub promised : (e : E) (c : Call) (h : History) (f : Found) (snaps : List Snap) (ns : Nodes) (ld : Loaded) (j : Job) (d : Descriptor) → IsTreeRun c.layout h → m.needs e f ≢ Nothing → HasFilledAll m c h e f snaps ns ld → IsUpdateFor m e f snaps ns j.update → Says d j → IsPromised c.layout c.pass h j.scx.0 d (m.edit e)
+
+-- what the machine of an edit needs of it
+pub record EditLaws {E : Type 0} (m : EditMeaning E) : Type 0 where
+  pub bounds : EditBounds m
+  pub looks : LooksWell m
+  pub loads : LoadsWell m
+  pub fills : FillsWell m
+  pub makes : MakesWell m

@@ -1,7 +1,8 @@
 //! Edits of the tree, as data for the machine that makes them.
 ghost use Rattle.std.specs.Prelude.{◌≡◌};
 ghost use Rattle.spelling.specs.OrderedMap.{edit_key};
-ghost use Rattle.updates.specs.Edits.{EditMeaning, EditLaws};
+ghost use Rattle.updates.specs.Edits.{EditMeaning};
+ghost use Rattle.updates.specs.Sound.{EditLaws};
 
 use arena::{Head, NodeNo, NodeWord, ScxNo, Side};
 use prims::Snap;
@@ -239,7 +240,8 @@ pub trait Edit {
     ) -> Piece
         ensures { result ≡ means.pieces self.now found.now snaps.now nodes.now loaded.now nth };
 
-    /// How many nodes it looks at, and how many steps its loads and fills take.
+    /// How many nodes it looks at and how many steps its loads and fills take; and that what it looks
+    /// at, loads and fills makes its edit.
     ghost laws: { EditLaws means };
 }
 

@@ -28,6 +28,7 @@ use Rattle.template.specs.Promises.{IsPromised}
 use Rattle.template.specs.declared.walk.Found.{Found}
 use Rattle.template.proofs.Lemmas.{found_below, found_class, found_level, found_no_value, insert_words, swap_promised, split_promised}
 use Rattle.tree.specs.declared.insert.Insert.{Insert}
+use Rattle.tree.specs.Insert.Laws.{insert_bounds}
 use Rattle.tree.specs.Insert.Means.{insert_means, insert_need, insert_looks, insert_wants, insert_pieces, value_if_none, leaf_level, is_below, lower}
 use Rattle.updates.specs.declared.edit.Loaded.{Loaded}
 use Rattle.updates.specs.declared.edit.Look.{Look}
@@ -40,7 +41,7 @@ use Rattle.updates.specs.Known.{ComesBefore, IsNeeded, IsLoaded, AreSeen, HasLoo
 use Rattle.updates.specs.Laws.Hand.{IsPieceWord, HoldsWords}
 use Rattle.updates.specs.Laws.Opened.{found_named, found_opened, above_opened}
 use Rattle.updates.specs.Pieces.{nth_node, with_word, word_of, plan_over, piece_head, top_of}
-use Rattle.updates.specs.Sound.{LooksWell, LoadsWell, FillsWell, MakesWell}
+use Rattle.updates.specs.Sound.{LooksWell, LoadsWell, FillsWell, MakesWell, EditLaws}
 
 -- What it loads
 
@@ -288,3 +289,7 @@ insert_makes = record {
   distinct = λ e c h f snaps run x enough. insert_distinct e c h f snaps run x enough;
   promised = λ e c h f snaps ns ld j d run n x is says. promised_by e c h f snaps ns ld run x j d is says f.value refl;
 }
+
+-- an insert is an edit that an update can make
+pub insert_laws : EditLaws insert_means
+insert_laws = record { bounds = insert_bounds; looks = insert_look; loads = insert_loads; fills = insert_fills; makes = insert_makes }

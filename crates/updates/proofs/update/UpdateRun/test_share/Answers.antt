@@ -8,6 +8,6 @@ pub returns-clause-nearer : goal.returns-clause-nearer
 returns-clause-nearer g c nodes = below c.look.result _ _ _ (c.look.ensures.nearer nodes) (from_share _ _ _ _)
 
 pub returns-clause-turn : goal.returns-clause-turn
-returns-clause-turn g c d h run looks loads b found =
+returns-clause-turn g c d h run b found =
     let some : c.need-need.result ≢ Nothing = search rules in
-    c.look.ensures.turn d h run looks loads (may_look g.E.Edit.means c.args.self.now _ d h c.args.found refl refl c.clear.ensures b found (rw c.need-need.ensures at (rw c.in_default.is at c.lacks.ensures some)))
+    c.look.ensures.turn d h run (may_look g.E.Edit.means c.args.self.now _ d h c.args.found refl refl c.clear.ensures b found (rw c.need-need.ensures at (rw c.in_default.is at c.lacks.ensures some)))
