@@ -13,7 +13,8 @@ use Rattle.arena.specs.Machines.{Call, MatchTurn}
 use Rattle.arena.specs.ScxRecords.{IsPlan, count_of, field_index_of, side_of}
 use Rattle.arena.specs.Share.{Remaining, HasScx}
 use Rattle.arena.proofs.Lemmas.{packed_count, packed_field, packed_side, packed_within}
-use Rattle.prims.specs.Scx.Known.{job_of, IsUpdateOver, ScxIsReady, ScxWaits, ScxAnswers}
+use Rattle.histories.specs.Descriptor.{Descriptor}
+use Rattle.prims.specs.Scx.Known.{Job, job_of, Says, IsUpdateOver, ScxIsReady, ScxWaits, ScxAnswers}
 use Rattle.prims.specs.Shares.{IsShare}
 use Rattle.prims.specs.Snap.{child_of, snap_at}
 use Rattle.prims.specs.Snaps.{AreDistinct}
@@ -24,6 +25,8 @@ use Rattle.prims.specs.declared.snap.Snap.{Snap}
 use Rattle.prims.specs.declared.update.Update.{Update}
 use Rattle.prims.proofs.Lemmas.{left_own_scx, over_begins}
 use Rattle.spelling.specs.TreeShape.{TreeAllows}
+use Rattle.template.specs.Promises.{IsPromised}
+use Rattle.template.specs.Tracked.{Tracks, waits}
 use Rattle.template.specs.declared.walk.Found.{Found}
 use Rattle.template.proofs.Lemmas.{promised_allowed}
 use Rattle.updates.specs.declared.edit.Look.{Look}
@@ -88,7 +91,7 @@ abbrev less_an_scx : Remaining → Remaining
 less_an_scx left = record left { next_scx = suc left.next_scx; scx = left.scx - 1 }
 
 module _ {E : Type 0} (e : EditMeaning E) (m : UpdateRun E) (run after : ScxRun) (f : Found) (c : Call) (h : History) (sound : MakesWell e) (few : length m.snaps.items ≤ 4) (x : CanScx e m c h f)
-    (is : IsUpdateFor e m.edit f m.snaps.items m.nodes run.update) (at : run.at ≡ ScxStart) (is_scx : run.scx.0 ≡ m.share.next_scx) (same_scx : after.scx ≡ run.scx) (same_update : after.update ≡ run.update) where
+    (is : IsUpdateFor e m.edit f m.snaps.items m.nodes run.update) (at : run.at ≡ ScxStart) (is_scx : run.scx.0 ≡ m.share.next_scx) (same_scx : after.scx ≡ run.scx) (same_update : after.update ≡ run.update) (same_call : after.call ≡ run.call) where
   over : IsUpdateOver run.update
   over = covers_all run.update m.snaps.items (e.side m.edit f) (some_snaps (e.looks m.edit f) m.snaps.items (sound.some m.edit f) x.all.enough) few
       (sound.distinct m.edit c h f m.snaps.items x.run x.all.looked x.all.enough) is.covers is.plan is.old
@@ -97,6 +100,12 @@ module _ {E : Type 0} (e : EditMeaning E) (m : UpdateRun E) (run after : ScxRun)
   ready = hand_ready c h m.share m.nodes.first.0 (top e m f) (piece e m f) run x.run.1.lawful x.full x.some over
       (subst (λ (xs : List Snap). AreUsable c h xs) (sym is.covers) x.all.looked.usable) at is.fresh is_scx
       (λ d says. promised_allowed c.layout c.pass h run.scx.0 d (e.edit m.edit) (sound.promised m.edit c h f m.snaps.items m.nodes m.loaded (job_of run) d x.run x.need x.all is says))
+
+  promised : (d : Descriptor) → Says d (job_of run) → IsPromised c.layout c.pass h run.scx.0 d (e.edit m.edit)
+  promised d says = sound.promised m.edit c h f m.snaps.items m.nodes m.loaded (job_of run) d x.run x.need x.all is says
+
+  tracked : Tracks c.layout c.pass h (job_of run) (e.edit m.edit)
+  tracked = waits promised ready.1.is_open.unnamed
 
   scx_is : after.scx.0 ≡ m.share.next_scx
   scx_is = ap (λ (s : ScxNo). s.0) same_scx ∙ is_scx
@@ -107,8 +116,8 @@ module _ {E : Type 0} (e : EditMeaning E) (m : UpdateRun E) (run after : ScxRun)
   here : HasScx m.share m.share.next_scx
   here = record { from = omega arith; below = let s = x.some in omega (arith, s) }
 
-  waits : (turn : Turn ScxAnswer) (step : Step) → turn ≡ Ask step → MatchTurn turn (ScxWaits TreeAllows after (from c h) h) (ScxAnswers after (from c h) h) → UpdateWaits e (record m { share = less_an_scx m.share; at = Scx f after }) c h step
-  waits turn step asked w = (
+  first_waits : (turn : Turn ScxAnswer) (step : Step) → turn ≡ Ask step → MatchTurn turn (ScxWaits TreeAllows after (from c h) h) (ScxAnswers after (from c h) h) → UpdateWaits e (record m { share = less_an_scx m.share; at = Scx f after }) c h step
+  first_waits turn step asked w = (
     h,
     record {
       run = x.run;
@@ -122,6 +131,7 @@ module _ {E : Type 0} (e : EditMeaning E) (m : UpdateRun E) (run after : ScxRun)
       own = subst (λ n. IsOwnNode c.layout c.pass n) (sym fresh_is) (x.full.hand.own (top e m f) x.full.some (omega arith));
       own_scx = subst (λ s. IsOwnScx c.layout c.pass s) (sym scx_is) (left_own_scx c.layout h c.pass m.share m.nodes.first.0 m.share.next_scx m.share.next_scx x.full.share here);
       over = over_begins c.layout c.pass after.scx.0 h x.full.over;
+      tracks = subst (λ (j : Job). Tracks c.layout c.pass h j (e.edit m.edit)) (λ i. record { scx = sym same_scx i; call = sym same_call i; update = sym same_update i }) tracked;
     },
     rw asked at w,
   )
@@ -131,4 +141,4 @@ module _ {E : Type 0} (e : EditMeaning E) (m : UpdateRun E) (run after : ScxRun)
       → (ScxIsReady TreeAllows run (from c h) h None → MatchTurn turn (ScxWaits TreeAllows after (from c h) h) (ScxAnswers after (from c h) h)) → UpdateWaits e (record m { share = share; at = Scx f after }) c h step
   scx_begins share turn step less asked w =
       subst (λ (s : Remaining). UpdateWaits e (record m { share = s; at = Scx f after }) c h step) (sym (less ∙ (λ i. record m.share { next_scx = plus_one m.share.next_scx i; scx = m.share.scx - 1 })))
-      (waits turn step asked (w ready))
+      (first_waits turn step asked (w ready))

@@ -1,5 +1,5 @@
 -- When an update may go on, and what it waits for.
-use Rattle.std.specs.Prelude.{◌≡◌, ◌≢◌, ℕ, suc, ◌^◌, ◌<◌, ◌≤◌, eqb, cond, List, length, take, Option, Some, None}
+use Rattle.std.specs.Prelude.{◌≡◌, ◌≢◌, ℕ, suc, ◌^◌, ◌<◌, ◌≤◌, ◌⊎◌, eqb, cond, List, length, take, Option, Some, None}
 use Rattle.arena.specs.declared.machine.Turn.{Turn}
 use Rattle.arena.specs.declared.step.Step.{Step}
 use Rattle.arena.specs.declared.step.Kind.TheVariants.{LoadSettled}
@@ -16,7 +16,7 @@ use Rattle.arena.specs.Words.{node}
 use Rattle.histories.proofs.Lemmas.{IsNodeFill}
 use Rattle.prims.specs.Llx.Known.{load, LlxIsReady, LlxWaits}
 use Rattle.prims.specs.Moments.{AreFinished}
-use Rattle.prims.specs.Scx.Known.{ScxIsReady, ScxWaits}
+use Rattle.prims.specs.Scx.Known.{IsDone, ScxIsReady, ScxWaits, job_of}
 use Rattle.prims.specs.Shares.{IsShare, IsUsable}
 use Rattle.prims.specs.Snap.{child_of, snap_at}
 use Rattle.prims.specs.declared.llx.LlxRun.{LlxRun}
@@ -24,10 +24,11 @@ use Rattle.prims.specs.declared.scx.ScxRun.{ScxRun}
 use Rattle.prims.specs.declared.snap.Snap.{Snap}
 use Rattle.prims.specs.declared.update.Update.{Update}
 use Rattle.spelling.specs.OrderedMap.{edit_key}
-use Rattle.spelling.specs.Runs.{IsTreeRun}
+use Rattle.spelling.specs.Runs.{IsTreeRun, Makes}
 use Rattle.spelling.specs.TreeShape.{TreeAllows}
 use Rattle.template.specs.FoundLeaf.{HasFoundLeaf}
 use Rattle.template.specs.Promises.{IsFresh}
+use Rattle.template.specs.Tracked.{Tracks}
 use Rattle.template.specs.Walk.Known.{WalkIsReady, WalkWaits}
 use Rattle.template.specs.declared.walk.Found.{Found}
 use Rattle.updates.specs.declared.edit.Loaded.{Loaded}
@@ -39,6 +40,7 @@ use Rattle.updates.specs.declared.edit.Nth.{Nth}
 use Rattle.updates.specs.declared.edit.Nth.TheVariants.{First, Second, Third}
 use Rattle.updates.specs.declared.edit.Piece.{Piece}
 use Rattle.updates.specs.declared.update.Updated.{Updated}
+use Rattle.updates.specs.declared.update.Updated.TheVariants.{Done}
 use Rattle.updates.specs.declared.update.UpdateAt.{UpdateAt}
 use Rattle.updates.specs.declared.update.UpdateAt.TheVariants.{Start, Walk, Look, Load, Fill, Scx}
 use Rattle.updates.specs.declared.update.UpdateRun.{UpdateRun}
@@ -223,6 +225,8 @@ module _ {E : Type 0} (e : EditMeaning E) where
     pub own : IsOwnNode c.layout c.pass scx.update.fresh.0
     pub own_scx : IsOwnScx c.layout c.pass scx.scx.0
     pub over : AreFinished c.layout c.pass scx.scx.0 h
+    -- it makes the edit, if it makes any
+    pub tracks : Tracks c.layout c.pass h (job_of scx) (e.edit m.edit)
 
   -- the walk is to the edit's key, and the pass is at rest
   pub record Walks (m : UpdateRun E) (c : Call) (h : History) (key : ℕ) : Type 0 where
@@ -298,6 +302,29 @@ module _ {E : Type 0} (e : EditMeaning E) where
     pub all : HasFilledAll c h m.edit f m.snaps.items m.nodes m.loaded
     pub full : HasFilledTo c.layout h c.pass m.share m.nodes.first.0 (top m f) (suc (top m f)) (piece m f)
 
-  -- it waits for the step that it asks for
+  -- What it answers
+
+  -- the call has made its edit: an SCX of it is done, and the SCX-record has made that edit
+  pub record HasMade (ed : E) (c : Call) (h : History) : Type 0 where
+    pub begin : History
+    pub since : Extends begin c.start
+    pub scx : ScxRun
+    pub done : IsDone (from c begin) h scx
+    pub makes : Makes c.layout h scx.scx.0 (e.edit ed)
+
+  -- of the leaf that was found it tells the value of the key; there was nothing to make, or the edit
+  -- is made
+  pub record IsDoneWith (ed : E) (c : Call) (h : History) (old : Option ℕ) : Type 0 where
+    pub found : Found
+    pub has_found : HasFoundLeaf c h (edit_key (e.edit ed)) found
+    pub told : old ≡ found.value
+    pub made : (e.needs ed found ≡ Nothing) ⊎ HasMade ed c h
+
+  -- what its answer says
+  abbrev pub UpdateAnswers : UpdateRun E → Call → History → Updated → Type 0
+  UpdateAnswers m c h (Done old) = IsDoneWith m.edit c h old
+  UpdateAnswers m c h _ = Unit {0}
+
+  -- it waits for the step that it asks for, or its answer is right
   abbrev pub UpdateTurn : Call → History → UpdateRun E → Turn Updated → Type 0
-  UpdateTurn c h m turn = MatchTurn turn (UpdateWaits m c h) (λ a. Unit {0})
+  UpdateTurn c h m turn = MatchTurn turn (UpdateWaits m c h) (UpdateAnswers m c h)

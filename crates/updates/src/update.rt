@@ -485,14 +485,14 @@ impl<E: Edit + Drop> Machine<Tree> for UpdateRun<E> {
 
     ghost use Rattle.std.specs.Prelude.{◌≡◌, ℕ};
     ghost use Rattle.updates.specs.Steps.{update_left, UpdateFits};
-    ghost use Rattle.updates.specs.Known.{UpdateIsReady, UpdateWaits};
+    ghost use Rattle.updates.specs.Known.{UpdateIsReady, UpdateWaits, UpdateAnswers};
     ghost use Rattle.updates.specs.Laws.Update.{update_keeps, update_lawful, update_made, update_told};
 
     ghost ready = { UpdateIsReady E.means };
 
     ghost waits = { UpdateWaits E.means };
 
-    ghost answers = { λ m c h a. Unit {0} };
+    ghost answers = { UpdateAnswers E.means };
 
     ghost same = { λ old now. (now.edit ≡ old.edit) × (now.call ≡ old.call) };
 
