@@ -80,7 +80,7 @@ impl Insert {
 impl Edit for Insert {
     ghost use Rattle.std.specs.Prelude.{◌≡◌};
     ghost use Rattle.tree.specs.Insert.Means.{insert_means};
-    ghost use Rattle.tree.specs.Insert.Laws.{insert_laws};
+    ghost use Rattle.tree.specs.Insert.Sound.{insert_laws};
 
     ghost means = { insert_means };
 

@@ -2,3 +2,6 @@ mod Nearer
 mod Turns
 mod Loading
 mod Looking
+mod Filling
+mod Beginning
+mod Stepping

@@ -26,9 +26,9 @@ use Rattle.updates.specs.declared.edit.Piece.TheVariants.{Leaf, Fork}
 use Rattle.updates.specs.declared.update.UpdateAt.TheVariants.{Load}
 use Rattle.updates.specs.declared.update.UpdateRun.{UpdateRun}
 use Rattle.updates.specs.Edits.{EditMeaning}
-use Rattle.updates.specs.Known.{AreLoaded, ComesBefore, IsNeeded, AreInOrder, top_of, pieces_by, CanLoad, CanFill, Loads, UpdateWaits, piece, copied}
+use Rattle.updates.specs.Known.{AreLoaded, ComesBefore, IsNeeded, AreInOrder, pieces_by, CanLoad, CanFill, Loads, UpdateWaits, piece, copied}
 use Rattle.updates.specs.Laws.Hand.{IsBefore, IsPieceWord, HoldsWords, HasFilledTo}
-use Rattle.updates.specs.Pieces.{nth_node, with_word}
+use Rattle.updates.specs.Pieces.{nth_node, with_word, top_of}
 use Rattle.updates.specs.Sound.{LoadsWell}
 
 -- Pieces by their numbers

@@ -24,6 +24,8 @@ use Rattle.prims.specs.Shares.{IsUsable}
 use Rattle.prims.specs.Snap.{snap_at}
 use Rattle.prims.specs.declared.snap.Snap.{Snap}
 use Rattle.prims.proofs.Lemmas.{left_own_node, usable_now}
+use Rattle.spelling.specs.OrderedMap.{edit_key}
+use Rattle.template.specs.FoundLeaf.{HasFoundLeaf}
 use Rattle.template.specs.declared.walk.Found.{Found}
 use Rattle.updates.specs.declared.edit.Look.TheVariants.{At, Enough}
 use Rattle.updates.specs.declared.edit.Need.{Need}
@@ -33,8 +35,8 @@ use Rattle.updates.specs.declared.edit.Nth.TheVariants.{First, Second, Third}
 use Rattle.updates.specs.declared.edit.Piece.{Piece}
 use Rattle.updates.specs.declared.update.UpdateRun.{UpdateRun}
 use Rattle.updates.specs.Edits.{EditMeaning}
-use Rattle.updates.specs.Known.{RestsWith, HasNodesFor, AreUsable, AreLoaded, ComesBefore, AreSeen, CanLook, CanLoad, Looks, UpdateWaits, copied, piece, top_of, nothing_loaded}
-use Rattle.updates.specs.Pieces.{less_a_node}
+use Rattle.updates.specs.Known.{RestsWith, Begins, HasNodesFor, AreUsable, AreLoaded, ComesBefore, AreSeen, CanLook, CanLoad, Looks, UpdateWaits, copied, piece, nothing_loaded}
+use Rattle.updates.specs.Pieces.{less_a_node, many_nodes, top_of}
 use Rattle.updates.specs.Sound.{LooksWell}
 use Rattle.updates.specs.Laws.Hand.{HasFilledTo}
 
@@ -77,6 +79,27 @@ looked_one_more e m now c h f s n ed share items named is x = record {
     seen = seen_one_more e m.edit f m.snaps.items s named x.looked.seen;
   };
   room = rw (ed, share) x.room;
+}
+
+-- The first look
+
+-- a share that is tested has what is needed
+pub share_has : (need : Need) (left : Remaining) → need ≢ Nothing → many_nodes need ≤ left.nodes → left.scx ≢ 0 → HasNodesFor need left
+share_has Nothing left d few some = absurd (d refl)
+share_has One left d few some = (omega (arith, few), omega (arith, some))
+share_has Three left d few some = (omega (arith, few), omega (arith, some))
+
+-- the walk has found its leaf, and nothing is looked at
+pub may_look : {E : Type 0} (e : EditMeaning E) (m now : UpdateRun E) (c : Call) (h : History) (f : Found) → now.edit ≡ m.edit → now.share ≡ m.share → now.snaps.items ≡ [] → Begins e m c h → HasFoundLeaf c h (edit_key (e.edit m.edit)) f → HasNodesFor (e.needs m.edit f) m.share → CanLook e now c h f
+may_look e m now c h f ed share items b found room = record {
+  begins = record { run = b.run; small = rw ed b.small; since = b.since; rests = rw share b.rests };
+  looked = rw (ed, items) record {
+    small = b.small;
+    found = found;
+    usable = λ i p. absurd (omega (arith, p));
+    seen = λ i p. absurd (omega (arith, p));
+  };
+  room = rw (ed, share) room;
 }
 
 -- The fresh nodes are taken

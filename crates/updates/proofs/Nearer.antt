@@ -8,9 +8,15 @@ use Rattle.arena.specs.Machines.{MatchTurn}
 use Rattle.arena.specs.declared.word.NodeWord.{NodeWord}
 use Rattle.arena.specs.declared.word.NodeWord.TheVariants.{Head, Key, Value, Child}
 use Rattle.arena.specs.declared.word.Side.TheVariants.{Left, Right}
+use Rattle.updates.specs.declared.edit.Need.{Need}
+use Rattle.updates.specs.declared.edit.Need.TheVariants.{Nothing, One, Three}
+use Rattle.updates.specs.declared.edit.Nth.{Nth}
+use Rattle.updates.specs.declared.edit.Nth.TheVariants.{First, Second, Third}
 use Rattle.updates.specs.declared.edit.Piece.{Piece}
 use Rattle.updates.specs.declared.edit.Piece.TheVariants.{Leaf, Fork}
-use Rattle.updates.specs.Pieces.{part_behind, fills_behind}
+use Rattle.updates.specs.Edits.{EditMeaning}
+use Rattle.updates.specs.Pieces.{nth_behind, part_behind, fills_behind}
+use Rattle.updates.specs.Steps.{works_after}
 use Rattle.updates.specs.declared.update.Updated.{Updated}
 
 -- what is below a number is below a greater one
@@ -77,16 +83,23 @@ to_scx t rest = omega arith
 pub less_scx : (t left now : ℕ) → now < left → t + now < t + left
 less_scx t left now i = omega (arith, i)
 
--- the last node
-pub to_last_node : (t works most fills : ℕ) → works ≤ most → t + (works + 0 + 39) ≤ t + (fills + most + 39)
-to_last_node t works most fills i = omega (arith, i)
+none_more : (n : ℕ) → n ≡ n + 0
+none_more n = omega arith
 
 -- what is below something is not 0
 pub some_left : (now left : ℕ) → now < left → 0 < left
 some_left now left i = omega (arith, i)
 
-the_same : {A : Type 0} (a b : A) → Some a ≡ Some b → a ≡ b
+pub the_same : {A : Type 0} (a b : A) → Some a ≡ Some b → a ≡ b
 the_same a b e = ap (λ o. unwrap_or o a) e
+
+-- what is left behind a node is left for the next one
+pub after_next : {E : Type 0} (e : EditMeaning E) (need : Need) (nth after : Nth) → nth_behind need nth ≡ Some after → works_after e nth ≡ e.most_works after + works_after e after
+after_next e Nothing nth after d = absurd (let z : None ≡ Some after = d in cc)
+after_next e One nth after d = absurd (let z : None ≡ Some after = d in cc)
+after_next e Three First after d = subst (λ i. e.most_works Second + e.most_works Third ≡ e.most_works i + works_after e i) (the_same Second after d) refl
+after_next e Three Second after d = subst (λ i. e.most_works Third ≡ e.most_works i + works_after e i) (the_same Third after d) (none_more (e.most_works Third))
+after_next e Three Third after d = absurd (let z : None ≡ Some after = d in cc)
 
 -- fewer words are filled behind the next
 pub fewer_fills : (p : Piece) (part next : NodeWord) → part_behind p part ≡ Some next → fills_behind p next < fills_behind p part

@@ -40,7 +40,7 @@ pub record EditMeaning (E : Type 0) : Type 0 where
   pub most_works : Nth → ℕ
 
 -- the bounds of an edit are right
-pub record EditLaws {E : Type 0} (m : EditMeaning E) : Type 0 where
+pub record EditBounds {E : Type 0} (m : EditMeaning E) : Type 0 where
   pub few_looks : (e : E) (f : Found) (snaps : List Snap) (n : NodeNo) → m.looks e f snaps ≡ At n → length snaps < m.most_looks
   pub small : m.most_looks ≤ 4
   pub few_works : (e : E) (f : Found) (snaps : List Snap) (ld : Loaded) (nth : Nth) → m.works e f snaps ld nth ≤ m.most_works nth

@@ -1,5 +1,5 @@
 -- When an update may go on, and what it waits for.
-use Rattle.std.specs.Prelude.{◌≡◌, ℕ, suc, ◌^◌, ◌<◌, ◌≤◌, eqb, cond, List, length, take, Option, Some, None}
+use Rattle.std.specs.Prelude.{◌≡◌, ◌≢◌, ℕ, suc, ◌^◌, ◌<◌, ◌≤◌, ◌⊎◌, eqb, cond, List, length, take, Option, Some, None}
 use Rattle.arena.specs.declared.machine.Turn.{Turn}
 use Rattle.arena.specs.declared.step.Step.{Step}
 use Rattle.arena.specs.declared.step.Kind.TheVariants.{LoadSettled}
@@ -16,27 +16,31 @@ use Rattle.arena.specs.Words.{node}
 use Rattle.histories.proofs.Lemmas.{IsNodeFill}
 use Rattle.prims.specs.Llx.Known.{load, LlxIsReady, LlxWaits}
 use Rattle.prims.specs.Moments.{AreFinished}
-use Rattle.prims.specs.Scx.Known.{ScxIsReady, ScxWaits}
+use Rattle.prims.specs.Scx.Known.{IsDone, ScxIsReady, ScxWaits, job_of}
 use Rattle.prims.specs.Shares.{IsShare, IsUsable}
-use Rattle.prims.specs.Snap.{snap_at}
+use Rattle.prims.specs.Snap.{child_of, snap_at}
 use Rattle.prims.specs.declared.llx.LlxRun.{LlxRun}
 use Rattle.prims.specs.declared.scx.ScxRun.{ScxRun}
 use Rattle.prims.specs.declared.snap.Snap.{Snap}
+use Rattle.prims.specs.declared.update.Update.{Update}
 use Rattle.spelling.specs.OrderedMap.{edit_key}
-use Rattle.spelling.specs.Runs.{IsTreeRun}
+use Rattle.spelling.specs.Runs.{IsTreeRun, Makes}
 use Rattle.spelling.specs.TreeShape.{TreeAllows}
 use Rattle.template.specs.FoundLeaf.{HasFoundLeaf}
+use Rattle.template.specs.Promises.{IsFresh}
+use Rattle.template.specs.Tracked.{Tracks}
 use Rattle.template.specs.Walk.Known.{WalkIsReady, WalkWaits}
 use Rattle.template.specs.declared.walk.Found.{Found}
 use Rattle.updates.specs.declared.edit.Loaded.{Loaded}
 use Rattle.updates.specs.declared.edit.Look.TheVariants.{At, Enough}
 use Rattle.updates.specs.declared.edit.Need.{Need}
-use Rattle.updates.specs.declared.edit.Need.TheVariants.{One, Three}
+use Rattle.updates.specs.declared.edit.Need.TheVariants.{Nothing, One, Three}
 use Rattle.updates.specs.declared.edit.Nodes.{Nodes}
 use Rattle.updates.specs.declared.edit.Nth.{Nth}
 use Rattle.updates.specs.declared.edit.Nth.TheVariants.{First, Second, Third}
 use Rattle.updates.specs.declared.edit.Piece.{Piece}
 use Rattle.updates.specs.declared.update.Updated.{Updated}
+use Rattle.updates.specs.declared.update.Updated.TheVariants.{Done}
 use Rattle.updates.specs.declared.update.UpdateAt.{UpdateAt}
 use Rattle.updates.specs.declared.update.UpdateAt.TheVariants.{Start, Walk, Look, Load, Fill, Scx}
 use Rattle.updates.specs.declared.update.UpdateRun.{UpdateRun}
@@ -44,7 +48,7 @@ use Rattle.updates.specs.Edits.{EditMeaning}
 use Rattle.updates.specs.Laws.Hand.{IsBefore, IsUpTo, IsPieceWord, HoldsWords, HasFilledTo, IsForField, FieldMay}
 use Rattle.updates.specs.Laws.HandScx.{from}
 use Rattle.updates.specs.Laws.NodeFills.{node_fill}
-use Rattle.updates.specs.Pieces.{nth_node, word_of}
+use Rattle.updates.specs.Pieces.{nth_node, top_of, plan_over, word_of}
 
 -- Between its SCXs
 
@@ -65,7 +69,7 @@ HasNodesFor _ left = ⊥
 abbrev pub AreUsable : Call → History → List Snap → Type 0
 AreUsable c h snaps = (i : ℕ) → i < length snaps → (moment : History) × IsUsable c.layout h (snap_at snaps i) moment
 
--- these of the words loaded are what the node holds
+-- the word that was loaded, if it was, is what the node holds
 abbrev pub IsLoaded : Option ℕ → ℕ → Type 0
 IsLoaded None v = Unit {0}
 IsLoaded (Some w) v = w ≡ v
@@ -100,14 +104,14 @@ abbrev pub AreInOrder : Need → Nodes → Type 0
 AreInOrder Three ns = (ns.second.0 ≡ suc ns.first.0) × (ns.third.0 ≡ suc ns.second.0)
 AreInOrder _ ns = Unit {0}
 
--- the last of them
-abbrev pub top_of : Need → Nodes → ℕ
-top_of Three ns = ns.third.0
-top_of _ ns = ns.first.0
-
 -- what the edit says of them, by their numbers
 abbrev pub pieces_by : (Nth → Piece) → Nodes → ℕ → Piece
 pieces_by p ns n = cond (eqb n ns.first.0) (p First) (cond (eqb n ns.second.0) (p Second) (p Third))
+
+-- this node is fresh, and holds what the piece says
+pub record HoldsPiece (c : Call) (h : History) (n : ℕ) (p : Piece) : Type 0 where
+  pub fresh : IsFresh c.layout c.pass h n
+  pub words : HoldsWords h n p (IsPieceWord p)
 
 module _ {E : Type 0} (e : EditMeaning E) where
   -- each snapshot is of the node that the edit has named behind those before it
@@ -120,6 +124,23 @@ module _ {E : Type 0} (e : EditMeaning E) where
     pub found : HasFoundLeaf c h (edit_key (e.edit ed)) f
     pub usable : AreUsable c h snaps
     pub seen : AreSeen ed f snaps
+
+  -- all is looked at, all that the edit wants is loaded, and its fresh nodes hold what they are to
+  pub record HasFilledAll (c : Call) (h : History) (ed : E) (f : Found) (snaps : List Snap) (ns : Nodes) (ld : Loaded) : Type 0 where
+    pub looked : HasLooked c h ed f snaps
+    pub enough : e.looks ed f snaps ≡ Enough
+    pub in_order : AreInOrder (e.needs ed f) ns
+    pub loaded : AreLoaded (value h) (e.copies ed f snaps).0 ld
+    pub done : (i : Nth) → IsNeeded (e.needs ed f) i → e.wants ed f snaps ld i ≡ None
+    pub holds : (i : Nth) → IsNeeded (e.needs ed f) i → HoldsPiece c h (nth_node ns i).0 (e.pieces ed f snaps ns ld i)
+
+  -- the update covers all that was looked at, finalizes all but the first, and puts the last fresh
+  -- node into a field of that
+  pub record IsUpdateFor (ed : E) (f : Found) (snaps : List Snap) (ns : Nodes) (u : Update) : Type 0 where
+    pub covers : u.snaps ≡ snaps
+    pub plan : u.plan.0 ≡ plan_over (length snaps) (e.side ed f)
+    pub old : u.old ≡ child_of (snap_at snaps 0) (e.side ed f)
+    pub fresh : u.fresh.0 ≡ top_of (e.needs ed f) ns
 
   -- what each fresh node is to hold
   abbrev pub piece : UpdateRun E → Found → ℕ → Piece
@@ -187,6 +208,10 @@ module _ {E : Type 0} (e : EditMeaning E) where
     pub fill : IsNodeFill part
     pub part_is : IsPieceWord (piece m f (nth_node m.nodes nth).0) part
 
+  -- that word is filled, as those before it
+  abbrev pub IsFilledUpTo : UpdateRun E → Call → History → Found → Nth → NodeWord → Type 0
+  IsFilledUpTo m c h f nth part = Fills m c h f nth part × HoldsWords h (nth_node m.nodes nth).0 (piece m f (nth_node m.nodes nth).0) (IsUpTo part) × IsTakenNode h (nth_node m.nodes nth).0
+
   -- a step of its SCX, which has the fresh nodes and an SCX-record in hand
   pub record Scxs (m : UpdateRun E) (c : Call) (h : History) (f : Found) (scx : ScxRun) (begin : History) : Type 0 where
     pub run : IsTreeRun c.layout h
@@ -200,6 +225,8 @@ module _ {E : Type 0} (e : EditMeaning E) where
     pub own : IsOwnNode c.layout c.pass scx.update.fresh.0
     pub own_scx : IsOwnScx c.layout c.pass scx.scx.0
     pub over : AreFinished c.layout c.pass scx.scx.0 h
+    -- it makes the edit, if it makes any
+    pub tracks : Tracks c.layout c.pass h (job_of scx) (e.edit m.edit)
 
   -- the walk is to the edit's key, and the pass is at rest
   pub record Walks (m : UpdateRun E) (c : Call) (h : History) (key : ℕ) : Type 0 where
@@ -226,7 +253,7 @@ module _ {E : Type 0} (e : EditMeaning E) where
   UpdateIsToldAt m c h v (Walk walk) = Walks m c h walk.key × WalkIsReady walk c h (Some v)
   UpdateIsToldAt m c h v (Look f llx) = (begin : History) × Looks m c h f llx begin × LlxIsReady TreeAllows llx (from c begin) h (Some v)
   UpdateIsToldAt m c h v (Load f nth part) = Loads m c h f nth part × (value h (node (copied m f) part) ≡ v)
-  UpdateIsToldAt m c h v (Fill f nth part) = Fills m c h f nth part × HoldsWords h (nth_node m.nodes nth).0 (piece m f (nth_node m.nodes nth).0) (IsUpTo part) × IsTakenNode h (nth_node m.nodes nth).0
+  UpdateIsToldAt m c h v (Fill f nth part) = IsFilledUpTo m c h f nth part
   UpdateIsToldAt m c h v (Scx f scx) = (begin : History) × Scxs m c h f scx begin × ScxIsReady TreeAllows scx (from c begin) h (Some v)
 
   -- it may begin a try
@@ -266,6 +293,38 @@ module _ {E : Type 0} (e : EditMeaning E) where
     pub may : FieldMay part (IsForField c.layout h m.nodes.first.0 (top m f) (word_of (piece m f (nth_node m.nodes nth).0) part))
     pub words : HoldsWords h (nth_node m.nodes nth).0 (piece m f (nth_node m.nodes nth).0) (IsBefore part)
 
-  -- it waits for the step that it asks for
+  -- it may begin its SCX: all its fresh nodes are full
+  pub record CanScx (m : UpdateRun E) (c : Call) (h : History) (f : Found) : Type 0 where
+    pub run : IsTreeRun c.layout h
+    pub since : Extends h c.start
+    pub need : e.needs m.edit f ≢ Nothing
+    pub some : 0 < m.share.scx
+    pub all : HasFilledAll c h m.edit f m.snaps.items m.nodes m.loaded
+    pub full : HasFilledTo c.layout h c.pass m.share m.nodes.first.0 (top m f) (suc (top m f)) (piece m f)
+
+  -- What it answers
+
+  -- the call has made its edit: an SCX of it is done, and the SCX-record has made that edit
+  pub record HasMade (ed : E) (c : Call) (h : History) : Type 0 where
+    pub begin : History
+    pub since : Extends begin c.start
+    pub scx : ScxRun
+    pub done : IsDone (from c begin) h scx
+    pub makes : Makes c.layout h scx.scx.0 (e.edit ed)
+
+  -- of the leaf that was found it tells the value of the key; there was nothing to make, or the edit
+  -- is made
+  pub record IsDoneWith (ed : E) (c : Call) (h : History) (old : Option ℕ) : Type 0 where
+    pub found : Found
+    pub has_found : HasFoundLeaf c h (edit_key (e.edit ed)) found
+    pub told : old ≡ found.value
+    pub made : (e.needs ed found ≡ Nothing) ⊎ HasMade ed c h
+
+  -- what its answer says
+  abbrev pub UpdateAnswers : UpdateRun E → Call → History → Updated → Type 0
+  UpdateAnswers m c h (Done old) = IsDoneWith m.edit c h old
+  UpdateAnswers m c h _ = Unit {0}
+
+  -- it waits for the step that it asks for, or its answer is right
   abbrev pub UpdateTurn : Call → History → UpdateRun E → Turn Updated → Type 0
-  UpdateTurn c h m turn = MatchTurn turn (UpdateWaits m c h) (λ a. Unit {0})
+  UpdateTurn c h m turn = MatchTurn turn (UpdateWaits m c h) (UpdateAnswers m c h)

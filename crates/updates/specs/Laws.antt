@@ -3,3 +3,4 @@ pub mod Hand
 pub mod HandScx
 pub mod Kept
 pub mod Update
+pub mod Opened

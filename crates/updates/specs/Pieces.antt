@@ -1,12 +1,16 @@
 -- What fresh nodes are to hold.
-use Rattle.std.specs.Prelude.{ℕ, ◌+◌, ◌-◌, ◌%◌, ◌^◌, min, Bool, true, false, Option, Some, None}
+use Rattle.std.specs.Prelude.{ℕ, ◌+◌, ◌*◌, ◌-◌, ◌%◌, ◌^◌, min, ltb, Bool, true, false, List, [], ◌∷◌, Option, Some, None}
+use Rattle.arena.specs.declared.word.Side.{Side}
 use Rattle.arena.specs.declared.number.NodeNo.{NodeNo}
 use Rattle.arena.specs.declared.word.Side.TheVariants.{Left, Right}
 use Rattle.arena.specs.declared.word.NodeWord.{NodeWord}
 use Rattle.arena.specs.declared.word.NodeWord.TheVariants.{Head, Key, Value, Child}
 use Rattle.arena.specs.Heads.{head_word}
+use Rattle.arena.specs.ScxRecords.{side_no, removed_bits}
 use Rattle.arena.specs.Share.{Remaining}
 use Rattle.updates.specs.declared.edit.Loaded.{Loaded}
+use Rattle.updates.specs.declared.edit.Need.{Need}
+use Rattle.updates.specs.declared.edit.Need.TheVariants.{Nothing, One, Three}
 use Rattle.updates.specs.declared.edit.Nodes.{Nodes}
 use Rattle.updates.specs.declared.edit.Nth.{Nth}
 use Rattle.updates.specs.declared.edit.Nth.TheVariants.{First, Second, Third}
@@ -51,6 +55,11 @@ nth_node ns First = ns.first
 nth_node ns Second = ns.second
 nth_node ns Third = ns.third
 
+-- the last of so many fresh nodes
+abbrev pub top_of : Need → Nodes → ℕ
+top_of Three ns = ns.third.0
+top_of _ ns = ns.first.0
+
 -- the words that were loaded, with one more
 abbrev pub with_word : Loaded → NodeWord → ℕ → Loaded
 with_word x Head v = record x { head = Some v }
@@ -61,3 +70,23 @@ with_word x _ v = x
 -- what is left of a share once a node is taken
 abbrev pub less_a_node : Remaining → Remaining
 less_a_node left = record left { next_node = left.next_node + 1; nodes = left.nodes - 1 }
+
+-- how many fresh nodes are needed
+abbrev pub many_nodes : Need → ℕ
+many_nodes Nothing = 0
+many_nodes One = 1
+many_nodes Three = 3
+
+-- the place of the fresh node that is filled behind this one
+abbrev pub nth_behind : Need → Nth → Option Nth
+nth_behind Three First = Some Second
+nth_behind Three Second = Some Third
+nth_behind _ _ = None
+
+-- which of so many nodes an update finalizes: all but the first
+abbrev pub all_but_first : ℕ → List Bool
+all_but_first n = false ∷ ltb 1 n ∷ ltb 2 n ∷ ltb 3 n ∷ []
+
+-- the plan word of an update of so many nodes that changes the first one's field on this side
+abbrev pub plan_over : ℕ → Side → ℕ
+plan_over n side = n + 8 * removed_bits (all_but_first n) + 128 * 0 + 512 * side_no side

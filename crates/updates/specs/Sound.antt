@@ -1,25 +1,32 @@
--- What the laws of updates need of an edit, beside its bounds.
-use Rattle.std.specs.Prelude.{◌≡◌, ◌≢◌, ℕ, ◌<◌, List, Some}
+-- The laws of an edit.
+use Rattle.std.specs.Prelude.{◌≡◌, ◌≢◌, ◌⊎◌, ℕ, ◌<◌, List, [], Some}
 use Rattle.arena.specs.declared.number.NodeNo.{NodeNo}
 use Rattle.arena.specs.declared.word.NodeWord.{NodeWord}
-use Rattle.arena.specs.Fills.{IsNamed}
+use Rattle.arena.specs.declared.word.NodeWord.TheVariants.{Child}
+use Rattle.arena.specs.declared.word.Side.{Side}
+use Rattle.arena.specs.Fills.{IsInField, IsNamed}
 use Rattle.arena.specs.History.{History}
 use Rattle.arena.specs.Layout.{all_nodes}
 use Rattle.arena.specs.Machines.{Call}
+use Rattle.histories.specs.Descriptor.{Descriptor}
 use Rattle.prims.specs.Llx.Known.{IsOpened}
+use Rattle.prims.specs.Scx.Known.{Job, Says}
+use Rattle.prims.specs.Snaps.{AreDistinct}
 use Rattle.spelling.specs.Runs.{IsTreeRun}
 use Rattle.updates.specs.declared.edit.Look.TheVariants.{At, Enough}
 use Rattle.updates.specs.declared.edit.Need.TheVariants.{Nothing}
 use Rattle.arena.specs.Lawful.{IsSettled}
 use Rattle.arena.specs.Words.{node}
 use Rattle.prims.specs.declared.snap.Snap.{Snap}
+use Rattle.template.specs.Promises.{IsPromised}
 use Rattle.template.specs.declared.walk.Found.{Found}
 use Rattle.updates.specs.declared.edit.Loaded.{Loaded}
 use Rattle.updates.specs.declared.edit.Nodes.{Nodes}
 use Rattle.updates.specs.declared.edit.Nth.{Nth}
-use Rattle.updates.specs.Edits.{EditMeaning}
-use Rattle.updates.specs.Known.{ComesBefore, HasLooked}
-use Rattle.updates.specs.Pieces.{with_word}
+use Rattle.updates.specs.Edits.{EditMeaning, EditBounds}
+use Rattle.updates.specs.Known.{ComesBefore, IsNeeded, HasLooked, HasFilledAll, IsUpdateFor}
+use Rattle.updates.specs.Laws.Hand.{IsPieceWord}
+use Rattle.updates.specs.Pieces.{nth_node, with_word, word_of}
 
 -- what an edit looks at an LLX may look at, and what it copies every pass may know
 pub record LooksWell {E : Type 0} (m : EditMeaning E) : Type 0 where
@@ -32,3 +39,23 @@ pub record LoadsWell {E : Type 0} (m : EditMeaning E) : Type 0 where
   pub settled : (e : E) (f : Found) (snaps : List Snap) (ld : Loaded) (nth : Nth) (part : NodeWord) → m.wants e f snaps ld nth ≡ Some part → (n : ℕ) → IsSettled (node n part)
   pub steady_wants : (e : E) (f : Found) (snaps : List Snap) (ld : Loaded) (nth : Nth) (part : NodeWord) → m.wants e f snaps ld nth ≡ Some part → (v : ℕ) (i : Nth) → ComesBefore i nth → m.wants e f snaps (with_word ld part v) i ≡ m.wants e f snaps ld i
   pub steady_pieces : (e : E) (f : Found) (snaps : List Snap) (ld : Loaded) (nth : Nth) (part : NodeWord) → m.wants e f snaps ld nth ≡ Some part → (v : ℕ) (i : Nth) → ComesBefore i nth → (ns : Nodes) → m.pieces e f snaps ns (with_word ld part v) i ≡ m.pieces e f snaps ns ld i
+
+-- a field of its fresh nodes is to hold a fresh node of a place before, or a node that a field has
+-- held
+pub record FillsWell {E : Type 0} (m : EditMeaning E) : Type 0 where
+  pub fields : (e : E) (c : Call) (h : History) (f : Found) (snaps : List Snap) (ns : Nodes) (ld : Loaded) (nth : Nth) (side : Side) → IsTreeRun c.layout h → HasLooked m c h e f snaps → m.looks e f snaps ≡ Enough → IsNeeded (m.needs e f) nth → IsPieceWord (m.pieces e f snaps ns ld nth) (Child side)
+      → ((i : Nth) × ComesBefore i nth × (word_of (m.pieces e f snaps ns ld nth) (Child side) ≡ (nth_node ns i).0)) ⊎ IsInField c.layout h (word_of (m.pieces e f snaps ns ld nth) (Child side))
+
+-- what an edit looks at are nodes apart, one at least, and what it makes of them is its edit
+pub record MakesWell {E : Type 0} (m : EditMeaning E) : Type 0 where
+  pub some : (e : E) (f : Found) → m.looks e f [] ≢ Enough
+  pub distinct : (e : E) (c : Call) (h : History) (f : Found) (snaps : List Snap) → IsTreeRun c.layout h → HasLooked m c h e f snaps → m.looks e f snaps ≡ Enough → AreDistinct snaps
+  pub promised : (e : E) (c : Call) (h : History) (f : Found) (snaps : List Snap) (ns : Nodes) (ld : Loaded) (j : Job) (d : Descriptor) → IsTreeRun c.layout h → m.needs e f ≢ Nothing → HasFilledAll m c h e f snaps ns ld → IsUpdateFor m e f snaps ns j.update → Says d j → IsPromised c.layout c.pass h j.scx.0 d (m.edit e)
+
+-- what the machine of an edit needs of it
+pub record EditLaws {E : Type 0} (m : EditMeaning E) : Type 0 where
+  pub bounds : EditBounds m
+  pub looks : LooksWell m
+  pub loads : LoadsWell m
+  pub fills : FillsWell m
+  pub makes : MakesWell m

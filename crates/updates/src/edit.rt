@@ -1,7 +1,8 @@
 //! Edits of the tree, as data for the machine that makes them.
 ghost use Rattle.std.specs.Prelude.{◌≡◌};
 ghost use Rattle.spelling.specs.OrderedMap.{edit_key};
-ghost use Rattle.updates.specs.Edits.{EditMeaning, EditLaws};
+ghost use Rattle.updates.specs.Edits.{EditMeaning};
+ghost use Rattle.updates.specs.Sound.{EditLaws};
 
 use arena::{Head, NodeNo, NodeWord, ScxNo, Side};
 use prims::Snap;
@@ -14,6 +15,33 @@ pub enum Need {
     Nothing,
     One,
     Three,
+}
+
+impl Need {
+    ghost use Rattle.std.specs.Prelude.{◌≡◌};
+    ghost use Rattle.updates.specs.Pieces.{many_nodes, nth_behind};
+
+    /// How many that are.
+    pub fn many(self) -> u32
+        ensures { result ≡ many_nodes self }
+    {
+        match self {
+            Need::Nothing => 0,
+            Need::One => 1,
+            Need::Three => 3,
+        }
+    }
+
+    /// The place behind this one, if so many fresh nodes have one there.
+    pub fn behind(self, nth: Nth) -> Option<Nth>
+        ensures { result ≡ nth_behind self nth }
+    {
+        match (self, nth) {
+            (Need::Three, Nth::First) => Some(Nth::Second),
+            (Need::Three, Nth::Second) => Some(Nth::Third),
+            _ => None,
+        }
+    }
 }
 
 /// What an edit looks at next.
@@ -113,7 +141,17 @@ pub struct Nodes {
 
 impl Nodes {
     ghost use Rattle.std.specs.Prelude.{◌≡◌};
-    ghost use Rattle.updates.specs.Pieces.{nth_node};
+    ghost use Rattle.updates.specs.Pieces.{nth_node, top_of};
+
+    /// The last of so many.
+    pub fn last(&self, need: Need) -> NodeNo
+        ensures { result.0 ≡ top_of need self.now }
+    {
+        match need {
+            Need::Three => self.third,
+            _ => self.first,
+        }
+    }
 
     /// One of them.
     pub fn at(&self, nth: Nth) -> NodeNo
@@ -202,7 +240,8 @@ pub trait Edit {
     ) -> Piece
         ensures { result ≡ means.pieces self.now found.now snaps.now nodes.now loaded.now nth };
 
-    /// How many nodes it looks at, and how many steps its loads and fills take.
+    /// How many nodes it looks at and how many steps its loads and fills take; and that what it looks
+    /// at, loads and fills makes its edit.
     ghost laws: { EditLaws means };
 }
 

@@ -117,6 +117,7 @@ impl<E: Edit + Drop> UpdateRun<E> {
     /// Begins a try. The try before it was lost to this SCX-record over this node.
     fn begin_walk(&mut self, node: NodeNo, scx: ScxNo) -> Turn<Updated>
         ensures turn { (c : Call) (h : History) → IsRun TreeAllows c.layout h → Begins E.means self.old c h → UpdateTurn E.means c h self.new result }
+        ensures begins { (c : Call) (h : History) → Begins E.means self.old c h → MatchTurn result (λ _. Unit {0}) (λ _. ⊥) }
         ensures same { (self.new.edit ≡ self.old.edit) × (self.new.call ≡ self.old.call) }
         ensures nearer { (nodes : ℕ) → IsNearer E.means self.new nodes result (self.old.tries * try_left E.means nodes + try_left E.means nodes) }
     {
@@ -145,6 +146,7 @@ impl<E: Edit + Drop> UpdateRun<E> {
 
     /// Goes on with what the last step of the walk found.
     fn walk_on(&mut self, mut walk: WalkRun, got: Option<u64>) -> Turn<Updated>
+        ensures turn { (c : Call) (h : History) → IsRun TreeAllows c.layout h → Walks E.means self.old c h walk.key → WalkIsReady walk c h got → UpdateTurn E.means c h self.new result }
         ensures same { (self.new.edit ≡ self.old.edit) × (self.new.call ≡ self.old.call) }
         ensures nearer { (nodes : ℕ) → WalkFits walk got nodes → IsNearer E.means self.new nodes result (self.old.tries * try_left E.means nodes + (walk_left walk.at nodes + (64 * E.means.most_looks + works_behind E.means First + 39))) }
     {
@@ -157,24 +159,34 @@ impl<E: Edit + Drop> UpdateRun<E> {
         }
     }
 
-    /// Goes on behind the walk, if the share has what the edit needs.
-    fn test_share(&mut self, found: Found) -> Turn<Updated>
-        ensures same { (self.new.edit ≡ self.old.edit) × (self.new.call ≡ self.old.call) }
-        ensures nearer { (nodes : ℕ) → IsNearer E.means self.new nodes result (self.old.tries * try_left E.means nodes + (64 * E.means.most_looks + works_behind E.means First + 39)) }
+    /// What the share lacks of so many fresh nodes and an SCX-record.
+    fn lacks(&self, need: Need) -> Option<Full>
+        ensures { need ≢ Need.Nothing → IfNone result (HasNodesFor need self.now.share) }
     {
-        let need = match self.edit.need(&found) {
-            Need::Nothing => return Turn::Done(Updated::Done { old: found.value }),
-            Need::One => 1,
-            Need::Three => 3,
-        };
         let (nodes, scx) = self.share.left();
-        if nodes < need {
+        if nodes < need.many() {
             let what = Resource::Nodes;
-            return Turn::Done(Updated::Full(Full { what, left: nodes }));
+            return Some(Full { what, left: nodes });
         }
         if scx == 0 {
             let what = Resource::Scx;
-            return Turn::Done(Updated::Full(Full { what, left: scx }));
+            return Some(Full { what, left: scx });
+        }
+        None
+    }
+
+    /// Goes on behind the walk, if the share has what the edit needs.
+    fn test_share(&mut self, found: Found) -> Turn<Updated>
+        ensures turn { (c : Call) (h : History) → IsRun TreeAllows c.layout h → Begins E.means self.old c h → HasFoundLeaf c h (edit_key (E.means.edit self.old.edit)) found → UpdateTurn E.means c h self.new result }
+        ensures same { (self.new.edit ≡ self.old.edit) × (self.new.call ≡ self.old.call) }
+        ensures nearer { (nodes : ℕ) → IsNearer E.means self.new nodes result (self.old.tries * try_left E.means nodes + (64 * E.means.most_looks + works_behind E.means First + 39)) }
+    {
+        let need = self.edit.need(&found);
+        if need == Need::Nothing {
+            return Turn::Done(Updated::Done { old: found.value });
+        }
+        if let Some(full) = self.lacks(need) {
+            return Turn::Done(Updated::Full(full));
         }
         self.snaps.clear();
         self.look(found)
@@ -182,7 +194,7 @@ impl<E: Edit + Drop> UpdateRun<E> {
 
     /// Looks at the next node that the edit names.
     fn look(&mut self, found: Found) -> Turn<Updated>
-        ensures turn { (c : Call) (h : History) → IsRun TreeAllows c.layout h → LooksWell E.means → LoadsWell E.means → CanLook E.means self.old c h found → UpdateTurn E.means c h self.new result }
+        ensures turn { (c : Call) (h : History) → IsRun TreeAllows c.layout h → CanLook E.means self.old c h found → UpdateTurn E.means c h self.new result }
         ensures same { (self.new.edit ≡ self.old.edit) × (self.new.call ≡ self.old.call) }
         ensures nearer { (nodes : ℕ) → IsNearer E.means self.new nodes result (self.old.tries * try_left E.means nodes + (64 * (E.means.most_looks - length self.old.snaps.items) + works_behind E.means First + 39)) }
     {
@@ -214,7 +226,7 @@ impl<E: Edit + Drop> UpdateRun<E> {
 
     /// Goes on with what the last step of an LLX found.
     fn look_on(&mut self, found: Found, mut llx: LlxRun, got: Option<u64>) -> Turn<Updated>
-        ensures turn { (c : Call) (h begin : History) → IsRun TreeAllows c.layout h → LooksWell E.means → LoadsWell E.means → Looks E.means self.old c h found llx begin → LlxIsReady TreeAllows llx (from c begin) h got → UpdateTurn E.means c h self.new result }
+        ensures turn { (c : Call) (h begin : History) → IsRun TreeAllows c.layout h → Looks E.means self.old c h found llx begin → LlxIsReady TreeAllows llx (from c begin) h got → UpdateTurn E.means c h self.new result }
         ensures same { (self.new.edit ≡ self.old.edit) × (self.new.call ≡ self.old.call) }
         ensures nearer { (nodes : ℕ) → IsNearer E.means self.new nodes result (self.old.tries * try_left E.means nodes + (llx_left llx.at + 64 * (E.means.most_looks - 1 - length self.old.snaps.items) + works_behind E.means First + 39)) }
     {
@@ -232,7 +244,7 @@ impl<E: Edit + Drop> UpdateRun<E> {
 
     /// Keeps a snapshot, and goes on behind it.
     fn looked(&mut self, found: Found, snap: Snap) -> Turn<Updated>
-        ensures turn { (c : Call) (h : History) → IsRun TreeAllows c.layout h → LooksWell E.means → LoadsWell E.means → CanLook E.means self.old c h found → E.means.looks self.old.edit found self.old.snaps.items ≡ Look.At snap.node → IsSnapshot c.layout h snap.node.0 snap → UpdateTurn E.means c h self.new result }
+        ensures turn { (c : Call) (h : History) → IsRun TreeAllows c.layout h → CanLook E.means self.old c h found → E.means.looks self.old.edit found self.old.snaps.items ≡ Look.At snap.node → IsSnapshot c.layout h snap.node.0 snap → UpdateTurn E.means c h self.new result }
         ensures same { (self.new.edit ≡ self.old.edit) × (self.new.call ≡ self.old.call) }
         ensures nearer { (nodes : ℕ) → IsNearer E.means self.new nodes result (self.old.tries * try_left E.means nodes + (64 * (E.means.most_looks - 1 - length self.old.snaps.items) + works_behind E.means First + 39)) }
     {
@@ -242,7 +254,7 @@ impl<E: Edit + Drop> UpdateRun<E> {
 
     /// Takes the fresh nodes, once all snapshots are there.
     fn begin_work(&mut self, found: Found) -> Turn<Updated>
-        ensures turn { (c : Call) (h : History) → IsRun TreeAllows c.layout h → LooksWell E.means → LoadsWell E.means → CanLook E.means self.old c h found → E.means.looks self.old.edit found self.old.snaps.items ≡ Look.Enough → UpdateTurn E.means c h self.new result }
+        ensures turn { (c : Call) (h : History) → IsRun TreeAllows c.layout h → CanLook E.means self.old c h found → E.means.looks self.old.edit found self.old.snaps.items ≡ Look.Enough → UpdateTurn E.means c h self.new result }
         ensures same { (self.new.edit ≡ self.old.edit) × (self.new.call ≡ self.old.call) }
         ensures nearer { (nodes : ℕ) → IsNearer E.means self.new nodes result (self.old.tries * try_left E.means nodes + (works_behind E.means First + 39)) }
     {
@@ -260,7 +272,7 @@ impl<E: Edit + Drop> UpdateRun<E> {
 
     /// Takes one fresh node.
     fn begin_one(&mut self, found: Found) -> Turn<Updated>
-        ensures turn { (c : Call) (h : History) → IsRun TreeAllows c.layout h → LooksWell E.means → LoadsWell E.means → CanLook E.means self.old c h found → E.means.looks self.old.edit found self.old.snaps.items ≡ Look.Enough → E.means.needs self.old.edit found ≡ Need.One → self.old.loaded ≡ nothing_loaded → UpdateTurn E.means c h self.new result }
+        ensures turn { (c : Call) (h : History) → IsRun TreeAllows c.layout h → CanLook E.means self.old c h found → E.means.looks self.old.edit found self.old.snaps.items ≡ Look.Enough → E.means.needs self.old.edit found ≡ Need.One → self.old.loaded ≡ nothing_loaded → UpdateTurn E.means c h self.new result }
         ensures same { (self.new.edit ≡ self.old.edit) × (self.new.call ≡ self.old.call) }
         ensures nearer { (nodes : ℕ) → IsNearer E.means self.new nodes result (self.old.tries * try_left E.means nodes + (works_behind E.means First + 39)) }
     {
@@ -275,7 +287,7 @@ impl<E: Edit + Drop> UpdateRun<E> {
 
     /// Takes three.
     fn begin_three(&mut self, found: Found) -> Turn<Updated>
-        ensures turn { (c : Call) (h : History) → IsRun TreeAllows c.layout h → LooksWell E.means → LoadsWell E.means → CanLook E.means self.old c h found → E.means.looks self.old.edit found self.old.snaps.items ≡ Look.Enough → E.means.needs self.old.edit found ≡ Need.Three → self.old.loaded ≡ nothing_loaded → UpdateTurn E.means c h self.new result }
+        ensures turn { (c : Call) (h : History) → IsRun TreeAllows c.layout h → CanLook E.means self.old c h found → E.means.looks self.old.edit found self.old.snaps.items ≡ Look.Enough → E.means.needs self.old.edit found ≡ Need.Three → self.old.loaded ≡ nothing_loaded → UpdateTurn E.means c h self.new result }
         ensures same { (self.new.edit ≡ self.old.edit) × (self.new.call ≡ self.old.call) }
         ensures nearer { (nodes : ℕ) → IsNearer E.means self.new nodes result (self.old.tries * try_left E.means nodes + (works_behind E.means First + 39)) }
     {
@@ -304,7 +316,7 @@ impl<E: Edit + Drop> UpdateRun<E> {
 
     /// Loads the next word for the fresh node of this place, or begins to fill it.
     fn load(&mut self, found: Found, nth: Nth) -> Turn<Updated>
-        ensures turn { (c : Call) (h : History) → IsRun TreeAllows c.layout h → LoadsWell E.means → CanLoad E.means self.old c h found nth → UpdateTurn E.means c h self.new result }
+        ensures turn { (c : Call) (h : History) → IsRun TreeAllows c.layout h → CanLoad E.means self.old c h found nth → UpdateTurn E.means c h self.new result }
         ensures same { (self.new.edit ≡ self.old.edit) × (self.new.call ≡ self.old.call) }
         ensures nearer { (nodes : ℕ) → IsNearer E.means self.new nodes result (self.old.tries * try_left E.means nodes + (works_left E.means self.old found nth + 39)) }
     {
@@ -323,7 +335,7 @@ impl<E: Edit + Drop> UpdateRun<E> {
 
     /// Goes on with what that load has told.
     fn load_on(&mut self, found: Found, nth: Nth, part: NodeWord, told: u64) -> Turn<Updated>
-        ensures turn { (c : Call) (h : History) → IsRun TreeAllows c.layout h → LoadsWell E.means → Loads E.means self.old c h found nth part → value h (node (copied E.means self.old found) part) ≡ told → UpdateTurn E.means c h self.new result }
+        ensures turn { (c : Call) (h : History) → IsRun TreeAllows c.layout h → Loads E.means self.old c h found nth part → value h (node (copied E.means self.old found) part) ≡ told → UpdateTurn E.means c h self.new result }
         ensures same { (self.new.edit ≡ self.old.edit) × (self.new.call ≡ self.old.call) }
         ensures nearer { (nodes : ℕ) → IsWanted E.means self.old found nth part → IsNearer E.means self.new nodes result (self.old.tries * try_left E.means nodes + (works_left E.means self.old found nth - 1 + 39)) }
     {
@@ -351,6 +363,7 @@ impl<E: Edit + Drop> UpdateRun<E> {
 
     /// Goes on behind that fill: with the next word, the next node, or the SCX.
     fn fill_on(&mut self, found: Found, nth: Nth, part: NodeWord) -> Turn<Updated>
+        ensures turn { (c : Call) (h : History) → IsRun TreeAllows c.layout h → IsFilledUpTo E.means self.old c h found nth part → UpdateTurn E.means c h self.new result }
         ensures same { (self.new.edit ≡ self.old.edit) × (self.new.call ≡ self.old.call) }
         ensures nearer { (nodes : ℕ) → IsNearer E.means self.new nodes result (self.old.tries * try_left E.means nodes + (fills_left E.means self.old found nth part + 39)) }
     {
@@ -361,37 +374,37 @@ impl<E: Edit + Drop> UpdateRun<E> {
         if let Some(next) = piece.behind(part) {
             return self.fill(found, nth, next);
         }
-        if self.edit.need(&found) == Need::Three {
-            match nth {
-                Nth::First => return self.load(found, Nth::Second),
-                Nth::Second => return self.load(found, Nth::Third),
-                Nth::Third => {}
-            }
+        let need = self.edit.need(&found);
+        match need.behind(nth) {
+            Some(after) => self.load(found, after),
+            None => self.begin_scx(found),
         }
-        self.begin_scx(found)
     }
 
     /// What its SCX is to do: it covers all that was looked at and finalizes all but the first, of
     /// which a field gets the last fresh node.
-    fn update(&self, found: &Found) -> Update {
+    fn update(&self, found: &Found) -> Update
+        ensures snaps { result.snaps ≡ self.now.snaps.items }
+        ensures few { length self.now.snaps.items ≤ 4 }
+        ensures plan { result.plan.0 ≡ plan_over (length self.now.snaps.items) (E.means.side self.now.edit found.now) }
+        ensures old { result.old ≡ child_of (snap_at self.now.snaps.items 0) (E.means.side self.now.edit found.now) }
+        ensures fresh { result.fresh.0 ≡ top_of (E.means.needs self.now.edit found.now) self.now.nodes }
+    {
         let side = self.edit.side(found);
         let many = self.snaps.len();
         let removed = [false, 1 < many, 2 < many, 3 < many];
         let snaps = Snaps::new(self.snaps.as_slice());
-        let fresh = match self.edit.need(found) {
-            Need::Three => self.nodes.third,
-            _ => self.nodes.first,
-        };
         Update {
             snaps,
             plan: Plan::new(many, removed, MemberIndex::First, side),
             old: snaps.at(MemberIndex::First).child(side),
-            fresh,
+            fresh: self.nodes.last(self.edit.need(found)),
         }
     }
 
     /// Begins the SCX.
     fn begin_scx(&mut self, found: Found) -> Turn<Updated>
+        ensures turn { (c : Call) (h : History) → IsRun TreeAllows c.layout h → CanScx E.means self.old c h found → UpdateTurn E.means c h self.new result }
         ensures same { (self.new.edit ≡ self.old.edit) × (self.new.call ≡ self.old.call) }
         ensures nearer { (nodes : ℕ) → IsNearer E.means self.new nodes result (self.old.tries * try_left E.means nodes + 39) }
     {
@@ -431,6 +444,8 @@ impl<E: Edit + Drop> UpdateRun<E> {
 
     /// Goes on with what the last step found; with nothing at the first call, which asks for a step.
     pub fn step(&mut self, got: Option<u64>) -> Turn<Updated>
+        ensures turn { (c : Call) (h : History) → IsRun TreeAllows c.layout h → UpdateIsReady E.means self.old c h got → UpdateTurn E.means c h self.new result }
+        ensures begins { got ≡ None → (c : Call) (h : History) → UpdateIsReady E.means self.old c h None → MatchTurn result (λ _. Unit {0}) (λ _. ⊥) }
         ensures same { (self.new.edit ≡ self.old.edit) × (self.new.call ≡ self.old.call) }
         ensures nearer { (nodes : ℕ) → UpdateFits E.means self.old got nodes → IsNearer E.means self.new nodes result (update_left E.means self.old nodes) }
     {
@@ -446,6 +461,13 @@ impl<E: Edit + Drop> UpdateRun<E> {
         }
     }
 
+    ghost use Rattle.std.specs.Prelude.{◌≢◌, IfNone, None};
+    ghost use Rattle.spelling.specs.OrderedMap.{edit_key};
+    ghost use Rattle.template.specs.FoundLeaf.{HasFoundLeaf};
+    ghost use Rattle.template.specs.Walk.Known.{WalkIsReady};
+    ghost use Rattle.prims.specs.Snap.{child_of, snap_at};
+    ghost use Rattle.updates.specs.Known.{HasNodesFor, Walks, IsFilledUpTo, CanScx, UpdateIsReady};
+    ghost use Rattle.updates.specs.Pieces.{plan_over, top_of};
     ghost use Rattle.updates.specs.Steps.{IsWanted, UpdateFits, fills_left};
     ghost use Rattle.updates.specs.Pieces.{less_a_node};
     ghost use Rattle.arena.specs.History.{History, value};
@@ -454,7 +476,41 @@ impl<E: Edit + Drop> UpdateRun<E> {
     ghost use Rattle.prims.specs.Scx.Known.{ScxIsReady};
     ghost use Rattle.spelling.specs.TreeShape.{TreeAllows};
     ghost use Rattle.updates.specs.Known.{Begins, CanLook, Looks, nothing_loaded, CanLoad, CanFill, Loads, Scxs, UpdateTurn, copied};
-    ghost use Rattle.updates.specs.Sound.{LoadsWell, LooksWell};
     ghost use Rattle.arena.specs.Words.{node};
     ghost use Rattle.updates.specs.Laws.HandScx.{from};
+}
+
+impl<E: Edit + Drop> Machine<Tree> for UpdateRun<E> {
+    type Answer = Updated;
+
+    ghost use Rattle.std.specs.Prelude.{◌≡◌, ℕ};
+    ghost use Rattle.updates.specs.Steps.{update_left, UpdateFits};
+    ghost use Rattle.updates.specs.Known.{UpdateIsReady, UpdateWaits, UpdateAnswers};
+    ghost use Rattle.updates.specs.Laws.Update.{update_keeps, update_lawful, update_made, update_told};
+
+    ghost ready = { UpdateIsReady E.means };
+
+    ghost waits = { UpdateWaits E.means };
+
+    ghost answers = { UpdateAnswers E.means };
+
+    ghost same = { λ old now. (now.edit ≡ old.edit) × (now.call ≡ old.call) };
+
+    ghost left = { update_left E.means };
+
+    ghost fits = { UpdateFits E.means };
+
+    ghost asks_first = { λ _. Unit {0} };
+
+    fn next(&mut self, got: Option<u64>) -> Turn<Updated> {
+        self.step(got)
+    }
+
+    ghost keeps = { update_keeps E.means };
+
+    ghost lawful = { update_lawful E.means };
+
+    ghost made = { update_made E.means };
+
+    ghost told = { update_told E.means };
 }

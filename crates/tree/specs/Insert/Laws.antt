@@ -12,7 +12,7 @@ use Rattle.updates.specs.declared.edit.Nodes.{Nodes}
 use Rattle.updates.specs.declared.edit.Nth.{Nth}
 use Rattle.updates.specs.declared.edit.Nth.TheVariants.{First, Second, Third}
 use Rattle.updates.specs.declared.edit.Piece.TheVariants.{Fork}
-use Rattle.updates.specs.Edits.{EditLaws}
+use Rattle.updates.specs.Edits.{EditBounds}
 use Rattle.updates.specs.Pieces.{with_word, fills_behind}
 use Rattle.tree.specs.Insert.Means.{insert_means, insert_looks, insert_wants, insert_works, insert_pieces, value_if_none, copy_works, is_below}
 
@@ -60,8 +60,8 @@ fill_works e f ld Second d ns = fill_at_second (eqb f.head.class 0) ld.value d
 fill_works e f ld Third d ns = fork_fills (is_below e.key f) f.head.level f.head.class 0 f.key e.key ns.first ns.second
 
 -- an insert looks at two nodes, and makes at most 11 loads and fills
-pub insert_laws : EditLaws insert_means
-insert_laws = record {
+pub insert_bounds : EditBounds insert_means
+insert_bounds = record {
   few_looks = λ e f snaps n d. few_looks f snaps n d;
   small = omega arith;
   few_works = λ e f snaps ld nth. few_works f ld nth;

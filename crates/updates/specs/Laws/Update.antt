@@ -27,7 +27,7 @@ use Rattle.prims.proofs.Lemmas.{llx_fills_not, over_more, share_by_others, share
 use Rattle.spelling.specs.OrderedMap.{edit_key}
 use Rattle.spelling.specs.TreeShape.{TreeAllows}
 use Rattle.template.specs.Walk.Laws.{walk_keeps, walk_lawful, walk_made, walk_told}
-use Rattle.template.proofs.Lemmas.{found_more, walk_fills_not}
+use Rattle.template.proofs.Lemmas.{found_more, tracks_by_others, tracks_by_scx, walk_fills_not}
 use Rattle.template.specs.declared.walk.Found.{Found}
 use Rattle.updates.specs.declared.edit.Nth.{Nth}
 use Rattle.updates.specs.declared.edit.Piece.{Piece}
@@ -89,6 +89,7 @@ module _ {E : Type 0} (e : EditMeaning E) where
     own = x.own;
     own_scx = x.own_scx;
     over = over_more c.layout c.pass scx.scx.0 h r run.lawful (takes_by_others c.layout c.pass scx.scx.0 h r run.lawful other) x.over;
+    tracks = tracks_by_others c.layout c.pass h r (job_of scx) (e.edit m.edit) run.lawful other x.own_scx x.tracks;
   }
 
   kept_at : (m : UpdateRun E) (c : Call) (h : History) (s : Step) (r : Row) (at : UpdateAt) → IsRun TreeAllows c.layout (r ⊳ h) → r.pass.0 ≢ c.pass → UpdateWaitsAt e m c h s at → UpdateWaitsAt e m c (r ⊳ h) s at
@@ -203,6 +204,7 @@ module _ {E : Type 0} (e : EditMeaning E) where
     own = x.own;
     own_scx = x.own_scx;
     over = over_more c.layout c.pass scx.scx.0 h (row_of c s h) run.lawful (λ t own d free. untaken_at TreeAllows (job_of scx) (from c begin) h scx.at s t w d free) x.over;
+    tracks = tracks_by_scx (from c begin) h scx s (e.edit m.edit) run x.run.1 w x.tracks;
   }
 
   made_at : (m : UpdateRun E) (c : Call) (h : History) (s : Step) (v : ℕ) (at : UpdateAt) → IsRun TreeAllows c.layout (row_of c s h ⊳ h) → IsTold s.access (value h s.word) v → UpdateWaitsAt e m c h s at → UpdateIsToldAt e m c (row_of c s h ⊳ h) v at

@@ -15,11 +15,11 @@ pub returns-in-Done-Finalized-clause-nearer : goal.returns-in-Done-Finalized-cla
 returns-in-Done-Finalized-clause-nearer g c nodes = below c.lost.result _ _ _ (c.lost.ensures.nearer nodes) (to_tries _ _)
 
 pub returns-in-Ask-clause-turn : goal.returns-in-Ask-clause-turn
-returns-in-Ask-clause-turn g c d h begin run looks loads x ready = looks_on g.E.Edit.means c.args.self.now c.args.llx c.next.new.self c.args.found begin d h c.next.result x c.next.ensures.same (c.next.ensures.turn (from d begin) h run ready) c.in-Ask.step c.in-Ask.is
+returns-in-Ask-clause-turn g c d h begin run x ready = looks_on g.E.Edit.means c.args.self.now c.args.llx c.next.new.self c.args.found begin d h c.next.result x c.next.ensures.same (c.next.ensures.turn (from d begin) h run ready) c.in-Ask.step c.in-Ask.is
 
 pub returns-in-Done-Snapshot-clause-turn : goal.returns-in-Done-Snapshot-clause-turn
-returns-in-Done-Snapshot-clause-turn g c d h begin run looks loads x ready =
+returns-in-Done-Snapshot-clause-turn g c d h begin run x ready =
     let w = c.next.ensures.turn (from d begin) h run ready in
     let s = snapped g.E.Edit.means c.args.self.now c.args.llx c.next.new.self c.args.found begin d h c.next.result x c.next.ensures.same w c.in-Done-Snapshot.snap (c.in-Done-Snapshot.is ∙ ap (λ a. Done a) c.in-Done-Snapshot.field-0-is) in
-    c.looked.ensures.turn d h run looks loads (can_look g.E.Edit.means c.args.self.now c.args.llx c.next.new.self c.args.found begin d h c.next.result x c.next.ensures.same w)
+    c.looked.ensures.turn d h run (can_look g.E.Edit.means c.args.self.now c.args.llx c.next.new.self c.args.found begin d h c.next.result x c.next.ensures.same w)
     (rw (← c.in-Done-Snapshot.snap-is) at s.0) (rw (← c.in-Done-Snapshot.snap-is) at s.1)

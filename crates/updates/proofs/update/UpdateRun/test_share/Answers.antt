@@ -1,5 +1,18 @@
+use Rattle.std.proofs.Common.{◌≡◌, ◌≢◌, refl, rules, inl}
+use Rattle.updates.specs.declared.edit.Need.TheVariants.{Nothing}
+use Rattle.updates.proofs.Looking.{may_look}
 use Rattle.updates.proofs.Nearer.{below, from_share}
 use Rattle.updates.proofs.update.UpdateRun.test_share.Goals as goal
 
 pub returns-clause-nearer : goal.returns-clause-nearer
 returns-clause-nearer g c nodes = below c.look.result _ _ _ (c.look.ensures.nearer nodes) (from_share _ _ _ _)
+
+pub returns-clause-turn : goal.returns-clause-turn
+returns-clause-turn g c d h run b found =
+    let some : c.need-need.result ≢ Nothing = search rules in
+    c.look.ensures.turn d h run (may_look g.E.Edit.means c.args.self.now _ d h c.args.found refl refl c.clear.ensures b found (rw c.need-need.ensures at (rw c.in_default.is at c.lacks.ensures some)))
+
+pub returns-then-eq-clause-turn : goal.returns-then-eq-clause-turn
+returns-then-eq-clause-turn g c d h run b found =
+    let none : c.need-need.result ≡ Nothing = search rules in
+    record { found = c.args.found; has_found = found; told = refl; made = inl (rw c.need-need.ensures at none) }

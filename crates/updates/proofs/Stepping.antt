@@ -1,0 +1,45 @@
+-- What an update knows as it is told something, by the place where it stands.
+use Rattle.std.proofs.Common.{◌≡◌, ℕ, Option, Some, None, unwrap_or, sym, ◌∙◌, subst}
+use Rattle.arena.specs.declared.word.NodeWord.{NodeWord}
+use Rattle.arena.specs.History.{History, value}
+use Rattle.arena.specs.Machines.{Call}
+use Rattle.arena.specs.Words.{node}
+use Rattle.prims.specs.Llx.Known.{LlxIsReady}
+use Rattle.prims.specs.Scx.Known.{ScxIsReady}
+use Rattle.prims.specs.declared.llx.LlxRun.{LlxRun}
+use Rattle.prims.specs.declared.scx.ScxRun.{ScxRun}
+use Rattle.spelling.specs.TreeShape.{TreeAllows}
+use Rattle.template.specs.Walk.Known.{WalkIsReady}
+use Rattle.template.specs.declared.walk.Found.{Found}
+use Rattle.template.specs.declared.walk.WalkRun.{WalkRun}
+use Rattle.updates.specs.declared.edit.Nth.{Nth}
+use Rattle.updates.specs.declared.update.UpdateAt.TheVariants.{Start, Walk, Look, Load, Fill, Scx}
+use Rattle.updates.specs.declared.update.UpdateRun.{UpdateRun}
+use Rattle.updates.specs.Edits.{EditMeaning}
+use Rattle.updates.specs.Known.{Begins, Walks, Looks, Loads, Scxs, IsFilledUpTo, UpdateIsToldAt, UpdateIsReady, copied}
+use Rattle.updates.specs.Laws.HandScx.{from}
+
+module _ {E : Type 0} (e : EditMeaning E) (m : UpdateRun E) (c : Call) (h : History) where
+  pub at_start : (got : Option ℕ) → m.at ≡ Start → UpdateIsReady e m c h got → Begins e m c h
+  at_start None is r = r.0
+  at_start (Some v) is r = absurd (subst (λ p. UpdateIsToldAt e m c h v p) is r)
+
+  pub at_walk : (got : Option ℕ) (walk : WalkRun) → m.at ≡ Walk walk → UpdateIsReady e m c h got → Walks e m c h walk.key × WalkIsReady walk c h got
+  at_walk None walk is r = absurd (let d : Walk walk ≡ Start = sym is ∙ r.1 in cc)
+  at_walk (Some v) walk is r = subst (λ p. UpdateIsToldAt e m c h v p) is r
+
+  pub at_look : (got : Option ℕ) (f : Found) (llx : LlxRun) → m.at ≡ Look f llx → UpdateIsReady e m c h got → (begin : History) × Looks e m c h f llx begin × LlxIsReady TreeAllows llx (from c begin) h got
+  at_look None f llx is r = absurd (let d : Look f llx ≡ Start = sym is ∙ r.1 in cc)
+  at_look (Some v) f llx is r = subst (λ p. UpdateIsToldAt e m c h v p) is r
+
+  pub at_load : (got : Option ℕ) (f : Found) (nth : Nth) (part : NodeWord) → m.at ≡ Load f nth part → UpdateIsReady e m c h got → Loads e m c h f nth part × (value h (node (copied e m f) part) ≡ unwrap_or got 0)
+  at_load None f nth part is r = absurd (let d : Load f nth part ≡ Start = sym is ∙ r.1 in cc)
+  at_load (Some v) f nth part is r = subst (λ p. UpdateIsToldAt e m c h v p) is r
+
+  pub at_fill : (got : Option ℕ) (f : Found) (nth : Nth) (part : NodeWord) → m.at ≡ Fill f nth part → UpdateIsReady e m c h got → IsFilledUpTo e m c h f nth part
+  at_fill None f nth part is r = absurd (let d : Fill f nth part ≡ Start = sym is ∙ r.1 in cc)
+  at_fill (Some v) f nth part is r = subst (λ p. UpdateIsToldAt e m c h v p) is r
+
+  pub at_scx : (got : Option ℕ) (f : Found) (scx : ScxRun) → m.at ≡ Scx f scx → UpdateIsReady e m c h got → (begin : History) × Scxs e m c h f scx begin × ScxIsReady TreeAllows scx (from c begin) h got
+  at_scx None f scx is r = absurd (let d : Scx f scx ≡ Start = sym is ∙ r.1 in cc)
+  at_scx (Some v) f scx is r = subst (λ p. UpdateIsToldAt e m c h v p) is r
