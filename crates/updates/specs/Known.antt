@@ -320,8 +320,8 @@ module _ {E : Type 0} (e : EditMeaning E) where
     pub done : IsDone (from c begin) h scx
     pub makes : Makes c.layout h scx.scx.0 (e.edit ed)
 
-  -- of the leaf that was found it tells the value of the key; there was nothing to make, or the edit
-  -- is made
+  -- of the leaf that was found it tells the value of the key; there was nothing to make, or the
+  -- edit is made
   pub record IsDoneWith (ed : E) (c : Call) (h : History) (old : Option ℕ) : Type 0 where
     pub found : Found
     pub has_found : HasFoundLeaf c h (edit_key (e.edit ed)) found
