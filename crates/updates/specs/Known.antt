@@ -1,5 +1,8 @@
 -- When an update may go on, and what it waits for.
 use Rattle.std.specs.Prelude.{◌≡◌, ◌≢◌, ℕ, suc, ◌^◌, ◌<◌, ◌≤◌, ◌⊎◌, eqb, cond, List, length, take, Option, Some, None}
+use Rattle.arena.specs.declared.fault.Full.{Full}
+use Rattle.arena.specs.declared.fault.Resource.{Resource}
+use Rattle.arena.specs.declared.fault.Resource.TheVariants.{Nodes as FreshNodes, Scx as ScxRecords}
 use Rattle.arena.specs.declared.machine.Turn.{Turn}
 use Rattle.arena.specs.declared.step.Step.{Step}
 use Rattle.arena.specs.declared.step.Kind.TheVariants.{LoadSettled}
@@ -40,7 +43,7 @@ use Rattle.updates.specs.declared.edit.Nth.{Nth}
 use Rattle.updates.specs.declared.edit.Nth.TheVariants.{First, Second, Third}
 use Rattle.updates.specs.declared.edit.Piece.{Piece}
 use Rattle.updates.specs.declared.update.Updated.{Updated}
-use Rattle.updates.specs.declared.update.Updated.TheVariants.{Done}
+use Rattle.updates.specs.declared.update.Updated.TheVariants.{Done, Full as FullAnswer}
 use Rattle.updates.specs.declared.update.UpdateAt.{UpdateAt}
 use Rattle.updates.specs.declared.update.UpdateAt.TheVariants.{Start, Walk, Look, Load, Fill, Scx}
 use Rattle.updates.specs.declared.update.UpdateRun.{UpdateRun}
@@ -48,7 +51,7 @@ use Rattle.updates.specs.Edits.{EditMeaning}
 use Rattle.updates.specs.Laws.Hand.{IsBefore, IsUpTo, IsPieceWord, HoldsWords, HasFilledTo, IsForField, FieldMay}
 use Rattle.updates.specs.Laws.HandScx.{from}
 use Rattle.updates.specs.Laws.NodeFills.{node_fill}
-use Rattle.updates.specs.Pieces.{nth_node, top_of, plan_over, word_of}
+use Rattle.updates.specs.Pieces.{many_nodes, nth_node, top_of, plan_over, word_of}
 
 -- Between its SCXs
 
@@ -62,6 +65,11 @@ abbrev pub HasNodesFor : Need → Remaining → Type 0
 HasNodesFor One left = (0 < left.nodes) × (0 < left.scx)
 HasNodesFor Three left = (2 < left.nodes) × (0 < left.scx)
 HasNodesFor _ left = ⊥
+
+-- the share has fewer nodes than are needed; or as many, and no SCX-record. So many are left
+abbrev pub IsShort : Need → Remaining → Resource → ℕ → Type 0
+IsShort need left FreshNodes k = (left.nodes < many_nodes need) × (k ≡ left.nodes)
+IsShort need left ScxRecords k = (many_nodes need ≤ left.nodes) × (left.scx ≡ 0) × (k ≡ 0)
 
 -- What it has found
 
@@ -320,9 +328,17 @@ module _ {E : Type 0} (e : EditMeaning E) where
     pub told : old ≡ found.value
     pub made : (e.needs ed found ≡ Nothing) ⊎ HasMade ed c h
 
+  -- the share has too little left for the edit at the leaf that was found
+  pub record IsFullFor (m : UpdateRun E) (c : Call) (h : History) (full : Full) : Type 0 where
+    pub found : Found
+    pub has_found : HasFoundLeaf c h (edit_key (e.edit m.edit)) found
+    pub needed : e.needs m.edit found ≢ Nothing
+    pub short : IsShort (e.needs m.edit found) m.share full.what full.left
+
   -- what its answer says
   abbrev pub UpdateAnswers : UpdateRun E → Call → History → Updated → Type 0
   UpdateAnswers m c h (Done old) = IsDoneWith m.edit c h old
+  UpdateAnswers m c h (FullAnswer full) = IsFullFor m c h full
   UpdateAnswers m c h _ = Unit {0}
 
   -- it waits for the step that it asks for, or its answer is right

@@ -240,8 +240,8 @@ pub trait Edit {
     ) -> Piece
         ensures { result ≡ means.pieces self.now found.now snaps.now nodes.now loaded.now nth };
 
-    /// How many nodes it looks at and how many steps its loads and fills take; and that what it looks
-    /// at, loads and fills makes its edit.
+    /// How many nodes it looks at and how many steps its loads and fills take; and that what it
+    /// looks at, loads and fills makes its edit.
     ghost laws: { EditLaws means };
 }
 

@@ -161,7 +161,8 @@ impl<E: Edit + Drop> UpdateRun<E> {
 
     /// What the share lacks of so many fresh nodes and an SCX-record.
     fn lacks(&self, need: Need) -> Option<Full>
-        ensures { need ≢ Need.Nothing → IfNone result (HasNodesFor need self.now.share) }
+        ensures enough { need ≢ Need.Nothing → IfNone result (HasNodesFor need self.now.share) }
+        ensures short { IfSome result (λ full. IsShort need self.now.share full.what full.left) }
     {
         let (nodes, scx) = self.share.left();
         if nodes < need.many() {
@@ -461,12 +462,12 @@ impl<E: Edit + Drop> UpdateRun<E> {
         }
     }
 
-    ghost use Rattle.std.specs.Prelude.{◌≢◌, IfNone, None};
+    ghost use Rattle.std.specs.Prelude.{◌≢◌, IfNone, IfSome, None};
     ghost use Rattle.spelling.specs.OrderedMap.{edit_key};
     ghost use Rattle.template.specs.FoundLeaf.{HasFoundLeaf};
     ghost use Rattle.template.specs.Walk.Known.{WalkIsReady};
     ghost use Rattle.prims.specs.Snap.{child_of, snap_at};
-    ghost use Rattle.updates.specs.Known.{HasNodesFor, Walks, IsFilledUpTo, CanScx, UpdateIsReady};
+    ghost use Rattle.updates.specs.Known.{HasNodesFor, IsShort, Walks, IsFilledUpTo, CanScx, UpdateIsReady};
     ghost use Rattle.updates.specs.Pieces.{plan_over, top_of};
     ghost use Rattle.updates.specs.Steps.{IsWanted, UpdateFits, fills_left};
     ghost use Rattle.updates.specs.Pieces.{less_a_node};

@@ -1,3 +1,4 @@
+use Rattle.std.proofs.Common.{arith}
 use Rattle.updates.specs.Laws.HandScx.{from}
 use Rattle.updates.proofs.Beginning.{scx_begins}
 use Rattle.updates.proofs.update.UpdateRun.begin_scx.Goals as goal
@@ -8,3 +9,6 @@ returns-in-Ask-clause-turn g c d h run x =
     (rw c.new-run.ensures.update record { covers = c.update-update.ensures.snaps; plan = c.update-update.ensures.plan; old = c.update-update.ensures.old; fresh = c.update-update.ensures.fresh })
     c.new-run.ensures.start (rw c.new-run.ensures.scx (rw c.in-Some.is at c.scx.ensures.after_taking).0) c.next.ensures.same.0 c.next.ensures.same.1 c.next.ensures.same.2
     c.scx.new.self c.next.result c.in-Ask.step (rw c.in-Some.is at c.scx.ensures.after_taking).2 c.in-Ask.is (c.next.ensures.turn (from d h) h run)
+
+pub returns-in_default-clause-turn : goal.returns-in_default-clause-turn
+returns-in_default-clause-turn g c d h run x = absurd (let z = (rw c.in_default.is at c.scx.ensures.empty).0 in let s = x.some in omega (arith, z, s))

@@ -10,9 +10,14 @@ returns-clause-nearer g c nodes = below c.look.result _ _ _ (c.look.ensures.near
 pub returns-clause-turn : goal.returns-clause-turn
 returns-clause-turn g c d h run b found =
     let some : c.need-need.result ≢ Nothing = search rules in
-    c.look.ensures.turn d h run (may_look g.E.Edit.means c.args.self.now _ d h c.args.found refl refl c.clear.ensures b found (rw c.need-need.ensures at (rw c.in_default.is at c.lacks.ensures some)))
+    c.look.ensures.turn d h run (may_look g.E.Edit.means c.args.self.now _ d h c.args.found refl refl c.clear.ensures b found (rw c.need-need.ensures at (rw c.in_default.is at c.lacks.ensures.enough some)))
 
 pub returns-then-eq-clause-turn : goal.returns-then-eq-clause-turn
 returns-then-eq-clause-turn g c d h run b found =
     let none : c.need-need.result ≡ Nothing = search rules in
     record { found = c.args.found; has_found = found; told = refl; made = inl (rw c.need-need.ensures at none) }
+
+pub returns-in-Some-clause-turn : goal.returns-in-Some-clause-turn
+returns-in-Some-clause-turn g c d h run b found =
+    let some : c.need-need.result ≢ Nothing = search rules in
+    record { found = c.args.found; has_found = found; needed = rw c.need-need.ensures at some; short = rw c.need-need.ensures at (rw c.in-Some.is at c.lacks.ensures.short) }
