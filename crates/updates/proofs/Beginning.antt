@@ -34,7 +34,8 @@ use Rattle.updates.specs.declared.edit.Look.TheVariants.{Enough}
 use Rattle.updates.specs.declared.update.UpdateAt.TheVariants.{Scx}
 use Rattle.updates.specs.declared.update.UpdateRun.{UpdateRun}
 use Rattle.updates.specs.Edits.{EditMeaning}
-use Rattle.updates.specs.Known.{AreUsable, CanScx, IsUpdateFor, UpdateWaits, piece, top}
+use Rattle.updates.specs.Known.{AreUsable, CoversLeaf, CanScx, IsUpdateFor, TryWaits, piece, top}
+use Rattle.updates.specs.Laws.Entered.{none_quiet}
 use Rattle.updates.specs.Laws.HandScx.{from, hand_ready, hand_share}
 use Rattle.updates.specs.Pieces.{all_but_first, plan_over}
 use Rattle.updates.specs.Sound.{MakesWell}
@@ -91,13 +92,14 @@ abbrev less_an_scx : Remaining → Remaining
 less_an_scx left = record left { next_scx = suc left.next_scx; scx = left.scx - 1 }
 
 module _ {E : Type 0} (e : EditMeaning E) (m : UpdateRun E) (run after : ScxRun) (f : Found) (c : Call) (h : History) (sound : MakesWell e) (few : length m.snaps.items ≤ 4) (x : CanScx e m c h f)
-    (is : IsUpdateFor e m.edit f m.snaps.items m.nodes run.update) (at : run.at ≡ ScxStart) (is_scx : run.scx.0 ≡ m.share.next_scx) (same_scx : after.scx ≡ run.scx) (same_update : after.update ≡ run.update) (same_call : after.call ≡ run.call) where
+    (is : IsUpdateFor e m.edit f m.snaps.items m.nodes run.update) (at : run.at ≡ ScxStart) (is_scx : run.scx.0 ≡ m.share.next_scx) (same_scx : after.scx ≡ run.scx) (same_update : after.update ≡ run.update) (same_call : after.call ≡ run.call) (is_call : after.call ≡ m.call) where
   over : IsUpdateOver run.update
   over = covers_all run.update m.snaps.items (e.side m.edit f) (some_snaps (e.looks m.edit f) m.snaps.items (sound.some m.edit f) x.all.enough) few
       (sound.distinct m.edit c h f m.snaps.items x.run x.all.looked x.all.enough) is.covers is.plan is.old
 
-  ready : ScxIsReady TreeAllows run (from c h) h None
-  ready = hand_ready c h m.share m.nodes.first.0 (top e m f) (piece e m f) run x.run.1.lawful x.full x.some over
+  -- its SCX may begin
+  pub scx_ready : ScxIsReady TreeAllows run (from c h) h None
+  scx_ready = hand_ready c h m.share m.nodes.first.0 (top e m f) (piece e m f) run x.run.1.lawful x.full x.some over
       (subst (λ (xs : List Snap). AreUsable c h xs) (sym is.covers) x.all.looked.usable) at is.fresh is_scx
       (λ d says. promised_allowed c.layout c.pass h run.scx.0 d (e.edit m.edit) (sound.promised m.edit c h f m.snaps.items m.nodes m.loaded (job_of run) d x.run x.need x.all is says))
 
@@ -105,7 +107,7 @@ module _ {E : Type 0} (e : EditMeaning E) (m : UpdateRun E) (run after : ScxRun)
   promised d says = sound.promised m.edit c h f m.snaps.items m.nodes m.loaded (job_of run) d x.run x.need x.all is says
 
   tracked : Tracks c.layout c.pass h (job_of run) (e.edit m.edit)
-  tracked = waits promised ready.1.is_open.unnamed
+  tracked = waits promised scx_ready.1.is_open.unnamed
 
   scx_is : after.scx.0 ≡ m.share.next_scx
   scx_is = ap (λ (s : ScxNo). s.0) same_scx ∙ is_scx
@@ -116,13 +118,23 @@ module _ {E : Type 0} (e : EditMeaning E) (m : UpdateRun E) (run after : ScxRun)
   here : HasScx m.share m.share.next_scx
   here = record { from = omega arith; below = let s = x.some in omega (arith, s) }
 
-  first_waits : (turn : Turn ScxAnswer) (step : Step) → turn ≡ Ask step → MatchTurn turn (ScxWaits TreeAllows after (from c h) h) (ScxAnswers after (from c h) h) → UpdateWaits e (record m { share = less_an_scx m.share; at = Scx f after }) c h step
+  -- it covers the leaf that was found
+  leaf : CoversLeaf e m.edit f c h after.scx.0 after.update.snaps
+  leaf = subst (λ (u : Update). CoversLeaf e m.edit f c h after.scx.0 u.snaps) (sym same_update)
+      (subst (λ (xs : List Snap). CoversLeaf e m.edit f c h after.scx.0 xs) (sym is.covers) (sound.leaf m.edit c h f m.snaps.items after.scx.0 x.run x.need x.all.looked x.all.enough))
+
+  first_waits : (turn : Turn ScxAnswer) (step : Step) → turn ≡ Ask step → MatchTurn turn (ScxWaits TreeAllows after (from c h) h) (ScxAnswers after (from c h) h) → TryWaits e (record m { share = less_an_scx m.share; at = Scx f after }) c h step
   first_waits turn step asked w = (
     h,
     record {
       run = x.run;
       small = x.all.looked.small;
+      call = is_call;
       found = x.all.looked.found;
+      only = λ row before t within since w own. absurd (none_quiet c.layout c.pass h c.start x.run.1.lawful x.quiet row before t within since w own);
+      usable = subst (λ (u : Update). AreUsable c h u.snaps) (sym same_update) (subst (λ (xs : List Snap). AreUsable c h xs) (sym is.covers) x.all.looked.usable);
+      quiet = x.quiet;
+      leaf = leaf;
       now = x.since;
       since = x.since;
       share = subst (λ s. IsShare c.layout h c.pass (less_an_scx m.share) m.share.next_node s) (sym scx_is) (hand_share c.layout h c.pass m.share m.nodes.first.0 (top e m f) (piece e m f) x.some x.full);
@@ -138,7 +150,7 @@ module _ {E : Type 0} (e : EditMeaning E) (m : UpdateRun E) (run after : ScxRun)
 
   -- it waits for the first step of its SCX
   pub scx_begins : (share : Remaining) (turn : Turn ScxAnswer) (step : Step) → share ≡ record m.share { next_scx = m.share.next_scx + 1; scx = m.share.scx - 1 } → turn ≡ Ask step
-      → (ScxIsReady TreeAllows run (from c h) h None → MatchTurn turn (ScxWaits TreeAllows after (from c h) h) (ScxAnswers after (from c h) h)) → UpdateWaits e (record m { share = share; at = Scx f after }) c h step
+      → (ScxIsReady TreeAllows run (from c h) h None → MatchTurn turn (ScxWaits TreeAllows after (from c h) h) (ScxAnswers after (from c h) h)) → TryWaits e (record m { share = share; at = Scx f after }) c h step
   scx_begins share turn step less asked w =
-      subst (λ (s : Remaining). UpdateWaits e (record m { share = s; at = Scx f after }) c h step) (sym (less ∙ (λ i. record m.share { next_scx = plus_one m.share.next_scx i; scx = m.share.scx - 1 })))
-      (first_waits turn step asked (w ready))
+      subst (λ (s : Remaining). TryWaits e (record m { share = s; at = Scx f after }) c h step) (sym (less ∙ (λ i. record m.share { next_scx = plus_one m.share.next_scx i; scx = m.share.scx - 1 })))
+      (first_waits turn step asked (w scx_ready))

@@ -239,6 +239,7 @@ module _ {E : Type 0} (e : EditMeaning E) (m : UpdateRun E) (c : Call) (h : Hist
     works = record {
       run = x.0.works.run;
       since = x.0.works.since;
+      quiet = x.0.works.quiet;
       looked = x.0.works.looked;
       enough = x.0.works.enough;
       need = behind.needed;
@@ -261,6 +262,7 @@ module _ {E : Type 0} (e : EditMeaning E) (m : UpdateRun E) (c : Call) (h : Hist
   scx_next none last = record {
     run = x.0.works.run;
     since = x.0.works.since;
+    quiet = x.0.works.quiet;
     need = is_something (e.needs m.edit f) nth x.0.works.need;
     some = x.0.works.some;
     all = record {

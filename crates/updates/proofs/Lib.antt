@@ -1,4 +1,6 @@
 mod Nearer
+mod Widened
+mod Making
 mod Turns
 mod Loading
 mod Looking

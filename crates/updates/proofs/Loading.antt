@@ -26,7 +26,7 @@ use Rattle.updates.specs.declared.edit.Piece.TheVariants.{Leaf, Fork}
 use Rattle.updates.specs.declared.update.UpdateAt.TheVariants.{Load}
 use Rattle.updates.specs.declared.update.UpdateRun.{UpdateRun}
 use Rattle.updates.specs.Edits.{EditMeaning}
-use Rattle.updates.specs.Known.{AreLoaded, ComesBefore, IsNeeded, AreInOrder, pieces_by, CanLoad, CanFill, Loads, UpdateWaits, piece, copied}
+use Rattle.updates.specs.Known.{AreLoaded, ComesBefore, IsNeeded, AreInOrder, pieces_by, CanLoad, CanFill, Loads, TryWaits, piece, copied}
 use Rattle.updates.specs.Laws.Hand.{IsBefore, IsPieceWord, HoldsWords, HasFilledTo}
 use Rattle.updates.specs.Pieces.{nth_node, with_word, top_of}
 use Rattle.updates.specs.Sound.{LoadsWell}
@@ -103,12 +103,13 @@ loaded_one f n ld Marked v i e x = absurd i
 
 module _ {E : Type 0} (e : EditMeaning E) where
   -- it waits for the load
-  pub loads_word : (m : UpdateRun E) (c : Call) (h : History) (f : Found) (nth : Nth) (part : NodeWord) (n : NodeNo) → LoadsWell e → CanLoad e m c h f nth → e.wants m.edit f m.snaps.items m.loaded nth ≡ Some part → n ≡ e.copies m.edit f m.snaps.items → UpdateWaits e (record m { at = Load f nth part }) c h record { kind = LoadSettled; word = NodeOf n part; access = LoadAccess }
+  pub loads_word : (m : UpdateRun E) (c : Call) (h : History) (f : Found) (nth : Nth) (part : NodeWord) (n : NodeNo) → LoadsWell e → CanLoad e m c h f nth → e.wants m.edit f m.snaps.items m.loaded nth ≡ Some part → n ≡ e.copies m.edit f m.snaps.items → TryWaits e (record m { at = Load f nth part }) c h record { kind = LoadSettled; word = NodeOf n part; access = LoadAccess }
   loads_word m c h f nth part n sound x wanted is_n = (
     record {
       works = record {
         run = x.works.run;
         since = x.works.since;
+        quiet = x.works.quiet;
         looked = x.works.looked;
         enough = x.works.enough;
         need = x.works.need;
@@ -149,6 +150,7 @@ module _ {E : Type 0} (e : EditMeaning E) where
     works = record {
       run = x.works.run;
       since = x.works.since;
+      quiet = x.works.quiet;
       looked = x.works.looked;
       enough = x.works.enough;
       need = x.works.need;

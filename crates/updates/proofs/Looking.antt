@@ -12,6 +12,7 @@ use Rattle.histories.proofs.Lemmas.{unmentioned_unnamed}
 use Rattle.arena.specs.declared.machine.Turn.{Turn}
 use Rattle.arena.specs.declared.machine.Turn.TheVariants.{Ask, Done}
 use Rattle.arena.specs.declared.step.Step.{Step}
+use Rattle.prims.specs.Laws.Idle.{IsQuietSince}
 use Rattle.prims.specs.Llx.Known.{IsSnapshot, LlxWaits, LlxAnswers}
 use Rattle.prims.specs.declared.llx.Llx.{Llx}
 use Rattle.prims.specs.declared.llx.Llx.TheVariants.{Snapshot}
@@ -35,7 +36,7 @@ use Rattle.updates.specs.declared.edit.Nth.TheVariants.{First, Second, Third}
 use Rattle.updates.specs.declared.edit.Piece.{Piece}
 use Rattle.updates.specs.declared.update.UpdateRun.{UpdateRun}
 use Rattle.updates.specs.Edits.{EditMeaning}
-use Rattle.updates.specs.Known.{RestsWith, Begins, HasNodesFor, AreUsable, AreLoaded, ComesBefore, AreSeen, CanLook, CanLoad, Looks, UpdateWaits, copied, piece, nothing_loaded}
+use Rattle.updates.specs.Known.{RestsWith, Begins, HasNodesFor, AreUsable, AreLoaded, ComesBefore, AreSeen, CanLook, CanLoad, Looks, TryWaits, copied, piece, nothing_loaded}
 use Rattle.updates.specs.Pieces.{less_a_node, many_nodes, top_of}
 use Rattle.updates.specs.Sound.{LooksWell}
 use Rattle.updates.specs.Laws.Hand.{HasFilledTo}
@@ -72,6 +73,7 @@ seen_one_more e ed f snaps s named x i p = go (at_end snaps s i p)
 pub looked_one_more : {E : Type 0} (e : EditMeaning E) (m now : UpdateRun E) (c : Call) (h : History) (f : Found) (s : Snap) (n : ℕ) → now.edit ≡ m.edit → now.share ≡ m.share → now.snaps.items ≡ m.snaps.items ++ s ∷ [] → e.looks m.edit f m.snaps.items ≡ At s.node → IsSnapshot c.layout h n s → CanLook e m c h f → CanLook e now c h f
 looked_one_more e m now c h f s n ed share items named is x = record {
   begins = record { run = x.begins.run; small = rw ed x.begins.small; since = x.begins.since; rests = rw share x.begins.rests };
+  quiet = x.quiet;
   looked = rw (ed, items) record {
     small = x.looked.small;
     found = x.looked.found;
@@ -90,9 +92,10 @@ share_has One left d few some = (omega (arith, few), omega (arith, some))
 share_has Three left d few some = (omega (arith, few), omega (arith, some))
 
 -- the walk has found its leaf, and nothing is looked at
-pub may_look : {E : Type 0} (e : EditMeaning E) (m now : UpdateRun E) (c : Call) (h : History) (f : Found) → now.edit ≡ m.edit → now.share ≡ m.share → now.snaps.items ≡ [] → Begins e m c h → HasFoundLeaf c h (edit_key (e.edit m.edit)) f → HasNodesFor (e.needs m.edit f) m.share → CanLook e now c h f
-may_look e m now c h f ed share items b found room = record {
+pub may_look : {E : Type 0} (e : EditMeaning E) (m now : UpdateRun E) (c : Call) (h : History) (f : Found) → now.edit ≡ m.edit → now.share ≡ m.share → now.snaps.items ≡ [] → Begins e m c h → IsQuietSince c.layout c.pass c.start h → HasFoundLeaf c h (edit_key (e.edit m.edit)) f → HasNodesFor (e.needs m.edit f) m.share → CanLook e now c h f
+may_look e m now c h f ed share items b quiet found room = record {
   begins = record { run = b.run; small = rw ed b.small; since = b.since; rests = rw share b.rests };
+  quiet = quiet;
   looked = rw (ed, items) record {
     small = b.small;
     found = found;
@@ -179,6 +182,7 @@ module _ {E : Type 0} (e : EditMeaning E) (m : UpdateRun E) (c : Call) (h : Hist
     works = record {
       run = x.begins.run;
       since = x.begins.since;
+      quiet = x.quiet;
       looked = x.looked;
       enough = enough;
       need = rw one tt;
@@ -231,6 +235,7 @@ module _ {E : Type 0} (e : EditMeaning E) (m : UpdateRun E) (c : Call) (h : Hist
     works = record {
       run = x.begins.run;
       since = x.begins.since;
+      quiet = x.quiet;
       looked = x.looked;
       enough = enough;
       need = rw three tt;
@@ -313,15 +318,15 @@ pushed (Err v) P n most i j p full = absurd (omega (arith, i, j, full))
 module _ {E : Type 0} (e : EditMeaning E) (m : UpdateRun E) (llx after : LlxRun) (f : Found) (begin : History) (c : Call) (h : History) (turn : Turn Llx) (x : Looks e m c h f llx begin) (same : after.node ≡ llx.node)
     (w : MatchTurn turn (LlxWaits TreeAllows after (from c begin) h) (LlxAnswers after (from c begin) h)) where
   -- its LLX asks for a step
-  pub looks_on : (step : Step) → turn ≡ Ask step → UpdateWaits e (record m { at = Look f after }) c h step
+  pub looks_on : (step : Step) → turn ≡ Ask step → TryWaits e (record m { at = Look f after }) c h step
   looks_on step asked = (
     begin,
-    record { run = x.run; looked = x.looked; rests = x.rests; room = x.room; named = x.named ∙ ap At (sym same); now = x.now; since = x.since },
+    record { run = x.run; looked = x.looked; rests = x.rests; room = x.room; named = x.named ∙ ap At (sym same); now = x.now; quiet = x.quiet; since = x.since },
     rw asked at w,
   )
 
   pub can_look : CanLook e m c h f
-  can_look = record { begins = record { run = x.run; small = x.looked.small; since = x.now; rests = x.rests }; looked = x.looked; room = x.room }
+  can_look = record { begins = record { run = x.run; small = x.looked.small; since = x.now; rests = x.rests }; quiet = x.quiet; looked = x.looked; room = x.room }
 
   -- its LLX has taken a snapshot
   pub snapped : (snap : Snap) → turn ≡ Done (Snapshot snap) → (e.looks m.edit f m.snaps.items ≡ At snap.node) × IsSnapshot c.layout h snap.node.0 snap

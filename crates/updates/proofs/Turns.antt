@@ -15,12 +15,12 @@ use Rattle.arena.specs.Lawful.{Lawful, HasWon}
 use Rattle.arena.specs.Machines.{Call, MatchTurn}
 use Rattle.arena.specs.Share.{Remaining}
 use Rattle.arena.specs.Words.{state}
-use Rattle.arena.proofs.Lemmas.{ends_self}
+use Rattle.arena.proofs.Lemmas.{ends_self, ends_trans}
 use Rattle.histories.proofs.Lemmas.{finished_taken}
-use Rattle.prims.specs.Laws.Idle.{IsIdle, idle_if_over, quiet_at_start}
+use Rattle.prims.specs.Laws.Idle.{IsQuietSince, quiet_at_start}
 use Rattle.prims.specs.Llx.Known.{IsOpened, LlxIsReady, LlxKnows, LlxWaits, LlxAnswers}
 use Rattle.prims.specs.Moments.{AreFinished}
-use Rattle.prims.specs.Scx.Known.{Job, job_of, IsDone, IsLost, ScxWaits, ScxAnswers}
+use Rattle.prims.specs.Scx.Known.{Job, job_of, IsLost, ScxWaits, ScxAnswers}
 use Rattle.prims.specs.Shares.{IsShare}
 use Rattle.prims.specs.declared.llx.Llx.{Llx}
 use Rattle.prims.specs.declared.llx.LlxRun.{LlxRun}
@@ -33,7 +33,7 @@ use Rattle.prims.proofs.Lemmas.{over_ends}
 use Rattle.spelling.specs.OrderedMap.{edit_key}
 use Rattle.spelling.specs.Runs.{Makes}
 use Rattle.spelling.specs.TreeShape.{TreeAllows}
-use Rattle.template.proofs.Lemmas.{own_since, tracked_makes, walk_ready_run}
+use Rattle.template.proofs.Lemmas.{own_since, walk_ready_run}
 use Rattle.template.specs.FoundLeaf.{HasFoundLeaf}
 use Rattle.template.specs.Tracked.{Tracks}
 use Rattle.template.specs.Walk.Known.{WalkIsReady, WalkWaits, WalkAnswers}
@@ -46,13 +46,13 @@ use Rattle.updates.specs.declared.edit.Piece.{Piece}
 use Rattle.updates.specs.declared.update.UpdateAt.TheVariants.{Walk, Look, Fill, Scx}
 use Rattle.updates.specs.declared.update.UpdateRun.{UpdateRun}
 use Rattle.updates.specs.Edits.{EditMeaning}
-use Rattle.updates.specs.Known.{RestsWith, Begins, Walks, CanLook, CanFill, Scxs, IsDoneWith, UpdateWaits}
+use Rattle.updates.specs.Known.{RestsWith, AreUsable, CoversLeaf, Begins, Walks, CanLook, CanFill, Scxs, HasMade, TryWaits, UpdateWaits}
+use Rattle.updates.specs.Laws.Entered.{none_joined, none_lost, none_quiet}
 use Rattle.updates.specs.Laws.HandScx.{from}
+use Rattle.updates.specs.Laws.Kept.{idle_rests}
 use Rattle.updates.specs.Pieces.{nth_node, word_of}
-
--- a pass at rest is idle
-pub idle_rests : (c : Call) (h : History) (left : Remaining) → Lawful c.layout h → RestsWith c h left → IsIdle c.layout c.pass h
-idle_rests c h left l x = idle_if_over c.layout c.pass h l (λ s own t. x.over s own (λ e. let a = own.from in omega (arith, e)) t)
+use Rattle.updates.specs.Tries.{HasEnteredOnly, HasEnteredNone, IsTry}
+use Rattle.updates.proofs.Making.{has_made}
 
 -- where the SCX-record in hand is finished, the pass is at rest again
 rests_again : (c : Call) (h : History) (left : Remaining) (m : ScxRun) → Lawful c.layout h → IsShare c.layout h c.pass left left.next_node m.scx.0 → left.next_scx ≡ suc m.scx.0 → AreFinished c.layout c.pass m.scx.0 h → m.scx.0 ≢ 0 → value h (state m.scx.0) ≢ 0 → RestsWith c h left
@@ -79,12 +79,20 @@ module _ {E : Type 0} (e : EditMeaning E) where
   pub begins_again : (m now : UpdateRun E) (c : Call) (h : History) → now.edit ≡ m.edit → now.share ≡ m.share → Begins e m c h → Begins e now c h
   begins_again m now c h ed share b = record { run = b.run; small = rw ed b.small; since = b.since; rests = rw share b.rests }
 
-  pub begins_walk : (m : UpdateRun E) (walk after : WalkRun) (c : Call) (h : History) (turn : Turn Found) (step : Step) → Begins e m c h → walk.key ≡ edit_key (e.edit m.edit) → walk.at ≡ WalkStart → walk.trail.node.0 ≡ 0 → after.key ≡ walk.key → turn ≡ Ask step → (WalkIsReady walk c h None → MatchTurn turn (WalkWaits after c h) (WalkAnswers after c h)) → UpdateWaits e (record m { at = Walk after }) c h step
-  begins_walk m walk after c h turn step b is at root same asked w = (record { small = b.small; rests = b.rests; same = same ∙ is }, rw asked at w record { run = b.run; small = rw is b.small; since = b.since; at = at; root = root })
+  -- its walk begins, and a try with it
+  pub begins_walk : (m : UpdateRun E) (walk after : WalkRun) (c : Call) (h : History) (turn : Turn Found) (step : Step) → Begins e m c h → IsTry c h → walk.key ≡ edit_key (e.edit m.edit) → walk.at ≡ WalkStart → walk.trail.node.0 ≡ 0 → after.key ≡ walk.key → turn ≡ Ask step → (WalkIsReady walk (from c h) h None → MatchTurn turn (WalkWaits after (from c h) h) (WalkAnswers after (from c h) h)) → UpdateWaits e (record m { at = Walk after }) c h step
+  begins_walk m walk after c h turn step b try is at root same asked w = (
+    h,
+    try,
+    (
+      record { small = b.small; rests = record { share = b.rests.share; over = b.rests.over }; quiet = quiet_at_start c.layout c.pass h (idle_rests c h m.share b.run.1.lawful b.rests); same = same ∙ is },
+      rw asked at w record { run = b.run; small = rw is b.small; since = ends_self h; at = at; root = root },
+    ),
+  )
 
   -- its walk asks for a step
-  pub walks_on : (m : UpdateRun E) (walk after : WalkRun) (c : Call) (h : History) (turn : Turn Found) (step : Step) → Walks e m c h walk.key → after.key ≡ walk.key → turn ≡ Ask step → MatchTurn turn (WalkWaits after c h) (WalkAnswers after c h) → UpdateWaits e (record m { at = Walk after }) c h step
-  walks_on m walk after c h turn step x same asked w = (record { small = x.small; rests = x.rests; same = same ∙ x.same }, rw asked at w)
+  pub walks_on : (m : UpdateRun E) (walk after : WalkRun) (c : Call) (h : History) (turn : Turn Found) (step : Step) → Walks e m c h walk.key → after.key ≡ walk.key → turn ≡ Ask step → MatchTurn turn (WalkWaits after c h) (WalkAnswers after c h) → TryWaits e (record m { at = Walk after }) c h step
+  walks_on m walk after c h turn step x same asked w = (record { small = x.small; rests = x.rests; quiet = x.quiet; same = same ∙ x.same }, rw asked at w)
 
   walk_since : (walk : WalkRun) (c : Call) (h : History) (got : Option ℕ) → WalkIsReady walk c h got → Extends h c.start
   walk_since walk c h None x = x.since
@@ -98,8 +106,19 @@ module _ {E : Type 0} (e : EditMeaning E) where
   pub walk_found : (m : UpdateRun E) (walk after : WalkRun) (c : Call) (h : History) (turn : Turn Found) (f : Found) → Walks e m c h walk.key → after.key ≡ walk.key → turn ≡ Done f → MatchTurn turn (WalkWaits after c h) (WalkAnswers after c h) → HasFoundLeaf c h (edit_key (e.edit m.edit)) f
   walk_found m walk after c h turn f x same done w = subst (λ k. HasFoundLeaf c h k f) (same ∙ x.same) (rw done at w)
 
+  -- its LLX may begin
+  pub look_ready : (m : UpdateRun E) (llx : LlxRun) (f : Found) (n : NodeNo) (c : Call) (h : History) → CanLook e m c h f → IsOpened c.layout h n.0 → llx.node ≡ n → llx.at ≡ LlxStart → LlxIsReady TreeAllows llx (from c h) h None
+  look_ready m llx f n c h x opened is at = record {
+    opened = subst (λ k. IsOpened c.layout h k.0) (sym is) opened;
+    since = ends_self h;
+    quiet = quiet_at_start c.layout c.pass h (idle_rests c h m.share x.begins.run.1.lawful x.begins.rests);
+    known = subst (LlxKnows (from c h) h llx.node.0) (sym at) tt;
+    told = at;
+  }
+
+  -- and asks for its first step
   pub looks_at : (m : UpdateRun E) (llx after : LlxRun) (f : Found) (n : NodeNo) (c : Call) (h : History) (turn : Turn Llx) (step : Step) → CanLook e m c h f → e.looks m.edit f m.snaps.items ≡ At n → IsOpened c.layout h n.0 → llx.node ≡ n → llx.at ≡ LlxStart → after.node ≡ llx.node → turn ≡ Ask step
-      → (LlxIsReady TreeAllows llx (from c h) h None → MatchTurn turn (LlxWaits TreeAllows after (from c h) h) (LlxAnswers after (from c h) h)) → UpdateWaits e (record m { at = Look f after }) c h step
+      → (LlxIsReady TreeAllows llx (from c h) h None → MatchTurn turn (LlxWaits TreeAllows after (from c h) h) (LlxAnswers after (from c h) h)) → TryWaits e (record m { at = Look f after }) c h step
   looks_at m llx after f n c h turn step x named opened is at same asked w = (
     h,
     record {
@@ -109,23 +128,19 @@ module _ {E : Type 0} (e : EditMeaning E) where
       room = x.room;
       named = named ∙ ap At (sym (same ∙ is));
       now = x.begins.since;
+      quiet = x.quiet;
       since = x.begins.since;
     },
-    rw asked at w record {
-      opened = subst (λ k. IsOpened c.layout h k.0) (sym is) opened;
-      since = ends_self h;
-      quiet = quiet_at_start c.layout c.pass h (idle_rests c h m.share x.begins.run.1.lawful x.begins.rests);
-      known = subst (LlxKnows (from c h) h llx.node.0) (sym at) tt;
-      told = at;
-    },
+    rw asked at w (look_ready m llx f n c h x opened is at),
   )
 
-  pub fills_word : (m : UpdateRun E) (f : Found) (nth : Nth) (part : NodeWord) (p : Piece) (n : NodeNo) (v : ℕ) (c : Call) (h : History) → CanFill e m c h f nth part → p ≡ e.pieces m.edit f m.snaps.items m.nodes m.loaded nth → n ≡ nth_node m.nodes nth → v ≡ word_of p part → UpdateWaits e (record m { at = Fill f nth part }) c h record { kind = FillKind; word = NodeOf n part; access = Store v }
+  pub fills_word : (m : UpdateRun E) (f : Found) (nth : Nth) (part : NodeWord) (p : Piece) (n : NodeNo) (v : ℕ) (c : Call) (h : History) → CanFill e m c h f nth part → p ≡ e.pieces m.edit f m.snaps.items m.nodes m.loaded nth → n ≡ nth_node m.nodes nth → v ≡ word_of p part → TryWaits e (record m { at = Fill f nth part }) c h record { kind = FillKind; word = NodeOf n part; access = Store v }
   fills_word m f nth part p n v c h x is_p is_n is_v = (
     record {
       works = record {
         run = x.fills.works.run;
         since = x.fills.works.since;
+        quiet = x.fills.works.quiet;
         looked = x.fills.works.looked;
         enough = x.fills.works.enough;
         need = x.fills.works.need;
@@ -148,15 +163,20 @@ module _ {E : Type 0} (e : EditMeaning E) where
   )
 
   -- its SCX asks for a step
-  pub scx_asks : (m : UpdateRun E) (scx after : ScxRun) (f : Found) (begin : History) (c : Call) (h : History) (turn : Turn ScxAnswer) (step : Step) → Scxs e m c h f scx begin → after.scx ≡ scx.scx → after.update ≡ scx.update → after.call ≡ scx.call → turn ≡ Ask step → MatchTurn turn (ScxWaits TreeAllows after (from c begin) h) (ScxAnswers after (from c begin) h) → UpdateWaits e (record m { at = Scx f after }) c h step
+  pub scx_asks : (m : UpdateRun E) (scx after : ScxRun) (f : Found) (begin : History) (c : Call) (h : History) (turn : Turn ScxAnswer) (step : Step) → Scxs e m c h f scx begin → after.scx ≡ scx.scx → after.update ≡ scx.update → after.call ≡ scx.call → turn ≡ Ask step → MatchTurn turn (ScxWaits TreeAllows after (from c begin) h) (ScxAnswers after (from c begin) h) → TryWaits e (record m { at = Scx f after }) c h step
   scx_asks m scx after f begin c h turn step x is_scx is_update is_call asked w = (
     begin,
     record {
       run = x.run;
       small = x.small;
-      found = x.found;
       now = x.now;
       since = x.since;
+      found = x.found;
+      call = is_call ∙ x.call;
+      only = subst (λ (s : ScxNo). HasEnteredOnly c.layout c.pass s.0 h c.start) (sym is_scx) x.only;
+      usable = subst (λ (u : Update). AreUsable c begin u.snaps) (sym is_update) x.usable;
+      quiet = x.quiet;
+      leaf = subst (λ (s : ScxNo). CoversLeaf e m.edit f c begin s.0 after.update.snaps) (sym is_scx) (subst (λ (u : Update). CoversLeaf e m.edit f c begin scx.scx.0 u.snaps) (sym is_update) x.leaf);
       share = subst (λ (s : ScxNo). IsShare c.layout h c.pass m.share m.share.next_node s.0) (sym is_scx) x.share;
       next_node = x.next_node ∙ ap (λ (u : Update). suc u.fresh.0) (sym is_update);
       next_scx = x.next_scx ∙ ap (λ (s : ScxNo). suc s.0) (sym is_scx);
@@ -169,29 +189,38 @@ module _ {E : Type 0} (e : EditMeaning E) where
   )
 
   -- its SCX is done
-  pub scx_has_made : (m : UpdateRun E) (scx after : ScxRun) (f : Found) (begin : History) (c : Call) (h : History) (turn : Turn ScxAnswer) → Scxs e m c h f scx begin → after.scx ≡ scx.scx → turn ≡ Done ScxDone → MatchTurn turn (ScxWaits TreeAllows after (from c begin) h) (ScxAnswers after (from c begin) h) → IsDoneWith e m.edit c h f.value
-  scx_has_made m scx after f begin c h turn x is_scx done w = record {
-    found = f;
-    has_found = x.found;
-    told = refl;
-    made = inr record { begin = begin; since = x.since; scx = after; done = is_done; makes = subst (λ (s : ScxNo). Makes c.layout h s.0 (e.edit m.edit)) (sym is_scx) made };
-  }
-    where
-      is_done : IsDone (from c begin) h after
-      is_done = rw done at w
+  pub scx_has_made : (m : UpdateRun E) (scx after : ScxRun) (f : Found) (c : Call) (b begin h : History) (turn : Turn ScxAnswer) → IsTry c b → Scxs e m (from c b) h f scx begin → after.scx ≡ scx.scx → after.update ≡ scx.update → after.call ≡ scx.call → turn ≡ Done ScxDone → MatchTurn turn (ScxWaits TreeAllows after (from c begin) h) (ScxAnswers after (from c begin) h) → HasMade e m.edit c h m.call f.value
+  scx_has_made m scx after f c b begin h turn try x is_scx is_update is_call done w = has_made e m scx after f c b begin h try x is_scx is_update is_call (rw done at w)
 
-      made : Makes c.layout h scx.scx.0 (e.edit m.edit)
-      made = tracked_makes c.layout c.pass h (job_of scx) (e.edit m.edit) x.run.1.lawful (subst (λ (s : ScxNo). HasWon h s.0) is_scx is_done.won) x.tracks
-
-  -- its SCX is lost
-  pub scx_lost : (m : UpdateRun E) (scx after : ScxRun) (f : Found) (begin : History) (c : Call) (h : History) (turn : Turn ScxAnswer) (n : NodeNo) (s : ScxNo) → Scxs e m c h f scx begin → after.scx ≡ scx.scx → turn ≡ Done (Lost n s) → MatchTurn turn (ScxWaits TreeAllows after (from c begin) h) (ScxAnswers after (from c begin) h) → Begins e m c h
-  scx_lost m scx after f begin c h turn n s x is_scx done w = record { run = x.run; small = x.small; since = x.now; rests = rests_again c h m.share scx x.run.1.lawful x.share x.next_scx x.over real finished }
+  -- its SCX is lost: it may try again
+  pub scx_lost : (m : UpdateRun E) (scx after : ScxRun) (f : Found) (c : Call) (b begin h : History) (turn : Turn ScxAnswer) (n : NodeNo) (s : ScxNo) → IsTry c b → Scxs e m (from c b) h f scx begin → after.scx ≡ scx.scx → turn ≡ Done (Lost n s) → MatchTurn turn (ScxWaits TreeAllows after (from c begin) h) (ScxAnswers after (from c begin) h) → Begins e m c h × IsTry c h
+  scx_lost m scx after f c b begin h turn n s try x is_scx done w = (
+    record { run = x.run; small = x.small; since = since; rests = rests_again c h m.share scx x.run.1.lawful x.share x.next_scx x.over real finished },
+    record { since = since; none = none_joined c.layout c.pass h b c.start x.now try.none (none_lost c.layout c.pass scx.scx.0 h b x.run.1.lawful aborted x.only) },
+  )
     where
+      since : Extends h c.start
+      since = ends_trans h b c.start x.now try.since
+
       lost : IsLost (from c begin) h after n.0 s.0
       lost = rw done at w
 
+      aborted : value h (state scx.scx.0) ≡ 2
+      aborted = subst (λ (t : ScxNo). value h (state t.0) ≡ 2) is_scx lost.aborted
+
       finished : value h (state scx.scx.0) ≢ 0
-      finished z = let a : value h (state after.scx.0) ≡ 2 = lost.aborted in let b : value h (state scx.scx.0) ≡ 2 = subst (λ (t : ScxNo). value h (state t.0) ≡ 2) is_scx a in omega (arith, b, z)
+      finished z = let a = aborted in omega (arith, a, z)
 
       real : scx.scx.0 ≢ 0
       real z = let a = x.own_scx.from in omega (arith, z)
+
+  -- while it only looks, it has entered nothing
+  pub nothing_entered : (m : UpdateRun E) (c : Call) (b h : History) → IsTry c b → Begins e m (from c b) h → IsQuietSince c.layout c.pass b h → HasEnteredNone c.layout c.pass h c.start
+  nothing_entered m c b h try x quiet = none_joined c.layout c.pass h b c.start x.since try.none (none_quiet c.layout c.pass h b x.run.1.lawful quiet)
+
+  -- and may try again
+  pub look_lost : (m : UpdateRun E) (c : Call) (b h : History) → IsTry c b → Begins e m (from c b) h → IsQuietSince c.layout c.pass b h → Begins e m c h × IsTry c h
+  look_lost m c b h try x quiet = (
+    record { run = x.run; small = x.small; since = ends_trans h b c.start x.since try.since; rests = record { share = x.rests.share; over = x.rests.over } },
+    record { since = ends_trans h b c.start x.since try.since; none = nothing_entered m c b h try x quiet },
+  )

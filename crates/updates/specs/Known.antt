@@ -1,34 +1,39 @@
 -- When an update may go on, and what it waits for.
-use Rattle.std.specs.Prelude.{◌≡◌, ◌≢◌, ℕ, suc, ◌^◌, ◌<◌, ◌≤◌, ◌⊎◌, eqb, cond, List, length, take, Option, Some, None}
+use Rattle.std.specs.Prelude.{◌≡◌, ◌≢◌, ℕ, suc, ◌^◌, ◌<◌, ◌≤◌, ◌⊎◌, eqb, cond, List, ◌∷◌, length, take, Option, Some, None}
 use Rattle.arena.specs.declared.fault.Full.{Full}
 use Rattle.arena.specs.declared.fault.Resource.{Resource}
 use Rattle.arena.specs.declared.fault.Resource.TheVariants.{Nodes as FreshNodes, Scx as ScxRecords}
 use Rattle.arena.specs.declared.machine.Turn.{Turn}
+use Rattle.arena.specs.declared.step.Row.{Row}
 use Rattle.arena.specs.declared.step.Step.{Step}
 use Rattle.arena.specs.declared.step.Kind.TheVariants.{LoadSettled}
 use Rattle.arena.specs.declared.word.NodeWord.{NodeWord}
 use Rattle.arena.specs.declared.word.NodeWord.TheVariants.{Head as HeadWord, Key as KeyWord, Value as ValueWord}
 use Rattle.arena.specs.declared.word.Word.{Word}
 use Rattle.arena.specs.Fills.{IsNamed, IsOwnNode, IsOwnScx, IsTakenNode}
-use Rattle.arena.specs.History.{History, value, Extends}
-use Rattle.arena.specs.Lawful.{IsSettled}
+use Rattle.arena.specs.History.{History, ◌⊳◌, value, Extends}
+use Rattle.arena.specs.Lawful.{IsSettled, IsWin}
 use Rattle.arena.specs.Layout.{all_nodes}
+use Rattle.arena.specs.Log.{Entry, log}
 use Rattle.arena.specs.Machines.{Call, MatchTurn}
 use Rattle.arena.specs.Share.{Remaining}
 use Rattle.arena.specs.Words.{node}
 use Rattle.histories.proofs.Lemmas.{IsNodeFill}
+use Rattle.prims.specs.Laws.Idle.{IsQuietSince}
 use Rattle.prims.specs.Llx.Known.{load, LlxIsReady, LlxWaits}
 use Rattle.prims.specs.Moments.{AreFinished}
-use Rattle.prims.specs.Scx.Known.{IsDone, ScxIsReady, ScxWaits, job_of}
+use Rattle.prims.specs.Scx.Known.{ScxIsReady, ScxWaits, job_of}
 use Rattle.prims.specs.Shares.{IsShare, IsUsable}
 use Rattle.prims.specs.Snap.{child_of, snap_at}
 use Rattle.prims.specs.declared.llx.LlxRun.{LlxRun}
 use Rattle.prims.specs.declared.scx.ScxRun.{ScxRun}
 use Rattle.prims.specs.declared.snap.Snap.{Snap}
 use Rattle.prims.specs.declared.update.Update.{Update}
-use Rattle.spelling.specs.OrderedMap.{edit_key}
-use Rattle.spelling.specs.Runs.{IsTreeRun, Makes}
-use Rattle.spelling.specs.TreeShape.{TreeAllows}
+use Rattle.spelling.specs.OrderedMap.{edit_key, get}
+use Rattle.spelling.specs.Runs.{IsTreeRun, IsEditAt}
+use Rattle.spelling.specs.Spelled.{Spells}
+use Rattle.spelling.specs.TreeShape.{TreeAllows, edit_leaf}
+use Rattle.spelling.specs.declared.pair.Pair.{Pair}
 use Rattle.template.specs.FoundLeaf.{HasFoundLeaf}
 use Rattle.template.specs.Promises.{IsFresh}
 use Rattle.template.specs.Tracked.{Tracks}
@@ -43,7 +48,7 @@ use Rattle.updates.specs.declared.edit.Nth.{Nth}
 use Rattle.updates.specs.declared.edit.Nth.TheVariants.{First, Second, Third}
 use Rattle.updates.specs.declared.edit.Piece.{Piece}
 use Rattle.updates.specs.declared.update.Updated.{Updated}
-use Rattle.updates.specs.declared.update.Updated.TheVariants.{Done, Full as FullAnswer}
+use Rattle.updates.specs.declared.update.Updated.TheVariants.{Done, Contended, Full as FullAnswer}
 use Rattle.updates.specs.declared.update.UpdateAt.{UpdateAt}
 use Rattle.updates.specs.declared.update.UpdateAt.TheVariants.{Start, Walk, Look, Load, Fill, Scx}
 use Rattle.updates.specs.declared.update.UpdateRun.{UpdateRun}
@@ -52,6 +57,7 @@ use Rattle.updates.specs.Laws.Hand.{IsBefore, IsUpTo, IsPieceWord, HoldsWords, H
 use Rattle.updates.specs.Laws.HandScx.{from}
 use Rattle.updates.specs.Laws.NodeFills.{node_fill}
 use Rattle.updates.specs.Pieces.{many_nodes, nth_node, top_of, plan_over, word_of}
+use Rattle.updates.specs.Tries.{HasEnteredOnly, HasEnteredNone, IsTry, CoversSnaps}
 
 -- Between its SCXs
 
@@ -150,6 +156,11 @@ module _ {E : Type 0} (e : EditMeaning E) where
     pub old : u.old ≡ child_of (snap_at snaps 0) (e.side ed f)
     pub fresh : u.fresh.0 ≡ top_of (e.needs ed f) ns
 
+  -- whatever the SCX-record s makes of these snapshots later, the leaf of the edit is the one that
+  -- was found
+  abbrev pub CoversLeaf : E → Found → Call → History → ℕ → List Snap → Type 0
+  CoversLeaf ed f c begin s snaps = (k : History) → IsTreeRun c.layout k → Extends k begin → CoversSnaps k s snaps → edit_leaf k s (e.edit ed) ≡ f.trail.node.0
+
   -- what each fresh node is to hold
   abbrev pub piece : UpdateRun E → Found → ℕ → Piece
   piece m f n = pieces_by (λ nth. e.pieces m.edit f m.snaps.items m.nodes m.loaded nth) m.nodes n
@@ -166,6 +177,7 @@ module _ {E : Type 0} (e : EditMeaning E) where
   pub record Works (m : UpdateRun E) (c : Call) (h : History) (f : Found) (nth : Nth) : Type 0 where
     pub run : IsTreeRun c.layout h
     pub since : Extends h c.start
+    pub quiet : IsQuietSince c.layout c.pass c.start h
     pub looked : HasLooked c h m.edit f m.snaps.items
     pub enough : e.looks m.edit f m.snaps.items ≡ Enough
     pub need : IsNeeded (e.needs m.edit f) nth
@@ -197,6 +209,7 @@ module _ {E : Type 0} (e : EditMeaning E) where
     pub room : HasNodesFor (e.needs m.edit f) m.share
     pub named : e.looks m.edit f m.snaps.items ≡ At llx.node
     pub now : Extends h c.start
+    pub quiet : IsQuietSince c.layout c.pass c.start h
     pub since : Extends begin c.start
 
   -- the load of a word for a fresh node
@@ -224,22 +237,29 @@ module _ {E : Type 0} (e : EditMeaning E) where
   pub record Scxs (m : UpdateRun E) (c : Call) (h : History) (f : Found) (scx : ScxRun) (begin : History) : Type 0 where
     pub run : IsTreeRun c.layout h
     pub small : edit_key (e.edit m.edit) < 2 ^ 64
-    pub found : HasFoundLeaf c h (edit_key (e.edit m.edit)) f
     pub now : Extends h c.start
     pub since : Extends begin c.start
     pub share : IsShare c.layout h c.pass m.share m.share.next_node scx.scx.0
     pub next_node : m.share.next_node ≡ suc scx.update.fresh.0
     pub next_scx : m.share.next_scx ≡ suc scx.scx.0
+    pub call : scx.call ≡ m.call
     pub own : IsOwnNode c.layout c.pass scx.update.fresh.0
     pub own_scx : IsOwnScx c.layout c.pass scx.scx.0
     pub over : AreFinished c.layout c.pass scx.scx.0 h
-    -- it makes the edit, if it makes any
+    -- it makes the edit, if it makes any, and no other of the pass has won since the try began
     pub tracks : Tracks c.layout c.pass h (job_of scx) (e.edit m.edit)
+    pub only : HasEnteredOnly c.layout c.pass scx.scx.0 h c.start
+    -- as it began the leaf was found, the snapshots could be used, and it covers that leaf
+    pub found : HasFoundLeaf c begin (edit_key (e.edit m.edit)) f
+    pub usable : AreUsable c begin scx.update.snaps
+    pub quiet : IsQuietSince c.layout c.pass c.start begin
+    pub leaf : CoversLeaf m.edit f c begin scx.scx.0 scx.update.snaps
 
   -- the walk is to the edit's key, and the pass is at rest
   pub record Walks (m : UpdateRun E) (c : Call) (h : History) (key : ℕ) : Type 0 where
     pub small : edit_key (e.edit m.edit) < 2 ^ 64
     pub rests : RestsWith c h m.share
+    pub quiet : IsQuietSince c.layout c.pass c.start h
     pub same : key ≡ edit_key (e.edit m.edit)
 
   -- the word that is filled
@@ -273,18 +293,23 @@ module _ {E : Type 0} (e : EditMeaning E) where
 
   -- it may be called with this: with nothing at its start, then with what its step told
   abbrev pub UpdateIsReady : UpdateRun E → Call → History → Option ℕ → Type 0
-  UpdateIsReady m c h None = Begins m c h × (m.at ≡ Start)
-  UpdateIsReady m c h (Some v) = UpdateIsToldAt m c h v m.at
+  UpdateIsReady m c h None = Begins m c h × IsTry c h × (m.at ≡ Start)
+  UpdateIsReady m c h (Some v) = (begin : History) × IsTry c begin × UpdateIsToldAt m (from c begin) h v m.at
 
-  -- it waits for this step where it stands
+  -- in the try that this call is, it waits for this step where it stands
+  abbrev pub TryWaits : UpdateRun E → Call → History → Step → Type 0
+  TryWaits m c h s = UpdateWaitsAt m c h s m.at
+
+  -- it waits for this step in the try that began at some moment
   abbrev pub UpdateWaits : UpdateRun E → Call → History → Step → Type 0
-  UpdateWaits m c h s = UpdateWaitsAt m c h s m.at
+  UpdateWaits m c h s = (begin : History) × IsTry c begin × TryWaits m (from c begin) h s
 
   -- What its turns are asked for
 
   -- it may look at the next node, where these snapshots are there
   pub record CanLook (m : UpdateRun E) (c : Call) (h : History) (f : Found) : Type 0 where
     pub begins : Begins m c h
+    pub quiet : IsQuietSince c.layout c.pass c.start h
     pub looked : HasLooked c h m.edit f m.snaps.items
     pub room : HasNodesFor (e.needs m.edit f) m.share
 
@@ -305,6 +330,7 @@ module _ {E : Type 0} (e : EditMeaning E) where
   pub record CanScx (m : UpdateRun E) (c : Call) (h : History) (f : Found) : Type 0 where
     pub run : IsTreeRun c.layout h
     pub since : Extends h c.start
+    pub quiet : IsQuietSince c.layout c.pass c.start h
     pub need : e.needs m.edit f ≢ Nothing
     pub some : 0 < m.share.scx
     pub all : HasFilledAll c h m.edit f m.snaps.items m.nodes m.loaded
@@ -312,34 +338,50 @@ module _ {E : Type 0} (e : EditMeaning E) where
 
   -- What it answers
 
-  -- the call has made its edit: an SCX of it is done, and the SCX-record has made that edit
-  pub record HasMade (ed : E) (c : Call) (h : History) : Type 0 where
-    pub begin : History
-    pub since : Extends begin c.start
-    pub scx : ScxRun
-    pub done : IsDone (from c begin) h scx
-    pub makes : Makes c.layout h scx.scx.0 (e.edit ed)
+  -- The call of this number has made its edit. Its pass has just one entry since the call began.
+  -- Just before that the map had `old` at the key; just after it, the map is what the edit leaves.
+  pub record HasMade (ed : E) (c : Call) (h : History) (number : ℕ) (old : Option ℕ) : Type 0 where
+    pub scx : ℕ
+    pub own : IsOwnScx c.layout c.pass scx
+    pub once : HasEnteredOnly c.layout c.pass scx h c.start
+    -- the row that made it
+    pub row : Row
+    pub before : History
+    pub within : Extends h (row ⊳ before)
+    pub since : Extends before c.start
+    pub wins : IsWin before row scx
+    pub edits : IsEditAt c.layout before row scx (e.edit ed)
+    pub told : (map : List Pair) → Spells c.layout (value before) map → get (edit_key (e.edit ed)) map ≡ old
+    -- its entry
+    pub entry : Entry
+    pub logged : log c.layout (row ⊳ before) ≡ entry ∷ log c.layout before
+    pub of_scx : entry.scx ≡ scx
+    pub owner : entry.owner ≡ c.pass
+    pub call : entry.call ≡ number
 
-  -- of the leaf that was found it tells the value of the key; there was nothing to make, or the
-  -- edit is made
-  pub record IsDoneWith (ed : E) (c : Call) (h : History) (old : Option ℕ) : Type 0 where
+  -- There was nothing to make at the leaf that was found, of which it tells the value of the key,
+  -- and the pass has entered nothing.
+  pub record HasNothingToMake (ed : E) (c : Call) (h : History) (old : Option ℕ) : Type 0 where
     pub found : Found
     pub has_found : HasFoundLeaf c h (edit_key (e.edit ed)) found
+    pub needless : e.needs ed found ≡ Nothing
     pub told : old ≡ found.value
-    pub made : (e.needs ed found ≡ Nothing) ⊎ HasMade ed c h
+    pub none : HasEnteredNone c.layout c.pass h c.start
 
-  -- the share has too little left for the edit at the leaf that was found
+  -- the share has too little left for the edit at the leaf that was found, and the pass has entered
+  -- nothing
   pub record IsFullFor (m : UpdateRun E) (c : Call) (h : History) (full : Full) : Type 0 where
     pub found : Found
     pub has_found : HasFoundLeaf c h (edit_key (e.edit m.edit)) found
     pub needed : e.needs m.edit found ≢ Nothing
     pub short : IsShort (e.needs m.edit found) m.share full.what full.left
+    pub none : HasEnteredNone c.layout c.pass h c.start
 
   -- what its answer says
   abbrev pub UpdateAnswers : UpdateRun E → Call → History → Updated → Type 0
-  UpdateAnswers m c h (Done old) = IsDoneWith m.edit c h old
+  UpdateAnswers m c h (Done old) = HasNothingToMake m.edit c h old ⊎ HasMade m.edit c h m.call old
   UpdateAnswers m c h (FullAnswer full) = IsFullFor m c h full
-  UpdateAnswers m c h _ = Unit {0}
+  UpdateAnswers m c h (Contended node scx) = HasEnteredNone c.layout c.pass h c.start
 
   -- it waits for the step that it asks for, or its answer is right
   abbrev pub UpdateTurn : Call → History → UpdateRun E → Turn Updated → Type 0

@@ -24,7 +24,7 @@ use Rattle.updates.specs.declared.edit.Loaded.{Loaded}
 use Rattle.updates.specs.declared.edit.Nodes.{Nodes}
 use Rattle.updates.specs.declared.edit.Nth.{Nth}
 use Rattle.updates.specs.Edits.{EditMeaning, EditBounds}
-use Rattle.updates.specs.Known.{ComesBefore, IsNeeded, HasLooked, HasFilledAll, IsUpdateFor}
+use Rattle.updates.specs.Known.{ComesBefore, CoversLeaf, IsNeeded, HasLooked, HasFilledAll, IsUpdateFor}
 use Rattle.updates.specs.Laws.Hand.{IsPieceWord}
 use Rattle.updates.specs.Pieces.{nth_node, with_word, word_of}
 
@@ -50,6 +50,8 @@ pub record FillsWell {E : Type 0} (m : EditMeaning E) : Type 0 where
 pub record MakesWell {E : Type 0} (m : EditMeaning E) : Type 0 where
   pub some : (e : E) (f : Found) → m.looks e f [] ≢ Enough
   pub distinct : (e : E) (c : Call) (h : History) (f : Found) (snaps : List Snap) → IsTreeRun c.layout h → HasLooked m c h e f snaps → m.looks e f snaps ≡ Enough → AreDistinct snaps
+  -- and its leaf is the one that was found
+  pub leaf : (e : E) (c : Call) (h : History) (f : Found) (snaps : List Snap) (s : ℕ) → IsTreeRun c.layout h → m.needs e f ≢ Nothing → HasLooked m c h e f snaps → m.looks e f snaps ≡ Enough → CoversLeaf m e f c h s snaps
   pub promised : (e : E) (c : Call) (h : History) (f : Found) (snaps : List Snap) (ns : Nodes) (ld : Loaded) (j : Job) (d : Descriptor) → IsTreeRun c.layout h → m.needs e f ≢ Nothing → HasFilledAll m c h e f snaps ns ld → IsUpdateFor m e f snaps ns j.update → Says d j → IsPromised c.layout c.pass h j.scx.0 d (m.edit e)
 
 -- what the machine of an edit needs of it

@@ -116,7 +116,7 @@ impl<E: Edit + Drop> UpdateRun<E> {
 
     /// Begins a try. The try before it was lost to this SCX-record over this node.
     fn begin_walk(&mut self, node: NodeNo, scx: ScxNo) -> Turn<Updated>
-        ensures turn { (c : Call) (h : History) → IsRun TreeAllows c.layout h → Begins E.means self.old c h → UpdateTurn E.means c h self.new result }
+        ensures turn { (c : Call) (h : History) → IsRun TreeAllows c.layout h → Begins E.means self.old c h → IsTry c h → UpdateTurn E.means c h self.new result }
         ensures begins { (c : Call) (h : History) → Begins E.means self.old c h → MatchTurn result (λ _. Unit {0}) (λ _. ⊥) }
         ensures same { (self.new.edit ≡ self.old.edit) × (self.new.call ≡ self.old.call) }
         ensures nearer { (nodes : ℕ) → IsNearer E.means self.new nodes result (self.old.tries * try_left E.means nodes + try_left E.means nodes) }
@@ -133,7 +133,7 @@ impl<E: Edit + Drop> UpdateRun<E> {
 
     /// Ends a try that is lost, and begins the next if there is one.
     fn lost(&mut self, node: NodeNo, scx: ScxNo) -> Turn<Updated>
-        ensures turn { (c : Call) (h : History) → IsRun TreeAllows c.layout h → Begins E.means self.old c h → UpdateTurn E.means c h self.new result }
+        ensures turn { (c : Call) (h : History) → IsRun TreeAllows c.layout h → Begins E.means self.old c h → IsTry c h → UpdateTurn E.means c h self.new result }
         ensures same { (self.new.edit ≡ self.old.edit) × (self.new.call ≡ self.old.call) }
         ensures nearer { (nodes : ℕ) → IsNearer E.means self.new nodes result (self.old.tries * try_left E.means nodes) }
     {
@@ -146,7 +146,7 @@ impl<E: Edit + Drop> UpdateRun<E> {
 
     /// Goes on with what the last step of the walk found.
     fn walk_on(&mut self, mut walk: WalkRun, got: Option<u64>) -> Turn<Updated>
-        ensures turn { (c : Call) (h : History) → IsRun TreeAllows c.layout h → Walks E.means self.old c h walk.key → WalkIsReady walk c h got → UpdateTurn E.means c h self.new result }
+        ensures turn { (c : Call) (b h : History) → IsRun TreeAllows c.layout h → IsTry c b → Walks E.means self.old (from c b) h walk.key → WalkIsReady walk (from c b) h got → UpdateTurn E.means c h self.new result }
         ensures same { (self.new.edit ≡ self.old.edit) × (self.new.call ≡ self.old.call) }
         ensures nearer { (nodes : ℕ) → WalkFits walk got nodes → IsNearer E.means self.new nodes result (self.old.tries * try_left E.means nodes + (walk_left walk.at nodes + (64 * E.means.most_looks + works_behind E.means First + 39))) }
     {
@@ -178,7 +178,7 @@ impl<E: Edit + Drop> UpdateRun<E> {
 
     /// Goes on behind the walk, if the share has what the edit needs.
     fn test_share(&mut self, found: Found) -> Turn<Updated>
-        ensures turn { (c : Call) (h : History) → IsRun TreeAllows c.layout h → Begins E.means self.old c h → HasFoundLeaf c h (edit_key (E.means.edit self.old.edit)) found → UpdateTurn E.means c h self.new result }
+        ensures turn { (c : Call) (b h : History) → IsRun TreeAllows c.layout h → IsTry c b → Begins E.means self.old (from c b) h → IsQuietSince c.layout c.pass b h → HasFoundLeaf (from c b) h (edit_key (E.means.edit self.old.edit)) found → UpdateTurn E.means c h self.new result }
         ensures same { (self.new.edit ≡ self.old.edit) × (self.new.call ≡ self.old.call) }
         ensures nearer { (nodes : ℕ) → IsNearer E.means self.new nodes result (self.old.tries * try_left E.means nodes + (64 * E.means.most_looks + works_behind E.means First + 39)) }
     {
@@ -195,7 +195,7 @@ impl<E: Edit + Drop> UpdateRun<E> {
 
     /// Looks at the next node that the edit names.
     fn look(&mut self, found: Found) -> Turn<Updated>
-        ensures turn { (c : Call) (h : History) → IsRun TreeAllows c.layout h → CanLook E.means self.old c h found → UpdateTurn E.means c h self.new result }
+        ensures turn { (c : Call) (b h : History) → IsRun TreeAllows c.layout h → IsTry c b → CanLook E.means self.old (from c b) h found → UpdateTurn E.means c h self.new result }
         ensures same { (self.new.edit ≡ self.old.edit) × (self.new.call ≡ self.old.call) }
         ensures nearer { (nodes : ℕ) → IsNearer E.means self.new nodes result (self.old.tries * try_left E.means nodes + (64 * (E.means.most_looks - length self.old.snaps.items) + works_behind E.means First + 39)) }
     {
@@ -208,7 +208,7 @@ impl<E: Edit + Drop> UpdateRun<E> {
 
     /// Begins the LLX of a node.
     fn begin_look(&mut self, found: Found, node: NodeNo) -> Turn<Updated>
-        ensures turn { (c : Call) (h : History) → IsRun TreeAllows c.layout h → CanLook E.means self.old c h found → E.means.looks self.old.edit found self.old.snaps.items ≡ Look.At node → IsOpened c.layout h node.0 → UpdateTurn E.means c h self.new result }
+        ensures turn { (c : Call) (b h : History) → IsRun TreeAllows c.layout h → IsTry c b → CanLook E.means self.old (from c b) h found → E.means.looks self.old.edit found self.old.snaps.items ≡ Look.At node → IsOpened c.layout h node.0 → UpdateTurn E.means c h self.new result }
         ensures same { (self.new.edit ≡ self.old.edit) × (self.new.call ≡ self.old.call) }
         ensures nearer { (nodes : ℕ) → IsNearer E.means self.new nodes result (self.old.tries * try_left E.means nodes + (64 + 64 * (E.means.most_looks - 1 - length self.old.snaps.items) + works_behind E.means First + 39)) }
     {
@@ -227,7 +227,7 @@ impl<E: Edit + Drop> UpdateRun<E> {
 
     /// Goes on with what the last step of an LLX found.
     fn look_on(&mut self, found: Found, mut llx: LlxRun, got: Option<u64>) -> Turn<Updated>
-        ensures turn { (c : Call) (h begin : History) → IsRun TreeAllows c.layout h → Looks E.means self.old c h found llx begin → LlxIsReady TreeAllows llx (from c begin) h got → UpdateTurn E.means c h self.new result }
+        ensures turn { (c : Call) (b begin h : History) → IsRun TreeAllows c.layout h → IsTry c b → Looks E.means self.old (from c b) h found llx begin → LlxIsReady TreeAllows llx (from (from c b) begin) h got → UpdateTurn E.means c h self.new result }
         ensures same { (self.new.edit ≡ self.old.edit) × (self.new.call ≡ self.old.call) }
         ensures nearer { (nodes : ℕ) → IsNearer E.means self.new nodes result (self.old.tries * try_left E.means nodes + (llx_left llx.at + 64 * (E.means.most_looks - 1 - length self.old.snaps.items) + works_behind E.means First + 39)) }
     {
@@ -245,7 +245,7 @@ impl<E: Edit + Drop> UpdateRun<E> {
 
     /// Keeps a snapshot, and goes on behind it.
     fn looked(&mut self, found: Found, snap: Snap) -> Turn<Updated>
-        ensures turn { (c : Call) (h : History) → IsRun TreeAllows c.layout h → CanLook E.means self.old c h found → E.means.looks self.old.edit found self.old.snaps.items ≡ Look.At snap.node → IsSnapshot c.layout h snap.node.0 snap → UpdateTurn E.means c h self.new result }
+        ensures turn { (c : Call) (b h : History) → IsRun TreeAllows c.layout h → IsTry c b → CanLook E.means self.old (from c b) h found → E.means.looks self.old.edit found self.old.snaps.items ≡ Look.At snap.node → IsSnapshot c.layout h snap.node.0 snap → UpdateTurn E.means c h self.new result }
         ensures same { (self.new.edit ≡ self.old.edit) × (self.new.call ≡ self.old.call) }
         ensures nearer { (nodes : ℕ) → IsNearer E.means self.new nodes result (self.old.tries * try_left E.means nodes + (64 * (E.means.most_looks - 1 - length self.old.snaps.items) + works_behind E.means First + 39)) }
     {
@@ -255,7 +255,7 @@ impl<E: Edit + Drop> UpdateRun<E> {
 
     /// Takes the fresh nodes, once all snapshots are there.
     fn begin_work(&mut self, found: Found) -> Turn<Updated>
-        ensures turn { (c : Call) (h : History) → IsRun TreeAllows c.layout h → CanLook E.means self.old c h found → E.means.looks self.old.edit found self.old.snaps.items ≡ Look.Enough → UpdateTurn E.means c h self.new result }
+        ensures turn { (c : Call) (b h : History) → IsRun TreeAllows c.layout h → IsTry c b → CanLook E.means self.old (from c b) h found → E.means.looks self.old.edit found self.old.snaps.items ≡ Look.Enough → UpdateTurn E.means c h self.new result }
         ensures same { (self.new.edit ≡ self.old.edit) × (self.new.call ≡ self.old.call) }
         ensures nearer { (nodes : ℕ) → IsNearer E.means self.new nodes result (self.old.tries * try_left E.means nodes + (works_behind E.means First + 39)) }
     {
@@ -273,7 +273,7 @@ impl<E: Edit + Drop> UpdateRun<E> {
 
     /// Takes one fresh node.
     fn begin_one(&mut self, found: Found) -> Turn<Updated>
-        ensures turn { (c : Call) (h : History) → IsRun TreeAllows c.layout h → CanLook E.means self.old c h found → E.means.looks self.old.edit found self.old.snaps.items ≡ Look.Enough → E.means.needs self.old.edit found ≡ Need.One → self.old.loaded ≡ nothing_loaded → UpdateTurn E.means c h self.new result }
+        ensures turn { (c : Call) (b h : History) → IsRun TreeAllows c.layout h → IsTry c b → CanLook E.means self.old (from c b) h found → E.means.looks self.old.edit found self.old.snaps.items ≡ Look.Enough → E.means.needs self.old.edit found ≡ Need.One → self.old.loaded ≡ nothing_loaded → UpdateTurn E.means c h self.new result }
         ensures same { (self.new.edit ≡ self.old.edit) × (self.new.call ≡ self.old.call) }
         ensures nearer { (nodes : ℕ) → IsNearer E.means self.new nodes result (self.old.tries * try_left E.means nodes + (works_behind E.means First + 39)) }
     {
@@ -288,7 +288,7 @@ impl<E: Edit + Drop> UpdateRun<E> {
 
     /// Takes three.
     fn begin_three(&mut self, found: Found) -> Turn<Updated>
-        ensures turn { (c : Call) (h : History) → IsRun TreeAllows c.layout h → CanLook E.means self.old c h found → E.means.looks self.old.edit found self.old.snaps.items ≡ Look.Enough → E.means.needs self.old.edit found ≡ Need.Three → self.old.loaded ≡ nothing_loaded → UpdateTurn E.means c h self.new result }
+        ensures turn { (c : Call) (b h : History) → IsRun TreeAllows c.layout h → IsTry c b → CanLook E.means self.old (from c b) h found → E.means.looks self.old.edit found self.old.snaps.items ≡ Look.Enough → E.means.needs self.old.edit found ≡ Need.Three → self.old.loaded ≡ nothing_loaded → UpdateTurn E.means c h self.new result }
         ensures same { (self.new.edit ≡ self.old.edit) × (self.new.call ≡ self.old.call) }
         ensures nearer { (nodes : ℕ) → IsNearer E.means self.new nodes result (self.old.tries * try_left E.means nodes + (works_behind E.means First + 39)) }
     {
@@ -317,7 +317,7 @@ impl<E: Edit + Drop> UpdateRun<E> {
 
     /// Loads the next word for the fresh node of this place, or begins to fill it.
     fn load(&mut self, found: Found, nth: Nth) -> Turn<Updated>
-        ensures turn { (c : Call) (h : History) → IsRun TreeAllows c.layout h → CanLoad E.means self.old c h found nth → UpdateTurn E.means c h self.new result }
+        ensures turn { (c : Call) (b h : History) → IsRun TreeAllows c.layout h → IsTry c b → CanLoad E.means self.old (from c b) h found nth → UpdateTurn E.means c h self.new result }
         ensures same { (self.new.edit ≡ self.old.edit) × (self.new.call ≡ self.old.call) }
         ensures nearer { (nodes : ℕ) → IsNearer E.means self.new nodes result (self.old.tries * try_left E.means nodes + (works_left E.means self.old found nth + 39)) }
     {
@@ -336,7 +336,7 @@ impl<E: Edit + Drop> UpdateRun<E> {
 
     /// Goes on with what that load has told.
     fn load_on(&mut self, found: Found, nth: Nth, part: NodeWord, told: u64) -> Turn<Updated>
-        ensures turn { (c : Call) (h : History) → IsRun TreeAllows c.layout h → Loads E.means self.old c h found nth part → value h (node (copied E.means self.old found) part) ≡ told → UpdateTurn E.means c h self.new result }
+        ensures turn { (c : Call) (b h : History) → IsRun TreeAllows c.layout h → IsTry c b → Loads E.means self.old (from c b) h found nth part → value h (node (copied E.means self.old found) part) ≡ told → UpdateTurn E.means c h self.new result }
         ensures same { (self.new.edit ≡ self.old.edit) × (self.new.call ≡ self.old.call) }
         ensures nearer { (nodes : ℕ) → IsWanted E.means self.old found nth part → IsNearer E.means self.new nodes result (self.old.tries * try_left E.means nodes + (works_left E.means self.old found nth - 1 + 39)) }
     {
@@ -346,7 +346,7 @@ impl<E: Edit + Drop> UpdateRun<E> {
 
     /// Fills a word of the fresh node of this place.
     fn fill(&mut self, found: Found, nth: Nth, part: NodeWord) -> Turn<Updated>
-        ensures turn { (c : Call) (h : History) → IsRun TreeAllows c.layout h → CanFill E.means self.old c h found nth part → UpdateTurn E.means c h self.new result }
+        ensures turn { (c : Call) (b h : History) → IsRun TreeAllows c.layout h → IsTry c b → CanFill E.means self.old (from c b) h found nth part → UpdateTurn E.means c h self.new result }
         ensures same { (self.new.edit ≡ self.old.edit) × (self.new.call ≡ self.old.call) }
         ensures nearer { (nodes : ℕ) → IsNearer E.means self.new nodes result (self.old.tries * try_left E.means nodes + (fills_left E.means self.old found nth part + 1 + 39)) }
     {
@@ -364,7 +364,7 @@ impl<E: Edit + Drop> UpdateRun<E> {
 
     /// Goes on behind that fill: with the next word, the next node, or the SCX.
     fn fill_on(&mut self, found: Found, nth: Nth, part: NodeWord) -> Turn<Updated>
-        ensures turn { (c : Call) (h : History) → IsRun TreeAllows c.layout h → IsFilledUpTo E.means self.old c h found nth part → UpdateTurn E.means c h self.new result }
+        ensures turn { (c : Call) (b h : History) → IsRun TreeAllows c.layout h → IsTry c b → IsFilledUpTo E.means self.old (from c b) h found nth part → UpdateTurn E.means c h self.new result }
         ensures same { (self.new.edit ≡ self.old.edit) × (self.new.call ≡ self.old.call) }
         ensures nearer { (nodes : ℕ) → IsNearer E.means self.new nodes result (self.old.tries * try_left E.means nodes + (fills_left E.means self.old found nth part + 39)) }
     {
@@ -405,7 +405,7 @@ impl<E: Edit + Drop> UpdateRun<E> {
 
     /// Begins the SCX.
     fn begin_scx(&mut self, found: Found) -> Turn<Updated>
-        ensures turn { (c : Call) (h : History) → IsRun TreeAllows c.layout h → CanScx E.means self.old c h found → UpdateTurn E.means c h self.new result }
+        ensures turn { (c : Call) (b h : History) → IsRun TreeAllows c.layout h → IsTry c b → CanScx E.means self.old (from c b) h found → UpdateTurn E.means c h self.new result }
         ensures same { (self.new.edit ≡ self.old.edit) × (self.new.call ≡ self.old.call) }
         ensures nearer { (nodes : ℕ) → IsNearer E.means self.new nodes result (self.old.tries * try_left E.means nodes + 39) }
     {
@@ -429,7 +429,7 @@ impl<E: Edit + Drop> UpdateRun<E> {
 
     /// Goes on with what the last step of the SCX found.
     fn scx_on(&mut self, found: Found, mut scx: ScxRun, got: Option<u64>) -> Turn<Updated>
-        ensures turn { (c : Call) (h : History) (begin : History) → IsRun TreeAllows c.layout h → Scxs E.means self.old c h found scx begin → ScxIsReady TreeAllows scx (from c begin) h got → UpdateTurn E.means c h self.new result }
+        ensures turn { (c : Call) (b begin h : History) → IsRun TreeAllows c.layout h → IsTry c b → Scxs E.means self.old (from c b) h found scx begin → ScxIsReady TreeAllows scx (from (from c b) begin) h got → UpdateTurn E.means c h self.new result }
         ensures same { (self.new.edit ≡ self.old.edit) × (self.new.call ≡ self.old.call) }
         ensures nearer { (nodes : ℕ) → IsNearer E.means self.new nodes result (self.old.tries * try_left E.means nodes + scx_left scx.at) }
     {
@@ -479,6 +479,8 @@ impl<E: Edit + Drop> UpdateRun<E> {
     ghost use Rattle.updates.specs.Known.{Begins, CanLook, Looks, nothing_loaded, CanLoad, CanFill, Loads, Scxs, UpdateTurn, copied};
     ghost use Rattle.arena.specs.Words.{node};
     ghost use Rattle.updates.specs.Laws.HandScx.{from};
+    ghost use Rattle.updates.specs.Tries.{IsTry};
+    ghost use Rattle.prims.specs.Laws.Idle.{IsQuietSince};
 }
 
 impl<E: Edit + Drop> Machine<Tree> for UpdateRun<E> {

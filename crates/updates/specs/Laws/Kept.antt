@@ -1,5 +1,5 @@
 -- What an update knows stays true after any row.
-use Rattle.std.proofs.Common.{◌≡◌, ◌≢◌, ℕ, Some, None, Option, List, inr, refl, sym, ◌∙◌}
+use Rattle.std.proofs.Common.{◌≡◌, ◌≢◌, ℕ, Some, None, Option, List, inr, refl, sym, ◌∙◌, arith}
 use Rattle.arena.specs.declared.step.Row.{Row}
 use Rattle.arena.specs.declared.step.Kind.TheVariants.{Fill}
 use Rattle.arena.specs.declared.word.NodeWord.TheVariants.{Head, Key, Value}
@@ -11,6 +11,8 @@ use Rattle.arena.specs.Share.{Remaining}
 use Rattle.arena.proofs.Lemmas.{ends_self}
 use Rattle.histories.proofs.Lemmas.{named_more, node_stays}
 use Rattle.prims.specs.Laws.Begun.{takes_by_others, takes_by_step}
+use Rattle.prims.specs.Laws.Idle.{IsIdle, IsQuietSince, idle_if_over, quiet_more}
+use Rattle.prims.specs.Moments.{AreFinished}
 use Rattle.prims.specs.declared.snap.Snap.{Snap}
 use Rattle.prims.proofs.Lemmas.{over_more, share_by_others, share_by_step, usable_since}
 use Rattle.spelling.specs.OrderedMap.{edit_key}
@@ -25,6 +27,18 @@ use Rattle.updates.specs.declared.update.UpdateRun.{UpdateRun}
 use Rattle.updates.specs.Edits.{EditMeaning}
 use Rattle.template.proofs.Lemmas.{found_more}
 use Rattle.updates.specs.Known.{RestsWith, AreUsable, IsLoaded, AreLoaded, HasLooked, Works, copied}
+
+-- a pass whose SCX-records are all finished is idle
+pub idle_over : (c : Call) (h : History) → Lawful c.layout h → AreFinished c.layout c.pass 0 h → IsIdle c.layout c.pass h
+idle_over c h l over = idle_if_over c.layout c.pass h l (λ s own t. over s own (λ e. let a = own.from in omega (arith, e)) t)
+
+-- a pass at rest is idle
+pub idle_rests : (c : Call) (h : History) (left : Remaining) → Lawful c.layout h → RestsWith c h left → IsIdle c.layout c.pass h
+idle_rests c h left l x = idle_over c h l x.over
+
+-- and stays quiet
+pub quiet_rests : (c : Call) (h : History) (r : Row) (left : Remaining) → Lawful c.layout (r ⊳ h) → RestsWith c (r ⊳ h) left → IsQuietSince c.layout c.pass c.start h → IsQuietSince c.layout c.pass c.start (r ⊳ h)
+quiet_rests c h r left l x = quiet_more c.layout c.pass c.start h r (idle_rests c (r ⊳ h) left l x)
 
 -- rows of other passes leave the pass at rest
 pub rests_by_others : (c : Call) (h : History) (r : Row) (left : Remaining) → Lawful c.layout (r ⊳ h) → r.pass.0 ≢ c.pass → RestsWith c h left → RestsWith c (r ⊳ h) left
@@ -68,10 +82,11 @@ module _ {E : Type 0} (e : EditMeaning E) where
     seen = x.seen;
   }
 
-  pub works_more : (m : UpdateRun E) (c : Call) (h : History) (r : Row) (f : Found) (nth : Nth) → IsRun TreeAllows c.layout (r ⊳ h) → Works e m c h f nth → Works e m c (r ⊳ h) f nth
-  works_more m c h r f nth run x = record {
+  pub works_more : (m : UpdateRun E) (c : Call) (h : History) (r : Row) (f : Found) (nth : Nth) → IsRun TreeAllows c.layout (r ⊳ h) → IsIdle c.layout c.pass (r ⊳ h) → Works e m c h f nth → Works e m c (r ⊳ h) f nth
+  works_more m c h r f nth run idle x = record {
     run = (x.run.0, run);
     since = inr x.since;
+    quiet = quiet_more c.layout c.pass c.start h r idle x.quiet;
     looked = looked_more c h r m.edit f m.snaps.items x.run run x.looked;
     enough = x.enough;
     need = x.need;

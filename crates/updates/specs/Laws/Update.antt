@@ -27,7 +27,7 @@ use Rattle.prims.proofs.Lemmas.{llx_fills_not, over_more, share_by_others, share
 use Rattle.spelling.specs.OrderedMap.{edit_key}
 use Rattle.spelling.specs.TreeShape.{TreeAllows}
 use Rattle.template.specs.Walk.Laws.{walk_keeps, walk_lawful, walk_made, walk_told}
-use Rattle.template.proofs.Lemmas.{found_more, tracks_by_others, tracks_by_scx, walk_fills_not}
+use Rattle.template.proofs.Lemmas.{tracks_by_others, tracks_by_scx, walk_fills_not}
 use Rattle.template.specs.declared.walk.Found.{Found}
 use Rattle.updates.specs.declared.edit.Nth.{Nth}
 use Rattle.updates.specs.declared.edit.Piece.{Piece}
@@ -37,10 +37,11 @@ use Rattle.updates.specs.declared.update.UpdateRun.{UpdateRun}
 use Rattle.updates.specs.Edits.{EditMeaning}
 use Rattle.updates.specs.Steps.{UpdateFitsAt, UpdateFits}
 use Rattle.updates.specs.Pieces.{nth_node, word_of}
-use Rattle.updates.specs.Known.{Looks, Loads, Fills, Scxs, Walks, fill_step, UpdateWaitsAt, UpdateIsToldAt, UpdateWaits, UpdateIsReady, piece, top, copied}
+use Rattle.updates.specs.Known.{RestsWith, Looks, Loads, Fills, Scxs, Walks, fill_step, UpdateWaitsAt, UpdateIsToldAt, UpdateWaits, UpdateIsReady, piece, top, copied}
 use Rattle.updates.specs.Laws.Hand.{IsBefore, IsUpTo, HoldsWords, HasFilledTo, IsForField, FieldMay, by_others, by_load, filled_more, words_by_others, words_more, taken_now, may_fill}
 use Rattle.updates.specs.Laws.HandScx.{from}
-use Rattle.updates.specs.Laws.Kept.{rests_by_others, rests_by_step, looked_more, works_more}
+use Rattle.updates.specs.Laws.Kept.{idle_over, quiet_rests, rests_by_others, rests_by_step, looked_more, works_more}
+use Rattle.updates.specs.Laws.Entered.{only_more}
 use Rattle.updates.specs.Laws.NodeFills.{fill_lawful}
 
 -- what a field may get it may get after any row
@@ -60,7 +61,9 @@ module _ {E : Type 0} (e : EditMeaning E) where
   -- Rows of other passes
 
   walks_by_others : (m : UpdateRun E) (c : Call) (h : History) (r : Row) (key : ℕ) → IsRun TreeAllows c.layout (r ⊳ h) → r.pass.0 ≢ c.pass → Walks e m c h key → Walks e m c (r ⊳ h) key
-  walks_by_others m c h r key run other x = record { small = x.small; rests = rests_by_others c h r m.share run.lawful other x.rests; same = x.same }
+  walks_by_others m c h r key run other x =
+      let rests : RestsWith c (r ⊳ h) m.share = rests_by_others c h r m.share run.lawful other x.rests in
+      record { small = x.small; rests = rests; quiet = quiet_rests c h r m.share run.lawful rests x.quiet; same = x.same }
 
   looks_by_others : (m : UpdateRun E) (c : Call) (h : History) (r : Row) (f : Found) (llx : LlxRun) (begin : History) → IsRun TreeAllows c.layout (r ⊳ h) → r.pass.0 ≢ c.pass → Looks e m c h f llx begin → Looks e m c (r ⊳ h) f llx begin
   looks_by_others m c h r f llx begin run other x = record {
@@ -70,6 +73,7 @@ module _ {E : Type 0} (e : EditMeaning E) where
     room = x.room;
     named = x.named;
     now = inr x.now;
+    quiet = quiet_rests c h r m.share run.lawful (rests_by_others c h r m.share run.lawful other x.rests) x.quiet;
     since = x.since;
   }
 
@@ -80,16 +84,21 @@ module _ {E : Type 0} (e : EditMeaning E) where
   scxs_by_others m c h r f scx begin run other x = record {
     run = (x.run.0, run);
     small = x.small;
-    found = found_more c h r (edit_key (e.edit m.edit)) f x.run run x.found;
     now = inr x.now;
     since = x.since;
     share = share_by_others c.layout h r c.pass m.share m.share.next_node scx.scx.0 run.lawful c.is_pass other x.share;
     next_node = x.next_node;
     next_scx = x.next_scx;
+    call = x.call;
     own = x.own;
     own_scx = x.own_scx;
     over = over_more c.layout c.pass scx.scx.0 h r run.lawful (takes_by_others c.layout c.pass scx.scx.0 h r run.lawful other) x.over;
     tracks = tracks_by_others c.layout c.pass h r (job_of scx) (e.edit m.edit) run.lawful other x.own_scx x.tracks;
+    only = only_more c.layout c.pass scx.scx.0 h r c.start run.lawful x.over x.only;
+    found = x.found;
+    usable = x.usable;
+    quiet = x.quiet;
+    leaf = x.leaf;
   }
 
   kept_at : (m : UpdateRun E) (c : Call) (h : History) (s : Step) (r : Row) (at : UpdateAt) → IsRun TreeAllows c.layout (r ⊳ h) → r.pass.0 ≢ c.pass → UpdateWaitsAt e m c h s at → UpdateWaitsAt e m c (r ⊳ h) s at
@@ -97,11 +106,11 @@ module _ {E : Type 0} (e : EditMeaning E) where
   kept_at m c h s r (Walk walk) run other w = (walks_by_others m c h r walk.key run other w.0, walk_keeps walk c h s r run other w.1)
   kept_at m c h s r (Look f llx) run other w = (w.0, looks_by_others m c h r f llx w.0 run other w.1, llx_keeps TreeAllows llx (from c w.0) h s r run other w.2)
   kept_at m c h s r (Load f nth part) run other w = (
-    record { works = works_more e m c h r f nth run w.0.works; full = full_by_others m c h r f nth run other w.0.full; hand = w.0.hand; wanted = w.0.wanted; settled = w.0.settled },
+    record { works = works_more e m c h r f nth run (idle_over c (r ⊳ h) run.lawful (full_by_others m c h r f nth run other w.0.full).over) w.0.works; full = full_by_others m c h r f nth run other w.0.full; hand = w.0.hand; wanted = w.0.wanted; settled = w.0.settled },
     w.1,
   )
   kept_at m c h s r (Fill f nth part) run other w = (
-    record { works = works_more e m c h r f nth run w.0.works; full = full_by_others m c h r f nth run other w.0.full; hand = w.0.hand; done = w.0.done; fill = w.0.fill; part_is = w.0.part_is },
+    record { works = works_more e m c h r f nth run (idle_over c (r ⊳ h) run.lawful (full_by_others m c h r f nth run other w.0.full).over) w.0.works; full = full_by_others m c h r f nth run other w.0.full; hand = w.0.hand; done = w.0.done; fill = w.0.fill; part_is = w.0.part_is },
     field_may_more part _ _ (for_field_more c.layout h r m.nodes.first.0 (top e m f) (word_of (piece e m f (nth_node m.nodes nth).0) part)) w.1,
     words_by_others c.layout h r c.pass m.share m.nodes.first.0 (top e m f) (piece e m f) c.is_pass run.lawful other (nth_node m.nodes nth).0 (piece e m f (nth_node m.nodes nth).0) (IsBefore part) w.0.full.hand w.0.hand.lowest w.0.hand.highest w.2,
     w.3,
@@ -110,7 +119,7 @@ module _ {E : Type 0} (e : EditMeaning E) where
 
   -- rows of other passes leave an update waiting for the same step
   pub update_keeps : (m : UpdateRun E) (c : Call) (h : History) (s : Step) (r : Row) → IsRun TreeAllows c.layout (r ⊳ h) → r.pass.0 ≢ c.pass → UpdateWaits e m c h s → UpdateWaits e m c (r ⊳ h) s
-  update_keeps m c h s r run other w = kept_at m c h s r m.at run other w
+  update_keeps m c h s r run other w = (w.0, w.1, kept_at m (from c w.0) h s r m.at run other w.2)
 
   -- The step that it waits for
 
@@ -126,12 +135,14 @@ module _ {E : Type 0} (e : EditMeaning E) where
 
   -- the step that an update waits for continues the run
   pub update_lawful : (m : UpdateRun E) (c : Call) (h : History) (s : Step) → IsRun TreeAllows c.layout h → UpdateWaits e m c h s → IsRun TreeAllows c.layout (row_of c s h ⊳ h)
-  update_lawful m c h s run w = lawful_at m c h s m.at run w
+  update_lawful m c h s run w = lawful_at m (from c w.0) h s m.at run w.2
 
   -- Its own row
 
   walks_by_step : (m : UpdateRun E) (c : Call) (h : History) (r : Row) (key : ℕ) → IsRun TreeAllows c.layout (r ⊳ h) → r.kind ≢ FillKind → Walks e m c h key → Walks e m c (r ⊳ h) key
-  walks_by_step m c h r key run no_fill x = record { small = x.small; rests = rests_by_step c h r m.share run.lawful no_fill x.rests; same = x.same }
+  walks_by_step m c h r key run no_fill x =
+      let rests : RestsWith c (r ⊳ h) m.share = rests_by_step c h r m.share run.lawful no_fill x.rests in
+      record { small = x.small; rests = rests; quiet = quiet_rests c h r m.share run.lawful rests x.quiet; same = x.same }
 
   looks_by_step : (m : UpdateRun E) (c : Call) (h : History) (r : Row) (f : Found) (llx : LlxRun) (begin : History) → IsRun TreeAllows c.layout (r ⊳ h) → r.kind ≢ FillKind → Looks e m c h f llx begin → Looks e m c (r ⊳ h) f llx begin
   looks_by_step m c h r f llx begin run no_fill x = record {
@@ -141,14 +152,15 @@ module _ {E : Type 0} (e : EditMeaning E) where
     room = x.room;
     named = x.named;
     now = inr x.now;
+    quiet = quiet_rests c h r m.share run.lawful (rests_by_step c h r m.share run.lawful no_fill x.rests) x.quiet;
     since = x.since;
   }
 
   -- a load changes nothing
   loads_made : (m : UpdateRun E) (c : Call) (h : History) (s : Step) (f : Found) (nth : Nth) (part : NodeWord) → IsRun TreeAllows c.layout (row_of c s h ⊳ h) → s ≡ load LoadSettled (node (copied e m f) part) → Loads e m c h f nth part → Loads e m c (row_of c s h ⊳ h) f nth part
   loads_made m c h s f nth part run asked x = record {
-    works = works_more e m c h (row_of c s h) f nth run x.works;
-    full = by_load c.layout h (row_of c s h) c.pass m.share m.nodes.first.0 (top e m f) (nth_node m.nodes nth).0 (piece e m f) run.lawful (λ q. let z : LoadSettled ≡ FillKind = sym (ap (λ (t : Step). t.kind) asked) ∙ q in cc) same x.full;
+    works = works_more e m c h (row_of c s h) f nth run (idle_over c (row_of c s h ⊳ h) run.lawful full.over) x.works;
+    full = full;
     hand = x.hand;
     wanted = x.wanted;
     settled = x.settled;
@@ -156,6 +168,9 @@ module _ {E : Type 0} (e : EditMeaning E) where
     where
       same : (w : Word) → value (row_of c s h ⊳ h) w ≡ value h w
       same = value_quiet (row_of c s h) h refl (rw asked refl)
+
+      full : HasFilledTo c.layout (row_of c s h ⊳ h) c.pass m.share m.nodes.first.0 (top e m f) (nth_node m.nodes nth).0 (piece e m f)
+      full = by_load c.layout h (row_of c s h) c.pass m.share m.nodes.first.0 (top e m f) (nth_node m.nodes nth).0 (piece e m f) run.lawful (λ q. let z : LoadSettled ≡ FillKind = sym (ap (λ (t : Step). t.kind) asked) ∙ q in cc) same x.full
 
   -- a fill of a word of the fresh node of this place
   module _ (m : UpdateRun E) (c : Call) (h : History) (f : Found) (nth : Nth) (part : NodeWord) where
@@ -177,8 +192,8 @@ module _ {E : Type 0} (e : EditMeaning E) where
     fills_made : IsRun TreeAllows c.layout (r ⊳ h) → Fills e m c h f nth part → May → HoldsWords h n p (IsBefore part) → Then (r ⊳ h)
     fills_made run x may words = (
       record {
-        works = works_more e m c h r f nth run x.works;
-        full = filled_more c.layout h r c.pass m.share m.nodes.first.0 (top e m f) n (piece e m f) part run.lawful refl refl x.fill x.hand.lowest x.hand.highest may x.full;
+        works = works_more e m c h r f nth run (idle_over c (r ⊳ h) run.lawful full.over) x.works;
+        full = full;
         hand = x.hand;
         done = x.done;
         fill = x.fill;
@@ -187,6 +202,9 @@ module _ {E : Type 0} (e : EditMeaning E) where
       words_more c.layout h r c.pass m.share m.nodes.first.0 (top e m f) n (piece e m f) part run.lawful refl refl x.fill x.hand.lowest x.hand.highest may x.full p refl words,
       taken_now c.layout h r c.pass m.share m.nodes.first.0 (top e m f) n (piece e m f) part run.lawful refl refl x.fill x.hand.lowest x.hand.highest may x.full,
     )
+      where
+        full : HasFilledTo c.layout (r ⊳ h) c.pass m.share m.nodes.first.0 (top e m f) n (piece e m f)
+        full = filled_more c.layout h r c.pass m.share m.nodes.first.0 (top e m f) n (piece e m f) part run.lawful refl refl x.fill x.hand.lowest x.hand.highest may x.full
 
     fills_then : (s : Step) → s ≡ fill_step e m f nth part → IsRun TreeAllows c.layout (row_of c s h ⊳ h) → Fills e m c h f nth part → May → HoldsWords h n p (IsBefore part) → Then (row_of c s h ⊳ h)
     fills_then s asked run x may words = rw asked (fills_made (rw asked at run) x may words)
@@ -195,16 +213,21 @@ module _ {E : Type 0} (e : EditMeaning E) where
   scxs_made m c h s f scx begin run x w = record {
     run = (x.run.0, run);
     small = x.small;
-    found = found_more c h (row_of c s h) (edit_key (e.edit m.edit)) f x.run run x.found;
     now = inr x.now;
     since = x.since;
     share = share_by_scx TreeAllows scx (from c begin) h s m.share m.share.next_node scx.scx.0 run.lawful w (let a = x.next_node in omega (arith, a)) (let a = x.next_scx in omega (arith, a)) x.share;
     next_node = x.next_node;
     next_scx = x.next_scx;
+    call = x.call;
     own = x.own;
     own_scx = x.own_scx;
     over = over_more c.layout c.pass scx.scx.0 h (row_of c s h) run.lawful (λ t own d free. untaken_at TreeAllows (job_of scx) (from c begin) h scx.at s t w d free) x.over;
     tracks = tracks_by_scx (from c begin) h scx s (e.edit m.edit) run x.run.1 w x.tracks;
+    only = only_more c.layout c.pass scx.scx.0 h (row_of c s h) c.start run.lawful x.over x.only;
+    found = x.found;
+    usable = x.usable;
+    quiet = x.quiet;
+    leaf = x.leaf;
   }
 
   made_at : (m : UpdateRun E) (c : Call) (h : History) (s : Step) (v : ℕ) (at : UpdateAt) → IsRun TreeAllows c.layout (row_of c s h ⊳ h) → IsTold s.access (value h s.word) v → UpdateWaitsAt e m c h s at → UpdateIsToldAt e m c (row_of c s h ⊳ h) v at
@@ -217,7 +240,7 @@ module _ {E : Type 0} (e : EditMeaning E) where
 
   -- once the step is made, an update may be called with what it told
   pub update_made : (m : UpdateRun E) (c : Call) (h : History) (s : Step) (v : ℕ) → IsRun TreeAllows c.layout (row_of c s h ⊳ h) → IsTold s.access (value h s.word) v → UpdateWaits e m c h s → UpdateIsReady e m c (row_of c s h ⊳ h) (Some v)
-  update_made m c h s v run t w = made_at m c h s v m.at run t w
+  update_made m c h s v run t w = (w.0, w.1, made_at m (from c w.0) h s v m.at run t w.2)
 
   -- What it is told
 
@@ -231,5 +254,5 @@ module _ {E : Type 0} (e : EditMeaning E) where
 
   -- what an update may be told fits the nodes that are taken by then
   pub update_told : (m : UpdateRun E) (c : Call) (h : History) (got : Option ℕ) (nodes : ℕ) → IsRun TreeAllows c.layout h → UpdateIsReady e m c h got → length (taken_nodes h) ≤ nodes → UpdateFits e m got nodes
-  update_told m c h None nodes run x few = subst (λ at. UpdateFitsAt e m None nodes at) (sym x.1) tt
-  update_told m c h (Some v) nodes run x few = fits_at m c h v nodes m.at run x few
+  update_told m c h None nodes run x few = subst (λ at. UpdateFitsAt e m None nodes at) (sym x.2) tt
+  update_told m c h (Some v) nodes run x few = fits_at m (from c x.0) h v nodes m.at run x.2 few

@@ -1,4 +1,5 @@
 use Rattle.std.proofs.Common.{sym, ◌∙◌}
+use Rattle.updates.specs.Laws.HandScx.{from}
 use Rattle.updates.proofs.Filling.{fills_next, loads_next, scx_next}
 use Rattle.updates.proofs.Nearer.{below, to_next_fill, to_next_node, to_scx, fewer_fills, after_next}
 use Rattle.updates.proofs.update.UpdateRun.fill_on.Goals as goal
@@ -13,14 +14,14 @@ pub returns-in-None-clause-nearer : goal.returns-in-None-clause-nearer
 returns-in-None-clause-nearer g c nodes = below c.begin_scx.result _ _ _ (c.begin_scx.ensures.nearer nodes) (to_scx _ _)
 
 pub returns-in-Some-clause-turn : goal.returns-in-Some-clause-turn
-returns-in-Some-clause-turn g c d h run x = c.fill.ensures.turn d h run (fills_next g.E.Edit.means c.args.self.now d h c.args.found c.args.nth c.args.part x c.in-Some.next g.met.E.Edit.laws.fills (rw (sym c.as_slice-snaps.ensures.value, sym c.piece-piece.ensures) (sym c.behind.ensures ∙ c.in-Some.is)))
+returns-in-Some-clause-turn g c d b h run try x = c.fill.ensures.turn d b h run try (fills_next g.E.Edit.means c.args.self.now (from d b) h c.args.found c.args.nth c.args.part x c.in-Some.next g.met.E.Edit.laws.fills (rw (sym c.as_slice-snaps.ensures.value, sym c.piece-piece.ensures) (sym c.behind.ensures ∙ c.in-Some.is)))
 
 pub returns-in-Some-behind-clause-turn : goal.returns-in-Some-behind-clause-turn
-returns-in-Some-behind-clause-turn g c d h run x = c.load.ensures.turn d h run (loads_next g.E.Edit.means c.args.self.now d h c.args.found c.args.nth c.args.part x c.in-Some-behind.after
+returns-in-Some-behind-clause-turn g c d b h run try x = c.load.ensures.turn d b h run try (loads_next g.E.Edit.means c.args.self.now (from d b) h c.args.found c.args.nth c.args.part x c.in-Some-behind.after
     (rw (sym c.as_slice-snaps.ensures.value, sym c.piece-piece.ensures) (sym c.behind.ensures ∙ c.in_default.is))
     (rw (sym c.need-need.ensures) (sym c.behind-2.ensures ∙ c.in-Some-behind.is)))
 
 pub returns-in-None-clause-turn : goal.returns-in-None-clause-turn
-returns-in-None-clause-turn g c d h run x = c.begin_scx.ensures.turn d h run (scx_next g.E.Edit.means c.args.self.now d h c.args.found c.args.nth c.args.part x
+returns-in-None-clause-turn g c d b h run try x = c.begin_scx.ensures.turn d b h run try (scx_next g.E.Edit.means c.args.self.now (from d b) h c.args.found c.args.nth c.args.part x
     (rw (sym c.as_slice-snaps.ensures.value, sym c.piece-piece.ensures) (sym c.behind.ensures ∙ c.in_default.is))
     (rw (sym c.need-need.ensures) (sym c.behind-2.ensures ∙ c.in-None.is)))

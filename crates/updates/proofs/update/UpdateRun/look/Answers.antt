@@ -1,4 +1,8 @@
-use Rattle.std.proofs.Common.{sym, ◌∙◌}
+use Rattle.std.proofs.Common.{◌≡◌, sym, ◌∙◌}
+use Rattle.updates.specs.declared.edit.Look.TheVariants.{At}
+use Rattle.updates.specs.Laws.HandScx.{from}
+use Rattle.updates.proofs.Looking.{is_needed}
+use Rattle.updates.proofs.Turns.{look_lost}
 use Rattle.updates.proofs.Nearer.{below, to_look, to_works, to_tries}
 use Rattle.updates.proofs.update.UpdateRun.look.Goals as goal
 
@@ -10,3 +14,17 @@ returns-in-Differs-clause-nearer g c nodes = below c.lost.result _ _ _ (c.lost.e
 
 pub returns-in-Enough-clause-nearer : goal.returns-in-Enough-clause-nearer
 returns-in-Enough-clause-nearer g c nodes = below c.begin_work.result _ _ _ (c.begin_work.ensures.nearer nodes) (to_works _ _ _)
+
+pub returns-in-Differs-clause-turn : goal.returns-in-Differs-clause-turn
+returns-in-Differs-clause-turn g c d b h run try x =
+    let t = look_lost g.E.Edit.means c.args.self.now d b h try x.begins x.quiet in
+    c.lost.ensures.turn d h run t.0 t.1
+
+pub returns-in-At-clause-turn : goal.returns-in-At-clause-turn
+returns-in-At-clause-turn g c d b h run try x = c.begin_look.ensures.turn d b h run try x named (g.met.E.Edit.laws.looks.opens c.args.self.now.edit (from d b) h c.args.found c.args.self.now.snaps.items c.in-At.node x.begins.run (is_needed g.E.Edit.means c.args.self.now (from d b) h c.args.found x) x.looked named)
+  where
+    named : g.E.Edit.means.looks c.args.self.now.edit c.args.found c.args.self.now.snaps.items ≡ At c.in-At.node
+    named = rw (sym c.as_slice.ensures.value) (sym c.look.ensures ∙ c.in-At.is)
+
+pub returns-in-Enough-clause-turn : goal.returns-in-Enough-clause-turn
+returns-in-Enough-clause-turn g c d b h run try x = c.begin_work.ensures.turn d b h run try x (rw (sym c.as_slice.ensures.value) (sym c.look.ensures ∙ c.in-Enough.is))

@@ -1,4 +1,4 @@
-use Rattle.std.proofs.Common.{ap, ◌∙◌}
+use Rattle.std.proofs.Common.{inr, ap, ◌∙◌}
 use Rattle.arena.specs.declared.machine.Turn.TheVariants.{Done}
 use Rattle.updates.specs.Laws.HandScx.{from}
 use Rattle.updates.proofs.Nearer.{below, to_tries, less_scx}
@@ -12,10 +12,12 @@ pub returns-in-Done-Lost-clause-nearer : goal.returns-in-Done-Lost-clause-nearer
 returns-in-Done-Lost-clause-nearer g c nodes = below c.lost.result _ _ _ (c.lost.ensures.nearer nodes) (to_tries _ _)
 
 pub returns-in-Ask-clause-turn : goal.returns-in-Ask-clause-turn
-returns-in-Ask-clause-turn g c d h begin run x ready = scx_asks g.E.Edit.means c.args.self.now c.args.scx c.next.new.self c.args.found begin d h c.next.result c.in-Ask.step x c.next.ensures.same.0 c.next.ensures.same.1 c.next.ensures.same.2 c.in-Ask.is (c.next.ensures.turn (from d begin) h run ready)
+returns-in-Ask-clause-turn g c d b begin h run try x ready = (b, try, scx_asks g.E.Edit.means c.args.self.now c.args.scx c.next.new.self c.args.found begin (from d b) h c.next.result c.in-Ask.step x c.next.ensures.same.0 c.next.ensures.same.1 c.next.ensures.same.2 c.in-Ask.is (c.next.ensures.turn (from (from d b) begin) h run ready))
 
 pub returns-in-Done-Lost-clause-turn : goal.returns-in-Done-Lost-clause-turn
-returns-in-Done-Lost-clause-turn g c d h begin run x ready = c.lost.ensures.turn d h run (scx_lost g.E.Edit.means c.args.self.now c.args.scx c.next.new.self c.args.found begin d h c.next.result c.in-Done-Lost.node c.in-Done-Lost.scx x c.next.ensures.same.0 (c.in-Done-Lost.is ∙ ap (λ a. Done a) c.in-Done-Lost.field-0-is) (c.next.ensures.turn (from d begin) h run ready))
+returns-in-Done-Lost-clause-turn g c d b begin h run try x ready =
+    let t = scx_lost g.E.Edit.means c.args.self.now c.args.scx c.next.new.self c.args.found d b begin h c.next.result c.in-Done-Lost.node c.in-Done-Lost.scx try x c.next.ensures.same.0 (c.in-Done-Lost.is ∙ ap (λ a. Done a) c.in-Done-Lost.field-0-is) (c.next.ensures.turn (from (from d b) begin) h run ready) in
+    c.lost.ensures.turn d h run t.0 t.1
 
 pub returns-in-Done-Done-clause-turn : goal.returns-in-Done-Done-clause-turn
-returns-in-Done-Done-clause-turn g c d h begin run x ready = scx_has_made g.E.Edit.means c.args.self.now c.args.scx c.next.new.self c.args.found begin d h c.next.result x c.next.ensures.same.0 (c.in-Done-Done.is ∙ ap (λ a. Done a) c.in-Done-Done.field-0-is) (c.next.ensures.turn (from d begin) h run ready)
+returns-in-Done-Done-clause-turn g c d b begin h run try x ready = inr (scx_has_made g.E.Edit.means c.args.self.now c.args.scx c.next.new.self c.args.found d b begin h c.next.result try x c.next.ensures.same.0 c.next.ensures.same.1 c.next.ensures.same.2 (c.in-Done-Done.is ∙ ap (λ a. Done a) c.in-Done-Done.field-0-is) (c.next.ensures.turn (from (from d b) begin) h run ready))
