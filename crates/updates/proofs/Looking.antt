@@ -157,6 +157,19 @@ no_nothing Three left x e = cc
 pub is_needed : {E : Type 0} (e : EditMeaning E) (m : UpdateRun E) (c : Call) (h : History) (f : Found) → CanLook e m c h f → e.needs m.edit f ≢ Nothing
 is_needed e m c h f x = no_nothing (e.needs m.edit f) m.share x.room
 
+-- what was loaded in a try before is forgotten
+pub forgets : {E : Type 0} (e : EditMeaning E) (m : UpdateRun E) (c : Call) (h : History) (f : Found) → CanLook e m c h f → CanLook e (record m { loaded = nothing_loaded }) c h f
+forgets e m c h f x = record { begins = record { run = x.begins.run; small = x.begins.small; since = x.begins.since; rests = x.begins.rests }; quiet = x.quiet; looked = x.looked; room = x.room }
+
+one_or_three : (need : Need) (left : Remaining) → HasNodesFor need left → need ≢ Three → need ≡ One
+one_or_three Nothing left x d = absurd x
+one_or_three One left x d = refl
+one_or_three Three left x d = absurd (d refl)
+
+-- where it does not need three nodes, it needs one
+pub needs_one : {E : Type 0} (e : EditMeaning E) (m : UpdateRun E) (c : Call) (h : History) (f : Found) → CanLook e m c h f → e.needs m.edit f ≢ Three → e.needs m.edit f ≡ One
+needs_one e m c h f x d = one_or_three (e.needs m.edit f) m.share x.room d
+
 module _ {E : Type 0} (e : EditMeaning E) (m : UpdateRun E) (c : Call) (h : History) (f : Found) (looks : LooksWell e) (x : CanLook e m c h f)
     (enough : e.looks m.edit f m.snaps.items ≡ Enough) (blank : m.loaded ≡ nothing_loaded) where
   is_copied : IsNamed c.layout h (copied e m f) × (copied e m f < all_nodes c.layout)
