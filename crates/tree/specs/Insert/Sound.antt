@@ -20,7 +20,7 @@ use Rattle.prims.specs.Snaps.{AreDistinct}
 use Rattle.prims.specs.declared.snap.Snap.{Snap}
 use Rattle.spelling.specs.OrderedMap.{Insert as PutEdit}
 use Rattle.spelling.specs.Runs.{IsTreeRun}
-use Rattle.spelling.specs.TreeShape.{insert_plan}
+use Rattle.spelling.specs.TreeShape.{insert_plan, edit_leaf}
 use Rattle.spelling.specs.TreeWords.{is_leaf}
 use Rattle.template.specs.FoundLeaf.{HasFoundLeaf}
 use Rattle.template.specs.FreshNodes.{IsLeafWith, IsForkWith, IsInsertAt, HasFreshLeaf, HasFreshFork}
@@ -41,6 +41,7 @@ use Rattle.updates.specs.Known.{ComesBefore, IsNeeded, IsLoaded, AreSeen, HasLoo
 use Rattle.updates.specs.Laws.Hand.{IsPieceWord, HoldsWords}
 use Rattle.updates.specs.Laws.Opened.{found_named, found_opened, above_opened}
 use Rattle.updates.specs.Pieces.{nth_node, with_word, word_of, plan_over, piece_head, top_of}
+use Rattle.updates.specs.Tries.{CoversSnaps}
 use Rattle.updates.specs.Sound.{LooksWell, LoadsWell, FillsWell, MakesWell, EditLaws}
 
 -- What it loads
@@ -137,6 +138,10 @@ has_both ed f (p ∷ l ∷ []) e x =
       child = eqb-true (child_of p f.trail.side).0 f.trail.node.0 leaf.0;
     }
 has_both ed f (p ∷ l ∷ s ∷ snaps) e x = absurd (let d : Enough ≡ At s.node = x 2 (omega arith) in cc)
+
+-- the SCX-record of both covers the leaf at its second place
+covered_leaf : (ed : Insert) (f : Found) (snaps : List Snap) (k : History) (s : ℕ) → HasBoth f snaps → CoversSnaps k s snaps → edit_leaf k s (PutEdit ed.key ed.value) ≡ f.trail.node.0
+covered_leaf ed f snaps k s both covers = covers 1 (let two = both.two in omega (arith, two)) ∙ both.leaf
 
 -- the parent is a fork, and so is not the leaf
 insert_distinct : (ed : Insert) (c : Call) (h : History) (f : Found) (snaps : List Snap) → IsTreeRun c.layout h → HasLooked insert_means c h ed f snaps → insert_looks f snaps ≡ Enough → AreDistinct snaps
@@ -287,6 +292,7 @@ pub insert_makes : MakesWell insert_means
 insert_makes = record {
   some = λ e f d. let z : At f.trail.parent ≡ Enough = d in cc;
   distinct = λ e c h f snaps run x enough. insert_distinct e c h f snaps run x enough;
+  leaf = λ e c h f snaps s run n x enough k later since covers. covered_leaf e f snaps k s (has_both e f snaps enough x.seen) covers;
   promised = λ e c h f snaps ns ld j d run n x is says. promised_by e c h f snaps ns ld run x j d is says f.value refl;
 }
 
