@@ -1,5 +1,6 @@
 mod Nearer
 mod Widened
+mod Alone
 mod Making
 mod Turns
 mod Loading

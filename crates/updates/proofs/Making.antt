@@ -105,7 +105,7 @@ module _ {E : Type 0} (e : EditMeaning E) (m : UpdateRun E) (scx after : ScxRun)
   settled part i = node_since c.layout before begin f.trail.node.0 part run.1.lawful y.since i named
 
   -- its edit is made by one entry, and just before that the leaf that was found told what the map did
-  pub has_made : HasMade e m.edit c h m.call f.value
+  pub has_made : HasMade (e.edit m.edit) c h m.call f.value
   has_made = record {
     scx = after.scx.0;
     own = subst (λ (s : ScxNo). IsOwnScx c.layout c.pass s.0) (sym same_scx) x.own_scx;

@@ -189,7 +189,7 @@ module _ {E : Type 0} (e : EditMeaning E) where
   )
 
   -- its SCX is done
-  pub scx_has_made : (m : UpdateRun E) (scx after : ScxRun) (f : Found) (c : Call) (b begin h : History) (turn : Turn ScxAnswer) → IsTry c b → Scxs e m (from c b) h f scx begin → after.scx ≡ scx.scx → after.update ≡ scx.update → after.call ≡ scx.call → turn ≡ Done ScxDone → MatchTurn turn (ScxWaits TreeAllows after (from c begin) h) (ScxAnswers after (from c begin) h) → HasMade e m.edit c h m.call f.value
+  pub scx_has_made : (m : UpdateRun E) (scx after : ScxRun) (f : Found) (c : Call) (b begin h : History) (turn : Turn ScxAnswer) → IsTry c b → Scxs e m (from c b) h f scx begin → after.scx ≡ scx.scx → after.update ≡ scx.update → after.call ≡ scx.call → turn ≡ Done ScxDone → MatchTurn turn (ScxWaits TreeAllows after (from c begin) h) (ScxAnswers after (from c begin) h) → HasMade (e.edit m.edit) c h m.call f.value
   scx_has_made m scx after f c b begin h turn try x is_scx is_update is_call done w = has_made e m scx after f c b begin h try x is_scx is_update is_call (rw done at w)
 
   -- its SCX is lost: it may try again

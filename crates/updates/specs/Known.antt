@@ -29,7 +29,7 @@ use Rattle.prims.specs.declared.llx.LlxRun.{LlxRun}
 use Rattle.prims.specs.declared.scx.ScxRun.{ScxRun}
 use Rattle.prims.specs.declared.snap.Snap.{Snap}
 use Rattle.prims.specs.declared.update.Update.{Update}
-use Rattle.spelling.specs.OrderedMap.{edit_key, get}
+use Rattle.spelling.specs.OrderedMap.{MapEdit, edit_key, get}
 use Rattle.spelling.specs.Runs.{IsTreeRun, IsEditAt}
 use Rattle.spelling.specs.Spelled.{Spells}
 use Rattle.spelling.specs.TreeShape.{TreeAllows, edit_leaf}
@@ -126,6 +126,29 @@ pieces_by p ns n = cond (eqb n ns.first.0) (p First) (cond (eqb n ns.second.0) (
 pub record HoldsPiece (c : Call) (h : History) (n : ℕ) (p : Piece) : Type 0 where
   pub fresh : IsFresh c.layout c.pass h n
   pub words : HoldsWords h n p (IsPieceWord p)
+
+-- What it makes
+
+-- The call of this number has made its edit. Its pass has just one entry since the call began.
+-- Just before that the map had `old` at the key; just after it, the map is what the edit leaves.
+pub record HasMade (edit : MapEdit) (c : Call) (h : History) (number : ℕ) (old : Option ℕ) : Type 0 where
+  pub scx : ℕ
+  pub own : IsOwnScx c.layout c.pass scx
+  pub once : HasEnteredOnly c.layout c.pass scx h c.start
+  -- the row that made it
+  pub row : Row
+  pub before : History
+  pub within : Extends h (row ⊳ before)
+  pub since : Extends before c.start
+  pub wins : IsWin before row scx
+  pub edits : IsEditAt c.layout before row scx edit
+  pub told : (map : List Pair) → Spells c.layout (value before) map → get (edit_key edit) map ≡ old
+  -- its entry
+  pub entry : Entry
+  pub logged : log c.layout (row ⊳ before) ≡ entry ∷ log c.layout before
+  pub of_scx : entry.scx ≡ scx
+  pub owner : entry.owner ≡ c.pass
+  pub call : entry.call ≡ number
 
 module _ {E : Type 0} (e : EditMeaning E) where
   -- each snapshot is of the node that the edit has named behind those before it
@@ -338,27 +361,6 @@ module _ {E : Type 0} (e : EditMeaning E) where
 
   -- What it answers
 
-  -- The call of this number has made its edit. Its pass has just one entry since the call began.
-  -- Just before that the map had `old` at the key; just after it, the map is what the edit leaves.
-  pub record HasMade (ed : E) (c : Call) (h : History) (number : ℕ) (old : Option ℕ) : Type 0 where
-    pub scx : ℕ
-    pub own : IsOwnScx c.layout c.pass scx
-    pub once : HasEnteredOnly c.layout c.pass scx h c.start
-    -- the row that made it
-    pub row : Row
-    pub before : History
-    pub within : Extends h (row ⊳ before)
-    pub since : Extends before c.start
-    pub wins : IsWin before row scx
-    pub edits : IsEditAt c.layout before row scx (e.edit ed)
-    pub told : (map : List Pair) → Spells c.layout (value before) map → get (edit_key (e.edit ed)) map ≡ old
-    -- its entry
-    pub entry : Entry
-    pub logged : log c.layout (row ⊳ before) ≡ entry ∷ log c.layout before
-    pub of_scx : entry.scx ≡ scx
-    pub owner : entry.owner ≡ c.pass
-    pub call : entry.call ≡ number
-
   -- There was nothing to make at the leaf that was found, of which it tells the value of the key,
   -- and the pass has entered nothing.
   pub record HasNothingToMake (ed : E) (c : Call) (h : History) (old : Option ℕ) : Type 0 where
@@ -379,7 +381,7 @@ module _ {E : Type 0} (e : EditMeaning E) where
 
   -- what its answer says
   abbrev pub UpdateAnswers : UpdateRun E → Call → History → Updated → Type 0
-  UpdateAnswers m c h (Done old) = HasNothingToMake m.edit c h old ⊎ HasMade m.edit c h m.call old
+  UpdateAnswers m c h (Done old) = HasNothingToMake m.edit c h old ⊎ HasMade (e.edit m.edit) c h m.call old
   UpdateAnswers m c h (FullAnswer full) = IsFullFor m c h full
   UpdateAnswers m c h (Contended node scx) = HasEnteredNone c.layout c.pass h c.start
 

@@ -2,6 +2,7 @@ pub mod Pieces
 pub mod Edits
 pub mod Steps
 pub mod Tries
+pub mod Alone
 pub mod Known
 pub mod Sound
 pub mod Laws

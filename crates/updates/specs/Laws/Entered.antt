@@ -11,6 +11,7 @@ use Rattle.arena.specs.Words.{state}
 use Rattle.arena.proofs.Lemmas.{ends_self, ends_trans, same_moment}
 use Rattle.histories.proofs.Lemmas.{aborted_never_won, lawful_row, lawful_since, won_since, UpdateWins}
 use Rattle.prims.specs.Laws.Idle.{IsIdle, IsQuietSince}
+use Rattle.prims.specs.Laws.Wins.{ends_either}
 use Rattle.prims.specs.Moments.{AreFinished}
 use Rattle.prims.proofs.Lemmas.{own_in_hand, wins_in_progress}
 use Rattle.updates.specs.Tries.{HasEnteredOnly, HasEnteredNone}
@@ -19,13 +20,6 @@ use Rattle.updates.specs.Tries.{HasEnteredOnly, HasEnteredNone}
 rows : History → ℕ
 rows (Start mode) = 0
 rows (r ⊳ h) = suc (rows h)
-
--- of two moments of a history one is a moment of the other
-one_first : (h a b : History) → Extends h a → Extends h b → Extends a b ⊎ Extends b a
-one_first (Start mode) a b x y = inl (subst (λ k. Extends k b) (sym x) y)
-one_first (r ⊳ h) a b (inl x) y = inl (subst (λ k. Extends k b) (sym x) y)
-one_first (r ⊳ h) a b x (inl y) = inr (subst (λ k. Extends k a) (sym y) x)
-one_first (r ⊳ h) a b (inr x) (inr y) = one_first h a b x y
 
 module _ (lay : Layout) (c : ℕ) where
   -- an SCX-record that wins is in progress
@@ -60,7 +54,7 @@ module _ (lay : Layout) (c : ℕ) where
 
   -- what is entered behind two moments, one behind the other
   pub only_joined : (s : ℕ) (h begin start : History) → Extends h begin → HasEnteredNone lay c begin start → HasEnteredOnly lay c s h begin → HasEnteredOnly lay c s h start
-  only_joined s h begin start since none only row before t within behind w own = go (one_first h before begin (ends_trans h (row ⊳ before) before within (inr (ends_self before))) since)
+  only_joined s h begin start since none only row before t within behind w own = go (ends_either h before begin (ends_trans h (row ⊳ before) before within (inr (ends_self before))) since)
     where
       earlier : Extends begin (row ⊳ before) ⊎ Extends (row ⊳ before) begin → Extends begin before → t ≡ s
       earlier (inl e) p = absurd (none row before t e behind w own)
@@ -69,7 +63,7 @@ module _ (lay : Layout) (c : ℕ) where
 
       go : Extends before begin ⊎ Extends begin before → t ≡ s
       go (inl e) = only row before t within e w own
-      go (inr e) = earlier (one_first h begin (row ⊳ before) since within) e
+      go (inr e) = earlier (ends_either h begin (row ⊳ before) since within) e
 
   pub none_joined : (h begin start : History) → Extends h begin → HasEnteredNone lay c begin start → HasEnteredNone lay c h begin → HasEnteredNone lay c h start
   none_joined h begin start since none later row before t within behind w own =
