@@ -5,3 +5,4 @@ mod Looking
 mod Filling
 mod Beginning
 mod Stepping
+mod Blaming

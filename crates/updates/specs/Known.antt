@@ -17,10 +17,10 @@ use Rattle.arena.specs.Machines.{Call, MatchTurn}
 use Rattle.arena.specs.Share.{Remaining}
 use Rattle.arena.specs.Words.{node}
 use Rattle.histories.proofs.Lemmas.{IsNodeFill}
-use Rattle.prims.specs.Llx.Known.{load, LlxIsReady, LlxWaits}
+use Rattle.prims.specs.Llx.Known.{load, IsSnapshot, LlxIsReady, LlxWaits}
 use Rattle.prims.specs.Moments.{AreFinished}
 use Rattle.prims.specs.Scx.Known.{IsDone, ScxIsReady, ScxWaits, job_of}
-use Rattle.prims.specs.Shares.{IsShare, IsUsable}
+use Rattle.prims.specs.Shares.{IsShare}
 use Rattle.prims.specs.Snap.{child_of, snap_at}
 use Rattle.prims.specs.declared.llx.LlxRun.{LlxRun}
 use Rattle.prims.specs.declared.scx.ScxRun.{ScxRun}
@@ -73,9 +73,17 @@ IsShort need left ScxRecords k = (many_nodes need ≤ left.nodes) × (left.scx �
 
 -- What it has found
 
--- each snapshot may be used
-abbrev pub AreUsable : Call → History → List Snap → Type 0
-AreUsable c h snaps = (i : ℕ) → i < length snaps → (moment : History) × IsUsable c.layout h (snap_at snaps i) moment
+-- the snapshot was right at a moment of the call, by which that had found this leaf on its way to k
+pub record HasSnapped (c : Call) (h : History) (k : ℕ) (f : Found) (snap : Snap) : Type 0 where
+  pub moment : History
+  pub within : Extends h moment
+  pub since : Extends moment c.start
+  pub found : HasFoundLeaf c moment k f
+  pub is : IsSnapshot c.layout moment snap.node.0 snap
+
+-- each of these snapshots was, and so it may be used
+abbrev pub AreUsable : Call → History → ℕ → Found → List Snap → Type 0
+AreUsable c h k f snaps = (i : ℕ) → i < length snaps → HasSnapped c h k f (snap_at snaps i)
 
 -- the word that was loaded, if it was, is what the node holds
 abbrev pub IsLoaded : Option ℕ → ℕ → Type 0
@@ -130,7 +138,7 @@ module _ {E : Type 0} (e : EditMeaning E) where
   pub record HasLooked (c : Call) (h : History) (ed : E) (f : Found) (snaps : List Snap) : Type 0 where
     pub small : edit_key (e.edit ed) < 2 ^ 64
     pub found : HasFoundLeaf c h (edit_key (e.edit ed)) f
-    pub usable : AreUsable c h snaps
+    pub usable : AreUsable c h (edit_key (e.edit ed)) f snaps
     pub seen : AreSeen ed f snaps
 
   -- all is looked at, all that the edit wants is loaded, and its fresh nodes hold what they are to

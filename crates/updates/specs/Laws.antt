@@ -4,3 +4,4 @@ pub mod HandScx
 pub mod Kept
 pub mod Update
 pub mod Opened
+pub mod Contended
