@@ -19,6 +19,7 @@ use Rattle.spelling.proofs.Blanks.{grown_blank}
 use Rattle.spelling.proofs.Remaining.{grown_remains}
 use Rattle.spelling.proofs.Growing.{grown_root}
 use Rattle.spelling.proofs.Stood.{was_passed}
+use Rattle.spelling.proofs.Trees.{passes_has}
 use Rattle.spelling.proofs.Taken.{grown_log, grown_depth}
 use Rattle.spelling.proofs.Meanings.{edits_of, grown, run_since, run_spells}
 
@@ -29,6 +30,10 @@ tree_not_final lay h t n g i p = go (is_final (log lay h) n) refl
     go : (b : Bool) → is_final (log lay h) n ≡ b → b ≡ false
     go false e = refl
     go true e = absurd (grown_not_final (edits_of lay h g).edits lay h t n (grown lay h g) i p e)
+
+-- nor is one on a search path in the tree
+pub path_not_final : (lay : Layout) (h : History) (k n : ℕ) → IsTreeRun lay h → IsOnPath h k n → is_final (log lay h) n ≡ false
+path_not_final lay h k n g x = tree_not_final lay h x.tree n g x.is_tree (passes_has (value h) k x.tree n x.passes)
 
 -- a node that stood in the tree and is not final still stands there
 pub tree_remains : (lay : Layout) (h : History) (t : Tree) (n : ℕ) → IsTreeRun lay h → WasInTree h n → is_final (log lay h) n ≡ false → IsTree (value h) t → Has t n
@@ -66,12 +71,23 @@ log_short lay h g = grown_log (edits_of lay h g).edits lay h (grown lay h g)
 pub passed_depth : (lay : Layout) (h start : History) (k n : ℕ) → IsTreeRun lay h → Passed h start k n → level (value h) n < 2 + length (taken_nodes h)
 passed_depth lay h start k n g p = grown_depth (edits_of lay h g).edits lay h start k n (grown lay h g) p
 
+-- the children of a fork that has stood in the tree and is not final stand in the tree
+child_has : (lay : Layout) (h : History) (t : Tree) (n : ℕ) (side : Side) → IsTreeRun lay h → IsTree (value h) t → WasInTree h n → is_final (log lay h) n ≡ false → is_leaf (value h) n ≡ false → Has t (value h (child n side))
+child_has lay h t n side g i x e fork = (path_level (value h) t _ _ n side i.shows (tree_remains lay h t n g x e i) fork).1
+
 -- what a fork holds in its fields that has stood in the tree and is not final stands in the tree
 pub child_stood : (lay : Layout) (h m : History) (n : ℕ) (side : Side) → IsTreeRun lay h → Extends h m → WasInTree m n → is_final (log lay m) n ≡ false → is_leaf (value m) n ≡ false → WasInTree h (value m (child n side))
-child_stood lay h m n side g e x not_final fork = record { moment = m; within = e; tree = spelled.tree; is_tree = spelled.is_tree; has = (path_level (value m) spelled.tree _ _ n side spelled.is_tree.shows (tree_remains lay m spelled.tree n run x not_final spelled.is_tree) fork).1 }
+child_stood lay h m n side g e x not_final fork = record { moment = m; within = e; tree = spelled.tree; is_tree = spelled.is_tree; has = child_has lay m spelled.tree n side run spelled.is_tree x not_final fork }
   where
     run : IsTreeRun lay m
     run = run_since lay h m g e
 
     spelled : Spells lay (value m) (run_spells lay m run).0
     spelled = (run_spells lay m run).1
+
+-- and is not final
+pub child_not_final : (lay : Layout) (h : History) (n : ℕ) (side : Side) → IsTreeRun lay h → WasInTree h n → is_final (log lay h) n ≡ false → is_leaf (value h) n ≡ false → is_final (log lay h) (value h (child n side)) ≡ false
+child_not_final lay h n side g x not_final fork = tree_not_final lay h spelled.tree (value h (child n side)) g spelled.is_tree (child_has lay h spelled.tree n side g spelled.is_tree x not_final fork)
+  where
+    spelled : Spells lay (value h) (run_spells lay h g).0
+    spelled = (run_spells lay h g).1

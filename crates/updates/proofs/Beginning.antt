@@ -24,6 +24,7 @@ use Rattle.prims.specs.declared.scx.ScxRun.{ScxRun}
 use Rattle.prims.specs.declared.snap.Snap.{Snap}
 use Rattle.prims.specs.declared.update.Update.{Update}
 use Rattle.prims.proofs.Lemmas.{left_own_scx, over_begins}
+use Rattle.spelling.specs.OrderedMap.{edit_key}
 use Rattle.spelling.specs.TreeShape.{TreeAllows}
 use Rattle.template.specs.Promises.{IsPromised}
 use Rattle.template.specs.Tracked.{Tracks, waits}
@@ -37,6 +38,7 @@ use Rattle.updates.specs.Edits.{EditMeaning}
 use Rattle.updates.specs.Known.{AreUsable, CoversLeaf, CanScx, IsUpdateFor, TryWaits, piece, top}
 use Rattle.updates.specs.Laws.Entered.{none_quiet}
 use Rattle.updates.specs.Laws.HandScx.{from, hand_ready, hand_share}
+use Rattle.updates.specs.Laws.Kept.{snapped_usable}
 use Rattle.updates.specs.Pieces.{all_but_first, plan_over}
 use Rattle.updates.specs.Sound.{MakesWell}
 
@@ -97,10 +99,13 @@ module _ {E : Type 0} (e : EditMeaning E) (m : UpdateRun E) (run after : ScxRun)
   over = covers_all run.update m.snaps.items (e.side m.edit f) (some_snaps (e.looks m.edit f) m.snaps.items (sound.some m.edit f) x.all.enough) few
       (sound.distinct m.edit c h f m.snaps.items x.run x.all.looked x.all.enough) is.covers is.plan is.old
 
+  usable : AreUsable c h (edit_key (e.edit m.edit)) f run.update.snaps
+  usable = subst (λ (xs : List Snap). AreUsable c h (edit_key (e.edit m.edit)) f xs) (sym is.covers) x.all.looked.usable
+
   -- its SCX may begin
   pub scx_ready : ScxIsReady TreeAllows run (from c h) h None
   scx_ready = hand_ready c h m.share m.nodes.first.0 (top e m f) (piece e m f) run x.run.1.lawful x.full x.some over
-      (subst (λ (xs : List Snap). AreUsable c h xs) (sym is.covers) x.all.looked.usable) at is.fresh is_scx
+      (λ i p. let u = usable i p in (u.moment, snapped_usable c h (edit_key (e.edit m.edit)) f (snap_at run.update.snaps i) x.run.1.lawful u)) at is.fresh is_scx
       (λ d says. promised_allowed c.layout c.pass h run.scx.0 d (e.edit m.edit) (sound.promised m.edit c h f m.snaps.items m.nodes m.loaded (job_of run) d x.run x.need x.all is says))
 
   promised : (d : Descriptor) → Says d (job_of run) → IsPromised c.layout c.pass h run.scx.0 d (e.edit m.edit)
@@ -132,7 +137,7 @@ module _ {E : Type 0} (e : EditMeaning E) (m : UpdateRun E) (run after : ScxRun)
       call = is_call;
       found = x.all.looked.found;
       only = λ row before t within since w own. absurd (none_quiet c.layout c.pass h c.start x.run.1.lawful x.quiet row before t within since w own);
-      usable = subst (λ (u : Update). AreUsable c h u.snaps) (sym same_update) (subst (λ (xs : List Snap). AreUsable c h xs) (sym is.covers) x.all.looked.usable);
+      usable = subst (λ (u : Update). AreUsable c h (edit_key (e.edit m.edit)) f u.snaps) (sym same_update) usable;
       quiet = x.quiet;
       leaf = leaf;
       now = x.since;

@@ -8,3 +8,4 @@ mod Looking
 mod Filling
 mod Beginning
 mod Stepping
+mod Blaming

@@ -5,9 +5,10 @@ use Rattle.std.proofs.lemmas.List.{take-append-le}
 use Rattle.arena.specs.declared.number.NodeNo.{NodeNo}
 use Rattle.arena.specs.Fills.{IsNamed, IsOwnNode}
 use Rattle.arena.specs.Layout.{all_nodes}
-use Rattle.arena.specs.History.{History, value}
+use Rattle.arena.specs.History.{History, value, Extends}
 use Rattle.arena.specs.Machines.{Call, MatchTurn}
 use Rattle.arena.specs.Share.{Remaining, HasNode}
+use Rattle.arena.proofs.Lemmas.{ends_self}
 use Rattle.histories.proofs.Lemmas.{unmentioned_unnamed}
 use Rattle.arena.specs.declared.machine.Turn.{Turn}
 use Rattle.arena.specs.declared.machine.Turn.TheVariants.{Ask, Done}
@@ -21,10 +22,9 @@ use Rattle.spelling.specs.TreeShape.{TreeAllows}
 use Rattle.updates.specs.declared.edit.Nodes.{Nodes}
 use Rattle.updates.specs.declared.update.UpdateAt.TheVariants.{Look}
 use Rattle.updates.specs.Laws.HandScx.{from}
-use Rattle.prims.specs.Shares.{IsUsable}
 use Rattle.prims.specs.Snap.{snap_at}
 use Rattle.prims.specs.declared.snap.Snap.{Snap}
-use Rattle.prims.proofs.Lemmas.{left_own_node, usable_now}
+use Rattle.prims.proofs.Lemmas.{left_own_node}
 use Rattle.spelling.specs.OrderedMap.{edit_key}
 use Rattle.template.specs.FoundLeaf.{HasFoundLeaf}
 use Rattle.template.specs.declared.walk.Found.{Found}
@@ -36,7 +36,7 @@ use Rattle.updates.specs.declared.edit.Nth.TheVariants.{First, Second, Third}
 use Rattle.updates.specs.declared.edit.Piece.{Piece}
 use Rattle.updates.specs.declared.update.UpdateRun.{UpdateRun}
 use Rattle.updates.specs.Edits.{EditMeaning}
-use Rattle.updates.specs.Known.{RestsWith, Begins, HasNodesFor, AreUsable, AreLoaded, ComesBefore, AreSeen, CanLook, CanLoad, Looks, TryWaits, copied, piece, nothing_loaded}
+use Rattle.updates.specs.Known.{RestsWith, Begins, HasNodesFor, HasSnapped, AreUsable, AreLoaded, ComesBefore, AreSeen, CanLook, CanLoad, Looks, TryWaits, copied, piece, nothing_loaded}
 use Rattle.updates.specs.Pieces.{less_a_node, many_nodes, top_of}
 use Rattle.updates.specs.Sound.{LooksWell}
 use Rattle.updates.specs.Laws.Hand.{HasFilledTo}
@@ -51,12 +51,15 @@ at_end (t ∷ snaps) s zero p = inl (omega arith, refl)
 at_end (t ∷ snaps) s (suc i) p = ⊎_elim (λ x. inl ((let y = x.0 in omega (arith, y)), x.1)) (λ x. inr ((let y = x.0 in omega (arith, y)), x.1)) (at_end snaps s i (omega (arith, p)))
 
 -- the pass may use a snapshot that it has just taken
-pub usable_one_more : (c : Call) (h : History) (snaps : List Snap) (s : Snap) (n : ℕ) → IsSnapshot c.layout h n s → AreUsable c h snaps → AreUsable c h (snaps ++ s ∷ [])
-usable_one_more c h snaps s n is x i p = go (at_end snaps s i p)
+pub usable_one_more : (c : Call) (h : History) (k : ℕ) (f : Found) (snaps : List Snap) (s : Snap) (n : ℕ) → Extends h c.start → HasFoundLeaf c h k f → IsSnapshot c.layout h n s → AreUsable c h k f snaps → AreUsable c h k f (snaps ++ s ∷ [])
+usable_one_more c h k f snaps s n since found is x i p = go (at_end snaps s i p)
   where
-    go : ((i < length snaps) × (snap_at (snaps ++ s ∷ []) i ≡ snap_at snaps i)) ⊎ ((i ≡ length snaps) × (snap_at (snaps ++ s ∷ []) i ≡ s)) → (moment : History) × IsUsable c.layout h (snap_at (snaps ++ s ∷ []) i) moment
-    go (inl q) = let u = x i q.0 in (u.0, subst (λ t. IsUsable c.layout h t u.0) (sym q.1) u.1)
-    go (inr q) = (h, subst (λ t. IsUsable c.layout h t h) (sym q.1) (usable_now c.layout h n s is))
+    now : HasSnapped c h k f s
+    now = record { moment = h; within = ends_self h; since = since; found = found; is = subst (λ m. IsSnapshot c.layout h m s) (sym is.node) is }
+
+    go : ((i < length snaps) × (snap_at (snaps ++ s ∷ []) i ≡ snap_at snaps i)) ⊎ ((i ≡ length snaps) × (snap_at (snaps ++ s ∷ []) i ≡ s)) → HasSnapped c h k f (snap_at (snaps ++ s ∷ []) i)
+    go (inl q) = subst (HasSnapped c h k f) (sym q.1) (x i q.0)
+    go (inr q) = subst (HasSnapped c h k f) (sym q.1) now
 
 take_all : (snaps : List Snap) → take (length snaps) snaps ≡ snaps
 take_all [] = refl
@@ -77,7 +80,7 @@ looked_one_more e m now c h f s n ed share items named is x = record {
   looked = rw (ed, items) record {
     small = x.looked.small;
     found = x.looked.found;
-    usable = usable_one_more c h m.snaps.items s n is x.looked.usable;
+    usable = usable_one_more c h (edit_key (e.edit m.edit)) f m.snaps.items s n x.begins.since x.looked.found is x.looked.usable;
     seen = seen_one_more e m.edit f m.snaps.items s named x.looked.seen;
   };
   room = rw (ed, share) x.room;

@@ -9,14 +9,14 @@ use Rattle.arena.specs.declared.step.Access.TheVariants.{Store}
 use Rattle.arena.specs.declared.step.Kind.TheVariants.{Fill as FillKind}
 use Rattle.arena.specs.declared.word.NodeWord.{NodeWord}
 use Rattle.arena.specs.declared.word.Word.TheVariants.{Node as NodeOf}
-use Rattle.arena.specs.History.{History, value, Extends}
+use Rattle.arena.specs.History.{History, ◌⊳◌, value, Extends}
 use Rattle.arena.specs.Fills.{IsOwnNode, IsOwnScx}
 use Rattle.arena.specs.Lawful.{Lawful, HasWon}
 use Rattle.arena.specs.Machines.{Call, MatchTurn}
 use Rattle.arena.specs.Share.{Remaining}
 use Rattle.arena.specs.Words.{state}
 use Rattle.arena.proofs.Lemmas.{ends_self, ends_trans}
-use Rattle.histories.proofs.Lemmas.{finished_taken}
+use Rattle.histories.proofs.Lemmas.{finished_taken, lawful_since}
 use Rattle.prims.specs.Laws.Idle.{IsQuietSince, quiet_at_start}
 use Rattle.prims.specs.Llx.Known.{IsOpened, LlxIsReady, LlxKnows, LlxWaits, LlxAnswers}
 use Rattle.prims.specs.Moments.{AreFinished}
@@ -45,6 +45,7 @@ use Rattle.updates.specs.declared.edit.Nth.{Nth}
 use Rattle.updates.specs.declared.edit.Piece.{Piece}
 use Rattle.updates.specs.declared.update.UpdateAt.TheVariants.{Walk, Look, Fill, Scx}
 use Rattle.updates.specs.declared.update.UpdateRun.{UpdateRun}
+use Rattle.updates.specs.Blame.{IsContended, contended_wider}
 use Rattle.updates.specs.Edits.{EditMeaning}
 use Rattle.updates.specs.Known.{RestsWith, AreUsable, CoversLeaf, Begins, Walks, CanLook, CanFill, Scxs, HasMade, TryWaits, UpdateWaits}
 use Rattle.updates.specs.Laws.Entered.{none_joined, none_lost, none_quiet}
@@ -52,6 +53,7 @@ use Rattle.updates.specs.Laws.HandScx.{from}
 use Rattle.updates.specs.Laws.Kept.{idle_rests}
 use Rattle.updates.specs.Pieces.{nth_node, word_of}
 use Rattle.updates.specs.Tries.{HasEnteredOnly, HasEnteredNone, IsTry}
+use Rattle.updates.proofs.Blaming.{lost_contended}
 use Rattle.updates.proofs.Making.{has_made}
 
 -- where the SCX-record in hand is finished, the pass is at rest again
@@ -174,7 +176,7 @@ module _ {E : Type 0} (e : EditMeaning E) where
       found = x.found;
       call = is_call ∙ x.call;
       only = subst (λ (s : ScxNo). HasEnteredOnly c.layout c.pass s.0 h c.start) (sym is_scx) x.only;
-      usable = subst (λ (u : Update). AreUsable c begin u.snaps) (sym is_update) x.usable;
+      usable = subst (λ (u : Update). AreUsable c begin (edit_key (e.edit m.edit)) f u.snaps) (sym is_update) x.usable;
       quiet = x.quiet;
       leaf = subst (λ (s : ScxNo). CoversLeaf e m.edit f c begin s.0 after.update.snaps) (sym is_scx) (subst (λ (u : Update). CoversLeaf e m.edit f c begin scx.scx.0 u.snaps) (sym is_update) x.leaf);
       share = subst (λ (s : ScxNo). IsShare c.layout h c.pass m.share m.share.next_node s.0) (sym is_scx) x.share;
@@ -193,10 +195,12 @@ module _ {E : Type 0} (e : EditMeaning E) where
   scx_has_made m scx after f c b begin h turn try x is_scx is_update is_call done w = has_made e m scx after f c b begin h try x is_scx is_update is_call (rw done at w)
 
   -- its SCX is lost: it may try again
-  pub scx_lost : (m : UpdateRun E) (scx after : ScxRun) (f : Found) (c : Call) (b begin h : History) (turn : Turn ScxAnswer) (n : NodeNo) (s : ScxNo) → IsTry c b → Scxs e m (from c b) h f scx begin → after.scx ≡ scx.scx → turn ≡ Done (Lost n s) → MatchTurn turn (ScxWaits TreeAllows after (from c begin) h) (ScxAnswers after (from c begin) h) → Begins e m c h × IsTry c h
-  scx_lost m scx after f c b begin h turn n s try x is_scx done w = (
+  pub scx_lost : (m : UpdateRun E) (scx after : ScxRun) (f : Found) (c : Call) (b begin h : History) (turn : Turn ScxAnswer) (n : NodeNo) (s : ScxNo) → IsTry c b → Scxs e m (from c b) h f scx begin → after.scx ≡ scx.scx → after.update ≡ scx.update → turn ≡ Done (Lost n s) → MatchTurn turn (ScxWaits TreeAllows after (from c begin) h) (ScxAnswers after (from c begin) h) → Begins e m c h × IsTry c h × IsContended c h n.0 s.0
+  scx_lost m scx after f c b begin h turn n s try x is_scx is_update done w = (
     record { run = x.run; small = x.small; since = since; rests = rests_again c h m.share scx x.run.1.lawful x.share x.next_scx x.over real finished },
     record { since = since; none = none_joined c.layout c.pass h b c.start x.now try.none (none_lost c.layout c.pass scx.scx.0 h b x.run.1.lawful aborted x.only) },
+    contended_wider c b h n.0 s.0 try.since (lost_contended (from c b) begin h (edit_key (e.edit m.edit)) f after n.0 s.0 (lawful_since c.layout h begin x.run.1.lawful (ends_trans h (lost.changed.found.row ⊳ lost.changed.found.before) begin lost.changed.found.last.within (inr lost.changed.found.since))) x.quiet
+      (subst (λ (u : Update). AreUsable (from c b) begin (edit_key (e.edit m.edit)) f u.snaps) (sym is_update) x.usable) lost),
   )
     where
       since : Extends h c.start
@@ -218,9 +222,10 @@ module _ {E : Type 0} (e : EditMeaning E) where
   pub nothing_entered : (m : UpdateRun E) (c : Call) (b h : History) → IsTry c b → Begins e m (from c b) h → IsQuietSince c.layout c.pass b h → HasEnteredNone c.layout c.pass h c.start
   nothing_entered m c b h try x quiet = none_joined c.layout c.pass h b c.start x.since try.none (none_quiet c.layout c.pass h b x.run.1.lawful quiet)
 
-  -- and may try again
-  pub look_lost : (m : UpdateRun E) (c : Call) (b h : History) → IsTry c b → Begins e m (from c b) h → IsQuietSince c.layout c.pass b h → Begins e m c h × IsTry c h
-  look_lost m c b h try x quiet = (
+  -- and may try again, if another was in its way
+  pub look_lost : (m : UpdateRun E) (c : Call) (b h : History) (n s : ℕ) → IsTry c b → Begins e m (from c b) h → IsQuietSince c.layout c.pass b h → IsContended (from c b) h n s → Begins e m c h × IsTry c h × IsContended c h n s
+  look_lost m c b h n s try x quiet way = (
     record { run = x.run; small = x.small; since = ends_trans h b c.start x.since try.since; rests = record { share = x.rests.share; over = x.rests.over } },
     record { since = ends_trans h b c.start x.since try.since; none = nothing_entered m c b h try x quiet },
+    contended_wider c b h n s try.since way,
   )

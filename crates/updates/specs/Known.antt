@@ -20,10 +20,10 @@ use Rattle.arena.specs.Share.{Remaining}
 use Rattle.arena.specs.Words.{node}
 use Rattle.histories.proofs.Lemmas.{IsNodeFill}
 use Rattle.prims.specs.Laws.Idle.{IsQuietSince}
-use Rattle.prims.specs.Llx.Known.{load, LlxIsReady, LlxWaits}
+use Rattle.prims.specs.Llx.Known.{load, IsSnapshot, LlxIsReady, LlxWaits}
 use Rattle.prims.specs.Moments.{AreFinished}
 use Rattle.prims.specs.Scx.Known.{ScxIsReady, ScxWaits, job_of}
-use Rattle.prims.specs.Shares.{IsShare, IsUsable}
+use Rattle.prims.specs.Shares.{IsShare}
 use Rattle.prims.specs.Snap.{child_of, snap_at}
 use Rattle.prims.specs.declared.llx.LlxRun.{LlxRun}
 use Rattle.prims.specs.declared.scx.ScxRun.{ScxRun}
@@ -52,6 +52,7 @@ use Rattle.updates.specs.declared.update.Updated.TheVariants.{Done, Contended, F
 use Rattle.updates.specs.declared.update.UpdateAt.{UpdateAt}
 use Rattle.updates.specs.declared.update.UpdateAt.TheVariants.{Start, Walk, Look, Load, Fill, Scx}
 use Rattle.updates.specs.declared.update.UpdateRun.{UpdateRun}
+use Rattle.updates.specs.Blame.{IsContended}
 use Rattle.updates.specs.Edits.{EditMeaning}
 use Rattle.updates.specs.Laws.Hand.{IsBefore, IsUpTo, IsPieceWord, HoldsWords, HasFilledTo, IsForField, FieldMay}
 use Rattle.updates.specs.Laws.HandScx.{from}
@@ -79,9 +80,17 @@ IsShort need left ScxRecords k = (many_nodes need ≤ left.nodes) × (left.scx �
 
 -- What it has found
 
--- each snapshot may be used
-abbrev pub AreUsable : Call → History → List Snap → Type 0
-AreUsable c h snaps = (i : ℕ) → i < length snaps → (moment : History) × IsUsable c.layout h (snap_at snaps i) moment
+-- the snapshot was right at a moment of the call, by which that had found this leaf on its way to k
+pub record HasSnapped (c : Call) (h : History) (k : ℕ) (f : Found) (snap : Snap) : Type 0 where
+  pub moment : History
+  pub within : Extends h moment
+  pub since : Extends moment c.start
+  pub found : HasFoundLeaf c moment k f
+  pub is : IsSnapshot c.layout moment snap.node.0 snap
+
+-- each of these snapshots was, and so it may be used
+abbrev pub AreUsable : Call → History → ℕ → Found → List Snap → Type 0
+AreUsable c h k f snaps = (i : ℕ) → i < length snaps → HasSnapped c h k f (snap_at snaps i)
 
 -- the word that was loaded, if it was, is what the node holds
 abbrev pub IsLoaded : Option ℕ → ℕ → Type 0
@@ -159,7 +168,7 @@ module _ {E : Type 0} (e : EditMeaning E) where
   pub record HasLooked (c : Call) (h : History) (ed : E) (f : Found) (snaps : List Snap) : Type 0 where
     pub small : edit_key (e.edit ed) < 2 ^ 64
     pub found : HasFoundLeaf c h (edit_key (e.edit ed)) f
-    pub usable : AreUsable c h snaps
+    pub usable : AreUsable c h (edit_key (e.edit ed)) f snaps
     pub seen : AreSeen ed f snaps
 
   -- all is looked at, all that the edit wants is loaded, and its fresh nodes hold what they are to
@@ -274,7 +283,7 @@ module _ {E : Type 0} (e : EditMeaning E) where
     pub only : HasEnteredOnly c.layout c.pass scx.scx.0 h c.start
     -- as it began the leaf was found, the snapshots could be used, and it covers that leaf
     pub found : HasFoundLeaf c begin (edit_key (e.edit m.edit)) f
-    pub usable : AreUsable c begin scx.update.snaps
+    pub usable : AreUsable c begin (edit_key (e.edit m.edit)) f scx.update.snaps
     pub quiet : IsQuietSince c.layout c.pass c.start begin
     pub leaf : CoversLeaf m.edit f c begin scx.scx.0 scx.update.snaps
 
@@ -383,7 +392,7 @@ module _ {E : Type 0} (e : EditMeaning E) where
   abbrev pub UpdateAnswers : UpdateRun E → Call → History → Updated → Type 0
   UpdateAnswers m c h (Done old) = HasNothingToMake m.edit c h old ⊎ HasMade (e.edit m.edit) c h m.call old
   UpdateAnswers m c h (FullAnswer full) = IsFullFor m c h full
-  UpdateAnswers m c h (Contended node scx) = HasEnteredNone c.layout c.pass h c.start
+  UpdateAnswers m c h (Contended node scx) = IsContended c h node.0 scx.0 × HasEnteredNone c.layout c.pass h c.start
 
   -- it waits for the step that it asks for, or its answer is right
   abbrev pub UpdateTurn : Call → History → UpdateRun E → Turn Updated → Type 0

@@ -5,3 +5,4 @@ pub mod Kept
 pub mod Entered
 pub mod Update
 pub mod Opened
+pub mod Contended

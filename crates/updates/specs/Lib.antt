@@ -3,6 +3,7 @@ pub mod Edits
 pub mod Steps
 pub mod Tries
 pub mod Alone
+pub mod Blame
 pub mod Known
 pub mod Sound
 pub mod Laws

@@ -131,9 +131,9 @@ impl<E: Edit + Drop> UpdateRun<E> {
         }
     }
 
-    /// Ends a try that is lost, and begins the next if there is one.
+    /// Ends a try that is lost to this SCX-record over this node, and begins the next if there is one.
     fn lost(&mut self, node: NodeNo, scx: ScxNo) -> Turn<Updated>
-        ensures turn { (c : Call) (h : History) → IsRun TreeAllows c.layout h → Begins E.means self.old c h → IsTry c h → UpdateTurn E.means c h self.new result }
+        ensures turn { (c : Call) (h : History) → IsRun TreeAllows c.layout h → Begins E.means self.old c h → IsTry c h → IsContended c h node.0 scx.0 → UpdateTurn E.means c h self.new result }
         ensures same { (self.new.edit ≡ self.old.edit) × (self.new.call ≡ self.old.call) }
         ensures nearer { (nodes : ℕ) → IsNearer E.means self.new nodes result (self.old.tries * try_left E.means nodes) }
     {
@@ -237,9 +237,8 @@ impl<E: Edit + Drop> UpdateRun<E> {
                 Turn::Ask(step)
             }
             Turn::Done(Llx::Snapshot(snap)) => self.looked(found, snap),
-            Turn::Done(Llx::Finalized { node, scx } | Llx::Fail { node, scx }) => {
-                self.lost(node, scx)
-            }
+            Turn::Done(Llx::Finalized { node, scx }) => self.lost(node, scx),
+            Turn::Done(Llx::Fail { node, scx }) => self.lost(node, scx),
         }
     }
 
@@ -479,6 +478,7 @@ impl<E: Edit + Drop> UpdateRun<E> {
     ghost use Rattle.updates.specs.Known.{Begins, CanLook, Looks, nothing_loaded, CanLoad, CanFill, Loads, Scxs, UpdateTurn, copied};
     ghost use Rattle.arena.specs.Words.{node};
     ghost use Rattle.updates.specs.Laws.HandScx.{from};
+    ghost use Rattle.updates.specs.Blame.{IsContended};
     ghost use Rattle.updates.specs.Tries.{IsTry};
     ghost use Rattle.prims.specs.Laws.Idle.{IsQuietSince};
 }

@@ -3,6 +3,7 @@ use Rattle.std.proofs.Common.{◌≡◌, ◌≢◌, ℕ, ◌+◌, ◌-◌, ◌%�
 use Rattle.std.specs.Prelude.{min, unwrap_or}
 use native.Mathlib.Decide.{ℕ_discrete}
 use Rattle.arena.specs.declared.number.NodeNo.{NodeNo}
+use Rattle.arena.specs.declared.number.ScxNo.{ScxNo}
 use Rattle.arena.specs.declared.word.NodeWord.{NodeWord}
 use Rattle.arena.specs.declared.word.NodeWord.TheVariants.{Head, Key, Value, Child}
 use Rattle.arena.specs.declared.word.Side.{Side}
@@ -13,6 +14,7 @@ use Rattle.arena.specs.Lawful.{IsSettled}
 use Rattle.arena.specs.Machines.{Call}
 use Rattle.arena.specs.Words.{node}
 use Rattle.histories.specs.Descriptor.{Descriptor}
+use Rattle.prims.specs.Laws.Idle.{IsQuietSince}
 use Rattle.prims.specs.Llx.Known.{IsOpened}
 use Rattle.prims.specs.Scx.Known.{Job, Says}
 use Rattle.prims.specs.Snap.{child_of, snap_at}
@@ -22,9 +24,11 @@ use Rattle.spelling.specs.OrderedMap.{Insert as PutEdit}
 use Rattle.spelling.specs.Runs.{IsTreeRun}
 use Rattle.spelling.specs.TreeShape.{insert_plan, edit_leaf}
 use Rattle.spelling.specs.TreeWords.{is_leaf}
+use Rattle.spelling.proofs.Lemmas.{run_since}
 use Rattle.template.specs.FoundLeaf.{HasFoundLeaf}
 use Rattle.template.specs.FreshNodes.{IsLeafWith, IsForkWith, IsInsertAt, HasFreshLeaf, HasFreshFork}
 use Rattle.template.specs.Promises.{IsPromised}
+use Rattle.template.specs.Trails.{HasTurned}
 use Rattle.template.specs.declared.walk.Found.{Found}
 use Rattle.template.proofs.Lemmas.{found_below, found_class, found_level, found_no_value, insert_words, swap_promised, split_promised}
 use Rattle.tree.specs.declared.insert.Insert.{Insert}
@@ -37,7 +41,9 @@ use Rattle.updates.specs.declared.edit.Nodes.{Nodes}
 use Rattle.updates.specs.declared.edit.Nth.{Nth}
 use Rattle.updates.specs.declared.edit.Nth.TheVariants.{First, Second, Third}
 use Rattle.updates.specs.declared.edit.Piece.TheVariants.{Leaf, Fork}
-use Rattle.updates.specs.Known.{ComesBefore, IsNeeded, IsLoaded, AreSeen, HasLooked, HasFilledAll, HoldsPiece, IsUpdateFor}
+use Rattle.updates.specs.Blame.{IsContended, WasNotFinal}
+use Rattle.updates.specs.Known.{ComesBefore, IsNeeded, IsLoaded, HasSnapped, AreSeen, HasLooked, HasFilledAll, HoldsPiece, IsUpdateFor}
+use Rattle.updates.specs.Laws.Contended.{passed_not_final, turned_contended}
 use Rattle.updates.specs.Laws.Hand.{IsPieceWord, HoldsWords}
 use Rattle.updates.specs.Laws.Opened.{found_named, found_opened, above_opened}
 use Rattle.updates.specs.Pieces.{nth_node, with_word, word_of, plan_over, piece_head, top_of}
@@ -110,10 +116,52 @@ insert_opens ed c h f snaps n run x e = go (looks_at f snaps n e)
     go (inl q) = subst (λ (k : NodeNo). IsOpened c.layout h k.0) q (above_opened c h ed.key run f x.found)
     go (inr q) = subst (λ (k : NodeNo). IsOpened c.layout h k.0) q (found_opened c h ed.key run f x.found)
 
--- an LLX may look at both nodes, and the leaf may be copied
+-- the call has passed both
+insert_stood : (ed : Insert) (c : Call) (h : History) (f : Found) (snaps : List Snap) (n : NodeNo) → IsTreeRun c.layout h → HasLooked insert_means c h ed f snaps → insert_looks f snaps ≡ At n → WasNotFinal c h n.0
+insert_stood ed c h f snaps n run x e = go (looks_at f snaps n e)
+  where
+    go : (f.trail.parent ≡ n) ⊎ (f.trail.node ≡ n) → WasNotFinal c h n.0
+    go (inl q) = subst (λ (k : NodeNo). WasNotFinal c h k.0) q (passed_not_final c h ed.key f.trail.parent.0 run (x.found.trail.parent (found_below ed.key c h f run x.found)).passed)
+    go (inr q) = subst (λ (k : NodeNo). WasNotFinal c h k.0) q (passed_not_final c h ed.key f.trail.node.0 run x.found.trail.node)
+
+abbrev scx_of : Look → ScxNo
+scx_of (Differs n s) = s
+scx_of _ = record { 0 = 0 }
+
+-- it says no more than the snapshot of the parent that shows another child
+is_other : (b : Bool) (f : Found) (p : Snap) (n : NodeNo) (s : ScxNo) → cond b (At f.trail.node) (Differs p.node p.scx) ≡ Differs n s → (b ≡ false) × (p.node ≡ n) × (p.scx ≡ s)
+is_other true f p n s e = absurd (let d : At f.trail.node ≡ Differs n s = e in cc)
+is_other false f p n s e = (refl, ap node_of e, ap scx_of e)
+
+-- the walk has found the leaf there, and the snapshot came later
+insert_differs : (ed : Insert) (c : Call) (h : History) (f : Found) (snaps : List Snap) (n : NodeNo) (s : ScxNo) → IsTreeRun c.layout h → HasLooked insert_means c h ed f snaps → insert_looks f snaps ≡ Differs n s → IsQuietSince c.layout c.pass c.start h → IsContended c h n.0 s.0
+insert_differs ed c h f [] n s run x e quiet = absurd (let d : At f.trail.parent ≡ Differs n s = e in cc)
+insert_differs ed c h f (p ∷ l ∷ snaps) n s run x e quiet = absurd (let d : Enough ≡ Differs n s = e in cc)
+insert_differs ed c h f (p ∷ []) n s run x e quiet = rw (sym other.1, sym other.2) (turned_contended c h ed.key f p f.trail.side f.trail.node.0 run quiet snapped turned apart)
+  where
+    other : (eqb (child_of p f.trail.side).0 f.trail.node.0 ≡ false) × (p.node ≡ n) × (p.scx ≡ s)
+    other = is_other (eqb (child_of p f.trail.side).0 f.trail.node.0) f p n s e
+
+    parent : f.trail.parent ≡ p.node
+    parent = same_node f.trail.parent p.node (x.seen 0 (omega arith))
+
+    snapped : HasSnapped c h ed.key f p
+    snapped = x.usable 0 (omega arith)
+
+    turned : HasTurned c snapped.moment ed.key p.node.0 f.trail.side f.trail.node.0
+    turned = subst (λ (k : NodeNo). HasTurned c snapped.moment ed.key k.0 f.trail.side f.trail.node.0) parent
+        (snapped.found.trail.parent (found_below ed.key c snapped.moment f (run_since c.layout h snapped.moment run snapped.within) snapped.found))
+
+    apart : (child_of p f.trail.side).0 ≢ f.trail.node.0
+    apart q = let d : false ≡ true = sym other.0 ∙ eq-eqb (child_of p f.trail.side).0 f.trail.node.0 q in cc
+
+-- an LLX may look at both nodes, which were not final, the leaf may be copied, and where the parent
+-- has another child its last SCX-record was in the way
 pub insert_look : LooksWell insert_means
 insert_look = record {
   opens = λ e c h f snaps n run d x at. insert_opens e c h f snaps n run x at;
+  stood = λ e c h f snaps n run d x at. insert_stood e c h f snaps n run x at;
+  differs = λ e c h f snaps n s run d x at quiet. insert_differs e c h f snaps n s run x at quiet;
   copied = λ e c h f snaps run d x enough. (found_named c h e.key run f x.found, (found_opened c h e.key run f x.found).inside);
 }
 

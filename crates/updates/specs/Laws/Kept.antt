@@ -8,13 +8,13 @@ use Rattle.arena.specs.History.{History, ◌⊳◌, value}
 use Rattle.arena.specs.Lawful.{Lawful}
 use Rattle.arena.specs.Machines.{IsRun, Call}
 use Rattle.arena.specs.Share.{Remaining}
-use Rattle.arena.proofs.Lemmas.{ends_self}
 use Rattle.histories.proofs.Lemmas.{named_more, node_stays}
 use Rattle.prims.specs.Laws.Begun.{takes_by_others, takes_by_step}
 use Rattle.prims.specs.Laws.Idle.{IsIdle, IsQuietSince, idle_if_over, quiet_more}
 use Rattle.prims.specs.Moments.{AreFinished}
+use Rattle.prims.specs.Shares.{IsUsable}
 use Rattle.prims.specs.declared.snap.Snap.{Snap}
-use Rattle.prims.proofs.Lemmas.{over_more, share_by_others, share_by_step, usable_since}
+use Rattle.prims.proofs.Lemmas.{over_more, share_by_others, share_by_step, usable_now, usable_since}
 use Rattle.spelling.specs.OrderedMap.{edit_key}
 use Rattle.spelling.specs.Runs.{IsTreeRun}
 use Rattle.spelling.specs.TreeShape.{TreeAllows}
@@ -26,7 +26,7 @@ use Rattle.updates.specs.declared.edit.Nth.{Nth}
 use Rattle.updates.specs.declared.update.UpdateRun.{UpdateRun}
 use Rattle.updates.specs.Edits.{EditMeaning}
 use Rattle.template.proofs.Lemmas.{found_more}
-use Rattle.updates.specs.Known.{RestsWith, AreUsable, IsLoaded, AreLoaded, HasLooked, Works, copied}
+use Rattle.updates.specs.Known.{RestsWith, HasSnapped, AreUsable, IsLoaded, AreLoaded, HasLooked, Works, copied}
 
 -- a pass whose SCX-records are all finished is idle
 pub idle_over : (c : Call) (h : History) → Lawful c.layout h → AreFinished c.layout c.pass 0 h → IsIdle c.layout c.pass h
@@ -57,9 +57,13 @@ rests_by_step c h r left l no_fill x = record {
 same_said : (f g : Word → ℕ) (k n : ℕ) → SameSettled f g n → said g k n ≡ said f k n
 same_said f g k n e = rw (e Head tt, e Key tt, e Value tt) refl
 
+-- a snapshot that the call has taken may be used
+pub snapped_usable : (c : Call) (h : History) (k : ℕ) (f : Found) (snap : Snap) → Lawful c.layout h → (x : HasSnapped c h k f snap) → IsUsable c.layout h snap x.moment
+snapped_usable c h k f snap l x = usable_since c.layout h x.moment snap x.moment l x.within (usable_now c.layout x.moment snap.node.0 snap x.is)
+
 -- snapshots may be used for ever
-pub usable_more : (c : Call) (h : History) (r : Row) (snaps : List Snap) → Lawful c.layout (r ⊳ h) → AreUsable c h snaps → AreUsable c (r ⊳ h) snaps
-usable_more c h r snaps l x i p = let u = x i p in (u.0, usable_since c.layout (r ⊳ h) h _ u.0 l (inr (ends_self h)) u.1)
+pub usable_more : (c : Call) (h : History) (r : Row) (k : ℕ) (f : Found) (snaps : List Snap) → AreUsable c h k f snaps → AreUsable c (r ⊳ h) k f snaps
+usable_more c h r k f snaps x i p = let u = x i p in record { moment = u.moment; within = inr u.within; since = u.since; found = u.found; is = u.is }
 
 loaded_word : (o : Option ℕ) (v w : ℕ) → w ≡ v → IsLoaded o v → IsLoaded o w
 loaded_word None v w e x = tt
@@ -78,7 +82,7 @@ module _ {E : Type 0} (e : EditMeaning E) where
   looked_more c h r ed f snaps g run x = record {
     small = x.small;
     found = found_more c h r (edit_key (e.edit ed)) f g run x.found;
-    usable = usable_more c h r snaps run.lawful x.usable;
+    usable = usable_more c h r (edit_key (e.edit ed)) f snaps x.usable;
     seen = x.seen;
   }
 

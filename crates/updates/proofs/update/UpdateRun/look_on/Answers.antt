@@ -1,8 +1,10 @@
 use Rattle.updates.specs.Laws.HandScx.{from}
 use Rattle.arena.specs.declared.machine.Turn.TheVariants.{Done}
-use Rattle.std.proofs.Common.{◌∙◌, ap}
+use Rattle.std.proofs.Common.{sym, ◌∙◌, ap}
 use Rattle.updates.proofs.Nearer.{below, looked_on, from_look, to_tries}
-use Rattle.updates.proofs.Looking.{looks_on, can_look, snapped}
+use Rattle.updates.specs.declared.edit.Look.TheVariants.{At}
+use Rattle.updates.proofs.Blaming.{look_failed, look_finalized}
+use Rattle.updates.proofs.Looking.{looks_on, can_look, snapped, is_needed}
 use Rattle.updates.proofs.Turns.{look_lost}
 use Rattle.updates.proofs.update.UpdateRun.look_on.Goals as goal
 
@@ -14,6 +16,9 @@ returns-in-Done-Snapshot-clause-nearer g c nodes = below c.looked.result _ _ _ (
 
 pub returns-in-Done-Finalized-clause-nearer : goal.returns-in-Done-Finalized-clause-nearer
 returns-in-Done-Finalized-clause-nearer g c nodes = below c.lost.result _ _ _ (c.lost.ensures.nearer nodes) (to_tries _ _)
+
+pub returns-in-Done-Fail-clause-nearer : goal.returns-in-Done-Fail-clause-nearer
+returns-in-Done-Fail-clause-nearer g c nodes = below c.lost-in-Done-Fail.result _ _ _ (c.lost-in-Done-Fail.ensures.nearer nodes) (to_tries _ _)
 
 pub returns-in-Ask-clause-turn : goal.returns-in-Ask-clause-turn
 returns-in-Ask-clause-turn g c d b begin h run try x ready = (b, try, looks_on g.E.Edit.means c.args.self.now c.args.llx c.next.new.self c.args.found begin (from d b) h c.next.result x c.next.ensures.same (c.next.ensures.turn (from (from d b) begin) h run ready) c.in-Ask.step c.in-Ask.is)
@@ -27,6 +32,18 @@ returns-in-Done-Snapshot-clause-turn g c d b begin h run try x ready =
 
 pub returns-in-Done-Finalized-clause-turn : goal.returns-in-Done-Finalized-clause-turn
 returns-in-Done-Finalized-clause-turn g c d b begin h run try x ready =
-    let can = can_look g.E.Edit.means c.args.self.now c.args.llx c.next.new.self c.args.found begin (from d b) h c.next.result x c.next.ensures.same (c.next.ensures.turn (from (from d b) begin) h run ready) in
-    let t = look_lost g.E.Edit.means c.args.self.now d b h try can.begins can.quiet in
-    c.lost.ensures.turn d h run t.0 t.1
+    let w = c.next.ensures.turn (from (from d b) begin) h run ready in
+    let can = can_look g.E.Edit.means c.args.self.now c.args.llx c.next.new.self c.args.found begin (from d b) h c.next.result x c.next.ensures.same w in
+    let way = look_finalized g.E.Edit.means g.met.E.Edit.laws.looks c.args.self.now.edit (from d b) h c.args.found c.args.self.now.snaps.items x.run (is_needed g.E.Edit.means c.args.self.now (from d b) h c.args.found can) x.looked c.next.new.self begin x.since (x.named ∙ ap At (sym c.next.ensures.same)) c.in-Done-Finalized.node c.in-Done-Finalized.scx x.quiet
+          (rw (c.in-Done-Finalized.is ∙ ap (λ a. Done a) c.in-Done-Finalized.field-0-is) at w) in
+    let t = look_lost g.E.Edit.means c.args.self.now d b h c.in-Done-Finalized.node.0 c.in-Done-Finalized.scx.0 try can.begins can.quiet way in
+    c.lost.ensures.turn d h run t.0 t.1 (rw (← c.in-Done-Finalized.node-is, ← c.in-Done-Finalized.scx-is) at t.2)
+
+pub returns-in-Done-Fail-clause-turn : goal.returns-in-Done-Fail-clause-turn
+returns-in-Done-Fail-clause-turn g c d b begin h run try x ready =
+    let w = c.next.ensures.turn (from (from d b) begin) h run ready in
+    let can = can_look g.E.Edit.means c.args.self.now c.args.llx c.next.new.self c.args.found begin (from d b) h c.next.result x c.next.ensures.same w in
+    let way = look_failed g.E.Edit.means g.met.E.Edit.laws.looks c.args.self.now.edit (from d b) h c.args.found c.args.self.now.snaps.items x.run (is_needed g.E.Edit.means c.args.self.now (from d b) h c.args.found can) x.looked c.next.new.self begin x.since (x.named ∙ ap At (sym c.next.ensures.same)) c.in-Done-Fail.node c.in-Done-Fail.scx
+          (rw (c.in-Done-Fail.is ∙ ap (λ a. Done a) c.in-Done-Fail.field-0-is) at w) in
+    let t = look_lost g.E.Edit.means c.args.self.now d b h c.in-Done-Fail.node.0 c.in-Done-Fail.scx.0 try can.begins can.quiet way in
+    c.lost-in-Done-Fail.ensures.turn d h run t.0 t.1 (rw (← c.in-Done-Fail.node-is, ← c.in-Done-Fail.scx-is) at t.2)
