@@ -1,6 +1,6 @@
 mod Nearer
 mod Widened
-mod Alone
+mod Undisturbed
 mod Making
 mod Turns
 mod Loading

@@ -2,7 +2,7 @@ pub mod Pieces
 pub mod Edits
 pub mod Steps
 pub mod Tries
-pub mod Alone
+pub mod Undisturbed
 pub mod Blame
 pub mod Known
 pub mod Sound

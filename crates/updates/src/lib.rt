@@ -1,8 +1,10 @@
 //! Updates of the tree: the machine that makes an edit, and what it asks of the edit.
 #![tactic(auto)]
 
+mod alone;
 mod edit;
 mod update;
 
+pub use alone::alone_holds;
 pub use edit::{Edit, Loaded, Look, Need, Nodes, Nth, Piece};
 pub use update::{UpdateAt, UpdateRun, Updated};

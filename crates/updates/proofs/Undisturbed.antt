@@ -27,7 +27,8 @@ use Rattle.spelling.proofs.Lemmas.{log_edits, one_spelling, run_since, spells_lo
 use Rattle.template.proofs.Lemmas.{own_since}
 use Rattle.template.specs.FoundLeaf.{HasFoundLeaf}
 use Rattle.template.specs.declared.walk.Found.{Found}
-use Rattle.updates.specs.Alone.{IsAtRest, IsAlone}
+use Rattle.updates.specs.Undisturbed.{IsAtRest, IsAlone}
+use Rattle.updates.specs.Blame.{IsContended}
 use Rattle.updates.specs.Known.{HasMade}
 use Rattle.updates.specs.Tries.{HasEnteredNone}
 
@@ -85,6 +86,10 @@ module _ (c : Call) (h : History) (run : IsTreeRun c.layout h) (alone : IsAlone 
       go : Dec (o.pass ≡ c.pass) → IsOwnScx c.layout c.pass t
       go (yes q) = rw q at o.scx
       go (no d) = absurd (others_rest before (ends_trans h (row ⊳ before) before e (inr (ends_self before))) since t record { pass = o.pass; is_pass = o.is_pass; is_other = d; owns = o.scx } x)
+
+  -- nobody is in its way
+  pub never_contended : (n s : ℕ) → ¬ IsContended c h n s
+  never_contended n s x = others_rest (x.in_the_way.row ⊳ x.in_the_way.before) x.in_the_way.within (inr x.in_the_way.since) s x.others x.in_the_way.running
 
   -- where the pass has entered nothing the map is what it was, at each moment of the call
   pub alone_keeps : (k : History) (map : List Pair) → Extends h k → Extends k c.start → HasEnteredNone c.layout c.pass h c.start → Spells c.layout (value c.start) map → Spells c.layout (value k) map
@@ -147,3 +152,7 @@ module _ (c : Call) (h : History) (run : IsTreeRun c.layout h) (alone : IsAlone 
       x.told map before_spells,
       spells_still c.layout h h after (edited edit map) run (ends_self h) x.within (log_still c.layout h after run.1.lawful x.within behind_it) (x.edits.changes map before_spells),
     )
+
+-- nor ever where no other pass is
+pub one_never_contended : (c : Call) (h : History) (n s : ℕ) → c.layout.passes ≡ 1 → ¬ IsContended c h n s
+one_never_contended c h n s one x = let below = c.is_pass in let other = x.others.is_pass in x.others.is_other (omega (arith, one, below, other))
