@@ -1,10 +1,10 @@
 //! Insert.
 ghost use Rattle.std.specs.Prelude.{◌≡◌};
 
-use arena::{NodeNo, NodeWord, Side};
+use arena::{NodeNo, NodeWord, Share, Side};
 use prims::Snap;
 use template::Found;
-use updates::{Edit, Loaded, Look, Need, Nodes, Nth, Piece};
+use updates::{Edit, Loaded, Look, Need, Nodes, Nth, Piece, UpdateAt, UpdateRun};
 
 /// Puts a value at a key.
 #[derive(Clone, Copy, Debug, PartialEq, Eq)]
@@ -13,8 +13,28 @@ pub struct Insert {
     pub value: u64,
 }
 
+/// An insert, step by step.
+pub type InsertRun = UpdateRun<Insert>;
+
 impl Insert {
+    /// An insert of that with so many tries, in the caller's call of this number; it takes fresh nodes
+    /// and SCX-records out of the share, at most three nodes and one SCX-record in a try. Where
+    /// `nodes` are taken when it ends, it makes at most `tries * (3 * (2 + nodes) + 178)` steps.
+    pub fn run(self, share: Share, tries: u32, call: u64) -> InsertRun
+        ensures start { result.at ≡ UpdateAt.Start }
+        ensures edit { result.edit ≡ self }
+        ensures share { result.share ≡ share }
+        ensures call { result.call ≡ call }
+        ensures tries { result.tries ≡ tries - 1 }
+        ensures steps { (nodes : ℕ) → 0 < tries → update_left insert_means result nodes ≡ tries * (3 * (2 + nodes) + 178) }
+    {
+        UpdateRun::new(self, share, tries, call)
+    }
+
     ghost use Rattle.std.specs.Prelude.{◌≡◌};
+    ghost use Rattle.std.specs.Prelude.{ℕ, ◌+◌, ◌*◌, ◌-◌, ◌<◌};
+    ghost use Rattle.tree.specs.Insert.Means.{insert_means};
+    ghost use Rattle.updates.specs.Steps.{update_left};
     ghost use Rattle.tree.specs.Insert.Means.{is_below, fresh_leaf, leaf_copy, fork_over};
 
     /// Whether the key comes before the leaf.
