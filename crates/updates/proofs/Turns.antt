@@ -200,7 +200,7 @@ module _ {E : Type 0} (e : EditMeaning E) where
     record { run = x.run; small = x.small; since = since; rests = rests_again c h m.share scx x.run.1.lawful x.share x.next_scx x.over real finished },
     record { since = since; none = none_joined c.layout c.pass h b c.start x.now try.none (none_lost c.layout c.pass scx.scx.0 h b x.run.1.lawful aborted x.only) },
     contended_wider c b h n.0 s.0 try.since (lost_contended (from c b) begin h (edit_key (e.edit m.edit)) f after n.0 s.0 (lawful_since c.layout h begin x.run.1.lawful (ends_trans h (lost.changed.found.row ⊳ lost.changed.found.before) begin lost.changed.found.last.within (inr lost.changed.found.since))) x.quiet
-      (subst (λ (u : Update). AreUsable (from c b) begin (edit_key (e.edit m.edit)) f u.snaps) (sym is_update) x.usable) lost),
+        (subst (λ (u : Update). AreUsable (from c b) begin (edit_key (e.edit m.edit)) f u.snaps) (sym is_update) x.usable) lost),
   )
     where
       since : Extends h c.start

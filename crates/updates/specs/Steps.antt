@@ -1,9 +1,10 @@
 -- How many steps an update may still ask for: at most so many in a try, and as many in each try
 -- that is left behind it.
-use Rattle.std.specs.Prelude.{◌≡◌, ℕ, ◌+◌, ◌*◌, ◌-◌, ◌<◌, length, Option, Some}
+use Rattle.std.specs.Prelude.{◌≡◌, ℕ, ◌+◌, ◌*◌, ◌-◌, ◌<◌, ◌≤◌, length, Option, Some}
 use Rattle.arena.specs.declared.machine.Turn.{Turn}
 use Rattle.arena.specs.declared.word.NodeWord.{NodeWord}
 use Rattle.arena.specs.Machines.{MatchTurn}
+use Rattle.arena.specs.Share.{Remaining}
 use Rattle.prims.specs.Llx.Steps.{llx_left}
 use Rattle.prims.specs.Scx.Steps.{scx_left}
 use Rattle.template.specs.Walk.Steps.{walk_left, WalkFits}
@@ -70,3 +71,26 @@ UpdateFitsAt e m got nodes _ = Unit {0}
 -- what the run is told where it stands fits so many taken nodes
 abbrev pub UpdateFits : {E : Type 0} → EditMeaning E → UpdateRun E → Option ℕ → ℕ → Type 0
 UpdateFits e m got nodes = UpdateFitsAt e m got nodes m.at
+
+-- What it takes of its share
+
+-- how many tries, this one and those behind it, may still take nodes
+abbrev pub node_tries : {E : Type 0} → UpdateRun E → UpdateAt → ℕ
+node_tries m (Load f nth part) = m.tries
+node_tries m (Fill f nth part) = m.tries
+node_tries m (Scx f scx) = m.tries
+node_tries m _ = m.tries + 1
+
+-- and how many an SCX-record
+abbrev pub scx_tries : {E : Type 0} → UpdateRun E → UpdateAt → ℕ
+scx_tries m (Scx f scx) = m.tries
+scx_tries m _ = m.tries + 1
+
+-- At most three nodes are taken for each of the tries that might take some and no longer may, and at
+-- most one SCX-record.
+abbrev pub Spends : Remaining → Remaining → ℕ → ℕ → ℕ → ℕ → Type 0
+Spends old now nodes nodes_then scx scx_then = (old.nodes + 3 * nodes_then ≤ now.nodes + 3 * nodes) × (old.scx + scx_then ≤ now.scx + scx)
+
+-- so much is taken of the share, where so many tries might take of it
+abbrev pub IsSpending : {E : Type 0} → Turn Updated → Remaining → UpdateRun E → ℕ → ℕ → Type 0
+IsSpending turn old m nodes scx = MatchTurn turn (λ _. Spends old m.share nodes (node_tries m m.at) scx (scx_tries m m.at)) (λ _. Spends old m.share nodes 0 scx 0)

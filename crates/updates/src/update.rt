@@ -120,6 +120,7 @@ impl<E: Edit + Drop> UpdateRun<E> {
         ensures begins { (c : Call) (h : History) → Begins E.means self.old c h → MatchTurn result (λ _. Unit {0}) (λ _. ⊥) }
         ensures same { (self.new.edit ≡ self.old.edit) × (self.new.call ≡ self.old.call) }
         ensures nearer { (nodes : ℕ) → IsNearer E.means self.new nodes result (self.old.tries * try_left E.means nodes + try_left E.means nodes) }
+        ensures spends { IsSpending result self.old.share self.new (self.old.tries + 1) (self.old.tries + 1) }
     {
         let mut walk = WalkRun::new(self.edit.key());
         match Machine::<Tree>::next(&mut walk, None) {
@@ -136,6 +137,7 @@ impl<E: Edit + Drop> UpdateRun<E> {
         ensures turn { (c : Call) (h : History) → IsRun TreeAllows c.layout h → Begins E.means self.old c h → IsTry c h → IsContended c h node.0 scx.0 → UpdateTurn E.means c h self.new result }
         ensures same { (self.new.edit ≡ self.old.edit) × (self.new.call ≡ self.old.call) }
         ensures nearer { (nodes : ℕ) → IsNearer E.means self.new nodes result (self.old.tries * try_left E.means nodes) }
+        ensures spends { IsSpending result self.old.share self.new self.old.tries self.old.tries }
     {
         if self.tries == 0 {
             return Turn::Done(Updated::Contended { node, scx });
@@ -149,6 +151,7 @@ impl<E: Edit + Drop> UpdateRun<E> {
         ensures turn { (c : Call) (b h : History) → IsRun TreeAllows c.layout h → IsTry c b → Walks E.means self.old (from c b) h walk.key → WalkIsReady walk (from c b) h got → UpdateTurn E.means c h self.new result }
         ensures same { (self.new.edit ≡ self.old.edit) × (self.new.call ≡ self.old.call) }
         ensures nearer { (nodes : ℕ) → WalkFits walk got nodes → IsNearer E.means self.new nodes result (self.old.tries * try_left E.means nodes + (walk_left walk.at nodes + (64 * E.means.most_looks + works_behind E.means First + 39))) }
+        ensures spends { IsSpending result self.old.share self.new (self.old.tries + 1) (self.old.tries + 1) }
     {
         match Machine::<Tree>::next(&mut walk, got) {
             Turn::Ask(step) => {
@@ -181,6 +184,7 @@ impl<E: Edit + Drop> UpdateRun<E> {
         ensures turn { (c : Call) (b h : History) → IsRun TreeAllows c.layout h → IsTry c b → Begins E.means self.old (from c b) h → IsQuietSince c.layout c.pass b h → HasFoundLeaf (from c b) h (edit_key (E.means.edit self.old.edit)) found → UpdateTurn E.means c h self.new result }
         ensures same { (self.new.edit ≡ self.old.edit) × (self.new.call ≡ self.old.call) }
         ensures nearer { (nodes : ℕ) → IsNearer E.means self.new nodes result (self.old.tries * try_left E.means nodes + (64 * E.means.most_looks + works_behind E.means First + 39)) }
+        ensures spends { IsSpending result self.old.share self.new (self.old.tries + 1) (self.old.tries + 1) }
     {
         let need = self.edit.need(&found);
         if need == Need::Nothing {
@@ -198,6 +202,7 @@ impl<E: Edit + Drop> UpdateRun<E> {
         ensures turn { (c : Call) (b h : History) → IsRun TreeAllows c.layout h → IsTry c b → CanLook E.means self.old (from c b) h found → UpdateTurn E.means c h self.new result }
         ensures same { (self.new.edit ≡ self.old.edit) × (self.new.call ≡ self.old.call) }
         ensures nearer { (nodes : ℕ) → IsNearer E.means self.new nodes result (self.old.tries * try_left E.means nodes + (64 * (E.means.most_looks - length self.old.snaps.items) + works_behind E.means First + 39)) }
+        ensures spends { IsSpending result self.old.share self.new (self.old.tries + 1) (self.old.tries + 1) }
     {
         match self.edit.look(&found, self.snaps.as_slice()) {
             Look::At(node) => self.begin_look(found, node),
@@ -211,6 +216,7 @@ impl<E: Edit + Drop> UpdateRun<E> {
         ensures turn { (c : Call) (b h : History) → IsRun TreeAllows c.layout h → IsTry c b → CanLook E.means self.old (from c b) h found → E.means.looks self.old.edit found self.old.snaps.items ≡ Look.At node → IsOpened c.layout h node.0 → UpdateTurn E.means c h self.new result }
         ensures same { (self.new.edit ≡ self.old.edit) × (self.new.call ≡ self.old.call) }
         ensures nearer { (nodes : ℕ) → IsNearer E.means self.new nodes result (self.old.tries * try_left E.means nodes + (64 + 64 * (E.means.most_looks - 1 - length self.old.snaps.items) + works_behind E.means First + 39)) }
+        ensures spends { IsSpending result self.old.share self.new (self.old.tries + 1) (self.old.tries + 1) }
     {
         let mut llx = LlxRun::new(node);
         match Machine::<Tree>::next(&mut llx, None) {
@@ -230,6 +236,7 @@ impl<E: Edit + Drop> UpdateRun<E> {
         ensures turn { (c : Call) (b begin h : History) → IsRun TreeAllows c.layout h → IsTry c b → Looks E.means self.old (from c b) h found llx begin → LlxIsReady TreeAllows llx (from (from c b) begin) h got → UpdateTurn E.means c h self.new result }
         ensures same { (self.new.edit ≡ self.old.edit) × (self.new.call ≡ self.old.call) }
         ensures nearer { (nodes : ℕ) → IsNearer E.means self.new nodes result (self.old.tries * try_left E.means nodes + (llx_left llx.at + 64 * (E.means.most_looks - 1 - length self.old.snaps.items) + works_behind E.means First + 39)) }
+        ensures spends { IsSpending result self.old.share self.new (self.old.tries + 1) (self.old.tries + 1) }
     {
         match Machine::<Tree>::next(&mut llx, got) {
             Turn::Ask(step) => {
@@ -247,6 +254,7 @@ impl<E: Edit + Drop> UpdateRun<E> {
         ensures turn { (c : Call) (b h : History) → IsRun TreeAllows c.layout h → IsTry c b → CanLook E.means self.old (from c b) h found → E.means.looks self.old.edit found self.old.snaps.items ≡ Look.At snap.node → IsSnapshot c.layout h snap.node.0 snap → UpdateTurn E.means c h self.new result }
         ensures same { (self.new.edit ≡ self.old.edit) × (self.new.call ≡ self.old.call) }
         ensures nearer { (nodes : ℕ) → IsNearer E.means self.new nodes result (self.old.tries * try_left E.means nodes + (64 * (E.means.most_looks - 1 - length self.old.snaps.items) + works_behind E.means First + 39)) }
+        ensures spends { IsSpending result self.old.share self.new (self.old.tries + 1) (self.old.tries + 1) }
     {
         let _fits = self.snaps.try_push(snap);
         self.look(found)
@@ -257,6 +265,7 @@ impl<E: Edit + Drop> UpdateRun<E> {
         ensures turn { (c : Call) (b h : History) → IsRun TreeAllows c.layout h → IsTry c b → CanLook E.means self.old (from c b) h found → E.means.looks self.old.edit found self.old.snaps.items ≡ Look.Enough → UpdateTurn E.means c h self.new result }
         ensures same { (self.new.edit ≡ self.old.edit) × (self.new.call ≡ self.old.call) }
         ensures nearer { (nodes : ℕ) → IsNearer E.means self.new nodes result (self.old.tries * try_left E.means nodes + (works_behind E.means First + 39)) }
+        ensures spends { IsSpending result self.old.share self.new (self.old.tries + 1) (self.old.tries + 1) }
     {
         self.loaded = Loaded {
             head: None,
@@ -275,6 +284,7 @@ impl<E: Edit + Drop> UpdateRun<E> {
         ensures turn { (c : Call) (b h : History) → IsRun TreeAllows c.layout h → IsTry c b → CanLook E.means self.old (from c b) h found → E.means.looks self.old.edit found self.old.snaps.items ≡ Look.Enough → E.means.needs self.old.edit found ≡ Need.One → self.old.loaded ≡ nothing_loaded → UpdateTurn E.means c h self.new result }
         ensures same { (self.new.edit ≡ self.old.edit) × (self.new.call ≡ self.old.call) }
         ensures nearer { (nodes : ℕ) → IsNearer E.means self.new nodes result (self.old.tries * try_left E.means nodes + (works_behind E.means First + 39)) }
+        ensures spends { IsSpending result self.old.share self.new (self.old.tries + 1) (self.old.tries + 1) }
     {
         let first = self.take();
         self.nodes = Nodes {
@@ -290,6 +300,7 @@ impl<E: Edit + Drop> UpdateRun<E> {
         ensures turn { (c : Call) (b h : History) → IsRun TreeAllows c.layout h → IsTry c b → CanLook E.means self.old (from c b) h found → E.means.looks self.old.edit found self.old.snaps.items ≡ Look.Enough → E.means.needs self.old.edit found ≡ Need.Three → self.old.loaded ≡ nothing_loaded → UpdateTurn E.means c h self.new result }
         ensures same { (self.new.edit ≡ self.old.edit) × (self.new.call ≡ self.old.call) }
         ensures nearer { (nodes : ℕ) → IsNearer E.means self.new nodes result (self.old.tries * try_left E.means nodes + (works_behind E.means First + 39)) }
+        ensures spends { IsSpending result self.old.share self.new (self.old.tries + 1) (self.old.tries + 1) }
     {
         let first = self.take();
         let second = self.take();
@@ -304,6 +315,7 @@ impl<E: Edit + Drop> UpdateRun<E> {
 
     /// Takes a fresh node.
     fn take(&mut self) -> NodeNo
+        ensures spent { (self.old.share.nodes ≤ self.new.share.nodes + 1) × (self.new.share.scx ≡ self.old.share.scx) }
         ensures taken { 0 < self.old.share.nodes → (result.0 ≡ self.old.share.next_node) × (self.new.share ≡ less_a_node self.old.share) }
         ensures same { self.new ≡ record self.old { share = self.new.share } }
         ensures tries { self.new.tries ≡ self.old.tries }
@@ -319,6 +331,7 @@ impl<E: Edit + Drop> UpdateRun<E> {
         ensures turn { (c : Call) (b h : History) → IsRun TreeAllows c.layout h → IsTry c b → CanLoad E.means self.old (from c b) h found nth → UpdateTurn E.means c h self.new result }
         ensures same { (self.new.edit ≡ self.old.edit) × (self.new.call ≡ self.old.call) }
         ensures nearer { (nodes : ℕ) → IsNearer E.means self.new nodes result (self.old.tries * try_left E.means nodes + (works_left E.means self.old found nth + 39)) }
+        ensures spends { IsSpending result self.old.share self.new self.old.tries (self.old.tries + 1) }
     {
         let snaps = self.snaps.as_slice();
         let Some(part) = self.edit.load(&found, snaps, &self.loaded, nth) else {
@@ -338,6 +351,7 @@ impl<E: Edit + Drop> UpdateRun<E> {
         ensures turn { (c : Call) (b h : History) → IsRun TreeAllows c.layout h → IsTry c b → Loads E.means self.old (from c b) h found nth part → value h (node (copied E.means self.old found) part) ≡ told → UpdateTurn E.means c h self.new result }
         ensures same { (self.new.edit ≡ self.old.edit) × (self.new.call ≡ self.old.call) }
         ensures nearer { (nodes : ℕ) → IsWanted E.means self.old found nth part → IsNearer E.means self.new nodes result (self.old.tries * try_left E.means nodes + (works_left E.means self.old found nth - 1 + 39)) }
+        ensures spends { IsSpending result self.old.share self.new self.old.tries (self.old.tries + 1) }
     {
         self.loaded = self.loaded.with(part, told);
         self.load(found, nth)
@@ -348,6 +362,7 @@ impl<E: Edit + Drop> UpdateRun<E> {
         ensures turn { (c : Call) (b h : History) → IsRun TreeAllows c.layout h → IsTry c b → CanFill E.means self.old (from c b) h found nth part → UpdateTurn E.means c h self.new result }
         ensures same { (self.new.edit ≡ self.old.edit) × (self.new.call ≡ self.old.call) }
         ensures nearer { (nodes : ℕ) → IsNearer E.means self.new nodes result (self.old.tries * try_left E.means nodes + (fills_left E.means self.old found nth part + 1 + 39)) }
+        ensures spends { IsSpending result self.old.share self.new self.old.tries (self.old.tries + 1) }
     {
         let snaps = self.snaps.as_slice();
         let piece = self
@@ -366,6 +381,7 @@ impl<E: Edit + Drop> UpdateRun<E> {
         ensures turn { (c : Call) (b h : History) → IsRun TreeAllows c.layout h → IsTry c b → IsFilledUpTo E.means self.old (from c b) h found nth part → UpdateTurn E.means c h self.new result }
         ensures same { (self.new.edit ≡ self.old.edit) × (self.new.call ≡ self.old.call) }
         ensures nearer { (nodes : ℕ) → IsNearer E.means self.new nodes result (self.old.tries * try_left E.means nodes + (fills_left E.means self.old found nth part + 39)) }
+        ensures spends { IsSpending result self.old.share self.new self.old.tries (self.old.tries + 1) }
     {
         let snaps = self.snaps.as_slice();
         let piece = self
@@ -407,6 +423,7 @@ impl<E: Edit + Drop> UpdateRun<E> {
         ensures turn { (c : Call) (b h : History) → IsRun TreeAllows c.layout h → IsTry c b → CanScx E.means self.old (from c b) h found → UpdateTurn E.means c h self.new result }
         ensures same { (self.new.edit ≡ self.old.edit) × (self.new.call ≡ self.old.call) }
         ensures nearer { (nodes : ℕ) → IsNearer E.means self.new nodes result (self.old.tries * try_left E.means nodes + 39) }
+        ensures spends { IsSpending result self.old.share self.new self.old.tries (self.old.tries + 1) }
     {
         let update = self.update(&found);
         let Some(scx) = self.share.scx() else {
@@ -431,6 +448,7 @@ impl<E: Edit + Drop> UpdateRun<E> {
         ensures turn { (c : Call) (b begin h : History) → IsRun TreeAllows c.layout h → IsTry c b → Scxs E.means self.old (from c b) h found scx begin → ScxIsReady TreeAllows scx (from (from c b) begin) h got → UpdateTurn E.means c h self.new result }
         ensures same { (self.new.edit ≡ self.old.edit) × (self.new.call ≡ self.old.call) }
         ensures nearer { (nodes : ℕ) → IsNearer E.means self.new nodes result (self.old.tries * try_left E.means nodes + scx_left scx.at) }
+        ensures spends { IsSpending result self.old.share self.new self.old.tries self.old.tries }
     {
         match Machine::<Tree>::next(&mut scx, got) {
             Turn::Ask(step) => {
@@ -448,6 +466,7 @@ impl<E: Edit + Drop> UpdateRun<E> {
         ensures begins { got ≡ None → (c : Call) (h : History) → UpdateIsReady E.means self.old c h None → MatchTurn result (λ _. Unit {0}) (λ _. ⊥) }
         ensures same { (self.new.edit ≡ self.old.edit) × (self.new.call ≡ self.old.call) }
         ensures nearer { (nodes : ℕ) → UpdateFits E.means self.old got nodes → IsNearer E.means self.new nodes result (update_left E.means self.old nodes) }
+        ensures spends { IsSpending result self.old.share self.new (node_tries self.old self.old.at) (scx_tries self.old self.old.at) }
     {
         match self.at {
             UpdateAt::Start => self.begin_walk(NodeNo(0), ScxNo(0)),
@@ -478,6 +497,7 @@ impl<E: Edit + Drop> UpdateRun<E> {
     ghost use Rattle.updates.specs.Known.{Begins, CanLook, Looks, nothing_loaded, CanLoad, CanFill, Loads, Scxs, UpdateTurn, copied};
     ghost use Rattle.arena.specs.Words.{node};
     ghost use Rattle.updates.specs.Laws.HandScx.{from};
+    ghost use Rattle.updates.specs.Steps.{IsSpending, node_tries, scx_tries};
     ghost use Rattle.updates.specs.Blame.{IsContended};
     ghost use Rattle.updates.specs.Tries.{IsTry};
     ghost use Rattle.prims.specs.Laws.Idle.{IsQuietSince};

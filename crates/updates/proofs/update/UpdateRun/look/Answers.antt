@@ -19,8 +19,8 @@ returns-in-Enough-clause-nearer g c nodes = below c.begin_work.result _ _ _ (c.b
 pub returns-in-Differs-clause-turn : goal.returns-in-Differs-clause-turn
 returns-in-Differs-clause-turn g c d b h run try x =
     let t = look_lost g.E.Edit.means c.args.self.now d b h c.in-Differs.node.0 c.in-Differs.scx.0 try x.begins x.quiet
-          (look_differs g.E.Edit.means g.met.E.Edit.laws.looks c.args.self.now.edit (from d b) h c.args.found c.args.self.now.snaps.items x.begins.run (is_needed g.E.Edit.means c.args.self.now (from d b) h c.args.found x) x.looked c.in-Differs.node c.in-Differs.scx x.quiet
-          (rw (sym c.as_slice.ensures.value) (sym c.look.ensures ∙ c.in-Differs.is))) in
+    (look_differs g.E.Edit.means g.met.E.Edit.laws.looks c.args.self.now.edit (from d b) h c.args.found c.args.self.now.snaps.items x.begins.run (is_needed g.E.Edit.means c.args.self.now (from d b) h c.args.found x) x.looked c.in-Differs.node c.in-Differs.scx x.quiet
+    (rw (sym c.as_slice.ensures.value) (sym c.look.ensures ∙ c.in-Differs.is))) in
     c.lost.ensures.turn d h run t.0 t.1 t.2
 
 pub returns-in-At-clause-turn : goal.returns-in-At-clause-turn
