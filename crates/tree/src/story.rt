@@ -1,7 +1,7 @@
 //! Clients that make calls on one table, one step of a client at a time.
 use crate::table::Table;
 use crate::{GetRun, Insert, Tree};
-use arena::{Kind, Machine, PassNo, Row, Share, Step, Turn, Word};
+use arena::{Full, Kind, Machine, NodeNo, Resource, ScxNo, Share, Step, Turn, Word};
 use spelling::Pair;
 use std::alloc::Global;
 use std::process::Abort;
@@ -19,6 +19,9 @@ pub(crate) enum Call {
 /// the answer.
 pub(crate) type Reply = (u32, u64, u64, u64, Option<u64>, Updated);
 
+/// A step: its kind, its word, and what that held before and after it.
+pub(crate) type Made = (Kind, Word, u64, u64);
+
 /// An update of the map: for which call of which client, its step, and the key's old value.
 #[derive(Clone, Copy)]
 struct Entry {
@@ -30,6 +33,28 @@ struct Entry {
 
 /// No call of these stories, and none up to an answer, has as many steps.
 const MOST_STEPS: u32 = 1000;
+
+pub(crate) fn done(old: Option<u64>) -> Updated {
+    Updated::Done { old }
+}
+
+pub(crate) fn full(what: Resource, left: u32) -> Updated {
+    Updated::Full(Full { what, left })
+}
+
+pub(crate) fn contended(node: u64, scx: u64) -> Updated {
+    Updated::Contended {
+        node: NodeNo(node),
+        scx: ScxNo(scx),
+    }
+}
+
+/// These are replies of the story.
+pub(crate) fn told(rt: &impl Abort, story: &Story, replies: &[Reply]) {
+    for reply in replies {
+        assert_eq!(rt; story.reply(reply.0, reply.1), Some(*reply));
+    }
+}
 
 /// A map by its keys, which are below 16 in these stories.
 #[derive(Drop)]
@@ -172,29 +197,27 @@ pub(crate) struct Story {
     replies: Vec<Reply>,
 }
 
+/// Clients with no calls yet, each with such a share and so many tries.
+fn clients(rt: &impl Abort, alloc: Global, table: &Table, tries: u32) -> Result<Vec<Client>, Fail> {
+    let mut clients = Vec::new(alloc);
+    for pass in 0..table.passes() {
+        clients.push(Client::new(alloc, table.share(rt, pass), tries))?;
+    }
+    Ok(clients)
+}
+
 impl Story {
-    /// Clients with these calls, each with so many nodes, SCX-records and tries.
+    /// Clients with no calls yet: so many, each with so many nodes, SCX-records and tries.
     pub(crate) fn new(
         rt: &impl Abort,
         alloc: Global,
-        limits: (u32, u32, u32, u32),
-        calls: &[(u32, Call)],
+        (passes, nodes, scx, tries): (u32, u32, u32, u32),
     ) -> Result<Story, Fail> {
-        let (passes, nodes, scx, tries) = limits;
         let table = Table::new(alloc, passes, nodes, scx)?;
-        let mut clients = Vec::new(alloc);
-        for pass in 0..passes {
-            clients.push(Client::new(alloc, table.share(rt, pass), tries))?;
-        }
-        for (client, call) in calls {
-            if let Some(at) = clients.get_mut(*client as usize) {
-                at.calls.push(*call)?;
-            }
-        }
         Ok(Story {
             alloc,
+            clients: clients(rt, alloc, &table, tries)?,
             table,
-            clients,
             map: Plain { values: [None; 16] },
             steps: 0,
             entries: Vec::new(alloc),
@@ -202,28 +225,42 @@ impl Story {
         })
     }
 
+    /// Gives the clients calls.
+    pub(crate) fn with(mut self, calls: &[(u32, Call)]) -> Result<Story, Fail> {
+        for (client, call) in calls {
+            if let Some(at) = self.clients.get_mut(*client as usize) {
+                at.calls.push(*call)?;
+            }
+        }
+        Ok(self)
+    }
+
     /// Makes the next step of a client, unless it has no call left. Behind it the words spell the map
     /// of the entries so far.
-    pub(crate) fn step(&mut self, rt: &impl Abort, client: u32) -> Result<Option<Row>, Fail> {
-        let Some((call, step)) = self.asked(client) else {
+    pub(crate) fn step(&mut self, rt: &impl Abort, client: u32) -> Result<Option<Made>, Fail> {
+        let Some(step) = self.asked(client) else {
             return Ok(None);
         };
         let Some((before, after)) = self.table.make(step) else {
             return Ok(None);
         };
         self.steps = self.steps.saturating_add(1);
-        let Step { kind, word, .. } = step;
-        let pass = PassNo(client);
-        let row = Row {
-            pass,
-            call,
-            kind,
-            word,
-            before,
-            after,
-        };
-        self.enter(rt, &row)?;
+        if step.kind == Kind::Update && before != after {
+            self.enter(rt, step.word)?;
+        }
         self.tell(rt, client, before)?;
+        self.compare(rt)?;
+        Ok(Some((step.kind, step.word, before, after)))
+    }
+
+    /// The step that a client asks for.
+    fn asked(&mut self, client: u32) -> Option<Step> {
+        let number = self.steps.saturating_add(1);
+        self.clients.get_mut(client as usize)?.asks(number)
+    }
+
+    /// The words spell the map.
+    fn compare(&self, rt: &impl Abort) -> Result<(), Fail> {
         let pairs = self.map.pairs(self.alloc)?;
         let number = self.steps;
         assert_eq!(rt;
@@ -231,33 +268,19 @@ impl Story {
             Some(pairs),
             "behind step {number}"
         );
-        Ok(Some(row))
+        Ok(())
     }
 
-    /// The step that a client asks for, and the number of its call.
-    fn asked(&mut self, client: u32) -> Option<(u64, Step)> {
-        let number = self.steps.saturating_add(1);
-        let at = self.clients.get_mut(client as usize)?;
-        let step = at.asks(number)?;
-        Some((at.answered, step))
-    }
-
-    /// Puts an update of a field into the map: that of the call which has filled the SCX-record that
-    /// holds the field's node. The call runs, and has no other entry.
-    fn enter(&mut self, rt: &impl Abort, row: &Row) -> Result<(), Fail> {
-        if row.kind != Kind::Update || row.before == row.after {
-            return Ok(());
-        }
+    /// Puts the update of a field into the map: that of the call for which the SCX-record was made
+    /// that holds the field's node. The call runs, and has no other entry.
+    fn enter(&mut self, rt: &impl Abort, field: Word) -> Result<(), Fail> {
         let step = self.steps;
-        let made = self.made_for(row.word);
-        assert!(rt;
-            made.is_some(),
-            "the update of step {step} is of no call that runs"
-        );
+        let made = self.made_for(field);
+        assert!(rt; made.is_some(), "step {step} is of no call that runs");
         if let Some((client, call, Call::Insert(key, value))) = made {
             assert!(rt;
                 self.entry(client, call).is_none(),
-                "step {step} makes an update again"
+                "step {step} is a second update"
             );
             let old = self.map.put(key, value);
             self.entries.push(Entry {
@@ -337,6 +360,14 @@ impl Story {
         Some(step)
     }
 
+    /// Makes so many steps of a client.
+    pub(crate) fn steps(&mut self, rt: &impl Abort, client: u32, many: u32) -> Result<(), Fail> {
+        for _ in 0..many {
+            self.step(rt, client)?;
+        }
+        Ok(())
+    }
+
     /// Makes the steps of a client up to its next answer.
     pub(crate) fn call(&mut self, rt: &impl Abort, client: u32) -> Result<(), Fail> {
         let many = self.replies.len();
@@ -359,12 +390,10 @@ impl Story {
         let mut left = many;
         for _ in 0..MOST_STEPS {
             if left == 0 {
-                return Ok(());
+                break;
             }
-            if let Some(row) = self.step(rt, client)? {
-                if row.kind == kind {
-                    left -= 1;
-                }
+            if matches!(self.step(rt, client)?, Some((made, ..)) if made == kind) {
+                left -= 1;
             }
         }
         Ok(())
@@ -385,8 +414,13 @@ impl Story {
         (self.steps, self.replies.len(), self.entries.len())
     }
 
-    /// Whether there was this answer.
-    pub(crate) fn has(&self, reply: Reply) -> bool {
-        self.replies.as_slice().contains(&reply)
+    /// The reply to a call, once it is there.
+    pub(crate) fn reply(&self, client: u32, call: u64) -> Option<Reply> {
+        for reply in self.replies.as_slice() {
+            if reply.0 == client && reply.1 == call {
+                return Some(*reply);
+            }
+        }
+        None
     }
 }

@@ -46,6 +46,11 @@ impl Table {
         Share::of(&self.layout, PassNo(pass))
     }
 
+    /// How many passes there are.
+    pub(crate) fn passes(&self) -> u32 {
+        self.layout.passes
+    }
+
     /// Makes a step: what its word held before and after it. A word outside of the table has none.
     pub(crate) fn make(&mut self, step: Step) -> Option<(u64, u64)> {
         if self.layout.has(step.word) {
