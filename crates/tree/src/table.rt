@@ -2,7 +2,10 @@
 ghost use Rattle.std.specs.Prelude.{◌≡◌};
 ghost use Rattle.arena.specs.PlainWords.{Contents};
 
-use arena::{Layout, Limits, Mode, PassNo, PlainWords, Share, Step};
+use arena::{
+    Layout, Limits, Mode, NodeNo, NodeWord, PassNo, PlainWords, ScxNo, ScxWord, Share, Step, Word,
+};
+use spelling::{Pair, spelled};
 use std::alloc::Global;
 use std::marker::Model;
 use std::process::Abort;
@@ -43,6 +46,11 @@ impl Table {
         Share::of(&self.layout, PassNo(pass))
     }
 
+    /// How many passes there are.
+    pub(crate) fn passes(&self) -> u32 {
+        self.layout.passes
+    }
+
     /// Makes a step: what its word held before and after it. A word outside of the table has none.
     pub(crate) fn make(&mut self, step: Step) -> Option<(u64, u64)> {
         if self.layout.has(step.word) {
@@ -51,5 +59,29 @@ impl Table {
         } else {
             None
         }
+    }
+
+    /// The map that the words spell, if they spell one.
+    pub(crate) fn spelled(&self, alloc: Global) -> Result<Option<Vec<Pair>>, Fail> {
+        Ok(spelled(alloc, &self.words)?)
+    }
+
+    /// What a word holds, if it is one of the table.
+    fn get(&self, word: Word) -> Option<u64> {
+        if self.layout.has(word) {
+            Some(self.words.get(word))
+        } else {
+            None
+        }
+    }
+
+    /// Whose SCX-record holds the node of this word, and for which of that one's calls.
+    pub(crate) fn maker(&self, word: Word) -> Option<(u32, u64)> {
+        let Word::Node(node, _) = word else {
+            return None;
+        };
+        let scx = ScxNo(self.get(Word::Node(node, NodeWord::Info))?);
+        let owner = self.layout.owner(scx)?;
+        Some((owner.0, self.get(Word::Scx(scx, ScxWord::Call))?))
     }
 }

@@ -1,0 +1,426 @@
+//! Clients that make calls on one table, one step of a client at a time.
+use crate::table::Table;
+use crate::{GetRun, Insert, Tree};
+use arena::{Full, Kind, Machine, NodeNo, Resource, ScxNo, Share, Step, Turn, Word};
+use spelling::Pair;
+use std::alloc::Global;
+use std::process::Abort;
+use std::test::Fail;
+use updates::{UpdateRun, Updated};
+
+/// A call of the map.
+#[derive(Clone, Copy)]
+pub(crate) enum Call {
+    Insert(u64, u64),
+    Get(u64),
+}
+
+/// An answered call: whose it is, which of that client's, its first and its last step, its moment and
+/// the answer.
+pub(crate) type Reply = (u32, u64, u64, u64, Option<u64>, Updated);
+
+/// A step: its kind, its word, and what that held before and after it.
+pub(crate) type Made = (Kind, Word, u64, u64);
+
+/// An update of the map: for which call of which client, its step, and the key's old value.
+#[derive(Clone, Copy)]
+struct Entry {
+    client: u32,
+    call: u64,
+    step: u64,
+    old: Option<u64>,
+}
+
+/// No call of these stories, and none up to an answer, has as many steps.
+const MOST_STEPS: u32 = 1000;
+
+pub(crate) fn done(old: Option<u64>) -> Updated {
+    Updated::Done { old }
+}
+
+pub(crate) fn full(what: Resource, left: u32) -> Updated {
+    Updated::Full(Full { what, left })
+}
+
+pub(crate) fn contended(node: u64, scx: u64) -> Updated {
+    Updated::Contended {
+        node: NodeNo(node),
+        scx: ScxNo(scx),
+    }
+}
+
+/// These are replies of the story.
+pub(crate) fn told(rt: &impl Abort, story: &Story, replies: &[Reply]) {
+    for reply in replies {
+        assert_eq!(rt; story.reply(reply.0, reply.1), Some(*reply));
+    }
+}
+
+/// A map by its keys, which are below 16 in these stories.
+#[derive(Drop)]
+struct Plain {
+    values: [Option<u64>; 16],
+}
+
+impl Plain {
+    fn get(&self, key: u64) -> Option<u64> {
+        *self.values.get(key as usize)?
+    }
+
+    /// Puts a value at a key, and tells the old one.
+    fn put(&mut self, key: u64, value: u64) -> Option<u64> {
+        self.values.get_mut(key as usize)?.replace(value)
+    }
+
+    /// The pairs, by rising key.
+    fn pairs(&self, alloc: Global) -> Result<Vec<Pair>, Fail> {
+        let mut pairs = Vec::new(alloc);
+        for (key, value) in self.values.iter().enumerate() {
+            if let Some(value) = *value {
+                let key = key as u64;
+                pairs.push(Pair { key, value })?;
+            }
+        }
+        Ok(pairs)
+    }
+}
+
+/// A call that runs.
+#[derive(Drop)]
+enum Run {
+    Insert(UpdateRun<Insert>),
+    Get(GetRun),
+}
+
+impl Run {
+    fn next(&mut self, got: Option<u64>) -> Turn<Updated> {
+        match self {
+            Run::Insert(run) => run.step(got),
+            Run::Get(run) => match Machine::<Tree>::next(run, got) {
+                Turn::Ask(step) => Turn::Ask(step),
+                Turn::Done(old) => Turn::Done(Updated::Done { old }),
+            },
+        }
+    }
+}
+
+/// A client: its calls, and the step that the one that runs has asked for.
+#[derive(Drop)]
+struct Client {
+    calls: Vec<Call>,
+    tries: u32,
+    /// How many of its calls are answered.
+    answered: u64,
+    /// The first step of the call that runs.
+    begin: u64,
+    run: Option<Run>,
+    asked: Option<Step>,
+    /// What no call has taken, while no insert runs.
+    share: Option<Share>,
+}
+
+impl Client {
+    fn new(alloc: Global, share: Share, tries: u32) -> Client {
+        Client {
+            calls: Vec::new(alloc),
+            tries,
+            answered: 0,
+            begin: 0,
+            run: None,
+            asked: None,
+            share: Some(share),
+        }
+    }
+
+    /// The call of this number.
+    fn call(&self, number: u64) -> Option<Call> {
+        self.calls.get(number as usize).copied()
+    }
+
+    /// What it asks for in this turn, the first of a call if none runs; none where no call is left.
+    fn asks(&mut self, step: u64) -> Option<Step> {
+        if self.run.is_none() {
+            self.begin = step;
+            self.run = Some(self.begun()?);
+            self.next(None);
+        }
+        self.asked
+    }
+
+    /// Its next call.
+    fn begun(&mut self) -> Option<Run> {
+        match self.call(self.answered)? {
+            Call::Insert(key, value) => {
+                let insert = Insert { key, value };
+                let share = self.share.take()?;
+                let run = UpdateRun::new(insert, share, self.tries, self.answered);
+                Some(Run::Insert(run))
+            }
+            Call::Get(key) => Some(Run::Get(GetRun::new(key))),
+        }
+    }
+
+    /// Goes on with what the last step found: the answer, once it is there.
+    fn next(&mut self, got: Option<u64>) -> Option<Updated> {
+        match self.run.as_mut()?.next(got) {
+            Turn::Ask(step) => {
+                self.asked = Some(step);
+                None
+            }
+            Turn::Done(answer) => {
+                self.rest();
+                Some(answer)
+            }
+        }
+    }
+
+    /// Ends the call that runs.
+    fn rest(&mut self) {
+        if let Some(Run::Insert(run)) = self.run.take() {
+            self.share = Some(run.into_share());
+        }
+        self.asked = None;
+        self.answered = self.answered.saturating_add(1);
+    }
+}
+
+/// Clients over one table, and what they have done so far.
+#[derive(Drop)]
+pub(crate) struct Story {
+    alloc: Global,
+    table: Table,
+    clients: Vec<Client>,
+    /// The map that the entries make, one after another.
+    map: Plain,
+    steps: u64,
+    entries: Vec<Entry>,
+    replies: Vec<Reply>,
+}
+
+/// Clients with no calls yet, each with such a share and so many tries.
+fn clients(rt: &impl Abort, alloc: Global, table: &Table, tries: u32) -> Result<Vec<Client>, Fail> {
+    let mut clients = Vec::new(alloc);
+    for pass in 0..table.passes() {
+        clients.push(Client::new(alloc, table.share(rt, pass), tries))?;
+    }
+    Ok(clients)
+}
+
+impl Story {
+    /// Clients with no calls yet: so many, each with so many nodes, SCX-records and tries.
+    pub(crate) fn new(
+        rt: &impl Abort,
+        alloc: Global,
+        (passes, nodes, scx, tries): (u32, u32, u32, u32),
+    ) -> Result<Story, Fail> {
+        let table = Table::new(alloc, passes, nodes, scx)?;
+        Ok(Story {
+            alloc,
+            clients: clients(rt, alloc, &table, tries)?,
+            table,
+            map: Plain { values: [None; 16] },
+            steps: 0,
+            entries: Vec::new(alloc),
+            replies: Vec::new(alloc),
+        })
+    }
+
+    /// Gives the clients calls.
+    pub(crate) fn with(mut self, calls: &[(u32, Call)]) -> Result<Story, Fail> {
+        for (client, call) in calls {
+            if let Some(at) = self.clients.get_mut(*client as usize) {
+                at.calls.push(*call)?;
+            }
+        }
+        Ok(self)
+    }
+
+    /// Makes the next step of a client, unless it has no call left. Behind it the words spell the map
+    /// of the entries so far.
+    pub(crate) fn step(&mut self, rt: &impl Abort, client: u32) -> Result<Option<Made>, Fail> {
+        let Some(step) = self.asked(client) else {
+            return Ok(None);
+        };
+        let Some((before, after)) = self.table.make(step) else {
+            return Ok(None);
+        };
+        self.steps = self.steps.saturating_add(1);
+        if step.kind == Kind::Update && before != after {
+            self.enter(rt, step.word)?;
+        }
+        self.tell(rt, client, before)?;
+        self.compare(rt)?;
+        Ok(Some((step.kind, step.word, before, after)))
+    }
+
+    /// The step that a client asks for.
+    fn asked(&mut self, client: u32) -> Option<Step> {
+        let number = self.steps.saturating_add(1);
+        self.clients.get_mut(client as usize)?.asks(number)
+    }
+
+    /// The words spell the map.
+    fn compare(&self, rt: &impl Abort) -> Result<(), Fail> {
+        let pairs = self.map.pairs(self.alloc)?;
+        let number = self.steps;
+        assert_eq!(rt;
+            self.table.spelled(self.alloc)?,
+            Some(pairs),
+            "behind step {number}"
+        );
+        Ok(())
+    }
+
+    /// Puts the update of a field into the map: that of the call for which the SCX-record was made
+    /// that holds the field's node. The call runs, and has no other entry.
+    fn enter(&mut self, rt: &impl Abort, field: Word) -> Result<(), Fail> {
+        let step = self.steps;
+        let made = self.made_for(field);
+        assert!(rt; made.is_some(), "step {step} is of no call that runs");
+        if let Some((client, call, Call::Insert(key, value))) = made {
+            assert!(rt;
+                self.entry(client, call).is_none(),
+                "step {step} is a second update"
+            );
+            let old = self.map.put(key, value);
+            self.entries.push(Entry {
+                client,
+                call,
+                step,
+                old,
+            })?;
+        }
+        Ok(())
+    }
+
+    /// For which call the SCX-record that holds the node of this word was made, if that call runs.
+    fn made_for(&self, word: Word) -> Option<(u32, u64, Call)> {
+        let (client, number) = self.table.maker(word)?;
+        let at = self.clients.get(client as usize)?;
+        if at.run.is_some() && at.answered == number {
+            Some((client, number, at.call(number)?))
+        } else {
+            None
+        }
+    }
+
+    /// The entry of a call.
+    fn entry(&self, client: u32, call: u64) -> Option<Entry> {
+        for entry in self.entries.as_slice() {
+            if entry.client == client && entry.call == call {
+                return Some(*entry);
+            }
+        }
+        None
+    }
+
+    /// Tells a client what its step found, and writes its answer down.
+    fn tell(&mut self, rt: &impl Abort, client: u32, found: u64) -> Result<(), Fail> {
+        let Some(at) = self.clients.get_mut(client as usize) else {
+            return Ok(());
+        };
+        let (number, begin, call) = (at.answered, at.begin, at.call(at.answered));
+        if let Some(answer) = at.next(Some(found)) {
+            let moment = match call {
+                Some(Call::Get(key)) => self.seen(key, answer),
+                _ => self.done(rt, client, number, answer),
+            };
+            let end = self.steps;
+            self.replies
+                .push((client, number, begin, end, moment, answer))?;
+        }
+        Ok(())
+    }
+
+    /// The moment of a get: this step, if the map has its answer now.
+    fn seen(&self, key: u64, answer: Updated) -> Option<u64> {
+        let old = self.map.get(key);
+        if answer == (Updated::Done { old }) {
+            Some(self.steps)
+        } else {
+            None
+        }
+    }
+
+    /// The moment of an insert: the step of its entry, whose old value it answers. A call that is
+    /// refused has none.
+    fn done(&self, rt: &impl Abort, client: u32, call: u64, answer: Updated) -> Option<u64> {
+        let Some(Entry { step, old, .. }) = self.entry(client, call) else {
+            assert!(rt;
+                !matches!(answer, Updated::Done { .. }),
+                "call {call} of client {client}"
+            );
+            return None;
+        };
+        assert_eq!(rt;
+            answer,
+            Updated::Done { old },
+            "call {call} of client {client}"
+        );
+        Some(step)
+    }
+
+    /// Makes so many steps of a client.
+    pub(crate) fn steps(&mut self, rt: &impl Abort, client: u32, many: u32) -> Result<(), Fail> {
+        for _ in 0..many {
+            self.step(rt, client)?;
+        }
+        Ok(())
+    }
+
+    /// Makes the steps of a client up to its next answer.
+    pub(crate) fn call(&mut self, rt: &impl Abort, client: u32) -> Result<(), Fail> {
+        let many = self.replies.len();
+        for _ in 0..MOST_STEPS {
+            if self.replies.len() == many {
+                self.step(rt, client)?;
+            }
+        }
+        Ok(())
+    }
+
+    /// Makes its steps until so many more of a kind are made.
+    pub(crate) fn until(
+        &mut self,
+        rt: &impl Abort,
+        client: u32,
+        kind: Kind,
+        many: u32,
+    ) -> Result<(), Fail> {
+        let mut left = many;
+        for _ in 0..MOST_STEPS {
+            if left == 0 {
+                break;
+            }
+            if matches!(self.step(rt, client)?, Some((made, ..)) if made == kind) {
+                left -= 1;
+            }
+        }
+        Ok(())
+    }
+
+    /// Makes its steps until it has no call left.
+    pub(crate) fn finish(&mut self, rt: &impl Abort, client: u32) -> Result<(), Fail> {
+        for _ in 0..MOST_STEPS {
+            if self.step(rt, client)?.is_none() {
+                return Ok(());
+            }
+        }
+        Ok(())
+    }
+
+    /// How many steps are made, how many calls answered, and how many entries there are.
+    pub(crate) fn counts(&self) -> (u64, usize, usize) {
+        (self.steps, self.replies.len(), self.entries.len())
+    }
+
+    /// The reply to a call, once it is there.
+    pub(crate) fn reply(&self, client: u32, call: u64) -> Option<Reply> {
+        for reply in self.replies.as_slice() {
+            if reply.0 == client && reply.1 == call {
+                return Some(*reply);
+            }
+        }
+        None
+    }
+}
