@@ -392,7 +392,7 @@ module _ {E : Type 0} (e : EditMeaning E) where
   abbrev pub UpdateAnswers : UpdateRun E → Call → History → Updated → Type 0
   UpdateAnswers m c h (Done old) = HasNothingToMake m.edit c h old ⊎ HasMade (e.edit m.edit) c h m.call old
   UpdateAnswers m c h (FullAnswer full) = IsFullFor m c h full
-  UpdateAnswers m c h (Contended node scx) = IsContended c h node.0 scx.0 × HasEnteredNone c.layout c.pass h c.start
+  UpdateAnswers m c h (Contended node scx) = IsContended c h node.0 scx.0 × (m.tries ≡ 0) × HasEnteredNone c.layout c.pass h c.start
 
   -- it waits for the step that it asks for, or its answer is right
   abbrev pub UpdateTurn : Call → History → UpdateRun E → Turn Updated → Type 0

@@ -121,6 +121,7 @@ impl<E: Edit + Drop> UpdateRun<E> {
         ensures same { (self.new.edit ≡ self.old.edit) × (self.new.call ≡ self.old.call) }
         ensures nearer { (nodes : ℕ) → IsNearer E.means self.new nodes result (self.old.tries * try_left E.means nodes + try_left E.means nodes) }
         ensures spends { IsSpending result self.old.share self.new (self.old.tries + 1) (self.old.tries + 1) }
+        ensures tries { self.new.tries ≡ self.old.tries }
     {
         let mut walk = WalkRun::new(self.edit.key());
         match Machine::<Tree>::next(&mut walk, None) {
@@ -138,6 +139,7 @@ impl<E: Edit + Drop> UpdateRun<E> {
         ensures same { (self.new.edit ≡ self.old.edit) × (self.new.call ≡ self.old.call) }
         ensures nearer { (nodes : ℕ) → IsNearer E.means self.new nodes result (self.old.tries * try_left E.means nodes) }
         ensures spends { IsSpending result self.old.share self.new self.old.tries self.old.tries }
+        ensures tries { self.old.tries ≤ self.new.tries + 1 }
     {
         if self.tries == 0 {
             return Turn::Done(Updated::Contended { node, scx });
@@ -152,6 +154,7 @@ impl<E: Edit + Drop> UpdateRun<E> {
         ensures same { (self.new.edit ≡ self.old.edit) × (self.new.call ≡ self.old.call) }
         ensures nearer { (nodes : ℕ) → WalkFits walk got nodes → IsNearer E.means self.new nodes result (self.old.tries * try_left E.means nodes + (walk_left walk.at nodes + (64 * E.means.most_looks + works_behind E.means First + 39))) }
         ensures spends { IsSpending result self.old.share self.new (self.old.tries + 1) (self.old.tries + 1) }
+        ensures tries { self.old.tries ≤ self.new.tries + 1 }
     {
         match Machine::<Tree>::next(&mut walk, got) {
             Turn::Ask(step) => {
@@ -185,6 +188,7 @@ impl<E: Edit + Drop> UpdateRun<E> {
         ensures same { (self.new.edit ≡ self.old.edit) × (self.new.call ≡ self.old.call) }
         ensures nearer { (nodes : ℕ) → IsNearer E.means self.new nodes result (self.old.tries * try_left E.means nodes + (64 * E.means.most_looks + works_behind E.means First + 39)) }
         ensures spends { IsSpending result self.old.share self.new (self.old.tries + 1) (self.old.tries + 1) }
+        ensures tries { self.old.tries ≤ self.new.tries + 1 }
     {
         let need = self.edit.need(&found);
         if need == Need::Nothing {
@@ -203,6 +207,7 @@ impl<E: Edit + Drop> UpdateRun<E> {
         ensures same { (self.new.edit ≡ self.old.edit) × (self.new.call ≡ self.old.call) }
         ensures nearer { (nodes : ℕ) → IsNearer E.means self.new nodes result (self.old.tries * try_left E.means nodes + (64 * (E.means.most_looks - length self.old.snaps.items) + works_behind E.means First + 39)) }
         ensures spends { IsSpending result self.old.share self.new (self.old.tries + 1) (self.old.tries + 1) }
+        ensures tries { self.old.tries ≤ self.new.tries + 1 }
     {
         match self.edit.look(&found, self.snaps.as_slice()) {
             Look::At(node) => self.begin_look(found, node),
@@ -217,6 +222,7 @@ impl<E: Edit + Drop> UpdateRun<E> {
         ensures same { (self.new.edit ≡ self.old.edit) × (self.new.call ≡ self.old.call) }
         ensures nearer { (nodes : ℕ) → IsNearer E.means self.new nodes result (self.old.tries * try_left E.means nodes + (64 + 64 * (E.means.most_looks - 1 - length self.old.snaps.items) + works_behind E.means First + 39)) }
         ensures spends { IsSpending result self.old.share self.new (self.old.tries + 1) (self.old.tries + 1) }
+        ensures tries { self.new.tries ≡ self.old.tries }
     {
         let mut llx = LlxRun::new(node);
         match Machine::<Tree>::next(&mut llx, None) {
@@ -237,6 +243,7 @@ impl<E: Edit + Drop> UpdateRun<E> {
         ensures same { (self.new.edit ≡ self.old.edit) × (self.new.call ≡ self.old.call) }
         ensures nearer { (nodes : ℕ) → IsNearer E.means self.new nodes result (self.old.tries * try_left E.means nodes + (llx_left llx.at + 64 * (E.means.most_looks - 1 - length self.old.snaps.items) + works_behind E.means First + 39)) }
         ensures spends { IsSpending result self.old.share self.new (self.old.tries + 1) (self.old.tries + 1) }
+        ensures tries { self.old.tries ≤ self.new.tries + 1 }
     {
         match Machine::<Tree>::next(&mut llx, got) {
             Turn::Ask(step) => {
@@ -255,6 +262,7 @@ impl<E: Edit + Drop> UpdateRun<E> {
         ensures same { (self.new.edit ≡ self.old.edit) × (self.new.call ≡ self.old.call) }
         ensures nearer { (nodes : ℕ) → IsNearer E.means self.new nodes result (self.old.tries * try_left E.means nodes + (64 * (E.means.most_looks - 1 - length self.old.snaps.items) + works_behind E.means First + 39)) }
         ensures spends { IsSpending result self.old.share self.new (self.old.tries + 1) (self.old.tries + 1) }
+        ensures tries { self.old.tries ≤ self.new.tries + 1 }
     {
         let _fits = self.snaps.try_push(snap);
         self.look(found)
@@ -266,6 +274,7 @@ impl<E: Edit + Drop> UpdateRun<E> {
         ensures same { (self.new.edit ≡ self.old.edit) × (self.new.call ≡ self.old.call) }
         ensures nearer { (nodes : ℕ) → IsNearer E.means self.new nodes result (self.old.tries * try_left E.means nodes + (works_behind E.means First + 39)) }
         ensures spends { IsSpending result self.old.share self.new (self.old.tries + 1) (self.old.tries + 1) }
+        ensures tries { self.new.tries ≡ self.old.tries }
     {
         self.loaded = Loaded {
             head: None,
@@ -285,6 +294,7 @@ impl<E: Edit + Drop> UpdateRun<E> {
         ensures same { (self.new.edit ≡ self.old.edit) × (self.new.call ≡ self.old.call) }
         ensures nearer { (nodes : ℕ) → IsNearer E.means self.new nodes result (self.old.tries * try_left E.means nodes + (works_behind E.means First + 39)) }
         ensures spends { IsSpending result self.old.share self.new (self.old.tries + 1) (self.old.tries + 1) }
+        ensures tries { self.new.tries ≡ self.old.tries }
     {
         let first = self.take();
         self.nodes = Nodes {
@@ -301,6 +311,7 @@ impl<E: Edit + Drop> UpdateRun<E> {
         ensures same { (self.new.edit ≡ self.old.edit) × (self.new.call ≡ self.old.call) }
         ensures nearer { (nodes : ℕ) → IsNearer E.means self.new nodes result (self.old.tries * try_left E.means nodes + (works_behind E.means First + 39)) }
         ensures spends { IsSpending result self.old.share self.new (self.old.tries + 1) (self.old.tries + 1) }
+        ensures tries { self.new.tries ≡ self.old.tries }
     {
         let first = self.take();
         let second = self.take();
@@ -332,6 +343,7 @@ impl<E: Edit + Drop> UpdateRun<E> {
         ensures same { (self.new.edit ≡ self.old.edit) × (self.new.call ≡ self.old.call) }
         ensures nearer { (nodes : ℕ) → IsNearer E.means self.new nodes result (self.old.tries * try_left E.means nodes + (works_left E.means self.old found nth + 39)) }
         ensures spends { IsSpending result self.old.share self.new self.old.tries (self.old.tries + 1) }
+        ensures tries { self.new.tries ≡ self.old.tries }
     {
         let snaps = self.snaps.as_slice();
         let Some(part) = self.edit.load(&found, snaps, &self.loaded, nth) else {
@@ -352,6 +364,7 @@ impl<E: Edit + Drop> UpdateRun<E> {
         ensures same { (self.new.edit ≡ self.old.edit) × (self.new.call ≡ self.old.call) }
         ensures nearer { (nodes : ℕ) → IsWanted E.means self.old found nth part → IsNearer E.means self.new nodes result (self.old.tries * try_left E.means nodes + (works_left E.means self.old found nth - 1 + 39)) }
         ensures spends { IsSpending result self.old.share self.new self.old.tries (self.old.tries + 1) }
+        ensures tries { self.new.tries ≡ self.old.tries }
     {
         self.loaded = self.loaded.with(part, told);
         self.load(found, nth)
@@ -363,6 +376,7 @@ impl<E: Edit + Drop> UpdateRun<E> {
         ensures same { (self.new.edit ≡ self.old.edit) × (self.new.call ≡ self.old.call) }
         ensures nearer { (nodes : ℕ) → IsNearer E.means self.new nodes result (self.old.tries * try_left E.means nodes + (fills_left E.means self.old found nth part + 1 + 39)) }
         ensures spends { IsSpending result self.old.share self.new self.old.tries (self.old.tries + 1) }
+        ensures tries { self.new.tries ≡ self.old.tries }
     {
         let snaps = self.snaps.as_slice();
         let piece = self
@@ -382,6 +396,7 @@ impl<E: Edit + Drop> UpdateRun<E> {
         ensures same { (self.new.edit ≡ self.old.edit) × (self.new.call ≡ self.old.call) }
         ensures nearer { (nodes : ℕ) → IsNearer E.means self.new nodes result (self.old.tries * try_left E.means nodes + (fills_left E.means self.old found nth part + 39)) }
         ensures spends { IsSpending result self.old.share self.new self.old.tries (self.old.tries + 1) }
+        ensures tries { self.new.tries ≡ self.old.tries }
     {
         let snaps = self.snaps.as_slice();
         let piece = self
@@ -424,6 +439,7 @@ impl<E: Edit + Drop> UpdateRun<E> {
         ensures same { (self.new.edit ≡ self.old.edit) × (self.new.call ≡ self.old.call) }
         ensures nearer { (nodes : ℕ) → IsNearer E.means self.new nodes result (self.old.tries * try_left E.means nodes + 39) }
         ensures spends { IsSpending result self.old.share self.new self.old.tries (self.old.tries + 1) }
+        ensures tries { self.new.tries ≡ self.old.tries }
     {
         let update = self.update(&found);
         let Some(scx) = self.share.scx() else {
@@ -449,6 +465,7 @@ impl<E: Edit + Drop> UpdateRun<E> {
         ensures same { (self.new.edit ≡ self.old.edit) × (self.new.call ≡ self.old.call) }
         ensures nearer { (nodes : ℕ) → IsNearer E.means self.new nodes result (self.old.tries * try_left E.means nodes + scx_left scx.at) }
         ensures spends { IsSpending result self.old.share self.new self.old.tries self.old.tries }
+        ensures tries { self.old.tries ≤ self.new.tries + 1 }
     {
         match Machine::<Tree>::next(&mut scx, got) {
             Turn::Ask(step) => {
@@ -467,6 +484,7 @@ impl<E: Edit + Drop> UpdateRun<E> {
         ensures same { (self.new.edit ≡ self.old.edit) × (self.new.call ≡ self.old.call) }
         ensures nearer { (nodes : ℕ) → UpdateFits E.means self.old got nodes → IsNearer E.means self.new nodes result (update_left E.means self.old nodes) }
         ensures spends { IsSpending result self.old.share self.new (node_tries self.old self.old.at) (scx_tries self.old self.old.at) }
+        ensures tries { self.old.tries ≤ self.new.tries + 1 }
     {
         match self.at {
             UpdateAt::Start => self.begin_walk(NodeNo(0), ScxNo(0)),
