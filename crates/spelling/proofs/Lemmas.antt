@@ -1,6 +1,6 @@
 -- What the layers above know of histories of the tree, passed on from one place: no other module of
 -- these proofs can be named outside. Declares nothing.
-pub use Rattle.spelling.proofs.Meanings.{one_spelling, opening_run, opening_spells, run_since, log_edits, spells_log, run_spells, run_spells_log, won_makes, win_edits, win_makes, quiet_spells, makes_since, below_root, walk_first, walk_next, walk_rises, walk_named, walk_answers}
+pub use Rattle.spelling.proofs.Meanings.{one_spelling, opening_run, opening_spells, run_since, log_edits, spells_log, run_spells, run_spells_log, won_makes, win_edits, win_makes, wins_of, quiet_spells, makes_since, below_root, walk_first, walk_next, walk_rises, walk_named, walk_answers}
 pub use Rattle.spelling.proofs.Stood.{was_now, was_passed}
 pub use Rattle.spelling.proofs.Past.{walk_stays}
 pub use Rattle.spelling.proofs.Inside.{tree_inside, walk_inside}

@@ -229,7 +229,7 @@ walk_answers lay h start k n small g p d =
 
 -- The entry of an SCX-record that is known to make an edit
 
-wins_of : (lay : Layout) (before : History) (row : Row) (s : ℕ) → Lawful lay (row ⊳ before) → IsWin before row s → UpdateWins before row s
+pub wins_of : (lay : Layout) (before : History) (row : Row) (s : ℕ) → Lawful lay (row ⊳ before) → IsWin before row s → UpdateWins before row s
 wins_of lay before row s l w = record { kind = w.kind; update = w.update; before = (lawful_row lay before row l).before; found = w.found; stored = w.update.exchange.won w.found }
 
 pub win_makes : (lay : Layout) (h before : History) (row : Row) (s : ℕ) (e : MapEdit) → IsTreeRun lay h → Extends h (row ⊳ before) → IsWin before row s → Makes lay h s e → IsEditAt lay before row s e

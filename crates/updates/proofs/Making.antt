@@ -3,8 +3,6 @@ use Rattle.std.proofs.Common.{◌≡◌, ◌≢◌, ℕ, zero, suc, ◌+◌, ◌
 use Rattle.arena.specs.declared.layout.Layout.{Layout}
 use Rattle.arena.specs.declared.number.ScxNo.{ScxNo}
 use Rattle.arena.specs.declared.step.Row.{Row}
-use Rattle.arena.specs.declared.word.NodeWord.TheVariants.{Head, Key, Value}
-use Rattle.arena.specs.declared.word.Word.{Word}
 use Rattle.arena.specs.Fills.{IsNamed, IsOwnScx}
 use Rattle.arena.specs.History.{History, ◌⊳◌, value, Extends}
 use Rattle.arena.specs.Lawful.{Lawful, IsWin, HasWon}
@@ -12,7 +10,7 @@ use Rattle.arena.specs.Log.{Entry, log, members_from}
 use Rattle.arena.specs.Machines.{Call}
 use Rattle.arena.specs.ScxRecords.{member, count}
 use Rattle.arena.proofs.Lemmas.{ends_self, ends_trans}
-use Rattle.histories.proofs.Lemmas.{entry_of, facts_before, lawful_row, lawful_since, log_wins, node_since}
+use Rattle.histories.proofs.Lemmas.{entry_of, facts_before, lawful_since, log_wins, node_since}
 use Rattle.prims.specs.Scx.Known.{job_of, IsDone, IsEntryAt, nodes_of, update_entry}
 use Rattle.prims.specs.Snap.{snap_at}
 use Rattle.prims.specs.declared.snap.Snap.{Snap}
@@ -24,7 +22,7 @@ use Rattle.spelling.specs.Spelled.{Spells}
 use Rattle.spelling.specs.TreeShape.{edit_leaf}
 use Rattle.spelling.specs.TreeWords.{said}
 use Rattle.spelling.specs.declared.pair.Pair.{Pair}
-use Rattle.spelling.proofs.Lemmas.{SameSettled, run_since, walk_named, win_makes}
+use Rattle.spelling.proofs.Lemmas.{SameSettled, run_since, walk_named, win_makes, wins_of}
 use Rattle.template.proofs.Lemmas.{tracked_makes}
 use Rattle.template.specs.declared.walk.Found.{Found}
 use Rattle.updates.specs.declared.update.UpdateRun.{UpdateRun}
@@ -32,6 +30,7 @@ use Rattle.updates.specs.Edits.{EditMeaning}
 use Rattle.updates.specs.Known.{Scxs, HasMade}
 use Rattle.updates.specs.Laws.Entered.{only_joined}
 use Rattle.updates.specs.Laws.HandScx.{from}
+use Rattle.updates.specs.Laws.Kept.{same_said}
 use Rattle.updates.specs.Tries.{HasEnteredOnly, IsTry, CoversSnaps}
 
 -- what an SCX-record covers, by the nodes of its entry
@@ -61,14 +60,11 @@ module _ (c : Call) (h : History) (m : ScxRun) (row : Row) (before : History) (l
       here = lawful_since c.layout h (row ⊳ before) l y.within
 
       wins : log c.layout (row ⊳ before) ≡ entry_of c.layout before m.scx.0 ∷ log c.layout before
-      wins = log_wins (facts_before c.layout before row here) record { kind = y.wins.kind; update = y.wins.update; before = (lawful_row c.layout before row here).before; found = y.wins.found; stored = y.wins.update.exchange.won y.wins.found }
+      wins = log_wins (facts_before c.layout before row here) (wins_of c.layout before row m.scx.0 here y.wins)
 
   -- the SCX-record covered the nodes of the snapshots when it won
   covers : CoversSnaps before m.scx.0 m.update.snaps
   covers j p = ap (member before m.scx.0) (let z : j ≡ j + 0 = omega arith in z) ∙ members_are before m.scx.0 0 (count before m.scx.0) m.update.snaps (ap (λ (e : Entry). e.members) entry_is) j p
-
-same_said : (f g : Word → ℕ) (k n : ℕ) → SameSettled f g n → said g k n ≡ said f k n
-same_said f g k n e = rw (e Head tt, e Key tt, e Value tt) refl
 
 module _ {E : Type 0} (e : EditMeaning E) (m : UpdateRun E) (scx after : ScxRun) (f : Found) (c : Call) (b begin h : History) (try : IsTry c b) (x : Scxs e m (from c b) h f scx begin)
     (same_scx : after.scx ≡ scx.scx) (same_update : after.update ≡ scx.update) (same_call : after.call ≡ scx.call) (done : IsDone (from c begin) h after) where

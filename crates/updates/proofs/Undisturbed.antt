@@ -12,7 +12,7 @@ use Rattle.arena.specs.Machines.{Call}
 use Rattle.arena.specs.Words.{state}
 use Rattle.arena.proofs.Lemmas.{ends_self, ends_trans}
 use Rattle.histories.specs.Descriptor.{descriptor}
-use Rattle.histories.proofs.Lemmas.{Facts, IsOwned, Logs, UpdateWins, facts, facts_before, lawful_row, lawful_since, lawful_tail, logs, same, update_changes, update_is_first, wins, won_since}
+use Rattle.histories.proofs.Lemmas.{Facts, IsOwned, Logs, facts, facts_before, lawful_since, lawful_tail, logs, same, update_changes, update_is_first, wins, won_since}
 use Rattle.prims.specs.Laws.Idle.{out_by_others}
 use Rattle.prims.proofs.Lemmas.{wins_in_progress}
 use Rattle.spelling.specs.Paths.{IsAnswerAt}
@@ -23,11 +23,11 @@ use Rattle.spelling.specs.Spelled.{Spells}
 use Rattle.spelling.specs.declared.pair.Pair.{Pair}
 use Rattle.spelling.specs.Laws.{AreEdits}
 use Rattle.spelling.specs.Runs.{map_of_log}
-use Rattle.spelling.proofs.Lemmas.{log_edits, one_spelling, run_since, spells_log, walk_answers}
+use Rattle.spelling.proofs.Lemmas.{log_edits, one_spelling, run_since, spells_log, walk_answers, wins_of}
 use Rattle.template.proofs.Lemmas.{own_since}
 use Rattle.template.specs.FoundLeaf.{HasFoundLeaf}
 use Rattle.template.specs.declared.walk.Found.{Found}
-use Rattle.updates.specs.Undisturbed.{IsAtRest, IsAlone}
+use Rattle.updates.specs.Undisturbed.{IsAtRest, IsUndisturbed}
 use Rattle.updates.specs.Blame.{IsContended}
 use Rattle.updates.specs.Known.{HasMade}
 use Rattle.updates.specs.Tries.{HasEnteredNone}
@@ -35,9 +35,6 @@ use Rattle.updates.specs.Tries.{HasEnteredNone}
 -- no update wins in h behind the moment `start`
 abbrev HasNoWin : History → History → Type 0
 HasNoWin h start = (row : Row) (before : History) (t : ℕ) → Extends h (row ⊳ before) → Extends before start → ¬ IsWin before row t
-
-wins_of : (lay : Layout) (before : History) (row : Row) (s : ℕ) → Lawful lay (row ⊳ before) → IsWin before row s → UpdateWins before row s
-wins_of lay before row s l w = record { kind = w.kind; update = w.update; before = (lawful_row lay before row l).before; found = w.found; stored = w.update.exchange.won w.found }
 
 -- where no update wins the log stays as it was
 log_still : (lay : Layout) (h start : History) → Lawful lay h → Extends h start → HasNoWin h start → log lay h ≡ log lay start
@@ -56,7 +53,7 @@ spells_still lay h k m map run e f still x =
     let then : map ≡ map_of_log edits.0 (log lay m) = one_spelling lay (value m) map (map_of_log edits.0 (log lay m)) x (spells_log lay h edits.0 run edits.1 m (ends_trans h k m e f)) in
     subst (Spells lay (value k)) (ap (map_of_log edits.0) still ∙ sym then) (spells_log lay h edits.0 run edits.1 k e)
 
-module _ (c : Call) (h : History) (run : IsTreeRun c.layout h) (alone : IsAlone c h) where
+module _ (c : Call) (h : History) (run : IsTreeRun c.layout h) (alone : IsUndisturbed c h) where
   -- no other's SCX-record is in progress at any moment of the call
   others_rest : (k : History) → Extends h k → Extends k c.start → (t : ℕ) → IsOthersScx c.layout c.pass t → ¬ IsInProgress k t
   others_rest (Start mode) e f t o x = alone.rest t (subst (λ m. IsInProgress m t) (sym f) x)

@@ -8,7 +8,7 @@ ghost use Rattle.spelling.specs.Runs.{IsTreeRun};
 ghost use Rattle.spelling.specs.Spelled.{Spells};
 ghost use Rattle.template.specs.FoundLeaf.{HasFoundLeaf};
 ghost use Rattle.template.specs.declared.walk.Found.{Found};
-ghost use Rattle.updates.specs.Undisturbed.{IsAlone};
+ghost use Rattle.updates.specs.Undisturbed.{IsUndisturbed};
 ghost use Rattle.updates.specs.Blame.{IsContended};
 ghost use Rattle.updates.specs.Known.{HasMade};
 ghost use Rattle.updates.specs.Tries.{HasEnteredNone};
@@ -20,9 +20,9 @@ ghost use Rattle.updates.specs.Tries.{HasEnteredNone};
 /// the map stays. With one pass no call is ever contended. It does nothing; a caller learns the laws
 /// from its contract.
 pub fn alone_holds()
-    ensures made { (c : Call) (h : History) (edit : MapEdit) (number : ℕ) (old : Option ℕ) (map : List Pair) → IsTreeRun c.layout h → IsAlone c h → HasMade edit c h number old → Spells c.layout (value c.start) map → (get (edit_key edit) map ≡ old) × Spells c.layout (value h) (edited edit map) }
-    ensures found { (c : Call) (h : History) (k : ℕ) (f : Found) (map : List Pair) → k < 2 ^ 64 → IsTreeRun c.layout h → IsAlone c h → HasFoundLeaf c h k f → HasEnteredNone c.layout c.pass h c.start → Spells c.layout (value c.start) map → f.value ≡ get k map }
-    ensures kept { (c : Call) (h : History) (map : List Pair) → IsTreeRun c.layout h → IsAlone c h → HasEnteredNone c.layout c.pass h c.start → Spells c.layout (value c.start) map → Spells c.layout (value h) map }
-    ensures undisturbed { (c : Call) (h : History) (n s : ℕ) → IsTreeRun c.layout h → IsAlone c h → ¬ IsContended c h n s }
+    ensures made { (c : Call) (h : History) (edit : MapEdit) (number : ℕ) (old : Option ℕ) (map : List Pair) → IsTreeRun c.layout h → IsUndisturbed c h → HasMade edit c h number old → Spells c.layout (value c.start) map → (get (edit_key edit) map ≡ old) × Spells c.layout (value h) (edited edit map) }
+    ensures found { (c : Call) (h : History) (k : ℕ) (f : Found) (map : List Pair) → k < 2 ^ 64 → IsTreeRun c.layout h → IsUndisturbed c h → HasFoundLeaf c h k f → HasEnteredNone c.layout c.pass h c.start → Spells c.layout (value c.start) map → f.value ≡ get k map }
+    ensures kept { (c : Call) (h : History) (map : List Pair) → IsTreeRun c.layout h → IsUndisturbed c h → HasEnteredNone c.layout c.pass h c.start → Spells c.layout (value c.start) map → Spells c.layout (value h) map }
+    ensures undisturbed { (c : Call) (h : History) (n s : ℕ) → IsTreeRun c.layout h → IsUndisturbed c h → ¬ IsContended c h n s }
     ensures one_pass { (c : Call) (h : History) (n s : ℕ) → c.layout.passes ≡ 1 → ¬ IsContended c h n s }
 {}

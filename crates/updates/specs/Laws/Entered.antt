@@ -9,11 +9,12 @@ use Rattle.arena.specs.History.{History, Start, ◌⊳◌, value, Extends}
 use Rattle.arena.specs.Lawful.{Lawful, HasWon, IsWin}
 use Rattle.arena.specs.Words.{state}
 use Rattle.arena.proofs.Lemmas.{ends_self, ends_trans, same_moment}
-use Rattle.histories.proofs.Lemmas.{aborted_never_won, lawful_row, lawful_since, won_since, UpdateWins}
+use Rattle.histories.proofs.Lemmas.{aborted_never_won, lawful_since, won_since}
 use Rattle.prims.specs.Laws.Idle.{IsIdle, IsQuietSince}
 use Rattle.prims.specs.Laws.Wins.{ends_either}
 use Rattle.prims.specs.Moments.{AreFinished}
 use Rattle.prims.proofs.Lemmas.{own_in_hand, wins_in_progress}
+use Rattle.spelling.proofs.Lemmas.{wins_of}
 use Rattle.updates.specs.Tries.{HasEnteredOnly, HasEnteredNone}
 
 -- how many rows a history has
@@ -24,7 +25,7 @@ rows (r ⊳ h) = suc (rows h)
 module _ (lay : Layout) (c : ℕ) where
   -- an SCX-record that wins is in progress
   running : (before : History) (row : Row) (s : ℕ) → Lawful lay (row ⊳ before) → IsWin before row s → IsInProgress before s
-  running before row s l w = wins_in_progress lay before row s l record { kind = w.kind; update = w.update; before = (lawful_row lay before row l).before; found = w.found; stored = w.update.exchange.won w.found }
+  running before row s l w = wins_in_progress lay before row s l (wins_of lay before row s l w)
 
   -- behind a moment itself nothing is entered
   pub none_yet : (h : History) → HasEnteredNone lay c h h

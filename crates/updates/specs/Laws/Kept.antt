@@ -54,7 +54,8 @@ rests_by_step c h r left l no_fill x = record {
   over = over_more c.layout c.pass 0 h r l (takes_by_step c.layout c.pass 0 h r no_fill) x.over;
 }
 
-same_said : (f g : Word → ℕ) (k n : ℕ) → SameSettled f g n → said g k n ≡ said f k n
+-- what a leaf says of a key its settled words say
+pub same_said : (f g : Word → ℕ) (k n : ℕ) → SameSettled f g n → said g k n ≡ said f k n
 same_said f g k n e = rw (e Head tt, e Key tt, e Value tt) refl
 
 -- a snapshot that the call has taken may be used
