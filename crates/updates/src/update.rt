@@ -114,8 +114,8 @@ impl<E: Edit + Drop> UpdateRun<E> {
         self.share
     }
 
-    /// Begins a try. The try before it was lost to this SCX-record over this node.
-    fn begin_walk(&mut self, node: NodeNo, scx: ScxNo) -> Turn<Updated>
+    /// Begins a try.
+    fn begin_walk(&mut self) -> Turn<Updated>
         ensures turn { (c : Call) (h : History) → IsRun TreeAllows c.layout h → Begins E.means self.old c h → IsTry c h → UpdateTurn E.means c h self.new result }
         ensures begins { (c : Call) (h : History) → Begins E.means self.old c h → MatchTurn result (λ _. Unit {0}) (λ _. ⊥) }
         ensures same { (self.new.edit ≡ self.old.edit) × (self.new.call ≡ self.old.call) }
@@ -129,7 +129,10 @@ impl<E: Edit + Drop> UpdateRun<E> {
                 self.at = UpdateAt::Walk { walk };
                 Turn::Ask(step)
             }
-            Turn::Done(_) => Turn::Done(Updated::Contended { node, scx }),
+            Turn::Done(_) => Turn::Done(Updated::Contended {
+                node: NodeNo(0),
+                scx: ScxNo(0),
+            }),
         }
     }
 
@@ -145,7 +148,7 @@ impl<E: Edit + Drop> UpdateRun<E> {
             return Turn::Done(Updated::Contended { node, scx });
         }
         self.tries -= 1;
-        self.begin_walk(node, scx)
+        self.begin_walk()
     }
 
     /// Goes on with what the last step of the walk found.
@@ -487,7 +490,7 @@ impl<E: Edit + Drop> UpdateRun<E> {
         ensures tries { self.old.tries ≤ self.new.tries + 1 }
     {
         match self.at {
-            UpdateAt::Start => self.begin_walk(NodeNo(0), ScxNo(0)),
+            UpdateAt::Start => self.begin_walk(),
             UpdateAt::Walk { walk } => self.walk_on(walk, got),
             UpdateAt::Look { found, llx } => self.look_on(found, llx, got),
             UpdateAt::Load { found, nth, part } => {
