@@ -1,6 +1,7 @@
 //! Inserts, step by step.
 use crate::story::Call::Insert;
-use crate::story::{Made, Story, contended, done, full, told};
+use crate::story::Turns::{Finish, Makes, Rounds, Steps};
+use crate::story::{Made, Story, contended, done, full, played, tells};
 use arena::Kind::{
     Commit, Fill, Freeze, LoadChild, LoadInfo, LoadMarked, LoadSettled, LoadState, Mark, SetFrozen,
     Update,
@@ -113,7 +114,7 @@ fn above_a_leaf() -> [Made; 11] {
 /// The only client makes these steps.
 fn plays(rt: &impl Abort, story: &mut Story, steps: &[Made]) -> Result<(), Fail> {
     for step in steps {
-        assert_eq!(rt; story.step(rt, 0)?, Some(*step));
+        story.play(rt, Makes(0, *step))?;
     }
     Ok(())
 }
@@ -121,29 +122,25 @@ fn plays(rt: &impl Abort, story: &mut Story, steps: &[Made]) -> Result<(), Fail>
 #[test]
 fn a_new_key_takes_three_nodes(rt: HostRuntime) -> Result<(), Fail> {
     let calls = [(0, Insert(5, 50)), (0, Insert(3, 30))];
-    let mut story = Story::new(&rt, rt.alloc(), (1, 10, 10, 3))?.with(&calls)?;
+    let mut story = played(&rt, rt.alloc(), (1, 10, 10, 3), &calls, &[])?;
     plays(&rt, &mut story, &into_the_empty_map())?;
     // a walk of 6 loads, and two LLXs
-    story.steps(&rt, 0, 20)?;
+    story.play(&rt, Steps(0, 20))?;
     plays(&rt, &mut story, &below_a_leaf())?;
-    story.finish(&rt, 0)?;
+    story.play(&rt, Finish(0))?;
     let replies = [
         (0, 0, 1, 48, Some(47), done(None)),
         (0, 1, 49, 100, Some(99), done(None)),
     ];
-    told(&rt, &story, &replies);
+    story.told(&rt, &replies);
     Ok(())
 }
 
 #[test]
 fn a_key_above_the_leaf_goes_to_the_right_of_its_copy(rt: HostRuntime) -> Result<(), Fail> {
     let calls = [(0, Insert(5, 50)), (0, Insert(9, 90))];
-    let mut story = Story::new(&rt, rt.alloc(), (1, 10, 10, 3))?.with(&calls)?;
-    story.steps(&rt, 0, 68)?;
-    plays(&rt, &mut story, &above_a_leaf())?;
-    story.finish(&rt, 0)?;
-    told(&rt, &story, &[(0, 1, 49, 100, Some(99), done(None))]);
-    Ok(())
+    let mut story = played(&rt, rt.alloc(), (1, 10, 10, 3), &calls, &[Steps(0, 68)])?;
+    plays(&rt, &mut story, &above_a_leaf())
 }
 
 #[test]
@@ -155,35 +152,33 @@ fn a_share_is_tested_behind_the_walk(rt: HostRuntime) -> Result<(), Fail> {
         (0, Insert(5, 52)),
         (0, Insert(9, 90)),
     ];
-    let mut story = Story::new(&rt, rt.alloc(), (1, 5, 2, 3))?.with(&calls)?;
-    story.finish(&rt, 0)?;
     // two nodes are left, and then one; no SCX-record is left, and nodes are tested first
     let replies = [
+        (0, 0, 1, 48, Some(47), done(None)),
         (0, 1, 49, 54, None, full(Resource::Nodes, 2)),
         (0, 2, 55, 99, Some(98), done(Some(50))),
         (0, 3, 100, 106, None, full(Resource::Scx, 0)),
         (0, 4, 107, 112, None, full(Resource::Nodes, 1)),
     ];
-    told(&rt, &story, &replies);
-    Ok(())
+    tells(
+        &rt,
+        rt.alloc(),
+        (1, 5, 2, 3),
+        &calls,
+        &[Finish(0)],
+        &replies,
+    )
 }
 
 #[test]
 fn the_loss_of_the_last_try_is_named(rt: HostRuntime) -> Result<(), Fail> {
     let calls = [(0, Insert(5, 50)), (1, Insert(7, 70))];
-    let mut story = Story::new(&rt, rt.alloc(), (2, 20, 20, 1))?.with(&calls)?;
     // both have their snapshots, and fill their nodes
-    for _ in 0..30 {
-        story.step(&rt, 0)?;
-        story.step(&rt, 1)?;
-    }
-    story.finish(&rt, 1)?;
-    story.finish(&rt, 0)?;
-    // 5 fills and 6 steps of its SCX, which freezes nothing
+    let turns = [Rounds(2, 30), Finish(1), Finish(0)];
+    // the first makes 5 more fills, and 6 steps of its SCX, which freezes nothing
     let replies = [
         (1, 0, 2, 78, Some(77), done(None)),
         (0, 0, 1, 89, None, contended(0, 21)),
     ];
-    told(&rt, &story, &replies);
-    Ok(())
+    tells(&rt, rt.alloc(), (2, 20, 20, 1), &calls, &turns, &replies)
 }

@@ -15,6 +15,23 @@ pub(crate) enum Call {
     Get(u64),
 }
 
+/// Turns of clients.
+#[derive(Clone, Copy)]
+pub(crate) enum Turns {
+    /// So many of a client.
+    Steps(u32, u32),
+    /// One of a client, in which it makes this step.
+    Makes(u32, Made),
+    /// Of a client up to its next reply.
+    UpToReply(u32),
+    /// Of a client until it has made so many more steps of a kind.
+    Until(u32, Kind, u32),
+    /// Of a client until it has no call left.
+    Finish(u32),
+    /// One of each of so many clients, so often.
+    Rounds(u32, u32),
+}
+
 /// An answered call: whose it is, which of that client's, its first and its last step, its moment and
 /// the answer.
 pub(crate) type Reply = (u32, u64, u64, u64, Option<u64>, Updated);
@@ -49,11 +66,34 @@ pub(crate) fn contended(node: u64, scx: u64) -> Updated {
     }
 }
 
-/// These are replies of the story.
-pub(crate) fn told(rt: &impl Abort, story: &Story, replies: &[Reply]) {
-    for reply in replies {
-        assert_eq!(rt; story.reply(reply.0, reply.1), Some(*reply));
+/// The story of these calls in these turns.
+pub(crate) fn played(
+    rt: &impl Abort,
+    alloc: Global,
+    limits: (u32, u32, u32, u32),
+    calls: &[(u32, Call)],
+    turns: &[Turns],
+) -> Result<Story, Fail> {
+    let mut story = Story::new(rt, alloc, limits)?;
+    story.give(calls)?;
+    for some in turns {
+        story.play(rt, *some)?;
     }
+    Ok(story)
+}
+
+/// The story of these calls in these turns has just these replies, as they come.
+pub(crate) fn tells(
+    rt: &impl Abort,
+    alloc: Global,
+    limits: (u32, u32, u32, u32),
+    calls: &[(u32, Call)],
+    turns: &[Turns],
+    replies: &[Reply],
+) -> Result<(), Fail> {
+    let story = played(rt, alloc, limits, calls, turns)?;
+    story.told(rt, replies);
+    Ok(())
 }
 
 /// A map by its keys, which are below 16 in these stories.
@@ -134,7 +174,7 @@ impl Client {
 
     /// The call of this number.
     fn call(&self, number: u64) -> Option<Call> {
-        self.calls.get(number as usize).copied()
+        Some(*self.calls.get(number as usize)?)
     }
 
     /// What it asks for in this turn, the first of a call if none runs; none where no call is left.
@@ -208,7 +248,7 @@ fn clients(rt: &impl Abort, alloc: Global, table: &Table, tries: u32) -> Result<
 
 impl Story {
     /// Clients with no calls yet: so many, each with so many nodes, SCX-records and tries.
-    pub(crate) fn new(
+    fn new(
         rt: &impl Abort,
         alloc: Global,
         (passes, nodes, scx, tries): (u32, u32, u32, u32),
@@ -226,18 +266,18 @@ impl Story {
     }
 
     /// Gives the clients calls.
-    pub(crate) fn with(mut self, calls: &[(u32, Call)]) -> Result<Story, Fail> {
+    fn give(&mut self, calls: &[(u32, Call)]) -> Result<(), Fail> {
         for (client, call) in calls {
             if let Some(at) = self.clients.get_mut(*client as usize) {
                 at.calls.push(*call)?;
             }
         }
-        Ok(self)
+        Ok(())
     }
 
     /// Makes the next step of a client, unless it has no call left. Behind it the words spell the map
     /// of the entries so far.
-    pub(crate) fn step(&mut self, rt: &impl Abort, client: u32) -> Result<Option<Made>, Fail> {
+    fn step(&mut self, rt: &impl Abort, client: u32) -> Result<Option<Made>, Fail> {
         let Some(step) = self.asked(client) else {
             return Ok(None);
         };
@@ -360,16 +400,43 @@ impl Story {
         Some(step)
     }
 
-    /// Makes so many steps of a client.
-    pub(crate) fn steps(&mut self, rt: &impl Abort, client: u32, many: u32) -> Result<(), Fail> {
+    /// These are all replies so far, as they came.
+    pub(crate) fn told(&self, rt: &impl Abort, replies: &[Reply]) {
+        assert_eq!(rt; self.replies.as_slice(), replies);
+    }
+
+    /// Makes turns.
+    pub(crate) fn play(&mut self, rt: &impl Abort, turns: Turns) -> Result<(), Fail> {
+        match turns {
+            Turns::Steps(client, many) => self.steps(rt, client, many),
+            Turns::Makes(client, made) => {
+                assert_eq!(rt; self.step(rt, client)?, Some(made));
+                Ok(())
+            }
+            Turns::UpToReply(client) => self.up_to_reply(rt, client),
+            Turns::Until(client, kind, many) => self.until(rt, client, kind, many),
+            Turns::Finish(client) => self.steps(rt, client, MOST_STEPS),
+            Turns::Rounds(clients, many) => self.rounds(rt, clients, many),
+        }
+    }
+
+    fn steps(&mut self, rt: &impl Abort, client: u32, many: u32) -> Result<(), Fail> {
         for _ in 0..many {
             self.step(rt, client)?;
         }
         Ok(())
     }
 
-    /// Makes the steps of a client up to its next answer.
-    pub(crate) fn call(&mut self, rt: &impl Abort, client: u32) -> Result<(), Fail> {
+    fn rounds(&mut self, rt: &impl Abort, clients: u32, many: u32) -> Result<(), Fail> {
+        for _ in 0..many {
+            for client in 0..clients {
+                self.step(rt, client)?;
+            }
+        }
+        Ok(())
+    }
+
+    fn up_to_reply(&mut self, rt: &impl Abort, client: u32) -> Result<(), Fail> {
         let many = self.replies.len();
         for _ in 0..MOST_STEPS {
             if self.replies.len() == many {
@@ -379,14 +446,7 @@ impl Story {
         Ok(())
     }
 
-    /// Makes its steps until so many more of a kind are made.
-    pub(crate) fn until(
-        &mut self,
-        rt: &impl Abort,
-        client: u32,
-        kind: Kind,
-        many: u32,
-    ) -> Result<(), Fail> {
+    fn until(&mut self, rt: &impl Abort, client: u32, kind: Kind, many: u32) -> Result<(), Fail> {
         let mut left = many;
         for _ in 0..MOST_STEPS {
             if left == 0 {
@@ -399,28 +459,8 @@ impl Story {
         Ok(())
     }
 
-    /// Makes its steps until it has no call left.
-    pub(crate) fn finish(&mut self, rt: &impl Abort, client: u32) -> Result<(), Fail> {
-        for _ in 0..MOST_STEPS {
-            if self.step(rt, client)?.is_none() {
-                return Ok(());
-            }
-        }
-        Ok(())
-    }
-
-    /// How many steps are made, how many calls answered, and how many entries there are.
-    pub(crate) fn counts(&self) -> (u64, usize, usize) {
-        (self.steps, self.replies.len(), self.entries.len())
-    }
-
-    /// The reply to a call, once it is there.
-    pub(crate) fn reply(&self, client: u32, call: u64) -> Option<Reply> {
-        for reply in self.replies.as_slice() {
-            if reply.0 == client && reply.1 == call {
-                return Some(*reply);
-            }
-        }
-        None
+    /// How many calls are answered, and how many entries there are.
+    pub(crate) fn counts(&self) -> (usize, usize) {
+        (self.replies.len(), self.entries.len())
     }
 }
