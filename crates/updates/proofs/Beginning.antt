@@ -136,6 +136,7 @@ module _ {E : Type 0} (e : EditMeaning E) (m : UpdateRun E) (run after : ScxRun)
       small = x.all.looked.small;
       call = is_call;
       found = x.all.looked.found;
+      need = x.need;
       only = λ row before t within since w own. absurd (none_quiet c.layout c.pass h c.start x.run.1.lawful x.quiet row before t within since w own);
       usable = subst (λ (u : Update). AreUsable c h (edit_key (e.edit m.edit)) f u.snaps) (sym same_update) usable;
       quiet = x.quiet;

@@ -1,5 +1,5 @@
 -- What an update waits for after each of its turns.
-use Rattle.std.proofs.Common.{◌≡◌, ◌≢◌, ℕ, suc, ◌<◌, ◌⊎◌, inr, refl, Option, Some, None, ⊎_elim, sym, ◌∙◌, ap, subst, arith}
+use Rattle.std.proofs.Common.{◌≡◌, ◌≢◌, ℕ, suc, ◌<◌, ◌⊎◌, inl, inr, refl, Option, Some, None, ⊎_elim, sym, ◌∙◌, ap, subst, arith}
 use Rattle.arena.specs.declared.machine.Turn.{Turn}
 use Rattle.arena.specs.declared.machine.Turn.TheVariants.{Ask, Done}
 use Rattle.arena.specs.declared.number.NodeNo.{NodeNo}
@@ -20,7 +20,7 @@ use Rattle.histories.proofs.Lemmas.{finished_taken, lawful_since}
 use Rattle.prims.specs.Laws.Idle.{IsQuietSince, quiet_at_start}
 use Rattle.prims.specs.Llx.Known.{IsOpened, LlxIsReady, LlxKnows, LlxWaits, LlxAnswers}
 use Rattle.prims.specs.Moments.{AreFinished}
-use Rattle.prims.specs.Scx.Known.{Job, job_of, IsLost, ScxWaits, ScxAnswers}
+use Rattle.prims.specs.Scx.Known.{Job, job_of, IsDone, IsLost, ScxWaits, ScxAnswers}
 use Rattle.prims.specs.Shares.{IsShare}
 use Rattle.prims.specs.declared.llx.Llx.{Llx}
 use Rattle.prims.specs.declared.llx.LlxRun.{LlxRun}
@@ -43,11 +43,12 @@ use Rattle.template.specs.declared.walk.WalkRun.{WalkRun}
 use Rattle.updates.specs.declared.edit.Look.TheVariants.{At}
 use Rattle.updates.specs.declared.edit.Nth.{Nth}
 use Rattle.updates.specs.declared.edit.Piece.{Piece}
+use Rattle.updates.specs.declared.update.Updated.TheVariants.{Done as UpdateDone}
 use Rattle.updates.specs.declared.update.UpdateAt.TheVariants.{Walk, Look, Fill, Scx}
 use Rattle.updates.specs.declared.update.UpdateRun.{UpdateRun}
-use Rattle.updates.specs.Blame.{IsContended, contended_wider}
+use Rattle.updates.specs.Blame.{IsContended, contended_later, contended_wider}
 use Rattle.updates.specs.Edits.{EditMeaning}
-use Rattle.updates.specs.Known.{RestsWith, AreUsable, CoversLeaf, Begins, Walks, CanLook, CanFill, Scxs, HasMade, TryWaits, UpdateWaits}
+use Rattle.updates.specs.Known.{RestsWith, AreUsable, CoversLeaf, Begins, Walks, CanLook, CanFill, Scxs, IsUntouched, TryWaits, UpdateWaits, UpdateAnswers}
 use Rattle.updates.specs.Laws.Entered.{none_joined, none_lost, none_quiet}
 use Rattle.updates.specs.Laws.HandScx.{from}
 use Rattle.updates.specs.Laws.Kept.{idle_rests}
@@ -55,6 +56,7 @@ use Rattle.updates.specs.Pieces.{nth_node, word_of}
 use Rattle.updates.specs.Tries.{HasEnteredOnly, HasEnteredNone, IsTry}
 use Rattle.updates.proofs.Blaming.{lost_contended}
 use Rattle.updates.proofs.Making.{has_made}
+use Rattle.updates.proofs.Widened.{found_wider}
 
 -- where the SCX-record in hand is finished, the pass is at rest again
 rests_again : (c : Call) (h : History) (left : Remaining) (m : ScxRun) → Lawful c.layout h → IsShare c.layout h c.pass left left.next_node m.scx.0 → left.next_scx ≡ suc m.scx.0 → AreFinished c.layout c.pass m.scx.0 h → m.scx.0 ≢ 0 → value h (state m.scx.0) ≢ 0 → RestsWith c h left
@@ -82,10 +84,11 @@ module _ {E : Type 0} (e : EditMeaning E) where
   begins_again m now c h ed share b = record { run = b.run; small = rw ed b.small; since = b.since; rests = rw share b.rests }
 
   -- its walk begins, and a try with it
-  pub begins_walk : (m : UpdateRun E) (walk after : WalkRun) (c : Call) (h : History) (turn : Turn Found) (step : Step) → Begins e m c h → IsTry c h → walk.key ≡ edit_key (e.edit m.edit) → walk.at ≡ WalkStart → walk.trail.node.0 ≡ 0 → after.key ≡ walk.key → turn ≡ Ask step → (WalkIsReady walk (from c h) h None → MatchTurn turn (WalkWaits after (from c h) h) (WalkAnswers after (from c h) h)) → UpdateWaits e (record m { at = Walk after }) c h step
-  begins_walk m walk after c h turn step b try is at root same asked w = (
+  pub begins_walk : (m : UpdateRun E) (walk after : WalkRun) (c : Call) (h : History) (turn : Turn Found) (step : Step) → Begins e m c h → IsTry c h → IsUntouched c h m.share → walk.key ≡ edit_key (e.edit m.edit) → walk.at ≡ WalkStart → walk.trail.node.0 ≡ 0 → after.key ≡ walk.key → turn ≡ Ask step → (WalkIsReady walk (from c h) h None → MatchTurn turn (WalkWaits after (from c h) h) (WalkAnswers after (from c h) h)) → UpdateWaits e (record m { at = Walk after }) c h step
+  begins_walk m walk after c h turn step b try first is at root same asked w = (
     h,
     try,
+    first,
     (
       record { small = b.small; rests = record { share = b.rests.share; over = b.rests.over }; quiet = quiet_at_start c.layout c.pass h (idle_rests c h m.share b.run.1.lawful b.rests); same = same ∙ is },
       rw asked at w record { run = b.run; small = rw is b.small; since = ends_self h; at = at; root = root },
@@ -174,6 +177,7 @@ module _ {E : Type 0} (e : EditMeaning E) where
       now = x.now;
       since = x.since;
       found = x.found;
+      need = x.need;
       call = is_call ∙ x.call;
       only = subst (λ (s : ScxNo). HasEnteredOnly c.layout c.pass s.0 h c.start) (sym is_scx) x.only;
       usable = subst (λ (u : Update). AreUsable c begin (edit_key (e.edit m.edit)) f u.snaps) (sym is_update) x.usable;
@@ -190,14 +194,37 @@ module _ {E : Type 0} (e : EditMeaning E) where
     rw asked at w,
   )
 
+  -- where its SCX is finished, the pass is at rest
+  scx_rests : (m : UpdateRun E) (scx : ScxRun) (f : Found) (c : Call) (b begin h : History) → Scxs e m (from c b) h f scx begin → value h (state scx.scx.0) ≢ 0 → RestsWith c h m.share
+  scx_rests m scx f c b begin h x finished = rests_again c h m.share scx x.run.1.lawful x.share x.next_scx x.over (λ z. (let a = x.own_scx.from in omega (arith, z))) finished
+
   -- its SCX is done
-  pub scx_has_made : (m : UpdateRun E) (scx after : ScxRun) (f : Found) (c : Call) (b begin h : History) (turn : Turn ScxAnswer) → IsTry c b → Scxs e m (from c b) h f scx begin → after.scx ≡ scx.scx → after.update ≡ scx.update → after.call ≡ scx.call → turn ≡ Done ScxDone → MatchTurn turn (ScxWaits TreeAllows after (from c begin) h) (ScxAnswers after (from c begin) h) → HasMade (e.edit m.edit) c h m.call f.value
-  scx_has_made m scx after f c b begin h turn try x is_scx is_update is_call done w = has_made e m scx after f c b begin h try x is_scx is_update is_call (rw done at w)
+  pub scx_done : (m : UpdateRun E) (scx after : ScxRun) (f : Found) (c : Call) (b begin h : History) (turn : Turn ScxAnswer) → IsTry c b → Scxs e m (from c b) h f scx begin → after.scx ≡ scx.scx → after.update ≡ scx.update → after.call ≡ scx.call → turn ≡ Done ScxDone → MatchTurn turn (ScxWaits TreeAllows after (from c begin) h) (ScxAnswers after (from c begin) h) → UpdateAnswers e m c h (UpdateDone f.value)
+  scx_done m scx after f c b begin h turn try x is_scx is_update is_call done w = (
+    scx_rests m scx f c b begin h x finished,
+    inr (
+      has_made e m scx after f c b begin h try x is_scx is_update is_call is_done,
+      record {
+        found = f;
+        moment = begin;
+        within = ends_trans h (is_done.entry.row ⊳ is_done.entry.before) begin is_done.entry.is.within (inr is_done.entry.is.since);
+        has_found = found_wider c b try.since begin (edit_key (e.edit m.edit)) f x.found;
+        needed = x.need;
+        told = refl;
+      },
+    ),
+  )
+    where
+      is_done : IsDone (from c begin) h after
+      is_done = rw done at w
+
+      finished : value h (state scx.scx.0) ≢ 0
+      finished z = let a : value h (state scx.scx.0) ≡ 1 = subst (λ (t : ScxNo). value h (state t.0) ≡ 1) is_scx is_done.committed in omega (arith, a, z)
 
   -- its SCX is lost: it may try again
   pub scx_lost : (m : UpdateRun E) (scx after : ScxRun) (f : Found) (c : Call) (b begin h : History) (turn : Turn ScxAnswer) (n : NodeNo) (s : ScxNo) → IsTry c b → Scxs e m (from c b) h f scx begin → after.scx ≡ scx.scx → after.update ≡ scx.update → turn ≡ Done (Lost n s) → MatchTurn turn (ScxWaits TreeAllows after (from c begin) h) (ScxAnswers after (from c begin) h) → Begins e m c h × IsTry c h × IsContended c h n.0 s.0
   scx_lost m scx after f c b begin h turn n s try x is_scx is_update done w = (
-    record { run = x.run; small = x.small; since = since; rests = rests_again c h m.share scx x.run.1.lawful x.share x.next_scx x.over real finished },
+    record { run = x.run; small = x.small; since = since; rests = scx_rests m scx f c b begin h x finished },
     record { since = since; none = none_joined c.layout c.pass h b c.start x.now try.none (none_lost c.layout c.pass scx.scx.0 h b x.run.1.lawful aborted x.only) },
     contended_wider c b h n.0 s.0 try.since (lost_contended (from c b) begin h (edit_key (e.edit m.edit)) f after n.0 s.0 (lawful_since c.layout h begin x.run.1.lawful (ends_trans h (lost.changed.found.row ⊳ lost.changed.found.before) begin lost.changed.found.last.within (inr lost.changed.found.since))) x.quiet
         (subst (λ (u : Update). AreUsable (from c b) begin (edit_key (e.edit m.edit)) f u.snaps) (sym is_update) x.usable) lost),
@@ -215,9 +242,6 @@ module _ {E : Type 0} (e : EditMeaning E) where
       finished : value h (state scx.scx.0) ≢ 0
       finished z = let a = aborted in omega (arith, a, z)
 
-      real : scx.scx.0 ≢ 0
-      real z = let a = x.own_scx.from in omega (arith, z)
-
   -- while it only looks, it has entered nothing
   pub nothing_entered : (m : UpdateRun E) (c : Call) (b h : History) → IsTry c b → Begins e m (from c b) h → IsQuietSince c.layout c.pass b h → HasEnteredNone c.layout c.pass h c.start
   nothing_entered m c b h try x quiet = none_joined c.layout c.pass h b c.start x.since try.none (none_quiet c.layout c.pass h b x.run.1.lawful quiet)
@@ -229,3 +253,12 @@ module _ {E : Type 0} (e : EditMeaning E) where
     record { since = ends_trans h b c.start x.since try.since; none = nothing_entered m c b h try x quiet },
     contended_wider c b h n s try.since way,
   )
+
+  -- at rest in a try it is so in the call
+  pub at_rest : (m : UpdateRun E) (c : Call) (b h : History) → Begins e m (from c b) h → RestsWith c h m.share
+  at_rest m c b h x = record { share = x.rests.share; over = x.rests.over }
+
+-- what was so as the walk began is so as it ends
+pub untouched_later : (c : Call) (b h : History) (left : Remaining) → Extends h b → IsUntouched c b left → IsUntouched c h left
+untouched_later c b h left e (inl x) = inl x
+untouched_later c b h left e (inr x) = inr (x.0, x.1, contended_later c h b x.0 x.1 e x.2)

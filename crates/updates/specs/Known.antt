@@ -67,6 +67,10 @@ pub record RestsWith (c : Call) (h : History) (left : Remaining) : Type 0 where
   pub share : IsShare c.layout h c.pass left left.next_node left.next_scx
   pub over : AreFinished c.layout c.pass 0 h
 
+-- nothing of the share was taken since the call began; or a try was lost to another pass
+abbrev pub IsUntouched : Call → History → Remaining → Type 0
+IsUntouched c h left = RestsWith c c.start left ⊎ ((n : ℕ) × (s : ℕ) × IsContended c h n s)
+
 -- the share has as many nodes as are needed, and an SCX-record
 abbrev pub HasNodesFor : Need → Remaining → Type 0
 HasNodesFor One left = (0 < left.nodes) × (0 < left.scx)
@@ -281,8 +285,9 @@ module _ {E : Type 0} (e : EditMeaning E) where
     -- it makes the edit, if it makes any, and no other of the pass has won since the try began
     pub tracks : Tracks c.layout c.pass h (job_of scx) (e.edit m.edit)
     pub only : HasEnteredOnly c.layout c.pass scx.scx.0 h c.start
-    -- as it began the leaf was found, the snapshots could be used, and it covers that leaf
+    -- as it began the leaf was found, at which there is something to make, the snapshots could be used, and it covers that leaf
     pub found : HasFoundLeaf c begin (edit_key (e.edit m.edit)) f
+    pub need : e.needs m.edit f ≢ Nothing
     pub usable : AreUsable c begin (edit_key (e.edit m.edit)) f scx.update.snaps
     pub quiet : IsQuietSince c.layout c.pass c.start begin
     pub leaf : CoversLeaf m.edit f c begin scx.scx.0 scx.update.snaps
@@ -323,10 +328,15 @@ module _ {E : Type 0} (e : EditMeaning E) where
     pub since : Extends h c.start
     pub rests : RestsWith c h m.share
 
+  -- while it walks in its first try nothing of its share is taken
+  abbrev pub FirstOrLost : UpdateRun E → Call → History → UpdateAt → Type 0
+  FirstOrLost m c begin (Walk walk) = IsUntouched c begin m.share
+  FirstOrLost m c begin _ = Unit {0}
+
   -- it may be called with this: with nothing at its start, then with what its step told
   abbrev pub UpdateIsReady : UpdateRun E → Call → History → Option ℕ → Type 0
-  UpdateIsReady m c h None = Begins m c h × IsTry c h × (m.at ≡ Start)
-  UpdateIsReady m c h (Some v) = (begin : History) × IsTry c begin × UpdateIsToldAt m (from c begin) h v m.at
+  UpdateIsReady m c h None = Begins m c h × IsTry c h × RestsWith c c.start m.share × (m.at ≡ Start)
+  UpdateIsReady m c h (Some v) = (begin : History) × IsTry c begin × FirstOrLost m c begin m.at × UpdateIsToldAt m (from c begin) h v m.at
 
   -- in the try that this call is, it waits for this step where it stands
   abbrev pub TryWaits : UpdateRun E → Call → History → Step → Type 0
@@ -334,7 +344,7 @@ module _ {E : Type 0} (e : EditMeaning E) where
 
   -- it waits for this step in the try that began at some moment
   abbrev pub UpdateWaits : UpdateRun E → Call → History → Step → Type 0
-  UpdateWaits m c h s = (begin : History) × IsTry c begin × TryWaits m (from c begin) h s
+  UpdateWaits m c h s = (begin : History) × IsTry c begin × FirstOrLost m c begin m.at × TryWaits m (from c begin) h s
 
   -- What its turns are asked for
 
@@ -379,20 +389,35 @@ module _ {E : Type 0} (e : EditMeaning E) where
     pub told : old ≡ found.value
     pub none : HasEnteredNone c.layout c.pass h c.start
 
-  -- the share has too little left for the edit at the leaf that was found, and the pass has entered
-  -- nothing
+  -- The share has too little left for the edit at the leaf that was found. Nothing of it was taken
+  -- since the call began, or a try was lost to another pass; and the pass has entered nothing.
   pub record IsFullFor (m : UpdateRun E) (c : Call) (h : History) (full : Full) : Type 0 where
     pub found : Found
     pub has_found : HasFoundLeaf c h (edit_key (e.edit m.edit)) found
     pub needed : e.needs m.edit found ≢ Nothing
     pub short : IsShort (e.needs m.edit found) m.share full.what full.left
+    pub first : IsUntouched c h m.share
     pub none : HasEnteredNone c.layout c.pass h c.start
 
+  -- at a moment of the call it had found a leaf at which there was something to make, and of which
+  -- it tells the value of the key
+  pub record WasNeeded (ed : E) (c : Call) (h : History) (old : Option ℕ) : Type 0 where
+    pub found : Found
+    pub moment : History
+    pub within : Extends h moment
+    pub has_found : HasFoundLeaf c moment (edit_key (e.edit ed)) found
+    pub needed : e.needs ed found ≢ Nothing
+    pub told : old ≡ found.value
+
   -- what its answer says
+  abbrev pub UpdateSays : UpdateRun E → Call → History → Updated → Type 0
+  UpdateSays m c h (Done old) = HasNothingToMake m.edit c h old ⊎ (HasMade (e.edit m.edit) c h m.call old × WasNeeded m.edit c h old)
+  UpdateSays m c h (FullAnswer full) = IsFullFor m c h full
+  UpdateSays m c h (Contended node scx) = IsContended c h node.0 scx.0 × (m.tries ≡ 0) × HasEnteredNone c.layout c.pass h c.start
+
+  -- and behind it the pass is at rest, with what is left of the share
   abbrev pub UpdateAnswers : UpdateRun E → Call → History → Updated → Type 0
-  UpdateAnswers m c h (Done old) = HasNothingToMake m.edit c h old ⊎ HasMade (e.edit m.edit) c h m.call old
-  UpdateAnswers m c h (FullAnswer full) = IsFullFor m c h full
-  UpdateAnswers m c h (Contended node scx) = IsContended c h node.0 scx.0 × (m.tries ≡ 0) × HasEnteredNone c.layout c.pass h c.start
+  UpdateAnswers m c h answer = RestsWith c h m.share × UpdateSays m c h answer
 
   -- it waits for the step that it asks for, or its answer is right
   abbrev pub UpdateTurn : Call → History → UpdateRun E → Turn Updated → Type 0

@@ -116,7 +116,7 @@ impl<E: Edit + Drop> UpdateRun<E> {
 
     /// Begins a try.
     fn begin_walk(&mut self) -> Turn<Updated>
-        ensures turn { (c : Call) (h : History) → IsRun TreeAllows c.layout h → Begins E.means self.old c h → IsTry c h → UpdateTurn E.means c h self.new result }
+        ensures turn { (c : Call) (h : History) → IsRun TreeAllows c.layout h → Begins E.means self.old c h → IsTry c h → IsUntouched c h self.old.share → UpdateTurn E.means c h self.new result }
         ensures begins { (c : Call) (h : History) → Begins E.means self.old c h → MatchTurn result (λ _. Unit {0}) (λ _. ⊥) }
         ensures same { (self.new.edit ≡ self.old.edit) × (self.new.call ≡ self.old.call) }
         ensures nearer { (nodes : ℕ) → IsNearer E.means self.new nodes result (self.old.tries * try_left E.means nodes + try_left E.means nodes) }
@@ -142,7 +142,7 @@ impl<E: Edit + Drop> UpdateRun<E> {
         ensures same { (self.new.edit ≡ self.old.edit) × (self.new.call ≡ self.old.call) }
         ensures nearer { (nodes : ℕ) → IsNearer E.means self.new nodes result (self.old.tries * try_left E.means nodes) }
         ensures spends { IsSpending result self.old.share self.new self.old.tries self.old.tries }
-        ensures tries { self.old.tries ≤ self.new.tries + 1 }
+        ensures tries { (self.old.tries ≤ self.new.tries + 1) × (self.new.tries ≤ self.old.tries) }
     {
         if self.tries == 0 {
             return Turn::Done(Updated::Contended { node, scx });
@@ -153,11 +153,11 @@ impl<E: Edit + Drop> UpdateRun<E> {
 
     /// Goes on with what the last step of the walk found.
     fn walk_on(&mut self, mut walk: WalkRun, got: Option<u64>) -> Turn<Updated>
-        ensures turn { (c : Call) (b h : History) → IsRun TreeAllows c.layout h → IsTry c b → Walks E.means self.old (from c b) h walk.key → WalkIsReady walk (from c b) h got → UpdateTurn E.means c h self.new result }
+        ensures turn { (c : Call) (b h : History) → IsRun TreeAllows c.layout h → IsTry c b → IsUntouched c b self.old.share → Walks E.means self.old (from c b) h walk.key → WalkIsReady walk (from c b) h got → UpdateTurn E.means c h self.new result }
         ensures same { (self.new.edit ≡ self.old.edit) × (self.new.call ≡ self.old.call) }
         ensures nearer { (nodes : ℕ) → WalkFits walk got nodes → IsNearer E.means self.new nodes result (self.old.tries * try_left E.means nodes + (walk_left walk.at nodes + (64 * E.means.most_looks + works_behind E.means First + 39))) }
         ensures spends { IsSpending result self.old.share self.new (self.old.tries + 1) (self.old.tries + 1) }
-        ensures tries { self.old.tries ≤ self.new.tries + 1 }
+        ensures tries { (self.old.tries ≤ self.new.tries + 1) × (self.new.tries ≤ self.old.tries) }
     {
         match Machine::<Tree>::next(&mut walk, got) {
             Turn::Ask(step) => {
@@ -187,11 +187,11 @@ impl<E: Edit + Drop> UpdateRun<E> {
 
     /// Goes on behind the walk, if the share has what the edit needs.
     fn test_share(&mut self, found: Found) -> Turn<Updated>
-        ensures turn { (c : Call) (b h : History) → IsRun TreeAllows c.layout h → IsTry c b → Begins E.means self.old (from c b) h → IsQuietSince c.layout c.pass b h → HasFoundLeaf (from c b) h (edit_key (E.means.edit self.old.edit)) found → UpdateTurn E.means c h self.new result }
+        ensures turn { (c : Call) (b h : History) → IsRun TreeAllows c.layout h → IsTry c b → IsUntouched c b self.old.share → Begins E.means self.old (from c b) h → IsQuietSince c.layout c.pass b h → HasFoundLeaf (from c b) h (edit_key (E.means.edit self.old.edit)) found → UpdateTurn E.means c h self.new result }
         ensures same { (self.new.edit ≡ self.old.edit) × (self.new.call ≡ self.old.call) }
         ensures nearer { (nodes : ℕ) → IsNearer E.means self.new nodes result (self.old.tries * try_left E.means nodes + (64 * E.means.most_looks + works_behind E.means First + 39)) }
         ensures spends { IsSpending result self.old.share self.new (self.old.tries + 1) (self.old.tries + 1) }
-        ensures tries { self.old.tries ≤ self.new.tries + 1 }
+        ensures tries { (self.old.tries ≤ self.new.tries + 1) × (self.new.tries ≤ self.old.tries) }
     {
         let need = self.edit.need(&found);
         if need == Need::Nothing {
@@ -210,7 +210,7 @@ impl<E: Edit + Drop> UpdateRun<E> {
         ensures same { (self.new.edit ≡ self.old.edit) × (self.new.call ≡ self.old.call) }
         ensures nearer { (nodes : ℕ) → IsNearer E.means self.new nodes result (self.old.tries * try_left E.means nodes + (64 * (E.means.most_looks - length self.old.snaps.items) + works_behind E.means First + 39)) }
         ensures spends { IsSpending result self.old.share self.new (self.old.tries + 1) (self.old.tries + 1) }
-        ensures tries { self.old.tries ≤ self.new.tries + 1 }
+        ensures tries { (self.old.tries ≤ self.new.tries + 1) × (self.new.tries ≤ self.old.tries) }
     {
         match self.edit.look(&found, self.snaps.as_slice()) {
             Look::At(node) => self.begin_look(found, node),
@@ -246,7 +246,7 @@ impl<E: Edit + Drop> UpdateRun<E> {
         ensures same { (self.new.edit ≡ self.old.edit) × (self.new.call ≡ self.old.call) }
         ensures nearer { (nodes : ℕ) → IsNearer E.means self.new nodes result (self.old.tries * try_left E.means nodes + (llx_left llx.at + 64 * (E.means.most_looks - 1 - length self.old.snaps.items) + works_behind E.means First + 39)) }
         ensures spends { IsSpending result self.old.share self.new (self.old.tries + 1) (self.old.tries + 1) }
-        ensures tries { self.old.tries ≤ self.new.tries + 1 }
+        ensures tries { (self.old.tries ≤ self.new.tries + 1) × (self.new.tries ≤ self.old.tries) }
     {
         match Machine::<Tree>::next(&mut llx, got) {
             Turn::Ask(step) => {
@@ -265,7 +265,7 @@ impl<E: Edit + Drop> UpdateRun<E> {
         ensures same { (self.new.edit ≡ self.old.edit) × (self.new.call ≡ self.old.call) }
         ensures nearer { (nodes : ℕ) → IsNearer E.means self.new nodes result (self.old.tries * try_left E.means nodes + (64 * (E.means.most_looks - 1 - length self.old.snaps.items) + works_behind E.means First + 39)) }
         ensures spends { IsSpending result self.old.share self.new (self.old.tries + 1) (self.old.tries + 1) }
-        ensures tries { self.old.tries ≤ self.new.tries + 1 }
+        ensures tries { (self.old.tries ≤ self.new.tries + 1) × (self.new.tries ≤ self.old.tries) }
     {
         let _fits = self.snaps.try_push(snap);
         self.look(found)
@@ -468,7 +468,7 @@ impl<E: Edit + Drop> UpdateRun<E> {
         ensures same { (self.new.edit ≡ self.old.edit) × (self.new.call ≡ self.old.call) }
         ensures nearer { (nodes : ℕ) → IsNearer E.means self.new nodes result (self.old.tries * try_left E.means nodes + scx_left scx.at) }
         ensures spends { IsSpending result self.old.share self.new self.old.tries self.old.tries }
-        ensures tries { self.old.tries ≤ self.new.tries + 1 }
+        ensures tries { (self.old.tries ≤ self.new.tries + 1) × (self.new.tries ≤ self.old.tries) }
     {
         match Machine::<Tree>::next(&mut scx, got) {
             Turn::Ask(step) => {
@@ -487,7 +487,7 @@ impl<E: Edit + Drop> UpdateRun<E> {
         ensures same { (self.new.edit ≡ self.old.edit) × (self.new.call ≡ self.old.call) }
         ensures nearer { (nodes : ℕ) → UpdateFits E.means self.old got nodes → IsNearer E.means self.new nodes result (update_left E.means self.old nodes) }
         ensures spends { IsSpending result self.old.share self.new (node_tries self.old self.old.at) (scx_tries self.old self.old.at) }
-        ensures tries { self.old.tries ≤ self.new.tries + 1 }
+        ensures tries { (self.old.tries ≤ self.new.tries + 1) × (self.new.tries ≤ self.old.tries) }
     {
         match self.at {
             UpdateAt::Start => self.begin_walk(),
@@ -515,7 +515,7 @@ impl<E: Edit + Drop> UpdateRun<E> {
     ghost use Rattle.prims.specs.Llx.Known.{IsOpened, IsSnapshot, LlxIsReady};
     ghost use Rattle.prims.specs.Scx.Known.{ScxIsReady};
     ghost use Rattle.spelling.specs.TreeShape.{TreeAllows};
-    ghost use Rattle.updates.specs.Known.{Begins, CanLook, Looks, nothing_loaded, CanLoad, CanFill, Loads, Scxs, UpdateTurn, copied};
+    ghost use Rattle.updates.specs.Known.{Begins, IsUntouched, CanLook, Looks, nothing_loaded, CanLoad, CanFill, Loads, Scxs, UpdateTurn, copied};
     ghost use Rattle.arena.specs.Words.{node};
     ghost use Rattle.updates.specs.Laws.HandScx.{from};
     ghost use Rattle.updates.specs.Steps.{IsSpending, node_tries, scx_tries};
@@ -527,7 +527,7 @@ impl<E: Edit + Drop> UpdateRun<E> {
 impl<E: Edit + Drop> Machine<Tree> for UpdateRun<E> {
     type Answer = Updated;
 
-    ghost use Rattle.std.specs.Prelude.{◌≡◌, ℕ};
+    ghost use Rattle.std.specs.Prelude.{◌≡◌, ℕ, ◌+◌, ◌≤◌};
     ghost use Rattle.updates.specs.Steps.{update_left, UpdateFits};
     ghost use Rattle.updates.specs.Known.{UpdateIsReady, UpdateWaits, UpdateAnswers};
     ghost use Rattle.updates.specs.Laws.Update.{update_keeps, update_lawful, update_made, update_told};
@@ -538,7 +538,7 @@ impl<E: Edit + Drop> Machine<Tree> for UpdateRun<E> {
 
     ghost answers = { UpdateAnswers E.means };
 
-    ghost same = { λ old now. (now.edit ≡ old.edit) × (now.call ≡ old.call) };
+    ghost same = { λ old now. (now.edit ≡ old.edit) × (now.call ≡ old.call) × (old.tries ≤ now.tries + 1) × (now.tries ≤ old.tries) };
 
     ghost left = { update_left E.means };
 

@@ -96,6 +96,7 @@ module _ {E : Type 0} (e : EditMeaning E) where
     tracks = tracks_by_others c.layout c.pass h r (job_of scx) (e.edit m.edit) run.lawful other x.own_scx x.tracks;
     only = only_more c.layout c.pass scx.scx.0 h r c.start run.lawful x.over x.only;
     found = x.found;
+    need = x.need;
     usable = x.usable;
     quiet = x.quiet;
     leaf = x.leaf;
@@ -119,7 +120,7 @@ module _ {E : Type 0} (e : EditMeaning E) where
 
   -- rows of other passes leave an update waiting for the same step
   pub update_keeps : (m : UpdateRun E) (c : Call) (h : History) (s : Step) (r : Row) → IsRun TreeAllows c.layout (r ⊳ h) → r.pass.0 ≢ c.pass → UpdateWaits e m c h s → UpdateWaits e m c (r ⊳ h) s
-  update_keeps m c h s r run other w = (w.0, w.1, kept_at m (from c w.0) h s r m.at run other w.2)
+  update_keeps m c h s r run other w = (w.0, w.1, w.2, kept_at m (from c w.0) h s r m.at run other w.3)
 
   -- The step that it waits for
 
@@ -135,7 +136,7 @@ module _ {E : Type 0} (e : EditMeaning E) where
 
   -- the step that an update waits for continues the run
   pub update_lawful : (m : UpdateRun E) (c : Call) (h : History) (s : Step) → IsRun TreeAllows c.layout h → UpdateWaits e m c h s → IsRun TreeAllows c.layout (row_of c s h ⊳ h)
-  update_lawful m c h s run w = lawful_at m (from c w.0) h s m.at run w.2
+  update_lawful m c h s run w = lawful_at m (from c w.0) h s m.at run w.3
 
   -- Its own row
 
@@ -225,6 +226,7 @@ module _ {E : Type 0} (e : EditMeaning E) where
     tracks = tracks_by_scx (from c begin) h scx s (e.edit m.edit) run x.run.1 w x.tracks;
     only = only_more c.layout c.pass scx.scx.0 h (row_of c s h) c.start run.lawful x.over x.only;
     found = x.found;
+    need = x.need;
     usable = x.usable;
     quiet = x.quiet;
     leaf = x.leaf;
@@ -240,7 +242,7 @@ module _ {E : Type 0} (e : EditMeaning E) where
 
   -- once the step is made, an update may be called with what it told
   pub update_made : (m : UpdateRun E) (c : Call) (h : History) (s : Step) (v : ℕ) → IsRun TreeAllows c.layout (row_of c s h ⊳ h) → IsTold s.access (value h s.word) v → UpdateWaits e m c h s → UpdateIsReady e m c (row_of c s h ⊳ h) (Some v)
-  update_made m c h s v run t w = (w.0, w.1, made_at m (from c w.0) h s v m.at run t w.2)
+  update_made m c h s v run t w = (w.0, w.1, w.2, made_at m (from c w.0) h s v m.at run t w.3)
 
   -- What it is told
 
@@ -254,5 +256,5 @@ module _ {E : Type 0} (e : EditMeaning E) where
 
   -- what an update may be told fits the nodes that are taken by then
   pub update_told : (m : UpdateRun E) (c : Call) (h : History) (got : Option ℕ) (nodes : ℕ) → IsRun TreeAllows c.layout h → UpdateIsReady e m c h got → length (taken_nodes h) ≤ nodes → UpdateFits e m got nodes
-  update_told m c h None nodes run x few = subst (λ at. UpdateFitsAt e m None nodes at) (sym x.2) tt
-  update_told m c h (Some v) nodes run x few = fits_at m (from c x.0) h v nodes m.at run x.2 few
+  update_told m c h None nodes run x few = subst (λ at. UpdateFitsAt e m None nodes at) (sym x.3) tt
+  update_told m c h (Some v) nodes run x few = fits_at m (from c x.0) h v nodes m.at run x.3 few

@@ -7,6 +7,7 @@ pub returns-in-Ask-clause-turn : goal.returns-in-Ask-clause-turn
 returns-in-Ask-clause-turn g c d b h run try x = (
   b,
   try,
+  tt,
   scx_begins g.E.Edit.means c.args.self.now c.new-run.result c.next.new.self c.args.found (from d b) h g.met.E.Edit.laws.makes c.update-update.ensures.few x
       (rw c.new-run.ensures.update record { covers = c.update-update.ensures.snaps; plan = c.update-update.ensures.plan; old = c.update-update.ensures.old; fresh = c.update-update.ensures.fresh })
       c.new-run.ensures.start (rw c.new-run.ensures.scx (rw c.in-Some.is at c.scx.ensures.after_taking).0) c.next.ensures.same.0 c.next.ensures.same.1 c.next.ensures.same.2 (c.next.ensures.same.2 ∙ c.new-run.ensures.call)

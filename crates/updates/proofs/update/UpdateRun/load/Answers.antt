@@ -14,4 +14,4 @@ pub returns-in_default-clause-turn : goal.returns-in_default-clause-turn
 returns-in_default-clause-turn g c d b h run try x = c.fill.ensures.turn d b h run try (fills_head g.E.Edit.means c.args.self.now (from d b) h c.args.found c.args.nth x (rw (sym c.as_slice-snaps.ensures.value) (sym c.load.ensures ∙ c.in_default.is)))
 
 pub returns-clause-turn : goal.returns-clause-turn
-returns-clause-turn g c d b h run try x = (b, try, loads_word g.E.Edit.means c.args.self.now (from d b) h c.args.found c.args.nth c.in-Some.part c.copied-node.result g.met.E.Edit.laws.loads x (rw (sym c.as_slice-snaps.ensures.value) (sym c.load.ensures ∙ c.in-Some.is)) (rw (sym c.as_slice-snaps.ensures.value) c.copied-node.ensures))
+returns-clause-turn g c d b h run try x = (b, try, tt, loads_word g.E.Edit.means c.args.self.now (from d b) h c.args.found c.args.nth c.in-Some.part c.copied-node.result g.met.E.Edit.laws.loads x (rw (sym c.as_slice-snaps.ensures.value) (sym c.load.ensures ∙ c.in-Some.is)) (rw (sym c.as_slice-snaps.ensures.value) c.copied-node.ensures))

@@ -21,7 +21,7 @@ pub returns-in-Done-Fail-clause-nearer : goal.returns-in-Done-Fail-clause-nearer
 returns-in-Done-Fail-clause-nearer g c nodes = below c.lost-in-Done-Fail.result _ _ _ (c.lost-in-Done-Fail.ensures.nearer nodes) (to_tries _ _)
 
 pub returns-in-Ask-clause-turn : goal.returns-in-Ask-clause-turn
-returns-in-Ask-clause-turn g c d b begin h run try x ready = (b, try, looks_on g.E.Edit.means c.args.self.now c.args.llx c.next.new.self c.args.found begin (from d b) h c.next.result x c.next.ensures.same (c.next.ensures.turn (from (from d b) begin) h run ready) c.in-Ask.step c.in-Ask.is)
+returns-in-Ask-clause-turn g c d b begin h run try x ready = (b, try, tt, looks_on g.E.Edit.means c.args.self.now c.args.llx c.next.new.self c.args.found begin (from d b) h c.next.result x c.next.ensures.same (c.next.ensures.turn (from (from d b) begin) h run ready) c.in-Ask.step c.in-Ask.is)
 
 pub returns-in-Done-Snapshot-clause-turn : goal.returns-in-Done-Snapshot-clause-turn
 returns-in-Done-Snapshot-clause-turn g c d b begin h run try x ready =

@@ -7,9 +7,9 @@ pub returns-in-Done-clause-nearer : goal.returns-in-Done-clause-nearer
 returns-in-Done-clause-nearer g c nodes fits = below c.test_share.result _ _ _ (c.test_share.ensures.nearer nodes) (from_walk _ _ _)
 
 pub returns-in-Ask-clause-turn : goal.returns-in-Ask-clause-turn
-returns-in-Ask-clause-turn g c d b h run try x ready = (b, try, walks_on g.E.Edit.means c.args.self.now c.args.walk c.next.new.self (from d b) h c.next.result c.in-Ask.step x c.next.ensures.same c.in-Ask.is (c.next.ensures.turn (from d b) h run ready))
+returns-in-Ask-clause-turn g c d b h run try first x ready = (b, try, first, walks_on g.E.Edit.means c.args.self.now c.args.walk c.next.new.self (from d b) h c.next.result c.in-Ask.step x c.next.ensures.same c.in-Ask.is (c.next.ensures.turn (from d b) h run ready))
 
 pub returns-in-Done-clause-turn : goal.returns-in-Done-clause-turn
-returns-in-Done-clause-turn g c d b h run try x ready = c.test_share.ensures.turn d b h run try
+returns-in-Done-clause-turn g c d b h run try first x ready = c.test_share.ensures.turn d b h run try first
     (walk_rests g.E.Edit.means c.args.self.now c.args.walk (from d b) h c.args.got x ready) x.quiet
     (walk_found g.E.Edit.means c.args.self.now c.args.walk c.next.new.self (from d b) h c.next.result c.in-Done.found x c.next.ensures.same c.in-Done.is (c.next.ensures.turn (from d b) h run ready))
