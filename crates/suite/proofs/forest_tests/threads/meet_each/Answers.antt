@@ -1,7 +1,7 @@
 use Rattle.std.proofs.Common.{[], ◌∷◌, ◌++◌}
 use Rattle.std.proofs.lemmas.List.Elements.{All-rest, All-same, All-push}
 use Rattle.forest.specs.Passes.{PassView, IsOf}
-use Rattle.forest.proofs.tests.threads.meet_each.Goals as goal
+use Rattle.suite.proofs.forest_tests.threads.meet_each.Goals as goal
 
 pub loop-pass-preserved : goal.loop-pass-preserved
 loop-pass-preserved c =

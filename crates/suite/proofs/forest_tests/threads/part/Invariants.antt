@@ -1,6 +1,6 @@
 use Rattle.std.specs.List.{All}
 use Rattle.forest.specs.Passes.{IsOf}
-use Rattle.forest.proofs.tests.threads.part.Given as goal
+use Rattle.suite.proofs.forest_tests.threads.part.Given as goal
 
 abbrev pub invariant-loop-pass : goal.invariant-loop-pass
 invariant-loop-pass l =

@@ -1,7 +1,7 @@
-use crate::{Pair, laws_hold, map_laws_hold, spelled};
 use arena::NodeWord::{Child, Head, Key, Value};
 use arena::Side::{Left, Right};
 use arena::{Access, Kind, Limits, Mode, NodeNo, NodeWord, PlainWords, Step, Word};
+use spelling::{Pair, laws_hold, map_laws_hold, spelled};
 use std::alloc::Global;
 use std::process::Abort;
 use std::test::Fail;

@@ -3,7 +3,7 @@ use Rattle.std.specs.List.{All}
 use Rattle.std.proofs.lemmas.List.Elements.{All-pop}
 use Rattle.forest.specs.Passes.{IsOf}
 use Rattle.forest.proofs.Crowds.{new_are_of}
-use Rattle.forest.proofs.tests.runs.two.Goals as goal
+use Rattle.suite.proofs.forest_tests.runs.two.Goals as goal
 
 -- what is left, and the one that was taken
 second : (c : goal.After-drop-passes-2) → All (IsOf c.in-Ok.forest) c.pop.new.self.items × IsOf c.in-Ok.forest c.in_ok-second.second

@@ -3,8 +3,8 @@ ghost use Rattle.std.specs.Prelude.{◌≡◌, IfSome};
 ghost use Rattle.forest.specs.Passes.{IsOf};
 
 use super::{end, fields, limits, put};
-use crate::{Closed, Forest, Full, NewFault, Pass, Resource};
 use arena::{Limits, NodeNo, ScxNo, Side};
+use forest::{Closed, Forest, Full, NewFault, Pass, Resource};
 use prims::{Cells, Llx, Scx, Vlx};
 use std::alloc::{AllocError, Global};
 use std::test::Fail;
@@ -43,36 +43,31 @@ fn the_second_of_two_loses(rt: HostRuntime) -> Result<(), Fail> {
         assert!(rt; false);
         return Ok(());
     };
-    let n1 = NodeNo(1);
-    let a = forest.llx(&mut first, n1);
-    let b = forest.llx(&mut second, n1);
-    assert_eq!(rt; fields(a), Some((0, 0)));
-    assert_eq!(rt; fields(b), Some((0, 0)));
+    let (node, scx) = (NodeNo(1), ScxNo(1));
+    let field = (node, Side::Left);
+    let a = forest.llx(&mut first, node);
+    let b = forest.llx(&mut second, node);
+    assert_eq!(rt; (fields(a), fields(b)), (Some((0, 0)), Some((0, 0))));
     let (Llx::Snapshot(a), Llx::Snapshot(b)) = (a, b) else {
         assert!(rt; false);
         return Ok(());
     };
-    assert_eq!(rt; forest.vlx(&mut first, &[a]), Vlx::Same);
-    assert_eq!(rt;
-        forest.scx(&mut first, &[a], &[], (n1, Side::Left), 7),
-        Ok(Scx::Done)
-    );
-    let (node, scx) = (n1, ScxNo(1));
-    assert_eq!(rt; forest.vlx(&mut second, &[b]), Vlx::Changed { node, scx });
-    assert_eq!(rt;
-        forest.scx(&mut second, &[b], &[], (n1, Side::Left), 7),
-        Ok(Scx::Lost { node, scx })
-    );
-    assert_eq!(rt; first.left(), (9, 9));
-    assert_eq!(rt; second.left(), (9, 9));
+    let same = forest.vlx(&mut first, &[a]);
+    let done = forest.scx(&mut first, &[a], &[], field, 7);
+    assert_eq!(rt; (same, done), (Vlx::Same, Ok(Scx::Done)));
+    let changed = forest.vlx(&mut second, &[b]);
+    let lost = forest.scx(&mut second, &[b], &[], field, 7);
+    let (was_changed, was_lost) = (Vlx::Changed { node, scx }, Scx::Lost { node, scx });
+    assert_eq!(rt; (changed, lost), (was_changed, Ok(was_lost)));
+    assert_eq!(rt; (first.left(), second.left()), ((9, 9), (9, 9)));
     forest.meet(&mut first, &mut second);
-    assert_eq!(rt; fields(forest.llx(&mut second, n1)), Some((9, 0)));
+    let found = fields(forest.llx(&mut second, node));
     let Some(closed) = end_two(rt.alloc(), forest, first, second)? else {
         assert!(rt; false);
         return Ok(());
     };
-    assert_eq!(rt; closed.cell(n1), Some((9, 0)));
-    assert_eq!(rt; closed.cell(NodeNo(29)), None);
+    let cells = [found, closed.cell(node), closed.cell(NodeNo(29))];
+    assert_eq!(rt; cells, [Some((9, 0)), Some((9, 0)), None]);
     Ok(())
 }
 

@@ -1,4 +1,3 @@
-use crate::first_unlawful;
 use arena::Kind::{
     Commit, Fill, Freeze, LoadAllFrozen, LoadChild, LoadInfo, LoadMarked, LoadSettled, LoadState,
     Mark, SetFrozen, Update,
@@ -7,6 +6,7 @@ use arena::NodeWord::{Child, Head, Info, Key, Marked, Value};
 use arena::ScxWord::{AllFrozen, Call, Member, New, Old, Plan, Seen, State};
 use arena::Side::{Left, Right};
 use arena::{Kind, Layout, Limits, Mode, NodeNo, NodeWord, PassNo, Row, ScxNo, ScxWord, Word};
+use judge::first_unlawful;
 use std::alloc::{AllocError, Global};
 use std::process::Abort;
 use std::test::Fail;

@@ -6,8 +6,8 @@ ghost use Rattle.forest.specs.Passes.{IsOf};
 mod runs;
 mod threads;
 
-use crate::{Closed, Forest, Full, Pass};
 use arena::{Limits, NodeNo, Side};
+use forest::{Closed, Forest, Full, Pass};
 use prims::{Cells, Llx, Scx};
 
 /// The fields of a cell, where there are any.

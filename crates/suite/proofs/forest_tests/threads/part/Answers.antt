@@ -1,8 +1,8 @@
 use Rattle.std.proofs.Common.{[], ◌∷◌, ◌++◌, sym}
 use Rattle.std.proofs.lemmas.List.Elements.{All-head, All-rest, All-same, All-push}
 use Rattle.forest.specs.Passes.{PassView, IsOf}
-use Rattle.forest.specs.declared.tests.threads.Tally.{Tally}
-use Rattle.forest.proofs.tests.threads.part.Goals as goal
+use Rattle.suite.specs.declared.forest_tests.threads.Tally.{Tally}
+use Rattle.suite.proofs.forest_tests.threads.part.Goals as goal
 
 pub loop-pass-preserved : goal.loop-pass-preserved
 loop-pass-preserved c =

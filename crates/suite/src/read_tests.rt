@@ -1,8 +1,8 @@
 //! Reports that are read back, and texts that are no reports.
-use crate::fault::Fault;
-use crate::orders::run;
-use crate::tests::{GET_REPORT, IN_TURN, SET, SET_REPORT};
+use crate::program_tests::{GET_REPORT, IN_TURN, SET, SET_REPORT};
+use crate::table::case_of;
 use arena::Mode;
+use program::{Fault, run};
 use record::Record;
 use report::{ReportFault, read_record, write_record};
 use script::{read_schedule, read_script};
@@ -89,104 +89,113 @@ fn other_spellings_are_read(rt: HostRuntime) -> Result<(), Fail> {
     Ok(())
 }
 
-/// What stands in the report of a set and a snapshot, what is written there, and the row that is
-/// named: two rows of head, two calls, 22 steps from row 5 on, the log row, a step, a reply, seven
+/// The row that is named, what stands in the report of a set and a snapshot, and what is written
+/// there: two rows of head, two calls, 22 steps from row 5 on, the log row, a step, a reply, seven
 /// steps from row 30 on, a reply, and the end row, which is the 38th.
-const BAD_REPORTS: [(&str, &str, u64); 79] = [
-    // The title.
-    ("report,1", "Report,1", 1),
-    ("report,1", "report,2", 1),
-    ("report,1", "report,01", 1),
-    ("report,1", "report,", 1),
-    ("report,1,records", "report,1,cells", 1),
-    ("report,1,records", "report,1,", 1),
-    ("records,,,,", "records,,,", 1),
-    ("records,,,,", "records,,,,,", 1),
-    ("records,,,,", "records,,,,0", 1),
-    // The limits.
-    ("limits,2,10,10,1,,", "call,0,0,llx,1,,", 2),
-    ("limits,2,10,10,1,,", "limits,0,10,10,1,,", 2),
-    ("limits,2,10,10,1,,", "limits,33,10,10,1,,", 2),
-    ("limits,2,10,10,1,,", "limits,2,32769,10,1,,", 2),
-    ("limits,2,10,10,1,,", "limits,2,10,32769,1,,", 2),
-    ("limits,2,10,10,1,,", "limits,2,10,10,0,,", 2),
-    ("limits,2,10,10,1,,", "limits,2,10,10,1001,,", 2),
-    ("limits,2,10,10,1,,", "limits,02,10,10,1,,", 2),
-    ("limits,2,10,10,1,,", "limits,4294967298,10,10,1,,", 2),
-    ("limits,2,10,10,1,,", "limits,2,10,10,1,0,", 2),
-    ("limits,2,10,10,1,,", "limits,2,10,10,1,", 2),
-    ("limits,2,10,10,1,,", "limits,2,10,10,1,,,", 2),
-    // The calls.
-    ("report,1,records", "report,1,tree", 3),
-    ("call,0,0,set", "call,2,0,set", 3),
-    ("call,0,0,set", "call,,0,set", 3),
-    ("call,0,0,set", "call,0,1,set", 3),
-    ("call,0,0,set", "call,0,00,set", 3),
-    ("call,1,0,llx", "call,1,1,llx", 4),
-    ("call,1,0,llx", "call,0,0,llx", 4),
-    ("call,1,0,llx", "call,1,0,get", 4),
-    ("call,1,0,llx,1", "call,1,0,llx,9", 4),
-    ("call,1,0,llx,1,,", "call,1,0,llx,1,1,", 4),
-    ("call,1,0,llx,1,,", "call,1,0,llx,1,", 4),
-    ("set,1,left,70", "set,1,up,70", 3),
-    ("set,1,left,70", "set,1,left,070", 3),
-    ("step,1,0", "limits,2,10,10,1,,\nstep,1,0", 5),
-    ("step,2,0", "call,0,1,llx,1,,\nstep,2,0", 6),
-    // Steps.
-    ("step,1,0,marked", "turn,1,0,marked", 5),
-    ("step,2,0,info,n1.info,0,0", "step,2,0,info,n1.info,0", 6),
-    ("step,2,0,info,n1.info,0,0", "step,2,0,info,n1.info,0,0,", 6),
-    ("step,3,0,state", "step,03,0,state", 7),
-    ("step,3,0,state", "step,3,+0,state", 7),
-    ("step,3,0,state", "step,3,4294967296,state", 7),
-    ("s0.state,2,2", "s0.state,02,2", 7),
-    ("s0.state,2,2", "s0.state,2,", 7),
-    ("s0.state,2,2", "s00.state,2,2", 7),
-    ("s0.state,2,2", "s0.info,2,2", 7),
-    ("step,8,0,fill", "step,8,0,Fill", 12),
-    ("step,8,0,fill", "step,8,0,", 12),
-    ("step,8,0,fill", "step,8,0,idle", 12),
-    ("n9.value,0,70", "n9.value,0,18446744073709551616", 12),
-    ("n9.value,0,70", "m9.value,0,70", 12),
-    ("n9.value,0,70", "n9value,0,70", 12),
-    ("n9.value,0,70", "n.value,0,70", 12),
-    ("n9.value,0,70", "n9.state,0,70", 12),
-    ("n9.value,0,70", "n9.,0,70", 12),
-    ("s1.v0,0,1", "s1.v4,0,1", 16),
-    ("s1.i0,0,0", "s1.i,0,0", 17),
-    // Log entries.
-    ("log,1,22,s1", "log,1,22,1", 27),
-    ("log,1,22,s1", "log,1,22,n1", 27),
-    ("log,1,22,s1", "log,,22,s1", 27),
-    ("log,1,22,s1,0,0,", "log,1,22,s1,0,0,0", 27),
-    // Replies.
-    ("23,22,done", "23,22,did", 29),
-    ("23,22,done", "23,022,done", 29),
-    ("23,22,done", "23,22,", 29),
-    ("23,22,done", ",22,done", 29),
-    ("23,22,done", "23,22,\"done", 29),
-    ("snap 9 0", "snap 9", 37),
-    ("snap 9 0", "snap 9  0", 37),
-    ("snap 9 0", "snap 09 0", 37),
-    ("snap 9 0", "fail n9 0", 37),
-    ("snap 9 0", "full words 9", 37),
-    ("snap 9 0", "full nodes 4294967296", 37),
-    // The end row, and what stands behind it.
-    ("end,30,2,1", "end,29,2,1", 38),
-    ("end,30,2,1", "end,30,1,1", 38),
-    ("end,30,2,1", "end,30,2,2", 38),
-    ("end,30,2,1,,,\n", "", 38),
-    ("end,30,2,1,,,\n", "end,30,2,1,,,\nend,30,2,1,,,\n", 39),
-    ("end,30,2,1,,,\n", "end,30,2,1,,,\nlog,1,22,s1,0,0,\n", 39),
-    ("end,30,2,1,,,\n", "end,30,2,1,,,\n\n0\n", 39),
-];
+const BAD_REPORTS: &str = "\
+# The title.
+1;report,1;Report,1
+1;report,1;report,2
+1;report,1;report,01
+1;report,1;report,
+1;report,1,records;report,1,cells
+1;report,1,records;report,1,
+1;records,,,,;records,,,
+1;records,,,,;records,,,,,
+1;records,,,,;records,,,,0
+# The limits.
+2;limits,2,10,10,1,,;call,0,0,llx,1,,
+2;limits,2,10,10,1,,;limits,0,10,10,1,,
+2;limits,2,10,10,1,,;limits,33,10,10,1,,
+2;limits,2,10,10,1,,;limits,2,32769,10,1,,
+2;limits,2,10,10,1,,;limits,2,10,32769,1,,
+2;limits,2,10,10,1,,;limits,2,10,10,0,,
+2;limits,2,10,10,1,,;limits,2,10,10,1001,,
+2;limits,2,10,10,1,,;limits,02,10,10,1,,
+2;limits,2,10,10,1,,;limits,4294967298,10,10,1,,
+2;limits,2,10,10,1,,;limits,2,10,10,1,0,
+2;limits,2,10,10,1,,;limits,2,10,10,1,
+2;limits,2,10,10,1,,;limits,2,10,10,1,,,
+# The calls.
+3;report,1,records;report,1,tree
+3;call,0,0,set;call,2,0,set
+3;call,0,0,set;call,,0,set
+3;call,0,0,set;call,0,1,set
+3;call,0,0,set;call,0,00,set
+4;call,1,0,llx;call,1,1,llx
+4;call,1,0,llx;call,0,0,llx
+4;call,1,0,llx;call,1,0,get
+4;call,1,0,llx,1;call,1,0,llx,9
+4;call,1,0,llx,1,,;call,1,0,llx,1,1,
+4;call,1,0,llx,1,,;call,1,0,llx,1,
+3;set,1,left,70;set,1,up,70
+3;set,1,left,70;set,1,left,070
+5;step,1,0;limits,2,10,10,1,,|step,1,0
+6;step,2,0;call,0,1,llx,1,,|step,2,0
+# Steps.
+5;step,1,0,marked;turn,1,0,marked
+6;step,2,0,info,n1.info,0,0;step,2,0,info,n1.info,0
+6;step,2,0,info,n1.info,0,0;step,2,0,info,n1.info,0,0,
+7;step,3,0,state;step,03,0,state
+7;step,3,0,state;step,3,+0,state
+7;step,3,0,state;step,3,4294967296,state
+7;s0.state,2,2;s0.state,02,2
+7;s0.state,2,2;s0.state,2,
+7;s0.state,2,2;s00.state,2,2
+7;s0.state,2,2;s0.info,2,2
+12;step,8,0,fill;step,8,0,Fill
+12;step,8,0,fill;step,8,0,
+12;step,8,0,fill;step,8,0,idle
+12;n9.value,0,70;n9.value,0,18446744073709551616
+12;n9.value,0,70;m9.value,0,70
+12;n9.value,0,70;n9value,0,70
+12;n9.value,0,70;n.value,0,70
+12;n9.value,0,70;n9.state,0,70
+12;n9.value,0,70;n9.,0,70
+16;s1.v0,0,1;s1.v4,0,1
+17;s1.i0,0,0;s1.i,0,0
+# Log entries.
+27;log,1,22,s1;log,1,22,1
+27;log,1,22,s1;log,1,22,n1
+27;log,1,22,s1;log,,22,s1
+27;log,1,22,s1,0,0,;log,1,22,s1,0,0,0
+# Replies.
+29;23,22,done;23,22,did
+29;23,22,done;23,022,done
+29;23,22,done;23,22,
+29;23,22,done;,22,done
+29;23,22,done;23,22,\"done
+37;snap 9 0;snap 9
+37;snap 9 0;snap 9  0
+37;snap 9 0;snap 09 0
+37;snap 9 0;fail n9 0
+37;snap 9 0;full words 9
+37;snap 9 0;full nodes 4294967296
+# The end row, and what stands behind it.
+38;end,30,2,1;end,29,2,1
+38;end,30,2,1;end,30,1,1
+38;end,30,2,1;end,30,2,2
+38;end,30,2,1,,,|;
+39;end,30,2,1,,,|;end,30,2,1,,,|end,30,2,1,,,|
+39;end,30,2,1,,,|;end,30,2,1,,,|log,1,22,s1,0,0,|
+39;end,30,2,1,,,|;end,30,2,1,,,||0|
+";
 
 #[test]
 fn bad_reports_are_refused(rt: HostRuntime) -> Result<(), Fail> {
-    for (old, new, row) in BAD_REPORTS {
-        let text = edited(rt.alloc(), SET_REPORT, old, new)?;
-        let fault = read(rt.alloc(), text.as_bytes()).err();
-        assert_eq!(rt; fault, Some(ReportFault::NotLawful { row }), "{old}, {new}");
+    let alloc = rt.alloc();
+    for line in BAD_REPORTS.lines() {
+        let Some((row, change)) = case_of(alloc, line)? else {
+            continue;
+        };
+        let (old, new) = change.as_str().split_once(';').ok_or("no change")?;
+        let text = edited(alloc, SET_REPORT, old, new)?;
+        let got = match read(alloc, text.as_bytes()) {
+            Ok(_) => String::new(alloc),
+            Err(fault) => format!(in alloc; "{fault}")?,
+        };
+        let said = format!(in alloc; "not lawful: row {row}")?;
+        assert_eq!(rt; got.as_str(), said.as_str(), "{line}");
     }
     Ok(())
 }

@@ -4,8 +4,8 @@ ghost use Rattle.std.specs.List.{All};
 ghost use Rattle.forest.specs.Passes.{IsOf};
 
 use super::{Fields, end, fields, limits, put};
-use crate::{Closed, Forest, Full, Pass};
 use arena::{NodeNo, Side};
+use forest::{Closed, Forest, Full, Pass};
 use prims::{Cells, Llx, Scx};
 use std::alloc::{AllocError, Global};
 use std::test::Fail;

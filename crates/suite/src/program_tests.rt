@@ -1,5 +1,6 @@
-use crate::play::play_over;
+use crate::table::case_of;
 use arena::Mode;
+use program::play_over;
 use std::alloc::Global;
 use std::test::Fail;
 use texts::{FailAt, Metered};
@@ -50,9 +51,6 @@ step,30,1,info,n1.info,1,1
 reply,1,0,24,30,30,snap 9 0
 end,30,2,1,,,
 ";
-
-/// A snapshot of a cell that no one has changed.
-pub(crate) const UNTOUCHED: &str = "limits,1,0,0,1\n0,llx,8,,\nend,1,,,\n";
 
 /// What a command wrote, and its status.
 #[derive(Drop)]
@@ -223,61 +221,40 @@ fn million_idle_turns(rt: HostRuntime) {
     );
 }
 
+/// What is said of a script and a schedule that are refused.
+const REFUSED: &str = "\
+bad script: row 2: fields;limits,1,0,0,1|0,llx,8|end,1,,,|;
+bad script: row 1: limits;limits,33,0,0,1|end,0,,,|;
+bad script: row 1: limits;end,1,,,|;
+bad script: row 2: client;limits,1,0,0,1|1,llx,8,,|end,1,,,|;
+bad script: row 2: command;limits,1,0,0,1|0,put,8,50,|end,1,,,|;
+bad script: row 2: argument;limits,1,0,0,1|0,llx,9,,|end,1,,,|;
+bad script: row 2: end;limits,1,0,0,1|;
+bad script: row 1: end;;
+bad schedule: row 1: fields;limits,1,0,0,1|0,llx,8,,|end,1,,,|;finish,0,|end,1,,|
+bad schedule: row 1: command;limits,1,0,0,1|0,llx,8,,|end,1,,,|;begin,0,,|end,1,,|
+bad schedule: row 1: client;limits,1,0,0,1|0,llx,8,,|end,1,,,|;call,1,,|
+bad schedule: row 1: kind;limits,1,0,0,1|0,llx,8,,|end,1,,,|;until,0,melt,1|
+bad schedule: row 1: number;limits,1,0,0,1|0,llx,8,,|end,1,,,|;step,0,,0|
+bad schedule: row 1: end;limits,1,0,0,1|0,llx,8,,|end,1,,,|;end,1,,|
+# A fault of the script comes first.
+bad script: row 2: end;limits,1,0,0,1|;end,1,,|
+";
+
 #[test]
-fn refused_texts(rt: HostRuntime) {
-    let rest = "end,1,,,\n";
-    let cases = [
-        (
-            "limits,1,0,0,1\n0,llx,8\nend,1,,,\n",
-            "",
-            "bad script: row 2: fields\n",
-        ),
-        (
-            "limits,33,0,0,1\nend,0,,,\n",
-            "",
-            "bad script: row 1: limits\n",
-        ),
-        (rest, "", "bad script: row 1: limits\n"),
-        (
-            "limits,1,0,0,1\n1,llx,8,,\nend,1,,,\n",
-            "",
-            "bad script: row 2: client\n",
-        ),
-        (
-            "limits,1,0,0,1\n0,put,8,50,\nend,1,,,\n",
-            "",
-            "bad script: row 2: command\n",
-        ),
-        (
-            "limits,1,0,0,1\n0,llx,9,,\nend,1,,,\n",
-            "",
-            "bad script: row 2: argument\n",
-        ),
-        ("limits,1,0,0,1\n", "", "bad script: row 2: end\n"),
-        ("", "", "bad script: row 1: end\n"),
-        (
-            UNTOUCHED,
-            "finish,0,\nend,1,,\n",
-            "bad schedule: row 1: fields\n",
-        ),
-        (
-            UNTOUCHED,
-            "begin,0,,\nend,1,,\n",
-            "bad schedule: row 1: command\n",
-        ),
-        (UNTOUCHED, "call,1,,\n", "bad schedule: row 1: client\n"),
-        (UNTOUCHED, "until,0,melt,1\n", "bad schedule: row 1: kind\n"),
-        (UNTOUCHED, "step,0,,0\n", "bad schedule: row 1: number\n"),
-        (UNTOUCHED, "end,1,,\n", "bad schedule: row 1: end\n"),
-        // A fault of the script comes first.
-        ("limits,1,0,0,1\n", "end,1,,\n", "bad script: row 2: end\n"),
-    ];
-    for (script, schedule, line) in cases {
+fn refused_texts(rt: HostRuntime) -> Result<(), Fail> {
+    for case in REFUSED.lines() {
+        let Some((said, texts)) = case_of(rt.alloc(), case)? else {
+            continue;
+        };
+        let (script, schedule) = texts.as_str().split_once(';').ok_or("no schedule")?;
         let ended = played(rt.alloc(), script, schedule);
-        assert_eq!(rt; ended.err.as_slice(), line.as_bytes(), "{line}");
-        assert_eq!(rt; ended.out.as_slice(), b"".as_slice(), "{line}");
-        assert_eq!(rt; ended.status, 1, "{line}");
+        let line = format!(in rt.alloc(); "{said}\n")?;
+        assert_eq!(rt; ended.err.as_slice(), line.as_bytes(), "{case}");
+        assert_eq!(rt; ended.out.as_slice(), b"".as_slice(), "{case}");
+        assert_eq!(rt; ended.status, 1, "{case}");
     }
+    Ok(())
 }
 
 /// What a failing device makes of the run: the script gives so many bytes, the schedule so many, and

@@ -1,6 +1,6 @@
-use crate::{WriteFault, read_record, write_record};
 use arena::{Kind, Mode, NodeNo, NodeWord, PassNo, Resource, ScxNo, ScxWord, Side, Word};
 use record::{Answer, Entry, Line, Record, Reply, Row};
+use report::{WriteFault, read_record, write_record};
 use script::read_script;
 use std::alloc::Global;
 use std::test::Fail;
