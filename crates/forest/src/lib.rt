@@ -18,6 +18,3 @@ pub use close::Closed;
 pub use fault::NewFault;
 pub use forest::Forest;
 pub use pass::Pass;
-
-#[cfg(test)]
-mod tests;

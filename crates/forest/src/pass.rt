@@ -52,7 +52,8 @@ impl<S: Shape> Pass<S> {
         }
     }
 
-    pub(crate) fn number(&self) -> PassNo
+    /// Which of the forest's passes it is.
+    pub fn number(&self) -> PassNo
         ensures { result.0 ≡ self.now.number }
     {
         self.number

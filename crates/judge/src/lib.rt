@@ -11,6 +11,3 @@ mod records;
 mod words;
 
 pub use judge::first_unlawful;
-
-#[cfg(test)]
-mod tests;

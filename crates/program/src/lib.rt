@@ -9,10 +9,3 @@ mod play;
 pub use fault::Fault;
 pub use orders::run;
 pub use play::play_over;
-
-#[cfg(test)]
-mod read_tests;
-#[cfg(test)]
-mod stories;
-#[cfg(test)]
-mod tests;

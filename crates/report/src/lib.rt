@@ -21,6 +21,3 @@ pub use fault::ReportFault;
 pub use read::read_record;
 pub use texts::WriteFault;
 pub use write::write_record;
-
-#[cfg(test)]
-mod tests;

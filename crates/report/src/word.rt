@@ -1,5 +1,6 @@
 //! Words of the table as text.
 ghost use Rattle.std.specs.Prelude.{◌≡◌, IfOk, IfSome, string_bytes};
+ghost use Rattle.arena.specs.declared.word.NodeWord.TheVariants.{Child};
 ghost use Rattle.report.specs.Words.{node_part, scx_part, word_text};
 
 use crate::name::{node_of, scx_of};
@@ -34,10 +35,18 @@ fn node_part(part: NodeWord) -> &'static str
         NodeWord::Head => "head",
         NodeWord::Key => "key",
         NodeWord::Value => "value",
-        NodeWord::Child(Side::Left) => "left",
-        NodeWord::Child(Side::Right) => "right",
+        NodeWord::Child(side) => child_part(side),
         NodeWord::Info => "info",
         NodeWord::Marked => "marked",
+    }
+}
+
+fn child_part(side: Side) -> &'static str
+    ensures { result.now ≡ node_part (Child side) }
+{
+    match side {
+        Side::Left => "left",
+        Side::Right => "right",
     }
 }
 
@@ -59,10 +68,18 @@ fn node_part_of(name: &str) -> Option<NodeWord>
         "head" => Some(NodeWord::Head),
         "key" => Some(NodeWord::Key),
         "value" => Some(NodeWord::Value),
-        "left" => Some(NodeWord::Child(Side::Left)),
-        "right" => Some(NodeWord::Child(Side::Right)),
         "info" => Some(NodeWord::Info),
         "marked" => Some(NodeWord::Marked),
+        side => Some(NodeWord::Child(side_of(side)?)),
+    }
+}
+
+fn side_of(name: &str) -> Option<Side>
+    ensures { IfSome result (λ side. name.now ≡ node_part (Child side)) }
+{
+    match name {
+        "left" => Some(Side::Left),
+        "right" => Some(Side::Right),
         _ => None,
     }
 }

@@ -19,6 +19,3 @@ pub use kind::{kind_name, kind_of};
 pub use schedule::{Order, Schedule, read_schedule};
 pub use script::{Script, read_script};
 pub use texts::{FailAt, Metered, TextFault};
-
-#[cfg(test)]
-mod tests;

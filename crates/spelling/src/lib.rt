@@ -9,6 +9,3 @@ mod reader;
 pub use laws::{laws_hold, map_laws_hold};
 pub use pair::Pair;
 pub use reader::spelled;
-
-#[cfg(test)]
-mod tests;

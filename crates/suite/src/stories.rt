@@ -1,0 +1,360 @@
+//! Races and refusals as stories: what each client is answered, and how the report ends.
+use crate::program_tests::{lines_of, played};
+use std::test::Fail;
+
+/// Stories, with a line `==` between two of them, and a line `--` between two parts of one: its
+/// name, what it is about, the script, the schedule, the report's reply rows, and its last row.
+const STORIES: &str = "\
+finalized_then_lost
+--
+One client finalizes a cell that the other has a snapshot of.
+--
+limits,2,10,10,1
+1,llx,2,,
+0,llx,1,,
+0,llx,2,,
+0,scx,1 2,2,1 left 70
+0,llx,2,,
+1,scx,2,,2 left 80
+end,6,,,
+--
+call,1,,
+finish,0,,
+finish,1,,
+end,3,,
+--
+reply,1,0,1,7,7,snap 0 0
+reply,0,0,8,14,14,snap 0 0
+reply,0,1,15,21,21,snap 0 0
+reply,0,2,22,43,42,done
+reply,0,3,44,48,48,finalized
+reply,1,1,49,61,,lost n2 s1
+--
+end,61,6,1,,,
+==
+stopped_before_its_freeze
+--
+A client is stopped before it freezes its cell, and another's update comes first.
+--
+limits,2,10,10,1
+0,set,1,left,70
+1,set,1,left,71
+end,2,,,
+--
+until,0,fill,7
+finish,1,,
+finish,0,,
+end,3,,
+--
+reply,1,0,15,37,36,done
+reply,0,0,1,43,,lost n1 s11
+--
+end,43,2,1,,,
+==
+validation_sees_a_change
+--
+A cell changes between its snapshot and the validation.
+--
+limits,2,10,10,1
+0,llx,1,,
+0,llx,2,,
+0,vlx,1 2,,
+1,set,2,left,5
+end,4,,,
+--
+step,0,,14
+finish,1,,
+finish,0,,
+end,3,,
+--
+reply,0,0,1,7,7,snap 0 0
+reply,0,1,8,14,14,snap 0 0
+reply,1,0,15,37,36,done
+reply,0,2,38,39,,changed n2 s11
+--
+end,39,4,1,,,
+==
+llx_overtaken_between_its_looks
+--
+The cell changes between the two loads of its info, in an `llx`.
+--
+limits,2,10,10,1
+0,llx,1,,
+1,set,1,left,70
+end,2,,,
+--
+step,0,,2
+finish,1,,
+finish,0,,
+end,3,,
+--
+reply,1,0,3,25,24,done
+reply,0,0,1,33,,fail n1 s11
+--
+end,33,2,1,,,
+==
+set_overtaken_between_its_looks
+--
+The cell changes between the two loads of its info, in a `set`.
+--
+limits,2,10,10,1
+0,set,1,left,60
+1,set,1,left,70
+end,2,,,
+--
+step,0,,2
+finish,1,,
+finish,0,,
+end,3,,
+--
+reply,1,0,3,25,24,done
+reply,0,0,1,33,,fail n1 s11
+--
+end,33,2,1,,,
+==
+llx_helps_and_fails
+--
+An `llx` helps the one that is in its way to its end, and fails.
+--
+limits,2,10,10,1
+0,llx,1,,
+1,set,1,left,70
+end,2,,,
+--
+until,1,freeze,1
+finish,0,,
+finish,1,,
+end,3,,
+--
+reply,0,0,19,34,,fail n1 s11
+reply,1,0,1,39,31,done
+--
+end,39,2,1,,,
+==
+llx_helps_a_finalizer
+--
+An `llx` helps one that finalizes the cell, and answers so.
+--
+limits,2,10,10,1
+0,llx,1,,
+1,llx,1,,
+1,scx,1,1,1 left 5
+end,3,,,
+--
+until,1,mark,1
+finish,0,,
+finish,1,,
+end,3,,
+--
+reply,1,0,1,7,7,snap 0 0
+reply,0,0,21,35,35,finalized
+reply,1,1,8,39,34,done
+--
+end,39,3,1,,,
+==
+which_snapshots_a_client_has
+--
+An unlinked call drops no snapshot, a client's own SCX drops those of its cells, and an `llx` or a
+`set` of a finalized cell gives none.
+--
+limits,1,10,10,1
+0,llx,1,,
+0,scx,1 2,,1 left 5
+0,vlx,1,,
+0,vlx,3 2 1,,
+0,scx,1,1,1 left 5
+0,vlx,1,,
+0,llx,1,,
+0,llx,2,,
+0,set,1,left,3
+0,scx,2 1,,2 right 4
+0,vlx,2,,
+end,11,,,
+--
+finish,0,,
+end,1,,
+--
+reply,0,0,1,7,7,snap 0 0
+reply,0,1,8,8,,unlinked n2
+reply,0,2,9,9,9,same
+reply,0,3,10,10,,unlinked n3
+reply,0,4,11,27,26,done
+reply,0,5,28,28,,unlinked n1
+reply,0,6,29,33,33,finalized
+reply,0,7,34,40,40,snap 0 0
+reply,0,8,41,45,45,finalized
+reply,0,9,46,46,,unlinked n1
+reply,0,10,47,47,47,same
+--
+end,47,11,1,,,
+==
+empty_share
+--
+Of an empty share the nodes are named first, but a cell without a snapshot before them; what is
+refused keeps its snapshot.
+--
+limits,1,0,0,1
+0,scx,1,,1 left 5
+0,llx,1,,
+0,scx,1,,1 left 5
+0,vlx,1,,
+0,set,2,left,5
+0,vlx,1 2,,
+end,6,,,
+--
+finish,0,,
+end,1,,
+--
+reply,0,0,1,1,,unlinked n1
+reply,0,1,2,8,8,snap 0 0
+reply,0,2,9,9,,full nodes 0
+reply,0,3,10,10,10,same
+reply,0,4,11,17,,full nodes 0
+reply,0,5,18,19,18,same
+--
+end,19,6,0,,,
+==
+share_without_scx_records
+--
+A share that has a node, and no SCX-record.
+--
+limits,1,1,0,1
+0,llx,1,,
+0,scx,1,,1 left 5
+0,set,1,left,5
+0,vlx,1,,
+end,4,,,
+--
+finish,0,,
+end,1,,
+--
+reply,0,0,1,7,7,snap 0 0
+reply,0,1,8,8,,full scx 0
+reply,0,2,9,15,,full scx 0
+reply,0,3,16,16,16,same
+--
+end,16,4,0,,,
+==
+nodes_used_up
+--
+Of the client's nodes there is one.
+--
+limits,1,1,2,1
+0,set,1,left,5
+0,set,1,left,6
+end,2,,,
+--
+finish,0,,
+end,1,,
+--
+reply,0,0,1,23,22,done
+reply,0,1,24,30,,full nodes 0
+--
+end,30,2,1,,,
+==
+scx_records_used_up
+--
+Of client 1's SCX-records there is one.
+--
+limits,2,2,1,1
+1,set,1,left,5
+1,llx,1,,
+1,scx,1,,1 left 6
+0,set,1,left,7
+end,4,,,
+--
+finish,1,,
+finish,0,,
+end,2,,
+--
+reply,1,0,1,23,22,done
+reply,1,1,24,30,30,snap 11 0
+reply,1,2,31,31,,full scx 0
+reply,0,0,32,54,53,done
+--
+end,54,4,2,,,
+==
+no_call_left
+--
+A client with no call left has idle turns.
+--
+limits,1,0,0,1
+0,llx,8,,
+end,1,,,
+--
+finish,0,,
+step,0,,2
+end,2,,
+--
+reply,0,0,1,7,7,snap 0 0
+--
+end,9,1,0,,,
+==
+no_turn_at_all
+--
+A schedule without a turn.
+--
+limits,1,0,0,1
+0,llx,8,,
+end,1,,,
+--
+end,0,,
+--
+--
+end,0,0,0,,,
+==
+stopped_in_mid_call
+--
+A schedule that ends in mid-call.
+--
+limits,1,0,0,1
+0,llx,8,,
+end,1,,,
+--
+step,0,,6
+end,1,,
+--
+--
+end,6,0,0,,,
+";
+
+/// A story by its parts.
+#[derive(Clone, Copy)]
+struct Story<'a> {
+    name: &'a str,
+    script: &'a str,
+    schedule: &'a str,
+    replies: &'a str,
+    end: &'a str,
+}
+
+fn story_of(text: &str) -> Option<Story<'_>> {
+    let mut parts = text.split("--\n");
+    let name = parts.next()?;
+    let _about = parts.next()?;
+    Some(Story {
+        name,
+        script: parts.next()?,
+        schedule: parts.next()?,
+        replies: parts.next()?,
+        end: parts.next()?,
+    })
+}
+
+#[test]
+fn stories(rt: HostRuntime) -> Result<(), Fail> {
+    for text in STORIES.split("==\n") {
+        let story = story_of(text).ok_or("a story lacks a part")?;
+        let ended = played(rt.alloc(), story.script, story.schedule);
+        let told = lines_of(rt.alloc(), ended.out.as_slice(), "reply,")?;
+        let name = story.name;
+        assert_eq!(rt; ended.err.as_slice(), b"".as_slice(), "{name}");
+        assert_eq!(rt; told.as_slice(), story.replies.as_bytes(), "{name}");
+        assert!(rt;
+            ended.out.as_slice().ends_with(story.end.as_bytes()),
+            "{name}"
+        );
+        assert_eq!(rt; ended.status, 0, "{name}");
+    }
+    Ok(())
+}
