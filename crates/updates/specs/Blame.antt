@@ -9,8 +9,8 @@ use Rattle.arena.proofs.Lemmas.{ends_trans}
 use Rattle.prims.specs.Laws.InTheWay.{HasBeen}
 use Rattle.updates.specs.Laws.HandScx.{from}
 
--- the SCX-record s is another pass's, and covered the node n while in progress, after some row since
--- the call's begin
+-- the SCX-record s is another pass's, and covered the node n while in progress, after some row
+-- since the call's begin
 pub record IsContended (c : Call) (h : History) (n s : ℕ) : Type 0 where
   pub others : IsOthersScx c.layout c.pass s
   pub in_the_way : WasInTheWay h c.start n s

@@ -285,7 +285,8 @@ module _ {E : Type 0} (e : EditMeaning E) where
     -- it makes the edit, if it makes any, and no other of the pass has won since the try began
     pub tracks : Tracks c.layout c.pass h (job_of scx) (e.edit m.edit)
     pub only : HasEnteredOnly c.layout c.pass scx.scx.0 h c.start
-    -- as it began the leaf was found, at which there is something to make, the snapshots could be used, and it covers that leaf
+    -- as it began the leaf was found, at which there is something to make, the snapshots could be
+    -- used, and it covers that leaf
     pub found : HasFoundLeaf c begin (edit_key (e.edit m.edit)) f
     pub need : e.needs m.edit f ≢ Nothing
     pub usable : AreUsable c begin (edit_key (e.edit m.edit)) f scx.update.snaps

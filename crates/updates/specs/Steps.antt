@@ -86,8 +86,8 @@ abbrev pub scx_tries : {E : Type 0} → UpdateRun E → UpdateAt → ℕ
 scx_tries m (Scx f scx) = m.tries
 scx_tries m _ = m.tries + 1
 
--- At most three nodes are taken for each of the tries that might take some and no longer may, and at
--- most one SCX-record.
+-- At most three nodes are taken for each of the tries that might take some and no longer may, and
+-- at most one SCX-record.
 abbrev pub Spends : Remaining → Remaining → ℕ → ℕ → ℕ → ℕ → Type 0
 Spends old now nodes nodes_then scx scx_then = (old.nodes + 3 * nodes_then ≤ now.nodes + 3 * nodes) × (old.scx + scx_then ≤ now.scx + scx)
 

@@ -1,5 +1,5 @@
--- What the pass of a call has entered since a moment: nothing while it is quiet, and nothing but its
--- SCX-record in hand.
+-- What the pass of a call has entered since a moment: nothing while it is quiet, and nothing but
+-- its SCX-record in hand.
 use Rattle.std.proofs.Common.{◌≡◌, ◌≢◌, ℕ, suc, ◌<◌, ◌⊎◌, inl, inr, refl, sym, ◌∙◌, ap, subst, arith}
 use Rattle.arena.specs.declared.layout.Layout.{Layout}
 use Rattle.arena.specs.declared.step.Row.{Row}
