@@ -10,7 +10,7 @@ use Rattle.record.specs.declared.record.Answer.TheVariants.{Done, Lost, Unlinked
 use Rattle.script.specs.declared.command.Update.{Update}
 use Rattle.record.specs.Answers.{AreUnchanged, IsInTheWay, HasRoom, is_done, IsPlacedCell}
 use Rattle.record.specs.Rules.{Rules}
-use Rattle.record.specs.Shares.{IsShort}
+use Rattle.record.specs.Shares.{HasTooFew}
 use Rattle.record.specs.Snapshots.{AreLinked, IsFirstUnlinked}
 use Rattle.record.specs.Updates.{IsEntryOver}
 
@@ -41,7 +41,7 @@ abbrev pub ScxIsRight : Update → Layout → ℕ → History → History → (�
 -- the first of its cells of which the client keeps no snapshot
 ScxIsRight update lay c now start linked (Unlinked node) = IsFirstUnlinked linked (update_cells update) node.0
 -- all snapshots are there, and the share has none left of this
-ScxIsRight update lay c now start linked (Full what left) = AreLinked linked (update_cells update) × IsShort lay c now 1 what left
+ScxIsRight update lay c now start linked (Full what left) = AreLinked linked (update_cells update) × HasTooFew lay c now 1 what left
 -- another client's SCX-record has come to this cell since its snapshot
 ScxIsRight update lay c now start linked (Lost node scx) = AreLinked linked (update_cells update) × HasRoom lay c start × IsInTheWay lay c now start Freeze (update_cells update) node.0 scx.0 (λ moment. linked node.0 ≡ Some moment)
 ScxIsRight update lay c now start linked Done = HasRoom lay c start
