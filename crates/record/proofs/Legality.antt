@@ -190,7 +190,7 @@ entry_step lay lines n row e = go (is_update row.kind && not (eqb row.before row
     go true x = entry_at_step lay (history lay.mode lines) (suc (entries lines)) n row.word e x
     go false x = let y : None ≡ Some e = x in absurd (cc)
 
-log_step : (lay : Layout) (tries : ℕ) (calls : List Call) (lines : List Line) (e : Entry) → AreLines lay tries calls lines → IsLog lay calls lines e → e.step ≡ turns lines
+pub log_step : (lay : Layout) (tries : ℕ) (calls : List Call) (lines : List Line) (e : Entry) → AreLines lay tries calls lines → IsLog lay calls lines e → e.step ≡ turns lines
 unfolding AreLines
 log_step lay tries calls (Step (Made n row) ∷ lines) e a x = entry_step lay lines n row e x.0 ∙ a.1.1.in_turn
 log_step lay tries calls (Step (Idle n c) ∷ lines) e a x = absurd x

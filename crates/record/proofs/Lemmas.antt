@@ -1,2 +1,3 @@
 -- The lemmas of this crate that the layers above may cite.
 pub use Rattle.record.proofs.Legality.{AreMapCalls, lawful_is_legal}
+pub use Rattle.record.proofs.MomentTurns.{IsAtTurn, at_turn, had_after_turn}

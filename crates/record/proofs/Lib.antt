@@ -1,3 +1,4 @@
 mod Ordered
 mod Legality
+mod MomentTurns
 pub mod Lemmas
