@@ -109,7 +109,7 @@ entries_low lay tries calls (ReplyLine r ∷ lines) a c j i = go (eqb r.client.0
     go false u rest = rest u
 
 -- a call none of whose updates has won has no entry
-entries_none : (lay : Layout) (tries : ℕ) (calls : List Call) (lines : List Line) → AreLines lay tries calls lines → (c : ℕ) → won lay lines c ≡ None → entries_of_call c (answered lines c) (written_log lines) ≡ 0
+pub entries_none : (lay : Layout) (tries : ℕ) (calls : List Call) (lines : List Line) → AreLines lay tries calls lines → (c : ℕ) → won lay lines c ≡ None → entries_of_call c (answered lines c) (written_log lines) ≡ 0
 unfolding AreLines
 entries_none lay tries calls [] a c w = refl
 entries_none lay tries calls (Step (Made n row) ∷ lines) a c w = go (is_entry_of (entry_of lay lines n row) c) w (entries_none lay tries calls lines a.0 c)
@@ -183,7 +183,7 @@ unfolding step_or
 entry_at_step lay h p n (Node m (Child side)) e x = sym (ap step_or x)
 entry_at_step lay h p n _ e x = let y : None ≡ Some e = x in absurd (cc)
 
-entry_step : (lay : Layout) (lines : List Line) (n : ℕ) (row : StepRow) (e : Entry) → entry_of lay lines n row ≡ Some e → e.step ≡ n
+pub entry_step : (lay : Layout) (lines : List Line) (n : ℕ) (row : StepRow) (e : Entry) → entry_of lay lines n row ≡ Some e → e.step ≡ n
 entry_step lay lines n row e = go (is_update row.kind && not (eqb row.before row.after))
   where
     go : (b : Bool) → cond b (entry_at lay (history lay.mode lines) (suc (entries lines)) n row.word) None ≡ Some e → e.step ≡ n

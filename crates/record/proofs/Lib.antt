@@ -1,4 +1,5 @@
 mod Ordered
 mod Legality
 mod MomentTurns
+mod WonEntries
 pub mod Lemmas
