@@ -1,6 +1,8 @@
--- The leaf that a walk has found, and its parent, are nodes that an LLX may look at.
+-- Nodes that an LLX may look at: those that have stood in the tree, as the leaf that a walk has found
+-- and its parent.
 use Rattle.std.proofs.Common.{◌≡◌, ℕ, ◌<◌, inl, inr, sym, subst, arith}
 use native.Mathlib.Decide.{ℕ_discrete}
+use Rattle.arena.specs.declared.layout.Layout.{Layout}
 use Rattle.arena.specs.declared.word.Side.{Side}
 use Rattle.arena.specs.Fills.{IsInField, IsNamed}
 use Rattle.arena.specs.History.{History}
@@ -9,12 +11,20 @@ use Rattle.arena.specs.Machines.{Call}
 use Rattle.arena.specs.Words.{child}
 use Rattle.arena.proofs.Lemmas.{held_at, held_since}
 use Rattle.prims.specs.Llx.Known.{IsOpened}
+use Rattle.spelling.specs.Paths.{WasInTree}
 use Rattle.spelling.specs.Runs.{IsTreeRun}
-use Rattle.spelling.proofs.Lemmas.{walk_inside, walk_named}
+use Rattle.spelling.proofs.Lemmas.{run_since, stood_in_field, tree_inside, walk_inside, walk_named}
 use Rattle.template.specs.FoundLeaf.{HasFoundLeaf}
 use Rattle.template.specs.Trails.{HasTurned, WasPassed}
 use Rattle.template.specs.declared.walk.Found.{Found}
 use Rattle.template.proofs.Lemmas.{found_below}
+
+-- an LLX may look at a node that has stood in the tree
+pub stood_opened : (lay : Layout) (h : History) (n : ℕ) → IsTreeRun lay h → WasInTree h n → IsOpened lay h n
+stood_opened lay h n run x = record {
+  in_field = stood_in_field lay h n run x;
+  inside = tree_inside lay x.moment x.tree (run_since lay h x.moment run x.within).1.lawful x.is_tree n x.has;
+}
 
 module _ (c : Call) (h : History) (k : ℕ) (run : IsTreeRun c.layout h) where
   passed_opened : (n : ℕ) → WasPassed c h k n → IsInField c.layout h n → IsOpened c.layout h n
