@@ -1,10 +1,10 @@
 //! Delete.
 ghost use Rattle.std.specs.Prelude.{◌≡◌};
 
-use arena::{Head, NodeNo, NodeWord, Side};
+use arena::{Head, NodeNo, NodeWord, Share, Side};
 use prims::Snap;
 use template::Found;
-use updates::{Loaded, Look, Piece};
+use updates::{Edit, Loaded, Look, Need, Nodes, Nth, Piece, UpdateAt, UpdateRun};
 
 /// Takes a key away.
 #[derive(Clone, Copy, Debug, PartialEq, Eq)]
@@ -12,8 +12,24 @@ pub struct Delete {
     pub key: u64,
 }
 
+/// A delete, step by step.
+pub type DeleteRun = UpdateRun<Delete>;
 
 impl Delete {
+    /// A delete of that key with so many tries, in the caller's call of this number; it takes fresh
+    /// nodes and SCX-records out of the share, at most one node and one SCX-record in a try. Where
+    /// `nodes` are taken when it ends, it makes at most `tries * (3 * (2 + nodes) + 301)` steps.
+    pub fn run(self, share: Share, tries: u32, call: u64) -> DeleteRun
+        ensures start { result.at ≡ UpdateAt.Start }
+        ensures edit { result.edit ≡ self }
+        ensures share { result.share ≡ share }
+        ensures call { result.call ≡ call }
+        ensures tries { result.tries ≡ tries - 1 }
+        ensures steps { (nodes : ℕ) → 0 < tries → update_left delete_means result nodes ≡ tries * (3 * (2 + nodes) + 301) }
+    {
+        UpdateRun::new(self, share, tries, call)
+    }
+
     ghost use Rattle.std.specs.Prelude.{◌≡◌};
     ghost use Rattle.std.specs.Prelude.{ℕ, ◌+◌, ◌*◌, ◌-◌, ◌<◌};
     ghost use Rattle.prims.specs.Snap.{snap_at};
@@ -96,3 +112,61 @@ impl Delete {
     }
 }
 
+impl Edit for Delete {
+    ghost use Rattle.std.specs.Prelude.{◌≡◌};
+    ghost use Rattle.tree.specs.Delete.Means.{delete_means};
+    ghost use Rattle.tree.specs.Delete.Sound.{delete_laws};
+
+    ghost means = { delete_means };
+
+    fn key(&self) -> u64 {
+        self.key
+    }
+
+    fn need(&self, found: &Found) -> Need {
+        match found.value {
+            Some(_) => Need::One,
+            None => Need::Nothing,
+        }
+    }
+
+    fn side(&self, found: &Found) -> Side {
+        found.trail.grand_side
+    }
+
+    fn look(&self, found: &Found, snaps: &[Snap]) -> Look {
+        let trail = found.trail;
+        match snaps {
+            [] => Look::At(trail.grand),
+            [grand] => Delete::past(grand, trail.grand_side, trail.parent, trail.parent),
+            [_, parent] => Delete::past(parent, trail.side, trail.node, parent.left),
+            [_, parent, _] => Look::At(parent.right),
+            _ => Look::Enough,
+        }
+    }
+
+    fn copied(&self, found: &Found, snaps: &[Snap]) -> NodeNo {
+        Delete::sibling(found, snaps).node
+    }
+
+    fn load(&self, found: &Found, snaps: &[Snap], loaded: &Loaded, nth: Nth) -> Option<NodeWord> {
+        match nth {
+            Nth::First => Delete::wanted(loaded),
+            _ => None,
+        }
+    }
+
+    fn piece(
+        &self,
+        found: &Found,
+        snaps: &[Snap],
+        nodes: &Nodes,
+        loaded: &Loaded,
+        nth: Nth,
+    ) -> Piece {
+        let head = Head::of(loaded.head.unwrap_or(0));
+        Delete::copy(&Delete::sibling(found, snaps), head, loaded)
+    }
+
+    ghost laws = { delete_laws };
+}

@@ -7,7 +7,6 @@ use Rattle.arena.specs.declared.word.NodeWord.TheVariants.{Head, Key, Value}
 use Rattle.arena.specs.Heads.{head_of}
 use Rattle.prims.specs.declared.snap.Snap.{Snap}
 use Rattle.template.specs.declared.walk.Found.{Found}
-use Rattle.tree.specs.declared.delete.Delete.{Delete}
 use Rattle.updates.specs.declared.edit.Loaded.{Loaded}
 use Rattle.updates.specs.declared.edit.Look.TheVariants.{At, Enough}
 use Rattle.updates.specs.declared.edit.Need.TheVariants.{Nothing, One, Three}

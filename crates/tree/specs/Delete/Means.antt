@@ -18,7 +18,7 @@ use Rattle.updates.specs.declared.edit.Look.TheVariants.{At, Differs, Enough}
 use Rattle.updates.specs.declared.edit.Need.{Need}
 use Rattle.updates.specs.declared.edit.Need.TheVariants.{Nothing, One}
 use Rattle.updates.specs.declared.edit.Nth.{Nth}
-use Rattle.updates.specs.declared.edit.Nth.TheVariants.{First, Second, Third}
+use Rattle.updates.specs.declared.edit.Nth.TheVariants.{First}
 use Rattle.updates.specs.declared.edit.Piece.{Piece}
 use Rattle.updates.specs.declared.edit.Piece.TheVariants.{Leaf, Fork}
 use Rattle.updates.specs.Edits.{EditMeaning}

@@ -1,5 +1,5 @@
 -- What a delete looks at, loads and fills, and that it makes the edit.
-use Rattle.std.proofs.Common.{◌≡◌, ◌≢◌, ℕ, zero, suc, ◌+◌, ◌*◌, ◌/◌, ◌%◌, ◌^◌, ◌<◌, ◌≤◌, ◌⊎◌, inl, inr, ⊎_elim, Bool, true, false, eqb, eqb-true, eq-eqb, ne_eqb, cond, List, [], ◌∷◌, length, Option, Some, None, refl, sym, ◌∙◌, ap, subst, arith}
+use Rattle.std.proofs.Common.{◌≡◌, ◌≢◌, ℕ, zero, suc, ◌+◌, ◌*◌, ◌/◌, ◌%◌, ◌^◌, ◌<◌, ◌≤◌, ◌⊎◌, inr, ⊎_elim, Bool, true, false, eqb, eqb-true, eq-eqb, ne_eqb, cond, List, [], ◌∷◌, length, Option, Some, None, refl, sym, ◌∙◌, ap, subst, arith}
 use Rattle.std.specs.Prelude.{unwrap_or}
 use Rattle.std.proofs.lemmas.Nat.{mul-le}
 use native.Mathlib.Decide.{ℕ_discrete}
@@ -31,7 +31,7 @@ use Rattle.spelling.specs.OrderedMap.{Delete as TakeEdit}
 use Rattle.spelling.specs.Paths.{WasInTree}
 use Rattle.spelling.specs.Runs.{IsTreeRun}
 use Rattle.spelling.specs.TreeShape.{delete_plan, edit_leaf, leaf_place, sibling_place}
-use Rattle.spelling.specs.TreeWords.{class, is_leaf, level, toward, IsBlankAboveKeys}
+use Rattle.spelling.specs.TreeWords.{class, level, toward, IsBlankAboveKeys}
 use Rattle.spelling.proofs.Lemmas.{run_since, settled_toward, stood_blank, stood_depth, stood_settled, was_passed}
 use Rattle.template.specs.FoundLeaf.{HasFoundLeaf}
 use Rattle.template.specs.FreshNodes.{IsDeleteAt, HasFreshCopy}
@@ -54,7 +54,7 @@ use Rattle.updates.specs.declared.edit.Nth.{Nth}
 use Rattle.updates.specs.declared.edit.Nth.TheVariants.{First, Second, Third}
 use Rattle.updates.specs.declared.edit.Piece.TheVariants.{Leaf, Fork}
 use Rattle.updates.specs.Blame.{IsContended, WasNotFinal}
-use Rattle.updates.specs.Known.{ComesBefore, IsNeeded, IsLoaded, HasSnapped, AreSeen, HasLooked, HasFilledAll, HoldsPiece, IsUpdateFor}
+use Rattle.updates.specs.Known.{ComesBefore, IsNeeded, IsLoaded, HasSnapped, AreSeen, HasLooked, HasFilledAll, IsUpdateFor}
 use Rattle.updates.specs.Laws.Contended.{passed_not_final, shown_not_final, turned_contended}
 use Rattle.updates.specs.Laws.Hand.{IsPieceWord, HoldsWords}
 use Rattle.updates.specs.Laws.Opened.{stood_opened}
@@ -258,3 +258,251 @@ delete_look = record {
   differs = λ e c h f snaps n s run d x at quiet. looks_differ e c h f run d snaps n s x at quiet;
   copied = λ e c h f snaps run d x enough. delete_copied e c h f snaps run d x enough;
 }
+
+-- the levels rise from the fork above to the parent, and from there to its children, which are apart
+module _ (ed : Delete) (c : Call) (h : History) (f : Found) (snaps : List Snap) (run : IsTreeRun c.layout h) (needed : delete_need f.value ≢ Nothing) (four : HasFour f snaps) (x : HasLooked delete_means c h ed f snaps) where
+  abbrev at_place : ℕ → ℕ
+  at_place i = (snap_at snaps i).node.0
+
+  abbrev deep : ℕ → ℕ
+  deep i = level (value h) (at_place i)
+
+  grand_used : HasSnapped c h ed.key f (snap_at snaps 0)
+  grand_used = usable_at ed c h f snaps 0 (omega arith) four x
+
+  parent_used : HasSnapped c h ed.key f (snap_at snaps 1)
+  parent_used = usable_at ed c h f snaps 1 (omega arith) four x
+
+  at_grand : HasTurned c grand_used.moment ed.key (at_place 0) f.trail.grand_side f.trail.parent.0
+  at_grand = grand_snap ed c h f run needed (snap_at snaps 0) grand_used four.grand
+
+  at_parent : HasTurned c parent_used.moment ed.key (at_place 1) f.trail.side f.trail.node.0
+  at_parent = parent_snap ed c h f run needed (snap_at snaps 1) parent_used four.parent
+
+  to_parent : deep 0 < deep 1
+  to_parent = subst (λ n. deep 0 < level (value h) n) (four.held ∙ sym four.parent) (shown_rises c h ed.key f (snap_at snaps 0) f.trail.grand_side f.trail.parent.0 run grand_used at_grand f.trail.grand_side)
+
+  to_left : deep 1 < deep 2
+  to_left = subst (λ n. deep 1 < level (value h) n) (sym four.left) (shown_rises c h ed.key f (snap_at snaps 1) f.trail.side f.trail.node.0 run parent_used at_parent Left)
+
+  to_right : deep 1 < deep 3
+  to_right = subst (λ n. deep 1 < level (value h) n) (sym four.right) (shown_rises c h ed.key f (snap_at snaps 1) f.trail.side f.trail.node.0 run parent_used at_parent Right)
+
+  deeper : (i j : ℕ) → deep i < deep j → at_place i ≢ at_place j
+  deeper i j less e = let same : deep i ≡ deep j = ap (level (value h)) e in absurd (omega (arith, less, same))
+
+  differ : (i j : ℕ) → i < j → j < 4 → at_place i ≢ at_place j
+  differ i zero less few = absurd (omega (arith, less))
+  differ zero (suc zero) less few = deeper 0 1 to_parent
+  differ (suc i) (suc zero) less few = absurd (omega (arith, less))
+  differ zero (suc (suc zero)) less few = deeper 0 2 (omega (arith, to_parent, to_left))
+  differ (suc zero) (suc (suc zero)) less few = deeper 1 2 to_left
+  differ (suc (suc i)) (suc (suc zero)) less few = absurd (omega (arith, less))
+  differ zero (suc (suc (suc zero))) less few = deeper 0 3 (omega (arith, to_parent, to_right))
+  differ (suc zero) (suc (suc (suc zero))) less few = deeper 1 3 to_right
+  differ (suc (suc zero)) (suc (suc (suc zero))) less few = λ e. shown_apart c h ed.key f (snap_at snaps 1) f.trail.side f.trail.node.0 run parent_used at_parent (sym four.left ∙ e ∙ four.right)
+  differ (suc (suc (suc i))) (suc (suc (suc zero))) less few = absurd (omega (arith, less))
+  differ i (suc (suc (suc (suc j)))) less few = absurd (omega (arith, few))
+
+  either : (i j : ℕ) → i ≢ j → (i < j) ⊎ (j < i)
+  either i j d = grind arith
+
+  four_apart : AreDistinct snaps
+  four_apart i j p q d e = ⊎_elim (λ less. differ i j less (rw four.four at q) e) (λ less. differ j i less (rw four.four at p) (sym e)) (either i j d)
+
+-- What it fills
+
+some_need : (need : Need) (nth : Nth) → IsNeeded need nth → need ≢ Nothing
+some_need need nth x e = subst (λ q. IsNeeded q nth) e x
+
+-- the fields of a copied fork are those of the snapshot
+copy_fields : (leaf : Bool) (level class k v : ℕ) (s : Snap) (side : Side) → IsPieceWord (cond leaf (Leaf level class k v) (Fork level class k s.left s.right)) (Child side) → (child_of s side).0 ≡ word_of (cond leaf (Leaf level class k v) (Fork level class k s.left s.right)) (Child side)
+copy_fields true level class k v s side p = absurd p
+copy_fields false level class k v s Left p = refl
+copy_fields false level class k v s Right p = refl
+
+delete_fields : (ed : Delete) (c : Call) (h : History) (f : Found) (snaps : List Snap) (ld : Loaded) (side : Side) → IsTreeRun c.layout h → HasLooked delete_means c h ed f snaps → delete_looks f snaps ≡ Enough → IsPieceWord (delete_piece f snaps ld) (Child side) → IsInField c.layout h (word_of (delete_piece f snaps ld) (Child side))
+delete_fields ed c h f snaps ld side run x enough p =
+    let s : Snap = sibling_of f snaps in
+    let l : IsLinked c.layout h s = linked_at ed c h f snaps (sibling_place f.trail.side) run (few_places f.trail.side) (has_four ed f snaps enough x.seen) x in
+    let w : ℕ = unwrap_or ld.head 0 in
+    subst (IsInField c.layout h) (copy_fields (head_of w).leaf (head_of w).level (head_of w).class (unwrap_or ld.key 0) (unwrap_or ld.value 0) s side p)
+    (inr (s.node.0, side, in_field_named s.node.0 l.in_field, l.had side))
+
+-- the fields of its copy hold what the sibling's have held
+pub delete_fills : FillsWell delete_means
+delete_fills = record { fields = λ e c h f snaps ns ld nth side run x enough n p. inr (delete_fields e c h f snaps ld side run x enough p) }
+
+-- What it makes
+
+-- once nothing more is to be loaded, the head is loaded
+loaded_head : (o k v : Option ℕ) (w : ℕ) → copy_wants o k v ≡ None → IsLoaded o w → o ≡ Some w
+loaded_head None k v w e is = absurd (let d : Some Head ≡ None = e in cc)
+loaded_head (Some z) k v w e is = ap Some is
+
+-- so is the key of a low node
+low_key : (low leaf : Bool) (k v : Option ℕ) (w : ℕ) → cond low (then_key leaf k v) None ≡ None → low ≡ true → IsLoaded k w → unwrap_or k 0 ≡ w
+low_key true leaf (Some z) v w e t is = is
+low_key true leaf None v w e t is = absurd (let d : Some Key ≡ None = e in cc)
+low_key false leaf k v w e t is = absurd (let d : false ≡ true = t in cc)
+
+-- and the value of a low leaf
+low_value : (low leaf : Bool) (k v : Option ℕ) (w : ℕ) → cond low (then_key leaf k v) None ≡ None → low ≡ true → leaf ≡ true → IsLoaded v w → unwrap_or v 0 ≡ w
+low_value true true (Some z) (Some y) w e t l is = is
+low_value true true (Some z) None w e t l is = absurd (let d : Some Value ≡ None = e in cc)
+low_value true true None v w e t l is = absurd (let d : Some Key ≡ None = e in cc)
+low_value true false k v w e t l is = absurd (let d : false ≡ true = l in cc)
+low_value false leaf k v w e t l is = absurd (let d : false ≡ true = t in cc)
+
+-- what is not loaded of a blank node is taken to be 0
+blank_word : (o : Option ℕ) (w : ℕ) → IsLoaded o w → w ≡ 0 → unwrap_or o 0 ≡ 0
+blank_word (Some z) w is e = is ∙ e
+blank_word None w is e = refl
+
+-- the word of a head that was read is that word
+bit_back : (b : ℕ) → b < 2 → bit (eqb b 1) ≡ b
+bit_back b few = go (ℕ_discrete b 1)
+  where
+    go : Dec (b ≡ 1) → bit (eqb b 1) ≡ b
+    go (yes e) = rw e refl
+    go (no d) = rw (ne_eqb b 1 d) (omega (arith, few, d))
+
+head_back : (w : ℕ) → w / 8 < 2 ^ 61 → piece_head (w / 8) (eqb (w / 4 % 2) 1) (w % 4) ≡ w
+head_back w fits = head_is (w / 8) (w % 4) (eqb (w / 4 % 2) 1) fits (omega arith) ∙ whole
+  where
+    whole : head_word (head_of w) ≡ w
+    whole = let b : bit (eqb (w / 4 % 2) 1) ≡ w / 4 % 2 = bit_back (w / 4 % 2) (omega arith) in omega (arith, b)
+
+-- what a copy holds that is filled
+record HoldsCopy (h : History) (n : ℕ) (leaf : Bool) (level class k v : ℕ) (s : Snap) : Type 0 where
+  head : value h (node n Head) ≡ piece_head level leaf class
+  key : value h (node n Key) ≡ k
+  leaf_value : leaf ≡ true → value h (node n Value) ≡ v
+  fields : leaf ≡ false → (side : Side) → value h (child n side) ≡ (child_of s side).0
+
+copy_holds : (leaf : Bool) (h : History) (n level class k v : ℕ) (s : Snap) → HoldsWords h n (cond leaf (Leaf level class k v) (Fork level class k s.left s.right)) (IsPieceWord (cond leaf (Leaf level class k v) (Fork level class k s.left s.right))) → HoldsCopy h n leaf level class k v s
+copy_holds true h n level class k v s w = record { head = w Head tt; key = w Key tt; leaf_value = λ e. w Value tt; fields = λ e side. absurd (let d : true ≡ false = e in cc) }
+copy_holds false h n level class k v s w = record { head = w Head tt; key = w Key tt; leaf_value = λ e. absurd (let d : false ≡ true = e in cc); fields = λ e side. go side }
+  where
+    go : (side : Side) → value h (child n side) ≡ (child_of s side).0
+    go Left = w (Child Left) tt
+    go Right = w (Child Right) tt
+
+-- the plan word of four is a delete's
+plan_four : (n : ℕ) (side : Side) → n ≡ 4 → plan_over n side ≡ delete_plan side
+plan_four n Left e = rw e refl
+plan_four n Right e = rw e refl
+
+module _ (ed : Delete) (c : Call) (h : History) (f : Found) (snaps : List Snap) (ns : Nodes) (ld : Loaded) (run : IsTreeRun c.layout h) (needed : delete_need f.value ≢ Nothing) (x : HasFilledAll delete_means c h ed f snaps ns ld) where
+  abbrev four : HasFour f snaps
+  four = has_four ed f snaps x.enough x.looked.seen
+
+  abbrev sibling : Snap
+  sibling = sibling_of f snaps
+
+  present : (old : ℕ) × (f.value ≡ Some old)
+  present = key_there f.value needed
+
+  one : IsNeeded (delete_need f.value) First
+  one = subst (λ o. IsNeeded (delete_need o) First) (sym present.1) tt
+
+  in_tree : WasInTree h sibling.node.0
+  in_tree = sibling_stood ed c h f snaps run needed four x.looked
+
+  -- the copy
+  abbrev w : ℕ
+  w = value h (node sibling.node.0 Head)
+
+  fits : w / 8 < 2 ^ 61
+  fits =
+      let deep : level (value h) sibling.node.0 < 2 + length (taken_nodes h) = stood_depth c.layout h sibling.node.0 run in_tree in
+      let few : length (taken_nodes h) ≤ c.layout.passes * c.layout.nodes = taken_few c.layout h run.1.lawful in
+      let most : c.layout.passes * c.layout.nodes ≤ 32 * 32768 = mul-le c.layout.passes c.layout.nodes 32 32768 c.layout.passes_fit c.layout.nodes_fit in
+      omega (arith, deep, few, most)
+
+  is_head : ld.head ≡ Some w
+  is_head = loaded_head ld.head ld.key ld.value w (x.done First one) x.loaded.head
+
+  all_loaded : copy_wants (Some w) ld.key ld.value ≡ None
+  all_loaded = subst (λ (o : Option ℕ). copy_wants o ld.key ld.value ≡ None) is_head (x.done First one)
+
+  held_words : HoldsCopy h ns.first.0 (head_of w).leaf (head_of w).level (head_of w).class (unwrap_or ld.key 0) (unwrap_or ld.value 0) sibling
+  held_words = copy_holds (head_of w).leaf h ns.first.0 (head_of w).level (head_of w).class (unwrap_or ld.key 0) (unwrap_or ld.value 0) sibling
+      (subst (λ (o : Option ℕ). HoldsWords h ns.first.0 (sibling_copy sibling (head_of (unwrap_or o 0)) ld) (IsPieceWord (sibling_copy sibling (head_of (unwrap_or o 0)) ld))) is_head (x.holds First one).words)
+
+  blank : IsBlankAboveKeys (value h) sibling.node.0
+  blank = stood_blank c.layout h sibling.node.0 run in_tree
+
+  copy : HasFreshCopy c.layout c.pass h sibling ns.first.0
+  copy = record {
+    fresh = (x.holds First one).fresh;
+    head = held_words.head ∙ head_back w fits;
+    key_low = λ low. held_words.key ∙ low_key (eqb (head_of w).class 0) (head_of w).leaf ld.key ld.value (value h (node sibling.node.0 Key)) all_loaded (eq-eqb (head_of w).class 0 low) x.loaded.key;
+    key_high = λ high. held_words.key ∙ blank_word ld.key (value h (node sibling.node.0 Key)) x.loaded.key (blank.key high);
+    value_low = λ leaf low. held_words.leaf_value leaf ∙ low_value (eqb (head_of w).class 0) (head_of w).leaf ld.key ld.value (value h (node sibling.node.0 Value)) all_loaded (eq-eqb (head_of w).class 0 low) leaf x.loaded.value;
+    value_high = λ leaf high. held_words.leaf_value leaf ∙ blank_word ld.value (value h (node sibling.node.0 Value)) x.loaded.value (blank.value high leaf);
+    fields = λ fork side. held_words.fields fork side;
+  }
+
+  -- the SCX-record
+  module _ (j : Job) (d : Descriptor) (is : IsUpdateFor delete_means ed f snaps ns j.update) (says : Says d j) where
+    is_member : (i : ℕ) → i < 4 → d.member i ≡ (snap_at snaps i).node.0
+    is_member i p = says.member i (rw (is.covers, four.four) p) ∙ ap (λ (xs : List Snap). (snap_at xs i).node.0) is.covers
+
+    is_seen : (i : ℕ) → i < 4 → d.seen i ≡ (snap_at snaps i).scx.0
+    is_seen i p = says.seen i (rw (is.covers, four.four) p) ∙ ap (λ (xs : List Snap). (snap_at xs i).scx.0) is.covers
+
+    -- is one of a delete, which puts the copy into the place of the parent
+    is_delete : IsDeleteAt f d (snap_at snaps 1) ns.first.0
+    is_delete = record {
+      plan = says.plan ∙ is.plan ∙ plan_four (length snaps) f.trail.grand_side four.four;
+      grand = is_member 0 (omega arith) ∙ four.grand;
+      parent = is_member 1 (omega arith) ∙ four.parent;
+      left = is_member 2 (omega arith) ∙ four.left;
+      right = is_member 3 (omega arith) ∙ four.right;
+      old = says.old ∙ ap (λ (m : NodeNo). m.0) is.old ∙ four.held;
+      new = says.new ∙ is.fresh ∙ ap (λ o. top_of (delete_need o) ns) present.1;
+    }
+
+    snap_is : (i : ℕ) → i < 4 → IsSnapOf c.layout h d i (snap_at snaps i)
+    snap_is i p = record { linked = linked_at ed c h f snaps i run p four x.looked; node = sym (is_member i p); scx = sym (is_seen i p) }
+
+    delete_is_promised : IsPromised c.layout c.pass h j.scx.0 d (TakeEdit ed.key)
+    delete_is_promised = join_promised c h j.scx.0 ed.key present.0 f d (snap_at snaps 1) sibling ns.first.0 run x.looked.small x.looked.found present.1 is_delete (snap_is 1 (omega arith)) four.child (snap_is (sibling_place f.trail.side) (few_places f.trail.side)) in_tree copy
+
+-- it covers the leaf at its third or fourth place, on the side of the key
+covered_leaf : (ed : Delete) (c : Call) (h : History) (f : Found) (snaps : List Snap) (k : History) (s : ℕ) → IsTreeRun c.layout h → HasFour f snaps → HasFoundLeaf c h ed.key f → IsTreeRun c.layout k → Extends k h → CoversSnaps k s snaps → edit_leaf k s (TakeEdit ed.key) ≡ f.trail.node.0
+covered_leaf ed c h f snaps k s run four found later since covers = ap (λ side. member k s (leaf_place side)) side_is ∙ covers (leaf_place f.trail.side) (rw four.four (few f.trail.side)) ∙ place f.trail.side four.child
+  where
+    parent : HasTurned c h ed.key f.trail.parent.0 f.trail.side f.trail.node.0
+    parent = found.trail.parent (found_below ed.key c h f run found)
+
+    stood : WasInTree h f.trail.parent.0
+    stood = was_passed h parent.passed.first ed.key f.trail.parent.0 parent.passed.passed
+
+    is_parent : member k s 1 ≡ f.trail.parent.0
+    is_parent = covers 1 (rw four.four (omega arith)) ∙ four.parent
+
+    side_is : toward (value k) (member k s 1) ed.key ≡ f.trail.side
+    side_is = ap (λ n. toward (value k) n ed.key) is_parent ∙ settled_toward (value h) (value k) f.trail.parent.0 ed.key (stood_settled c.layout k h f.trail.parent.0 later since stood) ∙ parent.side_is
+
+    few : (side : Side) → leaf_place side < 4
+    few Left = omega arith
+    few Right = omega arith
+
+    place : (side : Side) → (child_of (snap_at snaps 1) side).0 ≡ f.trail.node.0 → (snap_at snaps (leaf_place side)).node.0 ≡ f.trail.node.0
+    place Left e = four.left ∙ e
+    place Right e = four.right ∙ e
+
+-- its four nodes are apart, and what it has filled is promised to delete the key
+pub delete_makes : MakesWell delete_means
+delete_makes = record {
+  some = λ e f d. let z : At f.trail.grand ≡ Enough = d in cc;
+  distinct = λ e c h f snaps run n x enough. four_apart e c h f snaps run n (has_four e f snaps enough x.seen) x;
+  leaf = λ e c h f snaps s run n x enough k later since covers. covered_leaf e c h f snaps k s run (has_four e f snaps enough x.seen) x.found later since covers;
+  promised = λ e c h f snaps ns ld j d run n x is says. delete_is_promised e c h f snaps ns ld run n x j d is says;
+}
+
+-- a delete is an edit that an update can make
+pub delete_laws : EditLaws delete_means
+delete_laws = record { bounds = delete_bounds; looks = delete_look; loads = delete_loads; fills = delete_fills; makes = delete_makes }

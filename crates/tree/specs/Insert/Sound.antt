@@ -36,7 +36,6 @@ use Rattle.tree.specs.Insert.Laws.{insert_bounds}
 use Rattle.tree.specs.Looks.{same_node, goes_on, not_enough, is_other}
 use Rattle.tree.specs.Insert.Means.{insert_means, insert_need, insert_looks, insert_wants, insert_pieces, value_if_none, leaf_level, is_below, lower}
 use Rattle.updates.specs.declared.edit.Loaded.{Loaded}
-use Rattle.updates.specs.declared.edit.Look.{Look}
 use Rattle.updates.specs.declared.edit.Look.TheVariants.{At, Differs, Enough}
 use Rattle.updates.specs.declared.edit.Nodes.{Nodes}
 use Rattle.updates.specs.declared.edit.Nth.{Nth}
