@@ -24,7 +24,6 @@ use Rattle.prims.specs.Scx.Known.{job_of, ScxWaits}
 use Rattle.prims.specs.declared.llx.LlxRun.{LlxRun}
 use Rattle.prims.specs.declared.scx.ScxRun.{ScxRun}
 use Rattle.prims.proofs.Lemmas.{llx_fills_not, over_more, share_by_others, share_by_scx, untaken_at}
-use Rattle.spelling.specs.OrderedMap.{edit_key}
 use Rattle.spelling.specs.TreeShape.{TreeAllows}
 use Rattle.template.specs.Walk.Laws.{walk_keeps, walk_lawful, walk_made, walk_told}
 use Rattle.template.proofs.Lemmas.{tracks_by_others, tracks_by_scx, walk_fills_not}
