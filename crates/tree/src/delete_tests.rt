@@ -13,8 +13,8 @@ use std::alloc::Global;
 use std::process::Abort;
 use std::test::Fail;
 
-/// The steps of a delete of 5, the only key, up to the last fill of the copy: a walk, four LLXs, and
-/// the load of the head of the sibling, which is above all keys.
+/// The steps of a delete of 5, the only key, up to the last fill of the copy: a walk, four LLXs,
+/// and the load of the head of the sibling, which is above all keys.
 fn copies_the_sibling() -> [Made; 39] {
     [
         (LoadSettled, node(0, Head), 2, 2),
@@ -117,8 +117,9 @@ fn the_only_key_is_deleted(rt: HostRuntime) -> Result<(), Fail> {
     Ok(())
 }
 
-/// The map of the keys 5, 9 and 11, whose inserts take 155 steps. Below node 8, which has the key 9,
-/// are the leaf 7 of 5 and node 11, which has the key 11; below that the leaves 10 of 9 and 9 of 11.
+/// The map of the keys 5, 9 and 11, whose inserts take 155 steps. Below node 8, which has the key
+/// 9, are the leaf 7 of 5 and node 11, which has the key 11; below that are the leaves 10 of 9 and
+/// 9 of 11.
 fn three_keys(rt: &impl Abort, alloc: Global, call: Call) -> Result<Story, Fail> {
     let calls = [
         (0, Insert(5, 50)),
@@ -292,8 +293,8 @@ fn an_insert_meets_a_finalized_parent(rt: HostRuntime) -> Result<(), Fail> {
     Ok(())
 }
 
-/// Over the keys 5 and 9 the first client stops after so many steps of its call, the other makes its
-/// own, and the first goes on: so many updates are made in all.
+/// Over the keys 5 and 9 the first client stops after so many steps of its call, the other makes
+/// its own, and the first goes on: so many updates are made in all.
 fn stops_after(
     rt: &impl Abort,
     alloc: Global,

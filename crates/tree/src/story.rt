@@ -25,7 +25,8 @@ pub(crate) type Reply = (u32, u64, u64, u64, Option<u64>, Updated);
 /// A step: its kind, its word, and what that held before and after it.
 pub(crate) type Made = (Kind, Word, u64, u64);
 
-/// An update of the map: for which call of which client, its step, its key, and that one's old value.
+/// An update of the map: for which call of which client, its step, its key, and the old value of
+/// that.
 #[derive(Clone, Copy)]
 struct Entry {
     client: u32,

@@ -259,7 +259,8 @@ delete_look = record {
   copied = λ e c h f snaps run d x enough. delete_copied e c h f snaps run d x enough;
 }
 
--- the levels rise from the fork above to the parent, and from there to its children, which are apart
+-- the levels rise from the fork above to the parent, and from there to its children, which are
+-- apart
 module _ (ed : Delete) (c : Call) (h : History) (f : Found) (snaps : List Snap) (run : IsTreeRun c.layout h) (needed : delete_need f.value ≢ Nothing) (four : HasFour f snaps) (x : HasLooked delete_means c h ed f snaps) where
   abbrev at_place : ℕ → ℕ
   at_place i = (snap_at snaps i).node.0

@@ -1,5 +1,5 @@
--- Nodes that an LLX may look at: those that have stood in the tree, as the leaf that a walk has found
--- and its parent.
+-- Nodes that an LLX may look at: those that have stood in the tree, as the leaf that a walk has
+-- found and its parent.
 use Rattle.std.proofs.Common.{◌≡◌, ℕ, ◌<◌, inl, inr, sym, subst, arith}
 use native.Mathlib.Decide.{ℕ_discrete}
 use Rattle.arena.specs.declared.layout.Layout.{Layout}
