@@ -20,7 +20,7 @@ use Rattle.histories.proofs.Lemmas.{finished_taken, lawful_since}
 use Rattle.prims.specs.Laws.Idle.{IsQuietSince, quiet_at_start}
 use Rattle.prims.specs.Llx.Known.{IsOpened, LlxIsReady, LlxKnows, LlxWaits, LlxAnswers}
 use Rattle.prims.specs.Moments.{AreFinished}
-use Rattle.prims.specs.Scx.Known.{Job, job_of, IsLost, ScxWaits, ScxAnswers}
+use Rattle.prims.specs.Scx.Known.{Job, job_of, IsDone, IsLost, ScxWaits, ScxAnswers}
 use Rattle.prims.specs.Shares.{IsShare}
 use Rattle.prims.specs.declared.llx.Llx.{Llx}
 use Rattle.prims.specs.declared.llx.LlxRun.{LlxRun}
@@ -193,6 +193,22 @@ module _ {E : Type 0} (e : EditMeaning E) where
   -- its SCX is done
   pub scx_has_made : (m : UpdateRun E) (scx after : ScxRun) (f : Found) (c : Call) (b begin h : History) (turn : Turn ScxAnswer) → IsTry c b → Scxs e m (from c b) h f scx begin → after.scx ≡ scx.scx → after.update ≡ scx.update → after.call ≡ scx.call → turn ≡ Done ScxDone → MatchTurn turn (ScxWaits TreeAllows after (from c begin) h) (ScxAnswers after (from c begin) h) → HasMade (e.edit m.edit) c h m.call f.value
   scx_has_made m scx after f c b begin h turn try x is_scx is_update is_call done w = has_made e m scx after f c b begin h try x is_scx is_update is_call (rw done at w)
+
+  -- and the pass is at rest again
+  pub scx_done : (m : UpdateRun E) (scx after : ScxRun) (f : Found) (c : Call) (b begin h : History) (turn : Turn ScxAnswer) → Scxs e m (from c b) h f scx begin → after.scx ≡ scx.scx → turn ≡ Done ScxDone → MatchTurn turn (ScxWaits TreeAllows after (from c begin) h) (ScxAnswers after (from c begin) h) → RestsWith c h m.share
+  scx_done m scx after f c b begin h turn x is_scx done w = rests_again c h m.share scx x.run.1.lawful x.share x.next_scx x.over real finished
+    where
+      ended : IsDone (from c begin) h after
+      ended = rw done at w
+
+      committed : value h (state scx.scx.0) ≡ 1
+      committed = subst (λ (t : ScxNo). value h (state t.0) ≡ 1) is_scx ended.committed
+
+      finished : value h (state scx.scx.0) ≢ 0
+      finished z = let a = committed in omega (arith, a, z)
+
+      real : scx.scx.0 ≢ 0
+      real z = let a = x.own_scx.from in omega (arith, z)
 
   -- its SCX is lost: it may try again
   pub scx_lost : (m : UpdateRun E) (scx after : ScxRun) (f : Found) (c : Call) (b begin h : History) (turn : Turn ScxAnswer) (n : NodeNo) (s : ScxNo) → IsTry c b → Scxs e m (from c b) h f scx begin → after.scx ≡ scx.scx → after.update ≡ scx.update → turn ≡ Done (Lost n s) → MatchTurn turn (ScxWaits TreeAllows after (from c begin) h) (ScxAnswers after (from c begin) h) → Begins e m c h × IsTry c h × IsContended c h n.0 s.0

@@ -388,11 +388,15 @@ module _ {E : Type 0} (e : EditMeaning E) where
     pub short : IsShort (e.needs m.edit found) m.share full.what full.left
     pub none : HasEnteredNone c.layout c.pass h c.start
 
-  -- what its answer says
+  -- what its answer says of its edit
+  abbrev pub UpdateTells : UpdateRun E → Call → History → Updated → Type 0
+  UpdateTells m c h (Done old) = HasNothingToMake m.edit c h old ⊎ HasMade (e.edit m.edit) c h m.call old
+  UpdateTells m c h (FullAnswer full) = IsFullFor m c h full
+  UpdateTells m c h (Contended node scx) = IsContended c h node.0 scx.0 × (m.tries ≡ 0) × HasEnteredNone c.layout c.pass h c.start
+
+  -- what its answer says: that, and the pass is at rest again
   abbrev pub UpdateAnswers : UpdateRun E → Call → History → Updated → Type 0
-  UpdateAnswers m c h (Done old) = HasNothingToMake m.edit c h old ⊎ HasMade (e.edit m.edit) c h m.call old
-  UpdateAnswers m c h (FullAnswer full) = IsFullFor m c h full
-  UpdateAnswers m c h (Contended node scx) = IsContended c h node.0 scx.0 × (m.tries ≡ 0) × HasEnteredNone c.layout c.pass h c.start
+  UpdateAnswers m c h answer = RestsWith c h m.share × UpdateTells m c h answer
 
   -- it waits for the step that it asks for, or its answer is right
   abbrev pub UpdateTurn : Call → History → UpdateRun E → Turn Updated → Type 0

@@ -10,4 +10,4 @@ pub returns-clause-turn : goal.returns-clause-turn
 returns-clause-turn g c d h run b try way = c.begin_walk.ensures.turn d h run (begins_again g.E.Edit.means c.args.self.now _ d h refl refl b) try
 
 pub returns-then-self-eq0-clause-turn : goal.returns-then-self-eq0-clause-turn
-returns-then-self-eq0-clause-turn g c d h run b try way = (way, c.if-self-eq0.true, try.none)
+returns-then-self-eq0-clause-turn g c d h run b try way = (record { share = b.rests.share; over = b.rests.over }, (way, c.if-self-eq0.true, try.none))

@@ -2,7 +2,7 @@ use Rattle.std.proofs.Common.{inr, ap, ◌∙◌}
 use Rattle.arena.specs.declared.machine.Turn.TheVariants.{Done}
 use Rattle.updates.specs.Laws.HandScx.{from}
 use Rattle.updates.proofs.Nearer.{below, to_tries, less_scx}
-use Rattle.updates.proofs.Turns.{scx_asks, scx_has_made, scx_lost}
+use Rattle.updates.proofs.Turns.{scx_asks, scx_done, scx_has_made, scx_lost}
 use Rattle.updates.proofs.update.UpdateRun.scx_on.Goals as goal
 
 pub returns-in-Ask-clause-nearer : goal.returns-in-Ask-clause-nearer
@@ -20,4 +20,9 @@ returns-in-Done-Lost-clause-turn g c d b begin h run try x ready =
     c.lost.ensures.turn d h run t.0 t.1 (rw (← c.in-Done-Lost.node-is, ← c.in-Done-Lost.scx-is) at t.2)
 
 pub returns-in-Done-Done-clause-turn : goal.returns-in-Done-Done-clause-turn
-returns-in-Done-Done-clause-turn g c d b begin h run try x ready = inr (scx_has_made g.E.Edit.means c.args.self.now c.args.scx c.next.new.self c.args.found d b begin h c.next.result try x c.next.ensures.same.0 c.next.ensures.same.1 c.next.ensures.same.2 (c.in-Done-Done.is ∙ ap (λ a. Done a) c.in-Done-Done.field-0-is) (c.next.ensures.turn (from (from d b) begin) h run ready))
+returns-in-Done-Done-clause-turn g c d b begin h run try x ready =
+    let asked = c.in-Done-Done.is ∙ ap (λ a. Done a) c.in-Done-Done.field-0-is in
+    let now = c.next.ensures.turn (from (from d b) begin) h run ready in (
+      scx_done g.E.Edit.means c.args.self.now c.args.scx c.next.new.self c.args.found d b begin h c.next.result x c.next.ensures.same.0 asked now,
+      inr (scx_has_made g.E.Edit.means c.args.self.now c.args.scx c.next.new.self c.args.found d b begin h c.next.result try x c.next.ensures.same.0 c.next.ensures.same.1 c.next.ensures.same.2 asked now),
+    )
