@@ -2,6 +2,10 @@ mod Shapes
 mod RunLaws
 mod Readings
 mod Over
+mod Left
+mod Placing
+mod InsertEnds
+mod Inserting
 mod Puts
 mod Views
 mod Clients
