@@ -1,6 +1,8 @@
 mod Shapes
 mod RunLaws
 mod Readings
+mod SpelledLines
+mod InsertPlaces
 mod Over
 mod Left
 mod Placing

@@ -310,7 +310,7 @@ replied lay tries calls words clients lines old new answer said reply command nu
       fits = rw e.answers o.fits;
       right = subst (λ (k : ℕ). IsRight lay k (history lay.mode lines) (start lay.mode lines k) (linked calls lay.mode lines k) command reply.answer) (sym client) (rw e.answers o.right);
       took = subst (λ (k : ℕ). HasTakenFew lay tries k (history lay.mode lines) (start lay.mode lines k) command) (sym client) o.took;
-      placed = placed lay tries calls words lines reply old.pass.0 command x.so_far client (rw e.answers o.right) (rw e.answers o.tells) (rw e.answers o.entry) o.is (rw (e.begin, e.end, n) begins) moment;
+      placed = placed lay tries calls words lines reply old.pass.0 command x.so_far o.owed client (e.call ∙ o.number) (rw e.answers o.right) (rw e.answers o.tells) (rw e.answers o.entry) o.is (rw (e.begin, e.end, n) begins) moment;
       within = within;
       entry = subst (λ (k : ℕ). HasItsEntry (enters command reply.answer) (won lay lines k)) (sym client) (rw e.answers o.entry);
     }

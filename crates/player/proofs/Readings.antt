@@ -1,7 +1,7 @@
 -- Where the calls of a run took place: those of cells where their answer says; a get in its last
 -- turn, since a run of gets alone leaves the words as they were at the start, which spell the empty
 -- map. All replies of such a run are those of one map.
-use Rattle.std.proofs.Common.{◌≡◌, ℕ, zero, suc, ◌<◌, ◌≤◌, ◌⊎◌, inl, inr, ⊎_elim, Bool, true, false, cond, eqb, List, [], ◌∷◌, Option, Some, slice_get, All, refl, sym, ◌∙◌, ap, subst, arith}
+use Rattle.std.proofs.Common.{◌≡◌, ℕ, zero, suc, ◌<◌, ◌≤◌, ◌⊎◌, inl, inr, ⊎_elim, Bool, true, false, cond, eqb, List, [], ◌∷◌, Option, Some, None, slice_get, All, refl, sym, ◌∙◌, ap, subst, arith}
 use Rattle.std.proofs.lemmas.List.Elements.{All-tail}
 use Rattle.arena.specs.declared.limits.Mode.{Mode}
 use Rattle.arena.specs.declared.limits.Mode.TheVariants.{Records, Tree}
@@ -39,7 +39,7 @@ use Rattle.record.specs.declared.record.Row.TheVariants.{Step as Made, Idle}
 use Rattle.record.specs.declared.record.Reply.{Reply}
 use Rattle.record.specs.declared.record.Answer.{Answer}
 use Rattle.record.specs.declared.record.Answer.TheVariants.{Snapshot, Finalized, Fail, Done, Lost, Same, Changed, Unlinked, Full, Value, Contended}
-use Rattle.record.specs.Turns.{history, start, won}
+use Rattle.record.specs.Turns.{history, answered, start, won, entry_owed}
 use Rattle.record.specs.Commands.{commands, next_command}
 use Rattle.record.specs.Linked.{linked}
 use Rattle.record.specs.Answers.{moment_of, HasItsEntry}
@@ -53,27 +53,8 @@ use Rattle.record.specs.SpelledMap.{AreSpelled, IsSpelledAfter, HasStoodInField}
 use Rattle.record.proofs.Lemmas.{AreMapCalls, lawful_is_legal}
 use Rattle.player.specs.Allowed.{PlayedAllows}
 use Rattle.player.specs.BetweenTurns.{IsLawfulSoFar}
-use Rattle.player.proofs.Shapes.{as_tree}
-
--- each call has a command of this mode
-abbrev AreOf : Mode → List Call → Type 0
-AreOf mode calls = All (λ (call : Call). mode_of call.command ≡ mode) calls
-
--- so each command of a client is
-command_mode : (mode : Mode) (calls : List Call) (c n : ℕ) (command : Command) → AreOf mode calls → slice_get (commands calls c) n ≡ Some command → mode_of command ≡ mode
-command_mode mode [] c n command all e = cc
-command_mode mode (call ∷ calls) c n command all e = go (λ i d. command_mode mode calls c i command rest d) (eqb call.client.0 c) n e
-  where
-    first : mode_of call.command ≡ mode
-    first = all 0 call (omega arith)
-
-    rest : AreOf mode calls
-    rest = All-tail (λ (k : Call). mode_of k.command ≡ mode) call calls all
-
-    go : ((i : ℕ) → slice_get (commands calls c) i ≡ Some command → mode_of command ≡ mode) → (b : Bool) (n : ℕ) → slice_get (cond b (call.command ∷ commands calls c) (commands calls c)) n ≡ Some command → mode_of command ≡ mode
-    go more false n d = more n d
-    go more true zero d = let same : call.command ≡ command = cc in rw (sym same) first
-    go more true (suc n) d = more n d
+use Rattle.player.proofs.SpelledLines.{AreOf, command_mode, are_spelled}
+use Rattle.player.proofs.InsertPlaces.{insert_placed}
 
 -- a call of cells tells no value, and its moment is that of its answer
 cell_moment : (answer : Answer) (first last : ℕ) (won : Option ℕ) → ((a : Option ℕ) → answer ≡ Value a → ⊥) → moment_by false answer first last won ≡ moment_of answer first last won
@@ -90,14 +71,14 @@ cell_moment (Full what left) first last won d = refl
 cell_moment (Contended node scx) first last won d = refl
 
 -- where the call of a reply took place
-pub placed : (lay : Layout) (tries : ℕ) (calls : List Call) (words : Contents) (lines : List Line) (reply : Reply) (c : ℕ) (command : Command) → IsLawfulSoFar lay tries calls words lines → reply.client.0 ≡ c → IsRight lay c (history lay.mode lines) (start lay.mode lines c) (linked calls lay.mode lines c) command reply.answer → Tells (client_view lay tries calls lines c) c command reply.answer → HasItsEntry (enters command reply.answer) (won lay lines c) → next_command calls lines c ≡ Some command → reply.begin ≤ reply.end
+pub placed : (lay : Layout) (tries : ℕ) (calls : List Call) (words : Contents) (lines : List Line) (reply : Reply) (c : ℕ) (command : Command) → IsLawfulSoFar lay tries calls words lines → entry_owed lay lines ≡ None → reply.client.0 ≡ c → reply.call ≡ answered lines c → IsRight lay c (history lay.mode lines) (start lay.mode lines c) (linked calls lay.mode lines c) command reply.answer → Tells (client_view lay tries calls lines c) c command reply.answer → HasItsEntry (enters command reply.answer) (won lay lines c) → next_command calls lines c ≡ Some command → reply.begin ≤ reply.end
     → reply.moment ≡ moment_by (is_insert command) reply.answer reply.begin reply.end (won lay lines c) → IsPlaced lay calls lines reply command
-placed lay tries calls words lines reply c (LlxOf cell) x own right tells entry is within moment = moment ∙ cell_moment reply.answer reply.begin reply.end (won lay lines c) (λ a e. rw e at right) ∙ ap (λ (k : ℕ). moment_of reply.answer reply.begin reply.end (won lay lines k)) (sym own)
-placed lay tries calls words lines reply c (ScxOf update) x own right tells entry is within moment = moment ∙ cell_moment reply.answer reply.begin reply.end (won lay lines c) (λ a e. rw e at right) ∙ ap (λ (k : ℕ). moment_of reply.answer reply.begin reply.end (won lay lines k)) (sym own)
-placed lay tries calls words lines reply c (VlxOf cells) x own right tells entry is within moment = moment ∙ cell_moment reply.answer reply.begin reply.end (won lay lines c) (λ a e. rw e at right) ∙ ap (λ (k : ℕ). moment_of reply.answer reply.begin reply.end (won lay lines k)) (sym own)
-placed lay tries calls words lines reply c (SetOf field value) x own right tells entry is within moment = moment ∙ cell_moment reply.answer reply.begin reply.end (won lay lines c) (λ a e. rw e at right) ∙ ap (λ (k : ℕ). moment_of reply.answer reply.begin reply.end (won lay lines k)) (sym own)
-placed lay tries calls words lines reply c (InsertOf key value) x own right tells entry is within moment = ?
-placed lay tries calls words lines reply c (GetOf key) x own right tells entry is within moment = ?
+placed lay tries calls words lines reply c (LlxOf cell) x owed own called right tells entry is within moment = moment ∙ cell_moment reply.answer reply.begin reply.end (won lay lines c) (λ a e. rw e at right) ∙ ap (λ (k : ℕ). moment_of reply.answer reply.begin reply.end (won lay lines k)) (sym own)
+placed lay tries calls words lines reply c (ScxOf update) x owed own called right tells entry is within moment = moment ∙ cell_moment reply.answer reply.begin reply.end (won lay lines c) (λ a e. rw e at right) ∙ ap (λ (k : ℕ). moment_of reply.answer reply.begin reply.end (won lay lines k)) (sym own)
+placed lay tries calls words lines reply c (VlxOf cells) x owed own called right tells entry is within moment = moment ∙ cell_moment reply.answer reply.begin reply.end (won lay lines c) (λ a e. rw e at right) ∙ ap (λ (k : ℕ). moment_of reply.answer reply.begin reply.end (won lay lines k)) (sym own)
+placed lay tries calls words lines reply c (SetOf field value) x owed own called right tells entry is within moment = moment ∙ cell_moment reply.answer reply.begin reply.end (won lay lines c) (λ a e. rw e at right) ∙ ap (λ (k : ℕ). moment_of reply.answer reply.begin reply.end (won lay lines k)) (sym own)
+placed lay tries calls words lines reply c (InsertOf key value) x owed own called right tells entry is within moment = insert_placed lay tries calls (sym (command_mode lay.mode calls c _ (InsertOf key value) x.of_mode is)) x.of_mode lines reply c key value x.sound x.in_order owed own called right tells entry moment
+placed lay tries calls words lines reply c (GetOf key) x owed own called right tells entry is within moment = ?
 
 -- all calls of a tree are of the map
 map_calls : (mode : Mode) (calls : List Call) → mode ≡ Tree → AreOf mode calls → AreMapCalls calls
@@ -117,4 +98,4 @@ whole lay tries calls words lines x = go lay.mode refl
   where
     go : (m : Mode) → lay.mode ≡ m → IsWhole m lay calls lines
     go Records e = tt
-    go Tree e = (?, lawful_is_legal lay tries calls lines (map_calls lay.mode calls e x.of_mode) x.in_order)
+    go Tree e = (are_spelled lay tries calls e x.of_mode lines x.sound x.in_order, lawful_is_legal lay tries calls lines (map_calls lay.mode calls e x.of_mode) x.in_order)

@@ -86,13 +86,14 @@ module _ (lay : Layout) (lines : List Line) (number : ℕ) (row : Row) (l : Lawf
   h = history lay.mode lines
 
   -- a win has its entry
-  record HasEntryOf (s : ℕ) : Type 0 where
-    entry : Entry
-    is : entry_of lay lines number row ≡ Some entry
-    of_win : IsEntryOfWin lay h row entry s
+  pub record HasEntryOf (s : ℕ) : Type 0 where
+    pub entry : Entry
+    pub is : entry_of lay lines number row ≡ Some entry
+    pub step_is : entry.step ≡ number
+    pub of_win : IsEntryOfWin lay h row entry s
 
-  win_enters : (s : ℕ) → UpdateWins h row s → HasEntryOf s
-  win_enters s x = record { entry = made; is = is; of_win = record { wins = x; is_pass = rw same_owner o.is_pass; own = rw same_owner o.scx; scx_is = holds; call_is = ap (λ (u : ℕ). value h (scx u Call)) holds } }
+  pub win_enters : (s : ℕ) → UpdateWins h row s → HasEntryOf s
+  win_enters s x = record { entry = made; is = is; step_is = refl; of_win = record { wins = x; is_pass = rw same_owner o.is_pass; own = rw same_owner o.scx; scx_is = holds; call_is = ap (λ (u : ℕ). value h (scx u Call)) holds } }
     where
       f : Facts lay h
       f = facts_before lay h row l
