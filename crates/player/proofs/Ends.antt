@@ -454,8 +454,8 @@ ends_insert v c (Insert m) then a sound x =
     let answers = subst (λ (k : History). UpdateAnswers insert_means m (machine_call v c x.works.is_pass k) v.past a) x.works.begun x.answers in
     let of = insert_end v c m x.works.is_pass a x.works.run_of.0 x.works.mode sound x.works.won answers in
     ends_as v c x.works.command (answer_of (ended.Insert a)) x.works.is x.works.stands holds x.none
-        (insert_outcome v c m x.works.command then a x.works.run_of.1 of (taken_tries v.layout c.pass.0 v.tries v.past v.start x.works.opening m.share x.works.took x.answers.0.share x.spent))
-        x.works.late
+    (insert_outcome v c m x.works.command then a x.works.run_of.1 of (taken_tries v.layout c.pass.0 v.tries v.past v.start x.works.opening m.share x.works.took x.answers.0.share x.spent))
+    x.works.late
 ends_insert v c (Llx m) then a sound x = absurd x.answers
 ends_insert v c (Scx m) then a sound x = absurd x.answers
 ends_insert v c (Vlx m) then a sound x = absurd x.answers

@@ -75,8 +75,8 @@ module _ (allows : Layout → History → ℕ → Type 0) (m : Job) (c : Machine
   scx_says (AtSeen j) s t v w kind word = says_at (part_at (AtSeen j)) s t v w.asked word
   scx_says AtCall s t v w kind word = says_at (part_at AtCall) s t v w.asked word
 
--- what an insert's SCX-record in progress says: it is of the call, makes the insert, and no other of
--- the call has won
+-- what an insert's SCX-record in progress says: it is of the call, makes the insert, and no other
+-- of the call has won
 pub record IsInsertHand (m : UpdateRun Inserted) (call : MachineCall) (h : History) (t : ℕ) : Type 0 where
   pub called : value h (scx_word t CallWord) ≡ m.call
   pub makes : Makes call.layout h t (PutEdit m.edit.key m.edit.value)

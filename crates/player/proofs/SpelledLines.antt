@@ -1,5 +1,5 @@
--- In tree mode the words spell the map so far after every step: a row that wins makes the edit of the
--- call of its entry, and the others leave the map.
+-- In tree mode the words spell the map so far after every step: a row that wins makes the edit of
+-- the call of its entry, and the others leave the map.
 use Rattle.std.proofs.Common.{◌≡◌, ℕ, zero, suc, ◌<◌, ◌⊎◌, inl, inr, Bool, true, false, cond, eqb, List, [], ◌∷◌, Option, Some, None, slice_get, All, refl, sym, ◌∙◌, ap, subst, arith}
 use Rattle.std.proofs.lemmas.List.Elements.{All-tail}
 use Rattle.arena.specs.declared.limits.Mode.{Mode}

@@ -253,8 +253,8 @@ pub record HasTaken (v : ClientView) (c : ℕ) (hand : Hand) : Type 0 where
   pub nodes : (n : ℕ) → IsOwnNode v.layout c n → n ≢ hand.node → ¬ IsTakenNode v.start n → ¬ IsTakenNode v.past n
   pub scx_records : HasTakenOnly v.layout c hand.scx v.start v.past
 
--- the same of a machine that takes what it has in hand at its start; of an insert, that this was left
--- of the share as the call began
+-- a machine has taken what it has in hand alone; of an insert, this was left of the share as the
+-- call began
 abbrev pub TakesInHand : ClientView → Client → Remaining → Run → Type 0
 TakesInHand v c share (Insert m) = IsShare v.layout v.start c.pass.0 share share.next_node share.next_scx
 TakesInHand v c share run = HasTaken v c.pass.0 (in_hand (held c) run)
@@ -367,7 +367,7 @@ pub record Refuses (v : ClientView) (c : Client) (answer : Answer) : Type 0 wher
 abbrev pub linked_by : ClientView → Command → Answer → ℕ → Option History
 linked_by v command answer n = linked_then (Some command) answer v.past n (v.linked n)
 
--- an insert of the key is done by one row of the call, just before which the map had this at the key
+-- an insert of the key is done by one row of the call, just before which the map had this there
 pub record HasInserted (v : ClientView) (c key : ℕ) (old : Option ℕ) : Type 0 where
   pub row : Row
   pub before : History

@@ -260,7 +260,12 @@ fn clients(alloc: Global, script: &Script) -> Result<Vec<Client>, NoMemory>
 {
     let mut clients = Vec::new(alloc);
     for pass in 0..script.layout.passes {
-        clients.push(Client::new(&script.layout, script.limits.tries, PassNo(pass), &script.calls))?;
+        clients.push(Client::new(
+            &script.layout,
+            script.limits.tries,
+            PassNo(pass),
+            &script.calls,
+        ))?;
     }
     Ok(clients)
 }

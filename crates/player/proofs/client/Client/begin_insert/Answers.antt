@@ -1,4 +1,4 @@
-use Rattle.std.proofs.Common.{◌≡◌, ◌<◌, ◌^◌, ℕ, ap, sym, ◌∙◌, arith}
+use Rattle.std.proofs.Common.{◌<◌, ◌^◌, ap, sym, arith}
 use Rattle.tree.specs.declared.insert.Insert.{Insert}
 use Rattle.player.proofs.Begins.{insert_begins, insert_starts}
 use Rattle.player.proofs.client.Client.begin_insert.Goals as goal

@@ -17,22 +17,26 @@ returns-clause-turn g c d b h run try x quiet found =
 
 pub returns-then-eq-clause-turn : goal.returns-then-eq-clause-turn
 returns-then-eq-clause-turn g c d b h run try x quiet found =
-    let none : c.need-need.result ≡ Nothing = search rules in
-    (record { share = x.rests.share; over = x.rests.over }, inl record {
-      found = c.args.found;
-      has_found = found_wider d b try.since h _ c.args.found found;
-      needless = rw c.need-need.ensures at none;
-      told = refl;
-      none = nothing_entered g.E.Edit.means c.args.self.now d b h try x quiet;
-    })
+    let none : c.need-need.result ≡ Nothing = search rules in (
+      record { share = x.rests.share; over = x.rests.over },
+      inl record {
+        found = c.args.found;
+        has_found = found_wider d b try.since h _ c.args.found found;
+        needless = rw c.need-need.ensures at none;
+        told = refl;
+        none = nothing_entered g.E.Edit.means c.args.self.now d b h try x quiet;
+      },
+    )
 
 pub returns-in-Some-clause-turn : goal.returns-in-Some-clause-turn
 returns-in-Some-clause-turn g c d b h run try x quiet found =
-    let some : c.need-need.result ≢ Nothing = search rules in
-    (record { share = x.rests.share; over = x.rests.over }, record {
-      found = c.args.found;
-      has_found = found_wider d b try.since h _ c.args.found found;
-      needed = rw c.need-need.ensures at some;
-      short = rw c.need-need.ensures at (rw c.in-Some.is at c.lacks.ensures.short);
-      none = nothing_entered g.E.Edit.means c.args.self.now d b h try x quiet;
-    })
+    let some : c.need-need.result ≢ Nothing = search rules in (
+      record { share = x.rests.share; over = x.rests.over },
+      record {
+        found = c.args.found;
+        has_found = found_wider d b try.since h _ c.args.found found;
+        needed = rw c.need-need.ensures at some;
+        short = rw c.need-need.ensures at (rw c.in-Some.is at c.lacks.ensures.short);
+        none = nothing_entered g.E.Edit.means c.args.self.now d b h try x quiet;
+      },
+    )
