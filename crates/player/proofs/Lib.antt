@@ -1,6 +1,7 @@
 mod Shapes
 mod RunLaws
 mod Readings
+mod Rising
 mod SpelledLines
 mod InsertPlaces
 mod Over
