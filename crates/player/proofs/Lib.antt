@@ -2,6 +2,7 @@ mod Shapes
 mod RunLaws
 mod Readings
 mod Rising
+mod Filling
 mod SpelledLines
 mod InsertPlaces
 mod Over

@@ -1,5 +1,5 @@
 -- What each line leaves of what is true in the middle of a turn.
-use Rattle.std.proofs.Common.{◌≡◌, ◌≢◌, ℕ, zero, suc, ◌+◌, ◌<◌, ◌≤◌, Bool, true, false, cond, eqb, eqb-true, is_some, inl, inr, List, [], ◌∷◌, set, length, Option, Some, None, MatchOption, slice_get, refl, sym, ◌∙◌, ap, subst, ne_eqb, eq-eqb, arith}
+use Rattle.std.proofs.Common.{◌≡◌, ◌≢◌, ℕ, zero, suc, ◌+◌, ◌<◌, ◌≤◌, Bool, true, false, cond, eqb, eqb-true, is_some, inl, inr, ⊎_elim, List, [], ◌∷◌, set, length, Option, Some, None, MatchOption, slice_get, refl, sym, ◌∙◌, ap, subst, ne_eqb, eq-eqb, arith}
 use Rattle.std.proofs.lemmas.Option.{slice_get_within}
 use native.Mathlib.Decide.{ℕ_discrete}
 use Rattle.player.proofs.Readings.{placed}
@@ -28,7 +28,9 @@ use Rattle.arena.specs.Machines.{IsRun}
 use Rattle.arena.proofs.Lemmas.{word_same, word_apart, value_at, value_other}
 use Rattle.script.specs.declared.command.Command.{Command}
 use Rattle.player.proofs.Commands.{none_left, next_at, place_more, number_small}
+use Rattle.arena.specs.declared.limits.Mode.TheVariants.{Tree}
 use Rattle.player.specs.Allowed.{PlayedAllows}
+use Rattle.player.specs.Fields.{KnowsFields, KnewFields}
 use Rattle.script.specs.declared.command.Call.{Call}
 use Rattle.record.specs.declared.record.Line.{Line}
 use Rattle.record.specs.declared.record.Line.TheVariants.{Step, Log, Reply as ReplyLine}
@@ -136,17 +138,18 @@ turn_ends lay tries calls words clients lines c settled is x = record { so_far =
 -- a line that no client waits for is written down
 pub so_far_same : (lay : Layout) (tries : ℕ) (calls : List Call) (words : Contents) (lines : List Line) (line : Line) → history lay.mode (line ∷ lines) ≡ history lay.mode lines → IsNext lay tries calls lines line → IsLawfulSoFar lay tries calls words lines → IsLawfulSoFar lay tries calls words (line ∷ lines)
 unfolding AreLines
-so_far_same lay tries calls words lines line e next x = record { layout = x.layout; holds = λ w i. x.holds w i ∙ ap (λ (h : History). value h w) (sym e); sound = rw e x.sound; in_order = (x.in_order, next); of_mode = x.of_mode }
+so_far_same lay tries calls words lines line e next x = record { layout = x.layout; holds = λ w i. x.holds w i ∙ ap (λ (h : History). value h w) (sym e); sound = rw e x.sound; in_order = (x.in_order, next); fields = λ tree. subst (λ (h : History). KnewFields h) (sym e) (x.fields tree); of_mode = x.of_mode }
 
 -- a step of the client: the words change as the row says
-pub step_made : (lay : Layout) (tries : ℕ) (calls : List Call) (old new : Contents) (lines : List Line) (number : ℕ) (row : Row) → IsChanged old new row.word row.after → IsRun PlayedAllows lay (row ⊳ history lay.mode lines) → IsNext lay tries calls lines (Step (Made number row)) → IsLawfulSoFar lay tries calls old lines → IsLawfulSoFar lay tries calls new (Step (Made number row) ∷ lines)
+pub step_made : (lay : Layout) (tries : ℕ) (calls : List Call) (old new : Contents) (lines : List Line) (number : ℕ) (row : Row) → IsChanged old new row.word row.after → IsRun PlayedAllows lay (row ⊳ history lay.mode lines) → IsNext lay tries calls lines (Step (Made number row)) → (lay.mode ≡ Tree → KnowsFields (row ⊳ history lay.mode lines)) → IsLawfulSoFar lay tries calls old lines → IsLawfulSoFar lay tries calls new (Step (Made number row) ∷ lines)
 unfolding AreLines
-step_made lay tries calls old new lines number row changed run next x = record {
+step_made lay tries calls old new lines number row changed run next known x = record {
   layout = changed.layout ∙ x.layout;
   of_mode = x.of_mode;
   holds = λ w i. go w i (same_word row.word w) refl;
   sound = run;
   in_order = (x.in_order, next);
+  fields = λ tree past e. ⊎_elim (λ q. subst (λ (h : History). KnowsFields h) (sym q) (known tree)) (λ q. x.fields tree past q) e;
 }
   where
     go : (w : Word) → IsWord lay w → (b : Bool) → same_word row.word w ≡ b → word_at new w ≡ value (row ⊳ history lay.mode lines) w

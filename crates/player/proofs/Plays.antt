@@ -1,5 +1,5 @@
 -- What is true of a player before its first turn and after its last.
-use Rattle.std.proofs.Common.{◌≡◌, ℕ, ◌+◌, ◌<◌, List, [], ◌∷◌, length, map, reverse, take, get_or, Option, Some, slice_get, All, inl, inr, refl, ◌∙◌, ap}
+use Rattle.std.proofs.Common.{◌≡◌, ℕ, ◌+◌, ◌<◌, List, [], ◌∷◌, length, map, reverse, take, get_or, Option, Some, slice_get, All, inl, inr, refl, subst, sym, ◌∙◌, ap}
 use Rattle.std.proofs.lemmas.List.{map_more, reverse-append}
 use Rattle.arena.specs.declared.layout.Layout.{Layout}
 use Rattle.arena.specs.PlainWords.{Contents, IsOpening}
@@ -12,6 +12,10 @@ use Rattle.script.specs.Commands.{mode_of}
 use Rattle.player.proofs.Readings.{whole}
 use Rattle.player.specs.declared.client.Client.{Client}
 use Rattle.player.specs.declared.player.Player.{Player}
+use Rattle.arena.specs.declared.limits.Mode.{Mode}
+use Rattle.arena.specs.History.{History, Start}
+use Rattle.player.specs.Fields.{KnowsFields}
+use Rattle.player.proofs.Rising.{knows_start}
 use Rattle.player.specs.Lines.{newest}
 use Rattle.record.specs.Turns.{history, clients}
 use Rattle.player.specs.ClientView.{client_view, Rests}
@@ -27,6 +31,7 @@ opening_between lay tries calls words rests same opening all each = record {
     holds = λ w i. opening w (rw same i) ∙ rw same refl;
     sound = record { lawful = refl; shaped = tt };
     in_order = tt;
+    fields = λ tree past e. subst (λ (h : History). KnowsFields h) (sym e) (subst (λ (m : Mode). KnowsFields (Start m)) (sym tree) knows_start);
     of_mode = all;
   };
   settled = record { entry = refl; reply = λ y. y };

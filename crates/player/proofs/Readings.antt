@@ -98,4 +98,4 @@ whole lay tries calls words lines x = go lay.mode refl
   where
     go : (m : Mode) → lay.mode ≡ m → IsWhole m lay calls lines
     go Records e = tt
-    go Tree e = (are_spelled lay tries calls e x.of_mode lines x.sound x.in_order, lawful_is_legal lay tries calls lines (map_calls lay.mode calls e x.of_mode) x.in_order)
+    go Tree e = (are_spelled lay tries calls e x.of_mode lines x.sound x.in_order (x.fields e), lawful_is_legal lay tries calls lines (map_calls lay.mode calls e x.of_mode) x.in_order)

@@ -27,15 +27,8 @@ use Rattle.spelling.specs.Runs.{IsTreeRun, Makes}
 use Rattle.spelling.specs.TreeShape.{MayEdit, IsEdit}
 use Rattle.spelling.specs.TreeWords.{is_leaf, level, toward}
 use Rattle.spelling.proofs.Lemmas.{SameSettled, begun_named, levels_rise, plan_delete, plan_insert, run_since, settled_toward, walk_first, walk_named, walk_next, was_passed, win_edits}
+use Rattle.player.specs.Fields.{IsKnown, KnowsFields}
 use Rattle.record.specs.SpelledMap.{HasRisingLevels, HasStoodInField}
-
--- the node is there from the start, has stood in the tree, or is a leaf
-abbrev pub IsKnown : History → ℕ → Type 0
-IsKnown h n = (n < 3) ⊎ (WasInTree h n ⊎ (is_leaf (value h) n ≡ true))
-
--- all nodes that fields have named are
-abbrev pub KnowsFields : History → Type 0
-KnowsFields h = (m : ℕ) (from : Side) (n : ℕ) → HasHeld h (child m from) n → IsKnown h n
 
 -- a fill stores a known node into a field, and leaves the heads of those that fields have named
 pub record FillsWell (h : History) (r : Row) : Type 0 where

@@ -30,9 +30,11 @@ use Rattle.record.specs.Entries.{IsWinOf}
 use Rattle.record.specs.Linked.{linked}
 use Rattle.record.specs.LawfulRun.{AreLines}
 use Rattle.record.specs.MapRecord.{map_call, map_of, written_log, after_maybe}
-use Rattle.record.specs.SpelledMap.{AreSpelled, IsSpelledAfter, HasRisingLevels}
+use Rattle.record.specs.SpelledMap.{AreSpelled, IsSpelledAfter}
 use Rattle.record.specs.Turns.{history, start, answered, entry_of, entry_owed}
 use Rattle.player.specs.Allowed.{PlayedAllows}
+use Rattle.player.specs.Fields.{KnewFields}
+use Rattle.player.proofs.Rising.{rises}
 use Rattle.player.proofs.Shapes.{as_tree}
 use Rattle.player.proofs.Winners.{win_enters}
 
@@ -104,18 +106,14 @@ module _ (lay : Layout) (tries : ℕ) (calls : List Call) (mode : lay.mode ≡ T
   spelled (Log entry ∷ ReplyLine reply ∷ lines) run x owed = absurd x.1
   spelled (Log entry ∷ []) run x owed = absurd x.1
 
-  -- to be supplied: each fork that a field has ever named has a level below its children's
-  rising : (lines : List Line) → IsRun PlayedAllows lay (history lay.mode lines) → AreLines lay tries calls lines → HasRisingLevels (history lay.mode lines)
-  rising lines run x = ?
-
-  spelled_after : (lines : List Line) → IsRun PlayedAllows lay (history lay.mode lines) → AreLines lay tries calls lines → entry_owed lay lines ≡ None → IsSpelledAfter lay calls lines
-  spelled_after lines run x owed = record { spelled = spelled lines run x owed; rising = rising lines run x }
+  spelled_after : (lines : List Line) → IsRun PlayedAllows lay (history lay.mode lines) → AreLines lay tries calls lines → KnewFields (history lay.mode lines) → entry_owed lay lines ≡ None → IsSpelledAfter lay calls lines
+  spelled_after lines run x f owed = record { spelled = spelled lines run x owed; rising = rises lay (history lay.mode lines) (tree_run (history lay.mode lines) run) (f (history lay.mode lines) (ends_self (history lay.mode lines))) }
 
   -- after each step the words spell the map so far
-  pub are_spelled : (lines : List Line) → IsRun PlayedAllows lay (history lay.mode lines) → AreLines lay tries calls lines → AreSpelled lay calls lines
+  pub are_spelled : (lines : List Line) → IsRun PlayedAllows lay (history lay.mode lines) → AreLines lay tries calls lines → KnewFields (history lay.mode lines) → AreSpelled lay calls lines
   unfolding AreLines AreSpelled
-  are_spelled [] run x = spelled_after [] run x refl
-  are_spelled (Step (Made number row) ∷ lines) run x = (are_spelled lines (run_before PlayedAllows lay (history lay.mode lines) row run) x.0, λ owed. spelled_after (Step (Made number row) ∷ lines) run x owed)
-  are_spelled (Step (Idle number client) ∷ lines) run x = (are_spelled lines run x.0, λ owed. spelled_after (Step (Idle number client) ∷ lines) run x owed)
-  are_spelled (Log entry ∷ lines) run x = (are_spelled lines run x.0, λ owed. spelled_after (Log entry ∷ lines) run x owed)
-  are_spelled (ReplyLine reply ∷ lines) run x = (are_spelled lines run x.0, λ owed. spelled_after (ReplyLine reply ∷ lines) run x owed)
+  are_spelled [] run x f = spelled_after [] run x f refl
+  are_spelled (Step (Made number row) ∷ lines) run x f = (are_spelled lines (run_before PlayedAllows lay (history lay.mode lines) row run) x.0 (λ past e. f past (inr e)), λ owed. spelled_after (Step (Made number row) ∷ lines) run x f owed)
+  are_spelled (Step (Idle number client) ∷ lines) run x f = (are_spelled lines run x.0 f, λ owed. spelled_after (Step (Idle number client) ∷ lines) run x f owed)
+  are_spelled (Log entry ∷ lines) run x f = (are_spelled lines run x.0 f, λ owed. spelled_after (Log entry ∷ lines) run x f owed)
+  are_spelled (ReplyLine reply ∷ lines) run x f = (are_spelled lines run x.0 f, λ owed. spelled_after (ReplyLine reply ∷ lines) run x f owed)

@@ -19,7 +19,13 @@ use Rattle.arena.specs.History.{◌⊳◌, value}
 use Rattle.arena.specs.Lawful.{IsLawful, IsWin}
 use Rattle.arena.specs.Machines.{IsRun, IsTold}
 use Rattle.histories.proofs.Lemmas.{facts_before, lawful_row, update_win}
+use Rattle.arena.specs.declared.limits.Mode.TheVariants.{Tree}
+use Rattle.arena.proofs.Lemmas.{ends_self}
 use Rattle.player.specs.Allowed.{PlayedAllows}
+use Rattle.player.specs.Fields.{KnowsFields}
+use Rattle.player.proofs.Filling.{run_fills_well}
+use Rattle.player.proofs.Rising.{knows_more}
+use Rattle.player.proofs.Shapes.{as_tree}
 use Rattle.script.specs.declared.command.Call.{Call}
 use Rattle.script.specs.declared.command.Command.{Command}
 use Rattle.record.specs.declared.record.Line.{Line}
@@ -113,9 +119,16 @@ module _ (p : Player) (i number : ℕ) (step : Ask) (a : IsAsked p i number step
   pub asked_word : IsWord p.words.layout step.word
   asked_word = rw (a.turn.so_far.layout, sym a.asks) lawful.word
 
+  -- and fields name what they may
+  fields : lay.mode ≡ Tree → KnowsFields (made ⊳ history lay.mode lines)
+  fields tree = knows_more lay (history lay.mode lines) made (tree, as_tree lay (made ⊳ history lay.mode lines) tree sound) (run_fills_well a.running.run _ (history lay.mode lines) a.running.step tree a.waits.works.mode a.waits.waits (known tree)) (known tree)
+    where
+      known : lay.mode ≡ Tree → KnowsFields (history lay.mode lines)
+      known tree = a.turn.so_far.fields tree (history lay.mode lines) (ends_self (history lay.mode lines))
+
   pub asked_made : (words : Contents) → IsChanged p.words words made.word made.after → IsTurnOf lay tries calls words p.clients.items (Step (Made number made) ∷ lines) a.client
   asked_made words changed = record {
-    so_far = step_made lay tries calls p.words words lines number made changed sound (a.settled, record { in_turn = a.in_turn; lawful = lawful; call = a.waits.works.stands.number; command = a.waits.works.command; is = a.waits.works.is; few = let few = a.waits.few (length (taken_nodes (history lay.mode lines))) in omega arith; may = may_make a.waits.works.command a.client.number a.running.run a.running.then _ _ a.running.step a.waits.works.run_of a.waits.waits; says = λ s kind word. run_says a.waits.works.command a.client.number a.running.run a.running.then _ _ a.running.step s _ a.waits.works.run_of a.waits.waits kind word }) a.turn.so_far;
+    so_far = step_made lay tries calls p.words words lines number made changed sound (a.settled, record { in_turn = a.in_turn; lawful = lawful; call = a.waits.works.stands.number; command = a.waits.works.command; is = a.waits.works.is; few = let few = a.waits.few (length (taken_nodes (history lay.mode lines))) in omega arith; may = may_make a.waits.works.command a.client.number a.running.run a.running.then _ _ a.running.step a.waits.works.run_of a.waits.waits; says = λ s kind word. run_says a.waits.works.command a.client.number a.running.run a.running.then _ _ a.running.step s _ a.waits.works.run_of a.waits.waits kind word }) fields a.turn.so_far;
     others = others_step lay tries calls p.clients.items lines a.client.pass.0 number made a.turn.so_far.sound sound refl a.in_turn a.turn.so_far.in_order a.turn.others;
     own = a.turn.own;
   }

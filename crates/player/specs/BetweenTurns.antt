@@ -19,6 +19,8 @@ use Rattle.record.specs.declared.record.Reply.{Reply}
 use Rattle.record.specs.declared.record.Answer.{Answer}
 use Rattle.player.specs.declared.client.Running.{Running}
 use Rattle.player.specs.Allowed.{PlayedAllows}
+use Rattle.arena.specs.declared.limits.Mode.TheVariants.{Tree}
+use Rattle.player.specs.Fields.{KnewFields}
 use Rattle.player.specs.Lines.{newest}
 use Rattle.player.specs.declared.client.Client.{Client}
 use Rattle.player.specs.declared.player.Player.{Player}
@@ -34,6 +36,8 @@ pub record IsLawfulSoFar (lay : Layout) (tries : ℕ) (calls : List Call) (words
   pub holds : (w : Word) → IsWord lay w → word_at words w ≡ value (history lay.mode lines) w
   pub sound : IsRun PlayedAllows lay (history lay.mode lines)
   pub in_order : AreLines lay tries calls lines
+  -- on the tree fields name nodes that have stood there, and leaves
+  pub fields : lay.mode ≡ Tree → KnewFields (history lay.mode lines)
   -- each call has a command of the mode
   pub of_mode : All (λ call. mode_of call.command ≡ lay.mode) calls
 
