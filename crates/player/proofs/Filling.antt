@@ -13,6 +13,7 @@ use Rattle.arena.specs.Words.{node, child, word_after}
 use Rattle.arena.specs.History.{History, value, HasHeld}
 use Rattle.arena.specs.Machines.{Call as MachineCall, row_of}
 use Rattle.help.specs.Help.Lawful.{help_fills_not}
+use Rattle.histories.specs.Unmentioned.{IsUnmentioned}
 use Rattle.prims.specs.Scx.Known.{Job, job_of, ScxWaitsAt, fill_step, part_at}
 use Rattle.prims.specs.declared.scx.ScxAt.{ScxAt}
 use Rattle.prims.specs.declared.scx.ScxAt.TheVariants.{Start as ScxStart, Plan as AtPlan, New as AtNew, Old as AtOld, Member as AtMember, Seen as AtSeen, Call as AtCall, Help}
@@ -109,9 +110,21 @@ module _ (m : UpdateRun Inserted) (call : MachineCall) (h : History) (f : Found)
       go (inl e) w = first_leaf v e w
       go (inr d) w = let a = order.0 in let b = order.1 in second_leaf v d (omega (arith, a, b, d, from, below)) w
 
--- To be supplied: the head of a fresh node is filled before any field names it.
+-- The head of a fresh node is filled before any field names it: the last one is mentioned nowhere.
+-- To be supplied: that the first two of three are not, while they are being filled.
+unnamed_yet : (h : History) (ns : Nodes) (o : Option ℕ) (nth : Nth) (k : ℕ) (from : Side) → IsNeeded (insert_need o) nth → IsUnmentioned h (top_of (insert_need o) ns) → ¬ HasHeld h (child k from) (nth_node ns nth).0
+unnamed_yet h ns (Some v) First k from need u = u.in_no_field k from
+unnamed_yet h ns (Some v) Second k from need u = absurd need
+unnamed_yet h ns (Some v) Third k from need u = absurd need
+unnamed_yet h ns None Third k from need u = u.in_no_field k from
+unnamed_yet h ns None First k from need u = ?
+unnamed_yet h ns None Second k from need u = ?
+
 fresh_keeps : (m : UpdateRun Inserted) (call : MachineCall) (h : History) (s : Step) (f : Found) (nth : Nth) (part : NodeWord) → UpdateWaitsAt insert_means m call h s (Fill f nth part) → (k : ℕ) (from : Side) (n : ℕ) → s.kind ≡ FillKind → s.word ≡ node n Head → ¬ HasHeld h (child k from) n
-fresh_keeps m call h s f nth part w k from n kind word = ?
+fresh_keeps m call h s f nth part w k from n kind word = subst (λ (i : ℕ). ¬ HasHeld h (child k from) i) same (unnamed_yet h m.nodes f.value nth k from w.0.works.need w.0.full.hand.unmentioned)
+  where
+    same : (nth_node m.nodes nth).0 ≡ n
+    same = let z : node (nth_node m.nodes nth).0 part ≡ node n Head = ap (λ (q : Step). q.word) (sym w.3) ∙ word in cc
 
 -- a fresh node's field gets a leaf that is full, or a node that a field has named
 fresh_stores : (m : UpdateRun Inserted) (call : MachineCall) (h : History) (s : Step) (f : Found) (nth : Nth) (part : NodeWord) → call.layout.mode ≡ Tree → UpdateWaitsAt insert_means m call h s (Fill f nth part) → KnowsFields h → (k : ℕ) (side : Side) → s.word ≡ child k side → IsKnown h (word_after s.access (value h s.word))
