@@ -42,39 +42,39 @@ start_kept mode lines c = go (begin lines c) refl
 pub some_turn : (a b : ℕ) → Some a ≡ Some b → a ≡ b
 some_turn a b e = cc
 
-turn_number : (lay : Layout) (calls : List Call) (lines : List Line) (row : Row) → IsTurn lay calls lines row → number_of row ≡ suc (turns lines)
-turn_number lay calls lines (Made n row) x = x.in_turn
-turn_number lay calls lines (Idle n client) x = x.in_turn
+turn_number : (lay : Layout) (tries : ℕ) (calls : List Call) (lines : List Line) (row : Row) → IsTurn lay tries calls lines row → number_of row ≡ suc (turns lines)
+turn_number lay tries calls lines (Made n row) x = x.in_turn
+turn_number lay tries calls lines (Idle n client) x = x.in_turn
 
 -- a call that has begun has begun in one of the turns so far
-pub begin_within : (lay : Layout) (calls : List Call) (lines : List Line) (c k : ℕ) → AreLines lay calls lines → begin lines c ≡ Some k → k ≤ turns lines
+pub begin_within : (lay : Layout) (tries : ℕ) (calls : List Call) (lines : List Line) (c k : ℕ) → AreLines lay tries calls lines → begin lines c ≡ Some k → k ≤ turns lines
 unfolding AreLines
-begin_within lay calls [] c k l e = cc
-begin_within lay calls (Step row ∷ lines) c k l e = go (eqb (client_of row) c) (begin lines c) refl e (begin_within lay calls lines c k l.0) (turn_number lay calls lines row l.1.1)
+begin_within lay tries calls [] c k l e = cc
+begin_within lay tries calls (Step row ∷ lines) c k l e = go (eqb (client_of row) c) (begin lines c) refl e (begin_within lay tries calls lines c k l.0) (turn_number lay tries calls lines row l.1.1)
   where
     go : (b : Bool) (began : Option ℕ) → begin lines c ≡ began → cond b (Some (unwrap_or began (number_of row))) began ≡ Some k → (begin lines c ≡ Some k → k ≤ turns lines) → number_of row ≡ suc (turns lines) → k ≤ suc (turns lines)
     go false began q d f n = let i = f (q ∙ d) in omega arith
     go true (Some j) q d f n = let i = f (q ∙ d) in omega arith
     go true None q d f n = let same : number_of row ≡ k = some_turn (number_of row) k d in omega arith
-begin_within lay calls (Log entry ∷ lines) c k l e = begin_within lay calls lines c k l.0 e
-begin_within lay calls (ReplyLine reply ∷ lines) c k l e = go (eqb reply.client.0 c) e (begin_within lay calls lines c k l.0)
+begin_within lay tries calls (Log entry ∷ lines) c k l e = begin_within lay tries calls lines c k l.0 e
+begin_within lay tries calls (ReplyLine reply ∷ lines) c k l e = go (eqb reply.client.0 c) e (begin_within lay tries calls lines c k l.0)
   where
     go : (b : Bool) → cond b None (begin lines c) ≡ Some k → (begin lines c ≡ Some k → k ≤ turns lines) → k ≤ turns lines
     go true d f = cc
     go false d f = f d
 
 -- so has an update that has won
-pub won_within : (lay : Layout) (calls : List Call) (lines : List Line) (c k : ℕ) → AreLines lay calls lines → won lay lines c ≡ Some k → k ≤ turns lines
+pub won_within : (lay : Layout) (tries : ℕ) (calls : List Call) (lines : List Line) (c k : ℕ) → AreLines lay tries calls lines → won lay lines c ≡ Some k → k ≤ turns lines
 unfolding AreLines
-won_within lay calls [] c k l e = cc
-won_within lay calls (Step (Idle number client) ∷ lines) c k l e = let i = won_within lay calls lines c k l.0 e in omega arith
-won_within lay calls (Step (Made number row) ∷ lines) c k l e = go (is_entry_of (entry_of lay lines number row) c) e (won_within lay calls lines c k l.0) l.1.1.in_turn
+won_within lay tries calls [] c k l e = cc
+won_within lay tries calls (Step (Idle number client) ∷ lines) c k l e = let i = won_within lay tries calls lines c k l.0 e in omega arith
+won_within lay tries calls (Step (Made number row) ∷ lines) c k l e = go (is_entry_of (entry_of lay lines number row) c) e (won_within lay tries calls lines c k l.0) l.1.1.in_turn
   where
     go : (b : Bool) → cond b (Some number) (won lay lines c) ≡ Some k → (won lay lines c ≡ Some k → k ≤ turns lines) → number ≡ suc (turns lines) → k ≤ suc (turns lines)
     go false d f n = let i = f d in omega arith
     go true d f n = let same : number ≡ k = some_turn number k d in omega arith
-won_within lay calls (Log entry ∷ lines) c k l e = won_within lay calls lines c k l.0 e
-won_within lay calls (ReplyLine reply ∷ lines) c k l e = go (eqb reply.client.0 c) e (won_within lay calls lines c k l.0)
+won_within lay tries calls (Log entry ∷ lines) c k l e = won_within lay tries calls lines c k l.0 e
+won_within lay tries calls (ReplyLine reply ∷ lines) c k l e = go (eqb reply.client.0 c) e (won_within lay tries calls lines c k l.0)
   where
     go : (b : Bool) → cond b None (won lay lines c) ≡ Some k → (won lay lines c ≡ Some k → k ≤ turns lines) → k ≤ turns lines
     go true d f = cc

@@ -1,7 +1,15 @@
 mod Shapes
 mod RunLaws
 mod Readings
+mod Rising
+mod Filling
+mod SpelledLines
+mod InsertPlaces
 mod Over
+mod Left
+mod Placing
+mod InsertEnds
+mod Inserting
 mod Puts
 mod Views
 mod Clients

@@ -19,40 +19,44 @@ use Rattle.record.specs.declared.record.Reply.{Reply}
 use Rattle.record.specs.declared.record.Answer.{Answer}
 use Rattle.player.specs.declared.client.Running.{Running}
 use Rattle.player.specs.Allowed.{PlayedAllows}
+use Rattle.arena.specs.declared.limits.Mode.TheVariants.{Tree}
+use Rattle.player.specs.Fields.{KnewFields}
 use Rattle.player.specs.Lines.{newest}
 use Rattle.player.specs.declared.client.Client.{Client}
 use Rattle.player.specs.declared.player.Player.{Player}
 use Rattle.record.specs.Turns.{history, begin, turns, clients, won}
-use Rattle.record.specs.Answers.{moment_of}
+use Rattle.player.specs.Moments.{is_insert, moment_by}
 use Rattle.record.specs.LawfulRun.{AreLines, OwesNothing}
 use Rattle.player.specs.ClientView.{client_view, IsClient, Waits, IsAtNextCall}
 
 -- the words hold what the steps have left in them, the steps
 -- are a lawful run, and the lines fit one by one
-pub record IsLawfulSoFar (lay : Layout) (calls : List Call) (words : Contents) (lines : List Line) : Type 0 where
+pub record IsLawfulSoFar (lay : Layout) (tries : ℕ) (calls : List Call) (words : Contents) (lines : List Line) : Type 0 where
   pub layout : words.layout ≡ lay
   pub holds : (w : Word) → IsWord lay w → word_at words w ≡ value (history lay.mode lines) w
   pub sound : IsRun PlayedAllows lay (history lay.mode lines)
-  pub in_order : AreLines lay calls lines
+  pub in_order : AreLines lay tries calls lines
+  -- on the tree fields name nodes that have stood there, and leaves
+  pub fields : lay.mode ≡ Tree → KnewFields (history lay.mode lines)
   -- each call has a command of the mode
   pub of_mode : All (λ call. mode_of call.command ≡ lay.mode) calls
 
 -- each client but the i-th is as the lines say
-abbrev pub AreOthers : Layout → List Call → List Client → List Line → ℕ → Type 0
-AreOthers lay calls clients lines i =
-    (j : ℕ) (c : Client) → j ≢ i → slice_get clients j ≡ Some c → (c.pass.0 ≡ j) × IsClient (client_view lay calls lines j) (begin lines j) c
+abbrev pub AreOthers : Layout → ℕ → List Call → List Client → List Line → ℕ → Type 0
+AreOthers lay tries calls clients lines i =
+    (j : ℕ) (c : Client) → j ≢ i → slice_get clients j ≡ Some c → (c.pass.0 ≡ j) × IsClient (client_view lay tries calls lines j) (begin lines j) c
 
 -- the player is in the middle of a turn of this client, whose state the lines do not say
-pub record IsTurnOf (lay : Layout) (calls : List Call) (words : Contents) (clients : List Client) (lines : List Line) (c : Client) : Type 0 where
-  pub so_far : IsLawfulSoFar lay calls words lines
-  pub others : AreOthers lay calls clients lines c.pass.0
+pub record IsTurnOf (lay : Layout) (tries : ℕ) (calls : List Call) (words : Contents) (clients : List Client) (lines : List Line) (c : Client) : Type 0 where
+  pub so_far : IsLawfulSoFar lay tries calls words lines
+  pub others : AreOthers lay tries calls clients lines c.pass.0
   pub own : slice_get clients c.pass.0 ≡ Some c
 
 -- the player is between two turns: nothing is owed, and each client is as the lines say
-pub record AreBetweenTurns (lay : Layout) (calls : List Call) (words : Contents) (clients : List Client) (lines : List Line) : Type 0 where
-  pub so_far : IsLawfulSoFar lay calls words lines
+pub record AreBetweenTurns (lay : Layout) (tries : ℕ) (calls : List Call) (words : Contents) (clients : List Client) (lines : List Line) : Type 0 where
+  pub so_far : IsLawfulSoFar lay tries calls words lines
   pub settled : OwesNothing lay calls lines
-  pub each : (j : ℕ) (c : Client) → slice_get clients j ≡ Some c → (c.pass.0 ≡ j) × IsClient (client_view lay calls lines j) (begin lines j) c
+  pub each : (j : ℕ) (c : Client) → slice_get clients j ≡ Some c → (c.pass.0 ≡ j) × IsClient (client_view lay tries calls lines j) (begin lines j) c
 
 -- of each client whose update has won since its last reply, the turn in which it did is remembered
 abbrev pub AreWins : Layout → List Line → List (Option ℕ) → Type 0
@@ -60,7 +64,7 @@ AreWins lay lines wins = (c turn : ℕ) → won lay lines c ≡ Some turn → sl
 
 -- what holds of a player between two turns
 pub record IsBetweenTurns (p : Player) : Type 0 where
-  pub between : AreBetweenTurns p.script.layout p.script.calls.items p.words p.clients.items (newest p.lines)
+  pub between : AreBetweenTurns p.script.layout p.script.limits.tries p.script.calls.items p.words p.clients.items (newest p.lines)
   pub wins : AreWins p.script.layout (newest p.lines) p.wins.items
 
 -- In the middle of a turn
@@ -70,12 +74,12 @@ pub record IsAsked (p : Player) (i number : ℕ) (step : Ask) : Type 0 where
   pub client : Client
   pub is : client.pass.0 ≡ i
   pub settled : OwesNothing p.script.layout p.script.calls.items (newest p.lines)
-  pub turn : IsTurnOf p.script.layout p.script.calls.items p.words p.clients.items (newest p.lines) client
+  pub turn : IsTurnOf p.script.layout p.script.limits.tries p.script.calls.items p.words p.clients.items (newest p.lines) client
   pub in_turn : number ≡ suc (turns (newest p.lines))
   pub running : Running
   pub runs : client.running ≡ Some running
   pub asks : running.step ≡ step
-  pub waits : Waits (client_view p.script.layout p.script.calls.items (newest p.lines) client.pass.0) client running
+  pub waits : Waits (client_view p.script.layout p.script.limits.tries p.script.calls.items (newest p.lines) client.pass.0) client running
   pub wins : AreWins p.script.layout (newest p.lines) p.wins.items
   -- its call began at this turn, or at the turn that the lines say
   pub began : ((begin (newest p.lines) client.pass.0 ≡ None) × (client.begin ≡ number)) ⊎ (begin (newest p.lines) client.pass.0 ≡ Some client.begin)
@@ -84,7 +88,7 @@ pub record IsAsked (p : Player) (i number : ℕ) (step : Ask) : Type 0 where
 pub record IsMade (p : Player) (number : ℕ) (row : Row) : Type 0 where
   pub older : List Line
   pub lines : newest p.lines ≡ Step (Made number row) ∷ older
-  pub so_far : IsLawfulSoFar p.script.layout p.script.calls.items p.words (newest p.lines)
+  pub so_far : IsLawfulSoFar p.script.layout p.script.limits.tries p.script.calls.items p.words (newest p.lines)
 
 -- the reply ends the client's call in this turn; `won` is the turn of its last update that has won
 pub record IsEnd (calls : List Call) (old new : Client) (turn : ℕ) (answer : Answer) (won : Option ℕ) (reply : Reply) : Type 0 where
@@ -93,7 +97,7 @@ pub record IsEnd (calls : List Call) (old new : Client) (turn : ℕ) (answer : A
   pub begin : reply.begin ≡ old.begin
   pub end : reply.end ≡ turn
   pub answers : reply.answer ≡ answer
-  pub moment : reply.moment ≡ moment_of answer old.begin turn won
+  pub moment : (call : Call) (at : ℕ) → old.next ≡ Some at → slice_get calls at ≡ Some call → reply.moment ≡ moment_by (is_insert call.command) answer old.begin turn won
   pub behind : IsAtNextCall calls old new
 
 -- the lines have one reply more, to the call of this client, which stands at its next call then

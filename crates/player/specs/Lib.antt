@@ -1,4 +1,6 @@
 pub mod Allowed
+pub mod Moments
+pub mod Fields
 pub mod RunSteps
 pub mod RunKnown
 pub mod Lines

@@ -168,7 +168,8 @@ impl Player {
     {
         let at = client.0 as usize;
         let won = self.wins[at];
-        let reply = self.clients[at].end(&self.script.calls, number, answer, won);
+        let moment = self.clients[at].moment(&self.script.calls, number, answer, won);
+        let reply = self.clients[at].end(&self.script.calls, number, answer, moment);
         self.lines.push_reply(reply);
     }
 
@@ -243,7 +244,7 @@ impl Player {
     pub fn record(self) -> Record
         ensures script { result.script ≡ self.script }
         ensures lines { result.lines.items ≡ self.lines.list.items }
-        ensures lawful { IsBetweenTurns self → IsLawfulRun self.script.layout self.script.calls.items (reverse (clients (newest self.lines))) result.lines.items }
+        ensures lawful { IsBetweenTurns self → IsLawfulRun self.script.layout self.script.limits.tries self.script.calls.items (reverse (clients (newest self.lines))) result.lines.items }
     {
         Record {
             script: self.script,
@@ -255,11 +256,16 @@ impl Player {
 /// The clients of a script before their first turns.
 fn clients(alloc: Global, script: &Script) -> Result<Vec<Client>, NoMemory>
     ensures count { IfOk result (λ c. vec_len c ≡ script.now.layout.passes) }
-    ensures each { IfOk result (λ c. (j : ℕ) (d : Client) → slice_get c.items j ≡ Some d → (d.pass.0 ≡ j) × Rests (client_view script.now.layout script.now.calls.items [] j) d) }
+    ensures each { IfOk result (λ c. (j : ℕ) (d : Client) → slice_get c.items j ≡ Some d → (d.pass.0 ≡ j) × Rests (client_view script.now.layout script.now.limits.tries script.now.calls.items [] j) d) }
 {
     let mut clients = Vec::new(alloc);
     for pass in 0..script.layout.passes {
-        clients.push(Client::new(&script.layout, PassNo(pass), &script.calls))?;
+        clients.push(Client::new(
+            &script.layout,
+            script.limits.tries,
+            PassNo(pass),
+            &script.calls,
+        ))?;
     }
     Ok(clients)
 }
@@ -271,7 +277,7 @@ pub fn play(alloc: Global, script: &Script, turns: &[PassNo]) -> Result<Record, 
     ensures limits { IfOk result (λ r. r.script.limits ≡ script.now.limits) }
     ensures layout { IfOk result (λ r. r.script.layout ≡ script.now.layout) }
     ensures calls { IfOk result (λ r. r.script.calls.items ≡ script.now.calls.items) }
-    ensures lawful { IfOk result (λ r. IsLawfulRun script.now.layout script.now.calls.items (map (λ p. p.0) turns.now) r.lines.items) }
+    ensures lawful { IfOk result (λ r. IsLawfulRun script.now.layout script.now.limits.tries script.now.calls.items (map (λ p. p.0) turns.now) r.lines.items) }
 {
     let mut player = Player::new(alloc, script)?;
     for turn in turns {

@@ -11,7 +11,7 @@ returns-clause-played c =
     let script = c.in_ok-script.script in
     let none : newest c.new-2.result ≡ [] = c.new-2.ensures in
     record {
-      between = subst (λ (l : List Line). AreBetweenTurns script.layout script.calls.items c.in_ok-words.words c.in_ok-clients.clients.items l) (sym none)
-          (opening_between script.layout script.calls.items c.in_ok-words.words c.in_ok-clients.clients.items c.in_ok-words.ensures.layout c.in_ok-words.ensures.opening (calls_are_of_mode script) c.in_ok-clients.ensures.each);
+      between = subst (λ (l : List Line). AreBetweenTurns script.layout script.limits.tries script.calls.items c.in_ok-words.words c.in_ok-clients.clients.items l) (sym none)
+          (opening_between script.layout script.limits.tries script.calls.items c.in_ok-words.words c.in_ok-clients.clients.items c.in_ok-words.ensures.layout c.in_ok-words.ensures.opening (calls_are_of_mode script) c.in_ok-clients.ensures.each);
       wins = subst (λ (l : List Line). AreWins script.layout l c.in_ok-wins.wins.items) (sym none) (no_wins script.layout c.in_ok-wins.wins.items);
     }

@@ -1,7 +1,8 @@
-use Rattle.std.proofs.Common.{length, arith, refl, sym, ◌∙◌, ap}
+use Rattle.std.proofs.Common.{List, length, slice_get, arith, refl, sym, ◌∙◌, ap}
 use Rattle.std.proofs.lemmas.Option.{get_or_from_slice_get, slice_get_read}
 use Rattle.player.specs.declared.client.Client.{Client}
-use Rattle.record.specs.Answers.{moment_of}
+use Rattle.script.specs.declared.command.Call.{Call}
+use Rattle.player.specs.Moments.{is_insert, moment_by}
 use Rattle.player.proofs.player.Player.reply.Goals as goal
 
 pub returns-clause-same : goal.returns-clause-same
@@ -10,6 +11,7 @@ returns-clause-same c = record { script = record { limits = refl; layout = refl;
 pub returns-clause-replied : goal.returns-clause-replied
 returns-clause-replied c d there pass =
     let own = c.index_mut.ensures.value ∙ get_or_from_slice_get c.args.self.now.clients.items c.args.client.0 d c.index_mut.result.now there in
+    let same = c.index.ensures ∙ get_or_from_slice_get c.args.self.now.clients.items c.args.client.0 d c.index.result.now there in
     record {
       client = c.end-reply.new.self;
       reply = c.end-reply.result;
@@ -21,8 +23,8 @@ returns-clause-replied c d there pass =
         begin = c.end-reply.ensures.begin ∙ ap (λ (k : Client). k.begin) own;
         end = c.end-reply.ensures.end;
         answers = c.end-reply.ensures.answer;
-        moment = c.end-reply.ensures.moment ∙ ap (λ (k : Client). moment_of c.args.answer k.begin c.args.number c.index-won.result.now) own;
-        behind = rw (sym own, sym c.deref.ensures.value) c.end-reply.ensures.next;
+        moment = λ call at next here. c.end-reply.ensures.moment ∙ c.moment-moment.ensures call at (ap (λ (k : Client). k.next) same ∙ next) (ap (λ (l : List Call). slice_get l at) c.deref.ensures.value ∙ here) ∙ ap (λ (k : Client). moment_by (is_insert call.command) c.args.answer k.begin c.args.number c.index-won.result.now) same;
+        behind = rw (sym own, sym c.deref-2.ensures.value) c.end-reply.ensures.next;
       };
       clients = rw pass refl;
       line = c.push_reply.ensures;

@@ -13,7 +13,7 @@ has : (c : In_ok-row) → HasCall (calls_of c.args.self.now) c.args.client.0 (li
 has c = has_still _ c.args.client.0 c.args.self.now c.loop-left.self c.has_call.result c.loop-left.invariant.turns c.has_call.ensures c.if-has_call.true
 
 -- it has less to go behind it
-nearer : (c : In_ok-row) → let p = c.args.self.now in to_go p.script.layout (calls_of p) c.args.client.0 (lines_of c.step.new.self) < to_go p.script.layout (calls_of p) c.args.client.0 (lines_of c.loop-left.self)
+nearer : (c : In_ok-row) → let p = c.args.self.now in to_go p.script.layout p.script.limits.tries (calls_of p) c.args.client.0 (lines_of c.step.new.self) < to_go p.script.layout p.script.limits.tries (calls_of p) c.args.client.0 (lines_of c.loop-left.self)
 nearer c = turn_nearer _ c.args.client.0 c.args.self.now c.loop-left.self c.step.new.self c.in_ok-row.row c.loop-left.invariant.turns (has c) c.in_ok-row.ensures.turn
 
 -- and one step fewer is wanted where the turn made one

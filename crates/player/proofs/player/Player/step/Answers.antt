@@ -12,7 +12,7 @@ use Rattle.record.specs.Turns.{turns, clients, begin}
 use Rattle.player.specs.ClientView.{IsNextAction, client_view}
 use Rattle.player.specs.BetweenTurns.{IsEnd}
 use Rattle.player.proofs.Middles.{get_own, wins_idle, wins_reply}
-use Rattle.player.proofs.Steps.{between_at, wins_at}
+use Rattle.player.proofs.Steps.{between_at, same_tries, wins_at}
 use Rattle.player.proofs.Stands.{client_there, is_client, stood_asked, stood_finished, stood_refused}
 use Rattle.player.proofs.player.Player.step.Goals.{After-next_action-action}
 use Rattle.player.proofs.player.Player.step.Goals as goal
@@ -30,17 +30,17 @@ numbered : (c : After-next_action-action) → c.next_turn-number.result ≡ suc 
 numbered c = c.next_turn-number.ensures ∙ ap (λ (l : List Line). suc (turns l)) (same_lines c)
 
 -- how the client stands at it
-stood : (c : After-next_action-action) → IsNextAction (client_view c.args.self.now.script.layout c.args.self.now.script.calls.items (newest c.args.self.now.lines) c.args.client.0) c.next_turn-number.result c.index_mut.result.now c.next_action-action.new.self c.next_action-action.result
+stood : (c : After-next_action-action) → IsNextAction (client_view c.args.self.now.script.layout c.args.self.now.script.limits.tries c.args.self.now.script.calls.items (newest c.args.self.now.lines) c.args.client.0) c.next_turn-number.result c.index_mut.result.now c.next_action-action.new.self c.next_action-action.result
 stood c =
     let p = c.args.self.now in
     let i = c.args.client.0 in
     let client = is_client p i c.next_turn-number.result c.index_mut.result.now c.next_action-action.new.self c.requires.played (there c) in
-    c.next_action-action.ensures (client_view p.script.layout p.script.calls.items (newest p.lines) i) (begin (newest p.lines) i) c.requires.played.between.so_far.sound (calls_are_of_mode p.script) c.deref.ensures.value client
+    c.next_action-action.ensures (client_view p.script.layout p.script.limits.tries p.script.calls.items (newest p.lines) i) (begin (newest p.lines) i) c.requires.played.between.so_far.sound p.script.some_try (calls_are_of_mode p.script) c.deref.ensures.value client
 
 pub make-requires-clause-asked : goal.make-requires-clause-asked
 make-requires-clause-asked c =
     let here = (goal.at.make-requires-clause-asked c).After-next_action-action in
-    stood_asked c.args.self.now c.args.client.0 c.next_turn-number.result c.index_mut.result.now c.next_action-action.new.self c.requires.played (there here) _ c.in-Asks.step refl refl refl refl (same_lines here) refl c.next_turn-number.ensures (rw c.in-Asks.is at (stood here))
+    stood_asked c.args.self.now c.args.client.0 c.next_turn-number.result c.index_mut.result.now c.next_action-action.new.self c.requires.played (there here) _ c.in-Asks.step refl refl refl refl refl (same_lines here) refl c.next_turn-number.ensures (rw c.in-Asks.is at (stood here))
 
 pub returns-in-Finished-clause-turn : goal.returns-in-Finished-clause-turn
 returns-in-Finished-clause-turn c =
@@ -52,7 +52,7 @@ returns-in-Finished-clause-turn c =
     let idle = ap (λ (r : Row). Step r ∷ newest p.lines) c.idle.ensures.row in
     record {
       played = record {
-        between = between_at _ _ _ _ _ _ _ _ _ _ c.idle.ensures.same.script.layout c.idle.ensures.same.script.calls c.idle.ensures.same.words c.idle.ensures.same.clients (line ∙ idle) between;
+        between = between_at _ _ _ _ _ _ _ _ _ _ _ _ c.idle.ensures.same.script.layout (same_tries _ _ c.idle.ensures.same.script) c.idle.ensures.same.script.calls c.idle.ensures.same.words c.idle.ensures.same.clients (line ∙ idle) between;
         wins = wins_at _ _ _ _ _ _ c.idle.ensures.same.script.layout (line ∙ idle) c.idle.ensures.wins (wins_idle p.script.layout (newest p.lines) number c.args.client p.wins.items c.requires.played.wins);
       };
       script = record { limits = c.idle.ensures.same.script.limits; layout = c.idle.ensures.same.script.layout; calls = c.idle.ensures.same.script.calls };
@@ -79,7 +79,7 @@ returns-in-Answers-clause-turn c =
     let row = ap (λ (r' : Row). Reply r.reply ∷ Step r' ∷ newest p.lines) idle.row in
     record {
       played = record {
-        between = between_at _ _ _ _ _ _ _ _ _ _ (c.reply.ensures.same.script.layout ∙ idle.same.script.layout) (c.reply.ensures.same.script.calls ∙ idle.same.script.calls) (c.reply.ensures.same.words ∙ idle.same.words) (r.clients ∙ ap (λ (l : List Client). set l new.pass.0 r.client) idle.same.clients) (line ∙ row) between;
+        between = between_at _ _ _ _ _ _ _ _ _ _ _ _ (c.reply.ensures.same.script.layout ∙ idle.same.script.layout) (same_tries _ _ c.reply.ensures.same.script ∙ same_tries _ _ idle.same.script) (c.reply.ensures.same.script.calls ∙ idle.same.script.calls) (c.reply.ensures.same.words ∙ idle.same.words) (r.clients ∙ ap (λ (l : List Client). set l new.pass.0 r.client) idle.same.clients) (line ∙ row) between;
         wins = wins_at _ _ _ _ _ _ (c.reply.ensures.same.script.layout ∙ idle.same.script.layout) (line ∙ row) (c.reply.ensures.same.wins ∙ idle.wins) (wins_reply p.script.layout (Step (Idle number c.args.client) ∷ newest p.lines) r.reply p.wins.items (wins_idle p.script.layout (newest p.lines) number c.args.client p.wins.items c.requires.played.wins));
       };
       script = record { limits = c.reply.ensures.same.script.limits ∙ idle.same.script.limits; layout = c.reply.ensures.same.script.layout ∙ idle.same.script.layout; calls = c.reply.ensures.same.script.calls ∙ idle.same.script.calls };
