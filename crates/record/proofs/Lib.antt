@@ -1,4 +1,5 @@
 mod Begun
+mod Rising
 mod Ordered
 mod Legality
 pub mod Lemmas
