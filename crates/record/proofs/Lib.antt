@@ -1,5 +1,4 @@
 mod Begun
-mod Rising
 mod Ordered
 mod Legality
 pub mod Lemmas

@@ -6,7 +6,6 @@ pub mod Answers
 pub mod MapRecord
 pub mod Placed
 pub mod SpelledMap
-pub mod FillOrder
 pub mod Updates
 pub mod Rules
 pub mod CommandRules

@@ -25,35 +25,36 @@ use Rattle.spelling.specs.TreeWords.{Tree, Leaf, Fork, root, Has, is_leaf, level
 use Rattle.spelling.specs.Paths.{WasInTree}
 use Rattle.spelling.specs.Runs.{IsTreeRun}
 use Rattle.spelling.specs.Spelled.{Spells}
-use Rattle.spelling.proofs.Lemmas.{levels_rise, new_stood, run_spells, was_more, was_now}
-use Rattle.record.specs.SpelledMap.{HasStoodInField, HasRisingLevels}
-use Rattle.record.specs.FillOrder.{AreFilledInOrder}
+use Rattle.spelling.specs.FillOrder.{HasStoodInField, HasRisingLevels, AreFilledInOrder}
+use Rattle.spelling.proofs.Meanings.{run_spells}
+use Rattle.spelling.proofs.Stood.{was_more, was_now}
+use Rattle.spelling.proofs.TreeRuns.{levels_rise, new_stood}
 
 -- Heads
 
--- a row that does not fill the head of a node leaves it
-head_kept : (lay : Layout) (h : History) (r : Row) (n : ℕ) → Lawful lay (r ⊳ h) → (r.kind ≡ Fill → r.word ≡ node n Head → ⊥) → value (r ⊳ h) (node n Head) ≡ value h (node n Head)
-head_kept lay h r n l none = go (change lay h r l)
+-- a row leaves the head of a node, or fills it
+head_came : (lay : Layout) (h : History) (r : Row) (n : ℕ) → Lawful lay (r ⊳ h) → (value (r ⊳ h) (node n Head) ≡ value h (node n Head)) ⊎ ((r.kind ≡ Fill) × (r.word ≡ node n Head))
+head_came lay h r n l = go (change lay h r l)
   where
-    by_part : (k : ℕ) (part : NodeWord) → r.kind ≡ Fill → r.word ≡ node k part → Dec (k ≡ n) → value (r ⊳ h) (node n Head) ≡ value h (node n Head)
-    by_part k part f e (no d) = value_apart r h (node k part) (node n Head) e (node_apart k n part Head d)
-    by_part k Head f e (yes q) = absurd (none f (e ∙ ap (λ (i : ℕ). node i Head) q))
-    by_part k Key f e (yes q) = value_apart r h (node k Key) (node n Head) e (node_word_apart k n Key Head refl)
-    by_part k Value f e (yes q) = value_apart r h (node k Value) (node n Head) e (node_word_apart k n Value Head refl)
-    by_part k (Child side) f e (yes q) = value_apart r h (child k side) (node n Head) e (node_word_apart k n (Child side) Head refl)
-    by_part k Info f e (yes q) = value_apart r h (info k) (node n Head) e (node_word_apart k n Info Head refl)
-    by_part k Marked f e (yes q) = value_apart r h (marked k) (node n Head) e (node_word_apart k n Marked Head refl)
+    by_part : (k : ℕ) (part : NodeWord) → r.kind ≡ Fill → r.word ≡ node k part → Dec (k ≡ n) → (value (r ⊳ h) (node n Head) ≡ value h (node n Head)) ⊎ ((r.kind ≡ Fill) × (r.word ≡ node n Head))
+    by_part k part f e (no d) = inl (value_apart r h (node k part) (node n Head) e (node_apart k n part Head d))
+    by_part k Head f e (yes q) = inr (f, e ∙ ap (λ (i : ℕ). node i Head) q)
+    by_part k Key f e (yes q) = inl (value_apart r h (node k Key) (node n Head) e (node_word_apart k n Key Head refl))
+    by_part k Value f e (yes q) = inl (value_apart r h (node k Value) (node n Head) e (node_word_apart k n Value Head refl))
+    by_part k (Child side) f e (yes q) = inl (value_apart r h (child k side) (node n Head) e (node_word_apart k n (Child side) Head refl))
+    by_part k Info f e (yes q) = inl (value_apart r h (info k) (node n Head) e (node_word_apart k n Info Head refl))
+    by_part k Marked f e (yes q) = inl (value_apart r h (marked k) (node n Head) e (node_word_apart k n Marked Head refl))
 
-    go : Change lay h r → value (r ⊳ h) (node n Head) ≡ value h (node n Head)
-    go (nothing i a) = value_quiet r h (lawful_row lay h r l).before a (node n Head)
+    go : Change lay h r → (value (r ⊳ h) (node n Head) ≡ value h (node n Head)) ⊎ ((r.kind ≡ Fill) × (r.word ≡ node n Head))
+    go (nothing i a) = inl (value_quiet r h (lawful_row lay h r l).before a (node n Head))
     go (fills_node k part x) = by_part k part x.kind x.word (ℕ_discrete k n)
-    go (fills_scx s part x) = value_apart r h (scx s part) (node n Head) x.word refl
-    go (freezes s j x) = value_apart r h (info (member h s j)) (node n Head) x.freeze.word (node_word_apart (member h s j) n Info Head refl)
-    go (sets_frozen s k x) = value_apart r h (scx s AllFrozen) (node n Head) x.word refl
-    go (marks s j k x) = value_apart r h (marked (member h s j)) (node n Head) x.word (node_word_apart (member h s j) n Marked Head refl)
-    go (updates s x) = value_apart r h (field h s) (node n Head) x.update.word (node_word_apart _ n (Child (side_of (plan h s))) Head refl)
-    go (commits s k x) = value_apart r h (state s) (node n Head) x.word refl
-    go (aborts s j k x) = value_apart r h (state s) (node n Head) x.word refl
+    go (fills_scx s part x) = inl (value_apart r h (scx s part) (node n Head) x.word refl)
+    go (freezes s j x) = inl (value_apart r h (info (member h s j)) (node n Head) x.freeze.word (node_word_apart (member h s j) n Info Head refl))
+    go (sets_frozen s k x) = inl (value_apart r h (scx s AllFrozen) (node n Head) x.word refl)
+    go (marks s j k x) = inl (value_apart r h (marked (member h s j)) (node n Head) x.word (node_word_apart (member h s j) n Marked Head refl))
+    go (updates s x) = inl (value_apart r h (field h s) (node n Head) x.update.word (node_word_apart _ n (Child (side_of (plan h s))) Head refl))
+    go (commits s k x) = inl (value_apart r h (state s) (node n Head) x.word refl)
+    go (aborts s j k x) = inl (value_apart r h (state s) (node n Head) x.word refl)
 
 -- Fields
 
@@ -116,24 +117,28 @@ opening_stood lay (suc zero) g i = inr refl
 opening_stood lay (suc (suc zero)) g i = inr refl
 opening_stood lay (suc (suc (suc n))) g i = absurd (omega (i, arith))
 
--- a row more
-stood_more : (lay : Layout) (h : History) (r : Row) (n : ℕ) → Lawful lay (r ⊳ h) → (r.kind ≡ Fill → r.word ≡ node n Head → ⊥) → StoodOrLeaf h n → StoodOrLeaf (r ⊳ h) n
-stood_more lay h r n l none (inl x) = inl (was_more h r n x)
-stood_more lay h r n l none (inr e) = inr (ap (λ v. eqb (v / 4 % 2) 1) (head_kept lay h r n l none) ∙ e)
+-- a row that leaves its head leaves it so
+stood_more : (h : History) (r : Row) (n : ℕ) → value (r ⊳ h) (node n Head) ≡ value h (node n Head) → StoodOrLeaf h n → StoodOrLeaf (r ⊳ h) n
+stood_more h r n same (inl x) = inl (was_more h r n x)
+stood_more h r n same (inr e) = inr (ap (λ v. eqb (v / 4 % 2) 1) same ∙ e)
+
+-- and so does one that fills it in order
+stood_filled : (lay : Layout) (h : History) (r : Row) (n : ℕ) → Lawful lay (r ⊳ h) → (r.kind ≡ Fill → r.word ≡ node n Head → (eqb (r.after / 4 % 2) 1 ≡ true) ⊎ (¬ HasStoodInField h n)) → HasStoodInField h n → StoodOrLeaf h n → StoodOrLeaf (r ⊳ h) n
+stood_filled lay h r n l order named x = ⊎_elim (λ e. stood_more h r n e x) (λ y. ⊎_elim (λ leaf. inr (ap (λ v. eqb (v / 4 % 2) 1) (value_at r h (node n Head) y.1) ∙ leaf)) (λ none. absurd (none named)) (order y.0 y.1)) (head_came lay h r n l)
 
 came_stood : (lay : Layout) (h : History) (r : Row) (m : ℕ) (side : Side) (n : ℕ) → IsTreeRun lay (r ⊳ h) → AreFilledInOrder (r ⊳ h) → value (r ⊳ h) (child m side) ≡ n → (HasStoodInField h n → StoodOrLeaf h n) → HasStoodInField h n ⊎ StoodOrLeaf (r ⊳ h) n
 came_stood lay h r m side n g order q before = go (field_came lay h r m side n g.1.lawful q)
   where
     go : HasHeld h (child m side) n ⊎ (((r.kind ≡ Fill) × (r.word ≡ child m side) × (r.after ≡ n)) ⊎ ((u : ℕ) × UpdateWins h r u × (new h u ≡ n))) → HasStoodInField h n ⊎ StoodOrLeaf (r ⊳ h) n
     go (inl x) = inl (inr (m, side, x))
-    go (inr (inl x)) = inr (stood_more lay h r n g.1.lawful (λ f e. let y : child m side ≡ node n Head = sym x.1 ∙ e in cc) (subst (StoodOrLeaf h) x.2 (order.1.field m side x.0 x.1)))
+    go (inr (inl x)) = inr (stood_more h r n (value_apart r h (child m side) (node n Head) x.1 (node_word_apart m n (Child side) Head refl)) (subst (StoodOrLeaf h) x.2 (order.1.field m side x.0 x.1)))
     go (inr (inr x)) = inr (inl (subst (WasInTree (r ⊳ h)) x.2 (new_stood lay h r x.0 g x.1)))
 
 row_stood : (lay : Layout) (h : History) (r : Row) (n : ℕ) → IsTreeRun lay (r ⊳ h) → AreFilledInOrder (r ⊳ h) → (HasStoodInField h n → StoodOrLeaf h n) → HasStoodInField (r ⊳ h) n → StoodOrLeaf (r ⊳ h) n
 row_stood lay h r n g order before x = ⊎_elim (λ i. old (inl i)) (λ y. held y.0 y.1 (held_split r h (child y.0 y.1) n y.2)) x
   where
     old : HasStoodInField h n → StoodOrLeaf (r ⊳ h) n
-    old y = stood_more lay h r n g.1.lawful (λ f e. order.1.head n f e y) (before y)
+    old y = stood_filled lay h r n g.1.lawful (order.1.head n) y (before y)
 
     held : (m : ℕ) (side : Side) → (value (r ⊳ h) (child m side) ≡ n) ⊎ HasHeld h (child m side) n → StoodOrLeaf (r ⊳ h) n
     held m side (inl q) = ⊎_elim old (λ y. y) (came_stood lay h r m side n g order q before)
