@@ -1,3 +1,4 @@
 -- The lemmas of this crate that the layers above may cite.
 pub use Rattle.places.proofs.Turns.{map_now, answer_turn}
 pub use Rattle.places.proofs.Gets.{IsFoundFor, get_turn, get_placed}
+pub use Rattle.places.proofs.Spelled.{are_spelled}

@@ -3,4 +3,5 @@ mod Chains
 mod Keys
 mod Turns
 mod Gets
+mod Spelled
 pub mod Lemmas

@@ -29,6 +29,9 @@ use Rattle.spelling.specs.TreeShape.{TreeAllows}
 use Rattle.spelling.specs.TreeWords.{is_leaf}
 use Rattle.template.specs.declared.walk.Found.{Found}
 use Rattle.template.proofs.Lemmas.{walk_fills_not}
+use Rattle.tree.specs.declared.get.GetRun.{GetRun}
+use Rattle.tree.specs.Get.Known.{GetWaits}
+use Rattle.tree.proofs.GetTurns.{get_fills_not}
 use Rattle.tree.specs.declared.insert.Insert.{Insert}
 use Rattle.tree.specs.Insert.Means.{insert_means, insert_need, insert_pieces}
 use Rattle.tree.specs.Insert.Sound.{insert_fields}
@@ -145,7 +148,7 @@ module _ (m : UpdateRun Insert) (c : Call) (h : History) (f : Found) where
   fill_in_order nth part x = record { head = λ k kind e. head_ordered nth part k x e; field = λ k side kind e. inr (field_ordered nth part k side x e) }
 
 -- a step that fills no node is
-no_fill : (c : Call) (h : History) (s : Step) → s.kind ≢ FillKind → IsFillInOrder h (row_of c s h)
+pub no_fill : (c : Call) (h : History) (s : Step) → s.kind ≢ FillKind → IsFillInOrder h (row_of c s h)
 no_fill c h s none = record { head = λ n k e. absurd (none k); field = λ n side k e. absurd (none k) }
 
 scx_fill_in_order : (c : Call) (h : History) (j : Job) (part : ScxWord) → IsFillInOrder h (row_of c (scx_fill j part) h)
@@ -172,3 +175,7 @@ insert_in_order m c h s x = go m.at x.2
     go (Load f nth part) w = no_fill c h s (λ k. let e : s.kind ≡ LoadSettled = ap (λ (t : Step). t.kind) w.1 in cc)
     go (Fill f nth part) w = subst (λ (t : Step). IsFillInOrder h (row_of c t h)) (sym w.3) (fill_in_order m (from c x.0) h f nth part w.0)
     go (Scx f run) w = scx_in_order c (from (from c x.0) w.0) h (job_of run) run.at s w.2
+
+-- a get fills nothing
+pub get_in_order : (m : GetRun) (c : Call) (h : History) (s : Step) → GetWaits m c h s → IsFillInOrder h (row_of c s h)
+get_in_order m c h s w = no_fill c h s (get_fills_not m c h s w)
