@@ -1,13 +1,11 @@
 -- A get that has answered took place in a turn of its own that `greatest` finds.
-use Rattle.std.proofs.Common.{◌≡◌, ◌≢◌, ℕ, ◌≤◌, ◌⊎◌, ⊎_elim, false, List, Option, Some, None, IfSome, refl, sym, ◌∙◌, ap, subst}
+use Rattle.std.proofs.Common.{◌≡◌, ◌≢◌, ℕ, ◌≤◌, ⊎_elim, false, List, Option, Some, None, IfSome, refl, sym, ap, subst}
 use Rattle.std.specs.Prelude.{IfNone}
 use Rattle.arena.specs.declared.layout.Layout.{Layout}
 use Rattle.arena.specs.declared.step.Kind.{Kind}
-use Rattle.arena.specs.declared.step.Kind.TheVariants.{LoadSettled, LoadChild}
-use Rattle.spelling.specs.OrderedMap.{MapReply, OneValue, Get, get, reply}
+use Rattle.spelling.specs.OrderedMap.{OneValue, Get, get, reply}
 use Rattle.spelling.specs.Paths.{IsAnswerAt}
 use Rattle.script.specs.declared.command.Call.{Call}
-use Rattle.script.specs.declared.command.Command.{Command}
 use Rattle.script.specs.declared.command.Command.TheVariants.{Get as GetOf}
 use Rattle.record.specs.declared.record.Line.{Line}
 use Rattle.record.specs.declared.record.Reply.{Reply}

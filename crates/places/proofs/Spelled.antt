@@ -1,24 +1,20 @@
 -- The words spell the map so far after every step of a run of gets and inserts.
-use Rattle.std.proofs.Common.{◌≡◌, ℕ, suc, inr, Bool, true, false, cond, ◌&&◌, eqb, not, List, [], ◌∷◌, Option, Some, None, slice_get, refl, sym, ◌∙◌, ap, subst}
+use Rattle.std.proofs.Common.{◌≡◌, ℕ, suc, inr, true, false, eqb, List, [], ◌∷◌, Some, None, slice_get, refl, sym, ◌∙◌, ap, subst}
 use Rattle.std.proofs.lemmas.Bool.{ne_eqb}
 use Rattle.arena.specs.declared.limits.Mode.TheVariants.{Tree}
 use Rattle.arena.specs.declared.layout.Layout.{Layout}
-use Rattle.arena.specs.declared.step.Kind.{Kind}
-use Rattle.arena.specs.declared.step.Kind.TheVariants.{Update}
 use Rattle.arena.specs.declared.step.Row.{Row as StepRow}
-use Rattle.arena.specs.declared.word.Word.{Word}
-use Rattle.arena.specs.History.{History, ◌⊳◌, value, Extends}
+use Rattle.arena.specs.History.{History, ◌⊳◌, value}
 use Rattle.arena.specs.Lawful.{Lawful}
 use Rattle.arena.specs.Log.{log}
 use Rattle.arena.specs.ScxRecords.{field}
 use Rattle.arena.proofs.Lemmas.{ends_self}
-use Rattle.histories.proofs.Lemmas.{Logs, UpdateWins, facts_before, logs, same, update_changes, wins}
+use Rattle.histories.proofs.Lemmas.{Logs, facts_before, logs, same, update_changes, wins}
 use Rattle.spelling.specs.declared.pair.Pair.{Pair}
-use Rattle.spelling.specs.OrderedMap.{MapEdit, Edit, Insert, edited}
+use Rattle.spelling.specs.OrderedMap.{Insert}
 use Rattle.spelling.specs.FillOrder.{AreFilledInOrder}
 use Rattle.spelling.specs.Runs.{IsTreeRun, Makes}
 use Rattle.spelling.specs.Spelled.{Spells}
-use Rattle.spelling.specs.TreeShape.{TreeAllows}
 use Rattle.spelling.proofs.Lemmas.{makes_since, opening_spells, quiet_spells, rising_levels, run_since, win_makes}
 use Rattle.script.specs.declared.command.Call.{Call}
 use Rattle.script.specs.declared.command.Command.{Command}

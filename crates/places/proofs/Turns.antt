@@ -1,12 +1,12 @@
 -- Each moment of a reading call is behind one of its turns: the words spelled then the map that the
 -- record has after that turn.
-use Rattle.std.proofs.Common.{◌≡◌, ℕ, suc, ◌<◌, ◌≤◌, ◌⊎◌, inl, inr, ⊎_elim, Bool, true, false, cond, ◌&&◌, ◌||◌, eqb, not, is_some, unwrap_or, List, [], ◌∷◌, Option, Some, None, slice_get, refl, sym, ◌∙◌, ap, subst, arith}
+use Rattle.std.proofs.Common.{◌≡◌, ℕ, suc, ◌≤◌, ◌⊎◌, inl, inr, ⊎_elim, Bool, true, false, cond, ◌&&◌, eqb, not, List, [], ◌∷◌, Option, Some, None, refl, sym, ◌∙◌, ap, subst, arith}
 use Rattle.std.specs.Prelude.{leb}
 use Rattle.std.proofs.lemmas.Bool.{eqb-true, leb-true, le-leb}
 use Rattle.arena.specs.declared.layout.Layout.{Layout}
 use Rattle.arena.specs.declared.step.Kind.{Kind}
 use Rattle.arena.specs.declared.step.Row.{Row as StepRow}
-use Rattle.arena.specs.History.{History, ◌⊳◌, value, Extends}
+use Rattle.arena.specs.History.{History, value, Extends}
 use Rattle.arena.proofs.Lemmas.{same_moment}
 use Rattle.spelling.specs.declared.pair.Pair.{Pair}
 use Rattle.spelling.specs.OrderedMap.{get}
@@ -21,13 +21,13 @@ use Rattle.record.specs.declared.record.Row.{Row}
 use Rattle.record.specs.declared.record.Row.TheVariants.{Step as Made, Idle}
 use Rattle.record.specs.declared.record.Entry.{Entry}
 use Rattle.record.specs.declared.record.Reply.{Reply}
-use Rattle.record.specs.Turns.{client_of, number_of, history, turns, answered, begin, start, entry_at, entry_of, entry_owed, entries, is_update}
+use Rattle.record.specs.Turns.{client_of, history, turns, begin, start, entry_at, entry_of, entry_owed, entries, is_update}
 use Rattle.record.specs.Commands.{next_command}
 use Rattle.record.specs.CommandRules.{MayMake}
 use Rattle.record.specs.MapRecord.{written_log, entries_until, map_of, map_at}
 use Rattle.record.specs.SpelledMap.{AreSpelled, IsSpelledAfter}
 use Rattle.record.specs.LawfulRun.{AreLines}
-use Rattle.record.proofs.Lemmas.{start_unbegun, some_turn, turn_number, begin_within, log_step}
+use Rattle.record.proofs.Lemmas.{start_unbegun, begin_within, log_step}
 
 -- The map after the newest turn
 

@@ -1,6 +1,6 @@
 -- Levels rise from each fork that a field has ever named, where machines fill nodes in order: such
 -- a node has stood in the tree, or is a leaf.
-use Rattle.std.proofs.Common.{◌≡◌, ◌≢◌, ℕ, zero, suc, ◌<◌, ◌/◌, ◌%◌, ◌⊎◌, inl, inr, ⊎_elim, Bool, true, false, cond, eqb, refl, sym, ◌∙◌, ap, subst, arith}
+use Rattle.std.proofs.Common.{◌≡◌, ℕ, zero, suc, ◌<◌, ◌/◌, ◌%◌, ◌⊎◌, inl, inr, ⊎_elim, Bool, true, false, cond, eqb, refl, sym, ◌∙◌, ap, subst, arith}
 use native.Mathlib.Decide.{ℕ_discrete}
 use Rattle.arena.specs.declared.limits.Mode.{Mode}
 use Rattle.arena.specs.declared.limits.Mode.TheVariants.{Tree as TreeMode}
@@ -18,10 +18,10 @@ use Rattle.arena.specs.Words.{node, scx, info, marked, child, state, same_word}
 use Rattle.arena.specs.History.{History, Start, ◌⊳◌, value, HasHeld}
 use Rattle.arena.specs.Lawful.{Lawful}
 use Rattle.arena.specs.ScxRecords.{member, new, field, plan, side_of}
-use Rattle.arena.proofs.Lemmas.{ends_self, held_at, held_split, held_start, node_apart, node_word_apart, value_apart, value_at, value_other, value_quiet, word_same}
-use Rattle.histories.proofs.Lemmas.{Change, FillsNode, UpdateWins, aborts, change, commits, fills_node, fills_scx, freezes, lawful_row, lawful_tail, marks, nothing, sets_frozen, shaped_tail, start_mode, updates}
+use Rattle.arena.proofs.Lemmas.{held_at, held_split, held_start, node_apart, node_word_apart, value_apart, value_at, value_other, value_quiet, word_same}
+use Rattle.histories.proofs.Lemmas.{Change, UpdateWins, aborts, change, commits, fills_node, fills_scx, freezes, lawful_row, lawful_tail, marks, nothing, sets_frozen, shaped_tail, start_mode, updates}
 use Rattle.spelling.specs.TreeShape.{TreeAllows}
-use Rattle.spelling.specs.TreeWords.{Tree, Leaf, Fork, root, Has, is_leaf, level}
+use Rattle.spelling.specs.TreeWords.{Tree, Leaf, Fork, root, Has, is_leaf}
 use Rattle.spelling.specs.Paths.{WasInTree}
 use Rattle.spelling.specs.Runs.{IsTreeRun}
 use Rattle.spelling.specs.Spelled.{Spells}

@@ -1,6 +1,6 @@
-use Rattle.std.proofs.Common.{◌≡◌, ◌≢◌, ℕ, ◌≤◌, Option, Some, None, true, false, length, vec_len, rules, reverse, sym, ◌∙◌, subst, arith}
+use Rattle.std.proofs.Common.{◌≡◌, ◌≢◌, ℕ, ◌≤◌, Option, Some, true, false, rules, reverse, sym, ◌∙◌, subst, arith}
 use Rattle.std.specs.Prelude.{is_none}
-use Rattle.places.proofs.Chains.{IsLookedFor, IsHere, places_left, look_starts, look_here, look_within, look_ends, look_fails, here_found, here_ends, here_older, here_nearer, values_same, values_differ, found_map, nowhere_map}
+use Rattle.places.proofs.Chains.{IsLookedFor, look_here, look_within, look_ends, look_fails, here_found, here_ends, here_older, here_nearer, values_same, values_differ, found_map, nowhere_map}
 use Rattle.places.proofs.places.Places.greatest.Goals.{In-Some, else-place-until-via-then-place-until+else-eq, else-place-until-via-else-place-until}
 use Rattle.places.proofs.places.Places.greatest.Goals as goal
 
