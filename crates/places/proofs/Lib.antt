@@ -4,4 +4,5 @@ mod Keys
 mod Turns
 mod Gets
 mod Spelled
+mod Changes
 pub mod Lemmas
