@@ -5,4 +5,5 @@ mod Turns
 mod Gets
 mod Spelled
 mod Changes
+mod Inserts
 pub mod Lemmas

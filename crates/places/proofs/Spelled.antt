@@ -71,7 +71,7 @@ module _ (lay : Layout) (tries : ℕ) (calls : List Call) (mode : lay.mode ≡ T
       go (Set f v) is does = absurd (other (Set f v) is refl)
 
   -- the words spell the map of the entries, where none is owed
-  spelled : (lines : List Line) → AreLines lay tries calls lines → IsTreeRun lay (history lay.mode lines) → entry_owed lay lines ≡ None → Spells lay (value (history lay.mode lines)) (map_of calls (written_log lines))
+  pub spelled : (lines : List Line) → AreLines lay tries calls lines → IsTreeRun lay (history lay.mode lines) → entry_owed lay lines ≡ None → Spells lay (value (history lay.mode lines)) (map_of calls (written_log lines))
   unfolding AreLines
   spelled [] a g owed = opening_spells lay mode
   spelled (Step (Made n row) ∷ lines) a g owed = quiet_spells lay (history lay.mode lines) row (map_of calls (written_log lines)) g (no_entry lay lines n row g.1.lawful owed) (spelled lines a.0 (run_before (history lay.mode lines) row g) a.1.0.entry)
