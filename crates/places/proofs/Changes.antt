@@ -1,5 +1,5 @@
 -- Where a call whose update has won stands in the log: it has one entry, of its own number.
-use Rattle.std.proofs.Common.{◌≡◌, ℕ, suc, Bool, true, false, cond, ◌&&◌, eqb, List, [], ◌∷◌, ◌++◌, Option, Some, None, inl, inr, refl, sym, ◌∙◌, ap, subst}
+use Rattle.std.proofs.Common.{◌≡◌, ℕ, suc, Bool, true, false, cond, ◌&&◌, eqb, List, [], ◌∷◌, ◌++◌, Some, None, inl, inr, refl, sym, ◌∙◌, ap}
 use Rattle.std.proofs.lemmas.Bool.{eqb-true, eqb-false, eq-eqb, ne_eqb}
 use Rattle.arena.specs.declared.layout.Layout.{Layout}
 use Rattle.arena.specs.declared.step.Row.{Row as StepRow}
@@ -9,7 +9,7 @@ use Rattle.record.specs.declared.record.Line.{Line}
 use Rattle.record.specs.declared.record.Line.TheVariants.{Step, Log, Reply as ReplyLine}
 use Rattle.record.specs.declared.record.Row.TheVariants.{Step as Made, Idle}
 use Rattle.record.specs.declared.record.Entry.{Entry}
-use Rattle.record.specs.Turns.{history, turns, answered, won, entry_of, entry_owed, is_entry_of}
+use Rattle.record.specs.Turns.{history, answered, won, entry_owed, is_entry_of}
 use Rattle.record.specs.Entries.{IsWinOf}
 use Rattle.record.specs.MapRecord.{written_log, entries_of_call}
 use Rattle.record.specs.LawfulRun.{AreLines}

@@ -1,12 +1,12 @@
 -- An insert that has made its edit stands at its entry, and tells what the map gave just before.
-use Rattle.std.proofs.Common.{◌≡◌, ℕ, List, ◌∷◌, Option, Some, None, inl, inr, refl, sym, ◌∙◌, ap, subst}
+use Rattle.std.proofs.Common.{◌≡◌, ℕ, List, ◌∷◌, Option, Some, None, inl, inr, sym, ◌∙◌, ap, subst}
 use Rattle.arena.specs.declared.limits.Mode.TheVariants.{Tree}
 use Rattle.arena.specs.declared.layout.Layout.{Layout}
 use Rattle.arena.specs.declared.step.Row.{Row as StepRow}
 use Rattle.arena.specs.History.{History, Start, ◌⊳◌, value, Extends}
 use Rattle.arena.specs.Lawful.{Lawful, IsWin, HasWon}
 use Rattle.arena.proofs.Lemmas.{ends_self}
-use Rattle.histories.proofs.Lemmas.{UpdateWins, facts_before, lawful_row, lawful_since, lawful_tail, update_is_first, won_since}
+use Rattle.histories.proofs.Lemmas.{facts_before, lawful_row, lawful_tail, update_is_first, won_since}
 use Rattle.spelling.specs.declared.pair.Pair.{Pair}
 use Rattle.spelling.specs.OrderedMap.{Edit, Insert, OneValue, get}
 use Rattle.spelling.specs.Runs.{IsTreeRun}
