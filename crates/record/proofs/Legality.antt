@@ -109,7 +109,7 @@ entries_low lay tries calls (ReplyLine r ∷ lines) a c j i = go (eqb r.client.0
     go false u rest = rest u
 
 -- a call none of whose updates has won has no entry
-entries_none : (lay : Layout) (tries : ℕ) (calls : List Call) (lines : List Line) → AreLines lay tries calls lines → (c : ℕ) → won lay lines c ≡ None → entries_of_call c (answered lines c) (written_log lines) ≡ 0
+pub entries_none : (lay : Layout) (tries : ℕ) (calls : List Call) (lines : List Line) → AreLines lay tries calls lines → (c : ℕ) → won lay lines c ≡ None → entries_of_call c (answered lines c) (written_log lines) ≡ 0
 unfolding AreLines
 entries_none lay tries calls [] a c w = refl
 entries_none lay tries calls (Step (Made n row) ∷ lines) a c w = go (is_entry_of (entry_of lay lines n row) c) w (entries_none lay tries calls lines a.0 c)
@@ -190,7 +190,7 @@ entry_step lay lines n row e = go (is_update row.kind && not (eqb row.before row
     go true x = entry_at_step lay (history lay.mode lines) (suc (entries lines)) n row.word e x
     go false x = let y : None ≡ Some e = x in absurd (cc)
 
-log_step : (lay : Layout) (tries : ℕ) (calls : List Call) (lines : List Line) (e : Entry) → AreLines lay tries calls lines → IsLog lay calls lines e → e.step ≡ turns lines
+pub log_step : (lay : Layout) (tries : ℕ) (calls : List Call) (lines : List Line) (e : Entry) → AreLines lay tries calls lines → IsLog lay calls lines e → e.step ≡ turns lines
 unfolding AreLines
 log_step lay tries calls (Step (Made n row) ∷ lines) e a x = entry_step lay lines n row e x.0 ∙ a.1.1.in_turn
 log_step lay tries calls (Step (Idle n c) ∷ lines) e a x = absurd x
