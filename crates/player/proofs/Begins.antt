@@ -134,7 +134,7 @@ insert_starts v began c m key value share sound mode some r u had small key_is v
   };
   none = r.none;
   spent = subst (λ (at : UpdateAt). Spends m.share m.share v.tries (node_tries m at) v.tries (scx_tries m at)) (sym at) (omega (arith, tries, some), omega (arith, tries, some));
-  ready = (record { run = (mode, as_tree v.layout v.past mode sound); small = small; since = ends_self v.past; rests = record { share = rw has r.holds.share; over = over } }, record { since = ends_self v.past; none = none_yet v.layout c.pass.0 v.past }, at);
+  ready = (record { run = (mode, as_tree v.layout v.past mode sound); small = small; since = ends_self v.past; rests = record { share = rw has r.holds.share; over = over } }, record { since = ends_self v.past; none = none_yet v.layout c.pass.0 v.past }, record { share = rw has r.holds.share; over = over }, at);
   few = λ taken i. rw u.steps (let e = left taken in omega (arith, e));
 }
   where

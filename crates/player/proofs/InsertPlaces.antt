@@ -30,9 +30,12 @@ use Rattle.record.specs.MapRecord.{map_of, written_log, entries_of_call, reply_t
 use Rattle.record.specs.Placed.{IsChange, IsRefused, IsPlacedOnMap}
 use Rattle.record.specs.Turns.{history, answered, begin, start, won, entry_of, entry_owed, client_of}
 use Rattle.player.specs.Allowed.{PlayedAllows}
-use Rattle.player.specs.Moments.{moment_by}
+use Rattle.places.specs.declared.places.Change.{Change}
+use Rattle.player.specs.Moments.{IsMomentBy}
 use Rattle.player.specs.ClientView.{client_view, Tells, HasInserted}
-use Rattle.player.proofs.SpelledLines.{AreOf, run_before, spelled}
+use Rattle.record.proofs.Lemmas.{entries_none}
+use Rattle.places.proofs.Lemmas.{spelled}
+use Rattle.player.proofs.MapCalls.{AreOf, map_calls, run_before, tree_run}
 use Rattle.player.proofs.Winners.{win_enters}
 
 -- a history without its newest row, and that row
@@ -52,8 +55,6 @@ some_entry : (a b : Entry) → Some a ≡ Some b → a ≡ b
 some_entry a b e = cc
 
 module _ (lay : Layout) (tries : ℕ) (calls : List Call) (c : ℕ) where
-  -- Entries of calls that come later
-
   -- an entry of another call counts none
   other_entry : (e : Entry) (n k : ℕ) → (e.client.0 ≡ c → e.call ≡ n → ⊥) → cond (eqb c e.client.0 && eqb n e.call) (suc k) k ≡ k
   other_entry e n k d = go (eqb c e.client.0) (eqb n e.call) refl refl
@@ -62,42 +63,6 @@ module _ (lay : Layout) (tries : ℕ) (calls : List Call) (c : ℕ) where
       go false b p q = refl
       go true false p q = refl
       go true true p q = absurd (d (sym (eqb-true c e.client.0 p)) (sym (eqb-true n e.call q)))
-
-  none_later : (lines : List Line) (n : ℕ) → AreLines lay tries calls lines → answered lines c < n → entries_of_call c n (written_log lines) ≡ 0
-  unfolding AreLines
-  none_later [] n x i = refl
-  none_later (Step row ∷ lines) n x i = none_later lines n x.0 i
-  none_later (ReplyLine reply ∷ lines) n x i = none_later lines n x.0 (fewer (eqb reply.client.0 c) i)
-    where
-      fewer : (b : Bool) → cond b (suc (answered lines c)) (answered lines c) < n → answered lines c < n
-      fewer true j = omega (arith, j)
-      fewer false j = j
-  none_later (Log e ∷ Step (Made number row) ∷ lines) n x i = other_entry e n (entries_of_call c n (written_log lines)) (λ own same. let z = x.1.1.call in let k : answered lines e.client.0 ≡ answered lines c = ap (λ (j : ℕ). answered lines j) own in omega (arith, i, same, z, k)) ∙ none_later lines n x.0.0 i
-  none_later (Log e ∷ Step (Idle number client) ∷ lines) n x i = absurd x.1
-  none_later (Log e ∷ Log e' ∷ lines) n x i = absurd x.1
-  none_later (Log e ∷ ReplyLine reply ∷ lines) n x i = absurd x.1
-  none_later (Log e ∷ []) n x i = absurd x.1
-
-  -- a call in which no update has won has no entry
-  none_unwon : (lines : List Line) → AreLines lay tries calls lines → entry_owed lay lines ≡ None → won lay lines c ≡ None → entries_of_call c (answered lines c) (written_log lines) ≡ 0
-  unfolding AreLines
-  none_unwon [] x owed none = refl
-  none_unwon (Step (Made number row) ∷ lines) x owed none = none_unwon lines x.0 x.1.0.entry (rw owed at none)
-  none_unwon (Step (Idle number client) ∷ lines) x owed none = none_unwon lines x.0 x.1.0.entry none
-  none_unwon (ReplyLine reply ∷ lines) x owed none = go (eqb reply.client.0 c) none (λ q. none_unwon lines x.0 x.1.0 q)
-    where
-      go : (b : Bool) → cond b None (won lay lines c) ≡ None → (won lay lines c ≡ None → entries_of_call c (answered lines c) (written_log lines) ≡ 0) → entries_of_call c (cond b (suc (answered lines c)) (answered lines c)) (written_log lines) ≡ 0
-      go true q f = none_later lines (suc (answered lines c)) x.0 (omega arith)
-      go false q f = f q
-  none_unwon (Log e ∷ Step (Made number row) ∷ lines) x owed none = go (eqb e.client.0 c) refl (rw x.1.0 at none) (λ q. none_unwon lines x.0.0 x.0.1.0.entry q)
-    where
-      go : (b : Bool) → eqb e.client.0 c ≡ b → cond b (Some number) (won lay lines c) ≡ None → (won lay lines c ≡ None → entries_of_call c (answered lines c) (written_log lines) ≡ 0) → entries_of_call c (answered lines c) (e ∷ written_log lines) ≡ 0
-      go true p q f = absurd (let z : Some number ≡ None = q in cc)
-      go false p q f = other_entry e (answered lines c) (entries_of_call c (answered lines c) (written_log lines)) (λ own same. absurd (let z : eqb e.client.0 c ≡ true = eq-eqb e.client.0 c own in cc)) ∙ f q
-  none_unwon (Log e ∷ Step (Idle number client) ∷ lines) x owed none = absurd x.1
-  none_unwon (Log e ∷ Log e' ∷ lines) x owed none = absurd x.1
-  none_unwon (Log e ∷ ReplyLine reply ∷ lines) x owed none = absurd x.1
-  none_unwon (Log e ∷ []) x owed none = absurd x.1
 
   -- The entry of a row that has won for the client in its call
 
@@ -173,9 +138,9 @@ module _ (lay : Layout) (tries : ℕ) (calls : List Call) (c : ℕ) where
               client = client;
               call = call;
               won_is = rw (x.1.0, eq-eqb e.client.0 c client) (ap (λ (k : ℕ). Some k) step);
-              once = rw (eq-eqb c e.client.0 (sym client), eq-eqb (answered lines c) e.call (sym call)) (ap suc (none_unwon lines x.0.0 x.0.1.0.entry none));
+              once = rw (eq-eqb c e.client.0 (sym client), eq-eqb (answered lines c) e.call (sym call)) (ap suc (entries_none lay tries calls lines x.0.0 c none));
               before_is = ap older (sym q);
-              spells = spelled lay tries calls mode all lines (run_before PlayedAllows lay (history lay.mode lines) r run) x.0.0 x.0.1.0.entry;
+              spells = spelled lay tries calls mode (map_calls lay.mode calls mode all) lines x.0.0 (tree_run lay (history lay.mode lines) mode (run_before PlayedAllows lay (history lay.mode lines) r run)) x.0.1.0.entry;
             }
 
         later : IsFoundWin lines before → IsFoundWin (Log e ∷ Step (Made number r) ∷ lines) before
@@ -205,16 +170,16 @@ module _ (lay : Layout) (tries : ℕ) (calls : List Call) (c : ℕ) where
     find_win (Log e ∷ []) run x owed within since = absurd x.1
 
 -- where no update of the call has won
-unwon_none : (won : Option ℕ) → HasItsEntry false won → won ≡ None
+pub unwon_none : (won : Option ℕ) → HasItsEntry false won → won ≡ None
 unwon_none None x = refl
 unwon_none (Some k) x = absurd x
 
-pub insert_placed : (lay : Layout) (tries : ℕ) (calls : List Call) (mode : lay.mode ≡ Tree) (all : AreOf lay.mode calls) (lines : List Line) (r : Reply) (c key value' : ℕ) → IsRun PlayedAllows lay (history lay.mode lines) → AreLines lay tries calls lines → entry_owed lay lines ≡ None → r.client.0 ≡ c → r.call ≡ answered lines c → IsRight lay c (history lay.mode lines) (start lay.mode lines c) (linked calls lay.mode lines c) (InsertOf key value') r.answer → Tells (client_view lay tries calls lines c) c (InsertOf key value') r.answer
-    → HasItsEntry (enters (InsertOf key value') r.answer) (won lay lines c) → r.moment ≡ moment_by true r.answer r.begin r.end (won lay lines c) → IsPlacedOnMap (reply_told r.answer) calls lines (Edit (Insert key value')) r
-insert_placed lay tries calls mode all lines r c key value' run x owed own called right tells entry moment = go r.answer refl
+pub insert_placed : (lay : Layout) (tries : ℕ) (calls : List Call) (mode : lay.mode ≡ Tree) (all : AreOf lay.mode calls) (lines : List Line) (changes : List Change) (r : Reply) (c key value' : ℕ) → IsRun PlayedAllows lay (history lay.mode lines) → AreLines lay tries calls lines → entry_owed lay lines ≡ None → r.client.0 ≡ c → r.call ≡ answered lines c → IsRight lay c (history lay.mode lines) (start lay.mode lines c) (linked calls lay.mode lines c) (InsertOf key value') r.answer → Tells (client_view lay tries calls lines c) c (InsertOf key value') r.answer
+    → HasItsEntry (enters (InsertOf key value') r.answer) (won lay lines c) → IsMomentBy calls lines changes (InsertOf key value') r.answer r.begin r.end (won lay lines c) r.moment → IsPlacedOnMap (reply_told r.answer) calls lines (Edit (Insert key value')) r
+insert_placed lay tries calls mode all lines changes r c key value' run x owed own called right tells entry moment = go r.answer refl
   where
     refused : HasItsEntry false (won lay lines c) → r.moment ≡ None → IsRefused lines r
-    refused y none = record { none = rw (own, called) (none_unwon lay tries calls c lines x owed (unwon_none (won lay lines c) y)); moment = none }
+    refused y none = record { none = rw (own, called) (entries_none lay tries calls lines x c (unwon_none (won lay lines c) y)); moment = none }
 
     told : (old : Option ℕ) → r.answer ≡ Value old → HasInserted (client_view lay tries calls lines c) c key old → r.moment ≡ won lay lines c → IsChange calls lines (Edit (Insert key value')) r
     told old e y at =

@@ -105,7 +105,7 @@ module _ (m : UpdateRun Inserted) (call : MachineCall) (h : History) (t : ℕ) (
       }
 
   pub insert_hand : (s : Step) → UpdateWaits insert_means m call h s → IsInsertHand m call h t
-  insert_hand s w = hand_at w.0 s m.at w.1 w.2
+  insert_hand s w = hand_at w.0 s m.at w.1 w.3
 
 -- The word `call`
 
@@ -147,4 +147,4 @@ run_says command number (Llx m) then call h s t v of w kind word = absurd (llx_f
 run_says command number (Vlx m) then call h s t v of w kind word = absurd (vlx_fills_not m.snaps m.asked call h s w kind)
 run_says command number (Get m) then call h s t v of w kind word = absurd (get_fills_not m call h s w kind)
 run_says command number (ScxRun m) then call h s t v of w kind word = put_says_at m call h s t v m.at w kind word ∙ put_called command number m then of
-run_says command number (Insert m) then call h s t v of w kind word = insert_says_at m (from call w.0) h s t v m.at w.2 kind word ∙ insert_called command number m then of.1
+run_says command number (Insert m) then call h s t v of w kind word = insert_says_at m (from call w.0) h s t v m.at w.3 kind word ∙ insert_called command number m then of.1

@@ -1,9 +1,8 @@
 mod Shapes
 mod RunLaws
 mod Readings
-mod Rising
-mod Filling
-mod SpelledLines
+mod InOrder
+mod MapCalls
 mod InsertPlaces
 mod Over
 mod Left
@@ -16,7 +15,6 @@ mod Clients
 mod Ends
 mod Putting
 mod Begins
-mod Begun
 mod Entered
 mod Middles
 mod Steps

@@ -30,7 +30,7 @@ use Rattle.script.specs.declared.command.Command.{Command}
 use Rattle.player.proofs.Commands.{none_left, next_at, place_more, number_small}
 use Rattle.arena.specs.declared.limits.Mode.TheVariants.{Tree}
 use Rattle.player.specs.Allowed.{PlayedAllows}
-use Rattle.player.specs.Fields.{KnowsFields, KnewFields}
+use Rattle.spelling.specs.FillOrder.{AreFilledInOrder, IsFillInOrder}
 use Rattle.script.specs.declared.command.Call.{Call}
 use Rattle.record.specs.declared.record.Line.{Line}
 use Rattle.record.specs.declared.record.Line.TheVariants.{Step, Log, Reply as ReplyLine}
@@ -46,7 +46,10 @@ use Rattle.record.specs.Turns.{history, turns, entries, answered, begin, start, 
 use Rattle.record.specs.Commands.{commands, next_command}
 use Rattle.record.specs.Linked.{linked}
 use Rattle.record.specs.Answers.{HasItsEntry}
-use Rattle.player.specs.Moments.{is_insert, moment_by}
+use Rattle.player.specs.Moments.{IsMomentBy}
+use Rattle.places.specs.declared.places.Change.{Change}
+use Rattle.places.specs.Entries.{AreEntries}
+use Rattle.player.proofs.MapCalls.{command_mode}
 use Rattle.player.proofs.Placing.{moment_same, moment_within}
 use Rattle.record.specs.CommandRules.{MayAnswerAtOnce, HasTakenFew, enters, IsRight}
 use Rattle.record.specs.Replies.{IsFitting, IsReply}
@@ -54,7 +57,7 @@ use Rattle.record.specs.LawfulRun.{OwesNothing, IsNext, AreLines}
 use Rattle.player.specs.ClientView.{ClientView, client_view, no_hand, held, Tells, linked_by, Rests, IsClient, IsAtNextCall, Refuses}
 use Rattle.player.specs.BetweenTurns.{IsLawfulSoFar, AreOthers, IsTurnOf, AreBetweenTurns, IsMade, IsEnd, AreWins}
 use Rattle.player.proofs.Views.{TellsWon, client_by_others, stands_from, holds_from}
-use Rattle.player.proofs.Begun.{some_turn, start_kept, begin_within, won_within}
+use Rattle.record.proofs.Lemmas.{some_turn, start_kept, begin_within, won_within}
 use Rattle.player.proofs.Ends.{entered_none}
 
 -- Others
@@ -138,18 +141,18 @@ turn_ends lay tries calls words clients lines c settled is x = record { so_far =
 -- a line that no client waits for is written down
 pub so_far_same : (lay : Layout) (tries : ℕ) (calls : List Call) (words : Contents) (lines : List Line) (line : Line) → history lay.mode (line ∷ lines) ≡ history lay.mode lines → IsNext lay tries calls lines line → IsLawfulSoFar lay tries calls words lines → IsLawfulSoFar lay tries calls words (line ∷ lines)
 unfolding AreLines
-so_far_same lay tries calls words lines line e next x = record { layout = x.layout; holds = λ w i. x.holds w i ∙ ap (λ (h : History). value h w) (sym e); sound = rw e x.sound; in_order = (x.in_order, next); fields = λ tree. subst (λ (h : History). KnewFields h) (sym e) (x.fields tree); of_mode = x.of_mode }
+so_far_same lay tries calls words lines line e next x = record { layout = x.layout; holds = λ w i. x.holds w i ∙ ap (λ (h : History). value h w) (sym e); sound = rw e x.sound; in_order = (x.in_order, next); filled = λ tree. subst (λ (h : History). AreFilledInOrder h) (sym e) (x.filled tree); of_mode = x.of_mode }
 
 -- a step of the client: the words change as the row says
-pub step_made : (lay : Layout) (tries : ℕ) (calls : List Call) (old new : Contents) (lines : List Line) (number : ℕ) (row : Row) → IsChanged old new row.word row.after → IsRun PlayedAllows lay (row ⊳ history lay.mode lines) → IsNext lay tries calls lines (Step (Made number row)) → (lay.mode ≡ Tree → KnowsFields (row ⊳ history lay.mode lines)) → IsLawfulSoFar lay tries calls old lines → IsLawfulSoFar lay tries calls new (Step (Made number row) ∷ lines)
+pub step_made : (lay : Layout) (tries : ℕ) (calls : List Call) (old new : Contents) (lines : List Line) (number : ℕ) (row : Row) → IsChanged old new row.word row.after → IsRun PlayedAllows lay (row ⊳ history lay.mode lines) → IsNext lay tries calls lines (Step (Made number row)) → (lay.mode ≡ Tree → IsFillInOrder (history lay.mode lines) row) → IsLawfulSoFar lay tries calls old lines → IsLawfulSoFar lay tries calls new (Step (Made number row) ∷ lines)
 unfolding AreLines
-step_made lay tries calls old new lines number row changed run next known x = record {
+step_made lay tries calls old new lines number row changed run next order x = record {
   layout = changed.layout ∙ x.layout;
   of_mode = x.of_mode;
   holds = λ w i. go w i (same_word row.word w) refl;
   sound = run;
   in_order = (x.in_order, next);
-  fields = λ tree past e. ⊎_elim (λ q. subst (λ (h : History). KnowsFields h) (sym q) (known tree)) (λ q. x.fields tree past q) e;
+  filled = λ tree. (x.filled tree, order tree);
 }
   where
     go : (w : Word) → IsWord lay w → (b : Bool) → same_word row.word w ≡ b → word_at new w ≡ value (row ⊳ history lay.mode lines) w
@@ -242,8 +245,8 @@ some_command : (a b : Command) → Some a ≡ Some b → a ≡ b
 some_command a b e = cc
 
 -- the reply to a call that has ended
-pub replied : (lay : Layout) (tries : ℕ) (calls : List Call) (words : Contents) (clients : List Client) (lines : List Line) (old new : Client) (answer : Answer) (said : Option ℕ) (reply : Reply) (command : Command) (number : ℕ) → length calls ≤ 65536 → IsTurnOf lay tries calls words clients lines old → IsOver lay tries calls lines old.pass.0 old command answer → ((turn : ℕ) → won lay lines old.pass.0 ≡ Some turn → said ≡ Some turn) → number ≡ turns lines → IsEnd calls old new number answer said reply → AreBetweenTurns lay tries calls words (set clients old.pass.0 new) (ReplyLine reply ∷ lines)
-replied lay tries calls words clients lines old new answer said reply command number few x o wins n e =
+pub replied : (lay : Layout) (tries : ℕ) (calls : List Call) (words : Contents) (clients : List Client) (lines : List Line) (changes : List Change) (old new : Client) (answer : Answer) (said : Option ℕ) (reply : Reply) (command : Command) (number : ℕ) → (lay.mode ≡ Tree → AreEntries calls lines changes) → length calls ≤ 65536 → IsTurnOf lay tries calls words clients lines old → IsOver lay tries calls lines old.pass.0 old command answer → ((turn : ℕ) → won lay lines old.pass.0 ≡ Some turn → said ≡ Some turn) → number ≡ turns lines → IsEnd calls lines changes old new number answer said reply → AreBetweenTurns lay tries calls words (set clients old.pass.0 new) (ReplyLine reply ∷ lines)
+replied lay tries calls words clients lines changes old new answer said reply command number entries few x o wins n e =
     turn_ends lay tries calls words (set clients old.pass.0 new) (ReplyLine reply ∷ lines) new
     record { entry = refl; reply = λ y. y }
     (inl (
@@ -283,10 +286,10 @@ replied lay tries calls words clients lines old new answer said reply command nu
     begins = begin_within lay tries calls lines old.pass.0 old.begin x.so_far.in_order o.began
 
     -- the call stands at its place in the script
-    moment : reply.moment ≡ moment_by (is_insert command) reply.answer reply.begin reply.end (won lay lines old.pass.0)
+    moment : IsMomentBy calls lines changes command reply.answer reply.begin reply.end (won lay lines old.pass.0) reply.moment
     moment = rw (e.answers, e.begin, e.end) (go old.next refl)
       where
-        go : (next : Option ℕ) → old.next ≡ next → reply.moment ≡ moment_by (is_insert command) answer old.begin number (won lay lines old.pass.0)
+        go : (next : Option ℕ) → old.next ≡ next → IsMomentBy calls lines changes command answer old.begin number (won lay lines old.pass.0) reply.moment
         go None q =
             let none : next_command calls lines old.pass.0 ≡ None = rw (sym o.rests.stands.number) (none_left calls old.pass.0 old.number (rw q at o.rests.stands.place)) in
             let is : next_command calls lines old.pass.0 ≡ Some command = o.is in
@@ -295,12 +298,11 @@ replied lay tries calls words clients lines old new answer said reply command nu
             let place = rw q at o.rests.stands.place in
             let there = next_at calls old.pass.0 old.number at place in
             let same : there.0 ≡ command = some_command there.0 command (sym there.2 ∙ ap (λ (k : ℕ). slice_get (commands calls old.pass.0) k) o.rests.stands.number ∙ o.is) in
-            e.moment (record { client = record { 0 = old.pass.0 }; command = there.0 }) at q there.1
-            ∙ ap (λ (k : Command). moment_by (is_insert k) answer old.begin number said) same
-            ∙ moment_same command answer old.begin number said (won lay lines old.pass.0) o.done o.entry wins
+            moment_same calls lines changes command answer old.begin number said (won lay lines old.pass.0) reply.moment o.done o.entry wins
+            (subst (λ (k : Command). IsMomentBy calls lines changes k answer old.begin number said reply.moment) same (e.moment (record { client = record { 0 = old.pass.0 }; command = there.0 }) at q there.1))
 
     within : (m : ℕ) → reply.moment ≡ Some m → (reply.begin ≤ m) × (m ≤ reply.end)
-    within m q = moment_within command reply.answer reply.begin reply.end m (won lay lines old.pass.0) (rw (e.begin, e.end, n) begins) (λ turn w. (rw e.begin (o.late turn w), rw (e.end, n) (won_within lay tries calls lines old.pass.0 turn x.so_far.in_order w))) (sym moment ∙ q)
+    within m q = moment_within calls lines changes reply.begin reply.end m (won lay lines old.pass.0) reply.moment (rw (e.begin, e.end, n) begins) (λ turn w. (rw e.begin (o.late turn w), rw (e.end, n) (won_within lay tries calls lines old.pass.0 turn x.so_far.in_order w))) q command reply.answer (λ tree. entries (sym (command_mode lay.mode calls old.pass.0 _ command x.so_far.of_mode o.is) ∙ tree)) moment
 
     is_reply : IsReply lay tries calls lines reply
     is_reply = record {
@@ -313,7 +315,7 @@ replied lay tries calls words clients lines old new answer said reply command nu
       fits = rw e.answers o.fits;
       right = subst (λ (k : ℕ). IsRight lay k (history lay.mode lines) (start lay.mode lines k) (linked calls lay.mode lines k) command reply.answer) (sym client) (rw e.answers o.right);
       took = subst (λ (k : ℕ). HasTakenFew lay tries k (history lay.mode lines) (start lay.mode lines k) command) (sym client) o.took;
-      placed = placed lay tries calls words lines reply old.pass.0 command x.so_far o.owed client (e.call ∙ o.number) (rw e.answers o.right) (rw e.answers o.tells) (rw e.answers o.entry) o.is (rw (e.begin, e.end, n) begins) moment;
+      placed = placed lay tries calls words lines changes reply old.pass.0 command x.so_far entries o.owed client (e.call ∙ o.number) (rw e.answers o.right) (rw e.answers o.tells) (rw e.answers o.entry) o.is (o.began ∙ ap (λ (k : ℕ). Some k) (sym e.begin)) (e.end ∙ n) moment;
       within = within;
       entry = subst (λ (k : ℕ). HasItsEntry (enters command reply.answer) (won lay lines k)) (sym client) (rw e.answers o.entry);
     }
@@ -363,9 +365,9 @@ refuses_tells v c (VlxOf cells) answer x = tt
 refuses_tells v c (SetOf field value) answer x = tt
 refuses_tells v c (GetOf key) answer x = tt
 
-pub refused_turn : (lay : Layout) (tries : ℕ) (calls : List Call) (words : Contents) (clients : List Client) (lines : List Line) (c new : Client) (number : ℕ) (pass : PassNo) (answer : Answer) (said : Option ℕ) (reply : Reply) → length calls ≤ 65536 → OwesNothing lay calls lines → IsTurnOf lay tries calls words clients lines c → Refuses (client_view lay tries calls lines c.pass.0) c answer → begin lines c.pass.0 ≡ None → c.begin ≡ number → number ≡ suc (turns lines) → pass ≡ c.pass → IsEnd calls c new number answer said reply → AreBetweenTurns lay tries calls words (set clients c.pass.0 new) (ReplyLine reply ∷ Step (Idle number pass) ∷ lines)
-refused_turn lay tries calls words clients lines c new number pass answer said reply few settled x r unbegun begins n is e =
-    replied lay tries calls words clients (Step (Idle number pass) ∷ lines) c new answer said reply r.command number few
+pub refused_turn : (lay : Layout) (tries : ℕ) (calls : List Call) (words : Contents) (clients : List Client) (lines : List Line) (c new : Client) (number : ℕ) (pass : PassNo) (answer : Answer) (changes : List Change) (said : Option ℕ) (reply : Reply) → (lay.mode ≡ Tree → AreEntries calls lines changes) → length calls ≤ 65536 → OwesNothing lay calls lines → IsTurnOf lay tries calls words clients lines c → Refuses (client_view lay tries calls lines c.pass.0) c answer → begin lines c.pass.0 ≡ None → c.begin ≡ number → number ≡ suc (turns lines) → pass ≡ c.pass → IsEnd calls (Step (Idle number pass) ∷ lines) changes c new number answer said reply → AreBetweenTurns lay tries calls words (set clients c.pass.0 new) (ReplyLine reply ∷ Step (Idle number pass) ∷ lines)
+refused_turn lay tries calls words clients lines c new number pass answer changes said reply entries few settled x r unbegun begins n is e =
+    replied lay tries calls words clients (Step (Idle number pass) ∷ lines) changes c new answer said reply r.command number entries few
     record {
       so_far = so_far_same lay tries calls words lines (Step (Idle number pass)) refl (settled, record { is_pass = rw is0 r.rests.stands.is_pass; in_turn = n; idle = inr (rw is0 unbegun) }) x.so_far;
       others = others_idle lay tries calls clients lines c.pass.0 number pass is0 x.others;

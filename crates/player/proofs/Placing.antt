@@ -1,80 +1,21 @@
 -- Where the moment of an answer lies.
-use Rattle.std.proofs.Common.{◌≡◌, ℕ, ◌≤◌, ◌⊎◌, inl, inr, Bool, true, false, Option, Some, None, refl, sym, ◌∙◌, arith}
+use Rattle.std.proofs.Common.{◌≡◌, ℕ, ◌≤◌, ◌⊎◌, inl, inr, Bool, true, false, List, Option, Some, None, refl, sym, ◌∙◌, arith}
 use Rattle.script.specs.declared.command.Command.{Command}
 use Rattle.script.specs.declared.command.Command.TheVariants.{Llx, Scx, Vlx, Set, Insert, Get}
 use Rattle.record.specs.declared.record.Answer.{Answer}
 use Rattle.record.specs.declared.record.Answer.TheVariants.{Snapshot, Finalized, Fail, Done, Lost, Same, Changed, Unlinked, Full, Value, Contended}
 use Rattle.record.specs.Answers.{HasItsEntry}
 use Rattle.record.specs.CommandRules.{MayAnswerAfterStep, enters}
-use Rattle.player.specs.Moments.{is_insert, moment_by}
+use Rattle.record.proofs.Lemmas.{some_turn}
+use Rattle.record.specs.declared.record.Line.{Line}
+use Rattle.script.specs.declared.command.Call.{Call}
+use Rattle.script.specs.Commands.{mode_of}
+use Rattle.arena.specs.declared.limits.Mode.TheVariants.{Tree}
+use Rattle.places.specs.declared.places.Change.{Change}
+use Rattle.places.specs.Entries.{AreEntries}
+use Rattle.player.specs.Moments.{IsMomentBy, IsValueMoment}
 
--- whether the answer stands in the turn of an entry
-abbrev tells_entry : Bool → Answer → Bool
-tells_entry b Done = true
-tells_entry true (Value old) = true
-tells_entry b answer = false
-
--- the moment of an answer is that of its entry, or it has none of one
-abbrev IsMoment : Bool → Answer → ℕ → ℕ → Type 0
-IsMoment b answer first last = ((tells_entry b answer ≡ true) × ((w : Option ℕ) → moment_by b answer first last w ≡ w)) ⊎ ((n : Option ℕ) × ((n ≡ Some first) ⊎ ((n ≡ Some last) ⊎ (n ≡ None))) × ((w : Option ℕ) → moment_by b answer first last w ≡ n))
-
-which_moment : (b : Bool) (answer : Answer) (first last : ℕ) → IsMoment b answer first last
-which_moment true Done first last = inl (refl, λ w. refl)
-which_moment true (Value old) first last = inl (refl, λ w. refl)
-which_moment true Same first last = inr (Some first, inl refl, λ w. refl)
-which_moment true (Snapshot left right) first last = inr (Some last, inr (inl refl), λ w. refl)
-which_moment true Finalized first last = inr (Some last, inr (inl refl), λ w. refl)
-which_moment true (Fail node scx) first last = inr (None, inr (inr refl), λ w. refl)
-which_moment true (Lost node scx) first last = inr (None, inr (inr refl), λ w. refl)
-which_moment true (Changed node scx) first last = inr (None, inr (inr refl), λ w. refl)
-which_moment true (Unlinked node) first last = inr (None, inr (inr refl), λ w. refl)
-which_moment true (Full what left) first last = inr (None, inr (inr refl), λ w. refl)
-which_moment true (Contended node scx) first last = inr (None, inr (inr refl), λ w. refl)
-which_moment false Done first last = inl (refl, λ w. refl)
-which_moment false (Value old) first last = inr (Some last, inr (inl refl), λ w. refl)
-which_moment false Same first last = inr (Some first, inl refl, λ w. refl)
-which_moment false (Snapshot left right) first last = inr (Some last, inr (inl refl), λ w. refl)
-which_moment false Finalized first last = inr (Some last, inr (inl refl), λ w. refl)
-which_moment false (Fail node scx) first last = inr (None, inr (inr refl), λ w. refl)
-which_moment false (Lost node scx) first last = inr (None, inr (inr refl), λ w. refl)
-which_moment false (Changed node scx) first last = inr (None, inr (inr refl), λ w. refl)
-which_moment false (Unlinked node) first last = inr (None, inr (inr refl), λ w. refl)
-which_moment false (Full what left) first last = inr (None, inr (inr refl), λ w. refl)
-which_moment false (Contended node scx) first last = inr (None, inr (inr refl), λ w. refl)
-
-only_done : (answer : Answer) → tells_entry false answer ≡ true → answer ≡ Done
-only_done Done e = refl
-only_done (Value old) e = cc
-only_done Same e = cc
-only_done (Snapshot left right) e = cc
-only_done Finalized e = cc
-only_done (Fail node scx) e = cc
-only_done (Lost node scx) e = cc
-only_done (Changed node scx) e = cc
-only_done (Unlinked node) e = cc
-only_done (Full what left) e = cc
-only_done (Contended node scx) e = cc
-
--- an answer that stands in the turn of an entry says that it has one, where `done` does
-tells_enters : (command : Command) (answer : Answer) → (answer ≡ Done → enters command answer ≡ true) → tells_entry (is_insert command) answer ≡ true → enters command answer ≡ true
-tells_enters (Insert key value) (Value old) f e = refl
-tells_enters (Insert key value) Done f e = f refl
-tells_enters (Insert key value) Same f e = cc
-tells_enters (Insert key value) (Snapshot left right) f e = cc
-tells_enters (Insert key value) Finalized f e = cc
-tells_enters (Insert key value) (Fail node scx) f e = cc
-tells_enters (Insert key value) (Lost node scx) f e = cc
-tells_enters (Insert key value) (Changed node scx) f e = cc
-tells_enters (Insert key value) (Unlinked node) f e = cc
-tells_enters (Insert key value) (Full what left) f e = cc
-tells_enters (Insert key value) (Contended node scx) f e = cc
-tells_enters (Llx cell) answer f e = f (only_done answer e)
-tells_enters (Scx update) answer f e = f (only_done answer e)
-tells_enters (Vlx cells) answer f e = f (only_done answer e)
-tells_enters (Set field value) answer f e = f (only_done answer e)
-tells_enters (Get key) answer f e = f (only_done answer e)
-
--- it does where the call may answer so
+-- an answer `done` says that the call has an entry, where it may answer so
 pub done_enters : (command : Command) → MayAnswerAfterStep command Done → enters command Done ≡ true
 done_enters (Scx update) x = refl
 done_enters (Set field value) x = refl
@@ -89,22 +30,55 @@ same_won true said None e x f = absurd x
 same_won false said won e x f = cc
 
 -- the moment of an answer is that of the lines
-pub moment_same : (command : Command) (answer : Answer) (first last : ℕ) (said won : Option ℕ) → (answer ≡ Done → enters command answer ≡ true) → HasItsEntry (enters command answer) won → ((turn : ℕ) → won ≡ Some turn → said ≡ Some turn) → moment_by (is_insert command) answer first last said ≡ moment_by (is_insert command) answer first last won
-moment_same command answer first last said won done entry f = go (which_moment (is_insert command) answer first last)
-  where
-    go : IsMoment (is_insert command) answer first last → moment_by (is_insert command) answer first last said ≡ moment_by (is_insert command) answer first last won
-    go (inl (e, m)) = m said ∙ same_won (enters command answer) said won (tells_enters command answer done e) entry f ∙ sym (m won)
-    go (inr (n, k, m)) = m said ∙ sym (m won)
+value_same : (calls : List Call) (lines : List Line) (changes : List Change) (command : Command) (told : Option ℕ) (first last : ℕ) (said won moment : Option ℕ) → HasItsEntry (enters command (Value told)) won → ((turn : ℕ) → won ≡ Some turn → said ≡ Some turn) → IsValueMoment calls lines changes command told first last said moment → IsValueMoment calls lines changes command told first last won moment
+value_same calls lines changes (Insert key value) told first last said won moment entry f x = x ∙ same_won true said won refl entry f
+value_same calls lines changes (Get key) told first last said won moment entry f x = x
+value_same calls lines changes (Llx cell) told first last said won moment entry f x = x
+value_same calls lines changes (Scx update) told first last said won moment entry f x = x
+value_same calls lines changes (Vlx cells) told first last said won moment entry f x = x
+value_same calls lines changes (Set field value) told first last said won moment entry f x = x
 
-some_turn : (a b : ℕ) → Some a ≡ Some b → a ≡ b
-some_turn a b e = cc
+pub moment_same : (calls : List Call) (lines : List Line) (changes : List Change) (command : Command) (answer : Answer) (first last : ℕ) (said won moment : Option ℕ) → (answer ≡ Done → enters command answer ≡ true) → HasItsEntry (enters command answer) won → ((turn : ℕ) → won ≡ Some turn → said ≡ Some turn) → IsMomentBy calls lines changes command answer first last said moment → IsMomentBy calls lines changes command answer first last won moment
+moment_same calls lines changes command (Value told) first last said won moment done entry f x = value_same calls lines changes command told first last said won moment entry f x
+moment_same calls lines changes command Done first last said won moment done entry f x = x ∙ same_won (enters command Done) said won (done refl) entry f
+moment_same calls lines changes command Same first last said won moment done entry f x = x
+moment_same calls lines changes command (Snapshot left right) first last said won moment done entry f x = x
+moment_same calls lines changes command Finalized first last said won moment done entry f x = x
+moment_same calls lines changes command (Fail node scx) first last said won moment done entry f x = x
+moment_same calls lines changes command (Lost node scx) first last said won moment done entry f x = x
+moment_same calls lines changes command (Changed node scx) first last said won moment done entry f x = x
+moment_same calls lines changes command (Unlinked node) first last said won moment done entry f x = x
+moment_same calls lines changes command (Full what left) first last said won moment done entry f x = x
+moment_same calls lines changes command (Contended node scx) first last said won moment done entry f x = x
 
 -- and lies between the first turn and the last
-pub moment_within : (command : Command) (answer : Answer) (first last m : ℕ) (won : Option ℕ) → first ≤ last → ((turn : ℕ) → won ≡ Some turn → (first ≤ turn) × (turn ≤ last)) → moment_by (is_insert command) answer first last won ≡ Some m → (first ≤ m) × (m ≤ last)
-moment_within command answer first last m won i f e = go (which_moment (is_insert command) answer first last)
-  where
-    go : IsMoment (is_insert command) answer first last → (first ≤ m) × (m ≤ last)
-    go (inl (tells, is)) = f m (sym (is won) ∙ e)
-    go (inr (n, inl k, is)) = let same : first ≡ m = some_turn first m (sym k ∙ sym (is won) ∙ e) in (omega arith, omega arith)
-    go (inr (n, inr (inl k), is)) = let same : last ≡ m = some_turn last m (sym k ∙ sym (is won) ∙ e) in (omega arith, omega arith)
-    go (inr (n, inr (inr k), is)) = absurd (let z : None ≡ Some m = sym k ∙ sym (is won) ∙ e in cc)
+module _ (calls : List Call) (lines : List Line) (changes : List Change) (first last m : ℕ) (won moment : Option ℕ) (less : first ≤ last) (between : (turn : ℕ) → won ≡ Some turn → (first ≤ turn) × (turn ≤ last)) (is : moment ≡ Some m) where
+  at_first : moment ≡ Some first → (first ≤ m) × (m ≤ last)
+  at_first e = let same : first ≡ m = some_turn first m (sym e ∙ is) in (omega arith, omega arith)
+
+  at_last : moment ≡ Some last → (first ≤ m) × (m ≤ last)
+  at_last e = let same : last ≡ m = some_turn last m (sym e ∙ is) in (omega arith, omega arith)
+
+  nowhere : moment ≡ None → (first ≤ m) × (m ≤ last)
+  nowhere e = absurd (let z : None ≡ Some m = sym e ∙ is in cc)
+
+  value_within : (command : Command) (told : Option ℕ) → (mode_of command ≡ Tree → AreEntries calls lines changes) → IsValueMoment calls lines changes command told first last won moment → (first ≤ m) × (m ≤ last)
+  value_within (Insert key value) told entries x = between m (sym x ∙ is)
+  value_within (Get key) told entries x = let y = x (entries refl) in let z = rw is at y.0 in (z.from, z.to)
+  value_within (Llx cell) told entries x = nowhere x
+  value_within (Scx update) told entries x = nowhere x
+  value_within (Vlx cells) told entries x = nowhere x
+  value_within (Set field value) told entries x = nowhere x
+
+  pub moment_within : (command : Command) (answer : Answer) → (mode_of command ≡ Tree → AreEntries calls lines changes) → IsMomentBy calls lines changes command answer first last won moment → (first ≤ m) × (m ≤ last)
+  moment_within command (Value told) entries x = value_within command told entries x
+  moment_within command Done entries x = between m (sym x ∙ is)
+  moment_within command Same entries x = at_first x
+  moment_within command (Snapshot left right) entries x = at_last x
+  moment_within command Finalized entries x = at_last x
+  moment_within command (Fail node scx) entries x = nowhere x
+  moment_within command (Lost node scx) entries x = nowhere x
+  moment_within command (Changed node scx) entries x = nowhere x
+  moment_within command (Unlinked node) entries x = nowhere x
+  moment_within command (Full what left) entries x = nowhere x
+  moment_within command (Contended node scx) entries x = nowhere x

@@ -14,8 +14,6 @@ use Rattle.player.specs.declared.client.Client.{Client}
 use Rattle.player.specs.declared.player.Player.{Player}
 use Rattle.arena.specs.declared.limits.Mode.{Mode}
 use Rattle.arena.specs.History.{History, Start}
-use Rattle.player.specs.Fields.{KnowsFields}
-use Rattle.player.proofs.Rising.{knows_start}
 use Rattle.player.specs.Lines.{newest}
 use Rattle.record.specs.Turns.{history, clients}
 use Rattle.player.specs.ClientView.{client_view, Rests}
@@ -31,7 +29,7 @@ opening_between lay tries calls words rests same opening all each = record {
     holds = λ w i. opening w (rw same i) ∙ rw same refl;
     sound = record { lawful = refl; shaped = tt };
     in_order = tt;
-    fields = λ tree past e. subst (λ (h : History). KnowsFields h) (sym e) (subst (λ (m : Mode). KnowsFields (Start m)) (sym tree) knows_start);
+    filled = λ tree. tt;
     of_mode = all;
   };
   settled = record { entry = refl; reply = λ y. y };

@@ -1,6 +1,6 @@
--- Where the calls of a run took place: those of cells where their answer says; a get in its last
--- turn, since a run of gets alone leaves the words as they were at the start, which spell the empty
--- map. All replies of such a run are those of one map.
+-- Where the calls of a run took place: those of cells where their answer says; an insert at its
+-- entry; a get in the turn that was found for it. All replies of a run on the tree are those of one
+-- map.
 use Rattle.std.proofs.Common.{◌≡◌, ℕ, zero, suc, ◌<◌, ◌≤◌, ◌⊎◌, inl, inr, ⊎_elim, Bool, true, false, cond, eqb, List, [], ◌∷◌, Option, Some, None, slice_get, All, refl, sym, ◌∙◌, ap, subst, arith}
 use Rattle.std.proofs.lemmas.List.Elements.{All-tail}
 use Rattle.arena.specs.declared.limits.Mode.{Mode}
@@ -39,11 +39,13 @@ use Rattle.record.specs.declared.record.Row.TheVariants.{Step as Made, Idle}
 use Rattle.record.specs.declared.record.Reply.{Reply}
 use Rattle.record.specs.declared.record.Answer.{Answer}
 use Rattle.record.specs.declared.record.Answer.TheVariants.{Snapshot, Finalized, Fail, Done, Lost, Same, Changed, Unlinked, Full, Value, Contended}
-use Rattle.record.specs.Turns.{history, answered, start, won, entry_owed}
+use Rattle.record.specs.Turns.{history, turns, answered, begin, start, won, entry_owed}
 use Rattle.record.specs.Commands.{commands, next_command}
 use Rattle.record.specs.Linked.{linked}
 use Rattle.record.specs.Answers.{moment_of, HasItsEntry}
-use Rattle.player.specs.Moments.{is_insert, moment_by}
+use Rattle.places.specs.declared.places.Change.{Change}
+use Rattle.places.specs.Entries.{AreEntries}
+use Rattle.player.specs.Moments.{IsMomentBy}
 use Rattle.player.specs.ClientView.{client_view, Tells}
 use Rattle.record.specs.CommandRules.{MayMake, IsEntryFor, IsRight, IsPlaced, enters}
 use Rattle.record.specs.MapRecord.{written_log, reply_told, map_call}
@@ -53,44 +55,62 @@ use Rattle.record.specs.SpelledMap.{AreSpelled, IsSpelledAfter, HasStoodInField}
 use Rattle.record.proofs.Lemmas.{AreMapCalls, lawful_is_legal}
 use Rattle.player.specs.Allowed.{PlayedAllows}
 use Rattle.player.specs.BetweenTurns.{IsLawfulSoFar}
-use Rattle.player.proofs.SpelledLines.{AreOf, command_mode, are_spelled}
-use Rattle.player.proofs.InsertPlaces.{insert_placed}
+use Rattle.places.proofs.Lemmas.{IsFoundFor, are_spelled, get_placed}
+use Rattle.player.proofs.MapCalls.{command_mode, map_calls, tree_run}
+use Rattle.player.proofs.InsertPlaces.{insert_placed, unwon_none}
 
 -- a call of cells tells no value, and its moment is that of its answer
-cell_moment : (answer : Answer) (first last : ℕ) (won : Option ℕ) → ((a : Option ℕ) → answer ≡ Value a → ⊥) → moment_by false answer first last won ≡ moment_of answer first last won
-cell_moment (Value a) first last won d = absurd (d a refl)
-cell_moment (Snapshot left right) first last won d = refl
-cell_moment Finalized first last won d = refl
-cell_moment (Fail node scx) first last won d = refl
-cell_moment Done first last won d = refl
-cell_moment (Lost node scx) first last won d = refl
-cell_moment Same first last won d = refl
-cell_moment (Changed node scx) first last won d = refl
-cell_moment (Unlinked node) first last won d = refl
-cell_moment (Full what left) first last won d = refl
-cell_moment (Contended node scx) first last won d = refl
+cell_moment : (calls : List Call) (lines : List Line) (changes : List Change) (command : Command) (answer : Answer) (first last : ℕ) (won moment : Option ℕ) → ((a : Option ℕ) → answer ≡ Value a → ⊥) → IsMomentBy calls lines changes command answer first last won moment → moment ≡ moment_of answer first last won
+cell_moment calls lines changes command (Value a) first last won moment d x = absurd (d a refl)
+cell_moment calls lines changes command (Snapshot left right) first last won moment d x = x
+cell_moment calls lines changes command Finalized first last won moment d x = x
+cell_moment calls lines changes command (Fail node scx) first last won moment d x = x
+cell_moment calls lines changes command Done first last won moment d x = x
+cell_moment calls lines changes command (Lost node scx) first last won moment d x = x
+cell_moment calls lines changes command Same first last won moment d x = x
+cell_moment calls lines changes command (Changed node scx) first last won moment d x = x
+cell_moment calls lines changes command (Unlinked node) first last won moment d x = x
+cell_moment calls lines changes command (Full what left) first last won moment d x = x
+cell_moment calls lines changes command (Contended node scx) first last won moment d x = x
+
+-- a get took place in a turn that was found for it
+get_reads : (lay : Layout) (tries : ℕ) (calls : List Call) (words : Contents) (lines : List Line) (changes : List Change) (reply : Reply) (key : ℕ) → IsLawfulSoFar lay tries calls words lines → lay.mode ≡ Tree → AreEntries calls lines changes → entry_owed lay lines ≡ None → reply.call ≡ answered lines reply.client.0 → IsRight lay reply.client.0 (history lay.mode lines) (start lay.mode lines reply.client.0) (linked calls lay.mode lines reply.client.0) (GetOf key) reply.answer → HasItsEntry (enters (GetOf key) reply.answer) (won lay lines reply.client.0) → next_command calls lines reply.client.0 ≡ Some (GetOf key) → begin lines reply.client.0 ≡ Some reply.begin → reply.end ≡ turns lines
+    → IsMomentBy calls lines changes (GetOf key) reply.answer reply.begin reply.end (won lay lines reply.client.0) reply.moment → IsPlacedOnMap (reply_told reply.answer) calls lines (Get key) reply
+get_reads lay tries calls words lines changes reply key x mode entries owed called right entry is begin end moment = go reply.answer refl
+  where
+    spelled : AreSpelled lay calls lines
+    spelled = are_spelled lay tries calls mode (map_calls lay.mode calls mode x.of_mode) lines x.in_order (tree_run lay (history lay.mode lines) mode x.sound) (x.filled mode)
+
+    told : (a : Option ℕ) → reply.answer ≡ Value a → IsReading calls lines (Get key) reply
+    told a e =
+        let found = (rw e at moment) entries in
+        let at : IsAnswerAt lay (history lay.mode lines) (start lay.mode lines reply.client.0) key a = rw e at right in
+        get_placed lay tries calls lines reply key a x.in_order spelled owed is (unwon_none (won lay lines reply.client.0) (rw e at entry)) called begin end e at record { found = found.0; none = found.1 }
+
+    go : (answer : Answer) → reply.answer ≡ answer → IsPlacedOnMap (reply_told answer) calls lines (Get key) reply
+    go (Value a) e = told a e
+    go (Snapshot left right') e = absurd (rw e at right)
+    go Finalized e = absurd (rw e at right)
+    go (Fail node scx) e = absurd (rw e at right)
+    go Done e = absurd (rw e at right)
+    go (Lost node scx) e = absurd (rw e at right)
+    go Same e = absurd (rw e at right)
+    go (Changed node scx) e = absurd (rw e at right)
+    go (Unlinked node) e = absurd (rw e at right)
+    go (Full what left) e = absurd (rw e at right)
+    go (Contended node scx) e = absurd (rw e at right)
 
 -- where the call of a reply took place
-pub placed : (lay : Layout) (tries : ℕ) (calls : List Call) (words : Contents) (lines : List Line) (reply : Reply) (c : ℕ) (command : Command) → IsLawfulSoFar lay tries calls words lines → entry_owed lay lines ≡ None → reply.client.0 ≡ c → reply.call ≡ answered lines c → IsRight lay c (history lay.mode lines) (start lay.mode lines c) (linked calls lay.mode lines c) command reply.answer → Tells (client_view lay tries calls lines c) c command reply.answer → HasItsEntry (enters command reply.answer) (won lay lines c) → next_command calls lines c ≡ Some command → reply.begin ≤ reply.end
-    → reply.moment ≡ moment_by (is_insert command) reply.answer reply.begin reply.end (won lay lines c) → IsPlaced lay calls lines reply command
-placed lay tries calls words lines reply c (LlxOf cell) x owed own called right tells entry is within moment = moment ∙ cell_moment reply.answer reply.begin reply.end (won lay lines c) (λ a e. rw e at right) ∙ ap (λ (k : ℕ). moment_of reply.answer reply.begin reply.end (won lay lines k)) (sym own)
-placed lay tries calls words lines reply c (ScxOf update) x owed own called right tells entry is within moment = moment ∙ cell_moment reply.answer reply.begin reply.end (won lay lines c) (λ a e. rw e at right) ∙ ap (λ (k : ℕ). moment_of reply.answer reply.begin reply.end (won lay lines k)) (sym own)
-placed lay tries calls words lines reply c (VlxOf cells) x owed own called right tells entry is within moment = moment ∙ cell_moment reply.answer reply.begin reply.end (won lay lines c) (λ a e. rw e at right) ∙ ap (λ (k : ℕ). moment_of reply.answer reply.begin reply.end (won lay lines k)) (sym own)
-placed lay tries calls words lines reply c (SetOf field value) x owed own called right tells entry is within moment = moment ∙ cell_moment reply.answer reply.begin reply.end (won lay lines c) (λ a e. rw e at right) ∙ ap (λ (k : ℕ). moment_of reply.answer reply.begin reply.end (won lay lines k)) (sym own)
-placed lay tries calls words lines reply c (InsertOf key value) x owed own called right tells entry is within moment = insert_placed lay tries calls (sym (command_mode lay.mode calls c _ (InsertOf key value) x.of_mode is)) x.of_mode lines reply c key value x.sound x.in_order owed own called right tells entry moment
-placed lay tries calls words lines reply c (GetOf key) x owed own called right tells entry is within moment = ?
-
--- all calls of a tree are of the map
-map_calls : (mode : Mode) (calls : List Call) → mode ≡ Tree → AreOf mode calls → AreMapCalls calls
-map_calls mode calls e all c j command is = go command (command_mode mode calls c j command all is ∙ e)
-  where
-    go : (command : Command) → mode_of command ≡ Tree → (call : MapCall) × (map_call (Some command) ≡ Some call)
-    go (GetOf key) e = (Get key, refl)
-    go (InsertOf key value) e = (Edit (Insert key value), refl)
-    go (LlxOf cell) e = cc
-    go (ScxOf update) e = cc
-    go (VlxOf cells) e = cc
-    go (SetOf field value) e = cc
+pub placed : (lay : Layout) (tries : ℕ) (calls : List Call) (words : Contents) (lines : List Line) (changes : List Change) (reply : Reply) (c : ℕ) (command : Command) → IsLawfulSoFar lay tries calls words lines → (lay.mode ≡ Tree → AreEntries calls lines changes) → entry_owed lay lines ≡ None → reply.client.0 ≡ c → reply.call ≡ answered lines c → IsRight lay c (history lay.mode lines) (start lay.mode lines c) (linked calls lay.mode lines c) command reply.answer → Tells (client_view lay tries calls lines c) c command reply.answer → HasItsEntry (enters command reply.answer) (won lay lines c) → next_command calls lines c ≡ Some command → begin lines c ≡ Some reply.begin → reply.end ≡ turns lines
+    → IsMomentBy calls lines changes command reply.answer reply.begin reply.end (won lay lines c) reply.moment → IsPlaced lay calls lines reply command
+placed lay tries calls words lines changes reply c (LlxOf cell) x entries owed own called right tells entry is begin end moment = cell_moment calls lines changes (LlxOf cell) reply.answer reply.begin reply.end (won lay lines c) reply.moment (λ a e. rw e at right) moment ∙ ap (λ (k : ℕ). moment_of reply.answer reply.begin reply.end (won lay lines k)) (sym own)
+placed lay tries calls words lines changes reply c (ScxOf update) x entries owed own called right tells entry is begin end moment = cell_moment calls lines changes (ScxOf update) reply.answer reply.begin reply.end (won lay lines c) reply.moment (λ a e. rw e at right) moment ∙ ap (λ (k : ℕ). moment_of reply.answer reply.begin reply.end (won lay lines k)) (sym own)
+placed lay tries calls words lines changes reply c (VlxOf cells) x entries owed own called right tells entry is begin end moment = cell_moment calls lines changes (VlxOf cells) reply.answer reply.begin reply.end (won lay lines c) reply.moment (λ a e. rw e at right) moment ∙ ap (λ (k : ℕ). moment_of reply.answer reply.begin reply.end (won lay lines k)) (sym own)
+placed lay tries calls words lines changes reply c (SetOf field value) x entries owed own called right tells entry is begin end moment = cell_moment calls lines changes (SetOf field value) reply.answer reply.begin reply.end (won lay lines c) reply.moment (λ a e. rw e at right) moment ∙ ap (λ (k : ℕ). moment_of reply.answer reply.begin reply.end (won lay lines k)) (sym own)
+placed lay tries calls words lines changes reply c (InsertOf key value) x entries owed own called right tells entry is begin end moment = insert_placed lay tries calls (sym (command_mode lay.mode calls c _ (InsertOf key value) x.of_mode is)) x.of_mode lines changes reply c key value x.sound x.in_order owed own called right tells entry moment
+placed lay tries calls words lines changes reply c (GetOf key) x entries owed own called right tells entry is begin end moment =
+    let mode = sym (command_mode lay.mode calls c _ (GetOf key) x.of_mode is) in
+    get_reads lay tries calls words lines changes reply key x mode (entries mode) owed (rw own called) (rw own right) (rw own entry) (rw own is) (rw own begin) end (rw own moment)
 
 -- what is said of a whole run by its mode
 pub whole : (lay : Layout) (tries : ℕ) (calls : List Call) (words : Contents) (lines : List Line) → IsLawfulSoFar lay tries calls words lines → IsWhole lay.mode lay calls lines
@@ -98,4 +118,4 @@ whole lay tries calls words lines x = go lay.mode refl
   where
     go : (m : Mode) → lay.mode ≡ m → IsWhole m lay calls lines
     go Records e = tt
-    go Tree e = (are_spelled lay tries calls e x.of_mode lines x.sound x.in_order (x.fields e), lawful_is_legal lay tries calls lines (map_calls lay.mode calls e x.of_mode) x.in_order)
+    go Tree e = (are_spelled lay tries calls e (map_calls lay.mode calls e x.of_mode) lines x.in_order (tree_run lay (history lay.mode lines) e x.sound) (x.filled e), lawful_is_legal lay tries calls lines (map_calls lay.mode calls e x.of_mode) x.in_order)

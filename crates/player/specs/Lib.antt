@@ -1,6 +1,5 @@
 pub mod Allowed
 pub mod Moments
-pub mod Fields
 pub mod RunSteps
 pub mod RunKnown
 pub mod Lines

@@ -165,7 +165,7 @@ scx_in_order c begun h j scx_at.Call s w = subst (λ (t : Step). IsFillInOrder h
 
 -- whatever step an insert waits for
 pub insert_in_order : (m : UpdateRun Insert) (c : Call) (h : History) (s : Step) → UpdateWaits insert_means m c h s → IsFillInOrder h (row_of c s h)
-insert_in_order m c h s x = go m.at x.2
+insert_in_order m c h s x = go m.at x.3
   where
     go : (at : UpdateAt) → UpdateWaitsAt insert_means m (from c x.0) h s at → IsFillInOrder h (row_of c s h)
     go Start w = absurd w
