@@ -124,7 +124,7 @@ turn_begins lay tries calls words clients lines i c get x =
     let y = x.each i c get in
     record { so_far = x.so_far; others = λ j d n g. x.each j d g; own = subst (λ (k : ℕ). slice_get clients k ≡ Some c) (sym y.0) get }
 
-some_client : (a b : Client) → Some a ≡ Some b → a ≡ b
+pub some_client : (a b : Client) → Some a ≡ Some b → a ≡ b
 some_client a b e = cc
 
 pub turn_ends : (lay : Layout) (tries : ℕ) (calls : List Call) (words : Contents) (clients : List Client) (lines : List Line) (c : Client) → OwesNothing lay calls lines → IsClient (client_view lay tries calls lines c.pass.0) (begin lines c.pass.0) c → IsTurnOf lay tries calls words clients lines c → AreBetweenTurns lay tries calls words clients lines

@@ -6,6 +6,7 @@ use crate::place::next_call;
 use crate::run::{Ended, Run};
 use arena::{Fresh, Full, Layout, NodeNo, PassNo, Resource, ScxNo, Share, Side, Step, Turn};
 use arrayvec::ArrayVec;
+use places::Places;
 use prims::{Llx, LlxRun, PutRun, ScxRun, Snap, Snaps, Update, VlxRun};
 use record::{Answer, Reply};
 use script::{Call, Cell, Command};
@@ -54,7 +55,7 @@ pub(crate) struct Client {
 }
 
 impl Client {
-    ghost use Rattle.std.specs.Prelude.{◌≡◌, ◌≢◌, ◌<◌, ◌+◌, ◌-◌, Option, Some, None, IsSome, is_some, IfOk, OnOk, IfErr, List, [], length, map, slice_get, MatchOption, All};
+    ghost use Rattle.std.specs.Prelude.{◌≡◌, ◌≢◌, ◌<◌, ◌≤◌, ◌+◌, ◌-◌, Option, Some, None, IsSome, IfSome, is_some, IfOk, OnOk, IfErr, List, [], length, map, slice_get, MatchOption, All};
     ghost use Rattle.script.specs.Commands.{mode_of};
     ghost use Rattle.arena.specs.declared.limits.Mode.TheVariants.{Records};
     ghost use Rattle.script.specs.declared.command.Command.TheVariants.{Scx as ScxCommand};
@@ -70,7 +71,9 @@ impl Client {
     ghost use Rattle.script.specs.declared.command.Command.TheVariants.{Insert as InsertCommand};
     ghost use Rattle.script.specs.declared.command.Call.{Call as ScriptCall};
     ghost use Rattle.arena.specs.Share.{IsFull, after_taking};
-    ghost use Rattle.player.specs.Moments.{is_insert, moment_by};
+    ghost use Rattle.record.specs.declared.record.Line.{Line};
+    ghost use Rattle.places.specs.Places.{changes};
+    ghost use Rattle.player.specs.Moments.{IsMomentBy, IsValueMoment};
     ghost use Rattle.player.specs.RunKnown.{share_behind};
     ghost use Rattle.player.specs.RunKnown.{RunAsksFirst};
     ghost use Rattle.player.specs.ClientView.{ClientView, client_view, IsSound, IsAtNextCall, Rests, command_of, Starts, Hears, Answered, Told, CanPut, Puts, held, BeginsOrRefuses, IsNextAction, IsUnbegun, IsClient};
@@ -330,35 +333,53 @@ impl Client {
         reply
     }
 
-    /// Whether the call that runs is an insert.
-    fn inserts(&self, calls: &[Call]) -> bool
-        ensures { (call : ScriptCall) (at : ℕ) → self.now.next ≡ Some at → slice_get calls.now at ≡ Some call → result ≡ is_insert call.command }
+    /// The call that runs or comes next.
+    pub(crate) fn call(&self, calls: &[Call]) -> Option<Call>
+        ensures here { (at : ℕ) (call : ScriptCall) → self.now.next ≡ Some at → slice_get calls.now at ≡ Some call → result ≡ Some call }
+        ensures one { IfSome result (λ call. (at : ℕ) × (slice_get calls.now at ≡ Some call)) }
     {
-        match self.next.and_then(|at| calls.get(at)) {
-            Some(call) => matches!(call.command, Command::Insert { .. }),
-            None => false,
-        }
+        calls.get(self.next?).copied()
     }
 
     /// The turn at which an answer stands: of an update that is done, and of an insert, that of its
-    /// entry, of a VLX its first, of an LLX or a get its last. `won` is the turn of the last update
-    /// of the client's that has won.
+    /// entry, of a VLX its first, of an LLX its last, of a get one of its turns after which the map
+    /// was as it tells. `won` is the turn of the last update of the client's that has won.
     pub(crate) fn moment(
         &self,
         calls: &[Call],
         turn: u64,
         answer: Answer,
         won: Option<u64>,
+        places: &Places,
     ) -> Option<u64>
-        ensures { (call : ScriptCall) (at : ℕ) → self.now.next ≡ Some at → slice_get calls.now at ≡ Some call → result ≡ moment_by (is_insert call.command) answer self.now.begin turn won }
+        requires { self.now.begin ≤ turn }
+        ensures { (call : ScriptCall) (at : ℕ) (lines : List Line) → self.now.next ≡ Some at → slice_get calls.now at ≡ Some call → IsMomentBy calls.now lines (changes places.now) call.command answer self.now.begin turn won result }
     {
         match answer {
             Answer::Done => won,
             Answer::Same => Some(self.begin),
             Answer::Snapshot { left: _, right: _ } => Some(turn),
             Answer::Finalized => Some(turn),
-            Answer::Value(_) if self.inserts(calls) => won,
-            Answer::Value(_) => Some(turn),
+            Answer::Value(value) => self.value_moment(calls, turn, value, won, places),
+            _ => None,
+        }
+    }
+
+    /// The turn at which an answer stands that tells a value.
+    fn value_moment(
+        &self,
+        calls: &[Call],
+        turn: u64,
+        value: Option<u64>,
+        won: Option<u64>,
+        places: &Places,
+    ) -> Option<u64>
+        requires { self.now.begin ≤ turn }
+        ensures { (call : ScriptCall) (at : ℕ) (lines : List Line) → self.now.next ≡ Some at → slice_get calls.now at ≡ Some call → IsValueMoment calls.now lines (changes places.now) call.command value self.now.begin turn won result }
+    {
+        match self.call(calls)?.command {
+            Command::Insert { key: _, value: _ } => won,
+            Command::Get { key } => places.greatest(key, value, self.begin, turn),
             _ => None,
         }
     }

@@ -1,6 +1,8 @@
 use Rattle.std.proofs.Common.{◌≡◌, List, [], sym, subst}
 use Rattle.script.proofs.Lemmas.{calls_are_of_mode}
 use Rattle.record.specs.declared.record.Line.{Line}
+use Rattle.places.specs.Places.{changes}
+use Rattle.places.specs.Entries.{AreEntries}
 use Rattle.player.specs.Lines.{newest}
 use Rattle.player.specs.BetweenTurns.{AreBetweenTurns, AreWins}
 use Rattle.player.proofs.Plays.{opening_between, no_wins}
@@ -13,5 +15,6 @@ returns-clause-played c =
     record {
       between = subst (λ (l : List Line). AreBetweenTurns script.layout script.limits.tries script.calls.items c.in_ok-words.words c.in_ok-clients.clients.items l) (sym none)
           (opening_between script.layout script.limits.tries script.calls.items c.in_ok-words.words c.in_ok-clients.clients.items c.in_ok-words.ensures.layout c.in_ok-words.ensures.opening (calls_are_of_mode script) c.in_ok-clients.ensures.each);
+      places = record { entries = λ tree. subst (λ (l : List Line). AreEntries script.calls.items l (changes c.in_ok-places.field-0)) (sym none) (rw c.in_ok-places.ensures.none tt); keys = c.in_ok-places.ensures.keys };
       wins = subst (λ (l : List Line). AreWins script.layout l c.in_ok-wins.wins.items) (sym none) (no_wins script.layout c.in_ok-wins.wins.items);
     }
