@@ -85,7 +85,7 @@ get_reads lay tries calls words lines changes reply key x mode entries owed call
     told a e =
         let found = (rw e at moment) entries in
         let at : IsAnswerAt lay (history lay.mode lines) (start lay.mode lines reply.client.0) key a = rw e at right in
-        get_placed lay tries calls lines reply key a x.in_order spelled owed is (unwon_none (won lay lines reply.client.0) (rw e at entry)) called begin end e at record { found = found.0; none = found.1 }
+        get_placed lay tries calls lines reply key a x.in_order spelled owed is (unwon_none (won lay lines reply.client.0) entry) called begin end e at record { found = found.0; none = found.1 }
 
     go : (answer : Answer) → reply.answer ≡ answer → IsPlacedOnMap (reply_told answer) calls lines (Get key) reply
     go (Value a) e = told a e

@@ -207,13 +207,16 @@ module _ (p : Player) (i number : ℕ) (step : Ask) (a : IsAsked p i number step
   at_insert : (entry : Entry) (c : Client) → slice_get p.clients.items entry.client.0 ≡ Some c → c.pass.0 ≡ entry.client.0 → c.number ≡ answered lines entry.client.0 → IsAt calls c.pass.0 (drop c.number (commands calls c.pass.0)) c.next → IsWinOf lay calls lines made entry → lay.mode ≡ Tree → IsAtInsert calls p.clients.items entry
   at_insert entry c there is number place w tree = by_command w.command w.is w.does
     where
+      own : slice_get (commands calls entry.client.0) (answered lines entry.client.0) ≡ slice_get (commands calls c.pass.0) c.number
+      own = ap (λ (k : ℕ). slice_get (commands calls k) (answered lines entry.client.0)) (sym is) ∙ ap (λ (k : ℕ). slice_get (commands calls c.pass.0) k) (sym number)
+
       stands : (key put : ℕ) → slice_get (commands calls entry.client.0) (answered lines entry.client.0) ≡ Some (InsertOf key put) → (next : Option ℕ) → c.next ≡ next → IsAtInsert calls p.clients.items entry
       stands key put here None e =
-          let none : slice_get (commands calls entry.client.0) (answered lines entry.client.0) ≡ None = rw (sym is, sym number) (none_left calls c.pass.0 c.number (rw e at place)) in
+          let none : slice_get (commands calls entry.client.0) (answered lines entry.client.0) ≡ None = own ∙ none_left calls c.pass.0 c.number (rw e at place) in
           absurd (let z : None ≡ Some (InsertOf key put) = sym none ∙ here in cc)
       stands key put here (Some at) e =
           let y = next_at calls c.pass.0 c.number at (rw e at place) in
-          let z : slice_get (commands calls entry.client.0) (answered lines entry.client.0) ≡ Some y.0 = rw (sym is, sym number) y.2 in
+          let z : slice_get (commands calls entry.client.0) (answered lines entry.client.0) ≡ Some y.0 = own ∙ y.2 in
           let same : y.0 ≡ InsertOf key put = let d : Some y.0 ≡ Some (InsertOf key put) = sym z ∙ here in cc in
           record { client = c; there = there; at = at; next = e; call = record { client = record { 0 = c.pass.0 }; command = y.0 }; here = y.1; key = key; value = put; command = same; edits = ap (λ (j : ℕ). map_call (slice_get (commands calls entry.client.0) j)) w.call ∙ ap map_call here }
 

@@ -26,7 +26,8 @@ use Rattle.record.specs.Commands.{commands, next_command}
 use Rattle.record.specs.CommandRules.{most_steps}
 use Rattle.record.specs.LawfulRun.{OwesNothing, AreLines}
 use Rattle.record.specs.Replies.{IsReply}
-use Rattle.player.specs.BetweenTurns.{IsBetweenTurns, IsSameScript, IsTurnMore}
+use Rattle.player.specs.BetweenTurns.{IsBetweenTurns, IsSameScript, IsTurnMore, HasSameClients, HasSamePlaces}
+use Rattle.player.proofs.Steps.{between_at, same_tries, wins_at, places_at, places_roomy}
 use Rattle.record.specs.OneClient.{HasCall, AwaitsSteps, AreMadeWhile}
 use Rattle.player.specs.TurnsMore.{AreTurnsWhile, most_of_all, to_go}
 
@@ -248,3 +249,18 @@ wanted_more c kind times left old p q row some x e has t = (turn_more _ c old p 
     go : (is : Bool) → made (lines_of q) c kind ≡ cond is (suc (made (lines_of p) c kind)) (made (lines_of p) c kind) → made (lines_of q) c kind + cond is (left - 1) left ≡ made (lines_of old) c kind + times
     go true m = omega arith
     go false m = omega arith
+
+-- a turn that is refused leaves what was played
+pub refused_more : (so : List Line → Type 0) (c : ℕ) (p old new : Player) → AreTurnsWhile so c p old → HasSameClients old new → newest new.lines ≡ newest old.lines → new.wins.items ≡ old.wins.items → HasSamePlaces old.places new.places → AreTurnsWhile so c p new
+refused_more so c p old new x same lines wins places = record {
+  played = record {
+    between = between_at _ _ _ _ _ _ _ _ _ _ _ _ same.script.layout (same_tries _ _ same.script) same.script.calls same.words same.clients lines x.played.between;
+    wins = wins_at _ _ _ _ _ _ same.script.layout lines wins x.played.wins;
+    places = places_at _ _ _ _ _ _ _ _ same.script.layout same.script.calls lines refl (places_roomy _ _ _ _ _ places.changed places.keys x.played.places);
+  };
+  script = record { limits = same.script.limits ∙ x.script.limits; layout = same.script.layout ∙ x.script.layout; calls = same.script.calls ∙ x.script.calls };
+  behind = x.behind;
+  lines = lines ∙ x.lines;
+  each = x.each;
+  turns = ap (λ (l : List Line). clients l) lines ∙ x.turns;
+}

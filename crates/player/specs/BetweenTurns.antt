@@ -150,6 +150,11 @@ pub record HasSameClients (old new : Player) : Type 0 where
   pub words : new.words ≡ old.words
   pub clients : new.clients.items ≡ old.clients.items
 
+-- the places are as they were, but for their room
+pub record HasSamePlaces (old new : Places) : Type 0 where
+  pub changed : changes new ≡ changes old
+  pub keys : (key : ℕ) → Knows old key → Knows new key
+
 -- script, words and the turns of winning updates are as they were
 pub record HasSameWords (old new : Player) : Type 0 where
   pub script : IsSameScript old.script new.script

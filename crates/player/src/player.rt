@@ -42,7 +42,7 @@ impl Player {
     ghost use Rattle.player.specs.TurnsMore.{AreTurnsWhile};
     ghost use Rattle.player.specs.Lines.{room, newest};
     ghost use Rattle.record.specs.Turns.{turns, clients, answered, made, entry_owed};
-    ghost use Rattle.player.specs.BetweenTurns.{IsBetweenTurns, IsAsked, IsMade, IsReplied, IsTurnMore, IsSameScript, HasSameClients, HasSameWords, ArePlaces, IsAtInsert};
+    ghost use Rattle.player.specs.BetweenTurns.{IsBetweenTurns, IsAsked, IsMade, IsReplied, IsTurnMore, IsSameScript, HasSameClients, HasSameWords, HasSamePlaces, ArePlaces, IsAtInsert};
     ghost use Rattle.arena.specs.declared.limits.Mode.TheVariants.{Tree};
     ghost use Rattle.record.specs.declared.record.Entry.{Entry as LogEntry};
     ghost use Rattle.places.specs.Places.{changes, room as places_room, Knows, HoldsOfKey};
@@ -76,7 +76,7 @@ impl Player {
         requires client { client.0 < passes_of self.old }
         requires played { IsBetweenTurns self.old }
         ensures turn { IfOk result (λ row. IsTurnMore self.old self.new client.0 row) }
-        ensures refused { IfErr result (λ e. HasSameClients self.old self.new × (newest self.new.lines ≡ newest self.old.lines) × (self.new.wins ≡ self.old.wins)) }
+        ensures refused { IfErr result (λ e. HasSameClients self.old self.new × (newest self.new.lines ≡ newest self.old.lines) × (self.new.wins ≡ self.old.wins) × HasSamePlaces self.old.places self.new.places) }
     {
         self.lines.reserve()?;
         self.places.reserve()?;

@@ -11,10 +11,10 @@ use Rattle.player.proofs.player.Player.new.Goals as goal
 pub returns-clause-played : goal.returns-clause-played
 returns-clause-played c =
     let script = c.in_ok-script.script in
-    let none : newest c.new-2.result ≡ [] = c.new-2.ensures in
+    let none : newest c.new-3.result ≡ [] = c.new-3.ensures in
     record {
       between = subst (λ (l : List Line). AreBetweenTurns script.layout script.limits.tries script.calls.items c.in_ok-words.words c.in_ok-clients.clients.items l) (sym none)
           (opening_between script.layout script.limits.tries script.calls.items c.in_ok-words.words c.in_ok-clients.clients.items c.in_ok-words.ensures.layout c.in_ok-words.ensures.opening (calls_are_of_mode script) c.in_ok-clients.ensures.each);
-      places = record { entries = λ tree. subst (λ (l : List Line). AreEntries script.calls.items l (changes c.in_ok-places.field-0)) (sym none) (rw c.in_ok-places.ensures.none tt); keys = c.in_ok-places.ensures.keys };
+      places = record { entries = λ tree. subst (λ (l : List Line). AreEntries script.calls.items l (changes c.in_ok-new-2.field-0)) (sym none) (rw c.in_ok-new-2.ensures.none tt); keys = c.in_ok-new-2.ensures.keys };
       wins = subst (λ (l : List Line). AreWins script.layout l c.in_ok-wins.wins.items) (sym none) (no_wins script.layout c.in_ok-wins.wins.items);
     }

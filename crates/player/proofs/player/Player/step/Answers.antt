@@ -59,7 +59,7 @@ returns-in-Finished-clause-turn c =
       played = record {
         between = between_at _ _ _ _ _ _ _ _ _ _ _ _ c.idle.ensures.same.script.layout (same_tries _ _ c.idle.ensures.same.script) c.idle.ensures.same.script.calls c.idle.ensures.same.words c.idle.ensures.same.clients (line ∙ idle) between;
         wins = wins_at _ _ _ _ _ _ c.idle.ensures.same.script.layout (line ∙ idle) c.idle.ensures.wins (wins_idle p.script.layout (newest p.lines) number c.args.client p.wins.items c.requires.played.wins);
-        places = places_at _ _ _ _ _ _ _ _ c.idle.ensures.same.script.layout c.idle.ensures.same.script.calls (line ∙ idle) c.idle.ensures.places (roomy here);
+        places = places_at _ _ _ _ _ _ _ _ c.idle.ensures.same.script.layout c.idle.ensures.same.script.calls (line ∙ idle) c.idle.ensures.places record { entries = (roomy here).entries; keys = (roomy here).keys };
       };
       script = record { limits = c.idle.ensures.same.script.limits; layout = c.idle.ensures.same.script.layout; calls = c.idle.ensures.same.script.calls };
       behind = [];
@@ -88,7 +88,7 @@ returns-in-Answers-clause-turn c =
       played = record {
         between = between_at _ _ _ _ _ _ _ _ _ _ _ _ (c.reply.ensures.same.script.layout ∙ idle.same.script.layout) (same_tries _ _ c.reply.ensures.same.script ∙ same_tries _ _ idle.same.script) (c.reply.ensures.same.script.calls ∙ idle.same.script.calls) (c.reply.ensures.same.words ∙ idle.same.words) (r.clients ∙ ap (λ (l : List Client). set l new.pass.0 r.client) idle.same.clients) (line ∙ row) between;
         wins = wins_at _ _ _ _ _ _ (c.reply.ensures.same.script.layout ∙ idle.same.script.layout) (line ∙ row) (c.reply.ensures.same.wins ∙ idle.wins) (wins_reply p.script.layout (Step (Idle number c.args.client) ∷ newest p.lines) r.reply p.wins.items (wins_idle p.script.layout (newest p.lines) number c.args.client p.wins.items c.requires.played.wins));
-        places = places_at _ _ _ _ _ _ _ _ (c.reply.ensures.same.script.layout ∙ idle.same.script.layout) (c.reply.ensures.same.script.calls ∙ idle.same.script.calls) (line ∙ row) (c.reply.ensures.places ∙ idle.places) (roomy here);
+        places = places_at _ _ _ _ _ _ _ _ (c.reply.ensures.same.script.layout ∙ idle.same.script.layout) (c.reply.ensures.same.script.calls ∙ idle.same.script.calls) (line ∙ row) (c.reply.ensures.places ∙ idle.places) record { entries = (roomy here).entries; keys = (roomy here).keys };
       };
       script = record { limits = c.reply.ensures.same.script.limits ∙ idle.same.script.limits; layout = c.reply.ensures.same.script.layout ∙ idle.same.script.layout; calls = c.reply.ensures.same.script.calls ∙ idle.same.script.calls };
       behind = Reply r.reply ∷ [];
