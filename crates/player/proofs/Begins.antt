@@ -53,7 +53,7 @@ use Rattle.updates.specs.declared.update.UpdateRun.{UpdateRun}
 use Rattle.player.proofs.Shapes.{as_tree}
 use Rattle.player.specs.RunSteps.{then_left}
 use Rattle.prims.specs.Scx.Known.{nodes_of}
-use Rattle.player.specs.ClientView.{ClientView, no_hand, held, IsWonSince, IsSound, Rests, Refuses, Starts, IsLlxOf, IsUnbegun, command_of, machine_call, GoesOn, IsSameCall, CanPut, Puts, BeginsOrRefuses, IsNextAction}
+use Rattle.player.specs.ClientView.{ClientView, no_hand, held, IsSound, Rests, Refuses, Starts, IsLlxOf, IsUnbegun, command_of, machine_call, GoesOn, IsSameCall, CanPut, Puts, BeginsOrRefuses, IsNextAction}
 use Rattle.player.specs.declared.client.NextAction.{NextAction}
 use Rattle.player.specs.declared.client.NextAction.TheVariants.{Finished, Answers, Asks}
 use Rattle.script.specs.declared.command.Call.{Call}

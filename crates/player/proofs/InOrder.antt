@@ -1,6 +1,5 @@
 -- The machines that run on the tree fill nodes in order.
 use Rattle.std.proofs.Common.{◌≡◌}
-use Rattle.arena.specs.declared.limits.Mode.{Mode}
 use Rattle.arena.specs.declared.limits.Mode.TheVariants.{Records, Tree}
 use Rattle.arena.specs.declared.step.Step.{Step}
 use Rattle.arena.specs.History.{History}

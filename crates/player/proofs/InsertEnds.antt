@@ -1,11 +1,7 @@
 -- How an insert ends: what its answer says of the call.
-use Rattle.std.proofs.Common.{◌≡◌, ℕ, ◌^◌, ◌<◌, ◌⊎◌, inl, inr, ⊎_elim, Option, Some, None, refl, sym, subst, arith}
-use Rattle.arena.specs.declared.layout.Layout.{Layout}
+use Rattle.std.proofs.Common.{◌≡◌, ℕ, ◌^◌, ◌<◌, inl, inr, ⊎_elim, Option, Some, None, sym, subst}
 use Rattle.arena.specs.declared.limits.Mode.TheVariants.{Tree}
-use Rattle.arena.specs.declared.fault.Full.{Full as FullOf}
-use Rattle.arena.specs.declared.number.NodeNo.{NodeNo}
-use Rattle.arena.specs.declared.number.ScxNo.{ScxNo}
-use Rattle.arena.specs.History.{History, ◌⊳◌, Extends}
+use Rattle.arena.specs.History.{History}
 use Rattle.arena.specs.Machines.{Call as MachineCall}
 use Rattle.spelling.specs.Paths.{IsAnswerAt}
 use Rattle.spelling.specs.Runs.{IsTreeRun}
@@ -14,7 +10,7 @@ use Rattle.template.specs.FoundLeaf.{HasFoundLeaf}
 use Rattle.template.specs.declared.walk.Found.{Found}
 use Rattle.tree.specs.declared.insert.Insert.{Insert as Inserted}
 use Rattle.tree.specs.Insert.Means.{insert_means, insert_need}
-use Rattle.updates.specs.Known.{UpdateAnswers, IsFullFor}
+use Rattle.updates.specs.Known.{UpdateAnswers}
 use Rattle.updates.specs.Tries.{HasEnteredNone}
 use Rattle.updates.specs.declared.edit.Need.TheVariants.{Nothing}
 use Rattle.updates.specs.declared.update.UpdateRun.{UpdateRun}

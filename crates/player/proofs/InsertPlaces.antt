@@ -1,6 +1,6 @@
 -- Where an insert took place: at its one entry, which tells what the map had just before. One that
 -- is refused has none.
-use Rattle.std.proofs.Common.{◌≡◌, ℕ, zero, suc, ◌<◌, ◌≤◌, ◌⊎◌, inl, inr, ⊎_elim, Bool, true, false, cond, ◌&&◌, ◌||◌, eqb, eqb-true, eq-eqb, ne_eqb, is_some, List, [], ◌∷◌, ◌++◌, Option, Some, None, refl, sym, ◌∙◌, ap, subst, arith}
+use Rattle.std.proofs.Common.{◌≡◌, ℕ, suc, ◌⊎◌, inl, inr, ⊎_elim, Bool, true, false, cond, ◌&&◌, ◌||◌, eqb, eqb-true, eq-eqb, ne_eqb, is_some, List, [], ◌∷◌, ◌++◌, Option, Some, None, refl, sym, ◌∙◌, ap, subst}
 use Rattle.arena.specs.declared.limits.Mode.TheVariants.{Tree}
 use Rattle.arena.specs.declared.layout.Layout.{Layout}
 use Rattle.arena.specs.declared.step.Row.{Row}
@@ -9,7 +9,7 @@ use Rattle.arena.specs.Fills.{IsOwnScx}
 use Rattle.arena.specs.Lawful.{Lawful, IsWin}
 use Rattle.arena.specs.Machines.{IsRun}
 use Rattle.histories.proofs.Lemmas.{UpdateWins, lawful_row, one_scx_owner}
-use Rattle.spelling.specs.OrderedMap.{MapReply, OneValue, Edit, Insert, get}
+use Rattle.spelling.specs.OrderedMap.{MapReply, OneValue, Edit, Insert}
 use Rattle.spelling.specs.Spelled.{Spells}
 use Rattle.updates.specs.Laws.Entered.{none_yet}
 use Rattle.script.specs.declared.command.Call.{Call}
@@ -28,7 +28,7 @@ use Rattle.record.specs.LawfulRun.{AreLines}
 use Rattle.record.specs.Linked.{linked}
 use Rattle.record.specs.MapRecord.{map_of, written_log, entries_of_call, reply_told}
 use Rattle.record.specs.Placed.{IsChange, IsRefused, IsPlacedOnMap}
-use Rattle.record.specs.Turns.{history, answered, begin, start, won, entry_of, entry_owed, client_of}
+use Rattle.record.specs.Turns.{history, answered, begin, start, won, entry_owed, client_of}
 use Rattle.player.specs.Allowed.{PlayedAllows}
 use Rattle.places.specs.declared.places.Change.{Change}
 use Rattle.player.specs.Moments.{IsMomentBy}

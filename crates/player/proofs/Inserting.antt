@@ -1,5 +1,5 @@
 -- An insert that runs: what its SCX-record in progress says, and the word `call` that it fills.
-use Rattle.std.proofs.Common.{◌≡◌, ◌≢◌, ℕ, ◌<◌, Option, Some, None, refl, sym, ◌∙◌, ap, subst, arith}
+use Rattle.std.proofs.Common.{◌≡◌, ℕ, Option, Some, None, refl, sym, ◌∙◌, ap, arith}
 use Rattle.arena.specs.declared.layout.Layout.{Layout}
 use Rattle.arena.specs.declared.step.Step.{Step}
 use Rattle.arena.specs.declared.step.Kind.TheVariants.{Fill as FillKind, LoadSettled}
@@ -14,7 +14,7 @@ use Rattle.arena.specs.Machines.{Call as MachineCall}
 use Rattle.arena.proofs.Lemmas.{ends_self}
 use Rattle.help.specs.Help.Lawful.{help_fills_not}
 use Rattle.prims.specs.Cells.{AllowsAll}
-use Rattle.prims.specs.Put.Known.{PutWaits, PutWaitsAt}
+use Rattle.prims.specs.Put.Known.{PutWaitsAt}
 use Rattle.prims.specs.Scx.Known.{Job, job_of, HasFilled, ScxWaitsAt, part_at, fill_step}
 use Rattle.prims.specs.declared.put.PutRun.{PutRun}
 use Rattle.prims.specs.declared.put.PutAt.{PutAt}

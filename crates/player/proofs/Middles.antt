@@ -1,5 +1,5 @@
 -- What each line leaves of what is true in the middle of a turn.
-use Rattle.std.proofs.Common.{◌≡◌, ◌≢◌, ℕ, zero, suc, ◌+◌, ◌<◌, ◌≤◌, Bool, true, false, cond, eqb, eqb-true, is_some, inl, inr, ⊎_elim, List, [], ◌∷◌, set, length, Option, Some, None, MatchOption, slice_get, refl, sym, ◌∙◌, ap, subst, ne_eqb, eq-eqb, arith}
+use Rattle.std.proofs.Common.{◌≡◌, ◌≢◌, ℕ, zero, suc, ◌+◌, ◌<◌, ◌≤◌, Bool, true, false, cond, eqb, eqb-true, is_some, inl, inr, List, [], ◌∷◌, set, length, Option, Some, None, MatchOption, slice_get, refl, sym, ◌∙◌, ap, subst, ne_eqb, eq-eqb, arith}
 use Rattle.std.proofs.lemmas.Option.{slice_get_within}
 use native.Mathlib.Decide.{ℕ_discrete}
 use Rattle.player.proofs.Readings.{placed}

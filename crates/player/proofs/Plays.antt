@@ -1,5 +1,5 @@
 -- What is true of a player before its first turn and after its last.
-use Rattle.std.proofs.Common.{◌≡◌, ℕ, ◌+◌, ◌<◌, List, [], ◌∷◌, length, map, reverse, take, get_or, Option, Some, slice_get, All, inl, inr, refl, subst, sym, ◌∙◌, ap}
+use Rattle.std.proofs.Common.{◌≡◌, ℕ, ◌+◌, ◌<◌, List, [], ◌∷◌, length, map, reverse, take, get_or, Option, Some, slice_get, All, inl, inr, refl, ◌∙◌, ap}
 use Rattle.std.proofs.lemmas.List.{map_more, reverse-append}
 use Rattle.arena.specs.declared.layout.Layout.{Layout}
 use Rattle.arena.specs.PlainWords.{Contents, IsOpening}
@@ -12,8 +12,6 @@ use Rattle.script.specs.Commands.{mode_of}
 use Rattle.player.proofs.Readings.{whole}
 use Rattle.player.specs.declared.client.Client.{Client}
 use Rattle.player.specs.declared.player.Player.{Player}
-use Rattle.arena.specs.declared.limits.Mode.{Mode}
-use Rattle.arena.specs.History.{History, Start}
 use Rattle.player.specs.Lines.{newest}
 use Rattle.record.specs.Turns.{history, clients}
 use Rattle.player.specs.ClientView.{client_view, Rests}

@@ -10,7 +10,7 @@ use Rattle.arena.specs.declared.step.Kind.TheVariants.{LoadInfo}
 use Rattle.arena.specs.History.{History, Extends}
 use Rattle.arena.specs.Found.{IsLastStep}
 use Rattle.arena.proofs.Lemmas.{last_now, ends_self}
-use Rattle.arena.specs.Fills.{IsOwnNode, IsOwnScx, IsTakenNode, IsTakenScx}
+use Rattle.arena.specs.Fills.{IsOwnScx, IsTakenScx}
 use Rattle.arena.specs.Lawful.{HasWon}
 use Rattle.arena.specs.declared.number.NodeNo.{NodeNo}
 use Rattle.arena.specs.ScxRecords.{plan_finalizes, side_of}
@@ -37,7 +37,6 @@ use Rattle.player.specs.declared.kept.Kept.{Kept}
 use Rattle.record.specs.declared.record.Answer.{Answer}
 use Rattle.record.specs.declared.record.Answer.TheVariants.{Snapshot, Finalized, Fail, Done, Lost, Same, Changed, Unlinked, Full, Value, Contended}
 use Rattle.arena.specs.declared.fault.Resource.{Resource}
-use Rattle.arena.specs.declared.fault.Resource.TheVariants.{Nodes, Scx as ScxRecords}
 use Rattle.player.specs.KeptSnaps.{IsUnspent, kept_of, node_of, found_of}
 use Rattle.record.specs.Commands.{commands}
 use Rattle.record.specs.Snapshots.{IsLastLook}

@@ -1,61 +1,38 @@
 -- Where the calls of a run took place: those of cells where their answer says; an insert at its
 -- entry; a get in the turn that was found for it. All replies of a run on the tree are those of one
 -- map.
-use Rattle.std.proofs.Common.{◌≡◌, ℕ, zero, suc, ◌<◌, ◌≤◌, ◌⊎◌, inl, inr, ⊎_elim, Bool, true, false, cond, eqb, List, [], ◌∷◌, Option, Some, None, slice_get, All, refl, sym, ◌∙◌, ap, subst, arith}
-use Rattle.std.proofs.lemmas.List.Elements.{All-tail}
+use Rattle.std.proofs.Common.{◌≡◌, ℕ, List, Option, Some, None, refl, sym, ◌∙◌, ap}
 use Rattle.arena.specs.declared.limits.Mode.{Mode}
 use Rattle.arena.specs.declared.limits.Mode.TheVariants.{Records, Tree}
 use Rattle.arena.specs.declared.layout.Layout.{Layout}
-use Rattle.arena.specs.declared.step.Kind.{Kind}
-use Rattle.arena.specs.declared.step.Kind.TheVariants.{LoadSettled, LoadChild}
-use Rattle.arena.specs.declared.step.Row.{Row}
 use Rattle.arena.specs.PlainWords.{Contents}
-use Rattle.arena.specs.History.{History, Start, ◌⊳◌, value, Extends, HasHeld}
-use Rattle.arena.specs.Lawful.{Obeys}
-use Rattle.arena.specs.Layout.{opening}
-use Rattle.arena.specs.Log.{Entry, IsEntered, log}
-use Rattle.arena.specs.Words.{node, child}
-use Rattle.arena.specs.declared.word.Side.{Side}
-use Rattle.arena.specs.declared.word.Side.TheVariants.{Left, Right}
-use Rattle.arena.specs.declared.word.Word.{Word}
-use Rattle.arena.specs.declared.word.NodeWord.TheVariants.{Head}
-use Rattle.arena.proofs.Lemmas.{ends_self, held_split, value_quiet}
-use Rattle.histories.proofs.Lemmas.{lawful_since, shaped_since, lawful_tail, shaped_tail}
-use Rattle.arena.specs.Machines.{IsRun}
-use Rattle.spelling.specs.OrderedMap.{MapCall, Edit, Get, Insert, get}
-use Rattle.spelling.specs.TreeShape.{TreeAllows}
-use Rattle.spelling.specs.TreeWords.{level, is_leaf}
-use Rattle.spelling.specs.Spelled.{Spells}
+use Rattle.arena.specs.History.{value}
+use Rattle.arena.specs.Words.{node}
+use Rattle.spelling.specs.OrderedMap.{Get}
 use Rattle.spelling.specs.Paths.{IsAnswerAt}
-use Rattle.spelling.specs.Runs.{IsTreeRun, map_of_log}
-use Rattle.spelling.proofs.Lemmas.{one_spelling, run_spells_log}
 use Rattle.script.specs.declared.command.Call.{Call}
 use Rattle.script.specs.declared.command.Command.{Command}
 use Rattle.script.specs.declared.command.Command.TheVariants.{Llx as LlxOf, Scx as ScxOf, Vlx as VlxOf, Set as SetOf, Insert as InsertOf, Get as GetOf}
-use Rattle.script.specs.Commands.{mode_of}
 use Rattle.record.specs.declared.record.Line.{Line}
-use Rattle.record.specs.declared.record.Line.TheVariants.{Step, Log, Reply as ReplyLine}
-use Rattle.record.specs.declared.record.Row.TheVariants.{Step as Made, Idle}
 use Rattle.record.specs.declared.record.Reply.{Reply}
 use Rattle.record.specs.declared.record.Answer.{Answer}
 use Rattle.record.specs.declared.record.Answer.TheVariants.{Snapshot, Finalized, Fail, Done, Lost, Same, Changed, Unlinked, Full, Value, Contended}
 use Rattle.record.specs.Turns.{history, turns, answered, begin, start, won, entry_owed}
-use Rattle.record.specs.Commands.{commands, next_command}
+use Rattle.record.specs.Commands.{next_command}
 use Rattle.record.specs.Linked.{linked}
 use Rattle.record.specs.Answers.{moment_of, HasItsEntry}
 use Rattle.places.specs.declared.places.Change.{Change}
 use Rattle.places.specs.Entries.{AreEntries}
 use Rattle.player.specs.Moments.{IsMomentBy}
 use Rattle.player.specs.ClientView.{client_view, Tells}
-use Rattle.record.specs.CommandRules.{MayMake, IsEntryFor, IsRight, IsPlaced, enters}
-use Rattle.record.specs.MapRecord.{written_log, reply_told, map_call}
+use Rattle.record.specs.CommandRules.{IsRight, IsPlaced, enters}
+use Rattle.record.specs.MapRecord.{reply_told}
 use Rattle.record.specs.Placed.{IsReading, IsPlacedOnMap}
-use Rattle.record.specs.LawfulRun.{AreLines, IsWhole}
-use Rattle.record.specs.SpelledMap.{AreSpelled, IsSpelledAfter, HasStoodInField}
-use Rattle.record.proofs.Lemmas.{AreMapCalls, lawful_is_legal}
-use Rattle.player.specs.Allowed.{PlayedAllows}
+use Rattle.record.specs.LawfulRun.{IsWhole}
+use Rattle.record.specs.SpelledMap.{AreSpelled}
+use Rattle.record.proofs.Lemmas.{lawful_is_legal}
 use Rattle.player.specs.BetweenTurns.{IsLawfulSoFar}
-use Rattle.places.proofs.Lemmas.{IsFoundFor, are_spelled, get_placed}
+use Rattle.places.proofs.Lemmas.{are_spelled, get_placed}
 use Rattle.player.proofs.MapCalls.{command_mode, map_calls, tree_run}
 use Rattle.player.proofs.InsertPlaces.{insert_placed, unwon_none}
 

@@ -20,7 +20,6 @@ use Rattle.arena.specs.Lawful.{IsLawful, IsWin}
 use Rattle.arena.specs.Machines.{IsRun, IsTold}
 use Rattle.histories.proofs.Lemmas.{facts_before, lawful_row, update_win}
 use Rattle.arena.specs.declared.limits.Mode.TheVariants.{Records, Tree}
-use Rattle.arena.proofs.Lemmas.{ends_self}
 use Rattle.player.specs.Allowed.{PlayedAllows}
 use Rattle.spelling.specs.FillOrder.{IsFillInOrder}
 use Rattle.player.proofs.InOrder.{run_in_order}
@@ -50,7 +49,6 @@ use Rattle.record.specs.Turns.{history, turns, answered, clients, begin, start, 
 use Rattle.record.specs.Commands.{commands}
 use Rattle.record.specs.CommandRules.{MayAnswerAfterStep, HasTakenFew, enters, IsRight, IsEntryFor}
 use Rattle.record.specs.Linked.{linked}
-use Rattle.record.specs.declared.record.Answer.TheVariants.{Done}
 use Rattle.player.proofs.Inserting.{run_says}
 use Rattle.player.proofs.Placing.{done_enters}
 use Rattle.record.specs.Replies.{IsFitting, IsReplyOwed}

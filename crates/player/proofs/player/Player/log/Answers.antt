@@ -1,9 +1,8 @@
-use Rattle.std.proofs.Common.{◌≡◌, ◌∷◌, Option, Some, refl, sym, ◌∙◌, ap, subst}
+use Rattle.std.proofs.Common.{◌≡◌, Option, Some, refl, sym, ◌∙◌, ap, subst}
 use Rattle.spelling.specs.OrderedMap.{MapCall}
 use Rattle.record.specs.Turns.{entry_owed}
-use Rattle.places.specs.Entries.{AreEntries, IsChangeBy}
+use Rattle.places.specs.Entries.{IsChangeBy}
 use Rattle.places.specs.declared.places.Change.{Change}
-use Rattle.places.specs.Places.{changes}
 use Rattle.player.specs.declared.player.Player.{Player}
 use Rattle.player.specs.Lines.{newest}
 use Rattle.player.proofs.Steps.{keys_kept, places_at}

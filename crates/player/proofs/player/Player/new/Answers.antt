@@ -15,6 +15,6 @@ returns-clause-played c =
     record {
       between = subst (λ (l : List Line). AreBetweenTurns script.layout script.limits.tries script.calls.items c.in_ok-words.words c.in_ok-clients.clients.items l) (sym none)
           (opening_between script.layout script.limits.tries script.calls.items c.in_ok-words.words c.in_ok-clients.clients.items c.in_ok-words.ensures.layout c.in_ok-words.ensures.opening (calls_are_of_mode script) c.in_ok-clients.ensures.each);
-      places = record { entries = λ tree. subst (λ (l : List Line). AreEntries script.calls.items l (changes c.in_ok-new-2.field-0)) (sym none) (rw c.in_ok-new-2.ensures.none tt); keys = c.in_ok-new-2.ensures.keys };
+      places = record { entries = λ tree. subst (λ (l : List Line). AreEntries script.calls.items l (changes c.in_ok-new.field-0)) (sym none) (rw c.in_ok-new.ensures.none tt); keys = rw c.deref.ensures.value at c.in_ok-new.ensures.keys };
       wins = subst (λ (l : List Line). AreWins script.layout l c.in_ok-wins.wins.items) (sym none) (no_wins script.layout c.in_ok-wins.wins.items);
     }

@@ -1,4 +1,4 @@
-use Rattle.std.proofs.Common.{◌≤◌, ℕ, List, Option, length, subst, slice_get, arith, refl, sym, ◌∙◌, ap}
+use Rattle.std.proofs.Common.{ℕ, List, Option, length, subst, slice_get, arith, refl, sym, ◌∙◌, ap}
 use Rattle.std.proofs.lemmas.Option.{get_or_from_slice_get, slice_get_read}
 use Rattle.player.specs.declared.client.Client.{Client}
 use Rattle.script.specs.declared.command.Call.{Call}
