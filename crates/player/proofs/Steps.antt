@@ -29,7 +29,8 @@ use Rattle.player.specs.Place.{IsAt}
 use Rattle.places.specs.declared.places.Change.{Change}
 use Rattle.places.specs.declared.places.Places.{Places}
 use Rattle.places.specs.Places.{changes, Knows, HoldsOfKey}
-use Rattle.places.specs.Entries.{AreEntries}
+use Rattle.places.specs.Entries.{AreEntries, IsChangeBy}
+use Rattle.spelling.specs.OrderedMap.{MapCall}
 use Rattle.record.specs.MapRecord.{map_call}
 use Rattle.script.specs.declared.command.Command.TheVariants.{Llx as LlxOf, Scx as ScxOf, Vlx as VlxOf, Set as SetOf, Insert as InsertOf, Get as GetOf}
 use Rattle.script.specs.declared.command.Call.{Call}
@@ -358,6 +359,15 @@ keys_kept old new calls more all i d less = go (get_or calls i d).command (all i
 -- room for more leaves the places
 pub places_roomy : (lay : Layout) (calls : List Call) (lines : List Line) (old new : Places) → changes new ≡ changes old → ((key : ℕ) → Knows old key → Knows new key) → ArePlaces lay calls lines old → ArePlaces lay calls lines new
 places_roomy lay calls lines old new same more x = record { entries = λ tree. rw same (x.entries tree); keys = keys_kept old new calls more x.keys }
+
+-- an entry is kept with the change of its insert
+pub places_logged : (lay : Layout) (calls : List Call) (clients : List Client) (lines : List Line) (e : Entry) (old new : Places) → (lay.mode ≡ Tree → IsAtInsert calls clients e) → ((x : IsAtInsert calls clients e) → changes new ≡ record { turn = e.step; key = x.key; value = Some x.value } ∷ changes old) → ((key : ℕ) → Knows old key → Knows new key) → ArePlaces lay calls lines old → ArePlaces lay calls (Log e ∷ lines) new
+places_logged lay calls clients lines e old new owner change more p = record { entries = λ tree. entries tree (owner tree); keys = keys_kept old new calls more p.keys }
+  where
+    entries : lay.mode ≡ Tree → IsAtInsert calls clients e → AreEntries calls (Log e ∷ lines) (changes new)
+    entries tree x =
+        let c : Change = record { turn = e.step; key = x.key; value = Some x.value } in
+        rw (change x) ((refl, subst (λ (o : Option MapCall). IsChangeBy o c) (sym x.edits) (refl, refl)), p.entries tree)
 
 pub places_at : (lay lay' : Layout) (calls calls' : List Call) (lines lines' : List Line) (places places' : Places) → lay' ≡ lay → calls' ≡ calls → lines' ≡ lines → places' ≡ places → ArePlaces lay calls lines places → ArePlaces lay' calls' lines' places'
 places_at lay lay' calls calls' lines lines' places places' a b c d x = rw (a, b, c, d) x
