@@ -1,12 +1,12 @@
 -- What calls need to begin.
-use Rattle.std.proofs.Common.{◌≡◌, ◌≢◌, ℕ, suc, ◌+◌, ◌<◌, ◌≤◌, inl, List, Option, Some, None, refl, sym, ◌∙◌, ap, subst, arith, length, zero, [], ◌∷◌, ◌⊎◌, ⊎_elim, slice_index_or, slice_get, get_or, nat_lt, map, AllPairs, Contains, MatchOption, Bool, true, false, All}
+use Rattle.std.proofs.Common.{◌≡◌, ◌≢◌, ℕ, suc, ◌+◌, ◌-◌, ◌*◌, ◌^◌, ◌<◌, ◌≤◌, inl, List, Option, Some, None, refl, sym, ◌∙◌, ap, subst, arith, length, zero, [], ◌∷◌, ◌⊎◌, ⊎_elim, slice_index_or, slice_get, get_or, unwrap_or, nat_lt, map, AllPairs, Contains, MatchOption, Bool, true, false, All}
 use Rattle.tree.specs.declared.get.GetRun.{GetRun}
 use Rattle.tree.specs.Get.Known.{GetIsReady}
 use Rattle.script.specs.Commands.{mode_of}
 use Rattle.arena.specs.declared.limits.Mode.{Mode}
 use Rattle.arena.specs.declared.limits.Mode.TheVariants.{Records, Tree}
 use Rattle.template.specs.declared.walk.WalkAt.TheVariants.{Start as WalkStart}
-use Rattle.arena.specs.History.{History, value}
+use Rattle.arena.specs.History.{History, value, Extends}
 use Rattle.arena.proofs.Lemmas.{ends_self}
 use Rattle.prims.specs.Cells.{AllowsAll}
 use Rattle.prims.proofs.Lemmas.{ready_at_start, cell_opened, all_over, all_idle, vlx_ready_first, among}
@@ -17,7 +17,7 @@ use Rattle.arena.specs.declared.word.Side.{Side}
 use Rattle.player.specs.declared.kept.Found.{Found}
 use Rattle.record.specs.Snapshots.{AreLinked}
 use Rattle.player.specs.KeptSnaps.{AllKept, IsFirstUnkept, IsUnspent, kept_of}
-use Rattle.player.proofs.Over.{taken_one, taken_none}
+use Rattle.player.proofs.Over.{either, taken_nothing, taken_none}
 use Rattle.player.proofs.Ends.{among_none, are_linked}
 use Rattle.player.proofs.Putting.{full_answer}
 use Rattle.prims.specs.Snaps.{AreDistinct, IsAmong}
@@ -33,17 +33,27 @@ use Rattle.prims.specs.declared.llx.LlxRun.{LlxRun}
 use Rattle.prims.specs.declared.llx.LlxAt.TheVariants.{Start}
 use Rattle.prims.specs.declared.vlx.VlxRun.{VlxRun}
 use Rattle.script.specs.declared.command.Command.{Command}
-use Rattle.script.specs.declared.command.Command.TheVariants.{Llx as LlxCommand, Vlx as VlxCommand, Scx as ScxCommand, Set as SetCommand, Get as GetCommand}
-use Rattle.player.specs.declared.run.Run.TheVariants.{Llx, Vlx, Get}
+use Rattle.script.specs.declared.command.Command.TheVariants.{Llx as LlxCommand, Vlx as VlxCommand, Scx as ScxCommand, Set as SetCommand, Insert as InsertCommand, Get as GetCommand}
+use Rattle.player.specs.declared.run.Run.TheVariants.{Llx, Vlx, Insert, Get}
 use Rattle.player.specs.declared.client.Client.{Client}
 use Rattle.player.specs.declared.client.Put.{Put}
 use Rattle.record.specs.declared.record.Answer.{Answer}
 use Rattle.record.specs.declared.record.Answer.TheVariants.{Unlinked}
 use Rattle.record.specs.CommandRules.{most_steps}
-use Rattle.record.specs.Snapshots.{AreLinked}
+use Rattle.arena.specs.Share.{Remaining}
+use Rattle.arena.specs.Fills.{IsOwnScx, IsTakenScx}
+use Rattle.prims.specs.Moments.{AreFinished}
+use Rattle.tree.specs.declared.insert.Insert.{Insert as Inserted}
+use Rattle.tree.specs.Insert.Means.{insert_means}
+use Rattle.updates.specs.Laws.Entered.{none_yet}
+use Rattle.updates.specs.Steps.{update_left, node_tries, scx_tries, Spends}
+use Rattle.updates.specs.declared.update.UpdateAt.{UpdateAt}
+use Rattle.updates.specs.declared.update.UpdateAt.TheVariants.{Start as UpdateStart}
+use Rattle.updates.specs.declared.update.UpdateRun.{UpdateRun}
+use Rattle.player.proofs.Shapes.{as_tree}
 use Rattle.player.specs.RunSteps.{then_left}
 use Rattle.prims.specs.Scx.Known.{nodes_of}
-use Rattle.player.specs.ClientView.{ClientView, no_hand, IsSound, Rests, Refuses, Starts, IsLlxOf, IsUnbegun, command_of, machine_call, GoesOn, IsSameCall, CanPut, Puts, BeginsOrRefuses, IsNextAction}
+use Rattle.player.specs.ClientView.{ClientView, no_hand, held, IsSound, Rests, Refuses, Starts, IsLlxOf, IsUnbegun, command_of, machine_call, GoesOn, IsSameCall, CanPut, Puts, BeginsOrRefuses, IsNextAction}
 use Rattle.player.specs.declared.client.NextAction.{NextAction}
 use Rattle.player.specs.declared.client.NextAction.TheVariants.{Finished, Answers, Asks}
 use Rattle.script.specs.declared.command.Call.{Call}
@@ -58,41 +68,84 @@ pub nothing_kept : {X : Type 0} {found : Option Found} {f : Found} → found ≡
 nothing_kept e d = absurd (cc)
 
 -- an LLX from its start, and the SCX that may follow it, make no more steps than their command may
-llx_few : (command : Command) (n : ℕ) (then : Option Put) → IsLlxOf command n then → (taken : ℕ) → llx_left Start + then_left then ≤ most_steps command taken
-llx_few (LlxCommand cell) n None f taken = omega arith
-llx_few (SetCommand field value) n (Some put) f taken = omega arith
-llx_few (LlxCommand cell) n (Some put) f taken = absurd f
-llx_few (SetCommand field value) n None f taken = absurd f
-llx_few (ScxCommand update) n then f taken = absurd f
-llx_few (VlxCommand cells) n then f taken = absurd f
-llx_few (GetCommand key) n then f taken = absurd f
+llx_few : (tries : ℕ) (command : Command) (n : ℕ) (then : Option Put) → IsLlxOf command n then → (taken : ℕ) → llx_left Start + then_left then ≤ most_steps command tries taken
+llx_few tries (LlxCommand cell) n None f taken = omega arith
+llx_few tries (SetCommand field value) n (Some put) f taken = omega arith
+llx_few tries (LlxCommand cell) n (Some put) f taken = absurd f
+llx_few tries (SetCommand field value) n None f taken = absurd f
+llx_few tries (ScxCommand update) n then f taken = absurd f
+llx_few tries (VlxCommand cells) n then f taken = absurd f
+llx_few tries (InsertCommand key value) n then f taken = absurd f
+llx_few tries (GetCommand key) n then f taken = absurd f
 
 -- an LLX of a cell
 pub llx_starts : (v : ClientView) (began : Option ℕ) (c : Client) (m : LlxRun) (then : Option Put) (command : Command) → IsSound v → v.layout.mode ≡ Records → Rests v c → IsUnbegun v began → m.at ≡ Start → m.node.0 ≤ 8 → command_of v c ≡ Some command → IsLlxOf command m.node.0 then → Starts v c (Llx m) then
 llx_starts v began c m then command sound mode r u start i is f = record {
-  works = record { mode = mode; stands = r.stands; newest = tt; command = command; is = is; run_of = (i, f); is_pass = r.stands.is_pass; start = v.past; since = ends_self v.past; begun = sym u.start; moments = λ j p. absurd (omega arith); alone = λ j p. absurd (omega arith); room = tt; took = taken_none v c.pass.0 (no_hand c.share) u.start; won = u.won; late = λ turn e. none_late v.won turn c.begin u.won e };
+  works = record { mode = mode; stands = r.stands; holds = r.holds; newest = tt; command = command; is = is; run_of = (i, f); is_pass = r.stands.is_pass; start = v.past; since = ends_self v.past; begun = sym u.start; moments = λ j p. absurd (omega arith); alone = λ j p. absurd (omega arith); room = tt; opening = held c; took = taken_none v c.pass.0 (no_hand (held c)) u.start; won = u.won; late = λ turn e. none_late v.won turn c.begin u.won e };
   none = r.none;
-  ready = ready_at_start AllowsAll m (machine_call v c r.stands.is_pass v.past) v.past refl start (cell_opened v.layout v.past m.node.0 mode i) (all_idle v.layout v.past c.pass.0 c.share _ _ sound.lawful r.stands.share r.stands.over);
-  few = λ taken i. let few = llx_few command m.node.0 then f taken in rw (u.steps, start) (omega arith);
+  spent = tt;
+  ready = ready_at_start AllowsAll m (machine_call v c r.stands.is_pass v.past) v.past refl start (cell_opened v.layout v.past m.node.0 mode i) (all_idle v.layout v.past c.pass.0 (held c) _ _ sound.lawful r.holds.share r.holds.over);
+  few = λ taken i. let few = llx_few v.tries command m.node.0 then f taken in rw (u.steps, start) (omega arith);
 }
 
 -- a VLX of unspent snapshots
 pub vlx_starts : (v : ClientView) (began : Option ℕ) (c : Client) (m : VlxRun (List Snap)) (cells : _) → IsSound v → v.layout.mode ≡ Records → Rests v c → IsUnbegun v began → m.asked ≡ 0 → 0 < length m.snaps → nodes_of m.snaps ≡ cells_of cells → ((i : ℕ) → i < length m.snaps → (moment : History) × (v.linked (snap_at m.snaps i).node.0 ≡ Some moment) × IsUnspent v.layout c.pass.0 v.past (snap_at m.snaps i) moment) → command_of v c ≡ Some (VlxCommand cells) → vlx_left m.snaps m.asked ≡ length (cells_of cells) → Starts v c (Vlx m) None
 vlx_starts v began c m cells sound mode r u start some nodes l is left = record {
-  works = record { mode = mode; stands = r.stands; newest = tt; command = VlxCommand cells; is = is; run_of = nodes; is_pass = r.stands.is_pass; start = v.past; since = ends_self v.past; begun = sym u.start; moments = λ i p. let x = l i p in record { moment = x.0; found = x.2.usable.found; source = x.1 }; alone = λ i p. let x = l i p in x.2.alone; room = tt; took = taken_none v c.pass.0 (no_hand c.share) u.start; won = u.won; late = λ turn e. none_late v.won turn c.begin u.won e };
+  works = record { mode = mode; stands = r.stands; holds = r.holds; newest = tt; command = VlxCommand cells; is = is; run_of = nodes; is_pass = r.stands.is_pass; start = v.past; since = ends_self v.past; begun = sym u.start; moments = λ i p. let x = l i p in record { moment = x.0; found = x.2.usable.found; source = x.1 }; alone = λ i p. let x = l i p in x.2.alone; room = tt; opening = held c; took = taken_none v c.pass.0 (no_hand (held c)) u.start; won = u.won; late = λ turn e. none_late v.won turn c.begin u.won e };
   none = r.none;
-  ready = vlx_ready_first v.layout c.pass.0 c.number r.stands.is_pass v.past m.snaps m.asked start some (λ i p. let x = l i p in (x.0, x.2.usable)) (all_over v.layout v.past c.pass.0 c.share _ _ r.stands.share r.stands.over);
+  spent = tt;
+  ready = vlx_ready_first v.layout c.pass.0 c.number r.stands.is_pass v.past m.snaps m.asked start some (λ i p. let x = l i p in (x.0, x.2.usable)) (all_over v.layout v.past c.pass.0 (held c) _ _ r.holds.share r.holds.over);
   few = λ taken i. omega (arith, u.steps, left);
 }
 
 -- a get from its start
 pub get_starts : (v : ClientView) (began : Option ℕ) (c : Client) (m : GetRun) (key : ℕ) → IsSound v → v.layout.mode ≡ Tree → (r : Rests v c) → IsUnbegun v began → m.walk.key ≡ key → m.walk.at ≡ WalkStart → GetIsReady m (machine_call v c r.stands.is_pass v.past) v.past None → command_of v c ≡ Some (GetCommand key) → Starts v c (Get m) None
 get_starts v began c m key sound mode r u at start ready is = record {
-  works = record { mode = mode; stands = r.stands; newest = tt; command = GetCommand key; is = is; run_of = at; is_pass = r.stands.is_pass; start = v.past; since = ends_self v.past; begun = sym u.start; moments = λ j p. absurd (omega arith); alone = λ j p. absurd (omega arith); room = tt; took = taken_none v c.pass.0 (no_hand c.share) u.start; won = u.won; late = λ turn e. none_late v.won turn c.begin u.won e };
+  works = record { mode = mode; stands = r.stands; holds = r.holds; newest = tt; command = GetCommand key; is = is; run_of = at; is_pass = r.stands.is_pass; start = v.past; since = ends_self v.past; begun = sym u.start; moments = λ j p. absurd (omega arith); alone = λ j p. absurd (omega arith); room = tt; opening = held c; took = taken_none v c.pass.0 (no_hand (held c)) u.start; won = u.won; late = λ turn e. none_late v.won turn c.begin u.won e };
   none = r.none;
+  spent = tt;
   ready = ready;
   few = λ taken i. rw (u.steps, start) (omega arith);
 }
+
+-- an insert from its start, to which the client gives its share
+pub insert_starts : (v : ClientView) (began : Option ℕ) (c : Client) (m : UpdateRun Inserted) (key value : ℕ) (share : Remaining) → IsSound v → v.layout.mode ≡ Tree → 0 < v.tries → (r : Rests v c) → IsUnbegun v began → c.share ≡ Some share → m.edit.key < 2 ^ 64 → m.edit.key ≡ key → m.edit.value ≡ value → m.share ≡ share → m.call ≡ c.number → m.tries ≡ v.tries - 1 → m.at ≡ UpdateStart
+    → ((nodes : ℕ) → update_left insert_means m nodes ≡ v.tries * (3 * (2 + nodes) + 178)) → command_of v c ≡ Some (InsertCommand key value) → Starts v (record c { share = None }) (Insert m) None
+insert_starts v began c m key value share sound mode some r u had small key_is value_is share_is call tries at left is = record {
+  works = record {
+    mode = mode;
+    stands = record { is_pass = r.stands.is_pass; tries = r.stands.tries; number = r.stands.number; place = r.stands.place; kept = r.stands.kept; unkept = r.stands.unkept; dropped = r.stands.dropped; free = r.stands.free };
+    holds = tt;
+    newest = tt;
+    command = InsertCommand key value;
+    is = is;
+    run_of = (small, (key_is, value_is, call));
+    is_pass = r.stands.is_pass;
+    start = v.past;
+    since = ends_self v.past;
+    begun = sym u.start;
+    moments = λ j p. absurd (omega arith);
+    alone = λ j p. absurd (omega arith);
+    room = tt;
+    opening = m.share;
+    took = rw (u.start, has) r.holds.share;
+    won = record { yes = λ row before s w. absurd (none_yet v.layout c.pass.0 v.past row before s w.within (subst (λ (k : History). Extends before k) u.start w.since) w.wins w.own); no = inl u.won };
+    late = λ turn e. none_late v.won turn c.begin u.won e;
+  };
+  none = r.none;
+  spent = subst (λ (at : UpdateAt). Spends m.share m.share v.tries (node_tries m at) v.tries (scx_tries m at)) (sym at) (omega (arith, tries, some), omega (arith, tries, some));
+  ready = (record { run = (mode, as_tree v.layout v.past mode sound); small = small; since = ends_self v.past; rests = record { share = rw has r.holds.share; over = over } }, record { since = ends_self v.past; none = none_yet v.layout c.pass.0 v.past }, record { share = rw has r.holds.share; over = over }, at);
+  few = λ taken i. rw u.steps (let e = left taken in omega (arith, e));
+}
+  where
+    has : m.share ≡ held c
+    has = share_is ∙ sym (ap (λ (o : Option Remaining). unwrap_or o record { next_node = 0; nodes = 0; next_scx = 0; scx = 0 }) had)
+
+    over : AreFinished v.layout c.pass.0 0 v.past
+    over s own d t = ⊎_elim (λ e. absurd (next_free s e own t)) (λ e. r.holds.over s own e t) (either s (held c).next_scx)
+      where
+        next_free : (s : ℕ) → s ≡ (held c).next_scx → IsOwnScx v.layout c.pass.0 s → ¬ IsTakenScx v.past s
+        next_free s e own = r.holds.share.untaken s record { from = omega (arith, e); below = let a = own.below in let b = r.holds.share.to_scx in omega (arith, a, b) }
 
 -- as many snapshots as cells
 pub as_many_snaps : (snaps : List Snap) (cells : List ℕ) → map (λ (s : Snap). s.node.0) snaps ≡ cells → length snaps ≡ length cells
@@ -127,7 +180,7 @@ among_snaps snaps cells n e x = go (has_snap snaps n) refl
 
 -- what is known of a client does not ask when its call began
 pub rests_at : (v : ClientView) (c : Client) (turn : ℕ) → Rests v c → Rests v (record c { begin = turn })
-rests_at v c turn r = record { stands = record { is_pass = r.stands.is_pass; number = r.stands.number; place = r.stands.place; kept = r.stands.kept; unkept = r.stands.unkept; dropped = r.stands.dropped; share = r.stands.share; over = r.stands.over }; none = r.none }
+rests_at v c turn r = record { holds = record { some = r.holds.some; share = r.holds.share; over = r.holds.over }; stands = record { is_pass = r.stands.is_pass; tries = r.stands.tries; number = r.stands.number; place = r.stands.place; kept = r.stands.kept; unkept = r.stands.unkept; dropped = r.stands.dropped; free = r.stands.free }; none = r.none }
 
 -- a call that runs has begun
 pub begins_so : (v : ClientView) (old new : Client) → GoesOn v old new → BeginsOrRefuses v old.begin old new None
@@ -141,6 +194,15 @@ pub begins_run : (v : ClientView) (old new : Client) (turn : ℕ) (answer : Opti
 begins_run v old new turn None x = (same_call old new turn x.0, x.1, x.2)
 begins_run v old new turn (Some answer) x = (same_call old new turn x.0, x.1, x.2)
 
+-- nor who has the share
+begins_held : (v : ClientView) (old new : Client) (share : Option Remaining) (answer : Option Answer) → BeginsOrRefuses v old.begin (record old { share = share }) new answer → BeginsOrRefuses v old.begin old new answer
+begins_held v old new share None x = (record { pass = x.0.pass; number = x.0.number; next = x.0.next }, x.1, x.2)
+begins_held v old new share (Some answer) x = (record { pass = x.0.pass; number = x.0.number; next = x.0.next }, x.1, x.2)
+
+-- the insert that starts is that of the client
+pub insert_begins : (v : ClientView) (old new : Client) (m : UpdateRun Inserted) (share : Option Remaining) (answer : Option Answer) → share ≡ None → Starts v (record old { share = None }) (Insert m) None → (Starts v (record old { share = share }) (Insert m) None → BeginsOrRefuses v old.begin (record old { share = share }) new answer) → BeginsOrRefuses v old.begin old new answer
+insert_begins v old new m share answer none x f = begins_held v old new share answer (f (subst (λ (o : Option Remaining). Starts v (record old { share = o }) (Insert m) None) (sym none) x))
+
 -- a client at rest keeps a snapshot of each cell of which one is said
 unkept_is : (v : ClientView) (c : Client) → Rests v c → (n : ℕ) → n ≤ 8 → kept_of c.kept n ≡ None → v.linked n ≡ None
 unkept_is v c r n i e = ⊎_elim (λ z. absurd (among_none n z)) (λ z. z) (r.stands.unkept n i e)
@@ -149,7 +211,7 @@ unkept_is v c r n i e = ⊎_elim (λ z. absurd (among_none n z)) (λ z. z) (r.st
 pub scx_can_put : (v : ClientView) (began : Option ℕ) (c : Client) (update : _) (snaps : List Snap) (finalize : List NodeNo) (field : NodeNo × Side) (x : ℕ) → v.layout.mode ≡ Records → Rests v c → IsUnbegun v began → command_of v c ≡ Some (ScxCommand update) → AllKept c.kept snaps → nodes_of snaps ≡ update_cells update → map (λ (n : NodeNo). n.0) finalize ≡ update_finalize update → (field.0.0 ≡ (update_field update).0) × (field.1 ≡ (update_field update).1) → x ≡ update_value update → CanPut v v.linked c snaps (map (λ (n : NodeNo). n.0) finalize) (field.0.0, field.1) x
 scx_can_put v began c update snaps finalize field x mode r u is kept nodes removed at value = record {
   mode = mode;
-  rests = record { stands = r.stands; none = r.none };
+  rests = record { stands = r.stands; holds = r.holds; none = r.none };
   others = λ n d. refl;
   since = rw u.start (ends_self v.past);
   unwon = u.won;
@@ -157,7 +219,7 @@ scx_can_put v began c update snaps finalize field x mode r u is kept nodes remov
   command = ScxCommand update;
   is = is;
   moments = λ i p. let y = l i p in record { moment = y.0; found = y.2.usable.found; source = y.1 };
-  took = taken_none v c.pass.0 (no_hand c.share) u.start;
+  took = taken_none v c.pass.0 (no_hand (held c)) u.start;
   serves = λ m z. record { called = z.called; covers = z.covers ∙ nodes; finalizes = rw (sym removed) z.finalizes; node = z.node ∙ at.0; side = z.side ∙ at.1; value = z.value ∙ value };
   few = λ taken. omega (arith, u.steps);
 }
@@ -172,16 +234,16 @@ scx_linked v c command snaps cells r kept nodes = are_linked v c command snaps c
 pub begins_put : (v : ClientView) (began : Option ℕ) (old new : Client) (update : _) (answer : Option Answer) → IsUnbegun v began → command_of v old ≡ Some (ScxCommand update) → AreLinked v.linked (update_cells update) → Puts v v.linked old new answer → BeginsOrRefuses v old.begin old new answer
 begins_put v began old new update None u is linked p = (p.same, p.begin, (p.running, p.is, p.waits))
 begins_put v began old new update (Some answer) u is linked p =
-    let w = full_answer v.layout v.past new.pass.0 new.share answer p.2.stands.share p.3 in
+    let w = full_answer v.layout v.past new.pass.0 (held new) answer p.2.holds.share p.3 in
     subst (λ (a : Answer). BeginsOrRefuses v old.begin old new (Some a)) (sym w.is)
-    (p.0, p.1, record { rests = record { stands = p.2.stands; none = p.2.none }; command = ScxCommand update; is = rw p.0.pass is; refusal = tt; right = (linked, w.empty); unwon = u.won; took = taken_one v new.pass.0 (no_hand new.share) (taken_none v new.pass.0 (no_hand new.share) u.start) })
+    (p.0, p.1, record { rests = record { stands = p.2.stands; holds = p.2.holds; none = p.2.none }; command = ScxCommand update; is = rw p.0.pass is; refusal = tt; right = (linked, w.few); unwon = u.won; took = taken_nothing v new.pass.0 (held new) 1 1 p.2.holds.share (taken_none v new.pass.0 (no_hand (held new)) u.start) })
 
 -- a cell without a snapshot is a refusal of an SCX and of a VLX
 pub scx_unlinked : (v : ClientView) (began : Option ℕ) (c : Client) (update : _) (node : NodeNo) → Rests v c → IsUnbegun v began → command_of v c ≡ Some (ScxCommand update) → IsFirstUnkept c.kept (update_cells update) node.0 → Refuses v c (Unlinked node)
-scx_unlinked v began c update node r u is x = record { rests = r; command = ScxCommand update; is = is; refusal = tt; right = first_unlinked v.layout c.pass.0 v.past v.linked c.kept (update_cells update) node.0 r.stands.kept (unkept_is v c r) x; unwon = u.won; took = taken_one v c.pass.0 (no_hand c.share) (taken_none v c.pass.0 (no_hand c.share) u.start) }
+scx_unlinked v began c update node r u is x = record { rests = r; command = ScxCommand update; is = is; refusal = tt; right = first_unlinked v.layout c.pass.0 v.past v.linked c.kept (update_cells update) node.0 r.stands.kept (unkept_is v c r) x; unwon = u.won; took = taken_nothing v c.pass.0 (held c) 1 1 r.holds.share (taken_none v c.pass.0 (no_hand (held c)) u.start) }
 
 pub vlx_unlinked : (v : ClientView) (began : Option ℕ) (c : Client) (cells : _) (node : NodeNo) → Rests v c → IsUnbegun v began → command_of v c ≡ Some (VlxCommand cells) → IsFirstUnkept c.kept (cells_of cells) node.0 → Refuses v c (Unlinked node)
-vlx_unlinked v began c cells node r u is x = record { rests = r; command = VlxCommand cells; is = is; refusal = tt; right = first_unlinked v.layout c.pass.0 v.past v.linked c.kept (cells_of cells) node.0 r.stands.kept (unkept_is v c r) x; unwon = u.won; took = taken_one v c.pass.0 (no_hand c.share) (taken_none v c.pass.0 (no_hand c.share) u.start) }
+vlx_unlinked v began c cells node r u is x = record { rests = r; command = VlxCommand cells; is = is; refusal = tt; right = first_unlinked v.layout c.pass.0 v.past v.linked c.kept (cells_of cells) node.0 r.stands.kept (unkept_is v c r) x; unwon = u.won; took = taken_nothing v c.pass.0 (held c) 0 0 r.holds.share (taken_none v c.pass.0 (no_hand (held c)) u.start) }
 
 some_call : (a b : Call) → Some a ≡ Some b → a ≡ b
 some_call a b e = cc

@@ -1,5 +1,5 @@
 -- What a client's machine leaves of what it has.
-use Rattle.std.proofs.Common.{◌≡◌, ℕ, ◌+◌, ◌<◌, ◌≤◌, List, length, Option, Some, None, refl, ◌∙◌, subst, arith}
+use Rattle.std.proofs.Common.{◌≡◌, ℕ, ◌+◌, ◌<◌, ◌≤◌, List, length, Option, Some, None, refl, sym, ◌∙◌, subst, arith}
 use Rattle.arena.specs.declared.layout.Layout.{Layout}
 use Rattle.arena.specs.TakenNodes.{taken_nodes}
 use Rattle.arena.specs.declared.word.Side.{Side}
@@ -7,12 +7,12 @@ use Rattle.arena.specs.declared.step.Step.{Step}
 use Rattle.arena.specs.Share.{Remaining}
 use Rattle.arena.specs.History.{History}
 use Rattle.script.specs.declared.command.Command.{Command}
-use Rattle.script.specs.declared.command.Command.TheVariants.{Llx as LlxOf, Scx as ScxOf, Vlx as VlxOf, Set as SetOf, Get as GetOf}
+use Rattle.script.specs.declared.command.Command.TheVariants.{Llx as LlxOf, Scx as ScxOf, Vlx as VlxOf, Set as SetOf, Insert as InsertOf, Get as GetOf}
 use Rattle.prims.specs.declared.put.PutRun.{PutRun}
 use Rattle.prims.specs.declared.llx.LlxRun.{LlxRun}
 use Rattle.prims.specs.declared.llx.Llx.{Llx as LlxAnswer}
 use Rattle.player.specs.declared.run.Run.{Run}
-use Rattle.player.specs.declared.run.Run.TheVariants.{Llx, Scx, Vlx, Get}
+use Rattle.player.specs.declared.run.Run.TheVariants.{Llx, Scx, Vlx, Insert, Get}
 use Rattle.player.specs.declared.run.Ended.{Ended}
 use Rattle.player.specs.declared.run.Ended.TheVariants as ended
 use Rattle.player.specs.declared.client.Client.{Client}
@@ -20,9 +20,11 @@ use Rattle.player.specs.declared.client.Running.{Running}
 use Rattle.player.specs.declared.client.Put.{Put}
 use Rattle.record.specs.declared.record.Answer.{Answer}
 use Rattle.record.specs.CommandRules.{most_steps}
-use Rattle.player.specs.RunKnown.{RunWaits, RunAnswers, IsSameMachine, run_mode}
-use Rattle.player.specs.RunSteps.{run_left, left_of}
-use Rattle.player.specs.ClientView.{ClientView, Hand, in_hand, snaps_of, IsStart, IsPutOf, IsScxOf, HasNewest, IsMachineOf, IsRoomy, IsWonBy, IsClientState, Works, Hears, Answered, machine_call, GoesOn, Told}
+use Rattle.player.specs.RunKnown.{RunWaits, RunAnswers, IsSameMachine, run_mode, share_behind}
+use Rattle.player.specs.RunSteps.{run_left, then_left, left_of, HasSpentSome, HasSpentRest, HasSpent, HasSpentAll}
+use Rattle.tree.specs.declared.insert.Insert.{Insert as Inserted}
+use Rattle.updates.specs.declared.update.UpdateRun.{UpdateRun}
+use Rattle.player.specs.ClientView.{ClientView, Hand, in_hand, snaps_of, IsStart, IsPutOf, IsScxOf, held, HoldsShare, Holds, TakesInHand, IsInsertOf, HasNewest, IsMachineOf, IsRoomy, IsWonBy, IsClientState, Works, Hears, Answered, machine_call, GoesOn, Told}
 
 -- what does not change while a machine goes on
 record IsKept (left : Remaining) (old now : Run) : Type 0 where
@@ -34,6 +36,8 @@ record IsKept (left : Remaining) (old now : Run) : Type 0 where
   won : (v : ClientView) (c : ℕ) → IsWonBy v c old → IsWonBy v c now
   room : (v : ClientView) (c : ℕ) → IsRoomy v c old → IsRoomy v c now
   mode : (lay : Layout) → lay.mode ≡ run_mode old → lay.mode ≡ run_mode now
+  holds : (v : ClientView) (c : Client) → Holds v c old → Holds v c now
+  took : (v : ClientView) (c : Client) (share : Remaining) → TakesInHand v c share old → TakesInHand v c share now
 
 put_same : (a b : PutRun) (number : ℕ) (nodes removed : List ℕ) (field : ℕ × Side) (x : ℕ) → b.scx.update ≡ a.scx.update → b.scx.call ≡ a.scx.call → b.value ≡ a.value → IsPutOf a number nodes removed field x → IsPutOf b number nodes removed field x
 put_same a b number nodes removed field x u k w y = record { called = rw k y.called; covers = rw u y.covers; finalizes = rw u y.finalizes; node = rw u y.node; side = rw u y.side; value = rw w y.value }
@@ -45,13 +49,32 @@ scx_same (ScxOf update) number a b (Some put) x y = absurd y
 scx_same (SetOf field value) number a b (Some put) x y = absurd y
 scx_same (LlxOf cell) number a b then x y = absurd y
 scx_same (VlxOf cells) number a b then x y = absurd y
+scx_same (InsertOf key value) number a b then x y = absurd y
 scx_same (GetOf key) number a b then x y = absurd y
 
+insert_same : (command : Command) (number : ℕ) (a b : UpdateRun Inserted) (then : Option Put) → IsSameMachine (Insert a) (Insert b) → IsInsertOf command number a then → IsInsertOf command number b then
+insert_same (InsertOf key value) number a b None x y = rw (x.0, x.1) y
+insert_same (InsertOf key value) number a b (Some put) x y = absurd y
+insert_same (ScxOf update) number a b then x y = absurd y
+insert_same (SetOf field value) number a b then x y = absurd y
+insert_same (LlxOf cell) number a b then x y = absurd y
+insert_same (VlxOf cells) number a b then x y = absurd y
+insert_same (GetOf key) number a b then x y = absurd y
+
 is_kept : (left : Remaining) (old now : Run) → IsSameMachine old now → IsKept left old now
-is_kept left (Llx a) (Llx b) x = record { hand = refl; newest = λ p. p; run_of = λ command number then p. rw x p; begun = λ start begin p. p; snaps = refl; won = λ v c p. p; room = λ v c p. p; mode = λ lay e. e }
-is_kept left (Scx a) (Scx b) x = record { hand = rw (x.0, x.1) refl; newest = λ p. rw (x.0, x.1) p; run_of = λ command number then p. scx_same command number a b then x p; begun = λ start begin p. p; snaps = rw x.1 refl; won = λ v c p. rw x.0 p; room = λ v c p. p; mode = λ lay e. e }
-is_kept left (Vlx a) (Vlx b) x = record { hand = refl; newest = λ p. p; run_of = λ command number then p. rw x p; begun = λ start begin p. p; snaps = rw x refl; won = λ v c p. p; room = λ v c p. p; mode = λ lay e. e }
-is_kept left (Get a) (Get b) x = record { hand = refl; newest = λ p. p; run_of = λ command number then p. rw x p; begun = λ start begin p. p; snaps = refl; won = λ v c p. p; room = λ v c p. p; mode = λ lay e. e }
+is_kept left (Llx a) (Llx b) x = record { hand = refl; newest = λ p. p; run_of = λ command number then p. rw x p; begun = λ start begin p. p; snaps = refl; won = λ v c p. p; room = λ v c p. p; mode = λ lay e. e; holds = λ v c p. p; took = λ v c share p. p }
+is_kept left (Scx a) (Scx b) x = record { hand = rw (x.0, x.1) refl; newest = λ p. rw (x.0, x.1) p; run_of = λ command number then p. scx_same command number a b then x p; begun = λ start begin p. p; snaps = rw x.1 refl; won = λ v c p. rw x.0 p; room = λ v c p. p; mode = λ lay e. e; holds = λ v c p. rw (x.0, x.1) p; took = λ v c share p. rw (x.0, x.1) p }
+is_kept left (Vlx a) (Vlx b) x = record { hand = refl; newest = λ p. p; run_of = λ command number then p. rw x p; begun = λ start begin p. p; snaps = rw x refl; won = λ v c p. p; room = λ v c p. p; mode = λ lay e. e; holds = λ v c p. p; took = λ v c share p. p }
+is_kept left (Get a) (Get b) x = record { hand = refl; newest = λ p. p; run_of = λ command number then p. rw x p; begun = λ start begin p. p; snaps = refl; won = λ v c p. p; room = λ v c p. p; mode = λ lay e. e; holds = λ v c p. p; took = λ v c share p. p }
+is_kept left (Insert a) (Insert b) x = record { hand = refl; newest = λ p. p; run_of = λ command number then p. (rw x.0 p.0, insert_same command number a b then x p.1); begun = λ start begin p. p; snaps = refl; won = λ v c p. p; room = λ v c p. p; mode = λ lay e. e; holds = λ v c p. p; took = λ v c share p. p }
+is_kept left (Insert a) (Llx b) x = absurd x
+is_kept left (Insert a) (Scx b) x = absurd x
+is_kept left (Insert a) (Vlx b) x = absurd x
+is_kept left (Insert a) (Get b) x = absurd x
+is_kept left (Llx a) (Insert b) x = absurd x
+is_kept left (Scx a) (Insert b) x = absurd x
+is_kept left (Vlx a) (Insert b) x = absurd x
+is_kept left (Get a) (Insert b) x = absurd x
 is_kept left (Get a) (Llx b) x = absurd x
 is_kept left (Get a) (Scx b) x = absurd x
 is_kept left (Get a) (Vlx b) x = absurd x
@@ -67,14 +90,33 @@ is_kept left (Vlx a) (Scx b) x = absurd x
 
 -- what a client has in hand does not ask whether a machine runs
 stands_so : (v : ClientView) (c : Client) (running : Option Running) (hand : Hand) → IsClientState v c hand → IsClientState v (record c { running = running }) hand
-stands_so v c running hand x = record { is_pass = x.is_pass; number = x.number; place = x.place; kept = x.kept; unkept = x.unkept; dropped = x.dropped; share = x.share; over = x.over }
+stands_so v c running hand x = record { is_pass = x.is_pass; tries = x.tries; number = x.number; place = x.place; kept = x.kept; unkept = x.unkept; dropped = x.dropped; free = x.free }
+
+-- nor what it holds of its share
+so_held : (v : ClientView) (c : Client) (running : Option Running) (hand : Hand) → HoldsShare v c hand → HoldsShare v (record c { running = running }) hand
+so_held v c running hand x = record { some = x.some; share = x.share; over = x.over }
+
+holds_so : (v : ClientView) (c : Client) (running : Option Running) (run : Run) → Holds v c run → Holds v (record c { running = running }) run
+holds_so v c running (Insert m) x = tt
+holds_so v c running (Llx m) x = so_held v c running _ x
+holds_so v c running (Scx m) x = so_held v c running _ x
+holds_so v c running (Vlx m) x = so_held v c running _ x
+holds_so v c running (Get m) x = so_held v c running _ x
+
+took_so : (v : ClientView) (c : Client) (running : Option Running) (share : Remaining) (run : Run) → TakesInHand v c share run → TakesInHand v (record c { running = running }) share run
+took_so v c running share (Insert m) x = x
+took_so v c running share (Llx m) x = x
+took_so v c running share (Scx m) x = x
+took_so v c running share (Vlx m) x = x
+took_so v c running share (Get m) x = x
 
 works_so : (v : ClientView) (c : Client) (running : Option Running) (old now : Run) (then : Option Put) → IsSameMachine old now → Works v c old then → Works v (record c { running = running }) now then
 works_so v c running old now then same w =
-    let k = is_kept c.share old now same in
+    let k = is_kept (held c) old now same in
     record {
       mode = k.mode v.layout w.mode;
-      stands = rw k.hand (stands_so v c running (in_hand c.share old) w.stands);
+      stands = rw k.hand (stands_so v c running (in_hand (held c) old) w.stands);
+      holds = holds_so v c running now (k.holds v c w.holds);
       newest = k.newest w.newest;
       command = w.command;
       is = w.is;
@@ -86,20 +128,44 @@ works_so v c running old now then same w =
       moments = rw k.snaps w.moments;
       alone = rw k.snaps w.alone;
       room = k.room v c.pass.0 w.room;
-      took = rw k.hand w.took;
+      opening = w.opening;
+      took = took_so v c running w.opening now (k.took v c w.opening w.took);
       won = k.won v c.pass.0 w.won;
       late = w.late;
     }
 
+-- what is taken is no more than before and now
+spent_more : (share : Remaining) (tries : ℕ) (old now : Run) → IsSameMachine old now → HasSpentSome old now → HasSpent share tries old → HasSpent share tries now
+spent_more share tries old (Llx b) same x y = tt
+spent_more share tries old (Scx b) same x y = tt
+spent_more share tries old (Vlx b) same x y = tt
+spent_more share tries old (Get b) same x y = tt
+spent_more share tries (Insert a) (Insert b) same x y = (omega (arith, x.0, y.0), omega (arith, x.1, y.1))
+spent_more share tries (Llx a) (Insert b) same x y = absurd same
+spent_more share tries (Scx a) (Insert b) same x y = absurd same
+spent_more share tries (Vlx a) (Insert b) same x y = absurd same
+spent_more share tries (Get a) (Insert b) same x y = absurd same
+
+spent_rest : (share : Remaining) (tries : ℕ) (old now : Run) → IsSameMachine old now → HasSpentRest old now → HasSpent share tries old → HasSpentAll share tries now
+spent_rest share tries old (Llx b) same x y = tt
+spent_rest share tries old (Scx b) same x y = tt
+spent_rest share tries old (Vlx b) same x y = tt
+spent_rest share tries old (Get b) same x y = tt
+spent_rest share tries (Insert a) (Insert b) same x y = (omega (arith, x.0, y.0), omega (arith, x.1, y.1))
+spent_rest share tries (Llx a) (Insert b) same x y = absurd same
+spent_rest share tries (Scx a) (Insert b) same x y = absurd same
+spent_rest share tries (Vlx a) (Insert b) same x y = absurd same
+spent_rest share tries (Get a) (Insert b) same x y = absurd same
+
 -- a machine that asks for a step waits for it, and has fewer steps left
-pub goes_on : (v : ClientView) (c : Client) (old now : Run) (then : Option Put) (step : Step) (w : Works v c old then) → IsSameMachine old now → RunWaits now (machine_call v c w.is_pass w.start) v.past step → ((taken : ℕ) → length (taken_nodes v.past) ≤ taken → v.steps + left_of old then taken ≤ most_steps w.command taken) → ((taken : ℕ) → length (taken_nodes v.past) ≤ taken → run_left now taken < run_left old taken) → GoesOn v c (record c { running = Some (record { run = now; then = then; step = step }) })
+pub goes_on : (v : ClientView) (c : Client) (old now : Run) (then : Option Put) (step : Step) (w : Works v c old then) → IsSameMachine old now → RunWaits now (machine_call v c w.is_pass w.start) v.past step → ((taken : ℕ) → length (taken_nodes v.past) ≤ taken → v.steps + left_of old then taken ≤ most_steps w.command v.tries taken) → HasSpent w.opening v.tries old → HasSpentSome old now → ((taken : ℕ) → length (taken_nodes v.past) ≤ taken → run_left now taken < run_left old taken) → GoesOn v c (record c { running = Some (record { run = now; then = then; step = step }) })
 unfolding works_so
-goes_on v c old now then step w same waits few nearer = record {
+goes_on v c old now then step w same waits few spent spends nearer = record {
   same = record { pass = refl; number = refl; next = refl };
   begin = refl;
   running = record { run = now; then = then; step = step };
   is = refl;
-  waits = record { works = works_so v c (Some (record { run = now; then = then; step = step })) old now then same w; waits = waits; few = λ taken i. let enough = few taken i in let less = nearer taken i in omega arith };
+  waits = record { works = works_so v c (Some (record { run = now; then = then; step = step })) old now then same w; waits = waits; spent = spent_more w.opening v.tries old now same spends spent; few = λ taken i. let enough = few taken i in let less = nearer taken i in omega arith };
 }
 
 -- The answer of a machine
@@ -110,14 +176,62 @@ some_same p q e = cc
 pub hears_as : (v : ClientView) (c : Client) (q p : Running) (found : ℕ) → Some p ≡ c.running → c.running ≡ Some q → Hears v c q found → Hears v c p found
 hears_as v c q p found e d x = rw (some_same p q (e ∙ d)) x
 
-pub answered_so : (v : ClientView) (c : Client) (p : Running) (now : Run) (ended : Ended) (found : ℕ) (rest : Option Running) (x : Hears v c p found) → rest ≡ None → IsSameMachine p.run now → RunAnswers now (machine_call v c x.works.is_pass x.works.start) v.past ended → Answered v (record c { running = rest }) now p.then ended
-unfolding works_so
-answered_so v c p now ended found rest x e same a = record { works = works_so v c rest p.run now p.then same x.works; none = e; answers = a; few = λ taken i. let few = x.few taken i in omega arith }
+-- with its share back, the client is the same
+back_so : (v : ClientView) (c : Client) (run : Run) (then : Option Put) → Works v c run then → Works v (record c { share = share_behind run c.share }) run then
+back_so v c (Llx m) then w = w
+back_so v c (Scx m) then w = w
+back_so v c (Vlx m) then w = w
+back_so v c (Get m) then w = w
+back_so v c (Insert m) then w = record {
+  mode = w.mode;
+  stands = record { is_pass = w.stands.is_pass; tries = w.stands.tries; number = w.stands.number; place = w.stands.place; kept = w.stands.kept; unkept = w.stands.unkept; dropped = w.stands.dropped; free = w.stands.free };
+  holds = tt;
+  newest = tt;
+  command = w.command;
+  is = w.is;
+  run_of = w.run_of;
+  is_pass = w.is_pass;
+  start = w.start;
+  since = w.since;
+  begun = w.begun;
+  moments = w.moments;
+  alone = w.alone;
+  room = tt;
+  opening = w.opening;
+  took = w.took;
+  won = w.won;
+  late = w.late;
+}
 
--- what is told does not ask whether a machine ran
-pub told_from : (v : ClientView) (c new : Client) (rest : Option Running) (answer : Option Answer) → Told v (record c { running = rest }) new answer → Told v c new answer
-told_from v c new rest None x = record { same = record { pass = x.same.pass; number = x.same.number; next = x.same.next }; begin = x.begin; running = x.running; is = x.is; waits = x.waits }
-told_from v c new rest (Some answer) x = record { same = record { pass = x.same.pass; number = x.same.number; next = x.same.next }; begin = x.begin; rests = x.rests; command = x.command; is = x.is; answers = x.answers; right = x.right; entry = x.entry; took = x.took; late = x.late }
+-- the share is back
+is_back : (run : Run) (had : Option Remaining) → share_behind run had ≡ share_behind run (share_behind run had)
+is_back (Llx m) had = refl
+is_back (Scx m) had = refl
+is_back (Vlx m) had = refl
+is_back (Insert m) had = refl
+is_back (Get m) had = refl
+
+answered_back : (v : ClientView) (c : Client) (run : Run) (then : Option Put) (end : Ended) (w : Works v c run then) → c.running ≡ None → RunAnswers run (machine_call v c w.is_pass w.start) v.past end → HasSpentAll w.opening v.tries run → ((taken : ℕ) → length (taken_nodes v.past) ≤ taken → v.steps + then_left then ≤ most_steps w.command v.tries taken) → Answered v (record c { share = share_behind run c.share }) run then end
+unfolding back_so
+answered_back v c (Llx m) then end w none a spent few = record { works = back_so v c (Llx m) then w; none = none; answers = a; spent = spent; back = refl; few = few }
+answered_back v c (Scx m) then end w none a spent few = record { works = back_so v c (Scx m) then w; none = none; answers = a; spent = spent; back = refl; few = few }
+answered_back v c (Vlx m) then end w none a spent few = record { works = back_so v c (Vlx m) then w; none = none; answers = a; spent = spent; back = refl; few = few }
+answered_back v c (Insert m) then end w none a spent few = record { works = back_so v c (Insert m) then w; none = none; answers = a; spent = spent; back = refl; few = few }
+answered_back v c (Get m) then end w none a spent few = record { works = back_so v c (Get m) then w; none = none; answers = a; spent = spent; back = refl; few = few }
+
+pub answered_so : (v : ClientView) (c : Client) (p : Running) (now : Run) (end : Ended) (found : ℕ) (rest : Option Running) (mid : Client) (x : Hears v c p found) → rest ≡ None → mid ≡ record c { running = rest; share = share_behind now c.share } → IsSameMachine p.run now → HasSpentRest p.run now → RunAnswers now (machine_call v c x.works.is_pass x.works.start) v.past end → Answered v mid now p.then end
+unfolding works_so
+answered_so v c p now end found rest mid x e is same spends a =
+    subst (λ (k : Client). Answered v k now p.then end) (sym is)
+    (answered_back v (record c { running = rest }) now p.then end (works_so v c rest p.run now p.then same x.works) e a (spent_rest x.works.opening v.tries p.run now same spends x.spent) (λ taken i. let few = x.few taken i in omega arith))
+
+-- what is told does not ask whether a machine ran, nor who had the share
+told_so : (v : ClientView) (c new : Client) (rest : Option Running) (share : Option Remaining) (answer : Option Answer) → Told v (record c { running = rest; share = share }) new answer → Told v c new answer
+told_so v c new rest share None x = record { same = record { pass = x.same.pass; number = x.same.number; next = x.same.next }; begin = x.begin; running = x.running; is = x.is; waits = x.waits }
+told_so v c new rest share (Some answer) x = record { same = record { pass = x.same.pass; number = x.same.number; next = x.same.next }; begin = x.begin; rests = x.rests; command = x.command; is = x.is; answers = x.answers; right = x.right; entry = x.entry; tells = x.tells; took = x.took; late = x.late }
+
+pub told_from : (v : ClientView) (c mid new : Client) (rest : Option Running) (share : Option Remaining) (answer : Option Answer) → mid ≡ record c { running = rest; share = share } → Told v mid new answer → Told v c new answer
+told_from v c mid new rest share answer is x = told_so v c new rest share answer (subst (λ (k : Client). Told v k new answer) is x)
 
 -- what a machine has answered tells which machine it was
 pub after_run : (v : ClientView) (c new : Client) (run : Run) (then : Option Put) (end : Ended) (a : LlxAnswer) (answer : Option Answer) → end ≡ ended.Llx a → Answered v c run then end → ((m : LlxRun) → Answered v c (Llx m) then (ended.Llx a) → Told v c new answer) → Told v c new answer
@@ -127,4 +241,5 @@ after_run v c new run then end a answer e x f = go run (subst (λ t. Answered v 
     go (Llx m) y = f m y
     go (Scx m) y = absurd y.answers
     go (Vlx m) y = absurd y.answers
+    go (Insert m) y = absurd y.answers
     go (Get m) y = absurd y.answers

@@ -1,5 +1,5 @@
 -- How calls end: what their answers say, and what is left to the client.
-use Rattle.std.proofs.Common.{◌≡◌, ◌≢◌, ℕ, zero, suc, ◌<◌, ◌≤◌, ◌⊎◌, inl, inr, ⊎_elim, Bool, true, false, cond, ◌||◌, eqb, List, [], ◌∷◌, length, get_or, slice_get, Option, Some, None, IsSome, refl, sym, ◌∙◌, ap, subst, arith}
+use Rattle.std.proofs.Common.{◌≡◌, ◌≢◌, ℕ, zero, suc, ◌*◌, ◌<◌, ◌≤◌, ◌⊎◌, inl, inr, ⊎_elim, Bool, true, false, cond, ◌||◌, eqb, List, [], ◌∷◌, length, get_or, slice_get, Option, Some, None, IsSome, refl, sym, ◌∙◌, ap, subst, arith}
 use Rattle.std.proofs.Math.ListN.{set}
 use Rattle.std.specs.List.{Contains}
 use Rattle.tree.specs.declared.get.GetRun.{GetRun}
@@ -32,11 +32,11 @@ use Rattle.prims.specs.declared.llx.Llx.TheVariants.{Snapshot as LlxSnapshot, Fi
 use Rattle.prims.specs.declared.scx.Scx.TheVariants.{Done as ScxDone, Lost as ScxLost}
 use Rattle.prims.specs.declared.vlx.Vlx.TheVariants.{Same as VlxSame, Changed as VlxChanged}
 use Rattle.script.specs.declared.command.Command.{Command}
-use Rattle.script.specs.declared.command.Command.TheVariants.{Llx as LlxOf, Scx as ScxOf, Vlx as VlxOf, Set as SetOf, Get as GetOf}
+use Rattle.script.specs.declared.command.Command.TheVariants.{Llx as LlxOf, Scx as ScxOf, Vlx as VlxOf, Set as SetOf, Insert as InsertOf, Get as GetOf}
 use Rattle.script.specs.Cells.{cells_of}
 use Rattle.script.specs.Update.{update_cells}
 use Rattle.player.specs.declared.run.Run.{Run}
-use Rattle.player.specs.declared.run.Run.TheVariants.{Llx, Scx, Vlx, Get}
+use Rattle.player.specs.declared.run.Run.TheVariants.{Llx, Scx, Vlx, Insert, Get}
 use Rattle.player.specs.declared.run.Ended.{Ended}
 use Rattle.player.specs.declared.run.Ended.TheVariants as ended
 use Rattle.player.specs.declared.client.Client.{Client}
@@ -44,17 +44,27 @@ use Rattle.player.specs.declared.client.Put.{Put}
 use Rattle.player.specs.declared.kept.Kept.{Kept}
 use Rattle.player.specs.declared.kept.Found.{Found}
 use Rattle.record.specs.declared.record.Answer.{Answer}
-use Rattle.record.specs.declared.record.Answer.TheVariants.{Snapshot, Finalized, Fail, Done, Lost, Same, Changed, Unlinked, Full, Value}
+use Rattle.record.specs.declared.record.Answer.TheVariants.{Full, Value}
 use Rattle.player.specs.KeptSnaps.{IsUnspent, kept_of, node_of, found_of, parts, snap_of}
-use Rattle.record.specs.CommandRules.{MayAnswerAfterStep, IsRight}
+use Rattle.record.specs.CommandRules.{MayAnswerAfterStep, HasTakenFew, enters, IsRight}
+use Rattle.record.specs.Rules.Insert.{InsertIsRight}
+use Rattle.record.specs.Shares.{HasTakenAtMost}
+use Rattle.arena.specs.declared.limits.Mode.TheVariants.{Records, Tree}
+use Rattle.tree.specs.declared.insert.Insert.{Insert as Inserted}
+use Rattle.tree.specs.Insert.Means.{insert_means}
+use Rattle.updates.specs.Known.{RestsWith, UpdateAnswers}
+use Rattle.updates.specs.declared.update.UpdateRun.{UpdateRun}
+use Rattle.updates.specs.declared.update.Updated.{Updated}
+use Rattle.updates.specs.declared.update.Updated.TheVariants.{Done as UpdateDone, Contended as UpdateContended, Full as UpdateFull}
+use Rattle.player.proofs.InsertEnds.{IsInsertEnd, insert_end}
 use Rattle.record.specs.Snapshots.{IsLastLook, AreLinked, IsBehindAll}
 use Rattle.record.specs.Answers.{HasRoom, IsInTheWay, IsAsSnapped, HasItsEntry}
 use Rattle.player.specs.RunKnown.{answer_of}
 use Rattle.prims.specs.Scx.Known.{nodes_of}
-use Rattle.player.specs.ClientView.{ClientView, IsSound, IsLlxOf, IsScxOf, IsVlxOf, IsGetOf, no_hand, in_hand, HaveMoments, IsClientState, Rests, Answered, Ends, machine_call, linked_by}
+use Rattle.player.specs.ClientView.{ClientView, IsSound, IsLlxOf, IsScxOf, IsVlxOf, IsInsertOf, IsGetOf, Hand, no_hand, in_hand, held, HoldsShare, HaveMoments, HasInserted, Tells, command_of, IsClientState, Rests, Answered, Ends, machine_call, linked_by}
 use Rattle.player.proofs.Puts.{put_committed, put_aborted}
 use Rattle.player.proofs.Snapshots.{has_snap, snap_there, snap_found, kept_after, unkept_after}
-use Rattle.player.proofs.Over.{taken_one}
+use Rattle.player.proofs.Over.{taken_one, taken_nothing, taken_tries}
 
 -- Nodes of snapshots
 
@@ -113,25 +123,18 @@ drop_one snaps node old e = record { gone = λ n x. single n ∙ x_gone n x; oth
 record IsOutcome (v : ClientView) (c : ℕ) (snaps : List Snap) (command : Command) (answer : Answer) : Type 0 where
   answers : MayAnswerAfterStep command answer
   right : IsRight v.layout c v.past v.start v.linked command answer
-  entry : HasItsEntry answer v.won
+  entry : HasItsEntry (enters command answer) v.won
+  tells : Tells v c command answer
+  took : HasTakenFew v.layout v.tries c v.past v.start command
   drops : IsDropped snaps v.linked (linked_by v command answer)
 
-entered_some : (won : Option ℕ) (turn : ℕ) → won ≡ Some turn → HasItsEntry Done won
+entered_some : (won : Option ℕ) (turn : ℕ) → won ≡ Some turn → HasItsEntry true won
 entered_some (Some k) turn e = tt
 entered_some None turn e = cc
 
-pub entered_none : (answer : Answer) (won : Option ℕ) → won ≡ None → (answer ≡ Done → ⊥) → HasItsEntry answer won
-entered_none Done won e d = absurd (d refl)
-entered_none (Snapshot left right) None e d = tt
-entered_none Finalized None e d = tt
-entered_none (Fail node scx) None e d = tt
-entered_none (Lost node scx) None e d = tt
-entered_none Same None e d = tt
-entered_none (Changed node scx) None e d = tt
-entered_none (Unlinked node) None e d = tt
-entered_none (Full what left) None e d = tt
-entered_none (Value value) None e d = tt
-entered_none answer (Some k) e d = cc
+pub entered_none : (won : Option ℕ) → won ≡ None → HasItsEntry false won
+entered_none None e = tt
+entered_none (Some k) e = cc
 
 -- one of the nodes was changed by another client
 blamed_is : (kind : Kind) (v : ClientView) (c : Client) (command : Command) (snaps : List Snap) (nodes : List ℕ) (start : History) → Extends start v.start → (node scx : ℕ) (IsSuch : History → Type 0) → nodes_of snaps ≡ nodes → HaveMoments v c.pass.0 command snaps → AreLeftAlone v.layout c.pass.0 start snaps → ((i : ℕ) → i < length snaps → (snap_at snaps i).node.0 ≡ node → (moment : History) × IsMoment v.layout v.past (snap_at snaps i) moment × IsSuch moment) → HasChanged v.layout c.pass.0 kind v.past start snaps node scx → IsInTheWay v.layout c.pass.0 v.past v.start kind nodes node scx IsSuch
@@ -160,20 +163,24 @@ are_linked v c command snaps nodes e f n q =
     subst (λ (m : Option History). IsSome m) (sym (subst (λ (k : ℕ). v.linked k ≡ Some z.0) i.is z.1)) refl
 
 -- what the answer of an SCX says
-scx_outcome : (v : ClientView) (c : Client) (command : Command) (m : PutRun) (then : Option Put) (a : ScxAnswer) (start : History) → Extends start v.start → (is_pass : c.pass.0 < v.layout.passes) → IsScxOf command c.number m then → HaveMoments v c.pass.0 command m.scx.update.snaps → AreLeftAlone v.layout c.pass.0 start m.scx.update.snaps → HasRoom v.layout c.pass.0 v.start → (a ≡ ScxDone → (turn : ℕ) × (v.won ≡ Some turn)) → (a ≢ ScxDone → v.won ≡ None) → PutAnswers m (machine_call v c is_pass start) v.past a → IsOutcome v c.pass.0 m.scx.update.snaps command (answer_of (ended.Scx a))
-scx_outcome v c (ScxOf update) m None ScxDone start since is_pass x moments alone room done lost y = record {
+scx_outcome : (v : ClientView) (c : Client) (command : Command) (m : PutRun) (then : Option Put) (a : ScxAnswer) (start : History) → Extends start v.start → (is_pass : c.pass.0 < v.layout.passes) → IsScxOf command c.number m then → HaveMoments v c.pass.0 command m.scx.update.snaps → AreLeftAlone v.layout c.pass.0 start m.scx.update.snaps → HasRoom v.layout c.pass.0 v.start → (a ≡ ScxDone → (turn : ℕ) × (v.won ≡ Some turn)) → (a ≢ ScxDone → v.won ≡ None) → HasTakenAtMost v.layout c.pass.0 v.past v.start 1 1 → PutAnswers m (machine_call v c is_pass start) v.past a → IsOutcome v c.pass.0 m.scx.update.snaps command (answer_of (ended.Scx a))
+scx_outcome v c (ScxOf update) m None ScxDone start since is_pass x moments alone room done lost took y = record {
   answers = tt;
   right = room;
   entry = entered_some v.won (done refl).0 (done refl).1;
+  tells = tt;
+  took = took;
   drops = drop_nodes m.scx.update.snaps (update_cells update) v.linked x.covers;
 }
-scx_outcome v c (SetOf field value) m None ScxDone start since is_pass x moments alone room done lost y = record {
+scx_outcome v c (SetOf field value) m None ScxDone start since is_pass x moments alone room done lost took y = record {
   answers = tt;
   right = room;
   entry = entered_some v.won (done refl).0 (done refl).1;
+  tells = tt;
+  took = took;
   drops = drop_one m.scx.update.snaps field.0 v.linked x.covers;
 }
-scx_outcome v c (ScxOf update) m None (ScxLost node scx) start since is_pass x moments alone room done lost y = record {
+scx_outcome v c (ScxOf update) m None (ScxLost node scx) start since is_pass x moments alone room done lost took y = record {
   answers = tt;
   right = (
     are_linked v c (ScxOf update) m.scx.update.snaps (update_cells update) x.covers (λ i p. let z = moments i p in (z.moment, z.source)),
@@ -182,10 +189,12 @@ scx_outcome v c (ScxOf update) m None (ScxLost node scx) start since is_pass x m
         (λ i p e. let z = moments i p in (z.moment, z.found, subst (λ (n : ℕ). v.linked n ≡ Some z.moment) e z.source))
         y.1.changed,
   );
-  entry = entered_none (Lost node scx) v.won (lost (λ e. cc)) (λ e. cc);
+  entry = entered_none v.won (lost (λ e. cc));
+  tells = tt;
+  took = took;
   drops = drop_nodes m.scx.update.snaps (update_cells update) v.linked x.covers;
 }
-scx_outcome v c (SetOf field value) m None (ScxLost node scx) start since is_pass x moments alone room done lost y = record {
+scx_outcome v c (SetOf field value) m None (ScxLost node scx) start since is_pass x moments alone room done lost took y = record {
   answers = tt;
   right = (
     room,
@@ -193,34 +202,31 @@ scx_outcome v c (SetOf field value) m None (ScxLost node scx) start since is_pas
         (λ i p e. let z = moments i p in (z.moment, z.found, subst (λ (n : ℕ). IsLastLook c.pass.0 v.past v.start z.moment n × (is_final (log v.layout z.moment) n ≡ false)) (only_node m.scx.update.snaps field.0 i x.covers p) (z.source, z.found.not_final)))
         y.1.changed,
   );
-  entry = entered_none (Lost node scx) v.won (lost (λ e. cc)) (λ e. cc);
+  entry = entered_none v.won (lost (λ e. cc));
+  tells = tt;
+  took = took;
   drops = drop_one m.scx.update.snaps field.0 v.linked x.covers;
 }
-scx_outcome v c (ScxOf update) m (Some put) a start since is_pass x moments alone room done lost y = absurd x
-scx_outcome v c (SetOf field value) m (Some put) a start since is_pass x moments alone room done lost y = absurd x
-scx_outcome v c (LlxOf cell) m then a start since is_pass x moments alone room done lost y = absurd x
-scx_outcome v c (VlxOf cells) m then a start since is_pass x moments alone room done lost y = absurd x
-scx_outcome v c (GetOf key) m then a start since is_pass x moments alone room done lost y = absurd x
+scx_outcome v c (ScxOf update) m (Some put) a start since is_pass x moments alone room done lost took y = absurd x
+scx_outcome v c (SetOf field value) m (Some put) a start since is_pass x moments alone room done lost took y = absurd x
+scx_outcome v c (LlxOf cell) m then a start since is_pass x moments alone room done lost took y = absurd x
+scx_outcome v c (VlxOf cells) m then a start since is_pass x moments alone room done lost took y = absurd x
+scx_outcome v c (InsertOf key value) m then a start since is_pass x moments alone room done lost took y = absurd x
+scx_outcome v c (GetOf key) m then a start since is_pass x moments alone room done lost took y = absurd x
 
--- a client whose SCX has ended has taken what it had in hand, and drops its snapshots
-rests_scx : (v : ClientView) (c : Client) (m : PutRun) (then : Option Put) (a : ScxAnswer) (linked : ℕ → Option History) → IsSound v → IsDropped m.scx.update.snaps v.linked linked → Answered v c (Scx m) then (ended.Scx a) → IsClientState (record v { linked = linked }) c (no_hand c.share)
-rests_scx v c m then a linked sound drops x = record {
+-- a client whose SCX has ended drops its snapshots
+stands_scx : (v : ClientView) (c : Client) (m : PutRun) (linked : ℕ → Option History) → IsDropped m.scx.update.snaps v.linked linked → IsClientState v c (in_hand (held c) (Scx m)) → IsClientState (record v { linked = linked }) c (no_hand (held c))
+stands_scx v c m linked drops y = record {
   is_pass = y.is_pass;
+  tries = y.tries;
   number = y.number;
   place = y.place;
   kept = λ n found e. kept n found e;
   unkept = λ n i e. ⊎_elim (λ z. inr (drops.gone n z)) (λ z. inr (unkept n i e z)) (y.unkept n i e);
   dropped = λ n z. absurd (among_none n z);
-  share = share_ends v.layout v.past c.pass.0 c.share m.scx.update.fresh.0 m.scx.scx.0 x.works.newest.0 x.works.newest.1 x.answers.0.taken (finished_taken v.layout v.past m.scx.scx.0 sound.lawful x.works.newest.2 finished) y.share;
-  over = over_begins v.layout c.pass.0 c.share.next_scx v.past (over_ends v.layout c.pass.0 m.scx.scx.0 v.past y.over finished);
+  free = y.free;
 }
   where
-    y : IsClientState v c (in_hand c.share (Scx m))
-    y = x.works.stands
-
-    finished : value v.past (state m.scx.scx.0) ≢ 0
-    finished = put_finished m (machine_call v c x.works.is_pass x.works.start) v.past a x.answers
-
     -- what is still kept is not of those snapshots
     other : (n : ℕ) (found : Found) → kept_of c.kept n ≡ Some found → IsAmong m.scx.update.snaps n → ⊥
     other n found e z = let none : kept_of c.kept n ≡ None = y.dropped n z in let some : kept_of c.kept n ≡ Some found = e in cc
@@ -235,6 +241,17 @@ rests_scx v c m then a linked sound drops x = record {
         go true q = drops.gone n (snap_there m.scx.update.snaps n q)
         go false q = drops.others n (λ w. let t : has_snap m.scx.update.snaps n ≡ true = snap_found m.scx.update.snaps n w.at w.within w.is in cc) ∙ z
 
+-- and has taken what it had in hand
+holds_scx : (v : ClientView) (c : Client) (m : PutRun) (then : Option Put) (a : ScxAnswer) (linked : ℕ → Option History) → IsSound v → Answered v c (Scx m) then (ended.Scx a) → HoldsShare (record v { linked = linked }) c (no_hand (held c))
+holds_scx v c m then a linked sound x = record {
+  some = x.works.holds.some;
+  share = share_ends v.layout v.past c.pass.0 (held c) m.scx.update.fresh.0 m.scx.scx.0 x.works.newest.0 x.works.newest.1 x.answers.0.taken (finished_taken v.layout v.past m.scx.scx.0 sound.lawful x.works.newest.2 finished) x.works.holds.share;
+  over = over_begins v.layout c.pass.0 (held c).next_scx v.past (over_ends v.layout c.pass.0 m.scx.scx.0 v.past x.works.holds.over finished);
+}
+  where
+    finished : value v.past (state m.scx.scx.0) ≢ 0
+    finished = put_finished m (machine_call v c x.works.is_pass x.works.start) v.past a x.answers
+
 -- the call of an SCX ends with its answer
 ends_scx : (v : ClientView) (c : Client) (run : Run) (then : Option Put) (a : ScxAnswer) → IsSound v → Answered v c run then (ended.Scx a) → Ends v c c (answer_of (ended.Scx a))
 ends_scx v c (Scx m) then a sound x =
@@ -243,11 +260,12 @@ ends_scx v c (Scx m) then a sound x =
       begin = refl;
       command = x.works.command;
       is = x.works.is;
-      rests = record { stands = rests_scx v c m then a (linked_by v x.works.command (answer_of (ended.Scx a))) sound o.drops x; none = x.none };
+      rests = record { stands = stands_scx v c m (linked_by v x.works.command (answer_of (ended.Scx a))) o.drops x.works.stands; holds = holds_scx v c m then a (linked_by v x.works.command (answer_of (ended.Scx a))) sound x; none = x.none };
       answers = o.answers;
       right = o.right;
       entry = o.entry;
-      took = taken_one v c.pass.0 _ x.works.took;
+      tells = o.tells;
+      took = o.took;
       late = x.works.late;
     }
   where
@@ -260,9 +278,10 @@ ends_scx v c (Scx m) then a sound x =
     lost (ScxLost node scx) y d = x.works.won.no (aborted_never_won v.layout v.past m.scx.scx.0 sound.lawful (put_aborted m (machine_call v c x.works.is_pass x.works.start) v.past node scx y))
 
     o : IsOutcome v c.pass.0 m.scx.update.snaps x.works.command (answer_of (ended.Scx a))
-    o = scx_outcome v c x.works.command m then a x.works.start x.works.begun x.works.is_pass x.works.run_of x.works.moments x.works.alone x.works.room (done a x.answers) (lost a x.answers) x.answers
+    o = scx_outcome v c x.works.command m then a x.works.start x.works.begun x.works.is_pass x.works.run_of x.works.moments x.works.alone x.works.room (done a x.answers) (lost a x.answers) (taken_one v c.pass.0 _ x.works.took) x.answers
 ends_scx v c (Llx m) then a sound x = absurd x.answers
 ends_scx v c (Vlx m) then a sound x = absurd x.answers
+ends_scx v c (Insert m) then a sound x = absurd x.answers
 ends_scx v c (Get m) then a sound x = absurd x.answers
 
 -- The end of a VLX
@@ -291,11 +310,13 @@ first_changed v c cells snaps node index e moments within is found =
         subst (IsAsSnapped v.layout v.start v.linked) (sym (cell_is snaps i (omega (arith, within)))) (z.moment, z.source, record { same = w.last z.moment z.found; not_final = w.not_final })
 
 -- what the answer of a VLX says: it leaves the snapshots
-vlx_outcome : (v : ClientView) (c : Client) (command : Command) (m : VlxRun (List Snap)) (then : Option Put) (a : VlxAnswer) → IsVlxOf command m.snaps then → HaveMoments v c.pass.0 command m.snaps → AreLeftAlone v.layout c.pass.0 v.start m.snaps → v.won ≡ None → (is_pass : c.pass.0 < v.layout.passes) → VlxAnswers m.snaps (machine_call v c is_pass v.start) v.past a → IsOutcome v c.pass.0 [] command (answer_of (ended.Vlx a))
-vlx_outcome v c (VlxOf cells) m None VlxSame x moments alone won is_pass y = record {
+vlx_outcome : (v : ClientView) (c : Client) (command : Command) (m : VlxRun (List Snap)) (then : Option Put) (a : VlxAnswer) → IsVlxOf command m.snaps then → HaveMoments v c.pass.0 command m.snaps → AreLeftAlone v.layout c.pass.0 v.start m.snaps → v.won ≡ None → HasTakenAtMost v.layout c.pass.0 v.past v.start 0 0 → (is_pass : c.pass.0 < v.layout.passes) → VlxAnswers m.snaps (machine_call v c is_pass v.start) v.past a → IsOutcome v c.pass.0 [] command (answer_of (ended.Vlx a))
+vlx_outcome v c (VlxOf cells) m None VlxSame x moments alone won took is_pass y = record {
   answers = tt;
   right = λ n q. same n (rw (sym x) at q);
-  entry = entered_none Same v.won won (λ e. cc);
+  entry = entered_none v.won won;
+  tells = tt;
+  took = took;
   drops = record { gone = λ n z. absurd (among_none n z); others = λ n z. refl };
 }
   where
@@ -305,7 +326,7 @@ vlx_outcome v c (VlxOf cells) m None VlxSame x moments alone won is_pass y = rec
         let z = moments i.at i.within in
         let w = y.found i.at i.within in
         subst (IsAsSnapped v.layout v.start v.linked) i.is (z.moment, z.source, record { same = w.last z.moment z.found; not_final = w.not_final })
-vlx_outcome v c (VlxOf cells) m None (VlxChanged node scx) x moments alone won is_pass y = record {
+vlx_outcome v c (VlxOf cells) m None (VlxChanged node scx) x moments alone won took is_pass y = record {
   answers = tt;
   right = (
     are_linked v c (VlxOf cells) m.snaps (cells_of cells) x (λ i p. let z = moments i p in (z.moment, z.source)),
@@ -314,93 +335,139 @@ vlx_outcome v c (VlxOf cells) m None (VlxChanged node scx) x moments alone won i
         y.changed,
     first_changed v c.pass.0 cells m.snaps node.0 y.changed.index x moments y.changed.within y.changed.is y.before,
   );
-  entry = entered_none (Changed node scx) v.won won (λ e. cc);
+  entry = entered_none v.won won;
+  tells = tt;
+  took = took;
   drops = record { gone = λ n z. absurd (among_none n z); others = λ n z. refl };
 }
-vlx_outcome v c (VlxOf cells) m (Some put) a x moments alone won is_pass y = absurd x
-vlx_outcome v c (LlxOf cell) m then a x moments alone won is_pass y = absurd x
-vlx_outcome v c (ScxOf update) m then a x moments alone won is_pass y = absurd x
-vlx_outcome v c (SetOf field value) m then a x moments alone won is_pass y = absurd x
-vlx_outcome v c (GetOf key) m then a x moments alone won is_pass y = absurd x
+vlx_outcome v c (VlxOf cells) m (Some put) a x moments alone won took is_pass y = absurd x
+vlx_outcome v c (LlxOf cell) m then a x moments alone won took is_pass y = absurd x
+vlx_outcome v c (ScxOf update) m then a x moments alone won took is_pass y = absurd x
+vlx_outcome v c (SetOf field value) m then a x moments alone won took is_pass y = absurd x
+vlx_outcome v c (InsertOf key value) m then a x moments alone won took is_pass y = absurd x
+vlx_outcome v c (GetOf key) m then a x moments alone won took is_pass y = absurd x
 
 -- what is said of the snapshots as before leaves a client at rest
-rests_as : (v : ClientView) (c : Client) (linked : ℕ → Option History) → IsDropped [] v.linked linked → IsClientState v c (no_hand c.share) → IsClientState (record v { linked = linked }) c (no_hand c.share)
+rests_as : (v : ClientView) (c : Client) (linked : ℕ → Option History) → IsDropped [] v.linked linked → IsClientState v c (no_hand (held c)) → IsClientState (record v { linked = linked }) c (no_hand (held c))
 rests_as v c linked drops x = record {
   is_pass = x.is_pass;
+  tries = x.tries;
   number = x.number;
   place = x.place;
   kept = λ n found e. let z = x.kept n found e in (z.0, drops.others n (among_none n) ∙ z.1, z.2);
   unkept = λ n i e. ⊎_elim (λ z. inl z) (λ z. inr (drops.others n (among_none n) ∙ z)) (x.unkept n i e);
   dropped = x.dropped;
-  share = x.share;
-  over = x.over;
+  free = x.free;
 }
+
+-- nor does what it holds of its share
+holds_as : (v : ClientView) (c : Client) (linked : ℕ → Option History) (hand : Hand) → HoldsShare v c hand → HoldsShare (record v { linked = linked }) c hand
+holds_as v c linked hand x = record { some = x.some; share = x.share; over = x.over }
 
 ends_vlx : (v : ClientView) (c : Client) (run : Run) (then : Option Put) (a : VlxAnswer) → Answered v c run then (ended.Vlx a) → Ends v c c (answer_of (ended.Vlx a))
 ends_vlx v c (Vlx m) then a x =
     let y = subst (λ (k : History). VlxAnswers m.snaps (machine_call v c x.works.is_pass k) v.past a) x.works.begun x.answers in
     let alone = subst (λ (k : History). AreLeftAlone v.layout c.pass.0 k m.snaps) x.works.begun x.works.alone in
-    let o = vlx_outcome v c x.works.command m then a x.works.run_of x.works.moments alone x.works.won x.works.is_pass y in
+    let o = vlx_outcome v c x.works.command m then a x.works.run_of x.works.moments alone x.works.won (taken_nothing v c.pass.0 (held c) 0 0 x.works.holds.share x.works.took) x.works.is_pass y in
     record {
       same = record { pass = refl; number = refl; next = refl };
       begin = refl;
       command = x.works.command;
       is = x.works.is;
-      rests = record { stands = rests_as v c (linked_by v x.works.command (answer_of (ended.Vlx a))) o.drops x.works.stands; none = x.none };
+      rests = record { stands = rests_as v c (linked_by v x.works.command (answer_of (ended.Vlx a))) o.drops x.works.stands; holds = holds_as v c (linked_by v x.works.command (answer_of (ended.Vlx a))) (no_hand (held c)) x.works.holds; none = x.none };
       answers = o.answers;
       right = o.right;
       entry = o.entry;
-      took = taken_one v c.pass.0 _ x.works.took;
+      tells = o.tells;
+      took = o.took;
       late = x.works.late;
     }
 ends_vlx v c (Llx m) then a x = absurd x.answers
 ends_vlx v c (Scx m) then a x = absurd x.answers
+ends_vlx v c (Insert m) then a x = absurd x.answers
 ends_vlx v c (Get m) then a x = absurd x.answers
+
+-- a call ends with this answer, which leaves what the client has
+ends_as : (v : ClientView) (c : Client) (command : Command) (answer : Answer) → command_of v c ≡ Some command → IsClientState v c (no_hand (held c)) → HoldsShare v c (no_hand (held c)) → c.running ≡ None → IsOutcome v c.pass.0 [] command answer → ((turn : ℕ) → v.won ≡ Some turn → c.begin ≤ turn) → Ends v c c answer
+ends_as v c command answer is stands holds none o late = record {
+  same = record { pass = refl; number = refl; next = refl };
+  begin = refl;
+  command = command;
+  is = is;
+  rests = record { stands = rests_as v c (linked_by v command answer) o.drops stands; holds = holds_as v c (linked_by v command answer) (no_hand (held c)) holds; none = none };
+  answers = o.answers;
+  right = o.right;
+  entry = o.entry;
+  tells = o.tells;
+  took = o.took;
+  late = late;
+}
 
 -- The end of a get
 
--- its answer stood at a moment of the call
-get_right : (v : ClientView) (c : Client) (m : GetRun) (command : Command) (then : Option Put) (a : Option ℕ) → IsGetOf command m.walk.key then → IsAnswerAt v.layout v.past v.start m.walk.key a → MayAnswerAfterStep command (Value a) × IsRight v.layout c.pass.0 v.past v.start v.linked command (Value a)
-get_right v c m (GetOf key) None a of x = (tt, rw (sym of) x)
-get_right v c m (GetOf key) (Some put) a of x = absurd of
-get_right v c m (LlxOf cell) then a of x = absurd of
-get_right v c m (ScxOf update) then a of x = absurd of
-get_right v c m (VlxOf cells) then a of x = absurd of
-get_right v c m (SetOf field value) then a of x = absurd of
-
--- and it leaves the snapshots
-get_drops : (v : ClientView) (m : GetRun) (command : Command) (then : Option Put) (a : Option ℕ) → IsGetOf command m.walk.key then → IsDropped [] v.linked (linked_by v command (Value a))
-get_drops v m (GetOf key) then a of = record { gone = λ n z. absurd (among_none n z); others = λ n z. refl }
-get_drops v m (LlxOf cell) then a of = absurd of
-get_drops v m (ScxOf update) then a of = absurd of
-get_drops v m (VlxOf cells) then a of = absurd of
-get_drops v m (SetOf field value) then a of = absurd of
+-- its answer stood at a moment of the call, and it leaves the snapshots
+get_outcome : (v : ClientView) (c : Client) (m : GetRun) (command : Command) (then : Option Put) (a : Option ℕ) → IsGetOf command m.walk.key then → IsAnswerAt v.layout v.past v.start m.walk.key a → v.won ≡ None → HasTakenAtMost v.layout c.pass.0 v.past v.start 0 0 → IsOutcome v c.pass.0 [] command (Value a)
+get_outcome v c m (GetOf key) None a of x won took = record { answers = tt; right = rw (sym of) x; entry = entered_none v.won won; tells = tt; took = took; drops = record { gone = λ n z. absurd (among_none n z); others = λ n z. refl } }
+get_outcome v c m (GetOf key) (Some put) a of x won took = absurd of
+get_outcome v c m (LlxOf cell) then a of x won took = absurd of
+get_outcome v c m (ScxOf update) then a of x won took = absurd of
+get_outcome v c m (VlxOf cells) then a of x won took = absurd of
+get_outcome v c m (SetOf field value) then a of x won took = absurd of
+get_outcome v c m (InsertOf key value) then a of x won took = absurd of
 
 ends_get : (v : ClientView) (c : Client) (run : Run) (then : Option Put) (a : Option ℕ) → IsSound v → Answered v c run then (ended.Get a) → Ends v c c (answer_of (ended.Get a))
 ends_get v c (Get m) then a sound x =
     let call = machine_call v c x.works.is_pass x.works.start in
     let at = subst (λ (k : History). IsAnswerAt v.layout v.past k m.walk.key a) x.works.begun (get_says m call v.past a x.answers) in
-    let o = get_right v c m x.works.command then a x.works.run_of at in
-    record {
-      same = record { pass = refl; number = refl; next = refl };
-      begin = refl;
-      command = x.works.command;
-      is = x.works.is;
-      rests = record { stands = rests_as v c (linked_by v x.works.command (Value a)) (get_drops v m x.works.command then a x.works.run_of) x.works.stands; none = x.none };
-      answers = o.0;
-      right = o.1;
-      entry = entered_none (Value a) v.won x.works.won (λ e. cc);
-      took = taken_one v c.pass.0 _ x.works.took;
-      late = x.works.late;
-    }
+    let o = get_outcome v c m x.works.command then a x.works.run_of at x.works.won (taken_nothing v c.pass.0 (held c) 0 0 x.works.holds.share x.works.took) in
+    ends_as v c x.works.command (Value a) x.works.is x.works.stands x.works.holds x.none o x.works.late
 ends_get v c (Llx m) then a sound x = absurd x.answers
 ends_get v c (Scx m) then a sound x = absurd x.answers
 ends_get v c (Vlx m) then a sound x = absurd x.answers
+ends_get v c (Insert m) then a sound x = absurd x.answers
 
-pub ends_other : (v : ClientView) (c : Client) (run : Run) (then : Option Put) (end : Ended) → ((a : ScxAnswer) × (end ≡ ended.Scx a)) ⊎ (((a : VlxAnswer) × (end ≡ ended.Vlx a)) ⊎ ((a : Option ℕ) × (end ≡ ended.Get a))) → IsSound v → Answered v c run then end → Ends v c c (answer_of end)
-ends_other v c run then end (inl (a, e)) sound x = rw e (ends_scx v c run then a sound (subst (λ t. Answered v c run then t) e x))
-ends_other v c run then end (inr (inl (a, e))) sound x = rw e (ends_vlx v c run then a (subst (λ t. Answered v c run then t) e x))
-ends_other v c run then end (inr (inr (a, e))) sound x = rw e (ends_get v c run then a sound (subst (λ t. Answered v c run then t) e x))
+-- The end of an insert
+
+-- what it answers, as the rules of the command say
+insert_outcome : (v : ClientView) (c : Client) (m : UpdateRun Inserted) (command : Command) (then : Option Put) (a : Updated) → IsInsertOf command c.number m then → IsInsertEnd v c.pass.0 m.edit.key a → HasTakenAtMost v.layout c.pass.0 v.past v.start (v.tries * 3) v.tries → IsOutcome v c.pass.0 [] command (answer_of (ended.Insert a))
+insert_outcome v c m (InsertOf key value) None (UpdateDone old) of x took = record { answers = tt; right = tt; entry = entered_some v.won x.0.0 x.0.1; tells = subst (λ (k : ℕ). HasInserted v c.pass.0 k old) of.0 x.1; took = took; drops = record { gone = λ n z. absurd (among_none n z); others = λ n z. refl } }
+insert_outcome v c m (InsertOf key value) None (UpdateContended node scx) of x took = record { answers = tt; right = x.1; entry = entered_none v.won x.0; tells = tt; took = took; drops = record { gone = λ n z. absurd (among_none n z); others = λ n z. refl } }
+insert_outcome v c m (InsertOf key value) None (UpdateFull full) of x took = record { answers = tt; right = subst (λ (k : ℕ). InsertIsRight k v.layout c.pass.0 v.past v.start v.linked (Full full.what full.left)) of.0 x.1; entry = entered_none v.won x.0; tells = tt; took = took; drops = record { gone = λ n z. absurd (among_none n z); others = λ n z. refl } }
+insert_outcome v c m (InsertOf key value) (Some put) a of x took = absurd of
+insert_outcome v c m (GetOf key) then a of x took = absurd of
+insert_outcome v c m (LlxOf cell) then a of x took = absurd of
+insert_outcome v c m (ScxOf update) then a of x took = absurd of
+insert_outcome v c m (VlxOf cells) then a of x took = absurd of
+insert_outcome v c m (SetOf field value) then a of x took = absurd of
+
+-- the share is the client's again
+holds_back : (v : ClientView) (c : Client) (m : UpdateRun Inserted) (is_pass : c.pass.0 < v.layout.passes) (start : History) → c.share ≡ Some m.share → RestsWith (machine_call v c is_pass start) v.past m.share → HoldsShare v c (no_hand (held c))
+holds_back v c m is_pass start back rests = record {
+  some = rw back refl;
+  share = rw back rests.share;
+  over = rw back (over_begins v.layout c.pass.0 m.share.next_scx v.past rests.over);
+}
+
+ends_insert : (v : ClientView) (c : Client) (run : Run) (then : Option Put) (a : Updated) → IsSound v → Answered v c run then (ended.Insert a) → Ends v c c (answer_of (ended.Insert a))
+ends_insert v c (Insert m) then a sound x =
+    let holds = holds_back v c m x.works.is_pass x.works.start x.back x.answers.0 in
+    let answers = subst (λ (k : History). UpdateAnswers insert_means m (machine_call v c x.works.is_pass k) v.past a) x.works.begun x.answers in
+    let of = insert_end v c m x.works.is_pass a x.works.run_of.0 x.works.mode sound x.works.won answers in
+    ends_as v c x.works.command (answer_of (ended.Insert a)) x.works.is x.works.stands holds x.none
+    (insert_outcome v c m x.works.command then a x.works.run_of.1 of (taken_tries v.layout c.pass.0 v.tries v.past v.start x.works.opening m.share x.works.took x.answers.0.share x.spent))
+    x.works.late
+ends_insert v c (Llx m) then a sound x = absurd x.answers
+ends_insert v c (Scx m) then a sound x = absurd x.answers
+ends_insert v c (Vlx m) then a sound x = absurd x.answers
+ends_insert v c (Get m) then a sound x = absurd x.answers
+
+-- what has ended is the call of a machine other than an LLX
+pub ends_other : (v : ClientView) (c : Client) (run : Run) (then : Option Put) (end : Ended) → ((a : LlxAnswer) → end ≢ ended.Llx a) → IsSound v → Answered v c run then end → Ends v c c (answer_of end)
+ends_other v c run then (ended.Llx a) d sound x = absurd (d a refl)
+ends_other v c run then (ended.Scx a) d sound x = ends_scx v c run then a sound x
+ends_other v c run then (ended.Vlx a) d sound x = ends_vlx v c run then a x
+ends_other v c run then (ended.Insert a) d sound x = ends_insert v c run then a sound x
+ends_other v c run then (ended.Get a) d sound x = ends_get v c run then a sound x
 
 -- The end of an LLX
 
@@ -414,7 +481,7 @@ answer_node v c m then (LlxFail node scx) x = x.answers.0
 pub snapshot_unspent : (v : ClientView) (c : Client) (m : LlxRun) (then : Option Put) (snap : Snap) → IsSound v → Answered v c (Llx m) then (ended.Llx (LlxSnapshot snap)) → IsUnspent v.layout c.pass.0 v.past snap v.past
 snapshot_unspent v c m then snap sound x = record {
   usable = usable_now v.layout v.past m.node.0 snap x.answers.0;
-  alone = alone_now v.layout c.pass.0 v.past m.node.0 snap (all_idle v.layout v.past c.pass.0 c.share _ _ sound.lawful x.works.stands.share x.works.stands.over) x.answers.0;
+  alone = alone_now v.layout c.pass.0 v.past m.node.0 snap (all_idle v.layout v.past c.pass.0 (held c) _ _ sound.lawful x.works.holds.share x.works.holds.over) x.answers.0;
 }
 
 -- what is said of its node then
@@ -428,18 +495,19 @@ pub rests_kept : (v : ClientView) (c : Client) (kept : Kept) (m : LlxRun) (then 
 rests_kept v c kept m then a linked sound x e said = record {
   stands = record {
     is_pass = y.is_pass;
+    tries = y.tries;
     number = y.number;
     place = y.place;
     kept = kept_after c.kept kept a v.linked linked (moment_then a v.past) e small said v.layout c.pass.0 v.past y.kept (unspent a x);
     unkept = λ n i d. inr (unkept_after c.kept kept a v.linked linked (moment_then a v.past) e small said (λ n i d. ⊎_elim (λ z. absurd (among_none n z)) (λ z. z) (y.unkept n i d)) (none a) n i d);
     dropped = λ n z. absurd (among_none n z);
-    share = y.share;
-    over = y.over;
+    free = λ tree. absurd (let z : Records ≡ Tree = sym x.works.mode ∙ tree in cc);
   };
+  holds = record { some = x.works.holds.some; share = x.works.holds.share; over = x.works.holds.over };
   none = x.none;
 }
   where
-    y : IsClientState v c (no_hand c.share)
+    y : IsClientState v c (no_hand (held c))
     y = x.works.stands
 
     small : node_of a ≤ 8
@@ -463,31 +531,38 @@ failed_since v c m then node scx x = (x.answers.0, subst (λ (k : History). HasF
 record IsLlxOutcome (v : ClientView) (c : ℕ) (command : Command) (a : LlxAnswer) : Type 0 where
   answers : MayAnswerAfterStep command (answer_of (ended.Llx a))
   right : IsRight v.layout c v.past v.start v.linked command (answer_of (ended.Llx a))
+  entry : enters command (answer_of (ended.Llx a)) ≡ false
+  tells : Tells v c command (answer_of (ended.Llx a))
+  took : HasTakenFew v.layout v.tries c v.past v.start command
   said : (n : ℕ) → linked_by v command (answer_of (ended.Llx a)) n ≡ cond (eqb (node_of a) n) (moment_then a v.past) (v.linked n)
 
 -- it ends an `llx`, and a `set` where it is no snapshot
-llx_outcome : (v : ClientView) (c : Client) (command : Command) (m : LlxRun) (then : Option Put) (a : LlxAnswer) → ((then ≡ None) ⊎ ((snap : Snap) → a ≢ LlxSnapshot snap)) → IsLlxOf command m.node.0 then → Answered v c (Llx m) then (ended.Llx a) → IsLlxOutcome v c.pass.0 command a
-llx_outcome v c (LlxOf cell) m None (LlxSnapshot snap) d x y = record {
+llx_outcome : (v : ClientView) (c : Client) (command : Command) (m : LlxRun) (then : Option Put) (a : LlxAnswer) → ((then ≡ None) ⊎ ((snap : Snap) → a ≢ LlxSnapshot snap)) → IsLlxOf command m.node.0 then → ((nodes scx : ℕ) → HasTakenAtMost v.layout c.pass.0 v.past v.start nodes scx) → Answered v c (Llx m) then (ended.Llx a) → IsLlxOutcome v c.pass.0 command a
+llx_outcome v c (LlxOf cell) m None (LlxSnapshot snap) d x took y = record {
   answers = tt;
+  entry = refl;
+  tells = tt;
+  took = took 0 0;
   right = rw (sym x) record { left_is = y.answers.0.left; right_is = y.answers.0.right; not_final = y.answers.0.not_final };
   said = λ n. rw (y.answers.0.node ∙ x) refl;
 }
-llx_outcome v c (LlxOf cell) m None (LlxFinalized node scx) d x y = record { answers = tt; right = rw (sym x) y.answers.1.final; said = λ n. rw (y.answers.0 ∙ x) refl }
-llx_outcome v c (LlxOf cell) m None (LlxFail node scx) d x y = record { answers = tt; right = rw (sym x) (failed_since v c m None node scx y); said = λ n. rw (y.answers.0 ∙ x) refl }
-llx_outcome v c (SetOf field value) m (Some put) (LlxFinalized node scx) d x y = record { answers = tt; right = rw (sym x.0) y.answers.1.final; said = λ n. rw (y.answers.0 ∙ x.0) refl }
-llx_outcome v c (SetOf field value) m (Some put) (LlxFail node scx) d x y = record { answers = tt; right = rw (sym x.0) (failed_since v c m (Some put) node scx y); said = λ n. rw (y.answers.0 ∙ x.0) refl }
-llx_outcome v c (SetOf field value) m (Some put) (LlxSnapshot snap) (inl e) x y = cc
-llx_outcome v c (SetOf field value) m (Some put) (LlxSnapshot snap) (inr d) x y = absurd (d snap refl)
-llx_outcome v c (LlxOf cell) m (Some put) a d x y = absurd x
-llx_outcome v c (SetOf field value) m None a d x y = absurd x
-llx_outcome v c (ScxOf update) m then a d x y = absurd x
-llx_outcome v c (VlxOf cells) m then a d x y = absurd x
-llx_outcome v c (GetOf key) m then a d x y = absurd x
+llx_outcome v c (LlxOf cell) m None (LlxFinalized node scx) d x took y = record { answers = tt; entry = refl; tells = tt; took = took 0 0; right = rw (sym x) y.answers.1.final; said = λ n. rw (y.answers.0 ∙ x) refl }
+llx_outcome v c (LlxOf cell) m None (LlxFail node scx) d x took y = record { answers = tt; entry = refl; tells = tt; took = took 0 0; right = rw (sym x) (failed_since v c m None node scx y); said = λ n. rw (y.answers.0 ∙ x) refl }
+llx_outcome v c (SetOf field value) m (Some put) (LlxFinalized node scx) d x took y = record { answers = tt; entry = refl; tells = tt; took = took 1 1; right = rw (sym x.0) y.answers.1.final; said = λ n. rw (y.answers.0 ∙ x.0) refl }
+llx_outcome v c (SetOf field value) m (Some put) (LlxFail node scx) d x took y = record { answers = tt; entry = refl; tells = tt; took = took 1 1; right = rw (sym x.0) (failed_since v c m (Some put) node scx y); said = λ n. rw (y.answers.0 ∙ x.0) refl }
+llx_outcome v c (SetOf field value) m (Some put) (LlxSnapshot snap) (inl e) x took y = cc
+llx_outcome v c (SetOf field value) m (Some put) (LlxSnapshot snap) (inr d) x took y = absurd (d snap refl)
+llx_outcome v c (LlxOf cell) m (Some put) a d x took y = absurd x
+llx_outcome v c (SetOf field value) m None a d x took y = absurd x
+llx_outcome v c (ScxOf update) m then a d x took y = absurd x
+llx_outcome v c (VlxOf cells) m then a d x took y = absurd x
+llx_outcome v c (InsertOf key value) m then a d x took y = absurd x
+llx_outcome v c (GetOf key) m then a d x took y = absurd x
 
 -- its call ends, where no SCX follows
 pub ends_llx : (v : ClientView) (old : Client) (kept : Kept) (m : LlxRun) (then : Option Put) (a : LlxAnswer) → IsSound v → Answered v old (Llx m) then (ended.Llx a) → kept.found ≡ set old.kept.found (node_of a) (found_of a) → ((then ≡ None) ⊎ ((snap : Snap) → a ≢ LlxSnapshot snap)) → Ends v old (record old { kept = kept }) (answer_of (ended.Llx a))
 ends_llx v old kept m then a sound x e d =
-    let o = llx_outcome v old x.works.command m then a d x.works.run_of.1 x in
+    let o = llx_outcome v old x.works.command m then a d x.works.run_of.1 (λ nodes scx. taken_nothing v old.pass.0 (held old) nodes scx x.works.holds.share x.works.took) x in
     record {
       same = record { pass = refl; number = refl; next = refl };
       begin = refl;
@@ -496,12 +571,8 @@ ends_llx v old kept m then a sound x e d =
       rests = rests_kept v old kept m then a (linked_by v x.works.command (answer_of (ended.Llx a))) sound x e o.said;
       answers = o.answers;
       right = o.right;
-      entry = entered_none (answer_of (ended.Llx a)) v.won x.works.won (not_done a);
-      took = taken_one v old.pass.0 _ x.works.took;
+      entry = rw o.entry (entered_none v.won x.works.won);
+      tells = o.tells;
+      took = o.took;
       late = x.works.late;
     }
-  where
-    not_done : (a : LlxAnswer) → answer_of (ended.Llx a) ≡ Done → ⊥
-    not_done (LlxSnapshot snap) q = cc
-    not_done (LlxFinalized node scx) q = cc
-    not_done (LlxFail node scx) q = cc

@@ -7,9 +7,9 @@ use Rattle.arena.specs.Machines.{Call}
 use Rattle.prims.specs.Cells.{AllowsAll}
 use Rattle.prims.proofs.Lemmas.{llx_fills_not}
 use Rattle.script.specs.declared.command.Command.{Command}
-use Rattle.script.specs.declared.command.Command.TheVariants.{Llx as LlxOf, Scx as ScxOf, Vlx as VlxOf, Set as SetOf, Get as GetOf}
+use Rattle.script.specs.declared.command.Command.TheVariants.{Llx as LlxOf, Scx as ScxOf, Vlx as VlxOf, Set as SetOf, Insert as InsertOf, Get as GetOf}
 use Rattle.player.specs.declared.run.Run.{Run}
-use Rattle.player.specs.declared.run.Run.TheVariants.{Llx, Scx, Vlx, Get}
+use Rattle.player.specs.declared.run.Run.TheVariants.{Llx, Scx, Vlx, Insert, Get}
 use Rattle.player.specs.declared.client.Put.{Put}
 use Rattle.record.specs.CommandRules.{MayMake}
 use Rattle.player.specs.RunKnown.{RunWaits}
@@ -29,5 +29,9 @@ may_make (GetOf key) number (Scx m) then call h step of w = absurd of
 may_make (GetOf key) number (Vlx m) then call h step of w = absurd of
 may_make (VlxOf cells) number (Get m) then call h step of w = absurd of
 may_make (LlxOf cell) number (Get m) then call h step of w = absurd of
+may_make (VlxOf cells) number (Insert m) then call h step of w = absurd of.1
+may_make (LlxOf cell) number (Insert m) then call h step of w = absurd of.1
+may_make (GetOf key) number (Insert m) then call h step of w = absurd of.1
+may_make (InsertOf key value) number run then call h step of w = tt
 may_make (ScxOf update) number run then call h step of w = tt
 may_make (SetOf field value) number run then call h step of w = tt

@@ -27,8 +27,10 @@ use Rattle.arena.specs.History.{History, ◌⊳◌, value}
 use Rattle.arena.specs.Machines.{IsRun}
 use Rattle.arena.proofs.Lemmas.{word_same, word_apart, value_at, value_other}
 use Rattle.script.specs.declared.command.Command.{Command}
-use Rattle.player.proofs.Commands.{none_left, place_more, number_small}
+use Rattle.player.proofs.Commands.{none_left, next_at, place_more, number_small}
+use Rattle.arena.specs.declared.limits.Mode.TheVariants.{Tree}
 use Rattle.player.specs.Allowed.{PlayedAllows}
+use Rattle.spelling.specs.FillOrder.{AreFilledInOrder, IsFillInOrder}
 use Rattle.script.specs.declared.command.Call.{Call}
 use Rattle.record.specs.declared.record.Line.{Line}
 use Rattle.record.specs.declared.record.Line.TheVariants.{Step, Log, Reply as ReplyLine}
@@ -36,53 +38,58 @@ use Rattle.record.specs.declared.record.Row.TheVariants.{Step as Made, Idle}
 use Rattle.record.specs.declared.record.Reply.{Reply}
 use Rattle.record.specs.declared.record.Entry.{Entry}
 use Rattle.record.specs.declared.record.Answer.{Answer}
-use Rattle.record.specs.declared.record.Answer.TheVariants.{Snapshot, Finalized, Fail, Done, Lost, Same, Changed, Unlinked, Full, Value}
-use Rattle.script.specs.declared.command.Command.TheVariants.{Llx as LlxOf, Scx as ScxOf, Vlx as VlxOf, Set as SetOf, Get as GetOf}
+use Rattle.record.specs.declared.record.Answer.TheVariants.{Snapshot, Finalized, Fail, Done, Lost, Same, Changed, Unlinked, Full, Value, Contended}
+use Rattle.script.specs.declared.command.Command.TheVariants.{Llx as LlxOf, Scx as ScxOf, Vlx as VlxOf, Set as SetOf, Insert as InsertOf, Get as GetOf}
 use Rattle.player.specs.declared.client.Client.{Client}
 use Rattle.player.specs.Lines.{newest}
 use Rattle.record.specs.Turns.{history, turns, entries, answered, begin, start, steps, won, last_client, entry_of, entry_owed, entry_at}
-use Rattle.record.specs.Commands.{next_command}
+use Rattle.record.specs.Commands.{commands, next_command}
 use Rattle.record.specs.Linked.{linked}
-use Rattle.record.specs.Answers.{moment_of, HasTakenOne, HasItsEntry}
-use Rattle.record.specs.CommandRules.{MayAnswerAtOnce, IsRight}
+use Rattle.record.specs.Answers.{HasItsEntry}
+use Rattle.player.specs.Moments.{IsMomentBy}
+use Rattle.places.specs.declared.places.Change.{Change}
+use Rattle.places.specs.Entries.{AreEntries}
+use Rattle.player.proofs.MapCalls.{command_mode}
+use Rattle.player.proofs.Placing.{moment_same, moment_within}
+use Rattle.record.specs.CommandRules.{MayAnswerAtOnce, HasTakenFew, enters, IsRight}
 use Rattle.record.specs.Replies.{IsFitting, IsReply}
 use Rattle.record.specs.LawfulRun.{OwesNothing, IsNext, AreLines}
-use Rattle.player.specs.ClientView.{ClientView, client_view, no_hand, linked_by, Rests, IsClient, IsAtNextCall, Refuses}
+use Rattle.player.specs.ClientView.{ClientView, client_view, no_hand, held, Tells, linked_by, Rests, IsClient, IsAtNextCall, Refuses}
 use Rattle.player.specs.BetweenTurns.{IsLawfulSoFar, AreOthers, IsTurnOf, AreBetweenTurns, IsMade, IsEnd, AreWins}
-use Rattle.player.proofs.Views.{TellsWon, client_by_others, stands_from}
-use Rattle.player.proofs.Begun.{some_turn, start_kept, begin_within, won_within}
+use Rattle.player.proofs.Views.{TellsWon, client_by_others, stands_from, holds_from}
+use Rattle.record.proofs.Lemmas.{some_turn, start_kept, begin_within, won_within}
 use Rattle.player.proofs.Ends.{entered_none}
 
 -- Others
 
-pub others_step : (lay : Layout) (calls : List Call) (clients : List Client) (lines : List Line) (i number : ℕ) (row : Row) → IsRun PlayedAllows lay (history lay.mode lines) → IsRun PlayedAllows lay (row ⊳ history lay.mode lines) → row.pass.0 ≡ i → number ≡ suc (turns lines) → AreLines lay calls lines → AreOthers lay calls clients lines i → AreOthers lay calls clients (Step (Made number row) ∷ lines) i
-others_step lay calls clients lines i number row sound run is turn so_far x j c d get =
+pub others_step : (lay : Layout) (tries : ℕ) (calls : List Call) (clients : List Client) (lines : List Line) (i number : ℕ) (row : Row) → IsRun PlayedAllows lay (history lay.mode lines) → IsRun PlayedAllows lay (row ⊳ history lay.mode lines) → row.pass.0 ≡ i → number ≡ suc (turns lines) → AreLines lay tries calls lines → AreOthers lay tries calls clients lines i → AreOthers lay tries calls clients (Step (Made number row) ∷ lines) i
+others_step lay tries calls clients lines i number row sound run is turn so_far x j c d get =
     let y = x j c d get in
-    let tells = subst (λ (k : ℕ). TellsWon (client_view lay calls lines j) k row number (won lay (Step (Made number row) ∷ lines) j)) (sym y.0) (tells_won lay lines number row run.lawful calls j) in (
+    let tells = subst (λ (k : ℕ). TellsWon (client_view lay tries calls lines j) k row number (won lay (Step (Made number row) ∷ lines) j)) (sym y.0) (tells_won lay lines number row run.lawful tries calls j) in (
       y.0,
-      rw (ne_eqb row.pass.0 j (λ e. d (sym e ∙ is))) (client_by_others (client_view lay calls lines j) c row number (cond (is_some (begin lines j)) (start lay.mode lines j) (row ⊳ history lay.mode lines)) (won lay (Step (Made number row) ∷ lines) j) sound run tells (λ e. d (sym y.0 ∙ sym e ∙ is)) (begin lines j)
-          (λ e. rw e refl) (λ k e. (rw e refl, let late = begin_within lay calls lines j k so_far e in omega (arith, turn))) y.1),
+      rw (ne_eqb row.pass.0 j (λ e. d (sym e ∙ is))) (client_by_others (client_view lay tries calls lines j) c row number (cond (is_some (begin lines j)) (start lay.mode lines j) (row ⊳ history lay.mode lines)) (won lay (Step (Made number row) ∷ lines) j) sound run tells (λ e. d (sym y.0 ∙ sym e ∙ is)) (begin lines j)
+          (λ e. rw e refl) (λ k e. (rw e refl, let late = begin_within lay tries calls lines j k so_far e in omega (arith, turn))) y.1),
     )
 
-others_idle : (lay : Layout) (calls : List Call) (clients : List Client) (lines : List Line) (i number : ℕ) (pass : PassNo) → pass.0 ≡ i → AreOthers lay calls clients lines i → AreOthers lay calls clients (Step (Idle number pass) ∷ lines) i
-others_idle lay calls clients lines i number pass is x j c d get =
+others_idle : (lay : Layout) (tries : ℕ) (calls : List Call) (clients : List Client) (lines : List Line) (i number : ℕ) (pass : PassNo) → pass.0 ≡ i → AreOthers lay tries calls clients lines i → AreOthers lay tries calls clients (Step (Idle number pass) ∷ lines) i
+others_idle lay tries calls clients lines i number pass is x j c d get =
     let y = x j c d get in
-    (y.0, rw (ne_eqb pass.0 j (λ e. d (sym e ∙ is))) (subst (λ (k : History). IsClient (record { layout = lay; calls = calls; past = history lay.mode lines; answered = answered lines j; start = k; steps = steps lines j; won = won lay lines j; linked = linked calls lay.mode lines j }) (begin lines j) c) (sym (start_kept lay.mode lines j)) y.1))
+    (y.0, rw (ne_eqb pass.0 j (λ e. d (sym e ∙ is))) (subst (λ (k : History). IsClient (record { layout = lay; tries = tries; calls = calls; past = history lay.mode lines; answered = answered lines j; start = k; steps = steps lines j; won = won lay lines j; linked = linked calls lay.mode lines j }) (begin lines j) c) (sym (start_kept lay.mode lines j)) y.1))
 
 -- an entry tells the clients nothing
-pub others_log : (lay : Layout) (calls : List Call) (clients : List Client) (lines : List Line) (i : ℕ) (entry : Entry) → AreOthers lay calls clients lines i → AreOthers lay calls clients (Log entry ∷ lines) i
-others_log lay calls clients lines i entry x = x
+pub others_log : (lay : Layout) (tries : ℕ) (calls : List Call) (clients : List Client) (lines : List Line) (i : ℕ) (entry : Entry) → AreOthers lay tries calls clients lines i → AreOthers lay tries calls clients (Log entry ∷ lines) i
+others_log lay tries calls clients lines i entry x = x
 
 -- a reply of another client leaves the snapshots
 linked_other : (calls : List Call) (mode : Mode) (lines : List Line) (reply : Reply) (c n : ℕ) → reply.client.0 ≢ c → linked calls mode (ReplyLine reply ∷ lines) c n ≡ linked calls mode lines c n
 linked_other calls mode lines reply c n d = rw (ne_eqb reply.client.0 c d) refl
 
-others_reply : (lay : Layout) (calls : List Call) (clients : List Client) (lines : List Line) (i : ℕ) (reply : Reply) → reply.client.0 ≡ i → AreOthers lay calls clients lines i → AreOthers lay calls clients (ReplyLine reply ∷ lines) i
-others_reply lay calls clients lines i reply is x j c d get =
+others_reply : (lay : Layout) (tries : ℕ) (calls : List Call) (clients : List Client) (lines : List Line) (i : ℕ) (reply : Reply) → reply.client.0 ≡ i → AreOthers lay tries calls clients lines i → AreOthers lay tries calls clients (ReplyLine reply ∷ lines) i
+others_reply lay tries calls clients lines i reply is x j c d get =
     let y = x j c d get in
     let other : reply.client.0 ≢ j = λ e. d (sym e ∙ is) in
     let same : linked calls lay.mode lines j ≡ linked calls lay.mode (ReplyLine reply ∷ lines) j = λ k n. sym (linked_other calls lay.mode lines reply j n other) k in
-    (y.0, rw (ne_eqb reply.client.0 j other) (subst (λ (l : ℕ → Option History). IsClient (record { layout = lay; calls = calls; past = history lay.mode lines; answered = answered lines j; start = start lay.mode lines j; steps = steps lines j; won = won lay lines j; linked = l }) (begin lines j) c) same y.1))
+    (y.0, rw (ne_eqb reply.client.0 j other) (subst (λ (l : ℕ → Option History). IsClient (record { layout = lay; tries = tries; calls = calls; past = history lay.mode lines; answered = answered lines j; start = start lay.mode lines j; steps = steps lines j; won = won lay lines j; linked = l }) (begin lines j) c) same y.1))
 
 -- one element is changed
 pub get_other : {X : Type 0} (xs : List X) (i j : ℕ) (new : X) → j ≢ i → slice_get (set xs i new) j ≡ slice_get xs j
@@ -104,26 +111,26 @@ get_there (x ∷ xs) zero p = (x, refl)
 get_there (x ∷ xs) (suc i) p = get_there xs i (omega arith)
 
 -- its turn goes on with the client changed
-pub turn_changed : (lay : Layout) (calls : List Call) (words : Contents) (clients : List Client) (lines : List Line) (old new : Client) → new.pass ≡ old.pass → IsTurnOf lay calls words clients lines old → IsTurnOf lay calls words (set clients old.pass.0 new) lines new
-turn_changed lay calls words clients lines old new same x = record {
+pub turn_changed : (lay : Layout) (tries : ℕ) (calls : List Call) (words : Contents) (clients : List Client) (lines : List Line) (old new : Client) → new.pass ≡ old.pass → IsTurnOf lay tries calls words clients lines old → IsTurnOf lay tries calls words (set clients old.pass.0 new) lines new
+turn_changed lay tries calls words clients lines old new same x = record {
   so_far = x.so_far;
   others = λ j c d get. x.others j c (λ e. d (e ∙ ap (λ (p : PassNo). p.0) (sym same))) (sym (get_other clients old.pass.0 j new (λ e. d (e ∙ ap (λ (p : PassNo). p.0) (sym same)))) ∙ get);
   own = subst (λ (k : ℕ). slice_get (set clients old.pass.0 new) k ≡ Some new) (ap (λ (p : PassNo). p.0) (sym same)) (get_own clients old.pass.0 old new x.own);
 }
 
 -- a turn begins and ends between two turns
-pub turn_begins : (lay : Layout) (calls : List Call) (words : Contents) (clients : List Client) (lines : List Line) (i : ℕ) (c : Client) → slice_get clients i ≡ Some c → AreBetweenTurns lay calls words clients lines → IsTurnOf lay calls words clients lines c
-turn_begins lay calls words clients lines i c get x =
+pub turn_begins : (lay : Layout) (tries : ℕ) (calls : List Call) (words : Contents) (clients : List Client) (lines : List Line) (i : ℕ) (c : Client) → slice_get clients i ≡ Some c → AreBetweenTurns lay tries calls words clients lines → IsTurnOf lay tries calls words clients lines c
+turn_begins lay tries calls words clients lines i c get x =
     let y = x.each i c get in
     record { so_far = x.so_far; others = λ j d n g. x.each j d g; own = subst (λ (k : ℕ). slice_get clients k ≡ Some c) (sym y.0) get }
 
-some_client : (a b : Client) → Some a ≡ Some b → a ≡ b
+pub some_client : (a b : Client) → Some a ≡ Some b → a ≡ b
 some_client a b e = cc
 
-pub turn_ends : (lay : Layout) (calls : List Call) (words : Contents) (clients : List Client) (lines : List Line) (c : Client) → OwesNothing lay calls lines → IsClient (client_view lay calls lines c.pass.0) (begin lines c.pass.0) c → IsTurnOf lay calls words clients lines c → AreBetweenTurns lay calls words clients lines
-turn_ends lay calls words clients lines c settled is x = record { so_far = x.so_far; settled = settled; each = λ j d get. go j d get (ℕ_discrete j c.pass.0) }
+pub turn_ends : (lay : Layout) (tries : ℕ) (calls : List Call) (words : Contents) (clients : List Client) (lines : List Line) (c : Client) → OwesNothing lay calls lines → IsClient (client_view lay tries calls lines c.pass.0) (begin lines c.pass.0) c → IsTurnOf lay tries calls words clients lines c → AreBetweenTurns lay tries calls words clients lines
+turn_ends lay tries calls words clients lines c settled is x = record { so_far = x.so_far; settled = settled; each = λ j d get. go j d get (ℕ_discrete j c.pass.0) }
   where
-    go : (j : ℕ) (d : Client) → slice_get clients j ≡ Some d → Dec (j ≡ c.pass.0) → (d.pass.0 ≡ j) × IsClient (client_view lay calls lines j) (begin lines j) d
+    go : (j : ℕ) (d : Client) → slice_get clients j ≡ Some d → Dec (j ≡ c.pass.0) → (d.pass.0 ≡ j) × IsClient (client_view lay tries calls lines j) (begin lines j) d
     go j d get (no n) = x.others j d n get
     go j d get (yes e) =
         let same : d ≡ c = some_client d c (sym get ∙ ap (λ (k : ℕ). slice_get clients k) e ∙ x.own) in
@@ -132,19 +139,20 @@ turn_ends lay calls words clients lines c settled is x = record { so_far = x.so_
 -- Lines
 
 -- a line that no client waits for is written down
-pub so_far_same : (lay : Layout) (calls : List Call) (words : Contents) (lines : List Line) (line : Line) → history lay.mode (line ∷ lines) ≡ history lay.mode lines → IsNext lay calls lines line → IsLawfulSoFar lay calls words lines → IsLawfulSoFar lay calls words (line ∷ lines)
+pub so_far_same : (lay : Layout) (tries : ℕ) (calls : List Call) (words : Contents) (lines : List Line) (line : Line) → history lay.mode (line ∷ lines) ≡ history lay.mode lines → IsNext lay tries calls lines line → IsLawfulSoFar lay tries calls words lines → IsLawfulSoFar lay tries calls words (line ∷ lines)
 unfolding AreLines
-so_far_same lay calls words lines line e next x = record { layout = x.layout; holds = λ w i. x.holds w i ∙ ap (λ (h : History). value h w) (sym e); sound = rw e x.sound; in_order = (x.in_order, next); of_mode = x.of_mode }
+so_far_same lay tries calls words lines line e next x = record { layout = x.layout; holds = λ w i. x.holds w i ∙ ap (λ (h : History). value h w) (sym e); sound = rw e x.sound; in_order = (x.in_order, next); filled = λ tree. subst (λ (h : History). AreFilledInOrder h) (sym e) (x.filled tree); of_mode = x.of_mode }
 
 -- a step of the client: the words change as the row says
-pub step_made : (lay : Layout) (calls : List Call) (old new : Contents) (lines : List Line) (number : ℕ) (row : Row) → IsChanged old new row.word row.after → IsRun PlayedAllows lay (row ⊳ history lay.mode lines) → IsNext lay calls lines (Step (Made number row)) → IsLawfulSoFar lay calls old lines → IsLawfulSoFar lay calls new (Step (Made number row) ∷ lines)
+pub step_made : (lay : Layout) (tries : ℕ) (calls : List Call) (old new : Contents) (lines : List Line) (number : ℕ) (row : Row) → IsChanged old new row.word row.after → IsRun PlayedAllows lay (row ⊳ history lay.mode lines) → IsNext lay tries calls lines (Step (Made number row)) → (lay.mode ≡ Tree → IsFillInOrder (history lay.mode lines) row) → IsLawfulSoFar lay tries calls old lines → IsLawfulSoFar lay tries calls new (Step (Made number row) ∷ lines)
 unfolding AreLines
-step_made lay calls old new lines number row changed run next x = record {
+step_made lay tries calls old new lines number row changed run next order x = record {
   layout = changed.layout ∙ x.layout;
   of_mode = x.of_mode;
   holds = λ w i. go w i (same_word row.word w) refl;
   sound = run;
   in_order = (x.in_order, next);
+  filled = λ tree. (x.filled tree, order tree);
 }
   where
     go : (w : Word) → IsWord lay w → (b : Bool) → same_word row.word w ≡ b → word_at new w ≡ value (row ⊳ history lay.mode lines) w
@@ -152,14 +160,14 @@ step_made lay calls old new lines number row changed run next x = record {
     go w i false e = changed.others w (rw x.layout i) (word_apart row.word w e) ∙ x.holds w i ∙ sym (value_other row (history lay.mode lines) w e)
 
 -- The turn of a client with no call left
-pub finished_turn : (lay : Layout) (calls : List Call) (words : Contents) (clients : List Client) (lines : List Line) (c : Client) (number : ℕ) (pass : PassNo) → OwesNothing lay calls lines → IsTurnOf lay calls words clients lines c → Rests (client_view lay calls lines c.pass.0) c → c.next ≡ None → number ≡ suc (turns lines) → pass ≡ c.pass → AreBetweenTurns lay calls words clients (Step (Idle number pass) ∷ lines)
-finished_turn lay calls words clients lines c number pass settled x r none n is =
-    turn_ends lay calls words clients (Step (Idle number pass) ∷ lines) c
+pub finished_turn : (lay : Layout) (tries : ℕ) (calls : List Call) (words : Contents) (clients : List Client) (lines : List Line) (c : Client) (number : ℕ) (pass : PassNo) → OwesNothing lay calls lines → IsTurnOf lay tries calls words clients lines c → Rests (client_view lay tries calls lines c.pass.0) c → c.next ≡ None → number ≡ suc (turns lines) → pass ≡ c.pass → AreBetweenTurns lay tries calls words clients (Step (Idle number pass) ∷ lines)
+finished_turn lay tries calls words clients lines c number pass settled x r none n is =
+    turn_ends lay tries calls words clients (Step (Idle number pass) ∷ lines) c
     record { entry = refl; reply = λ y. let a = y.1 in let b = over in cc }
-    (inl (record { stands = stands_from (client_view lay calls lines c.pass.0) c _ _ (no_hand c.share) r.stands; none = r.none }, inl none))
+    (inl (record { stands = stands_from (client_view lay tries calls lines c.pass.0) c _ _ (no_hand (held c)) r.stands; holds = holds_from (client_view lay tries calls lines c.pass.0) c _ _ (no_hand (held c)) r.holds; none = r.none }, inl none))
     record {
-      so_far = so_far_same lay calls words lines (Step (Idle number pass)) refl (settled, record { is_pass = rw (ap (λ (p : PassNo). p.0) is) r.stands.is_pass; in_turn = n; idle = inl over }) x.so_far;
-      others = others_idle lay calls clients lines c.pass.0 number pass (ap (λ (p : PassNo). p.0) is) x.others;
+      so_far = so_far_same lay tries calls words lines (Step (Idle number pass)) refl (settled, record { is_pass = rw (ap (λ (p : PassNo). p.0) is) r.stands.is_pass; in_turn = n; idle = inl over }) x.so_far;
+      others = others_idle lay tries calls clients lines c.pass.0 number pass (ap (λ (p : PassNo). p.0) is) x.others;
       own = x.own;
     }
   where
@@ -169,10 +177,10 @@ finished_turn lay calls words clients lines c number pass settled x r none n is 
 -- A reply
 
 -- the client stands at its next call
-behind : (lay : Layout) (calls : List Call) (lines : List Line) (old new : Client) (command : Command) (said : ℕ → Option History) → length calls ≤ 65536 → Rests (record (client_view lay calls lines old.pass.0) { linked = said }) old → next_command calls lines old.pass.0 ≡ Some command → IsAtNextCall calls old new → Rests (record { layout = lay; calls = calls; past = history lay.mode lines; answered = suc (answered lines old.pass.0); start = history lay.mode lines; steps = 0; won = None; linked = said }) new
-behind lay calls lines old new command said few r is b = go old.next refl
+behind : (lay : Layout) (tries : ℕ) (calls : List Call) (lines : List Line) (old new : Client) (command : Command) (said : ℕ → Option History) → length calls ≤ 65536 → Rests (record (client_view lay tries calls lines old.pass.0) { linked = said }) old → next_command calls lines old.pass.0 ≡ Some command → IsAtNextCall calls old new → Rests (record { layout = lay; tries = tries; calls = calls; past = history lay.mode lines; answered = suc (answered lines old.pass.0); start = history lay.mode lines; steps = 0; won = None; linked = said }) new
+behind lay tries calls lines old new command said few r is b = go old.next refl
   where
-    go : (next : Option ℕ) → old.next ≡ next → Rests (record { layout = lay; calls = calls; past = history lay.mode lines; answered = suc (answered lines old.pass.0); start = history lay.mode lines; steps = 0; won = None; linked = said }) new
+    go : (next : Option ℕ) → old.next ≡ next → Rests (record { layout = lay; tries = tries; calls = calls; past = history lay.mode lines; answered = suc (answered lines old.pass.0); start = history lay.mode lines; steps = 0; won = None; linked = said }) new
     go None e =
         let none : next_command calls lines old.pass.0 ≡ None = rw (sym r.stands.number) (none_left calls old.pass.0 old.number (rw e at r.stands.place)) in
         absurd cc
@@ -181,39 +189,43 @@ behind lay calls lines old new command said few r is b = go old.next refl
         let small : old.number < length calls = number_small calls old.pass.0 old.number at place in
         let within : at < length calls = slice_get_within calls at _ place.1 in
         let number : new.number ≡ suc old.number = b.number at e (omega arith) in
-        subst (λ (n : Client). Rests (record { layout = lay; calls = calls; past = history lay.mode lines; answered = suc (answered lines old.pass.0); start = history lay.mode lines; steps = 0; won = None; linked = said }) n) (sym b.same)
+        subst (λ (n : Client). Rests (record { layout = lay; tries = tries; calls = calls; past = history lay.mode lines; answered = suc (answered lines old.pass.0); start = history lay.mode lines; steps = 0; won = None; linked = said }) n) (sym b.same)
         record {
           stands = record {
             is_pass = r.stands.is_pass;
+            tries = r.stands.tries;
             number = number ∙ ap suc r.stands.number;
             place = rw number (place_more calls old.pass.0 old.number at place new.next (b.next at e (omega arith)));
             kept = r.stands.kept;
             unkept = r.stands.unkept;
             dropped = r.stands.dropped;
-            share = r.stands.share;
-            over = r.stands.over;
+            free = r.stands.free;
           };
+          holds = record { some = r.holds.some; share = r.holds.share; over = r.holds.over };
           none = r.none;
         }
 
 -- what is known of a call that has ended, but for its reply
-pub record IsOver (lay : Layout) (calls : List Call) (lines : List Line) (i : ℕ) (c : Client) (command : Command) (answer : Answer) : Type 0 where
+pub record IsOver (lay : Layout) (tries : ℕ) (calls : List Call) (lines : List Line) (i : ℕ) (c : Client) (command : Command) (answer : Answer) : Type 0 where
   pub is : next_command calls lines i ≡ Some command
-  pub rests : Rests (record (client_view lay calls lines i) { linked = linked_by (client_view lay calls lines i) command answer }) c
+  pub rests : Rests (record (client_view lay tries calls lines i) { linked = linked_by (client_view lay tries calls lines i) command answer }) c
   pub number : c.number ≡ answered lines i
   pub began : begin lines i ≡ Some c.begin
   pub last : last_client lines ≡ Some i
   pub owed : entry_owed lay lines ≡ None
   pub fits : IsFitting lines command answer
   pub right : IsRight lay i (history lay.mode lines) (start lay.mode lines i) (linked calls lay.mode lines i) command answer
-  pub entry : HasItsEntry answer (won lay lines i)
-  pub took : HasTakenOne lay i (history lay.mode lines) (start lay.mode lines i)
+  pub entry : HasItsEntry (enters command answer) (won lay lines i)
+  pub done : answer ≡ Done → enters command answer ≡ true
+  pub tells : Tells (client_view lay tries calls lines i) i command answer
+  pub took : HasTakenFew lay tries i (history lay.mode lines) (start lay.mode lines i) command
   pub late : (turn : ℕ) → won lay lines i ≡ Some turn → c.begin ≤ turn
 
 -- what the lines say to the client once its reply is written down
-view_replied : (lay : Layout) (calls : List Call) (lines : List Line) (reply : Reply) (command : Command) (c : ℕ) → reply.client.0 ≡ c → next_command calls lines c ≡ Some command → (let v : ClientView = record { layout = lay; calls = calls; past = history lay.mode lines; answered = suc (answered lines c); start = history lay.mode lines; steps = 0; won = None; linked = linked_by (client_view lay calls lines c) command reply.answer } in v) ≡ client_view lay calls (ReplyLine reply ∷ lines) c
-view_replied lay calls lines reply command c is next = λ i. record {
+view_replied : (lay : Layout) (tries : ℕ) (calls : List Call) (lines : List Line) (reply : Reply) (command : Command) (c : ℕ) → reply.client.0 ≡ c → next_command calls lines c ≡ Some command → (let v : ClientView = record { layout = lay; tries = tries; calls = calls; past = history lay.mode lines; answered = suc (answered lines c); start = history lay.mode lines; steps = 0; won = None; linked = linked_by (client_view lay tries calls lines c) command reply.answer } in v) ≡ client_view lay tries calls (ReplyLine reply ∷ lines) c
+view_replied lay tries calls lines reply command c is next = λ i. record {
   layout = lay;
+  tries = tries;
   calls = calls;
   past = history lay.mode lines;
   answered = sym (ap (λ (b : Bool). cond b (suc (answered lines c)) (answered lines c)) here) i;
@@ -226,40 +238,16 @@ view_replied lay calls lines reply command c is next = λ i. record {
     here : eqb reply.client.0 c ≡ true
     here = eq-eqb reply.client.0 c is
 
-    said : (n : ℕ) → linked_by (client_view lay calls lines c) command reply.answer n ≡ linked calls lay.mode (ReplyLine reply ∷ lines) c n
+    said : (n : ℕ) → linked_by (client_view lay tries calls lines c) command reply.answer n ≡ linked calls lay.mode (ReplyLine reply ∷ lines) c n
     said n = rw (here, next) refl
 
--- the moment of an answer is that of the lines
-moment_same : (answer : Answer) (first last : ℕ) (said won : Option ℕ) → HasItsEntry answer won → ((turn : ℕ) → won ≡ Some turn → said ≡ Some turn) → moment_of answer first last said ≡ moment_of answer first last won
-moment_same Done first last said (Some turn) x f = f turn refl
-moment_same Done first last said None x f = absurd x
-moment_same (Snapshot left right) first last said won x f = refl
-moment_same Finalized first last said won x f = refl
-moment_same (Fail node scx) first last said won x f = refl
-moment_same (Lost node scx) first last said won x f = refl
-moment_same Same first last said won x f = refl
-moment_same (Changed node scx) first last said won x f = refl
-moment_same (Unlinked node) first last said won x f = refl
-moment_same (Full what left) first last said won x f = refl
-moment_same (Value value) first last said won x f = refl
-
--- and lies between the first turn and the last
-moment_within : (answer : Answer) (first last m : ℕ) (won : Option ℕ) → first ≤ last → ((turn : ℕ) → won ≡ Some turn → (first ≤ turn) × (turn ≤ last)) → moment_of answer first last won ≡ Some m → (first ≤ m) × (m ≤ last)
-moment_within Done first last m won i f e = f m e
-moment_within (Snapshot left right) first last m won i f e = let same : last ≡ m = some_turn last m e in (omega arith, omega arith)
-moment_within (Value value) first last m won i f e = let same : last ≡ m = some_turn last m e in (omega arith, omega arith)
-moment_within Finalized first last m won i f e = let same : last ≡ m = some_turn last m e in (omega arith, omega arith)
-moment_within Same first last m won i f e = let same : first ≡ m = some_turn first m e in (omega arith, omega arith)
-moment_within (Fail node scx) first last m won i f e = cc
-moment_within (Lost node scx) first last m won i f e = cc
-moment_within (Changed node scx) first last m won i f e = cc
-moment_within (Unlinked node) first last m won i f e = cc
-moment_within (Full what left) first last m won i f e = cc
+some_command : (a b : Command) → Some a ≡ Some b → a ≡ b
+some_command a b e = cc
 
 -- the reply to a call that has ended
-pub replied : (lay : Layout) (calls : List Call) (words : Contents) (clients : List Client) (lines : List Line) (old new : Client) (answer : Answer) (said : Option ℕ) (reply : Reply) (command : Command) (number : ℕ) → length calls ≤ 65536 → IsTurnOf lay calls words clients lines old → IsOver lay calls lines old.pass.0 old command answer → ((turn : ℕ) → won lay lines old.pass.0 ≡ Some turn → said ≡ Some turn) → number ≡ turns lines → IsEnd calls old new number answer said reply → AreBetweenTurns lay calls words (set clients old.pass.0 new) (ReplyLine reply ∷ lines)
-replied lay calls words clients lines old new answer said reply command number few x o wins n e =
-    turn_ends lay calls words (set clients old.pass.0 new) (ReplyLine reply ∷ lines) new
+pub replied : (lay : Layout) (tries : ℕ) (calls : List Call) (words : Contents) (clients : List Client) (lines : List Line) (changes : List Change) (old new : Client) (answer : Answer) (said : Option ℕ) (reply : Reply) (command : Command) (number : ℕ) → (lay.mode ≡ Tree → AreEntries calls lines changes) → length calls ≤ 65536 → IsTurnOf lay tries calls words clients lines old → IsOver lay tries calls lines old.pass.0 old command answer → ((turn : ℕ) → won lay lines old.pass.0 ≡ Some turn → said ≡ Some turn) → number ≡ turns lines → IsEnd calls lines changes old new number answer said reply → AreBetweenTurns lay tries calls words (set clients old.pass.0 new) (ReplyLine reply ∷ lines)
+replied lay tries calls words clients lines changes old new answer said reply command number entries few x o wins n e =
+    turn_ends lay tries calls words (set clients old.pass.0 new) (ReplyLine reply ∷ lines) new
     record { entry = refl; reply = λ y. y }
     (inl (
       rests,
@@ -270,9 +258,9 @@ replied lay calls words clients lines old new answer said reply command number f
         won = rw here refl;
       },
     ))
-    (turn_changed lay calls words clients (ReplyLine reply ∷ lines) old new pass record {
-      so_far = so_far_same lay calls words lines (ReplyLine reply) refl (o.owed, is_reply) x.so_far;
-      others = others_reply lay calls clients lines old.pass.0 reply client x.others;
+    (turn_changed lay tries calls words clients (ReplyLine reply ∷ lines) old new pass record {
+      so_far = so_far_same lay tries calls words lines (ReplyLine reply) refl (o.owed, is_reply) x.so_far;
+      others = others_reply lay tries calls clients lines old.pass.0 reply client x.others;
       own = x.own;
     })
   where
@@ -288,22 +276,35 @@ replied lay calls words clients lines old new answer said reply command number f
     here : eqb reply.client.0 new.pass.0 ≡ true
     here = eq-eqb reply.client.0 new.pass.0 to_new
 
-    rests : Rests (client_view lay calls (ReplyLine reply ∷ lines) new.pass.0) new
+    rests : Rests (client_view lay tries calls (ReplyLine reply ∷ lines) new.pass.0) new
     rests =
-        subst (λ (k : ℕ). Rests (client_view lay calls (ReplyLine reply ∷ lines) k) new) (ap (λ (p : PassNo). p.0) (sym pass))
-        (subst (λ (v : ClientView). Rests v new) (view_replied lay calls lines reply command old.pass.0 client o.is)
-        (behind lay calls lines old new command (linked_by (client_view lay calls lines old.pass.0) command reply.answer) few (rw e.answers o.rests) o.is e.behind))
+        subst (λ (k : ℕ). Rests (client_view lay tries calls (ReplyLine reply ∷ lines) k) new) (ap (λ (p : PassNo). p.0) (sym pass))
+        (subst (λ (v : ClientView). Rests v new) (view_replied lay tries calls lines reply command old.pass.0 client o.is)
+        (behind lay tries calls lines old new command (linked_by (client_view lay tries calls lines old.pass.0) command reply.answer) few (rw e.answers o.rests) o.is e.behind))
 
     begins : old.begin ≤ turns lines
-    begins = begin_within lay calls lines old.pass.0 old.begin x.so_far.in_order o.began
+    begins = begin_within lay tries calls lines old.pass.0 old.begin x.so_far.in_order o.began
 
-    moment : reply.moment ≡ moment_of reply.answer reply.begin reply.end (won lay lines old.pass.0)
-    moment = rw (e.answers, e.begin, e.end) (e.moment ∙ moment_same answer old.begin number said (won lay lines old.pass.0) o.entry wins)
+    -- the call stands at its place in the script
+    moment : IsMomentBy calls lines changes command reply.answer reply.begin reply.end (won lay lines old.pass.0) reply.moment
+    moment = rw (e.answers, e.begin, e.end) (go old.next refl)
+      where
+        go : (next : Option ℕ) → old.next ≡ next → IsMomentBy calls lines changes command answer old.begin number (won lay lines old.pass.0) reply.moment
+        go None q =
+            let none : next_command calls lines old.pass.0 ≡ None = rw (sym o.rests.stands.number) (none_left calls old.pass.0 old.number (rw q at o.rests.stands.place)) in
+            let is : next_command calls lines old.pass.0 ≡ Some command = o.is in
+            absurd cc
+        go (Some at) q =
+            let place = rw q at o.rests.stands.place in
+            let there = next_at calls old.pass.0 old.number at place in
+            let same : there.0 ≡ command = some_command there.0 command (sym there.2 ∙ ap (λ (k : ℕ). slice_get (commands calls old.pass.0) k) o.rests.stands.number ∙ o.is) in
+            moment_same calls lines changes command answer old.begin number said (won lay lines old.pass.0) reply.moment o.done o.entry wins
+            (subst (λ (k : Command). IsMomentBy calls lines changes k answer old.begin number said reply.moment) same (e.moment (record { client = record { 0 = old.pass.0 }; command = there.0 }) at q there.1))
 
     within : (m : ℕ) → reply.moment ≡ Some m → (reply.begin ≤ m) × (m ≤ reply.end)
-    within m q = moment_within reply.answer reply.begin reply.end m (won lay lines old.pass.0) (rw (e.begin, e.end, n) begins) (λ turn w. (rw e.begin (o.late turn w), rw (e.end, n) (won_within lay calls lines old.pass.0 turn x.so_far.in_order w))) (sym moment ∙ q)
+    within m q = moment_within calls lines changes reply.begin reply.end m (won lay lines old.pass.0) reply.moment (rw (e.begin, e.end, n) begins) (λ turn w. (rw e.begin (o.late turn w), rw (e.end, n) (won_within lay tries calls lines old.pass.0 turn x.so_far.in_order w))) q command reply.answer (λ tree. entries (sym (command_mode lay.mode calls old.pass.0 _ command x.so_far.of_mode o.is) ∙ tree)) moment
 
-    is_reply : IsReply lay calls lines reply
+    is_reply : IsReply lay tries calls lines reply
     is_reply = record {
       client = o.last ∙ ap (λ (k : ℕ). Some k) (sym client);
       call = e.call ∙ o.number ∙ ap (λ (k : ℕ). answered lines k) (sym client);
@@ -313,10 +314,10 @@ replied lay calls words clients lines old new answer said reply command number f
       is = ap (λ (k : ℕ). next_command calls lines k) client ∙ o.is;
       fits = rw e.answers o.fits;
       right = subst (λ (k : ℕ). IsRight lay k (history lay.mode lines) (start lay.mode lines k) (linked calls lay.mode lines k) command reply.answer) (sym client) (rw e.answers o.right);
-      took = subst (λ (k : ℕ). HasTakenOne lay k (history lay.mode lines) (start lay.mode lines k)) (sym client) o.took;
-      placed = placed lay calls words lines reply old.pass.0 command x.so_far (rw e.answers o.right) o.is (rw (e.begin, e.end, n) begins) (subst (λ (k : ℕ). reply.moment ≡ moment_of reply.answer reply.begin reply.end (won lay lines k)) (sym client) moment);
+      took = subst (λ (k : ℕ). HasTakenFew lay tries k (history lay.mode lines) (start lay.mode lines k) command) (sym client) o.took;
+      placed = placed lay tries calls words lines changes reply old.pass.0 command x.so_far entries o.owed client (e.call ∙ o.number) (rw e.answers o.right) (rw e.answers o.tells) (rw e.answers o.entry) o.is (o.began ∙ ap (λ (k : ℕ). Some k) (sym e.begin)) (e.end ∙ n) moment;
       within = within;
-      entry = subst (λ (k : ℕ). HasItsEntry reply.answer (won lay lines k)) (sym client) (rw e.answers o.entry);
+      entry = subst (λ (k : ℕ). HasItsEntry (enters command reply.answer) (won lay lines k)) (sym client) (rw e.answers o.entry);
     }
 
 -- The turn of a client whose call is refused
@@ -325,11 +326,12 @@ replied lay calls words clients lines old new answer said reply command number f
 record IsRefusal (v : ClientView) (command : Command) (answer : Answer) : Type 0 where
   leaves : (n : ℕ) → linked_by v command answer n ≡ v.linked n
   not_done : answer ≡ Done → ⊥
+  none : enters command answer ≡ false
 
 is_refusal : (v : ClientView) (command : Command) (answer : Answer) → MayAnswerAtOnce command answer → IsRefusal v command answer
-is_refusal v (ScxOf update) (Unlinked node) x = record { leaves = λ n. refl; not_done = λ e. cc }
-is_refusal v (ScxOf update) (Full what left) x = record { leaves = λ n. refl; not_done = λ e. cc }
-is_refusal v (VlxOf cells) (Unlinked node) x = record { leaves = λ n. refl; not_done = λ e. cc }
+is_refusal v (ScxOf update) (Unlinked node) x = record { leaves = λ n. refl; not_done = λ e. cc; none = refl }
+is_refusal v (ScxOf update) (Full what left) x = record { leaves = λ n. refl; not_done = λ e. cc; none = refl }
+is_refusal v (VlxOf cells) (Unlinked node) x = record { leaves = λ n. refl; not_done = λ e. cc; none = refl }
 is_refusal v (ScxOf update) (Snapshot left right) x = absurd x
 is_refusal v (ScxOf update) Finalized x = absurd x
 is_refusal v (ScxOf update) (Fail node scx) x = absurd x
@@ -347,29 +349,43 @@ is_refusal v (VlxOf cells) (Changed node scx) x = absurd x
 is_refusal v (VlxOf cells) (Full what left) x = absurd x
 is_refusal v (LlxOf cell) answer x = absurd x
 is_refusal v (SetOf field value) answer x = absurd x
+is_refusal v (InsertOf key value) answer x = absurd x
 is_refusal v (GetOf key) answer x = absurd x
+is_refusal v (ScxOf update) (Contended node scx) x = absurd x
+is_refusal v (VlxOf cells) (Contended node scx) x = absurd x
 is_refusal v (ScxOf update) (Value value) x = absurd x
 is_refusal v (VlxOf cells) (Value value) x = absurd x
 
-pub refused_turn : (lay : Layout) (calls : List Call) (words : Contents) (clients : List Client) (lines : List Line) (c new : Client) (number : ℕ) (pass : PassNo) (answer : Answer) (said : Option ℕ) (reply : Reply) → length calls ≤ 65536 → OwesNothing lay calls lines → IsTurnOf lay calls words clients lines c → Refuses (client_view lay calls lines c.pass.0) c answer → begin lines c.pass.0 ≡ None → c.begin ≡ number → number ≡ suc (turns lines) → pass ≡ c.pass → IsEnd calls c new number answer said reply → AreBetweenTurns lay calls words (set clients c.pass.0 new) (ReplyLine reply ∷ Step (Idle number pass) ∷ lines)
-refused_turn lay calls words clients lines c new number pass answer said reply few settled x r unbegun begins n is e =
-    replied lay calls words clients (Step (Idle number pass) ∷ lines) c new answer said reply r.command number few
+-- it tells nothing of an insert
+refuses_tells : (v : ClientView) (c : ℕ) (command : Command) (answer : Answer) → MayAnswerAtOnce command answer → Tells v c command answer
+refuses_tells v c (InsertOf key value) answer x = absurd x
+refuses_tells v c (LlxOf cell) answer x = tt
+refuses_tells v c (ScxOf update) answer x = tt
+refuses_tells v c (VlxOf cells) answer x = tt
+refuses_tells v c (SetOf field value) answer x = tt
+refuses_tells v c (GetOf key) answer x = tt
+
+pub refused_turn : (lay : Layout) (tries : ℕ) (calls : List Call) (words : Contents) (clients : List Client) (lines : List Line) (c new : Client) (number : ℕ) (pass : PassNo) (answer : Answer) (changes : List Change) (said : Option ℕ) (reply : Reply) → (lay.mode ≡ Tree → AreEntries calls lines changes) → length calls ≤ 65536 → OwesNothing lay calls lines → IsTurnOf lay tries calls words clients lines c → Refuses (client_view lay tries calls lines c.pass.0) c answer → begin lines c.pass.0 ≡ None → c.begin ≡ number → number ≡ suc (turns lines) → pass ≡ c.pass → IsEnd calls (Step (Idle number pass) ∷ lines) changes c new number answer said reply → AreBetweenTurns lay tries calls words (set clients c.pass.0 new) (ReplyLine reply ∷ Step (Idle number pass) ∷ lines)
+refused_turn lay tries calls words clients lines c new number pass answer changes said reply entries few settled x r unbegun begins n is e =
+    replied lay tries calls words clients (Step (Idle number pass) ∷ lines) changes c new answer said reply r.command number entries few
     record {
-      so_far = so_far_same lay calls words lines (Step (Idle number pass)) refl (settled, record { is_pass = rw is0 r.rests.stands.is_pass; in_turn = n; idle = inr (rw is0 unbegun) }) x.so_far;
-      others = others_idle lay calls clients lines c.pass.0 number pass is0 x.others;
+      so_far = so_far_same lay tries calls words lines (Step (Idle number pass)) refl (settled, record { is_pass = rw is0 r.rests.stands.is_pass; in_turn = n; idle = inr (rw is0 unbegun) }) x.so_far;
+      others = others_idle lay tries calls clients lines c.pass.0 number pass is0 x.others;
       own = x.own;
     }
     record {
       is = r.is;
-      rests = subst (λ (l : ℕ → Option History). Rests (record (client_view lay calls (Step (Idle number pass) ∷ lines) c.pass.0) { linked = l }) c) (λ k m. sym (refusal.leaves m) k)
-          record { stands = stands_from (client_view lay calls lines c.pass.0) c _ _ (no_hand c.share) r.rests.stands; none = r.rests.none };
+      rests = subst (λ (l : ℕ → Option History). Rests (record (client_view lay tries calls (Step (Idle number pass) ∷ lines) c.pass.0) { linked = l }) c) (λ k m. sym (refusal.leaves m) k)
+          record { stands = stands_from (client_view lay tries calls lines c.pass.0) c _ _ (no_hand (held c)) r.rests.stands; holds = holds_from (client_view lay tries calls lines c.pass.0) c _ _ (no_hand (held c)) r.rests.holds; none = r.rests.none };
       number = r.rests.stands.number;
       began = rw (eq-eqb pass.0 c.pass.0 is0) (ap (λ (k : ℕ). Some k) (rw unbegun (sym begins)));
       last = ap (λ (k : ℕ). Some k) is0;
       owed = refl;
       fits = r.refusal;
       right = rw (eq-eqb pass.0 c.pass.0 is0) r.right;
-      entry = entered_none answer (won lay lines c.pass.0) r.unwon refusal.not_done;
+      entry = rw refusal.none (entered_none (won lay lines c.pass.0) r.unwon);
+      done = λ z. absurd (refusal.not_done z);
+      tells = tells;
       took = rw (eq-eqb pass.0 c.pass.0 is0) r.took;
       late = λ turn w. never turn w (c.begin ≤ turn);
     }
@@ -378,8 +394,11 @@ refused_turn lay calls words clients lines c new number pass answer said reply f
     is0 : pass.0 ≡ c.pass.0
     is0 = ap (λ (p : PassNo). p.0) is
 
-    refusal : IsRefusal (client_view lay calls lines c.pass.0) r.command answer
-    refusal = is_refusal (client_view lay calls lines c.pass.0) r.command answer r.refusal
+    tells : Tells (client_view lay tries calls (Step (Idle number pass) ∷ lines) c.pass.0) c.pass.0 r.command answer
+    tells = refuses_tells _ _ r.command answer r.refusal
+
+    refusal : IsRefusal (client_view lay tries calls lines c.pass.0) r.command answer
+    refusal = is_refusal (client_view lay tries calls lines c.pass.0) r.command answer r.refusal
 
     never : (turn : ℕ) → won lay lines c.pass.0 ≡ Some turn → (X : Type 0) → X
     never turn w X = absurd (let none : won lay lines c.pass.0 ≡ None = r.unwon in cc)
@@ -416,22 +435,22 @@ wins_step lay lines pushed after number passes row old new many line is changed 
 
 -- The entry of the newest step
 
-made_row : (lay : Layout) (calls : List Call) (words : Contents) (older : List Line) (number : ℕ) (row : Row) → IsLawfulSoFar lay calls words (Step (Made number row) ∷ older) → IsLawful lay (history lay.mode older) row
-made_row lay calls words older number row x = lawful_row lay (history lay.mode older) row x.sound.lawful
+made_row : (lay : Layout) (tries : ℕ) (calls : List Call) (words : Contents) (older : List Line) (number : ℕ) (row : Row) → IsLawfulSoFar lay tries calls words (Step (Made number row) ∷ older) → IsLawful lay (history lay.mode older) row
+made_row lay tries calls words older number row x = lawful_row lay (history lay.mode older) row x.sound.lawful
 
 -- its word is one of the table, and so is the info of its node
 pub made_info : (p : Player) (number : ℕ) (row : Row) (n : NodeNo) (part : NodeWord) → IsMade p number row → row.word ≡ Node n part → n.0 < all_nodes p.words.layout
 made_info p number row n part m e =
-    let x : IsLawfulSoFar p.script.layout p.script.calls.items p.words (Step (Made number row) ∷ m.older) = rw (sym m.lines) m.so_far in
-    let y : IsWord p.script.layout row.word = (made_row p.script.layout p.script.calls.items p.words m.older number row x).word in
+    let x : IsLawfulSoFar p.script.layout p.script.limits.tries p.script.calls.items p.words (Step (Made number row) ∷ m.older) = rw (sym m.lines) m.so_far in
+    let y : IsWord p.script.layout row.word = (made_row p.script.layout p.script.limits.tries p.script.calls.items p.words m.older number row x).word in
     rw x.layout (rw e at y)
 
 -- the info of the field of an update that has won names an SCX-record of the table
 pub made_winner : (p : Player) (number : ℕ) (row : Row) (n : NodeNo) (side : Side) → IsMade p number row → row.kind ≡ Update → row.before ≢ row.after → row.word ≡ Node n (Child side) → (0 < word_at p.words (info n.0)) × (word_at p.words (info n.0) < all_scx p.script.layout)
 made_winner p number row n side m kind changed word =
-    let x : IsLawfulSoFar p.script.layout p.script.calls.items p.words (Step (Made number row) ∷ m.older) = rw (sym m.lines) m.so_far in
+    let x : IsLawfulSoFar p.script.layout p.script.limits.tries p.script.calls.items p.words (Step (Made number row) ∷ m.older) = rw (sym m.lines) m.so_far in
     let w = winner_holds p.script.layout (history p.script.layout.mode m.older) row n.0 side x.sound.lawful kind changed word in
-    let y : IsWord p.script.layout row.word = (made_row p.script.layout p.script.calls.items p.words m.older number row x).word in
+    let y : IsWord p.script.layout row.word = (made_row p.script.layout p.script.limits.tries p.script.calls.items p.words m.older number row x).word in
     let same : word_at p.words (info n.0) ≡ value (history p.script.layout.mode m.older) (info n.0) = x.holds (info n.0) (rw word at y) ∙ info_kept p.script.layout (history p.script.layout.mode m.older) row n.0 n.0 side word in
     rw same (let d = w.0 in omega arith, w.1)
 
@@ -448,11 +467,11 @@ made_entry p number row n side place scx call client m kind changed word pl sc c
     h : History
     h = history p.script.layout.mode m.older
 
-    x : IsLawfulSoFar p.script.layout p.script.calls.items p.words (Step (Made number row) ∷ m.older)
+    x : IsLawfulSoFar p.script.layout p.script.limits.tries p.script.calls.items p.words (Step (Made number row) ∷ m.older)
     x = rw (sym m.lines) m.so_far
 
     y : IsWord p.script.layout row.word
-    y = (made_row p.script.layout p.script.calls.items p.words m.older number row x).word
+    y = (made_row p.script.layout p.script.limits.tries p.script.calls.items p.words m.older number row x).word
 
     w : (value h (info n.0) ≢ 0) × (value h (info n.0) < all_scx p.script.layout)
     w = winner_holds p.script.layout h row n.0 side x.sound.lawful kind changed word

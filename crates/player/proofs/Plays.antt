@@ -19,14 +19,15 @@ use Rattle.record.specs.LawfulRun.{AreLines, IsLawfulRun}
 use Rattle.player.specs.BetweenTurns.{AreBetweenTurns, IsBetweenTurns, AreWins}
 
 -- words as they are at the start, and clients that rest, are between two turns
-pub opening_between : (lay : Layout) (calls : List Call) (words : Contents) (all : List Client) → words.layout ≡ lay → IsOpening words → All (λ (call : Call). mode_of call.command ≡ lay.mode) calls → ((j : ℕ) (d : Client) → slice_get all j ≡ Some d → (d.pass.0 ≡ j) × Rests (client_view lay calls [] j) d) → AreBetweenTurns lay calls words all []
+pub opening_between : (lay : Layout) (tries : ℕ) (calls : List Call) (words : Contents) (all : List Client) → words.layout ≡ lay → IsOpening words → All (λ (call : Call). mode_of call.command ≡ lay.mode) calls → ((j : ℕ) (d : Client) → slice_get all j ≡ Some d → (d.pass.0 ≡ j) × Rests (client_view lay tries calls [] j) d) → AreBetweenTurns lay tries calls words all []
 unfolding value Lawful Shaped AreLines
-opening_between lay calls words rests same opening all each = record {
+opening_between lay tries calls words rests same opening all each = record {
   so_far = record {
     layout = same;
     holds = λ w i. opening w (rw same i) ∙ rw same refl;
     sound = record { lawful = refl; shaped = tt };
     in_order = tt;
+    filled = λ tree. tt;
     of_mode = all;
   };
   settled = record { entry = refl; reply = λ y. y };
@@ -38,7 +39,7 @@ pub no_wins : (lay : Layout) (wins : List (Option ℕ)) → AreWins lay [] wins
 no_wins lay wins c turn e = cc
 
 -- the lines of a player are a lawful run of the turns that it made
-pub played_record : (p : Player) → IsBetweenTurns p → (turns : List ℕ) → clients (newest p.lines) ≡ reverse turns → IsLawfulRun p.script.layout p.script.calls.items turns p.lines.list.items
+pub played_record : (p : Player) → IsBetweenTurns p → (turns : List ℕ) → clients (newest p.lines) ≡ reverse turns → IsLawfulRun p.script.layout p.script.limits.tries p.script.calls.items turns p.lines.list.items
 played_record p x turns e = record {
   turns = e;
   in_order = x.between.so_far.in_order;
@@ -47,7 +48,7 @@ played_record p x turns e = record {
   spell = λ past n side e. fields_are p.script.layout past n side (lawful_since p.script.layout (history p.script.layout.mode (newest p.lines)) past x.between.so_far.sound.lawful e);
   once = once p.script.layout (history p.script.layout.mode (newest p.lines)) x.between.so_far.sound.lawful;
   finalized = λ past n part ends final. finalized_since p.script.layout (history p.script.layout.mode (newest p.lines)) past n part x.between.so_far.sound.lawful ends final;
-  whole = whole p.script.layout p.script.calls.items p.words (newest p.lines) x.between.so_far;
+  whole = whole p.script.layout p.script.limits.tries p.script.calls.items p.words (newest p.lines) x.between.so_far;
 }
 
 -- one more element comes first in the reverse

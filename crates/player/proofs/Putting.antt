@@ -3,13 +3,14 @@ use Rattle.std.proofs.Common.{◌≡◌, ℕ, ◌+◌, ◌<◌, ◌≤◌, ◌�
 use Rattle.std.proofs.Math.ListN.{set}
 use Rattle.arena.specs.TakenNodes.{taken_nodes}
 use Rattle.arena.specs.declared.layout.Layout.{Layout}
+use Rattle.arena.specs.declared.limits.Mode.TheVariants.{Records, Tree}
 use Rattle.arena.specs.declared.word.Side.{Side}
 use Rattle.arena.specs.Share.{Remaining, HasNode as HasOwnNode, HasScx, after_taking}
 use Rattle.arena.specs.declared.step.Kind.TheVariants.{LoadInfo}
 use Rattle.arena.specs.History.{History, Extends}
 use Rattle.arena.specs.Found.{IsLastStep}
 use Rattle.arena.proofs.Lemmas.{last_now, ends_self}
-use Rattle.arena.specs.Fills.{IsOwnNode, IsOwnScx, IsTakenNode, IsTakenScx}
+use Rattle.arena.specs.Fills.{IsOwnScx, IsTakenScx}
 use Rattle.arena.specs.Lawful.{HasWon}
 use Rattle.arena.specs.declared.number.NodeNo.{NodeNo}
 use Rattle.arena.specs.ScxRecords.{plan_finalizes, side_of}
@@ -27,26 +28,26 @@ use Rattle.prims.specs.declared.llx.Llx.TheVariants.{Snapshot as LlxSnapshot}
 use Rattle.prims.specs.declared.scx.ScxAt.TheVariants.{Start as ScxStart}
 use Rattle.prims.specs.declared.put.PutAt.TheVariants.{Start as PutStart}
 use Rattle.script.specs.declared.command.Command.{Command}
-use Rattle.script.specs.declared.command.Command.TheVariants.{Llx as LlxOf, Scx as ScxOf, Vlx as VlxOf, Set as SetOf, Get as GetOf}
+use Rattle.script.specs.declared.command.Command.TheVariants.{Llx as LlxOf, Scx as ScxOf, Vlx as VlxOf, Set as SetOf, Insert as InsertOf, Get as GetOf}
 use Rattle.player.specs.declared.run.Run.TheVariants.{Llx, Scx}
 use Rattle.player.specs.declared.run.Ended.TheVariants as ended
 use Rattle.player.specs.declared.client.Client.{Client}
 use Rattle.player.specs.declared.client.Put.{Put}
 use Rattle.player.specs.declared.kept.Kept.{Kept}
 use Rattle.record.specs.declared.record.Answer.{Answer}
-use Rattle.record.specs.declared.record.Answer.TheVariants.{Snapshot, Finalized, Fail, Done, Lost, Same, Changed, Unlinked, Full, Value}
+use Rattle.record.specs.declared.record.Answer.TheVariants.{Snapshot, Finalized, Fail, Done, Lost, Same, Changed, Unlinked, Full, Value, Contended}
 use Rattle.arena.specs.declared.fault.Resource.{Resource}
-use Rattle.arena.specs.declared.fault.Resource.TheVariants.{Nodes, Scx as ScxRecords}
 use Rattle.player.specs.KeptSnaps.{IsUnspent, kept_of, node_of, found_of}
 use Rattle.record.specs.Commands.{commands}
 use Rattle.record.specs.Snapshots.{IsLastLook}
 use Rattle.record.specs.CommandRules.{most_steps}
-use Rattle.record.specs.Answers.{IsEmpty}
-use Rattle.player.specs.ClientView.{ClientView, IsSound, IsLlxOf, IsPutOf, no_hand, IsClientState, Rests, Starts, Answered, Told, TellsFull, CanPut, Puts, BeginsOrRefuses}
+use Rattle.record.specs.Shares.{HasTooFew}
+use Rattle.player.proofs.Left.{full_left}
+use Rattle.player.specs.ClientView.{ClientView, IsSound, IsLlxOf, IsPutOf, no_hand, held, HoldsShare, IsClientState, Rests, Starts, Answered, Told, TellsFull, CanPut, Puts, BeginsOrRefuses}
 use Rattle.prims.specs.Laws.Begun.{taken_since}
 use Rattle.prims.proofs.Lemmas.{taken_node_since, left_own_node, left_own_scx, taken_share, free_unnamed, all_over, put_ready_first}
 use Rattle.prims.specs.Shares.{IsShare}
-use Rattle.player.proofs.Over.{taken_one}
+use Rattle.player.proofs.Over.{taken_nothing}
 use Rattle.player.proofs.Snapshots.{has_snap, dropped, kept_without, unkept_without}
 use Rattle.player.proofs.Ends.{rests_kept, snapshot_unspent, among_none, entered_none}
 
@@ -57,18 +58,10 @@ pub record IsFullAnswer (lay : Layout) (c : ℕ) (h : History) (answer : Answer)
   pub what : Resource
   pub left : ℕ
   pub is : answer ≡ Full what left
-  pub empty : IsEmpty lay c h what left
-
--- a share with a node left has one that is not taken
-next_node : (lay : Layout) (h : History) (c : ℕ) (left : Remaining) → IsShare lay h c left left.next_node left.next_scx → 0 < left.nodes → (n : ℕ) × IsOwnNode lay c n × ¬ IsTakenNode h n
-next_node lay h c left share some = (left.next_node, left_own_node lay h c left _ _ left.next_node share own, share.untaken_nodes left.next_node own)
-  where
-    own : HasOwnNode left left.next_node
-    own = record { from = omega arith; below = omega arith }
+  pub few : HasTooFew lay c h 1 what left
 
 pub full_answer : (lay : Layout) (h : History) (c : ℕ) (left : Remaining) (answer : Answer) → IsShare lay h c left left.next_node left.next_scx → TellsFull left answer → IsFullAnswer lay c h answer
-full_answer lay h c left (Full Nodes k) share full = record { what = Nodes; left = k; is = refl; empty = (full.1, λ n own. share.taken_nodes n own (let a = own.below in let b = share.to_node in omega (arith, full.0))) }
-full_answer lay h c left (Full ScxRecords k) share full = record { what = ScxRecords; left = k; is = refl; empty = (full.2, λ s own. share.taken_scx s own (let a = own.below in let b = share.to_scx in omega (arith, full.1)), next_node lay h c left share full.0) }
+full_answer lay h c left (Full what k) share full = record { what = what; left = k; is = refl; few = full_left lay h c left share what k full }
 full_answer lay h c left (Snapshot a b) share full = absurd full
 full_answer lay h c left Finalized share full = absurd full
 full_answer lay h c left (Fail node scx) share full = absurd full
@@ -78,6 +71,7 @@ full_answer lay h c left Same share full = absurd full
 full_answer lay h c left (Changed node scx) share full = absurd full
 full_answer lay h c left (Unlinked node) share full = absurd full
 full_answer lay h c left (Value value) share full = absurd full
+full_answer lay h c left (Contended node scx) share full = absurd full
 
 -- The SCX of a set
 
@@ -103,7 +97,7 @@ can_put v old kept m put snap sound x e = go x.works.command x.works.is x.works.
     unspent : IsUnspent v.layout old.pass.0 v.past snap v.past
     unspent = snapshot_unspent v old m (Some put) snap sound x
 
-    go : (command : Command) → slice_get (commands v.calls old.pass.0) v.answered ≡ Some command → IsLlxOf command m.node.0 (Some put) → ((taken : ℕ) → length (taken_nodes v.past) ≤ taken → v.steps + 40 ≤ most_steps command taken) → CanPut v (linked_now v command) (record old { kept = kept }) (snap ∷ []) [] (snap.node.0, put.side) put.value
+    go : (command : Command) → slice_get (commands v.calls old.pass.0) v.answered ≡ Some command → IsLlxOf command m.node.0 (Some put) → ((taken : ℕ) → length (taken_nodes v.past) ≤ taken → v.steps + 40 ≤ most_steps command v.tries taken) → CanPut v (linked_now v command) (record old { kept = kept }) (snap ∷ []) [] (snap.node.0, put.side) put.value
     go (SetOf field y) is f few = record {
       mode = x.works.mode;
       rests = rests_kept v old kept m (Some put) (LlxSnapshot snap) (linked_now v (SetOf field y)) sound x e (λ n. rw (x.answers.0.node ∙ f.0) refl);
@@ -128,6 +122,7 @@ can_put v old kept m put snap sound x e = go x.works.command x.works.is x.works.
     go (LlxOf cell) is f few = absurd f
     go (ScxOf update) is f few = absurd f
     go (VlxOf cells) is f few = absurd f
+    go (InsertOf key value) is f few = absurd f
     go (GetOf key) is f few = absurd f
 
 -- what it answers then
@@ -137,23 +132,25 @@ told_put v old new kept m put snap (Some answer) x p = go x.works.command x.work
   where
     go : (command : Command) → slice_get (commands v.calls old.pass.0) v.answered ≡ Some command → IsLlxOf command m.node.0 (Some put) → Rests (record v { linked = linked_now v command }) new → Told v old new (Some answer)
     go (SetOf field y) is f rests =
-        let w = full_answer v.layout v.past new.pass.0 new.share answer rests.stands.share p.3 in
+        let w = full_answer v.layout v.past new.pass.0 (held new) answer rests.holds.share p.3 in
         subst (λ (a : Answer). Told v old new (Some a)) (sym w.is)
         record {
           same = record { pass = p.0.pass; number = p.0.number; next = p.0.next };
           begin = p.1;
           command = SetOf field y;
           is = rw p.0.pass is;
-          rests = record { stands = rests.stands; none = rests.none };
+          rests = record { stands = rests.stands; holds = rests.holds; none = rests.none };
           answers = tt;
-          right = (w.empty, rw (sym (x.answers.0.node ∙ f.0)) (rw x.answers.0.node x.answers.0.not_final), rw (p.0.pass, sym (x.answers.0.node ∙ f.0)) (just_looked v old m (Some put) snap x));
-          entry = entered_none (Full w.what w.left) v.won x.works.won (λ e. cc);
-          took = rw p.0.pass (taken_one v old.pass.0 (no_hand old.share) x.works.took);
+          right = (w.few, rw (sym (x.answers.0.node ∙ f.0)) (rw x.answers.0.node x.answers.0.not_final), rw (p.0.pass, sym (x.answers.0.node ∙ f.0)) (just_looked v old m (Some put) snap x));
+          entry = entered_none v.won x.works.won;
+          tells = tt;
+          took = rw p.0.pass (taken_nothing v old.pass.0 (held old) 1 1 x.works.holds.share x.works.took);
           late = λ turn e. rw p.1 (x.works.late turn e);
         }
     go (LlxOf cell) is f rests = absurd f
     go (ScxOf update) is f rests = absurd f
     go (VlxOf cells) is f rests = absurd f
+    go (InsertOf key value) is f rests = absurd f
     go (GetOf key) is f rests = absurd f
 
 -- the same with what it has answered written out
@@ -174,19 +171,24 @@ put_of m u number snaps finalize field x e k w is at side removed = record {
 }
 
 -- with them the SCX may begin
-pub put_starts : (v : ClientView) (linked : ℕ → Option History) (c : Client) (snaps : List Snap) (removed : List ℕ) (field : ℕ × Side) (x : ℕ) (kept : Kept) (m : PutRun) → IsSound v → CanPut v linked c snaps removed field x → 0 < c.share.nodes → 0 < c.share.scx → ((n : ℕ) → kept_of kept n ≡ (if has_snap snaps n then None else kept_of c.kept n)) → IsUpdateOver m.scx.update → m.scx.update.snaps ≡ snaps → m.scx.update.fresh.0 ≡ c.share.next_node → m.scx.scx.0 ≡ c.share.next_scx → m.scx.at ≡ ScxStart → m.at ≡ PutStart → IsPutOf m c.number (nodes_of snaps) removed field x → put_left m ≤ 40 → Starts v (record c { share = after_taking c.share; kept = kept }) (Scx m) None
+pub put_starts : (v : ClientView) (linked : ℕ → Option History) (c : Client) (snaps : List Snap) (removed : List ℕ) (field : ℕ × Side) (x : ℕ) (kept : Kept) (m : PutRun) → IsSound v → CanPut v linked c snaps removed field x → 0 < (held c).nodes → 0 < (held c).scx → ((n : ℕ) → kept_of kept n ≡ (if has_snap snaps n then None else kept_of c.kept n)) → IsUpdateOver m.scx.update → m.scx.update.snaps ≡ snaps → m.scx.update.fresh.0 ≡ (held c).next_node → m.scx.scx.0 ≡ (held c).next_scx → m.scx.at ≡ ScxStart → m.at ≡ PutStart → IsPutOf m c.number (nodes_of snaps) removed field x → put_left m ≤ 40 → Starts v (record c { share = Some (after_taking (held c)); kept = kept }) (Scx m) None
 put_starts v linked c snaps removed field x kept m sound can some_node some_scx left over is fresh scx start at of bound = record {
   works = record {
     mode = can.mode;
     stands = record {
       is_pass = y.is_pass;
+      tries = y.tries;
       number = y.number;
       place = y.place;
       kept = kept_without c.kept kept snaps left v.layout c.pass.0 v.past linked v.linked can.others y.kept;
       unkept = λ n i d. rw is (unkept_without c.kept kept snaps left linked v.linked can.others (λ n i d. ⊎_elim (λ z. absurd (among_none n z)) (λ z. z) (y.unkept n i d)) n i d);
       dropped = λ n z. dropped c.kept kept snaps left n (rw is at z);
-      share = rw (fresh, scx) (taken_share v.layout v.past c.pass.0 c.share some_node some_scx y.share);
-      over = rw scx y.over;
+      free = λ tree. absurd (let z : Records ≡ Tree = sym can.mode ∙ tree in cc);
+    };
+    holds = record {
+      some = refl;
+      share = rw (fresh, scx) (taken_share v.layout v.past c.pass.0 (held c) some_node some_scx h.share);
+      over = rw scx h.over;
     };
     newest = (omega (arith, fresh), omega (arith, scx), real);
     command = can.command;
@@ -198,53 +200,58 @@ put_starts v linked c snaps removed field x kept m sound can some_node some_scx 
     begun = can.since;
     moments = rw is can.moments;
     alone = rw is (λ i p. let z = can.unspent i p in z.1.alone);
+    opening = held c;
     took = rw (fresh, scx) record { nodes = can.took.nodes; scx_records = can.took.scx_records };
     room = record {
-      node_number = c.share.next_node;
-      own_node = left_own_node v.layout v.past c.pass.0 c.share _ _ c.share.next_node y.share own_node;
-      free_node = λ t. y.share.untaken_nodes c.share.next_node own_node (taken_node_since v.past v.start c.share.next_node can.since t);
-      scx_number = c.share.next_scx;
-      own_scx = left_own_scx v.layout v.past c.pass.0 c.share _ _ c.share.next_scx y.share own_scx;
-      free_scx = λ t. y.share.untaken c.share.next_scx own_scx (taken_since v.past v.start c.share.next_scx can.since t);
+      node_number = (held c).next_node;
+      own_node = left_own_node v.layout v.past c.pass.0 (held c) _ _ (held c).next_node h.share own_node;
+      free_node = λ t. h.share.untaken_nodes (held c).next_node own_node (taken_node_since v.past v.start (held c).next_node can.since t);
+      scx_number = (held c).next_scx;
+      own_scx = left_own_scx v.layout v.past c.pass.0 (held c) _ _ (held c).next_scx h.share own_scx;
+      free_scx = λ t. h.share.untaken (held c).next_scx own_scx (taken_since v.past v.start (held c).next_scx can.since t);
     };
     won = record { own = own; yes = λ w. absurd (unwon w); no = λ w. can.unwon };
     late = λ turn e. let d = can.unwon in absurd (let z : v.won ≡ Some turn = e in cc);
   };
   none = can.rests.none;
+  spent = tt;
   ready = put_ready_first v.layout c.pass.0 c.number y.is_pass v.past m sound.lawful over (λ i p. rw is (let z = can.unspent i (rw is at p) in (z.0, z.1.usable))) at start own
-      (rw scx y.share.taken_scx) free
-      (rw fresh (left_own_node v.layout v.past c.pass.0 c.share _ _ c.share.next_node y.share own_node))
-      (rw fresh y.share.taken_nodes) (rw fresh (y.share.unmentioned c.share.next_node own_node)) (rw fresh (y.share.untaken_nodes c.share.next_node own_node)) (all_over v.layout v.past c.pass.0 c.share _ _ y.share y.over);
+      (rw scx h.share.taken_scx) free
+      (rw fresh (left_own_node v.layout v.past c.pass.0 (held c) _ _ (held c).next_node h.share own_node))
+      (rw fresh h.share.taken_nodes) (rw fresh (h.share.unmentioned (held c).next_node own_node)) (rw fresh (h.share.untaken_nodes (held c).next_node own_node)) (all_over v.layout v.past c.pass.0 (held c) _ _ h.share h.over);
   few = λ taken i. let few = can.few taken in omega (arith, bound);
 }
   where
-    y : IsClientState (record v { linked = linked }) c (no_hand c.share)
+    y : IsClientState (record v { linked = linked }) c (no_hand (held c))
     y = can.rests.stands
 
-    own_node : HasOwnNode c.share c.share.next_node
+    h : HoldsShare (record v { linked = linked }) c (no_hand (held c))
+    h = can.rests.holds
+
+    own_node : HasOwnNode (held c) (held c).next_node
     own_node = record { from = omega arith; below = omega arith }
 
-    own_scx : HasScx c.share c.share.next_scx
+    own_scx : HasScx (held c) (held c).next_scx
     own_scx = record { from = omega arith; below = omega arith }
 
     own : IsOwnScx v.layout c.pass.0 m.scx.scx.0
-    own = rw scx (left_own_scx v.layout v.past c.pass.0 c.share _ _ c.share.next_scx y.share own_scx)
+    own = rw scx (left_own_scx v.layout v.past c.pass.0 (held c) _ _ (held c).next_scx h.share own_scx)
 
     real : m.scx.scx.0 ≡ 0 → ⊥
     real e = let a = own.from in omega arith
 
     free : ¬ IsTakenScx v.past m.scx.scx.0
-    free = rw scx (y.share.untaken c.share.next_scx own_scx)
+    free = rw scx (h.share.untaken (held c).next_scx own_scx)
 
     unwon : ¬ HasWon v.past m.scx.scx.0
     unwon = (free_unnamed v.layout v.past c.pass.0 m.scx.scx.0 sound.lawful own free).1
 
-puts : (v : ClientView) (linked : ℕ → Option History) (old : Client) (share : Remaining) (kept : Kept) (new : Client) (answer : Option Answer) → answer ≡ None → BeginsOrRefuses v old.begin (record old { share = share; kept = kept }) new answer → Puts v linked old new answer
+puts : (v : ClientView) (linked : ℕ → Option History) (old : Client) (share : Option Remaining) (kept : Kept) (new : Client) (answer : Option Answer) → answer ≡ None → BeginsOrRefuses v old.begin (record old { share = share; kept = kept }) new answer → Puts v linked old new answer
 puts v linked old share kept new None e x = record { same = record { pass = x.0.pass; number = x.0.number; next = x.0.next }; begin = x.1; running = x.2.0; is = x.2.1; waits = x.2.2 }
 puts v linked old share kept new (Some answer) e x = absurd cc
 
 -- an SCX asks for a step first
-pub put_runs : (v : ClientView) (linked : ℕ → Option History) (old mid : Client) (kept : Kept) (new : Client) (m : PutRun) (answer : Option Answer) → mid ≡ record old { share = after_taking old.share } → (Starts v (record mid { kept = kept }) (Scx m) None → (answer ≡ None) × BeginsOrRefuses v mid.begin (record mid { kept = kept }) new answer) → Starts v (record old { share = after_taking old.share; kept = kept }) (Scx m) None → Puts v linked old new answer
+pub put_runs : (v : ClientView) (linked : ℕ → Option History) (old mid : Client) (kept : Kept) (new : Client) (m : PutRun) (answer : Option Answer) → mid ≡ record old { share = Some (after_taking (held old)) } → (Starts v (record mid { kept = kept }) (Scx m) None → (answer ≡ None) × BeginsOrRefuses v mid.begin (record mid { kept = kept }) new answer) → Starts v (record old { share = Some (after_taking (held old)); kept = kept }) (Scx m) None → Puts v linked old new answer
 put_runs v linked old mid kept new m answer e f starts =
     let x = subst (λ (n : Client). Starts v (record n { kept = kept }) (Scx m) None → (answer ≡ None) × BeginsOrRefuses v n.begin (record n { kept = kept }) new answer) e f starts in
-    puts v linked old (after_taking old.share) kept new answer x.0 x.1
+    puts v linked old (Some (after_taking (held old))) kept new answer x.0 x.1

@@ -19,7 +19,9 @@ use Rattle.player.specs.Place.{IsAt}
 use Rattle.record.specs.Commands.{commands, next_command}
 use Rattle.record.specs.Turns.{turns, begin, answered}
 use Rattle.player.specs.ClientView.{ClientView, client_view, Rests, Refuses, Waits, IsClient, IsNextAction, command_of}
-use Rattle.player.specs.BetweenTurns.{IsTurnOf, AreBetweenTurns, IsBetweenTurns, IsAsked, IsEnd}
+use Rattle.player.specs.BetweenTurns.{IsTurnOf, AreBetweenTurns, IsBetweenTurns, IsAsked, IsEnd, ArePlaces}
+use Rattle.places.specs.declared.places.Change.{Change}
+use Rattle.places.specs.Places.{changes}
 use Rattle.player.proofs.Commands.{none_left, next_at}
 use Rattle.player.proofs.Middles.{turn_begins, turn_changed, finished_turn, refused_turn}
 use Rattle.player.proofs.Steps.{few_calls}
@@ -46,6 +48,9 @@ module _ (p : Player) (i number : ℕ) (old new : Client) (played : IsBetweenTur
   abbrev lay : Layout
   lay = p.script.layout
 
+  abbrev tries : ℕ
+  tries = p.script.limits.tries
+
   abbrev calls : List Call
   calls = p.script.calls.items
 
@@ -53,7 +58,7 @@ module _ (p : Player) (i number : ℕ) (old new : Client) (played : IsBetweenTur
   lines = newest p.lines
 
   abbrev v : ClientView
-  v = client_view lay calls lines i
+  v = client_view lay tries calls lines i
 
   is_i : old.pass.0 ≡ i
   is_i = (played.between.each i old there).0
@@ -62,25 +67,26 @@ module _ (p : Player) (i number : ℕ) (old new : Client) (played : IsBetweenTur
   is_client = (played.between.each i old there).1
 
   -- its turn, with what it has become
-  own_turn : new.pass ≡ old.pass → IsTurnOf lay calls p.words (set p.clients.items i new) lines new
-  own_turn same = subst (λ (k : ℕ). IsTurnOf lay calls p.words (set p.clients.items k new) lines new) is_i (turn_changed lay calls p.words p.clients.items lines old new same (turn_begins lay calls p.words p.clients.items lines i old there played.between))
+  own_turn : new.pass ≡ old.pass → IsTurnOf lay tries calls p.words (set p.clients.items i new) lines new
+  own_turn same = subst (λ (k : ℕ). IsTurnOf lay tries calls p.words (set p.clients.items k new) lines new) is_i (turn_changed lay tries calls p.words p.clients.items lines old new same (turn_begins lay tries calls p.words p.clients.items lines i old there played.between))
 
   new_i : new.pass ≡ old.pass → new.pass.0 ≡ i
   new_i same = ap (λ (k : PassNo). k.0) same ∙ is_i
 
   -- it asks for a step
-  pub stood_asked : (q : Player) (step : Ask) → q.script.layout ≡ lay → q.script.calls.items ≡ calls → q.words ≡ p.words → q.clients.items ≡ set p.clients.items i new → newest q.lines ≡ lines → q.wins.items ≡ p.wins.items → number ≡ suc (turns (newest q.lines)) → IsNextAction v number old new (Asks step) → IsAsked q i number step
-  stood_asked q step a b w d e f n s = record {
+  pub stood_asked : (q : Player) (step : Ask) → q.script.layout ≡ lay → q.script.limits ≡ p.script.limits → q.script.calls.items ≡ calls → q.words ≡ p.words → q.clients.items ≡ set p.clients.items i new → newest q.lines ≡ lines → q.wins.items ≡ p.wins.items → ArePlaces lay calls lines q.places → number ≡ suc (turns (newest q.lines)) → IsNextAction v number old new (Asks step) → IsAsked q i number step
+  stood_asked q step a t b w d e f g n s = record {
     wins = rw (a, e, f) played.wins;
+    places = rw (a, b, e) g;
     client = new;
     is = new_i s.0.pass;
     settled = rw (a, b, e) played.between.settled;
-    turn = rw (a, b, w, d, e) (own_turn s.0.pass);
+    turn = rw (a, t, b, w, d, e) (own_turn s.0.pass);
     in_turn = n;
     running = s.1;
     runs = s.2;
     asks = s.3;
-    waits = rw (a, b, e) (subst (λ (k : ℕ). Waits (client_view lay calls lines k) new s.1) (sym (new_i s.0.pass)) s.4);
+    waits = rw (a, t, b, e) (subst (λ (k : ℕ). Waits (client_view lay tries calls lines k) new s.1) (sym (new_i s.0.pass)) s.4);
     began = began s.5;
   }
     where
@@ -92,18 +98,18 @@ module _ (p : Player) (i number : ℕ) (old new : Client) (played : IsBetweenTur
       began (inr (d, x)) = inr (same_begin ∙ has_begun v (begin lines i) old is_client d ∙ ap (λ (k : ℕ). Some k) (sym x))
 
   -- it has no call left
-  pub stood_finished : (pass : PassNo) → pass.0 ≡ i → number ≡ suc (turns lines) → IsNextAction v number old new Finished → AreBetweenTurns lay calls p.words (set p.clients.items i new) (Step (Idle number pass) ∷ lines)
+  pub stood_finished : (pass : PassNo) → pass.0 ≡ i → number ≡ suc (turns lines) → IsNextAction v number old new Finished → AreBetweenTurns lay tries calls p.words (set p.clients.items i new) (Step (Idle number pass) ∷ lines)
   stood_finished pass is n s =
       let same : new.pass ≡ old.pass = ap (λ (k : Client). k.pass) s.0 in
-      finished_turn lay calls p.words (set p.clients.items i new) lines new number pass played.between.settled (own_turn same)
-      (subst (λ (k : ℕ). Rests (client_view lay calls lines k) new) (sym (new_i same)) (subst (λ (k : Client). Rests v k) (sym s.0) s.2))
+      finished_turn lay tries calls p.words (set p.clients.items i new) lines new number pass played.between.settled (own_turn same)
+      (subst (λ (k : ℕ). Rests (client_view lay tries calls lines k) new) (sym (new_i same)) (subst (λ (k : Client). Rests v k) (sym s.0) s.2))
       (ap (λ (k : Client). k.next) s.0 ∙ s.1) n (ap (λ (k : ℕ). let x : PassNo = record { 0 = k } in x) (is ∙ sym (new_i same)))
 
   -- its call is refused
-  pub stood_refused : (pass : PassNo) (answer : Answer) (said : Option ℕ) (reply : Reply) (end : Client) → pass.0 ≡ i → number ≡ suc (turns lines) → IsNextAction v number old new (Answers answer) → IsEnd calls new end number answer said reply → AreBetweenTurns lay calls p.words (set (set p.clients.items i new) new.pass.0 end) (ReplyLine reply ∷ Step (Idle number pass) ∷ lines)
-  stood_refused pass answer said reply end is n s e =
-      refused_turn lay calls p.words (set p.clients.items i new) lines new end number pass answer said reply (few_calls p) played.between.settled (own_turn s.0.pass)
-      (subst (λ (k : ℕ). Refuses (client_view lay calls lines k) new answer) (sym (new_i s.0.pass)) s.2)
+  pub stood_refused : (pass : PassNo) (answer : Answer) (changed : List Change) (said : Option ℕ) (reply : Reply) (end : Client) → pass.0 ≡ i → number ≡ suc (turns lines) → IsNextAction v number old new (Answers answer) → changed ≡ changes p.places → IsEnd calls (Step (Idle number pass) ∷ lines) changed new end number answer said reply → AreBetweenTurns lay tries calls p.words (set (set p.clients.items i new) new.pass.0 end) (ReplyLine reply ∷ Step (Idle number pass) ∷ lines)
+  stood_refused pass answer changed said reply end is n s same e =
+      refused_turn lay tries calls p.words (set p.clients.items i new) lines new end number pass answer changed said reply (λ tree. rw same (played.places.entries tree)) (few_calls p) played.between.settled (own_turn s.0.pass)
+      (subst (λ (k : ℕ). Refuses (client_view lay tries calls lines k) new answer) (sym (new_i s.0.pass)) s.2)
       (ap (λ (k : ℕ). begin lines k) (new_i s.0.pass) ∙ not_begun v (begin lines i) old new s.2.command s.0.pass is_client s.1 s.2.is)
       s.3 n (ap (λ (k : ℕ). let x : PassNo = record { 0 = k } in x) (is ∙ sym (new_i s.0.pass))) e
 

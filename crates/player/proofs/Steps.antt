@@ -1,8 +1,10 @@
 -- The turn of a client that makes a step.
-use Rattle.std.proofs.Common.{◌≡◌, ℕ, ◌≤◌, ◌≢◌, ◌⊎◌, inl, inr, ⊎_elim, List, ◌∷◌, set, length, Option, Some, None, MatchOption, IsSome, slice_get, unwrap_or, refl, sym, ◌∙◌, ap, subst, eq-eqb, arith, [], ◌++◌}
+use Rattle.std.proofs.Common.{◌≡◌, ℕ, true, ◌≤◌, ◌≢◌, ◌⊎◌, inl, inr, ⊎_elim, List, ◌∷◌, set, length, Option, Some, None, MatchOption, IsSome, drop, All, get_or, slice_get, unwrap_or, refl, sym, ◌∙◌, ap, subst, eq-eqb, arith, [], ◌++◌}
 use native.Mathlib.Decide.{ℕ_discrete}
 use Rattle.arena.specs.Fills.{IsOwnScx}
 use Rattle.arena.specs.declared.layout.Layout.{Layout}
+use Rattle.arena.specs.declared.limits.Limits.{Limits}
+use Rattle.script.specs.declared.script.Script.{Script}
 use Rattle.arena.specs.declared.number.PassNo.{PassNo}
 use Rattle.arena.specs.declared.step.Row.{Row}
 use Rattle.arena.specs.declared.step.Step.{Step as Ask}
@@ -17,7 +19,20 @@ use Rattle.arena.specs.History.{◌⊳◌, value}
 use Rattle.arena.specs.Lawful.{IsLawful, IsWin}
 use Rattle.arena.specs.Machines.{IsRun, IsTold}
 use Rattle.histories.proofs.Lemmas.{facts_before, lawful_row, update_win}
+use Rattle.arena.specs.declared.limits.Mode.TheVariants.{Records, Tree}
 use Rattle.player.specs.Allowed.{PlayedAllows}
+use Rattle.spelling.specs.FillOrder.{IsFillInOrder}
+use Rattle.player.proofs.InOrder.{run_in_order}
+use Rattle.player.proofs.MapCalls.{command_mode}
+use Rattle.player.proofs.Commands.{none_left, next_at}
+use Rattle.player.specs.Place.{IsAt}
+use Rattle.places.specs.declared.places.Change.{Change}
+use Rattle.places.specs.declared.places.Places.{Places}
+use Rattle.places.specs.Places.{changes, Knows, HoldsOfKey}
+use Rattle.places.specs.Entries.{AreEntries, IsChangeBy}
+use Rattle.spelling.specs.OrderedMap.{MapCall}
+use Rattle.record.specs.MapRecord.{map_call}
+use Rattle.script.specs.declared.command.Command.TheVariants.{Llx as LlxOf, Scx as ScxOf, Vlx as VlxOf, Set as SetOf, Insert as InsertOf, Get as GetOf}
 use Rattle.script.specs.declared.command.Call.{Call}
 use Rattle.script.specs.declared.command.Command.{Command}
 use Rattle.record.specs.declared.record.Line.{Line}
@@ -33,25 +48,26 @@ use Rattle.player.specs.Lines.{newest}
 use Rattle.arena.specs.TakenNodes.{taken_nodes}
 use Rattle.record.specs.Turns.{history, turns, answered, clients, begin, start, won, last_client, entry_of, entry_owed}
 use Rattle.record.specs.Commands.{commands}
-use Rattle.record.specs.CommandRules.{MayAnswerAfterStep, IsRight, IsEntryFor}
+use Rattle.record.specs.CommandRules.{MayAnswerAfterStep, HasTakenFew, enters, IsRight, IsEntryFor}
 use Rattle.record.specs.Linked.{linked}
-use Rattle.record.specs.Answers.{HasTakenOne}
+use Rattle.player.proofs.Inserting.{run_says}
+use Rattle.player.proofs.Placing.{done_enters}
 use Rattle.record.specs.Replies.{IsFitting, IsReplyOwed}
 use Rattle.record.specs.Entries.{IsWinOf}
-use Rattle.player.specs.ClientView.{ClientView, client_view, IsSound, Hears, IsClient, GoesOn, Ends}
-use Rattle.player.specs.BetweenTurns.{IsLawfulSoFar, IsTurnOf, AreBetweenTurns, IsAsked, IsEnd, AreWins}
+use Rattle.player.specs.ClientView.{ClientView, client_view, Tells, IsSound, Hears, IsClient, GoesOn, Ends}
+use Rattle.player.specs.BetweenTurns.{IsLawfulSoFar, IsSameScript, IsTurnOf, AreBetweenTurns, IsAsked, IsEnd, AreWins, ArePlaces, IsAtInsert}
 use Rattle.player.proofs.Views.{own_row, step_sound, hears}
 use Rattle.player.proofs.Middles.{IsOver, get_there, others_step, others_log, so_far_same, step_made, turn_changed, turn_ends, replied}
 use Rattle.player.proofs.MayMakes.{may_make}
-use Rattle.player.proofs.Begun.{begin_within}
+use Rattle.record.proofs.Lemmas.{begin_within}
 use Rattle.player.proofs.Winners.{IsEntryOfWin, entry_wins, tells_won}
 use Rattle.player.proofs.Entered.{IsEntryFrom, entry_by_others, entry_by_own, rest_wins_not}
 
 -- the client that makes the turn is about to hear what its step found; turn number `number` has
 -- been written down in full
-pub record IsHeard (lay : Layout) (calls : List Call) (words : Contents) (all : List Client) (lines : List Line) (c : Client) (q : Running) (found number : ℕ) : Type 0 where
-  pub turn : IsTurnOf lay calls words all lines c
-  pub told : Hears (client_view lay calls lines c.pass.0) c q found
+pub record IsHeard (lay : Layout) (tries : ℕ) (calls : List Call) (words : Contents) (all : List Client) (lines : List Line) (c : Client) (q : Running) (found number : ℕ) : Type 0 where
+  pub turn : IsTurnOf lay tries calls words all lines c
+  pub told : Hears (client_view lay tries calls lines c.pass.0) c q found
   pub runs : c.running ≡ Some q
   pub began : begin lines c.pass.0 ≡ Some c.begin
   pub last : last_client lines ≡ Some c.pass.0
@@ -79,6 +95,9 @@ module _ (p : Player) (i number : ℕ) (step : Ask) (a : IsAsked p i number step
   abbrev lay : Layout
   lay = p.script.layout
 
+  abbrev tries : ℕ
+  tries = p.script.limits.tries
+
   abbrev calls : List Call
   calls = p.script.calls.items
 
@@ -86,7 +105,7 @@ module _ (p : Player) (i number : ℕ) (step : Ask) (a : IsAsked p i number step
   lines = newest p.lines
 
   abbrev v : ClientView
-  v = client_view lay calls lines a.client.pass.0
+  v = client_view lay tries calls lines a.client.pass.0
 
   abbrev made : Row
   made = own_row v a.client a.running.step
@@ -106,10 +125,14 @@ module _ (p : Player) (i number : ℕ) (step : Ask) (a : IsAsked p i number step
   pub asked_word : IsWord p.words.layout step.word
   asked_word = rw (a.turn.so_far.layout, sym a.asks) lawful.word
 
-  pub asked_made : (words : Contents) → IsChanged p.words words made.word made.after → IsTurnOf lay calls words p.clients.items (Step (Made number made) ∷ lines) a.client
+  -- and fills in order
+  in_order : lay.mode ≡ Tree → IsFillInOrder (history lay.mode lines) made
+  in_order tree = run_in_order a.running.run _ (history lay.mode lines) a.running.step (sym a.waits.works.mode ∙ tree) a.waits.waits
+
+  pub asked_made : (words : Contents) → IsChanged p.words words made.word made.after → IsTurnOf lay tries calls words p.clients.items (Step (Made number made) ∷ lines) a.client
   asked_made words changed = record {
-    so_far = step_made lay calls p.words words lines number made changed sound (a.settled, record { in_turn = a.in_turn; lawful = lawful; call = a.waits.works.stands.number; command = a.waits.works.command; is = a.waits.works.is; few = let few = a.waits.few (length (taken_nodes (history lay.mode lines))) in omega arith; may = may_make a.waits.works.command a.client.number a.running.run a.running.then _ _ a.running.step a.waits.works.run_of a.waits.waits }) a.turn.so_far;
-    others = others_step lay calls p.clients.items lines a.client.pass.0 number made a.turn.so_far.sound sound refl a.in_turn a.turn.so_far.in_order a.turn.others;
+    so_far = step_made lay tries calls p.words words lines number made changed sound (a.settled, record { in_turn = a.in_turn; lawful = lawful; call = a.waits.works.stands.number; command = a.waits.works.command; is = a.waits.works.is; few = let few = a.waits.few (length (taken_nodes (history lay.mode lines))) in omega arith; may = may_make a.waits.works.command a.client.number a.running.run a.running.then _ _ a.running.step a.waits.works.run_of a.waits.waits; says = λ s kind word. run_says a.waits.works.command a.client.number a.running.run a.running.then _ _ a.running.step s _ a.waits.works.run_of a.waits.waits kind word }) in_order a.turn.so_far;
+    others = others_step lay tries calls p.clients.items lines a.client.pass.0 number made a.turn.so_far.sound sound refl a.in_turn a.turn.so_far.in_order a.turn.others;
     own = a.turn.own;
   }
 
@@ -133,11 +156,11 @@ module _ (p : Player) (i number : ℕ) (step : Ask) (a : IsAsked p i number step
       (subst (λ (s : Ask). after ≡ word_after s.access found) (sym a.asks) g ∙ ap (λ (k : ℕ). word_after a.running.step.access k) (f ∙ asked_value)))
 
   -- its call has begun in this turn, or before
-  begun_before : a.client.begin ≤ number
-  begun_before = ⊎_elim (λ x. let e = x.1 in omega arith) (λ e. let i = begin_within lay calls lines a.client.pass.0 a.client.begin a.turn.so_far.in_order e in let n = a.in_turn in omega arith) a.began
+  pub begun_before : a.client.begin ≤ number
+  begun_before = ⊎_elim (λ x. let e = x.1 in omega arith) (λ e. let i = begin_within lay tries calls lines a.client.pass.0 a.client.begin a.turn.so_far.in_order e in let n = a.in_turn in omega arith) a.began
 
   -- what the entry of the step is to say, where its owner has this in hand
-  win_of : (entry : Entry) (s : ℕ) → IsEntryOfWin lay (history lay.mode lines) made entry s → (c : Client) → c.pass.0 ≡ entry.client.0 → IsEntryFrom (client_view lay calls lines entry.client.0) c made s → (made.pass.0 ≢ entry.client.0 → IsSome (begin lines entry.client.0)) → IsWinOf lay calls lines made entry
+  win_of : (entry : Entry) (s : ℕ) → IsEntryOfWin lay (history lay.mode lines) made entry s → (c : Client) → c.pass.0 ≡ entry.client.0 → IsEntryFrom (client_view lay tries calls lines entry.client.0) c made s → (made.pass.0 ≢ entry.client.0 → IsSome (begin lines entry.client.0)) → IsWinOf lay calls lines made entry
   win_of entry s w c is x begun = record {
     begun = begun;
     wins = subst (λ (k : ℕ). IsWin (history lay.mode lines) made k) (sym w.scx_is) (update_win (facts_before lay (history lay.mode lines) made sound.lawful) w.wins);
@@ -160,18 +183,18 @@ module _ (p : Player) (i number : ℕ) (step : Ask) (a : IsAsked p i number step
       w : (s : ℕ) × IsEntryOfWin lay (history lay.mode lines) made entry s
       w = entry_wins lay lines number made sound.lawful entry e
 
-      of_other : (c : Client) → c.pass.0 ≡ entry.client.0 → entry.client.0 ≢ a.client.pass.0 → IsClient (client_view lay calls lines entry.client.0) (begin lines entry.client.0) c → IsEntryFrom (client_view lay calls lines entry.client.0) c made w.0
-      of_other c is d (inr (q, runs, x, b)) = entry_by_others (client_view lay calls lines entry.client.0) c q made w.0 a.turn.so_far.sound x sound (λ z. d (sym is ∙ sym z)) w.1.wins (subst (λ (k : ℕ). IsOwnScx lay k w.0) (sym is) w.1.own)
-      of_other c is d (inl (x, b)) = absurd (rest_wins_not (client_view lay calls lines entry.client.0) c a.turn.so_far.sound made w.0 sound.lawful w.1.wins (subst (λ (k : ℕ). IsOwnScx lay k w.0) (sym is) w.1.own) x)
+      of_other : (c : Client) → c.pass.0 ≡ entry.client.0 → entry.client.0 ≢ a.client.pass.0 → IsClient (client_view lay tries calls lines entry.client.0) (begin lines entry.client.0) c → IsEntryFrom (client_view lay tries calls lines entry.client.0) c made w.0
+      of_other c is d (inr (q, runs, x, b)) = entry_by_others (client_view lay tries calls lines entry.client.0) c q made w.0 a.turn.so_far.sound x sound (λ z. d (sym is ∙ sym z)) w.1.wins (subst (λ (k : ℕ). IsOwnScx lay k w.0) (sym is) w.1.own)
+      of_other c is d (inl (x, b)) = absurd (rest_wins_not (client_view lay tries calls lines entry.client.0) c a.turn.so_far.sound made w.0 sound.lawful w.1.wins (subst (λ (k : ℕ). IsOwnScx lay k w.0) (sym is) w.1.own) x)
 
-      has_begun : (c : Client) → c.pass.0 ≡ entry.client.0 → entry.client.0 ≢ a.client.pass.0 → IsClient (client_view lay calls lines entry.client.0) (begin lines entry.client.0) c → IsSome (begin lines entry.client.0)
+      has_begun : (c : Client) → c.pass.0 ≡ entry.client.0 → entry.client.0 ≢ a.client.pass.0 → IsClient (client_view lay tries calls lines entry.client.0) (begin lines entry.client.0) c → IsSome (begin lines entry.client.0)
       has_begun c is d (inr (q, runs, x, b)) = rw b refl
-      has_begun c is d (inl (x, b)) = absurd (rest_wins_not (client_view lay calls lines entry.client.0) c a.turn.so_far.sound made w.0 sound.lawful w.1.wins (subst (λ (k : ℕ). IsOwnScx lay k w.0) (sym is) w.1.own) x)
+      has_begun c is d (inl (x, b)) = absurd (rest_wins_not (client_view lay tries calls lines entry.client.0) c a.turn.so_far.sound made w.0 sound.lawful w.1.wins (subst (λ (k : ℕ). IsOwnScx lay k w.0) (sym is) w.1.own) x)
 
       go : Dec (entry.client.0 ≡ a.client.pass.0) → IsWinOf lay calls lines made entry
       go (yes is) =
           win_of entry w.0 w.1 a.client (sym is)
-          (subst (λ (k : ℕ). IsEntryFrom (client_view lay calls lines k) a.client made w.0) (sym is)
+          (subst (λ (k : ℕ). IsEntryFrom (client_view lay tries calls lines k) a.client made w.0) (sym is)
           (entry_by_own v a.client a.running w.0 a.turn.so_far.sound a.waits w.1.wins (subst (λ (k : ℕ). IsOwnScx lay k w.0) is w.1.own) (told_all a.running.step.access made.before)))
           (λ d. absurd (d (sym is)))
       go (no d) =
@@ -179,22 +202,70 @@ module _ (p : Player) (i number : ℕ) (step : Ask) (a : IsAsked p i number step
           let other = a.turn.others entry.client.0 there.0 d there.1 in
           win_of entry w.0 w.1 there.0 other.0 (of_other there.0 other.0 d other.1) (λ z. has_begun there.0 other.0 d other.1)
 
+  -- on the tree the entry is of the insert at which its client stands
+  at_insert : (entry : Entry) (c : Client) → slice_get p.clients.items entry.client.0 ≡ Some c → c.pass.0 ≡ entry.client.0 → c.number ≡ answered lines entry.client.0 → IsAt calls c.pass.0 (drop c.number (commands calls c.pass.0)) c.next → IsWinOf lay calls lines made entry → lay.mode ≡ Tree → IsAtInsert calls p.clients.items entry
+  at_insert entry c there is number place w tree = by_command w.command w.is w.does
+    where
+      own : slice_get (commands calls entry.client.0) (answered lines entry.client.0) ≡ slice_get (commands calls c.pass.0) c.number
+      own = ap (λ (k : ℕ). slice_get (commands calls k) (answered lines entry.client.0)) (sym is) ∙ ap (λ (k : ℕ). slice_get (commands calls c.pass.0) k) (sym number)
+
+      stands : (key put : ℕ) → slice_get (commands calls entry.client.0) (answered lines entry.client.0) ≡ Some (InsertOf key put) → (next : Option ℕ) → c.next ≡ next → IsAtInsert calls p.clients.items entry
+      stands key put here None e =
+          let none : slice_get (commands calls entry.client.0) (answered lines entry.client.0) ≡ None = own ∙ none_left calls c.pass.0 c.number (rw e at place) in
+          absurd (let z : None ≡ Some (InsertOf key put) = sym none ∙ here in cc)
+      stands key put here (Some at) e =
+          let y = next_at calls c.pass.0 c.number at (rw e at place) in
+          let z : slice_get (commands calls entry.client.0) (answered lines entry.client.0) ≡ Some y.0 = own ∙ y.2 in
+          let same : y.0 ≡ InsertOf key put = let d : Some y.0 ≡ Some (InsertOf key put) = sym z ∙ here in cc in
+          record { client = c; there = there; at = at; next = e; call = record { client = record { 0 = c.pass.0 }; command = y.0 }; here = y.1; key = key; value = put; command = same; edits = ap (λ (j : ℕ). map_call (slice_get (commands calls entry.client.0) j)) w.call ∙ ap map_call here }
+
+      by_command : (command : Command) → slice_get (commands calls entry.client.0) (answered lines entry.client.0) ≡ Some command → IsEntryFor lay entry.client.0 (history lay.mode lines) (start lay.mode lines entry.client.0) (linked calls lay.mode lines entry.client.0) w.entered command → IsAtInsert calls p.clients.items entry
+      by_command (InsertOf key put) here does = stands key put here c.next refl
+      by_command (LlxOf cell) here does = absurd does
+      by_command (VlxOf cells) here does = absurd does
+      by_command (GetOf key) here does = absurd does
+      by_command (ScxOf update) here does = absurd (let z : Records ≡ Tree = command_mode lay.mode calls entry.client.0 _ (ScxOf update) a.turn.so_far.of_mode here ∙ tree in cc)
+      by_command (SetOf field put) here does = absurd (let z : Records ≡ Tree = command_mode lay.mode calls entry.client.0 _ (SetOf field put) a.turn.so_far.of_mode here ∙ tree in cc)
+
+  asked_insert : (entry : Entry) → entry_of lay lines number made ≡ Some entry → lay.mode ≡ Tree → IsAtInsert calls p.clients.items entry
+  asked_insert entry e tree = go (ℕ_discrete entry.client.0 a.client.pass.0)
+    where
+      w : IsWinOf lay calls lines made entry
+      w = log_entry entry e
+
+      go : Dec (entry.client.0 ≡ a.client.pass.0) → IsAtInsert calls p.clients.items entry
+      go (yes is) =
+          at_insert entry a.client (ap (λ (k : ℕ). slice_get p.clients.items k) is ∙ a.turn.own) (sym is) (a.waits.works.stands.number ∙ ap (λ (k : ℕ). answered lines k) (sym is)) a.waits.works.stands.place w tree
+      go (no d) =
+          let own = (entry_wins lay lines number made sound.lawful entry e).1 in
+          let there = get_there p.clients.items entry.client.0 (omega (arith, own.is_pass, p.all_clients, p.clients.ok.0)) in
+          let other = a.turn.others entry.client.0 there.0 d there.1 in
+          of_other there.0 there.1 other.0 other.1
+        where
+          of_other : (c : Client) → slice_get p.clients.items entry.client.0 ≡ Some c → c.pass.0 ≡ entry.client.0 → IsClient (client_view lay tries calls lines entry.client.0) (begin lines entry.client.0) c → IsAtInsert calls p.clients.items entry
+          of_other c at is (inl x) = at_insert entry c at is x.0.stands.number x.0.stands.place w tree
+          of_other c at is (inr x) = at_insert entry c at is x.2.works.stands.number x.2.works.stands.place w tree
+
+  -- with the row that the player writes down
+  pub asked_owner : (row : Row) (after : List Line) → row ≡ made → after ≡ Step (Made number row) ∷ lines → (entry : Entry) → entry_owed lay after ≡ Some entry → lay.mode ≡ Tree → IsAtInsert calls p.clients.items entry
+  asked_owner row after e is entry owed = asked_insert entry (ap (λ (r : Row). entry_of lay lines number r) (sym e) ∙ ap (λ (l : List Line). entry_owed lay l) (sym is) ∙ owed)
+
   -- with its entry written down, if there is one, the client hears
-  pub asked_heard : (words : Contents) (after : List Line) → IsChanged p.words words made.word made.after → MatchOption (entry_owed lay (Step (Made number made) ∷ lines)) (after ≡ Step (Made number made) ∷ lines) (λ e. after ≡ Log e ∷ Step (Made number made) ∷ lines) → IsHeard lay calls words p.clients.items after a.client a.running made.before number
+  pub asked_heard : (words : Contents) (after : List Line) → IsChanged p.words words made.word made.after → MatchOption (entry_owed lay (Step (Made number made) ∷ lines)) (after ≡ Step (Made number made) ∷ lines) (λ e. after ≡ Log e ∷ Step (Made number made) ∷ lines) → IsHeard lay tries calls words p.clients.items after a.client a.running made.before number
   asked_heard words after changed m = go (entry_owed lay (Step (Made number made) ∷ lines)) refl m
     where
-      x : IsTurnOf lay calls words p.clients.items (Step (Made number made) ∷ lines) a.client
+      x : IsTurnOf lay tries calls words p.clients.items (Step (Made number made) ∷ lines) a.client
       x = asked_made words changed
 
-      h : Hears (client_view lay calls (Step (Made number made) ∷ lines) a.client.pass.0) a.client a.running made.before
-      h = rw (eq-eqb a.client.pass.0 a.client.pass.0 refl) (hears v a.client a.running a.turn.so_far.sound a.waits number (won lay (Step (Made number made) ∷ lines) a.client.pass.0) (tells_won lay lines number made sound.lawful calls a.client.pass.0) begun_before made.before (told_all a.running.step.access made.before))
+      h : Hears (client_view lay tries calls (Step (Made number made) ∷ lines) a.client.pass.0) a.client a.running made.before
+      h = rw (eq-eqb a.client.pass.0 a.client.pass.0 refl) (hears v a.client a.running a.turn.so_far.sound a.waits number (won lay (Step (Made number made) ∷ lines) a.client.pass.0) (tells_won lay lines number made sound.lawful tries calls a.client.pass.0) begun_before made.before (told_all a.running.step.access made.before))
 
-      go : (owed : Option Entry) → entry_owed lay (Step (Made number made) ∷ lines) ≡ owed → MatchOption owed (after ≡ Step (Made number made) ∷ lines) (λ e. after ≡ Log e ∷ Step (Made number made) ∷ lines) → IsHeard lay calls words p.clients.items after a.client a.running made.before number
-      go None e is = subst (λ l. IsHeard lay calls words p.clients.items l a.client a.running made.before number) (sym is)
+      go : (owed : Option Entry) → entry_owed lay (Step (Made number made) ∷ lines) ≡ owed → MatchOption owed (after ≡ Step (Made number made) ∷ lines) (λ e. after ≡ Log e ∷ Step (Made number made) ∷ lines) → IsHeard lay tries calls words p.clients.items after a.client a.running made.before number
+      go None e is = subst (λ l. IsHeard lay tries calls words p.clients.items l a.client a.running made.before number) (sym is)
           record { turn = x; told = h; runs = a.runs; began = asked_begun; last = refl; entry = e; none_owed = λ y. y; fits = λ command answer f. f; in_turn = a.in_turn }
-      go (Some entry) e is = subst (λ l. IsHeard lay calls words p.clients.items l a.client a.running made.before number) (sym is)
+      go (Some entry) e is = subst (λ l. IsHeard lay tries calls words p.clients.items l a.client a.running made.before number) (sym is)
           record {
-            turn = record { so_far = so_far_same lay calls words (Step (Made number made) ∷ lines) (Log entry) refl (e, log_entry entry e) x.so_far; others = others_log lay calls p.clients.items (Step (Made number made) ∷ lines) a.client.pass.0 entry x.others; own = x.own };
+            turn = record { so_far = so_far_same lay tries calls words (Step (Made number made) ∷ lines) (Log entry) refl (e, log_entry entry e) x.so_far; others = others_log lay tries calls p.clients.items (Step (Made number made) ∷ lines) a.client.pass.0 entry x.others; own = x.own };
             told = h;
             runs = a.runs;
             began = asked_begun;
@@ -206,40 +277,40 @@ module _ (p : Player) (i number : ℕ) (step : Ask) (a : IsAsked p i number step
           }
 
   -- the lines with the row that the player writes down
-  pub asked_so_far : (row : Row) (words : Contents) (after : List Line) → row ≡ made → IsChanged p.words words made.word made.after → after ≡ Step (Made number row) ∷ lines → IsLawfulSoFar lay calls words after
+  pub asked_so_far : (row : Row) (words : Contents) (after : List Line) → row ≡ made → IsChanged p.words words made.word made.after → after ≡ Step (Made number row) ∷ lines → IsLawfulSoFar lay tries calls words after
   asked_so_far row words after e changed is =
-      subst (λ l. IsLawfulSoFar lay calls words l) (sym is) (subst (λ (r : Row). IsLawfulSoFar lay calls words (Step (Made number r) ∷ lines)) (sym e) (asked_made words changed).so_far)
+      subst (λ l. IsLawfulSoFar lay tries calls words l) (sym is) (subst (λ (r : Row). IsLawfulSoFar lay tries calls words (Step (Made number r) ∷ lines)) (sym e) (asked_made words changed).so_far)
 
   -- and what the client hears behind them
-  pub asked_hears : (row : Row) (words : Contents) (pushed after : List Line) (found : ℕ) → row ≡ made → found ≡ word_at p.words step.word → IsChanged p.words words made.word made.after → pushed ≡ Step (Made number row) ∷ lines → MatchOption (entry_owed lay pushed) (after ≡ pushed) (λ e. after ≡ Log e ∷ pushed) → IsHeard lay calls words p.clients.items after a.client a.running found number
+  pub asked_hears : (row : Row) (words : Contents) (pushed after : List Line) (found : ℕ) → row ≡ made → found ≡ word_at p.words step.word → IsChanged p.words words made.word made.after → pushed ≡ Step (Made number row) ∷ lines → MatchOption (entry_owed lay pushed) (after ≡ pushed) (λ e. after ≡ Log e ∷ pushed) → IsHeard lay tries calls words p.clients.items after a.client a.running found number
   asked_hears row words pushed after found e f changed is m =
       let same : pushed ≡ Step (Made number made) ∷ lines = is ∙ ap (λ (r : Row). Step (Made number r) ∷ lines) e in
-      subst (λ (k : ℕ). IsHeard lay calls words p.clients.items after a.client a.running k number) (sym (f ∙ asked_value))
+      subst (λ (k : ℕ). IsHeard lay tries calls words p.clients.items after a.client a.running k number) (sym (f ∙ asked_value))
       (asked_heard words after changed (rw same at m))
 
 -- Behind what the client has heard
 
 -- it asks for another step
-pub heard_on : (lay : Layout) (calls : List Call) (words : Contents) (all : List Client) (lines : List Line) (c new : Client) (q : Running) (found number : ℕ) → IsHeard lay calls words all lines c q found number → GoesOn (client_view lay calls lines c.pass.0) c new → AreBetweenTurns lay calls words (set all c.pass.0 new) lines
-heard_on lay calls words all lines c new q found number x g =
-    turn_ends lay calls words (set all c.pass.0 new) lines new record { entry = x.entry; reply = x.none_owed }
-    (subst (λ (k : ℕ). IsClient (client_view lay calls lines k) (begin lines k) new) (ap (λ (p : PassNo). p.0) (sym g.same.pass)) (inr (g.running, g.is, g.waits, x.began ∙ ap (λ (k : ℕ). Some k) (sym g.begin))))
-    (turn_changed lay calls words all lines c new g.same.pass x.turn)
+pub heard_on : (lay : Layout) (tries : ℕ) (calls : List Call) (words : Contents) (all : List Client) (lines : List Line) (c new : Client) (q : Running) (found number : ℕ) → IsHeard lay tries calls words all lines c q found number → GoesOn (client_view lay tries calls lines c.pass.0) c new → AreBetweenTurns lay tries calls words (set all c.pass.0 new) lines
+heard_on lay tries calls words all lines c new q found number x g =
+    turn_ends lay tries calls words (set all c.pass.0 new) lines new record { entry = x.entry; reply = x.none_owed }
+    (subst (λ (k : ℕ). IsClient (client_view lay tries calls lines k) (begin lines k) new) (ap (λ (p : PassNo). p.0) (sym g.same.pass)) (inr (g.running, g.is, g.waits, x.began ∙ ap (λ (k : ℕ). Some k) (sym g.begin))))
+    (turn_changed lay tries calls words all lines c new g.same.pass x.turn)
 
 -- its call ends, and the reply is written down
-pub heard_end : (lay : Layout) (calls : List Call) (words : Contents) (all : List Client) (lines : List Line) (c mid new : Client) (q : Running) (found number : ℕ) (answer : Answer) (said : Option ℕ) (reply : Reply) → length calls ≤ 65536 → IsHeard lay calls words all lines c q found number → Ends (client_view lay calls lines c.pass.0) c mid answer → ((turn : ℕ) → won lay lines c.pass.0 ≡ Some turn → said ≡ Some turn) → IsEnd calls mid new number answer said reply → AreBetweenTurns lay calls words (set (set all c.pass.0 mid) c.pass.0 new) (ReplyLine reply ∷ lines)
-heard_end lay calls words all lines c mid new q found number answer said reply few x g wins e =
-    subst (λ (k : ℕ). AreBetweenTurns lay calls words (set (set all c.pass.0 mid) k new) (ReplyLine reply ∷ lines)) pass0
-    (replied lay calls words (set all c.pass.0 mid) lines mid new answer said reply g.command number few
-    (turn_changed lay calls words all lines c mid g.same.pass x.turn)
-    (subst (λ (k : ℕ). IsOver lay calls lines k mid g.command answer) (sym pass0) over)
+pub heard_end : (lay : Layout) (tries : ℕ) (calls : List Call) (words : Contents) (all : List Client) (lines : List Line) (changes : List Change) (c mid new : Client) (q : Running) (found number : ℕ) (answer : Answer) (said : Option ℕ) (reply : Reply) → (lay.mode ≡ Tree → AreEntries calls lines changes) → length calls ≤ 65536 → IsHeard lay tries calls words all lines c q found number → Ends (client_view lay tries calls lines c.pass.0) c mid answer → ((turn : ℕ) → won lay lines c.pass.0 ≡ Some turn → said ≡ Some turn) → IsEnd calls lines changes mid new number answer said reply → AreBetweenTurns lay tries calls words (set (set all c.pass.0 mid) c.pass.0 new) (ReplyLine reply ∷ lines)
+heard_end lay tries calls words all lines changes c mid new q found number answer said reply entries few x g wins e =
+    subst (λ (k : ℕ). AreBetweenTurns lay tries calls words (set (set all c.pass.0 mid) k new) (ReplyLine reply ∷ lines)) pass0
+    (replied lay tries calls words (set all c.pass.0 mid) lines changes mid new answer said reply g.command number entries few
+    (turn_changed lay tries calls words all lines c mid g.same.pass x.turn)
+    (subst (λ (k : ℕ). IsOver lay tries calls lines k mid g.command answer) (sym pass0) over)
     (subst (λ (k : ℕ). (turn : ℕ) → won lay lines k ≡ Some turn → said ≡ Some turn) (sym pass0) wins)
     x.in_turn e)
   where
     pass0 : mid.pass.0 ≡ c.pass.0
     pass0 = ap (λ (p : PassNo). p.0) g.same.pass
 
-    over : IsOver lay calls lines c.pass.0 mid g.command answer
+    over : IsOver lay tries calls lines c.pass.0 mid g.command answer
     over = record {
       is = ap (λ (k : ℕ). slice_get (commands calls k) (answered lines c.pass.0)) (sym pass0) ∙ g.is;
       rests = g.rests;
@@ -250,15 +321,21 @@ heard_end lay calls words all lines c mid new q found number answer said reply f
       fits = x.fits g.command answer g.answers;
       right = subst (λ (k : ℕ). IsRight lay k (history lay.mode lines) (start lay.mode lines c.pass.0) (linked calls lay.mode lines c.pass.0) g.command answer) pass0 g.right;
       entry = g.entry;
-      took = subst (λ (k : ℕ). HasTakenOne lay k (history lay.mode lines) (start lay.mode lines c.pass.0)) pass0 g.took;
+      done = λ z. subst (λ (a : Answer). enters g.command a ≡ true) (sym z) (done_enters g.command (subst (λ (a : Answer). MayAnswerAfterStep g.command a) z g.answers));
+      tells = subst (λ (k : ℕ). Tells (client_view lay tries calls lines c.pass.0) k g.command answer) pass0 g.tells;
+      took = subst (λ (k : ℕ). HasTakenFew lay tries k (history lay.mode lines) (start lay.mode lines c.pass.0) g.command) pass0 g.took;
       late = g.late;
     }
 
 -- What the player makes of it
 
 -- the same under other names
-pub between_at : (lay lay' : Layout) (calls calls' : List Call) (words words' : Contents) (all all' : List Client) (lines lines' : List Line) → lay' ≡ lay → calls' ≡ calls → words' ≡ words → all' ≡ all → lines' ≡ lines → AreBetweenTurns lay calls words all lines → AreBetweenTurns lay' calls' words' all' lines'
-between_at lay lay' calls calls' words words' all all' lines lines' a b c d e x = rw (a, b, c, d, e) x
+pub between_at : (lay lay' : Layout) (tries tries' : ℕ) (calls calls' : List Call) (words words' : Contents) (all all' : List Client) (lines lines' : List Line) → lay' ≡ lay → tries' ≡ tries → calls' ≡ calls → words' ≡ words → all' ≡ all → lines' ≡ lines → AreBetweenTurns lay tries calls words all lines → AreBetweenTurns lay' tries' calls' words' all' lines'
+between_at lay lay' tries tries' calls calls' words words' all all' lines lines' a t b c d e x = rw (a, t, b, c, d, e) x
+
+-- the two scripts let a call try as often
+pub same_tries : (old new : Script) → IsSameScript old new → new.limits.tries ≡ old.limits.tries
+same_tries old new x = ap (λ (l : Limits). l.tries) x.limits
 
 -- what is remembered of a client is the turn that the lines say
 pub remembered : (lay : Layout) (lines : List Line) (wins : List (Option ℕ)) (k i : ℕ) (said : Option ℕ) → AreWins lay lines wins → slice_get wins k ≡ Some said → k ≡ i → (turn : ℕ) → won lay lines i ≡ Some turn → said ≡ Some turn
@@ -266,6 +343,34 @@ remembered lay lines wins k i said x there same turn e = let y = x i turn e in l
 
 pub wins_at : (lay lay' : Layout) (lines lines' : List Line) (wins wins' : List (Option ℕ)) → lay' ≡ lay → lines' ≡ lines → wins' ≡ wins → AreWins lay lines wins → AreWins lay' lines' wins'
 wins_at lay lay' lines lines' wins wins' a b c x = rw (a, b, c) x
+
+-- places that know at least the same keys
+pub keys_kept : (old new : Places) (calls : List Call) → ((key : ℕ) → Knows old key → Knows new key) → All (λ (call : Call). HoldsOfKey (Knows old) call.command) calls → All (λ (call : Call). HoldsOfKey (Knows new) call.command) calls
+keys_kept old new calls more all i d less = go (get_or calls i d).command (all i d less)
+  where
+    go : (command : Command) → HoldsOfKey (Knows old) command → HoldsOfKey (Knows new) command
+    go (InsertOf key put) x = more key x
+    go (LlxOf cell) x = tt
+    go (ScxOf update) x = tt
+    go (VlxOf cells) x = tt
+    go (SetOf field put) x = tt
+    go (GetOf key) x = tt
+
+-- room for more leaves the places
+pub places_roomy : (lay : Layout) (calls : List Call) (lines : List Line) (old new : Places) → changes new ≡ changes old → ((key : ℕ) → Knows old key → Knows new key) → ArePlaces lay calls lines old → ArePlaces lay calls lines new
+places_roomy lay calls lines old new same more x = record { entries = λ tree. rw same (x.entries tree); keys = keys_kept old new calls more x.keys }
+
+-- an entry is kept with the change of its insert
+pub places_logged : (lay : Layout) (calls : List Call) (clients : List Client) (lines : List Line) (e : Entry) (old new : Places) → (lay.mode ≡ Tree → IsAtInsert calls clients e) → ((x : IsAtInsert calls clients e) → changes new ≡ record { turn = e.step; key = x.key; value = Some x.value } ∷ changes old) → ((key : ℕ) → Knows old key → Knows new key) → ArePlaces lay calls lines old → ArePlaces lay calls (Log e ∷ lines) new
+places_logged lay calls clients lines e old new owner change more p = record { entries = λ tree. entries tree (owner tree); keys = keys_kept old new calls more p.keys }
+  where
+    entries : lay.mode ≡ Tree → IsAtInsert calls clients e → AreEntries calls (Log e ∷ lines) (changes new)
+    entries tree x =
+        let c : Change = record { turn = e.step; key = x.key; value = Some x.value } in
+        rw (change x) ((refl, subst (λ (o : Option MapCall). IsChangeBy o c) (sym x.edits) (refl, refl)), p.entries tree)
+
+pub places_at : (lay lay' : Layout) (calls calls' : List Call) (lines lines' : List Line) (places places' : Places) → lay' ≡ lay → calls' ≡ calls → lines' ≡ lines → places' ≡ places → ArePlaces lay calls lines places → ArePlaces lay' calls' lines' places'
+places_at lay lay' calls calls' lines lines' places places' a b c d x = rw (a, b, c, d) x
 
 -- the turns are one more, whatever else is written down behind the row
 pub turns_logged : (lay : Layout) (pushed after : List Line) → MatchOption (entry_owed lay pushed) (after ≡ pushed) (λ e. after ≡ Log e ∷ pushed) → clients after ≡ clients pushed

@@ -7,10 +7,11 @@ use Rattle.histories.proofs.Lemmas.{lawful_tail}
 use Rattle.arena.proofs.Lemmas.{taken_few}
 use Rattle.arena.specs.Lawful.{Lawful}
 use Rattle.arena.specs.declared.layout.Layout.{Layout}
+use Rattle.arena.specs.declared.limits.Limits.{Limits}
 use Rattle.arena.specs.declared.step.Kind.{Kind}
 use Rattle.script.specs.declared.command.Call.{Call}
 use Rattle.script.specs.declared.command.Command.{Command}
-use Rattle.script.specs.declared.command.Command.TheVariants.{Llx, Scx, Vlx, Set, Get}
+use Rattle.script.specs.declared.command.Command.TheVariants.{Llx, Scx, Vlx, Set, Insert, Get}
 use Rattle.record.specs.declared.record.Line.{Line}
 use Rattle.record.specs.declared.record.Line.TheVariants.{Step, Log, Reply}
 use Rattle.record.specs.declared.record.Reply.{Reply as ReplyOf}
@@ -25,7 +26,8 @@ use Rattle.record.specs.Commands.{commands, next_command}
 use Rattle.record.specs.CommandRules.{most_steps}
 use Rattle.record.specs.LawfulRun.{OwesNothing, AreLines}
 use Rattle.record.specs.Replies.{IsReply}
-use Rattle.player.specs.BetweenTurns.{IsBetweenTurns, IsSameScript, IsTurnMore}
+use Rattle.player.specs.BetweenTurns.{IsBetweenTurns, IsSameScript, IsTurnMore, HasSameClients, HasSamePlaces}
+use Rattle.player.proofs.Steps.{between_at, same_tries, wins_at, places_at, places_roomy}
 use Rattle.record.specs.OneClient.{HasCall, AwaitsSteps, AreMadeWhile}
 use Rattle.player.specs.TurnsMore.{AreTurnsWhile, most_of_all, to_go}
 
@@ -126,62 +128,63 @@ some_same : (a b : ℕ) → Some a ≡ Some b → a ≡ b
 some_same a b e = cc
 
 -- a reply is one to the client that made the newest turn
-reply_moves : (lay : Layout) (calls : List Call) (c : ℕ) (older lines : List Line) (reply : ReplyOf) → IsReply lay calls lines reply → last_client lines ≡ Some c → answered lines c ≡ answered older c → Moves c older (Reply reply ∷ lines)
-reply_moves lay calls c older lines reply x last same =
+reply_moves : (lay : Layout) (tries : ℕ) (calls : List Call) (c : ℕ) (older lines : List Line) (reply : ReplyOf) → IsReply lay tries calls lines reply → last_client lines ≡ Some c → answered lines c ≡ answered older c → Moves c older (Reply reply ∷ lines)
+reply_moves lay tries calls c older lines reply x last same =
     let own : reply.client.0 ≡ c = some_same reply.client.0 c (sym x.client ∙ last) in
     inr (rw (eq-eqb reply.client.0 c own) (ap suc same), rw (eq-eqb reply.client.0 c own) refl)
 
 -- no second reply stands behind one
-one_reply : (lay : Layout) (calls : List Call) (lines : List Line) (reply reply' : ReplyOf) → IsReply lay calls lines reply' → ¬ IsReply lay calls (Reply reply' ∷ lines) reply
-one_reply lay calls lines reply reply' x y =
+one_reply : (lay : Layout) (tries : ℕ) (calls : List Call) (lines : List Line) (reply reply' : ReplyOf) → IsReply lay tries calls lines reply' → ¬ IsReply lay tries calls (Reply reply' ∷ lines) reply
+one_reply lay tries calls lines reply reply' x y =
     let own : reply'.client.0 ≡ reply.client.0 = some_same reply'.client.0 reply.client.0 (sym x.client ∙ y.client) in
     let none : None ≡ Some reply.begin = rw (eq-eqb reply'.client.0 reply.client.0 own) at y.begin in
     cc
 
 -- a client that has a call left makes a step, or gets a reply, at its turn
-moves : (lay : Layout) (calls : List Call) (c : ℕ) (older : List Line) (row : Row) (behind : List Line) → AreLines lay calls (behind ++ Step row ∷ older) → OwesNothing lay calls (behind ++ Step row ∷ older) → clients behind ≡ [] → client_of row ≡ c → HasCall calls c older → Moves c older (behind ++ Step row ∷ older)
+moves : (lay : Layout) (tries : ℕ) (calls : List Call) (c : ℕ) (older : List Line) (row : Row) (behind : List Line) → AreLines lay tries calls (behind ++ Step row ∷ older) → OwesNothing lay calls (behind ++ Step row ∷ older) → clients behind ≡ [] → client_of row ≡ c → HasCall calls c older → Moves c older (behind ++ Step row ∷ older)
 unfolding AreLines
-moves lay calls c older (Made number row) [] x settled quiet own has = inl (refl, rw (eq-eqb row.pass.0 c own) refl)
-moves lay calls c older (Idle number client) [] x settled quiet own has = absurd (settled.reply (some_value (next_command calls older client.0) (rw own has)))
-moves lay calls c older (Made number row) (Log entry ∷ []) x settled quiet own has = inl (refl, rw (eq-eqb row.pass.0 c own) refl)
-moves lay calls c older (Idle number client) (Log entry ∷ []) x settled quiet own has = absurd x.1
-moves lay calls c older row (Log entry ∷ Log entry' ∷ behind) x settled quiet own has = absurd x.1
-moves lay calls c older row (Log entry ∷ Reply reply ∷ behind) x settled quiet own has = absurd x.1
-moves lay calls c older row (Reply reply ∷ []) x settled quiet own has = reply_moves lay calls c older (Step row ∷ older) reply x.1.1 (ap (λ (n : ℕ). Some n) own) refl
-moves lay calls c older row (Reply reply ∷ Log entry ∷ []) x settled quiet own has = reply_moves lay calls c older (Log entry ∷ Step row ∷ older) reply x.1.1 (ap (λ (n : ℕ). Some n) own) refl
-moves lay calls c older row (Reply reply ∷ Log entry ∷ Log entry' ∷ behind) x settled quiet own has = absurd x.0.1
-moves lay calls c older row (Reply reply ∷ Log entry ∷ Reply reply' ∷ behind) x settled quiet own has = absurd x.0.1
-moves lay calls c older row (Reply reply ∷ Log entry ∷ Step row' ∷ behind) x settled quiet own has = absurd cc
-moves lay calls c older row (Reply reply ∷ Reply reply' ∷ behind) x settled quiet own has = absurd (one_reply lay calls (behind ++ Step row ∷ older) reply reply' x.0.1.1 x.1.1)
-moves lay calls c older row (Step row' ∷ behind) x settled quiet own has = absurd cc
-moves lay calls c older row (Log entry ∷ Step row' ∷ behind) x settled quiet own has = absurd cc
-moves lay calls c older row (Reply reply ∷ Step row' ∷ behind) x settled quiet own has = absurd cc
+moves lay tries calls c older (Made number row) [] x settled quiet own has = inl (refl, rw (eq-eqb row.pass.0 c own) refl)
+moves lay tries calls c older (Idle number client) [] x settled quiet own has = absurd (settled.reply (some_value (next_command calls older client.0) (rw own has)))
+moves lay tries calls c older (Made number row) (Log entry ∷ []) x settled quiet own has = inl (refl, rw (eq-eqb row.pass.0 c own) refl)
+moves lay tries calls c older (Idle number client) (Log entry ∷ []) x settled quiet own has = absurd x.1
+moves lay tries calls c older row (Log entry ∷ Log entry' ∷ behind) x settled quiet own has = absurd x.1
+moves lay tries calls c older row (Log entry ∷ Reply reply ∷ behind) x settled quiet own has = absurd x.1
+moves lay tries calls c older row (Reply reply ∷ []) x settled quiet own has = reply_moves lay tries calls c older (Step row ∷ older) reply x.1.1 (ap (λ (n : ℕ). Some n) own) refl
+moves lay tries calls c older row (Reply reply ∷ Log entry ∷ []) x settled quiet own has = reply_moves lay tries calls c older (Log entry ∷ Step row ∷ older) reply x.1.1 (ap (λ (n : ℕ). Some n) own) refl
+moves lay tries calls c older row (Reply reply ∷ Log entry ∷ Log entry' ∷ behind) x settled quiet own has = absurd x.0.1
+moves lay tries calls c older row (Reply reply ∷ Log entry ∷ Reply reply' ∷ behind) x settled quiet own has = absurd x.0.1
+moves lay tries calls c older row (Reply reply ∷ Log entry ∷ Step row' ∷ behind) x settled quiet own has = absurd cc
+moves lay tries calls c older row (Reply reply ∷ Reply reply' ∷ behind) x settled quiet own has = absurd (one_reply lay tries calls (behind ++ Step row ∷ older) reply reply' x.0.1.1 x.1.1)
+moves lay tries calls c older row (Step row' ∷ behind) x settled quiet own has = absurd cc
+moves lay tries calls c older row (Log entry ∷ Step row' ∷ behind) x settled quiet own has = absurd cc
+moves lay tries calls c older row (Reply reply ∷ Step row' ∷ behind) x settled quiet own has = absurd cc
 
 -- no call may make more steps than these
-most_few : (lay : Layout) (command : Command) (taken : ℕ) → taken ≤ lay.passes * lay.nodes → most_steps command taken ≤ most_of_all lay
-most_few lay (Llx cell) taken i = omega arith
-most_few lay (Scx update) taken i = omega arith
-most_few lay (Vlx cells) taken i = let few = cells.few in grind (arith, length-take)
-most_few lay (Set field value) taken i = omega arith
-most_few lay (Get key) taken i = omega (arith, i)
+most_few : (lay : Layout) (tries : ℕ) (command : Command) (taken : ℕ) → taken ≤ lay.passes * lay.nodes → most_steps command tries taken ≤ most_of_all lay tries
+most_few lay tries (Llx cell) taken i = omega arith
+most_few lay tries (Scx update) taken i = omega arith
+most_few lay tries (Vlx cells) taken i = let few = cells.few in grind (arith, length-take)
+most_few lay tries (Set field value) taken i = omega arith
+most_few lay tries (Insert key value) taken i = let more : tries * (3 * (2 + taken) + 178) ≤ tries * (3 * (2 + lay.passes * lay.nodes) + 178) = mul-le-mul_left tries (omega (arith, i)) in omega (arith, more)
+most_few lay tries (Get key) taken i = omega (arith, i)
 
 -- so the client of a lawful run has made few since its last reply
-steps_few : (lay : Layout) (calls : List Call) (lines : List Line) (c : ℕ) → Lawful lay (history lay.mode lines) → AreLines lay calls lines → steps lines c ≤ most_of_all lay
+steps_few : (lay : Layout) (tries : ℕ) (calls : List Call) (lines : List Line) (c : ℕ) → Lawful lay (history lay.mode lines) → AreLines lay tries calls lines → steps lines c ≤ most_of_all lay tries
 unfolding AreLines
-steps_few lay calls [] c l x = omega arith
-steps_few lay calls (Step (Made number row) ∷ lines) c l x = go (eqb row.pass.0 c) refl (steps_few lay calls lines c before x.0)
+steps_few lay tries calls [] c l x = omega arith
+steps_few lay tries calls (Step (Made number row) ∷ lines) c l x = go (eqb row.pass.0 c) refl (steps_few lay tries calls lines c before x.0)
   where
     before : Lawful lay (history lay.mode lines)
     before = lawful_tail lay (history lay.mode lines) row l
 
-    go : (b : Bool) → eqb row.pass.0 c ≡ b → steps lines c ≤ most_of_all lay → cond b (suc (steps lines c)) (steps lines c) ≤ most_of_all lay
-    go true e many = let few = x.1.1.few in let most = most_few lay x.1.1.command (length (taken_nodes (history lay.mode lines))) (taken_few lay (history lay.mode lines) before) in rw (sym (eqb-true row.pass.0 c e)) (omega arith)
+    go : (b : Bool) → eqb row.pass.0 c ≡ b → steps lines c ≤ most_of_all lay tries → cond b (suc (steps lines c)) (steps lines c) ≤ most_of_all lay tries
+    go true e many = let few = x.1.1.few in let most = most_few lay tries x.1.1.command (length (taken_nodes (history lay.mode lines))) (taken_few lay (history lay.mode lines) before) in rw (sym (eqb-true row.pass.0 c e)) (omega arith)
     go false e many = many
-steps_few lay calls (Step (Idle number client) ∷ lines) c l x = steps_few lay calls lines c l x.0
-steps_few lay calls (Log entry ∷ lines) c l x = steps_few lay calls lines c l x.0
-steps_few lay calls (Reply reply ∷ lines) c l x = go (eqb reply.client.0 c) (steps_few lay calls lines c l x.0)
+steps_few lay tries calls (Step (Idle number client) ∷ lines) c l x = steps_few lay tries calls lines c l x.0
+steps_few lay tries calls (Log entry ∷ lines) c l x = steps_few lay tries calls lines c l x.0
+steps_few lay tries calls (Reply reply ∷ lines) c l x = go (eqb reply.client.0 c) (steps_few lay tries calls lines c l x.0)
   where
-    go : (b : Bool) → steps lines c ≤ most_of_all lay → cond b 0 (steps lines c) ≤ most_of_all lay
+    go : (b : Bool) → steps lines c ≤ most_of_all lay tries → cond b 0 (steps lines c) ≤ most_of_all lay tries
     go true before = omega arith
     go false before = before
 
@@ -193,11 +196,11 @@ call_fits : (most a b : ℕ) → a < b → suc most * a + suc most ≤ suc most 
 call_fits most a b i = let fits : suc most * suc a ≤ suc most * b = mul-le-mul_left (suc most) (omega arith) in rw (one_call most a) at fits
 
 -- a client that makes a step or gets its reply has less to go
-nearer : (lay : Layout) (calls : List Call) (c : ℕ) (old new : List Line) → HasCall calls c old → steps old c ≤ most_of_all lay → Moves c old new → to_go lay calls c new < to_go lay calls c old
-nearer lay calls c old new has few m =
+nearer : (lay : Layout) (tries : ℕ) (calls : List Call) (c : ℕ) (old new : List Line) → HasCall calls c old → steps old c ≤ most_of_all lay tries → Moves c old new → to_go lay tries calls c new < to_go lay tries calls c old
+nearer lay tries calls c old new has few m =
     let x = some_value (next_command calls old c) has in
     let below : answered old c < length (commands calls c) = slice_get_within (commands calls c) (answered old c) x.0 x.1 in
-    go (call_fits (most_of_all lay) (answered old c) (length (commands calls c)) below) (one_call (most_of_all lay) (answered old c)) m
+    go (call_fits (most_of_all lay tries) (answered old c) (length (commands calls c)) below) (one_call (most_of_all lay tries) (answered old c)) m
   where
     less : (a b s most : ℕ) → a + suc most ≤ b → s ≤ most → b - (a + suc s) < b - (a + s)
     less a b s most i j = omega arith
@@ -205,21 +208,21 @@ nearer lay calls c old new has few m =
     next : (a b s most : ℕ) → a + suc most ≤ b → s ≤ most → b - (a + suc most + 0) < b - (a + s)
     next a b s most i j = omega arith
 
-    go : suc (most_of_all lay) * answered old c + suc (most_of_all lay) ≤ suc (most_of_all lay) * length (commands calls c) → suc (most_of_all lay) * suc (answered old c) ≡ suc (most_of_all lay) * answered old c + suc (most_of_all lay) → Moves c old new → to_go lay calls c new < to_go lay calls c old
-    go fits more (inl y) = rw (y.0, y.1) (less (suc (most_of_all lay) * answered old c) (suc (most_of_all lay) * length (commands calls c)) (steps old c) (most_of_all lay) fits few)
-    go fits more (inr y) = rw (y.0, y.1, more) (next (suc (most_of_all lay) * answered old c) (suc (most_of_all lay) * length (commands calls c)) (steps old c) (most_of_all lay) fits few)
+    go : suc (most_of_all lay tries) * answered old c + suc (most_of_all lay tries) ≤ suc (most_of_all lay tries) * length (commands calls c) → suc (most_of_all lay tries) * suc (answered old c) ≡ suc (most_of_all lay tries) * answered old c + suc (most_of_all lay tries) → Moves c old new → to_go lay tries calls c new < to_go lay tries calls c old
+    go fits more (inl y) = rw (y.0, y.1) (less (suc (most_of_all lay tries) * answered old c) (suc (most_of_all lay tries) * length (commands calls c)) (steps old c) (most_of_all lay tries) fits few)
+    go fits more (inr y) = rw (y.0, y.1, more) (next (suc (most_of_all lay tries) * answered old c) (suc (most_of_all lay tries) * length (commands calls c)) (steps old c) (most_of_all lay tries) fits few)
 
 -- a turn of a player's client that has a call left
 pub turn_moves : (so : List Line → Type 0) (c : ℕ) (old p q : Player) (row : Row) → AreTurnsWhile so c old p → HasCall (calls_of old) c (lines_of p) → IsTurnMore p q c row → Moves c (lines_of p) (lines_of q)
-turn_moves so c old p q row x has t = subst (λ (l : List Line). Moves c (lines_of p) l) (sym t.lines) (moves p.script.layout (calls_of p) c (lines_of p) row t.behind
-    (rw (t.script.layout, t.script.calls, t.lines) at t.played.between.so_far.in_order) (rw (t.script.layout, t.script.calls, t.lines) at t.played.between.settled) only.0 only.1 (rw x.script.calls has))
+turn_moves so c old p q row x has t = subst (λ (l : List Line). Moves c (lines_of p) l) (sym t.lines) (moves p.script.layout p.script.limits.tries (calls_of p) c (lines_of p) row t.behind
+    (rw (t.script.layout, t.script.limits, t.script.calls, t.lines) at t.played.between.so_far.in_order) (rw (t.script.layout, t.script.calls, t.lines) at t.played.between.settled) only.0 only.1 (rw x.script.calls has))
   where
     only : (clients t.behind ≡ []) × (client_of row ≡ c)
     only = only_turn t.behind row (lines_of p) c (ap (λ (l : List Line). clients l) (sym t.lines) ∙ t.turns)
 
 -- so each of its turns leaves it less to go
-pub turn_nearer : (so : List Line → Type 0) (c : ℕ) (old p q : Player) (row : Row) → AreTurnsWhile so c old p → HasCall (calls_of old) c (lines_of p) → IsTurnMore p q c row → to_go old.script.layout (calls_of old) c (lines_of q) < to_go old.script.layout (calls_of old) c (lines_of p)
-turn_nearer so c old p q row x has t = nearer old.script.layout (calls_of old) c (lines_of p) (lines_of q) has (subst (λ (lay : Layout). steps (lines_of p) c ≤ most_of_all lay) x.script.layout (steps_few p.script.layout (calls_of p) (lines_of p) c x.played.between.so_far.sound.lawful x.played.between.so_far.in_order)) (turn_moves so c old p q row x has t)
+pub turn_nearer : (so : List Line → Type 0) (c : ℕ) (old p q : Player) (row : Row) → AreTurnsWhile so c old p → HasCall (calls_of old) c (lines_of p) → IsTurnMore p q c row → to_go old.script.layout old.script.limits.tries (calls_of old) c (lines_of q) < to_go old.script.layout old.script.limits.tries (calls_of old) c (lines_of p)
+turn_nearer so c old p q row x has t = nearer old.script.layout old.script.limits.tries (calls_of old) c (lines_of p) (lines_of q) has (rw (sym x.script.layout, sym (ap (λ (l : Limits). l.tries) x.script.limits)) (steps_few p.script.layout p.script.limits.tries (calls_of p) (lines_of p) c x.played.between.so_far.sound.lawful x.played.between.so_far.in_order)) (turn_moves so c old p q row x has t)
 
 -- a client that had no reply more has at most one
 pub replies_more : (n c : ℕ) (old new : List Line) → answered old c ≡ n → Moves c old new → (answered new c ≡ n) ⊎ (answered new c ≡ suc n)
@@ -246,3 +249,18 @@ wanted_more c kind times left old p q row some x e has t = (turn_more _ c old p 
     go : (is : Bool) → made (lines_of q) c kind ≡ cond is (suc (made (lines_of p) c kind)) (made (lines_of p) c kind) → made (lines_of q) c kind + cond is (left - 1) left ≡ made (lines_of old) c kind + times
     go true m = omega arith
     go false m = omega arith
+
+-- a turn that is refused leaves what was played
+pub refused_more : (so : List Line → Type 0) (c : ℕ) (p old new : Player) → AreTurnsWhile so c p old → HasSameClients old new → newest new.lines ≡ newest old.lines → new.wins.items ≡ old.wins.items → HasSamePlaces old.places new.places → AreTurnsWhile so c p new
+refused_more so c p old new x same lines wins places = record {
+  played = record {
+    between = between_at _ _ _ _ _ _ _ _ _ _ _ _ same.script.layout (same_tries _ _ same.script) same.script.calls same.words same.clients lines x.played.between;
+    wins = wins_at _ _ _ _ _ _ same.script.layout lines wins x.played.wins;
+    places = places_at _ _ _ _ _ _ _ _ same.script.layout same.script.calls lines refl (places_roomy _ _ _ _ _ places.changed places.keys x.played.places);
+  };
+  script = record { limits = same.script.limits ∙ x.script.limits; layout = same.script.layout ∙ x.script.layout; calls = same.script.calls ∙ x.script.calls };
+  behind = x.behind;
+  lines = lines ∙ x.lines;
+  each = x.each;
+  turns = ap (λ (l : List Line). clients l) lines ∙ x.turns;
+}

@@ -1,18 +1,19 @@
 -- What each row leaves of what the clients know.
-use Rattle.std.proofs.Common.{◌≡◌, ◌≢◌, ℕ, suc, ◌≤◌, ◌⊎◌, inl, inr, ⊎_elim, Option, Some, None, List, refl, sym, ◌∙◌, subst, arith}
+use Rattle.std.proofs.Common.{◌≡◌, ◌≢◌, ℕ, suc, ◌<◌, ◌≤◌, ◌⊎◌, inl, inr, ⊎_elim, Option, Some, None, List, refl, sym, ◌∙◌, subst, arith}
 use Rattle.tree.proofs.Lemmas.{get_fills_not}
 use Rattle.arena.specs.declared.layout.Layout.{Layout}
+use Rattle.arena.specs.declared.limits.Mode.TheVariants.{Tree}
 use Rattle.arena.specs.declared.step.Row.{Row}
 use Rattle.arena.specs.declared.step.Step.{Step as Ask}
 use Rattle.arena.specs.Share.{Remaining}
 use Rattle.arena.specs.Words.{word_after}
-use Rattle.arena.specs.History.{History, ◌⊳◌, value, Extends}
+use Rattle.arena.specs.History.{History, Start, ◌⊳◌, value, Extends}
 use Rattle.arena.specs.Blame.{IsMember, IsInProgress}
-use Rattle.arena.proofs.Lemmas.{last_more, ends_self, taken_more}
+use Rattle.arena.proofs.Lemmas.{last_more, ends_self, ends_trans, taken_more}
 use Rattle.arena.specs.Fills.{IsOwnNode, IsOwnScx, IsTakenNode, IsTakenScx}
-use Rattle.arena.specs.Lawful.{Lawful, HasWon}
+use Rattle.arena.specs.Lawful.{Lawful, HasWon, IsWin}
 use Rattle.arena.specs.Machines.{Call, IsTold, row_of}
-use Rattle.histories.proofs.Lemmas.{Logs, UpdateWins, facts_before, logs, same as log_same, update_split, update_won, wins as log_wins, won_more}
+use Rattle.histories.proofs.Lemmas.{Logs, UpdateWins, facts_before, logs, same as log_same, update_split, update_win, update_won, lawful_row, wins as log_wins, won_more}
 use Rattle.prims.specs.Cells.{AllowsAll}
 use Rattle.prims.specs.Moments.{AreFinished}
 use Rattle.prims.specs.Laws.Begun.{TakesOnly, takes_by_others}
@@ -21,38 +22,48 @@ use Rattle.prims.specs.Snaps.{IsAmong}
 use Rattle.prims.specs.Snap.{snap_at}
 use Rattle.prims.specs.declared.snap.Snap.{Snap}
 use Rattle.script.specs.declared.command.Command.{Command}
-use Rattle.script.specs.declared.command.Command.TheVariants.{Llx as LlxOf, Scx as ScxOf, Vlx as VlxOf, Set as SetOf, Get as GetOf}
+use Rattle.script.specs.declared.command.Command.TheVariants.{Llx as LlxOf, Scx as ScxOf, Vlx as VlxOf, Set as SetOf, Insert as InsertOf, Get as GetOf}
 use Rattle.player.specs.declared.run.Run.{Run}
-use Rattle.player.specs.declared.run.Run.TheVariants.{Llx, Scx, Vlx, Get}
+use Rattle.player.specs.declared.run.Run.TheVariants.{Llx, Scx, Vlx, Insert, Get}
 use Rattle.player.specs.declared.client.Client.{Client}
 use Rattle.player.specs.declared.client.Running.{Running}
 use Rattle.player.specs.declared.client.Put.{Put}
 use Rattle.player.specs.declared.kept.Found.{Found}
 use Rattle.player.specs.KeptSnaps.{IsUnspent, kept_of, snap_of}
 use Rattle.record.specs.Answers.{HasRoom}
-use Rattle.player.specs.RunKnown.{RunWaits, RunIsReady}
+use Rattle.player.specs.RunKnown.{RunWaits, RunIsReady, run_mode}
 use Rattle.player.proofs.RunLaws.{run_keeps, run_lawful, run_made}
-use Rattle.player.specs.ClientView.{ClientView, Hand, no_hand, in_hand, snaps_of, IsSound, HasNewest, IsStart, IsSource, IsMachineOf, HasTaken, HaveMoments, IsRoomy, IsWonAs, IsWonBy, IsClientState, Rests, Works, Waits, Hears, IsClient, machine_call}
+use Rattle.player.specs.ClientView.{ClientView, Hand, no_hand, in_hand, snaps_of, IsSound, HasNewest, IsStart, IsSource, IsMachineOf, HasTaken, HaveMoments, IsRoomy, IsWonAs, IsOwnWin, IsWonSince, IsWonBy, held, HoldsShare, Holds, TakesInHand, IsClientState, Rests, Works, Waits, Hears, IsClient, machine_call}
 use Rattle.prims.specs.Shares.{IsShare}
-use Rattle.player.proofs.Over.{takes_by_own, nodes_by_own}
+use Rattle.player.proofs.Over.{IsNoInsert, takes_by_own, nodes_by_own}
 use Rattle.prims.specs.declared.put.PutRun.{PutRun}
 use Rattle.arena.specs.declared.step.Kind.TheVariants.{LoadInfo}
 
 some_number : (a b : ℕ) → Some a ≡ Some b → a ≡ b
 some_number a b e = cc
 
+-- a history without its newest row, and that row
+abbrev older : History → History
+older (Start mode) = Start mode
+older (r ⊳ h) = h
+
+abbrev newest_row : Row → History → Row
+newest_row r (Start mode) = r
+newest_row r (q ⊳ h) = q
+
 -- Its own machine's step leaves what the share still has untouched
 
-pub share_by_own : (run : Run) (call : Call) (h : History) (step : Ask) (left : Remaining) (node scx : ℕ) → Lawful call.layout (row_of call step h ⊳ h) → RunWaits run call h step → HasNewest left run → IsShare call.layout h call.pass left node scx → IsShare call.layout (row_of call step h ⊳ h) call.pass left node scx
-share_by_own (Llx m) call h step left node scx l w newest x = share_by_step call.layout h (row_of call step h) call.pass left node scx l (llx_fills_not AllowsAll m call h step w) x
-share_by_own (Vlx m) call h step left node scx l w newest x = share_by_step call.layout h (row_of call step h) call.pass left node scx l (vlx_fills_not m.snaps m.asked call h step w) x
-share_by_own (Get m) call h step left node scx l w newest x = share_by_step call.layout h (row_of call step h) call.pass left node scx l (get_fills_not m call h step w) x
-share_by_own (Scx m) call h step left node scx l w newest x = share_by_put AllowsAll m call h step left node scx l w newest.0 newest.1 x
+pub share_by_own : (run : Run) (call : Call) (h : History) (step : Ask) (left : Remaining) (node scx : ℕ) → IsNoInsert run → Lawful call.layout (row_of call step h ⊳ h) → RunWaits run call h step → HasNewest left run → IsShare call.layout h call.pass left node scx → IsShare call.layout (row_of call step h ⊳ h) call.pass left node scx
+share_by_own (Llx m) call h step left node scx is l w newest x = share_by_step call.layout h (row_of call step h) call.pass left node scx l (llx_fills_not AllowsAll m call h step w) x
+share_by_own (Vlx m) call h step left node scx is l w newest x = share_by_step call.layout h (row_of call step h) call.pass left node scx l (vlx_fills_not m.snaps m.asked call h step w) x
+share_by_own (Insert m) call h step left node scx is l w newest x = absurd is
+share_by_own (Get m) call h step left node scx is l w newest x = share_by_step call.layout h (row_of call step h) call.pass left node scx l (get_fills_not m call h step w) x
+share_by_own (Scx m) call h step left node scx is l w newest x = share_by_put AllowsAll m call h step left node scx l w newest.0 newest.1 x
 
 -- the view with one row more, with this begin of the call, so many steps of its own, and this turn
 -- of its update
 abbrev pub after_row : ClientView → Row → History → ℕ → Option ℕ → ClientView
-after_row v r start steps won = record { layout = v.layout; calls = v.calls; past = r ⊳ v.past; answered = v.answered; start = start; steps = steps; won = won; linked = v.linked }
+after_row v r start steps won = record { layout = v.layout; tries = v.tries; calls = v.calls; past = r ⊳ v.past; answered = v.answered; start = start; steps = steps; won = won; linked = v.linked }
 
 -- the row of a client's own step
 abbrev pub own_row : ClientView → Client → Ask → Row
@@ -60,7 +71,10 @@ own_row v c step = record { pass = record { 0 = c.pass.0 }; call = c.number; kin
 
 -- what a client has does not ask when its call began, nor whether an update has won
 pub stands_from : (v : ClientView) (c : Client) (start : History) (won : Option ℕ) (hand : Hand) → IsClientState v c hand → IsClientState (record v { start = start; won = won }) c hand
-stands_from v c start won hand x = record { is_pass = x.is_pass; number = x.number; place = x.place; kept = x.kept; unkept = x.unkept; dropped = x.dropped; share = x.share; over = x.over }
+stands_from v c start won hand x = record { is_pass = x.is_pass; tries = x.tries; number = x.number; place = x.place; kept = x.kept; unkept = x.unkept; dropped = x.dropped; free = x.free }
+
+pub holds_from : (v : ClientView) (c : Client) (start : History) (won : Option ℕ) (hand : Hand) → HoldsShare v c hand → HoldsShare (record v { start = start; won = won }) c hand
+holds_from v c start won hand x = record { some = x.some; share = x.share; over = x.over }
 
 -- What a client has in hand
 
@@ -72,17 +86,19 @@ Covers lay h c hand = (n : ℕ) → IsOwnScx lay c hand.scx → IsInProgress h h
 covers_none : (lay : Layout) (h : History) (c : ℕ) (left : Remaining) (node scx : ℕ) → Lawful lay h → IsShare lay h c left node scx → Covers lay h c (no_hand left)
 covers_none lay h c left node scx l share n own p m = absurd (next_idle lay h c left node scx l share own p)
 
-covers_waits : (run : Run) (call : Call) (h : History) (step : Ask) (left : Remaining) → Lawful call.layout h → RunWaits run call h step → IsShare call.layout h call.pass left (in_hand left run).node (in_hand left run).scx → Covers call.layout h call.pass (in_hand left run)
-covers_waits (Llx m) call h step left l w share = covers_none call.layout h call.pass left _ _ l share
-covers_waits (Vlx m) call h step left l w share = covers_none call.layout h call.pass left _ _ l share
-covers_waits (Get m) call h step left l w share = covers_none call.layout h call.pass left _ _ l share
-covers_waits (Scx m) call h step left l w share = λ n own p x. put_covers AllowsAll m call h step n w p x
+covers_waits : (run : Run) (call : Call) (h : History) (step : Ask) (left : Remaining) → IsNoInsert run → Lawful call.layout h → RunWaits run call h step → IsShare call.layout h call.pass left (in_hand left run).node (in_hand left run).scx → Covers call.layout h call.pass (in_hand left run)
+covers_waits (Llx m) call h step left is l w share = covers_none call.layout h call.pass left _ _ l share
+covers_waits (Vlx m) call h step left is l w share = covers_none call.layout h call.pass left _ _ l share
+covers_waits (Insert m) call h step left is l w share = absurd is
+covers_waits (Get m) call h step left is l w share = covers_none call.layout h call.pass left _ _ l share
+covers_waits (Scx m) call h step left is l w share = λ n own p x. put_covers AllowsAll m call h step n w p x
 
-covers_ready : (run : Run) (call : Call) (h : History) (v : ℕ) (left : Remaining) → Lawful call.layout h → RunIsReady run call h (Some v) → IsShare call.layout h call.pass left (in_hand left run).node (in_hand left run).scx → Covers call.layout h call.pass (in_hand left run)
-covers_ready (Llx m) call h v left l w share = covers_none call.layout h call.pass left _ _ l share
-covers_ready (Vlx m) call h v left l w share = covers_none call.layout h call.pass left _ _ l share
-covers_ready (Get m) call h v left l w share = covers_none call.layout h call.pass left _ _ l share
-covers_ready (Scx m) call h v left l w share = λ n own p x. put_covers_then AllowsAll m call h v n w p x
+covers_ready : (run : Run) (call : Call) (h : History) (v : ℕ) (left : Remaining) → IsNoInsert run → Lawful call.layout h → RunIsReady run call h (Some v) → IsShare call.layout h call.pass left (in_hand left run).node (in_hand left run).scx → Covers call.layout h call.pass (in_hand left run)
+covers_ready (Llx m) call h v left is l w share = covers_none call.layout h call.pass left _ _ l share
+covers_ready (Vlx m) call h v left is l w share = covers_none call.layout h call.pass left _ _ l share
+covers_ready (Insert m) call h v left is l w share = absurd is
+covers_ready (Get m) call h v left is l w share = covers_none call.layout h call.pass left _ _ l share
+covers_ready (Scx m) call h v left is l w share = λ n own p x. put_covers_then AllowsAll m call h v n w p x
 
 -- One more row
 
@@ -90,26 +106,46 @@ covers_ready (Scx m) call h v left l w share = λ n own p x. put_covers_then All
 unspent_more : (lay : Layout) (c : ℕ) (h : History) (r : Row) (snap : Snap) (moment : History) → Lawful lay (r ⊳ h) → ((s : ℕ) → IsOwnScx lay c s → IsInProgress (r ⊳ h) s → ¬ IsMember (r ⊳ h) s snap.node.0) → IsUnspent lay c h snap moment → IsUnspent lay c (r ⊳ h) snap moment
 unspent_more lay c h r snap moment l none x = record { usable = usable_since lay (r ⊳ h) h snap moment l (inr (ends_self h)) x.usable; alone = alone_more lay c h r snap none x.alone }
 
--- it leaves what a client has, if it leaves its share and what it has taken, and what it has in
--- hand covers its snapshots
-stands_more : (v : ClientView) (c : Client) (r : Row) (start : History) (steps : ℕ) (won : Option ℕ) (hand : Hand) → IsSound (after_row v r start steps won) → IsShare v.layout (r ⊳ v.past) c.pass.0 c.share hand.node hand.scx → AreFinished v.layout c.pass.0 hand.scx (r ⊳ v.past) → Covers v.layout (r ⊳ v.past) c.pass.0 hand → IsClientState v c hand → IsClientState (after_row v r start steps won) c hand
-stands_more v c r start steps won hand run share over covers x = record {
+-- no SCX-record of the client in progress covers a node of which it keeps a snapshot
+abbrev LeavesKept : ClientView → Client → History → Type 0
+LeavesKept v c h = (n : ℕ) (found : Found) → kept_of c.kept n ≡ Some found → (s : ℕ) → IsOwnScx v.layout c.pass.0 s → IsInProgress h s → ¬ IsMember h s n
+
+-- the one in hand covers nodes of its own snapshots alone
+leaves_hand : (v : ClientView) (c : Client) (h : History) (hand : Hand) → Lawful v.layout h → AreFinished v.layout c.pass.0 hand.scx h → Covers v.layout h c.pass.0 hand → IsClientState v c hand → LeavesKept v c h
+leaves_hand v c h hand l over covers x n found e s own p m =
+    let same : s ≡ hand.scx = own_in_hand v.layout h c.pass.0 s hand.scx l over own p in
+    let none : kept_of c.kept n ≡ None = x.dropped n (covers n (rw same at own) (rw same at p) (rw same at m)) in
+    let e2 : kept_of c.kept n ≡ Some found = e in
+    cc
+
+-- on the tree nothing is kept
+leaves_tree : (v : ClientView) (c : Client) (h : History) (hand : Hand) → v.layout.mode ≡ Tree → IsClientState v c hand → LeavesKept v c h
+leaves_tree v c h hand mode x n found e s own p m =
+    let none : kept_of c.kept n ≡ None = x.free mode n in
+    let e2 : kept_of c.kept n ≡ Some found = e in
+    absurd cc
+
+-- so it leaves what the client has
+stands_more : (v : ClientView) (c : Client) (r : Row) (start : History) (steps : ℕ) (won : Option ℕ) (hand : Hand) → IsSound (after_row v r start steps won) → LeavesKept v c (r ⊳ v.past) → IsClientState v c hand → IsClientState (after_row v r start steps won) c hand
+stands_more v c r start steps won hand run alone x = record {
   is_pass = x.is_pass;
+  tries = x.tries;
   number = x.number;
   place = x.place;
   kept = λ n found e. let y = x.kept n found e in (y.0, y.1, unspent_more v.layout c.pass.0 v.past r (snap_of n found) y.0 run.lawful (alone n found e) y.2);
   unkept = x.unkept;
   dropped = x.dropped;
-  share = share;
-  over = over;
+  free = x.free;
 }
-  where
-    alone : (n : ℕ) (found : Found) → kept_of c.kept n ≡ Some found → (s : ℕ) → IsOwnScx v.layout c.pass.0 s → IsInProgress (r ⊳ v.past) s → ¬ IsMember (r ⊳ v.past) s n
-    alone n found e s own p m =
-        let same : s ≡ hand.scx = own_in_hand v.layout (r ⊳ v.past) c.pass.0 s hand.scx run.lawful over own p in
-        let none : kept_of c.kept n ≡ None = x.dropped n (covers n (rw same at own) (rw same at p) (rw same at m)) in
-        let e2 : kept_of c.kept n ≡ Some found = e in
-        cc
+
+-- and what it holds of its share, if that is untouched and what it has taken finished
+holds_more : (v : ClientView) (c : Client) (r : Row) (start : History) (steps : ℕ) (won : Option ℕ) (hand : Hand) → IsShare v.layout (r ⊳ v.past) c.pass.0 (held c) hand.node hand.scx → AreFinished v.layout c.pass.0 hand.scx (r ⊳ v.past) → HoldsShare v c hand → HoldsShare (after_row v r start steps won) c hand
+holds_more v c r start steps won hand share over x = record { some = x.some; share = share; over = over }
+
+-- a row leaves what a machine has in hand, but for an insert, which says so by itself
+abbrev LeavesHand : ClientView → Client → Row → Run → Type 0
+LeavesHand v c r (Insert m) = Unit {0}
+LeavesHand v c r q = TakesOnly v.layout c.pass.0 (in_hand (held c) q).scx v.past r × ((n : ℕ) → IsOwnNode v.layout c.pass.0 n → n ≢ (in_hand (held c) q).node → ¬ IsTakenNode v.past n → ¬ IsTakenNode (r ⊳ v.past) n)
 
 -- what a row says of the update of client c: it has won in this turn, or its turn is as it was
 pub record TellsWon (v : ClientView) (c : ℕ) (r : Row) (number : ℕ) (won : Option ℕ) : Type 0 where
@@ -126,22 +162,23 @@ won_by lay h r s l w = go (logs lay h r l)
 
 module _ (v : ClientView) (c : Client) (r : Row) (number : ℕ) (start : History) (steps : ℕ) (won : Option ℕ) (sound : IsSound v) (run : IsSound (after_row v r start steps won)) (tells : TellsWon v c.pass.0 r number won) where
   -- without an SCX in hand no update of the client's wins
-  no_win : (hand : Hand) → IsClientState v c hand → hand.scx ≡ c.share.next_scx → v.won ≡ None → won ≡ None
+  no_win : (hand : Hand) → HoldsShare v c hand → hand.scx ≡ (held c).next_scx → v.won ≡ None → won ≡ None
   no_win hand x e none = ⊎_elim (λ q. q ∙ none) (λ y. absurd (bad y.1)) tells.no
     where
       bad : ((s : ℕ) × UpdateWins v.past r s × IsOwnScx v.layout c.pass.0 s) → ⊥
       bad y =
           let p : IsInProgress v.past y.0 = wins_in_progress v.layout v.past r y.0 run.lawful y.1 in
-          let same : y.0 ≡ c.share.next_scx = own_in_hand v.layout v.past c.pass.0 y.0 hand.scx sound.lawful x.over y.2 p ∙ e in
-          next_idle v.layout v.past c.pass.0 c.share hand.node hand.scx sound.lawful x.share (rw same at y.2) (rw same at p)
+          let same : y.0 ≡ (held c).next_scx = own_in_hand v.layout v.past c.pass.0 y.0 hand.scx sound.lawful x.over y.2 p ∙ e in
+          next_idle v.layout v.past c.pass.0 (held c) hand.node hand.scx sound.lawful x.share (rw same at y.2) (rw same at p)
+
+  -- a turn in which an update has won stays
+  still : (turn : ℕ) → v.won ≡ Some turn → (turn : ℕ) × (won ≡ Some turn)
+  still turn e = ⊎_elim (λ q. (turn, q ∙ e)) (λ y. (number, y.0)) tells.no
 
   -- the update of the SCX in hand has won where its SCX-record has
-  won_as : (hand : Hand) → IsClientState v c hand → IsWonAs v c.pass.0 hand.scx → IsWonAs (after_row v r start steps won) c.pass.0 hand.scx
+  won_as : (hand : Hand) → HoldsShare v c hand → IsWonAs v c.pass.0 hand.scx → IsWonAs (after_row v r start steps won) c.pass.0 hand.scx
   won_as hand x w = record { own = w.own; yes = yes; no = no }
     where
-      still : (turn : ℕ) → v.won ≡ Some turn → (turn : ℕ) × (won ≡ Some turn)
-      still turn e = ⊎_elim (λ q. (turn, q ∙ e)) (λ y. (number, y.0)) tells.no
-
       yes : HasWon (r ⊳ v.past) hand.scx → (turn : ℕ) × (won ≡ Some turn)
       yes y = ⊎_elim (λ z. let q = w.yes z in still q.0 q.1) (λ z. (number, tells.yes hand.scx z w.own)) (won_by v.layout v.past r hand.scx run.lawful y)
 
@@ -153,11 +190,32 @@ module _ (v : ClientView) (c : Client) (r : Row) (number : ℕ) (start : History
               let same : z.0 ≡ hand.scx = own_in_hand v.layout v.past c.pass.0 z.0 hand.scx sound.lawful x.over z.2 (wins_in_progress v.layout v.past r z.0 run.lawful z.1) in
               y (rw same at (update_won (facts_before v.layout v.past r run.lawful) z.1))
 
-  won_more_by : (q : Run) → IsClientState v c (in_hand c.share q) → IsWonBy v c.pass.0 q → IsWonBy (after_row v r start steps won) c.pass.0 q
-  won_more_by (Scx m) x w = won_as (in_hand c.share (Scx m)) x w
-  won_more_by (Llx m) x w = no_win (no_hand c.share) x refl w
-  won_more_by (Vlx m) x w = no_win (no_hand c.share) x refl w
-  won_more_by (Get m) x w = no_win (no_hand c.share) x refl w
+  -- an update of the call has won where some row since its begin has made one win
+  won_since : start ≡ v.start → Extends v.past v.start → IsWonSince v c.pass.0 → IsWonSince (after_row v r start steps won) c.pass.0
+  won_since same since x = record { yes = yes; no = no }
+    where
+      yes : (row : Row) (before : History) (s : ℕ) → IsOwnWin (after_row v r start steps won) c.pass.0 row before s → (turn : ℕ) × (won ≡ Some turn)
+      yes row before s w = go w.within
+        where
+          go : Extends (r ⊳ v.past) (row ⊳ before) → (turn : ℕ) × (won ≡ Some turn)
+          go (inl e) =
+              let now : IsWin v.past r s = subst (λ (k : History). IsWin (older k) (newest_row r k) s) e w.wins in
+              (number, tells.yes s record { kind = now.kind; update = now.update; before = (lawful_row v.layout v.past r run.lawful).before; found = now.found; stored = now.update.exchange.won now.found } w.own)
+          go (inr e) = let q = x.yes row before s record { within = e; since = subst (λ (k : History). Extends before k) same w.since; wins = w.wins; own = w.own } in still q.0 q.1
+
+      earlier : (v.won ≡ None) ⊎ ((row : Row) × (before : History) × (s : ℕ) × IsOwnWin v c.pass.0 row before s) → won ≡ v.won → (won ≡ None) ⊎ ((row : Row) × (before : History) × (s : ℕ) × IsOwnWin (after_row v r start steps won) c.pass.0 row before s)
+      earlier (inl n) q = inl (q ∙ n)
+      earlier (inr (row, before, s, y)) q = inr (row, before, s, record { within = inr y.within; since = subst (λ (k : History). Extends before k) (sym same) y.since; wins = y.wins; own = y.own })
+
+      no : (won ≡ None) ⊎ ((row : Row) × (before : History) × (s : ℕ) × IsOwnWin (after_row v r start steps won) c.pass.0 row before s)
+      no = ⊎_elim (λ q. earlier x.no q) (λ y. inr (r, v.past, y.1.0, record { within = inl refl; since = subst (λ (k : History). Extends v.past k) (sym same) since; wins = update_win (facts_before v.layout v.past r run.lawful) y.1.1; own = y.1.2 })) tells.no
+
+  won_more_by : (q : Run) → start ≡ v.start → Extends v.past v.start → Holds v c q → IsWonBy v c.pass.0 q → IsWonBy (after_row v r start steps won) c.pass.0 q
+  won_more_by (Scx m) same since x w = won_as (in_hand (held c) (Scx m)) x w
+  won_more_by (Llx m) same since x w = no_win (no_hand (held c)) x refl w
+  won_more_by (Vlx m) same since x w = no_win (no_hand (held c)) x refl w
+  won_more_by (Insert m) same since x w = won_since same since w
+  won_more_by (Get m) same since x w = no_win (no_hand (held c)) x refl w
 
   late_more : c.begin ≤ number → ((turn : ℕ) → v.won ≡ Some turn → c.begin ≤ turn) → (turn : ℕ) → won ≡ Some turn → c.begin ≤ turn
   late_more i f turn e = ⊎_elim (λ q. f turn (sym q ∙ e)) (λ y. let same : number ≡ turn = some_number number turn (sym y.0 ∙ e) in rw same at i) tells.no
@@ -173,6 +231,7 @@ module _ (v : ClientView) (c : Client) (r : Row) (number : ℕ) (start : History
       source_more (ScxOf update) n moment y = y
       source_more (VlxOf cells) n moment y = y
       source_more (LlxOf cell) n moment y = y
+      source_more (InsertOf key value) n moment y = y
       source_more (GetOf key) n moment y = y
 
   -- an LLX has no snapshots yet, and those of a VLX are kept ones
@@ -180,29 +239,48 @@ module _ (v : ClientView) (c : Client) (r : Row) (number : ℕ) (start : History
   moments_by (Llx m) then command since looks of x = λ i p. absurd (omega arith)
   moments_by (Scx m) then command since looks of x = moments_more command m.scx.update.snaps since (looks m refl) x
   moments_by (Vlx m) then (VlxOf cells) since looks of x = λ i p. let y = x i p in record { moment = y.moment; found = moment_more v.layout v.past r (snap_at m.snaps i) y.moment y.found; source = y.source }
+  moments_by (Insert m) then command since looks of x = λ i p. absurd (omega arith)
   moments_by (Get m) then command since looks of x = λ i p. absurd (omega arith)
+  moments_by (Vlx m) then (InsertOf key value) since looks of x = absurd of
   moments_by (Vlx m) then (LlxOf cell) since looks of x = absurd of
   moments_by (Vlx m) then (GetOf key) since looks of x = absurd of
   moments_by (Vlx m) then (ScxOf update) since looks of x = absurd of
   moments_by (Vlx m) then (SetOf field x) since looks of y = absurd of
 
-  took : (q : Run) → TakesOnly v.layout c.pass.0 (in_hand c.share q).scx v.past r → ((n : ℕ) → IsOwnNode v.layout c.pass.0 n → n ≢ (in_hand c.share q).node → ¬ IsTakenNode v.past n → ¬ IsTakenNode (r ⊳ v.past) n) → start ≡ v.start → HasTaken v c.pass.0 (in_hand c.share q) → HasTaken (after_row v r start steps won) c.pass.0 (in_hand c.share q)
-  took q takes nodes e y = record {
+  took_hand : (hand : Hand) → TakesOnly v.layout c.pass.0 hand.scx v.past r → ((n : ℕ) → IsOwnNode v.layout c.pass.0 n → n ≢ hand.node → ¬ IsTakenNode v.past n → ¬ IsTakenNode (r ⊳ v.past) n) → start ≡ v.start → HasTaken v c.pass.0 hand → HasTaken (after_row v r start steps won) c.pass.0 hand
+  took_hand hand takes nodes e y = record {
     nodes = λ n own d free. nodes n own d (y.nodes n own d (subst (λ (k : History). ¬ IsTakenNode k n) e free));
     scx_records = λ s own d free. takes s own d (y.scx_records s own d (subst (λ (k : History). ¬ IsTakenScx k s) e free));
   }
+
+  took : (q : Run) (share : Remaining) → LeavesHand v c r q → start ≡ v.start → TakesInHand v c share q → TakesInHand (after_row v r start steps won) c share q
+  took (Insert m) share leaves e y = subst (λ (k : History). IsShare v.layout k c.pass.0 share share.next_node share.next_scx) (sym e) y
+  took (Llx m) share leaves e y = took_hand (in_hand (held c) (Llx m)) leaves.0 leaves.1 e y
+  took (Scx m) share leaves e y = took_hand (in_hand (held c) (Scx m)) leaves.0 leaves.1 e y
+  took (Vlx m) share leaves e y = took_hand (in_hand (held c) (Vlx m)) leaves.0 leaves.1 e y
+  took (Get m) share leaves e y = took_hand (in_hand (held c) (Get m)) leaves.0 leaves.1 e y
 
   roomy : (q : Run) → start ≡ v.start → IsRoomy v c.pass.0 q → IsRoomy (after_row v r start steps won) c.pass.0 q
   roomy (Scx m) e y = subst (λ (k : History). HasRoom v.layout c.pass.0 k) (sym e) y
   roomy (Llx m) e y = tt
   roomy (Vlx m) e y = tt
+  roomy (Insert m) e y = tt
   roomy (Get m) e y = tt
 
+  -- a machine has started at the begin of its call or later
+  begun_since : (q : Run) (start : History) → Extends v.past start → IsStart q start v.start → Extends v.past v.start
+  begun_since (Scx m) start since begun = ends_trans v.past start v.start since begun
+  begun_since (Llx m) start since begun = subst (λ (k : History). Extends v.past k) begun since
+  begun_since (Vlx m) start since begun = subst (λ (k : History). Extends v.past k) begun since
+  begun_since (Insert m) start since begun = subst (λ (k : History). Extends v.past k) begun since
+  begun_since (Get m) start since begun = subst (λ (k : History). Extends v.past k) begun since
+
   -- a machine still runs
-  works_more : (q : Run) (then : Option Put) → start ≡ v.start → c.begin ≤ number → ((m : PutRun) → q ≡ Scx m → r.pass.0 ≡ c.pass.0 → r.kind ≢ LoadInfo) → TakesOnly v.layout c.pass.0 (in_hand c.share q).scx v.past r → ((n : ℕ) → IsOwnNode v.layout c.pass.0 n → n ≢ (in_hand c.share q).node → ¬ IsTakenNode v.past n → ¬ IsTakenNode (r ⊳ v.past) n) → IsClientState (after_row v r start steps won) c (in_hand c.share q) → Works v c q then → Works (after_row v r start steps won) c q then
-  works_more q then same i looks takes nodes stands x = record {
+  works_more : (q : Run) (then : Option Put) → start ≡ v.start → c.begin ≤ number → ((m : PutRun) → q ≡ Scx m → r.pass.0 ≡ c.pass.0 → r.kind ≢ LoadInfo) → LeavesHand v c r q → IsClientState (after_row v r start steps won) c (in_hand (held c) q) → Holds (after_row v r start steps won) c q → Works v c q then → Works (after_row v r start steps won) c q then
+  works_more q then same i looks leaves stands holds x = record {
     mode = x.mode;
     stands = stands;
+    holds = holds;
     newest = x.newest;
     command = x.command;
     is = x.is;
@@ -214,33 +292,51 @@ module _ (v : ClientView) (c : Client) (r : Row) (number : ℕ) (start : History
     moments = moments_by q then x.command same looks x.run_of x.moments;
     alone = x.alone;
     room = roomy q same x.room;
-    took = took q takes nodes same x.took;
-    won = won_more_by q x.stands x.won;
+    opening = x.opening;
+    took = took q x.opening leaves same x.took;
+    won = won_more_by q same (begun_since q x.start x.since x.begun) x.holds x.won;
     late = late_more i x.late;
   }
 
 -- Rows of others
 
-module _ (v : ClientView) (c : Client) (r : Row) (number : ℕ) (start : History) (won : Option ℕ) (sound : IsSound v) (run : IsSound (after_row v r start v.steps won)) (tells : TellsWon v c.pass.0 r number won) (other : r.pass.0 ≢ c.pass.0) where
-  share_then : (hand : Hand) → IsClientState v c hand → IsShare v.layout (r ⊳ v.past) c.pass.0 c.share hand.node hand.scx
-  share_then hand x = share_by_others v.layout v.past r c.pass.0 c.share hand.node hand.scx run.lawful x.is_pass other x.share
+module _ (v : ClientView) (c : Client) (r : Row) (number : ℕ) (start : History) (won : Option ℕ) (sound : IsSound v) (run : IsSound (after_row v r start v.steps won)) (tells : TellsWon v c.pass.0 r number won) (other : r.pass.0 ≢ c.pass.0) (is_pass : c.pass.0 < v.layout.passes) where
+  share_then : (hand : Hand) → HoldsShare v c hand → HoldsShare (after_row v r start v.steps won) c hand
+  share_then hand x = holds_more v c r start v.steps won hand (share_by_others v.layout v.past r c.pass.0 (held c) hand.node hand.scx run.lawful is_pass other x.share) (over_more v.layout c.pass.0 hand.scx v.past r run.lawful (takes_by_others v.layout c.pass.0 hand.scx v.past r run.lawful other) x.over) x
 
-  stands_by_others : (hand : Hand) → Covers v.layout (r ⊳ v.past) c.pass.0 hand → IsClientState v c hand → IsClientState (after_row v r start v.steps won) c hand
-  stands_by_others hand covers x = stands_more v c r start v.steps won hand run (share_then hand x) (over_more v.layout c.pass.0 hand.scx v.past r run.lawful (takes_by_others v.layout c.pass.0 hand.scx v.past r run.lawful other) x.over) covers x
+  -- what holds of a machine that has none of the share
+  record StillStands (q : Run) : Type 0 where
+    stands : IsClientState (after_row v r start v.steps won) c (in_hand (held c) q)
+    holds : Holds (after_row v r start v.steps won) c q
+    leaves : LeavesHand v c r q
+
+  nodes_then : (n : ℕ) → IsOwnNode v.layout c.pass.0 n → ¬ IsTakenNode v.past n → ¬ IsTakenNode (r ⊳ v.past) n
+  nodes_then n own = untaken_node_by_others v.layout v.past r c.pass.0 n run.lawful other own
+
+  hand_then : (hand : Hand) → Covers v.layout (r ⊳ v.past) c.pass.0 hand → IsClientState v c hand → HoldsShare v c hand → IsClientState (after_row v r start v.steps won) c hand
+  hand_then hand covers x h = stands_more v c r start v.steps won hand run (leaves_hand v c (r ⊳ v.past) hand run.lawful (share_then hand h).over covers x) x
+
+  still_stands : (q : Run) (step : Ask) (p : c.pass.0 < v.layout.passes) (start : History) → RunWaits q (machine_call v c p start) (r ⊳ v.past) step → v.layout.mode ≡ run_mode q → IsClientState v c (in_hand (held c) q) → Holds v c q → StillStands q
+  still_stands (Insert m) step p start w mode x h = record { stands = stands_more v c r _ v.steps won (in_hand (held c) (Insert m)) run (leaves_tree v c (r ⊳ v.past) _ mode x) x; holds = tt; leaves = tt }
+  still_stands (Llx m) step p start w mode x h = record { stands = hand_then _ (covers_waits (Llx m) (machine_call v c p start) (r ⊳ v.past) step (held c) tt run.lawful w (share_then _ h).share) x h; holds = share_then _ h; leaves = (takes_by_others v.layout c.pass.0 _ v.past r run.lawful other, λ n own d. nodes_then n own) }
+  still_stands (Scx m) step p start w mode x h = record { stands = hand_then _ (covers_waits (Scx m) (machine_call v c p start) (r ⊳ v.past) step (held c) tt run.lawful w (share_then _ h).share) x h; holds = share_then _ h; leaves = (takes_by_others v.layout c.pass.0 _ v.past r run.lawful other, λ n own d. nodes_then n own) }
+  still_stands (Vlx m) step p start w mode x h = record { stands = hand_then _ (covers_waits (Vlx m) (machine_call v c p start) (r ⊳ v.past) step (held c) tt run.lawful w (share_then _ h).share) x h; holds = share_then _ h; leaves = (takes_by_others v.layout c.pass.0 _ v.past r run.lawful other, λ n own d. nodes_then n own) }
+  still_stands (Get m) step p start w mode x h = record { stands = hand_then _ (covers_waits (Get m) (machine_call v c p start) (r ⊳ v.past) step (held c) tt run.lawful w (share_then _ h).share) x h; holds = share_then _ h; leaves = (takes_by_others v.layout c.pass.0 _ v.past r run.lawful other, λ n own d. nodes_then n own) }
 
   rests_by_others : Rests v c → Rests (after_row v r start v.steps won) c
-  rests_by_others x = record { stands = stands_by_others (no_hand c.share) (covers_none v.layout (r ⊳ v.past) c.pass.0 c.share _ _ run.lawful (share_then (no_hand c.share) x.stands)) x.stands; none = x.none }
+  rests_by_others x = record { stands = hand_then (no_hand (held c)) (covers_none v.layout (r ⊳ v.past) c.pass.0 (held c) _ _ run.lawful (share_then (no_hand (held c)) x.holds).share) x.stands x.holds; holds = share_then (no_hand (held c)) x.holds; none = x.none }
 
-  pub client_by_others : (began : Option ℕ) → (began ≡ None → start ≡ r ⊳ v.past) → ((k : ℕ) → began ≡ Some k → (start ≡ v.start) × (k ≤ number)) → IsClient v began c → IsClient (after_row v r start v.steps won) began c
+  waits_by_others : (began : Option ℕ) → ((k : ℕ) → began ≡ Some k → (start ≡ v.start) × (k ≤ number)) → (q : Running) → c.running ≡ Some q → (w : Waits v c q) → began ≡ Some c.begin → IsClient (after_row v r start v.steps won) began c
   unfolding works_more
-  client_by_others began f g (inl (x, inl none)) = inl (rests_by_others x, inl none)
-  client_by_others began f g (inl (x, inr u)) = inl (rests_by_others x, inr record { none = u.none; start = f u.none; steps = u.steps; won = no_win v c r number start v.steps won sound run tells (no_hand c.share) x.stands refl u.won })
-  client_by_others began f g (inr (q, is, w, e)) =
-      let call = machine_call v c w.works.is_pass w.works.start in
-      let waits = run_keeps q.run call v.past q.step r w.works.mode run other w.waits in
-      let hand = in_hand c.share q.run in
-      let stands = stands_by_others hand (covers_waits q.run call (r ⊳ v.past) q.step c.share run.lawful waits (share_then hand w.works.stands)) w.works.stands in
-      inr (q, is, record { works = works_more v c r number start v.steps won sound run tells q.run q.then (g c.begin e).0 (g c.begin e).1 (λ m z own. absurd (other own)) (takes_by_others v.layout c.pass.0 hand.scx v.past r run.lawful other) (λ n own d. untaken_node_by_others v.layout v.past r c.pass.0 n run.lawful other own) stands w.works; waits = waits; few = λ taken i. w.few taken (let more = taken_more v.past r in omega (arith, i)) }, e)
+  waits_by_others began g q is w e =
+      let waits = run_keeps q.run (machine_call v c w.works.is_pass w.works.start) v.past q.step r w.works.mode run other w.waits in
+      let then = still_stands q.run q.step w.works.is_pass w.works.start waits w.works.mode w.works.stands w.works.holds in
+      inr (q, is, record { works = works_more v c r number start v.steps won sound run tells q.run q.then (g c.begin e).0 (g c.begin e).1 (λ m z own. absurd (other own)) then.leaves then.stands then.holds w.works; waits = waits; spent = w.spent; few = λ taken i. w.few taken (let more = taken_more v.past r in omega (arith, i)) }, e)
+
+pub client_by_others : (v : ClientView) (c : Client) (r : Row) (number : ℕ) (start : History) (won : Option ℕ) → IsSound v → IsSound (after_row v r start v.steps won) → TellsWon v c.pass.0 r number won → r.pass.0 ≢ c.pass.0 → (began : Option ℕ) → (began ≡ None → start ≡ r ⊳ v.past) → ((k : ℕ) → began ≡ Some k → (start ≡ v.start) × (k ≤ number)) → IsClient v began c → IsClient (after_row v r start v.steps won) began c
+client_by_others v c r number start won sound run tells other began f g (inl (x, inl none)) = inl (rests_by_others v c r number start won sound run tells other x.stands.is_pass x, inl none)
+client_by_others v c r number start won sound run tells other began f g (inl (x, inr u)) = inl (rests_by_others v c r number start won sound run tells other x.stands.is_pass x, inr record { none = u.none; start = f u.none; steps = u.steps; won = no_win v c r number start v.steps won sound run tells (no_hand (held c)) x.holds refl u.won })
+client_by_others v c r number start won sound run tells other began f g (inr (q, is, w, e)) = waits_by_others v c r number start won sound run tells other w.works.is_pass began g q is w e
 
 -- Its own step
 
@@ -248,11 +344,35 @@ module _ (v : ClientView) (c : Client) (q : Running) (sound : IsSound v) (w : Wa
   abbrev call : Call
   call = machine_call v c w.works.is_pass w.works.start
 
-  abbrev hand : Hand
-  hand = in_hand c.share q.run
-
   pub step_sound : (won : Option ℕ) → IsSound (after_row v (own_row v c q.step) v.start (suc v.steps) won)
   step_sound won = run_lawful q.run call v.past q.step w.works.mode sound w.waits
+
+  -- what its step leaves
+  record StandsThen (won : Option ℕ) (run : Run) : Type 0 where
+    stands : IsClientState (after_row v (own_row v c q.step) v.start (suc v.steps) won) c (in_hand (held c) run)
+    holds : Holds (after_row v (own_row v c q.step) v.start (suc v.steps) won) c run
+    leaves : LeavesHand v c (own_row v c q.step) run
+
+  -- of a machine that has none of the share
+  hand_stands : (won : Option ℕ) (run : Run) (found : ℕ) → IsNoInsert run → RunWaits run call v.past q.step → RunIsReady run call (own_row v c q.step ⊳ v.past) (Some found) → HasNewest (held c) run → IsClientState v c (in_hand (held c) run) → HoldsShare v c (in_hand (held c) run)
+      → IsClientState (after_row v (own_row v c q.step) v.start (suc v.steps) won) c (in_hand (held c) run) × HoldsShare (after_row v (own_row v c q.step) v.start (suc v.steps) won) c (in_hand (held c) run) × TakesOnly v.layout c.pass.0 (in_hand (held c) run).scx v.past (own_row v c q.step) × ((n : ℕ) → IsOwnNode v.layout c.pass.0 n → n ≢ (in_hand (held c) run).node → ¬ IsTakenNode v.past n → ¬ IsTakenNode (own_row v c q.step ⊳ v.past) n)
+  hand_stands won run found is waits ready newest x h =
+      let l = (step_sound won).lawful in
+      let takes = takes_by_own run call (held c) v.past q.step is waits in
+      let share = share_by_own run call v.past q.step (held c) _ _ is l waits newest h.share in
+      let over = over_more v.layout c.pass.0 (in_hand (held c) run).scx v.past (own_row v c q.step) l takes h.over in (
+        stands_more v c (own_row v c q.step) v.start (suc v.steps) won (in_hand (held c) run) (step_sound won) (leaves_hand v c (own_row v c q.step ⊳ v.past) (in_hand (held c) run) l over (covers_ready run call (own_row v c q.step ⊳ v.past) found (held c) is l ready share) x) x,
+        holds_more v c (own_row v c q.step) v.start (suc v.steps) won (in_hand (held c) run) share over h,
+        takes,
+        λ n own d. nodes_by_own run call (held c) v.past q.step is waits n d,
+      )
+
+  stands_then : (won : Option ℕ) (run : Run) (found : ℕ) → RunWaits run call v.past q.step → RunIsReady run call (own_row v c q.step ⊳ v.past) (Some found) → v.layout.mode ≡ run_mode run → HasNewest (held c) run → IsClientState v c (in_hand (held c) run) → Holds v c run → StandsThen won run
+  stands_then won (Insert m) found waits ready mode newest x h = record { stands = stands_more v c (own_row v c q.step) v.start (suc v.steps) won (in_hand (held c) (Insert m)) (step_sound won) (leaves_tree v c (own_row v c q.step ⊳ v.past) _ mode x) x; holds = tt; leaves = tt }
+  stands_then won (Llx m) found waits ready mode newest x h = let y = hand_stands won (Llx m) found tt waits ready newest x h in record { stands = y.0; holds = y.1; leaves = (y.2, y.3) }
+  stands_then won (Scx m) found waits ready mode newest x h = let y = hand_stands won (Scx m) found tt waits ready newest x h in record { stands = y.0; holds = y.1; leaves = (y.2, y.3) }
+  stands_then won (Vlx m) found waits ready mode newest x h = let y = hand_stands won (Vlx m) found tt waits ready newest x h in record { stands = y.0; holds = y.1; leaves = (y.2, y.3) }
+  stands_then won (Get m) found waits ready mode newest x h = let y = hand_stands won (Get m) found tt waits ready newest x h in record { stands = y.0; holds = y.1; leaves = (y.2, y.3) }
 
   -- the machine may be told what the step found
   pub hears : (number : ℕ) (won : Option ℕ) → TellsWon v c.pass.0 (own_row v c q.step) number won → c.begin ≤ number → (found : ℕ) → IsTold q.step.access (value v.past q.step.word) found → Hears (after_row v (own_row v c q.step) v.start (suc v.steps) won) c q found
@@ -260,6 +380,5 @@ module _ (v : ClientView) (c : Client) (q : Running) (sound : IsSound v) (w : Wa
   hears number won tells late found told =
       let run = step_sound won in
       let ready = run_made q.run call v.past q.step found w.works.mode run told w.waits in
-      let share = share_by_own q.run call v.past q.step c.share _ _ run.lawful w.waits w.works.newest w.works.stands.share in
-      let stands = stands_more v c (own_row v c q.step) v.start (suc v.steps) won hand run share (over_more v.layout c.pass.0 hand.scx v.past (own_row v c q.step) run.lawful (takes_by_own q.run call c.share v.past q.step w.waits) w.works.stands.over) (covers_ready q.run call (own_row v c q.step ⊳ v.past) found c.share run.lawful ready share) w.works.stands in
-      record { works = works_more v c (own_row v c q.step) number v.start (suc v.steps) won sound run tells q.run q.then refl late (λ m z own. put_looks_not AllowsAll m call v.past q.step (subst (λ (k : Run). RunWaits k call v.past q.step) z w.waits)) (takes_by_own q.run call c.share v.past q.step w.waits) (λ n own d. nodes_by_own q.run call c.share v.past q.step w.waits n d) stands w.works; ready = ready; few = λ taken i. let few = w.few taken (let more = taken_more v.past (own_row v c q.step) in omega (arith, i)) in omega arith }
+      let then = stands_then won q.run found w.waits ready w.works.mode w.works.newest w.works.stands w.works.holds in
+      record { works = works_more v c (own_row v c q.step) number v.start (suc v.steps) won sound run tells q.run q.then refl late (λ m z own. put_looks_not AllowsAll m call v.past q.step (subst (λ (k : Run). RunWaits k call v.past q.step) z w.waits)) then.leaves then.stands then.holds w.works; ready = ready; spent = w.spent; few = λ taken i. let few = w.few taken (let more = taken_more v.past (own_row v c q.step) in omega (arith, i)) in omega arith }

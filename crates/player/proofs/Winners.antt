@@ -86,13 +86,14 @@ module _ (lay : Layout) (lines : List Line) (number : ℕ) (row : Row) (l : Lawf
   h = history lay.mode lines
 
   -- a win has its entry
-  record HasEntryOf (s : ℕ) : Type 0 where
-    entry : Entry
-    is : entry_of lay lines number row ≡ Some entry
-    of_win : IsEntryOfWin lay h row entry s
+  pub record HasEntryOf (s : ℕ) : Type 0 where
+    pub entry : Entry
+    pub is : entry_of lay lines number row ≡ Some entry
+    pub step_is : entry.step ≡ number
+    pub of_win : IsEntryOfWin lay h row entry s
 
-  win_enters : (s : ℕ) → UpdateWins h row s → HasEntryOf s
-  win_enters s x = record { entry = made; is = is; of_win = record { wins = x; is_pass = rw same_owner o.is_pass; own = rw same_owner o.scx; scx_is = holds; call_is = ap (λ (u : ℕ). value h (scx u Call)) holds } }
+  pub win_enters : (s : ℕ) → UpdateWins h row s → HasEntryOf s
+  win_enters s x = record { entry = made; is = is; step_is = refl; of_win = record { wins = x; is_pass = rw same_owner o.is_pass; own = rw same_owner o.scx; scx_is = holds; call_is = ap (λ (u : ℕ). value h (scx u Call)) holds } }
     where
       f : Facts lay h
       f = facts_before lay h row l
@@ -144,8 +145,8 @@ module _ (lay : Layout) (lines : List Line) (number : ℕ) (row : Row) (l : Lawf
       go (updates u w) = let y = win_enters u w in (u, subst (λ (k : Entry). IsEntryOfWin lay h row k u) (some_entry y.entry entry (sym y.is ∙ e)) y.of_win)
 
   -- so the lines tell of the update of each client whether it has won
-  pub tells_won : (calls : List CallOf) (j : ℕ) → TellsWon (client_view lay calls lines j) j row number (won lay (Step (Made number row) ∷ lines) j)
-  tells_won calls j = record { yes = yes; no = no (entry_of lay lines number row) refl }
+  pub tells_won : (tries : ℕ) (calls : List CallOf) (j : ℕ) → TellsWon (client_view lay tries calls lines j) j row number (won lay (Step (Made number row) ∷ lines) j)
+  tells_won tries calls j = record { yes = yes; no = no (entry_of lay lines number row) refl }
     where
       yes : (s : ℕ) → UpdateWins h row s → IsOwnScx lay j s → won lay (Step (Made number row) ∷ lines) j ≡ Some number
       yes s x own =

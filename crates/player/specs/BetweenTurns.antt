@@ -19,49 +19,67 @@ use Rattle.record.specs.declared.record.Reply.{Reply}
 use Rattle.record.specs.declared.record.Answer.{Answer}
 use Rattle.player.specs.declared.client.Running.{Running}
 use Rattle.player.specs.Allowed.{PlayedAllows}
+use Rattle.arena.specs.declared.limits.Mode.TheVariants.{Tree}
+use Rattle.spelling.specs.FillOrder.{AreFilledInOrder}
 use Rattle.player.specs.Lines.{newest}
 use Rattle.player.specs.declared.client.Client.{Client}
 use Rattle.player.specs.declared.player.Player.{Player}
 use Rattle.record.specs.Turns.{history, begin, turns, clients, won}
-use Rattle.record.specs.Answers.{moment_of}
+use Rattle.script.specs.declared.command.Command.TheVariants.{Insert as InsertOf}
+use Rattle.spelling.specs.OrderedMap.{Edit, Insert}
+use Rattle.record.specs.declared.record.Entry.{Entry}
+use Rattle.record.specs.MapRecord.{map_call_of}
+use Rattle.places.specs.declared.places.Change.{Change}
+use Rattle.places.specs.declared.places.Places.{Places}
+use Rattle.places.specs.Places.{changes, Knows, HoldsOfKey}
+use Rattle.places.specs.Entries.{AreEntries}
+use Rattle.player.specs.Moments.{IsMomentBy}
 use Rattle.record.specs.LawfulRun.{AreLines, OwesNothing}
 use Rattle.player.specs.ClientView.{client_view, IsClient, Waits, IsAtNextCall}
 
 -- the words hold what the steps have left in them, the steps
 -- are a lawful run, and the lines fit one by one
-pub record IsLawfulSoFar (lay : Layout) (calls : List Call) (words : Contents) (lines : List Line) : Type 0 where
+pub record IsLawfulSoFar (lay : Layout) (tries : ℕ) (calls : List Call) (words : Contents) (lines : List Line) : Type 0 where
   pub layout : words.layout ≡ lay
   pub holds : (w : Word) → IsWord lay w → word_at words w ≡ value (history lay.mode lines) w
   pub sound : IsRun PlayedAllows lay (history lay.mode lines)
-  pub in_order : AreLines lay calls lines
+  pub in_order : AreLines lay tries calls lines
+  -- on the tree nodes are filled in order
+  pub filled : lay.mode ≡ Tree → AreFilledInOrder (history lay.mode lines)
   -- each call has a command of the mode
   pub of_mode : All (λ call. mode_of call.command ≡ lay.mode) calls
 
 -- each client but the i-th is as the lines say
-abbrev pub AreOthers : Layout → List Call → List Client → List Line → ℕ → Type 0
-AreOthers lay calls clients lines i =
-    (j : ℕ) (c : Client) → j ≢ i → slice_get clients j ≡ Some c → (c.pass.0 ≡ j) × IsClient (client_view lay calls lines j) (begin lines j) c
+abbrev pub AreOthers : Layout → ℕ → List Call → List Client → List Line → ℕ → Type 0
+AreOthers lay tries calls clients lines i =
+    (j : ℕ) (c : Client) → j ≢ i → slice_get clients j ≡ Some c → (c.pass.0 ≡ j) × IsClient (client_view lay tries calls lines j) (begin lines j) c
 
 -- the player is in the middle of a turn of this client, whose state the lines do not say
-pub record IsTurnOf (lay : Layout) (calls : List Call) (words : Contents) (clients : List Client) (lines : List Line) (c : Client) : Type 0 where
-  pub so_far : IsLawfulSoFar lay calls words lines
-  pub others : AreOthers lay calls clients lines c.pass.0
+pub record IsTurnOf (lay : Layout) (tries : ℕ) (calls : List Call) (words : Contents) (clients : List Client) (lines : List Line) (c : Client) : Type 0 where
+  pub so_far : IsLawfulSoFar lay tries calls words lines
+  pub others : AreOthers lay tries calls clients lines c.pass.0
   pub own : slice_get clients c.pass.0 ≡ Some c
 
 -- the player is between two turns: nothing is owed, and each client is as the lines say
-pub record AreBetweenTurns (lay : Layout) (calls : List Call) (words : Contents) (clients : List Client) (lines : List Line) : Type 0 where
-  pub so_far : IsLawfulSoFar lay calls words lines
+pub record AreBetweenTurns (lay : Layout) (tries : ℕ) (calls : List Call) (words : Contents) (clients : List Client) (lines : List Line) : Type 0 where
+  pub so_far : IsLawfulSoFar lay tries calls words lines
   pub settled : OwesNothing lay calls lines
-  pub each : (j : ℕ) (c : Client) → slice_get clients j ≡ Some c → (c.pass.0 ≡ j) × IsClient (client_view lay calls lines j) (begin lines j) c
+  pub each : (j : ℕ) (c : Client) → slice_get clients j ≡ Some c → (c.pass.0 ≡ j) × IsClient (client_view lay tries calls lines j) (begin lines j) c
 
 -- of each client whose update has won since its last reply, the turn in which it did is remembered
 abbrev pub AreWins : Layout → List Line → List (Option ℕ) → Type 0
 AreWins lay lines wins = (c turn : ℕ) → won lay lines c ≡ Some turn → slice_get wins c ≡ Some (Some turn)
 
+-- on the tree the changes are those of the log, and each key of an insert may be changed
+pub record ArePlaces (lay : Layout) (calls : List Call) (lines : List Line) (places : Places) : Type 0 where
+  pub entries : lay.mode ≡ Tree → AreEntries calls lines (changes places)
+  pub keys : All (λ call. HoldsOfKey (Knows places) call.command) calls
+
 -- what holds of a player between two turns
 pub record IsBetweenTurns (p : Player) : Type 0 where
-  pub between : AreBetweenTurns p.script.layout p.script.calls.items p.words p.clients.items (newest p.lines)
+  pub between : AreBetweenTurns p.script.layout p.script.limits.tries p.script.calls.items p.words p.clients.items (newest p.lines)
   pub wins : AreWins p.script.layout (newest p.lines) p.wins.items
+  pub places : ArePlaces p.script.layout p.script.calls.items (newest p.lines) p.places
 
 -- In the middle of a turn
 
@@ -70,13 +88,14 @@ pub record IsAsked (p : Player) (i number : ℕ) (step : Ask) : Type 0 where
   pub client : Client
   pub is : client.pass.0 ≡ i
   pub settled : OwesNothing p.script.layout p.script.calls.items (newest p.lines)
-  pub turn : IsTurnOf p.script.layout p.script.calls.items p.words p.clients.items (newest p.lines) client
+  pub turn : IsTurnOf p.script.layout p.script.limits.tries p.script.calls.items p.words p.clients.items (newest p.lines) client
   pub in_turn : number ≡ suc (turns (newest p.lines))
   pub running : Running
   pub runs : client.running ≡ Some running
   pub asks : running.step ≡ step
-  pub waits : Waits (client_view p.script.layout p.script.calls.items (newest p.lines) client.pass.0) client running
+  pub waits : Waits (client_view p.script.layout p.script.limits.tries p.script.calls.items (newest p.lines) client.pass.0) client running
   pub wins : AreWins p.script.layout (newest p.lines) p.wins.items
+  pub places : ArePlaces p.script.layout p.script.calls.items (newest p.lines) p.places
   -- its call began at this turn, or at the turn that the lines say
   pub began : ((begin (newest p.lines) client.pass.0 ≡ None) × (client.begin ≡ number)) ⊎ (begin (newest p.lines) client.pass.0 ≡ Some client.begin)
 
@@ -84,16 +103,29 @@ pub record IsAsked (p : Player) (i number : ℕ) (step : Ask) : Type 0 where
 pub record IsMade (p : Player) (number : ℕ) (row : Row) : Type 0 where
   pub older : List Line
   pub lines : newest p.lines ≡ Step (Made number row) ∷ older
-  pub so_far : IsLawfulSoFar p.script.layout p.script.calls.items p.words (newest p.lines)
+  pub so_far : IsLawfulSoFar p.script.layout p.script.limits.tries p.script.calls.items p.words (newest p.lines)
+
+-- the entry is of the insert at which its client stands
+pub record IsAtInsert (calls : List Call) (clients : List Client) (e : Entry) : Type 0 where
+  pub client : Client
+  pub there : slice_get clients e.client.0 ≡ Some client
+  pub at : ℕ
+  pub next : client.next ≡ Some at
+  pub call : Call
+  pub here : slice_get calls at ≡ Some call
+  pub key : ℕ
+  pub value : ℕ
+  pub command : call.command ≡ InsertOf key value
+  pub edits : map_call_of calls e.client.0 e.call ≡ Some (Edit (Insert key value))
 
 -- the reply ends the client's call in this turn; `won` is the turn of its last update that has won
-pub record IsEnd (calls : List Call) (old new : Client) (turn : ℕ) (answer : Answer) (won : Option ℕ) (reply : Reply) : Type 0 where
+pub record IsEnd (calls : List Call) (lines : List Line) (changes : List Change) (old new : Client) (turn : ℕ) (answer : Answer) (won : Option ℕ) (reply : Reply) : Type 0 where
   pub client : reply.client ≡ old.pass
   pub call : reply.call ≡ old.number
   pub begin : reply.begin ≡ old.begin
   pub end : reply.end ≡ turn
   pub answers : reply.answer ≡ answer
-  pub moment : reply.moment ≡ moment_of answer old.begin turn won
+  pub moment : (call : Call) (at : ℕ) → old.next ≡ Some at → slice_get calls at ≡ Some call → IsMomentBy calls lines changes call.command answer old.begin turn won reply.moment
   pub behind : IsAtNextCall calls old new
 
 -- the lines have one reply more, to the call of this client, which stands at its next call then
@@ -102,7 +134,7 @@ pub record IsReplied (old new : Player) (turn : ℕ) (answer : Answer) (c : Clie
   pub reply : Reply
   pub won : Option ℕ
   pub wins : slice_get old.wins.items c.pass.0 ≡ Some won
-  pub end : IsEnd old.script.calls.items c client turn answer won reply
+  pub end : IsEnd old.script.calls.items (newest old.lines) (changes old.places) c client turn answer won reply
   pub clients : new.clients.items ≡ set old.clients.items c.pass.0 client
   pub line : newest new.lines ≡ ReplyLine reply ∷ newest old.lines
 
@@ -117,6 +149,11 @@ pub record HasSameClients (old new : Player) : Type 0 where
   pub script : IsSameScript old.script new.script
   pub words : new.words ≡ old.words
   pub clients : new.clients.items ≡ old.clients.items
+
+-- the places are as they were, but for their room
+pub record HasSamePlaces (old new : Places) : Type 0 where
+  pub changed : changes new ≡ changes old
+  pub keys : (key : ℕ) → Knows old key → Knows new key
 
 -- script, words and the turns of winning updates are as they were
 pub record HasSameWords (old new : Player) : Type 0 where

@@ -1,14 +1,15 @@
 -- What a client knows at a moment of the run, and what a turn of it leaves.
-use Rattle.std.specs.Prelude.{◌≡◌, ◌≢◌, ℕ, suc, ◌+◌, ◌^◌, ◌<◌, ◌≤◌, ◌⊎◌, ◌↔◌, true, List, [], ◌∷◌, length, drop, Option, Some, None, slice_get}
+use Rattle.std.specs.Prelude.{◌≡◌, ◌≢◌, ℕ, suc, ◌+◌, ◌^◌, ◌<◌, ◌≤◌, ◌⊎◌, ◌↔◌, true, List, [], ◌∷◌, length, drop, Option, Some, None, slice_get, unwrap_or, IsSome}
 use Rattle.std.specs.List.{Contains}
 use Rattle.arena.specs.TakenNodes.{taken_nodes}
 use Rattle.arena.specs.declared.word.Side.{Side}
-use Rattle.arena.specs.declared.limits.Mode.TheVariants.{Records}
+use Rattle.arena.specs.declared.limits.Mode.TheVariants.{Records, Tree}
 use Rattle.arena.specs.declared.layout.Layout.{Layout}
+use Rattle.arena.specs.declared.step.Row.{Row}
 use Rattle.arena.specs.Share.{Remaining, IsFull}
-use Rattle.arena.specs.History.{History, value, Extends}
+use Rattle.arena.specs.History.{History, ◌⊳◌, value, Extends}
 use Rattle.arena.specs.ScxRecords.{plan_finalizes, side_of}
-use Rattle.arena.specs.Lawful.{HasWon}
+use Rattle.arena.specs.Lawful.{HasWon, IsWin}
 use Rattle.arena.specs.Fills.{IsOwnNode, IsOwnScx, IsTakenNode}
 use Rattle.arena.specs.Machines.{Call as MachineCall, IsRun}
 use Rattle.prims.specs.Moments.{IsMoment, AreLeftAlone, AreFinished, HasTakenOnly}
@@ -19,16 +20,21 @@ use Rattle.prims.specs.Snaps.{IsAmong}
 use Rattle.prims.specs.Updates.{update_field_index}
 use Rattle.prims.specs.declared.put.PutRun.{PutRun}
 use Rattle.prims.specs.declared.snap.Snap.{Snap}
+use Rattle.spelling.specs.OrderedMap.{get}
+use Rattle.spelling.specs.Spelled.{Spells}
+use Rattle.spelling.specs.declared.pair.Pair.{Pair}
+use Rattle.tree.specs.declared.insert.Insert.{Insert as Inserted}
+use Rattle.updates.specs.declared.update.UpdateRun.{UpdateRun}
 use Rattle.script.specs.declared.command.Call.{Call}
 use Rattle.script.specs.declared.command.Command.{Command}
-use Rattle.script.specs.declared.command.Command.TheVariants.{Llx as LlxOf, Scx as ScxOf, Vlx as VlxOf, Set as SetOf, Get as GetOf}
+use Rattle.script.specs.declared.command.Command.TheVariants.{Llx as LlxOf, Scx as ScxOf, Vlx as VlxOf, Set as SetOf, Insert as InsertOf, Get as GetOf}
 use Rattle.record.specs.declared.record.Line.{Line}
 use Rattle.record.specs.declared.record.Answer.{Answer}
 use Rattle.script.specs.Cells.{cells_of}
 use Rattle.script.specs.Update.{update_cells, update_finalize, update_field, update_value}
-use Rattle.record.specs.declared.record.Answer.TheVariants.{Full}
+use Rattle.record.specs.declared.record.Answer.TheVariants.{Full, Value}
 use Rattle.player.specs.declared.run.Run.{Run}
-use Rattle.player.specs.declared.run.Run.TheVariants.{Llx, Scx, Vlx, Get}
+use Rattle.player.specs.declared.run.Run.TheVariants.{Llx, Scx, Vlx, Insert, Get}
 use Rattle.player.specs.declared.client.Client.{Client}
 use Rattle.player.specs.declared.client.Running.{Running}
 use Rattle.player.specs.declared.client.Put.{Put}
@@ -36,20 +42,22 @@ use Rattle.player.specs.declared.client.NextAction.{NextAction}
 use Rattle.player.specs.declared.client.NextAction.TheVariants.{Finished, Answers, Asks}
 use Rattle.player.specs.declared.run.Ended.{Ended}
 use Rattle.player.specs.Allowed.{PlayedAllows}
-use Rattle.player.specs.RunKnown.{RunIsReady, RunWaits, RunAnswers, run_mode}
-use Rattle.player.specs.RunSteps.{then_left, left_of}
+use Rattle.player.specs.RunKnown.{RunIsReady, RunWaits, RunAnswers, run_mode, share_behind}
+use Rattle.player.specs.RunSteps.{then_left, left_of, HasSpent, HasSpentAll}
 use Rattle.player.specs.KeptSnaps.{AreKept, IsUnspent, kept_of}
 use Rattle.player.specs.Place.{IsAt}
 use Rattle.record.specs.Turns.{history, answered, start, steps, won}
 use Rattle.record.specs.Commands.{commands}
 use Rattle.record.specs.Linked.{linked}
-use Rattle.record.specs.CommandRules.{linked_then, most_steps, MayAnswerAtOnce, MayAnswerAfterStep, IsRight}
+use Rattle.record.specs.CommandRules.{linked_then, most_steps, MayAnswerAtOnce, MayAnswerAfterStep, HasTakenFew, enters, IsRight}
 use Rattle.record.specs.Snapshots.{IsLastLook}
-use Rattle.record.specs.Answers.{HasRoom, HasTakenOne, HasItsEntry}
+use Rattle.record.specs.Answers.{HasRoom, HasItsEntry}
 
 -- what the lines so far say to one client
 pub record ClientView : Type 0 where
   pub layout : Layout
+  -- how often a call may try
+  pub tries : ℕ
   pub calls : List Call
   -- the steps so far
   pub past : History
@@ -65,14 +73,18 @@ pub record ClientView : Type 0 where
   pub linked : ℕ → Option History
 
 -- what these lines, the newest first, say to client c
-abbrev pub client_view : Layout → List Call → List Line → ℕ → ClientView
-client_view lay calls lines c = record { layout = lay; calls = calls; past = history lay.mode lines; answered = answered lines c; start = start lay.mode lines c; steps = steps lines c; won = won lay lines c; linked = linked calls lay.mode lines c }
+abbrev pub client_view : Layout → ℕ → List Call → List Line → ℕ → ClientView
+client_view lay tries calls lines c = record { layout = lay; tries = tries; calls = calls; past = history lay.mode lines; answered = answered lines c; start = start lay.mode lines c; steps = steps lines c; won = won lay lines c; linked = linked calls lay.mode lines c }
 
 -- the steps so far are a lawful run, and begin only what the mode allows
 abbrev pub IsSound : ClientView → Type 0
 IsSound v = IsRun PlayedAllows v.layout v.past
 
 -- What a client has
+
+-- what is left of its share, where it holds that; while an insert runs, that has it
+abbrev pub held : Client → Remaining
+held c = unwrap_or c.share record { next_node = 0; nodes = 0; next_scx = 0; scx = 0 }
 
 -- what an SCX has in hand: a fresh node, an SCX-record, and snapshots
 pub record Hand : Type 0 where
@@ -126,16 +138,23 @@ abbrev pub IsGetOf : Command → ℕ → Option Put → Type 0
 IsGetOf (GetOf key) k None = k ≡ key
 IsGetOf _ k then = ⊥
 
+-- an insert in the client's call of this number serves the one of this key and value
+abbrev pub IsInsertOf : Command → ℕ → UpdateRun Inserted → Option Put → Type 0
+IsInsertOf (InsertOf key value) number m None = (m.edit.key ≡ key) × (m.edit.value ≡ value) × (m.call ≡ number)
+IsInsertOf _ number m then = ⊥
+
 -- the machine, with what follows it, is that of the command in the client's call of this number
 abbrev pub IsMachineOf : Command → ℕ → Run → Option Put → Type 0
 IsMachineOf command number (Llx m) then = (m.node.0 ≤ 8) × IsLlxOf command m.node.0 then
 IsMachineOf command number (Scx m) then = IsScxOf command number m then
 IsMachineOf command number (Vlx m) then = IsVlxOf command m.snaps then
+IsMachineOf command number (Insert m) then = (m.edit.key < 2 ^ 64) × IsInsertOf command number m then
 IsMachineOf command number (Get m) then = IsGetOf command m.walk.key then
 
 -- a client between two turns, but for its machine: its next call is the first that is not answered
 pub record IsClientState (v : ClientView) (c : Client) (hand : Hand) : Type 0 where
   pub is_pass : c.pass.0 < v.layout.passes
+  pub tries : c.tries ≡ v.tries
   pub number : c.number ≡ v.answered
   pub place : IsAt v.calls c.pass.0 (drop c.number (commands v.calls c.pass.0)) c.next
   -- what it keeps are snapshots that the lines say
@@ -143,14 +162,26 @@ pub record IsClientState (v : ClientView) (c : Client) (hand : Hand) : Type 0 wh
   -- of other cells the lines say none, but of those that it has in hand
   pub unkept : (n : ℕ) → n ≤ 8 → kept_of c.kept n ≡ None → IsAmong hand.snaps n ⊎ (v.linked n ≡ None)
   pub dropped : (n : ℕ) → IsAmong hand.snaps n → kept_of c.kept n ≡ None
+  -- on the tree it keeps none
+  pub free : v.layout.mode ≡ Tree → (n : ℕ) → kept_of c.kept n ≡ None
+
+-- a client that holds its share
+pub record HoldsShare (v : ClientView) (c : Client) (hand : Hand) : Type 0 where
+  pub some : IsSome c.share
   -- its share is untouched from what it has in hand on
-  pub share : IsShare v.layout v.past c.pass.0 c.share hand.node hand.scx
+  pub share : IsShare v.layout v.past c.pass.0 (held c) hand.node hand.scx
   -- the SCX-records that it has taken are finished, but perhaps the one in hand
   pub over : AreFinished v.layout c.pass.0 hand.scx v.past
 
+-- it does while a machine runs, but for an insert, which has the share and says what is left of it
+abbrev pub Holds : ClientView → Client → Run → Type 0
+Holds v c (Insert m) = Unit {0}
+Holds v c run = HoldsShare v c (in_hand (held c) run)
+
 -- no machine of the client runs, and it has nothing in hand
 pub record Rests (v : ClientView) (c : Client) : Type 0 where
-  pub stands : IsClientState v c (no_hand c.share)
+  pub stands : IsClientState v c (no_hand (held c))
+  pub holds : HoldsShare v c (no_hand (held c))
   pub none : c.running ≡ None
 
 -- the client's next command: the first that is not answered
@@ -171,6 +202,7 @@ abbrev pub snaps_of : Run → List Snap
 snaps_of (Llx m) = []
 snaps_of (Scx m) = m.scx.update.snaps
 snaps_of (Vlx m) = m.snaps
+snaps_of (Insert m) = []
 snaps_of (Get m) = []
 
 -- the moment is that of the snapshot of node n: for a `set` one of the call itself, else that of
@@ -197,15 +229,35 @@ pub record IsWonAs (v : ClientView) (c s : ℕ) : Type 0 where
   pub yes : HasWon v.past s → (turn : ℕ) × (v.won ≡ Some turn)
   pub no : ¬ HasWon v.past s → v.won ≡ None
 
--- an update of the call has won if that of its machine's SCX-record has; none without an SCX
+-- the row has made an update of the pass c win, in the call that runs
+pub record IsOwnWin (v : ClientView) (c : ℕ) (row : Row) (before : History) (s : ℕ) : Type 0 where
+  pub within : Extends v.past (row ⊳ before)
+  pub since : Extends before v.start
+  pub wins : IsWin before row s
+  pub own : IsOwnScx v.layout c s
+
+-- an update of the call has won if some row has made one of the pass c win, and only then
+pub record IsWonSince (v : ClientView) (c : ℕ) : Type 0 where
+  pub yes : (row : Row) (before : History) (s : ℕ) → IsOwnWin v c row before s → (turn : ℕ) × (v.won ≡ Some turn)
+  pub no : (v.won ≡ None) ⊎ ((row : Row) × (before : History) × (s : ℕ) × IsOwnWin v c row before s)
+
+-- an update of the call has won if that of its machine's SCX-record has; none without an SCX. An
+-- insert may have had many
 abbrev pub IsWonBy : ClientView → ℕ → Run → Type 0
 IsWonBy v c (Scx m) = IsWonAs v c m.scx.scx.0
+IsWonBy v c (Insert m) = IsWonSince v c
 IsWonBy v c _ = v.won ≡ None
 
 -- since its call's begin the client has taken only what it has in hand
 pub record HasTaken (v : ClientView) (c : ℕ) (hand : Hand) : Type 0 where
   pub nodes : (n : ℕ) → IsOwnNode v.layout c n → n ≢ hand.node → ¬ IsTakenNode v.start n → ¬ IsTakenNode v.past n
   pub scx_records : HasTakenOnly v.layout c hand.scx v.start v.past
+
+-- a machine has taken what it has in hand alone; of an insert, this was left of the share as the
+-- call began
+abbrev pub TakesInHand : ClientView → Client → Remaining → Run → Type 0
+TakesInHand v c share (Insert m) = IsShare v.layout v.start c.pass.0 share share.next_node share.next_scx
+TakesInHand v c share run = HasTaken v c.pass.0 (in_hand (held c) run)
 
 -- at the call's begin the share had room for an SCX that runs
 abbrev pub IsRoomy : ClientView → ℕ → Run → Type 0
@@ -216,8 +268,9 @@ IsRoomy v c _ = Unit {0}
 -- the client had left alone as the machine started
 pub record Works (v : ClientView) (c : Client) (run : Run) (then : Option Put) : Type 0 where
   pub mode : v.layout.mode ≡ run_mode run
-  pub stands : IsClientState v c (in_hand c.share run)
-  pub newest : HasNewest c.share run
+  pub stands : IsClientState v c (in_hand (held c) run)
+  pub holds : Holds v c run
+  pub newest : HasNewest (held c) run
   pub command : Command
   pub is : command_of v c ≡ Some command
   pub run_of : IsMachineOf command c.number run then
@@ -229,7 +282,9 @@ pub record Works (v : ClientView) (c : Client) (run : Run) (then : Option Put) :
   pub moments : HaveMoments v c.pass.0 command (snaps_of run)
   pub alone : AreLeftAlone v.layout c.pass.0 start (snaps_of run)
   pub room : IsRoomy v c.pass.0 run
-  pub took : HasTaken v c.pass.0 (in_hand c.share run)
+  -- what was left of the share as the call began, if it is an insert
+  pub opening : Remaining
+  pub took : TakesInHand v c opening run
   pub won : IsWonBy v c.pass.0 run
   -- an update of the call has won in its first turn or later
   pub late : (turn : ℕ) → v.won ≡ Some turn → c.begin ≤ turn
@@ -243,26 +298,32 @@ pub record Starts (v : ClientView) (c : Client) (run : Run) (then : Option Put) 
   pub works : Works v c run then
   pub none : c.running ≡ None
   pub ready : RunIsReady run (machine_call v c works.is_pass works.start) v.past None
-  pub few : (taken : ℕ) → length (taken_nodes v.past) ≤ taken → v.steps + left_of run then taken ≤ most_steps works.command taken
+  pub spent : HasSpent works.opening v.tries run
+  pub few : (taken : ℕ) → length (taken_nodes v.past) ≤ taken → v.steps + left_of run then taken ≤ most_steps works.command v.tries taken
 
 -- the machine has answered
 pub record Answered (v : ClientView) (c : Client) (run : Run) (then : Option Put) (ended : Ended) : Type 0 where
   pub works : Works v c run then
   pub none : c.running ≡ None
   pub answers : RunAnswers run (machine_call v c works.is_pass works.start) v.past ended
-  pub few : (taken : ℕ) → length (taken_nodes v.past) ≤ taken → v.steps + then_left then ≤ most_steps works.command taken
+  pub spent : HasSpentAll works.opening v.tries run
+  -- the share is the client's again
+  pub back : c.share ≡ share_behind run c.share
+  pub few : (taken : ℕ) → length (taken_nodes v.past) ≤ taken → v.steps + then_left then ≤ most_steps works.command v.tries taken
 
 -- the machine waits for a step
 pub record Waits (v : ClientView) (c : Client) (running : Running) : Type 0 where
   pub works : Works v c running.run running.then
   pub waits : RunWaits running.run (machine_call v c works.is_pass works.start) v.past running.step
-  pub few : (taken : ℕ) → length (taken_nodes v.past) ≤ taken → suc (v.steps + left_of running.run running.then taken) ≤ most_steps works.command taken
+  pub spent : HasSpent works.opening v.tries running.run
+  pub few : (taken : ℕ) → length (taken_nodes v.past) ≤ taken → suc (v.steps + left_of running.run running.then taken) ≤ most_steps works.command v.tries taken
 
 -- the machine may be called with what its step has found
 pub record Hears (v : ClientView) (c : Client) (running : Running) (found : ℕ) : Type 0 where
   pub works : Works v c running.run running.then
   pub ready : RunIsReady running.run (machine_call v c works.is_pass works.start) v.past (Some found)
-  pub few : (taken : ℕ) → length (taken_nodes v.past) ≤ taken → v.steps + left_of running.run running.then taken ≤ most_steps works.command taken
+  pub spent : HasSpent works.opening v.tries running.run
+  pub few : (taken : ℕ) → length (taken_nodes v.past) ≤ taken → v.steps + left_of running.run running.then taken ≤ most_steps works.command v.tries taken
 
 -- the client's next call has not begun
 pub record IsUnbegun (v : ClientView) (began : Option ℕ) : Type 0 where
@@ -300,11 +361,24 @@ pub record Refuses (v : ClientView) (c : Client) (answer : Answer) : Type 0 wher
   pub refusal : MayAnswerAtOnce command answer
   pub right : IsRight v.layout c.pass.0 v.past v.start v.linked command answer
   pub unwon : v.won ≡ None
-  pub took : HasTakenOne v.layout c.pass.0 v.past v.start
+  pub took : HasTakenFew v.layout v.tries c.pass.0 v.past v.start command
 
 -- what the lines say of the client's snapshots once its call is answered so
 abbrev pub linked_by : ClientView → Command → Answer → ℕ → Option History
 linked_by v command answer n = linked_then (Some command) answer v.past n (v.linked n)
+
+-- an insert of the key is done by one row of the call, just before which the map had this there
+pub record HasInserted (v : ClientView) (c key : ℕ) (old : Option ℕ) : Type 0 where
+  pub row : Row
+  pub before : History
+  pub scx : ℕ
+  pub win : IsOwnWin v c row before scx
+  pub told : (map : List Pair) → Spells v.layout (value before) map → get key map ≡ old
+
+-- what an insert tells is what its own row has found
+abbrev pub Tells : ClientView → ℕ → Command → Answer → Type 0
+Tells v c (InsertOf key value) (Value old) = HasInserted v c key old
+Tells v c command answer = Unit {0}
 
 -- the client's call is answered, and the answer is right
 pub record Ends (v : ClientView) (old new : Client) (answer : Answer) : Type 0 where
@@ -315,8 +389,9 @@ pub record Ends (v : ClientView) (old new : Client) (answer : Answer) : Type 0 w
   pub rests : Rests (record v { linked = linked_by v command answer }) new
   pub answers : MayAnswerAfterStep command answer
   pub right : IsRight v.layout new.pass.0 v.past v.start v.linked command answer
-  pub entry : HasItsEntry answer v.won
-  pub took : HasTakenOne v.layout new.pass.0 v.past v.start
+  pub entry : HasItsEntry (enters command answer) v.won
+  pub tells : Tells v new.pass.0 command answer
+  pub took : HasTakenFew v.layout v.tries new.pass.0 v.past v.start command
   pub late : (turn : ℕ) → v.won ≡ Some turn → new.begin ≤ turn
 
 -- what became of a client that was told what its step
@@ -345,11 +420,11 @@ pub record CanPut (v : ClientView) (linked : ℕ → Option History) (c : Client
   pub command : Command
   pub is : command_of v c ≡ Some command
   pub moments : HaveMoments v c.pass.0 command snaps
-  pub took : HasTaken v c.pass.0 (no_hand c.share)
+  pub took : HasTaken v c.pass.0 (no_hand (held c))
   -- the client's command is one that such an SCX serves
   pub serves : (m : PutRun) → IsPutOf m c.number (nodes_of snaps) removed field x → IsScxOf command c.number m None
   -- it may make as many steps more
-  pub few : (taken : ℕ) → v.steps + 40 ≤ most_steps command taken
+  pub few : (taken : ℕ) → v.steps + 40 ≤ most_steps command v.tries taken
 
 -- the answer names what the share has none of
 abbrev pub TellsFull : Remaining → Answer → Type 0
@@ -359,7 +434,7 @@ TellsFull share _ = ⊥
 -- an SCX begins, or the share has too little for it
 abbrev pub Puts : ClientView → (ℕ → Option History) → Client → Client → Option Answer → Type 0
 Puts v linked old new None = GoesOn v old new
-Puts v linked old new (Some answer) = IsSameCall old new × (new.begin ≡ old.begin) × Rests (record v { linked = linked }) new × TellsFull new.share answer
+Puts v linked old new (Some answer) = IsSameCall old new × (new.begin ≡ old.begin) × Rests (record v { linked = linked }) new × TellsFull (held new) answer
 
 -- a call begins at this turn, or is refused
 abbrev pub BeginsOrRefuses : ClientView → ℕ → Client → Client → Option Answer → Type 0

@@ -1,4 +1,5 @@
 pub mod Allowed
+pub mod Moments
 pub mod RunSteps
 pub mod RunKnown
 pub mod Lines

@@ -20,12 +20,12 @@ pub record AreTurnsWhile (so : List Line → Type 0) (c : ℕ) (old new : Player
   pub each : AreMadeWhile so c (lines_of old) behind
   pub turns : clients (lines_of new) ≡ replicate (turns behind) c ++ clients (lines_of old)
 
--- no call makes more steps than these: a `set` makes 104 at most, and a get three for each node of
--- all shares and for two more
-abbrev pub most_of_all : Layout → ℕ
-most_of_all lay = 104 + 3 * (2 + lay.passes * lay.nodes)
+-- no call makes more steps than these: a `set` makes 104 at most, a get three for each node of all
+-- shares and for two more, and an insert in each of its tries as many and 178 others
+abbrev pub most_of_all : Layout → ℕ → ℕ
+most_of_all lay tries = 104 + 3 * (2 + lay.passes * lay.nodes) + tries * (3 * (2 + lay.passes * lay.nodes) + 178)
 
 -- a number that falls with each turn of a client that has a call left: for each call not answered
 -- one more than the steps that any call may make, less the steps that the next one has made
-abbrev pub to_go : Layout → List Call → ℕ → List Line → ℕ
-to_go lay calls c lines = suc (most_of_all lay) * length (commands calls c) - (suc (most_of_all lay) * answered lines c + steps lines c)
+abbrev pub to_go : Layout → ℕ → List Call → ℕ → List Line → ℕ
+to_go lay tries calls c lines = suc (most_of_all lay tries) * length (commands calls c) - (suc (most_of_all lay tries) * answered lines c + steps lines c)

@@ -4,12 +4,13 @@ ghost use Rattle.std.specs.Prelude.{◌≡◌, ℕ, ◌+◌, ◌<◌, ◌≤◌,
 use crate::kept::Kept;
 use crate::place::next_call;
 use crate::run::{Ended, Run};
-use arena::{Full, Layout, NodeNo, PassNo, Share, Side, Step, Turn};
+use arena::{Fresh, Full, Layout, NodeNo, PassNo, Resource, ScxNo, Share, Side, Step, Turn};
 use arrayvec::ArrayVec;
+use places::Places;
 use prims::{Llx, LlxRun, PutRun, ScxRun, Snap, Snaps, Update, VlxRun};
 use record::{Answer, Reply};
 use script::{Call, Cell, Command};
-use tree::GetRun;
+use tree::{GetRun, Insert};
 
 /// What a `set` does once its LLX has given a snapshot.
 #[derive(Clone, Copy, Debug, PartialEq, Eq)]
@@ -39,7 +40,10 @@ pub(crate) enum NextAction {
 #[derive(Debug, Drop)]
 pub(crate) struct Client {
     pass: PassNo,
-    share: Share,
+    /// How often a call may try.
+    tries: u32,
+    /// None while an insert runs, which has it.
+    share: Option<Share>,
     kept: Kept,
     /// Where in the script the call stands that runs or comes next.
     next: Option<usize>,
@@ -51,7 +55,7 @@ pub(crate) struct Client {
 }
 
 impl Client {
-    ghost use Rattle.std.specs.Prelude.{◌≡◌, ◌≢◌, ◌<◌, ◌+◌, ◌-◌, Option, Some, None, is_some, IfOk, IfErr, List, [], length, map, MatchOption, All};
+    ghost use Rattle.std.specs.Prelude.{◌≡◌, ◌≢◌, ◌<◌, ◌≤◌, ◌+◌, ◌-◌, Option, Some, None, IsSome, IfSome, is_some, IfOk, OnOk, IfErr, List, [], length, map, slice_get, MatchOption, All};
     ghost use Rattle.script.specs.Commands.{mode_of};
     ghost use Rattle.arena.specs.declared.limits.Mode.TheVariants.{Records};
     ghost use Rattle.script.specs.declared.command.Command.TheVariants.{Scx as ScxCommand};
@@ -63,18 +67,26 @@ impl Client {
     ghost use Rattle.player.specs.declared.run.Run.TheVariants.{Llx as LlxOf};
     ghost use Rattle.player.specs.declared.run.Ended.TheVariants.{Llx as LlxEnded};
     ghost use Rattle.player.specs.declared.client.Running.{Running};
-    ghost use Rattle.record.specs.Answers.{moment_of};
+    ghost use Rattle.arena.specs.declared.limits.Mode.TheVariants.{Tree};
+    ghost use Rattle.script.specs.declared.command.Command.TheVariants.{Insert as InsertCommand};
+    ghost use Rattle.script.specs.declared.command.Call.{Call as ScriptCall};
+    ghost use Rattle.arena.specs.Share.{IsFull, after_taking};
+    ghost use Rattle.record.specs.declared.record.Line.{Line};
+    ghost use Rattle.places.specs.Places.{changes};
+    ghost use Rattle.player.specs.Moments.{IsMomentBy, IsValueMoment};
+    ghost use Rattle.player.specs.RunKnown.{share_behind};
     ghost use Rattle.player.specs.RunKnown.{RunAsksFirst};
-    ghost use Rattle.player.specs.ClientView.{ClientView, client_view, IsSound, IsAtNextCall, Rests, command_of, Starts, Hears, Answered, Told, CanPut, Puts, BeginsOrRefuses, IsNextAction, IsUnbegun, IsClient};
+    ghost use Rattle.player.specs.ClientView.{ClientView, client_view, IsSound, IsAtNextCall, Rests, command_of, Starts, Hears, Answered, Told, CanPut, Puts, held, BeginsOrRefuses, IsNextAction, IsUnbegun, IsClient};
 
-    pub(crate) fn new(layout: &Layout, pass: PassNo, calls: &[Call]) -> Client
+    pub(crate) fn new(layout: &Layout, tries: u32, pass: PassNo, calls: &[Call]) -> Client
         requires { pass.0 < layout.now.passes }
         ensures pass { result.pass ≡ pass }
-        ensures rests { Rests (client_view layout.now calls.now [] pass.0) result }
+        ensures rests { Rests (client_view layout.now tries calls.now [] pass.0) result }
     {
         Client {
             pass,
-            share: Share::of(layout, pass),
+            tries,
+            share: Some(Share::of(layout, pass)),
             kept: Kept::new(),
             next: next_call(calls, 0, pass),
             number: 0,
@@ -97,7 +109,7 @@ impl Client {
 
     /// How the client stands at this turn, with its next call begun.
     pub(crate) fn next_action(&mut self, calls: &[Call], turn: u64) -> NextAction
-        ensures { (v : ClientView) (began : Option ℕ) → IsSound v → All (λ call. mode_of call.command ≡ v.layout.mode) v.calls → calls.now ≡ v.calls → IsClient v began self.old → IsNextAction v turn self.old self.new result }
+        ensures { (v : ClientView) (began : Option ℕ) → IsSound v → 0 < v.tries → All (λ call. mode_of call.command ≡ v.layout.mode) v.calls → calls.now ≡ v.calls → IsClient v began self.old → IsNextAction v turn self.old self.new result }
     {
         if self.running.is_some() {
             return self.asked();
@@ -117,7 +129,7 @@ impl Client {
 
     /// Begins the next call, if there is one.
     fn begin_next(&mut self, calls: &[Call], turn: u64) -> NextAction
-        ensures { (v : ClientView) (began : Option ℕ) → IsSound v → All (λ call. mode_of call.command ≡ v.layout.mode) v.calls → calls.now ≡ v.calls → Rests v self.old → (self.old.next ≢ None → IsUnbegun v began) → IsNextAction v turn self.old self.new result }
+        ensures { (v : ClientView) (began : Option ℕ) → IsSound v → 0 < v.tries → All (λ call. mode_of call.command ≡ v.layout.mode) v.calls → calls.now ≡ v.calls → Rests v self.old → (self.old.next ≢ None → IsUnbegun v began) → IsNextAction v turn self.old self.new result }
     {
         let Some(at) = self.next else {
             return NextAction::Finished;
@@ -133,7 +145,7 @@ impl Client {
 
     /// Begins a call, which answers at once or asks for a step.
     fn begin(&mut self, command: Command, turn: u64) -> Option<Answer>
-        ensures { (v : ClientView) (began : Option ℕ) → IsSound v → v.layout.mode ≡ mode_of command → Rests v self.old → IsUnbegun v began → command_of v self.old ≡ Some command → BeginsOrRefuses v turn self.old self.new result }
+        ensures { (v : ClientView) (began : Option ℕ) → IsSound v → 0 < v.tries → v.layout.mode ≡ mode_of command → Rests v self.old → IsUnbegun v began → command_of v self.old ≡ Some command → BeginsOrRefuses v turn self.old self.new result }
     {
         self.begin = turn;
         match command {
@@ -151,8 +163,18 @@ impl Client {
                 Ok(snaps) => self.run(Run::Vlx(VlxRun::new(Snaps::new(&snaps))), None),
                 Err(node) => Some(Answer::Unlinked { node }),
             },
+            Command::Insert { key, value } => self.begin_insert(Insert { key, value }),
             Command::Get { key } => self.run(Run::Get(GetRun::new(key)), None),
         }
+    }
+
+    /// Gives the share to an insert, which runs with that.
+    fn begin_insert(&mut self, insert: Insert) -> Option<Answer>
+        ensures { (v : ClientView) (began : Option ℕ) → IsSound v → 0 < v.tries → v.layout.mode ≡ Tree → Rests v self.old → IsUnbegun v began → command_of v self.old ≡ Some (InsertCommand insert.key insert.value) → BeginsOrRefuses v self.old.begin self.old self.new result }
+    {
+        let share = self.share.take()?;
+        let run = insert.run(share, self.tries, self.number);
+        self.run(Run::Insert(run), None)
     }
 
     /// Takes the snapshots and the records of an `scx`, if they are there.
@@ -184,7 +206,7 @@ impl Client {
         requires among { IsAmong snaps.now field.0.0 }
         ensures { (v : ClientView) (linked : ℕ → Option History) → IsSound v → CanPut v linked self.old snaps.now (map (λ n. n.0) finalize.now) (field.0.0, field.1) value → Puts v linked self.old self.new result }
     {
-        let (fresh, scx) = match self.share.take() {
+        let (fresh, scx) = match self.take() {
             Ok(records) => records,
             Err(Full { what, left }) => return Some(Answer::Full { what, left }),
         };
@@ -192,6 +214,23 @@ impl Client {
         let update = Update::new(snaps, finalize, field, fresh);
         let scx = ScxRun::new(update, scx, self.number);
         self.run(Run::Scx(PutRun::new(value, scx)), None)
+    }
+
+    /// Takes a node and an SCX-record of the share. No insert runs.
+    fn take(&mut self) -> Result<(Fresh, ScxNo), Full>
+        ensures same { self.new ≡ record self.old { share = self.new.share } }
+        ensures records { IfOk result (λ r. (r.0 ≡ (held self.old).next_node) × (r.1.0 ≡ (held self.old).next_scx)) }
+        ensures some { OnOk result ((0 < (held self.old).nodes) × (0 < (held self.old).scx)) }
+        ensures left { IsSome self.old.share → OnOk result (self.new.share ≡ Some (after_taking (held self.old))) }
+        ensures full { IsSome self.old.share → IfErr result (λ f. IsFull (held self.old) f × (self.new.share ≡ self.old.share)) }
+    {
+        let Some(mut share) = self.share.take() else {
+            let what = Resource::Nodes;
+            return Err(Full { what, left: 0 });
+        };
+        let taken = share.take();
+        self.share = Some(share);
+        taken
     }
 
     /// Runs a machine from its start. It may answer at once; the call then makes no step.
@@ -222,7 +261,19 @@ impl Client {
                 self.running = Some(Running { run, then, step });
                 None
             }
-            Turn::Done(ended) => self.after(ended, then),
+            Turn::Done(ended) => {
+                self.take_back(run);
+                self.after(ended, then)
+            }
+        }
+    }
+
+    /// Takes the share back from a machine that has answered, if it has that.
+    fn take_back(&mut self, run: Run)
+        ensures { self.new ≡ record self.old { share = share_behind run self.old.share } }
+    {
+        if let Some(share) = run.into_share() {
+            self.share = Some(share);
         }
     }
 
@@ -232,7 +283,7 @@ impl Client {
     {
         match ended {
             Ended::Llx(llx) => self.after_llx(llx, then),
-            Ended::Scx(_) | Ended::Vlx(_) | Ended::Get(_) => Some(ended.answer()),
+            _ => Some(ended.answer()),
         }
     }
 
@@ -251,21 +302,20 @@ impl Client {
         }
     }
 
-    /// Ends the call that runs, or that answered at once, in this turn. `won` is the turn of the
-    /// last update of the client's that has won.
+    /// Ends the call that runs, or that answered at once, in this turn. It took place at `moment`.
     pub(crate) fn end(
         &mut self,
         calls: &[Call],
         turn: u64,
         answer: Answer,
-        won: Option<u64>,
+        moment: Option<u64>,
     ) -> Reply
         ensures client { result.client ≡ self.old.pass }
         ensures call { result.call ≡ self.old.number }
         ensures begin { result.begin ≡ self.old.begin }
         ensures end { result.end ≡ turn }
         ensures answer { result.answer ≡ answer }
-        ensures moment { result.moment ≡ moment_of answer self.old.begin turn won }
+        ensures moment { result.moment ≡ moment }
         ensures next { IsAtNextCall calls.now self.old self.new }
     {
         let reply = Reply {
@@ -273,7 +323,7 @@ impl Client {
             call: self.number,
             begin: self.begin,
             end: turn,
-            moment: self.moment(turn, answer, won),
+            moment,
             answer,
         };
         if let Some(at) = self.next {
@@ -283,17 +333,53 @@ impl Client {
         reply
     }
 
-    /// The turn at which an answer stands: of a done SCX that of its update, of a VLX its first, of
-    /// an LLX or a get its last.
-    fn moment(&self, turn: u64, answer: Answer, won: Option<u64>) -> Option<u64>
-        ensures { result ≡ moment_of answer self.now.begin turn won }
+    /// The call that runs or comes next.
+    pub(crate) fn call(&self, calls: &[Call]) -> Option<Call>
+        ensures here { (at : ℕ) (call : ScriptCall) → self.now.next ≡ Some at → slice_get calls.now at ≡ Some call → result ≡ Some call }
+        ensures one { IfSome result (λ call. (at : ℕ) × (slice_get calls.now at ≡ Some call)) }
+    {
+        calls.get(self.next?).copied()
+    }
+
+    /// The turn at which an answer stands: of an update that is done, and of an insert, that of its
+    /// entry, of a VLX its first, of an LLX its last, of a get one of its turns after which the map
+    /// was as it tells. `won` is the turn of the last update of the client's that has won.
+    pub(crate) fn moment(
+        &self,
+        calls: &[Call],
+        turn: u64,
+        answer: Answer,
+        won: Option<u64>,
+        places: &Places,
+    ) -> Option<u64>
+        requires { self.now.begin ≤ turn }
+        ensures { (call : ScriptCall) (at : ℕ) (lines : List Line) → self.now.next ≡ Some at → slice_get calls.now at ≡ Some call → IsMomentBy calls.now lines (changes places.now) call.command answer self.now.begin turn won result }
     {
         match answer {
             Answer::Done => won,
             Answer::Same => Some(self.begin),
             Answer::Snapshot { left: _, right: _ } => Some(turn),
             Answer::Finalized => Some(turn),
-            Answer::Value(_) => Some(turn),
+            Answer::Value(value) => self.value_moment(calls, turn, value, won, places),
+            _ => None,
+        }
+    }
+
+    /// The turn at which an answer stands that tells a value.
+    fn value_moment(
+        &self,
+        calls: &[Call],
+        turn: u64,
+        value: Option<u64>,
+        won: Option<u64>,
+        places: &Places,
+    ) -> Option<u64>
+        requires { self.now.begin ≤ turn }
+        ensures { (call : ScriptCall) (at : ℕ) (lines : List Line) → self.now.next ≡ Some at → slice_get calls.now at ≡ Some call → IsValueMoment calls.now lines (changes places.now) call.command value self.now.begin turn won result }
+    {
+        match self.call(calls)?.command {
+            Command::Insert { key: _, value: _ } => won,
+            Command::Get { key } => places.greatest(key, value, self.begin, turn),
             _ => None,
         }
     }

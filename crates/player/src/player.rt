@@ -7,8 +7,9 @@ ghost use Rattle.record.specs.LawfulRun.{IsLawfulRun};
 use crate::client::{Client, NextAction};
 use crate::lines::Lines;
 use arena::{Kind, NoMemory, NodeNo, NodeWord, PassNo, PlainWords, ScxNo, ScxWord, Step, Word};
+use places::{Change, Places};
 use record::{Answer, Entry, Line, Record, Row};
-use script::Script;
+use script::{Command, Script};
 use std::alloc::Global;
 
 /// Plays a script's calls, one turn of a client at a time.
@@ -20,13 +21,15 @@ pub struct Player {
     /// The turn of each client's last update that won.
     wins: Vec<Option<u64>>,
     lines: Lines,
+    /// The changes of the map so far.
+    places: Places,
     ghost all_clients: { vec_len clients ≡ script.layout.passes },
     ghost all_wins: { vec_len wins ≡ script.layout.passes },
     ghost same_layout: { words.layout ≡ script.layout },
 }
 
 impl Player {
-    ghost use Rattle.std.specs.Prelude.{◌≡◌, ◌≢◌, ◌⊎◌, ℕ, suc, ◌+◌, ◌<◌, ◌≤◌, ◌∷◌, List, [], Some, None, is_some, IfOk, OnOk, IfErr, OnErr, IfSome, MatchOption, slice_get, set, reverse};
+    ghost use Rattle.std.specs.Prelude.{◌≡◌, ◌≢◌, ◌⊎◌, ℕ, suc, ◌+◌, ◌<◌, ◌≤◌, ◌∷◌, List, [], Some, None, is_some, IfOk, OnOk, IfErr, OnErr, IfSome, MatchOption, slice_get, set, reverse, All};
     ghost use Rattle.arena.specs.declared.word.Side.{Side};
     ghost use Rattle.arena.specs.declared.step.Kind.TheVariants.{Update};
     ghost use Rattle.arena.specs.Layout.{IsWord, all_scx};
@@ -39,7 +42,10 @@ impl Player {
     ghost use Rattle.player.specs.TurnsMore.{AreTurnsWhile};
     ghost use Rattle.player.specs.Lines.{room, newest};
     ghost use Rattle.record.specs.Turns.{turns, clients, answered, made, entry_owed};
-    ghost use Rattle.player.specs.BetweenTurns.{IsBetweenTurns, IsAsked, IsMade, IsReplied, IsTurnMore, IsSameScript, HasSameClients, HasSameWords};
+    ghost use Rattle.player.specs.BetweenTurns.{IsBetweenTurns, IsAsked, IsMade, IsReplied, IsTurnMore, IsSameScript, HasSameClients, HasSameWords, HasSamePlaces, ArePlaces, IsAtInsert};
+    ghost use Rattle.arena.specs.declared.limits.Mode.TheVariants.{Tree};
+    ghost use Rattle.record.specs.declared.record.Entry.{Entry as LogEntry};
+    ghost use Rattle.places.specs.Places.{changes, room as places_room, Knows, HoldsOfKey};
 
     /// A player of a copy of the script, with no turn made. The only error is want of memory.
     pub fn new(alloc: Global, script: &Script) -> Result<Player, NoMemory>
@@ -54,6 +60,7 @@ impl Player {
         let clients = clients(alloc, &script)?;
         let wins = vec![in alloc; None; script.layout.passes as usize]?;
         Ok(Player {
+            places: Places::new(alloc, &script.calls)?,
             script,
             words,
             clients,
@@ -69,12 +76,12 @@ impl Player {
         requires client { client.0 < passes_of self.old }
         requires played { IsBetweenTurns self.old }
         ensures turn { IfOk result (λ row. IsTurnMore self.old self.new client.0 row) }
-        ensures refused { IfErr result (λ e. HasSameClients self.old self.new × (newest self.new.lines ≡ newest self.old.lines) × (self.new.wins ≡ self.old.wins)) }
+        ensures refused { IfErr result (λ e. HasSameClients self.old self.new × (newest self.new.lines ≡ newest self.old.lines) × (self.new.wins ≡ self.old.wins) × HasSamePlaces self.old.places self.new.places) }
     {
         self.lines.reserve()?;
+        self.places.reserve()?;
         let number = self.lines.next_turn();
-        let action = self.clients[client.0 as usize].next_action(&self.script.calls, number);
-        match action {
+        match self.clients[client.0 as usize].next_action(&self.script.calls, number) {
             NextAction::Asks(step) => Ok(self.make(client, number, step)),
             NextAction::Answers(answer) => {
                 let row = self.idle(client, number);
@@ -90,6 +97,7 @@ impl Player {
         ensures room { 2 ≤ room self.new.lines }
         ensures same { HasSameClients self.old self.new }
         ensures wins { self.new.wins.items ≡ self.old.wins.items }
+        ensures places { self.new.places ≡ self.old.places }
         ensures row { result ≡ Row.Idle number client }
         ensures line { newest self.new.lines ≡ Line.Step result ∷ newest self.old.lines }
     {
@@ -101,6 +109,7 @@ impl Player {
     /// Makes the step that a client has asked for.
     fn make(&mut self, client: PassNo, number: u64, step: Step) -> Row
         requires room { 3 ≤ room self.old.lines }
+        requires places { 1 ≤ places_room self.old.places }
         requires client { client.0 < passes_of self.old }
         requires asked { IsAsked self.old client.0 number step }
         ensures { IsTurnMore self.old self.new client.0 result }
@@ -126,14 +135,38 @@ impl Player {
     fn log(&mut self, number: u64, row: &arena::Row)
         requires room { 2 ≤ room self.old.lines }
         requires made { IsMade self.old number row.now }
+        requires roomy { 1 ≤ places_room self.old.places }
+        requires places { ArePlaces self.old.script.layout (calls_of self.old) (newest self.old.lines) self.old.places }
+        requires owner { (e : LogEntry) → entry_owed self.old.script.layout (newest self.old.lines) ≡ Some e → self.old.script.layout.mode ≡ Tree → IsAtInsert (calls_of self.old) self.old.clients.items e }
         ensures room { 1 ≤ room self.new.lines }
         ensures same { HasSameClients self.old self.new }
         ensures line { MatchOption (entry_owed self.old.script.layout (newest self.old.lines)) (newest self.new.lines ≡ newest self.old.lines) (λ e. newest self.new.lines ≡ Line.Log e ∷ newest self.old.lines) }
         ensures wins { MatchOption (entry_owed self.old.script.layout (newest self.old.lines)) (self.new.wins.items ≡ self.old.wins.items) (λ e. (e.client.0 < passes_of self.old) × (self.new.wins.items ≡ set self.old.wins.items e.client.0 (Some number))) }
+        ensures places { ArePlaces self.new.script.layout (calls_of self.new) (newest self.new.lines) self.new.places }
     {
         if let Some(entry) = self.entry(number, row) {
             self.lines.push_entry(entry);
             self.wins[entry.client.0 as usize] = Some(number);
+            self.place(&entry);
+        }
+    }
+
+    /// Keeps the change of the map that an entry makes, if it is of an insert.
+    fn place(&mut self, entry: &Entry)
+        requires room { 1 ≤ places_room self.old.places }
+        requires client { entry.now.client.0 < passes_of self.old }
+        requires keys { All (λ call. HoldsOfKey (Knows self.old.places) call.command) (calls_of self.old) }
+        ensures same { self.new ≡ record self.old { places = self.new.places } }
+        ensures keys { (key : ℕ) → Knows self.old.places key → Knows self.new.places key }
+        ensures change { (x : IsAtInsert (calls_of self.old) self.old.clients.items entry.now) → changes self.new.places ≡ record { turn = entry.now.step; key = x.key; value = Some x.value } ∷ changes self.old.places }
+    {
+        let call = self.clients[entry.client.0 as usize].call(&self.script.calls);
+        if let Some(call) = call
+            && let Command::Insert { key, value } = call.command
+        {
+            let turn = entry.step;
+            let value = Some(value);
+            self.places.push(Change { turn, key, value });
         }
     }
 
@@ -163,12 +196,15 @@ impl Player {
     fn reply(&mut self, client: PassNo, number: u64, answer: Answer)
         requires room { 1 ≤ room self.old.lines }
         requires client { client.0 < passes_of self.old }
+        requires begun { (c : Client) → slice_get self.old.clients.items client.0 ≡ Some c → c.begin ≤ number }
         ensures same { HasSameWords self.old self.new }
+        ensures places { self.new.places ≡ self.old.places }
         ensures replied { (c : Client) → slice_get self.old.clients.items client.0 ≡ Some c → c.pass.0 ≡ client.0 → IsReplied self.old self.new number answer c }
     {
         let at = client.0 as usize;
         let won = self.wins[at];
-        let reply = self.clients[at].end(&self.script.calls, number, answer, won);
+        let moment = self.clients[at].moment(&self.script.calls, number, answer, won, &self.places);
+        let reply = self.clients[at].end(&self.script.calls, number, answer, moment);
         self.lines.push_reply(reply);
     }
 
@@ -243,7 +279,7 @@ impl Player {
     pub fn record(self) -> Record
         ensures script { result.script ≡ self.script }
         ensures lines { result.lines.items ≡ self.lines.list.items }
-        ensures lawful { IsBetweenTurns self → IsLawfulRun self.script.layout self.script.calls.items (reverse (clients (newest self.lines))) result.lines.items }
+        ensures lawful { IsBetweenTurns self → IsLawfulRun self.script.layout self.script.limits.tries self.script.calls.items (reverse (clients (newest self.lines))) result.lines.items }
     {
         Record {
             script: self.script,
@@ -255,11 +291,16 @@ impl Player {
 /// The clients of a script before their first turns.
 fn clients(alloc: Global, script: &Script) -> Result<Vec<Client>, NoMemory>
     ensures count { IfOk result (λ c. vec_len c ≡ script.now.layout.passes) }
-    ensures each { IfOk result (λ c. (j : ℕ) (d : Client) → slice_get c.items j ≡ Some d → (d.pass.0 ≡ j) × Rests (client_view script.now.layout script.now.calls.items [] j) d) }
+    ensures each { IfOk result (λ c. (j : ℕ) (d : Client) → slice_get c.items j ≡ Some d → (d.pass.0 ≡ j) × Rests (client_view script.now.layout script.now.limits.tries script.now.calls.items [] j) d) }
 {
     let mut clients = Vec::new(alloc);
     for pass in 0..script.layout.passes {
-        clients.push(Client::new(&script.layout, PassNo(pass), &script.calls))?;
+        clients.push(Client::new(
+            &script.layout,
+            script.limits.tries,
+            PassNo(pass),
+            &script.calls,
+        ))?;
     }
     Ok(clients)
 }
@@ -271,7 +312,7 @@ pub fn play(alloc: Global, script: &Script, turns: &[PassNo]) -> Result<Record, 
     ensures limits { IfOk result (λ r. r.script.limits ≡ script.now.limits) }
     ensures layout { IfOk result (λ r. r.script.layout ≡ script.now.layout) }
     ensures calls { IfOk result (λ r. r.script.calls.items ≡ script.now.calls.items) }
-    ensures lawful { IfOk result (λ r. IsLawfulRun script.now.layout script.now.calls.items (map (λ p. p.0) turns.now) r.lines.items) }
+    ensures lawful { IfOk result (λ r. IsLawfulRun script.now.layout script.now.limits.tries script.now.calls.items (map (λ p. p.0) turns.now) r.lines.items) }
 {
     let mut player = Player::new(alloc, script)?;
     for turn in turns {

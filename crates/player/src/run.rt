@@ -5,12 +5,13 @@ ghost use Rattle.arena.specs.Machines.{Call, IsRun, MatchTurn};
 ghost use Rattle.arena.specs.TakenNodes.{taken_nodes};
 ghost use Rattle.player.specs.Allowed.{PlayedAllows};
 ghost use Rattle.player.specs.RunKnown.{RunIsReady, RunWaits, RunAnswers, RunAsksFirst, IsSameMachine, run_mode};
-ghost use Rattle.player.specs.RunSteps.{run_left};
+ghost use Rattle.player.specs.RunSteps.{run_left, HasSpentSome, HasSpentRest};
 
-use arena::{Machine, Turn};
+use arena::{Full, Machine, Share, Turn};
 use prims::{Cells, Llx, LlxRun, PutRun, Scx, Snaps, Vlx, VlxRun};
 use record::Answer;
-use tree::{GetRun, Tree};
+use tree::{GetRun, InsertRun, Tree};
+use updates::Updated;
 
 /// A call that has begun. A `set` is first an LLX and then an SCX.
 #[derive(Debug, Drop)]
@@ -18,6 +19,8 @@ pub(crate) enum Run {
     Llx(LlxRun),
     Scx(PutRun),
     Vlx(VlxRun<Snaps>),
+    /// It has the client's share, until it has answered.
+    Insert(InsertRun),
     Get(GetRun),
 }
 
@@ -27,6 +30,7 @@ pub(crate) enum Ended {
     Llx(Llx),
     Scx(Scx),
     Vlx(Vlx),
+    Insert(Updated),
     Get(Option<u64>),
 }
 
@@ -49,17 +53,24 @@ impl Ended {
             Ended::Scx(Scx::Lost { node, scx }) => Answer::Lost { node, scx },
             Ended::Vlx(Vlx::Same) => Answer::Same,
             Ended::Vlx(Vlx::Changed { node, scx }) => Answer::Changed { node, scx },
+            Ended::Insert(Updated::Done { old }) => Answer::Value(old),
+            Ended::Insert(Updated::Contended { node, scx }) => Answer::Contended { node, scx },
+            Ended::Insert(Updated::Full(Full { what, left })) => Answer::Full { what, left },
             Ended::Get(value) => Answer::Value(value),
         }
     }
 }
 
 impl Run {
+    ghost use Rattle.std.specs.Prelude.{◌≡◌};
+    ghost use Rattle.player.specs.RunKnown.{share_in};
+
     /// Goes on with what the last step found, as the machine inside, in a run of its mode.
     pub(crate) fn next(&mut self, got: Option<u64>) -> Turn<Ended>
         ensures turn { (c : Call) (h : History) → c.layout.mode ≡ run_mode self.old → IsRun PlayedAllows c.layout h → RunIsReady self.old c h got → MatchTurn result (RunWaits self.new c h) (RunAnswers self.new c h) }
         ensures begins { got ≡ None → RunAsksFirst self.old → (c : Call) (h : History) → RunIsReady self.old c h None → MatchTurn result (λ _. Unit {0}) (λ _. ⊥) }
         ensures same { IsSameMachine self.old self.new }
+        ensures spends { MatchTurn result (λ _. HasSpentSome self.old self.new) (λ _. HasSpentRest self.old self.new) }
         ensures nearer { (c : Call) (h : History) (nodes : ℕ) → c.layout.mode ≡ run_mode self.old → IsRun PlayedAllows c.layout h → RunIsReady self.old c h got → length (taken_nodes h) ≤ nodes → MatchTurn result (λ _. run_left self.new nodes < run_left self.old nodes) (λ _. Unit {0}) }
     {
         match self {
@@ -75,10 +86,24 @@ impl Run {
                 Turn::Ask(step) => Turn::Ask(step),
                 Turn::Done(vlx) => Turn::Done(Ended::Vlx(vlx)),
             },
+            Run::Insert(run) => match run.step(got) {
+                Turn::Ask(step) => Turn::Ask(step),
+                Turn::Done(updated) => Turn::Done(Ended::Insert(updated)),
+            },
             Run::Get(run) => match Machine::<Tree>::next(run, got) {
                 Turn::Ask(step) => Turn::Ask(step),
                 Turn::Done(value) => Turn::Done(Ended::Get(value)),
             },
+        }
+    }
+
+    /// Gives back the share, if it has that.
+    pub(crate) fn into_share(self) -> Option<Share>
+        ensures { result ≡ share_in self }
+    {
+        match self {
+            Run::Insert(run) => Some(run.into_share()),
+            _ => None,
         }
     }
 }

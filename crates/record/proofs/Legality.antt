@@ -8,10 +8,10 @@ use Rattle.arena.specs.declared.word.Word.TheVariants.{Node}
 use Rattle.arena.specs.declared.word.NodeWord.TheVariants.{Child}
 use Rattle.arena.specs.declared.step.Row.{Row as StepRow}
 use Rattle.arena.specs.History.{History}
-use Rattle.spelling.specs.OrderedMap.{MapCall, Get}
+use Rattle.spelling.specs.OrderedMap.{MapCall, Edit, Insert, Get}
 use Rattle.script.specs.declared.command.Call.{Call}
 use Rattle.script.specs.declared.command.Command.{Command}
-use Rattle.script.specs.declared.command.Command.TheVariants.{Llx, Scx as ScxOf, Vlx, Set, Get as GetOf}
+use Rattle.script.specs.declared.command.Command.TheVariants.{Llx, Scx as ScxOf, Vlx, Set, Insert as InsertOf, Get as GetOf}
 use Rattle.record.specs.declared.record.Line.{Line}
 use Rattle.record.specs.declared.record.Line.TheVariants.{Step, Log, Reply as ReplyLine}
 use Rattle.record.specs.declared.record.Row.TheVariants.{Step as Made, Idle}
@@ -37,6 +37,7 @@ AreMapCalls calls = (c j : ℕ) (command : Command) → slice_get (commands call
 
 -- a call of the map took place where its command's rules say
 rule_of : (command : Command) (call : MapCall) (lay : Layout) (calls : List Call) (lines : List Line) (r : Reply) → map_call (Some command) ≡ Some call → IsPlaced lay calls lines r command → IsPlacedOnMap (reply_told r.answer) calls lines call r
+rule_of (InsertOf key value) call lay calls lines r e x = let i : Edit (Insert key value) ≡ call = cc in subst (λ m. IsPlacedOnMap (reply_told r.answer) calls lines m r) i x
 rule_of (GetOf key) call lay calls lines r e x = let i : Get key ≡ call = cc in subst (λ m. IsPlacedOnMap (reply_told r.answer) calls lines m r) i x
 rule_of (Llx cell) call lay calls lines r e x = let y : None ≡ Some call = e in absurd (cc)
 rule_of (ScxOf update) call lay calls lines r e x = let y : None ≡ Some call = e in absurd (cc)
@@ -46,12 +47,12 @@ rule_of (Set field value) call lay calls lines r e x = let y : None ≡ Some cal
 -- Numbers of calls
 
 -- what is not answered yet has no answer
-not_answered : (lay : Layout) (calls : List Call) (lines : List Line) → AreLines lay calls lines → (c j : ℕ) → answered lines c ≤ j → answer_to lines c j ≡ None
+not_answered : (lay : Layout) (tries : ℕ) (calls : List Call) (lines : List Line) → AreLines lay tries calls lines → (c j : ℕ) → answered lines c ≤ j → answer_to lines c j ≡ None
 unfolding AreLines
-not_answered lay calls [] a c j i = refl
-not_answered lay calls (Step row ∷ lines) a c j i = not_answered lay calls lines a.0 c j i
-not_answered lay calls (Log e ∷ lines) a c j i = not_answered lay calls lines a.0 c j i
-not_answered lay calls (ReplyLine r ∷ lines) a c j i = go (eqb r.client.0 c) refl i (not_answered lay calls lines a.0 c j)
+not_answered lay tries calls [] a c j i = refl
+not_answered lay tries calls (Step row ∷ lines) a c j i = not_answered lay tries calls lines a.0 c j i
+not_answered lay tries calls (Log e ∷ lines) a c j i = not_answered lay tries calls lines a.0 c j i
+not_answered lay tries calls (ReplyLine r ∷ lines) a c j i = go (eqb r.client.0 c) refl i (not_answered lay tries calls lines a.0 c j)
   where
     go : (b : Bool) → eqb r.client.0 c ≡ b → cond b (suc (answered lines c)) (answered lines c) ≤ j → (answered lines c ≤ j → answer_to lines c j ≡ None) → cond (b && eqb r.call j) (Some r.answer) (answer_to lines c j) ≡ None
     go true e u rest =
@@ -61,12 +62,12 @@ not_answered lay calls (ReplyLine r ∷ lines) a c j i = go (eqb r.client.0 c) r
     go false e u rest = rest u
 
 -- what is answered has one
-is_answered : (lay : Layout) (calls : List Call) (lines : List Line) → AreLines lay calls lines → (c j : ℕ) → j < answered lines c → is_none (answer_to lines c j) ≡ false
+is_answered : (lay : Layout) (tries : ℕ) (calls : List Call) (lines : List Line) → AreLines lay tries calls lines → (c j : ℕ) → j < answered lines c → is_none (answer_to lines c j) ≡ false
 unfolding AreLines
-is_answered lay calls [] a c j i = absurd (omega (i, arith))
-is_answered lay calls (Step row ∷ lines) a c j i = is_answered lay calls lines a.0 c j i
-is_answered lay calls (Log e ∷ lines) a c j i = is_answered lay calls lines a.0 c j i
-is_answered lay calls (ReplyLine r ∷ lines) a c j i = go (eqb r.client.0 c) refl (eqb r.call j) refl i (is_answered lay calls lines a.0 c j)
+is_answered lay tries calls [] a c j i = absurd (omega (i, arith))
+is_answered lay tries calls (Step row ∷ lines) a c j i = is_answered lay tries calls lines a.0 c j i
+is_answered lay tries calls (Log e ∷ lines) a c j i = is_answered lay tries calls lines a.0 c j i
+is_answered lay tries calls (ReplyLine r ∷ lines) a c j i = go (eqb r.client.0 c) refl (eqb r.call j) refl i (is_answered lay tries calls lines a.0 c j)
   where
     go : (b : Bool) → eqb r.client.0 c ≡ b → (d : Bool) → eqb r.call j ≡ d → j < cond b (suc (answered lines c)) (answered lines c) → (j < answered lines c → is_none (answer_to lines c j) ≡ false) → is_none (cond (b && d) (Some r.answer) (answer_to lines c j)) ≡ false
     go true e true f u rest = refl
@@ -89,11 +90,11 @@ log_call lay calls (ReplyLine r ∷ lines) e x = absurd x
 log_call lay calls [] e x = absurd x
 
 -- no call beyond the first that is not answered has an entry
-entries_low : (lay : Layout) (calls : List Call) (lines : List Line) → AreLines lay calls lines → (c j : ℕ) → answered lines c < j → entries_of_call c j (written_log lines) ≡ 0
+entries_low : (lay : Layout) (tries : ℕ) (calls : List Call) (lines : List Line) → AreLines lay tries calls lines → (c j : ℕ) → answered lines c < j → entries_of_call c j (written_log lines) ≡ 0
 unfolding AreLines
-entries_low lay calls [] a c j i = refl
-entries_low lay calls (Step row ∷ lines) a c j i = entries_low lay calls lines a.0 c j i
-entries_low lay calls (Log e ∷ lines) a c j i = go (eqb c e.client.0 && eqb j e.call) refl (entries_low lay calls lines a.0 c j i)
+entries_low lay tries calls [] a c j i = refl
+entries_low lay tries calls (Step row ∷ lines) a c j i = entries_low lay tries calls lines a.0 c j i
+entries_low lay tries calls (Log e ∷ lines) a c j i = go (eqb c e.client.0 && eqb j e.call) refl (entries_low lay tries calls lines a.0 c j i)
   where
     go : (b : Bool) → (eqb c e.client.0 && eqb j e.call) ≡ b → entries_of_call c j (written_log lines) ≡ 0 → cond b (suc (entries_of_call c j (written_log lines))) (entries_of_call c j (written_log lines)) ≡ 0
     go true q rest =
@@ -101,23 +102,23 @@ entries_low lay calls (Log e ∷ lines) a c j i = go (eqb c e.client.0 && eqb j 
         let k : j ≡ answered lines c = eqb-true j e.call p.1 ∙ log_call lay calls lines e a.1 ∙ sym (ap (answered lines) (eqb-true c e.client.0 p.0)) in
         absurd (omega (k, i, arith))
     go false q rest = rest
-entries_low lay calls (ReplyLine r ∷ lines) a c j i = go (eqb r.client.0 c) i (entries_low lay calls lines a.0 c j)
+entries_low lay tries calls (ReplyLine r ∷ lines) a c j i = go (eqb r.client.0 c) i (entries_low lay tries calls lines a.0 c j)
   where
     go : (b : Bool) → cond b (suc (answered lines c)) (answered lines c) < j → (answered lines c < j → entries_of_call c j (written_log lines) ≡ 0) → entries_of_call c j (written_log lines) ≡ 0
     go true u rest = rest (omega (u, arith))
     go false u rest = rest u
 
 -- a call none of whose updates has won has no entry
-entries_none : (lay : Layout) (calls : List Call) (lines : List Line) → AreLines lay calls lines → (c : ℕ) → won lay lines c ≡ None → entries_of_call c (answered lines c) (written_log lines) ≡ 0
+pub entries_none : (lay : Layout) (tries : ℕ) (calls : List Call) (lines : List Line) → AreLines lay tries calls lines → (c : ℕ) → won lay lines c ≡ None → entries_of_call c (answered lines c) (written_log lines) ≡ 0
 unfolding AreLines
-entries_none lay calls [] a c w = refl
-entries_none lay calls (Step (Made n row) ∷ lines) a c w = go (is_entry_of (entry_of lay lines n row) c) w (entries_none lay calls lines a.0 c)
+entries_none lay tries calls [] a c w = refl
+entries_none lay tries calls (Step (Made n row) ∷ lines) a c w = go (is_entry_of (entry_of lay lines n row) c) w (entries_none lay tries calls lines a.0 c)
   where
     go : (b : Bool) → cond b (Some n) (won lay lines c) ≡ None → (won lay lines c ≡ None → entries_of_call c (answered lines c) (written_log lines) ≡ 0) → entries_of_call c (answered lines c) (written_log lines) ≡ 0
     go true u rest = let y : Some n ≡ None = u in absurd (cc)
     go false u rest = rest u
-entries_none lay calls (Step (Idle n d) ∷ lines) a c w = entries_none lay calls lines a.0 c w
-entries_none lay calls (Log e ∷ Step (Made n row) ∷ lines) a c w = go (eqb e.client.0 c) refl (entries_none lay calls (Step (Made n row) ∷ lines) a.0 c w)
+entries_none lay tries calls (Step (Idle n d) ∷ lines) a c w = entries_none lay tries calls lines a.0 c w
+entries_none lay tries calls (Log e ∷ Step (Made n row) ∷ lines) a c w = go (eqb e.client.0 c) refl (entries_none lay tries calls (Step (Made n row) ∷ lines) a.0 c w)
   where
     z : cond (eqb e.client.0 c) (Some n) (won lay lines c) ≡ None
     z = ap (λ o. cond (is_entry_of o c) (Some n) (won lay lines c)) (sym a.1.0) ∙ w
@@ -127,14 +128,14 @@ entries_none lay calls (Log e ∷ Step (Made n row) ∷ lines) a c w = go (eqb e
     go false q rest =
         let f : eqb c e.client.0 ≡ false = ne_eqb c e.client.0 (λ i. eqb-false e.client.0 c q (sym i)) in
         rw f (rest)
-entries_none lay calls (Log e ∷ Step (Idle n d) ∷ lines) a c w = absurd a.1
-entries_none lay calls (Log e ∷ Log d ∷ lines) a c w = absurd a.1
-entries_none lay calls (Log e ∷ ReplyLine r ∷ lines) a c w = absurd a.1
-entries_none lay calls (Log e ∷ []) a c w = absurd a.1
-entries_none lay calls (ReplyLine r ∷ lines) a c w = go (eqb r.client.0 c) w (entries_none lay calls lines a.0 c)
+entries_none lay tries calls (Log e ∷ Step (Idle n d) ∷ lines) a c w = absurd a.1
+entries_none lay tries calls (Log e ∷ Log d ∷ lines) a c w = absurd a.1
+entries_none lay tries calls (Log e ∷ ReplyLine r ∷ lines) a c w = absurd a.1
+entries_none lay tries calls (Log e ∷ []) a c w = absurd a.1
+entries_none lay tries calls (ReplyLine r ∷ lines) a c w = go (eqb r.client.0 c) w (entries_none lay tries calls lines a.0 c)
   where
     go : (b : Bool) → cond b None (won lay lines c) ≡ None → (won lay lines c ≡ None → entries_of_call c (answered lines c) (written_log lines) ≡ 0) → entries_of_call c (cond b (suc (answered lines c)) (answered lines c)) (written_log lines) ≡ 0
-    go true u rest = entries_low lay calls lines a.0 c (suc (answered lines c)) (omega arith)
+    go true u rest = entries_low lay tries calls lines a.0 c (suc (answered lines c)) (omega arith)
     go false u rest = rest u
 
 -- no other call of a client is entered and unanswered
@@ -155,11 +156,11 @@ none_open answers c (x ∷ xs) h = go (eqb c (event_client x)) refl (answers c (
     go true q (Some a) n rest = rest
     go false q a n rest = rest
 
-alone : (lay : Layout) (calls : List Call) (lines : List Line) → AreLines lay calls lines → (c : ℕ) → won lay lines c ≡ None → IsKept calls lines (events calls lines) → unanswered (answer_to lines) c (events calls lines) ≡ 0
-alone lay calls lines a c w k = none_open (answer_to lines) c (events calls lines) each
+alone : (lay : Layout) (tries : ℕ) (calls : List Call) (lines : List Line) → AreLines lay tries calls lines → (c : ℕ) → won lay lines c ≡ None → IsKept calls lines (events calls lines) → unanswered (answer_to lines) c (events calls lines) ≡ 0
+alone lay tries calls lines a c w k = none_open (answer_to lines) c (events calls lines) each
   where
     low : (j : ℕ) → answer_to lines c j ≡ None → entries_of_call c j (written_log lines) ≡ 0
-    low j n = ⊎_elim (λ q. ap (λ i. entries_of_call c i (written_log lines)) q ∙ entries_none lay calls lines a c w) (λ z. ⊎_elim (λ q. let y : is_none (answer_to lines c j) ≡ false = is_answered lay calls lines a c j q in let t : true ≡ false = rw n at y in absurd (cc)) (λ q. entries_low lay calls lines a c j q) z) (cases_order j (answered lines c))
+    low j n = ⊎_elim (λ q. ap (λ i. entries_of_call c i (written_log lines)) q ∙ entries_none lay tries calls lines a c w) (λ z. ⊎_elim (λ q. let y : is_none (answer_to lines c j) ≡ false = is_answered lay tries calls lines a c j q in let t : true ≡ false = rw n at y in absurd (cc)) (λ q. entries_low lay tries calls lines a c j q) z) (cases_order j (answered lines c))
 
     each : (j : ℕ) → answer_to lines c j ≡ None → times c j (events calls lines) ≡ 0
     each j n =
@@ -189,23 +190,23 @@ entry_step lay lines n row e = go (is_update row.kind && not (eqb row.before row
     go true x = entry_at_step lay (history lay.mode lines) (suc (entries lines)) n row.word e x
     go false x = let y : None ≡ Some e = x in absurd (cc)
 
-log_step : (lay : Layout) (calls : List Call) (lines : List Line) (e : Entry) → AreLines lay calls lines → IsLog lay calls lines e → e.step ≡ turns lines
+pub log_step : (lay : Layout) (tries : ℕ) (calls : List Call) (lines : List Line) (e : Entry) → AreLines lay tries calls lines → IsLog lay calls lines e → e.step ≡ turns lines
 unfolding AreLines
-log_step lay calls (Step (Made n row) ∷ lines) e a x = entry_step lay lines n row e x.0 ∙ a.1.1.in_turn
-log_step lay calls (Step (Idle n c) ∷ lines) e a x = absurd x
-log_step lay calls (Log d ∷ lines) e a x = absurd x
-log_step lay calls (ReplyLine r ∷ lines) e a x = absurd x
-log_step lay calls [] e a x = absurd x
+log_step lay tries calls (Step (Made n row) ∷ lines) e a x = entry_step lay lines n row e x.0 ∙ a.1.1.in_turn
+log_step lay tries calls (Step (Idle n c) ∷ lines) e a x = absurd x
+log_step lay tries calls (Log d ∷ lines) e a x = absurd x
+log_step lay tries calls (ReplyLine r ∷ lines) e a x = absurd x
+log_step lay tries calls [] e a x = absurd x
 
 -- all events so far have places up to the newest turn
-newest : (lay : Layout) (calls : List Call) (lines : List Line) → AreLines lay calls lines → AllUpTo (2 * turns lines + 1) (events calls lines)
+newest : (lay : Layout) (tries : ℕ) (calls : List Call) (lines : List Line) → AreLines lay tries calls lines → AllUpTo (2 * turns lines + 1) (events calls lines)
 unfolding AreLines
-newest lay calls [] a = tt
-newest lay calls (Step row ∷ lines) a = upto_more (2 * turns lines + 1) (2 * suc (turns lines) + 1) (events calls lines) (omega arith) (newest lay calls lines a.0)
-newest lay calls (Log e ∷ lines) a =
-    let i = log_step lay calls lines e a.0 a.1 in
-    all_with (λ (x : Event). event_place x ≤ 2 * turns lines + 1) (Change e) (events calls lines) (omega (i, arith)) (newest lay calls lines a.0)
-newest lay calls (ReplyLine r ∷ lines) a = go (has_read (map_call_of calls r.client.0 r.call) (reply_told r.answer)) r.moment refl (newest lay calls lines a.0)
+newest lay tries calls [] a = tt
+newest lay tries calls (Step row ∷ lines) a = upto_more (2 * turns lines + 1) (2 * suc (turns lines) + 1) (events calls lines) (omega arith) (newest lay tries calls lines a.0)
+newest lay tries calls (Log e ∷ lines) a =
+    let i = log_step lay tries calls lines e a.0 a.1 in
+    all_with (λ (x : Event). event_place x ≤ 2 * turns lines + 1) (Change e) (events calls lines) (omega (i, arith)) (newest lay tries calls lines a.0)
+newest lay tries calls (ReplyLine r ∷ lines) a = go (has_read (map_call_of calls r.client.0 r.call) (reply_told r.answer)) r.moment refl (newest lay tries calls lines a.0)
   where
     go : (b : Bool) (m : Option ℕ) → r.moment ≡ m → AllUpTo (2 * turns lines + 1) (events calls lines) → AllUpTo (2 * turns lines + 1) (with_reading b m r (events calls lines))
     go true (Some m) q rest =
@@ -218,45 +219,45 @@ newest lay calls (ReplyLine r ∷ lines) a = go (has_read (map_call_of calls r.c
 
 -- Lines of a lawful run
 
-orderly_entry : (lay : Layout) (calls : List Call) (lines : List Line) (e : Entry) → AreMapCalls calls → AreLines lay calls lines → IsLog lay calls lines e → IsKept calls lines (events calls lines) → IsOrderlyEntry calls lines e
+orderly_entry : (lay : Layout) (tries : ℕ) (calls : List Call) (lines : List Line) (e : Entry) → AreMapCalls calls → AreLines lay tries calls lines → IsLog lay calls lines e → IsKept calls lines (events calls lines) → IsOrderlyEntry calls lines e
 unfolding AreLines
-orderly_entry lay calls (Step (Made n row) ∷ lines) e maps a x k =
+orderly_entry lay tries calls (Step (Made n row) ∷ lines) e maps a x k =
     let w = x.1 in
     let m = maps e.client.0 (answered lines e.client.0) w.command w.is in
     let q = w.call in
-    let s = log_step lay calls (Step (Made n row) ∷ lines) e a x in
+    let s = log_step lay tries calls (Step (Made n row) ∷ lines) e a x in
     let old : IsKept calls lines (events calls lines) = record { right = k.right; sorted = k.sorted; logged = k.logged; placed = k.placed; one = k.one; few = k.few } in
     record {
       call = m.0;
       is = ap (map_call_of calls e.client.0) q ∙ ap map_call w.is ∙ m.1;
-      pending = not_answered lay calls lines a.0 e.client.0 e.call (omega (q, arith));
-      first = ap (λ j. entries_of_call e.client.0 j (written_log lines)) q ∙ entries_none lay calls lines a.0 e.client.0 w.first;
-      alone = alone lay calls lines a.0 e.client.0 w.first old;
-      newest = upto_more (2 * turns lines + 1) (2 * e.step) (events calls lines) (omega (s, arith)) (newest lay calls lines a.0);
+      pending = not_answered lay tries calls lines a.0 e.client.0 e.call (omega (q, arith));
+      first = ap (λ j. entries_of_call e.client.0 j (written_log lines)) q ∙ entries_none lay tries calls lines a.0 e.client.0 w.first;
+      alone = alone lay tries calls lines a.0 e.client.0 w.first old;
+      newest = upto_more (2 * turns lines + 1) (2 * e.step) (events calls lines) (omega (s, arith)) (newest lay tries calls lines a.0);
     }
-orderly_entry lay calls (Step (Idle n c) ∷ lines) e maps a x k = absurd x
-orderly_entry lay calls (Log d ∷ lines) e maps a x k = absurd x
-orderly_entry lay calls (ReplyLine r ∷ lines) e maps a x k = absurd x
-orderly_entry lay calls [] e maps a x k = absurd x
+orderly_entry lay tries calls (Step (Idle n c) ∷ lines) e maps a x k = absurd x
+orderly_entry lay tries calls (Log d ∷ lines) e maps a x k = absurd x
+orderly_entry lay tries calls (ReplyLine r ∷ lines) e maps a x k = absurd x
+orderly_entry lay tries calls [] e maps a x k = absurd x
 
-orderly_reply : (lay : Layout) (calls : List Call) (lines : List Line) (r : Reply) → AreMapCalls calls → AreLines lay calls lines → IsReply lay calls lines r → IsOrderlyReply calls lines r
-orderly_reply lay calls lines r maps a x =
+orderly_reply : (lay : Layout) (tries : ℕ) (calls : List Call) (lines : List Line) (r : Reply) → AreMapCalls calls → AreLines lay tries calls lines → IsReply lay tries calls lines r → IsOrderlyReply calls lines r
+orderly_reply lay tries calls lines r maps a x =
     let m = maps r.client.0 (answered lines r.client.0) x.command x.is in
     let q = x.call in
     record {
       call = m.0;
       is = ap (map_call_of calls r.client.0) q ∙ ap map_call x.is ∙ m.1;
-      pending = not_answered lay calls lines a r.client.0 r.call (omega (q, arith));
+      pending = not_answered lay tries calls lines a r.client.0 r.call (omega (q, arith));
       rule = rule_of x.command m.0 lay calls lines r m.1 x.placed;
     }
 
-orderly : (lay : Layout) (calls : List Call) (lines : List Line) → AreMapCalls calls → AreLines lay calls lines → AreOrderly calls lines
+orderly : (lay : Layout) (tries : ℕ) (calls : List Call) (lines : List Line) → AreMapCalls calls → AreLines lay tries calls lines → AreOrderly calls lines
 unfolding AreLines
-orderly lay calls [] maps a = tt
-orderly lay calls (Step row ∷ lines) maps a = orderly lay calls lines maps a.0
-orderly lay calls (Log e ∷ lines) maps a = let o = orderly lay calls lines maps a.0 in (o, orderly_entry lay calls lines e maps a.0 a.1 (kept calls lines o))
-orderly lay calls (ReplyLine r ∷ lines) maps a = (orderly lay calls lines maps a.0, orderly_reply lay calls lines r maps a.0 a.1.1)
+orderly lay tries calls [] maps a = tt
+orderly lay tries calls (Step row ∷ lines) maps a = orderly lay tries calls lines maps a.0
+orderly lay tries calls (Log e ∷ lines) maps a = let o = orderly lay tries calls lines maps a.0 in (o, orderly_entry lay tries calls lines e maps a.0 a.1 (kept calls lines o))
+orderly lay tries calls (ReplyLine r ∷ lines) maps a = (orderly lay tries calls lines maps a.0, orderly_reply lay tries calls lines r maps a.0 a.1.1)
 
 -- A record whose lines keep the rules one by one is legal as a whole.
-pub lawful_is_legal : (lay : Layout) (calls : List Call) (lines : List Line) → AreMapCalls calls → AreLines lay calls lines → IsLegal calls lines
-lawful_is_legal lay calls lines maps a = legal calls lines (orderly lay calls lines maps a)
+pub lawful_is_legal : (lay : Layout) (tries : ℕ) (calls : List Call) (lines : List Line) → AreMapCalls calls → AreLines lay tries calls lines → IsLegal calls lines
+lawful_is_legal lay tries calls lines maps a = legal calls lines (orderly lay tries calls lines maps a)

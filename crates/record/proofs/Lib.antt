@@ -1,3 +1,4 @@
+mod Begun
 mod Ordered
 mod Legality
 pub mod Lemmas

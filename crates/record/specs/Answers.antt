@@ -1,5 +1,5 @@
 -- What answers say.
-use Rattle.std.specs.Prelude.{◌≡◌, ◌≢◌, ℕ, false, List, Option, Some, None}
+use Rattle.std.specs.Prelude.{◌≡◌, ℕ, Bool, true, false, List, Option, Some, None}
 use Rattle.std.specs.List.{Contains}
 use Rattle.arena.specs.declared.layout.Layout.{Layout}
 use Rattle.arena.specs.declared.word.Side.TheVariants.{Left, Right}
@@ -9,23 +9,20 @@ use Rattle.arena.specs.Fills.{IsOwnNode, IsOwnScx, IsOthersScx, IsTakenNode, IsT
 use Rattle.arena.specs.Blame.{WasInTheWay}
 use Rattle.arena.specs.Found.{HasFound}
 use Rattle.arena.specs.Log.{log, fields, last, is_final}
-use Rattle.arena.specs.declared.fault.Resource.{Resource}
-use Rattle.arena.specs.declared.fault.Resource.TheVariants.{Nodes, Scx as ScxRecords}
 use Rattle.record.specs.declared.record.Line.{Line}
 use Rattle.record.specs.declared.record.Reply.{Reply}
 use Rattle.record.specs.declared.record.Answer.{Answer}
 use Rattle.record.specs.Turns.{won}
-use Rattle.record.specs.declared.record.Answer.TheVariants.{Snapshot, Finalized, Done, Same, Value}
+use Rattle.record.specs.declared.record.Answer.TheVariants.{Snapshot, Finalized, Done, Same}
 
 -- where an answered call of cells took place: an LLX that told something in its last turn, a VLX
 -- that found its cells as they were in its first, an SCX that is done in the turn of its entry; all
--- others took place nowhere. Of a get, while no call changes the map: in its last turn.
+-- others took place nowhere
 abbrev pub moment_of : Answer → ℕ → ℕ → Option ℕ → Option ℕ
 moment_of (Snapshot left right) first last won = Some last
 moment_of Finalized first last won = Some last
 moment_of Same first last won = Some first
 moment_of Done first last won = won
-moment_of (Value answer) first last won = Some last
 moment_of _ first last won = None
 
 -- a call of cells took place where its answer says
@@ -65,12 +62,6 @@ pub record IsInTheWay (lay : Layout) (c : ℕ) (now start : History) (kind : Kin
   pub found : HasFound c now start kind node scx
   pub others : IsOthersScx lay c scx
 
--- none of this resource is left: the client has taken all nodes of its share, or all its
--- SCX-records though not all its nodes
-abbrev pub IsEmpty : Layout → ℕ → History → Resource → ℕ → Type 0
-IsEmpty lay c now Nodes left = (left ≡ 0) × ((n : ℕ) → IsOwnNode lay c n → IsTakenNode now n)
-IsEmpty lay c now ScxRecords left = (left ≡ 0) × ((s : ℕ) → IsOwnScx lay c s → IsTakenScx now s) × ((n : ℕ) × IsOwnNode lay c n × ¬ IsTakenNode now n)
-
 -- the client's share has a node and an SCX-record that are not taken
 pub record HasRoom (lay : Layout) (c : ℕ) (at : History) : Type 0 where
   pub node_number : ℕ
@@ -80,16 +71,13 @@ pub record HasRoom (lay : Layout) (c : ℕ) (at : History) : Type 0 where
   pub own_scx : IsOwnScx lay c scx_number
   pub free_scx : ¬ IsTakenScx at scx_number
 
--- since `start` the client has taken one node of its share at most, and one SCX-record at most
-pub record HasTakenOne (lay : Layout) (c : ℕ) (now start : History) : Type 0 where
-  pub node_number : ℕ
-  pub nodes : (n : ℕ) → IsOwnNode lay c n → n ≢ node_number → ¬ IsTakenNode start n → ¬ IsTakenNode now n
-  pub scx_number : ℕ
-  pub scx_records : (s : ℕ) → IsOwnScx lay c s → s ≢ scx_number → ¬ IsTakenScx start s → ¬ IsTakenScx now s
+-- whether the answer is `done`
+abbrev pub is_done : Answer → Bool
+is_done Done = true
+is_done _ = false
 
--- the call's update is in the log if the answer is `done`, and only then
-abbrev pub HasItsEntry : Answer → Option ℕ → Type 0
-HasItsEntry Done (Some turn) = Unit {0}
-HasItsEntry Done None = ⊥
-HasItsEntry _ None = Unit {0}
-HasItsEntry _ (Some turn) = ⊥
+-- an update of the call is in the log if its answer says so, and only then
+abbrev pub HasItsEntry : Bool → Option ℕ → Type 0
+HasItsEntry true (Some turn) = Unit {0}
+HasItsEntry false None = Unit {0}
+HasItsEntry _ _ = ⊥

@@ -1,22 +1,24 @@
 -- The rules of each command, and what follows by them.
-use Rattle.std.specs.Prelude.{ℕ, List, Option, Some, None}
+use Rattle.std.specs.Prelude.{ℕ, Bool, List, Option, Some, None}
 use Rattle.arena.specs.declared.layout.Layout.{Layout}
 use Rattle.arena.specs.declared.step.Kind.{Kind}
 use Rattle.arena.specs.History.{History, value}
 use Rattle.arena.specs.Log.{Entry as Entered}
 use Rattle.script.specs.declared.command.Call.{Call}
 use Rattle.script.specs.declared.command.Command.{Command}
-use Rattle.script.specs.declared.command.Command.TheVariants.{Llx, Scx, Vlx, Set, Get}
+use Rattle.script.specs.declared.command.Command.TheVariants.{Llx, Scx, Vlx, Set, Insert, Get}
 use Rattle.record.specs.declared.record.Line.{Line}
 use Rattle.record.specs.declared.record.Reply.{Reply}
 use Rattle.record.specs.declared.record.Answer.{Answer}
 use Rattle.record.specs.Turns.{start}
 use Rattle.record.specs.Rules.{Rules}
 use Rattle.record.specs.Rules.Get.{get_rules}
+use Rattle.record.specs.Rules.Insert.{insert_rules}
 use Rattle.record.specs.Rules.Llx.{llx_rules}
 use Rattle.record.specs.Rules.Scx.{scx_rules}
 use Rattle.record.specs.Rules.Set.{set_rules}
 use Rattle.record.specs.Rules.Vlx.{vlx_rules}
+use Rattle.record.specs.Shares.{HasTakenAtMost}
 
 -- the one match from commands to their rules
 abbrev pub rules : Command → Rules
@@ -24,12 +26,18 @@ rules (Llx cell) = llx_rules cell
 rules (Scx update) = scx_rules update
 rules (Vlx cells) = vlx_rules cells
 rules (Set field value) = set_rules field value
+rules (Insert key value) = insert_rules key value
 rules (Get key) = get_rules key
 
--- how many steps a call may make while so many nodes are taken, by any client;
--- those of cells make no more where nodes are taken
-abbrev pub most_steps : Command → ℕ → ℕ
+-- how many steps a call may make, where it may try so often, while so many nodes are taken, by any
+-- client; those of cells make no more where nodes are taken
+abbrev pub most_steps : Command → ℕ → ℕ → ℕ
 most_steps command = (rules command).most_steps
+
+-- since its begin the call of client c, which may try so often, has taken no more of the client's
+-- share than it may
+abbrev pub HasTakenFew : Layout → ℕ → ℕ → History → History → Command → Type 0
+HasTakenFew lay tries c now start command = HasTakenAtMost lay c now start ((rules command).most_nodes tries) ((rules command).most_scx tries)
 
 -- the kinds of step that a call may make
 abbrev pub MayMake : Command → Kind → Type 0
@@ -42,6 +50,10 @@ MayAnswerAtOnce command = (rules command).IsAtOnce
 -- the answers that a call may give after a step
 abbrev pub MayAnswerAfterStep : Command → Answer → Type 0
 MayAnswerAfterStep command = (rules command).IsAfterStep
+
+-- whether this answer says that an update of the call is in the log
+abbrev pub enters : Command → Answer → Bool
+enters command = (rules command).enters
 
 -- the snapshot of cell n once a call is answered
 abbrev pub linked_then : Option Command → Answer → History → ℕ → Option History → Option History

@@ -23,15 +23,15 @@ pub record OwesNothing (lay : Layout) (calls : List Call) (lines : List Line) : 
 
 -- the line fits those before it: a turn or a reply
 -- where no other line is owed, or the entry that is
-abbrev pub IsNext : Layout → List Call → List Line → Line → Type 0
-IsNext lay calls lines (Step row) = OwesNothing lay calls lines × IsTurn lay calls lines row
-IsNext lay calls lines (Log entry) = IsLog lay calls lines entry
-IsNext lay calls lines (ReplyLine reply) = (entry_owed lay lines ≡ None) × IsReply lay calls lines reply
+abbrev pub IsNext : Layout → ℕ → List Call → List Line → Line → Type 0
+IsNext lay tries calls lines (Step row) = OwesNothing lay calls lines × IsTurn lay tries calls lines row
+IsNext lay tries calls lines (Log entry) = IsLog lay calls lines entry
+IsNext lay tries calls lines (ReplyLine reply) = (entry_owed lay lines ≡ None) × IsReply lay tries calls lines reply
 
 -- each line fits those before it
-unfoldable pub AreLines : Layout → List Call → List Line → Type 0
-AreLines lay calls [] = Unit {0}
-AreLines lay calls (line ∷ lines) = AreLines lay calls lines × IsNext lay calls lines line
+unfoldable pub AreLines : Layout → ℕ → List Call → List Line → Type 0
+AreLines lay tries calls [] = Unit {0}
+AreLines lay tries calls (line ∷ lines) = AreLines lay tries calls lines × IsNext lay tries calls lines line
 
 -- what is said of the run of a mode beside its lines: on the tree the words spell the map so far
 -- after every step, and all replies are those of one map
@@ -40,11 +40,11 @@ IsWhole Tree lay calls lines = AreSpelled lay calls lines × IsLegal calls lines
 IsWhole Records lay calls lines = Unit {0}
 
 -- The main statement: the lines, the first in front, are a lawful run of the calls, in which turn i
--- was made by the i-th of these clients. That the steps are a lawful history is said of each step
--- in `in_order`, and once more of all in `lawful`.
-pub record IsLawfulRun (lay : Layout) (calls : List Call) (passes : List ℕ) (lines : List Line) : Type 0 where
+-- was made by the i-th of these clients, and each call may try so often. That the steps are a
+-- lawful history is said of each step in `in_order`, and once more of all in `lawful`.
+pub record IsLawfulRun (lay : Layout) (tries : ℕ) (calls : List Call) (passes : List ℕ) (lines : List Line) : Type 0 where
   pub turns : clients (reverse lines) ≡ reverse passes
-  pub in_order : AreLines lay calls (reverse lines)
+  pub in_order : AreLines lay tries calls (reverse lines)
   -- after the last line nothing is owed
   pub settled : OwesNothing lay calls (reverse lines)
   pub lawful : Lawful lay (history lay.mode (reverse lines))

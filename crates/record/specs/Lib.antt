@@ -1,6 +1,7 @@
 pub mod Turns
 pub mod Commands
 pub mod Snapshots
+pub mod Shares
 pub mod Answers
 pub mod MapRecord
 pub mod Placed

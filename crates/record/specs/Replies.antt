@@ -9,8 +9,8 @@ use Rattle.record.specs.declared.record.Row.TheVariants.{Idle}
 use Rattle.record.specs.declared.record.Reply.{Reply}
 use Rattle.record.specs.declared.record.Answer.{Answer}
 use Rattle.record.specs.Turns.{history, turns, last_client, answered, begin, start, won}
-use Rattle.record.specs.Answers.{HasTakenOne, HasItsEntry}
-use Rattle.record.specs.CommandRules.{MayAnswerAtOnce, MayAnswerAfterStep, IsRight, IsPlaced}
+use Rattle.record.specs.Answers.{HasItsEntry}
+use Rattle.record.specs.CommandRules.{MayAnswerAtOnce, MayAnswerAfterStep, HasTakenFew, enters, IsRight, IsPlaced}
 use Rattle.record.specs.Commands.{next_command}
 use Rattle.record.specs.Linked.{linked}
 
@@ -25,8 +25,9 @@ abbrev pub IsFitting : List Line → Command → Answer → Type 0
 IsFitting (Step (Idle number client) ∷ lines) command answer = MayAnswerAtOnce command answer
 IsFitting lines command answer = MayAnswerAfterStep command answer
 
--- the reply to the next call of the client that made the newest turn, which is the call's last
-pub record IsReply (lay : Layout) (calls : List Call) (lines : List Line) (reply : Reply) : Type 0 where
+-- the reply to the next call of the client that made the newest turn, which is the call's last; a
+-- call may try so often
+pub record IsReply (lay : Layout) (tries : ℕ) (calls : List Call) (lines : List Line) (reply : Reply) : Type 0 where
   pub client : last_client lines ≡ Some reply.client.0
   pub call : reply.call ≡ answered lines reply.client.0
   pub begin : begin lines reply.client.0 ≡ Some reply.begin
@@ -36,11 +37,11 @@ pub record IsReply (lay : Layout) (calls : List Call) (lines : List Line) (reply
   pub fits : IsFitting lines command reply.answer
   -- the answer is true
   pub right : IsRight lay reply.client.0 (history lay.mode lines) (start lay.mode lines reply.client.0) (linked calls lay.mode lines reply.client.0) command reply.answer
-  -- the call has taken one node and one SCX-record at most
-  pub took : HasTakenOne lay reply.client.0 (history lay.mode lines) (start lay.mode lines reply.client.0)
+  -- the call has taken no more of the client's share than it may
+  pub took : HasTakenFew lay tries reply.client.0 (history lay.mode lines) (start lay.mode lines reply.client.0) command
   -- the call took place where the reply says
   pub placed : IsPlaced lay calls lines reply command
   -- the moment, if there is one, is within the call
   pub within : (m : ℕ) → reply.moment ≡ Some m → (reply.begin ≤ m) × (m ≤ reply.end)
-  -- the call's update is in the log if it answers `done`, and only then
-  pub entry : HasItsEntry reply.answer (won lay lines reply.client.0)
+  -- an update of the call is in the log if the answer says so, and only then
+  pub entry : HasItsEntry (enters command reply.answer) (won lay lines reply.client.0)

@@ -3,8 +3,9 @@ pub mod Llx
 pub mod Scx
 pub mod Vlx
 pub mod Set
+pub mod Insert
 pub mod Get
-use Rattle.std.specs.Prelude.{ℕ, List, Option}
+use Rattle.std.specs.Prelude.{ℕ, Bool, List, Option}
 use Rattle.arena.specs.declared.layout.Layout.{Layout}
 use Rattle.arena.specs.declared.step.Kind.{Kind}
 use Rattle.arena.specs.History.{History}
@@ -16,14 +17,20 @@ use Rattle.record.specs.declared.record.Answer.{Answer}
 
 -- what is said of one command, and of no other
 pub record Rules : Type 1 where
-  -- how many steps a call may make while so many nodes are taken
-  pub most_steps : ℕ → ℕ
+  -- how many steps a call may make, by how often a call may try, while so many nodes are taken
+  pub most_steps : ℕ → ℕ → ℕ
+  -- how many nodes of its client's share it may take, by how often it may try, and how many
+  -- SCX-records
+  pub most_nodes : ℕ → ℕ
+  pub most_scx : ℕ → ℕ
   -- the kinds of step that it may make
   pub MayMake : Kind → Type 0
   -- the answers that it may give in place of a first step
   pub IsAtOnce : Answer → Type 0
   -- the answers that it may give after a step
   pub IsAfterStep : Answer → Type 0
+  -- whether an answer says that an update of the call is in the log
+  pub enters : Answer → Bool
   -- what an answer leaves of the client's snapshot of a cell: of this answer, at this moment, of
   -- this cell, and the snapshot kept before
   pub linked_then : Answer → History → ℕ → Option History → Option History

@@ -57,4 +57,4 @@ AreOrdered calls (order ∷ orders) older newer = (between : List Line) × IsOrd
 -- and its turns are those that the schedule means
 pub record IsRunOf (script : Script) (schedule : Schedule) (lines : List Line) : Type 0 where
   pub ordered : AreOrdered script.calls.items schedule.orders.items [] (reverse lines)
-  pub lawful : IsLawfulRun script.layout script.calls.items (reverse (clients (reverse lines))) lines
+  pub lawful : IsLawfulRun script.layout script.limits.tries script.calls.items (reverse (clients (reverse lines))) lines

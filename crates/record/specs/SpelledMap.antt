@@ -1,23 +1,13 @@
 -- In tree mode the words spell the map so far after every step.
-use Rattle.std.specs.Prelude.{◌≡◌, ℕ, ◌<◌, false, ◌⊎◌, List, [], ◌∷◌, None}
+use Rattle.std.specs.Prelude.{◌≡◌, List, [], ◌∷◌, None}
 use Rattle.arena.specs.declared.layout.Layout.{Layout}
-use Rattle.arena.specs.declared.word.Side.{Side}
-use Rattle.arena.specs.Words.{child}
-use Rattle.arena.specs.History.{History, value, HasHeld}
-use Rattle.spelling.specs.TreeWords.{level, is_leaf}
+use Rattle.arena.specs.History.{value}
 use Rattle.spelling.specs.Spelled.{Spells}
+pub use Rattle.spelling.specs.FillOrder.{HasStoodInField, HasRisingLevels}
 use Rattle.script.specs.declared.command.Call.{Call}
 use Rattle.record.specs.declared.record.Line.{Line}
 use Rattle.record.specs.Turns.{history, entry_owed}
 use Rattle.record.specs.MapRecord.{written_log, map_of}
-
--- the node is there from the start, or a field has named it at some moment
-abbrev pub HasStoodInField : History → ℕ → Type 0
-HasStoodInField h n = (n < 3) ⊎ ((m : ℕ) × (from : Side) × HasHeld h (child m from) n)
-
--- each fork that a field has ever named, in the tree or removed, has a level below its children's
-abbrev pub HasRisingLevels : History → Type 0
-HasRisingLevels h = (n : ℕ) (side : Side) → HasStoodInField h n → is_leaf (value h) n ≡ false → level (value h) n < level (value h) (value h (child n side))
 
 -- the words after these lines spell the map of their entries
 pub record IsSpelledAfter (lay : Layout) (calls : List Call) (lines : List Line) : Type 0 where

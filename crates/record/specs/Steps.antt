@@ -2,6 +2,9 @@
 use Rattle.std.specs.Prelude.{◌≡◌, ℕ, ◌<◌, suc, ◌⊎◌, List, length, Some, None}
 use Rattle.arena.specs.declared.layout.Layout.{Layout}
 use Rattle.arena.specs.declared.step.Row.{Row as StepRow}
+use Rattle.arena.specs.declared.step.Kind.TheVariants.{Fill}
+use Rattle.arena.specs.declared.word.ScxWord.TheVariants.{Call as CallWord}
+use Rattle.arena.specs.Words.{scx}
 use Rattle.arena.specs.Lawful.{IsLawful}
 use Rattle.arena.specs.TakenNodes.{taken_nodes}
 use Rattle.script.specs.declared.command.Call.{Call}
@@ -13,16 +16,21 @@ use Rattle.record.specs.Turns.{history, turns, answered, begin, steps}
 use Rattle.record.specs.CommandRules.{most_steps, MayMake}
 use Rattle.record.specs.Commands.{next_command}
 
--- a turn that makes a lawful step, in the client's next
--- call, which may make one more and of this kind
-pub record IsStep (lay : Layout) (calls : List Call) (lines : List Line) (number : ℕ) (row : StepRow) : Type 0 where
+-- a row that fills the word `call` of an SCX-record stores there the number of its own call
+abbrev pub SaysItsCall : StepRow → Type 0
+SaysItsCall row = (s : ℕ) → row.kind ≡ Fill → row.word ≡ scx s CallWord → row.after ≡ row.call
+
+-- a turn that makes a lawful step, in the client's next call, which may make one more and of this
+-- kind; a call may try so often
+pub record IsStep (lay : Layout) (tries : ℕ) (calls : List Call) (lines : List Line) (number : ℕ) (row : StepRow) : Type 0 where
   pub in_turn : number ≡ suc (turns lines)
   pub lawful : IsLawful lay (history lay.mode lines) row
   pub call : row.call ≡ answered lines row.pass.0
   pub command : Command
   pub is : next_command calls lines row.pass.0 ≡ Some command
-  pub few : steps lines row.pass.0 < most_steps command (length (taken_nodes (history lay.mode lines)))
+  pub few : steps lines row.pass.0 < most_steps command tries (length (taken_nodes (history lay.mode lines)))
   pub may : MayMake command row.kind
+  pub says : SaysItsCall row
 
 -- a turn without a step: of a client with no call left, or the whole of a call that has not begun
 pub record IsIdleTurn (lay : Layout) (calls : List Call) (lines : List Line) (number c : ℕ) : Type 0 where
@@ -31,6 +39,6 @@ pub record IsIdleTurn (lay : Layout) (calls : List Call) (lines : List Line) (nu
   pub idle : (next_command calls lines c ≡ None) ⊎ (begin lines c ≡ None)
 
 -- a turn that fits the lines before it: with a step, or idle
-abbrev pub IsTurn : Layout → List Call → List Line → Row → Type 0
-IsTurn lay calls lines (Made number row) = IsStep lay calls lines number row
-IsTurn lay calls lines (Idle number client) = IsIdleTurn lay calls lines number client.0
+abbrev pub IsTurn : Layout → ℕ → List Call → List Line → Row → Type 0
+IsTurn lay tries calls lines (Made number row) = IsStep lay tries calls lines number row
+IsTurn lay tries calls lines (Idle number client) = IsIdleTurn lay calls lines number client.0

@@ -79,8 +79,8 @@ pub struct Reply {
     pub answer: Answer,
 }
 
-/// What a call answers. In an answer with both, `node` is a cell of the call, and `scx` another
-/// client's SCX-record that the cell's info has named.
+/// What a call answers. In an answer with both, `node` is a cell of the call or a node of the tree,
+/// and `scx` another client's SCX-record that its info has named.
 #[derive(Clone, Copy, Debug, PartialEq, Eq)]
 pub enum Answer {
     /// `llx`: the fields of the cell at the call's last turn, where it is not final.
@@ -102,8 +102,13 @@ pub enum Answer {
     Changed { node: NodeNo, scx: ScxNo },
     /// `scx`, `vlx`: the client keeps no snapshot of this cell, the first such.
     Unlinked { node: NodeNo },
-    /// `get`: the value of its key in the map, if the key has one, at the reply's moment.
+    /// `get`: the value of its key in the map, if the key has one, at the reply's moment. `insert`:
+    /// the value that its key had, if it had one, just before the reply's moment.
     Value(Option<u64>),
-    /// `scx`, `set`: `left` of the resource are left in the client's share, too few for the call.
+    /// `insert`: it was not made and never will be; all its tries were lost, and `scx` was in
+    /// progress over the node `node` of the tree within the call.
+    Contended { node: NodeNo, scx: ScxNo },
+    /// `scx`, `set`, `insert`: `left` of the resource are left in the client's share, too few for
+    /// the call.
     Full { what: Resource, left: u32 },
 }

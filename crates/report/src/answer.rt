@@ -23,6 +23,7 @@ pub fn answer_text(alloc: Global, answer: Answer) -> Result<String, AllocError>
         Answer::Unlinked { node } => format!(in alloc; "unlinked n{}", node.0),
         Answer::Value(Some(value)) => format!(in alloc; "some {value}"),
         Answer::Value(None) => format!(in alloc; "none"),
+        Answer::Contended { node, scx } => format!(in alloc; "contended n{} s{}", node.0, scx.0),
         Answer::Full {
             what: Resource::Nodes,
             left,
@@ -70,6 +71,10 @@ fn telling_answer_of(name: &str, told: &str) -> Option<Answer>
         "changed" => {
             let (node, scx) = blame_of(told)?;
             Some(Answer::Changed { node, scx })
+        }
+        "contended" => {
+            let (node, scx) = blame_of(told)?;
+            Some(Answer::Contended { node, scx })
         }
         "unlinked" => Some(Answer::Unlinked {
             node: node_of(told)?,

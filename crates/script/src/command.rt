@@ -17,6 +17,8 @@ pub enum Command {
     Vlx { cells: Cells },
     /// LLX of a cell, then SCX of it alone.
     Set { field: (Cell, Side), value: u64 },
+    /// Gives a key of the map a value, in tree mode.
+    Insert { key: u64, value: u64 },
     /// Looks up a key of the map, in tree mode.
     Get { key: u64 },
 }

@@ -26,6 +26,7 @@ pub fn command_of(mode: Mode, name: &str, arguments: [&str; 3]) -> Result<Comman
         (Mode::Records, "scx") => scx_of(arguments),
         (Mode::Records, "vlx") => vlx_of(arguments),
         (Mode::Records, "set") => set_of(arguments),
+        (Mode::Tree, "insert") => insert_of(arguments),
         (Mode::Tree, "get") => get_of(arguments),
         _ => return Err(ScriptCause::Command),
     };
@@ -72,6 +73,18 @@ fn set_of(arguments: [&str; 3]) -> Option<Command>
     let [cell, side, value] = arguments;
     Some(Command::Set {
         field: (cell_of(cell)?, side_of(side)?),
+        value: number_of(value)?,
+    })
+}
+
+fn insert_of(arguments: [&str; 3]) -> Option<Command>
+    ensures { IsCommandOf (codes "insert" ∷ texts arguments.entry) result }
+{
+    let [key, value, ""] = arguments else {
+        return None;
+    };
+    Some(Command::Insert {
+        key: number_of(key)?,
         value: number_of(value)?,
     })
 }
@@ -183,6 +196,12 @@ impl CommandText {
                 a: format!(in alloc; "{}", field.0.node().0)?,
                 b: format!(in alloc; "{}", side_name(field.1))?,
                 c: format!(in alloc; "{value}")?,
+            }),
+            Command::Insert { key, value } => Ok(CommandText {
+                name: "insert",
+                a: format!(in alloc; "{key}")?,
+                b: format!(in alloc; "{value}")?,
+                c: String::new(alloc),
             }),
             Command::Get { key } => Ok(CommandText {
                 name: "get",

@@ -28,6 +28,7 @@ pub struct Script {
     pub calls: Vec<Call>,
     ghost clients: { All (λ call. call.client.0 < layout.passes) calls.items },
     ghost few: { vec_len calls ≤ 65536 },
+    ghost some_try: { 1 ≤ limits.tries },
     ghost of_mode: { All (λ call. mode_of call.command ≡ layout.mode) calls.items },
 }
 

@@ -21,6 +21,7 @@ mod Remaining
 mod ChangedFields
 mod Taken
 mod TreeRuns
+mod Rising
 mod Reading
 mod LeafLists
 mod Maps

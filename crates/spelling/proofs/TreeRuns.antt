@@ -5,9 +5,13 @@ use Rattle.arena.specs.declared.layout.Layout.{Layout}
 use Rattle.arena.specs.declared.word.Side.{Side}
 use Rattle.arena.specs.declared.word.NodeWord.TheVariants.{Head}
 use Rattle.arena.specs.Words.{node, child, marked}
-use Rattle.arena.specs.History.{History, value, Extends}
+use Rattle.arena.specs.declared.step.Row.{Row}
+use Rattle.arena.specs.ScxRecords.{new}
+use Rattle.arena.specs.History.{History, ◌⊳◌, value, Extends}
 use Rattle.arena.specs.Log.{log, is_final}
 use Rattle.arena.specs.TakenNodes.{taken_nodes}
+use Rattle.histories.proofs.Lemmas.{Facts, UpdateWins, facts_before}
+use Rattle.spelling.specs.OrderedMap.{MapEdit}
 use Rattle.spelling.specs.TreeWords.{Tree, Has, is_leaf, level, IsBlankAboveKeys}
 use Rattle.spelling.specs.Spelled.{IsTree, Spells}
 use Rattle.spelling.specs.Paths.{IsOnPath, Passed, WasInTree}
@@ -18,7 +22,10 @@ use Rattle.spelling.proofs.Levels.{grown_level}
 use Rattle.spelling.proofs.Blanks.{grown_blank}
 use Rattle.spelling.proofs.Remaining.{grown_remains}
 use Rattle.spelling.proofs.Growing.{grown_root}
-use Rattle.spelling.proofs.Stood.{was_passed}
+use Rattle.spelling.proofs.Stood.{was_now, was_passed}
+use Rattle.spelling.proofs.TreeFacts.{TreeFacts}
+use Rattle.spelling.proofs.Edited.{result, tree_now, new_in}
+use Rattle.spelling.proofs.Grown.{tree_facts, grown_tail}
 use Rattle.spelling.proofs.Trees.{passes_has}
 use Rattle.spelling.proofs.Taken.{grown_log, grown_depth}
 use Rattle.spelling.proofs.Meanings.{edits_of, grown, run_since, run_spells}
@@ -38,6 +45,19 @@ path_not_final lay h k n g x = tree_not_final lay h x.tree n g x.is_tree (passes
 -- a node that stood in the tree and is not final still stands there
 pub tree_remains : (lay : Layout) (h : History) (t : Tree) (n : ℕ) → IsTreeRun lay h → WasInTree h n → is_final (log lay h) n ≡ false → IsTree (value h) t → Has t n
 tree_remains lay h t n g x e i = grown_remains (edits_of lay h g).edits lay h t n (grown lay h g) x e i
+
+-- the new node of an update that has won stands in the tree
+pub new_stood : (lay : Layout) (h : History) (r : Row) (u : ℕ) → IsTreeRun lay (r ⊳ h) → UpdateWins h r u → WasInTree (r ⊳ h) (new h u)
+new_stood lay h r u g w = was_now (r ⊳ h) (result edits lay h r u f w g.0 g.1.lawful then).tree (new h u) (tree_now edits lay h r u f w g.0 g.1.lawful then) (new_in edits lay h r u f w g.0 g.1.lawful then)
+  where
+    edits : ℕ → MapEdit
+    edits = (edits_of lay (r ⊳ h) g).edits
+
+    f : Facts lay h
+    f = facts_before lay h r g.1.lawful
+
+    then : TreeFacts edits lay h
+    then = tree_facts edits lay h (grown_tail edits lay h r (grown lay (r ⊳ h) g))
 
 -- the levels of a node that was ever in the tree and of its children rise for ever
 pub levels_rise : (lay : Layout) (h : History) (n : ℕ) (side : Side) → IsTreeRun lay h → WasInTree h n → is_leaf (value h) n ≡ false → level (value h) n < level (value h) (value h (child n side))

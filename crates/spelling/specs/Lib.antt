@@ -2,6 +2,7 @@ pub mod OrderedMap
 pub mod TreeWords
 pub mod Spelled
 pub mod Paths
+pub mod FillOrder
 pub mod Edits
 pub mod TreeShape
 pub mod Runs

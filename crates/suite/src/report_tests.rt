@@ -80,9 +80,13 @@ end,23,10,1,,,
 ";
 
 fn record(alloc: Global, script: &str, lines: Vec<Line>) -> Result<Record, Fail> {
+    record_in(alloc, Mode::Records, script, lines)
+}
+
+fn record_in(alloc: Global, mode: Mode, script: &str, lines: Vec<Line>) -> Result<Record, Fail> {
     let mut text = Metered::new(script.as_bytes());
     Ok(Record {
-        script: read_script(alloc, Mode::Records, &mut text)?,
+        script: read_script(alloc, mode, &mut text)?,
         lines,
     })
 }
@@ -228,6 +232,62 @@ fn each_line(alloc: Global) -> Result<Vec<Line>, Fail> {
     Ok(lines)
 }
 
+/// A script with each command on the tree.
+const TREE_SCRIPT: &str = "\
+limits,2,20,20,1
+0,insert,5,50,
+1,get,5,,
+1,insert,18446744073709551615,0,
+end,3,,,
+";
+
+/// Its rows, and those of the lines that `each_tree_line` gives.
+const EACH_TREE_FORM: &str = "\
+report,1,tree,,,,
+limits,2,20,20,1,,
+call,0,0,insert,5,50,
+call,1,0,get,5,,
+call,1,1,insert,18446744073709551615,0,
+log,1,47,s1,0,0,
+reply,1,3,30,41,40,none
+reply,1,3,30,41,40,some 50
+reply,1,3,30,41,,contended n0 s21
+reply,1,3,30,41,,full nodes 2
+reply,1,3,30,41,,full scx 0
+end,0,5,1,,,
+";
+
+/// An entry, and each answer on the tree.
+fn each_tree_line() -> [Line; 6] {
+    let entry = Entry {
+        place: 1,
+        step: 47,
+        scx: ScxNo(1),
+        client: PassNo(0),
+        call: 0,
+    };
+    let contended = Answer::Contended {
+        node: NodeNo(0),
+        scx: ScxNo(21),
+    };
+    let no_nodes = Answer::Full {
+        what: Resource::Nodes,
+        left: 2,
+    };
+    let no_scx = Answer::Full {
+        what: Resource::Scx,
+        left: 0,
+    };
+    [
+        Line::Log(entry),
+        reply(Answer::Value(None), Some(40)),
+        reply(Answer::Value(Some(50)), Some(40)),
+        reply(contended, None),
+        reply(no_nodes, None),
+        reply(no_scx, None),
+    ]
+}
+
 /// What gets on a tree tell.
 const ON_THE_TREE: &str = "\
 report,1,tree,,,,
@@ -254,7 +314,14 @@ fn written(alloc: Global, record: &Record, bytes: usize) -> (Vec<u8>, Result<(),
 #[test]
 fn whole_reports(rt: HostRuntime) -> Result<(), Fail> {
     let each = record(rt.alloc(), SCRIPT, each_line(rt.alloc())?)?;
-    for (record, want) in [(untouched(rt.alloc())?, UNTOUCHED), (each, EACH_FORM)] {
+    let lines = each_tree_line().to_vec(rt.alloc())?;
+    let tree = record_in(rt.alloc(), Mode::Tree, TREE_SCRIPT, lines)?;
+    let records = [
+        (untouched(rt.alloc())?, UNTOUCHED),
+        (each, EACH_FORM),
+        (tree, EACH_TREE_FORM),
+    ];
+    for (record, want) in records {
         let (text, result) = written(rt.alloc(), &record, 10000);
         assert_eq!(rt; result, Ok(()));
         assert_eq!(rt; text.as_slice(), want.as_bytes());
@@ -265,7 +332,7 @@ fn whole_reports(rt: HostRuntime) -> Result<(), Fail> {
 /// Read back, and written again.
 #[test]
 fn reports_that_are_read_back(rt: HostRuntime) -> Result<(), Fail> {
-    for report in [UNTOUCHED, EACH_FORM, ON_THE_TREE] {
+    for report in [UNTOUCHED, EACH_FORM, EACH_TREE_FORM, ON_THE_TREE] {
         let record = read_record(rt.alloc(), &mut Metered::new(report.as_bytes()))?;
         let (text, result) = written(rt.alloc(), &record, 10000);
         assert_eq!(rt; result, Ok(()));

@@ -237,6 +237,29 @@ fn the_mode_decides_which_commands_there_are(rt: HostRuntime) -> Result<(), Fail
     Ok(())
 }
 
+/// A script with each command on the tree.
+const TREE_SCRIPT: &str = "limits,2,10,10,3\n0,insert,5,50,\n1,get,5,,\n\
+    1,insert,18446744073709551615,0,\n0,insert,0,18446744073709551615,\nend,4,,,\n";
+
+#[test]
+fn a_script_on_the_tree_is_read(rt: HostRuntime) -> Result<(), Fail> {
+    let mut text = Metered::new(TREE_SCRIPT.as_bytes());
+    let script = read_script(rt.alloc(), Mode::Tree, &mut text)?;
+    let insert = |key, value| Command::Insert { key, value };
+    let calls = [
+        (0, insert(5, 50)),
+        (1, Command::Get { key: 5 }),
+        (1, insert(u64::MAX, 0)),
+        (0, insert(0, u64::MAX)),
+    ];
+    assert_eq!(rt; script.calls.len(), calls.len());
+    for (call, (client, command)) in script.calls.iter().zip(calls) {
+        let client = PassNo(client);
+        assert_eq!(rt; *call, Call { client, command });
+    }
+    Ok(())
+}
+
 /// Texts that are no scripts on the tree, and what is said of each.
 const BAD_TREE_SCRIPTS: &str = "\
 row 2: fields;limits,1,10,10,3|0,get,5,|end,1,,,|
@@ -248,6 +271,15 @@ row 2: argument;limits,1,10,10,3|0,get,05,,|end,1,,,|
 row 2: argument;limits,1,10,10,3|0,get,5,6,|end,1,,,|
 row 2: argument;limits,1,10,10,3|0,get,-1,,|end,1,,,|
 row 2: argument;limits,1,10,10,3|0,get,18446744073709551616,,|end,1,,,|
+row 2: fields;limits,1,10,10,3|0,insert,5,50|end,1,,,|
+row 2: client;limits,1,10,10,3|2,insert,5,50,|end,1,,,|
+row 2: command;limits,1,10,10,3|0,put,5,50,|end,1,,,|
+row 2: argument;limits,1,10,10,3|0,insert,5,,|end,1,,,|
+row 2: argument;limits,1,10,10,3|0,insert,,50,|end,1,,,|
+row 2: argument;limits,1,10,10,3|0,insert,5,50,0|end,1,,,|
+row 2: argument;limits,1,10,10,3|0,insert,5,050,|end,1,,,|
+row 2: argument;limits,1,10,10,3|0,insert,18446744073709551616,50,|end,1,,,|
+row 2: argument;limits,1,10,10,3|0,insert,5,18446744073709551616,|end,1,,,|
 ";
 
 #[test]

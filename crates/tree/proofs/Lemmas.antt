@@ -2,3 +2,4 @@
 -- module
 -- of these proofs can be named outside. Declares nothing.
 pub use Rattle.tree.proofs.GetTurns.{get_ready_first, get_loads, get_fills_not, get_says}
+pub use Rattle.tree.proofs.InsertFills.{get_in_order, insert_in_order}

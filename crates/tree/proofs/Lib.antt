@@ -1,2 +1,3 @@
 mod GetTurns
+mod InsertFills
 pub mod Lemmas

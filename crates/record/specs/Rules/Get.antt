@@ -1,5 +1,5 @@
 -- The rules of `get`.
-use Rattle.std.specs.Prelude.{◌≡◌, ℕ, ◌+◌, ◌*◌, ◌⊎◌, Option}
+use Rattle.std.specs.Prelude.{◌≡◌, ℕ, false, ◌+◌, ◌*◌, ◌⊎◌, Option}
 use Rattle.arena.specs.declared.layout.Layout.{Layout}
 use Rattle.arena.specs.declared.step.Kind.TheVariants.{LoadSettled, LoadChild}
 use Rattle.arena.specs.History.{History}
@@ -23,13 +23,16 @@ GetIsRight key lay c now start linked (Value answer) = IsAnswerAt lay now start 
 GetIsRight key lay c now start linked _ = ⊥
 
 -- at most three steps for each level that the tree may have, two more than nodes are taken; it
--- loads settled words and fields alone, leaves snapshots alone, and has no entry
+-- loads settled words and fields alone, takes nothing, leaves snapshots alone, and has no entry
 abbrev pub get_rules : ℕ → Rules
 get_rules key = record {
-  most_steps = λ taken. 3 * (2 + taken);
+  most_steps = λ tries taken. 3 * (2 + taken);
+  most_nodes = λ tries. 0;
+  most_scx = λ tries. 0;
   MayMake = λ kind. (kind ≡ LoadSettled) ⊎ (kind ≡ LoadChild);
   IsAtOnce = λ answer. ⊥;
   IsAfterStep = GetAfterStep;
+  enters = λ answer. false;
   linked_then = λ answer now n old. old;
   IsRight = GetIsRight key;
   IsEntryFor = λ lay c before start linked e. ⊥;

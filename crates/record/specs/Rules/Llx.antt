@@ -1,5 +1,5 @@
 -- The rules of `llx`.
-use Rattle.std.specs.Prelude.{◌≡◌, ◌≢◌, ℕ, true, cond, eqb, Option}
+use Rattle.std.specs.Prelude.{◌≡◌, ◌≢◌, ℕ, true, false, cond, eqb, Option}
 use Rattle.arena.specs.declared.layout.Layout.{Layout}
 use Rattle.arena.specs.declared.step.Kind.TheVariants.{Fill}
 use Rattle.arena.specs.History.{History}
@@ -32,13 +32,17 @@ LlxIsRight cell lay c now start linked Finalized = is_final (log lay now) cell �
 LlxIsRight cell lay c now start linked (Fail node scx) = (node.0 ≡ cell) × HasFailed lay c now start cell scx.0
 LlxIsRight cell lay c now start linked _ = ⊥
 
--- at most 64 steps, none of them a fill; it never answers at once, and puts nothing into the log
+-- at most 64 steps, none of them a fill; it takes nothing, never answers at once, and puts nothing
+-- into the log
 abbrev pub llx_rules : ℕ → Rules
 llx_rules cell = record {
-  most_steps = λ taken. 64;
+  most_steps = λ tries taken. 64;
+  most_nodes = λ tries. 0;
+  most_scx = λ tries. 0;
   MayMake = λ kind. kind ≢ Fill;
   IsAtOnce = λ answer. ⊥;
   IsAfterStep = LlxAfterStep;
+  enters = λ answer. false;
   linked_then = llx_linked cell;
   IsRight = LlxIsRight cell;
   IsEntryFor = λ lay c before start linked e. ⊥;

@@ -8,8 +8,9 @@ use Rattle.script.specs.Update.{update_cells, update_finalize, update_field, upd
 use Rattle.record.specs.declared.record.Answer.{Answer}
 use Rattle.record.specs.declared.record.Answer.TheVariants.{Done, Lost, Unlinked, Full}
 use Rattle.script.specs.declared.command.Update.{Update}
-use Rattle.record.specs.Answers.{AreUnchanged, IsInTheWay, IsEmpty, HasRoom, IsPlacedCell}
+use Rattle.record.specs.Answers.{AreUnchanged, IsInTheWay, HasRoom, is_done, IsPlacedCell}
 use Rattle.record.specs.Rules.{Rules}
+use Rattle.record.specs.Shares.{HasTooFew}
 use Rattle.record.specs.Snapshots.{AreLinked, IsFirstUnlinked}
 use Rattle.record.specs.Updates.{IsEntryOver}
 
@@ -40,7 +41,7 @@ abbrev pub ScxIsRight : Update → Layout → ℕ → History → History → (�
 -- the first of its cells of which the client keeps no snapshot
 ScxIsRight update lay c now start linked (Unlinked node) = IsFirstUnlinked linked (update_cells update) node.0
 -- all snapshots are there, and the share has none left of this
-ScxIsRight update lay c now start linked (Full what left) = AreLinked linked (update_cells update) × IsEmpty lay c now what left
+ScxIsRight update lay c now start linked (Full what left) = AreLinked linked (update_cells update) × HasTooFew lay c now 1 what left
 -- another client's SCX-record has come to this cell since its snapshot
 ScxIsRight update lay c now start linked (Lost node scx) = AreLinked linked (update_cells update) × HasRoom lay c start × IsInTheWay lay c now start Freeze (update_cells update) node.0 scx.0 (λ moment. linked node.0 ≡ Some moment)
 ScxIsRight update lay c now start linked Done = HasRoom lay c start
@@ -51,13 +52,16 @@ ScxIsRight update lay c now start linked _ = ⊥
 abbrev pub IsScxEntry : Update → Layout → ℕ → History → History → (ℕ → Option History) → Entered → Type 0
 IsScxEntry update lay c before start linked e = IsEntryOver lay c before e (update_cells update) (update_finalize update) (update_field update) (update_value update) × AreUnchanged lay before linked (update_cells update)
 
--- at most 40 steps, of any kind
+-- at most 40 steps, of any kind; one node and one SCX-record
 abbrev pub scx_rules : Update → Rules
 scx_rules update = record {
-  most_steps = λ taken. 40;
+  most_steps = λ tries taken. 40;
+  most_nodes = λ tries. 1;
+  most_scx = λ tries. 1;
   MayMake = λ kind. Unit {0};
   IsAtOnce = ScxAtOnce;
   IsAfterStep = ScxAfterStep;
+  enters = is_done;
   linked_then = scx_linked update;
   IsRight = ScxIsRight update;
   IsEntryFor = IsScxEntry update;

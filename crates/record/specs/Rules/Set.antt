@@ -8,8 +8,9 @@ use Rattle.arena.specs.Blame.{HasFailed}
 use Rattle.arena.specs.Log.{Entry as Entered, log, is_final}
 use Rattle.record.specs.declared.record.Answer.{Answer}
 use Rattle.record.specs.declared.record.Answer.TheVariants.{Finalized, Fail, Done, Lost, Full}
-use Rattle.record.specs.Answers.{IsUnchanged, IsInTheWay, IsEmpty, HasRoom, IsPlacedCell}
+use Rattle.record.specs.Answers.{IsUnchanged, IsInTheWay, HasRoom, is_done, IsPlacedCell}
 use Rattle.record.specs.Rules.{Rules}
+use Rattle.record.specs.Shares.{HasTooFew}
 use Rattle.record.specs.Snapshots.{snapshot_of, IsLastLook}
 use Rattle.record.specs.Updates.{IsEntryOver}
 
@@ -34,7 +35,7 @@ SetIsRight field value lay c now start linked Finalized = is_final (log lay now)
 -- another client's SCX-record was in the way of its LLX
 SetIsRight field value lay c now start linked (Fail node scx) = (node.0 ≡ field.0) × HasFailed lay c now start field.0 scx.0
 -- the share has none left of this; the call's LLX has just looked at the cell, which is not final
-SetIsRight field value lay c now start linked (Full what left) = IsEmpty lay c now what left × (is_final (log lay now) field.0 ≡ false) × IsLastLook c now start now field.0
+SetIsRight field value lay c now start linked (Full what left) = HasTooFew lay c now 1 what left × (is_final (log lay now) field.0 ≡ false) × IsLastLook c now start now field.0
 -- another client's SCX-record has come to the cell since the snapshot of its own LLX
 SetIsRight field value lay c now start linked (Lost node scx) = HasRoom lay c start × IsInTheWay lay c now start Freeze (field.0 ∷ []) node.0 scx.0 (λ moment. IsLastLook c now start moment field.0 × (is_final (log lay moment) field.0 ≡ false))
 SetIsRight field value lay c now start linked Done = HasRoom lay c start
@@ -45,13 +46,17 @@ SetIsRight field value lay c now start linked _ = ⊥
 abbrev pub IsSetEntry : ℕ × Side → ℕ → Layout → ℕ → History → History → (ℕ → Option History) → Entered → Type 0
 IsSetEntry field x lay c before start linked e = IsEntryOver lay c before e (field.0 ∷ []) [] field x × ((moment : History) × Extends before moment × IsLastLook c before start moment field.0 × IsUnchanged lay before moment field.0)
 
--- at most the steps of an LLX and those of an SCX, of any kind; it never answers at once
+-- at most the steps of an LLX and those of an SCX, of any kind; one node and one SCX-record; it
+-- never answers at once
 abbrev pub set_rules : ℕ × Side → ℕ → Rules
 set_rules field value = record {
-  most_steps = λ taken. 104;
+  most_steps = λ tries taken. 104;
+  most_nodes = λ tries. 1;
+  most_scx = λ tries. 1;
   MayMake = λ kind. Unit {0};
   IsAtOnce = λ answer. ⊥;
   IsAfterStep = SetAfterStep;
+  enters = is_done;
   linked_then = set_linked field;
   IsRight = SetIsRight field value;
   IsEntryFor = IsSetEntry field value;

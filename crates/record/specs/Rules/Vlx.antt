@@ -1,5 +1,5 @@
 -- The rules of `vlx`.
-use Rattle.std.specs.Prelude.{◌≡◌, ℕ, length, Option, Some}
+use Rattle.std.specs.Prelude.{◌≡◌, ℕ, false, length, Option, Some}
 use Rattle.arena.specs.declared.layout.Layout.{Layout}
 use Rattle.arena.specs.declared.step.Kind.TheVariants.{LoadInfo}
 use Rattle.arena.specs.History.{History}
@@ -37,13 +37,16 @@ VlxIsRight cells lay c now start linked Same = AreUnchanged lay start linked (ce
 VlxIsRight cells lay c now start linked (Changed node scx) = AreLinked linked (cells_of cells) × IsInTheWay lay c now start LoadInfo (cells_of cells) node.0 scx.0 (λ moment. linked node.0 ≡ Some moment) × IsBehindAll (IsAsSnapped lay start linked) (cells_of cells) node.0
 VlxIsRight cells lay c now start linked _ = ⊥
 
--- at most one step a cell, each a load of its info; it puts nothing into the log
+-- at most one step a cell, each a load of its info; it takes nothing, and puts nothing into the log
 abbrev pub vlx_rules : Cells → Rules
 vlx_rules cells = record {
-  most_steps = λ taken. length (cells_of cells);
+  most_steps = λ tries taken. length (cells_of cells);
+  most_nodes = λ tries. 0;
+  most_scx = λ tries. 0;
   MayMake = λ kind. kind ≡ LoadInfo;
   IsAtOnce = VlxAtOnce;
   IsAfterStep = VlxAfterStep;
+  enters = λ answer. false;
   linked_then = vlx_linked;
   IsRight = VlxIsRight cells;
   IsEntryFor = λ lay c before start linked e. ⊥;

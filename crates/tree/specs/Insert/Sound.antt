@@ -225,7 +225,7 @@ both_before true level class other key k ns Right p = (Second, tt, refl)
 both_before false level class other key k ns Left p = (Second, tt, refl)
 both_before false level class other key k ns Right p = (First, tt, refl)
 
-insert_fields : (k v : ℕ) (f : Found) (ns : Nodes) (ld : Loaded) (nth : Nth) (side : Side) → IsPieceWord (insert_pieces k v f ns ld nth) (Child side) → (i : Nth) × ComesBefore i nth × (word_of (insert_pieces k v f ns ld nth) (Child side) ≡ (nth_node ns i).0)
+pub insert_fields : (k v : ℕ) (f : Found) (ns : Nodes) (ld : Loaded) (nth : Nth) (side : Side) → IsPieceWord (insert_pieces k v f ns ld nth) (Child side) → (i : Nth) × ComesBefore i nth × (word_of (insert_pieces k v f ns ld nth) (Child side) ≡ (nth_node ns i).0)
 insert_fields k v f ns ld First side p = absurd p
 insert_fields k v f ns ld Second side p = absurd p
 insert_fields k v f ns ld Third side p = both_before (is_below k f) f.head.level f.head.class 0 f.key k ns side p

@@ -19,4 +19,4 @@ pub returns-clause-lawful : goal.returns-clause-lawful
 returns-clause-lawful c =
     let made : reverse (clients (newest c.loop-turn.player.lines)) ≡ map (λ (p : PassNo). p.0) c.args.turns.now
     = ap reverse c.loop-turn.invariant.turns ∙ reverse-reverse (map (λ (p : PassNo). p.0) (take c.loop-turn.turn-index c.args.turns.now)) ∙ ap (λ (l : List PassNo). map (λ (p : PassNo). p.0) l) (take_all c.loop-turn.turn-index c.args.turns.now c.loop-turn-test.false) in
-    rw (c.loop-turn.invariant.layout, c.loop-turn.invariant.calls, made) at (c.record.ensures.lawful c.loop-turn.invariant.played)
+    rw (c.loop-turn.invariant.layout, c.loop-turn.invariant.limits, c.loop-turn.invariant.calls, made) at (c.record.ensures.lawful c.loop-turn.invariant.played)

@@ -8,11 +8,16 @@ pub returns-clause-rests : goal.returns-clause-rests
 returns-clause-rests c = record {
   stands = record {
     is_pass = c.requires;
+    tries = refl;
     number = refl;
     place = c.next_call.ensures;
     kept = λ n found e. nothing_kept (c.new.ensures n) e;
     unkept = λ n i e. inr refl;
     dropped = λ n x. absurd (among_none n x);
+    free = λ tree n. c.new.ensures n;
+  };
+  holds = record {
+    some = refl;
     share = rw c.of.ensures.whole (whole_untouched c.args.layout.now c.args.pass.0);
     over = λ s own d t. absurd (none_taken c.args.layout.now.mode s t);
   };

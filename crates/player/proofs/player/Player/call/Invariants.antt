@@ -13,4 +13,4 @@ invariant-loop-self l = record {
 }
 
 abbrev pub decreases-loop-self : goal.decreases-loop-self
-decreases-loop-self l = to_go l.fn.self.script.layout (calls_of l.fn.self) l.client.0 (lines_of l.self)
+decreases-loop-self l = to_go l.fn.self.script.layout l.fn.self.script.limits.tries (calls_of l.fn.self) l.client.0 (lines_of l.self)

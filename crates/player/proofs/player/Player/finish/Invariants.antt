@@ -7,4 +7,4 @@ abbrev pub invariant-loop-client : goal.invariant-loop-client
 invariant-loop-client l = AreTurnsWhile (HasCall (calls_of l.fn.self) l.client.0) l.client.0 l.fn.self l.self
 
 abbrev pub decreases-loop-client : goal.decreases-loop-client
-decreases-loop-client l = to_go l.fn.self.script.layout (calls_of l.fn.self) l.client.0 (lines_of l.self)
+decreases-loop-client l = to_go l.fn.self.script.layout l.fn.self.script.limits.tries (calls_of l.fn.self) l.client.0 (lines_of l.self)

@@ -12,4 +12,4 @@ invariant-loop-left l = record {
 }
 
 abbrev pub decreases-loop-left : goal.decreases-loop-left
-decreases-loop-left l = to_go l.fn.self.script.layout (calls_of l.fn.self) l.client.0 (lines_of l.self)
+decreases-loop-left l = to_go l.fn.self.script.layout l.fn.self.script.limits.tries (calls_of l.fn.self) l.client.0 (lines_of l.self)

@@ -1,0 +1,13 @@
+-- How the changes of one key hang together. Places stand here with the newest first; the number of
+-- a place is how many stand behind it.
+use Rattle.std.specs.Prelude.{◌≡◌, ℕ, cond, eqb, List, [], ◌∷◌, ◌++◌, length, Option, Some, None}
+use Rattle.places.specs.declared.places.Place.{Place}
+
+-- the number of the newest place of this key
+abbrev pub latest : ℕ → List Place → Option ℕ
+latest key [] = None
+latest key (p ∷ ps) = cond (eqb key p.change.key) (Some (length ps)) (latest key ps)
+
+-- each place names the one before it of the same key
+abbrev pub AreLinked : List Place → Type 0
+AreLinked ps = (newer : List Place) (p : Place) (older : List Place) → ps ≡ newer ++ p ∷ older → p.before ≡ latest p.change.key older

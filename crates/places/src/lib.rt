@@ -1,0 +1,6 @@
+//! When a key of a run's map had which value, found without a look at every step.
+#![tactic(auto)]
+
+mod places;
+
+pub use places::{Change, Places};

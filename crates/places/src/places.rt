@@ -1,0 +1,118 @@
+//! The changes of a run's map, each with the one of its key before it.
+ghost use Rattle.std.specs.Prelude.{◌≡◌, ℕ, None, reverse, unwrap_or};
+ghost use Rattle.std.specs.Ordering.{nat_cmp};
+ghost use Rattle.std.specs.BTreeMap.{get as get_newest};
+ghost use Rattle.places.specs.Links.{latest, AreLinked};
+
+use arena::NoMemory;
+use script::{Call, Command};
+use std::alloc::Global;
+use std::collections::BTreeMap;
+
+/// In this turn the key has got this value; none where it was taken out of the map.
+#[derive(Clone, Copy, Debug, PartialEq, Eq)]
+pub struct Change {
+    pub turn: u64,
+    pub key: u64,
+    pub value: Option<u64>,
+}
+
+/// A change, and where in the list the one before it of the same key stands.
+#[derive(Clone, Copy, Debug, PartialEq, Eq)]
+struct Place {
+    change: Change,
+    before: Option<usize>,
+}
+
+/// The changes of a run's map, in order, and where the newest of each key stands.
+#[derive(Drop)]
+pub struct Places {
+    list: Vec<Place>,
+    newest: BTreeMap<u64, Option<usize>>,
+    ghost linked: { AreLinked (reverse list.items) },
+    ghost newest_are: { (key : ℕ) → unwrap_or (get_newest nat_cmp newest key) None ≡ latest key (reverse list.items) },
+}
+
+impl Places {
+    ghost use Rattle.std.specs.Prelude.{◌≡◌, ◌≢◌, ℕ, ◌+◌, ◌≤◌, List, [], ◌∷◌, IfOk, IfSome, IfNone, OnOk, All};
+    ghost use Rattle.script.specs.declared.command.Call.{Call};
+    ghost use Rattle.record.specs.declared.record.Line.{Line};
+    ghost use Rattle.record.specs.MapRecord.{map_at};
+    ghost use Rattle.record.specs.Placed.{IsGreatestTurn};
+    ghost use Rattle.spelling.specs.OrderedMap.{get};
+    ghost use Rattle.places.specs.Places.{changes, room, Knows, HoldsOfKey};
+    ghost use Rattle.places.specs.Entries.{AreEntries};
+
+    /// No changes yet; of the keys that these calls may change. The only error is want of memory.
+    pub fn new(alloc: Global, calls: &[Call]) -> Result<Places, NoMemory>
+        ensures none { IfOk result (λ p. changes p ≡ []) }
+        ensures keys { IfOk result (λ p. All (λ call. HoldsOfKey (Knows p) call.command) calls.now) }
+    {
+        let mut newest = BTreeMap::new(alloc);
+        for call in calls {
+            if let Command::Insert { key, value: _ } = call.command {
+                newest.insert(key, None)?;
+            }
+        }
+        Ok(Places {
+            list: Vec::new(alloc),
+            newest,
+        })
+    }
+
+    /// Makes room for one change more. It changes none.
+    pub fn reserve(&mut self) -> Result<(), NoMemory>
+        ensures room { OnOk result (1 ≤ room self.new) }
+        ensures same { changes self.new ≡ changes self.old }
+        ensures keys { (key : ℕ) → Knows self.old key → Knows self.new key }
+    {
+        self.list.reserve(1)?;
+        Ok(())
+    }
+
+    /// One change more, of a key that was known from the start.
+    pub fn push(&mut self, change: Change)
+        requires room { 1 ≤ room self.old }
+        requires key { Knows self.old change.key }
+        ensures room { room self.new + 1 ≡ room self.old }
+        ensures change { changes self.new ≡ change ∷ changes self.old }
+        ensures keys { (key : ℕ) → Knows self.old key → Knows self.new key }
+    {
+        let at = self.list.len();
+        if let Ok(before) = self.newest.insert(change.key, Some(at)) {
+            self.list.push_reserved(Place {
+                change,
+                before: before.unwrap_or(None),
+            });
+        }
+    }
+
+    /// The greatest turn from `first` to `last` after which the key has this value; none has one.
+    pub fn greatest(&self, key: u64, value: Option<u64>, first: u64, last: u64) -> Option<u64>
+        requires { first ≤ last }
+        ensures found { (calls : List Call) (lines : List Line) → AreEntries calls lines (changes self.now) → IfSome result (λ m. IsGreatestTurn (λ n. get key (map_at calls lines n) ≡ value) first last m) }
+        ensures none { (calls : List Call) (lines : List Line) → AreEntries calls lines (changes self.now) → IfNone result ((n : ℕ) → first ≤ n → n ≤ last → get key (map_at calls lines n) ≢ value) }
+    {
+        let mut until = last;
+        let mut at = self.newest_of(key);
+        while let Some(i) = at {
+            let place = self.list[i];
+            if place.change.turn <= until && place.change.value == value {
+                return Some(until);
+            }
+            if place.change.turn <= first {
+                return None;
+            }
+            until = until.min(place.change.turn - 1);
+            at = place.before;
+        }
+        if value.is_none() { Some(until) } else { None }
+    }
+
+    /// Where the newest change of a key stands.
+    fn newest_of(&self, key: u64) -> Option<usize>
+        ensures { result ≡ latest key (reverse self.now.list.items) }
+    {
+        self.newest.get(&key).copied().unwrap_or(None)
+    }
+}

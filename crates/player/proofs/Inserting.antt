@@ -1,0 +1,150 @@
+-- An insert that runs: what its SCX-record in progress says, and the word `call` that it fills.
+use Rattle.std.proofs.Common.{◌≡◌, ℕ, Option, Some, None, refl, sym, ◌∙◌, ap, arith}
+use Rattle.arena.specs.declared.layout.Layout.{Layout}
+use Rattle.arena.specs.declared.step.Step.{Step}
+use Rattle.arena.specs.declared.step.Kind.TheVariants.{Fill as FillKind, LoadSettled}
+use Rattle.arena.specs.declared.word.ScxWord.{ScxWord}
+use Rattle.arena.specs.declared.word.ScxWord.TheVariants.{Call as CallWord}
+use Rattle.arena.specs.Words.{scx as scx_word, word_after}
+use Rattle.arena.specs.History.{History, value}
+use Rattle.arena.specs.Blame.{IsInProgress}
+use Rattle.arena.specs.Fills.{IsOwnScx, IsNamedScx}
+use Rattle.arena.specs.Lawful.{Lawful}
+use Rattle.arena.specs.Machines.{Call as MachineCall}
+use Rattle.arena.proofs.Lemmas.{ends_self}
+use Rattle.help.specs.Help.Lawful.{help_fills_not}
+use Rattle.prims.specs.Cells.{AllowsAll}
+use Rattle.prims.specs.Put.Known.{PutWaitsAt}
+use Rattle.prims.specs.Scx.Known.{Job, job_of, HasFilled, ScxWaitsAt, part_at, fill_step}
+use Rattle.prims.specs.declared.put.PutRun.{PutRun}
+use Rattle.prims.specs.declared.put.PutAt.{PutAt}
+use Rattle.prims.specs.declared.put.PutAt.TheVariants.{Start as PutStart, Fill as PutFill, Scx as PutScx}
+use Rattle.prims.specs.declared.scx.ScxAt.{ScxAt}
+use Rattle.prims.specs.declared.scx.ScxAt.TheVariants.{Start as ScxStart, Plan as AtPlan, New as AtNew, Old as AtOld, Member as AtMember, Seen as AtSeen, Call as AtCall, Help}
+use Rattle.prims.proofs.Lemmas.{llx_fills_not, vlx_fills_not, own_in_hand}
+use Rattle.spelling.specs.OrderedMap.{Insert as PutEdit}
+use Rattle.spelling.specs.Runs.{Makes}
+use Rattle.spelling.specs.TreeShape.{TreeAllows}
+use Rattle.template.proofs.Lemmas.{walk_fills_not}
+use Rattle.template.specs.Tracked.{Tracks}
+use Rattle.tree.specs.declared.insert.Insert.{Insert as Inserted}
+use Rattle.tree.specs.Insert.Means.{insert_means}
+use Rattle.tree.proofs.Lemmas.{get_fills_not}
+use Rattle.updates.specs.Known.{UpdateWaits, UpdateWaitsAt}
+use Rattle.updates.specs.Laws.Entered.{only_joined}
+use Rattle.updates.specs.Laws.HandScx.{from}
+use Rattle.updates.specs.Laws.Kept.{idle_rests}
+use Rattle.updates.specs.Tries.{HasEnteredOnly, IsTry}
+use Rattle.updates.specs.declared.update.UpdateAt.{UpdateAt}
+use Rattle.updates.specs.declared.update.UpdateAt.TheVariants.{Start, Walk, Look, Load, Fill, Scx}
+use Rattle.updates.specs.declared.update.UpdateRun.{UpdateRun}
+use Rattle.script.specs.declared.command.Command.{Command}
+use Rattle.script.specs.declared.command.Command.TheVariants.{Llx as LlxOf, Scx as ScxOf, Vlx as VlxOf, Set as SetOf, Insert as InsertOf, Get as GetOf}
+use Rattle.player.specs.declared.client.Put.{Put}
+use Rattle.player.specs.declared.run.Run.{Run}
+use Rattle.player.specs.declared.run.Run.TheVariants.{Llx, Scx as ScxRun, Vlx, Insert, Get}
+use Rattle.player.specs.RunKnown.{RunWaits}
+use Rattle.player.specs.ClientView.{IsMachineOf, IsInsertOf, IsScxOf}
+
+-- The SCX-record in hand
+
+module _ (allows : Layout → History → ℕ → Type 0) (m : Job) (c : MachineCall) (h : History) where
+  -- one that an info word names is filled
+  scx_filled : (at : ScxAt) (s : Step) → IsNamedScx h m.scx.0 → ScxWaitsAt allows c h m at s → HasFilled c h m.scx.0 m.call m.update
+  scx_filled ScxStart s p w = absurd w
+  scx_filled (Help help) s p w = w.2
+  scx_filled AtPlan s p w = absurd (w.fills.hand.is_open.unnamed p)
+  scx_filled AtNew s p w = absurd (w.fills.hand.is_open.unnamed p)
+  scx_filled AtOld s p w = absurd (w.fills.hand.is_open.unnamed p)
+  scx_filled (AtMember j) s p w = absurd (w.fills.hand.is_open.unnamed p)
+  scx_filled (AtSeen j) s p w = absurd (w.fills.hand.is_open.unnamed p)
+  scx_filled AtCall s p w = absurd (w.fills.hand.is_open.unnamed p)
+
+  -- the fill of a word `call` stores the number of its call
+  says_at : (part : ScxWord) (s : Step) (t v : ℕ) → s ≡ fill_step m part → s.word ≡ scx_word t CallWord → word_after s.access v ≡ m.call
+  says_at CallWord s t v asked word = rw asked refl
+  says_at part s t v asked word = absurd (let z : scx_word m.scx.0 part ≡ scx_word t CallWord = ap (λ (q : Step). q.word) (sym asked) ∙ word in cc)
+
+  scx_says : (at : ScxAt) (s : Step) (t v : ℕ) → ScxWaitsAt allows c h m at s → s.kind ≡ FillKind → s.word ≡ scx_word t CallWord → word_after s.access v ≡ m.call
+  scx_says ScxStart s t v w kind word = absurd w
+  scx_says (Help help) s t v w kind word = absurd (help_fills_not allows help c h s w.0 kind)
+  scx_says AtPlan s t v w kind word = says_at (part_at AtPlan) s t v w.asked word
+  scx_says AtNew s t v w kind word = says_at (part_at AtNew) s t v w.asked word
+  scx_says AtOld s t v w kind word = says_at (part_at AtOld) s t v w.asked word
+  scx_says (AtMember j) s t v w kind word = says_at (part_at (AtMember j)) s t v w.asked word
+  scx_says (AtSeen j) s t v w kind word = says_at (part_at (AtSeen j)) s t v w.asked word
+  scx_says AtCall s t v w kind word = says_at (part_at AtCall) s t v w.asked word
+
+-- what an insert's SCX-record in progress says: it is of the call, makes the insert, and no other
+-- of the call has won
+pub record IsInsertHand (m : UpdateRun Inserted) (call : MachineCall) (h : History) (t : ℕ) : Type 0 where
+  pub called : value h (scx_word t CallWord) ≡ m.call
+  pub makes : Makes call.layout h t (PutEdit m.edit.key m.edit.value)
+  pub only : HasEnteredOnly call.layout call.pass t h call.start
+
+module _ (m : UpdateRun Inserted) (call : MachineCall) (h : History) (t : ℕ) (l : Lawful call.layout h) (own : IsOwnScx call.layout call.pass t) (p : IsInProgress h t) where
+  -- what it makes if it is not aborted
+  makes_it : (j : Job) → j.scx.0 ≡ t → Tracks call.layout call.pass h j (PutEdit m.edit.key m.edit.value) → Makes call.layout h t (PutEdit m.edit.key m.edit.value)
+  makes_it j e (Tracks.waits f free) = absurd (free (rw e p.named))
+  makes_it j e (Tracks.begun x) = rw e at x
+  makes_it j e (Tracks.over x) = absurd (let z = p.unfinished in let y = rw e at x in omega (arith, z, y))
+
+  hand_at : (b : History) (s : Step) (at : UpdateAt) → IsTry call b → UpdateWaitsAt insert_means m (from call b) h s at → IsInsertHand m call h t
+  hand_at b s Start try w = absurd w
+  hand_at b s (Walk walk) try w = absurd (idle_rests (from call b) h m.share l w.0.rests t own p)
+  hand_at b s (Look f llx) try w = absurd (idle_rests (from call b) h m.share l w.1.rests t own p)
+  hand_at b s (Load f nth part) try w = absurd (w.0.works.quiet h (ends_self h) w.0.works.since t own p)
+  hand_at b s (Fill f nth part) try w = absurd (w.0.works.quiet h (ends_self h) w.0.works.since t own p)
+  hand_at b s (Scx f scx) try (begin, x, w) =
+      let same : t ≡ scx.scx.0 = own_in_hand call.layout h call.pass t scx.scx.0 l x.over own p in
+      let filled = scx_filled TreeAllows (job_of scx) (from (from call b) begin) h scx.at s (rw same at p.named) w in
+      record {
+        called = rw same (filled.called ∙ x.call);
+        makes = makes_it (job_of scx) (sym same) x.tracks;
+        only = rw same (only_joined call.layout call.pass scx.scx.0 h b call.start x.now try.none x.only);
+      }
+
+  pub insert_hand : (s : Step) → UpdateWaits insert_means m call h s → IsInsertHand m call h t
+  insert_hand s w = hand_at w.0 s m.at w.1 w.3
+
+-- The word `call`
+
+insert_says_at : (m : UpdateRun Inserted) (call : MachineCall) (h : History) (s : Step) (t v : ℕ) (at : UpdateAt) → UpdateWaitsAt insert_means m call h s at → s.kind ≡ FillKind → s.word ≡ scx_word t CallWord → word_after s.access v ≡ m.call
+insert_says_at m call h s t v Start w kind word = absurd w
+insert_says_at m call h s t v (Walk walk) w kind word = absurd (walk_fills_not walk call h s w.1 kind)
+insert_says_at m call h s t v (Look f llx) w kind word = absurd (llx_fills_not TreeAllows llx (from call w.0) h s w.2 kind)
+insert_says_at m call h s t v (Load f nth part) w kind word = absurd (let z : LoadSettled ≡ FillKind = ap (λ (q : Step). q.kind) (sym w.1) ∙ kind in cc)
+insert_says_at m call h s t v (Fill f nth part) w kind word = absurd (let z = ap (λ (q : Step). q.word) (sym w.3) ∙ word in cc)
+insert_says_at m call h s t v (Scx f scx) w kind word = scx_says TreeAllows (job_of scx) (from call w.0) h scx.at s t v w.2 kind word ∙ w.1.call
+
+put_says_at : (m : PutRun) (call : MachineCall) (h : History) (s : Step) (t v : ℕ) (at : PutAt) → PutWaitsAt AllowsAll call h m at s → s.kind ≡ FillKind → s.word ≡ scx_word t CallWord → word_after s.access v ≡ m.scx.call
+put_says_at m call h s t v PutStart w kind word = absurd w
+put_says_at m call h s t v PutFill w kind word = absurd (let z = ap (λ (q : Step). q.word) (sym w.2) ∙ word in cc)
+put_says_at m call h s t v PutScx w kind word = scx_says AllowsAll (job_of m.scx) call h m.scx.at s t v w.1 kind word
+
+put_called : (command : Command) (number : ℕ) (m : PutRun) (then : Option Put) → IsScxOf command number m then → m.scx.call ≡ number
+put_called (ScxOf update) number m None x = x.called
+put_called (SetOf field y) number m None x = x.called
+put_called (ScxOf update) number m (Some put) x = absurd x
+put_called (SetOf field y) number m (Some put) x = absurd x
+put_called (LlxOf cell) number m then x = absurd x
+put_called (VlxOf cells) number m then x = absurd x
+put_called (InsertOf key value) number m then x = absurd x
+put_called (GetOf key) number m then x = absurd x
+
+pub insert_called : (command : Command) (number : ℕ) (m : UpdateRun Inserted) (then : Option Put) → IsInsertOf command number m then → m.call ≡ number
+insert_called (InsertOf key value) number m None x = x.2
+insert_called (InsertOf key value) number m (Some put) x = absurd x
+insert_called (ScxOf update) number m then x = absurd x
+insert_called (SetOf field y) number m then x = absurd x
+insert_called (LlxOf cell) number m then x = absurd x
+insert_called (VlxOf cells) number m then x = absurd x
+insert_called (GetOf key) number m then x = absurd x
+
+-- a machine that fills the word `call` stores there the number of the client's call
+pub run_says : (command : Command) (number : ℕ) (run : Run) (then : Option Put) (call : MachineCall) (h : History) (s : Step) (t v : ℕ) → IsMachineOf command number run then → RunWaits run call h s → s.kind ≡ FillKind → s.word ≡ scx_word t CallWord → word_after s.access v ≡ number
+run_says command number (Llx m) then call h s t v of w kind word = absurd (llx_fills_not AllowsAll m call h s w kind)
+run_says command number (Vlx m) then call h s t v of w kind word = absurd (vlx_fills_not m.snaps m.asked call h s w kind)
+run_says command number (Get m) then call h s t v of w kind word = absurd (get_fills_not m call h s w kind)
+run_says command number (ScxRun m) then call h s t v of w kind word = put_says_at m call h s t v m.at w kind word ∙ put_called command number m then of
+run_says command number (Insert m) then call h s t v of w kind word = insert_says_at m (from call w.0) h s t v m.at w.3 kind word ∙ insert_called command number m then of.1

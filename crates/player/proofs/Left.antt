@@ -1,0 +1,49 @@
+-- What is left of a share, as records say it.
+use Rattle.std.proofs.Common.{◌≡◌, ℕ, ◌<◌, ◌≤◌, Option, Some, None, refl, sym, ◌∙◌, arith}
+use Rattle.arena.specs.declared.layout.Layout.{Layout}
+use Rattle.arena.specs.declared.fault.Resource.{Resource}
+use Rattle.arena.specs.declared.fault.Resource.TheVariants.{Nodes, Scx as ScxRecords}
+use Rattle.arena.specs.History.{History}
+use Rattle.arena.specs.Share.{Remaining, IsFullOf}
+use Rattle.prims.specs.Shares.{IsShare}
+use Rattle.record.specs.Rules.Insert.{nodes_for}
+use Rattle.record.specs.Shares.{HasNodesLeft, HasScxLeft, HasTooFew}
+use Rattle.tree.specs.Insert.Means.{insert_need}
+use Rattle.updates.specs.Known.{IsShort}
+
+module _ (lay : Layout) (h : History) (c : ℕ) (left : Remaining) (share : IsShare lay h c left left.next_node left.next_scx) where
+  -- its nodes are the last ones
+  pub nodes_left : HasNodesLeft lay c h left.nodes
+  nodes_left = record {
+    within = let a = share.from_node in let b = share.to_node in omega (arith, a, b);
+    taken = λ n own i. share.taken_nodes n own (let b = share.to_node in omega (arith, i, b));
+    untaken = λ n own i. share.untaken_nodes n record { from = let b = share.to_node in omega (arith, i, b); below = let a = own.below in let b = share.to_node in omega (arith, a, b) };
+  }
+
+  -- and so its SCX-records
+  pub scx_left : HasScxLeft lay c h left.scx
+  scx_left = record {
+    within = let a = share.from_scx in let b = share.to_scx in omega (arith, a, b);
+    taken = λ s own i. share.taken_scx s own (let b = share.to_scx in omega (arith, i, b));
+    untaken = λ s own i. share.untaken s record { from = let b = share.to_scx in omega (arith, i, b); below = let a = own.below in let b = share.to_scx in omega (arith, a, b) };
+  }
+
+  -- a share with fewer nodes than an update needs
+  few_nodes : (needed k : ℕ) → left.nodes < needed → k ≡ left.nodes → HasTooFew lay c h needed Nodes k
+  few_nodes needed k i e = rw e (i, nodes_left)
+
+  -- or with as many, and without an SCX-record
+  few_scx : (needed k : ℕ) → needed ≤ left.nodes → left.scx ≡ 0 → k ≡ 0 → HasTooFew lay c h needed ScxRecords k
+  few_scx needed k i none e = rw e (refl, rw none at scx_left, (left.nodes, i, nodes_left))
+
+  -- one that an SCX finds full
+  pub full_left : (what : Resource) (k : ℕ) → IsFullOf left what k → HasTooFew lay c h 1 what k
+  full_left Nodes k x = few_nodes 1 k (let z = x.0 in omega (arith, z)) (x.1 ∙ sym x.0)
+  full_left ScxRecords k x = few_scx 1 k (let i = x.0 in omega (arith, i)) x.1 x.2
+
+  -- one that an insert finds too small
+  pub short_left : (old : Option ℕ) (what : Resource) (k : ℕ) → IsShort (insert_need old) left what k → HasTooFew lay c h (nodes_for old) what k
+  short_left None Nodes k x = few_nodes 3 k x.0 x.1
+  short_left (Some v) Nodes k x = few_nodes 1 k x.0 x.1
+  short_left None ScxRecords k x = few_scx 3 k x.0 x.1 x.2
+  short_left (Some v) ScxRecords k x = few_scx 1 k x.0 x.1 x.2

@@ -1,0 +1,61 @@
+-- On the tree all calls are of the map, and a run is one of the tree.
+use Rattle.std.proofs.Common.{◌≡◌, ℕ, zero, suc, Bool, true, false, cond, eqb, List, [], ◌∷◌, Some, slice_get, All, refl, sym, ◌∙◌, arith}
+use Rattle.std.proofs.lemmas.List.Elements.{All-tail}
+use Rattle.arena.specs.declared.limits.Mode.{Mode}
+use Rattle.arena.specs.declared.limits.Mode.TheVariants.{Tree}
+use Rattle.arena.specs.declared.layout.Layout.{Layout}
+use Rattle.arena.specs.declared.step.Row.{Row}
+use Rattle.arena.specs.History.{History, ◌⊳◌}
+use Rattle.arena.specs.Machines.{IsRun}
+use Rattle.histories.proofs.Lemmas.{lawful_tail, shaped_tail}
+use Rattle.spelling.specs.OrderedMap.{MapCall, Edit, Get, Insert}
+use Rattle.spelling.specs.Runs.{IsTreeRun}
+use Rattle.script.specs.declared.command.Call.{Call}
+use Rattle.script.specs.declared.command.Command.{Command}
+use Rattle.script.specs.declared.command.Command.TheVariants.{Llx as LlxOf, Scx as ScxOf, Vlx as VlxOf, Set as SetOf, Insert as InsertOf, Get as GetOf}
+use Rattle.script.specs.Commands.{mode_of}
+use Rattle.record.specs.Commands.{commands}
+use Rattle.record.specs.MapRecord.{map_call}
+use Rattle.record.proofs.Lemmas.{AreMapCalls}
+use Rattle.player.specs.Allowed.{PlayedAllows}
+use Rattle.player.proofs.Shapes.{as_tree}
+
+-- each call has a command of this mode
+abbrev pub AreOf : Mode → List Call → Type 0
+AreOf mode calls = All (λ (call : Call). mode_of call.command ≡ mode) calls
+
+-- so each command of a client is
+pub command_mode : (mode : Mode) (calls : List Call) (c n : ℕ) (command : Command) → AreOf mode calls → slice_get (commands calls c) n ≡ Some command → mode_of command ≡ mode
+command_mode mode [] c n command all e = cc
+command_mode mode (call ∷ calls) c n command all e = go (λ i d. command_mode mode calls c i command rest d) (eqb call.client.0 c) n e
+  where
+    first : mode_of call.command ≡ mode
+    first = all 0 call (omega arith)
+
+    rest : AreOf mode calls
+    rest = All-tail (λ (k : Call). mode_of k.command ≡ mode) call calls all
+
+    go : ((i : ℕ) → slice_get (commands calls c) i ≡ Some command → mode_of command ≡ mode) → (b : Bool) (n : ℕ) → slice_get (cond b (call.command ∷ commands calls c) (commands calls c)) n ≡ Some command → mode_of command ≡ mode
+    go more false n d = more n d
+    go more true zero d = let same : call.command ≡ command = cc in rw (sym same) first
+    go more true (suc n) d = more n d
+
+-- a run without its newest row
+pub run_before : (allows : Layout → History → ℕ → Type 0) (lay : Layout) (h : History) (r : Row) → IsRun allows lay (r ⊳ h) → IsRun allows lay h
+run_before allows lay h r run = record { lawful = lawful_tail lay h r run.lawful; shaped = shaped_tail allows lay h r run.shaped }
+
+-- in tree mode a run is one of the tree
+pub tree_run : (lay : Layout) (h : History) → lay.mode ≡ Tree → IsRun PlayedAllows lay h → IsTreeRun lay h
+tree_run lay h mode run = (mode, as_tree lay h mode run)
+
+-- all calls of a tree are of the map
+pub map_calls : (mode : Mode) (calls : List Call) → mode ≡ Tree → AreOf mode calls → AreMapCalls calls
+map_calls mode calls e all c j command is = go command (command_mode mode calls c j command all is ∙ e)
+  where
+    go : (command : Command) → mode_of command ≡ Tree → (call : MapCall) × (map_call (Some command) ≡ Some call)
+    go (GetOf key) e = (Get key, refl)
+    go (InsertOf key value) e = (Edit (Insert key value), refl)
+    go (LlxOf cell) e = cc
+    go (ScxOf update) e = cc
+    go (VlxOf cells) e = cc
+    go (SetOf field value) e = cc

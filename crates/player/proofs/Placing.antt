@@ -1,0 +1,84 @@
+-- Where the moment of an answer lies.
+use Rattle.std.proofs.Common.{◌≡◌, ℕ, ◌≤◌, Bool, true, false, List, Option, Some, None, refl, sym, ◌∙◌, arith}
+use Rattle.script.specs.declared.command.Command.{Command}
+use Rattle.script.specs.declared.command.Command.TheVariants.{Llx, Scx, Vlx, Set, Insert, Get}
+use Rattle.record.specs.declared.record.Answer.{Answer}
+use Rattle.record.specs.declared.record.Answer.TheVariants.{Snapshot, Finalized, Fail, Done, Lost, Same, Changed, Unlinked, Full, Value, Contended}
+use Rattle.record.specs.Answers.{HasItsEntry}
+use Rattle.record.specs.CommandRules.{MayAnswerAfterStep, enters}
+use Rattle.record.proofs.Lemmas.{some_turn}
+use Rattle.record.specs.declared.record.Line.{Line}
+use Rattle.script.specs.declared.command.Call.{Call}
+use Rattle.script.specs.Commands.{mode_of}
+use Rattle.arena.specs.declared.limits.Mode.TheVariants.{Tree}
+use Rattle.places.specs.declared.places.Change.{Change}
+use Rattle.places.specs.Entries.{AreEntries}
+use Rattle.player.specs.Moments.{IsMomentBy, IsValueMoment}
+
+-- an answer `done` says that the call has an entry, where it may answer so
+pub done_enters : (command : Command) → MayAnswerAfterStep command Done → enters command Done ≡ true
+done_enters (Scx update) x = refl
+done_enters (Set field value) x = refl
+done_enters (Llx cell) x = absurd x
+done_enters (Vlx cells) x = absurd x
+done_enters (Insert key value) x = absurd x
+done_enters (Get key) x = absurd x
+
+same_won : (b : Bool) (said won : Option ℕ) → b ≡ true → HasItsEntry b won → ((turn : ℕ) → won ≡ Some turn → said ≡ Some turn) → said ≡ won
+same_won true said (Some turn) e x f = f turn refl
+same_won true said None e x f = absurd x
+same_won false said won e x f = cc
+
+-- the moment of an answer is that of the lines
+value_same : (calls : List Call) (lines : List Line) (changes : List Change) (command : Command) (told : Option ℕ) (first last : ℕ) (said won moment : Option ℕ) → HasItsEntry (enters command (Value told)) won → ((turn : ℕ) → won ≡ Some turn → said ≡ Some turn) → IsValueMoment calls lines changes command told first last said moment → IsValueMoment calls lines changes command told first last won moment
+value_same calls lines changes (Insert key value) told first last said won moment entry f x = x ∙ same_won true said won refl entry f
+value_same calls lines changes (Get key) told first last said won moment entry f x = x
+value_same calls lines changes (Llx cell) told first last said won moment entry f x = x
+value_same calls lines changes (Scx update) told first last said won moment entry f x = x
+value_same calls lines changes (Vlx cells) told first last said won moment entry f x = x
+value_same calls lines changes (Set field value) told first last said won moment entry f x = x
+
+pub moment_same : (calls : List Call) (lines : List Line) (changes : List Change) (command : Command) (answer : Answer) (first last : ℕ) (said won moment : Option ℕ) → (answer ≡ Done → enters command answer ≡ true) → HasItsEntry (enters command answer) won → ((turn : ℕ) → won ≡ Some turn → said ≡ Some turn) → IsMomentBy calls lines changes command answer first last said moment → IsMomentBy calls lines changes command answer first last won moment
+moment_same calls lines changes command (Value told) first last said won moment done entry f x = value_same calls lines changes command told first last said won moment entry f x
+moment_same calls lines changes command Done first last said won moment done entry f x = x ∙ same_won (enters command Done) said won (done refl) entry f
+moment_same calls lines changes command Same first last said won moment done entry f x = x
+moment_same calls lines changes command (Snapshot left right) first last said won moment done entry f x = x
+moment_same calls lines changes command Finalized first last said won moment done entry f x = x
+moment_same calls lines changes command (Fail node scx) first last said won moment done entry f x = x
+moment_same calls lines changes command (Lost node scx) first last said won moment done entry f x = x
+moment_same calls lines changes command (Changed node scx) first last said won moment done entry f x = x
+moment_same calls lines changes command (Unlinked node) first last said won moment done entry f x = x
+moment_same calls lines changes command (Full what left) first last said won moment done entry f x = x
+moment_same calls lines changes command (Contended node scx) first last said won moment done entry f x = x
+
+-- and lies between the first turn and the last
+module _ (calls : List Call) (lines : List Line) (changes : List Change) (first last m : ℕ) (won moment : Option ℕ) (less : first ≤ last) (between : (turn : ℕ) → won ≡ Some turn → (first ≤ turn) × (turn ≤ last)) (is : moment ≡ Some m) where
+  at_first : moment ≡ Some first → (first ≤ m) × (m ≤ last)
+  at_first e = let same : first ≡ m = some_turn first m (sym e ∙ is) in (omega arith, omega arith)
+
+  at_last : moment ≡ Some last → (first ≤ m) × (m ≤ last)
+  at_last e = let same : last ≡ m = some_turn last m (sym e ∙ is) in (omega arith, omega arith)
+
+  nowhere : moment ≡ None → (first ≤ m) × (m ≤ last)
+  nowhere e = absurd (let z : None ≡ Some m = sym e ∙ is in cc)
+
+  value_within : (command : Command) (told : Option ℕ) → (mode_of command ≡ Tree → AreEntries calls lines changes) → IsValueMoment calls lines changes command told first last won moment → (first ≤ m) × (m ≤ last)
+  value_within (Insert key value) told entries x = between m (sym x ∙ is)
+  value_within (Get key) told entries x = let y = x (entries refl) in let z = rw is at y.0 in (z.from, z.to)
+  value_within (Llx cell) told entries x = nowhere x
+  value_within (Scx update) told entries x = nowhere x
+  value_within (Vlx cells) told entries x = nowhere x
+  value_within (Set field value) told entries x = nowhere x
+
+  pub moment_within : (command : Command) (answer : Answer) → (mode_of command ≡ Tree → AreEntries calls lines changes) → IsMomentBy calls lines changes command answer first last won moment → (first ≤ m) × (m ≤ last)
+  moment_within command (Value told) entries x = value_within command told entries x
+  moment_within command Done entries x = between m (sym x ∙ is)
+  moment_within command Same entries x = at_first x
+  moment_within command (Snapshot left right) entries x = at_last x
+  moment_within command Finalized entries x = at_last x
+  moment_within command (Fail node scx) entries x = nowhere x
+  moment_within command (Lost node scx) entries x = nowhere x
+  moment_within command (Changed node scx) entries x = nowhere x
+  moment_within command (Unlinked node) entries x = nowhere x
+  moment_within command (Full what left) entries x = nowhere x
+  moment_within command (Contended node scx) entries x = nowhere x

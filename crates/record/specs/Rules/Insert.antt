@@ -1,0 +1,66 @@
+-- The rules of `insert`.
+use Rattle.std.specs.Prelude.{ℕ, ◌+◌, ◌*◌, Bool, true, false, Option, Some, None}
+use Rattle.arena.specs.declared.layout.Layout.{Layout}
+use Rattle.arena.specs.declared.step.Row.{Row as StepRow}
+use Rattle.arena.specs.Blame.{WasInTheWay}
+use Rattle.arena.specs.Fills.{IsOthersScx}
+use Rattle.arena.specs.History.{History, ◌⊳◌, Extends}
+use Rattle.spelling.specs.OrderedMap.{Edit, Insert}
+use Rattle.spelling.specs.Paths.{IsAnswerAt}
+use Rattle.spelling.specs.Runs.{Makes}
+use Rattle.record.specs.declared.record.Answer.{Answer}
+use Rattle.record.specs.declared.record.Answer.TheVariants.{Value, Contended, Full}
+use Rattle.record.specs.MapRecord.{reply_told}
+use Rattle.record.specs.Placed.{IsPlacedOnMap}
+use Rattle.record.specs.Rules.{Rules}
+use Rattle.record.specs.Shares.{HasTooFew}
+
+-- it tells what the key had before, or is refused
+abbrev pub InsertAfterStep : Answer → Type 0
+InsertAfterStep (Value old) = Unit {0}
+InsertAfterStep (Contended node scx) = Unit {0}
+InsertAfterStep (Full what left) = Unit {0}
+InsertAfterStep _ = ⊥
+
+-- one that tells a value has an entry, and no other
+abbrev pub has_inserted : Answer → Bool
+has_inserted (Value old) = true
+has_inserted _ = false
+
+-- how many nodes it needs where the map has this at the key: for a present key a leaf, for a new
+-- one two leaves and a fork over them
+abbrev pub nodes_for : Option ℕ → ℕ
+nodes_for (Some old) = 1
+nodes_for None = 3
+
+-- after some row behind the call's begin, the map that the words spelled had this at the key
+abbrev pub HadAtKey : Layout → History → History → ℕ → Option ℕ → Type 0
+HadAtKey lay now start key old = (row : StepRow) × (before : History) × Extends before start × IsAnswerAt lay now (row ⊳ before) key old
+
+-- what its answers say
+abbrev pub InsertIsRight : ℕ → Layout → ℕ → History → History → (ℕ → Option History) → Answer → Type 0
+-- of one that tells a value, its entry and where it took place say all
+InsertIsRight key lay c now start linked (Value old) = Unit {0}
+-- after some row behind the call's begin another client's SCX-record was in progress over this node
+InsertIsRight key lay c now start linked (Contended node scx) = IsOthersScx lay c scx.0 × WasInTheWay now start node.0 scx.0
+-- the share has too little for what the map had at the key
+InsertIsRight key lay c now start linked (Full what left) = (old : Option ℕ) × HadAtKey lay now start key old × HasTooFew lay c now (nodes_for old) what left
+InsertIsRight key lay c now start linked _ = ⊥
+
+-- in each of its tries: at most three steps for each level that the tree may have, two more than
+-- nodes are taken, and 178 others, of any kind; three nodes and an SCX-record. It leaves snapshots
+-- alone. Its entry is of an SCX-record that inserts the key with this value
+abbrev pub insert_rules : ℕ → ℕ → Rules
+insert_rules key value = record {
+  most_steps = λ tries taken. tries * (3 * (2 + taken) + 178);
+  most_nodes = λ tries. tries * 3;
+  most_scx = λ tries. tries;
+  MayMake = λ kind. Unit {0};
+  IsAtOnce = λ answer. ⊥;
+  IsAfterStep = InsertAfterStep;
+  enters = has_inserted;
+  linked_then = λ answer now n old. old;
+  IsRight = InsertIsRight key;
+  IsEntryFor = λ lay c before start linked e. Makes lay before e.scx (Insert key value);
+  IsPlaced = λ lay calls lines reply. IsPlacedOnMap (reply_told reply.answer) calls lines (Edit (Insert key value)) reply;
+}

@@ -1,0 +1,39 @@
+-- What a call takes of its client's share, and what is left of that.
+use Rattle.std.specs.Prelude.{◌≡◌, ℕ, ◌+◌, ◌<◌, ◌≤◌}
+use Rattle.arena.specs.declared.layout.Layout.{Layout}
+use Rattle.arena.specs.declared.fault.Resource.{Resource}
+use Rattle.arena.specs.declared.fault.Resource.TheVariants.{Nodes, Scx as ScxRecords}
+use Rattle.arena.specs.Layout.{first_node, first_scx}
+use Rattle.arena.specs.History.{History}
+use Rattle.arena.specs.Fills.{IsOwnNode, IsOwnScx, IsTakenNode, IsTakenScx}
+
+-- n is one of so many numbers that follow one another, from `first` on
+abbrev pub IsInRow : ℕ → ℕ → ℕ → Type 0
+IsInRow first many n = (first ≤ n) × (n < first + many)
+
+-- since `start` the client has taken at most so many nodes of its share, and so many SCX-records
+pub record HasTakenAtMost (lay : Layout) (c : ℕ) (now start : History) (many_nodes many_scx : ℕ) : Type 0 where
+  -- each node that it has taken since is one of so many that follow one another
+  pub lowest_node : ℕ
+  pub nodes : (n : ℕ) → IsOwnNode lay c n → ¬ IsTakenNode start n → IsTakenNode now n → IsInRow lowest_node many_nodes n
+  pub lowest_scx : ℕ
+  pub scx_records : (s : ℕ) → IsOwnScx lay c s → ¬ IsTakenScx start s → IsTakenScx now s → IsInRow lowest_scx many_scx s
+
+-- so many nodes are left of the client's share: the last ones, which are not taken, while all
+-- before them are
+pub record HasNodesLeft (lay : Layout) (c : ℕ) (now : History) (left : ℕ) : Type 0 where
+  pub within : left ≤ lay.nodes
+  pub taken : (n : ℕ) → IsOwnNode lay c n → n + left < first_node lay c + lay.nodes → IsTakenNode now n
+  pub untaken : (n : ℕ) → IsOwnNode lay c n → first_node lay c + lay.nodes ≤ n + left → ¬ IsTakenNode now n
+
+-- so many SCX-records are left of it
+pub record HasScxLeft (lay : Layout) (c : ℕ) (now : History) (left : ℕ) : Type 0 where
+  pub within : left ≤ lay.scx
+  pub taken : (s : ℕ) → IsOwnScx lay c s → s + left < first_scx lay c + lay.scx → IsTakenScx now s
+  pub untaken : (s : ℕ) → IsOwnScx lay c s → first_scx lay c + lay.scx ≤ s + left → ¬ IsTakenScx now s
+
+-- The client's share has too little for an update that needs so many nodes and an SCX-record: so
+-- many nodes are left, which are too few; or nodes enough are left, and no SCX-record.
+abbrev pub HasTooFew : Layout → ℕ → History → ℕ → Resource → ℕ → Type 0
+HasTooFew lay c now needed Nodes left = (left < needed) × HasNodesLeft lay c now left
+HasTooFew lay c now needed ScxRecords left = (left ≡ 0) × HasScxLeft lay c now left × ((nodes : ℕ) × (needed ≤ nodes) × HasNodesLeft lay c now nodes)

@@ -1,0 +1,180 @@
+-- An insert fills its nodes in order: the leaves before the fork over them, which nothing mentions.
+use Rattle.std.proofs.Common.{◌≡◌, ◌≢◌, ℕ, suc, ◌/◌, ◌%◌, ◌<◌, ◌≤◌, ◌⊎◌, inl, inr, true, eqb, refl, sym, ◌∙◌, ap, subst, arith}
+use Rattle.std.proofs.lemmas.Bool.{eq-eqb, ne_eqb}
+use Rattle.arena.specs.declared.layout.Layout.{Layout}
+use Rattle.arena.specs.declared.limits.Mode.{Mode}
+use Rattle.arena.specs.declared.limits.Mode.TheVariants.{Tree as TreeMode}
+use Rattle.arena.specs.declared.step.Kind.TheVariants.{Fill as FillKind, LoadSettled}
+use Rattle.arena.specs.declared.step.Step.{Step}
+use Rattle.arena.specs.declared.word.NodeWord.{NodeWord}
+use Rattle.arena.specs.declared.word.NodeWord.TheVariants.{Head, Child}
+use Rattle.arena.specs.declared.word.ScxWord.{ScxWord}
+use Rattle.arena.specs.declared.word.Side.{Side}
+use Rattle.arena.specs.declared.word.Word.{Word}
+use Rattle.arena.specs.declared.word.Word.TheVariants.{Node, Scx as ScxOf}
+use Rattle.arena.specs.Fills.{IsOwnNode}
+use Rattle.arena.specs.History.{History, value}
+use Rattle.arena.specs.Layout.{opening_nodes}
+use Rattle.arena.specs.Machines.{Call, row_of}
+use Rattle.arena.specs.Words.{node, scx, child}
+use Rattle.help.specs.Help.Lawful.{help_fills_not}
+use Rattle.histories.specs.Unmentioned.{IsUnmentioned}
+use Rattle.prims.specs.Scx.Known.{Job, ScxWaitsAt, fill_step as scx_fill, job_of}
+use Rattle.prims.specs.declared.scx.ScxAt.{ScxAt}
+use Rattle.prims.specs.declared.scx.ScxAt.TheVariants as scx_at
+use Rattle.prims.proofs.Lemmas.{llx_fills_not}
+use Rattle.spelling.specs.FillOrder.{HasStoodInField, IsFillInOrder}
+use Rattle.spelling.specs.TreeShape.{TreeAllows}
+use Rattle.spelling.specs.TreeWords.{is_leaf}
+use Rattle.template.specs.declared.walk.Found.{Found}
+use Rattle.template.proofs.Lemmas.{walk_fills_not}
+use Rattle.tree.specs.declared.get.GetRun.{GetRun}
+use Rattle.tree.specs.Get.Known.{GetWaits}
+use Rattle.tree.proofs.GetTurns.{get_fills_not}
+use Rattle.tree.specs.declared.insert.Insert.{Insert}
+use Rattle.tree.specs.Insert.Means.{insert_means, insert_need, insert_pieces}
+use Rattle.tree.specs.Insert.Sound.{insert_fields}
+use Rattle.updates.specs.declared.edit.Need.{Need}
+use Rattle.updates.specs.declared.edit.Need.TheVariants.{Nothing, One, Three}
+use Rattle.updates.specs.declared.edit.Nodes.{Nodes}
+use Rattle.updates.specs.declared.edit.Nth.{Nth}
+use Rattle.updates.specs.declared.edit.Nth.TheVariants.{First, Second, Third}
+use Rattle.updates.specs.declared.edit.Piece.{Piece}
+use Rattle.updates.specs.declared.edit.Piece.TheVariants.{Leaf as LeafPiece}
+use Rattle.updates.specs.declared.update.UpdateAt.{UpdateAt}
+use Rattle.updates.specs.declared.update.UpdateAt.TheVariants.{Start, Walk, Look, Load, Fill, Scx}
+use Rattle.updates.specs.declared.update.UpdateRun.{UpdateRun}
+use Rattle.updates.specs.Known.{ComesBefore, IsNeeded, AreInOrder, Fills, UpdateWaits, UpdateWaitsAt, fill_step, piece, pieces_by, top}
+use Rattle.updates.specs.Laws.Hand.{IsPieceWord, HoldsWords}
+use Rattle.updates.specs.Laws.HandScx.{from}
+use Rattle.updates.specs.Pieces.{nth_node, piece_head, top_of, word_of}
+
+-- Three fresh nodes
+
+all_needed : (need : Need) → IsNeeded need Third → (i : Nth) → IsNeeded need i
+all_needed Three x i = tt
+all_needed One x i = absurd x
+all_needed Nothing x i = absurd x
+
+third_top : (need : Need) (ns : Nodes) → IsNeeded need Third → top_of need ns ≡ ns.third.0
+third_top Three ns x = refl
+third_top One ns x = absurd x
+third_top Nothing ns x = absurd x
+
+three_rise : (need : Need) (ns : Nodes) → IsNeeded need Third → AreInOrder need ns → (ns.second.0 ≡ suc ns.first.0) × (ns.third.0 ≡ suc ns.second.0)
+three_rise Three ns x o = o
+three_rise One ns x o = absurd x
+three_rise Nothing ns x o = absurd x
+
+-- each holds its own piece
+piece_is : (need : Need) (ns : Nodes) (p : Nth → Piece) (nth : Nth) → IsNeeded need nth → AreInOrder need ns → pieces_by p ns (nth_node ns nth).0 ≡ p nth
+piece_is Nothing ns p nth x o = absurd x
+piece_is One ns p First x o = rw (eq-eqb ns.first.0 ns.first.0 refl) refl
+piece_is One ns p Second x o = absurd x
+piece_is One ns p Third x o = absurd x
+piece_is Three ns p First x o = rw (eq-eqb ns.first.0 ns.first.0 refl) refl
+piece_is Three ns p Second x o = rw (ne_eqb ns.second.0 ns.first.0 (λ e. omega (o.0, e, arith)), eq-eqb ns.second.0 ns.second.0 refl) refl
+piece_is Three ns p Third x o = rw (ne_eqb ns.third.0 ns.first.0 (λ e. omega (o.0, o.1, e, arith)), ne_eqb ns.third.0 ns.second.0 (λ e. omega (o.1, e, arith))) refl
+
+-- the head of a leaf says so
+leaf_head : (level class : ℕ) → eqb (piece_head level true class / 4 % 2) 1 ≡ true
+leaf_head level class = eq-eqb (piece_head level true class / 4 % 2) 1 (omega arith)
+
+-- Fills
+
+word_part : Word → NodeWord
+word_part (Node n part) = part
+word_part (ScxOf s part) = Head
+
+word_number : Word → ℕ
+word_number (Node n part) = n.0
+word_number (ScxOf s part) = 0
+
+same_part : (n k : ℕ) (a b : NodeWord) → node n a ≡ node k b → a ≡ b
+unfolding word_part
+same_part n k a b e = ap word_part e
+
+same_number : (n k : ℕ) (a b : NodeWord) → node n a ≡ node k b → n ≡ k
+unfolding word_number
+same_number n k a b e = ap word_number e
+
+-- what nothing mentions has stood in no field
+unstood : (lay : Layout) (h : History) (c n : ℕ) → lay.mode ≡ TreeMode → IsOwnNode lay c n → IsUnmentioned h n → ¬ HasStoodInField h n
+unstood lay h c n mode own u (inl i) =
+    let a = own.from in
+    let b : n < opening_nodes lay.mode = subst (λ (m : Mode). n < opening_nodes m) (sym mode) i in
+    omega (a, b, arith)
+unstood lay h c n mode own u (inr x) = u.in_no_field x.0 x.1 x.2
+
+module _ (m : UpdateRun Insert) (c : Call) (h : History) (f : Found) where
+  -- what a node at hand is to hold
+  said_is : (nth : Nth) (part : NodeWord) → Fills insert_means m c h f nth part → piece insert_means m f (nth_node m.nodes nth).0 ≡ insert_pieces m.edit.key m.edit.value f m.nodes m.loaded nth
+  said_is nth part x = piece_is (insert_need f.value) m.nodes (λ i. insert_pieces m.edit.key m.edit.value f m.nodes m.loaded i) nth x.works.need x.works.in_order
+
+  -- the leaves before the fork are full
+  leaf_full : (part : NodeWord) (i : Nth) → Fills insert_means m c h f Third part → (level class key v : ℕ) → insert_pieces m.edit.key m.edit.value f m.nodes m.loaded i ≡ LeafPiece level class key v → m.nodes.first.0 ≤ (nth_node m.nodes i).0 → (nth_node m.nodes i).0 < m.nodes.third.0 → is_leaf (value h) (nth_node m.nodes i).0 ≡ true
+  leaf_full part i x level class key v is low high =
+      let third : top insert_means m f ≡ m.nodes.third.0 = third_top (insert_need f.value) m.nodes x.works.need in
+      let w : HoldsWords h (nth_node m.nodes i).0 (piece insert_means m f (nth_node m.nodes i).0) (IsPieceWord (piece insert_means m f (nth_node m.nodes i).0)) = x.full.full (nth_node m.nodes i).0 low high (omega (third, high, arith)) in
+      let same : piece insert_means m f (nth_node m.nodes i).0 ≡ LeafPiece level class key v = piece_is (insert_need f.value) m.nodes (λ j. insert_pieces m.edit.key m.edit.value f m.nodes m.loaded j) i (all_needed (insert_need f.value) x.works.need i) x.works.in_order ∙ is in
+      ap (λ u. eqb (u / 4 % 2) 1) (w Head tt ∙ ap (λ (p : Piece). word_of p Head) same) ∙ leaf_head level class
+
+  before_third : (part : NodeWord) (i : Nth) → Fills insert_means m c h f Third part → ComesBefore i Third → is_leaf (value h) (nth_node m.nodes i).0 ≡ true
+  before_third part First x b = let o = three_rise (insert_need f.value) m.nodes x.works.need x.works.in_order in leaf_full part First x _ _ _ _ refl (omega arith) (omega (o.0, o.1, arith))
+  before_third part Second x b = let o = three_rise (insert_need f.value) m.nodes x.works.need x.works.in_order in leaf_full part Second x _ _ _ _ refl (omega (o.0, arith)) (omega (o.1, arith))
+  before_third part Third x b = absurd b
+
+  head_ordered : (nth : Nth) (part : NodeWord) (k : ℕ) → Fills insert_means m c h f nth part → node (nth_node m.nodes nth).0 part ≡ node k Head → (eqb (word_of (piece insert_means m f (nth_node m.nodes nth).0) part / 4 % 2) 1 ≡ true) ⊎ (¬ HasStoodInField h k)
+  head_ordered First part k x e = inl (rw (same_part m.nodes.first.0 k part Head e, said_is First part x) (leaf_head _ 0))
+  head_ordered Second part k x e = inl (rw (same_part m.nodes.second.0 k part Head e, said_is Second part x) (leaf_head _ f.head.class))
+  head_ordered Third part k x e = inr (subst (λ n. ¬ HasStoodInField h n) (sym third ∙ same_number m.nodes.third.0 k part Head e) (unstood c.layout h c.pass (top insert_means m f) x.works.run.0 (x.full.hand.own (top insert_means m f) x.full.some (omega arith)) x.full.hand.unmentioned))
+    where
+      third : m.nodes.third.0 ≡ top insert_means m f
+      third = sym (third_top (insert_need f.value) m.nodes x.works.need)
+
+  field_ordered : (nth : Nth) (part : NodeWord) (k : ℕ) (side : Side) → Fills insert_means m c h f nth part → node (nth_node m.nodes nth).0 part ≡ child k side → is_leaf (value h) (word_of (piece insert_means m f (nth_node m.nodes nth).0) part) ≡ true
+  field_ordered First part k side x e = absurd (let y : IsPieceWord (insert_pieces m.edit.key m.edit.value f m.nodes m.loaded First) (Child side) = rw (same_part m.nodes.first.0 k part (Child side) e, said_is First part x) at x.part_is in y)
+  field_ordered Second part k side x e = absurd (let y : IsPieceWord (insert_pieces m.edit.key m.edit.value f m.nodes m.loaded Second) (Child side) = rw (same_part m.nodes.second.0 k part (Child side) e, said_is Second part x) at x.part_is in y)
+  field_ordered Third part k side x e =
+      let p : part ≡ Child side = same_part m.nodes.third.0 k part (Child side) e in
+      let q : IsPieceWord (insert_pieces m.edit.key m.edit.value f m.nodes m.loaded Third) (Child side) = subst (λ (a : Piece). IsPieceWord a (Child side)) (said_is Third part x) (subst (λ (a : NodeWord). IsPieceWord (piece insert_means m f m.nodes.third.0) a) p x.part_is) in
+      let y = insert_fields m.edit.key m.edit.value f m.nodes m.loaded Third side q in
+      let w : word_of (piece insert_means m f m.nodes.third.0) part ≡ (nth_node m.nodes y.0).0 = ap (λ (a : NodeWord). word_of (piece insert_means m f m.nodes.third.0) a) p ∙ ap (λ (a : Piece). word_of a (Child side)) (said_is Third part x) ∙ y.2 in
+      subst (λ n. is_leaf (value h) n ≡ true) (sym w) (before_third part y.0 x y.1)
+
+  -- a fill of its nodes is in order
+  fill_in_order : (nth : Nth) (part : NodeWord) → Fills insert_means m c h f nth part → IsFillInOrder h (row_of c (fill_step insert_means m f nth part) h)
+  fill_in_order nth part x = record { head = λ k kind e. head_ordered nth part k x e; field = λ k side kind e. inr (field_ordered nth part k side x e) }
+
+-- a step that fills no node is
+pub no_fill : (c : Call) (h : History) (s : Step) → s.kind ≢ FillKind → IsFillInOrder h (row_of c s h)
+no_fill c h s none = record { head = λ n k e. absurd (none k); field = λ n side k e. absurd (none k) }
+
+scx_fill_in_order : (c : Call) (h : History) (j : Job) (part : ScxWord) → IsFillInOrder h (row_of c (scx_fill j part) h)
+scx_fill_in_order c h j part = record { head = λ n k e. let y : scx j.scx.0 part ≡ node n Head = e in cc; field = λ n side k e. let y : scx j.scx.0 part ≡ child n side = e in cc }
+
+scx_in_order : (c begun : Call) (h : History) (j : Job) (at : ScxAt) (s : Step) → ScxWaitsAt TreeAllows begun h j at s → IsFillInOrder h (row_of c s h)
+scx_in_order c begun h j scx_at.Start s w = absurd w
+scx_in_order c begun h j (scx_at.Help help) s w = no_fill c h s (help_fills_not TreeAllows help begun h s w.0)
+scx_in_order c begun h j scx_at.Plan s w = subst (λ (t : Step). IsFillInOrder h (row_of c t h)) (sym w.asked) (scx_fill_in_order c h j _)
+scx_in_order c begun h j scx_at.New s w = subst (λ (t : Step). IsFillInOrder h (row_of c t h)) (sym w.asked) (scx_fill_in_order c h j _)
+scx_in_order c begun h j scx_at.Old s w = subst (λ (t : Step). IsFillInOrder h (row_of c t h)) (sym w.asked) (scx_fill_in_order c h j _)
+scx_in_order c begun h j (scx_at.Member i) s w = subst (λ (t : Step). IsFillInOrder h (row_of c t h)) (sym w.asked) (scx_fill_in_order c h j _)
+scx_in_order c begun h j (scx_at.Seen i) s w = subst (λ (t : Step). IsFillInOrder h (row_of c t h)) (sym w.asked) (scx_fill_in_order c h j _)
+scx_in_order c begun h j scx_at.Call s w = subst (λ (t : Step). IsFillInOrder h (row_of c t h)) (sym w.asked) (scx_fill_in_order c h j _)
+
+-- whatever step an insert waits for
+pub insert_in_order : (m : UpdateRun Insert) (c : Call) (h : History) (s : Step) → UpdateWaits insert_means m c h s → IsFillInOrder h (row_of c s h)
+insert_in_order m c h s x = go m.at x.3
+  where
+    go : (at : UpdateAt) → UpdateWaitsAt insert_means m (from c x.0) h s at → IsFillInOrder h (row_of c s h)
+    go Start w = absurd w
+    go (Walk walk) w = no_fill c h s (walk_fills_not walk (from c x.0) h s w.1)
+    go (Look f llx) w = no_fill c h s (llx_fills_not TreeAllows llx (from (from c x.0) w.0) h s w.2)
+    go (Load f nth part) w = no_fill c h s (λ k. let e : s.kind ≡ LoadSettled = ap (λ (t : Step). t.kind) w.1 in cc)
+    go (Fill f nth part) w = subst (λ (t : Step). IsFillInOrder h (row_of c t h)) (sym w.3) (fill_in_order m (from c x.0) h f nth part w.0)
+    go (Scx f run) w = scx_in_order c (from (from c x.0) w.0) h (job_of run) run.at s w.2
+
+-- a get fills nothing
+pub get_in_order : (m : GetRun) (c : Call) (h : History) (s : Step) → GetWaits m c h s → IsFillInOrder h (row_of c s h)
+get_in_order m c h s w = no_fill c h s (get_fills_not m c h s w)
