@@ -13,7 +13,7 @@ use Rattle.record.specs.declared.record.Answer.TheVariants.{Value, Contended, Fu
 use Rattle.record.specs.MapRecord.{reply_told}
 use Rattle.record.specs.Placed.{IsPlacedOnMap}
 use Rattle.record.specs.Rules.{Rules}
-use Rattle.record.specs.Shares.{HasTooFew}
+use Rattle.record.specs.Shares.{HasTooFewToTry}
 
 -- it tells what the key had before, or is refused
 abbrev pub InsertAfterStep : Answer → Type 0
@@ -43,8 +43,8 @@ abbrev pub InsertIsRight : ℕ → Layout → ℕ → History → History → (�
 InsertIsRight key lay c now start linked (Value old) = Unit {0}
 -- after some row behind the call's begin another client's SCX-record was in progress over this node
 InsertIsRight key lay c now start linked (Contended node scx) = IsOthersScx lay c scx.0 × WasInTheWay now start node.0 scx.0
--- the share has too little for what the map had at the key
-InsertIsRight key lay c now start linked (Full what left) = (old : Option ℕ) × HadAtKey lay now start key old × HasTooFew lay c now (nodes_for old) what left
+-- the share has too little for what the map had at the key, and not by the call's own doing
+InsertIsRight key lay c now start linked (Full what left) = (old : Option ℕ) × HadAtKey lay now start key old × HasTooFewToTry lay c now start (nodes_for old) what left
 InsertIsRight key lay c now start linked _ = ⊥
 
 -- in each of its tries: at most three steps for each level that the tree may have, two more than
