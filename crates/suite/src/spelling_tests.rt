@@ -2,7 +2,7 @@ use arena::NodeWord::{Child, Head, Key, Value};
 use arena::Side::{Left, Right};
 use arena::{Access, Kind, Limits, Mode, NodeNo, NodeWord, PlainWords, Step, Word};
 use spelling::{Pair, laws_hold, map_laws_hold, spelled};
-use std::alloc::Global;
+use std::alloc::{AllocError, Global};
 use std::process::Abort;
 use std::test::Fail;
 
@@ -48,14 +48,18 @@ fn write(table: &mut PlainWords, node: &Node) {
         (Child(Right), node.right),
     ];
     for (part, value) in words {
-        let word = Word::Node(NodeNo(node.number), part);
-        if table.layout().has(word) {
-            table.apply(Step {
-                kind: Kind::Fill,
-                word,
-                access: Access::Store(value),
-            });
-        }
+        fill(table, Word::Node(NodeNo(node.number), part), value);
+    }
+}
+
+/// Fills a word, if the table has it.
+fn fill(table: &mut PlainWords, word: Word, value: u64) {
+    if table.layout().has(word) {
+        table.apply(Step {
+            kind: Kind::Fill,
+            word,
+            access: Access::Store(value),
+        });
     }
 }
 
@@ -86,15 +90,21 @@ fn spells(
     nodes: &[Node],
     pairs: &[(u64, u64)],
 ) -> Result<(), Fail> {
-    let mut want = Vec::new(alloc);
+    let want = listed(alloc, pairs)?;
+    let found = found(alloc, nodes, &[])?;
+    assert_eq!(rt; found, Some(want));
+    Ok(())
+}
+
+fn listed(alloc: Global, pairs: &[(u64, u64)]) -> Result<Vec<Pair>, AllocError> {
+    let mut list = Vec::new(alloc);
     for (key, value) in pairs {
-        want.push(Pair {
+        list.push(Pair {
             key: *key,
             value: *value,
         })?;
     }
-    assert_eq!(rt; found(alloc, nodes, &[])?, Some(want));
-    Ok(())
+    Ok(list)
 }
 
 /// The root over a tree.
@@ -239,6 +249,12 @@ fn levels_that_do_not_rise_spell_nothing(rt: HostRuntime) -> Result<(), Fail> {
     each_breaks(&rt, rt.alloc(), &four_pairs(), &changed)
 }
 
+/// These nodes spell nothing.
+fn spells_nothing(rt: &impl Abort, alloc: Global, nodes: &[Node]) -> Result<(), Fail> {
+    assert_eq!(rt; found(alloc, nodes, &[])?, None);
+    Ok(())
+}
+
 #[test]
 fn other_classes_spell_nothing(rt: HostRuntime) -> Result<(), Fail> {
     let alloc = rt.alloc();
@@ -249,38 +265,31 @@ fn other_classes_spell_nothing(rt: HostRuntime) -> Result<(), Fail> {
         leaf(4, 2, 1, 0, 0),
         leaf(5, 2, 1, 5, 0),
     ];
-    assert_eq!(rt; found(alloc, &two_of_class_one, &[])?, None);
+    spells_nothing(&rt, alloc, &two_of_class_one)?;
     // none
-    assert_eq!(rt; found(alloc, &[root(3), leaf(3, 1, 0, 7, 70)], &[])?, None);
-    assert_eq!(rt;
-        found(
-            alloc,
-            &[root(3), leaf(3, 1, 2, 0, 0)],
-            &[fork(0, 0, 2, 1, (3, 2)), leaf(2, 1, 2, 1, 0)]
-        )?,
-        None
-    );
+    spells_nothing(&rt, alloc, &[root(3), leaf(3, 1, 0, 7, 70)])?;
+    let all_of_class_two = [
+        fork(0, 0, 2, 1, (3, 2)),
+        leaf(3, 1, 2, 0, 0),
+        leaf(2, 1, 2, 1, 0),
+    ];
+    spells_nothing(&rt, alloc, &all_of_class_two)?;
     // node 2 of class 1, in order
-    assert_eq!(rt;
-        found(alloc, &[fork(0, 0, 1, 5, (1, 2)), leaf(2, 1, 1, 9, 0)], &[])?,
-        None
-    );
+    let last_of_class_one = [fork(0, 0, 1, 5, (1, 2)), leaf(2, 1, 1, 9, 0)];
+    spells_nothing(&rt, alloc, &last_of_class_one)?;
     // node 2 of class 3
-    assert_eq!(rt; found(alloc, &[leaf(2, 1, 3, 0, 0)], &[])?, None);
-    Ok(())
+    spells_nothing(&rt, alloc, &[leaf(2, 1, 3, 0, 0)])
 }
 
 #[test]
 fn other_last_leaves_spell_nothing(rt: HostRuntime) -> Result<(), Fail> {
     let alloc = rt.alloc();
     // the last leaf is not node 2
-    assert_eq!(rt;
-        found(alloc, &[fork(0, 0, 2, 0, (1, 3)), leaf(3, 1, 2, 0, 0)], &[])?,
-        None
-    );
+    let other_last = [fork(0, 0, 2, 0, (1, 3)), leaf(3, 1, 2, 0, 0)];
+    spells_nothing(&rt, alloc, &other_last)?;
     // there is one leaf: node 0, of each class
     for class in 0..4u32 {
-        assert_eq!(rt; found(alloc, &[leaf(0, 0, class, 0, 0)], &[])?, None);
+        spells_nothing(&rt, alloc, &[leaf(0, 0, class, 0, 0)])?;
     }
     Ok(())
 }
