@@ -11,7 +11,7 @@ use Rattle.arena.specs.ScxRecords.{field}
 use Rattle.arena.proofs.Lemmas.{ends_self}
 use Rattle.histories.proofs.Lemmas.{Logs, facts_before, logs, same, update_changes, wins}
 use Rattle.spelling.specs.declared.pair.Pair.{Pair}
-use Rattle.spelling.specs.OrderedMap.{MapEdit, Edit, Insert, Delete, edited}
+use Rattle.spelling.specs.OrderedMap.{MapEdit, Insert, Delete, edited}
 use Rattle.spelling.specs.FillOrder.{AreFilledInOrder}
 use Rattle.spelling.specs.Runs.{IsTreeRun, Makes}
 use Rattle.spelling.specs.Spelled.{Spells}
