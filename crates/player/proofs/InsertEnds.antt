@@ -1,7 +1,9 @@
 -- How an insert ends: what its answer says of the call.
-use Rattle.std.proofs.Common.{◌≡◌, ℕ, ◌^◌, ◌<◌, inl, inr, ⊎_elim, Option, Some, None, sym, subst}
+use Rattle.std.proofs.Common.{◌≡◌, ◌⊎◌, ℕ, ◌^◌, ◌<◌, inl, inr, ⊎_elim, Option, Some, None, sym, subst}
 use Rattle.arena.specs.declared.limits.Mode.TheVariants.{Tree}
 use Rattle.arena.specs.History.{History}
+use Rattle.arena.specs.Share.{Remaining}
+use Rattle.arena.specs.declared.fault.Resource.{Resource}
 use Rattle.arena.specs.Machines.{Call as MachineCall}
 use Rattle.spelling.specs.Paths.{IsAnswerAt}
 use Rattle.spelling.specs.Runs.{IsTreeRun}
@@ -10,13 +12,14 @@ use Rattle.template.specs.FoundLeaf.{HasFoundLeaf}
 use Rattle.template.specs.declared.walk.Found.{Found}
 use Rattle.tree.specs.declared.insert.Insert.{Insert as Inserted}
 use Rattle.tree.specs.Insert.Means.{insert_means, insert_need}
-use Rattle.updates.specs.Known.{UpdateAnswers}
+use Rattle.updates.specs.Known.{UpdateAnswers, IsUntouched, IsShort}
 use Rattle.updates.specs.Tries.{HasEnteredNone}
 use Rattle.updates.specs.declared.edit.Need.TheVariants.{Nothing}
 use Rattle.updates.specs.declared.update.UpdateRun.{UpdateRun}
 use Rattle.updates.specs.declared.update.Updated.{Updated}
 use Rattle.updates.specs.declared.update.Updated.TheVariants.{Done, Contended, Full}
-use Rattle.record.specs.Rules.Insert.{InsertIsRight, HadAtKey}
+use Rattle.record.specs.Rules.Insert.{InsertIsRight, HadAtKey, nodes_for}
+use Rattle.record.specs.Shares.{HasTooFew, HasMetAnother}
 use Rattle.record.specs.declared.record.Answer.TheVariants.{Contended as ContendedAnswer, Full as FullAnswer}
 use Rattle.player.specs.declared.client.Client.{Client}
 use Rattle.player.specs.ClientView.{ClientView, IsSound, IsOwnWin, IsWonSince, HasInserted, machine_call}
@@ -45,6 +48,11 @@ had_at_key call h key f small run x =
     let at : IsAnswerAt call.layout h x.trail.node.first key f.value = subst (IsAnswerAt call.layout h x.trail.node.first key) (sym x.says) (walk_answers call.layout h x.trail.node.first key f.trail.node.0 small run x.trail.node.passed x.leaf) in
     (own.row, own.before, own.since, subst (λ (k : History). IsAnswerAt call.layout h k key f.value) own.is at)
 
+-- a share that is too small has been so since the call began, unless a try was lost
+short_from : (v : ClientView) (c : Client) (left : Remaining) (is_pass : c.pass.0 < v.layout.passes) (old : Option ℕ) (what : Resource) (k : ℕ) → IsUntouched (machine_call v c is_pass v.start) v.past left → IsShort (insert_need old) left what k → HasTooFew v.layout c.pass.0 v.start (nodes_for old) what k ⊎ HasMetAnother v.layout c.pass.0 v.past v.start
+short_from v c left is_pass old what k (inl rests) short = inl (short_left v.layout v.start c.pass.0 left rests.share old what k short)
+short_from v c left is_pass old what k (inr (node, scx, met)) short = inr (node, scx, met.others, met.in_the_way)
+
 pub insert_end : (v : ClientView) (c : Client) (m : UpdateRun Inserted) (is_pass : c.pass.0 < v.layout.passes) (a : Updated) → m.edit.key < 2 ^ 64 → v.layout.mode ≡ Tree → IsSound v → IsWonSince v c.pass.0 → UpdateAnswers insert_means m (machine_call v c is_pass v.start) v.past a → IsInsertEnd v c.pass.0 m.edit.key a
 insert_end v c m is_pass (Done old) small mode sound won (rests, inl x) = absurd (something x.found.value x.needless)
 insert_end v c m is_pass (Done old) small mode sound won (rests, inr (x, needed)) =
@@ -56,6 +64,9 @@ insert_end v c m is_pass (Full full) small mode sound won (rests, x) = (
   (
     x.found.value,
     had_at_key (machine_call v c is_pass v.start) v.past m.edit.key x.found small (mode, as_tree v.layout v.past mode sound) x.has_found,
-    short_left v.layout v.past c.pass.0 m.share rests.share x.found.value full.what full.left x.short,
+    (
+      short_left v.layout v.past c.pass.0 m.share rests.share x.found.value full.what full.left x.short,
+      short_from v c m.share is_pass x.found.value full.what full.left x.first x.short,
+    ),
   ),
 )

@@ -6,11 +6,12 @@ use Rattle.spelling.specs.OrderedMap.{Edit, Delete}
 use Rattle.spelling.specs.Runs.{Makes}
 use Rattle.record.specs.declared.record.Answer.{Answer}
 use Rattle.record.specs.declared.record.Answer.TheVariants.{Value, Contended, Full}
-use Rattle.record.specs.Edits.{EditAfterStep, HadAtKey, HasMet}
+use Rattle.record.specs.Answers.{HasMet}
+use Rattle.record.specs.Edits.{EditAfterStep, HadAtKey}
 use Rattle.record.specs.MapRecord.{reply_told}
 use Rattle.record.specs.Placed.{IsPlacedOnMap}
 use Rattle.record.specs.Rules.{Rules}
-use Rattle.record.specs.Shares.{HasTooFew}
+use Rattle.record.specs.Shares.{HasTooFewToTry}
 
 -- one that tells a value has an entry, and no other: where the map lacks the key it is a reading
 abbrev pub has_deleted : Answer → Bool
@@ -25,8 +26,8 @@ DeleteIsRight key lay c now start linked (Value (Some old)) = Unit {0}
 DeleteIsRight key lay c now start linked (Value None) = HadAtKey lay now start key None
 DeleteIsRight key lay c now start linked (Contended node scx) = HasMet lay c now start node.0 scx.0
 -- after some row behind the call's begin the map had the key, and the share has too little for the
--- copy of its leaf's sibling
-DeleteIsRight key lay c now start linked (Full what left) = (old : ℕ) × HadAtKey lay now start key (Some old) × HasTooFew lay c now 1 what left
+-- copy of its leaf's sibling, and not by the call's own doing
+DeleteIsRight key lay c now start linked (Full what left) = (old : ℕ) × HadAtKey lay now start key (Some old) × HasTooFewToTry lay c now start 1 what left
 DeleteIsRight key lay c now start linked _ = ⊥
 
 -- in each of its tries: at most three steps for each level that the tree may have, two more than
