@@ -15,7 +15,7 @@ use Rattle.updates.specs.declared.edit.Nth.TheVariants.{First, Second, Third}
 use Rattle.updates.specs.declared.edit.Piece.{Piece}
 use Rattle.updates.specs.declared.edit.Piece.TheVariants.{Leaf, Fork}
 use Rattle.updates.specs.Edits.{EditMeaning}
-use Rattle.updates.specs.Pieces.{nth_behind, part_behind, fills_behind}
+use Rattle.updates.specs.Pieces.{nth_behind, part_behind, fills_behind, HasPlace}
 use Rattle.updates.specs.Steps.{works_after}
 use Rattle.updates.specs.declared.update.Updated.{Updated}
 
@@ -100,6 +100,14 @@ after_next e One nth after d = absurd (let z : None ≡ Some after = d in cc)
 after_next e Three First after d = subst (λ i. e.most_works Second + e.most_works Third ≡ e.most_works i + works_after e i) (the_same Second after d) refl
 after_next e Three Second after d = subst (λ i. e.most_works Third ≡ e.most_works i + works_after e i) (the_same Third after d) (none_more (e.most_works Third))
 after_next e Three Third after d = absurd (let z : None ≡ Some after = d in cc)
+
+-- and one has its place there
+pub place_behind : (need : Need) (nth after : Nth) → nth_behind need nth ≡ Some after → HasPlace need after
+place_behind Nothing nth after d = absurd (let z : None ≡ Some after = d in cc)
+place_behind One nth after d = absurd (let z : None ≡ Some after = d in cc)
+place_behind Three First after d = subst (λ i. HasPlace Three i) (the_same Second after d) refl
+place_behind Three Second after d = subst (λ i. HasPlace Three i) (the_same Third after d) refl
+place_behind Three Third after d = absurd (let z : None ≡ Some after = d in cc)
 
 -- fewer words are filled behind the next
 pub fewer_fills : (p : Piece) (part next : NodeWord) → part_behind p part ≡ Some next → fills_behind p next < fills_behind p part

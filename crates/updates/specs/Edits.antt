@@ -14,7 +14,7 @@ use Rattle.updates.specs.declared.edit.Need.{Need}
 use Rattle.updates.specs.declared.edit.Nodes.{Nodes}
 use Rattle.updates.specs.declared.edit.Nth.{Nth}
 use Rattle.updates.specs.declared.edit.Piece.{Piece}
-use Rattle.updates.specs.Pieces.{with_word, fills_behind}
+use Rattle.updates.specs.Pieces.{with_word, fills_behind, HasPlace}
 
 -- what an edit answers at each of its places
 pub record EditMeaning (E : Type 0) : Type 0 where
@@ -46,5 +46,5 @@ pub record EditBounds {E : Type 0} (m : EditMeaning E) : Type 0 where
   pub few_works : (e : E) (f : Found) (snaps : List Snap) (ld : Loaded) (nth : Nth) → m.works e f snaps ld nth ≤ m.most_works nth
   -- a load is one of them, whatever it tells
   pub load_works : (e : E) (f : Found) (snaps : List Snap) (ld : Loaded) (nth : Nth) (part : NodeWord) → m.wants e f snaps ld nth ≡ Some part → (v : ℕ) → m.works e f snaps (with_word ld part v) nth < m.works e f snaps ld nth
-  -- and so is each fill
-  pub fill_works : (e : E) (f : Found) (snaps : List Snap) (ld : Loaded) (nth : Nth) → m.wants e f snaps ld nth ≡ None → (ns : Nodes) → fills_behind (m.pieces e f snaps ns ld nth) Head < m.works e f snaps ld nth
+  -- and so is each fill of a node that is needed
+  pub fill_works : (e : E) (f : Found) (snaps : List Snap) (ld : Loaded) (nth : Nth) → HasPlace (m.needs e f) nth → m.wants e f snaps ld nth ≡ None → (ns : Nodes) → fills_behind (m.pieces e f snaps ns ld nth) Head < m.works e f snaps ld nth

@@ -344,7 +344,7 @@ impl<E: Edit + Drop> UpdateRun<E> {
     fn load(&mut self, found: Found, nth: Nth) -> Turn<Updated>
         ensures turn { (c : Call) (b h : History) → IsRun TreeAllows c.layout h → IsTry c b → CanLoad E.means self.old (from c b) h found nth → UpdateTurn E.means c h self.new result }
         ensures same { (self.new.edit ≡ self.old.edit) × (self.new.call ≡ self.old.call) }
-        ensures nearer { (nodes : ℕ) → IsNearer E.means self.new nodes result (self.old.tries * try_left E.means nodes + (works_left E.means self.old found nth + 39)) }
+        ensures nearer { (nodes : ℕ) → HasPlace (E.means.needs self.old.edit found) nth → IsNearer E.means self.new nodes result (self.old.tries * try_left E.means nodes + (works_left E.means self.old found nth + 39)) }
         ensures spends { IsSpending result self.old.share self.new self.old.tries (self.old.tries + 1) }
         ensures tries { self.new.tries ≡ self.old.tries }
     {
@@ -507,7 +507,7 @@ impl<E: Edit + Drop> UpdateRun<E> {
     ghost use Rattle.template.specs.Walk.Known.{WalkIsReady};
     ghost use Rattle.prims.specs.Snap.{child_of, snap_at};
     ghost use Rattle.updates.specs.Known.{HasNodesFor, IsShort, Walks, IsFilledUpTo, CanScx, UpdateIsReady};
-    ghost use Rattle.updates.specs.Pieces.{plan_over, top_of};
+    ghost use Rattle.updates.specs.Pieces.{HasPlace, plan_over, top_of};
     ghost use Rattle.updates.specs.Steps.{IsWanted, UpdateFits, fills_left};
     ghost use Rattle.updates.specs.Pieces.{less_a_node};
     ghost use Rattle.arena.specs.History.{History, value};

@@ -66,5 +66,5 @@ insert_bounds = record {
   small = omega arith;
   few_works = λ e f snaps ld nth. few_works f ld nth;
   load_works = λ e f snaps ld nth part d v. load_works f ld nth part d v;
-  fill_works = λ e f snaps ld nth d ns. fill_works e f ld nth d ns;
+  fill_works = λ e f snaps ld nth place d ns. fill_works e f ld nth d ns;
 }

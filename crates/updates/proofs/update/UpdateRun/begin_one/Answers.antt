@@ -5,7 +5,7 @@ use Rattle.updates.proofs.Looking.{one_then}
 use Rattle.updates.proofs.update.UpdateRun.begin_one.Goals as goal
 
 pub returns-clause-nearer : goal.returns-clause-nearer
-returns-clause-nearer g c nodes = rw (sym c.take-first.ensures.tries) (below c.load.result _ _ _ (c.load.ensures.nearer nodes) (from_work _ _ _ _ (g.met.E.Edit.laws.bounds.few_works _ _ _ _ _)))
+returns-clause-nearer g c nodes = rw (sym c.take-first.ensures.tries) (below c.load.result _ _ _ (c.load.ensures.nearer nodes tt) (from_work _ _ _ _ (g.met.E.Edit.laws.bounds.few_works _ _ _ _ _)))
 
 pub returns-clause-turn : goal.returns-clause-turn
 returns-clause-turn g c d b h run try x enough one blank = c.load.ensures.turn d b h run try (one_then g.E.Edit.means c.args.self.now (from d b) h c.args.found g.met.E.Edit.laws.looks x enough blank c.take-first.new.self c.take-first.result one c.take-first.ensures.same c.take-first.ensures.taken)

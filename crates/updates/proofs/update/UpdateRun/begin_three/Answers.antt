@@ -5,7 +5,7 @@ use Rattle.updates.proofs.Looking.{three_then}
 use Rattle.updates.proofs.update.UpdateRun.begin_three.Goals as goal
 
 pub returns-clause-nearer : goal.returns-clause-nearer
-returns-clause-nearer g c nodes = rw (sym c.take-first.ensures.tries, sym c.take-second.ensures.tries, sym c.take-third.ensures.tries) (below c.load.result _ _ _ (c.load.ensures.nearer nodes) (from_work _ _ _ _ (g.met.E.Edit.laws.bounds.few_works _ _ _ _ _)))
+returns-clause-nearer g c nodes = rw (sym c.take-first.ensures.tries, sym c.take-second.ensures.tries, sym c.take-third.ensures.tries) (below c.load.result _ _ _ (c.load.ensures.nearer nodes tt) (from_work _ _ _ _ (g.met.E.Edit.laws.bounds.few_works _ _ _ _ _)))
 
 pub returns-clause-turn : goal.returns-clause-turn
 returns-clause-turn g c d b h run try x enough three blank = c.load.ensures.turn d b h run try (three_then g.E.Edit.means c.args.self.now (from d b) h c.args.found g.met.E.Edit.laws.looks x enough blank c.take-first.new.self c.take-second.new.self c.take-third.new.self c.take-first.result c.take-second.result c.take-third.result three c.take-first.ensures.same c.take-first.ensures.taken c.take-second.ensures.same c.take-second.ensures.taken c.take-third.ensures.same c.take-third.ensures.taken)
