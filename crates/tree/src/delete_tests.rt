@@ -1,6 +1,7 @@
 //! Deletes, step by step, and in races.
 use crate::story::Call::{Delete, Get, Insert};
-use crate::story::{Call, Made, Story, contended, done, full, node, plays, scx, told};
+use crate::story::Turns::{Finish, Makes, Steps, Until, UpToReply};
+use crate::story::{Call, Made, Reply, contended, done, full, node, played, plays, scx, tells};
 use arena::Kind::{
     Commit, Fill, Freeze, LoadChild, LoadInfo, LoadMarked, LoadSettled, LoadState, Mark, SetFrozen,
     Update,
@@ -12,6 +13,7 @@ use arena::{Kind, Resource, ScxWord};
 use std::alloc::Global;
 use std::process::Abort;
 use std::test::Fail;
+use updates::Updated;
 
 /// The steps of a delete of 5, the only key, up to the last fill of the copy: a walk, four LLXs,
 /// and the load of the head of the sibling, which is above all keys.
@@ -98,46 +100,54 @@ fn links_the_copy() -> [Made; 33] {
     ]
 }
 
+/// The first insert of 5, alone.
+const FIRST: Reply = (0, 0, 1, 48, Some(47), Updated::Done { old: None });
+
 #[test]
 fn the_only_key_is_deleted(rt: HostRuntime) -> Result<(), Fail> {
     let calls = [(0, Insert(5, 50)), (0, Get(5)), (0, Delete(5)), (0, Get(5))];
-    let mut story = Story::new(&rt, rt.alloc(), (1, 10, 10, 3))?.with(&calls)?;
-    story.steps(&rt, 0, 55)?;
+    let mut story = played(&rt, rt.alloc(), (1, 10, 10, 3), &calls, &[Steps(0, 55)])?;
     plays(&rt, &mut story, &copies_the_sibling())?;
     plays(&rt, &mut story, &links_the_copy())?;
-    story.finish(&rt, 0)?;
+    story.play(&rt, Finish(0))?;
     let replies = [
-        (0, 0, 1, 48, Some(47), done(None)),
+        FIRST,
         (0, 1, 49, 55, Some(55), done(Some(50))),
         (0, 2, 56, 127, Some(126), done(Some(50))),
         (0, 3, 128, 130, Some(130), done(None)),
     ];
-    told(&rt, &story, &replies);
-    assert_eq!(rt; story.counts(), (130, 4, 2));
+    story.told(&rt, &replies);
     Ok(())
 }
 
-/// The map of the keys 5, 9 and 11, whose inserts take 155 steps. Below node 8, which has the key
-/// 9, are the leaf 7 of 5 and node 11, which has the key 11; below that are the leaves 10 of 9 and
-/// 9 of 11.
-fn three_keys(rt: &impl Abort, alloc: Global, call: Call) -> Result<Story, Fail> {
-    let calls = [
+/// The map of the keys 5, 9 and 11, whose inserts take 155 steps, and then a call. Below node 8,
+/// which has the key 9, are the leaf 7 of 5 and node 11, which has the key 11; below that are the
+/// leaves 10 of 9 and 9 of 11.
+fn three_keys_and(call: Call) -> [(u32, Call); 4] {
+    [
         (0, Insert(5, 50)),
         (0, Insert(9, 90)),
         (0, Insert(11, 110)),
         (0, call),
-    ];
-    let mut story = Story::new(rt, alloc, (1, 10, 10, 3))?.with(&calls)?;
-    story.steps(rt, 0, 155)?;
-    assert_eq!(rt; story.counts(), (155, 3, 3));
-    Ok(story)
+    ]
+}
+
+/// The replies of these four, the last of which is given.
+fn three_replies_and(last: Reply) -> [Reply; 4] {
+    [
+        FIRST,
+        (0, 1, 49, 100, Some(99), done(None)),
+        (0, 2, 101, 155, Some(154), done(None)),
+        last,
+    ]
 }
 
 #[test]
 fn a_fork_is_copied_with_its_key_and_fields(rt: HostRuntime) -> Result<(), Fail> {
-    let mut story = three_keys(&rt, rt.alloc(), Delete(5))?;
+    let calls = three_keys_and(Delete(5));
     // a walk of 10 loads, and four LLXs
-    story.steps(&rt, 0, 38)?;
+    let turns = [Steps(0, 155), Steps(0, 38)];
+    let mut story = played(&rt, rt.alloc(), (1, 10, 10, 3), &calls, &turns)?;
     let steps = [
         (LoadSettled, node(11, Head), 24, 24),
         (LoadSettled, node(11, Key), 11, 11),
@@ -148,16 +158,18 @@ fn a_fork_is_copied_with_its_key_and_fields(rt: HostRuntime) -> Result<(), Fail>
         (Fill, scx(4, Plan), 0, 116),
     ];
     plays(&rt, &mut story, &steps)?;
-    story.finish(&rt, 0)?;
-    told(&rt, &story, &[(0, 3, 156, 232, Some(231), done(Some(50)))]);
+    story.play(&rt, Finish(0))?;
+    let last = (0, 3, 156, 232, Some(231), done(Some(50)));
+    story.told(&rt, &three_replies_and(last));
     Ok(())
 }
 
 #[test]
 fn a_leaf_is_copied_with_its_key_and_value(rt: HostRuntime) -> Result<(), Fail> {
-    let mut story = three_keys(&rt, rt.alloc(), Delete(11))?;
+    let calls = three_keys_and(Delete(11));
     // a walk of 13 loads, and four LLXs
-    story.steps(&rt, 0, 41)?;
+    let turns = [Steps(0, 155), Steps(0, 41)];
+    let mut story = played(&rt, rt.alloc(), (1, 10, 10, 3), &calls, &turns)?;
     let steps = [
         (LoadSettled, node(10, Head), 36, 36),
         (LoadSettled, node(10, Key), 9, 9),
@@ -174,8 +186,9 @@ fn a_leaf_is_copied_with_its_key_and_value(rt: HostRuntime) -> Result<(), Fail> 
         (Fill, scx(4, Member(3)), 0, 9),
     ];
     plays(&rt, &mut story, &steps)?;
-    story.finish(&rt, 0)?;
-    told(&rt, &story, &[(0, 3, 156, 235, Some(234), done(Some(110)))]);
+    story.play(&rt, Finish(0))?;
+    let last = (0, 3, 156, 235, Some(234), done(Some(110)));
+    story.told(&rt, &three_replies_and(last));
     Ok(())
 }
 
@@ -188,13 +201,12 @@ fn a_present_key_alone_tests_the_share(rt: HostRuntime) -> Result<(), Fail> {
         ((1, 10, 1, 3), full(Resource::Scx, 0)),
     ];
     for (limits, answer) in shares {
-        let mut story = Story::new(&rt, rt.alloc(), limits)?.with(&calls)?;
-        story.finish(&rt, 0)?;
         let replies = [
+            FIRST,
             (0, 1, 49, 55, None, answer),
             (0, 2, 56, 61, Some(61), done(None)),
         ];
-        told(&rt, &story, &replies);
+        tells(&rt, rt.alloc(), limits, &calls, &[Finish(0)], &replies)?;
     }
     Ok(())
 }
@@ -202,95 +214,94 @@ fn a_present_key_alone_tests_the_share(rt: HostRuntime) -> Result<(), Fail> {
 #[test]
 fn a_helper_makes_the_update_of_a_delete(rt: HostRuntime) -> Result<(), Fail> {
     let calls = [(0, Insert(5, 50)), (0, Delete(5)), (1, Insert(7, 70))];
-    let mut story = Story::new(&rt, rt.alloc(), (2, 20, 20, 3))?.with(&calls)?;
-    story.call(&rt, 0)?;
-    story.until(&rt, 0, Freeze, 4)?;
-    story.finish(&rt, 1)?;
-    assert_eq!(rt; story.counts(), (194, 2, 3));
-    story.steps(&rt, 0, 6)?;
-    // the helper has made the update to which the first client comes now, and one of its own
-    assert_eq!(rt;
-        story.step(&rt, 0)?,
-        Some((Update, node(0, Child(Left)), 25, 25))
-    );
-    story.finish(&rt, 0)?;
+    // the helper has made the update to which the first client comes at last, and one of its own
+    let field = node(0, Child(Left));
+    let turns = [
+        UpToReply(0),
+        Until(0, Freeze, 4),
+        Finish(1),
+        Steps(0, 6),
+        Makes(0, (Update, field, 25, 25)),
+        Finish(0),
+    ];
     let replies = [
+        FIRST,
         (1, 0, 113, 194, Some(193), done(None)),
         (0, 1, 49, 202, Some(143), done(Some(50))),
     ];
-    told(&rt, &story, &replies);
-    assert_eq!(rt; story.counts(), (202, 3, 3));
-    Ok(())
+    tells(&rt, rt.alloc(), (2, 20, 20, 3), &calls, &turns, &replies)
 }
 
 #[test]
 fn a_delete_overtakes_a_get(rt: HostRuntime) -> Result<(), Fail> {
     let calls = [(0, Insert(5, 50)), (0, Get(5)), (1, Delete(5))];
-    let mut story = Story::new(&rt, rt.alloc(), (2, 20, 20, 3))?.with(&calls)?;
-    story.call(&rt, 0)?;
-    story.steps(&rt, 0, 4)?;
-    story.finish(&rt, 1)?;
-    story.finish(&rt, 0)?;
+    let turns = [UpToReply(0), Steps(0, 4), Finish(1), Finish(0)];
     let replies = [
+        FIRST,
         (1, 0, 53, 124, Some(123), done(Some(50))),
         (0, 1, 49, 127, Some(122), done(Some(50))),
     ];
-    told(&rt, &story, &replies);
-    assert_eq!(rt; story.counts(), (127, 3, 2));
-    Ok(())
+    tells(&rt, rt.alloc(), (2, 20, 20, 3), &calls, &turns, &replies)
 }
 
 /// Two deletes of one key, the first with so many tries: the other client makes its own while the
-/// first fills its SCX-record.
-fn one_delete_beats_another(rt: &impl Abort, alloc: Global, tries: u32) -> Result<Story, Fail> {
+/// first fills its SCX-record, which the first stops then, as it finds the root frozen for the
+/// other. This is what becomes of the first.
+fn one_delete_beats_another(
+    rt: &impl Abort,
+    alloc: Global,
+    tries: u32,
+    beaten: Reply,
+) -> Result<(), Fail> {
     let calls = [(0, Insert(5, 50)), (0, Delete(5)), (1, Delete(5))];
-    let mut story = Story::new(rt, alloc, (2, 20, 20, tries))?.with(&calls)?;
-    story.call(rt, 0)?;
-    story.until(rt, 0, Fill, 15)?;
-    story.finish(rt, 1)?;
-    told(rt, &story, &[(1, 0, 100, 171, Some(170), done(Some(50)))]);
-    // the first client finds the root frozen for the other, and stops its own SCX-record
-    story.steps(rt, 0, 5)?;
-    assert_eq!(rt;
-        story.step(rt, 0)?,
-        Some((Kind::Abort, scx(2, State), 0, 2))
-    );
-    Ok(story)
+    let stops = (Kind::Abort, scx(2, State), 0, 2);
+    let turns = [
+        UpToReply(0),
+        Until(0, Fill, 15),
+        Finish(1),
+        Steps(0, 5),
+        Makes(0, stops),
+        Finish(0),
+    ];
+    let other = (1, 0, 100, 171, Some(170), done(Some(50)));
+    let replies = [FIRST, other, beaten];
+    tells(rt, alloc, (2, 20, 20, tries), &calls, &turns, &replies)
 }
 
 #[test]
 fn a_delete_that_is_beaten_finds_nothing(rt: HostRuntime) -> Result<(), Fail> {
-    let mut story = one_delete_beats_another(&rt, rt.alloc(), 2)?;
-    story.finish(&rt, 0)?;
-    told(&rt, &story, &[(0, 1, 49, 180, Some(180), done(None))]);
-    assert_eq!(rt; story.counts(), (180, 3, 2));
-    Ok(())
+    let beaten = (0, 1, 49, 180, Some(180), done(None));
+    one_delete_beats_another(&rt, rt.alloc(), 2, beaten)
 }
 
 #[test]
 fn with_one_try_it_is_contended(rt: HostRuntime) -> Result<(), Fail> {
-    let mut story = one_delete_beats_another(&rt, rt.alloc(), 1)?;
-    story.finish(&rt, 0)?;
-    told(&rt, &story, &[(0, 1, 49, 177, None, contended(0, 21))]);
-    assert_eq!(rt; story.counts(), (177, 3, 2));
-    Ok(())
+    let beaten = (0, 1, 49, 177, None, contended(0, 21));
+    one_delete_beats_another(&rt, rt.alloc(), 1, beaten)
 }
 
 #[test]
 fn an_insert_meets_a_finalized_parent(rt: HostRuntime) -> Result<(), Fail> {
     let calls = [(0, Insert(5, 50)), (0, Delete(5)), (1, Insert(7, 70))];
-    let mut story = Story::new(&rt, rt.alloc(), (2, 20, 20, 3))?.with(&calls)?;
-    story.call(&rt, 0)?;
-    story.steps(&rt, 1, 6)?;
-    story.finish(&rt, 0)?;
-    story.finish(&rt, 1)?;
+    // the insert finds its leaf's parent marked, and the SCX-record of that committed
+    let turns = [
+        UpToReply(0),
+        Steps(1, 6),
+        Finish(0),
+        Makes(1, (LoadMarked, node(5, Marked), 1, 1)),
+        Makes(1, (LoadInfo, node(5, Info), 2, 2)),
+        Makes(1, (LoadState, scx(2, State), 1, 1)),
+        Makes(1, (LoadMarked, node(5, Marked), 1, 1)),
+        Makes(1, (LoadState, scx(2, State), 1, 1)),
+        Makes(1, (LoadSettled, node(0, Head), 2, 2)),
+        Finish(1),
+    ];
     let replies = [
+        FIRST,
         (0, 1, 55, 126, Some(125), done(Some(50))),
         (1, 0, 49, 179, Some(178), done(None)),
     ];
-    told(&rt, &story, &replies);
-    assert_eq!(rt; story.counts(), (179, 3, 3));
-    Ok(())
+    tells(&rt, rt.alloc(), (2, 20, 20, 3), &calls, &turns, &replies)
 }
 
 /// Over the keys 5 and 9 the first client stops after so many steps of its call, the other makes
@@ -307,14 +318,15 @@ fn stops_after(
         (0, first),
         (1, other),
     ];
-    let mut story = Story::new(rt, alloc, (2, 20, 20, 3))?.with(&calls)?;
-    story.call(rt, 0)?;
-    story.call(rt, 0)?;
-    story.steps(rt, 0, steps)?;
-    story.finish(rt, 1)?;
-    story.finish(rt, 0)?;
-    let (_steps, replies, entries) = story.counts();
-    assert_eq!(rt; (replies, entries), (4, updates), "{steps} steps");
+    let turns = [
+        UpToReply(0),
+        UpToReply(0),
+        Steps(0, steps),
+        Finish(1),
+        Finish(0),
+    ];
+    let story = played(rt, alloc, (2, 20, 20, 3), &calls, &turns)?;
+    assert_eq!(rt; story.counts(), (4, updates), "{steps} steps");
     Ok(())
 }
 
