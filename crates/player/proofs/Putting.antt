@@ -28,7 +28,7 @@ use Rattle.prims.specs.declared.llx.Llx.TheVariants.{Snapshot as LlxSnapshot}
 use Rattle.prims.specs.declared.scx.ScxAt.TheVariants.{Start as ScxStart}
 use Rattle.prims.specs.declared.put.PutAt.TheVariants.{Start as PutStart}
 use Rattle.script.specs.declared.command.Command.{Command}
-use Rattle.script.specs.declared.command.Command.TheVariants.{Llx as LlxOf, Scx as ScxOf, Vlx as VlxOf, Set as SetOf, Insert as InsertOf, Get as GetOf}
+use Rattle.script.specs.declared.command.Command.TheVariants.{Llx as LlxOf, Scx as ScxOf, Vlx as VlxOf, Set as SetOf, Insert as InsertOf, Delete as DeleteOf, Get as GetOf}
 use Rattle.player.specs.declared.run.Run.TheVariants.{Llx, Scx}
 use Rattle.player.specs.declared.run.Ended.TheVariants as ended
 use Rattle.player.specs.declared.client.Client.{Client}
@@ -123,6 +123,7 @@ can_put v old kept m put snap sound x e = go x.works.command x.works.is x.works.
     go (ScxOf update) is f few = absurd f
     go (VlxOf cells) is f few = absurd f
     go (InsertOf key value) is f few = absurd f
+    go (DeleteOf key) is f few = absurd f
     go (GetOf key) is f few = absurd f
 
 -- what it answers then
@@ -151,6 +152,7 @@ told_put v old new kept m put snap (Some answer) x p = go x.works.command x.work
     go (ScxOf update) is f rests = absurd f
     go (VlxOf cells) is f rests = absurd f
     go (InsertOf key value) is f rests = absurd f
+    go (DeleteOf key) is f rests = absurd f
     go (GetOf key) is f rests = absurd f
 
 -- the same with what it has answered written out

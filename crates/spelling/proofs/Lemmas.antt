@@ -12,4 +12,4 @@ pub use Rattle.spelling.proofs.Edited.{plan_insert, plan_delete}
 pub use Rattle.spelling.proofs.Moved.{SameSettled, settled_rank, settled_toward, settled_class, settled_leaf, settled_level, move_swap, move_split, move_join}
 pub use Rattle.spelling.proofs.Next.{first, search_next, search_is}
 pub use Rattle.spelling.proofs.Maps.{get_above, inserted, insert_keeps, deleted, delete_keeps, edited_rises, same_values, successor_is, between_gives, between_rises}
-pub use Rattle.spelling.proofs.Rising.{rising_levels}
+pub use Rattle.spelling.proofs.Rising.{rising_levels, held_stood}

@@ -1,4 +1,4 @@
--- That each turn of an update leaves fewer steps.
+-- That each turn of an update leaves fewer steps, and takes no more of the share than it may.
 use Rattle.std.proofs.Common.{◌≡◌, ◌≢◌, ℕ, zero, suc, ◌+◌, ◌*◌, ◌-◌, ◌<◌, ◌≤◌, ◌⊎◌, refl, arith, inl, inr, ap, subst, Some, None}
 use Rattle.std.specs.Prelude.{unwrap_or, Result, Ok, Err, OnOk, OnErr}
 use Rattle.std.proofs.Math.Nat.{suc-mul}
@@ -16,13 +16,20 @@ use Rattle.updates.specs.declared.edit.Piece.{Piece}
 use Rattle.updates.specs.declared.edit.Piece.TheVariants.{Leaf, Fork}
 use Rattle.updates.specs.Edits.{EditMeaning}
 use Rattle.updates.specs.Pieces.{nth_behind, part_behind, fills_behind, HasPlace}
-use Rattle.updates.specs.Steps.{works_after}
+use Rattle.arena.specs.Share.{Remaining}
+use Rattle.updates.specs.Steps.{works_after, IsSpending}
+use Rattle.updates.specs.declared.update.UpdateRun.{UpdateRun}
 use Rattle.updates.specs.declared.update.Updated.{Updated}
 
 -- what is below a number is below a greater one
 pub below : (turn : Turn Updated) (x a b : ℕ) → MatchTurn turn (λ _. x < a) (λ _. Unit {0}) → a ≤ b → MatchTurn turn (λ _. x < b) (λ _. Unit {0})
 below (Ask s) x a b i j = omega (arith, i, j)
 below (Done u) x a b i j = tt
+
+-- what is taken before a turn counts for one try more
+pub spends_before : {E : Type 0} (e : EditMeaning E) (turn : Turn Updated) (old mid : Remaining) (m : UpdateRun E) (nodes scx : ℕ) → old.nodes ≤ mid.nodes + e.most_nodes → mid.scx ≡ old.scx → IsSpending e turn mid m nodes scx → IsSpending e turn old m (nodes + 1) scx
+spends_before e (Ask s) old mid m nodes scx i same x = (omega (arith, i, x.0), omega (arith, same, x.1))
+spends_before e (Done u) old mid m nodes scx i same x = (omega (arith, i, x.0), omega (arith, same, x.1))
 
 no_more : (n : ℕ) → n ≤ n
 no_more n = omega arith

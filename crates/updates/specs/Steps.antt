@@ -86,11 +86,11 @@ abbrev pub scx_tries : {E : Type 0} → UpdateRun E → UpdateAt → ℕ
 scx_tries m (Scx f scx) = m.tries
 scx_tries m _ = m.tries + 1
 
--- At most three nodes are taken for each of the tries that might take some and no longer may, and
+-- At most so many nodes are taken for each of the tries that might take some and no longer may, and
 -- at most one SCX-record.
-abbrev pub Spends : Remaining → Remaining → ℕ → ℕ → ℕ → ℕ → Type 0
-Spends old now nodes nodes_then scx scx_then = (old.nodes + 3 * nodes_then ≤ now.nodes + 3 * nodes) × (old.scx + scx_then ≤ now.scx + scx)
+abbrev pub Spends : ℕ → Remaining → Remaining → ℕ → ℕ → ℕ → ℕ → Type 0
+Spends most old now nodes nodes_then scx scx_then = (old.nodes + most * nodes_then ≤ now.nodes + most * nodes) × (old.scx + scx_then ≤ now.scx + scx)
 
 -- so much is taken of the share, where so many tries might take of it
-abbrev pub IsSpending : {E : Type 0} → Turn Updated → Remaining → UpdateRun E → ℕ → ℕ → Type 0
-IsSpending turn old m nodes scx = MatchTurn turn (λ _. Spends old m.share nodes (node_tries m m.at) scx (scx_tries m m.at)) (λ _. Spends old m.share nodes 0 scx 0)
+abbrev pub IsSpending : {E : Type 0} → EditMeaning E → Turn Updated → Remaining → UpdateRun E → ℕ → ℕ → Type 0
+IsSpending e turn old m nodes scx = MatchTurn turn (λ _. Spends e.most_nodes old m.share nodes (node_tries m m.at) scx (scx_tries m m.at)) (λ _. Spends e.most_nodes old m.share nodes 0 scx 0)

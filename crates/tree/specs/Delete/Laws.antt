@@ -14,7 +14,7 @@ use Rattle.updates.specs.declared.edit.Nth.{Nth}
 use Rattle.updates.specs.declared.edit.Nth.TheVariants.{First, Second, Third}
 use Rattle.updates.specs.declared.edit.Piece.TheVariants.{Leaf, Fork}
 use Rattle.updates.specs.Edits.{EditBounds}
-use Rattle.updates.specs.Pieces.{with_word, fills_behind, HasPlace}
+use Rattle.updates.specs.Pieces.{many_nodes, with_word, fills_behind, HasPlace}
 use Rattle.tree.specs.Delete.Means.{delete_means, delete_need, delete_looks, delete_wants, delete_works, delete_piece, sibling_of, sibling_copy, copy_wants, copy_works, then_key, load_of}
 
 few_looks : (f : Found) (snaps : List Snap) (n : NodeNo) → delete_looks f snaps ≡ At n → length snaps < 4
@@ -100,11 +100,17 @@ fill_works f snaps ld First place e = fill_first (sibling_of f snaps) ld.head ld
 fill_works f snaps ld Second place e = absurd (never_three f.value place)
 fill_works f snaps ld Third place e = absurd (never_three f.value place)
 
--- a delete looks at four nodes, and makes at most six loads and fills
+few_nodes : (o : Option ℕ) → many_nodes (delete_need o) ≤ 1
+few_nodes None = omega arith
+few_nodes (Some v) = omega arith
+
+-- a delete looks at four nodes, takes at most one, and makes at most six loads and fills
 pub delete_bounds : EditBounds delete_means
 delete_bounds = record {
   few_looks = λ e f snaps n d. few_looks f snaps n d;
   small = omega arith;
+  few_nodes = λ e f. few_nodes f.value;
+  some_nodes = omega arith;
   few_works = λ e f snaps ld nth. few_works ld nth;
   load_works = λ e f snaps ld nth part d v. load_works ld nth part d v;
   fill_works = λ e f snaps ld nth place d ns. fill_works f snaps ld nth place d;

@@ -98,6 +98,7 @@ abbrev pub delete_means : EditMeaning Delete
 delete_means = record {
   edit = λ e. TakeEdit e.key;
   needs = λ e f. delete_need f.value;
+  most_nodes = 1;
   side = λ e f. f.trail.grand_side;
   looks = λ e f snaps. delete_looks f snaps;
   most_looks = 4;

@@ -194,7 +194,7 @@ module _ (ed : Delete) (c : Call) (h : History) (f : Found) (run : IsTreeRun c.l
 
 -- once it has looked at enough, it has snapshots of the two forks, in whose fields are the parent
 -- and the leaf, and of the children that the parent's shows
-record HasFour (f : Found) (snaps : List Snap) : Type 0 where
+pub record HasFour (f : Found) (snaps : List Snap) : Type 0 where
   four : length snaps ≡ 4
   grand : (snap_at snaps 0).node.0 ≡ f.trail.grand.0
   held : (child_of (snap_at snaps 0) f.trail.grand_side).0 ≡ f.trail.parent.0
@@ -203,7 +203,7 @@ record HasFour (f : Found) (snaps : List Snap) : Type 0 where
   left : (snap_at snaps 2).node.0 ≡ (snap_at snaps 1).left.0
   right : (snap_at snaps 3).node.0 ≡ (snap_at snaps 1).right.0
 
-has_four : (ed : Delete) (f : Found) (snaps : List Snap) → delete_looks f snaps ≡ Enough → AreSeen delete_means ed f snaps → HasFour f snaps
+pub has_four : (ed : Delete) (f : Found) (snaps : List Snap) → delete_looks f snaps ≡ Enough → AreSeen delete_means ed f snaps → HasFour f snaps
 has_four ed f [] e x = absurd (let d : At f.trail.grand ≡ Enough = e in cc)
 has_four ed f (g ∷ []) e x = absurd (not_enough (eqb (child_of g f.trail.grand_side).0 f.trail.parent.0) f.trail.parent g e)
 has_four ed f (g ∷ p ∷ []) e x = absurd (not_enough (eqb (child_of p f.trail.side).0 f.trail.node.0) p.left p e)
@@ -222,12 +222,12 @@ has_four ed f (g ∷ p ∷ l ∷ r ∷ []) e x = record {
     same_no_of a b e = ap (λ (n : NodeNo). n.0) (sym e)
 has_four ed f (g ∷ p ∷ l ∷ r ∷ s ∷ snaps) e x = absurd (let d : Enough ≡ At s.node = x 4 (omega arith) in cc)
 
-few_places : (side : Side) → sibling_place side < 4
+pub few_places : (side : Side) → sibling_place side < 4
 few_places Left = omega arith
 few_places Right = omega arith
 
 -- a snapshot that is there may be used
-usable_at : (ed : Delete) (c : Call) (h : History) (f : Found) (snaps : List Snap) (i : ℕ) → i < 4 → HasFour f snaps → HasLooked delete_means c h ed f snaps → HasSnapped c h ed.key f (snap_at snaps i)
+pub usable_at : (ed : Delete) (c : Call) (h : History) (f : Found) (snaps : List Snap) (i : ℕ) → i < 4 → HasFour f snaps → HasLooked delete_means c h ed f snaps → HasSnapped c h ed.key f (snap_at snaps i)
 usable_at ed c h f snaps i p four x = x.usable i (rw four.four p)
 
 linked_at : (ed : Delete) (c : Call) (h : History) (f : Found) (snaps : List Snap) (i : ℕ) → IsTreeRun c.layout h → i < 4 → HasFour f snaps → HasLooked delete_means c h ed f snaps → IsLinked c.layout h (snap_at snaps i)
@@ -317,7 +317,7 @@ some_need : (need : Need) (nth : Nth) → IsNeeded need nth → need ≢ Nothing
 some_need need nth x e = subst (λ q. IsNeeded q nth) e x
 
 -- the fields of a copied fork are those of the snapshot
-copy_fields : (leaf : Bool) (level class k v : ℕ) (s : Snap) (side : Side) → IsPieceWord (cond leaf (Leaf level class k v) (Fork level class k s.left s.right)) (Child side) → (child_of s side).0 ≡ word_of (cond leaf (Leaf level class k v) (Fork level class k s.left s.right)) (Child side)
+pub copy_fields : (leaf : Bool) (level class k v : ℕ) (s : Snap) (side : Side) → IsPieceWord (cond leaf (Leaf level class k v) (Fork level class k s.left s.right)) (Child side) → (child_of s side).0 ≡ word_of (cond leaf (Leaf level class k v) (Fork level class k s.left s.right)) (Child side)
 copy_fields true level class k v s side p = absurd p
 copy_fields false level class k v s Left p = refl
 copy_fields false level class k v s Right p = refl
@@ -337,7 +337,7 @@ delete_fills = record { fields = λ e c h f snaps ns ld nth side run x enough n 
 -- What it makes
 
 -- once nothing more is to be loaded, the head is loaded
-loaded_head : (o k v : Option ℕ) (w : ℕ) → copy_wants o k v ≡ None → IsLoaded o w → o ≡ Some w
+pub loaded_head : (o k v : Option ℕ) (w : ℕ) → copy_wants o k v ≡ None → IsLoaded o w → o ≡ Some w
 loaded_head None k v w e is = absurd (let d : Some Head ≡ None = e in cc)
 loaded_head (Some z) k v w e is = ap Some is
 
