@@ -3,6 +3,7 @@ pub mod Commands
 pub mod Snapshots
 pub mod Shares
 pub mod Answers
+pub mod Edits
 pub mod MapRecord
 pub mod Placed
 pub mod SpelledMap
