@@ -139,7 +139,7 @@ edit_starts v began c m share sound mode some r u had small share_is call start 
     newest = tt;
     command = edit_command (edit_of m);
     is = is;
-    run_of = (small, (refl, call, refl));
+    run_of = (small, record { is = refl; called = call; alone = refl });
     is_pass = r.stands.is_pass;
     start = v.past;
     since = ends_self v.past;

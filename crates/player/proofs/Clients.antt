@@ -1,5 +1,5 @@
 -- What a client's machine leaves of what it has.
-use Rattle.std.proofs.Common.{◌≡◌, ℕ, ◌+◌, ◌<◌, ◌≤◌, List, length, Option, Some, None, refl, sym, ◌∙◌, subst, arith}
+use Rattle.std.proofs.Common.{◌≡◌, ℕ, ◌+◌, ◌<◌, ◌≤◌, List, length, Option, Some, None, refl, sym, ◌∙◌, ap, subst, arith}
 use Rattle.arena.specs.declared.layout.Layout.{Layout}
 use Rattle.arena.specs.TakenNodes.{taken_nodes}
 use Rattle.arena.specs.declared.word.Side.{Side}
@@ -22,8 +22,7 @@ use Rattle.record.specs.declared.record.Answer.{Answer}
 use Rattle.record.specs.CommandRules.{most_steps}
 use Rattle.player.specs.RunKnown.{RunWaits, RunAnswers, IsSameMachine, run_mode, share_behind}
 use Rattle.player.specs.RunSteps.{run_left, then_left, left_of, HasSpentSome, HasSpentRest, HasSpent, HasSpentAll}
-use Rattle.player.specs.EditRuns.{HasSpentOf, HasSpentAllOf, HasSpentTries, HasSpentAllTries, edit_of, most_nodes}
-use Rattle.player.specs.declared.edit.EditRun.{EditRun}
+use Rattle.player.specs.EditRuns.{HasSpentOf, HasSpentTries, HasSpentAllTries, edit_command}
 use Rattle.player.specs.ClientView.{ClientView, Hand, in_hand, snaps_of, IsStart, IsPutOf, IsScxOf, held, HoldsShare, Holds, TakesInHand, HasNewest, IsMachineOf, IsRoomy, IsWonBy, IsClientState, Works, Hears, Answered, machine_call, GoesOn, Told}
 
 -- what does not change while a machine goes on
@@ -58,7 +57,7 @@ is_kept left (Llx a) (Llx b) x = record { hand = refl; newest = λ p. p; run_of 
 is_kept left (Scx a) (Scx b) x = record { hand = rw (x.0, x.1) refl; newest = λ p. rw (x.0, x.1) p; run_of = λ command number then p. scx_same command number a b then x p; begun = λ start begin p. p; snaps = rw x.1 refl; won = λ v c p. rw x.0 p; room = λ v c p. p; mode = λ lay e. e; holds = λ v c p. rw (x.0, x.1) p; took = λ v c share p. rw (x.0, x.1) p }
 is_kept left (Vlx a) (Vlx b) x = record { hand = refl; newest = λ p. p; run_of = λ command number then p. rw x p; begun = λ start begin p. p; snaps = rw x refl; won = λ v c p. p; room = λ v c p. p; mode = λ lay e. e; holds = λ v c p. p; took = λ v c share p. p }
 is_kept left (Get a) (Get b) x = record { hand = refl; newest = λ p. p; run_of = λ command number then p. rw x p; begun = λ start begin p. p; snaps = refl; won = λ v c p. p; room = λ v c p. p; mode = λ lay e. e; holds = λ v c p. p; took = λ v c share p. p }
-is_kept left (Edit a) (Edit b) x = record { hand = refl; newest = λ p. p; run_of = λ command number then p. rw (x.0, x.1) p; begun = λ start begin p. p; snaps = refl; won = λ v c p. p; room = λ v c p. p; mode = λ lay e. e; holds = λ v c p. p; took = λ v c share p. p }
+is_kept left (Edit a) (Edit b) x = record { hand = refl; newest = λ p. p; run_of = λ command number then p. (rw x.0 p.0, record { is = p.1.is ∙ ap edit_command (sym x.0); called = x.1 ∙ p.1.called; alone = p.1.alone }); begun = λ start begin p. p; snaps = refl; won = λ v c p. p; room = λ v c p. p; mode = λ lay e. e; holds = λ v c p. p; took = λ v c share p. p }
 is_kept left (Edit a) (Llx b) x = absurd x
 is_kept left (Edit a) (Scx b) x = absurd x
 is_kept left (Edit a) (Vlx b) x = absurd x

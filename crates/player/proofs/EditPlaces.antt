@@ -186,14 +186,14 @@ pub record IsEditReply (lay : Layout) (tries : ℕ) (calls : List Call) (lines :
   pub all : AreOf lay.mode calls
   pub run : IsRun PlayedAllows lay (history lay.mode lines)
   pub lines_are : AreLines lay tries calls lines
-  pub spelled : AreSpelled lay calls lines
+  pub spells : AreSpelled lay calls lines
   pub entries : AreEntries calls lines changes
   pub owed : entry_owed lay lines ≡ None
   pub client : r.client.0 ≡ c
   pub number : r.call ≡ answered lines c
   pub next : next_command calls lines c ≡ Some command
-  pub begin : begin lines c ≡ Some r.begin
-  pub end : r.end ≡ turns lines
+  pub began : begin lines c ≡ Some r.begin
+  pub ended : r.end ≡ turns lines
   pub right : IsRight lay c (history lay.mode lines) (start lay.mode lines c) (linked calls lay.mode lines c) command r.answer
   pub tells : Tells (client_view lay tries calls lines c) c command r.answer
   pub entry : HasItsEntry (enters command r.answer) (won lay lines c)
@@ -224,7 +224,7 @@ module _ (lay : Layout) (tries : ℕ) (calls : List Call) (lines : List Line) (c
       let found = (rw is at x.moment) x.entries in
       let had : HadAtKey lay (history lay.mode lines) (start lay.mode lines c) key None = rw is at x.right in
       let none = unwon_none (won lay lines c) (rw is at x.entry) in
-      absent_placed lay tries calls lines r key x.lines_are x.spelled x.owed (rw x.client x.next) (rw x.client none) (rw x.client x.number) (rw x.client x.begin) x.end is (rw x.client had) record { found = found.0; none = found.1 }
+      absent_placed lay tries calls lines r key x.lines_are x.spells x.owed (rw x.client x.next) (rw x.client none) (rw x.client x.number) (rw x.client x.began) x.ended is (rw x.client had) record { found = found.0; none = found.1 }
 
   insert_placed : (key put : ℕ) (answer : Answer) → IsEditReply lay tries calls lines changes r c (InsertOf key put) → r.answer ≡ answer → IsPlacedOnMap (reply_told answer) calls lines (Edit (Insert key put)) r
   insert_placed key put (Value old) x is = told (Insert key put) old x is (rw is at x.tells) (rw is at x.moment)

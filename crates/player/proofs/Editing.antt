@@ -152,4 +152,4 @@ run_says command number (Llx m) then call h s t v of w kind word = absurd (llx_f
 run_says command number (Vlx m) then call h s t v of w kind word = absurd (vlx_fills_not m.snaps m.asked call h s w kind)
 run_says command number (Get m) then call h s t v of w kind word = absurd (get_fills_not m call h s w kind)
 run_says command number (ScxRun m) then call h s t v of w kind word = put_says_at m call h s t v m.at w kind word ∙ put_called command number m then of
-run_says command number (Edit m) then call h s t v of w kind word = edit_says m call h s t v w kind word ∙ of.1.1
+run_says command number (Edit m) then call h s t v of w kind word = edit_says m call h s t v w kind word ∙ of.1.called

@@ -424,7 +424,7 @@ ends_get v c (Edit m) then a sound x = absurd x.answers
 -- it leaves the snapshots, and has taken what its tries may
 edit_outcome : (v : ClientView) (c : Client) (e : MapEdit) (answer : Answer) → IsRightEnd v c.pass.0 (edit_command e) answer → HasTakenAtMost v.layout c.pass.0 v.past v.start (v.tries * most_nodes e) v.tries → IsOutcome v c.pass.0 [] (edit_command e) answer
 edit_outcome v c (PutEdit key value) answer x took = record { answers = x.answers; right = x.right; entry = x.entry; tells = x.tells; took = took; drops = record { gone = λ n z. absurd (among_none n z); others = λ n z. refl } }
-edit_outcome v c (TakeEdit key) answer x took = record { answers = x.answers; right = x.right; entry = x.entry; tells = x.tells; took = subst (λ n. HasTakenAtMost v.layout c.pass.0 v.past v.start n v.tries) (omega arith) took; drops = record { gone = λ n z. absurd (among_none n z); others = λ n z. refl } }
+edit_outcome v c (TakeEdit key) answer x took = record { answers = x.answers; right = x.right; entry = x.entry; tells = x.tells; took = let one : v.tries * 1 ≡ v.tries = omega arith in subst (λ n. HasTakenAtMost v.layout c.pass.0 v.past v.start n v.tries) one took; drops = record { gone = λ n z. absurd (among_none n z); others = λ n z. refl } }
 
 -- the share is the client's again
 holds_back : (v : ClientView) (c : Client) (m : EditRun) (is_pass : c.pass.0 < v.layout.passes) → c.share ≡ Some (share_of m) → RestsWith (machine_call v c is_pass v.start) v.past (share_of m) → HoldsShare v c (no_hand (held c))
@@ -442,7 +442,7 @@ ends_edit v c (Edit m) then a sound x =
     let right = edit_ends v c works.is_pass works.mode sound works.won m a works.run_of.0 answers in
     let took = taken_tries v.layout c.pass.0 v.tries (most_nodes (edit_of m)) v.past v.start works.opening (share_of m) works.took rests.share x.spent in
     ends_as v c works.command (answer_of (ended.Edit a)) works.is works.stands (holds_back v c m works.is_pass x.back rests) x.none
-    (subst (λ (k : Command). IsOutcome v c.pass.0 [] k (answer_of (ended.Edit a))) (sym works.run_of.1.0) (edit_outcome v c (edit_of m) (answer_of (ended.Edit a)) right took))
+    (subst (λ (k : Command). IsOutcome v c.pass.0 [] k (answer_of (ended.Edit a))) (sym works.run_of.1.is) (edit_outcome v c (edit_of m) (answer_of (ended.Edit a)) right took))
     works.late
 ends_edit v c (Llx m) then a sound x = absurd x.answers
 ends_edit v c (Scx m) then a sound x = absurd x.answers

@@ -203,11 +203,11 @@ module _ (v : ClientView) (c : Client) (sound : IsSound v) (row : Row) (s : ℕ)
     same_owner = owner_is v.layout s c.pass.0 own.from own.below;
     same_call = called;
     called = called;
-    does = subst (λ (k : Command). IsEntryFor v.layout c.pass.0 v.past v.start v.linked (entry_of v.layout v.past s) k) (sym x.run_of.1.0) (edit_does (edit_of m) h.makes);
+    does = subst (λ (k : Command). IsEntryFor v.layout c.pass.0 v.past v.start v.linked (entry_of v.layout v.past s) k) (sym x.run_of.1.is) (edit_does (edit_of m) h.makes);
   }
     where
       called : value v.past (scx s CallWord) ≡ c.number
-      called = h.called ∙ x.run_of.1.1
+      called = h.called ∙ x.run_of.1.called
 
   from_run : (run : Run) (then : Option Put) (x : Works v c run then) → ((m : PutRun) → run ≡ Scx m → m.scx.scx.0 ≡ s → IsOfPut v c row m x.start x.is_pass) → ((m : EditRun) → run ≡ Edit m → IsEditHand m (machine_call v c x.is_pass v.start) v.past s) → IsEntryFrom v c row s
   from_run (Scx m) then x f g =

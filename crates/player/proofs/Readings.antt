@@ -89,14 +89,14 @@ edit_reply lay tries calls words lines changes reply c command x mode entries ow
   all = x.of_mode;
   run = x.sound;
   lines_are = x.in_order;
-  spelled = spelled_so_far lay tries calls words lines x mode;
+  spells = spelled_so_far lay tries calls words lines x mode;
   entries = entries mode;
   owed = owed;
   client = own;
   number = called;
   next = is;
-  begin = begin;
-  end = end;
+  began = begin;
+  ended = end;
   right = right;
   tells = tells;
   entry = entry;

@@ -1,5 +1,5 @@
 -- The turn of a client that makes a step.
-use Rattle.std.proofs.Common.{◌≡◌, ℕ, true, ◌≤◌, ◌≢◌, ◌⊎◌, inl, inr, ⊎_elim, List, ◌∷◌, set, length, Option, Some, None, MatchOption, IsSome, drop, All, get_or, slice_get, unwrap_or, refl, sym, ◌∙◌, ap, subst, eq-eqb, arith, [], ◌++◌}
+use Rattle.std.proofs.Common.{◌≡◌, ℕ, true, ◌≤◌, ◌≢◌, ◌⊎◌, inl, inr, ⊎_elim, List, ◌∷◌, set, length, Option, Some, None, MatchOption, IsSome, drop, All, get_or, slice_get, unwrap_or, refl, sym, ◌∙◌, ap, subst, eq-eqb, arith, [], ◌++◌, IfSome}
 use native.Mathlib.Decide.{ℕ_discrete}
 use Rattle.arena.specs.Fills.{IsOwnScx}
 use Rattle.arena.specs.declared.layout.Layout.{Layout}
@@ -30,7 +30,7 @@ use Rattle.player.specs.EditRuns.{edit_command}
 use Rattle.spelling.specs.OrderedMap.{MapCall, MapEdit, edit_key, Insert as PutEdit, Delete as TakeEdit, Edit as EditCall}
 use Rattle.places.specs.declared.places.Change.{Change}
 use Rattle.places.specs.declared.places.Places.{Places}
-use Rattle.places.specs.Places.{changes, Knows, HoldsOfKey}
+use Rattle.places.specs.Places.{changed_key, changes, Knows, HoldsOfKey}
 use Rattle.places.specs.Entries.{AreEntries, IsChangeBy, value_left}
 use Rattle.record.specs.MapRecord.{map_call}
 use Rattle.script.specs.declared.command.Command.TheVariants.{Llx as LlxOf, Scx as ScxOf, Vlx as VlxOf, Set as SetOf, Insert as InsertOf, Delete as DeleteOf, Get as GetOf}
@@ -211,14 +211,14 @@ module _ (p : Player) (i number : ℕ) (step : Ask) (a : IsAsked p i number step
       own = ap (λ (k : ℕ). slice_get (commands calls k) (answered lines entry.client.0)) (sym is) ∙ ap (λ (k : ℕ). slice_get (commands calls c.pass.0) k) (sym number)
 
       stands : (e : MapEdit) → map_call (Some (edit_command e)) ≡ Some (EditCall e) → slice_get (commands calls entry.client.0) (answered lines entry.client.0) ≡ Some (edit_command e) → (next : Option ℕ) → c.next ≡ next → IsAtEdit calls p.clients.items entry
-      stands e edits here None q =
+      stands e is_edit here None q =
           let none : slice_get (commands calls entry.client.0) (answered lines entry.client.0) ≡ None = own ∙ none_left calls c.pass.0 c.number (rw q at place) in
           absurd (let z : None ≡ Some (edit_command e) = sym none ∙ here in cc)
-      stands e edits here (Some at) q =
+      stands e is_edit here (Some at) q =
           let y = next_at calls c.pass.0 c.number at (rw q at place) in
           let z : slice_get (commands calls entry.client.0) (answered lines entry.client.0) ≡ Some y.0 = own ∙ y.2 in
           let same : y.0 ≡ edit_command e = let d : Some y.0 ≡ Some (edit_command e) = sym z ∙ here in cc in
-          record { client = c; there = there; at = at; next = q; call = record { client = record { 0 = c.pass.0 }; command = y.0 }; here = y.1; edit = e; command = same; edits = ap (λ (j : ℕ). map_call (slice_get (commands calls entry.client.0) j)) w.call ∙ ap map_call here ∙ edits }
+          record { client = c; there = there; at = at; next = q; call = record { client = record { 0 = c.pass.0 }; command = y.0 }; here = y.1; edit = e; command = same; edits = ap (λ (j : ℕ). map_call (slice_get (commands calls entry.client.0) j)) w.call ∙ ap map_call here ∙ is_edit }
 
       by_command : (command : Command) → slice_get (commands calls entry.client.0) (answered lines entry.client.0) ≡ Some command → IsEntryFor lay entry.client.0 (history lay.mode lines) (start lay.mode lines entry.client.0) (linked calls lay.mode lines entry.client.0) w.entered command → IsAtEdit calls p.clients.items entry
       by_command (InsertOf key put) here does = stands (PutEdit key put) refl here c.next refl
@@ -348,16 +348,11 @@ wins_at lay lay' lines lines' wins wins' a b c x = rw (a, b, c) x
 
 -- places that know at least the same keys
 pub keys_kept : (old new : Places) (calls : List Call) → ((key : ℕ) → Knows old key → Knows new key) → All (λ (call : Call). HoldsOfKey (Knows old) call.command) calls → All (λ (call : Call). HoldsOfKey (Knows new) call.command) calls
-keys_kept old new calls more all i d less = go (get_or calls i d).command (all i d less)
+keys_kept old new calls more all i d less = go (changed_key (get_or calls i d).command) (all i d less)
   where
-    go : (command : Command) → HoldsOfKey (Knows old) command → HoldsOfKey (Knows new) command
-    go (InsertOf key put) x = more key x
-    go (DeleteOf key) x = more key x
-    go (LlxOf cell) x = tt
-    go (ScxOf update) x = tt
-    go (VlxOf cells) x = tt
-    go (SetOf field put) x = tt
-    go (GetOf key) x = tt
+    go : (key : Option ℕ) → IfSome key (Knows old) → IfSome key (Knows new)
+    go (Some key) x = more key x
+    go None x = tt
 
 -- room for more leaves the places
 pub places_roomy : (lay : Layout) (calls : List Call) (lines : List Line) (old new : Places) → changes new ≡ changes old → ((key : ℕ) → Knows old key → Knows new key) → ArePlaces lay calls lines old → ArePlaces lay calls lines new

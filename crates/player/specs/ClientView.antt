@@ -139,8 +139,10 @@ IsGetOf (GetOf key) k None = k ≡ key
 IsGetOf _ k then = ⊥
 
 -- an edit in the client's call of this number is the one that the command is
-abbrev pub IsEditOf : Command → ℕ → EditRun → Option Put → Type 0
-IsEditOf command number m then = (command ≡ edit_command (edit_of m)) × (call_of m ≡ number) × (then ≡ None)
+pub record IsEditOf (command : Command) (number : ℕ) (m : EditRun) (then : Option Put) : Type 0 where
+  pub is : command ≡ edit_command (edit_of m)
+  pub called : call_of m ≡ number
+  pub alone : then ≡ None
 
 -- the machine, with what follows it, is that of the command in the client's call of this number
 abbrev pub IsMachineOf : Command → ℕ → Run → Option Put → Type 0

@@ -2,6 +2,7 @@
 ghost use Rattle.std.specs.Prelude.{◌≡◌, ℕ, ◌+◌, ◌<◌, ◌≤◌, [], Some, vec_len, slice_get, map, IfOk, IfSome, All};
 ghost use Rattle.player.specs.declared.client.Client.{Client};
 ghost use Rattle.places.specs.Entries.{value_left};
+ghost use Rattle.places.specs.Places.{changed_key};
 ghost use Rattle.player.specs.ClientView.{client_view, Rests};
 ghost use Rattle.player.specs.EditRuns.{edit_command};
 ghost use Rattle.record.specs.LawfulRun.{IsLawfulRun};
@@ -295,7 +296,7 @@ impl Player {
 /// The key that a command edits, and what it leaves there.
 fn edited(command: Command) -> Option<(u64, Option<u64>)>
     ensures edits { (e : MapEdit) → command ≡ edit_command e → result ≡ Some (edit_key e, value_left e) }
-    ensures one { IfSome result (λ r. (e : MapEdit) × (command ≡ edit_command e) × (r.0 ≡ edit_key e)) }
+    ensures key { IfSome result (λ r. changed_key command ≡ Some r.0) }
 {
     match command {
         Command::Insert { key, value } => Some((key, Some(value))),
