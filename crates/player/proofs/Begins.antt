@@ -1,5 +1,5 @@
 -- What calls need to begin.
-use Rattle.std.proofs.Common.{◌≡◌, ◌≢◌, ℕ, suc, ◌+◌, ◌-◌, ◌*◌, ◌^◌, ◌<◌, ◌≤◌, inl, List, Option, Some, None, refl, sym, ◌∙◌, ap, subst, arith, length, zero, [], ◌∷◌, ◌⊎◌, ⊎_elim, slice_index_or, slice_get, get_or, unwrap_or, nat_lt, map, AllPairs, Contains, MatchOption, Bool, true, false, All}
+use Rattle.std.proofs.Common.{◌≡◌, ◌≢◌, ℕ, suc, ◌+◌, ◌^◌, ◌<◌, ◌≤◌, inl, List, Option, Some, None, refl, sym, ◌∙◌, ap, subst, arith, length, zero, [], ◌∷◌, ◌⊎◌, ⊎_elim, slice_index_or, slice_get, get_or, unwrap_or, nat_lt, map, AllPairs, Contains, MatchOption, Bool, true, false, All}
 use Rattle.tree.specs.declared.get.GetRun.{GetRun}
 use Rattle.tree.specs.Get.Known.{GetIsReady}
 use Rattle.script.specs.Commands.{mode_of}
@@ -53,7 +53,6 @@ use Rattle.updates.specs.Known.{RestsWith}
 use Rattle.updates.specs.Laws.Entered.{none_yet}
 use Rattle.updates.specs.Steps.{node_tries, scx_tries, Spends}
 use Rattle.updates.specs.declared.update.UpdateAt.{UpdateAt}
-use Rattle.updates.specs.declared.update.UpdateAt.TheVariants.{Start as UpdateStart}
 use Rattle.player.proofs.Shapes.{as_tree}
 use Rattle.player.specs.RunSteps.{then_left}
 use Rattle.prims.specs.Scx.Known.{nodes_of}

@@ -1,5 +1,5 @@
 -- How an edit ends: what its answer says of the call.
-use Rattle.std.proofs.Common.{◌≡◌, ◌≢◌, ℕ, ◌×◌, ◌^◌, ◌<◌, inl, inr, ⊎_elim, Option, Some, None, refl, sym, ◌∙◌, subst}
+use Rattle.std.proofs.Common.{◌≡◌, ◌≢◌, ℕ, ◌^◌, ◌<◌, inl, inr, ⊎_elim, true, false, Option, Some, None, refl, sym, subst}
 use Rattle.arena.specs.declared.limits.Mode.TheVariants.{Tree}
 use Rattle.arena.specs.History.{History}
 use Rattle.arena.specs.Machines.{Call as MachineCall}
@@ -14,7 +14,6 @@ use Rattle.tree.specs.declared.delete.Delete.{Delete as Deleted}
 use Rattle.tree.specs.Delete.Means.{delete_means, delete_need}
 use Rattle.tree.specs.Insert.Means.{insert_means, insert_need}
 use Rattle.updates.specs.Blame.{IsContended}
-use Rattle.updates.specs.Edits.{EditMeaning}
 use Rattle.updates.specs.Known.{RestsWith, HasMade, UpdateAnswers}
 use Rattle.updates.specs.Pieces.{many_nodes}
 use Rattle.updates.specs.Tries.{HasEnteredNone}

@@ -31,7 +31,7 @@ use Rattle.tree.specs.Delete.Means.{delete_means}
 use Rattle.tree.specs.Insert.Means.{insert_means}
 use Rattle.tree.proofs.Lemmas.{get_fills_not}
 use Rattle.updates.specs.Edits.{EditMeaning}
-use Rattle.updates.specs.Known.{UpdateWaits, UpdateWaitsAt}
+use Rattle.updates.specs.Known.{UpdateWaitsAt}
 use Rattle.updates.specs.Laws.Entered.{only_joined}
 use Rattle.updates.specs.Laws.HandScx.{from}
 use Rattle.updates.specs.Laws.Kept.{idle_rests}

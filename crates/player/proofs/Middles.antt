@@ -58,7 +58,7 @@ use Rattle.player.specs.ClientView.{ClientView, client_view, no_hand, held, Tell
 use Rattle.player.specs.BetweenTurns.{IsLawfulSoFar, AreOthers, IsTurnOf, AreBetweenTurns, IsMade, IsEnd, AreWins}
 use Rattle.player.proofs.Views.{TellsWon, client_by_others, stands_from, holds_from}
 use Rattle.record.proofs.Lemmas.{some_turn, start_kept, begin_within, won_within}
-use Rattle.player.proofs.Ends.{entered_none}
+use Rattle.player.proofs.EditEnds.{entered_none}
 
 -- Others
 

@@ -49,7 +49,8 @@ use Rattle.prims.proofs.Lemmas.{taken_node_since, left_own_node, left_own_scx, t
 use Rattle.prims.specs.Shares.{IsShare}
 use Rattle.player.proofs.Over.{taken_nothing}
 use Rattle.player.proofs.Snapshots.{has_snap, dropped, kept_without, unkept_without}
-use Rattle.player.proofs.Ends.{rests_kept, snapshot_unspent, among_none, entered_none}
+use Rattle.player.proofs.EditEnds.{entered_none}
+use Rattle.player.proofs.Ends.{rests_kept, snapshot_unspent, among_none}
 
 -- A full share
 

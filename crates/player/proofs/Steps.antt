@@ -30,7 +30,8 @@ use Rattle.player.specs.EditRuns.{edit_command}
 use Rattle.spelling.specs.OrderedMap.{MapCall, MapEdit, edit_key, Insert as PutEdit, Delete as TakeEdit, Edit as EditCall}
 use Rattle.places.specs.declared.places.Change.{Change}
 use Rattle.places.specs.declared.places.Places.{Places}
-use Rattle.places.specs.Places.{changed_key, changes, Knows, HoldsOfKey}
+use Rattle.places.specs.Changed.{changed_key}
+use Rattle.places.specs.Places.{changes, Knows, HoldsOfKey}
 use Rattle.places.specs.Entries.{AreEntries, IsChangeBy, value_left}
 use Rattle.record.specs.MapRecord.{map_call}
 use Rattle.script.specs.declared.command.Command.TheVariants.{Llx as LlxOf, Scx as ScxOf, Vlx as VlxOf, Set as SetOf, Insert as InsertOf, Delete as DeleteOf, Get as GetOf}

@@ -2,7 +2,7 @@
 ghost use Rattle.std.specs.Prelude.{◌≡◌, ℕ, ◌+◌, ◌<◌, ◌≤◌, [], Some, vec_len, slice_get, map, IfOk, IfSome, All};
 ghost use Rattle.player.specs.declared.client.Client.{Client};
 ghost use Rattle.places.specs.Entries.{value_left};
-ghost use Rattle.places.specs.Places.{changed_key};
+ghost use Rattle.places.specs.Changed.{changed_key};
 ghost use Rattle.player.specs.ClientView.{client_view, Rests};
 ghost use Rattle.player.specs.EditRuns.{edit_command};
 ghost use Rattle.record.specs.LawfulRun.{IsLawfulRun};

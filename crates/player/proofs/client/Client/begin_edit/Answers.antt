@@ -1,6 +1,6 @@
-use Rattle.std.proofs.Common.{Some, sym, ◌∙◌, ap, subst}
+use Rattle.std.proofs.Common.{Some, sym, ◌∙◌, ap}
 use Rattle.script.specs.declared.command.Command.{Command}
-use Rattle.spelling.specs.OrderedMap.{MapEdit, edit_key}
+use Rattle.spelling.specs.OrderedMap.{MapEdit}
 use Rattle.player.specs.EditRuns.{edit_command}
 use Rattle.player.proofs.Begins.{edit_begins, edit_starts}
 use Rattle.player.proofs.client.Client.begin_edit.Goals as goal
