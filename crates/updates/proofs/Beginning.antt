@@ -97,7 +97,7 @@ module _ {E : Type 0} (e : EditMeaning E) (m : UpdateRun E) (run after : ScxRun)
     (is : IsUpdateFor e m.edit f m.snaps.items m.nodes run.update) (at : run.at ≡ ScxStart) (is_scx : run.scx.0 ≡ m.share.next_scx) (same_scx : after.scx ≡ run.scx) (same_update : after.update ≡ run.update) (same_call : after.call ≡ run.call) (is_call : after.call ≡ m.call) where
   over : IsUpdateOver run.update
   over = covers_all run.update m.snaps.items (e.side m.edit f) (some_snaps (e.looks m.edit f) m.snaps.items (sound.some m.edit f) x.all.enough) few
-      (sound.distinct m.edit c h f m.snaps.items x.run x.all.looked x.all.enough) is.covers is.plan is.old
+      (sound.distinct m.edit c h f m.snaps.items x.run x.need x.all.looked x.all.enough) is.covers is.plan is.old
 
   usable : AreUsable c h (edit_key (e.edit m.edit)) f run.update.snaps
   usable = subst (λ (xs : List Snap). AreUsable c h (edit_key (e.edit m.edit)) f xs) (sym is.covers) x.all.looked.usable

@@ -56,7 +56,7 @@ pub record FillsWell {E : Type 0} (m : EditMeaning E) : Type 0 where
 -- what an edit looks at are nodes apart, one at least, and what it makes of them is its edit
 pub record MakesWell {E : Type 0} (m : EditMeaning E) : Type 0 where
   pub some : (e : E) (f : Found) → m.looks e f [] ≢ Enough
-  pub distinct : (e : E) (c : Call) (h : History) (f : Found) (snaps : List Snap) → IsTreeRun c.layout h → HasLooked m c h e f snaps → m.looks e f snaps ≡ Enough → AreDistinct snaps
+  pub distinct : (e : E) (c : Call) (h : History) (f : Found) (snaps : List Snap) → IsTreeRun c.layout h → m.needs e f ≢ Nothing → HasLooked m c h e f snaps → m.looks e f snaps ≡ Enough → AreDistinct snaps
   -- and its leaf is the one that was found
   pub leaf : (e : E) (c : Call) (h : History) (f : Found) (snaps : List Snap) (s : ℕ) → IsTreeRun c.layout h → m.needs e f ≢ Nothing → HasLooked m c h e f snaps → m.looks e f snaps ≡ Enough → CoversLeaf m e f c h s snaps
   pub promised : (e : E) (c : Call) (h : History) (f : Found) (snaps : List Snap) (ns : Nodes) (ld : Loaded) (j : Job) (d : Descriptor) → IsTreeRun c.layout h → m.needs e f ≢ Nothing → HasFilledAll m c h e f snaps ns ld → IsUpdateFor m e f snaps ns j.update → Says d j → IsPromised c.layout c.pass h j.scx.0 d (m.edit e)

@@ -6,7 +6,7 @@ use Rattle.spelling.specs.OrderedMap.{Edit, Delete}
 use Rattle.spelling.specs.Runs.{Makes}
 use Rattle.record.specs.declared.record.Answer.{Answer}
 use Rattle.record.specs.declared.record.Answer.TheVariants.{Value, Contended, Full}
-use Rattle.record.specs.Answers.{HasMet}
+use Rattle.record.specs.Answers.{WasBlockedBy}
 use Rattle.record.specs.Edits.{EditAfterStep, HadAtKey}
 use Rattle.record.specs.MapRecord.{reply_told}
 use Rattle.record.specs.Placed.{IsPlacedOnMap}
@@ -24,7 +24,7 @@ abbrev pub DeleteIsRight : ℕ → Layout → ℕ → History → History → (�
 DeleteIsRight key lay c now start linked (Value (Some old)) = Unit {0}
 -- after some row behind the call's begin the map lacked the key
 DeleteIsRight key lay c now start linked (Value None) = HadAtKey lay now start key None
-DeleteIsRight key lay c now start linked (Contended node scx) = HasMet lay c now start node.0 scx.0
+DeleteIsRight key lay c now start linked (Contended node scx) = WasBlockedBy lay c now start node.0 scx.0
 -- after some row behind the call's begin the map had the key, and the share has too little for the
 -- copy of its leaf's sibling, and not by the call's own doing
 DeleteIsRight key lay c now start linked (Full what left) = (old : ℕ) × HadAtKey lay now start key (Some old) × HasTooFewToTry lay c now start 1 what left

@@ -6,7 +6,7 @@ use Rattle.spelling.specs.OrderedMap.{Edit, Insert}
 use Rattle.spelling.specs.Runs.{Makes}
 use Rattle.record.specs.declared.record.Answer.{Answer}
 use Rattle.record.specs.declared.record.Answer.TheVariants.{Value, Contended, Full}
-use Rattle.record.specs.Answers.{HasMet}
+use Rattle.record.specs.Answers.{WasBlockedBy}
 use Rattle.record.specs.Edits.{EditAfterStep, HadAtKey}
 use Rattle.record.specs.MapRecord.{reply_told}
 use Rattle.record.specs.Placed.{IsPlacedOnMap}
@@ -28,7 +28,7 @@ nodes_for None = 3
 abbrev pub InsertIsRight : ℕ → Layout → ℕ → History → History → (ℕ → Option History) → Answer → Type 0
 -- of one that tells a value, its entry and where it took place say all
 InsertIsRight key lay c now start linked (Value old) = Unit {0}
-InsertIsRight key lay c now start linked (Contended node scx) = HasMet lay c now start node.0 scx.0
+InsertIsRight key lay c now start linked (Contended node scx) = WasBlockedBy lay c now start node.0 scx.0
 -- the share has too little for what the map had at the key, and not by the call's own doing
 InsertIsRight key lay c now start linked (Full what left) = (old : Option ℕ) × HadAtKey lay now start key old × HasTooFewToTry lay c now start (nodes_for old) what left
 InsertIsRight key lay c now start linked _ = ⊥

@@ -93,6 +93,7 @@ abbrev pub insert_means : EditMeaning Insert
 insert_means = record {
   edit = λ e. PutEdit e.key e.value;
   needs = λ e f. insert_need f.value;
+  most_nodes = 3;
   side = λ e f. f.trail.side;
   looks = λ e f snaps. insert_looks f snaps;
   most_looks = 2;

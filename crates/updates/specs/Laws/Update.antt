@@ -24,20 +24,22 @@ use Rattle.prims.specs.Scx.Known.{job_of, ScxWaits}
 use Rattle.prims.specs.declared.llx.LlxRun.{LlxRun}
 use Rattle.prims.specs.declared.scx.ScxRun.{ScxRun}
 use Rattle.prims.proofs.Lemmas.{llx_fills_not, over_more, share_by_others, share_by_scx, untaken_at}
-use Rattle.spelling.specs.OrderedMap.{edit_key}
 use Rattle.spelling.specs.TreeShape.{TreeAllows}
 use Rattle.template.specs.Walk.Laws.{walk_keeps, walk_lawful, walk_made, walk_told}
 use Rattle.template.proofs.Lemmas.{tracks_by_others, tracks_by_scx, walk_fills_not}
 use Rattle.template.specs.declared.walk.Found.{Found}
+use Rattle.updates.specs.declared.edit.Need.{Need}
+use Rattle.updates.specs.declared.edit.Need.TheVariants.{Nothing, One, Three}
 use Rattle.updates.specs.declared.edit.Nth.{Nth}
+use Rattle.updates.specs.declared.edit.Nth.TheVariants.{First, Second, Third}
 use Rattle.updates.specs.declared.edit.Piece.{Piece}
 use Rattle.updates.specs.declared.update.UpdateAt.{UpdateAt}
 use Rattle.updates.specs.declared.update.UpdateAt.TheVariants.{Start, Walk, Look, Load, Fill, Scx}
 use Rattle.updates.specs.declared.update.UpdateRun.{UpdateRun}
 use Rattle.updates.specs.Edits.{EditMeaning}
 use Rattle.updates.specs.Steps.{UpdateFitsAt, UpdateFits}
-use Rattle.updates.specs.Pieces.{nth_node, word_of}
-use Rattle.updates.specs.Known.{RestsWith, Looks, Loads, Fills, Scxs, Walks, fill_step, UpdateWaitsAt, UpdateIsToldAt, UpdateWaits, UpdateIsReady, piece, top, copied}
+use Rattle.updates.specs.Pieces.{HasPlace, nth_node, word_of}
+use Rattle.updates.specs.Known.{IsNeeded, RestsWith, Looks, Loads, Fills, Scxs, Walks, fill_step, UpdateWaitsAt, UpdateIsToldAt, UpdateWaits, UpdateIsReady, piece, top, copied}
 use Rattle.updates.specs.Laws.Hand.{IsBefore, IsUpTo, HoldsWords, HasFilledTo, IsForField, FieldMay, by_others, by_load, filled_more, words_by_others, words_more, taken_now, may_fill}
 use Rattle.updates.specs.Laws.HandScx.{from}
 use Rattle.updates.specs.Laws.Kept.{idle_over, quiet_rests, rests_by_others, rests_by_step, looked_more, works_more}
@@ -246,11 +248,20 @@ module _ {E : Type 0} (e : EditMeaning E) where
 
   -- What it is told
 
+  needed_place : (need : Need) (nth : Nth) → IsNeeded need nth → HasPlace need nth
+  needed_place need First x = tt
+  needed_place Three Second x = refl
+  needed_place Three Third x = refl
+  needed_place One Second x = absurd x
+  needed_place One Third x = absurd x
+  needed_place Nothing Second x = absurd x
+  needed_place Nothing Third x = absurd x
+
   fits_at : (m : UpdateRun E) (c : Call) (h : History) (v nodes : ℕ) (at : UpdateAt) → IsRun TreeAllows c.layout h → UpdateIsToldAt e m c h v at → length (taken_nodes h) ≤ nodes → UpdateFitsAt e m (Some v) nodes at
   fits_at m c h v nodes Start run x few = absurd x
   fits_at m c h v nodes (Walk walk) run x few = walk_told walk c h (Some v) nodes run x.1 few
   fits_at m c h v nodes (Look f llx) run x few = tt
-  fits_at m c h v nodes (Load f nth part) run x few = x.0.wanted
+  fits_at m c h v nodes (Load f nth part) run x few = (x.0.wanted, needed_place (e.needs m.edit f) nth x.0.works.need)
   fits_at m c h v nodes (Fill f nth part) run x few = tt
   fits_at m c h v nodes (Scx f scx) run x few = tt
 

@@ -1,0 +1,4 @@
+pub mod Means
+pub mod Laws
+pub mod Shown
+pub mod Sound
