@@ -1,0 +1,276 @@
+//! A check of a record by means of its own: the rows are made again over plain words, and the calls
+//! over a plain map.
+use crate::call::{call_of, enters, may_change};
+use crate::past::{Past, Place};
+use crate::replay::Replay;
+use crate::wrong::Wrong;
+use arena::{PassNo, ScxNo, ScxWord};
+use record::{Answer, Entry, Line, Record, Reply, Row};
+use script::{Command, Script};
+use std::alloc::Global;
+
+/// What the lines so far say of a client.
+#[derive(Clone, Copy)]
+struct Client {
+    /// How many of its calls are answered.
+    answered: u64,
+    /// The first turn of the call that runs.
+    begun: Option<u64>,
+    /// Its last turn.
+    last: u64,
+    /// The entry of the call that runs.
+    entered: Option<Entered>,
+}
+
+/// A call's entry: its turn, and what the call has to answer.
+#[derive(Clone, Copy)]
+struct Entered {
+    turn: u64,
+    told: Option<u64>,
+}
+
+const UNBEGUN: Client = Client {
+    answered: 0,
+    begun: None,
+    last: 0,
+    entered: None,
+};
+
+/// What the lines so far say.
+#[derive(Drop)]
+struct Seen<'a> {
+    script: &'a Script,
+    replay: Replay,
+    past: Past,
+    clients: Vec<Client>,
+    /// How many turns there were.
+    turn: u64,
+    /// How many entries there were.
+    entries: u64,
+    /// The entry that has to stand behind the last turn.
+    owed: Option<Entry>,
+}
+
+/// Finds the first thing that is wrong with a record of calls on the tree.
+pub(crate) fn check(alloc: Global, record: &Record) -> Result<(), Wrong> {
+    let mut seen = Seen::new(alloc, &record.script)?;
+    for line in record.lines.iter() {
+        match line {
+            Line::Step(row) => seen.step(row)?,
+            Line::Log(entry) => seen.entry(entry)?,
+            Line::Reply(reply) => seen.reply(reply)?,
+        }
+    }
+    seen.settle()?;
+    seen.end()
+}
+
+impl<'a> Seen<'a> {
+    fn new(alloc: Global, script: &'a Script) -> Result<Seen<'a>, Wrong> {
+        Ok(Seen {
+            script,
+            replay: Replay::new(alloc, &script.layout)?,
+            past: Past::new(alloc),
+            clients: vec![in alloc; UNBEGUN; script.layout.passes as usize]?,
+            turn: 0,
+            entries: 0,
+            owed: None,
+        })
+    }
+
+    /// The turn before has the entry that it owes.
+    fn has_entry(&self) -> Result<(), Wrong> {
+        match self.owed {
+            Some(_) => Err(Wrong::Entry(self.turn)),
+            None => Ok(()),
+        }
+    }
+
+    /// The turn before has the entry that it owes, and the words spell the map of all entries.
+    fn settle(&self) -> Result<(), Wrong> {
+        self.has_entry()?;
+        let Some(pairs) = self.replay.spelled()? else {
+            return Err(Wrong::Spelled(self.turn));
+        };
+        if pairs.as_slice() != self.past.map().pairs() {
+            return Err(Wrong::Spelled(self.turn));
+        }
+        Ok(())
+    }
+
+    fn step(&mut self, row: &Row) -> Result<(), Wrong> {
+        self.settle()?;
+        match row {
+            Row::Idle { number, client } => self.turn_of(*number, *client, None),
+            Row::Step { number, row } => {
+                self.turn_of(*number, row.pass, Some(row.call))?;
+                self.replay.make(*number, row)?;
+                self.owed = self.entry_owed(row)?;
+                Ok(())
+            }
+        }
+    }
+
+    /// The next turn has this number, and is of this call of the client; of none where the client
+    /// has no call left.
+    fn turn_of(&mut self, number: u64, client: PassNo, call: Option<u64>) -> Result<(), Wrong> {
+        let wrong = Wrong::Turn(number);
+        let script = self.script;
+        let clients = &mut self.clients;
+        let state = clients.get_mut(client.0 as usize).ok_or(wrong)?;
+        let next = call_of(script, client, state.answered).map(|_| state.answered);
+        if self.turn.checked_add(1) != Some(number) || next != call {
+            return Err(wrong);
+        }
+        self.turn = number;
+        state.last = number;
+        if call.is_some() && state.begun.is_none() {
+            state.begun = Some(number);
+        }
+        Ok(())
+    }
+
+    /// The entry that a row brings with it, if its update has won.
+    fn entry_owed(&self, row: &arena::Row) -> Result<Option<Entry>, Wrong> {
+        match self.replay.won(row) {
+            Some(scx) => Ok(Some(self.entry_of(scx)?)),
+            None => Ok(None),
+        }
+    }
+
+    /// The next entry, of this SCX-record.
+    fn entry_of(&self, scx: ScxNo) -> Result<Entry, Wrong> {
+        let wrong = Wrong::Entry(self.turn);
+        Ok(Entry {
+            place: self.entries.checked_add(1).ok_or(wrong)?,
+            step: self.turn,
+            scx,
+            client: self.replay.owner(scx).ok_or(wrong)?,
+            call: self.replay.scx(scx, ScxWord::Call),
+        })
+    }
+
+    /// The entry is the one that is owed, and the first of a call that runs.
+    fn entry(&mut self, entry: &Entry) -> Result<(), Wrong> {
+        let wrong = Wrong::Entry(self.turn);
+        if self.owed.take() != Some(*entry) {
+            return Err(wrong);
+        }
+        let command = call_of(self.script, entry.client, entry.call).ok_or(wrong)?;
+        let client = self.clients.get_mut(entry.client.0 as usize).ok_or(wrong)?;
+        let runs = client.begun.is_some() && client.answered == entry.call;
+        if !runs || client.entered.is_some() || !may_change(command) {
+            return Err(wrong);
+        }
+        let told = self.past.change(entry.step, command)?;
+        let turn = entry.step;
+        client.entered = Some(Entered { turn, told });
+        self.entries = entry.place;
+        self.replay.finalize(entry.scx)
+    }
+
+    /// The reply is of the call that its client has made, and says how that went.
+    fn reply(&mut self, reply: &Reply) -> Result<(), Wrong> {
+        self.has_entry()?;
+        let wrong = Wrong::Reply(self.turn);
+        let command = call_of(self.script, reply.client, reply.call).ok_or(wrong)?;
+        let client = self.clients.get_mut(reply.client.0 as usize).ok_or(wrong)?;
+        let said = (reply.call, Some(reply.begin), reply.end);
+        if said != (client.answered, client.begun, self.turn) || client.last != self.turn {
+            return Err(wrong);
+        }
+        let entered = client.entered.take();
+        client.begun = None;
+        client.answered = client.answered.checked_add(1).ok_or(wrong)?;
+        self.answer(reply, command, entered)
+    }
+
+    fn answer(
+        &mut self,
+        reply: &Reply,
+        command: Command,
+        entered: Option<Entered>,
+    ) -> Result<(), Wrong> {
+        match (reply.answer, entered) {
+            (Answer::Value(value), Some(entered)) if enters(command, value) => {
+                self.changed(reply, command, value, entered)
+            }
+            (Answer::Value(value), None) if !enters(command, value) => {
+                self.looked(reply, command, value)
+            }
+            (Answer::Contended { .. } | Answer::Full { .. }, None) if may_change(command) => {
+                refused(reply)
+            }
+            _ => Err(Wrong::Entry(reply.end)),
+        }
+    }
+
+    /// A call that has changed the map took place with its entry, and answers what the map was just
+    /// before.
+    fn changed(
+        &mut self,
+        reply: &Reply,
+        command: Command,
+        value: Option<u64>,
+        entered: Entered,
+    ) -> Result<(), Wrong> {
+        if value != entered.told {
+            return Err(Wrong::Answer(reply.end));
+        }
+        if reply.moment != Some(entered.turn) {
+            return Err(Wrong::Moment(reply.end));
+        }
+        self.past.put(Place {
+            moment: entered.turn,
+            looks: false,
+            command,
+            told: Some(value),
+        })
+    }
+
+    /// A call that has only looked took place in the last of its turns after which the map gives
+    /// this value.
+    fn looked(&mut self, reply: &Reply, command: Command, value: Option<u64>) -> Result<(), Wrong> {
+        let moment = self
+            .past
+            .last_telling(command, value, (reply.begin, reply.end))?
+            .ok_or(Wrong::Answer(reply.end))?;
+        if reply.moment != Some(moment) {
+            return Err(Wrong::Moment(reply.end));
+        }
+        self.past.put(Place {
+            moment,
+            looks: true,
+            command,
+            told: Some(value),
+        })
+    }
+
+    /// All calls that took place, those without an answer too, are calls of one map.
+    fn end(self) -> Result<(), Wrong> {
+        let mut past = self.past;
+        for number in 0..self.script.layout.passes {
+            let Some(client) = self.clients.get(number as usize) else {
+                continue;
+            };
+            let command = call_of(self.script, PassNo(number), client.answered);
+            if let (Some(entered), Some(command)) = (client.entered, command) {
+                past.put(Place {
+                    moment: entered.turn,
+                    looks: false,
+                    command,
+                    told: None,
+                })?;
+            }
+        }
+        past.in_order()
+    }
+}
+
+/// A refused call took place nowhere.
+fn refused(reply: &Reply) -> Result<(), Wrong> {
+    match reply.moment {
+        Some(_) => Err(Wrong::Moment(reply.end)),
+        None => Ok(()),
+    }
+}
