@@ -29,6 +29,17 @@ struct Entered {
     told: Option<u64>,
 }
 
+impl Entered {
+    /// The turn, if the call has to answer this value.
+    fn turn_of(self, value: Option<u64>) -> Option<u64> {
+        if value == self.told {
+            Some(self.turn)
+        } else {
+            None
+        }
+    }
+}
+
 const UNBEGUN: Client = Client {
     answered: 0,
     begun: None,
@@ -191,58 +202,43 @@ impl<'a> Seen<'a> {
         command: Command,
         entered: Option<Entered>,
     ) -> Result<(), Wrong> {
-        match (reply.answer, entered) {
-            (Answer::Value(value), Some(entered)) if enters(command, value) => {
-                self.changed(reply, command, value, entered)
+        match reply.answer {
+            Answer::Value(value) => self.took_place(reply, command, value, entered),
+            Answer::Contended { .. } | Answer::Full { .. } if may_change(command) => {
+                refused(reply, entered)
             }
-            (Answer::Value(value), None) if !enters(command, value) => {
-                self.looked(reply, command, value)
-            }
-            (Answer::Contended { .. } | Answer::Full { .. }, None) if may_change(command) => {
-                refused(reply)
-            }
-            _ => Err(Wrong::Entry(reply.end)),
+            _ => Err(Wrong::Answer(reply.end)),
         }
     }
 
-    /// A call that has changed the map took place with its entry, and answers what the map was just
-    /// before.
-    fn changed(
+    /// A call that answers a value took place with its entry, just before which the map gave the
+    /// value; or, if it has only looked, in the last of its turns after which the map gives it.
+    fn took_place(
         &mut self,
         reply: &Reply,
         command: Command,
         value: Option<u64>,
-        entered: Entered,
+        entered: Option<Entered>,
     ) -> Result<(), Wrong> {
-        if value != entered.told {
-            return Err(Wrong::Answer(reply.end));
-        }
-        if reply.moment != Some(entered.turn) {
-            return Err(Wrong::Moment(reply.end));
-        }
-        self.past.put(Place {
-            moment: entered.turn,
-            looks: false,
-            command,
-            told: Some(value),
-        })
-    }
-
-    /// A call that has only looked took place in the last of its turns after which the map gives
-    /// this value.
-    fn looked(&mut self, reply: &Reply, command: Command, value: Option<u64>) -> Result<(), Wrong> {
-        let moment = self
-            .past
-            .last_telling(command, value, (reply.begin, reply.end))?
-            .ok_or(Wrong::Answer(reply.end))?;
+        let wrong = Wrong::Answer(reply.end);
+        let looks = !enters(command, value);
+        let moment = match entered {
+            Some(entered) if !looks => entered.turn_of(value).ok_or(wrong)?,
+            None if looks => {
+                let turns = (reply.begin, reply.end);
+                self.past.last_telling(command, value, turns)?.ok_or(wrong)?
+            }
+            _ => return Err(Wrong::Entry(reply.end)),
+        };
         if reply.moment != Some(moment) {
             return Err(Wrong::Moment(reply.end));
         }
+        let told = Some(value);
         self.past.put(Place {
             moment,
-            looks: true,
+            looks,
             command,
-            told: Some(value),
+            told,
         })
     }
 
@@ -267,8 +263,11 @@ impl<'a> Seen<'a> {
     }
 }
 
-/// A refused call took place nowhere.
-fn refused(reply: &Reply) -> Result<(), Wrong> {
+/// A refused call has no entry and took place nowhere.
+fn refused(reply: &Reply, entered: Option<Entered>) -> Result<(), Wrong> {
+    if entered.is_some() {
+        return Err(Wrong::Entry(reply.end));
+    }
     match reply.moment {
         Some(_) => Err(Wrong::Moment(reply.end)),
         None => Ok(()),

@@ -183,7 +183,7 @@ fn other_answers_are_found(rt: HostRuntime) -> Result<(), Fail> {
         (Edit::Value((1, 0), Some(51)), Wrong::Moment(100)),
         (Edit::Value((1, 1), Some(50)), Wrong::Answer(107)),
         (Edit::Answer((0, 1), full), Wrong::Entry(99)),
-        (Edit::Answer((1, 1), full), Wrong::Entry(107)),
+        (Edit::Answer((1, 1), full), Wrong::Answer(107)),
     ];
     are_found(&rt, rt.alloc(), &edits)
 }
