@@ -167,17 +167,24 @@ impl<'a> Seen<'a> {
         if self.owed.take() != Some(*entry) {
             return Err(wrong);
         }
-        let command = call_of(self.script, entry.client, entry.call).ok_or(wrong)?;
-        let client = self.clients.get_mut(entry.client.0 as usize).ok_or(wrong)?;
-        let runs = client.begun.is_some() && client.answered == entry.call;
-        if !runs || client.entered.is_some() || !may_change(command) {
-            return Err(wrong);
-        }
-        let told = self.past.change(entry.step, command)?;
+        let command = self.entering(entry).ok_or(wrong)?;
         let turn = entry.step;
-        client.entered = Some(Entered { turn, told });
+        let told = self.past.change(turn, command)?;
+        self.replay.finalize(entry.scx)?;
         self.entries = entry.place;
-        self.replay.finalize(entry.scx)
+        let client = self.clients.get_mut(entry.client.0 as usize).ok_or(wrong)?;
+        client.entered = Some(Entered { turn, told });
+        Ok(())
+    }
+
+    /// The call that an entry is of, if that runs and has none yet.
+    fn entering(&self, entry: &Entry) -> Option<Command> {
+        let client = self.clients.get(entry.client.0 as usize)?;
+        let runs = client.begun.is_some() && client.answered == entry.call;
+        if !runs || client.entered.is_some() {
+            return None;
+        }
+        call_of(self.script, entry.client, entry.call).filter(|command| may_change(*command))
     }
 
     /// The reply is of the call that its client has made, and says how that went.

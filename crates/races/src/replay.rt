@@ -103,7 +103,8 @@ impl Replay {
             (3, removed / 8),
         ] {
             if bits % 2 == 1 {
-                self.finalized.push(self.scx(scx, ScxWord::Member(member)))?;
+                let node = self.scx(scx, ScxWord::Member(member));
+                self.finalized.push(node)?;
             }
         }
         Ok(())

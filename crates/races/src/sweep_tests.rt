@@ -66,11 +66,11 @@ fn a_stopped_client_goes_on_at_last(rt: HostRuntime) -> Result<(), Fail> {
     sweep(&rt, rt.alloc(), Then::Finishes)
 }
 
-/// The other one stops too: in its walk, in its first look at the node above, just before the update
-/// that it helps to make, behind that, and in its own SCX.
+/// The other one stops too: behind its walk, in its look at the node above, just before the update
+/// that it helps to make, behind that, and just before its own.
 #[test]
 fn each_of_two_stops(rt: HostRuntime) -> Result<(), Fail> {
-    for steps in [6, 12, 23, 26, 45] {
+    for steps in [7, 12, 23, 26, 43] {
         sweep(&rt, rt.alloc(), Then::FinishesBetween(steps))?;
     }
     Ok(())
