@@ -1,12 +1,12 @@
 //! A check of a record by means of its own: the rows are made again over plain words, and the calls
 //! over a plain map.
-use crate::call::{call_of, enters, may_change};
+use crate::call::MapCall;
 use crate::past::{Past, Place};
 use crate::replay::Replay;
 use crate::wrong::Wrong;
 use arena::{PassNo, ScxNo, ScxWord};
 use record::{Answer, Entry, Line, Record, Reply, Row};
-use script::{Command, Script};
+use script::Script;
 use std::alloc::Global;
 
 /// What the lines so far say of a client.
@@ -129,7 +129,8 @@ impl<'a> Seen<'a> {
         let script = self.script;
         let clients = &mut self.clients;
         let state = clients.get_mut(client.0 as usize).ok_or(wrong)?;
-        let next = call_of(script, client, state.answered).map(|_| state.answered);
+        let answered = state.answered;
+        let next = MapCall::of(script, client, answered).map(|_| answered);
         if self.turn.checked_add(1) != Some(number) || next != call {
             return Err(wrong);
         }
@@ -167,9 +168,9 @@ impl<'a> Seen<'a> {
         if self.owed.take() != Some(*entry) {
             return Err(wrong);
         }
-        let command = self.entering(entry).ok_or(wrong)?;
+        let call = self.entering(entry).ok_or(wrong)?;
         let turn = entry.step;
-        let told = self.past.change(turn, command)?;
+        let told = self.past.change(turn, call)?;
         self.replay.finalize(entry.scx)?;
         self.entries = entry.place;
         let client = self.clients.get_mut(entry.client.0 as usize).ok_or(wrong)?;
@@ -178,20 +179,20 @@ impl<'a> Seen<'a> {
     }
 
     /// The call that an entry is of, if that runs and has none yet.
-    fn entering(&self, entry: &Entry) -> Option<Command> {
+    fn entering(&self, entry: &Entry) -> Option<MapCall> {
         let client = self.clients.get(entry.client.0 as usize)?;
         let runs = client.begun.is_some() && client.answered == entry.call;
         if !runs || client.entered.is_some() {
             return None;
         }
-        call_of(self.script, entry.client, entry.call).filter(|command| may_change(*command))
+        MapCall::of(self.script, entry.client, entry.call).filter(|call| call.may_change())
     }
 
     /// The reply is of the call that its client has made, and says how that went.
     fn reply(&mut self, reply: &Reply) -> Result<(), Wrong> {
         self.has_entry()?;
         let wrong = Wrong::Reply(self.turn);
-        let command = call_of(self.script, reply.client, reply.call).ok_or(wrong)?;
+        let call = MapCall::of(self.script, reply.client, reply.call).ok_or(wrong)?;
         let client = self.clients.get_mut(reply.client.0 as usize).ok_or(wrong)?;
         let said = (reply.call, Some(reply.begin), reply.end);
         if said != (client.answered, client.begun, self.turn) || client.last != self.turn {
@@ -200,18 +201,18 @@ impl<'a> Seen<'a> {
         let entered = client.entered.take();
         client.begun = None;
         client.answered = client.answered.checked_add(1).ok_or(wrong)?;
-        self.answer(reply, command, entered)
+        self.answer(reply, call, entered)
     }
 
     fn answer(
         &mut self,
         reply: &Reply,
-        command: Command,
+        call: MapCall,
         entered: Option<Entered>,
     ) -> Result<(), Wrong> {
         match reply.answer {
-            Answer::Value(value) => self.took_place(reply, command, value, entered),
-            Answer::Contended { .. } | Answer::Full { .. } if may_change(command) => {
+            Answer::Value(value) => self.took_place(reply, call, value, entered),
+            Answer::Contended { .. } | Answer::Full { .. } if call.may_change() => {
                 refused(reply, entered)
             }
             _ => Err(Wrong::Answer(reply.end)),
@@ -223,17 +224,17 @@ impl<'a> Seen<'a> {
     fn took_place(
         &mut self,
         reply: &Reply,
-        command: Command,
+        call: MapCall,
         value: Option<u64>,
         entered: Option<Entered>,
     ) -> Result<(), Wrong> {
         let wrong = Wrong::Answer(reply.end);
-        let looks = !enters(command, value);
+        let looks = !call.enters(value);
         let moment = match entered {
             Some(entered) if !looks => entered.turn_of(value).ok_or(wrong)?,
             None if looks => {
                 let turns = (reply.begin, reply.end);
-                self.past.last_telling(command, value, turns)?.ok_or(wrong)?
+                self.past.last_telling(call, value, turns)?.ok_or(wrong)?
             }
             _ => return Err(Wrong::Entry(reply.end)),
         };
@@ -244,7 +245,7 @@ impl<'a> Seen<'a> {
         self.past.put(Place {
             moment,
             looks,
-            command,
+            call,
             told,
         })
     }
@@ -256,12 +257,12 @@ impl<'a> Seen<'a> {
             let Some(client) = self.clients.get(number as usize) else {
                 continue;
             };
-            let command = call_of(self.script, PassNo(number), client.answered);
-            if let (Some(entered), Some(command)) = (client.entered, command) {
+            let call = MapCall::of(self.script, PassNo(number), client.answered);
+            if let (Some(entered), Some(call)) = (client.entered, call) {
                 past.put(Place {
                     moment: entered.turn,
                     looks: false,
-                    command,
+                    call,
                     told: None,
                 })?;
             }

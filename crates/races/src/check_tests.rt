@@ -1,11 +1,11 @@
 //! What the check finds in a record that is right but for one thing.
+use crate::call::MapCall;
 use crate::check::check;
 use crate::past::{Past, Place};
 use crate::race::played;
 use crate::wrong::Wrong;
 use arena::{Kind, NodeNo, NodeWord, PassNo, Resource, Word};
 use record::{Answer, Line, Record, Reply, Row};
-use script::Command;
 use std::alloc::Global;
 use std::process::Abort;
 use std::test::Fail;
@@ -236,13 +236,13 @@ fn change_and_look(alloc: Global, looked: u64) -> Result<Past, Wrong> {
     past.put(Place {
         moment: looked,
         looks: true,
-        command: Command::Get { key: 5 },
+        call: MapCall::Get { key: 5 },
         told: Some(Some(50)),
     })?;
     past.put(Place {
         moment: 7,
         looks: false,
-        command: Command::Insert { key: 5, value: 50 },
+        call: MapCall::Insert { key: 5, value: 50 },
         told: None,
     })?;
     Ok(past)

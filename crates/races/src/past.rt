@@ -1,8 +1,7 @@
 //! The changes of a run's map, and where calls stand among them.
-use crate::call::make;
+use crate::call::MapCall;
 use crate::plain_map::PlainMap;
 use crate::wrong::Wrong;
-use script::Command;
 use std::alloc::Global;
 
 /// A call that took place.
@@ -12,7 +11,7 @@ pub(crate) struct Place {
     pub(crate) moment: u64,
     /// Whether it only looked: it then comes behind the change of the same turn.
     pub(crate) looks: bool,
-    pub(crate) command: Command,
+    pub(crate) call: MapCall,
     /// The value that it answered, if it has answered.
     pub(crate) told: Option<Option<u64>>,
 }
@@ -22,7 +21,7 @@ pub(crate) struct Place {
 pub(crate) struct Past {
     alloc: Global,
     map: PlainMap,
-    changes: Vec<(u64, Command)>,
+    changes: Vec<(u64, MapCall)>,
     places: Vec<Place>,
 }
 
@@ -41,17 +40,17 @@ impl Past {
     }
 
     /// Changes the map by a call, in a turn, and tells what the call has to answer.
-    pub(crate) fn change(&mut self, turn: u64, command: Command) -> Result<Option<u64>, Wrong> {
-        self.changes.push((turn, command))?;
-        Ok(make(&mut self.map, command)?)
+    pub(crate) fn change(&mut self, turn: u64, call: MapCall) -> Result<Option<u64>, Wrong> {
+        self.changes.push((turn, call))?;
+        Ok(call.make(&mut self.map)?)
     }
 
     /// The map after a turn.
     fn map_after(&self, turn: u64) -> Result<PlainMap, Wrong> {
         let mut map = PlainMap::new(self.alloc);
-        for (changed, command) in self.changes.iter() {
+        for (changed, call) in self.changes.iter() {
             if *changed <= turn {
-                make(&mut map, *command)?;
+                call.make(&mut map)?;
             }
         }
         Ok(map)
@@ -60,13 +59,13 @@ impl Past {
     /// The last of these turns after which the map gives a call this value.
     pub(crate) fn last_telling(
         &self,
-        command: Command,
+        call: MapCall,
         value: Option<u64>,
         turns: (u64, u64),
     ) -> Result<Option<u64>, Wrong> {
         for turn in (turns.0..=turns.1).rev() {
             let mut map = self.map_after(turn)?;
-            if make(&mut map, command)? == value {
+            if call.make(&mut map)? == value {
                 return Ok(Some(turn));
             }
         }
@@ -85,7 +84,7 @@ impl Past {
         places.sort_by_key(|place| (place.moment, place.looks))?;
         let mut map = PlainMap::new(self.alloc);
         for place in places.iter() {
-            let told = make(&mut map, place.command)?;
+            let told = place.call.make(&mut map)?;
             if place.told.is_some() && place.told != Some(told) {
                 return Err(Wrong::Order(place.moment));
             }
