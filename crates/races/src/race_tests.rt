@@ -54,7 +54,7 @@ fn random_schedule(alloc: Global, random: &mut Random, clients: u64) -> Result<S
     Ok(text)
 }
 
-/// How many calls were answered with a value, how many were refused, and how many entries there are.
+/// How many calls told a value, how many were refused and why, and how many entries there are.
 #[derive(Clone, Copy, Debug, Default)]
 struct Counts {
     values: u64,
