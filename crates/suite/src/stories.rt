@@ -1,5 +1,8 @@
 //! Races and refusals as stories: what each client is answered, and how the report ends.
-use crate::program_tests::{lines_of, played};
+use crate::program_tests::{lines_of, played_in};
+use arena::Mode;
+use std::alloc::Global;
+use std::process::Abort;
 use std::test::Fail;
 
 /// Stories, with a line `==` between two of them, and a line `--` between two parts of one: its
@@ -318,6 +321,110 @@ end,1,,
 end,6,0,0,,,
 ";
 
+/// Stories of the tree, in the same form.
+const TREE_STORIES: &str = "\
+insert_of_a_present_key
+--
+The second insert tells the first one's value, and the get the second one's.
+--
+limits,1,10,10,3
+0,insert,5,50,
+0,insert,5,51,
+0,get,5,,
+end,3,,,
+--
+finish,0,,
+end,1,,
+--
+reply,0,0,1,48,47,none
+reply,0,1,49,93,92,some 50
+reply,0,2,94,100,100,some 51
+--
+end,100,3,2,,,
+==
+late_helper_loses_the_update
+--
+A helper is stopped before an update, comes back after it, and does no harm.
+--
+limits,2,20,20,3
+0,insert,5,50,
+0,insert,5,51,
+0,insert,5,52,
+1,insert,5,90,
+end,4,,,
+--
+call,0,,
+until,0,freeze,2
+until,1,mark,1
+step,1,,2
+call,0,,
+call,0,,
+finish,1,,
+end,7,,
+--
+reply,0,0,1,48,47,none
+reply,0,1,49,116,115,some 50
+reply,0,2,117,161,160,some 51
+reply,1,0,88,210,209,some 52
+--
+end,210,4,4,,,
+==
+get_from_a_marked_leaf
+--
+A get loads its value from a leaf that is marked, and still in the tree.
+--
+limits,2,20,20,3
+0,insert,5,50,
+0,insert,5,51,
+1,get,5,,
+end,3,,,
+--
+call,0,,
+until,0,mark,1
+finish,1,,
+end,3,,
+--
+reply,0,0,1,48,47,none
+reply,1,0,90,96,96,some 50
+--
+end,96,2,1,,,
+==
+full_nodes
+--
+Of the client's nodes there are two, and the insert needs three.
+--
+limits,1,2,10,3
+0,insert,5,50,
+end,1,,,
+--
+finish,0,,
+end,1,,
+--
+reply,0,0,1,3,,full nodes 2
+--
+end,3,1,0,,,
+==
+full_share_of_one_client
+--
+One client's share is used up, and the other's is not.
+--
+limits,2,3,10,3
+0,insert,5,50,
+0,insert,6,60,
+1,insert,7,70,
+end,3,,,
+--
+finish,0,,
+finish,1,,
+end,2,,
+--
+reply,0,0,1,48,47,none
+reply,0,1,49,54,,full nodes 0
+reply,1,0,55,106,105,none
+--
+end,106,3,2,,,
+";
+
 /// A story by its parts.
 #[derive(Clone, Copy)]
 struct Story<'a> {
@@ -341,12 +448,12 @@ fn story_of(text: &str) -> Option<Story<'_>> {
     })
 }
 
-#[test]
-fn stories(rt: HostRuntime) -> Result<(), Fail> {
-    for text in STORIES.split("==\n") {
+/// Each story ends as it tells.
+fn end_as_told(rt: &impl Abort, alloc: Global, mode: Mode, stories: &str) -> Result<(), Fail> {
+    for text in stories.split("==\n") {
         let story = story_of(text).ok_or("a story lacks a part")?;
-        let ended = played(rt.alloc(), story.script, story.schedule);
-        let told = lines_of(rt.alloc(), ended.out.as_slice(), "reply,")?;
+        let ended = played_in(alloc, mode, story.script, story.schedule);
+        let told = lines_of(alloc, ended.out.as_slice(), "reply,")?;
         let name = story.name;
         assert_eq!(rt; ended.err.as_slice(), b"".as_slice(), "{name}");
         assert_eq!(rt; told.as_slice(), story.replies.as_bytes(), "{name}");
@@ -357,4 +464,14 @@ fn stories(rt: HostRuntime) -> Result<(), Fail> {
         assert_eq!(rt; ended.status, 0, "{name}");
     }
     Ok(())
+}
+
+#[test]
+fn stories(rt: HostRuntime) -> Result<(), Fail> {
+    end_as_told(&rt, rt.alloc(), Mode::Records, STORIES)
+}
+
+#[test]
+fn tree_stories(rt: HostRuntime) -> Result<(), Fail> {
+    end_as_told(&rt, rt.alloc(), Mode::Tree, TREE_STORIES)
 }
