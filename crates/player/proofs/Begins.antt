@@ -99,7 +99,7 @@ vlx_starts v began c m cells sound mode r u start some nodes l is left = record 
 }
 
 -- a get from its start
-pub get_starts : (v : ClientView) (began : Option ℕ) (c : Client) (m : GetRun) (key : ℕ) → IsSound v → v.layout.mode ≡ Tree → (r : Rests v c) → IsUnbegun v began → m.walk.key ≡ key → m.walk.at ≡ WalkStart → GetIsReady m (machine_call v c r.stands.is_pass v.past) v.past None → command_of v c ≡ Some (GetCommand key) → Starts v c (Get m) None
+pub get_starts : (v : ClientView) (began : Option ℕ) (c : Client) (m : GetRun) (key : ℕ) → IsSound v → v.layout.mode ≡ Tree → (r : Rests v c) → IsUnbegun v began → m.key ≡ key → m.walk.at ≡ WalkStart → GetIsReady m (machine_call v c r.stands.is_pass v.past) v.past None → command_of v c ≡ Some (GetCommand key) → Starts v c (Get m) None
 get_starts v began c m key sound mode r u at start ready is = record {
   works = record { mode = mode; stands = r.stands; holds = r.holds; newest = tt; command = GetCommand key; is = is; run_of = at; is_pass = r.stands.is_pass; start = v.past; since = ends_self v.past; begun = sym u.start; moments = λ j p. absurd (omega arith); alone = λ j p. absurd (omega arith); room = tt; opening = held c; took = taken_none v c.pass.0 (no_hand (held c)) u.start; won = u.won; late = λ turn e. none_late v.won turn c.begin u.won e };
   none = r.none;

@@ -406,7 +406,7 @@ ends_as v c command answer is stands holds none o late = record {
 -- The end of a get
 
 -- its answer stood at a moment of the call, and it leaves the snapshots
-get_outcome : (v : ClientView) (c : Client) (m : GetRun) (command : Command) (then : Option Put) (a : Option ℕ) → IsGetOf command m.walk.key then → IsAnswerAt v.layout v.past v.start m.walk.key a → v.won ≡ None → HasTakenAtMost v.layout c.pass.0 v.past v.start 0 0 → IsOutcome v c.pass.0 [] command (Value a)
+get_outcome : (v : ClientView) (c : Client) (m : GetRun) (command : Command) (then : Option Put) (a : Option ℕ) → IsGetOf command m.key then → IsAnswerAt v.layout v.past v.start m.key a → v.won ≡ None → HasTakenAtMost v.layout c.pass.0 v.past v.start 0 0 → IsOutcome v c.pass.0 [] command (Value a)
 get_outcome v c m (GetOf key) None a of x won took = record { answers = tt; right = rw (sym of) x; entry = entered_none v.won won; tells = tt; took = took; drops = record { gone = λ n z. absurd (among_none n z); others = λ n z. refl } }
 get_outcome v c m (GetOf key) (Some put) a of x won took = absurd of
 get_outcome v c m (LlxOf cell) then a of x won took = absurd of
@@ -418,7 +418,7 @@ get_outcome v c m (InsertOf key value) then a of x won took = absurd of
 ends_get : (v : ClientView) (c : Client) (run : Run) (then : Option Put) (a : Option ℕ) → IsSound v → Answered v c run then (ended.Get a) → Ends v c c (answer_of (ended.Get a))
 ends_get v c (Get m) then a sound x =
     let call = machine_call v c x.works.is_pass x.works.start in
-    let at = subst (λ (k : History). IsAnswerAt v.layout v.past k m.walk.key a) x.works.begun (get_says m call v.past a x.answers) in
+    let at = subst (λ (k : History). IsAnswerAt v.layout v.past k m.key a) x.works.begun (get_says m call v.past a x.answers) in
     let o = get_outcome v c m x.works.command then a x.works.run_of at x.works.won (taken_nothing v c.pass.0 (held c) 0 0 x.works.holds.share x.works.took) in
     ends_as v c x.works.command (Value a) x.works.is x.works.stands x.works.holds x.none o x.works.late
 ends_get v c (Llx m) then a sound x = absurd x.answers
@@ -430,7 +430,7 @@ ends_get v c (Insert m) then a sound x = absurd x.answers
 
 -- what it answers, as the rules of the command say
 insert_outcome : (v : ClientView) (c : Client) (m : UpdateRun Inserted) (command : Command) (then : Option Put) (a : Updated) → IsInsertOf command c.number m then → IsInsertEnd v c.pass.0 m.edit.key a → HasTakenAtMost v.layout c.pass.0 v.past v.start (v.tries * 3) v.tries → IsOutcome v c.pass.0 [] command (answer_of (ended.Insert a))
-insert_outcome v c m (InsertOf key value) None (UpdateDone old) of x took = record { answers = tt; right = tt; entry = entered_some v.won x.0.0 x.0.1; tells = subst (λ (k : ℕ). HasInserted v c.pass.0 k old) of.0 x.1; took = took; drops = record { gone = λ n z. absurd (among_none n z); others = λ n z. refl } }
+insert_outcome v c m (InsertOf key value) None (UpdateDone found) of x took = record { answers = tt; right = tt; entry = entered_some v.won x.0.0 x.0.1; tells = subst (λ (k : ℕ). HasInserted v c.pass.0 k found.value) of.0 x.1; took = took; drops = record { gone = λ n z. absurd (among_none n z); others = λ n z. refl } }
 insert_outcome v c m (InsertOf key value) None (UpdateContended node scx) of x took = record { answers = tt; right = x.1; entry = entered_none v.won x.0; tells = tt; took = took; drops = record { gone = λ n z. absurd (among_none n z); others = λ n z. refl } }
 insert_outcome v c m (InsertOf key value) None (UpdateFull full) of x took = record { answers = tt; right = subst (λ (k : ℕ). InsertIsRight k v.layout c.pass.0 v.past v.start v.linked (Full full.what full.left)) of.0 x.1; entry = entered_none v.won x.0; tells = tt; took = took; drops = record { gone = λ n z. absurd (among_none n z); others = λ n z. refl } }
 insert_outcome v c m (InsertOf key value) (Some put) a of x took = absurd of

@@ -25,7 +25,7 @@ use Rattle.player.proofs.Shapes.{as_tree}
 
 -- an insert that is done tells what its own row has found; one that is refused has entered nothing
 abbrev pub IsInsertEnd : ClientView → ℕ → ℕ → Updated → Type 0
-IsInsertEnd v c key (Done old) = ((turn : ℕ) × (v.won ≡ Some turn)) × HasInserted v c key old
+IsInsertEnd v c key (Done found) = ((turn : ℕ) × (v.won ≡ Some turn)) × HasInserted v c key found.value
 IsInsertEnd v c key (Contended node scx) = (v.won ≡ None) × InsertIsRight key v.layout c v.past v.start v.linked (ContendedAnswer node scx)
 IsInsertEnd v c key (Full full) = (v.won ≡ None) × InsertIsRight key v.layout c v.past v.start v.linked (FullAnswer full.what full.left)
 
@@ -46,8 +46,8 @@ had_at_key call h key f small run x =
     (own.row, own.before, own.since, subst (λ (k : History). IsAnswerAt call.layout h k key f.value) own.is at)
 
 pub insert_end : (v : ClientView) (c : Client) (m : UpdateRun Inserted) (is_pass : c.pass.0 < v.layout.passes) (a : Updated) → m.edit.key < 2 ^ 64 → v.layout.mode ≡ Tree → IsSound v → IsWonSince v c.pass.0 → UpdateAnswers insert_means m (machine_call v c is_pass v.start) v.past a → IsInsertEnd v c.pass.0 m.edit.key a
-insert_end v c m is_pass (Done old) small mode sound won (rests, inl x) = absurd (something x.found.value x.needless)
-insert_end v c m is_pass (Done old) small mode sound won (rests, inr (x, needed)) =
+insert_end v c m is_pass (Done found) small mode sound won (rests, inl x) = absurd (something found.value x.needless)
+insert_end v c m is_pass (Done found) small mode sound won (rests, inr (x, needed)) =
     let win : IsOwnWin v c.pass.0 x.row x.before x.scx = record { within = x.within; since = x.since; wins = x.wins; own = x.own } in
     (won.yes x.row x.before x.scx win, record { row = x.row; before = x.before; scx = x.scx; win = win; told = x.told })
 insert_end v c m is_pass (Contended node scx) small mode sound won (rests, x) = (unwon v c.pass.0 x.2 won, (x.0.others, x.0.in_the_way))

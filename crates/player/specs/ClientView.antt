@@ -149,7 +149,7 @@ IsMachineOf command number (Llx m) then = (m.node.0 ≤ 8) × IsLlxOf command m.
 IsMachineOf command number (Scx m) then = IsScxOf command number m then
 IsMachineOf command number (Vlx m) then = IsVlxOf command m.snaps then
 IsMachineOf command number (Insert m) then = (m.edit.key < 2 ^ 64) × IsInsertOf command number m then
-IsMachineOf command number (Get m) then = IsGetOf command m.walk.key then
+IsMachineOf command number (Get m) then = IsGetOf command m.key then
 
 -- a client between two turns, but for its machine: its next call is the first that is not answered
 pub record IsClientState (v : ClientView) (c : Client) (hand : Hand) : Type 0 where

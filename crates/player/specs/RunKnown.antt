@@ -59,7 +59,7 @@ answer_of (ended.Scx ScxDone) = Done
 answer_of (ended.Scx (ScxLost node scx)) = Lost node scx
 answer_of (ended.Vlx VlxSame) = Same
 answer_of (ended.Vlx (VlxChanged node scx)) = Changed node scx
-answer_of (ended.Insert (UpdateDone old)) = Value old
+answer_of (ended.Insert (UpdateDone found)) = Value found.value
 answer_of (ended.Insert (UpdateContended node scx)) = Contended node scx
 answer_of (ended.Insert (UpdateFull full)) = Full full.what full.left
 answer_of (ended.Get value) = Value value
@@ -70,7 +70,7 @@ IsSameMachine (Llx old) (Llx now) = now.node ≡ old.node
 IsSameMachine (Scx old) (Scx now) = (now.scx.scx ≡ old.scx.scx) × (now.scx.update ≡ old.scx.update) × (now.scx.call ≡ old.scx.call) × (now.value ≡ old.value)
 IsSameMachine (Vlx old) (Vlx now) = now.snaps ≡ old.snaps
 IsSameMachine (Insert old) (Insert now) = (now.edit ≡ old.edit) × (now.call ≡ old.call)
-IsSameMachine (Get old) (Get now) = now.walk.key ≡ old.walk.key
+IsSameMachine (Get old) (Get now) = now.key ≡ old.key
 IsSameMachine _ _ = ⊥
 
 -- the mode in whose scripts the machine runs

@@ -28,6 +28,7 @@ use Rattle.spelling.specs.TreeShape.{TreeAllows}
 use Rattle.template.specs.Walk.Laws.{walk_keeps, walk_lawful, walk_made, walk_told}
 use Rattle.template.proofs.Lemmas.{tracks_by_others, tracks_by_scx, walk_fills_not}
 use Rattle.template.specs.declared.walk.Found.{Found}
+use Rattle.template.specs.declared.walk.Goal.{Goal}
 use Rattle.updates.specs.declared.edit.Need.{Need}
 use Rattle.updates.specs.declared.edit.Need.TheVariants.{Nothing, One, Three}
 use Rattle.updates.specs.declared.edit.Nth.{Nth}
@@ -62,8 +63,8 @@ field_may_more Marked P Q f x = tt
 module _ {E : Type 0} (e : EditMeaning E) where
   -- Rows of other passes
 
-  walks_by_others : (m : UpdateRun E) (c : Call) (h : History) (r : Row) (key : ℕ) → IsRun TreeAllows c.layout (r ⊳ h) → r.pass.0 ≢ c.pass → Walks e m c h key → Walks e m c (r ⊳ h) key
-  walks_by_others m c h r key run other x =
+  walks_by_others : (m : UpdateRun E) (c : Call) (h : History) (r : Row) (goal : Goal) → IsRun TreeAllows c.layout (r ⊳ h) → r.pass.0 ≢ c.pass → Walks e m c h goal → Walks e m c (r ⊳ h) goal
+  walks_by_others m c h r goal run other x =
       let rests : RestsWith c (r ⊳ h) m.share = rests_by_others c h r m.share run.lawful other x.rests in
       record { small = x.small; rests = rests; quiet = quiet_rests c h r m.share run.lawful rests x.quiet; same = x.same }
 
@@ -95,7 +96,7 @@ module _ {E : Type 0} (e : EditMeaning E) where
     own = x.own;
     own_scx = x.own_scx;
     over = over_more c.layout c.pass scx.scx.0 h r run.lawful (takes_by_others c.layout c.pass scx.scx.0 h r run.lawful other) x.over;
-    tracks = tracks_by_others c.layout c.pass h r (job_of scx) (e.edit m.edit) run.lawful other x.own_scx x.tracks;
+    tracks = tracks_by_others c.layout c.pass h r (job_of scx) (e.edit m.edit f) run.lawful other x.own_scx x.tracks;
     only = only_more c.layout c.pass scx.scx.0 h r c.start run.lawful x.over x.only;
     found = x.found;
     need = x.need;
@@ -106,7 +107,7 @@ module _ {E : Type 0} (e : EditMeaning E) where
 
   kept_at : (m : UpdateRun E) (c : Call) (h : History) (s : Step) (r : Row) (at : UpdateAt) → IsRun TreeAllows c.layout (r ⊳ h) → r.pass.0 ≢ c.pass → UpdateWaitsAt e m c h s at → UpdateWaitsAt e m c (r ⊳ h) s at
   kept_at m c h s r Start run other w = w
-  kept_at m c h s r (Walk walk) run other w = (walks_by_others m c h r walk.key run other w.0, walk_keeps walk c h s r run other w.1)
+  kept_at m c h s r (Walk walk) run other w = (walks_by_others m c h r walk.goal run other w.0, walk_keeps walk c h s r run other w.1)
   kept_at m c h s r (Look f llx) run other w = (w.0, looks_by_others m c h r f llx w.0 run other w.1, llx_keeps TreeAllows llx (from c w.0) h s r run other w.2)
   kept_at m c h s r (Load f nth part) run other w = (
     record { works = works_more e m c h r f nth run (idle_over c (r ⊳ h) run.lawful (full_by_others m c h r f nth run other w.0.full).over) w.0.works; full = full_by_others m c h r f nth run other w.0.full; hand = w.0.hand; wanted = w.0.wanted; settled = w.0.settled },
@@ -142,8 +143,8 @@ module _ {E : Type 0} (e : EditMeaning E) where
 
   -- Its own row
 
-  walks_by_step : (m : UpdateRun E) (c : Call) (h : History) (r : Row) (key : ℕ) → IsRun TreeAllows c.layout (r ⊳ h) → r.kind ≢ FillKind → Walks e m c h key → Walks e m c (r ⊳ h) key
-  walks_by_step m c h r key run no_fill x =
+  walks_by_step : (m : UpdateRun E) (c : Call) (h : History) (r : Row) (goal : Goal) → IsRun TreeAllows c.layout (r ⊳ h) → r.kind ≢ FillKind → Walks e m c h goal → Walks e m c (r ⊳ h) goal
+  walks_by_step m c h r goal run no_fill x =
       let rests : RestsWith c (r ⊳ h) m.share = rests_by_step c h r m.share run.lawful no_fill x.rests in
       record { small = x.small; rests = rests; quiet = quiet_rests c h r m.share run.lawful rests x.quiet; same = x.same }
 
@@ -225,7 +226,7 @@ module _ {E : Type 0} (e : EditMeaning E) where
     own = x.own;
     own_scx = x.own_scx;
     over = over_more c.layout c.pass scx.scx.0 h (row_of c s h) run.lawful (λ t own d free. untaken_at TreeAllows (job_of scx) (from c begin) h scx.at s t w d free) x.over;
-    tracks = tracks_by_scx (from c begin) h scx s (e.edit m.edit) run x.run.1 w x.tracks;
+    tracks = tracks_by_scx (from c begin) h scx s (e.edit m.edit f) run x.run.1 w x.tracks;
     only = only_more c.layout c.pass scx.scx.0 h (row_of c s h) c.start run.lawful x.over x.only;
     found = x.found;
     need = x.need;
@@ -236,7 +237,7 @@ module _ {E : Type 0} (e : EditMeaning E) where
 
   made_at : (m : UpdateRun E) (c : Call) (h : History) (s : Step) (v : ℕ) (at : UpdateAt) → IsRun TreeAllows c.layout (row_of c s h ⊳ h) → IsTold s.access (value h s.word) v → UpdateWaitsAt e m c h s at → UpdateIsToldAt e m c (row_of c s h ⊳ h) v at
   made_at m c h s v Start run t w = w
-  made_at m c h s v (Walk walk) run t w = (walks_by_step m c h (row_of c s h) walk.key run (walk_fills_not walk c h s w.1) w.0, walk_made walk c h s v run t w.1)
+  made_at m c h s v (Walk walk) run t w = (walks_by_step m c h (row_of c s h) walk.goal run (walk_fills_not walk c h s w.1) w.0, walk_made walk c h s v run t w.1)
   made_at m c h s v (Look f llx) run t w = (w.0, looks_by_step m c h (row_of c s h) f llx w.0 run (llx_fills_not TreeAllows llx (from c w.0) h s w.2) w.1, llx_made TreeAllows llx (from c w.0) h s v run t w.2)
   made_at m c h s v (Load f nth part) run t w = (loads_made m c h s f nth part run w.1 w.0, load_told c h LoadSettled (node (copied e m f) part) s v w.1 t)
   made_at m c h s v (Fill f nth part) run t w = fills_then m c h f nth part s w.3 run w.0 w.1 w.2
