@@ -159,7 +159,6 @@ module _ {E : Type 0} (e : EditMeaning E) where
       full = x.fills.full;
       hand = record { lowest = x.fills.hand.lowest; highest = x.fills.hand.highest };
       done = x.fills.done;
-      fill = x.fills.fill;
       part_is = x.fills.part_is;
     },
     x.may,

@@ -18,7 +18,6 @@ use Rattle.arena.specs.Log.{Entry, log}
 use Rattle.arena.specs.Machines.{Call, MatchTurn}
 use Rattle.arena.specs.Share.{Remaining}
 use Rattle.arena.specs.Words.{node}
-use Rattle.histories.proofs.Lemmas.{IsNodeFill}
 use Rattle.prims.specs.Laws.Idle.{IsQuietSince}
 use Rattle.prims.specs.Llx.Known.{load, IsSnapshot, LlxIsReady, LlxWaits}
 use Rattle.prims.specs.Moments.{AreFinished}
@@ -264,7 +263,6 @@ module _ {E : Type 0} (e : EditMeaning E) where
     pub full : AreFull m c h f nth
     pub hand : IsInHand m f nth
     pub done : e.wants m.edit f m.snaps.items m.loaded nth ≡ None
-    pub fill : IsNodeFill part
     pub part_is : IsPieceWord (piece m f (nth_node m.nodes nth).0) part
 
   -- that word is filled, as those before it

@@ -41,7 +41,7 @@ use Rattle.updates.specs.Edits.{EditMeaning}
 use Rattle.updates.specs.Steps.{UpdateFitsAt, UpdateFits}
 use Rattle.updates.specs.Pieces.{HasPlace, nth_node, word_of}
 use Rattle.updates.specs.Known.{IsNeeded, RestsWith, Looks, Loads, Fills, Scxs, Walks, fill_step, UpdateWaitsAt, UpdateIsToldAt, UpdateWaits, UpdateIsReady, piece, top, copied}
-use Rattle.updates.specs.Laws.Hand.{IsBefore, IsUpTo, HoldsWords, HasFilledTo, IsForField, FieldMay, by_others, by_load, filled_more, words_by_others, words_more, taken_now, may_fill}
+use Rattle.updates.specs.Laws.Hand.{IsBefore, IsUpTo, HoldsWords, HasFilledTo, IsForField, FieldMay, piece_fill, by_others, by_load, filled_more, words_by_others, words_more, taken_now, may_fill}
 use Rattle.updates.specs.Laws.HandScx.{from}
 use Rattle.updates.specs.Laws.Kept.{idle_over, quiet_rests, rests_by_others, rests_by_step, looked_more, works_more}
 use Rattle.updates.specs.Laws.Entered.{only_more}
@@ -114,7 +114,7 @@ module _ {E : Type 0} (e : EditMeaning E) where
     w.1,
   )
   kept_at m c h s r (Fill f nth part) run other w = (
-    record { works = works_more e m c h r f nth run (idle_over c (r ⊳ h) run.lawful (full_by_others m c h r f nth run other w.0.full).over) w.0.works; full = full_by_others m c h r f nth run other w.0.full; hand = w.0.hand; done = w.0.done; fill = w.0.fill; part_is = w.0.part_is },
+    record { works = works_more e m c h r f nth run (idle_over c (r ⊳ h) run.lawful (full_by_others m c h r f nth run other w.0.full).over) w.0.works; full = full_by_others m c h r f nth run other w.0.full; hand = w.0.hand; done = w.0.done; part_is = w.0.part_is },
     field_may_more part _ _ (for_field_more c.layout h r m.nodes.first.0 (top e m f) (word_of (piece e m f (nth_node m.nodes nth).0) part)) w.1,
     words_by_others c.layout h r c.pass m.share m.nodes.first.0 (top e m f) (piece e m f) c.is_pass run.lawful other (nth_node m.nodes nth).0 (piece e m f (nth_node m.nodes nth).0) (IsBefore part) w.0.full.hand w.0.hand.lowest w.0.hand.highest w.2,
     w.3,
@@ -134,7 +134,7 @@ module _ {E : Type 0} (e : EditMeaning E) where
   lawful_at m c h s (Load f nth part) run w = load_lawful TreeAllows c h LoadSettled (node (copied e m f) part) s run w.1 record { word = w.0.settled; same = refl } (λ q. cc) w.0.works.inside
   lawful_at m c h s (Fill f nth part) run w = fill_lawful TreeAllows c h (nth_node m.nodes nth).0 part (word_of (piece e m f (nth_node m.nodes nth).0) part) s run w.3
       (w.0.full.hand.own (nth_node m.nodes nth).0 w.0.hand.lowest w.0.hand.highest)
-      (may_fill c.layout h c.pass m.share m.nodes.first.0 (top e m f) (nth_node m.nodes nth).0 (piece e m f) part (word_of (piece e m f (nth_node m.nodes nth).0) part) w.0.fill w.0.hand.lowest w.0.hand.highest w.1 w.0.full)
+      (may_fill c.layout h c.pass m.share m.nodes.first.0 (top e m f) (nth_node m.nodes nth).0 (piece e m f) part (word_of (piece e m f (nth_node m.nodes nth).0) part) (piece_fill (piece e m f (nth_node m.nodes nth).0) part w.0.part_is) w.0.hand.lowest w.0.hand.highest w.1 w.0.full)
   lawful_at m c h s (Scx f scx) run w = scx_lawful TreeAllows scx (from c w.0) h s run w.2
 
   -- the step that an update waits for continues the run
@@ -200,15 +200,14 @@ module _ {E : Type 0} (e : EditMeaning E) where
         full = full;
         hand = x.hand;
         done = x.done;
-        fill = x.fill;
         part_is = x.part_is;
       },
-      words_more c.layout h r c.pass m.share m.nodes.first.0 (top e m f) n (piece e m f) part run.lawful refl refl x.fill x.hand.lowest x.hand.highest may x.full p refl words,
-      taken_now c.layout h r c.pass m.share m.nodes.first.0 (top e m f) n (piece e m f) part run.lawful refl refl x.fill x.hand.lowest x.hand.highest may x.full,
+      words_more c.layout h r c.pass m.share m.nodes.first.0 (top e m f) n (piece e m f) part run.lawful refl refl (piece_fill p part x.part_is) x.hand.lowest x.hand.highest may x.full p refl words,
+      taken_now c.layout h r c.pass m.share m.nodes.first.0 (top e m f) n (piece e m f) part run.lawful refl refl (piece_fill p part x.part_is) x.hand.lowest x.hand.highest may x.full,
     )
       where
         full : HasFilledTo c.layout (r ⊳ h) c.pass m.share m.nodes.first.0 (top e m f) n (piece e m f)
-        full = filled_more c.layout h r c.pass m.share m.nodes.first.0 (top e m f) n (piece e m f) part run.lawful refl refl x.fill x.hand.lowest x.hand.highest may x.full
+        full = filled_more c.layout h r c.pass m.share m.nodes.first.0 (top e m f) n (piece e m f) part run.lawful refl refl (piece_fill p part x.part_is) x.hand.lowest x.hand.highest may x.full
 
     fills_then : (s : Step) → s ≡ fill_step e m f nth part → IsRun TreeAllows c.layout (row_of c s h ⊳ h) → Fills e m c h f nth part → May → HoldsWords h n p (IsBefore part) → Then (row_of c s h ⊳ h)
     fills_then s asked run x may words = rw asked (fills_made (rw asked at run) x may words)
