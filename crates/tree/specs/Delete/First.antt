@@ -63,7 +63,7 @@ module _ {E : Type 0} (e : E) (c : Call) (f : Found) (needed : delete_need f.val
   own_found m run a = found_own c m f run a (has_key m a)
 
   -- so what was looked at then serves the delete of that
-  own_looked : (h : History) (snaps : List Snap) → IsTreeRun c.layout h → HasLooked (first_means {E}) c h e f snaps → HasLooked delete_means c h (delete_of f.key) f snaps
+  own_looked : (h : History) (snaps : List Snap) → IsTreeRun c.layout h → HasLooked (first_means {E = E}) c h e f snaps → HasLooked delete_means c h (delete_of f.key) f snaps
   own_looked h snaps run x = record {
     small = found_small 0 c h f run x.found (has_key h x.found);
     found = own_found h run x.found;
@@ -74,13 +74,13 @@ module _ {E : Type 0} (e : E) (c : Call) (f : Found) (needed : delete_need f.val
       own_snapped : (s : Snap) → HasSnapped c h Least f s → HasSnapped c h (ToKey f.key) f s
       own_snapped s u = record { moment = u.moment; within = u.within; since = u.since; found = own_found u.moment (run_since c.layout h u.moment run u.within) u.found; is = u.is }
 
-  own_filled : (h : History) (snaps : List Snap) (ns : Nodes) (ld : Loaded) → IsTreeRun c.layout h → HasFilledAll (first_means {E}) c h e f snaps ns ld → HasFilledAll delete_means c h (delete_of f.key) f snaps ns ld
+  own_filled : (h : History) (snaps : List Snap) (ns : Nodes) (ld : Loaded) → IsTreeRun c.layout h → HasFilledAll (first_means {E = E}) c h e f snaps ns ld → HasFilledAll delete_means c h (delete_of f.key) f snaps ns ld
   own_filled h snaps ns ld run x = record { looked = own_looked h snaps run x.looked; enough = x.enough; in_order = x.in_order; loaded = x.loaded; done = x.done; holds = x.holds }
 
-own_update : {E : Type 0} (e : E) (f : Found) (snaps : List Snap) (ns : Nodes) (u : Update) → IsUpdateFor (first_means {E}) e f snaps ns u → IsUpdateFor delete_means (delete_of f.key) f snaps ns u
+own_update : {E : Type 0} (e : E) (f : Found) (snaps : List Snap) (ns : Nodes) (u : Update) → IsUpdateFor (first_means {E = E}) e f snaps ns u → IsUpdateFor delete_means (delete_of f.key) f snaps ns u
 own_update e f snaps ns u x = record { covers = x.covers; plan = x.plan; old = x.old; fresh = x.fresh }
 
-first_bounds : {E : Type 0} → EditBounds (first_means {E})
+first_bounds : {E : Type 0} → EditBounds (first_means {E = E})
 first_bounds = record {
   few_looks = λ e f snaps n at. delete_bounds.few_looks (delete_of f.key) f snaps n at;
   small = delete_bounds.small;
@@ -89,7 +89,7 @@ first_bounds = record {
   fill_works = λ e f snaps ld nth place d ns. delete_bounds.fill_works (delete_of f.key) f snaps ld nth place d ns;
 }
 
-first_look : {E : Type 0} → LooksWell (first_means {E})
+first_look : {E : Type 0} → LooksWell (first_means {E = E})
 first_look {E} = record {
   opens = λ e c h f snaps n run d x at. delete_look.opens (delete_of f.key) c h f snaps n run d (own_looked e c f d h snaps run x) at;
   stood = λ e c h f snaps n run d x at. delete_look.stood (delete_of f.key) c h f snaps n run d (own_looked e c f d h snaps run x) at;
@@ -97,17 +97,17 @@ first_look {E} = record {
   copied = λ e c h f snaps run d x enough. delete_look.copied (delete_of f.key) c h f snaps run d (own_looked e c f d h snaps run x) enough;
 }
 
-first_loads : {E : Type 0} → LoadsWell (first_means {E})
+first_loads : {E : Type 0} → LoadsWell (first_means {E = E})
 first_loads = record {
   settled = λ e f snaps ld nth part d n. delete_loads.settled (delete_of f.key) f snaps ld nth part d n;
   steady_wants = λ e f snaps ld nth part d v i b. delete_loads.steady_wants (delete_of f.key) f snaps ld nth part d v i b;
   steady_pieces = λ e f snaps ld nth part d v i b ns. delete_loads.steady_pieces (delete_of f.key) f snaps ld nth part d v i b ns;
 }
 
-first_fills : {E : Type 0} → FillsWell (first_means {E})
+first_fills : {E : Type 0} → FillsWell (first_means {E = E})
 first_fills {E} = record { fields = λ e c h f snaps ns ld nth side run x enough n p. delete_fills.fields (delete_of f.key) c h f snaps ns ld nth side run (own_looked e c f (some_needed f.value nth n) h snaps run x) enough n p }
 
-first_makes : {E : Type 0} → MakesWell (first_means {E})
+first_makes : {E : Type 0} → MakesWell (first_means {E = E})
 first_makes {E} = record {
   some = λ e f. delete_makes.some (delete_of f.key) f;
   distinct = λ e c h f snaps run d x enough. delete_makes.distinct (delete_of f.key) c h f snaps run d (own_looked e c f d h snaps run x) enough;
@@ -116,5 +116,5 @@ first_makes {E} = record {
 }
 
 -- it is an edit that an update can make
-pub first_laws : {E : Type 0} → EditLaws (first_means {E})
+pub first_laws : {E : Type 0} → EditLaws (first_means {E = E})
 first_laws = record { at_found = λ e f. refl; bounds = first_bounds; looks = first_look; loads = first_loads; fills = first_fills; makes = first_makes }
