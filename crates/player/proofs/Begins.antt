@@ -89,6 +89,7 @@ llx_starts v began c m then command sound mode r u start i is f = record {
   none = r.none;
   spent = tt;
   ready = ready_at_start AllowsAll m (machine_call v c r.stands.is_pass v.past) v.past refl start (cell_opened v.layout v.past m.node.0 mode i) (all_idle v.layout v.past c.pass.0 (held c) _ _ sound.lawful r.holds.share r.holds.over);
+  tries = tt;
   few = λ taken i. let few = llx_few v.tries command m.node.0 then f taken in rw (u.steps, start) (omega arith);
 }
 
@@ -99,16 +100,18 @@ vlx_starts v began c m cells sound mode r u start some nodes l is left = record 
   none = r.none;
   spent = tt;
   ready = vlx_ready_first v.layout c.pass.0 c.number r.stands.is_pass v.past m.snaps m.asked start some (λ i p. let x = l i p in (x.0, x.2.usable)) (all_over v.layout v.past c.pass.0 (held c) _ _ r.holds.share r.holds.over);
+  tries = tt;
   few = λ taken i. omega (arith, u.steps, left);
 }
 
 -- a get from its start
-pub get_starts : (v : ClientView) (began : Option ℕ) (c : Client) (m : GetRun) (key : ℕ) → IsSound v → v.layout.mode ≡ Tree → (r : Rests v c) → IsUnbegun v began → m.walk.key ≡ key → m.walk.at ≡ WalkStart → GetIsReady m (machine_call v c r.stands.is_pass v.past) v.past None → command_of v c ≡ Some (GetCommand key) → Starts v c (Get m) None
+pub get_starts : (v : ClientView) (began : Option ℕ) (c : Client) (m : GetRun) (key : ℕ) → IsSound v → v.layout.mode ≡ Tree → (r : Rests v c) → IsUnbegun v began → m.key ≡ key → m.walk.at ≡ WalkStart → GetIsReady m (machine_call v c r.stands.is_pass v.past) v.past None → command_of v c ≡ Some (GetCommand key) → Starts v c (Get m) None
 get_starts v began c m key sound mode r u at start ready is = record {
   works = record { mode = mode; stands = r.stands; holds = r.holds; newest = tt; command = GetCommand key; is = is; run_of = at; is_pass = r.stands.is_pass; start = v.past; since = ends_self v.past; begun = sym u.start; moments = λ j p. absurd (omega arith); alone = λ j p. absurd (omega arith); room = tt; opening = held c; took = taken_none v c.pass.0 (no_hand (held c)) u.start; won = u.won; late = λ turn e. none_late v.won turn c.begin u.won e };
   none = r.none;
   spent = tt;
   ready = ready;
+  tries = tt;
   few = λ taken i. rw (u.steps, start) (omega arith);
 }
 
@@ -154,6 +157,7 @@ edit_starts v began c m share sound mode some r u had small share_is call start 
   none = r.none;
   spent = spent_start m v.tries some start;
   ready = ready_start m (machine_call v c r.stands.is_pass v.past) v.tries (mode, as_tree v.layout v.past mode sound) small rests start;
+  tries = start;
   few = λ taken i. rw u.steps (let e = left taken in let f = edit_few (edit_of m) v.tries taken in omega (arith, e, f));
 }
   where

@@ -398,7 +398,7 @@ ends_as v c command answer is stands holds none o late = record {
 -- The end of a get
 
 -- its answer stood at a moment of the call, and it leaves the snapshots
-get_outcome : (v : ClientView) (c : Client) (m : GetRun) (command : Command) (then : Option Put) (a : Option ℕ) → IsGetOf command m.walk.key then → IsAnswerAt v.layout v.past v.start m.walk.key a → v.won ≡ None → HasTakenAtMost v.layout c.pass.0 v.past v.start 0 0 → IsOutcome v c.pass.0 [] command (Value a)
+get_outcome : (v : ClientView) (c : Client) (m : GetRun) (command : Command) (then : Option Put) (a : Option ℕ) → IsGetOf command m.key then → IsAnswerAt v.layout v.past v.start m.key a → v.won ≡ None → HasTakenAtMost v.layout c.pass.0 v.past v.start 0 0 → IsOutcome v c.pass.0 [] command (Value a)
 get_outcome v c m (GetOf key) None a of x won took = record { answers = tt; right = rw (sym of) x; entry = entered_none v.won won; tells = tt; took = took; drops = record { gone = λ n z. absurd (among_none n z); others = λ n z. refl } }
 get_outcome v c m (GetOf key) (Some put) a of x won took = absurd of
 get_outcome v c m (LlxOf cell) then a of x won took = absurd of
@@ -411,7 +411,7 @@ get_outcome v c m (DeleteOf key) then a of x won took = absurd of
 ends_get : (v : ClientView) (c : Client) (run : Run) (then : Option Put) (a : Option ℕ) → IsSound v → Answered v c run then (ended.Get a) → Ends v c c (answer_of (ended.Get a))
 ends_get v c (Get m) then a sound x =
     let call = machine_call v c x.works.is_pass x.works.start in
-    let at = subst (λ (k : History). IsAnswerAt v.layout v.past k m.walk.key a) x.works.begun (get_says m call v.past a x.answers) in
+    let at = subst (λ (k : History). IsAnswerAt v.layout v.past k m.key a) x.works.begun (get_says m call v.past a x.answers) in
     let o = get_outcome v c m x.works.command then a x.works.run_of at x.works.won (taken_nothing v c.pass.0 (held c) 0 0 x.works.holds.share x.works.took) in
     ends_as v c x.works.command (Value a) x.works.is x.works.stands x.works.holds x.none o x.works.late
 ends_get v c (Llx m) then a sound x = absurd x.answers

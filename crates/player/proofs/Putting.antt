@@ -222,6 +222,7 @@ put_starts v linked c snaps removed field x kept m sound can some_node some_scx 
       (rw scx h.share.taken_scx) free
       (rw fresh (left_own_node v.layout v.past c.pass.0 (held c) _ _ (held c).next_node h.share own_node))
       (rw fresh h.share.taken_nodes) (rw fresh (h.share.unmentioned (held c).next_node own_node)) (rw fresh (h.share.untaken_nodes (held c).next_node own_node)) (all_over v.layout v.past c.pass.0 (held c) _ _ h.share h.over);
+  tries = tt;
   few = λ taken i. let few = can.few taken in omega (arith, bound);
 }
   where

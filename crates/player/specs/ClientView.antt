@@ -31,7 +31,7 @@ use Rattle.record.specs.declared.record.Answer.{Answer}
 use Rattle.script.specs.Cells.{cells_of}
 use Rattle.script.specs.Update.{update_cells, update_finalize, update_field, update_value}
 use Rattle.record.specs.declared.record.Answer.TheVariants.{Full, Value}
-use Rattle.player.specs.EditRuns.{edit_of, call_of, edit_command}
+use Rattle.player.specs.EditRuns.{IsUnbegunEdit, edit_of, call_of, edit_command}
 use Rattle.player.specs.declared.edit.EditRun.{EditRun}
 use Rattle.player.specs.declared.run.Run.{Run}
 use Rattle.player.specs.declared.run.Run.TheVariants.{Llx, Scx, Vlx, Edit, Get}
@@ -150,7 +150,7 @@ IsMachineOf command number (Llx m) then = (m.node.0 ≤ 8) × IsLlxOf command m.
 IsMachineOf command number (Scx m) then = IsScxOf command number m then
 IsMachineOf command number (Vlx m) then = IsVlxOf command m.snaps then
 IsMachineOf command number (Edit m) then = (edit_key (edit_of m) < 2 ^ 64) × IsEditOf command number m then
-IsMachineOf command number (Get m) then = IsGetOf command m.walk.key then
+IsMachineOf command number (Get m) then = IsGetOf command m.key then
 
 -- a client between two turns, but for its machine: its next call is the first that is not answered
 pub record IsClientState (v : ClientView) (c : Client) (hand : Hand) : Type 0 where
@@ -294,11 +294,17 @@ pub record Works (v : ClientView) (c : Client) (run : Run) (then : Option Put) :
 -- for and those of what follows it, are no more than the call may make, however many nodes are
 -- taken. A step that the machine waits for counts too.
 
+-- an edit of the map stands at its start, with as many tries as a call may make
+abbrev pub HasAllTries : Run → ℕ → Type 0
+HasAllTries (Edit m) tries = IsUnbegunEdit m tries
+HasAllTries _ tries = Unit {0}
+
 -- the machine has not asked for a step yet
 pub record Starts (v : ClientView) (c : Client) (run : Run) (then : Option Put) : Type 0 where
   pub works : Works v c run then
   pub none : c.running ≡ None
   pub ready : RunIsReady run (machine_call v c works.is_pass works.start) v.past None
+  pub tries : HasAllTries run v.tries
   pub spent : HasSpent works.opening v.tries run
   pub few : (taken : ℕ) → length (taken_nodes v.past) ≤ taken → v.steps + left_of run then taken ≤ most_steps works.command v.tries taken
 

@@ -58,7 +58,7 @@ answer_of (ended.Scx ScxDone) = Done
 answer_of (ended.Scx (ScxLost node scx)) = Lost node scx
 answer_of (ended.Vlx VlxSame) = Same
 answer_of (ended.Vlx (VlxChanged node scx)) = Changed node scx
-answer_of (ended.Edit (UpdateDone old)) = Value old
+answer_of (ended.Edit (UpdateDone found)) = Value found.value
 answer_of (ended.Edit (UpdateContended node scx)) = Contended node scx
 answer_of (ended.Edit (UpdateFull full)) = Full full.what full.left
 answer_of (ended.Get value) = Value value
@@ -69,7 +69,7 @@ IsSameMachine (Llx old) (Llx now) = now.node ≡ old.node
 IsSameMachine (Scx old) (Scx now) = (now.scx.scx ≡ old.scx.scx) × (now.scx.update ≡ old.scx.update) × (now.scx.call ≡ old.scx.call) × (now.value ≡ old.value)
 IsSameMachine (Vlx old) (Vlx now) = now.snaps ≡ old.snaps
 IsSameMachine (Edit old) (Edit now) = (edit_of now ≡ edit_of old) × (call_of now ≡ call_of old)
-IsSameMachine (Get old) (Get now) = now.walk.key ≡ old.walk.key
+IsSameMachine (Get old) (Get now) = now.key ≡ old.key
 IsSameMachine _ _ = ⊥
 
 -- the mode in whose scripts the machine runs

@@ -54,7 +54,7 @@ impl Ended {
             Ended::Scx(Scx::Lost { node, scx }) => Answer::Lost { node, scx },
             Ended::Vlx(Vlx::Same) => Answer::Same,
             Ended::Vlx(Vlx::Changed { node, scx }) => Answer::Changed { node, scx },
-            Ended::Edit(Updated::Done { old }) => Answer::Value(old),
+            Ended::Edit(Updated::Done { found }) => Answer::Value(found.value),
             Ended::Edit(Updated::Contended { node, scx }) => Answer::Contended { node, scx },
             Ended::Edit(Updated::Full(Full { what, left })) => Answer::Full { what, left },
             Ended::Get(value) => Answer::Value(value),

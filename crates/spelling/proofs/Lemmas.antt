@@ -13,3 +13,4 @@ pub use Rattle.spelling.proofs.Moved.{SameSettled, settled_rank, settled_toward,
 pub use Rattle.spelling.proofs.Next.{first, search_next, search_is}
 pub use Rattle.spelling.proofs.Maps.{get_above, inserted, insert_keeps, deleted, delete_keeps, edited_rises, same_values, successor_is, between_gives, between_rises}
 pub use Rattle.spelling.proofs.Rising.{rising_levels, held_stood}
+pub use Rattle.spelling.proofs.FirstLeaf.{walk_small, walk_left, walk_before, walk_own, walk_least}

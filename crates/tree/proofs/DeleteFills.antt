@@ -23,6 +23,7 @@ use Rattle.spelling.specs.TreeShape.{sibling_place}
 use Rattle.spelling.specs.TreeWords.{is_leaf}
 use Rattle.spelling.proofs.Lemmas.{held_stood}
 use Rattle.template.specs.declared.walk.Found.{Found}
+use Rattle.template.specs.declared.walk.Goal.TheVariants.{Key as ToKey}
 use Rattle.tree.specs.declared.delete.Delete.{Delete}
 use Rattle.tree.specs.Delete.Means.{delete_means, delete_need, delete_piece, sibling_of}
 use Rattle.tree.specs.Delete.Sound.{HasFour, copy_fields, few_places, has_four, loaded_head, usable_at}
@@ -81,7 +82,7 @@ module _ (m : UpdateRun Delete) (c : Call) (h : History) (f : Found) (nth : Nth)
       four : HasFour f m.snaps.items
       four = has_four m.edit f m.snaps.items x.works.enough x.works.looked.seen
 
-      u : HasSnapped c h m.edit.key f sibling
+      u : HasSnapped c h (ToKey m.edit.key) f sibling
       u = usable_at m.edit c h f m.snaps.items (sibling_place f.trail.side) (few_places f.trail.side) four x.works.looked
 
       named : IsInField c.layout u.moment sibling.node.0 → HasStoodInField u.moment sibling.node.0

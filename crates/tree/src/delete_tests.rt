@@ -1,7 +1,7 @@
 //! Deletes, step by step, and in races.
 use crate::story::Call::{Delete, Get, Insert};
 use crate::story::Turns::{Finish, Makes, Steps, Until, UpToReply};
-use crate::story::{Call, Made, Reply, contended, done, full, node, played, plays, scx, tells};
+use crate::story::{Call, Made, Reply, Told, contended, done, full, node, played, plays, scx, tells};
 use arena::Kind::{
     Commit, Fill, Freeze, LoadChild, LoadInfo, LoadMarked, LoadSettled, LoadState, Mark, SetFrozen,
     Update,
@@ -13,7 +13,6 @@ use arena::{Kind, Resource, ScxWord};
 use std::alloc::Global;
 use std::process::Abort;
 use std::test::Fail;
-use updates::Updated;
 
 /// The steps of a delete of 5, the only key, up to the last fill of the copy: a walk, four LLXs,
 /// and the load of the head of the sibling, which is above all keys.
@@ -101,7 +100,7 @@ fn links_the_copy() -> [Made; 33] {
 }
 
 /// The first insert of 5, alone.
-const FIRST: Reply = (0, 0, 1, 48, Some(47), Updated::Done { old: None });
+const FIRST: Reply = (0, 0, 1, 48, Some(47), Told::Done { old: None });
 
 #[test]
 fn the_only_key_is_deleted(rt: HostRuntime) -> Result<(), Fail> {

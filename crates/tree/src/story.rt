@@ -37,7 +37,26 @@ pub(crate) enum Turns {
 
 /// An answered call: whose it is, which of that client's, its first and its last step, its moment and
 /// the answer.
-pub(crate) type Reply = (u32, u64, u64, u64, Option<u64>, Updated);
+pub(crate) type Reply = (u32, u64, u64, u64, Option<u64>, Told);
+
+/// What a call answers: of one that is done what the key had.
+#[derive(Clone, Copy, Debug, PartialEq, Eq)]
+pub(crate) enum Told {
+    Done { old: Option<u64> },
+    Contended { node: NodeNo, scx: ScxNo },
+    Full(Full),
+}
+
+impl Told {
+    fn of(turn: Turn<Updated>) -> Turn<Told> {
+        Turn::Done(match turn {
+            Turn::Ask(step) => return Turn::Ask(step),
+            Turn::Done(Updated::Done { found }) => Told::Done { old: found.value },
+            Turn::Done(Updated::Contended { node, scx }) => Told::Contended { node, scx },
+            Turn::Done(Updated::Full(full)) => Told::Full(full),
+        })
+    }
+}
 
 /// A step: its kind, its word, and what that held before and after it.
 pub(crate) type Made = (Kind, Word, u64, u64);
@@ -56,16 +75,16 @@ struct Entry {
 /// No call of these stories, and none up to an answer, has as many steps.
 const MOST_STEPS: u32 = 1000;
 
-pub(crate) fn done(old: Option<u64>) -> Updated {
-    Updated::Done { old }
+pub(crate) fn done(old: Option<u64>) -> Told {
+    Told::Done { old }
 }
 
-pub(crate) fn full(what: Resource, left: u32) -> Updated {
-    Updated::Full(Full { what, left })
+pub(crate) fn full(what: Resource, left: u32) -> Told {
+    Told::Full(Full { what, left })
 }
 
-pub(crate) fn contended(node: u64, scx: u64) -> Updated {
-    Updated::Contended {
+pub(crate) fn contended(node: u64, scx: u64) -> Told {
+    Told::Contended {
         node: NodeNo(node),
         scx: ScxNo(scx),
     }
@@ -160,13 +179,13 @@ enum Run {
 }
 
 impl Run {
-    fn next(&mut self, got: Option<u64>) -> Turn<Updated> {
+    fn next(&mut self, got: Option<u64>) -> Turn<Told> {
         match self {
-            Run::Insert(run) => run.step(got),
-            Run::Delete(run) => run.step(got),
+            Run::Insert(run) => Told::of(Machine::<Tree>::next(run, got)),
+            Run::Delete(run) => Told::of(Machine::<Tree>::next(run, got)),
             Run::Get(run) => match Machine::<Tree>::next(run, got) {
                 Turn::Ask(step) => Turn::Ask(step),
-                Turn::Done(old) => Turn::Done(Updated::Done { old }),
+                Turn::Done(old) => Turn::Done(Told::Done { old }),
             },
         }
     }
@@ -233,7 +252,7 @@ impl Client {
     }
 
     /// Goes on with what the last step found: the answer, once it is there.
-    fn next(&mut self, got: Option<u64>) -> Option<Updated> {
+    fn next(&mut self, got: Option<u64>) -> Option<Told> {
         match self.run.as_mut()?.next(got) {
             Turn::Ask(step) => {
                 self.asked = Some(step);
@@ -422,15 +441,15 @@ impl Story {
 
     /// The moment of a call that only reads: the last step since it began after which the map has
     /// its answer.
-    fn seen(&self, key: u64, begin: u64, answer: Updated) -> Option<u64> {
+    fn seen(&self, key: u64, begin: u64, answer: Told) -> Option<u64> {
         let (mut old, mut step) = (self.map.get(key), self.steps);
         for entry in self.entries.as_slice().iter().rev() {
-            if entry.key == key && answer != (Updated::Done { old }) {
+            if entry.key == key && answer != (Told::Done { old }) {
                 old = entry.old;
                 step = entry.step.saturating_sub(1);
             }
         }
-        if answer == (Updated::Done { old }) && begin <= step {
+        if answer == (Told::Done { old }) && begin <= step {
             Some(step)
         } else {
             None
@@ -439,17 +458,17 @@ impl Story {
 
     /// The moment of an update: the step of its entry, whose old value it answers. A call that is
     /// refused has none.
-    fn done(&self, rt: &impl Abort, client: u32, call: u64, answer: Updated) -> Option<u64> {
+    fn done(&self, rt: &impl Abort, client: u32, call: u64, answer: Told) -> Option<u64> {
         let Some(Entry { step, old, .. }) = self.entry(client, call) else {
             assert!(rt;
-                !matches!(answer, Updated::Done { .. }),
+                !matches!(answer, Told::Done { .. }),
                 "call {call} of client {client}"
             );
             return None;
         };
         assert_eq!(rt;
             answer,
-            Updated::Done { old },
+            Told::Done { old },
             "call {call} of client {client}"
         );
         Some(step)

@@ -7,6 +7,7 @@ use Rattle.arena.specs.declared.word.Side.{Side}
 use Rattle.prims.specs.declared.snap.Snap.{Snap}
 use Rattle.spelling.specs.OrderedMap.{MapEdit}
 use Rattle.template.specs.declared.walk.Found.{Found}
+use Rattle.template.specs.declared.walk.Goal.{Goal}
 use Rattle.updates.specs.declared.edit.Loaded.{Loaded}
 use Rattle.updates.specs.declared.edit.Look.{Look}
 use Rattle.updates.specs.declared.edit.Look.TheVariants.{At}
@@ -18,8 +19,10 @@ use Rattle.updates.specs.Pieces.{many_nodes, with_word, fills_behind, HasPlace}
 
 -- what an edit answers at each of its places
 pub record EditMeaning (E : Type 0) : Type 0 where
-  -- the edit of the map that it makes
-  pub edit : E → MapEdit
+  -- to which leaf it walks
+  pub goal : E → Goal
+  -- the edit of the map that it makes at the leaf that was found
+  pub edit : E → Found → MapEdit
   -- how many fresh nodes it needs for the leaf that was found
   pub needs : E → Found → Need
   -- at most so many, whatever leaf is found

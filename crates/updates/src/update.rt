@@ -15,8 +15,8 @@ use template::{Found, Tree, WalkRun};
 /// What an update answers.
 #[derive(Clone, Copy, Debug, PartialEq, Eq)]
 pub enum Updated {
-    /// It is made, or there was nothing to make. The key had this value.
-    Done { old: Option<u64> },
+    /// It is made, or there was nothing to make, at this leaf, which tells what the key had.
+    Done { found: Found },
     /// All tries were lost, the last to this SCX-record over this node.
     Contended { node: NodeNo, scx: ScxNo },
     /// The share has too little left for the next try.
@@ -123,7 +123,7 @@ impl<E: Edit + Drop> UpdateRun<E> {
         ensures spends { IsSpending E.means result self.old.share self.new (self.old.tries + 1) (self.old.tries + 1) }
         ensures tries { self.new.tries ≡ self.old.tries }
     {
-        let mut walk = WalkRun::new(self.edit.key());
+        let mut walk = WalkRun::new(self.edit.goal());
         match Machine::<Tree>::next(&mut walk, None) {
             Turn::Ask(step) => {
                 self.at = UpdateAt::Walk { walk };
@@ -140,6 +140,7 @@ impl<E: Edit + Drop> UpdateRun<E> {
     fn lost(&mut self, node: NodeNo, scx: ScxNo) -> Turn<Updated>
         ensures turn { (c : Call) (h : History) → IsRun TreeAllows c.layout h → Begins E.means self.old c h → IsTry c h → IsContended c h node.0 scx.0 → UpdateTurn E.means c h self.new result }
         ensures same { (self.new.edit ≡ self.old.edit) × (self.new.call ≡ self.old.call) }
+        ensures gives_up { (c : Call) (h : History) → Begins E.means self.old c h → MatchTurn result (λ _. Unit {0}) (λ _. self.old.tries ≡ 0) }
         ensures nearer { (nodes : ℕ) → IsNearer E.means self.new nodes result (self.old.tries * try_left E.means nodes) }
         ensures spends { IsSpending E.means result self.old.share self.new self.old.tries self.old.tries }
         ensures tries { (self.old.tries ≤ self.new.tries + 1) × (self.new.tries ≤ self.old.tries) }
@@ -153,7 +154,7 @@ impl<E: Edit + Drop> UpdateRun<E> {
 
     /// Goes on with what the last step of the walk found.
     fn walk_on(&mut self, mut walk: WalkRun, got: Option<u64>) -> Turn<Updated>
-        ensures turn { (c : Call) (b h : History) → IsRun TreeAllows c.layout h → IsTry c b → IsUntouched c b self.old.share → Walks E.means self.old (from c b) h walk.key → WalkIsReady walk (from c b) h got → UpdateTurn E.means c h self.new result }
+        ensures turn { (c : Call) (b h : History) → IsRun TreeAllows c.layout h → IsTry c b → IsUntouched c b self.old.share → Walks E.means self.old (from c b) h walk.goal → WalkIsReady walk (from c b) h got → UpdateTurn E.means c h self.new result }
         ensures same { (self.new.edit ≡ self.old.edit) × (self.new.call ≡ self.old.call) }
         ensures nearer { (nodes : ℕ) → WalkFits walk got nodes → IsNearer E.means self.new nodes result (self.old.tries * try_left E.means nodes + (walk_left walk.at nodes + (64 * E.means.most_looks + works_behind E.means First + 39))) }
         ensures spends { IsSpending E.means result self.old.share self.new (self.old.tries + 1) (self.old.tries + 1) }
@@ -187,7 +188,7 @@ impl<E: Edit + Drop> UpdateRun<E> {
 
     /// Goes on behind the walk, if the share has what the edit needs.
     fn test_share(&mut self, found: Found) -> Turn<Updated>
-        ensures turn { (c : Call) (b h : History) → IsRun TreeAllows c.layout h → IsTry c b → IsUntouched c b self.old.share → Begins E.means self.old (from c b) h → IsQuietSince c.layout c.pass b h → HasFoundLeaf (from c b) h (edit_key (E.means.edit self.old.edit)) found → UpdateTurn E.means c h self.new result }
+        ensures turn { (c : Call) (b h : History) → IsRun TreeAllows c.layout h → IsTry c b → IsUntouched c b self.old.share → Begins E.means self.old (from c b) h → IsQuietSince c.layout c.pass b h → HasFound (E.means.goal self.old.edit) (from c b) h found → UpdateTurn E.means c h self.new result }
         ensures same { (self.new.edit ≡ self.old.edit) × (self.new.call ≡ self.old.call) }
         ensures nearer { (nodes : ℕ) → IsNearer E.means self.new nodes result (self.old.tries * try_left E.means nodes + (64 * E.means.most_looks + works_behind E.means First + 39)) }
         ensures spends { IsSpending E.means result self.old.share self.new (self.old.tries + 1) (self.old.tries + 1) }
@@ -195,7 +196,7 @@ impl<E: Edit + Drop> UpdateRun<E> {
     {
         let need = self.edit.need(&found);
         if need == Need::Nothing {
-            return Turn::Done(Updated::Done { old: found.value });
+            return Turn::Done(Updated::Done { found });
         }
         if let Some(full) = self.lacks(need) {
             return Turn::Done(Updated::Full(full));
@@ -475,7 +476,7 @@ impl<E: Edit + Drop> UpdateRun<E> {
                 self.at = UpdateAt::Scx { found, scx };
                 Turn::Ask(step)
             }
-            Turn::Done(Scx::Done) => Turn::Done(Updated::Done { old: found.value }),
+            Turn::Done(Scx::Done) => Turn::Done(Updated::Done { found }),
             Turn::Done(Scx::Lost { node, scx }) => self.lost(node, scx),
         }
     }
@@ -502,8 +503,7 @@ impl<E: Edit + Drop> UpdateRun<E> {
     }
 
     ghost use Rattle.std.specs.Prelude.{◌≢◌, IfNone, IfSome, None};
-    ghost use Rattle.spelling.specs.OrderedMap.{edit_key};
-    ghost use Rattle.template.specs.FoundLeaf.{HasFoundLeaf};
+    ghost use Rattle.template.specs.FoundLeaf.{HasFound};
     ghost use Rattle.template.specs.Walk.Known.{WalkIsReady};
     ghost use Rattle.prims.specs.Snap.{child_of, snap_at};
     ghost use Rattle.updates.specs.Known.{HasNodesFor, IsShort, Walks, IsFilledUpTo, CanScx, UpdateIsReady};

@@ -11,6 +11,7 @@ use Rattle.prims.specs.Snap.{child_of, snap_at}
 use Rattle.spelling.specs.OrderedMap.{Delete as TakeEdit}
 use Rattle.spelling.specs.TreeShape.{sibling_place}
 use Rattle.template.specs.declared.walk.Found.{Found}
+use Rattle.template.specs.declared.walk.Goal.TheVariants.{Key as ToKey}
 use Rattle.tree.specs.declared.delete.Delete.{Delete}
 use Rattle.updates.specs.declared.edit.Loaded.{Loaded}
 use Rattle.updates.specs.declared.edit.Look.{Look}
@@ -96,7 +97,8 @@ delete_most_works _ = 0
 -- the edit that a delete is
 abbrev pub delete_means : EditMeaning Delete
 delete_means = record {
-  edit = λ e. TakeEdit e.key;
+  goal = λ e. ToKey e.key;
+  edit = λ e f. TakeEdit e.key;
   needs = λ e f. delete_need f.value;
   most_nodes = 1;
   side = λ e f. f.trail.grand_side;

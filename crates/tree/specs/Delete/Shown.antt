@@ -14,9 +14,10 @@ use Rattle.spelling.specs.TreeWords.{level}
 use Rattle.spelling.proofs.Lemmas.{child_stood, children_apart, levels_rise, run_since, settled_level, stood_settled, was_passed}
 use Rattle.template.specs.Trails.{HasTurned}
 use Rattle.template.specs.declared.walk.Found.{Found}
+use Rattle.template.specs.declared.walk.Goal.{Goal}
 use Rattle.updates.specs.Known.{HasSnapped}
 
-module _ (c : Call) (h : History) (k : ℕ) (f : Found) (s : Snap) (turn : Side) (next : ℕ) (run : IsTreeRun c.layout h) (u : HasSnapped c h k f s) (turned : HasTurned c u.moment k s.node.0 turn next) where
+module _ {goal : Goal} (c : Call) (h : History) (k : ℕ) (f : Found) (s : Snap) (turn : Side) (next : ℕ) (run : IsTreeRun c.layout h) (u : HasSnapped c h goal f s) (turned : HasTurned c u.moment k s.node.0 turn next) where
   then : IsTreeRun c.layout u.moment
   then = run_since c.layout h u.moment run u.within
 

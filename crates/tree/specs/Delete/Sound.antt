@@ -38,6 +38,7 @@ use Rattle.template.specs.FreshNodes.{IsDeleteAt, HasFreshCopy}
 use Rattle.template.specs.Promises.{IsPromised, IsSnapOf}
 use Rattle.template.specs.Trails.{HasTurned}
 use Rattle.template.specs.declared.walk.Found.{Found}
+use Rattle.template.specs.declared.walk.Goal.TheVariants.{Key as ToKey}
 use Rattle.template.proofs.Lemmas.{found_below, join_promised, said_some}
 use Rattle.tree.specs.declared.delete.Delete.{Delete}
 use Rattle.tree.specs.Delete.Laws.{delete_bounds}
@@ -104,7 +105,7 @@ delete_loads = record {
 -- What it looks at
 
 -- where a delete has something to do, the key has a value
-key_there : (o : Option ℕ) → delete_need o ≢ Nothing → (old : ℕ) × (o ≡ Some old)
+pub key_there : (o : Option ℕ) → delete_need o ≢ Nothing → (old : ℕ) × (o ≡ Some old)
 key_there None d = absurd (d refl)
 key_there (Some v) d = (v, refl)
 
@@ -130,18 +131,18 @@ module _ (ed : Delete) (c : Call) (h : History) (f : Found) (run : IsTreeRun c.l
   parent_turned m r a = a.trail.parent (found_below ed.key c m f r a)
 
   -- the call had turned at both as it took their snapshots
-  grand_snap : (s : Snap) (u : HasSnapped c h ed.key f s) → s.node.0 ≡ f.trail.grand.0 → HasTurned c u.moment ed.key s.node.0 f.trail.grand_side f.trail.parent.0
+  grand_snap : (s : Snap) (u : HasSnapped c h (ToKey ed.key) f s) → s.node.0 ≡ f.trail.grand.0 → HasTurned c u.moment ed.key s.node.0 f.trail.grand_side f.trail.parent.0
   grand_snap s u e = subst (λ n. HasTurned c u.moment ed.key n f.trail.grand_side f.trail.parent.0) (sym e) (grand_turned u.moment (run_since c.layout h u.moment run u.within) u.found)
 
-  parent_snap : (s : Snap) (u : HasSnapped c h ed.key f s) → s.node.0 ≡ f.trail.parent.0 → HasTurned c u.moment ed.key s.node.0 f.trail.side f.trail.node.0
+  parent_snap : (s : Snap) (u : HasSnapped c h (ToKey ed.key) f s) → s.node.0 ≡ f.trail.parent.0 → HasTurned c u.moment ed.key s.node.0 f.trail.side f.trail.node.0
   parent_snap s u e = subst (λ n. HasTurned c u.moment ed.key n f.trail.side f.trail.node.0) (sym e) (parent_turned u.moment (run_since c.layout h u.moment run u.within) u.found)
 
   -- the children of the parent stood in the tree
-  below_parent : (s : Snap) → HasSnapped c h ed.key f s → s.node.0 ≡ f.trail.parent.0 → (side : Side) → WasInTree h (child_of s side).0
+  below_parent : (s : Snap) → HasSnapped c h (ToKey ed.key) f s → s.node.0 ≡ f.trail.parent.0 → (side : Side) → WasInTree h (child_of s side).0
   below_parent s u e side = shown_stood c h ed.key f s f.trail.side f.trail.node.0 run u (parent_snap s u e) side
 
   -- and were not final
-  not_final_below : (s : Snap) → HasSnapped c h ed.key f s → s.node.0 ≡ f.trail.parent.0 → (side : Side) → WasNotFinal c h (child_of s side).0
+  not_final_below : (s : Snap) → HasSnapped c h (ToKey ed.key) f s → s.node.0 ≡ f.trail.parent.0 → (side : Side) → WasNotFinal c h (child_of s side).0
   not_final_below s u e side = shown_not_final c h ed.key f s f.trail.side side f.trail.node.0 run u (parent_snap s u e)
 
   same_no : (a b : NodeNo) → a ≡ b → b.0 ≡ a.0
@@ -183,11 +184,11 @@ module _ (ed : Delete) (c : Call) (h : History) (f : Found) (run : IsTreeRun c.l
   looks_differ [] n s x e quiet = absurd (let d : At f.trail.grand ≡ Differs n s = e in cc)
   looks_differ (g ∷ []) n s x e quiet =
       let o = is_other (eqb (child_of g f.trail.grand_side).0 f.trail.parent.0) f.trail.parent g n s e in
-      let u : HasSnapped c h ed.key f g = x.usable 0 (omega arith) in
+      let u : HasSnapped c h (ToKey ed.key) f g = x.usable 0 (omega arith) in
       rw (sym o.1, sym o.2) (turned_contended c h ed.key f g f.trail.grand_side f.trail.parent.0 run quiet u (grand_snap g u (same_no f.trail.grand g.node (seen_grand ed f g [] x.seen))) (other_child (child_of g f.trail.grand_side).0 f.trail.parent.0 o.0))
   looks_differ (g ∷ p ∷ []) n s x e quiet =
       let o = is_other (eqb (child_of p f.trail.side).0 f.trail.node.0) p.left p n s e in
-      let u : HasSnapped c h ed.key f p = x.usable 1 (omega arith) in
+      let u : HasSnapped c h (ToKey ed.key) f p = x.usable 1 (omega arith) in
       rw (sym o.1, sym o.2) (turned_contended c h ed.key f p f.trail.side f.trail.node.0 run quiet u (parent_snap p u (same_no f.trail.parent p.node (seen_parent ed f g p [] x.seen).1)) (other_child (child_of p f.trail.side).0 f.trail.node.0 o.0))
   looks_differ (g ∷ p ∷ l ∷ []) n s x e quiet = absurd (let d : At p.right ≡ Differs n s = e in cc)
   looks_differ (g ∷ p ∷ l ∷ r ∷ snaps) n s x e quiet = absurd (let d : Enough ≡ Differs n s = e in cc)
@@ -227,7 +228,7 @@ few_places Left = omega arith
 few_places Right = omega arith
 
 -- a snapshot that is there may be used
-pub usable_at : (ed : Delete) (c : Call) (h : History) (f : Found) (snaps : List Snap) (i : ℕ) → i < 4 → HasFour f snaps → HasLooked delete_means c h ed f snaps → HasSnapped c h ed.key f (snap_at snaps i)
+pub usable_at : (ed : Delete) (c : Call) (h : History) (f : Found) (snaps : List Snap) (i : ℕ) → i < 4 → HasFour f snaps → HasLooked delete_means c h ed f snaps → HasSnapped c h (ToKey ed.key) f (snap_at snaps i)
 usable_at ed c h f snaps i p four x = x.usable i (rw four.four p)
 
 linked_at : (ed : Delete) (c : Call) (h : History) (f : Found) (snaps : List Snap) (i : ℕ) → IsTreeRun c.layout h → i < 4 → HasFour f snaps → HasLooked delete_means c h ed f snaps → IsLinked c.layout h (snap_at snaps i)
@@ -268,10 +269,10 @@ module _ (ed : Delete) (c : Call) (h : History) (f : Found) (snaps : List Snap) 
   abbrev deep : ℕ → ℕ
   deep i = level (value h) (at_place i)
 
-  grand_used : HasSnapped c h ed.key f (snap_at snaps 0)
+  grand_used : HasSnapped c h (ToKey ed.key) f (snap_at snaps 0)
   grand_used = usable_at ed c h f snaps 0 (omega arith) four x
 
-  parent_used : HasSnapped c h ed.key f (snap_at snaps 1)
+  parent_used : HasSnapped c h (ToKey ed.key) f (snap_at snaps 1)
   parent_used = usable_at ed c h f snaps 1 (omega arith) four x
 
   at_grand : HasTurned c grand_used.moment ed.key (at_place 0) f.trail.grand_side f.trail.parent.0
@@ -506,4 +507,4 @@ delete_makes = record {
 
 -- a delete is an edit that an update can make
 pub delete_laws : EditLaws delete_means
-delete_laws = record { bounds = delete_bounds; looks = delete_look; loads = delete_loads; fills = delete_fills; makes = delete_makes }
+delete_laws = record { at_found = λ e f. refl; bounds = delete_bounds; looks = delete_look; loads = delete_loads; fills = delete_fills; makes = delete_makes }

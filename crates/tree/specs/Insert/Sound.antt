@@ -30,6 +30,7 @@ use Rattle.template.specs.FreshNodes.{IsLeafWith, IsForkWith, IsInsertAt, HasFre
 use Rattle.template.specs.Promises.{IsPromised}
 use Rattle.template.specs.Trails.{HasTurned}
 use Rattle.template.specs.declared.walk.Found.{Found}
+use Rattle.template.specs.declared.walk.Goal.TheVariants.{Key as ToKey}
 use Rattle.template.proofs.Lemmas.{found_below, found_class, found_level, found_no_value, insert_words, swap_promised, split_promised}
 use Rattle.tree.specs.declared.insert.Insert.{Insert}
 use Rattle.tree.specs.Insert.Laws.{insert_bounds}
@@ -120,7 +121,7 @@ insert_differs ed c h f (p ∷ []) n s run x e quiet = rw (sym other.1, sym othe
     parent : f.trail.parent ≡ p.node
     parent = same_node f.trail.parent p.node (x.seen 0 (omega arith))
 
-    snapped : HasSnapped c h ed.key f p
+    snapped : HasSnapped c h (ToKey ed.key) f p
     snapped = x.usable 0 (omega arith)
 
     turned : HasTurned c snapped.moment ed.key p.node.0 f.trail.side f.trail.node.0
@@ -321,4 +322,4 @@ insert_makes = record {
 
 -- an insert is an edit that an update can make
 pub insert_laws : EditLaws insert_means
-insert_laws = record { bounds = insert_bounds; looks = insert_look; loads = insert_loads; fills = insert_fills; makes = insert_makes }
+insert_laws = record { at_found = λ e f. refl; bounds = insert_bounds; looks = insert_look; loads = insert_loads; fills = insert_fills; makes = insert_makes }

@@ -9,7 +9,7 @@ use Rattle.prims.specs.Llx.Known.{IsOpened}
 use Rattle.spelling.specs.Paths.{WasInTree}
 use Rattle.spelling.specs.Runs.{IsTreeRun}
 use Rattle.spelling.proofs.Lemmas.{run_since, stood_in_field, tree_inside, walk_named, was_passed}
-use Rattle.template.specs.FoundLeaf.{HasFoundLeaf}
+use Rattle.template.specs.FoundLeaf.{HasEnded}
 use Rattle.template.specs.Trails.{WasPassed}
 use Rattle.template.specs.declared.walk.Found.{Found}
 use Rattle.template.proofs.Lemmas.{found_below}
@@ -25,7 +25,7 @@ module _ (c : Call) (h : History) (k : ℕ) (run : IsTreeRun c.layout h) where
   passed_opened : (n : ℕ) → WasPassed c h k n → IsOpened c.layout h n
   passed_opened n p = stood_opened c.layout h n run (was_passed h p.first k n p.passed)
 
-  module _ (f : Found) (a : HasFoundLeaf c h k f) where
+  module _ {asked : ℕ} (f : Found) (a : HasEnded c h k asked f) where
     -- passes other than its owner may know the leaf
     pub found_named : IsNamed c.layout h f.trail.node.0
     found_named = walk_named c.layout h a.trail.node.first k f.trail.node.0 run a.trail.node.passed
