@@ -1,5 +1,5 @@
 -- An edit that runs: what its SCX-record in progress says, and the word `call` that it fills.
-use Rattle.std.proofs.Common.{◌≡◌, ℕ, Option, Some, None, refl, sym, ◌∙◌, ap, arith}
+use Rattle.std.proofs.Common.{◌≡◌, ℕ, Option, Some, None, refl, sym, ◌∙◌, ap, subst, arith}
 use Rattle.arena.specs.declared.layout.Layout.{Layout}
 use Rattle.arena.specs.declared.step.Step.{Step}
 use Rattle.arena.specs.declared.step.Kind.TheVariants.{Fill as FillKind, LoadSettled}
@@ -27,6 +27,7 @@ use Rattle.spelling.specs.Runs.{Makes}
 use Rattle.spelling.specs.TreeShape.{TreeAllows}
 use Rattle.template.proofs.Lemmas.{walk_fills_not}
 use Rattle.template.specs.Tracked.{Tracks}
+use Rattle.template.specs.declared.walk.Found.{Found}
 use Rattle.tree.specs.Delete.Means.{delete_means}
 use Rattle.tree.specs.Insert.Means.{insert_means}
 use Rattle.tree.proofs.Lemmas.{get_fills_not}
@@ -90,14 +91,15 @@ abbrev pub IsEditHand : EditRun → MachineCall → History → ℕ → Type 0
 IsEditHand m call h t = IsHandOf (call_of m) (edit_of m) call h t
 
 module _ {E : Type 0} (means : EditMeaning E) (m : UpdateRun E) where
-  module _ (call : MachineCall) (h : History) (t : ℕ) (l : Lawful call.layout h) (own : IsOwnScx call.layout call.pass t) (p : IsInProgress h t) where
+  -- whatever leaf it finds, its edit is this
+  module _ (edit : MapEdit) (fixed : (f : Found) → means.edit m.edit f ≡ edit) (call : MachineCall) (h : History) (t : ℕ) (l : Lawful call.layout h) (own : IsOwnScx call.layout call.pass t) (p : IsInProgress h t) where
     -- what it makes if it is not aborted
-    makes_it : (j : Job) → j.scx.0 ≡ t → Tracks call.layout call.pass h j (means.edit m.edit) → Makes call.layout h t (means.edit m.edit)
+    makes_it : (j : Job) → j.scx.0 ≡ t → Tracks call.layout call.pass h j edit → Makes call.layout h t edit
     makes_it j e (Tracks.waits f free) = absurd (free (rw e p.named))
     makes_it j e (Tracks.begun x) = rw e at x
     makes_it j e (Tracks.over x) = absurd (let z = p.unfinished in let y = rw e at x in omega (arith, z, y))
 
-    hand_at : (b : History) (s : Step) (at : UpdateAt) → IsTry call b → UpdateWaitsAt means m (from call b) h s at → IsHandOf m.call (means.edit m.edit) call h t
+    hand_at : (b : History) (s : Step) (at : UpdateAt) → IsTry call b → UpdateWaitsAt means m (from call b) h s at → IsHandOf m.call edit call h t
     hand_at b s Start try w = absurd w
     hand_at b s (Walk walk) try w = absurd (idle_rests (from call b) h m.share l w.0.rests t own p)
     hand_at b s (Look f llx) try w = absurd (idle_rests (from call b) h m.share l w.1.rests t own p)
@@ -108,7 +110,7 @@ module _ {E : Type 0} (means : EditMeaning E) (m : UpdateRun E) where
         let filled = scx_filled TreeAllows (job_of scx) (from (from call b) begin) h scx.at s (rw same at p.named) w in
         record {
           called = rw same (filled.called ∙ x.call);
-          makes = makes_it (job_of scx) (sym same) x.tracks;
+          makes = makes_it (job_of scx) (sym same) (subst (Tracks call.layout call.pass h (job_of scx)) (fixed f) x.tracks);
           only = rw same (only_joined call.layout call.pass scx.scx.0 h b call.start x.now try.none x.only);
         }
 
@@ -123,8 +125,8 @@ module _ {E : Type 0} (means : EditMeaning E) (m : UpdateRun E) where
   update_says_at call h s t v (Scx f scx) w kind word = scx_says TreeAllows (job_of scx) (from call w.0) h scx.at s t v w.2 kind word ∙ w.1.call
 
 pub edit_hand : (m : EditRun) (call : MachineCall) (h : History) (t : ℕ) → Lawful call.layout h → IsOwnScx call.layout call.pass t → IsInProgress h t → (s : Step) → EditWaits m call h s → IsEditHand m call h t
-edit_hand (Insert m) call h t l own p s w = hand_at insert_means m call h t l own p w.0 s m.at w.1 w.3
-edit_hand (Delete m) call h t l own p s w = hand_at delete_means m call h t l own p w.0 s m.at w.1 w.3
+edit_hand (Insert m) call h t l own p s w = hand_at insert_means m (edit_of (Insert m)) (λ f. refl) call h t l own p w.0 s m.at w.1 w.3
+edit_hand (Delete m) call h t l own p s w = hand_at delete_means m (edit_of (Delete m)) (λ f. refl) call h t l own p w.0 s m.at w.1 w.3
 
 edit_says : (m : EditRun) (call : MachineCall) (h : History) (s : Step) (t v : ℕ) → EditWaits m call h s → s.kind ≡ FillKind → s.word ≡ scx_word t CallWord → word_after s.access v ≡ call_of m
 edit_says (Insert m) call h s t v w kind word = update_says_at insert_means m (from call w.0) h s t v m.at w.3 kind word
