@@ -8,6 +8,7 @@ use std::alloc::AllocError;
 #[derive(Clone, Copy, Debug, PartialEq, Eq)]
 pub(crate) enum MapCall {
     Insert { key: u64, value: u64 },
+    Delete { key: u64 },
     Get { key: u64 },
 }
 
@@ -29,6 +30,7 @@ impl MapCall {
     fn of_command(command: Command) -> Option<MapCall> {
         match command {
             Command::Insert { key, value } => Some(MapCall::Insert { key, value }),
+            Command::Delete { key } => Some(MapCall::Delete { key }),
             Command::Get { key } => Some(MapCall::Get { key }),
             _ => None,
         }
@@ -38,19 +40,25 @@ impl MapCall {
     pub(crate) fn make(self, map: &mut PlainMap) -> Result<Option<u64>, AllocError> {
         match self {
             MapCall::Insert { key, value } => map.insert(key, value),
+            MapCall::Delete { key } => Ok(map.delete(key)),
             MapCall::Get { key } => Ok(map.get(key)),
         }
     }
 
-    /// Whether the call has changed the map, by an update, if it answers this value.
-    pub(crate) fn enters(self, _value: Option<u64>) -> bool {
-        self.may_change()
+    /// Whether the call has changed the map, by an update, if it answers this value: a delete that
+    /// found none has only looked.
+    pub(crate) fn enters(self, value: Option<u64>) -> bool {
+        match self {
+            MapCall::Insert { .. } => true,
+            MapCall::Delete { .. } => value.is_some(),
+            MapCall::Get { .. } => false,
+        }
     }
 
     /// Whether the call may change the map. Such a call may also be refused.
     pub(crate) fn may_change(self) -> bool {
         match self {
-            MapCall::Insert { .. } => true,
+            MapCall::Insert { .. } | MapCall::Delete { .. } => true,
             MapCall::Get { .. } => false,
         }
     }

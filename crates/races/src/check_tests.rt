@@ -10,6 +10,11 @@ use std::alloc::Global;
 use std::process::Abort;
 use std::test::Fail;
 
+/// A script and its schedule.
+type Race = (&'static str, &'static str);
+
+const RACE: Race = (SCRIPT, SCHEDULE);
+
 /// Client 0 gives key 5 the value 50 and then 51. Between the mark of the leaf that goes and its
 /// update, client 1 walks down to that leaf, and loads its value when it is out of the tree.
 const SCRIPT: &str = "\
@@ -30,6 +35,30 @@ call,0,,
 call,1,,
 call,1,,
 end,6,,
+";
+
+const DELETES: Race = (DELETES_SCRIPT, DELETES_SCHEDULE);
+
+/// Client 0's first delete is about to look at the leaf of the empty map when client 1 gives key 5
+/// the value 50. It finds none, in the turn before that. Its second one takes 51 out.
+const DELETES_SCRIPT: &str = "\
+limits,2,20,20,3
+0,delete,5,,
+0,delete,5,,
+1,insert,5,50,
+1,insert,5,51,
+end,4,,,
+";
+
+/// Turns 1 and 2, 3 to 50 with the update at 49, 51, 52 to 96 with the update at 95, and 97 to 168
+/// with the update at 167.
+const DELETES_SCHEDULE: &str = "\
+step,0,,2
+call,1,,
+call,0,,
+call,1,,
+call,0,,
+end,5,,
 ";
 
 /// One thing that is said otherwise. A call is named by its client and number.
@@ -96,16 +125,6 @@ fn edited(alloc: Global, record: &Record, edit: Edit) -> Result<Record, Fail> {
     Ok(Record { script, lines })
 }
 
-/// The replies as they have to be.
-fn replies() -> [Reply; 4] {
-    [
-        told((0, 0), (1, 48), Some(47), None),
-        told((0, 1), (49, 99), Some(98), Some(50)),
-        told((1, 0), (90, 100), Some(97), Some(50)),
-        told((1, 1), (101, 107), Some(107), Some(51)),
-    ]
-}
-
 fn told(call: (u32, u64), turns: (u64, u64), moment: Option<u64>, value: Option<u64>) -> Reply {
     Reply {
         client: PassNo(call.0),
@@ -117,18 +136,40 @@ fn told(call: (u32, u64), turns: (u64, u64), moment: Option<u64>, value: Option<
     }
 }
 
-#[test]
-fn a_good_record_passes(rt: HostRuntime) -> Result<(), Fail> {
-    let record = played(rt.alloc(), SCRIPT, SCHEDULE)?;
-    let mut said = Vec::new(rt.alloc());
+/// The record has these replies, and passes.
+fn passes(rt: &impl Abort, alloc: Global, race: Race, replies: [Reply; 4]) -> Result<(), Fail> {
+    let record = played(alloc, race.0, race.1)?;
+    let mut said = Vec::new(alloc);
     for line in record.lines.iter() {
         if let Line::Reply(reply) = line {
             said.push(*reply)?;
         }
     }
-    assert_eq!(rt; said.as_slice(), replies().as_slice());
-    assert_eq!(rt; check(rt.alloc(), &record), Ok(()));
+    assert_eq!(rt; said.as_slice(), replies.as_slice());
+    assert_eq!(rt; check(alloc, &record), Ok(()));
     Ok(())
+}
+
+#[test]
+fn a_good_record_passes(rt: HostRuntime) -> Result<(), Fail> {
+    let replies = [
+        told((0, 0), (1, 48), Some(47), None),
+        told((0, 1), (49, 99), Some(98), Some(50)),
+        told((1, 0), (90, 100), Some(97), Some(50)),
+        told((1, 1), (101, 107), Some(107), Some(51)),
+    ];
+    passes(&rt, rt.alloc(), RACE, replies)
+}
+
+#[test]
+fn a_good_record_of_deletes_passes(rt: HostRuntime) -> Result<(), Fail> {
+    let replies = [
+        told((1, 0), (3, 50), Some(49), None),
+        told((0, 0), (1, 51), Some(48), None),
+        told((1, 1), (52, 96), Some(95), Some(50)),
+        told((0, 1), (97, 168), Some(167), Some(51)),
+    ];
+    passes(&rt, rt.alloc(), DELETES, replies)
 }
 
 /// A step of client 1 on the value of node 3, in its second call.
@@ -144,8 +185,13 @@ fn on_the_leaf(kind: Kind, before: u64, after: u64) -> arena::Row {
 }
 
 /// Each of these edits is found, as this.
-fn are_found(rt: &impl Abort, alloc: Global, edits: &[(Edit, Wrong)]) -> Result<(), Fail> {
-    let record = played(alloc, SCRIPT, SCHEDULE)?;
+fn are_found(
+    rt: &impl Abort,
+    alloc: Global,
+    race: Race,
+    edits: &[(Edit, Wrong)],
+) -> Result<(), Fail> {
+    let record = played(alloc, race.0, race.1)?;
     for (edit, wrong) in edits {
         let record = edited(alloc, &record, *edit)?;
         assert_eq!(rt; check(alloc, &record), Err(*wrong), "{edit:?}");
@@ -165,7 +211,7 @@ fn other_moments_are_found(rt: HostRuntime) -> Result<(), Fail> {
         (Edit::Moment((1, 1), Some(108)), Wrong::Moment(107)),
         (Edit::Moment((1, 1), None), Wrong::Moment(107)),
     ];
-    are_found(&rt, rt.alloc(), &edits)
+    are_found(&rt, rt.alloc(), RACE, &edits)
 }
 
 /// A value that the key never had, none, one of another time, and refusals.
@@ -185,7 +231,7 @@ fn other_answers_are_found(rt: HostRuntime) -> Result<(), Fail> {
         (Edit::Answer((0, 1), full), Wrong::Entry(99)),
         (Edit::Answer((1, 1), full), Wrong::Answer(107)),
     ];
-    are_found(&rt, rt.alloc(), &edits)
+    are_found(&rt, rt.alloc(), RACE, &edits)
 }
 
 #[test]
@@ -208,7 +254,42 @@ fn other_lines_are_found(rt: HostRuntime) -> Result<(), Fail> {
             Wrong::Word(101),
         ),
     ];
-    are_found(&rt, rt.alloc(), &edits)
+    are_found(&rt, rt.alloc(), RACE, &edits)
+}
+
+/// A delete that finds none takes place before the key comes in, and a done one with its entry.
+#[test]
+fn other_moments_of_deletes_are_found(rt: HostRuntime) -> Result<(), Fail> {
+    let edits = [
+        (Edit::Moment((0, 0), Some(47)), Wrong::Moment(51)),
+        (Edit::Moment((0, 0), Some(49)), Wrong::Moment(51)),
+        (Edit::Moment((0, 0), Some(51)), Wrong::Moment(51)),
+        (Edit::Moment((0, 0), None), Wrong::Moment(51)),
+        (Edit::Moment((0, 1), Some(166)), Wrong::Moment(168)),
+        (Edit::Moment((0, 1), Some(168)), Wrong::Moment(168)),
+        (Edit::Moment((0, 1), None), Wrong::Moment(168)),
+    ];
+    are_found(&rt, rt.alloc(), DELETES, &edits)
+}
+
+/// The value that comes in, one of another time, one that the key never had, none, and refusals;
+/// and an entry is left out.
+#[test]
+fn other_answers_of_deletes_are_found(rt: HostRuntime) -> Result<(), Fail> {
+    let full = Answer::Full {
+        what: Resource::Scx,
+        left: 0,
+    };
+    let edits = [
+        (Edit::Value((0, 0), Some(50)), Wrong::Entry(51)),
+        (Edit::Answer((0, 0), full), Wrong::Moment(51)),
+        (Edit::Value((0, 1), Some(50)), Wrong::Answer(168)),
+        (Edit::Value((0, 1), Some(52)), Wrong::Answer(168)),
+        (Edit::Value((0, 1), None), Wrong::Entry(168)),
+        (Edit::Answer((0, 1), full), Wrong::Entry(168)),
+        (Edit::NoEntry(3), Wrong::Entry(167)),
+    ];
+    are_found(&rt, rt.alloc(), DELETES, &edits)
 }
 
 /// The answers of two calls are swapped: of two changes, of a change and a look, of two looks.

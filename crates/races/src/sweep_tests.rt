@@ -5,18 +5,52 @@ use std::alloc::{AllocError, Global};
 use std::process::Abort;
 use std::test::Fail;
 
+/// A script of two clients, and how many steps client 0 makes by itself: 48 for a key that comes
+/// into the empty map, 45 for another value of it, 72 to take it out again.
+#[derive(Clone, Copy, Debug)]
+struct Race {
+    script: &'static str,
+    steps: u64,
+}
+
 /// Client 0 gives a key three values, client 1 a fourth.
-const ONE_KEY: &str = "\
+const INSERTS: Race = Race {
+    script: "\
 limits,2,20,20,3
 0,insert,5,50,
 0,insert,5,51,
 0,insert,5,52,
 1,insert,5,90,
 end,4,,,
-";
+",
+    steps: 48 + 45 + 45,
+};
 
-/// How many steps client 0 makes by itself: 48 for a key that is new, 45 for one that is there.
-const ITS_STEPS: u64 = 48 + 45 + 45;
+/// Client 0 takes its key out again, client 1 brings in another one.
+const DELETE_AND_INSERT: Race = Race {
+    script: "\
+limits,2,20,20,3
+0,insert,5,50,
+0,delete,5,,
+1,insert,7,70,
+end,3,,,
+",
+    steps: 48 + 72,
+};
+
+/// Both take client 0's key out.
+const DELETES: Race = Race {
+    script: "\
+limits,2,20,20,2
+0,insert,5,50,
+0,delete,5,,
+1,delete,5,,
+end,3,,,
+",
+    steps: 48 + 72,
+};
+
+const RACES: [Race; 3] = [INSERTS, DELETE_AND_INSERT, DELETES];
 
 /// What the others make of a client that has stopped.
 #[derive(Clone, Copy, Debug)]
@@ -43,14 +77,14 @@ fn schedule(alloc: Global, turns: u64, then: Then) -> Result<String, AllocError>
 }
 
 /// Client 0 stops after each of its steps in turn: each record passes the check.
-fn sweep(rt: &impl Abort, alloc: Global, then: Then) -> Result<(), Fail> {
-    for turns in 1..=ITS_STEPS {
+fn sweep(rt: &impl Abort, alloc: Global, race: Race, then: Then) -> Result<(), Fail> {
+    for turns in 1..=race.steps {
         let schedule = schedule(alloc, turns, then)?;
-        let record = played(alloc, ONE_KEY, schedule.as_str())?;
+        let record = played(alloc, race.script, schedule.as_str())?;
         assert_eq!(rt;
             check(alloc, &record),
             Ok(()),
-            "{then:?} after {turns} turns"
+            "{then:?} after {turns} turns of {race:?}"
         );
     }
     Ok(())
@@ -58,12 +92,18 @@ fn sweep(rt: &impl Abort, alloc: Global, then: Then) -> Result<(), Fail> {
 
 #[test]
 fn a_stopped_client_is_left(rt: HostRuntime) -> Result<(), Fail> {
-    sweep(&rt, rt.alloc(), Then::Left)
+    for race in RACES {
+        sweep(&rt, rt.alloc(), race, Then::Left)?;
+    }
+    Ok(())
 }
 
 #[test]
 fn a_stopped_client_goes_on_at_last(rt: HostRuntime) -> Result<(), Fail> {
-    sweep(&rt, rt.alloc(), Then::Finishes)
+    for race in RACES {
+        sweep(&rt, rt.alloc(), race, Then::Finishes)?;
+    }
+    Ok(())
 }
 
 /// The other one stops too: behind its walk, in its look at the node above, just before the update
@@ -71,7 +111,25 @@ fn a_stopped_client_goes_on_at_last(rt: HostRuntime) -> Result<(), Fail> {
 #[test]
 fn each_of_two_stops(rt: HostRuntime) -> Result<(), Fail> {
     for steps in [7, 12, 23, 26, 43] {
-        sweep(&rt, rt.alloc(), Then::FinishesBetween(steps))?;
+        sweep(&rt, rt.alloc(), INSERTS, Then::FinishesBetween(steps))?;
+    }
+    Ok(())
+}
+
+/// The same with a delete that is helped, or beaten: it is made in the 31st step of the insert that
+/// helps it, which makes its own in the 81st; the delete that beats makes its own in the 71st.
+#[test]
+fn each_of_two_stops_around_a_delete(rt: HostRuntime) -> Result<(), Fail> {
+    for steps in [6, 12, 30, 31, 80] {
+        sweep(
+            &rt,
+            rt.alloc(),
+            DELETE_AND_INSERT,
+            Then::FinishesBetween(steps),
+        )?;
+    }
+    for steps in [7, 12, 30, 31, 70] {
+        sweep(&rt, rt.alloc(), DELETES, Then::FinishesBetween(steps))?;
     }
     Ok(())
 }
