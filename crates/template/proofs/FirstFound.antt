@@ -54,15 +54,15 @@ module _ (c : Call) (h : History) (n : ℕ) (side : Side) (next : ℕ) (run : Is
     fork = x.fork;
     side_is = rw (lt-ltb k (rank (value h) n) low) (sym is_left);
     shown =
-      let s = x.shown in
-      let e : rank (value h) n ≡ rank (value s.moment) n = settled_rank (value s.moment) (value h) n (passed_same c h s.moment 0 n run s.within s.passed) in
-      record {
-        moment = s.moment;
-        within = s.within;
-        own = s.own;
-        passed = own_passed c s.moment k n (run_since c.layout h s.moment run s.within) s.passed (omega (arith, low, e));
-        held = s.held;
-      };
+        let s = x.shown in
+        let e : rank (value h) n ≡ rank (value s.moment) n = settled_rank (value s.moment) (value h) n (passed_same c h s.moment 0 n run s.within s.passed) in
+        record {
+          moment = s.moment;
+          within = s.within;
+          own = s.own;
+          passed = own_passed c s.moment k n (run_since c.layout h s.moment run s.within) s.passed (omega (arith, low, e));
+          held = s.held;
+        };
   }
 
 -- the key of a leaf of class 0 is below 2 ^ 64

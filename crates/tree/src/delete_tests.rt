@@ -1,7 +1,9 @@
 //! Deletes, step by step, and in races.
 use crate::story::Call::{Delete, Get, Insert};
 use crate::story::Turns::{Finish, Makes, Steps, Until, UpToReply};
-use crate::story::{Call, Made, Reply, Told, contended, done, full, node, played, plays, scx, tells};
+use crate::story::{
+    Call, Made, Reply, Told, contended, done, full, node, played, plays, scx, tells,
+};
 use arena::Kind::{
     Commit, Fill, Freeze, LoadChild, LoadInfo, LoadMarked, LoadSettled, LoadState, Mark, SetFrozen,
     Update,
