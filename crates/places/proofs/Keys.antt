@@ -1,20 +1,15 @@
 -- The keys that calls may change are known.
-use Rattle.std.proofs.Common.{◌≡◌, ◌≢◌, ℕ, ◌+◌, ◌<◌, inl, inr, ⊎_elim, List, length, get_or, Option, Some, None, IsSome, refl, sym, ◌∙◌, ap, subst, arith}
+use Rattle.std.proofs.Common.{◌≡◌, ◌≢◌, ℕ, ◌+◌, ◌<◌, inl, inr, ⊎_elim, List, length, get_or, Option, Some, None, IsSome, IfSome, refl, sym, ◌∙◌, ap, subst, arith}
 use Rattle.std.specs.Prelude.{unwrap_or}
 use Rattle.std.proofs.lemmas.Bool.{cases_order, cases_eq}
 use Rattle.std.proofs.lemmas.List.{get_or_default}
 use Rattle.script.specs.declared.command.Call.{Call}
-use Rattle.script.specs.declared.command.Command.{Command}
-use Rattle.script.specs.declared.command.Command.TheVariants.{Llx, Scx, Vlx, Set, Insert, Get}
+use Rattle.places.specs.Changed.{changed_key}
 use Rattle.places.specs.Places.{HoldsOfKey}
 
-holds_wider : (P Q : ℕ → Type 0) (command : Command) → ((key : ℕ) → P key → Q key) → HoldsOfKey P command → HoldsOfKey Q command
-holds_wider P Q (Insert key value) wider x = wider key x
-holds_wider P Q (Llx cell) wider x = tt
-holds_wider P Q (Scx update) wider x = tt
-holds_wider P Q (Vlx cells) wider x = tt
-holds_wider P Q (Set field value) wider x = tt
-holds_wider P Q (Get key) wider x = tt
+wider_key : (P Q : ℕ → Type 0) (key : Option ℕ) → ((k : ℕ) → P k → Q k) → IfSome key P → IfSome key Q
+wider_key P Q (Some k) wider x = wider k x
+wider_key P Q None wider x = tt
 
 -- P holds of the keys of the first n calls
 abbrev pub HoldOfFirst : (ℕ → Type 0) → ℕ → List Call → Type 0
@@ -22,7 +17,7 @@ HoldOfFirst P n calls = (k : ℕ) (d : Call) → k < n → HoldsOfKey P (get_or 
 
 -- of one more, by what holds of its key
 pub keys_more : (P Q : ℕ → Type 0) (n : ℕ) (calls : List Call) → ((key : ℕ) → P key → Q key) → ((d : Call) → HoldsOfKey Q (get_or calls n d).command) → HoldOfFirst P n calls → HoldOfFirst Q (n + 1) calls
-keys_more P Q n calls wider newest x k d i = elim (cases_order k n) [ inl q ↦ subst (λ j. HoldsOfKey Q (get_or calls j d).command) (sym q) (newest d) | inr (inl q) ↦ holds_wider P Q (get_or calls k d).command wider (x k d q) | inr (inr q) ↦ absurd (omega (q, i, arith)) ]
+keys_more P Q n calls wider newest x k d i = elim (cases_order k n) [ inl q ↦ subst (λ j. HoldsOfKey Q (get_or calls j d).command) (sym q) (newest d) | inr (inl q) ↦ wider_key P Q (changed_key (get_or calls k d).command) wider (x k d q) | inr (inr q) ↦ absurd (omega (q, i, arith)) ]
 
 -- a key that a map has is still there once another, or the same, is put
 pub still_some : (old_get new_get : ℕ → Option (Option ℕ)) (put : ℕ) (value : Option ℕ) → new_get put ≡ Some value → ((key : ℕ) → put ≢ key → new_get key ≡ old_get key) → (key : ℕ) → IsSome (old_get key) → IsSome (new_get key)
@@ -32,21 +27,10 @@ still_some old_get new_get put value own others key x = ⊎_elim (λ e. subst (�
 pub still_none : (old_get new_get : ℕ → Option (Option ℕ)) (put : ℕ) → new_get put ≡ Some None → ((key : ℕ) → put ≢ key → new_get key ≡ old_get key) → ((key : ℕ) → unwrap_or (old_get key) None ≡ None) → (key : ℕ) → unwrap_or (new_get key) None ≡ None
 still_none old_get new_get put own others x key = ⊎_elim (λ e. subst (λ j. unwrap_or (new_get j) None ≡ None) e (rw own refl)) (λ ne. rw (others key ne) (x key)) (cases_eq put key)
 
--- a command that changes no key
-pub no_key : (P : ℕ → Type 0) (command : Command) → ((key value : ℕ) → command ≡ Insert key value → ⊥) → HoldsOfKey P command
-no_key P (Insert key value) x = absurd (x key value refl)
-no_key P (Llx cell) x = tt
-no_key P (Scx update) x = tt
-no_key P (Vlx cells) x = tt
-no_key P (Set field value) x = tt
-no_key P (Get key) x = tt
-
 -- the call at a place, whichever stands for what is past the end
 same_call : (calls : List Call) (n : ℕ) (call d : Call) → n < length calls → call ≡ get_or calls n call → get_or calls n d ≡ call
 same_call calls n call d i e = get_or_default calls n d call i ∙ sym e
 
-pub newest_key : (P : ℕ → Type 0) (calls : List Call) (n : ℕ) (call : Call) (key value : ℕ) → n < length calls → call ≡ get_or calls n call → call.command ≡ Insert key value → P key → (d : Call) → HoldsOfKey P (get_or calls n d).command
-newest_key P calls n call key value i e is x d = subst (λ (c : Command). HoldsOfKey P c) (sym (ap (λ (k : Call). k.command) (same_call calls n call d i e) ∙ is)) x
-
-pub newest_none : (P : ℕ → Type 0) (calls : List Call) (n : ℕ) (call : Call) → n < length calls → call ≡ get_or calls n call → ((key value : ℕ) → call.command ≡ Insert key value → ⊥) → (d : Call) → HoldsOfKey P (get_or calls n d).command
-newest_none P calls n call i e other d = subst (λ (c : Command). HoldsOfKey P c) (sym (ap (λ (k : Call). k.command) (same_call calls n call d i e))) (no_key P call.command other)
+-- P holds of the key of the call at this place
+pub newest_key : (P : ℕ → Type 0) (calls : List Call) (n : ℕ) (call : Call) (key : Option ℕ) → n < length calls → call ≡ get_or calls n call → key ≡ changed_key call.command → IfSome key P → (d : Call) → HoldsOfKey P (get_or calls n d).command
+newest_key P calls n call key i e is x d = subst (λ (o : Option ℕ). IfSome o P) (is ∙ ap (λ (k : Call). changed_key k.command) (sym (same_call calls n call d i e))) x

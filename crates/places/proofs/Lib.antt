@@ -2,8 +2,8 @@ mod Values
 mod Chains
 mod Keys
 mod Turns
-mod Gets
+mod Readings
 mod Spelled
 mod Changes
-mod Inserts
+mod Edits
 pub mod Lemmas

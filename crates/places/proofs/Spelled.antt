@@ -1,4 +1,4 @@
--- The words spell the map so far after every step of a run of gets and inserts.
+-- The words spell the map so far after every step of a run of calls of the map.
 use Rattle.std.proofs.Common.{◌≡◌, ℕ, suc, inr, true, false, eqb, List, [], ◌∷◌, Some, None, slice_get, refl, sym, ◌∙◌, ap, subst}
 use Rattle.std.proofs.lemmas.Bool.{ne_eqb}
 use Rattle.arena.specs.declared.limits.Mode.TheVariants.{Tree}
@@ -11,14 +11,14 @@ use Rattle.arena.specs.ScxRecords.{field}
 use Rattle.arena.proofs.Lemmas.{ends_self}
 use Rattle.histories.proofs.Lemmas.{Logs, facts_before, logs, same, update_changes, wins}
 use Rattle.spelling.specs.declared.pair.Pair.{Pair}
-use Rattle.spelling.specs.OrderedMap.{Insert}
+use Rattle.spelling.specs.OrderedMap.{MapEdit, Insert, Delete, edited}
 use Rattle.spelling.specs.FillOrder.{AreFilledInOrder}
 use Rattle.spelling.specs.Runs.{IsTreeRun, Makes}
 use Rattle.spelling.specs.Spelled.{Spells}
 use Rattle.spelling.proofs.Lemmas.{makes_since, opening_spells, quiet_spells, rising_levels, run_since, win_makes}
 use Rattle.script.specs.declared.command.Call.{Call}
 use Rattle.script.specs.declared.command.Command.{Command}
-use Rattle.script.specs.declared.command.Command.TheVariants.{Llx, Scx, Vlx, Set, Insert as InsertOf, Get as GetOf}
+use Rattle.script.specs.declared.command.Command.TheVariants.{Llx, Scx, Vlx, Set, Insert as InsertOf, Delete as DeleteOf, Get as GetOf}
 use Rattle.record.specs.declared.record.Line.{Line}
 use Rattle.record.specs.declared.record.Line.TheVariants.{Step, Log, Reply as ReplyLine}
 use Rattle.record.specs.declared.record.Row.TheVariants.{Step as Made, Idle}
@@ -56,14 +56,18 @@ module _ (lay : Layout) (tries : ℕ) (calls : List Call) (mode : lay.mode ≡ T
       call_is : (command : Command) → next_command calls lines e.client.0 ≡ Some command → map_call_of calls e.client.0 e.call ≡ map_call (Some command)
       call_is command is = ap (λ (j : ℕ). map_call (slice_get (commands calls e.client.0) j)) x.call ∙ ap map_call is
 
-      makes : (key v : ℕ) → Makes lay (history lay.mode lines) x.entered.scx (Insert key v) → Makes lay (row ⊳ history lay.mode lines) e.scx.0 (Insert key v)
-      makes key v y = makes_since lay (row ⊳ history lay.mode lines) (history lay.mode lines) e.scx.0 (Insert key v) (inr (ends_self (history lay.mode lines))) (subst (λ (u : ℕ). Makes lay (history lay.mode lines) u (Insert key v)) x.same_scx y)
+      makes : (edit : MapEdit) → Makes lay (history lay.mode lines) x.entered.scx edit → Makes lay (row ⊳ history lay.mode lines) e.scx.0 edit
+      makes edit y = makes_since lay (row ⊳ history lay.mode lines) (history lay.mode lines) e.scx.0 edit (inr (ends_self (history lay.mode lines))) (subst (λ (u : ℕ). Makes lay (history lay.mode lines) u edit) x.same_scx y)
+
+      edits : (edit : MapEdit) → Makes lay (history lay.mode lines) x.entered.scx edit → Spells lay (value (row ⊳ history lay.mode lines)) (edited edit ps)
+      edits edit does = (win_makes lay (row ⊳ history lay.mode lines) (history lay.mode lines) row e.scx.0 edit g (ends_self (row ⊳ history lay.mode lines)) x.wins (makes edit does)).changes ps s
 
       other : (command : Command) → next_command calls lines e.client.0 ≡ Some command → map_call (Some command) ≡ None → ⊥
       other command is none = let y = all e.client.0 _ command is in let d : None ≡ Some y.0 = sym none ∙ y.1 in cc
 
       go : (command : Command) → next_command calls lines e.client.0 ≡ Some command → IsEntryFor lay e.client.0 (history lay.mode lines) (start lay.mode lines e.client.0) (linked calls lay.mode lines e.client.0) x.entered command → Spells lay (value (row ⊳ history lay.mode lines)) (after_maybe (map_call_of calls e.client.0 e.call) ps)
-      go (InsertOf key v) is does = rw (call_is (InsertOf key v) is) ((win_makes lay (row ⊳ history lay.mode lines) (history lay.mode lines) row e.scx.0 (Insert key v) g (ends_self (row ⊳ history lay.mode lines)) x.wins (makes key v does)).changes ps s)
+      go (InsertOf key v) is does = rw (call_is (InsertOf key v) is) (edits (Insert key v) does)
+      go (DeleteOf key) is does = rw (call_is (DeleteOf key) is) (edits (Delete key) does)
       go (GetOf key) is does = absurd does
       go (Llx cell) is does = absurd (other (Llx cell) is refl)
       go (Scx update) is does = absurd (other (Scx update) is refl)

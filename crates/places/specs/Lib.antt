@@ -1,3 +1,4 @@
 pub mod Links
+pub mod Changed
 pub mod Places
 pub mod Entries

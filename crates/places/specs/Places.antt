@@ -1,10 +1,10 @@
 -- What callers know of the places of a run's changes.
-use Rattle.std.specs.Prelude.{ℕ, ◌-◌, List, map, reverse, vec_len, IsSome}
+use Rattle.std.specs.Prelude.{ℕ, ◌-◌, List, map, reverse, vec_len, IsSome, IfSome}
 use Rattle.std.specs.Vec.{vec_capacity}
 use Rattle.std.specs.Ordering.{nat_cmp}
 use Rattle.std.specs.BTreeMap.{get}
 use Rattle.script.specs.declared.command.Command.{Command}
-use Rattle.script.specs.declared.command.Command.TheVariants.{Insert}
+use Rattle.places.specs.Changed.{changed_key}
 use Rattle.places.specs.declared.places.Change.{Change}
 use Rattle.places.specs.declared.places.Place.{Place}
 use Rattle.places.specs.declared.places.Places.{Places}
@@ -23,5 +23,4 @@ Knows p key = IsSome (get nat_cmp p.newest key)
 
 -- P holds of the key that a command may change, if it may change one
 abbrev pub HoldsOfKey : (ℕ → Type 0) → Command → Type 0
-HoldsOfKey P (Insert key value) = P key
-HoldsOfKey P _ = Unit {0}
+HoldsOfKey P command = IfSome (changed_key command) P

@@ -1,6 +1,7 @@
 //! When a key of a run's map had which value, found without a look at every step.
 #![tactic(auto)]
 
+mod changed;
 mod places;
 
 pub use places::{Change, Places};

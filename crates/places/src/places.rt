@@ -4,8 +4,9 @@ ghost use Rattle.std.specs.Ordering.{nat_cmp};
 ghost use Rattle.std.specs.BTreeMap.{get as get_newest};
 ghost use Rattle.places.specs.Links.{latest, AreLinked};
 
+use crate::changed::changed_key;
 use arena::NoMemory;
-use script::{Call, Command};
+use script::Call;
 use std::alloc::Global;
 use std::collections::BTreeMap;
 
@@ -50,7 +51,7 @@ impl Places {
     {
         let mut newest = BTreeMap::new(alloc);
         for call in calls {
-            if let Command::Insert { key, value: _ } = call.command {
+            if let Some(key) = changed_key(call.command) {
                 newest.insert(key, None)?;
             }
         }

@@ -1,5 +1,5 @@
 -- What calls need to begin.
-use Rattle.std.proofs.Common.{◌≡◌, ◌≢◌, ℕ, suc, ◌+◌, ◌-◌, ◌*◌, ◌^◌, ◌<◌, ◌≤◌, inl, List, Option, Some, None, refl, sym, ◌∙◌, ap, subst, arith, length, zero, [], ◌∷◌, ◌⊎◌, ⊎_elim, slice_index_or, slice_get, get_or, unwrap_or, nat_lt, map, AllPairs, Contains, MatchOption, Bool, true, false, All}
+use Rattle.std.proofs.Common.{◌≡◌, ◌≢◌, ℕ, suc, ◌+◌, ◌^◌, ◌<◌, ◌≤◌, inl, List, Option, Some, None, refl, sym, ◌∙◌, ap, subst, arith, length, zero, [], ◌∷◌, ◌⊎◌, ⊎_elim, slice_index_or, slice_get, get_or, unwrap_or, nat_lt, map, AllPairs, Contains, MatchOption, Bool, true, false, All}
 use Rattle.tree.specs.declared.get.GetRun.{GetRun}
 use Rattle.tree.specs.Get.Known.{GetIsReady}
 use Rattle.script.specs.Commands.{mode_of}
@@ -33,8 +33,11 @@ use Rattle.prims.specs.declared.llx.LlxRun.{LlxRun}
 use Rattle.prims.specs.declared.llx.LlxAt.TheVariants.{Start}
 use Rattle.prims.specs.declared.vlx.VlxRun.{VlxRun}
 use Rattle.script.specs.declared.command.Command.{Command}
-use Rattle.script.specs.declared.command.Command.TheVariants.{Llx as LlxCommand, Vlx as VlxCommand, Scx as ScxCommand, Set as SetCommand, Insert as InsertCommand, Get as GetCommand}
-use Rattle.player.specs.declared.run.Run.TheVariants.{Llx, Vlx, Insert, Get}
+use Rattle.script.specs.declared.command.Command.TheVariants.{Llx as LlxCommand, Vlx as VlxCommand, Scx as ScxCommand, Set as SetCommand, Insert as InsertCommand, Delete as DeleteCommand, Get as GetCommand}
+use Rattle.player.specs.EditRuns.{EditIsReady, HasSpentOf, IsUnbegunEdit, call_of, edit_command, edit_left, edit_of, edit_steps, share_of}
+use Rattle.player.specs.declared.edit.EditRun.{EditRun}
+use Rattle.player.specs.declared.edit.EditRun.TheVariants.{Insert, Delete}
+use Rattle.player.specs.declared.run.Run.TheVariants.{Llx, Vlx, Edit, Get}
 use Rattle.player.specs.declared.client.Client.{Client}
 use Rattle.player.specs.declared.client.Put.{Put}
 use Rattle.record.specs.declared.record.Answer.{Answer}
@@ -43,13 +46,13 @@ use Rattle.record.specs.CommandRules.{most_steps}
 use Rattle.arena.specs.Share.{Remaining}
 use Rattle.arena.specs.Fills.{IsOwnScx, IsTakenScx}
 use Rattle.prims.specs.Moments.{AreFinished}
-use Rattle.tree.specs.declared.insert.Insert.{Insert as Inserted}
-use Rattle.tree.specs.Insert.Means.{insert_means}
+use Rattle.arena.specs.Machines.{Call as MachineCall}
+use Rattle.spelling.specs.OrderedMap.{MapEdit, edit_key, Insert as PutEdit, Delete as TakeEdit}
+use Rattle.spelling.specs.Runs.{IsTreeRun}
+use Rattle.updates.specs.Known.{RestsWith}
 use Rattle.updates.specs.Laws.Entered.{none_yet}
-use Rattle.updates.specs.Steps.{update_left, node_tries, scx_tries, Spends}
+use Rattle.updates.specs.Steps.{node_tries, scx_tries, Spends}
 use Rattle.updates.specs.declared.update.UpdateAt.{UpdateAt}
-use Rattle.updates.specs.declared.update.UpdateAt.TheVariants.{Start as UpdateStart}
-use Rattle.updates.specs.declared.update.UpdateRun.{UpdateRun}
 use Rattle.player.proofs.Shapes.{as_tree}
 use Rattle.player.specs.RunSteps.{then_left}
 use Rattle.prims.specs.Scx.Known.{nodes_of}
@@ -76,6 +79,7 @@ llx_few tries (SetCommand field value) n None f taken = absurd f
 llx_few tries (ScxCommand update) n then f taken = absurd f
 llx_few tries (VlxCommand cells) n then f taken = absurd f
 llx_few tries (InsertCommand key value) n then f taken = absurd f
+llx_few tries (DeleteCommand key) n then f taken = absurd f
 llx_few tries (GetCommand key) n then f taken = absurd f
 
 -- an LLX of a cell
@@ -85,6 +89,7 @@ llx_starts v began c m then command sound mode r u start i is f = record {
   none = r.none;
   spent = tt;
   ready = ready_at_start AllowsAll m (machine_call v c r.stands.is_pass v.past) v.past refl start (cell_opened v.layout v.past m.node.0 mode i) (all_idle v.layout v.past c.pass.0 (held c) _ _ sound.lawful r.holds.share r.holds.over);
+  tries = tt;
   few = λ taken i. let few = llx_few v.tries command m.node.0 then f taken in rw (u.steps, start) (omega arith);
 }
 
@@ -95,31 +100,48 @@ vlx_starts v began c m cells sound mode r u start some nodes l is left = record 
   none = r.none;
   spent = tt;
   ready = vlx_ready_first v.layout c.pass.0 c.number r.stands.is_pass v.past m.snaps m.asked start some (λ i p. let x = l i p in (x.0, x.2.usable)) (all_over v.layout v.past c.pass.0 (held c) _ _ r.holds.share r.holds.over);
+  tries = tt;
   few = λ taken i. omega (arith, u.steps, left);
 }
 
 -- a get from its start
-pub get_starts : (v : ClientView) (began : Option ℕ) (c : Client) (m : GetRun) (key : ℕ) → IsSound v → v.layout.mode ≡ Tree → (r : Rests v c) → IsUnbegun v began → m.walk.key ≡ key → m.walk.at ≡ WalkStart → GetIsReady m (machine_call v c r.stands.is_pass v.past) v.past None → command_of v c ≡ Some (GetCommand key) → Starts v c (Get m) None
+pub get_starts : (v : ClientView) (began : Option ℕ) (c : Client) (m : GetRun) (key : ℕ) → IsSound v → v.layout.mode ≡ Tree → (r : Rests v c) → IsUnbegun v began → m.key ≡ key → m.walk.at ≡ WalkStart → GetIsReady m (machine_call v c r.stands.is_pass v.past) v.past None → command_of v c ≡ Some (GetCommand key) → Starts v c (Get m) None
 get_starts v began c m key sound mode r u at start ready is = record {
   works = record { mode = mode; stands = r.stands; holds = r.holds; newest = tt; command = GetCommand key; is = is; run_of = at; is_pass = r.stands.is_pass; start = v.past; since = ends_self v.past; begun = sym u.start; moments = λ j p. absurd (omega arith); alone = λ j p. absurd (omega arith); room = tt; opening = held c; took = taken_none v c.pass.0 (no_hand (held c)) u.start; won = u.won; late = λ turn e. none_late v.won turn c.begin u.won e };
   none = r.none;
   spent = tt;
   ready = ready;
+  tries = tt;
   few = λ taken i. rw (u.steps, start) (omega arith);
 }
 
--- an insert from its start, to which the client gives its share
-pub insert_starts : (v : ClientView) (began : Option ℕ) (c : Client) (m : UpdateRun Inserted) (key value : ℕ) (share : Remaining) → IsSound v → v.layout.mode ≡ Tree → 0 < v.tries → (r : Rests v c) → IsUnbegun v began → c.share ≡ Some share → m.edit.key < 2 ^ 64 → m.edit.key ≡ key → m.edit.value ≡ value → m.share ≡ share → m.call ≡ c.number → m.tries ≡ v.tries - 1 → m.at ≡ UpdateStart
-    → ((nodes : ℕ) → update_left insert_means m nodes ≡ v.tries * (3 * (2 + nodes) + 178)) → command_of v c ≡ Some (InsertCommand key value) → Starts v (record c { share = None }) (Insert m) None
-insert_starts v began c m key value share sound mode some r u had small key_is value_is share_is call tries at left is = record {
+-- the machine of an edit at its start has taken nothing
+spent_start : (m : EditRun) (tries : ℕ) → 0 < tries → IsUnbegunEdit m tries → HasSpentOf (share_of m) tries m
+spent_start (Insert m) tries some u = subst (λ (at : UpdateAt). Spends 3 m.share m.share tries (node_tries m at) tries (scx_tries m at)) (sym u.0) (let left = u.1 in (omega (arith, left, some), omega (arith, left, some)))
+spent_start (Delete m) tries some u = subst (λ (at : UpdateAt). Spends 1 m.share m.share tries (node_tries m at) tries (scx_tries m at)) (sym u.0) (let left = u.1 in (omega (arith, left, some), omega (arith, left, some)))
+
+-- it may begin where the share is at rest
+ready_start : (m : EditRun) (call : MachineCall) (tries : ℕ) → IsTreeRun call.layout call.start → edit_key (edit_of m) < 2 ^ 64 → RestsWith call call.start (share_of m) → IsUnbegunEdit m tries → EditIsReady m call call.start None
+ready_start (Insert m) call tries run small rests u = (record { run = run; small = small; since = ends_self call.start; rests = rests }, record { since = ends_self call.start; none = none_yet call.layout call.pass call.start }, rests, u.0)
+ready_start (Delete m) call tries run small rests u = (record { run = run; small = small; since = ends_self call.start; rests = rests }, record { since = ends_self call.start; none = none_yet call.layout call.pass call.start }, rests, u.0)
+
+-- and makes no more steps than its command may
+edit_few : (e : MapEdit) (tries taken : ℕ) → edit_steps e tries taken ≡ most_steps (edit_command e) tries taken
+edit_few (PutEdit key value) tries taken = refl
+edit_few (TakeEdit key) tries taken = refl
+
+-- an edit from its start, to which the client gives its share
+pub edit_starts : (v : ClientView) (began : Option ℕ) (c : Client) (m : EditRun) (share : Remaining) → IsSound v → v.layout.mode ≡ Tree → 0 < v.tries → (r : Rests v c) → IsUnbegun v began → c.share ≡ Some share → edit_key (edit_of m) < 2 ^ 64 → share_of m ≡ share → call_of m ≡ c.number → IsUnbegunEdit m v.tries
+    → ((nodes : ℕ) → edit_left m nodes ≡ edit_steps (edit_of m) v.tries nodes) → command_of v c ≡ Some (edit_command (edit_of m)) → Starts v (record c { share = None }) (Edit m) None
+edit_starts v began c m share sound mode some r u had small share_is call start left is = record {
   works = record {
     mode = mode;
     stands = record { is_pass = r.stands.is_pass; tries = r.stands.tries; number = r.stands.number; place = r.stands.place; kept = r.stands.kept; unkept = r.stands.unkept; dropped = r.stands.dropped; free = r.stands.free };
     holds = tt;
     newest = tt;
-    command = InsertCommand key value;
+    command = edit_command (edit_of m);
     is = is;
-    run_of = (small, (key_is, value_is, call));
+    run_of = (small, record { is = refl; called = call; alone = refl });
     is_pass = r.stands.is_pass;
     start = v.past;
     since = ends_self v.past;
@@ -127,18 +149,19 @@ insert_starts v began c m key value share sound mode some r u had small key_is v
     moments = λ j p. absurd (omega arith);
     alone = λ j p. absurd (omega arith);
     room = tt;
-    opening = m.share;
+    opening = share_of m;
     took = rw (u.start, has) r.holds.share;
     won = record { yes = λ row before s w. absurd (none_yet v.layout c.pass.0 v.past row before s w.within (subst (λ (k : History). Extends before k) u.start w.since) w.wins w.own); no = inl u.won };
     late = λ turn e. none_late v.won turn c.begin u.won e;
   };
   none = r.none;
-  spent = subst (λ (at : UpdateAt). Spends m.share m.share v.tries (node_tries m at) v.tries (scx_tries m at)) (sym at) (omega (arith, tries, some), omega (arith, tries, some));
-  ready = (record { run = (mode, as_tree v.layout v.past mode sound); small = small; since = ends_self v.past; rests = record { share = rw has r.holds.share; over = over } }, record { since = ends_self v.past; none = none_yet v.layout c.pass.0 v.past }, record { share = rw has r.holds.share; over = over }, at);
-  few = λ taken i. rw u.steps (let e = left taken in omega (arith, e));
+  spent = spent_start m v.tries some start;
+  ready = ready_start m (machine_call v c r.stands.is_pass v.past) v.tries (mode, as_tree v.layout v.past mode sound) small rests start;
+  tries = start;
+  few = λ taken i. rw u.steps (let e = left taken in let f = edit_few (edit_of m) v.tries taken in omega (arith, e, f));
 }
   where
-    has : m.share ≡ held c
+    has : share_of m ≡ held c
     has = share_is ∙ sym (ap (λ (o : Option Remaining). unwrap_or o record { next_node = 0; nodes = 0; next_scx = 0; scx = 0 }) had)
 
     over : AreFinished v.layout c.pass.0 0 v.past
@@ -146,6 +169,9 @@ insert_starts v began c m key value share sound mode some r u had small key_is v
       where
         next_free : (s : ℕ) → s ≡ (held c).next_scx → IsOwnScx v.layout c.pass.0 s → ¬ IsTakenScx v.past s
         next_free s e own = r.holds.share.untaken s record { from = omega (arith, e); below = let a = own.below in let b = r.holds.share.to_scx in omega (arith, a, b) }
+
+    rests : RestsWith (machine_call v c r.stands.is_pass v.past) v.past (share_of m)
+    rests = record { share = rw has r.holds.share; over = over }
 
 -- as many snapshots as cells
 pub as_many_snaps : (snaps : List Snap) (cells : List ℕ) → map (λ (s : Snap). s.node.0) snaps ≡ cells → length snaps ≡ length cells
@@ -199,9 +225,9 @@ begins_held : (v : ClientView) (old new : Client) (share : Option Remaining) (an
 begins_held v old new share None x = (record { pass = x.0.pass; number = x.0.number; next = x.0.next }, x.1, x.2)
 begins_held v old new share (Some answer) x = (record { pass = x.0.pass; number = x.0.number; next = x.0.next }, x.1, x.2)
 
--- the insert that starts is that of the client
-pub insert_begins : (v : ClientView) (old new : Client) (m : UpdateRun Inserted) (share : Option Remaining) (answer : Option Answer) → share ≡ None → Starts v (record old { share = None }) (Insert m) None → (Starts v (record old { share = share }) (Insert m) None → BeginsOrRefuses v old.begin (record old { share = share }) new answer) → BeginsOrRefuses v old.begin old new answer
-insert_begins v old new m share answer none x f = begins_held v old new share answer (f (subst (λ (o : Option Remaining). Starts v (record old { share = o }) (Insert m) None) (sym none) x))
+-- the edit that starts is that of the client
+pub edit_begins : (v : ClientView) (old new : Client) (m : EditRun) (share : Option Remaining) (answer : Option Answer) → share ≡ None → Starts v (record old { share = None }) (Edit m) None → (Starts v (record old { share = share }) (Edit m) None → BeginsOrRefuses v old.begin (record old { share = share }) new answer) → BeginsOrRefuses v old.begin old new answer
+edit_begins v old new m share answer none x f = begins_held v old new share answer (f (subst (λ (o : Option Remaining). Starts v (record old { share = o }) (Edit m) None) (sym none) x))
 
 -- a client at rest keeps a snapshot of each cell of which one is said
 unkept_is : (v : ClientView) (c : Client) → Rests v c → (n : ℕ) → n ≤ 8 → kept_of c.kept n ≡ None → v.linked n ≡ None

@@ -32,11 +32,11 @@ use Rattle.prims.specs.declared.llx.Llx.TheVariants.{Snapshot as LlxSnapshot, Fi
 use Rattle.prims.specs.declared.scx.Scx.TheVariants.{Done as ScxDone, Lost as ScxLost}
 use Rattle.prims.specs.declared.vlx.Vlx.TheVariants.{Same as VlxSame, Changed as VlxChanged}
 use Rattle.script.specs.declared.command.Command.{Command}
-use Rattle.script.specs.declared.command.Command.TheVariants.{Llx as LlxOf, Scx as ScxOf, Vlx as VlxOf, Set as SetOf, Insert as InsertOf, Get as GetOf}
+use Rattle.script.specs.declared.command.Command.TheVariants.{Llx as LlxOf, Scx as ScxOf, Vlx as VlxOf, Set as SetOf, Insert as InsertOf, Delete as DeleteOf, Get as GetOf}
 use Rattle.script.specs.Cells.{cells_of}
 use Rattle.script.specs.Update.{update_cells}
 use Rattle.player.specs.declared.run.Run.{Run}
-use Rattle.player.specs.declared.run.Run.TheVariants.{Llx, Scx, Vlx, Insert, Get}
+use Rattle.player.specs.declared.run.Run.TheVariants.{Llx, Scx, Vlx, Edit, Get}
 use Rattle.player.specs.declared.run.Ended.{Ended}
 use Rattle.player.specs.declared.run.Ended.TheVariants as ended
 use Rattle.player.specs.declared.client.Client.{Client}
@@ -44,24 +44,22 @@ use Rattle.player.specs.declared.client.Put.{Put}
 use Rattle.player.specs.declared.kept.Kept.{Kept}
 use Rattle.player.specs.declared.kept.Found.{Found}
 use Rattle.record.specs.declared.record.Answer.{Answer}
-use Rattle.record.specs.declared.record.Answer.TheVariants.{Full, Value}
+use Rattle.record.specs.declared.record.Answer.TheVariants.{Value}
 use Rattle.player.specs.KeptSnaps.{IsUnspent, kept_of, node_of, found_of, parts, snap_of}
 use Rattle.record.specs.CommandRules.{MayAnswerAfterStep, HasTakenFew, enters, IsRight}
-use Rattle.record.specs.Rules.Insert.{InsertIsRight}
 use Rattle.record.specs.Shares.{HasTakenAtMost}
 use Rattle.arena.specs.declared.limits.Mode.TheVariants.{Records, Tree}
-use Rattle.tree.specs.declared.insert.Insert.{Insert as Inserted}
-use Rattle.tree.specs.Insert.Means.{insert_means}
-use Rattle.updates.specs.Known.{RestsWith, UpdateAnswers}
-use Rattle.updates.specs.declared.update.UpdateRun.{UpdateRun}
+use Rattle.spelling.specs.OrderedMap.{MapEdit, Insert as PutEdit, Delete as TakeEdit}
+use Rattle.updates.specs.Known.{RestsWith}
 use Rattle.updates.specs.declared.update.Updated.{Updated}
-use Rattle.updates.specs.declared.update.Updated.TheVariants.{Done as UpdateDone, Contended as UpdateContended, Full as UpdateFull}
-use Rattle.player.proofs.InsertEnds.{IsInsertEnd, insert_end}
+use Rattle.player.specs.EditRuns.{EditAnswers, edit_of, edit_command, most_nodes, share_of}
+use Rattle.player.specs.declared.edit.EditRun.{EditRun}
+use Rattle.player.proofs.EditEnds.{IsRightEnd, edit_ends, edit_rests, entered_some, entered_none}
 use Rattle.record.specs.Snapshots.{IsLastLook, AreLinked, IsBehindAll}
 use Rattle.record.specs.Answers.{HasRoom, IsInTheWay, IsAsSnapped, HasItsEntry}
 use Rattle.player.specs.RunKnown.{answer_of}
 use Rattle.prims.specs.Scx.Known.{nodes_of}
-use Rattle.player.specs.ClientView.{ClientView, IsSound, IsLlxOf, IsScxOf, IsVlxOf, IsInsertOf, IsGetOf, Hand, no_hand, in_hand, held, HoldsShare, HaveMoments, HasInserted, Tells, command_of, IsClientState, Rests, Answered, Ends, machine_call, linked_by}
+use Rattle.player.specs.ClientView.{ClientView, IsSound, IsLlxOf, IsScxOf, IsVlxOf, IsGetOf, Hand, no_hand, in_hand, held, HoldsShare, HaveMoments, Tells, command_of, IsClientState, Rests, Answered, Ends, machine_call, linked_by}
 use Rattle.player.proofs.Puts.{put_committed, put_aborted}
 use Rattle.player.proofs.Snapshots.{has_snap, snap_there, snap_found, kept_after, unkept_after}
 use Rattle.player.proofs.Over.{taken_one, taken_nothing, taken_tries}
@@ -127,14 +125,6 @@ record IsOutcome (v : ClientView) (c : ℕ) (snaps : List Snap) (command : Comma
   tells : Tells v c command answer
   took : HasTakenFew v.layout v.tries c v.past v.start command
   drops : IsDropped snaps v.linked (linked_by v command answer)
-
-entered_some : (won : Option ℕ) (turn : ℕ) → won ≡ Some turn → HasItsEntry true won
-entered_some (Some k) turn e = tt
-entered_some None turn e = cc
-
-pub entered_none : (won : Option ℕ) → won ≡ None → HasItsEntry false won
-entered_none None e = tt
-entered_none (Some k) e = cc
 
 -- one of the nodes was changed by another client
 blamed_is : (kind : Kind) (v : ClientView) (c : Client) (command : Command) (snaps : List Snap) (nodes : List ℕ) (start : History) → Extends start v.start → (node scx : ℕ) (IsSuch : History → Type 0) → nodes_of snaps ≡ nodes → HaveMoments v c.pass.0 command snaps → AreLeftAlone v.layout c.pass.0 start snaps → ((i : ℕ) → i < length snaps → (snap_at snaps i).node.0 ≡ node → (moment : History) × IsMoment v.layout v.past (snap_at snaps i) moment × IsSuch moment) → HasChanged v.layout c.pass.0 kind v.past start snaps node scx → IsInTheWay v.layout c.pass.0 v.past v.start kind nodes node scx IsSuch
@@ -212,6 +202,7 @@ scx_outcome v c (SetOf field value) m (Some put) a start since is_pass x moments
 scx_outcome v c (LlxOf cell) m then a start since is_pass x moments alone room done lost took y = absurd x
 scx_outcome v c (VlxOf cells) m then a start since is_pass x moments alone room done lost took y = absurd x
 scx_outcome v c (InsertOf key value) m then a start since is_pass x moments alone room done lost took y = absurd x
+scx_outcome v c (DeleteOf key) m then a start since is_pass x moments alone room done lost took y = absurd x
 scx_outcome v c (GetOf key) m then a start since is_pass x moments alone room done lost took y = absurd x
 
 -- a client whose SCX has ended drops its snapshots
@@ -281,7 +272,7 @@ ends_scx v c (Scx m) then a sound x =
     o = scx_outcome v c x.works.command m then a x.works.start x.works.begun x.works.is_pass x.works.run_of x.works.moments x.works.alone x.works.room (done a x.answers) (lost a x.answers) (taken_one v c.pass.0 _ x.works.took) x.answers
 ends_scx v c (Llx m) then a sound x = absurd x.answers
 ends_scx v c (Vlx m) then a sound x = absurd x.answers
-ends_scx v c (Insert m) then a sound x = absurd x.answers
+ends_scx v c (Edit m) then a sound x = absurd x.answers
 ends_scx v c (Get m) then a sound x = absurd x.answers
 
 -- The end of a VLX
@@ -345,6 +336,7 @@ vlx_outcome v c (LlxOf cell) m then a x moments alone won took is_pass y = absur
 vlx_outcome v c (ScxOf update) m then a x moments alone won took is_pass y = absurd x
 vlx_outcome v c (SetOf field value) m then a x moments alone won took is_pass y = absurd x
 vlx_outcome v c (InsertOf key value) m then a x moments alone won took is_pass y = absurd x
+vlx_outcome v c (DeleteOf key) m then a x moments alone won took is_pass y = absurd x
 vlx_outcome v c (GetOf key) m then a x moments alone won took is_pass y = absurd x
 
 -- what is said of the snapshots as before leaves a client at rest
@@ -384,7 +376,7 @@ ends_vlx v c (Vlx m) then a x =
     }
 ends_vlx v c (Llx m) then a x = absurd x.answers
 ends_vlx v c (Scx m) then a x = absurd x.answers
-ends_vlx v c (Insert m) then a x = absurd x.answers
+ends_vlx v c (Edit m) then a x = absurd x.answers
 ends_vlx v c (Get m) then a x = absurd x.answers
 
 -- a call ends with this answer, which leaves what the client has
@@ -406,7 +398,7 @@ ends_as v c command answer is stands holds none o late = record {
 -- The end of a get
 
 -- its answer stood at a moment of the call, and it leaves the snapshots
-get_outcome : (v : ClientView) (c : Client) (m : GetRun) (command : Command) (then : Option Put) (a : Option ℕ) → IsGetOf command m.walk.key then → IsAnswerAt v.layout v.past v.start m.walk.key a → v.won ≡ None → HasTakenAtMost v.layout c.pass.0 v.past v.start 0 0 → IsOutcome v c.pass.0 [] command (Value a)
+get_outcome : (v : ClientView) (c : Client) (m : GetRun) (command : Command) (then : Option Put) (a : Option ℕ) → IsGetOf command m.key then → IsAnswerAt v.layout v.past v.start m.key a → v.won ≡ None → HasTakenAtMost v.layout c.pass.0 v.past v.start 0 0 → IsOutcome v c.pass.0 [] command (Value a)
 get_outcome v c m (GetOf key) None a of x won took = record { answers = tt; right = rw (sym of) x; entry = entered_none v.won won; tells = tt; took = took; drops = record { gone = λ n z. absurd (among_none n z); others = λ n z. refl } }
 get_outcome v c m (GetOf key) (Some put) a of x won took = absurd of
 get_outcome v c m (LlxOf cell) then a of x won took = absurd of
@@ -414,59 +406,55 @@ get_outcome v c m (ScxOf update) then a of x won took = absurd of
 get_outcome v c m (VlxOf cells) then a of x won took = absurd of
 get_outcome v c m (SetOf field value) then a of x won took = absurd of
 get_outcome v c m (InsertOf key value) then a of x won took = absurd of
+get_outcome v c m (DeleteOf key) then a of x won took = absurd of
 
 ends_get : (v : ClientView) (c : Client) (run : Run) (then : Option Put) (a : Option ℕ) → IsSound v → Answered v c run then (ended.Get a) → Ends v c c (answer_of (ended.Get a))
 ends_get v c (Get m) then a sound x =
     let call = machine_call v c x.works.is_pass x.works.start in
-    let at = subst (λ (k : History). IsAnswerAt v.layout v.past k m.walk.key a) x.works.begun (get_says m call v.past a x.answers) in
+    let at = subst (λ (k : History). IsAnswerAt v.layout v.past k m.key a) x.works.begun (get_says m call v.past a x.answers) in
     let o = get_outcome v c m x.works.command then a x.works.run_of at x.works.won (taken_nothing v c.pass.0 (held c) 0 0 x.works.holds.share x.works.took) in
     ends_as v c x.works.command (Value a) x.works.is x.works.stands x.works.holds x.none o x.works.late
 ends_get v c (Llx m) then a sound x = absurd x.answers
 ends_get v c (Scx m) then a sound x = absurd x.answers
 ends_get v c (Vlx m) then a sound x = absurd x.answers
-ends_get v c (Insert m) then a sound x = absurd x.answers
+ends_get v c (Edit m) then a sound x = absurd x.answers
 
--- The end of an insert
+-- The end of an edit
 
--- what it answers, as the rules of the command say
-insert_outcome : (v : ClientView) (c : Client) (m : UpdateRun Inserted) (command : Command) (then : Option Put) (a : Updated) → IsInsertOf command c.number m then → IsInsertEnd v c.pass.0 m.edit.key a → HasTakenAtMost v.layout c.pass.0 v.past v.start (v.tries * 3) v.tries → IsOutcome v c.pass.0 [] command (answer_of (ended.Insert a))
-insert_outcome v c m (InsertOf key value) None (UpdateDone old) of x took = record { answers = tt; right = tt; entry = entered_some v.won x.0.0 x.0.1; tells = subst (λ (k : ℕ). HasInserted v c.pass.0 k old) of.0 x.1; took = took; drops = record { gone = λ n z. absurd (among_none n z); others = λ n z. refl } }
-insert_outcome v c m (InsertOf key value) None (UpdateContended node scx) of x took = record { answers = tt; right = x.1; entry = entered_none v.won x.0; tells = tt; took = took; drops = record { gone = λ n z. absurd (among_none n z); others = λ n z. refl } }
-insert_outcome v c m (InsertOf key value) None (UpdateFull full) of x took = record { answers = tt; right = subst (λ (k : ℕ). InsertIsRight k v.layout c.pass.0 v.past v.start v.linked (Full full.what full.left)) of.0 x.1; entry = entered_none v.won x.0; tells = tt; took = took; drops = record { gone = λ n z. absurd (among_none n z); others = λ n z. refl } }
-insert_outcome v c m (InsertOf key value) (Some put) a of x took = absurd of
-insert_outcome v c m (GetOf key) then a of x took = absurd of
-insert_outcome v c m (LlxOf cell) then a of x took = absurd of
-insert_outcome v c m (ScxOf update) then a of x took = absurd of
-insert_outcome v c m (VlxOf cells) then a of x took = absurd of
-insert_outcome v c m (SetOf field value) then a of x took = absurd of
+-- it leaves the snapshots, and has taken what its tries may
+edit_outcome : (v : ClientView) (c : Client) (e : MapEdit) (answer : Answer) → IsRightEnd v c.pass.0 (edit_command e) answer → HasTakenAtMost v.layout c.pass.0 v.past v.start (v.tries * most_nodes e) v.tries → IsOutcome v c.pass.0 [] (edit_command e) answer
+edit_outcome v c (PutEdit key value) answer x took = record { answers = x.answers; right = x.right; entry = x.entry; tells = x.tells; took = took; drops = record { gone = λ n z. absurd (among_none n z); others = λ n z. refl } }
+edit_outcome v c (TakeEdit key) answer x took = record { answers = x.answers; right = x.right; entry = x.entry; tells = x.tells; took = let one : v.tries * 1 ≡ v.tries = omega arith in subst (λ n. HasTakenAtMost v.layout c.pass.0 v.past v.start n v.tries) one took; drops = record { gone = λ n z. absurd (among_none n z); others = λ n z. refl } }
 
 -- the share is the client's again
-holds_back : (v : ClientView) (c : Client) (m : UpdateRun Inserted) (is_pass : c.pass.0 < v.layout.passes) (start : History) → c.share ≡ Some m.share → RestsWith (machine_call v c is_pass start) v.past m.share → HoldsShare v c (no_hand (held c))
-holds_back v c m is_pass start back rests = record {
+holds_back : (v : ClientView) (c : Client) (m : EditRun) (is_pass : c.pass.0 < v.layout.passes) → c.share ≡ Some (share_of m) → RestsWith (machine_call v c is_pass v.start) v.past (share_of m) → HoldsShare v c (no_hand (held c))
+holds_back v c m is_pass back rests = record {
   some = rw back refl;
   share = rw back rests.share;
-  over = rw back (over_begins v.layout c.pass.0 m.share.next_scx v.past rests.over);
+  over = rw back (over_begins v.layout c.pass.0 (share_of m).next_scx v.past rests.over);
 }
 
-ends_insert : (v : ClientView) (c : Client) (run : Run) (then : Option Put) (a : Updated) → IsSound v → Answered v c run then (ended.Insert a) → Ends v c c (answer_of (ended.Insert a))
-ends_insert v c (Insert m) then a sound x =
-    let holds = holds_back v c m x.works.is_pass x.works.start x.back x.answers.0 in
-    let answers = subst (λ (k : History). UpdateAnswers insert_means m (machine_call v c x.works.is_pass k) v.past a) x.works.begun x.answers in
-    let of = insert_end v c m x.works.is_pass a x.works.run_of.0 x.works.mode sound x.works.won answers in
-    ends_as v c x.works.command (answer_of (ended.Insert a)) x.works.is x.works.stands holds x.none
-    (insert_outcome v c m x.works.command then a x.works.run_of.1 of (taken_tries v.layout c.pass.0 v.tries v.past v.start x.works.opening m.share x.works.took x.answers.0.share x.spent))
-    x.works.late
-ends_insert v c (Llx m) then a sound x = absurd x.answers
-ends_insert v c (Scx m) then a sound x = absurd x.answers
-ends_insert v c (Vlx m) then a sound x = absurd x.answers
-ends_insert v c (Get m) then a sound x = absurd x.answers
+ends_edit : (v : ClientView) (c : Client) (run : Run) (then : Option Put) (a : Updated) → IsSound v → Answered v c run then (ended.Edit a) → Ends v c c (answer_of (ended.Edit a))
+ends_edit v c (Edit m) then a sound x =
+    let works = x.works in
+    let answers : EditAnswers m (machine_call v c works.is_pass v.start) v.past a = subst (λ (k : History). EditAnswers m (machine_call v c works.is_pass k) v.past a) works.begun x.answers in
+    let rests = edit_rests v c works.is_pass works.mode sound works.won m a answers in
+    let right = edit_ends v c works.is_pass works.mode sound works.won m a works.run_of.0 answers in
+    let took = taken_tries v.layout c.pass.0 v.tries (most_nodes (edit_of m)) v.past v.start works.opening (share_of m) works.took rests.share x.spent in
+    ends_as v c works.command (answer_of (ended.Edit a)) works.is works.stands (holds_back v c m works.is_pass x.back rests) x.none
+    (subst (λ (k : Command). IsOutcome v c.pass.0 [] k (answer_of (ended.Edit a))) (sym works.run_of.1.is) (edit_outcome v c (edit_of m) (answer_of (ended.Edit a)) right took))
+    works.late
+ends_edit v c (Llx m) then a sound x = absurd x.answers
+ends_edit v c (Scx m) then a sound x = absurd x.answers
+ends_edit v c (Vlx m) then a sound x = absurd x.answers
+ends_edit v c (Get m) then a sound x = absurd x.answers
 
 -- what has ended is the call of a machine other than an LLX
 pub ends_other : (v : ClientView) (c : Client) (run : Run) (then : Option Put) (end : Ended) → ((a : LlxAnswer) → end ≢ ended.Llx a) → IsSound v → Answered v c run then end → Ends v c c (answer_of end)
 ends_other v c run then (ended.Llx a) d sound x = absurd (d a refl)
 ends_other v c run then (ended.Scx a) d sound x = ends_scx v c run then a sound x
 ends_other v c run then (ended.Vlx a) d sound x = ends_vlx v c run then a x
-ends_other v c run then (ended.Insert a) d sound x = ends_insert v c run then a sound x
+ends_other v c run then (ended.Edit a) d sound x = ends_edit v c run then a sound x
 ends_other v c run then (ended.Get a) d sound x = ends_get v c run then a sound x
 
 -- The end of an LLX
@@ -557,6 +545,7 @@ llx_outcome v c (SetOf field value) m None a d x took y = absurd x
 llx_outcome v c (ScxOf update) m then a d x took y = absurd x
 llx_outcome v c (VlxOf cells) m then a d x took y = absurd x
 llx_outcome v c (InsertOf key value) m then a d x took y = absurd x
+llx_outcome v c (DeleteOf key) m then a d x took y = absurd x
 llx_outcome v c (GetOf key) m then a d x took y = absurd x
 
 -- its call ends, where no SCX follows

@@ -27,9 +27,9 @@ use Rattle.prims.proofs.Lemmas.{moment_more, put_full, put_entry, put_entry_then
 use Rattle.script.specs.Part.{is_subsequence}
 use Rattle.script.specs.Update.{update_cells, update_finalize, update_field, update_value}
 use Rattle.script.specs.declared.command.Command.{Command}
-use Rattle.script.specs.declared.command.Command.TheVariants.{Llx as LlxOf, Scx as ScxOf, Vlx as VlxOf, Set as SetOf, Insert as InsertOf, Get as GetOf}
+use Rattle.script.specs.declared.command.Command.TheVariants.{Llx as LlxOf, Scx as ScxOf, Vlx as VlxOf, Set as SetOf, Insert as InsertOf, Delete as DeleteOf, Get as GetOf}
 use Rattle.player.specs.declared.run.Run.{Run}
-use Rattle.player.specs.declared.run.Run.TheVariants.{Llx, Scx, Vlx, Insert, Get}
+use Rattle.player.specs.declared.run.Run.TheVariants.{Llx, Scx, Vlx, Edit, Get}
 use Rattle.player.specs.declared.client.Client.{Client}
 use Rattle.player.specs.declared.client.Running.{Running}
 use Rattle.player.specs.declared.client.Put.{Put}
@@ -40,13 +40,13 @@ use Rattle.record.specs.CommandRules.{IsEntryFor}
 use Rattle.player.specs.Allowed.{PlayedAllows}
 use Rattle.player.specs.RunKnown.{RunWaits, RunIsReady}
 use Rattle.player.proofs.RunLaws.{run_keeps, run_made}
-use Rattle.player.specs.ClientView.{ClientView, IsSound, IsPutOf, IsScxOf, IsInsertOf, IsStart, IsOwnWin, IsWonSince, held, HoldsShare, HaveMoments, no_hand, Rests, Works, Waits, machine_call, command_of}
-use Rattle.spelling.specs.OrderedMap.{Insert as PutEdit}
+use Rattle.player.specs.ClientView.{ClientView, IsSound, IsPutOf, IsScxOf, IsStart, IsOwnWin, IsWonSince, held, HoldsShare, HaveMoments, no_hand, Rests, Works, Waits, machine_call, command_of}
+use Rattle.spelling.specs.OrderedMap.{MapEdit, Insert as PutEdit, Delete as TakeEdit}
 use Rattle.spelling.specs.Runs.{Makes}
-use Rattle.tree.specs.declared.insert.Insert.{Insert as Inserted}
 use Rattle.updates.specs.Tries.{HasEnteredOnly}
-use Rattle.updates.specs.declared.update.UpdateRun.{UpdateRun}
-use Rattle.player.proofs.Inserting.{IsInsertHand, insert_hand, insert_called}
+use Rattle.player.specs.EditRuns.{edit_of, edit_command}
+use Rattle.player.specs.declared.edit.EditRun.{EditRun}
+use Rattle.player.proofs.Editing.{IsEditHand, edit_hand}
 use Rattle.player.proofs.Winners.{owner_is}
 use Rattle.player.proofs.Ends.{has_nodes}
 use Rattle.player.proofs.Snapshots.{snap_there}
@@ -155,6 +155,7 @@ module _ (v : ClientView) (c : Client) (row : Row) (m : PutRun) (start : History
   does (LlxOf cell) p z = absurd p
   does (VlxOf cells) p z = absurd p
   does (InsertOf key value) p z = absurd p
+  does (DeleteOf key) p z = absurd p
   does (GetOf key) p z = absurd p
 
 -- an update that a row makes win has won behind it
@@ -176,28 +177,23 @@ module _ (v : ClientView) (c : Client) (sound : IsSound v) (row : Row) (s : ℕ)
       let same : s ≡ (held c).next_scx = own_in_hand v.layout v.past c.pass.0 s (held c).next_scx sound.lawful x.over own in_progress in
       next_idle v.layout v.past c.pass.0 (held c) _ _ sound.lawful x.share (rw same at own) (rw same at in_progress)
 
-  -- one of an insert's that wins is the first of its call
-  insert_first : HasEnteredOnly v.layout c.pass.0 s v.past v.start → IsWonSince v c.pass.0 → v.won ≡ None
-  insert_first only x = ⊎_elim (λ e. e) (λ y. absurd (again y.0 y.1 y.2 y.3)) x.no
+  -- one of an edit's that wins is the first of its call
+  edit_first : HasEnteredOnly v.layout c.pass.0 s v.past v.start → IsWonSince v c.pass.0 → v.won ≡ None
+  edit_first only x = ⊎_elim (λ e. e) (λ y. absurd (again y.0 y.1 y.2 y.3)) x.no
     where
       again : (other : Row) (before : History) (t : ℕ) → IsOwnWin v c.pass.0 other before t → ⊥
       again other before t w =
           let same : t ≡ s = only other before t w.within w.since w.wins w.own in
           update_is_first (facts_before v.layout v.past row l) wins (rw same at (won_since v.layout v.past (other ⊳ before) t sound.lawful w.within (has_won other before t w.wins)))
 
-  -- an insert's SCX-record makes the insert of its command
-  insert_does : (command : Command) (m : UpdateRun Inserted) (then : Option Put) → IsInsertOf command c.number m then → Makes v.layout v.past s (PutEdit m.edit.key m.edit.value) → IsEntryFor v.layout c.pass.0 v.past v.start v.linked (entry_of v.layout v.past s) command
-  insert_does (InsertOf key value) m None x makes = rw (x.0, x.1) at makes
-  insert_does (InsertOf key value) m (Some put) x makes = absurd x
-  insert_does (ScxOf update) m then x makes = absurd x
-  insert_does (SetOf field y) m then x makes = absurd x
-  insert_does (LlxOf cell) m then x makes = absurd x
-  insert_does (VlxOf cells) m then x makes = absurd x
-  insert_does (GetOf key) m then x makes = absurd x
+  -- an edit's SCX-record makes the edit of its command
+  edit_does : (e : MapEdit) → Makes v.layout v.past s e → IsEntryFor v.layout c.pass.0 v.past v.start v.linked (entry_of v.layout v.past s) (edit_command e)
+  edit_does (PutEdit key value) makes = makes
+  edit_does (TakeEdit key) makes = makes
 
-  from_insert : (m : UpdateRun Inserted) (then : Option Put) (x : Works v c (Insert m) then) → IsInsertHand m (machine_call v c x.is_pass v.start) v.past s → IsEntryFrom v c row s
-  from_insert m then x h = record {
-    first = insert_first h.only x.won;
+  from_edit : (m : EditRun) (then : Option Put) (x : Works v c (Edit m) then) → IsEditHand m (machine_call v c x.is_pass v.start) v.past s → IsEntryFrom v c row s
+  from_edit m then x h = record {
+    first = edit_first h.only x.won;
     number = x.stands.number;
     command = x.command;
     is = x.is;
@@ -207,13 +203,13 @@ module _ (v : ClientView) (c : Client) (sound : IsSound v) (row : Row) (s : ℕ)
     same_owner = owner_is v.layout s c.pass.0 own.from own.below;
     same_call = called;
     called = called;
-    does = insert_does x.command m then x.run_of.1 h.makes;
+    does = subst (λ (k : Command). IsEntryFor v.layout c.pass.0 v.past v.start v.linked (entry_of v.layout v.past s) k) (sym x.run_of.1.is) (edit_does (edit_of m) h.makes);
   }
     where
       called : value v.past (scx s CallWord) ≡ c.number
-      called = h.called ∙ insert_called x.command c.number m then x.run_of.1
+      called = h.called ∙ x.run_of.1.called
 
-  from_run : (run : Run) (then : Option Put) (x : Works v c run then) → ((m : PutRun) → run ≡ Scx m → m.scx.scx.0 ≡ s → IsOfPut v c row m x.start x.is_pass) → ((m : UpdateRun Inserted) → run ≡ Insert m → IsInsertHand m (machine_call v c x.is_pass v.start) v.past s) → IsEntryFrom v c row s
+  from_run : (run : Run) (then : Option Put) (x : Works v c run then) → ((m : PutRun) → run ≡ Scx m → m.scx.scx.0 ≡ s → IsOfPut v c row m x.start x.is_pass) → ((m : EditRun) → run ≡ Edit m → IsEditHand m (machine_call v c x.is_pass v.start) v.past s) → IsEntryFrom v c row s
   from_run (Scx m) then x f g =
       let same : s ≡ m.scx.scx.0 = own_in_hand v.layout v.past c.pass.0 s m.scx.scx.0 sound.lawful x.holds.over own in_progress in
       let y = f m refl (sym same) in
@@ -239,6 +235,7 @@ module _ (v : ClientView) (c : Client) (sound : IsSound v) (row : Row) (s : ℕ)
       called (LlxOf cell) then p = absurd p
       called (VlxOf cells) then p = absurd p
       called (InsertOf key value) then p = absurd p
+      called (DeleteOf key) then p = absurd p
       called (GetOf key) then p = absurd p
 
       by_then : (then : Option Put) → IsScxOf x.command c.number m then → HaveMoments v c.pass.0 x.command m.scx.update.snaps → IsOfPut v c row m x.start x.is_pass → IsEntryFor v.layout c.pass.0 v.past v.start v.linked (update_entry c.pass.0 m.scx) x.command
@@ -251,32 +248,33 @@ module _ (v : ClientView) (c : Client) (sound : IsSound v) (row : Row) (s : ℕ)
           none_then (LlxOf cell) put p = p
           none_then (VlxOf cells) put p = p
           none_then (InsertOf key value) put p = p
+          none_then (DeleteOf key) put p = p
           none_then (GetOf key) put p = p
   from_run (Llx m) then x f g = absurd (no_hand_wins x.holds)
   from_run (Vlx m) then x f g = absurd (no_hand_wins x.holds)
-  from_run (Insert m) then x f g = from_insert m then x (g m refl)
+  from_run (Edit m) then x f g = from_edit m then x (g m refl)
   from_run (Get m) then x f g = absurd (no_hand_wins x.holds)
 
   -- and none wins for a client at rest
   pub rest_wins_not : Rests v c → ⊥
   rest_wins_not x = no_hand_wins x.holds
 
--- what an insert that waits has in hand
-insert_waits : (v : ClientView) (c : Client) (q : Running) (m : UpdateRun Inserted) (s : ℕ) → IsSound v → (w : Waits v c q) → q.run ≡ Insert m → IsOwnScx v.layout c.pass.0 s → IsInProgress v.past s → IsInsertHand m (machine_call v c w.works.is_pass v.start) v.past s
-insert_waits v c q m s sound w e own p =
+-- what an edit that waits has in hand
+edit_waits : (v : ClientView) (c : Client) (q : Running) (m : EditRun) (s : ℕ) → IsSound v → (w : Waits v c q) → q.run ≡ Edit m → IsOwnScx v.layout c.pass.0 s → IsInProgress v.past s → IsEditHand m (machine_call v c w.works.is_pass v.start) v.past s
+edit_waits v c q m s sound w e own p =
     let begun : w.works.start ≡ v.start = subst (λ (k : Run). IsStart k w.works.start v.start) e w.works.begun in
     let waits = subst (λ (k : Run). RunWaits k (machine_call v c w.works.is_pass v.start) v.past q.step) e (subst (λ (k : History). RunWaits q.run (machine_call v c w.works.is_pass k) v.past q.step) begun w.waits) in
-    insert_hand m (machine_call v c w.works.is_pass v.start) v.past s sound.lawful own p q.step waits
+    edit_hand m (machine_call v c w.works.is_pass v.start) v.past s sound.lawful own p q.step waits
 
 -- a row of another client
 pub entry_by_others : (v : ClientView) (c : Client) (q : Running) (row : Row) (s : ℕ) → IsSound v → Waits v c q → IsRun PlayedAllows v.layout (row ⊳ v.past) → row.pass.0 ≢ c.pass.0 → UpdateWins v.past row s → IsOwnScx v.layout c.pass.0 s → IsEntryFrom v c row s
-entry_by_others v c q row s sound w run other wins own = from_run v c sound row s run.lawful wins own q.run q.then w.works of_put of_insert
+entry_by_others v c q row s sound w run other wins own = from_run v c sound row s run.lawful wins own q.run q.then w.works of_put of_edit
   where
     call : MachineCall
     call = machine_call v c w.works.is_pass w.works.start
 
-    of_insert : (m : UpdateRun Inserted) → q.run ≡ Insert m → IsInsertHand m (machine_call v c w.works.is_pass v.start) v.past s
-    of_insert m e = insert_waits v c q m s sound w e own (in_progress v c sound row s run.lawful wins own)
+    of_edit : (m : EditRun) → q.run ≡ Edit m → IsEditHand m (machine_call v c w.works.is_pass v.start) v.past s
+    of_edit m e = edit_waits v c q m s sound w e own (in_progress v c sound row s run.lawful wins own)
 
     of_put : (m : PutRun) → q.run ≡ Scx m → m.scx.scx.0 ≡ s → IsOfPut v c row m w.works.start w.works.is_pass
     of_put m e same =
@@ -290,7 +288,7 @@ entry_by_others v c q row s sound w run other wins own = from_run v c sound row 
 
 -- its own row
 pub entry_by_own : (v : ClientView) (c : Client) (q : Running) (s : ℕ) → IsSound v → Waits v c q → UpdateWins v.past (own_row v c q.step) s → IsOwnScx v.layout c.pass.0 s → IsTold q.step.access (value v.past q.step.word) (value v.past q.step.word) → IsEntryFrom v c (own_row v c q.step) s
-entry_by_own v c q s sound w wins own told = from_run v c sound (own_row v c q.step) s run.lawful wins own q.run q.then w.works of_put of_insert
+entry_by_own v c q s sound w wins own told = from_run v c sound (own_row v c q.step) s run.lawful wins own q.run q.then w.works of_put of_edit
   where
     call : MachineCall
     call = machine_call v c w.works.is_pass w.works.start
@@ -298,8 +296,8 @@ entry_by_own v c q s sound w wins own told = from_run v c sound (own_row v c q.s
     run : IsRun PlayedAllows v.layout (own_row v c q.step ⊳ v.past)
     run = step_sound v c q sound w v.won
 
-    of_insert : (m : UpdateRun Inserted) → q.run ≡ Insert m → IsInsertHand m (machine_call v c w.works.is_pass v.start) v.past s
-    of_insert m e = insert_waits v c q m s sound w e own (in_progress v c sound (own_row v c q.step) s run.lawful wins own)
+    of_edit : (m : EditRun) → q.run ≡ Edit m → IsEditHand m (machine_call v c w.works.is_pass v.start) v.past s
+    of_edit m e = edit_waits v c q m s sound w e own (in_progress v c sound (own_row v c q.step) s run.lawful wins own)
 
     of_put : (m : PutRun) → q.run ≡ Scx m → m.scx.scx.0 ≡ s → IsOfPut v c (own_row v c q.step) m w.works.start w.works.is_pass
     of_put m e same =

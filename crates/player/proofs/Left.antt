@@ -1,14 +1,14 @@
 -- What is left of a share, as records say it.
-use Rattle.std.proofs.Common.{◌≡◌, ℕ, ◌<◌, ◌≤◌, Option, Some, None, refl, sym, ◌∙◌, arith}
+use Rattle.std.proofs.Common.{◌≡◌, ℕ, ◌<◌, ◌≤◌, refl, sym, ◌∙◌, arith}
 use Rattle.arena.specs.declared.layout.Layout.{Layout}
 use Rattle.arena.specs.declared.fault.Resource.{Resource}
 use Rattle.arena.specs.declared.fault.Resource.TheVariants.{Nodes, Scx as ScxRecords}
 use Rattle.arena.specs.History.{History}
 use Rattle.arena.specs.Share.{Remaining, IsFullOf}
 use Rattle.prims.specs.Shares.{IsShare}
-use Rattle.record.specs.Rules.Insert.{nodes_for}
 use Rattle.record.specs.Shares.{HasNodesLeft, HasScxLeft, HasTooFew}
-use Rattle.tree.specs.Insert.Means.{insert_need}
+use Rattle.updates.specs.Pieces.{many_nodes}
+use Rattle.updates.specs.declared.edit.Need.{Need}
 use Rattle.updates.specs.Known.{IsShort}
 
 module _ (lay : Layout) (h : History) (c : ℕ) (left : Remaining) (share : IsShare lay h c left left.next_node left.next_scx) where
@@ -41,9 +41,7 @@ module _ (lay : Layout) (h : History) (c : ℕ) (left : Remaining) (share : IsSh
   full_left Nodes k x = few_nodes 1 k (let z = x.0 in omega (arith, z)) (x.1 ∙ sym x.0)
   full_left ScxRecords k x = few_scx 1 k (let i = x.0 in omega (arith, i)) x.1 x.2
 
-  -- one that an insert finds too small
-  pub short_left : (old : Option ℕ) (what : Resource) (k : ℕ) → IsShort (insert_need old) left what k → HasTooFew lay c h (nodes_for old) what k
-  short_left None Nodes k x = few_nodes 3 k x.0 x.1
-  short_left (Some v) Nodes k x = few_nodes 1 k x.0 x.1
-  short_left None ScxRecords k x = few_scx 3 k x.0 x.1 x.2
-  short_left (Some v) ScxRecords k x = few_scx 1 k x.0 x.1 x.2
+  -- one that an edit finds too small
+  pub short_left : (need : Need) (what : Resource) (k : ℕ) → IsShort need left what k → HasTooFew lay c h (many_nodes need) what k
+  short_left need Nodes k x = few_nodes (many_nodes need) k x.0 x.1
+  short_left need ScxRecords k x = few_scx (many_nodes need) k x.0 x.1 x.2

@@ -3,12 +3,12 @@ mod RunLaws
 mod Readings
 mod InOrder
 mod MapCalls
-mod InsertPlaces
+mod EditPlaces
 mod Over
 mod Left
 mod Placing
-mod InsertEnds
-mod Inserting
+mod EditEnds
+mod Editing
 mod Puts
 mod Views
 mod Clients

@@ -1,5 +1,5 @@
 -- The kinds of step that a call makes.
-use Rattle.std.proofs.Common.{ℕ, Option, refl}
+use Rattle.std.proofs.Common.{◌≡◌, ℕ, Bool, true, false, Option, refl, sym, ◌∙◌, ap}
 use Rattle.tree.proofs.Lemmas.{get_loads}
 use Rattle.arena.specs.declared.step.Step.{Step}
 use Rattle.arena.specs.History.{History}
@@ -7,13 +7,29 @@ use Rattle.arena.specs.Machines.{Call}
 use Rattle.prims.specs.Cells.{AllowsAll}
 use Rattle.prims.proofs.Lemmas.{llx_fills_not}
 use Rattle.script.specs.declared.command.Command.{Command}
-use Rattle.script.specs.declared.command.Command.TheVariants.{Llx as LlxOf, Scx as ScxOf, Vlx as VlxOf, Set as SetOf, Insert as InsertOf, Get as GetOf}
+use Rattle.script.specs.declared.command.Command.TheVariants.{Llx as LlxOf, Scx as ScxOf, Vlx as VlxOf, Set as SetOf, Insert as InsertOf, Delete as DeleteOf, Get as GetOf}
+use Rattle.spelling.specs.OrderedMap.{MapEdit, Insert as PutEdit, Delete as TakeEdit}
+use Rattle.player.specs.EditRuns.{edit_of, edit_command}
 use Rattle.player.specs.declared.run.Run.{Run}
-use Rattle.player.specs.declared.run.Run.TheVariants.{Llx, Scx, Vlx, Insert, Get}
+use Rattle.player.specs.declared.run.Run.TheVariants.{Llx, Scx, Vlx, Edit, Get}
 use Rattle.player.specs.declared.client.Put.{Put}
 use Rattle.record.specs.CommandRules.{MayMake}
 use Rattle.player.specs.RunKnown.{RunWaits}
 use Rattle.player.specs.ClientView.{IsMachineOf}
+
+-- whether a command is an edit
+abbrev is_edit : Command → Bool
+is_edit (InsertOf key value) = true
+is_edit (DeleteOf key) = true
+is_edit _ = false
+
+edits : (e : MapEdit) → is_edit (edit_command e) ≡ true
+edits (PutEdit key value) = refl
+edits (TakeEdit key) = refl
+
+-- no other command has the machine of one
+no_edit : {X : Type 0} (command : Command) (e : MapEdit) → is_edit command ≡ false → command ≡ edit_command e → X
+no_edit command e none same = absurd (let d : false ≡ true = sym none ∙ ap is_edit same ∙ edits e in cc)
 
 -- its machine asks for no other
 pub may_make : (command : Command) (number : ℕ) (run : Run) (then : Option Put) (call : Call) (h : History) (step : Step) → IsMachineOf command number run then → RunWaits run call h step → MayMake command step.kind
@@ -29,9 +45,10 @@ may_make (GetOf key) number (Scx m) then call h step of w = absurd of
 may_make (GetOf key) number (Vlx m) then call h step of w = absurd of
 may_make (VlxOf cells) number (Get m) then call h step of w = absurd of
 may_make (LlxOf cell) number (Get m) then call h step of w = absurd of
-may_make (VlxOf cells) number (Insert m) then call h step of w = absurd of.1
-may_make (LlxOf cell) number (Insert m) then call h step of w = absurd of.1
-may_make (GetOf key) number (Insert m) then call h step of w = absurd of.1
+may_make (VlxOf cells) number (Edit m) then call h step of w = no_edit (VlxOf cells) (edit_of m) refl of.1.is
+may_make (LlxOf cell) number (Edit m) then call h step of w = no_edit (LlxOf cell) (edit_of m) refl of.1.is
+may_make (GetOf key) number (Edit m) then call h step of w = no_edit (GetOf key) (edit_of m) refl of.1.is
 may_make (InsertOf key value) number run then call h step of w = tt
+may_make (DeleteOf key) number run then call h step of w = tt
 may_make (ScxOf update) number run then call h step of w = tt
 may_make (SetOf field value) number run then call h step of w = tt

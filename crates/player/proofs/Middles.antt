@@ -39,7 +39,7 @@ use Rattle.record.specs.declared.record.Reply.{Reply}
 use Rattle.record.specs.declared.record.Entry.{Entry}
 use Rattle.record.specs.declared.record.Answer.{Answer}
 use Rattle.record.specs.declared.record.Answer.TheVariants.{Snapshot, Finalized, Fail, Done, Lost, Same, Changed, Unlinked, Full, Value, Contended}
-use Rattle.script.specs.declared.command.Command.TheVariants.{Llx as LlxOf, Scx as ScxOf, Vlx as VlxOf, Set as SetOf, Insert as InsertOf, Get as GetOf}
+use Rattle.script.specs.declared.command.Command.TheVariants.{Llx as LlxOf, Scx as ScxOf, Vlx as VlxOf, Set as SetOf, Insert as InsertOf, Delete as DeleteOf, Get as GetOf}
 use Rattle.player.specs.declared.client.Client.{Client}
 use Rattle.player.specs.Lines.{newest}
 use Rattle.record.specs.Turns.{history, turns, entries, answered, begin, start, steps, won, last_client, entry_of, entry_owed, entry_at}
@@ -58,7 +58,7 @@ use Rattle.player.specs.ClientView.{ClientView, client_view, no_hand, held, Tell
 use Rattle.player.specs.BetweenTurns.{IsLawfulSoFar, AreOthers, IsTurnOf, AreBetweenTurns, IsMade, IsEnd, AreWins}
 use Rattle.player.proofs.Views.{TellsWon, client_by_others, stands_from, holds_from}
 use Rattle.record.proofs.Lemmas.{some_turn, start_kept, begin_within, won_within}
-use Rattle.player.proofs.Ends.{entered_none}
+use Rattle.player.proofs.EditEnds.{entered_none}
 
 -- Others
 
@@ -350,15 +350,17 @@ is_refusal v (VlxOf cells) (Full what left) x = absurd x
 is_refusal v (LlxOf cell) answer x = absurd x
 is_refusal v (SetOf field value) answer x = absurd x
 is_refusal v (InsertOf key value) answer x = absurd x
+is_refusal v (DeleteOf key) answer x = absurd x
 is_refusal v (GetOf key) answer x = absurd x
 is_refusal v (ScxOf update) (Contended node scx) x = absurd x
 is_refusal v (VlxOf cells) (Contended node scx) x = absurd x
 is_refusal v (ScxOf update) (Value value) x = absurd x
 is_refusal v (VlxOf cells) (Value value) x = absurd x
 
--- it tells nothing of an insert
+-- it tells nothing of an edit
 refuses_tells : (v : ClientView) (c : ℕ) (command : Command) (answer : Answer) → MayAnswerAtOnce command answer → Tells v c command answer
 refuses_tells v c (InsertOf key value) answer x = absurd x
+refuses_tells v c (DeleteOf key) answer x = absurd x
 refuses_tells v c (LlxOf cell) answer x = tt
 refuses_tells v c (ScxOf update) answer x = tt
 refuses_tells v c (VlxOf cells) answer x = tt

@@ -12,31 +12,31 @@ use Rattle.prims.specs.Cells.{AllowsAll}
 use Rattle.prims.specs.Laws.Begun.{TakesOnly, takes_by_step}
 use Rattle.prims.proofs.Lemmas.{put_takes, llx_fills_not, vlx_fills_not, untaken_node_by_step, put_untaken_node}
 use Rattle.player.specs.declared.run.Run.{Run}
-use Rattle.player.specs.declared.run.Run.TheVariants.{Llx, Scx, Vlx, Insert, Get}
+use Rattle.player.specs.declared.run.Run.TheVariants.{Llx, Scx, Vlx, Edit, Get}
 use Rattle.prims.specs.Shares.{IsShare}
 use Rattle.updates.specs.Steps.{Spends}
 use Rattle.record.specs.Shares.{HasTakenAtMost}
 use Rattle.player.specs.RunKnown.{RunWaits}
 use Rattle.player.specs.ClientView.{ClientView, Hand, HasTaken, no_hand, in_hand}
 
--- the machine is none of an insert, which takes of the share by itself
-abbrev pub IsNoInsert : Run → Type 0
-IsNoInsert (Insert m) = ⊥
-IsNoInsert run = Unit {0}
+-- the machine is none of an edit, which takes of the share by itself
+abbrev pub IsNoEdit : Run → Type 0
+IsNoEdit (Edit m) = ⊥
+IsNoEdit run = Unit {0}
 
 -- its own machine takes none but the one in hand
-pub takes_by_own : (run : Run) (call : Call) (left : Remaining) (h : History) (step : Ask) → IsNoInsert run → RunWaits run call h step → TakesOnly call.layout call.pass (in_hand left run).scx h (row_of call step h)
+pub takes_by_own : (run : Run) (call : Call) (left : Remaining) (h : History) (step : Ask) → IsNoEdit run → RunWaits run call h step → TakesOnly call.layout call.pass (in_hand left run).scx h (row_of call step h)
 takes_by_own (Llx m) call left h step is w = takes_by_step call.layout call.pass left.next_scx h (row_of call step h) (llx_fills_not AllowsAll m call h step w)
 takes_by_own (Vlx m) call left h step is w = takes_by_step call.layout call.pass left.next_scx h (row_of call step h) (vlx_fills_not m.snaps m.asked call h step w)
 takes_by_own (Scx m) call left h step is w = put_takes AllowsAll m call h step w
-takes_by_own (Insert m) call left h step is w = absurd is
+takes_by_own (Edit m) call left h step is w = absurd is
 takes_by_own (Get m) call left h step is w = takes_by_step call.layout call.pass left.next_scx h (row_of call step h) (get_fills_not m call h step w)
 
-pub nodes_by_own : (run : Run) (call : Call) (left : Remaining) (h : History) (step : Ask) → IsNoInsert run → RunWaits run call h step → (n : ℕ) → n ≢ (in_hand left run).node → ¬ IsTakenNode h n → ¬ IsTakenNode (row_of call step h ⊳ h) n
+pub nodes_by_own : (run : Run) (call : Call) (left : Remaining) (h : History) (step : Ask) → IsNoEdit run → RunWaits run call h step → (n : ℕ) → n ≢ (in_hand left run).node → ¬ IsTakenNode h n → ¬ IsTakenNode (row_of call step h ⊳ h) n
 nodes_by_own (Llx m) call left h step is w n other = untaken_node_by_step h (row_of call step h) n (llx_fills_not AllowsAll m call h step w)
 nodes_by_own (Vlx m) call left h step is w n other = untaken_node_by_step h (row_of call step h) n (vlx_fills_not m.snaps m.asked call h step w)
 nodes_by_own (Scx m) call left h step is w n other = put_untaken_node AllowsAll m call h step n w other
-nodes_by_own (Insert m) call left h step is w n other = absurd is
+nodes_by_own (Edit m) call left h step is w n other = absurd is
 nodes_by_own (Get m) call left h step is w n other = untaken_node_by_step h (row_of call step h) n (get_fills_not m call h step w)
 
 -- A share that is at rest has none of what a client in its call has not taken.
@@ -67,9 +67,9 @@ taken_nothing v c left nodes scx share x = record {
   scx_records = λ s own free taken. ⊎_elim (λ e. absurd (share.untaken s record { from = omega (arith, e); below = let a = own.below in let b = share.to_scx in omega (arith, a, b) } taken)) (λ d. absurd (x.scx_records s own d free taken)) (either s left.next_scx);
 }
 
--- an insert has taken what its tries may
-pub taken_tries : (lay : Layout) (c tries : ℕ) (now start : History) (old left : Remaining) → IsShare lay start c old old.next_node old.next_scx → IsShare lay now c left left.next_node left.next_scx → Spends old left tries 0 tries 0 → HasTakenAtMost lay c now start (tries * 3) tries
-taken_tries lay c tries now start old left began share spent = record {
+-- an edit has taken what its tries may
+pub taken_tries : (lay : Layout) (c tries most : ℕ) (now start : History) (old left : Remaining) → IsShare lay start c old old.next_node old.next_scx → IsShare lay now c left left.next_node left.next_scx → Spends most old left tries 0 tries 0 → HasTakenAtMost lay c now start (tries * most) tries
+taken_tries lay c tries most now start old left began share spent = record {
   lowest_node = old.next_node;
   nodes = λ n own free taken. (
     ⊎_elim (λ i. i) (λ i. absurd (free (began.taken_nodes n own i))) (ordered old.next_node n),

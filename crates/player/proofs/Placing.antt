@@ -1,7 +1,7 @@
 -- Where the moment of an answer lies.
 use Rattle.std.proofs.Common.{◌≡◌, ℕ, ◌≤◌, Bool, true, false, List, Option, Some, None, refl, sym, ◌∙◌, arith}
 use Rattle.script.specs.declared.command.Command.{Command}
-use Rattle.script.specs.declared.command.Command.TheVariants.{Llx, Scx, Vlx, Set, Insert, Get}
+use Rattle.script.specs.declared.command.Command.TheVariants.{Llx, Scx, Vlx, Set, Insert, Delete, Get}
 use Rattle.record.specs.declared.record.Answer.{Answer}
 use Rattle.record.specs.declared.record.Answer.TheVariants.{Snapshot, Finalized, Fail, Done, Lost, Same, Changed, Unlinked, Full, Value, Contended}
 use Rattle.record.specs.Answers.{HasItsEntry}
@@ -13,7 +13,7 @@ use Rattle.script.specs.Commands.{mode_of}
 use Rattle.arena.specs.declared.limits.Mode.TheVariants.{Tree}
 use Rattle.places.specs.declared.places.Change.{Change}
 use Rattle.places.specs.Entries.{AreEntries}
-use Rattle.player.specs.Moments.{IsMomentBy, IsValueMoment}
+use Rattle.player.specs.Moments.{IsMomentBy, IsReadMoment, IsValueMoment}
 
 -- an answer `done` says that the call has an entry, where it may answer so
 pub done_enters : (command : Command) → MayAnswerAfterStep command Done → enters command Done ≡ true
@@ -22,6 +22,7 @@ done_enters (Set field value) x = refl
 done_enters (Llx cell) x = absurd x
 done_enters (Vlx cells) x = absurd x
 done_enters (Insert key value) x = absurd x
+done_enters (Delete key) x = absurd x
 done_enters (Get key) x = absurd x
 
 same_won : (b : Bool) (said won : Option ℕ) → b ≡ true → HasItsEntry b won → ((turn : ℕ) → won ≡ Some turn → said ≡ Some turn) → said ≡ won
@@ -32,6 +33,8 @@ same_won false said won e x f = cc
 -- the moment of an answer is that of the lines
 value_same : (calls : List Call) (lines : List Line) (changes : List Change) (command : Command) (told : Option ℕ) (first last : ℕ) (said won moment : Option ℕ) → HasItsEntry (enters command (Value told)) won → ((turn : ℕ) → won ≡ Some turn → said ≡ Some turn) → IsValueMoment calls lines changes command told first last said moment → IsValueMoment calls lines changes command told first last won moment
 value_same calls lines changes (Insert key value) told first last said won moment entry f x = x ∙ same_won true said won refl entry f
+value_same calls lines changes (Delete key) (Some old) first last said won moment entry f x = x ∙ same_won true said won refl entry f
+value_same calls lines changes (Delete key) None first last said won moment entry f x = x
 value_same calls lines changes (Get key) told first last said won moment entry f x = x
 value_same calls lines changes (Llx cell) told first last said won moment entry f x = x
 value_same calls lines changes (Scx update) told first last said won moment entry f x = x
@@ -62,9 +65,14 @@ module _ (calls : List Call) (lines : List Line) (changes : List Change) (first 
   nowhere : moment ≡ None → (first ≤ m) × (m ≤ last)
   nowhere e = absurd (let z : None ≡ Some m = sym e ∙ is in cc)
 
+  read_within : (key : ℕ) (told : Option ℕ) → AreEntries calls lines changes → IsReadMoment calls lines changes key told first last moment → (first ≤ m) × (m ≤ last)
+  read_within key told entries x = let y = x entries in let z = rw is at y.0 in (z.from, z.to)
+
   value_within : (command : Command) (told : Option ℕ) → (mode_of command ≡ Tree → AreEntries calls lines changes) → IsValueMoment calls lines changes command told first last won moment → (first ≤ m) × (m ≤ last)
   value_within (Insert key value) told entries x = between m (sym x ∙ is)
-  value_within (Get key) told entries x = let y = x (entries refl) in let z = rw is at y.0 in (z.from, z.to)
+  value_within (Delete key) (Some old) entries x = between m (sym x ∙ is)
+  value_within (Delete key) None entries x = read_within key None (entries refl) x
+  value_within (Get key) told entries x = read_within key told (entries refl) x
   value_within (Llx cell) told entries x = nowhere x
   value_within (Scx update) told entries x = nowhere x
   value_within (Vlx cells) told entries x = nowhere x

@@ -28,7 +28,7 @@ use Rattle.prims.specs.declared.llx.Llx.TheVariants.{Snapshot as LlxSnapshot}
 use Rattle.prims.specs.declared.scx.ScxAt.TheVariants.{Start as ScxStart}
 use Rattle.prims.specs.declared.put.PutAt.TheVariants.{Start as PutStart}
 use Rattle.script.specs.declared.command.Command.{Command}
-use Rattle.script.specs.declared.command.Command.TheVariants.{Llx as LlxOf, Scx as ScxOf, Vlx as VlxOf, Set as SetOf, Insert as InsertOf, Get as GetOf}
+use Rattle.script.specs.declared.command.Command.TheVariants.{Llx as LlxOf, Scx as ScxOf, Vlx as VlxOf, Set as SetOf, Insert as InsertOf, Delete as DeleteOf, Get as GetOf}
 use Rattle.player.specs.declared.run.Run.TheVariants.{Llx, Scx}
 use Rattle.player.specs.declared.run.Ended.TheVariants as ended
 use Rattle.player.specs.declared.client.Client.{Client}
@@ -49,7 +49,8 @@ use Rattle.prims.proofs.Lemmas.{taken_node_since, left_own_node, left_own_scx, t
 use Rattle.prims.specs.Shares.{IsShare}
 use Rattle.player.proofs.Over.{taken_nothing}
 use Rattle.player.proofs.Snapshots.{has_snap, dropped, kept_without, unkept_without}
-use Rattle.player.proofs.Ends.{rests_kept, snapshot_unspent, among_none, entered_none}
+use Rattle.player.proofs.EditEnds.{entered_none}
+use Rattle.player.proofs.Ends.{rests_kept, snapshot_unspent, among_none}
 
 -- A full share
 
@@ -123,6 +124,7 @@ can_put v old kept m put snap sound x e = go x.works.command x.works.is x.works.
     go (ScxOf update) is f few = absurd f
     go (VlxOf cells) is f few = absurd f
     go (InsertOf key value) is f few = absurd f
+    go (DeleteOf key) is f few = absurd f
     go (GetOf key) is f few = absurd f
 
 -- what it answers then
@@ -151,6 +153,7 @@ told_put v old new kept m put snap (Some answer) x p = go x.works.command x.work
     go (ScxOf update) is f rests = absurd f
     go (VlxOf cells) is f rests = absurd f
     go (InsertOf key value) is f rests = absurd f
+    go (DeleteOf key) is f rests = absurd f
     go (GetOf key) is f rests = absurd f
 
 -- the same with what it has answered written out
@@ -219,6 +222,7 @@ put_starts v linked c snaps removed field x kept m sound can some_node some_scx 
       (rw scx h.share.taken_scx) free
       (rw fresh (left_own_node v.layout v.past c.pass.0 (held c) _ _ (held c).next_node h.share own_node))
       (rw fresh h.share.taken_nodes) (rw fresh (h.share.unmentioned (held c).next_node own_node)) (rw fresh (h.share.untaken_nodes (held c).next_node own_node)) (all_over v.layout v.past c.pass.0 (held c) _ _ h.share h.over);
+  tries = tt;
   few = λ taken i. let few = can.few taken in omega (arith, bound);
 }
   where

@@ -1,5 +1,5 @@
 -- The turn of a client that makes a step.
-use Rattle.std.proofs.Common.{◌≡◌, ℕ, true, ◌≤◌, ◌≢◌, ◌⊎◌, inl, inr, ⊎_elim, List, ◌∷◌, set, length, Option, Some, None, MatchOption, IsSome, drop, All, get_or, slice_get, unwrap_or, refl, sym, ◌∙◌, ap, subst, eq-eqb, arith, [], ◌++◌}
+use Rattle.std.proofs.Common.{◌≡◌, ℕ, true, ◌≤◌, ◌≢◌, ◌⊎◌, inl, inr, ⊎_elim, List, ◌∷◌, set, length, Option, Some, None, MatchOption, IsSome, drop, All, get_or, slice_get, unwrap_or, refl, sym, ◌∙◌, ap, subst, eq-eqb, arith, [], ◌++◌, IfSome}
 use native.Mathlib.Decide.{ℕ_discrete}
 use Rattle.arena.specs.Fills.{IsOwnScx}
 use Rattle.arena.specs.declared.layout.Layout.{Layout}
@@ -26,13 +26,15 @@ use Rattle.player.proofs.InOrder.{run_in_order}
 use Rattle.player.proofs.MapCalls.{command_mode}
 use Rattle.player.proofs.Commands.{none_left, next_at}
 use Rattle.player.specs.Place.{IsAt}
+use Rattle.player.specs.EditRuns.{edit_command}
+use Rattle.spelling.specs.OrderedMap.{MapCall, MapEdit, edit_key, Insert as PutEdit, Delete as TakeEdit, Edit as EditCall}
 use Rattle.places.specs.declared.places.Change.{Change}
 use Rattle.places.specs.declared.places.Places.{Places}
+use Rattle.places.specs.Changed.{changed_key}
 use Rattle.places.specs.Places.{changes, Knows, HoldsOfKey}
-use Rattle.places.specs.Entries.{AreEntries, IsChangeBy}
-use Rattle.spelling.specs.OrderedMap.{MapCall}
+use Rattle.places.specs.Entries.{AreEntries, IsChangeBy, value_left}
 use Rattle.record.specs.MapRecord.{map_call}
-use Rattle.script.specs.declared.command.Command.TheVariants.{Llx as LlxOf, Scx as ScxOf, Vlx as VlxOf, Set as SetOf, Insert as InsertOf, Get as GetOf}
+use Rattle.script.specs.declared.command.Command.TheVariants.{Llx as LlxOf, Scx as ScxOf, Vlx as VlxOf, Set as SetOf, Insert as InsertOf, Delete as DeleteOf, Get as GetOf}
 use Rattle.script.specs.declared.command.Call.{Call}
 use Rattle.script.specs.declared.command.Command.{Command}
 use Rattle.record.specs.declared.record.Line.{Line}
@@ -50,12 +52,12 @@ use Rattle.record.specs.Turns.{history, turns, answered, clients, begin, start, 
 use Rattle.record.specs.Commands.{commands}
 use Rattle.record.specs.CommandRules.{MayAnswerAfterStep, HasTakenFew, enters, IsRight, IsEntryFor}
 use Rattle.record.specs.Linked.{linked}
-use Rattle.player.proofs.Inserting.{run_says}
+use Rattle.player.proofs.Editing.{run_says}
 use Rattle.player.proofs.Placing.{done_enters}
 use Rattle.record.specs.Replies.{IsFitting, IsReplyOwed}
 use Rattle.record.specs.Entries.{IsWinOf}
 use Rattle.player.specs.ClientView.{ClientView, client_view, Tells, IsSound, Hears, IsClient, GoesOn, Ends}
-use Rattle.player.specs.BetweenTurns.{IsLawfulSoFar, IsSameScript, IsTurnOf, AreBetweenTurns, IsAsked, IsEnd, AreWins, ArePlaces, IsAtInsert}
+use Rattle.player.specs.BetweenTurns.{IsLawfulSoFar, IsSameScript, IsTurnOf, AreBetweenTurns, IsAsked, IsEnd, AreWins, ArePlaces, IsAtEdit}
 use Rattle.player.proofs.Views.{own_row, step_sound, hears}
 use Rattle.player.proofs.Middles.{IsOver, get_there, others_step, others_log, so_far_same, step_made, turn_changed, turn_ends, replied}
 use Rattle.player.proofs.MayMakes.{may_make}
@@ -127,7 +129,7 @@ module _ (p : Player) (i number : ℕ) (step : Ask) (a : IsAsked p i number step
 
   -- and fills in order
   in_order : lay.mode ≡ Tree → IsFillInOrder (history lay.mode lines) made
-  in_order tree = run_in_order a.running.run _ (history lay.mode lines) a.running.step (sym a.waits.works.mode ∙ tree) a.waits.waits
+  in_order tree = run_in_order a.running.run _ (history lay.mode lines) a.running.step (sym a.waits.works.mode ∙ tree) (a.turn.so_far.filled tree) a.waits.waits
 
   pub asked_made : (words : Contents) → IsChanged p.words words made.word made.after → IsTurnOf lay tries calls words p.clients.items (Step (Made number made) ∷ lines) a.client
   asked_made words changed = record {
@@ -202,53 +204,54 @@ module _ (p : Player) (i number : ℕ) (step : Ask) (a : IsAsked p i number step
           let other = a.turn.others entry.client.0 there.0 d there.1 in
           win_of entry w.0 w.1 there.0 other.0 (of_other there.0 other.0 d other.1) (λ z. has_begun there.0 other.0 d other.1)
 
-  -- on the tree the entry is of the insert at which its client stands
-  at_insert : (entry : Entry) (c : Client) → slice_get p.clients.items entry.client.0 ≡ Some c → c.pass.0 ≡ entry.client.0 → c.number ≡ answered lines entry.client.0 → IsAt calls c.pass.0 (drop c.number (commands calls c.pass.0)) c.next → IsWinOf lay calls lines made entry → lay.mode ≡ Tree → IsAtInsert calls p.clients.items entry
-  at_insert entry c there is number place w tree = by_command w.command w.is w.does
+  -- on the tree the entry is of the edit at which its client stands
+  at_edit : (entry : Entry) (c : Client) → slice_get p.clients.items entry.client.0 ≡ Some c → c.pass.0 ≡ entry.client.0 → c.number ≡ answered lines entry.client.0 → IsAt calls c.pass.0 (drop c.number (commands calls c.pass.0)) c.next → IsWinOf lay calls lines made entry → lay.mode ≡ Tree → IsAtEdit calls p.clients.items entry
+  at_edit entry c there is number place w tree = by_command w.command w.is w.does
     where
       own : slice_get (commands calls entry.client.0) (answered lines entry.client.0) ≡ slice_get (commands calls c.pass.0) c.number
       own = ap (λ (k : ℕ). slice_get (commands calls k) (answered lines entry.client.0)) (sym is) ∙ ap (λ (k : ℕ). slice_get (commands calls c.pass.0) k) (sym number)
 
-      stands : (key put : ℕ) → slice_get (commands calls entry.client.0) (answered lines entry.client.0) ≡ Some (InsertOf key put) → (next : Option ℕ) → c.next ≡ next → IsAtInsert calls p.clients.items entry
-      stands key put here None e =
-          let none : slice_get (commands calls entry.client.0) (answered lines entry.client.0) ≡ None = own ∙ none_left calls c.pass.0 c.number (rw e at place) in
-          absurd (let z : None ≡ Some (InsertOf key put) = sym none ∙ here in cc)
-      stands key put here (Some at) e =
-          let y = next_at calls c.pass.0 c.number at (rw e at place) in
+      stands : (e : MapEdit) → map_call (Some (edit_command e)) ≡ Some (EditCall e) → slice_get (commands calls entry.client.0) (answered lines entry.client.0) ≡ Some (edit_command e) → (next : Option ℕ) → c.next ≡ next → IsAtEdit calls p.clients.items entry
+      stands e is_edit here None q =
+          let none : slice_get (commands calls entry.client.0) (answered lines entry.client.0) ≡ None = own ∙ none_left calls c.pass.0 c.number (rw q at place) in
+          absurd (let z : None ≡ Some (edit_command e) = sym none ∙ here in cc)
+      stands e is_edit here (Some at) q =
+          let y = next_at calls c.pass.0 c.number at (rw q at place) in
           let z : slice_get (commands calls entry.client.0) (answered lines entry.client.0) ≡ Some y.0 = own ∙ y.2 in
-          let same : y.0 ≡ InsertOf key put = let d : Some y.0 ≡ Some (InsertOf key put) = sym z ∙ here in cc in
-          record { client = c; there = there; at = at; next = e; call = record { client = record { 0 = c.pass.0 }; command = y.0 }; here = y.1; key = key; value = put; command = same; edits = ap (λ (j : ℕ). map_call (slice_get (commands calls entry.client.0) j)) w.call ∙ ap map_call here }
+          let same : y.0 ≡ edit_command e = let d : Some y.0 ≡ Some (edit_command e) = sym z ∙ here in cc in
+          record { client = c; there = there; at = at; next = q; call = record { client = record { 0 = c.pass.0 }; command = y.0 }; here = y.1; edit = e; command = same; edits = ap (λ (j : ℕ). map_call (slice_get (commands calls entry.client.0) j)) w.call ∙ ap map_call here ∙ is_edit }
 
-      by_command : (command : Command) → slice_get (commands calls entry.client.0) (answered lines entry.client.0) ≡ Some command → IsEntryFor lay entry.client.0 (history lay.mode lines) (start lay.mode lines entry.client.0) (linked calls lay.mode lines entry.client.0) w.entered command → IsAtInsert calls p.clients.items entry
-      by_command (InsertOf key put) here does = stands key put here c.next refl
+      by_command : (command : Command) → slice_get (commands calls entry.client.0) (answered lines entry.client.0) ≡ Some command → IsEntryFor lay entry.client.0 (history lay.mode lines) (start lay.mode lines entry.client.0) (linked calls lay.mode lines entry.client.0) w.entered command → IsAtEdit calls p.clients.items entry
+      by_command (InsertOf key put) here does = stands (PutEdit key put) refl here c.next refl
+      by_command (DeleteOf key) here does = stands (TakeEdit key) refl here c.next refl
       by_command (LlxOf cell) here does = absurd does
       by_command (VlxOf cells) here does = absurd does
       by_command (GetOf key) here does = absurd does
       by_command (ScxOf update) here does = absurd (let z : Records ≡ Tree = command_mode lay.mode calls entry.client.0 _ (ScxOf update) a.turn.so_far.of_mode here ∙ tree in cc)
       by_command (SetOf field put) here does = absurd (let z : Records ≡ Tree = command_mode lay.mode calls entry.client.0 _ (SetOf field put) a.turn.so_far.of_mode here ∙ tree in cc)
 
-  asked_insert : (entry : Entry) → entry_of lay lines number made ≡ Some entry → lay.mode ≡ Tree → IsAtInsert calls p.clients.items entry
-  asked_insert entry e tree = go (ℕ_discrete entry.client.0 a.client.pass.0)
+  asked_edit : (entry : Entry) → entry_of lay lines number made ≡ Some entry → lay.mode ≡ Tree → IsAtEdit calls p.clients.items entry
+  asked_edit entry e tree = go (ℕ_discrete entry.client.0 a.client.pass.0)
     where
       w : IsWinOf lay calls lines made entry
       w = log_entry entry e
 
-      go : Dec (entry.client.0 ≡ a.client.pass.0) → IsAtInsert calls p.clients.items entry
+      go : Dec (entry.client.0 ≡ a.client.pass.0) → IsAtEdit calls p.clients.items entry
       go (yes is) =
-          at_insert entry a.client (ap (λ (k : ℕ). slice_get p.clients.items k) is ∙ a.turn.own) (sym is) (a.waits.works.stands.number ∙ ap (λ (k : ℕ). answered lines k) (sym is)) a.waits.works.stands.place w tree
+          at_edit entry a.client (ap (λ (k : ℕ). slice_get p.clients.items k) is ∙ a.turn.own) (sym is) (a.waits.works.stands.number ∙ ap (λ (k : ℕ). answered lines k) (sym is)) a.waits.works.stands.place w tree
       go (no d) =
           let own = (entry_wins lay lines number made sound.lawful entry e).1 in
           let there = get_there p.clients.items entry.client.0 (omega (arith, own.is_pass, p.all_clients, p.clients.ok.0)) in
           let other = a.turn.others entry.client.0 there.0 d there.1 in
           of_other there.0 there.1 other.0 other.1
         where
-          of_other : (c : Client) → slice_get p.clients.items entry.client.0 ≡ Some c → c.pass.0 ≡ entry.client.0 → IsClient (client_view lay tries calls lines entry.client.0) (begin lines entry.client.0) c → IsAtInsert calls p.clients.items entry
-          of_other c at is (inl x) = at_insert entry c at is x.0.stands.number x.0.stands.place w tree
-          of_other c at is (inr x) = at_insert entry c at is x.2.works.stands.number x.2.works.stands.place w tree
+          of_other : (c : Client) → slice_get p.clients.items entry.client.0 ≡ Some c → c.pass.0 ≡ entry.client.0 → IsClient (client_view lay tries calls lines entry.client.0) (begin lines entry.client.0) c → IsAtEdit calls p.clients.items entry
+          of_other c at is (inl x) = at_edit entry c at is x.0.stands.number x.0.stands.place w tree
+          of_other c at is (inr x) = at_edit entry c at is x.2.works.stands.number x.2.works.stands.place w tree
 
   -- with the row that the player writes down
-  pub asked_owner : (row : Row) (after : List Line) → row ≡ made → after ≡ Step (Made number row) ∷ lines → (entry : Entry) → entry_owed lay after ≡ Some entry → lay.mode ≡ Tree → IsAtInsert calls p.clients.items entry
-  asked_owner row after e is entry owed = asked_insert entry (ap (λ (r : Row). entry_of lay lines number r) (sym e) ∙ ap (λ (l : List Line). entry_owed lay l) (sym is) ∙ owed)
+  pub asked_owner : (row : Row) (after : List Line) → row ≡ made → after ≡ Step (Made number row) ∷ lines → (entry : Entry) → entry_owed lay after ≡ Some entry → lay.mode ≡ Tree → IsAtEdit calls p.clients.items entry
+  asked_owner row after e is entry owed = asked_edit entry (ap (λ (r : Row). entry_of lay lines number r) (sym e) ∙ ap (λ (l : List Line). entry_owed lay l) (sym is) ∙ owed)
 
   -- with its entry written down, if there is one, the client hears
   pub asked_heard : (words : Contents) (after : List Line) → IsChanged p.words words made.word made.after → MatchOption (entry_owed lay (Step (Made number made) ∷ lines)) (after ≡ Step (Made number made) ∷ lines) (λ e. after ≡ Log e ∷ Step (Made number made) ∷ lines) → IsHeard lay tries calls words p.clients.items after a.client a.running made.before number
@@ -346,27 +349,23 @@ wins_at lay lay' lines lines' wins wins' a b c x = rw (a, b, c) x
 
 -- places that know at least the same keys
 pub keys_kept : (old new : Places) (calls : List Call) → ((key : ℕ) → Knows old key → Knows new key) → All (λ (call : Call). HoldsOfKey (Knows old) call.command) calls → All (λ (call : Call). HoldsOfKey (Knows new) call.command) calls
-keys_kept old new calls more all i d less = go (get_or calls i d).command (all i d less)
+keys_kept old new calls more all i d less = go (changed_key (get_or calls i d).command) (all i d less)
   where
-    go : (command : Command) → HoldsOfKey (Knows old) command → HoldsOfKey (Knows new) command
-    go (InsertOf key put) x = more key x
-    go (LlxOf cell) x = tt
-    go (ScxOf update) x = tt
-    go (VlxOf cells) x = tt
-    go (SetOf field put) x = tt
-    go (GetOf key) x = tt
+    go : (key : Option ℕ) → IfSome key (Knows old) → IfSome key (Knows new)
+    go (Some key) x = more key x
+    go None x = tt
 
 -- room for more leaves the places
 pub places_roomy : (lay : Layout) (calls : List Call) (lines : List Line) (old new : Places) → changes new ≡ changes old → ((key : ℕ) → Knows old key → Knows new key) → ArePlaces lay calls lines old → ArePlaces lay calls lines new
 places_roomy lay calls lines old new same more x = record { entries = λ tree. rw same (x.entries tree); keys = keys_kept old new calls more x.keys }
 
--- an entry is kept with the change of its insert
-pub places_logged : (lay : Layout) (calls : List Call) (clients : List Client) (lines : List Line) (e : Entry) (old new : Places) → (lay.mode ≡ Tree → IsAtInsert calls clients e) → ((x : IsAtInsert calls clients e) → changes new ≡ record { turn = e.step; key = x.key; value = Some x.value } ∷ changes old) → ((key : ℕ) → Knows old key → Knows new key) → ArePlaces lay calls lines old → ArePlaces lay calls (Log e ∷ lines) new
+-- an entry is kept with the change of its edit
+pub places_logged : (lay : Layout) (calls : List Call) (clients : List Client) (lines : List Line) (e : Entry) (old new : Places) → (lay.mode ≡ Tree → IsAtEdit calls clients e) → ((x : IsAtEdit calls clients e) → changes new ≡ record { turn = e.step; key = edit_key x.edit; value = value_left x.edit } ∷ changes old) → ((key : ℕ) → Knows old key → Knows new key) → ArePlaces lay calls lines old → ArePlaces lay calls (Log e ∷ lines) new
 places_logged lay calls clients lines e old new owner change more p = record { entries = λ tree. entries tree (owner tree); keys = keys_kept old new calls more p.keys }
   where
-    entries : lay.mode ≡ Tree → IsAtInsert calls clients e → AreEntries calls (Log e ∷ lines) (changes new)
+    entries : lay.mode ≡ Tree → IsAtEdit calls clients e → AreEntries calls (Log e ∷ lines) (changes new)
     entries tree x =
-        let c : Change = record { turn = e.step; key = x.key; value = Some x.value } in
+        let c : Change = record { turn = e.step; key = edit_key x.edit; value = value_left x.edit } in
         rw (change x) ((refl, subst (λ (o : Option MapCall). IsChangeBy o c) (sym x.edits) (refl, refl)), p.entries tree)
 
 pub places_at : (lay lay' : Layout) (calls calls' : List Call) (lines lines' : List Line) (places places' : Places) → lay' ≡ lay → calls' ≡ calls → lines' ≡ lines → places' ≡ places → ArePlaces lay calls lines places → ArePlaces lay' calls' lines' places'

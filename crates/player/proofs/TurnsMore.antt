@@ -11,7 +11,7 @@ use Rattle.arena.specs.declared.limits.Limits.{Limits}
 use Rattle.arena.specs.declared.step.Kind.{Kind}
 use Rattle.script.specs.declared.command.Call.{Call}
 use Rattle.script.specs.declared.command.Command.{Command}
-use Rattle.script.specs.declared.command.Command.TheVariants.{Llx, Scx, Vlx, Set, Insert, Get}
+use Rattle.script.specs.declared.command.Command.TheVariants.{Llx, Scx, Vlx, Set, Insert, Delete, Get}
 use Rattle.record.specs.declared.record.Line.{Line}
 use Rattle.record.specs.declared.record.Line.TheVariants.{Step, Log, Reply}
 use Rattle.record.specs.declared.record.Reply.{Reply as ReplyOf}
@@ -165,7 +165,8 @@ most_few lay tries (Llx cell) taken i = omega arith
 most_few lay tries (Scx update) taken i = omega arith
 most_few lay tries (Vlx cells) taken i = let few = cells.few in grind (arith, length-take)
 most_few lay tries (Set field value) taken i = omega arith
-most_few lay tries (Insert key value) taken i = let more : tries * (3 * (2 + taken) + 178) ≤ tries * (3 * (2 + lay.passes * lay.nodes) + 178) = mul-le-mul_left tries (omega (arith, i)) in omega (arith, more)
+most_few lay tries (Insert key value) taken i = let more : tries * (3 * (2 + taken) + 178) ≤ tries * (3 * (2 + lay.passes * lay.nodes) + 301) = mul-le-mul_left tries (omega (arith, i)) in omega (arith, more)
+most_few lay tries (Delete key) taken i = let more : tries * (3 * (2 + taken) + 301) ≤ tries * (3 * (2 + lay.passes * lay.nodes) + 301) = mul-le-mul_left tries (omega (arith, i)) in omega (arith, more)
 most_few lay tries (Get key) taken i = omega (arith, i)
 
 -- so the client of a lawful run has made few since its last reply

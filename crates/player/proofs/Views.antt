@@ -22,9 +22,9 @@ use Rattle.prims.specs.Snaps.{IsAmong}
 use Rattle.prims.specs.Snap.{snap_at}
 use Rattle.prims.specs.declared.snap.Snap.{Snap}
 use Rattle.script.specs.declared.command.Command.{Command}
-use Rattle.script.specs.declared.command.Command.TheVariants.{Llx as LlxOf, Scx as ScxOf, Vlx as VlxOf, Set as SetOf, Insert as InsertOf, Get as GetOf}
+use Rattle.script.specs.declared.command.Command.TheVariants.{Llx as LlxOf, Scx as ScxOf, Vlx as VlxOf, Set as SetOf, Insert as InsertOf, Delete as DeleteOf, Get as GetOf}
 use Rattle.player.specs.declared.run.Run.{Run}
-use Rattle.player.specs.declared.run.Run.TheVariants.{Llx, Scx, Vlx, Insert, Get}
+use Rattle.player.specs.declared.run.Run.TheVariants.{Llx, Scx, Vlx, Edit, Get}
 use Rattle.player.specs.declared.client.Client.{Client}
 use Rattle.player.specs.declared.client.Running.{Running}
 use Rattle.player.specs.declared.client.Put.{Put}
@@ -35,7 +35,7 @@ use Rattle.player.specs.RunKnown.{RunWaits, RunIsReady, run_mode}
 use Rattle.player.proofs.RunLaws.{run_keeps, run_lawful, run_made}
 use Rattle.player.specs.ClientView.{ClientView, Hand, no_hand, in_hand, snaps_of, IsSound, HasNewest, IsStart, IsSource, IsMachineOf, HasTaken, HaveMoments, IsRoomy, IsWonAs, IsOwnWin, IsWonSince, IsWonBy, held, HoldsShare, Holds, TakesInHand, IsClientState, Rests, Works, Waits, Hears, IsClient, machine_call}
 use Rattle.prims.specs.Shares.{IsShare}
-use Rattle.player.proofs.Over.{IsNoInsert, takes_by_own, nodes_by_own}
+use Rattle.player.proofs.Over.{IsNoEdit, takes_by_own, nodes_by_own}
 use Rattle.prims.specs.declared.put.PutRun.{PutRun}
 use Rattle.arena.specs.declared.step.Kind.TheVariants.{LoadInfo}
 
@@ -53,10 +53,10 @@ newest_row r (q ⊳ h) = q
 
 -- Its own machine's step leaves what the share still has untouched
 
-pub share_by_own : (run : Run) (call : Call) (h : History) (step : Ask) (left : Remaining) (node scx : ℕ) → IsNoInsert run → Lawful call.layout (row_of call step h ⊳ h) → RunWaits run call h step → HasNewest left run → IsShare call.layout h call.pass left node scx → IsShare call.layout (row_of call step h ⊳ h) call.pass left node scx
+pub share_by_own : (run : Run) (call : Call) (h : History) (step : Ask) (left : Remaining) (node scx : ℕ) → IsNoEdit run → Lawful call.layout (row_of call step h ⊳ h) → RunWaits run call h step → HasNewest left run → IsShare call.layout h call.pass left node scx → IsShare call.layout (row_of call step h ⊳ h) call.pass left node scx
 share_by_own (Llx m) call h step left node scx is l w newest x = share_by_step call.layout h (row_of call step h) call.pass left node scx l (llx_fills_not AllowsAll m call h step w) x
 share_by_own (Vlx m) call h step left node scx is l w newest x = share_by_step call.layout h (row_of call step h) call.pass left node scx l (vlx_fills_not m.snaps m.asked call h step w) x
-share_by_own (Insert m) call h step left node scx is l w newest x = absurd is
+share_by_own (Edit m) call h step left node scx is l w newest x = absurd is
 share_by_own (Get m) call h step left node scx is l w newest x = share_by_step call.layout h (row_of call step h) call.pass left node scx l (get_fills_not m call h step w) x
 share_by_own (Scx m) call h step left node scx is l w newest x = share_by_put AllowsAll m call h step left node scx l w newest.0 newest.1 x
 
@@ -86,17 +86,17 @@ Covers lay h c hand = (n : ℕ) → IsOwnScx lay c hand.scx → IsInProgress h h
 covers_none : (lay : Layout) (h : History) (c : ℕ) (left : Remaining) (node scx : ℕ) → Lawful lay h → IsShare lay h c left node scx → Covers lay h c (no_hand left)
 covers_none lay h c left node scx l share n own p m = absurd (next_idle lay h c left node scx l share own p)
 
-covers_waits : (run : Run) (call : Call) (h : History) (step : Ask) (left : Remaining) → IsNoInsert run → Lawful call.layout h → RunWaits run call h step → IsShare call.layout h call.pass left (in_hand left run).node (in_hand left run).scx → Covers call.layout h call.pass (in_hand left run)
+covers_waits : (run : Run) (call : Call) (h : History) (step : Ask) (left : Remaining) → IsNoEdit run → Lawful call.layout h → RunWaits run call h step → IsShare call.layout h call.pass left (in_hand left run).node (in_hand left run).scx → Covers call.layout h call.pass (in_hand left run)
 covers_waits (Llx m) call h step left is l w share = covers_none call.layout h call.pass left _ _ l share
 covers_waits (Vlx m) call h step left is l w share = covers_none call.layout h call.pass left _ _ l share
-covers_waits (Insert m) call h step left is l w share = absurd is
+covers_waits (Edit m) call h step left is l w share = absurd is
 covers_waits (Get m) call h step left is l w share = covers_none call.layout h call.pass left _ _ l share
 covers_waits (Scx m) call h step left is l w share = λ n own p x. put_covers AllowsAll m call h step n w p x
 
-covers_ready : (run : Run) (call : Call) (h : History) (v : ℕ) (left : Remaining) → IsNoInsert run → Lawful call.layout h → RunIsReady run call h (Some v) → IsShare call.layout h call.pass left (in_hand left run).node (in_hand left run).scx → Covers call.layout h call.pass (in_hand left run)
+covers_ready : (run : Run) (call : Call) (h : History) (v : ℕ) (left : Remaining) → IsNoEdit run → Lawful call.layout h → RunIsReady run call h (Some v) → IsShare call.layout h call.pass left (in_hand left run).node (in_hand left run).scx → Covers call.layout h call.pass (in_hand left run)
 covers_ready (Llx m) call h v left is l w share = covers_none call.layout h call.pass left _ _ l share
 covers_ready (Vlx m) call h v left is l w share = covers_none call.layout h call.pass left _ _ l share
-covers_ready (Insert m) call h v left is l w share = absurd is
+covers_ready (Edit m) call h v left is l w share = absurd is
 covers_ready (Get m) call h v left is l w share = covers_none call.layout h call.pass left _ _ l share
 covers_ready (Scx m) call h v left is l w share = λ n own p x. put_covers_then AllowsAll m call h v n w p x
 
@@ -144,7 +144,7 @@ holds_more v c r start steps won hand share over x = record { some = x.some; sha
 
 -- a row leaves what a machine has in hand, but for an insert, which says so by itself
 abbrev LeavesHand : ClientView → Client → Row → Run → Type 0
-LeavesHand v c r (Insert m) = Unit {0}
+LeavesHand v c r (Edit m) = Unit {0}
 LeavesHand v c r q = TakesOnly v.layout c.pass.0 (in_hand (held c) q).scx v.past r × ((n : ℕ) → IsOwnNode v.layout c.pass.0 n → n ≢ (in_hand (held c) q).node → ¬ IsTakenNode v.past n → ¬ IsTakenNode (r ⊳ v.past) n)
 
 -- what a row says of the update of client c: it has won in this turn, or its turn is as it was
@@ -214,7 +214,7 @@ module _ (v : ClientView) (c : Client) (r : Row) (number : ℕ) (start : History
   won_more_by (Scx m) same since x w = won_as (in_hand (held c) (Scx m)) x w
   won_more_by (Llx m) same since x w = no_win (no_hand (held c)) x refl w
   won_more_by (Vlx m) same since x w = no_win (no_hand (held c)) x refl w
-  won_more_by (Insert m) same since x w = won_since same since w
+  won_more_by (Edit m) same since x w = won_since same since w
   won_more_by (Get m) same since x w = no_win (no_hand (held c)) x refl w
 
   late_more : c.begin ≤ number → ((turn : ℕ) → v.won ≡ Some turn → c.begin ≤ turn) → (turn : ℕ) → won ≡ Some turn → c.begin ≤ turn
@@ -232,6 +232,7 @@ module _ (v : ClientView) (c : Client) (r : Row) (number : ℕ) (start : History
       source_more (VlxOf cells) n moment y = y
       source_more (LlxOf cell) n moment y = y
       source_more (InsertOf key value) n moment y = y
+      source_more (DeleteOf key) n moment y = y
       source_more (GetOf key) n moment y = y
 
   -- an LLX has no snapshots yet, and those of a VLX are kept ones
@@ -239,9 +240,10 @@ module _ (v : ClientView) (c : Client) (r : Row) (number : ℕ) (start : History
   moments_by (Llx m) then command since looks of x = λ i p. absurd (omega arith)
   moments_by (Scx m) then command since looks of x = moments_more command m.scx.update.snaps since (looks m refl) x
   moments_by (Vlx m) then (VlxOf cells) since looks of x = λ i p. let y = x i p in record { moment = y.moment; found = moment_more v.layout v.past r (snap_at m.snaps i) y.moment y.found; source = y.source }
-  moments_by (Insert m) then command since looks of x = λ i p. absurd (omega arith)
+  moments_by (Edit m) then command since looks of x = λ i p. absurd (omega arith)
   moments_by (Get m) then command since looks of x = λ i p. absurd (omega arith)
   moments_by (Vlx m) then (InsertOf key value) since looks of x = absurd of
+  moments_by (Vlx m) then (DeleteOf key) since looks of x = absurd of
   moments_by (Vlx m) then (LlxOf cell) since looks of x = absurd of
   moments_by (Vlx m) then (GetOf key) since looks of x = absurd of
   moments_by (Vlx m) then (ScxOf update) since looks of x = absurd of
@@ -254,7 +256,7 @@ module _ (v : ClientView) (c : Client) (r : Row) (number : ℕ) (start : History
   }
 
   took : (q : Run) (share : Remaining) → LeavesHand v c r q → start ≡ v.start → TakesInHand v c share q → TakesInHand (after_row v r start steps won) c share q
-  took (Insert m) share leaves e y = subst (λ (k : History). IsShare v.layout k c.pass.0 share share.next_node share.next_scx) (sym e) y
+  took (Edit m) share leaves e y = subst (λ (k : History). IsShare v.layout k c.pass.0 share share.next_node share.next_scx) (sym e) y
   took (Llx m) share leaves e y = took_hand (in_hand (held c) (Llx m)) leaves.0 leaves.1 e y
   took (Scx m) share leaves e y = took_hand (in_hand (held c) (Scx m)) leaves.0 leaves.1 e y
   took (Vlx m) share leaves e y = took_hand (in_hand (held c) (Vlx m)) leaves.0 leaves.1 e y
@@ -264,7 +266,7 @@ module _ (v : ClientView) (c : Client) (r : Row) (number : ℕ) (start : History
   roomy (Scx m) e y = subst (λ (k : History). HasRoom v.layout c.pass.0 k) (sym e) y
   roomy (Llx m) e y = tt
   roomy (Vlx m) e y = tt
-  roomy (Insert m) e y = tt
+  roomy (Edit m) e y = tt
   roomy (Get m) e y = tt
 
   -- a machine has started at the begin of its call or later
@@ -272,7 +274,7 @@ module _ (v : ClientView) (c : Client) (r : Row) (number : ℕ) (start : History
   begun_since (Scx m) start since begun = ends_trans v.past start v.start since begun
   begun_since (Llx m) start since begun = subst (λ (k : History). Extends v.past k) begun since
   begun_since (Vlx m) start since begun = subst (λ (k : History). Extends v.past k) begun since
-  begun_since (Insert m) start since begun = subst (λ (k : History). Extends v.past k) begun since
+  begun_since (Edit m) start since begun = subst (λ (k : History). Extends v.past k) begun since
   begun_since (Get m) start since begun = subst (λ (k : History). Extends v.past k) begun since
 
   -- a machine still runs
@@ -317,7 +319,7 @@ module _ (v : ClientView) (c : Client) (r : Row) (number : ℕ) (start : History
   hand_then hand covers x h = stands_more v c r start v.steps won hand run (leaves_hand v c (r ⊳ v.past) hand run.lawful (share_then hand h).over covers x) x
 
   still_stands : (q : Run) (step : Ask) (p : c.pass.0 < v.layout.passes) (start : History) → RunWaits q (machine_call v c p start) (r ⊳ v.past) step → v.layout.mode ≡ run_mode q → IsClientState v c (in_hand (held c) q) → Holds v c q → StillStands q
-  still_stands (Insert m) step p start w mode x h = record { stands = stands_more v c r _ v.steps won (in_hand (held c) (Insert m)) run (leaves_tree v c (r ⊳ v.past) _ mode x) x; holds = tt; leaves = tt }
+  still_stands (Edit m) step p start w mode x h = record { stands = stands_more v c r _ v.steps won (in_hand (held c) (Edit m)) run (leaves_tree v c (r ⊳ v.past) _ mode x) x; holds = tt; leaves = tt }
   still_stands (Llx m) step p start w mode x h = record { stands = hand_then _ (covers_waits (Llx m) (machine_call v c p start) (r ⊳ v.past) step (held c) tt run.lawful w (share_then _ h).share) x h; holds = share_then _ h; leaves = (takes_by_others v.layout c.pass.0 _ v.past r run.lawful other, λ n own d. nodes_then n own) }
   still_stands (Scx m) step p start w mode x h = record { stands = hand_then _ (covers_waits (Scx m) (machine_call v c p start) (r ⊳ v.past) step (held c) tt run.lawful w (share_then _ h).share) x h; holds = share_then _ h; leaves = (takes_by_others v.layout c.pass.0 _ v.past r run.lawful other, λ n own d. nodes_then n own) }
   still_stands (Vlx m) step p start w mode x h = record { stands = hand_then _ (covers_waits (Vlx m) (machine_call v c p start) (r ⊳ v.past) step (held c) tt run.lawful w (share_then _ h).share) x h; holds = share_then _ h; leaves = (takes_by_others v.layout c.pass.0 _ v.past r run.lawful other, λ n own d. nodes_then n own) }
@@ -354,7 +356,7 @@ module _ (v : ClientView) (c : Client) (q : Running) (sound : IsSound v) (w : Wa
     leaves : LeavesHand v c (own_row v c q.step) run
 
   -- of a machine that has none of the share
-  hand_stands : (won : Option ℕ) (run : Run) (found : ℕ) → IsNoInsert run → RunWaits run call v.past q.step → RunIsReady run call (own_row v c q.step ⊳ v.past) (Some found) → HasNewest (held c) run → IsClientState v c (in_hand (held c) run) → HoldsShare v c (in_hand (held c) run)
+  hand_stands : (won : Option ℕ) (run : Run) (found : ℕ) → IsNoEdit run → RunWaits run call v.past q.step → RunIsReady run call (own_row v c q.step ⊳ v.past) (Some found) → HasNewest (held c) run → IsClientState v c (in_hand (held c) run) → HoldsShare v c (in_hand (held c) run)
       → IsClientState (after_row v (own_row v c q.step) v.start (suc v.steps) won) c (in_hand (held c) run) × HoldsShare (after_row v (own_row v c q.step) v.start (suc v.steps) won) c (in_hand (held c) run) × TakesOnly v.layout c.pass.0 (in_hand (held c) run).scx v.past (own_row v c q.step) × ((n : ℕ) → IsOwnNode v.layout c.pass.0 n → n ≢ (in_hand (held c) run).node → ¬ IsTakenNode v.past n → ¬ IsTakenNode (own_row v c q.step ⊳ v.past) n)
   hand_stands won run found is waits ready newest x h =
       let l = (step_sound won).lawful in
@@ -368,7 +370,7 @@ module _ (v : ClientView) (c : Client) (q : Running) (sound : IsSound v) (w : Wa
       )
 
   stands_then : (won : Option ℕ) (run : Run) (found : ℕ) → RunWaits run call v.past q.step → RunIsReady run call (own_row v c q.step ⊳ v.past) (Some found) → v.layout.mode ≡ run_mode run → HasNewest (held c) run → IsClientState v c (in_hand (held c) run) → Holds v c run → StandsThen won run
-  stands_then won (Insert m) found waits ready mode newest x h = record { stands = stands_more v c (own_row v c q.step) v.start (suc v.steps) won (in_hand (held c) (Insert m)) (step_sound won) (leaves_tree v c (own_row v c q.step ⊳ v.past) _ mode x) x; holds = tt; leaves = tt }
+  stands_then won (Edit m) found waits ready mode newest x h = record { stands = stands_more v c (own_row v c q.step) v.start (suc v.steps) won (in_hand (held c) (Edit m)) (step_sound won) (leaves_tree v c (own_row v c q.step ⊳ v.past) _ mode x) x; holds = tt; leaves = tt }
   stands_then won (Llx m) found waits ready mode newest x h = let y = hand_stands won (Llx m) found tt waits ready newest x h in record { stands = y.0; holds = y.1; leaves = (y.2, y.3) }
   stands_then won (Scx m) found waits ready mode newest x h = let y = hand_stands won (Scx m) found tt waits ready newest x h in record { stands = y.0; holds = y.1; leaves = (y.2, y.3) }
   stands_then won (Vlx m) found waits ready mode newest x h = let y = hand_stands won (Vlx m) found tt waits ready newest x h in record { stands = y.0; holds = y.1; leaves = (y.2, y.3) }

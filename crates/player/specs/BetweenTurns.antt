@@ -25,8 +25,8 @@ use Rattle.player.specs.Lines.{newest}
 use Rattle.player.specs.declared.client.Client.{Client}
 use Rattle.player.specs.declared.player.Player.{Player}
 use Rattle.record.specs.Turns.{history, begin, turns, clients, won}
-use Rattle.script.specs.declared.command.Command.TheVariants.{Insert as InsertOf}
-use Rattle.spelling.specs.OrderedMap.{Edit, Insert}
+use Rattle.spelling.specs.OrderedMap.{MapEdit, Edit}
+use Rattle.player.specs.EditRuns.{edit_command}
 use Rattle.record.specs.declared.record.Entry.{Entry}
 use Rattle.record.specs.MapRecord.{map_call_of}
 use Rattle.places.specs.declared.places.Change.{Change}
@@ -70,7 +70,7 @@ pub record AreBetweenTurns (lay : Layout) (tries : ℕ) (calls : List Call) (wor
 abbrev pub AreWins : Layout → List Line → List (Option ℕ) → Type 0
 AreWins lay lines wins = (c turn : ℕ) → won lay lines c ≡ Some turn → slice_get wins c ≡ Some (Some turn)
 
--- on the tree the changes are those of the log, and each key of an insert may be changed
+-- on the tree the changes are those of the log, and each key of an edit may be changed
 pub record ArePlaces (lay : Layout) (calls : List Call) (lines : List Line) (places : Places) : Type 0 where
   pub entries : lay.mode ≡ Tree → AreEntries calls lines (changes places)
   pub keys : All (λ call. HoldsOfKey (Knows places) call.command) calls
@@ -105,18 +105,17 @@ pub record IsMade (p : Player) (number : ℕ) (row : Row) : Type 0 where
   pub lines : newest p.lines ≡ Step (Made number row) ∷ older
   pub so_far : IsLawfulSoFar p.script.layout p.script.limits.tries p.script.calls.items p.words (newest p.lines)
 
--- the entry is of the insert at which its client stands
-pub record IsAtInsert (calls : List Call) (clients : List Client) (e : Entry) : Type 0 where
+-- the entry is of the edit at which its client stands
+pub record IsAtEdit (calls : List Call) (clients : List Client) (e : Entry) : Type 0 where
   pub client : Client
   pub there : slice_get clients e.client.0 ≡ Some client
   pub at : ℕ
   pub next : client.next ≡ Some at
   pub call : Call
   pub here : slice_get calls at ≡ Some call
-  pub key : ℕ
-  pub value : ℕ
-  pub command : call.command ≡ InsertOf key value
-  pub edits : map_call_of calls e.client.0 e.call ≡ Some (Edit (Insert key value))
+  pub edit : MapEdit
+  pub command : call.command ≡ edit_command edit
+  pub edits : map_call_of calls e.client.0 e.call ≡ Some (Edit edit)
 
 -- the reply ends the client's call in this turn; `won` is the turn of its last update that has won
 pub record IsEnd (calls : List Call) (lines : List Line) (changes : List Change) (old new : Client) (turn : ℕ) (answer : Answer) (won : Option ℕ) (reply : Reply) : Type 0 where

@@ -20,21 +20,21 @@ use Rattle.prims.specs.Snaps.{IsAmong}
 use Rattle.prims.specs.Updates.{update_field_index}
 use Rattle.prims.specs.declared.put.PutRun.{PutRun}
 use Rattle.prims.specs.declared.snap.Snap.{Snap}
-use Rattle.spelling.specs.OrderedMap.{get}
+use Rattle.spelling.specs.OrderedMap.{get, edit_key}
 use Rattle.spelling.specs.Spelled.{Spells}
 use Rattle.spelling.specs.declared.pair.Pair.{Pair}
-use Rattle.tree.specs.declared.insert.Insert.{Insert as Inserted}
-use Rattle.updates.specs.declared.update.UpdateRun.{UpdateRun}
 use Rattle.script.specs.declared.command.Call.{Call}
 use Rattle.script.specs.declared.command.Command.{Command}
-use Rattle.script.specs.declared.command.Command.TheVariants.{Llx as LlxOf, Scx as ScxOf, Vlx as VlxOf, Set as SetOf, Insert as InsertOf, Get as GetOf}
+use Rattle.script.specs.declared.command.Command.TheVariants.{Llx as LlxOf, Scx as ScxOf, Vlx as VlxOf, Set as SetOf, Insert as InsertOf, Delete as DeleteOf, Get as GetOf}
 use Rattle.record.specs.declared.record.Line.{Line}
 use Rattle.record.specs.declared.record.Answer.{Answer}
 use Rattle.script.specs.Cells.{cells_of}
 use Rattle.script.specs.Update.{update_cells, update_finalize, update_field, update_value}
 use Rattle.record.specs.declared.record.Answer.TheVariants.{Full, Value}
+use Rattle.player.specs.EditRuns.{IsUnbegunEdit, edit_of, call_of, edit_command}
+use Rattle.player.specs.declared.edit.EditRun.{EditRun}
 use Rattle.player.specs.declared.run.Run.{Run}
-use Rattle.player.specs.declared.run.Run.TheVariants.{Llx, Scx, Vlx, Insert, Get}
+use Rattle.player.specs.declared.run.Run.TheVariants.{Llx, Scx, Vlx, Edit, Get}
 use Rattle.player.specs.declared.client.Client.{Client}
 use Rattle.player.specs.declared.client.Running.{Running}
 use Rattle.player.specs.declared.client.Put.{Put}
@@ -82,7 +82,7 @@ IsSound v = IsRun PlayedAllows v.layout v.past
 
 -- What a client has
 
--- what is left of its share, where it holds that; while an insert runs, that has it
+-- what is left of its share, where it holds that; while an edit runs, that has it
 abbrev pub held : Client → Remaining
 held c = unwrap_or c.share record { next_node = 0; nodes = 0; next_scx = 0; scx = 0 }
 
@@ -138,18 +138,19 @@ abbrev pub IsGetOf : Command → ℕ → Option Put → Type 0
 IsGetOf (GetOf key) k None = k ≡ key
 IsGetOf _ k then = ⊥
 
--- an insert in the client's call of this number serves the one of this key and value
-abbrev pub IsInsertOf : Command → ℕ → UpdateRun Inserted → Option Put → Type 0
-IsInsertOf (InsertOf key value) number m None = (m.edit.key ≡ key) × (m.edit.value ≡ value) × (m.call ≡ number)
-IsInsertOf _ number m then = ⊥
+-- an edit in the client's call of this number is the one that the command is
+pub record IsEditOf (command : Command) (number : ℕ) (m : EditRun) (then : Option Put) : Type 0 where
+  pub is : command ≡ edit_command (edit_of m)
+  pub called : call_of m ≡ number
+  pub alone : then ≡ None
 
 -- the machine, with what follows it, is that of the command in the client's call of this number
 abbrev pub IsMachineOf : Command → ℕ → Run → Option Put → Type 0
 IsMachineOf command number (Llx m) then = (m.node.0 ≤ 8) × IsLlxOf command m.node.0 then
 IsMachineOf command number (Scx m) then = IsScxOf command number m then
 IsMachineOf command number (Vlx m) then = IsVlxOf command m.snaps then
-IsMachineOf command number (Insert m) then = (m.edit.key < 2 ^ 64) × IsInsertOf command number m then
-IsMachineOf command number (Get m) then = IsGetOf command m.walk.key then
+IsMachineOf command number (Edit m) then = (edit_key (edit_of m) < 2 ^ 64) × IsEditOf command number m then
+IsMachineOf command number (Get m) then = IsGetOf command m.key then
 
 -- a client between two turns, but for its machine: its next call is the first that is not answered
 pub record IsClientState (v : ClientView) (c : Client) (hand : Hand) : Type 0 where
@@ -173,9 +174,9 @@ pub record HoldsShare (v : ClientView) (c : Client) (hand : Hand) : Type 0 where
   -- the SCX-records that it has taken are finished, but perhaps the one in hand
   pub over : AreFinished v.layout c.pass.0 hand.scx v.past
 
--- it does while a machine runs, but for an insert, which has the share and says what is left of it
+-- it does while a machine runs, but for an edit, which has the share and says what is left of it
 abbrev pub Holds : ClientView → Client → Run → Type 0
-Holds v c (Insert m) = Unit {0}
+Holds v c (Edit m) = Unit {0}
 Holds v c run = HoldsShare v c (in_hand (held c) run)
 
 -- no machine of the client runs, and it has nothing in hand
@@ -202,7 +203,7 @@ abbrev pub snaps_of : Run → List Snap
 snaps_of (Llx m) = []
 snaps_of (Scx m) = m.scx.update.snaps
 snaps_of (Vlx m) = m.snaps
-snaps_of (Insert m) = []
+snaps_of (Edit m) = []
 snaps_of (Get m) = []
 
 -- the moment is that of the snapshot of node n: for a `set` one of the call itself, else that of
@@ -242,10 +243,10 @@ pub record IsWonSince (v : ClientView) (c : ℕ) : Type 0 where
   pub no : (v.won ≡ None) ⊎ ((row : Row) × (before : History) × (s : ℕ) × IsOwnWin v c row before s)
 
 -- an update of the call has won if that of its machine's SCX-record has; none without an SCX. An
--- insert may have had many
+-- edit may have had many
 abbrev pub IsWonBy : ClientView → ℕ → Run → Type 0
 IsWonBy v c (Scx m) = IsWonAs v c m.scx.scx.0
-IsWonBy v c (Insert m) = IsWonSince v c
+IsWonBy v c (Edit m) = IsWonSince v c
 IsWonBy v c _ = v.won ≡ None
 
 -- since its call's begin the client has taken only what it has in hand
@@ -253,10 +254,10 @@ pub record HasTaken (v : ClientView) (c : ℕ) (hand : Hand) : Type 0 where
   pub nodes : (n : ℕ) → IsOwnNode v.layout c n → n ≢ hand.node → ¬ IsTakenNode v.start n → ¬ IsTakenNode v.past n
   pub scx_records : HasTakenOnly v.layout c hand.scx v.start v.past
 
--- a machine has taken what it has in hand alone; of an insert, this was left of the share as the
+-- a machine has taken what it has in hand alone; of an edit, this was left of the share as the
 -- call began
 abbrev pub TakesInHand : ClientView → Client → Remaining → Run → Type 0
-TakesInHand v c share (Insert m) = IsShare v.layout v.start c.pass.0 share share.next_node share.next_scx
+TakesInHand v c share (Edit m) = IsShare v.layout v.start c.pass.0 share share.next_node share.next_scx
 TakesInHand v c share run = HasTaken v c.pass.0 (in_hand (held c) run)
 
 -- at the call's begin the share had room for an SCX that runs
@@ -282,7 +283,7 @@ pub record Works (v : ClientView) (c : Client) (run : Run) (then : Option Put) :
   pub moments : HaveMoments v c.pass.0 command (snaps_of run)
   pub alone : AreLeftAlone v.layout c.pass.0 start (snaps_of run)
   pub room : IsRoomy v c.pass.0 run
-  -- what was left of the share as the call began, if it is an insert
+  -- what was left of the share as the call began, if it is an edit
   pub opening : Remaining
   pub took : TakesInHand v c opening run
   pub won : IsWonBy v c.pass.0 run
@@ -293,11 +294,17 @@ pub record Works (v : ClientView) (c : Client) (run : Run) (then : Option Put) :
 -- for and those of what follows it, are no more than the call may make, however many nodes are
 -- taken. A step that the machine waits for counts too.
 
+-- an edit of the map stands at its start, with as many tries as a call may make
+abbrev pub HasAllTries : Run → ℕ → Type 0
+HasAllTries (Edit m) tries = IsUnbegunEdit m tries
+HasAllTries _ tries = Unit {0}
+
 -- the machine has not asked for a step yet
 pub record Starts (v : ClientView) (c : Client) (run : Run) (then : Option Put) : Type 0 where
   pub works : Works v c run then
   pub none : c.running ≡ None
   pub ready : RunIsReady run (machine_call v c works.is_pass works.start) v.past None
+  pub tries : HasAllTries run v.tries
   pub spent : HasSpent works.opening v.tries run
   pub few : (taken : ℕ) → length (taken_nodes v.past) ≤ taken → v.steps + left_of run then taken ≤ most_steps works.command v.tries taken
 
@@ -367,17 +374,18 @@ pub record Refuses (v : ClientView) (c : Client) (answer : Answer) : Type 0 wher
 abbrev pub linked_by : ClientView → Command → Answer → ℕ → Option History
 linked_by v command answer n = linked_then (Some command) answer v.past n (v.linked n)
 
--- an insert of the key is done by one row of the call, just before which the map had this there
-pub record HasInserted (v : ClientView) (c key : ℕ) (old : Option ℕ) : Type 0 where
+-- an edit of the key is done by one row of the call, just before which the map had this there
+pub record HasEdited (v : ClientView) (c key : ℕ) (old : Option ℕ) : Type 0 where
   pub row : Row
   pub before : History
   pub scx : ℕ
   pub win : IsOwnWin v c row before scx
   pub told : (map : List Pair) → Spells v.layout (value before) map → get key map ≡ old
 
--- what an insert tells is what its own row has found
+-- what an edit tells is what its own row has found; a delete of an absent key has none
 abbrev pub Tells : ClientView → ℕ → Command → Answer → Type 0
-Tells v c (InsertOf key value) (Value old) = HasInserted v c key old
+Tells v c (InsertOf key value) (Value old) = HasEdited v c key old
+Tells v c (DeleteOf key) (Value (Some old)) = HasEdited v c key (Some old)
 Tells v c command answer = Unit {0}
 
 -- the client's call is answered, and the answer is right

@@ -1,5 +1,6 @@
 pub mod Allowed
 pub mod Moments
+pub mod EditRuns
 pub mod RunSteps
 pub mod RunKnown
 pub mod Lines

@@ -12,16 +12,15 @@ use Rattle.prims.specs.Vlx.Known.{VlxIsReady, VlxWaits, VlxAnswers}
 use Rattle.prims.specs.Put.Known.{PutIsReady, PutWaits, PutAnswers}
 use Rattle.arena.specs.Share.{Remaining}
 use Rattle.tree.specs.Get.Known.{GetIsReady, GetWaits, GetAnswers}
-use Rattle.tree.specs.Insert.Means.{insert_means}
-use Rattle.updates.specs.Known.{UpdateIsReady, UpdateWaits, UpdateAnswers}
 use Rattle.updates.specs.declared.update.Updated.TheVariants.{Done as UpdateDone, Contended as UpdateContended, Full as UpdateFull}
 use Rattle.prims.specs.declared.llx.Llx.TheVariants.{Snapshot as LlxSnapshot, Finalized as LlxFinalized, Fail as LlxFail}
 use Rattle.prims.specs.declared.scx.Scx.TheVariants.{Done as ScxDone, Lost as ScxLost}
 use Rattle.prims.specs.declared.vlx.Vlx.TheVariants.{Same as VlxSame, Changed as VlxChanged}
 use Rattle.record.specs.declared.record.Answer.{Answer}
 use Rattle.record.specs.declared.record.Answer.TheVariants.{Snapshot, Finalized, Fail, Done, Lost, Same, Changed, Full, Value, Contended}
+use Rattle.player.specs.EditRuns.{EditIsReady, EditWaits, EditAnswers, edit_of, call_of, share_of}
 use Rattle.player.specs.declared.run.Run.{Run}
-use Rattle.player.specs.declared.run.Run.TheVariants.{Llx, Scx, Vlx, Insert, Get}
+use Rattle.player.specs.declared.run.Run.TheVariants.{Llx, Scx, Vlx, Edit, Get}
 use Rattle.player.specs.declared.run.Ended.{Ended}
 use Rattle.player.specs.declared.run.Ended.TheVariants as ended
 
@@ -30,7 +29,7 @@ abbrev pub RunIsReady : Run → Call → History → Option ℕ → Type 0
 RunIsReady (Llx m) c h got = LlxIsReady AllowsAll m c h got
 RunIsReady (Scx m) c h got = PutIsReady AllowsAll m c h got
 RunIsReady (Vlx m) c h got = VlxIsReady m.snaps m.asked c h got
-RunIsReady (Insert m) c h got = UpdateIsReady insert_means m c h got
+RunIsReady (Edit m) c h got = EditIsReady m c h got
 RunIsReady (Get m) c h got = GetIsReady m c h got
 
 -- the machine of a call waits for this step, as the one inside
@@ -38,7 +37,7 @@ abbrev pub RunWaits : Run → Call → History → Step → Type 0
 RunWaits (Llx m) c h s = LlxWaits AllowsAll m c h s
 RunWaits (Scx m) c h s = PutWaits AllowsAll m c h s
 RunWaits (Vlx m) c h s = VlxWaits m.snaps m.asked c h s
-RunWaits (Insert m) c h s = UpdateWaits insert_means m c h s
+RunWaits (Edit m) c h s = EditWaits m c h s
 RunWaits (Get m) c h s = GetWaits m c h s
 
 -- what the answer of the machine says, which is one of its own kind
@@ -46,7 +45,7 @@ abbrev pub RunAnswers : Run → Call → History → Ended → Type 0
 RunAnswers (Llx m) c h (ended.Llx a) = LlxAnswers m c h a
 RunAnswers (Scx m) c h (ended.Scx a) = PutAnswers m c h a
 RunAnswers (Vlx m) c h (ended.Vlx a) = VlxAnswers m.snaps c h a
-RunAnswers (Insert m) c h (ended.Insert a) = UpdateAnswers insert_means m c h a
+RunAnswers (Edit m) c h (ended.Edit a) = EditAnswers m c h a
 RunAnswers (Get m) c h (ended.Get a) = GetAnswers m c h a
 RunAnswers _ c h _ = ⊥
 
@@ -59,9 +58,9 @@ answer_of (ended.Scx ScxDone) = Done
 answer_of (ended.Scx (ScxLost node scx)) = Lost node scx
 answer_of (ended.Vlx VlxSame) = Same
 answer_of (ended.Vlx (VlxChanged node scx)) = Changed node scx
-answer_of (ended.Insert (UpdateDone old)) = Value old
-answer_of (ended.Insert (UpdateContended node scx)) = Contended node scx
-answer_of (ended.Insert (UpdateFull full)) = Full full.what full.left
+answer_of (ended.Edit (UpdateDone found)) = Value found.value
+answer_of (ended.Edit (UpdateContended node scx)) = Contended node scx
+answer_of (ended.Edit (UpdateFull full)) = Full full.what full.left
 answer_of (ended.Get value) = Value value
 
 -- the two are machines of one kind, and of one call
@@ -69,13 +68,13 @@ abbrev pub IsSameMachine : Run → Run → Type 0
 IsSameMachine (Llx old) (Llx now) = now.node ≡ old.node
 IsSameMachine (Scx old) (Scx now) = (now.scx.scx ≡ old.scx.scx) × (now.scx.update ≡ old.scx.update) × (now.scx.call ≡ old.scx.call) × (now.value ≡ old.value)
 IsSameMachine (Vlx old) (Vlx now) = now.snaps ≡ old.snaps
-IsSameMachine (Insert old) (Insert now) = (now.edit ≡ old.edit) × (now.call ≡ old.call)
-IsSameMachine (Get old) (Get now) = now.walk.key ≡ old.walk.key
+IsSameMachine (Edit old) (Edit now) = (edit_of now ≡ edit_of old) × (call_of now ≡ call_of old)
+IsSameMachine (Get old) (Get now) = now.key ≡ old.key
 IsSameMachine _ _ = ⊥
 
 -- the mode in whose scripts the machine runs
 abbrev pub run_mode : Run → Mode
-run_mode (Insert m) = Tree
+run_mode (Edit m) = Tree
 run_mode (Get m) = Tree
 run_mode _ = Records
 
@@ -83,12 +82,12 @@ run_mode _ = Records
 abbrev pub RunAsksFirst : Run → Type 0
 RunAsksFirst m = Unit {0}
 
--- the share that the machine has, if it has one: an insert has its client's
+-- the share that the machine has, if it has one: an edit has its client's
 abbrev pub share_in : Run → Option Remaining
-share_in (Insert m) = Some m.share
+share_in (Edit m) = Some (share_of m)
 share_in _ = None
 
 -- the client's share once its machine has ended: what that had, or what the client held
 abbrev pub share_behind : Run → Option Remaining → Option Remaining
-share_behind (Insert m) had = Some m.share
+share_behind (Edit m) had = Some (share_of m)
 share_behind _ had = had

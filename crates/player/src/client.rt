@@ -1,6 +1,7 @@
 //! A client of the player: what it owns and what it is in the middle of.
 ghost use Rattle.std.specs.Prelude.{◌≡◌, ℕ, ◌+◌, ◌<◌, ◌≤◌, length, map, IfOk};
 
+use crate::edit::Edit;
 use crate::kept::Kept;
 use crate::place::next_call;
 use crate::run::{Ended, Run};
@@ -10,7 +11,7 @@ use places::Places;
 use prims::{Llx, LlxRun, PutRun, ScxRun, Snap, Snaps, Update, VlxRun};
 use record::{Answer, Reply};
 use script::{Call, Cell, Command};
-use tree::{GetRun, Insert};
+use tree::{Delete, GetRun, Insert};
 
 /// What a `set` does once its LLX has given a snapshot.
 #[derive(Clone, Copy, Debug, PartialEq, Eq)]
@@ -42,7 +43,7 @@ pub(crate) struct Client {
     pass: PassNo,
     /// How often a call may try.
     tries: u32,
-    /// None while an insert runs, which has it.
+    /// None while an edit runs, which has it.
     share: Option<Share>,
     kept: Kept,
     /// Where in the script the call stands that runs or comes next.
@@ -68,7 +69,7 @@ impl Client {
     ghost use Rattle.player.specs.declared.run.Ended.TheVariants.{Llx as LlxEnded};
     ghost use Rattle.player.specs.declared.client.Running.{Running};
     ghost use Rattle.arena.specs.declared.limits.Mode.TheVariants.{Tree};
-    ghost use Rattle.script.specs.declared.command.Command.TheVariants.{Insert as InsertCommand};
+    ghost use Rattle.player.specs.EditRuns.{made_by, edit_command};
     ghost use Rattle.script.specs.declared.command.Call.{Call as ScriptCall};
     ghost use Rattle.arena.specs.Share.{IsFull, after_taking};
     ghost use Rattle.record.specs.declared.record.Line.{Line};
@@ -163,18 +164,21 @@ impl Client {
                 Ok(snaps) => self.run(Run::Vlx(VlxRun::new(Snaps::new(&snaps))), None),
                 Err(node) => Some(Answer::Unlinked { node }),
             },
-            Command::Insert { key, value } => self.begin_insert(Insert { key, value }),
+            Command::Insert { key, value } => {
+                self.begin_edit(Edit::Insert(Insert { key, value }))
+            }
+            Command::Delete { key } => self.begin_edit(Edit::Delete(Delete { key })),
             Command::Get { key } => self.run(Run::Get(GetRun::new(key)), None),
         }
     }
 
-    /// Gives the share to an insert, which runs with that.
-    fn begin_insert(&mut self, insert: Insert) -> Option<Answer>
-        ensures { (v : ClientView) (began : Option ℕ) → IsSound v → 0 < v.tries → v.layout.mode ≡ Tree → Rests v self.old → IsUnbegun v began → command_of v self.old ≡ Some (InsertCommand insert.key insert.value) → BeginsOrRefuses v self.old.begin self.old self.new result }
+    /// Gives the share to an edit, which runs with that.
+    fn begin_edit(&mut self, edit: Edit) -> Option<Answer>
+        ensures { (v : ClientView) (began : Option ℕ) → IsSound v → 0 < v.tries → v.layout.mode ≡ Tree → Rests v self.old → IsUnbegun v began → command_of v self.old ≡ Some (edit_command (made_by edit)) → BeginsOrRefuses v self.old.begin self.old self.new result }
     {
         let share = self.share.take()?;
-        let run = insert.run(share, self.tries, self.number);
-        self.run(Run::Insert(run), None)
+        let run = edit.run(share, self.tries, self.number);
+        self.run(Run::Edit(run), None)
     }
 
     /// Takes the snapshots and the records of an `scx`, if they are there.
@@ -216,7 +220,7 @@ impl Client {
         self.run(Run::Scx(PutRun::new(value, scx)), None)
     }
 
-    /// Takes a node and an SCX-record of the share. No insert runs.
+    /// Takes a node and an SCX-record of the share. No edit runs.
     fn take(&mut self) -> Result<(Fresh, ScxNo), Full>
         ensures same { self.new ≡ record self.old { share = self.new.share } }
         ensures records { IfOk result (λ r. (r.0 ≡ (held self.old).next_node) × (r.1.0 ≡ (held self.old).next_scx)) }
@@ -341,9 +345,10 @@ impl Client {
         calls.get(self.next?).copied()
     }
 
-    /// The turn at which an answer stands: of an update that is done, and of an insert, that of its
-    /// entry, of a VLX its first, of an LLX its last, of a get one of its turns after which the map
-    /// was as it tells. `won` is the turn of the last update of the client's that has won.
+    /// The turn at which an answer stands: of an update that is done, and of an edit, that of its
+    /// entry, of a VLX its first, of an LLX its last, of a get, and of a delete of an absent key, one
+    /// of its turns after which the map was as it tells. `won` is the turn of the last update of the
+    /// client's that has won.
     pub(crate) fn moment(
         &self,
         calls: &[Call],
@@ -379,6 +384,10 @@ impl Client {
     {
         match self.call(calls)?.command {
             Command::Insert { key: _, value: _ } => won,
+            Command::Delete { key } => match value {
+                Some(_) => won,
+                None => places.greatest(key, None, self.begin, turn),
+            },
             Command::Get { key } => places.greatest(key, value, self.begin, turn),
             _ => None,
         }

@@ -2,6 +2,7 @@
 #![tactic(auto)]
 
 mod client;
+mod edit;
 mod kept;
 mod lines;
 mod place;

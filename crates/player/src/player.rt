@@ -1,8 +1,12 @@
 //! The player.
-ghost use Rattle.std.specs.Prelude.{◌≡◌, ℕ, ◌+◌, ◌<◌, ◌≤◌, [], Some, vec_len, slice_get, map, IfOk, All};
+ghost use Rattle.std.specs.Prelude.{◌≡◌, ℕ, ◌+◌, ◌<◌, ◌≤◌, [], Some, vec_len, slice_get, map, IfOk, IfSome, All};
 ghost use Rattle.player.specs.declared.client.Client.{Client};
+ghost use Rattle.places.specs.Entries.{value_left};
+ghost use Rattle.places.specs.Changed.{changed_key};
 ghost use Rattle.player.specs.ClientView.{client_view, Rests};
+ghost use Rattle.player.specs.EditRuns.{edit_command};
 ghost use Rattle.record.specs.LawfulRun.{IsLawfulRun};
+ghost use Rattle.spelling.specs.OrderedMap.{MapEdit, edit_key};
 
 use crate::client::{Client, NextAction};
 use crate::lines::Lines;
@@ -42,10 +46,12 @@ impl Player {
     ghost use Rattle.player.specs.TurnsMore.{AreTurnsWhile};
     ghost use Rattle.player.specs.Lines.{room, newest};
     ghost use Rattle.record.specs.Turns.{turns, clients, answered, made, entry_owed};
-    ghost use Rattle.player.specs.BetweenTurns.{IsBetweenTurns, IsAsked, IsMade, IsReplied, IsTurnMore, IsSameScript, HasSameClients, HasSameWords, HasSamePlaces, ArePlaces, IsAtInsert};
+    ghost use Rattle.player.specs.BetweenTurns.{IsBetweenTurns, IsAsked, IsMade, IsReplied, IsTurnMore, IsSameScript, HasSameClients, HasSameWords, HasSamePlaces, ArePlaces, IsAtEdit};
     ghost use Rattle.arena.specs.declared.limits.Mode.TheVariants.{Tree};
     ghost use Rattle.record.specs.declared.record.Entry.{Entry as LogEntry};
+    ghost use Rattle.places.specs.Entries.{value_left};
     ghost use Rattle.places.specs.Places.{changes, room as places_room, Knows, HoldsOfKey};
+    ghost use Rattle.spelling.specs.OrderedMap.{edit_key};
 
     /// A player of a copy of the script, with no turn made. The only error is want of memory.
     pub fn new(alloc: Global, script: &Script) -> Result<Player, NoMemory>
@@ -137,7 +143,7 @@ impl Player {
         requires made { IsMade self.old number row.now }
         requires roomy { 1 ≤ places_room self.old.places }
         requires places { ArePlaces self.old.script.layout (calls_of self.old) (newest self.old.lines) self.old.places }
-        requires owner { (e : LogEntry) → entry_owed self.old.script.layout (newest self.old.lines) ≡ Some e → self.old.script.layout.mode ≡ Tree → IsAtInsert (calls_of self.old) self.old.clients.items e }
+        requires owner { (e : LogEntry) → entry_owed self.old.script.layout (newest self.old.lines) ≡ Some e → self.old.script.layout.mode ≡ Tree → IsAtEdit (calls_of self.old) self.old.clients.items e }
         ensures room { 1 ≤ room self.new.lines }
         ensures same { HasSameClients self.old self.new }
         ensures line { MatchOption (entry_owed self.old.script.layout (newest self.old.lines)) (newest self.new.lines ≡ newest self.old.lines) (λ e. newest self.new.lines ≡ Line.Log e ∷ newest self.old.lines) }
@@ -151,21 +157,20 @@ impl Player {
         }
     }
 
-    /// Keeps the change of the map that an entry makes, if it is of an insert.
+    /// Keeps the change of the map that an entry makes, if it is of an edit.
     fn place(&mut self, entry: &Entry)
         requires room { 1 ≤ places_room self.old.places }
         requires client { entry.now.client.0 < passes_of self.old }
         requires keys { All (λ call. HoldsOfKey (Knows self.old.places) call.command) (calls_of self.old) }
         ensures same { self.new ≡ record self.old { places = self.new.places } }
         ensures keys { (key : ℕ) → Knows self.old.places key → Knows self.new.places key }
-        ensures change { (x : IsAtInsert (calls_of self.old) self.old.clients.items entry.now) → changes self.new.places ≡ record { turn = entry.now.step; key = x.key; value = Some x.value } ∷ changes self.old.places }
+        ensures change { (x : IsAtEdit (calls_of self.old) self.old.clients.items entry.now) → changes self.new.places ≡ record { turn = entry.now.step; key = edit_key x.edit; value = value_left x.edit } ∷ changes self.old.places }
     {
         let call = self.clients[entry.client.0 as usize].call(&self.script.calls);
         if let Some(call) = call
-            && let Command::Insert { key, value } = call.command
+            && let Some((key, value)) = edited(call.command)
         {
             let turn = entry.step;
-            let value = Some(value);
             self.places.push(Change { turn, key, value });
         }
     }
@@ -285,6 +290,18 @@ impl Player {
             script: self.script,
             lines: self.lines.into_list(),
         }
+    }
+}
+
+/// The key that a command edits, and what it leaves there.
+fn edited(command: Command) -> Option<(u64, Option<u64>)>
+    ensures edits { (e : MapEdit) → command ≡ edit_command e → result ≡ Some (edit_key e, value_left e) }
+    ensures key { IfSome result (λ r. changed_key command ≡ Some r.0) }
+{
+    match command {
+        Command::Insert { key, value } => Some((key, Some(value))),
+        Command::Delete { key } => Some((key, None)),
+        _ => None,
     }
 }
 

@@ -7,10 +7,11 @@ ghost use Rattle.player.specs.Allowed.{PlayedAllows};
 ghost use Rattle.player.specs.RunKnown.{RunIsReady, RunWaits, RunAnswers, RunAsksFirst, IsSameMachine, run_mode};
 ghost use Rattle.player.specs.RunSteps.{run_left, HasSpentSome, HasSpentRest};
 
+use crate::edit::EditRun;
 use arena::{Full, Machine, Share, Turn};
 use prims::{Cells, Llx, LlxRun, PutRun, Scx, Snaps, Vlx, VlxRun};
 use record::Answer;
-use tree::{GetRun, InsertRun, Tree};
+use tree::{GetRun, Tree};
 use updates::Updated;
 
 /// A call that has begun. A `set` is first an LLX and then an SCX.
@@ -20,7 +21,7 @@ pub(crate) enum Run {
     Scx(PutRun),
     Vlx(VlxRun<Snaps>),
     /// It has the client's share, until it has answered.
-    Insert(InsertRun),
+    Edit(EditRun),
     Get(GetRun),
 }
 
@@ -30,7 +31,7 @@ pub(crate) enum Ended {
     Llx(Llx),
     Scx(Scx),
     Vlx(Vlx),
-    Insert(Updated),
+    Edit(Updated),
     Get(Option<u64>),
 }
 
@@ -53,9 +54,9 @@ impl Ended {
             Ended::Scx(Scx::Lost { node, scx }) => Answer::Lost { node, scx },
             Ended::Vlx(Vlx::Same) => Answer::Same,
             Ended::Vlx(Vlx::Changed { node, scx }) => Answer::Changed { node, scx },
-            Ended::Insert(Updated::Done { old }) => Answer::Value(old),
-            Ended::Insert(Updated::Contended { node, scx }) => Answer::Contended { node, scx },
-            Ended::Insert(Updated::Full(Full { what, left })) => Answer::Full { what, left },
+            Ended::Edit(Updated::Done { found }) => Answer::Value(found.value),
+            Ended::Edit(Updated::Contended { node, scx }) => Answer::Contended { node, scx },
+            Ended::Edit(Updated::Full(Full { what, left })) => Answer::Full { what, left },
             Ended::Get(value) => Answer::Value(value),
         }
     }
@@ -86,9 +87,9 @@ impl Run {
                 Turn::Ask(step) => Turn::Ask(step),
                 Turn::Done(vlx) => Turn::Done(Ended::Vlx(vlx)),
             },
-            Run::Insert(run) => match run.step(got) {
+            Run::Edit(run) => match run.next(got) {
                 Turn::Ask(step) => Turn::Ask(step),
-                Turn::Done(updated) => Turn::Done(Ended::Insert(updated)),
+                Turn::Done(updated) => Turn::Done(Ended::Edit(updated)),
             },
             Run::Get(run) => match Machine::<Tree>::next(run, got) {
                 Turn::Ask(step) => Turn::Ask(step),
@@ -102,7 +103,7 @@ impl Run {
         ensures { result ≡ share_in self }
     {
         match self {
-            Run::Insert(run) => Some(run.into_share()),
+            Run::Edit(run) => Some(run.into_share()),
             _ => None,
         }
     }

@@ -8,10 +8,10 @@ use Rattle.arena.specs.declared.word.Word.TheVariants.{Node}
 use Rattle.arena.specs.declared.word.NodeWord.TheVariants.{Child}
 use Rattle.arena.specs.declared.step.Row.{Row as StepRow}
 use Rattle.arena.specs.History.{History}
-use Rattle.spelling.specs.OrderedMap.{MapCall, Edit, Insert, Get}
+use Rattle.spelling.specs.OrderedMap.{MapCall, Edit, Insert, Delete, Get}
 use Rattle.script.specs.declared.command.Call.{Call}
 use Rattle.script.specs.declared.command.Command.{Command}
-use Rattle.script.specs.declared.command.Command.TheVariants.{Llx, Scx as ScxOf, Vlx, Set, Insert as InsertOf, Get as GetOf}
+use Rattle.script.specs.declared.command.Command.TheVariants.{Llx, Scx as ScxOf, Vlx, Set, Insert as InsertOf, Delete as DeleteOf, Get as GetOf}
 use Rattle.record.specs.declared.record.Line.{Line}
 use Rattle.record.specs.declared.record.Line.TheVariants.{Step, Log, Reply as ReplyLine}
 use Rattle.record.specs.declared.record.Row.TheVariants.{Step as Made, Idle}
@@ -38,6 +38,7 @@ AreMapCalls calls = (c j : ℕ) (command : Command) → slice_get (commands call
 -- a call of the map took place where its command's rules say
 rule_of : (command : Command) (call : MapCall) (lay : Layout) (calls : List Call) (lines : List Line) (r : Reply) → map_call (Some command) ≡ Some call → IsPlaced lay calls lines r command → IsPlacedOnMap (reply_told r.answer) calls lines call r
 rule_of (InsertOf key value) call lay calls lines r e x = let i : Edit (Insert key value) ≡ call = cc in subst (λ m. IsPlacedOnMap (reply_told r.answer) calls lines m r) i x
+rule_of (DeleteOf key) call lay calls lines r e x = let i : Edit (Delete key) ≡ call = cc in subst (λ m. IsPlacedOnMap (reply_told r.answer) calls lines m r) i x
 rule_of (GetOf key) call lay calls lines r e x = let i : Get key ≡ call = cc in subst (λ m. IsPlacedOnMap (reply_told r.answer) calls lines m r) i x
 rule_of (Llx cell) call lay calls lines r e x = let y : None ≡ Some call = e in absurd (cc)
 rule_of (ScxOf update) call lay calls lines r e x = let y : None ≡ Some call = e in absurd (cc)

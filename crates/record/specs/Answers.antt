@@ -62,6 +62,10 @@ pub record IsInTheWay (lay : Layout) (c : ℕ) (now start : History) (kind : Kin
   pub found : HasFound c now start kind node scx
   pub others : IsOthersScx lay c scx
 
+-- since the call's begin another client's SCX-record was in progress over this node
+abbrev pub WasBlockedBy : Layout → ℕ → History → History → ℕ → ℕ → Type 0
+WasBlockedBy lay c now start node scx = IsOthersScx lay c scx × WasInTheWay now start node scx
+
 -- the client's share has a node and an SCX-record that are not taken
 pub record HasRoom (lay : Layout) (c : ℕ) (at : History) : Type 0 where
   pub node_number : ℕ

@@ -6,12 +6,13 @@ use Rattle.arena.specs.History.{History, value}
 use Rattle.arena.specs.Log.{Entry as Entered}
 use Rattle.script.specs.declared.command.Call.{Call}
 use Rattle.script.specs.declared.command.Command.{Command}
-use Rattle.script.specs.declared.command.Command.TheVariants.{Llx, Scx, Vlx, Set, Insert, Get}
+use Rattle.script.specs.declared.command.Command.TheVariants.{Llx, Scx, Vlx, Set, Insert, Delete, Get}
 use Rattle.record.specs.declared.record.Line.{Line}
 use Rattle.record.specs.declared.record.Reply.{Reply}
 use Rattle.record.specs.declared.record.Answer.{Answer}
 use Rattle.record.specs.Turns.{start}
 use Rattle.record.specs.Rules.{Rules}
+use Rattle.record.specs.Rules.Delete.{delete_rules}
 use Rattle.record.specs.Rules.Get.{get_rules}
 use Rattle.record.specs.Rules.Insert.{insert_rules}
 use Rattle.record.specs.Rules.Llx.{llx_rules}
@@ -27,6 +28,7 @@ rules (Scx update) = scx_rules update
 rules (Vlx cells) = vlx_rules cells
 rules (Set field value) = set_rules field value
 rules (Insert key value) = insert_rules key value
+rules (Delete key) = delete_rules key
 rules (Get key) = get_rules key
 
 -- how many steps a call may make, where it may try so often, while so many nodes are taken, by any

@@ -1,8 +1,9 @@
 pub mod Turns
 pub mod Commands
 pub mod Snapshots
-pub mod Shares
 pub mod Answers
+pub mod Shares
+pub mod Edits
 pub mod MapRecord
 pub mod Placed
 pub mod SpelledMap

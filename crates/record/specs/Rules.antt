@@ -4,6 +4,7 @@ pub mod Scx
 pub mod Vlx
 pub mod Set
 pub mod Insert
+pub mod Delete
 pub mod Get
 use Rattle.std.specs.Prelude.{ℕ, Bool, List, Option}
 use Rattle.arena.specs.declared.layout.Layout.{Layout}

@@ -4,9 +4,9 @@ use Rattle.arena.specs.declared.layout.Layout.{Layout}
 use Rattle.arena.specs.declared.fault.Resource.{Resource}
 use Rattle.arena.specs.declared.fault.Resource.TheVariants.{Nodes, Scx as ScxRecords}
 use Rattle.arena.specs.Layout.{first_node, first_scx}
-use Rattle.arena.specs.Blame.{WasInTheWay}
 use Rattle.arena.specs.History.{History}
-use Rattle.arena.specs.Fills.{IsOwnNode, IsOwnScx, IsOthersScx, IsTakenNode, IsTakenScx}
+use Rattle.arena.specs.Fills.{IsOwnNode, IsOwnScx, IsTakenNode, IsTakenScx}
+use Rattle.record.specs.Answers.{WasBlockedBy}
 
 -- n is one of so many numbers that follow one another, from `first` on
 abbrev pub IsInRow : ℕ → ℕ → ℕ → Type 0
@@ -40,10 +40,10 @@ HasTooFew lay c now needed Nodes left = (left < needed) × HasNodesLeft lay c no
 HasTooFew lay c now needed ScxRecords left = (left ≡ 0) × HasScxLeft lay c now left × ((nodes : ℕ) × (needed ≤ nodes) × HasNodesLeft lay c now nodes)
 
 -- since the call's begin another client's SCX-record was in progress over some node
-abbrev pub HasMetAnother : Layout → ℕ → History → History → Type 0
-HasMetAnother lay c now start = (node : ℕ) × (scx : ℕ) × IsOthersScx lay c scx × WasInTheWay now start node scx
+abbrev pub WasBlocked : Layout → ℕ → History → History → Type 0
+WasBlocked lay c now start = (node : ℕ) × (scx : ℕ) × WasBlockedBy lay c now start node scx
 
 -- The share has too little for the next try of a call: it had too little for the first already, as
 -- the call began, or a try was lost to another client.
 abbrev pub HasTooFewToTry : Layout → ℕ → History → History → ℕ → Resource → ℕ → Type 0
-HasTooFewToTry lay c now start needed what left = HasTooFew lay c now needed what left × (HasTooFew lay c start needed what left ⊎ HasMetAnother lay c now start)
+HasTooFewToTry lay c now start needed what left = HasTooFew lay c now needed what left × (HasTooFew lay c start needed what left ⊎ WasBlocked lay c now start)

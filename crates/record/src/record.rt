@@ -102,13 +102,14 @@ pub enum Answer {
     Changed { node: NodeNo, scx: ScxNo },
     /// `scx`, `vlx`: the client keeps no snapshot of this cell, the first such.
     Unlinked { node: NodeNo },
-    /// `get`: the value of its key in the map, if the key has one, at the reply's moment. `insert`:
-    /// the value that its key had, if it had one, just before the reply's moment.
+    /// `get`: the value of its key in the map, if the key has one, at the reply's moment. `insert`,
+    /// `delete`: the value that its key had, if it had one, just before the reply's moment. A
+    /// `delete` that tells none has changed nothing.
     Value(Option<u64>),
-    /// `insert`: it was not made and never will be; all its tries were lost, and `scx` was in
-    /// progress over the node `node` of the tree within the call.
+    /// `insert`, `delete`: it was not made and never will be; all its tries were lost, and `scx` was
+    /// in progress over the node `node` of the tree within the call.
     Contended { node: NodeNo, scx: ScxNo },
-    /// `scx`, `set`, `insert`: `left` of the resource are left in the client's share, too few for
-    /// the call.
+    /// `scx`, `set`, `insert`, `delete`: `left` of the resource are left in the client's share, too
+    /// few for the call.
     Full { what: Resource, left: u32 },
 }

@@ -8,7 +8,7 @@ use Rattle.arena.specs.declared.word.Side.TheVariants.{Left, Right}
 use Rattle.script.specs.Cells.{cells_of}
 use Rattle.script.specs.Update.{update_cells, update_finalize, update_field, update_value}
 use Rattle.script.specs.declared.command.Command.{Command}
-use Rattle.script.specs.declared.command.Command.TheVariants.{Llx, Scx, Vlx, Set, Insert, Get}
+use Rattle.script.specs.declared.command.Command.TheVariants.{Llx, Scx, Vlx, Set, Insert, Delete, Get}
 
 -- the word for a side
 abbrev pub side_text : Side → List ℕ
@@ -36,11 +36,13 @@ command_row (Scx update) = codes "scx" ∷ numbers_text (update_cells update) �
 command_row (Vlx cells) = codes "vlx" ∷ numbers_text (cells_of cells) ∷ [] ∷ [] ∷ []
 command_row (Set field value) = codes "set" ∷ decimal field.0 ∷ side_text field.1 ∷ decimal value ∷ []
 command_row (Insert key value) = codes "insert" ∷ decimal key ∷ decimal value ∷ [] ∷ []
+command_row (Delete key) = codes "delete" ∷ decimal key ∷ [] ∷ [] ∷ []
 command_row (Get key) = codes "get" ∷ decimal key ∷ [] ∷ [] ∷ []
 
 -- the mode whose scripts have the command
 abbrev pub mode_of : Command → Mode
 mode_of (Insert key value) = Tree
+mode_of (Delete key) = Tree
 mode_of (Get key) = Tree
 mode_of _ = Records
 
@@ -65,6 +67,7 @@ IsCommand (Scx update) = AreCells (update_cells update) × (update_value update 
 IsCommand (Vlx cells) = AreCells (cells_of cells)
 IsCommand (Set field value) = IsCell field.0 × (value < 2 ^ 64)
 IsCommand (Insert key value) = (key < 2 ^ 64) × (value < 2 ^ 64)
+IsCommand (Delete key) = key < 2 ^ 64
 IsCommand (Get key) = key < 2 ^ 64
 
 -- what is found is the command that has this row, or nothing where no command has it

@@ -19,6 +19,8 @@ pub enum Command {
     Set { field: (Cell, Side), value: u64 },
     /// Gives a key of the map a value, in tree mode.
     Insert { key: u64, value: u64 },
+    /// Takes a key out of the map, in tree mode.
+    Delete { key: u64 },
     /// Looks up a key of the map, in tree mode.
     Get { key: u64 },
 }

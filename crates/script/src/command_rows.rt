@@ -27,6 +27,7 @@ pub fn command_of(mode: Mode, name: &str, arguments: [&str; 3]) -> Result<Comman
         (Mode::Records, "vlx") => vlx_of(arguments),
         (Mode::Records, "set") => set_of(arguments),
         (Mode::Tree, "insert") => insert_of(arguments),
+        (Mode::Tree, "delete") => delete_of(arguments),
         (Mode::Tree, "get") => get_of(arguments),
         _ => return Err(ScriptCause::Command),
     };
@@ -86,6 +87,17 @@ fn insert_of(arguments: [&str; 3]) -> Option<Command>
     Some(Command::Insert {
         key: number_of(key)?,
         value: number_of(value)?,
+    })
+}
+
+fn delete_of(arguments: [&str; 3]) -> Option<Command>
+    ensures { IsCommandOf (codes "delete" ∷ texts arguments.entry) result }
+{
+    let [key, "", ""] = arguments else {
+        return None;
+    };
+    Some(Command::Delete {
+        key: number_of(key)?,
     })
 }
 
@@ -201,6 +213,12 @@ impl CommandText {
                 name: "insert",
                 a: format!(in alloc; "{key}")?,
                 b: format!(in alloc; "{value}")?,
+                c: String::new(alloc),
+            }),
+            Command::Delete { key } => Ok(CommandText {
+                name: "delete",
+                a: format!(in alloc; "{key}")?,
+                b: String::new(alloc),
                 c: String::new(alloc),
             }),
             Command::Get { key } => Ok(CommandText {

@@ -4,7 +4,7 @@ pub use Rattle.spelling.proofs.Meanings.{one_spelling, opening_run, opening_spel
 pub use Rattle.spelling.proofs.Stood.{was_now, was_passed}
 pub use Rattle.spelling.proofs.Past.{walk_stays}
 pub use Rattle.spelling.proofs.Inside.{tree_inside, walk_inside}
-pub use Rattle.spelling.proofs.TreeRuns.{tree_not_final, path_not_final, tree_remains, new_stood, levels_rise, stood_blank, passed_blank, root_head, passed_unmarked, passed_level, log_short, passed_depth, child_stood, child_not_final}
+pub use Rattle.spelling.proofs.TreeRuns.{tree_not_final, path_not_final, tree_remains, new_stood, levels_rise, stood_blank, passed_blank, root_head, passed_unmarked, passed_level, log_short, passed_depth, child_stood, child_not_final, stood_depth, stood_settled, stood_in_field, children_apart}
 pub use Rattle.spelling.proofs.Blamed.{blame_finalizer, passed_finalized}
 pub use Rattle.spelling.proofs.ChangedFields.{blame_field}
 pub use Rattle.spelling.proofs.Runs.{one_edit, makes_one, begun_named, shaped_change}
@@ -12,4 +12,5 @@ pub use Rattle.spelling.proofs.Edited.{plan_insert, plan_delete}
 pub use Rattle.spelling.proofs.Moved.{SameSettled, settled_rank, settled_toward, settled_class, settled_leaf, settled_level, move_swap, move_split, move_join}
 pub use Rattle.spelling.proofs.Next.{first, search_next, search_is}
 pub use Rattle.spelling.proofs.Maps.{get_above, inserted, insert_keeps, deleted, delete_keeps, edited_rises, same_values, successor_is, between_gives, between_rises}
-pub use Rattle.spelling.proofs.Rising.{rising_levels}
+pub use Rattle.spelling.proofs.Rising.{rising_levels, held_stood}
+pub use Rattle.spelling.proofs.FirstLeaf.{walk_small, walk_left, walk_before, walk_own, walk_least}

@@ -22,6 +22,7 @@ mod ChangedFields
 mod Taken
 mod TreeRuns
 mod Rising
+mod FirstLeaf
 mod Reading
 mod LeafLists
 mod Maps

@@ -15,7 +15,8 @@ use Rattle.arena.specs.declared.word.NodeWord.TheVariants.{Head, Key, Value, Chi
 use Rattle.arena.specs.declared.word.ScxWord.TheVariants.{AllFrozen}
 use Rattle.arena.specs.Layout.{opening}
 use Rattle.arena.specs.Words.{node, scx, info, marked, child, state, same_word}
-use Rattle.arena.specs.History.{History, Start, ◌⊳◌, value, HasHeld}
+use Rattle.arena.specs.History.{History, Start, ◌⊳◌, value, Extends, HasHeld}
+use Rattle.arena.specs.Log.{log, is_final}
 use Rattle.arena.specs.Lawful.{Lawful}
 use Rattle.arena.specs.ScxRecords.{member, new, field, plan, side_of}
 use Rattle.arena.proofs.Lemmas.{held_at, held_split, held_start, node_apart, node_word_apart, value_apart, value_at, value_other, value_quiet, word_same}
@@ -26,9 +27,9 @@ use Rattle.spelling.specs.Paths.{WasInTree}
 use Rattle.spelling.specs.Runs.{IsTreeRun}
 use Rattle.spelling.specs.Spelled.{Spells}
 use Rattle.spelling.specs.FillOrder.{HasStoodInField, HasRisingLevels, AreFilledInOrder}
-use Rattle.spelling.proofs.Meanings.{run_spells}
+use Rattle.spelling.proofs.Meanings.{run_since, run_spells}
 use Rattle.spelling.proofs.Stood.{was_more, was_now}
-use Rattle.spelling.proofs.TreeRuns.{levels_rise, new_stood}
+use Rattle.spelling.proofs.TreeRuns.{child_stood, levels_rise, new_stood}
 
 -- Heads
 
@@ -158,3 +159,13 @@ stood lay (r ⊳ h) n g order x = row_stood lay h r n g order (stood lay h n (g.
 -- that a field has ever named.
 pub rising_levels : (lay : Layout) (h : History) → IsTreeRun lay h → AreFilledInOrder h → HasRisingLevels h
 rising_levels lay h g order n side named fork = ⊎_elim (λ x. levels_rise lay h n side g x fork) (λ e. let y : true ≡ false = sym e ∙ fork in absurd (cc)) (stood lay h n g order named)
+
+-- nodes were filled in order up to each moment before
+filled_since : (h m : History) → Extends h m → AreFilledInOrder h → AreFilledInOrder m
+filled_since (Start mode) m e x = subst AreFilledInOrder (sym e) x
+filled_since (r ⊳ h) m (inl e) x = subst AreFilledInOrder (sym e) x
+filled_since (r ⊳ h) m (inr e) x = filled_since h m e x.0
+
+-- What such a fork has held in a field while it was not final has stood in the tree.
+pub held_stood : (lay : Layout) (h m : History) (n : ℕ) (side : Side) → IsTreeRun lay h → AreFilledInOrder h → Extends h m → HasStoodInField m n → is_final (log lay m) n ≡ false → is_leaf (value m) n ≡ false → WasInTree h (value m (child n side))
+held_stood lay h m n side g order e named not_final fork = ⊎_elim (λ x. child_stood lay h m n side g e x not_final fork) (λ leaf. let y : true ≡ false = sym leaf ∙ fork in absurd (cc)) (stood lay m n (run_since lay h m g e) (filled_since h m e order) named)

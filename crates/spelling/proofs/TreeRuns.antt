@@ -1,18 +1,22 @@
 -- What a history of the tree keeps, whatever edits it makes: levels, how deep it is, what is blank,
 -- and which nodes are final.
-use Rattle.std.proofs.Common.{◌≡◌, ◌+◌, ◌<◌, ◌≤◌, Bool, true, false, suc, ℕ, length, refl}
+use Rattle.std.proofs.Common.{◌≡◌, ◌≢◌, ◌⊎◌, inl, inr, ◌+◌, ◌<◌, ◌≤◌, Bool, true, false, suc, ℕ, length, refl, sym, ◌∙◌, subst, arith}
 use Rattle.arena.specs.declared.layout.Layout.{Layout}
 use Rattle.arena.specs.declared.word.Side.{Side}
+use Rattle.arena.specs.declared.word.Side.TheVariants.{Left, Right}
 use Rattle.arena.specs.declared.word.NodeWord.TheVariants.{Head}
 use Rattle.arena.specs.Words.{node, child, marked}
 use Rattle.arena.specs.declared.step.Row.{Row}
 use Rattle.arena.specs.ScxRecords.{new}
 use Rattle.arena.specs.History.{History, ◌⊳◌, value, Extends}
 use Rattle.arena.specs.Log.{log, is_final}
+use Rattle.arena.specs.Fills.{IsInField}
+use Rattle.arena.specs.Layout.{opening_nodes}
 use Rattle.arena.specs.TakenNodes.{taken_nodes}
-use Rattle.histories.proofs.Lemmas.{Facts, UpdateWins, facts_before}
+use Rattle.histories.proofs.Lemmas.{Facts, UpdateWins, facts_before, node_since}
 use Rattle.spelling.specs.OrderedMap.{MapEdit}
-use Rattle.spelling.specs.TreeWords.{Tree, Has, is_leaf, level, IsBlankAboveKeys}
+use Rattle.spelling.specs.TreeWords.{Tree, Has, is_leaf, level, IsBlankAboveKeys, root}
+use Rattle.arena.proofs.Lemmas.{held_at, held_since}
 use Rattle.spelling.specs.Spelled.{IsTree, Spells}
 use Rattle.spelling.specs.Paths.{IsOnPath, Passed, WasInTree}
 use Rattle.spelling.specs.Runs.{IsTreeRun}
@@ -22,11 +26,12 @@ use Rattle.spelling.proofs.Levels.{grown_level}
 use Rattle.spelling.proofs.Blanks.{grown_blank}
 use Rattle.spelling.proofs.Remaining.{grown_remains}
 use Rattle.spelling.proofs.Growing.{grown_root}
-use Rattle.spelling.proofs.Stood.{was_now, was_passed}
+use Rattle.spelling.proofs.Stood.{was_now, was_passed, was_named}
 use Rattle.spelling.proofs.TreeFacts.{TreeFacts}
 use Rattle.spelling.proofs.Edited.{result, tree_now, new_in}
 use Rattle.spelling.proofs.Grown.{tree_facts, grown_tail}
-use Rattle.spelling.proofs.Trees.{passes_has}
+use Rattle.spelling.proofs.Trees.{passes_has, IsBelowFork, has_above, fields_apart}
+use Rattle.spelling.proofs.Moved.{SameSettled}
 use Rattle.spelling.proofs.Taken.{grown_log, grown_depth}
 use Rattle.spelling.proofs.Meanings.{edits_of, grown, run_since, run_spells}
 
@@ -91,6 +96,25 @@ log_short lay h g = grown_log (edits_of lay h g).edits lay h (grown lay h g)
 pub passed_depth : (lay : Layout) (h start : History) (k n : ℕ) → IsTreeRun lay h → Passed h start k n → level (value h) n < 2 + length (taken_nodes h)
 passed_depth lay h start k n g p = grown_depth (edits_of lay h g).edits lay h start k n (grown lay h g) p
 
+-- and so is one that stood there
+pub stood_depth : (lay : Layout) (h : History) (n : ℕ) → IsTreeRun lay h → WasInTree h n → level (value h) n < 2 + length (taken_nodes h)
+stood_depth lay h n g x =
+    let a : level (value h) n ≤ suc (length (log lay h)) = grown_level (edits_of lay h g).edits lay h (grown lay h g) n x in
+    let b : length (log lay h) ≤ length (taken_nodes h) = log_short lay h g in
+    omega (arith, a, b)
+
+-- the settled words of a node that stood in the tree stay as they were
+pub stood_settled : (lay : Layout) (h m : History) (n : ℕ) → IsTreeRun lay h → Extends h m → WasInTree m n → SameSettled (value m) (value h) n
+stood_settled lay h m n g e x part i = node_since lay h m n part g.1.lawful e i (was_named lay m n g.0 (run_since lay h m g e).1.lawful x)
+
+-- a node that stood in the tree is the root, or a field of the fork above it has held it
+pub stood_in_field : (lay : Layout) (h : History) (n : ℕ) → IsTreeRun lay h → WasInTree h n → IsInField lay h n
+stood_in_field lay h n g x = go (has_above (value x.moment) x.tree _ _ n x.is_tree.shows x.has)
+  where
+    go : (n ≡ root x.tree) ⊎ IsBelowFork (value x.moment) x.tree n → IsInField lay h n
+    go (inl e) = let z : n ≡ 0 = e ∙ x.is_tree.is in inl (subst (λ m. n < opening_nodes m) (sym g.0) (omega (arith, z)))
+    go (inr y) = inr (y.fork, y.side, was_named lay h y.fork g.0 g.1.lawful record { moment = x.moment; within = x.within; tree = x.tree; is_tree = x.is_tree; has = y.has }, held_since h x.moment (child y.fork y.side) n x.within (held_at x.moment (child y.fork y.side) n y.holds))
+
 -- the children of a fork that has stood in the tree and is not final stand in the tree
 child_has : (lay : Layout) (h : History) (t : Tree) (n : ℕ) (side : Side) → IsTreeRun lay h → IsTree (value h) t → WasInTree h n → is_final (log lay h) n ≡ false → is_leaf (value h) n ≡ false → Has t (value h (child n side))
 child_has lay h t n side g i x e fork = (path_level (value h) t _ _ n side i.shows (tree_remains lay h t n g x e i) fork).1
@@ -105,7 +129,14 @@ child_stood lay h m n side g e x not_final fork = record { moment = m; within = 
     spelled : Spells lay (value m) (run_spells lay m run).0
     spelled = (run_spells lay m run).1
 
--- and is not final
+-- its two children are apart
+pub children_apart : (lay : Layout) (h : History) (n : ℕ) → IsTreeRun lay h → WasInTree h n → is_final (log lay h) n ≡ false → is_leaf (value h) n ≡ false → value h (child n Left) ≢ value h (child n Right)
+children_apart lay h n g x not_final fork = fields_apart (value h) spelled.tree _ _ n spelled.is_tree.shows (tree_remains lay h spelled.tree n g x not_final spelled.is_tree) fork
+  where
+    spelled : Spells lay (value h) (run_spells lay h g).0
+    spelled = (run_spells lay h g).1
+
+-- what such a fork holds is not final
 pub child_not_final : (lay : Layout) (h : History) (n : ℕ) (side : Side) → IsTreeRun lay h → WasInTree h n → is_final (log lay h) n ≡ false → is_leaf (value h) n ≡ false → is_final (log lay h) (value h (child n side)) ≡ false
 child_not_final lay h n side g x not_final fork = tree_not_final lay h spelled.tree (value h (child n side)) g spelled.is_tree (child_has lay h spelled.tree n side g spelled.is_tree x not_final fork)
   where

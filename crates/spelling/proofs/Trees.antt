@@ -1,5 +1,6 @@
 -- One word of a shown tree is changed, and the words show another tree.
 use Rattle.std.proofs.Common.{◌≡◌, ◌≢◌, ℕ, ◌+◌, ◌*◌, ◌/◌, ◌%◌, ◌^◌, ◌<◌, ◌≤◌, Bool, true, false, cond, ◌⊎◌, inl, inr, ⊎_elim, List, [], ◌∷◌, ◌++◌, refl, sym, ◌∙◌, ap, arith, eqb, ltb, lt-ltb, le-ltb, ne_eqb, subst}
+use Rattle.arena.specs.declared.word.Side.{Side}
 use Rattle.arena.specs.declared.word.Side.TheVariants.{Left, Right}
 use Rattle.arena.specs.declared.word.NodeWord.{NodeWord}
 use Rattle.arena.specs.declared.word.NodeWord.TheVariants.{Head, Key, Value, Child}
@@ -146,6 +147,35 @@ passes_has f k (Leaf n) m p = p
 passes_has f k (Fork n a b) m (inl p) = inl p
 passes_has f k (Fork n a b) m (inr (inl p)) = inr (inl (passes_has f k a m p.1))
 passes_has f k (Fork n a b) m (inr (inr p)) = inr (inr (passes_has f k b m p.1))
+
+-- a field of a fork of the tree holds the node
+pub record IsBelowFork (f : Word → ℕ) (t : Tree) (n : ℕ) : Type 0 where
+  pub fork : ℕ
+  pub side : Side
+  pub has : Has t fork
+  pub holds : f (child fork side) ≡ n
+
+-- each node but the one on top is below a fork
+pub has_above : (f : Word → ℕ) (t : Tree) (lo hi n : ℕ) → Shows f lo hi t → Has t n → (n ≡ root t) ⊎ IsBelowFork f t n
+has_above f (Leaf m) lo hi n s e = inl (sym e)
+has_above f (Fork m a b) lo hi n s (inl e) = inl (sym e)
+has_above f (Fork m a b) lo hi n s (inr (inl x)) = ⊎_elim
+    (λ e. inr record { fork = m; side = Left; has = inl refl; holds = s.0.left ∙ sym e })
+    (λ y. inr record { fork = y.fork; side = y.side; has = inr (inl y.has); holds = y.holds })
+    (has_above f a lo (rank f m) n s.1 x)
+has_above f (Fork m a b) lo hi n s (inr (inr x)) = ⊎_elim
+    (λ e. inr record { fork = m; side = Right; has = inl refl; holds = s.0.right ∙ sym e })
+    (λ y. inr record { fork = y.fork; side = y.side; has = inr (inr y.has); holds = y.holds })
+    (has_above f b (rank f m) hi n s.2 x)
+
+-- the children of a fork are two nodes
+pub fields_apart : (f : Word → ℕ) (t : Tree) (lo hi n : ℕ) → Shows f lo hi t → Has t n → is_leaf f n ≡ false → f (child n Left) ≢ f (child n Right)
+fields_apart f (Leaf m) lo hi n s e fork q = let x : true ≡ false = sym s.leaf ∙ subst (λ k. is_leaf f k ≡ false) (sym e) fork in cc
+fields_apart f (Fork m a b) lo hi n s (inl e) fork q =
+    let same : root a ≡ root b = sym s.0.left ∙ subst (λ k. f (child k Left) ≡ f (child k Right)) (sym e) q ∙ s.0.right in
+    apart f a b lo (rank f m) hi (root a) s.1 s.2 (has_root a) (subst (λ k. Has b k) (sym same) (has_root b))
+fields_apart f (Fork m a b) lo hi n s (inr (inl x)) fork q = fields_apart f a lo (rank f m) n s.1 x fork q
+fields_apart f (Fork m a b) lo hi n s (inr (inr x)) fork q = fields_apart f b (rank f m) hi n s.2 x fork q
 
 -- Changes of a map that are local to a key
 

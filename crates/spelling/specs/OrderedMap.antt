@@ -33,6 +33,11 @@ abbrev pub delete : ℕ → List Pair → List Pair
 delete k [] = []
 delete k (p ∷ ps) = cond (eqb k p.key) ps (p ∷ delete k ps)
 
+-- the pair with the least key, if there is one
+abbrev pub first_pair : List Pair → Option Pair
+first_pair [] = None
+first_pair (p ∷ ps) = Some p
+
 -- the pair with the least key above k, if there is one
 abbrev pub successor : ℕ → List Pair → Option Pair
 successor k [] = None

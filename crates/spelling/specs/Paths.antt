@@ -4,7 +4,7 @@ use Rattle.std.specs.Prelude.{◌≡◌, ℕ, List, Option}
 use Rattle.arena.specs.declared.layout.Layout.{Layout}
 use Rattle.arena.specs.History.{History, value, Extends}
 use Rattle.spelling.specs.declared.pair.Pair.{Pair}
-use Rattle.spelling.specs.OrderedMap.{get}
+use Rattle.spelling.specs.OrderedMap.{get, first_pair}
 use Rattle.spelling.specs.TreeWords.{Tree, Has, Passes}
 use Rattle.spelling.specs.Spelled.{IsTree, Spells}
 
@@ -39,3 +39,13 @@ pub record IsAnswerAt (lay : Layout) (h start : History) (k : ℕ) (answer : Opt
   pub map : List Pair
   pub spelled : Spells lay (value moment) map
   pub gives : get k map ≡ answer
+
+-- at a moment of the history that is not before `start` the words spell a map whose first pair this
+-- is; if there is none, the map is empty
+pub record IsFirstAt (lay : Layout) (h start : History) (answer : Option Pair) : Type 0 where
+  pub moment : History
+  pub within : Extends h moment
+  pub since : Extends moment start
+  pub map : List Pair
+  pub spelled : Spells lay (value moment) map
+  pub is : first_pair map ≡ answer

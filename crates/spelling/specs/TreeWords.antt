@@ -1,5 +1,5 @@
 -- What the settled words of a node say, and the tree of nodes that words show.
-use Rattle.std.specs.Prelude.{◌≡◌, ◌≢◌, ℕ, ◌+◌, ◌*◌, ◌/◌, ◌%◌, ◌^◌, ◌<◌, ◌≤◌, Bool, true, false, cond, eqb, ltb, ◌⊎◌, List, [], ◌∷◌, ◌++◌, Option}
+use Rattle.std.specs.Prelude.{◌≡◌, ◌≢◌, ℕ, ◌+◌, ◌*◌, ◌/◌, ◌%◌, ◌^◌, ◌<◌, ◌≤◌, Bool, true, false, cond, eqb, ltb, ◌⊎◌, List, [], ◌∷◌, ◌++◌, Option, Some, None}
 use Rattle.arena.specs.declared.word.Side.{Side}
 use Rattle.arena.specs.declared.word.Side.TheVariants.{Left, Right}
 use Rattle.arena.specs.declared.word.NodeWord.TheVariants.{Head, Key, Value}
@@ -42,6 +42,10 @@ leaf_pairs f n = cond (eqb (class f n) 0) (pair (f (node n Key)) (f (node n Valu
 -- what the leaf n says of the key k
 abbrev pub said : (Word → ℕ) → ℕ → ℕ → Option ℕ
 said f k n = get k (leaf_pairs f n)
+
+-- what the leaf n says of the least key, where it is the first leaf
+abbrev pub first_said : (Word → ℕ) → ℕ → Option Pair
+first_said f n = cond (eqb (class f n) 0) (Some (pair (f (node n Key)) (f (node n Value)))) None
 
 -- A tree of nodes, by their numbers
 

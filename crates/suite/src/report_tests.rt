@@ -238,7 +238,8 @@ limits,2,20,20,1
 0,insert,5,50,
 1,get,5,,
 1,insert,18446744073709551615,0,
-end,3,,,
+0,delete,5,,
+end,4,,,
 ";
 
 /// Its rows, and those of the lines that `each_tree_line` gives.
@@ -248,6 +249,7 @@ limits,2,20,20,1,,
 call,0,0,insert,5,50,
 call,1,0,get,5,,
 call,1,1,insert,18446744073709551615,0,
+call,0,1,delete,5,,
 log,1,47,s1,0,0,
 reply,1,3,30,41,40,none
 reply,1,3,30,41,40,some 50

@@ -140,6 +140,7 @@ row 3: client;limits,1,1,1,1||0,llx,1,,||1,llx,1,,|
 row 2: command;limits,1,1,1,1|0,put,x,,|
 row 2: command;limits,1,1,1,1|0,,,,|
 row 2: command;limits,1,1,1,1|0,insert,5,50,|
+row 2: command;limits,1,1,1,1|0,delete,5,,|
 # The arguments.
 row 2: argument;limits,1,1,1,1|0,llx,0,,|
 row 2: argument;limits,1,1,1,1|0,llx,9,,|
@@ -239,18 +240,22 @@ fn the_mode_decides_which_commands_there_are(rt: HostRuntime) -> Result<(), Fail
 
 /// A script with each command on the tree.
 const TREE_SCRIPT: &str = "limits,2,10,10,3\n0,insert,5,50,\n1,get,5,,\n\
-    1,insert,18446744073709551615,0,\n0,insert,0,18446744073709551615,\nend,4,,,\n";
+    1,insert,18446744073709551615,0,\n0,insert,0,18446744073709551615,\n\
+    1,delete,5,,\n0,delete,18446744073709551615,,\nend,6,,,\n";
 
 #[test]
 fn a_script_on_the_tree_is_read(rt: HostRuntime) -> Result<(), Fail> {
     let mut text = Metered::new(TREE_SCRIPT.as_bytes());
     let script = read_script(rt.alloc(), Mode::Tree, &mut text)?;
     let insert = |key, value| Command::Insert { key, value };
+    let delete = |key| Command::Delete { key };
     let calls = [
         (0, insert(5, 50)),
         (1, Command::Get { key: 5 }),
         (1, insert(u64::MAX, 0)),
         (0, insert(0, u64::MAX)),
+        (1, delete(5)),
+        (0, delete(u64::MAX)),
     ];
     assert_eq!(rt; script.calls.len(), calls.len());
     for (call, (client, command)) in script.calls.iter().zip(calls) {
@@ -280,6 +285,14 @@ row 2: argument;limits,1,10,10,3|0,insert,5,50,0|end,1,,,|
 row 2: argument;limits,1,10,10,3|0,insert,5,050,|end,1,,,|
 row 2: argument;limits,1,10,10,3|0,insert,18446744073709551616,50,|end,1,,,|
 row 2: argument;limits,1,10,10,3|0,insert,5,18446744073709551616,|end,1,,,|
+row 2: fields;limits,1,10,10,3|0,delete,5|end,1,,,|
+row 2: client;limits,1,10,10,3|x,delete,5,,|end,1,,,|
+row 2: command;limits,1,10,10,3|0,remove,5,,|end,1,,,|
+row 2: argument;limits,1,10,10,3|0,delete,,,|end,1,,,|
+row 2: argument;limits,1,10,10,3|0,delete,5,50,|end,1,,,|
+row 2: argument;limits,1,10,10,3|0,delete,5,,0|end,1,,,|
+row 2: argument;limits,1,10,10,3|0,delete,+5,,|end,1,,,|
+row 2: argument;limits,1,10,10,3|0,delete,18446744073709551616,,|end,1,,,|
 ";
 
 #[test]

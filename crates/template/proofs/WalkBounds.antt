@@ -29,10 +29,10 @@ use Rattle.template.specs.declared.walk.Found.{Found}
 use Rattle.template.specs.declared.walk.WalkRun.{WalkRun}
 use Rattle.template.specs.declared.walk.WalkAt.{WalkAt}
 use Rattle.template.specs.declared.walk.WalkAt.TheVariants.{Start, Root, Head, Key, Child, Value}
-use Rattle.template.specs.FoundLeaf.{HasFoundLeaf}
+use Rattle.template.specs.FoundLeaf.{path_key, HasEnded, HasFoundLeaf}
 use Rattle.template.specs.Trails.{HasTurned}
 use Rattle.template.specs.Walk.Laws.{trail_more}
-use Rattle.template.specs.Walk.Known.{walk_kind, WalkWaits, WalkIsReady, WalkAnswers}
+use Rattle.template.specs.Walk.Known.{walk_kind, WalkWaits, WalkIsReady}
 use Rattle.template.proofs.WalkTurns.{own_since}
 
 -- Its steps
@@ -43,7 +43,7 @@ kind_is Root = inl refl
 kind_is (Head above) = inl refl
 kind_is (Key head) = inl refl
 kind_is (Child low side) = inr refl
-kind_is (Value head) = inl refl
+kind_is (Value head key) = inl refl
 
 -- a walk asks for loads alone, of settled words and of fields
 pub walk_loads : (m : WalkRun) (c : Call) (h : History) (s : Step) → WalkWaits m c h s → ((s.kind ≡ LoadSettled) ⊎ (s.kind ≡ LoadChild)) × (s.access ≡ Load)
@@ -60,16 +60,15 @@ walk_fills_not m c h s w = no_fill s.kind (walk_loads m c h s w).0
 -- How it begins and ends
 
 -- a walk that has not begun may be called
-pub walk_ready_first : (m : WalkRun) (c : Call) (h : History) → IsTreeRun c.layout h → m.key < 2 ^ 64 → Extends h c.start → m.at ≡ Start → m.trail.node.0 ≡ 0 → WalkIsReady m c h None
+pub walk_ready_first : (m : WalkRun) (c : Call) (h : History) → IsTreeRun c.layout h → path_key m.goal < 2 ^ 64 → Extends h c.start → m.at ≡ Start → m.trail.node.0 ≡ 0 → WalkIsReady m c h None
 walk_ready_first m c h run small since at root = record { run = run; small = small; since = since; at = at; root = root }
 
--- what a walk has found of its key, the map gave at a moment that is not before its call's first
--- row
-pub walk_gives : (m : WalkRun) (c : Call) (h : History) (f : Found) → IsTreeRun c.layout h → m.key < 2 ^ 64 → (a : WalkAnswers m c h f) → IsAnswerAt c.layout h a.trail.node.first m.key f.value
-walk_gives m c h f run small a = subst (IsAnswerAt c.layout h a.trail.node.first m.key) (sym a.says) (walk_answers c.layout h a.trail.node.first m.key f.trail.node.0 small run a.trail.node.passed a.leaf)
+-- what a call has found of its key, the map gave at a moment that is not before its first row
+pub found_gives : (c : Call) (h : History) (k : ℕ) (f : Found) → IsTreeRun c.layout h → k < 2 ^ 64 → (a : HasFoundLeaf c h k f) → IsAnswerAt c.layout h a.trail.node.first k f.value
+found_gives c h k f run small a = subst (IsAnswerAt c.layout h a.trail.node.first k) (sym a.says) (walk_answers c.layout h a.trail.node.first k f.trail.node.0 small run a.trail.node.passed a.leaf)
 
 -- a walk that is ready runs in a tree, to a key of one word
-pub walk_ready_run : (m : WalkRun) (c : Call) (h : History) (got : Option ℕ) → WalkIsReady m c h got → IsTreeRun c.layout h × (m.key < 2 ^ 64)
+pub walk_ready_run : (m : WalkRun) (c : Call) (h : History) (got : Option ℕ) → WalkIsReady m c h got → IsTreeRun c.layout h × (path_key m.goal < 2 ^ 64)
 walk_ready_run m c h None r = (r.run, r.small)
 walk_ready_run m c h (Some v) r = (r.run, r.small)
 
@@ -108,7 +107,7 @@ said_none f k n small e at = absurd (let y : None ≡ Some (f (node n ValueWord)
 
 -- What it has found
 
-module _ (k : ℕ) (c : Call) (h : History) (f : Found) (run : IsTreeRun c.layout h) (a : HasFoundLeaf c h k f) where
+module _ {asked : ℕ} (k : ℕ) (c : Call) (h : History) (f : Found) (run : IsTreeRun c.layout h) (a : HasEnded c h k asked f) where
   -- a leaf is not the root
   pub found_below : f.trail.node.0 ≢ 0
   found_below e =
@@ -151,15 +150,15 @@ same_said : (f g : Word → ℕ) (k n : ℕ) → SameSettled f g n → said g k 
 same_said f g k n e = λ i. get k (cond (eqb (e HeadWord tt i % 4) 0) (pair (e KeyWord tt i) (e ValueWord tt i) ∷ []) [])
 
 -- what a call has found it has found, whatever row comes
-pub found_more : (c : Call) (h : History) (r : Row) (k : ℕ) (f : Found) → IsTreeRun c.layout h → IsRun TreeAllows c.layout (r ⊳ h) → HasFoundLeaf c h k f → HasFoundLeaf c (r ⊳ h) k f
-found_more c h r k f run run_now a = record {
+pub found_more : (c : Call) (h : History) (r : Row) (k asked : ℕ) (f : Found) → IsTreeRun c.layout h → IsRun TreeAllows c.layout (r ⊳ h) → HasEnded c h k asked f → HasEnded c (r ⊳ h) k asked f
+found_more c h r k asked f run run_now a = record {
   trail = trail_more c h r run run_now k f.trail a.trail;
   leaf = settled_leaf (value h) (value (r ⊳ h)) f.trail.node.0 same ∙ a.leaf;
   head = ap head_of (same HeadWord tt) ∙ a.head;
   deep = let deep : f.head.level < 2 + length (taken_nodes h) = a.deep in let more : length (taken_nodes h) ≤ length (taken_nodes (r ⊳ h)) = taken_more h r in omega (arith, deep, more);
   key = λ low. same KeyWord tt ∙ a.key low;
   blank = a.blank;
-  says = a.says ∙ sym (same_said (value h) (value (r ⊳ h)) k f.trail.node.0 same);
+  says = a.says ∙ sym (same_said (value h) (value (r ⊳ h)) asked f.trail.node.0 same);
 }
   where
     same : SameSettled (value h) (value (r ⊳ h)) f.trail.node.0

@@ -1,6 +1,7 @@
 -- What a walk waits for after each of its turns.
-use Rattle.std.proofs.Common.{◌≡◌, ◌≢◌, ℕ, ◌*◌, ◌+◌, ◌-◌, ◌^◌, ◌<◌, true, false, cond, ltb, length, eq-eqb, ne_eqb, lt-ltb, inr, refl, sym, ◌∙◌, ap, arith, subst, Option, Some, None}
+use Rattle.std.proofs.Common.{◌≡◌, ◌≢◌, ℕ, ◌*◌, ◌+◌, ◌-◌, ◌^◌, ◌<◌, true, false, cond, ltb, length, eqb, eq-eqb, eqb-true, ne_eqb, lt-ltb, inr, refl, sym, ◌∙◌, ap, arith, subst, Option, Some, None}
 use Rattle.std.specs.Prelude.{unwrap_or}
+use native.Mathlib.Decide.{ℕ_discrete}
 use Rattle.arena.specs.declared.head.Head.{Head as HeadParts}
 use Rattle.arena.specs.declared.machine.Turn.{Turn}
 use Rattle.arena.specs.declared.machine.Turn.TheVariants.{Ask, Done}
@@ -14,17 +15,20 @@ use Rattle.arena.specs.History.{History, value, Extends}
 use Rattle.arena.specs.Machines.{Call, MatchTurn}
 use Rattle.arena.specs.TakenNodes.{taken_nodes}
 use Rattle.arena.proofs.Lemmas.{ends_self}
-use Rattle.spelling.proofs.Lemmas.{walk_first, walk_next, walk_rises, below_root, passed_depth}
+use Rattle.spelling.proofs.Lemmas.{walk_first, walk_next, walk_left, walk_rises, below_root, passed_depth}
 use Rattle.spelling.specs.Paths.{Passed}
 use Rattle.spelling.specs.Runs.{IsTreeRun}
 use Rattle.spelling.specs.TreeWords.{class, is_leaf, level, rank, toward, said}
 use Rattle.template.specs.Trails.{OnTrail, IsOwnMoment}
 use Rattle.template.specs.declared.walk.Trail.{Trail}
 use Rattle.template.specs.declared.walk.Found.{Found}
+use Rattle.template.specs.declared.walk.Goal.{Goal}
+use Rattle.template.specs.declared.walk.Goal.TheVariants.{Key as ToKey, Least}
 use Rattle.template.specs.declared.walk.WalkRun.{WalkRun}
 use Rattle.template.specs.declared.walk.WalkAt.{WalkAt}
 use Rattle.template.specs.declared.walk.WalkAt.TheVariants.{Start, Root, Head, Value}
-use Rattle.template.specs.Walk.Known.{here, WalkKnows, walk_step, WalkIsReady, WalkIsTold, WalkTurn, WalkAsks, WalkEnds, WalkStands}
+use Rattle.template.specs.FoundLeaf.{path_key, asked_key}
+use Rattle.template.specs.Walk.Known.{asks_key, here, WalkKnows, walk_step, WalkIsReady, WalkIsTold, WalkTurn, WalkAsks, WalkEnds, WalkStands}
 
 pub own_since : (c : Call) (h : History) → IsOwnMoment c h → Extends h c.start
 own_since c h b = subst (λ k. Extends k c.start) (sym b.is) (inr b.since)
@@ -34,9 +38,9 @@ pub waits_at : (c : Call) (h : History) (old now : WalkRun) (turn : Turn Found) 
 waits_at c h old now turn at step k a known e = rw (a.asked, a.stands) record { run = k.run; small = k.small; since = own_since c h k.own; known = known; asked = e }
 
 -- it has ended
-answers_at : (c : Call) (h : History) (old now : WalkRun) (turn : Turn Found) (head : HeadParts) (key : ℕ) (found : Option ℕ) → WalkStands old c h → WalkEnds old now turn head key found → is_leaf (value h) old.trail.node.0 ≡ true → head_of (here h old HeadWord) ≡ head → (head.class ≡ 0 → here h old KeyWord ≡ key) → (head.class ≢ 0 → key ≡ 0) → found ≡ said (value h) old.key old.trail.node.0 → WalkTurn c h now turn
+answers_at : (c : Call) (h : History) (old now : WalkRun) (turn : Turn Found) (head : HeadParts) (key : ℕ) (found : Option ℕ) → WalkStands old c h → WalkEnds old now turn head key found → is_leaf (value h) old.trail.node.0 ≡ true → head_of (here h old HeadWord) ≡ head → (head.class ≡ 0 → here h old KeyWord ≡ key) → (head.class ≢ 0 → key ≡ 0) → found ≡ said (value h) (asked_key old.goal key) old.trail.node.0 → WalkTurn c h now turn
 answers_at c h old now turn head key found k a leaf e d blank says =
-    let deep : head.level < 2 + length (taken_nodes h) = subst (λ w. w.level < 2 + length (taken_nodes h)) e (passed_depth c.layout h k.trail.node.first old.key old.trail.node.0 k.run k.trail.node.passed) in
+    let deep : head.level < 2 + length (taken_nodes h) = subst (λ w. w.level < 2 + length (taken_nodes h)) e (passed_depth c.layout h k.trail.node.first (path_key old.goal) old.trail.node.0 k.run k.trail.node.passed) in
     rw (a.done, a.stands) record { trail = k.trail; leaf = leaf; head = e; deep = deep; key = d; blank = blank; says = says }
 
 module _ (c : Call) (h : History) (m : WalkRun) (k : WalkStands m c h) (head : HeadParts) (e : head_of (here h m HeadWord) ≡ head) where
@@ -57,14 +61,14 @@ module _ (c : Call) (h : History) (m : WalkRun) (k : WalkStands m c h) (head : H
   fork_is q = ap (λ w. w.leaf) e ∙ q
 
   -- above all keys
-  high : head.class ≢ 0 → m.key < rank (value h) n
+  high : head.class ≢ 0 → (path_key m.goal) < rank (value h) n
   high q = let s = k.small in let x = class_is in omega (arith, s, x, q)
 
-  pub left_above : head.class ≢ 0 → toward (value h) n m.key ≡ Left
-  left_above q = rw (lt-ltb m.key (rank (value h) n) (high q)) refl
+  pub left_above : head.class ≢ 0 → toward (value h) n (path_key m.goal) ≡ Left
+  left_above q = rw (lt-ltb (path_key m.goal) (rank (value h) n) (high q)) refl
 
-  pub says_nothing_above : head.class ≢ 0 → None ≡ said (value h) m.key n
-  says_nothing_above q = rw (ne_eqb (class (value h) n) 0 (λ x. q (sym class_is ∙ x))) refl
+  pub says_nothing_above : (asked : ℕ) → head.class ≢ 0 → None ≡ said (value h) asked n
+  says_nothing_above asked q = rw (ne_eqb (class (value h) n) 0 (λ x. q (sym class_is ∙ x))) refl
 
   -- at a key
   module _ (low : head.class ≡ 0) (key : ℕ) (d : here h m KeyWord ≡ key) where
@@ -74,31 +78,58 @@ module _ (c : Call) (h : History) (m : WalkRun) (k : WalkStands m c h) (head : H
     at_key : rank (value h) n ≡ key
     at_key = let x = class_zero in omega (arith, x, d)
 
-    pub says_nothing : key ≢ m.key → None ≡ said (value h) m.key n
-    says_nothing q = rw (eq-eqb (class (value h) n) 0 class_zero, ne_eqb m.key (here h m KeyWord) (λ x. q (sym d ∙ sym x))) refl
+    pub says_nothing : (asked : ℕ) → asked ≢ key → None ≡ said (value h) asked n
+    says_nothing asked q = rw (eq-eqb (class (value h) n) 0 class_zero, ne_eqb asked (here h m KeyWord) (λ x. q (x ∙ d))) refl
 
-    pub goes_by_key : toward (value h) n m.key ≡ cond (ltb m.key key) Left Right
-    goes_by_key = ap (λ r. cond (ltb m.key r) Left Right) at_key
+    pub goes_by_key : toward (value h) n (path_key m.goal) ≡ cond (ltb (path_key m.goal) key) Left Right
+    goes_by_key = ap (λ r. cond (ltb (path_key m.goal) r) Left Right) at_key
 
-    pub says_value : key ≡ m.key → (v : ℕ) → here h m ValueWord ≡ v → Some v ≡ said (value h) m.key n
-    says_value q v x = rw (eq-eqb (class (value h) n) 0 class_zero, eq-eqb m.key (here h m KeyWord) (sym q ∙ sym d)) (ap Some (sym x))
+    pub says_value : (asked : ℕ) → asked ≡ key → (v : ℕ) → here h m ValueWord ≡ v → Some v ≡ said (value h) asked n
+    says_value asked q v x = rw (eq-eqb (class (value h) n) 0 class_zero, eq-eqb asked (here h m KeyWord) (q ∙ sym d)) (ap Some (sym x))
 
 -- it has ended at a leaf above all keys
 pub ends_above : (c : Call) (h : History) (old now : WalkRun) (turn : Turn Found) (head : HeadParts) → WalkStands old c h → WalkEnds old now turn head 0 None → head_of (here h old HeadWord) ≡ head → head.class ≢ 0 → head.leaf ≡ true → WalkTurn c h now turn
-ends_above c h old now turn head k a e high leaf = answers_at c h old now turn head 0 None k a (leaf_is c h old k head e leaf) e (λ q. absurd (high q)) (λ d. refl) (says_nothing_above c h old k head e high)
+ends_above c h old now turn head k a e high leaf = answers_at c h old now turn head 0 None k a (leaf_is c h old k head e leaf) e (λ q. absurd (high q)) (λ d. refl) (says_nothing_above c h old k head e (asked_key old.goal 0) high)
 
 -- it has ended at a leaf with a key
-pub ends_low : (c : Call) (h : History) (old now : WalkRun) (turn : Turn Found) (head : HeadParts) (key : ℕ) (found : Option ℕ) → WalkStands old c h → WalkEnds old now turn head key found → head_of (here h old HeadWord) ≡ head → head.class ≡ 0 → head.leaf ≡ true → here h old KeyWord ≡ key → found ≡ said (value h) old.key old.trail.node.0 → WalkTurn c h now turn
+pub ends_low : (c : Call) (h : History) (old now : WalkRun) (turn : Turn Found) (head : HeadParts) (key : ℕ) (found : Option ℕ) → WalkStands old c h → WalkEnds old now turn head key found → head_of (here h old HeadWord) ≡ head → head.class ≡ 0 → head.leaf ≡ true → here h old KeyWord ≡ key → found ≡ said (value h) (asked_key old.goal key) old.trail.node.0 → WalkTurn c h now turn
 ends_low c h old now turn head key found k a e low leaf d says = answers_at c h old now turn head key found k a (leaf_is c h old k head e leaf) e (λ q. d) (λ high. absurd (high low)) says
 
+-- Which keys it loads
+
+pub unequal : (a b : ℕ) → eqb a b ≡ false → a ≢ b
+unequal a b e d = let x : true ≡ false = sym (eq-eqb a b d) ∙ e in cc
+
+-- the key of a node of class 0 alone
+pub asked_low : (goal : Goal) (head : HeadParts) → asks_key goal head ≡ true → head.class ≡ 0
+asked_low (ToKey k) head e = eqb-true head.class 0 e
+asked_low Least head e = go (ℕ_discrete head.class 0)
+  where
+    go : Dec (head.class ≡ 0) → head.class ≡ 0
+    go (yes z) = z
+    go (no d) = absurd (let x : false ≡ true = sym (ap (λ b. cond b head.leaf false) (ne_eqb head.class 0 d)) ∙ e in cc)
+
+-- and of each such leaf
+pub unasked_high : (goal : Goal) (head : HeadParts) → asks_key goal head ≡ false → head.leaf ≡ true → head.class ≢ 0
+unasked_high (ToKey k) head e leaf z = let x : true ≡ false = sym (eq-eqb head.class 0 z) ∙ e in cc
+unasked_high Least head e leaf z = let x : true ≡ false = sym (ap (λ b. cond b head.leaf false) (eq-eqb head.class 0 z) ∙ leaf) ∙ e in cc
+
+-- a fork of which it loads no key it leaves on the left
+pub unasked_left : (c : Call) (h : History) (m : WalkRun) (head : HeadParts) → WalkStands m c h → head_of (here h m HeadWord) ≡ head → asks_key m.goal head ≡ false → head.leaf ≡ false → toward (value h) m.trail.node.0 (path_key m.goal) ≡ Left
+unasked_left c h m head k e asks fork = go m.goal refl
+  where
+    go : (goal : Goal) → m.goal ≡ goal → toward (value h) m.trail.node.0 (path_key m.goal) ≡ Left
+    go (ToKey key) is = left_above c h m k head e (λ z. let x : true ≡ false = sym (eq-eqb head.class 0 z) ∙ (rw is at asks) in cc)
+    go Least is = rw is (walk_left c.layout h k.trail.node.first m.trail.node.0 k.run (rw is at k.trail.node.passed) (fork_is c h m k head e fork))
+
 -- the root was passed
-pub stands_at_root : (c : Call) (h : History) (m : WalkRun) → IsTreeRun c.layout h → m.key < 2 ^ 64 → IsOwnMoment c h → m.trail.node.0 ≡ 0 → WalkStands m c h
+pub stands_at_root : (c : Call) (h : History) (m : WalkRun) → IsTreeRun c.layout h → path_key m.goal < 2 ^ 64 → IsOwnMoment c h → m.trail.node.0 ≡ 0 → WalkStands m c h
 stands_at_root c h m run small own e = record {
   run = run;
   small = small;
   own = own;
   trail = record {
-    node = record { first = h; own = own; passed = rw e (walk_first c.layout h m.key run) };
+    node = record { first = h; own = own; passed = rw e (walk_first c.layout h (path_key m.goal) run) };
     parent = λ d. absurd (d e);
     grand = λ d. absurd (d e);
     high = λ d. absurd (d e);
@@ -109,33 +140,33 @@ stands_at_root c h m run small own e = record {
 abbrev pub below : Trail → Side → ℕ → Trail
 below t side n = record { grand = t.parent; grand_side = t.side; parent = t.node; side = side; node = record { 0 = n } }
 
-trail_below : (c : Call) (h : History) (m : WalkRun) (side : Side) (n : ℕ) → WalkStands m c h → is_leaf (value h) m.trail.node.0 ≡ false → toward (value h) m.trail.node.0 m.key ≡ side → here h m (ChildWord side) ≡ n → OnTrail c h m.key (below m.trail side n)
+trail_below : (c : Call) (h : History) (m : WalkRun) (side : Side) (n : ℕ) → WalkStands m c h → is_leaf (value h) m.trail.node.0 ≡ false → toward (value h) m.trail.node.0 (path_key m.goal) ≡ side → here h m (ChildWord side) ≡ n → OnTrail c h (path_key m.goal) (below m.trail side n)
 trail_below c h m side n k fork s e = record {
-  node = record { first = k.trail.node.first; own = k.trail.node.own; passed = subst (Passed h k.trail.node.first m.key) next (walk_next c.layout h k.trail.node.first m.key m.trail.node.0 k.run k.trail.node.passed fork) };
+  node = record { first = k.trail.node.first; own = k.trail.node.own; passed = subst (Passed h k.trail.node.first (path_key m.goal)) next (walk_next c.layout h k.trail.node.first (path_key m.goal) m.trail.node.0 k.run k.trail.node.passed fork) };
   parent = λ d. record { passed = k.trail.node; fork = fork; side_is = s; shown = record { moment = h; within = ends_self h; own = k.own; passed = k.trail.node; held = e } };
   grand = λ d p. k.trail.parent p;
-  high = λ d z leaf low. below_root c.layout h m.key k.run k.small
+  high = λ d z leaf low. below_root c.layout h (path_key m.goal) k.run k.small
       (subst (λ n. is_leaf (value h) n ≡ true) (here_root z) leaf)
       (subst (λ n. class (value h) n ≡ 0) (here_root z) low);
 }
   where
-    here_root : m.trail.node.0 ≡ 0 → n ≡ value h (child 0 (toward (value h) 0 m.key))
-    here_root z = sym e ∙ (λ i. value h (child (z i) (sym s i))) ∙ ap (λ q. value h (child 0 (toward (value h) q m.key))) z
+    here_root : m.trail.node.0 ≡ 0 → n ≡ value h (child 0 (toward (value h) 0 (path_key m.goal)))
+    here_root z = sym e ∙ (λ i. value h (child (z i) (sym s i))) ∙ ap (λ q. value h (child 0 (toward (value h) q (path_key m.goal)))) z
 
-    next : value h (child m.trail.node.0 (toward (value h) m.trail.node.0 m.key)) ≡ n
+    next : value h (child m.trail.node.0 (toward (value h) m.trail.node.0 (path_key m.goal))) ≡ n
     next = ap (λ z. value h (child m.trail.node.0 z)) s ∙ e
 
 level_below : (c : Call) (h : History) (m : WalkRun) (side : Side) (n low : ℕ) → WalkStands m c h → level (value h) m.trail.node.0 ≡ low → is_leaf (value h) m.trail.node.0 ≡ false → here h m (ChildWord side) ≡ n → low < level (value h) n
 level_below c h m side n low k e fork d =
-    let x : level (value h) m.trail.node.0 < level (value h) (value h (child m.trail.node.0 side)) = walk_rises c.layout h k.trail.node.first m.key m.trail.node.0 side k.run k.trail.node.passed fork in
+    let x : level (value h) m.trail.node.0 < level (value h) (value h (child m.trail.node.0 side)) = walk_rises c.layout h k.trail.node.first (path_key m.goal) m.trail.node.0 side k.run k.trail.node.passed fork in
     let y : level (value h) m.trail.node.0 < level (value h) n = rw d at x in
     subst (λ l. l < level (value h) n) e y
 
 -- it waits for the head of the child to which it goes
-pub turn_down : (c : Call) (h : History) (m now : WalkRun) (turn : Turn Found) (low : ℕ) (side : Side) (n : ℕ) → WalkStands m c h → level (value h) m.trail.node.0 ≡ low → is_leaf (value h) m.trail.node.0 ≡ false → toward (value h) m.trail.node.0 m.key ≡ side → here h m (ChildWord side) ≡ n
+pub turn_down : (c : Call) (h : History) (m now : WalkRun) (turn : Turn Found) (low : ℕ) (side : Side) (n : ℕ) → WalkStands m c h → level (value h) m.trail.node.0 ≡ low → is_leaf (value h) m.trail.node.0 ≡ false → toward (value h) m.trail.node.0 (path_key m.goal) ≡ side → here h m (ChildWord side) ≡ n
     → WalkAsks (record m { trail = below m.trail side n }) now turn (Head low) (walk_step (record m { trail = below m.trail side n }) (Head low)) → WalkTurn c h now turn
 turn_down c h m now turn low side n k e fork s d a =
-    let t : OnTrail c h m.key (below m.trail side n) = trail_below c h m side n k fork s d in
+    let t : OnTrail c h (path_key m.goal) (below m.trail side n) = trail_below c h m side n k fork s d in
     waits_at c h (record m { trail = below m.trail side n }) now turn (Head low) (walk_step (record m { trail = below m.trail side n }) (Head low))
     (record { run = k.run; small = k.small; own = k.own; trail = t }) a (t, level_below c h m side n low k e fork d) refl
 
@@ -150,11 +181,11 @@ told_root m c h found is t =
     (stands_at_root c h m t.run t.small t.own k, rw is at t.told)
 
 -- the value of a leaf that has its key is the last that it is told
-pub turn_value : (c : Call) (h : History) (old now : WalkRun) (turn : Turn Found) (head : HeadParts) (found : ℕ) → old.at ≡ Value head → WalkIsTold old c h found → WalkEnds old now turn head old.key (Some found) → WalkTurn c h now turn
-turn_value c h old now turn head found is t a =
-    let x : WalkKnows c h old (Value head) = subst (WalkKnows c h old) is t.known in
+pub turn_value : (c : Call) (h : History) (old now : WalkRun) (turn : Turn Found) (head : HeadParts) (key found : ℕ) → old.at ≡ Value head key → WalkIsTold old c h found → WalkEnds old now turn head key (Some found) → WalkTurn c h now turn
+turn_value c h old now turn head key found is t a =
+    let x : WalkKnows c h old (Value head key) = subst (WalkKnows c h old) is t.known in
     let k : WalkStands old c h = record { run = t.run; small = t.small; own = t.own; trail = x.0 } in
-    ends_low c h old now turn head old.key (Some found) k a x.1 x.2 x.3 x.4 (says_value c h old k head x.1 x.2 old.key x.4 refl found (rw is at t.told))
+    ends_low c h old now turn head key (Some found) k a x.1 x.2 x.3 x.4 (says_value c h old k head x.1 x.2 key x.4 (asked_key old.goal key) x.5 found (rw is at t.told))
 
 -- Its steps
 

@@ -1,17 +1,32 @@
--- What a call knows of the leaf that it has found on its way to a key.
-use Rattle.std.specs.Prelude.{◌≡◌, ◌≢◌, ℕ, ◌+◌, ◌<◌, true, length}
+-- What a call knows of the leaf that it has found on its way to a key, or to the least one.
+use Rattle.std.specs.Prelude.{◌≡◌, ◌≢◌, ℕ, ◌+◌, ◌<◌, true, cond, eqb, length, Option, Some, None, unwrap_or}
 use Rattle.arena.specs.declared.word.NodeWord.TheVariants.{Head, Key}
 use Rattle.arena.specs.Heads.{head_of}
 use Rattle.arena.specs.Words.{node}
 use Rattle.arena.specs.History.{History, value}
 use Rattle.arena.specs.Machines.{Call}
 use Rattle.arena.specs.TakenNodes.{taken_nodes}
+use Rattle.spelling.specs.declared.pair.Pair.{Pair}
+use Rattle.spelling.specs.OrderedMap.{pair}
 use Rattle.spelling.specs.TreeWords.{is_leaf, said}
 use Rattle.template.specs.Trails.{OnTrail}
 use Rattle.template.specs.declared.walk.Found.{Found}
+use Rattle.template.specs.declared.walk.Goal.{Goal}
+use Rattle.template.specs.declared.walk.Goal.TheVariants.{Key as ToKey, Least}
 
--- the call has passed this leaf on its way to k; what its words say, of the key too
-pub record HasFoundLeaf (c : Call) (h : History) (k : ℕ) (f : Found) : Type 0 where
+-- the key on whose path a walk goes: no key is below 0
+abbrev pub path_key : Goal → ℕ
+path_key (ToKey k) = k
+path_key Least = 0
+
+-- the key of which a walk tells what its leaf says: its own, or that of the leaf
+abbrev pub asked_key : Goal → ℕ → ℕ
+asked_key (ToKey k) own = k
+asked_key Least own = own
+
+-- The call has passed this leaf on its way to k; what its words say, of the key too, and what it
+-- says of the key `asked`.
+pub record HasEnded (c : Call) (h : History) (k asked : ℕ) (f : Found) : Type 0 where
   pub trail : OnTrail c h k f.trail
   pub leaf : is_leaf (value h) f.trail.node.0 ≡ true
   pub head : head_of (value h (node f.trail.node.0 Head)) ≡ f.head
@@ -20,4 +35,16 @@ pub record HasFoundLeaf (c : Call) (h : History) (k : ℕ) (f : Found) : Type 0 
   pub key : f.head.class ≡ 0 → value h (node f.trail.node.0 Key) ≡ f.key
   -- of a leaf above all keys the key told is 0
   pub blank : f.head.class ≢ 0 → f.key ≡ 0
-  pub says : f.value ≡ said (value h) k f.trail.node.0
+  pub says : f.value ≡ said (value h) asked f.trail.node.0
+
+-- the call has found the leaf where k stands, or would stand
+abbrev pub HasFoundLeaf : Call → History → ℕ → Found → Type 0
+HasFoundLeaf c h k f = HasEnded c h k k f
+
+-- the call has found the leaf to which its walk was to go
+abbrev pub HasFound : Goal → Call → History → Found → Type 0
+HasFound goal c h f = HasEnded c h (path_key goal) (asked_key goal f.key) f
+
+-- the first pair, as the first leaf tells it: none where that is above all keys
+abbrev pub first_told : Found → Option Pair
+first_told f = cond (eqb f.head.class 0) (Some (pair f.key (unwrap_or f.value 0))) None

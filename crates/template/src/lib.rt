@@ -5,4 +5,4 @@ mod shape;
 mod walk;
 
 pub use shape::Tree;
-pub use walk::{Found, Trail, WalkAt, WalkRun};
+pub use walk::{Found, Goal, Trail, WalkAt, WalkRun};

@@ -29,12 +29,21 @@ pub enum WalkAt {
     Key { head: Head },
     /// The load of a field of a fork of this level.
     Child { level: u64, side: Side },
-    /// The load of the value of a leaf that has the walk's key.
-    Value { head: Head },
+    /// The load of the value of a leaf that has this key.
+    Value { head: Head, key: u64 },
+}
+
+/// To which leaf a walk goes.
+#[derive(Clone, Copy, Debug, PartialEq, Eq)]
+pub enum Goal {
+    /// The leaf where this key stands, or would stand.
+    Key(u64),
+    /// The first leaf, which has the least key if there is one.
+    Least,
 }
 
 /// The leaf at which a walk has ended: its head, its key if it is of class 0 (else 0), and its value
-/// if its key is the walk's.
+/// if its key is the walk's, or the walk goes to the least.
 #[derive(Clone, Copy, Debug, PartialEq, Eq)]
 pub struct Found {
     pub trail: Trail,
@@ -43,13 +52,15 @@ pub struct Found {
     pub value: Option<u64>,
 }
 
-/// A walk from the root to the leaf where a key stands, or would stand. Of each fork it loads the
-/// head, the key if that is of class 0, and a field; of the leaf the head, the key if that is of class
-/// 0, and the value if that key is the walk's.
+/// A walk from the root to the leaf where a key stands, or would stand, or to the first leaf. On its
+/// way to a key it loads of each fork the head, the key if that is of class 0, and a field; of the
+/// leaf the head, the key if that is of class 0, and the value if that key is the walk's. On its way
+/// to the first leaf it loads of each fork the head and the left field; of the leaf the head, and
+/// the key and the value if they are of class 0.
 #[derive(Clone, Copy, Debug, PartialEq, Eq)]
 pub struct WalkRun {
-    /// The key.
-    pub key: u64,
+    /// Where it goes.
+    pub goal: Goal,
     /// The nodes that it has come to.
     pub trail: Trail,
     /// Where it stands.
@@ -57,19 +68,20 @@ pub struct WalkRun {
 }
 
 impl WalkRun {
-    ghost use Rattle.std.specs.Prelude.{◌≡◌, ℕ, ◌+◌, ◌-◌, ◌*◌, ◌^◌, ◌<◌, ◌≤◌, true, false, cond, ltb};
+    ghost use Rattle.std.specs.Prelude.{◌≡◌, ℕ, ◌+◌, ◌-◌, ◌*◌, ◌^◌, ◌<◌, ◌≤◌, true, false, cond, eqb, ltb};
     ghost use Rattle.arena.specs.Heads.{head_of};
     ghost use Rattle.arena.specs.declared.word.NodeWord.TheVariants.{Head as HeadWord, Key as KeyWord, Child as ChildWord};
     ghost use Rattle.arena.specs.History.{History, value};
     ghost use Rattle.arena.specs.Machines.{MatchTurn, Call};
     ghost use Rattle.spelling.specs.TreeWords.{is_leaf, level, toward};
+    ghost use Rattle.template.specs.FoundLeaf.{path_key, asked_key};
     ghost use Rattle.template.specs.Walk.Steps.{walk_left};
-    ghost use Rattle.template.specs.Walk.Known.{WalkAsks, WalkEnds, WalkStands, WalkTurn, here};
+    ghost use Rattle.template.specs.Walk.Known.{asks_key, WalkAsks, WalkEnds, WalkStands, WalkTurn, here};
 
     /// A walk that has not begun. It asks for at most three steps for each node that has been taken
     /// when it ends, and for six more.
-    pub fn new(key: u64) -> WalkRun
-        ensures key { result.key ≡ key }
+    pub fn new(goal: Goal) -> WalkRun
+        ensures goal { result.goal ≡ goal }
         ensures start { result.at ≡ WalkAt.Start }
         ensures root { result.trail.node.0 ≡ 0 }
         ensures bound { (nodes : ℕ) → walk_left result.at nodes ≤ 3 * (2 + nodes) }
@@ -77,7 +89,7 @@ impl WalkRun {
         let root = NodeNo(0);
         let side = Side::Left;
         WalkRun {
-            key,
+            goal,
             trail: Trail {
                 grand: root,
                 grand_side: side,
@@ -126,24 +138,49 @@ impl WalkRun {
         })
     }
 
+    /// Whether the walk loads the key of a node with this head: where it goes at a fork of class 0
+    /// depends on its key, unless it always goes left.
+    fn asks_key(&self, head: Head) -> bool
+        ensures { result ≡ asks_key self.now.goal head }
+    {
+        match self.goal {
+            Goal::Key(_) => head.class == 0,
+            Goal::Least => head.class == 0 && head.leaf,
+        }
+    }
+
     /// Where the walk goes at a fork of class 0 with this key. At any other fork it goes left.
     fn side(&self, key: u64) -> Side
-        ensures { result ≡ cond (ltb self.now.key key) Side.Left Side.Right }
+        ensures { result ≡ cond (ltb (path_key self.now.goal) key) Side.Left Side.Right }
     {
-        if self.key < key {
+        let wanted = match self.goal {
+            Goal::Key(wanted) => wanted,
+            Goal::Least => 0,
+        };
+        if wanted < key {
             Side::Left
         } else {
             Side::Right
         }
     }
 
+    /// Whether the walk tells the value of a leaf of class 0 with this key.
+    fn asks_value(&self, key: u64) -> bool
+        ensures { result ≡ eqb (asked_key self.now.goal key) key }
+    {
+        match self.goal {
+            Goal::Key(wanted) => wanted == key,
+            Goal::Least => true,
+        }
+    }
+
     /// Goes on with the head of the node.
     fn read_head(&mut self, head: Head) -> Turn<Found>
         ensures turn { (c : Call) (h : History) → WalkStands self.old c h → head_of (here h self.old HeadWord) ≡ head → WalkTurn c h self.new result }
-        ensures same { self.new.key ≡ self.old.key }
+        ensures same { self.new.goal ≡ self.old.goal }
         ensures nearer { (nodes : ℕ) → head.level < 2 + nodes → MatchTurn result (λ _. walk_left self.new.at nodes < 3 * (2 + nodes - head.level) - 1) (λ _. Unit {0}) }
     {
-        if head.class == 0 {
+        if self.asks_key(head) {
             self.load_settled(WalkAt::Key { head }, NodeWord::Key)
         } else if head.leaf {
             self.end(head, 0, None)
@@ -155,13 +192,13 @@ impl WalkRun {
     /// Goes on with the key of a node of class 0.
     fn read_key(&mut self, head: Head, key: u64) -> Turn<Found>
         ensures turn { (c : Call) (h : History) → WalkStands self.old c h → head_of (here h self.old HeadWord) ≡ head → head.class ≡ 0 → here h self.old KeyWord ≡ key → WalkTurn c h self.new result }
-        ensures same { self.new.key ≡ self.old.key }
+        ensures same { self.new.goal ≡ self.old.goal }
         ensures nearer { (nodes : ℕ) → head.level < 2 + nodes → MatchTurn result (λ _. walk_left self.new.at nodes < walk_left (WalkAt.Key head) nodes) (λ _. Unit {0}) }
     {
         if !head.leaf {
             self.load_child(head.level, self.side(key))
-        } else if key == self.key {
-            self.load_settled(WalkAt::Value { head }, NodeWord::Value)
+        } else if self.asks_value(key) {
+            self.load_settled(WalkAt::Value { head, key }, NodeWord::Value)
         } else {
             self.end(head, key, None)
         }
@@ -169,8 +206,8 @@ impl WalkRun {
 
     /// Goes down to a child of a fork of the level `above`.
     fn go_down(&mut self, above: u64, side: Side, child: u64) -> Turn<Found>
-        ensures turn { (c : Call) (h : History) → WalkStands self.old c h → level (value h) self.old.trail.node.0 ≡ above → is_leaf (value h) self.old.trail.node.0 ≡ false → toward (value h) self.old.trail.node.0 self.old.key ≡ side → here h self.old (ChildWord side) ≡ child → WalkTurn c h self.new result }
-        ensures same { self.new.key ≡ self.old.key }
+        ensures turn { (c : Call) (h : History) → WalkStands self.old c h → level (value h) self.old.trail.node.0 ≡ above → is_leaf (value h) self.old.trail.node.0 ≡ false → toward (value h) self.old.trail.node.0 (path_key self.old.goal) ≡ side → here h self.old (ChildWord side) ≡ child → WalkTurn c h self.new result }
+        ensures same { self.new.goal ≡ self.old.goal }
         ensures nearer { (nodes : ℕ) → above + 1 < 2 + nodes → MatchTurn result (λ _. walk_left self.new.at nodes < walk_left (WalkAt.Child above side) nodes) (λ _. Unit {0}) }
     {
         let trail = self.trail;
@@ -199,7 +236,7 @@ impl Machine<Tree> for WalkRun {
 
     ghost answers = { WalkAnswers };
 
-    ghost same = { λ old now. now.key ≡ old.key };
+    ghost same = { λ old now. now.goal ≡ old.goal };
 
     ghost left = { λ m nodes. walk_left m.at nodes };
 
@@ -215,7 +252,7 @@ impl Machine<Tree> for WalkRun {
             WalkAt::Head { above: _ } => self.read_head(Head::of(found)),
             WalkAt::Key { head } => self.read_key(head, found),
             WalkAt::Child { level, side } => self.go_down(level, side, found),
-            WalkAt::Value { head } => self.end(head, self.key, Some(found)),
+            WalkAt::Value { head, key } => self.end(head, key, Some(found)),
         }
     }
 

@@ -1,7 +1,7 @@
 -- What a get answers once its walk has ended, and what it asks for.
-use Rattle.std.specs.Prelude.{◌≡◌, ◌≢◌, ℕ, ◌^◌, ◌<◌, ◌⊎◌, Option, None}
+use Rattle.std.proofs.Common.{◌≡◌, ◌≢◌, ℕ, ◌^◌, ◌<◌, ◌⊎◌, ◌∙◌, subst, Option, None}
 use Rattle.arena.specs.declared.machine.Turn.{Turn}
-use Rattle.arena.specs.declared.machine.Turn.TheVariants.{Done}
+use Rattle.arena.specs.declared.machine.Turn.TheVariants.{Ask, Done}
 use Rattle.arena.specs.declared.step.Step.{Step}
 use Rattle.arena.specs.declared.step.Access.TheVariants.{Load}
 use Rattle.arena.specs.declared.step.Kind.TheVariants.{Fill, LoadSettled, LoadChild}
@@ -10,36 +10,42 @@ use Rattle.arena.specs.Machines.{MatchTurn, Call}
 use Rattle.arena.proofs.Lemmas.{ends_trans}
 use Rattle.spelling.specs.Paths.{IsAnswerAt}
 use Rattle.spelling.specs.Runs.{IsTreeRun}
+use Rattle.template.specs.FoundLeaf.{path_key, HasFound, HasFoundLeaf}
 use Rattle.template.specs.declared.walk.Found.{Found}
+use Rattle.template.specs.declared.walk.Goal.TheVariants.{Key as ToKey}
 use Rattle.template.specs.declared.walk.WalkRun.{WalkRun}
 use Rattle.template.specs.declared.walk.WalkAt.TheVariants.{Start}
 use Rattle.template.specs.Walk.Known.{WalkIsReady, WalkWaits, WalkAnswers}
-use Rattle.template.proofs.Lemmas.{walk_gives, walk_ready_run, walk_ready_first, walk_loads, walk_fills_not, own_since}
+use Rattle.template.proofs.Lemmas.{found_gives, walk_ready_run, walk_ready_first, walk_loads, walk_fills_not, own_since}
 use Rattle.tree.specs.declared.get.GetRun.{GetRun}
 use Rattle.tree.specs.Get.Known.{GetIsReady, GetWaits, GetAnswers}
 
--- the value of the leaf at which its walk has ended is right
-pub turn_found : (c : Call) (h : History) (old now : WalkRun) (turn : Turn Found) (f : Found) (got : Option ℕ) → WalkIsReady old c h got → now.key ≡ old.key → turn ≡ Done f → MatchTurn turn (WalkWaits now c h) (WalkAnswers now c h) → GetAnswers (record { walk = now }) c h f.value
-turn_found c h old now turn f got ready same e t = gives (rw e at t)
-  where
-    run : IsTreeRun c.layout h × (old.key < 2 ^ 64)
-    run = walk_ready_run old c h got ready
+-- its walk asks for a step
+pub turn_asked : (c : Call) (h : History) (m : GetRun) (now : WalkRun) (turn : Turn Found) (step : Step) (got : Option ℕ) → GetIsReady m c h got → now.goal ≡ m.walk.goal → turn ≡ Ask step → MatchTurn turn (WalkWaits now c h) (WalkAnswers now c h) → GetWaits (record { key = m.key; walk = now }) c h step
+turn_asked c h m now turn step got ready same e t = (rw e at t, same ∙ ready.1)
 
-    gives : WalkAnswers now c h f → GetAnswers (record { walk = now }) c h f.value
-    gives a = record { first = a.trail.node.first; own = a.trail.node.own; right = walk_gives now c h f run.0 (rw same run.1) a }
+-- the value of the leaf at which its walk has ended is right
+pub turn_found : (c : Call) (h : History) (m : GetRun) (now : WalkRun) (turn : Turn Found) (f : Found) (got : Option ℕ) → GetIsReady m c h got → now.goal ≡ m.walk.goal → turn ≡ Done f → MatchTurn turn (WalkWaits now c h) (WalkAnswers now c h) → GetAnswers (record { key = m.key; walk = now }) c h f.value
+turn_found c h m now turn f got ready same e t = gives (subst (λ goal. HasFound goal c h f) (same ∙ ready.1) (rw e at t))
+  where
+    run : IsTreeRun c.layout h × (path_key m.walk.goal < 2 ^ 64)
+    run = walk_ready_run m.walk c h got ready.0
+
+    gives : HasFoundLeaf c h m.key f → GetAnswers (record { key = m.key; walk = now }) c h f.value
+    gives a = record { first = a.trail.node.first; own = a.trail.node.own; right = found_gives c h m.key f run.0 (rw ready.1 at run.1) a }
 
 -- a get that has not begun may be called
-pub get_ready_first : (m : GetRun) (c : Call) (h : History) → IsTreeRun c.layout h → m.walk.key < 2 ^ 64 → Extends h c.start → m.walk.at ≡ Start → m.walk.trail.node.0 ≡ 0 → GetIsReady m c h None
-get_ready_first m c h run small since at root = walk_ready_first m.walk c h run small since at root
+pub get_ready_first : (m : GetRun) (c : Call) (h : History) → IsTreeRun c.layout h → m.key < 2 ^ 64 → Extends h c.start → m.walk.at ≡ Start → m.walk.trail.node.0 ≡ 0 → m.walk.goal ≡ ToKey m.key → GetIsReady m c h None
+get_ready_first m c h run small since at root goal = (walk_ready_first m.walk c h run (rw goal small) since at root, goal)
 
 -- a get asks for loads alone, of settled words and of fields
 pub get_loads : (m : GetRun) (c : Call) (h : History) (s : Step) → GetWaits m c h s → ((s.kind ≡ LoadSettled) ⊎ (s.kind ≡ LoadChild)) × (s.access ≡ Load)
-get_loads m c h s w = walk_loads m.walk c h s w
+get_loads m c h s w = walk_loads m.walk c h s w.0
 
 -- so it fills nothing: it takes nothing of its share
 pub get_fills_not : (m : GetRun) (c : Call) (h : History) (s : Step) → GetWaits m c h s → s.kind ≢ Fill
-get_fills_not m c h s w = walk_fills_not m.walk c h s w
+get_fills_not m c h s w = walk_fills_not m.walk c h s w.0
 
 -- what a get answers stood at a moment of its call
-pub get_says : (m : GetRun) (c : Call) (h : History) (a : Option ℕ) → GetAnswers m c h a → IsAnswerAt c.layout h c.start m.walk.key a
+pub get_says : (m : GetRun) (c : Call) (h : History) (a : Option ℕ) → GetAnswers m c h a → IsAnswerAt c.layout h c.start m.key a
 get_says m c h a x = record { moment = x.right.moment; within = x.right.within; since = ends_trans x.right.moment x.first c.start x.right.since (own_since c x.first x.own); map = x.right.map; spelled = x.right.spelled; gives = x.right.gives }

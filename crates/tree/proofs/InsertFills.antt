@@ -1,36 +1,16 @@
 -- An insert fills its nodes in order: the leaves before the fork over them, which nothing mentions.
 use Rattle.std.proofs.Common.{◌≡◌, ◌≢◌, ℕ, suc, ◌/◌, ◌%◌, ◌<◌, ◌≤◌, ◌⊎◌, inl, inr, true, eqb, refl, sym, ◌∙◌, ap, subst, arith}
-use Rattle.std.proofs.lemmas.Bool.{eq-eqb, ne_eqb}
-use Rattle.arena.specs.declared.layout.Layout.{Layout}
-use Rattle.arena.specs.declared.limits.Mode.{Mode}
-use Rattle.arena.specs.declared.limits.Mode.TheVariants.{Tree as TreeMode}
-use Rattle.arena.specs.declared.step.Kind.TheVariants.{Fill as FillKind, LoadSettled}
 use Rattle.arena.specs.declared.step.Step.{Step}
 use Rattle.arena.specs.declared.word.NodeWord.{NodeWord}
 use Rattle.arena.specs.declared.word.NodeWord.TheVariants.{Head, Child}
-use Rattle.arena.specs.declared.word.ScxWord.{ScxWord}
 use Rattle.arena.specs.declared.word.Side.{Side}
-use Rattle.arena.specs.declared.word.Word.{Word}
-use Rattle.arena.specs.declared.word.Word.TheVariants.{Node, Scx as ScxOf}
-use Rattle.arena.specs.Fills.{IsOwnNode}
 use Rattle.arena.specs.History.{History, value}
-use Rattle.arena.specs.Layout.{opening_nodes}
 use Rattle.arena.specs.Machines.{Call, row_of}
-use Rattle.arena.specs.Words.{node, scx, child}
-use Rattle.help.specs.Help.Lawful.{help_fills_not}
-use Rattle.histories.specs.Unmentioned.{IsUnmentioned}
-use Rattle.prims.specs.Scx.Known.{Job, ScxWaitsAt, fill_step as scx_fill, job_of}
-use Rattle.prims.specs.declared.scx.ScxAt.{ScxAt}
-use Rattle.prims.specs.declared.scx.ScxAt.TheVariants as scx_at
-use Rattle.prims.proofs.Lemmas.{llx_fills_not}
+use Rattle.arena.specs.Words.{node, child}
 use Rattle.spelling.specs.FillOrder.{HasStoodInField, IsFillInOrder}
-use Rattle.spelling.specs.TreeShape.{TreeAllows}
 use Rattle.spelling.specs.TreeWords.{is_leaf}
 use Rattle.template.specs.declared.walk.Found.{Found}
-use Rattle.template.proofs.Lemmas.{walk_fills_not}
-use Rattle.tree.specs.declared.get.GetRun.{GetRun}
-use Rattle.tree.specs.Get.Known.{GetWaits}
-use Rattle.tree.proofs.GetTurns.{get_fills_not}
+use Rattle.tree.proofs.Fills.{leaf_head, piece_is, same_number, same_part, unstood, update_in_order}
 use Rattle.tree.specs.declared.insert.Insert.{Insert}
 use Rattle.tree.specs.Insert.Means.{insert_means, insert_need, insert_pieces}
 use Rattle.tree.specs.Insert.Sound.{insert_fields}
@@ -41,13 +21,10 @@ use Rattle.updates.specs.declared.edit.Nth.{Nth}
 use Rattle.updates.specs.declared.edit.Nth.TheVariants.{First, Second, Third}
 use Rattle.updates.specs.declared.edit.Piece.{Piece}
 use Rattle.updates.specs.declared.edit.Piece.TheVariants.{Leaf as LeafPiece}
-use Rattle.updates.specs.declared.update.UpdateAt.{UpdateAt}
-use Rattle.updates.specs.declared.update.UpdateAt.TheVariants.{Start, Walk, Look, Load, Fill, Scx}
 use Rattle.updates.specs.declared.update.UpdateRun.{UpdateRun}
-use Rattle.updates.specs.Known.{ComesBefore, IsNeeded, AreInOrder, Fills, UpdateWaits, UpdateWaitsAt, fill_step, piece, pieces_by, top}
+use Rattle.updates.specs.Known.{ComesBefore, IsNeeded, AreInOrder, Fills, UpdateWaits, fill_step, piece, top}
 use Rattle.updates.specs.Laws.Hand.{IsPieceWord, HoldsWords}
-use Rattle.updates.specs.Laws.HandScx.{from}
-use Rattle.updates.specs.Pieces.{nth_node, piece_head, top_of, word_of}
+use Rattle.updates.specs.Pieces.{nth_node, top_of, word_of}
 
 -- Three fresh nodes
 
@@ -65,46 +42,6 @@ three_rise : (need : Need) (ns : Nodes) → IsNeeded need Third → AreInOrder n
 three_rise Three ns x o = o
 three_rise One ns x o = absurd x
 three_rise Nothing ns x o = absurd x
-
--- each holds its own piece
-piece_is : (need : Need) (ns : Nodes) (p : Nth → Piece) (nth : Nth) → IsNeeded need nth → AreInOrder need ns → pieces_by p ns (nth_node ns nth).0 ≡ p nth
-piece_is Nothing ns p nth x o = absurd x
-piece_is One ns p First x o = rw (eq-eqb ns.first.0 ns.first.0 refl) refl
-piece_is One ns p Second x o = absurd x
-piece_is One ns p Third x o = absurd x
-piece_is Three ns p First x o = rw (eq-eqb ns.first.0 ns.first.0 refl) refl
-piece_is Three ns p Second x o = rw (ne_eqb ns.second.0 ns.first.0 (λ e. omega (o.0, e, arith)), eq-eqb ns.second.0 ns.second.0 refl) refl
-piece_is Three ns p Third x o = rw (ne_eqb ns.third.0 ns.first.0 (λ e. omega (o.0, o.1, e, arith)), ne_eqb ns.third.0 ns.second.0 (λ e. omega (o.1, e, arith))) refl
-
--- the head of a leaf says so
-leaf_head : (level class : ℕ) → eqb (piece_head level true class / 4 % 2) 1 ≡ true
-leaf_head level class = eq-eqb (piece_head level true class / 4 % 2) 1 (omega arith)
-
--- Fills
-
-word_part : Word → NodeWord
-word_part (Node n part) = part
-word_part (ScxOf s part) = Head
-
-word_number : Word → ℕ
-word_number (Node n part) = n.0
-word_number (ScxOf s part) = 0
-
-same_part : (n k : ℕ) (a b : NodeWord) → node n a ≡ node k b → a ≡ b
-unfolding word_part
-same_part n k a b e = ap word_part e
-
-same_number : (n k : ℕ) (a b : NodeWord) → node n a ≡ node k b → n ≡ k
-unfolding word_number
-same_number n k a b e = ap word_number e
-
--- what nothing mentions has stood in no field
-unstood : (lay : Layout) (h : History) (c n : ℕ) → lay.mode ≡ TreeMode → IsOwnNode lay c n → IsUnmentioned h n → ¬ HasStoodInField h n
-unstood lay h c n mode own u (inl i) =
-    let a = own.from in
-    let b : n < opening_nodes lay.mode = subst (λ (m : Mode). n < opening_nodes m) (sym mode) i in
-    omega (a, b, arith)
-unstood lay h c n mode own u (inr x) = u.in_no_field x.0 x.1 x.2
 
 module _ (m : UpdateRun Insert) (c : Call) (h : History) (f : Found) where
   -- what a node at hand is to hold
@@ -146,35 +83,6 @@ module _ (m : UpdateRun Insert) (c : Call) (h : History) (f : Found) where
   fill_in_order : (nth : Nth) (part : NodeWord) → Fills insert_means m c h f nth part → IsFillInOrder h (row_of c (fill_step insert_means m f nth part) h)
   fill_in_order nth part x = record { head = λ k kind e. head_ordered nth part k x e; field = λ k side kind e. inr (field_ordered nth part k side x e) }
 
--- a step that fills no node is
-pub no_fill : (c : Call) (h : History) (s : Step) → s.kind ≢ FillKind → IsFillInOrder h (row_of c s h)
-no_fill c h s none = record { head = λ n k e. absurd (none k); field = λ n side k e. absurd (none k) }
-
-scx_fill_in_order : (c : Call) (h : History) (j : Job) (part : ScxWord) → IsFillInOrder h (row_of c (scx_fill j part) h)
-scx_fill_in_order c h j part = record { head = λ n k e. let y : scx j.scx.0 part ≡ node n Head = e in cc; field = λ n side k e. let y : scx j.scx.0 part ≡ child n side = e in cc }
-
-scx_in_order : (c begun : Call) (h : History) (j : Job) (at : ScxAt) (s : Step) → ScxWaitsAt TreeAllows begun h j at s → IsFillInOrder h (row_of c s h)
-scx_in_order c begun h j scx_at.Start s w = absurd w
-scx_in_order c begun h j (scx_at.Help help) s w = no_fill c h s (help_fills_not TreeAllows help begun h s w.0)
-scx_in_order c begun h j scx_at.Plan s w = subst (λ (t : Step). IsFillInOrder h (row_of c t h)) (sym w.asked) (scx_fill_in_order c h j _)
-scx_in_order c begun h j scx_at.New s w = subst (λ (t : Step). IsFillInOrder h (row_of c t h)) (sym w.asked) (scx_fill_in_order c h j _)
-scx_in_order c begun h j scx_at.Old s w = subst (λ (t : Step). IsFillInOrder h (row_of c t h)) (sym w.asked) (scx_fill_in_order c h j _)
-scx_in_order c begun h j (scx_at.Member i) s w = subst (λ (t : Step). IsFillInOrder h (row_of c t h)) (sym w.asked) (scx_fill_in_order c h j _)
-scx_in_order c begun h j (scx_at.Seen i) s w = subst (λ (t : Step). IsFillInOrder h (row_of c t h)) (sym w.asked) (scx_fill_in_order c h j _)
-scx_in_order c begun h j scx_at.Call s w = subst (λ (t : Step). IsFillInOrder h (row_of c t h)) (sym w.asked) (scx_fill_in_order c h j _)
-
 -- whatever step an insert waits for
 pub insert_in_order : (m : UpdateRun Insert) (c : Call) (h : History) (s : Step) → UpdateWaits insert_means m c h s → IsFillInOrder h (row_of c s h)
-insert_in_order m c h s x = go m.at x.3
-  where
-    go : (at : UpdateAt) → UpdateWaitsAt insert_means m (from c x.0) h s at → IsFillInOrder h (row_of c s h)
-    go Start w = absurd w
-    go (Walk walk) w = no_fill c h s (walk_fills_not walk (from c x.0) h s w.1)
-    go (Look f llx) w = no_fill c h s (llx_fills_not TreeAllows llx (from (from c x.0) w.0) h s w.2)
-    go (Load f nth part) w = no_fill c h s (λ k. let e : s.kind ≡ LoadSettled = ap (λ (t : Step). t.kind) w.1 in cc)
-    go (Fill f nth part) w = subst (λ (t : Step). IsFillInOrder h (row_of c t h)) (sym w.3) (fill_in_order m (from c x.0) h f nth part w.0)
-    go (Scx f run) w = scx_in_order c (from (from c x.0) w.0) h (job_of run) run.at s w.2
-
--- a get fills nothing
-pub get_in_order : (m : GetRun) (c : Call) (h : History) (s : Step) → GetWaits m c h s → IsFillInOrder h (row_of c s h)
-get_in_order m c h s w = no_fill c h s (get_fills_not m c h s w)
+insert_in_order m c h s x = update_in_order insert_means m c h s (λ d f nth part y. fill_in_order m d h f nth part y) x

@@ -2,4 +2,6 @@
 -- module
 -- of these proofs can be named outside. Declares nothing.
 pub use Rattle.tree.proofs.GetTurns.{get_ready_first, get_loads, get_fills_not, get_says}
-pub use Rattle.tree.proofs.InsertFills.{get_in_order, insert_in_order}
+pub use Rattle.tree.proofs.Fills.{get_in_order}
+pub use Rattle.tree.proofs.InsertFills.{insert_in_order}
+pub use Rattle.tree.proofs.DeleteFills.{delete_in_order}

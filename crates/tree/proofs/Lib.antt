@@ -1,3 +1,5 @@
 mod GetTurns
+mod Fills
 mod InsertFills
+mod DeleteFills
 pub mod Lemmas

@@ -2,12 +2,14 @@
 ghost use Rattle.std.specs.Prelude.{◌≡◌, ℕ, ◌+◌, ◌*◌, ◌≤◌};
 
 use arena::{Machine, Turn};
-use template::{Found, Tree, WalkRun};
+use template::{Found, Goal, Tree, WalkRun};
 
 /// The value of a key, if it has one: one walk.
 #[derive(Clone, Copy, Debug, PartialEq, Eq)]
 pub struct GetRun {
-    /// The walk to the key's leaf.
+    /// The key.
+    pub key: u64,
+    /// The walk to its leaf.
     pub walk: WalkRun,
 }
 
@@ -18,13 +20,15 @@ impl GetRun {
     /// A run that has not begun. It asks for at most three steps for each node that has been taken
     /// when it ends, and for six more.
     pub fn new(key: u64) -> GetRun
-        ensures key { result.walk.key ≡ key }
+        ensures key { result.key ≡ key }
+        ensures goal { result.walk.goal ≡ Goal.Key result.key }
         ensures start { result.walk.at ≡ Start }
         ensures root { result.walk.trail.node.0 ≡ 0 }
         ensures bound { (nodes : ℕ) → get_left result nodes ≤ 3 * (2 + nodes) }
     {
         GetRun {
-            walk: WalkRun::new(key),
+            key,
+            walk: WalkRun::new(Goal::Key(key)),
         }
     }
 }
@@ -43,7 +47,7 @@ impl Machine<Tree> for GetRun {
 
     ghost answers = { GetAnswers };
 
-    ghost same = { λ old now. now.walk.key ≡ old.walk.key };
+    ghost same = { λ old now. now.key ≡ old.key };
 
     ghost left = { get_left };
 

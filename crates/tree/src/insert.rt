@@ -3,7 +3,7 @@ ghost use Rattle.std.specs.Prelude.{◌≡◌};
 
 use arena::{NodeNo, NodeWord, Share, Side};
 use prims::Snap;
-use template::Found;
+use template::{Found, Goal};
 use updates::{Edit, Loaded, Look, Need, Nodes, Nth, Piece, UpdateAt, UpdateRun};
 
 /// Puts a value at a key.
@@ -104,8 +104,8 @@ impl Edit for Insert {
 
     ghost means = { insert_means };
 
-    fn key(&self) -> u64 {
-        self.key
+    fn goal(&self) -> Goal {
+        Goal::Key(self.key)
     }
 
     fn need(&self, found: &Found) -> Need {

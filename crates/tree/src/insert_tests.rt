@@ -1,25 +1,16 @@
 //! Inserts, step by step.
 use crate::story::Call::Insert;
-use crate::story::Turns::{Finish, Makes, Rounds, Steps};
-use crate::story::{Made, Story, contended, done, full, played, tells};
+use crate::story::Turns::{Finish, Rounds, Steps};
+use crate::story::{Made, contended, done, full, node, played, plays, scx, tells};
 use arena::Kind::{
     Commit, Fill, Freeze, LoadChild, LoadInfo, LoadMarked, LoadSettled, LoadState, Mark, SetFrozen,
     Update,
 };
 use arena::NodeWord::{Child, Head, Info, Key, Marked, Value};
+use arena::Resource;
 use arena::ScxWord::{AllFrozen, Call, Member, New, Old, Plan, Seen, State};
 use arena::Side::{Left, Right};
-use arena::{NodeNo, NodeWord, Resource, ScxNo, ScxWord, Word};
-use std::process::Abort;
 use std::test::Fail;
-
-fn node(n: u64, part: NodeWord) -> Word {
-    Word::Node(NodeNo(n), part)
-}
-
-fn scx(s: u64, part: ScxWord) -> Word {
-    Word::Scx(ScxNo(s), part)
-}
 
 /// The steps of an insert of 50 at 5 into the empty map.
 fn into_the_empty_map() -> [Made; 48] {
@@ -109,14 +100,6 @@ fn above_a_leaf() -> [Made; 11] {
         (Fill, node(8, Child(Left)), 0, 7),
         (Fill, node(8, Child(Right)), 0, 6),
     ]
-}
-
-/// The only client makes these steps.
-fn plays(rt: &impl Abort, story: &mut Story, steps: &[Made]) -> Result<(), Fail> {
-    for step in steps {
-        story.play(rt, Makes(0, *step))?;
-    }
-    Ok(())
 }
 
 #[test]

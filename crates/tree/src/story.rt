@@ -1,7 +1,9 @@
 //! Clients that make calls on one table, one step of a client at a time.
 use crate::table::Table;
-use crate::{GetRun, Insert, Tree};
-use arena::{Full, Kind, Machine, NodeNo, Resource, ScxNo, Share, Step, Turn, Word};
+use crate::{Delete, GetRun, Insert, Tree};
+use arena::{
+    Full, Kind, Machine, NodeNo, NodeWord, Resource, ScxNo, ScxWord, Share, Step, Turn, Word,
+};
 use spelling::Pair;
 use std::alloc::Global;
 use std::process::Abort;
@@ -12,6 +14,7 @@ use updates::{UpdateRun, Updated};
 #[derive(Clone, Copy)]
 pub(crate) enum Call {
     Insert(u64, u64),
+    Delete(u64),
     Get(u64),
 }
 
@@ -34,36 +37,73 @@ pub(crate) enum Turns {
 
 /// An answered call: whose it is, which of that client's, its first and its last step, its moment and
 /// the answer.
-pub(crate) type Reply = (u32, u64, u64, u64, Option<u64>, Updated);
+pub(crate) type Reply = (u32, u64, u64, u64, Option<u64>, Told);
+
+/// What a call answers: of one that is done what the key had.
+#[derive(Clone, Copy, Debug, PartialEq, Eq)]
+pub(crate) enum Told {
+    Done { old: Option<u64> },
+    Contended { node: NodeNo, scx: ScxNo },
+    Full(Full),
+}
+
+impl Told {
+    fn of(turn: Turn<Updated>) -> Turn<Told> {
+        Turn::Done(match turn {
+            Turn::Ask(step) => return Turn::Ask(step),
+            Turn::Done(Updated::Done { found }) => Told::Done { old: found.value },
+            Turn::Done(Updated::Contended { node, scx }) => Told::Contended { node, scx },
+            Turn::Done(Updated::Full(full)) => Told::Full(full),
+        })
+    }
+}
 
 /// A step: its kind, its word, and what that held before and after it.
 pub(crate) type Made = (Kind, Word, u64, u64);
 
-/// An update of the map: for which call of which client, its step, and the key's old value.
+/// An update of the map: for which call of which client, its step, its key, and the old value of
+/// that.
 #[derive(Clone, Copy)]
 struct Entry {
     client: u32,
     call: u64,
     step: u64,
+    key: u64,
     old: Option<u64>,
 }
 
 /// No call of these stories, and none up to an answer, has as many steps.
 const MOST_STEPS: u32 = 1000;
 
-pub(crate) fn done(old: Option<u64>) -> Updated {
-    Updated::Done { old }
+pub(crate) fn done(old: Option<u64>) -> Told {
+    Told::Done { old }
 }
 
-pub(crate) fn full(what: Resource, left: u32) -> Updated {
-    Updated::Full(Full { what, left })
+pub(crate) fn full(what: Resource, left: u32) -> Told {
+    Told::Full(Full { what, left })
 }
 
-pub(crate) fn contended(node: u64, scx: u64) -> Updated {
-    Updated::Contended {
+pub(crate) fn contended(node: u64, scx: u64) -> Told {
+    Told::Contended {
         node: NodeNo(node),
         scx: ScxNo(scx),
     }
+}
+
+pub(crate) fn node(n: u64, part: NodeWord) -> Word {
+    Word::Node(NodeNo(n), part)
+}
+
+pub(crate) fn scx(s: u64, part: ScxWord) -> Word {
+    Word::Scx(ScxNo(s), part)
+}
+
+/// The first client makes these steps.
+pub(crate) fn plays(rt: &impl Abort, story: &mut Story, steps: &[Made]) -> Result<(), Fail> {
+    for step in steps {
+        story.play(rt, Turns::Makes(0, *step))?;
+    }
+    Ok(())
 }
 
 /// The story of these calls in these turns.
@@ -112,6 +152,11 @@ impl Plain {
         self.values.get_mut(key as usize)?.replace(value)
     }
 
+    /// Takes the value of a key away, and tells it.
+    fn take(&mut self, key: u64) -> Option<u64> {
+        self.values.get_mut(key as usize)?.take()
+    }
+
     /// The pairs, by rising key.
     fn pairs(&self, alloc: Global) -> Result<Vec<Pair>, Fail> {
         let mut pairs = Vec::new(alloc);
@@ -129,16 +174,18 @@ impl Plain {
 #[derive(Drop)]
 enum Run {
     Insert(UpdateRun<Insert>),
+    Delete(UpdateRun<Delete>),
     Get(GetRun),
 }
 
 impl Run {
-    fn next(&mut self, got: Option<u64>) -> Turn<Updated> {
+    fn next(&mut self, got: Option<u64>) -> Turn<Told> {
         match self {
-            Run::Insert(run) => run.step(got),
+            Run::Insert(run) => Told::of(Machine::<Tree>::next(run, got)),
+            Run::Delete(run) => Told::of(Machine::<Tree>::next(run, got)),
             Run::Get(run) => match Machine::<Tree>::next(run, got) {
                 Turn::Ask(step) => Turn::Ask(step),
-                Turn::Done(old) => Turn::Done(Updated::Done { old }),
+                Turn::Done(old) => Turn::Done(Told::Done { old }),
             },
         }
     }
@@ -155,7 +202,7 @@ struct Client {
     begin: u64,
     run: Option<Run>,
     asked: Option<Step>,
-    /// What no call has taken, while no insert runs.
+    /// What no call has taken, while no update runs.
     share: Option<Share>,
 }
 
@@ -193,15 +240,19 @@ impl Client {
             Call::Insert(key, value) => {
                 let insert = Insert { key, value };
                 let share = self.share.take()?;
-                let run = UpdateRun::new(insert, share, self.tries, self.answered);
-                Some(Run::Insert(run))
+                Some(Run::Insert(insert.run(share, self.tries, self.answered)))
+            }
+            Call::Delete(key) => {
+                let delete = Delete { key };
+                let share = self.share.take()?;
+                Some(Run::Delete(delete.run(share, self.tries, self.answered)))
             }
             Call::Get(key) => Some(Run::Get(GetRun::new(key))),
         }
     }
 
     /// Goes on with what the last step found: the answer, once it is there.
-    fn next(&mut self, got: Option<u64>) -> Option<Updated> {
+    fn next(&mut self, got: Option<u64>) -> Option<Told> {
         match self.run.as_mut()?.next(got) {
             Turn::Ask(step) => {
                 self.asked = Some(step);
@@ -216,8 +267,10 @@ impl Client {
 
     /// Ends the call that runs.
     fn rest(&mut self) {
-        if let Some(Run::Insert(run)) = self.run.take() {
-            self.share = Some(run.into_share());
+        match self.run.take() {
+            Some(Run::Insert(run)) => self.share = Some(run.into_share()),
+            Some(Run::Delete(run)) => self.share = Some(run.into_share()),
+            _ => {}
         }
         self.asked = None;
         self.answered = self.answered.saturating_add(1);
@@ -317,20 +370,30 @@ impl Story {
         let step = self.steps;
         let made = self.made_for(field);
         assert!(rt; made.is_some(), "step {step} is of no call that runs");
-        if let Some((client, call, Call::Insert(key, value))) = made {
+        if let Some((client, call, edit)) = made {
             assert!(rt;
                 self.entry(client, call).is_none(),
                 "step {step} is a second update"
             );
-            let old = self.map.put(key, value);
+            let (key, old) = self.edit(edit);
             self.entries.push(Entry {
                 client,
                 call,
                 step,
+                key,
                 old,
             })?;
         }
         Ok(())
+    }
+
+    /// Changes the map as a call does: its key, and the old value.
+    fn edit(&mut self, call: Call) -> (u64, Option<u64>) {
+        match call {
+            Call::Insert(key, value) => (key, self.map.put(key, value)),
+            Call::Delete(key) => (key, self.map.take(key)),
+            Call::Get(key) => (key, self.map.get(key)),
+        }
     }
 
     /// For which call the SCX-record that holds the node of this word was made, if that call runs.
@@ -362,7 +425,11 @@ impl Story {
         let (number, begin, call) = (at.answered, at.begin, at.call(at.answered));
         if let Some(answer) = at.next(Some(found)) {
             let moment = match call {
-                Some(Call::Get(key)) => self.seen(key, answer),
+                Some(Call::Get(key)) => self.seen(key, begin, answer),
+                Some(Call::Delete(key)) if answer == done(None) => {
+                    assert!(rt; self.entry(client, number).is_none());
+                    self.seen(key, begin, answer)
+                }
                 _ => self.done(rt, client, number, answer),
             };
             let end = self.steps;
@@ -372,29 +439,36 @@ impl Story {
         Ok(())
     }
 
-    /// The moment of a get: this step, if the map has its answer now.
-    fn seen(&self, key: u64, answer: Updated) -> Option<u64> {
-        let old = self.map.get(key);
-        if answer == (Updated::Done { old }) {
-            Some(self.steps)
+    /// The moment of a call that only reads: the last step since it began after which the map has
+    /// its answer.
+    fn seen(&self, key: u64, begin: u64, answer: Told) -> Option<u64> {
+        let (mut old, mut step) = (self.map.get(key), self.steps);
+        for entry in self.entries.as_slice().iter().rev() {
+            if entry.key == key && answer != (Told::Done { old }) {
+                old = entry.old;
+                step = entry.step.saturating_sub(1);
+            }
+        }
+        if answer == (Told::Done { old }) && begin <= step {
+            Some(step)
         } else {
             None
         }
     }
 
-    /// The moment of an insert: the step of its entry, whose old value it answers. A call that is
+    /// The moment of an update: the step of its entry, whose old value it answers. A call that is
     /// refused has none.
-    fn done(&self, rt: &impl Abort, client: u32, call: u64, answer: Updated) -> Option<u64> {
+    fn done(&self, rt: &impl Abort, client: u32, call: u64, answer: Told) -> Option<u64> {
         let Some(Entry { step, old, .. }) = self.entry(client, call) else {
             assert!(rt;
-                !matches!(answer, Updated::Done { .. }),
+                !matches!(answer, Told::Done { .. }),
                 "call {call} of client {client}"
             );
             return None;
         };
         assert_eq!(rt;
             answer,
-            Updated::Done { old },
+            Told::Done { old },
             "call {call} of client {client}"
         );
         Some(step)

@@ -24,7 +24,6 @@ use Rattle.prims.specs.declared.scx.ScxRun.{ScxRun}
 use Rattle.prims.specs.declared.snap.Snap.{Snap}
 use Rattle.prims.specs.declared.update.Update.{Update}
 use Rattle.prims.proofs.Lemmas.{left_own_scx, over_begins}
-use Rattle.spelling.specs.OrderedMap.{edit_key}
 use Rattle.spelling.specs.TreeShape.{TreeAllows}
 use Rattle.template.specs.Promises.{IsPromised}
 use Rattle.template.specs.Tracked.{Tracks, waits}
@@ -97,21 +96,21 @@ module _ {E : Type 0} (e : EditMeaning E) (m : UpdateRun E) (run after : ScxRun)
     (is : IsUpdateFor e m.edit f m.snaps.items m.nodes run.update) (at : run.at ≡ ScxStart) (is_scx : run.scx.0 ≡ m.share.next_scx) (same_scx : after.scx ≡ run.scx) (same_update : after.update ≡ run.update) (same_call : after.call ≡ run.call) (is_call : after.call ≡ m.call) where
   over : IsUpdateOver run.update
   over = covers_all run.update m.snaps.items (e.side m.edit f) (some_snaps (e.looks m.edit f) m.snaps.items (sound.some m.edit f) x.all.enough) few
-      (sound.distinct m.edit c h f m.snaps.items x.run x.all.looked x.all.enough) is.covers is.plan is.old
+      (sound.distinct m.edit c h f m.snaps.items x.run x.need x.all.looked x.all.enough) is.covers is.plan is.old
 
-  usable : AreUsable c h (edit_key (e.edit m.edit)) f run.update.snaps
-  usable = subst (λ (xs : List Snap). AreUsable c h (edit_key (e.edit m.edit)) f xs) (sym is.covers) x.all.looked.usable
+  usable : AreUsable c h (e.goal m.edit) f run.update.snaps
+  usable = subst (λ (xs : List Snap). AreUsable c h (e.goal m.edit) f xs) (sym is.covers) x.all.looked.usable
 
   -- its SCX may begin
   pub scx_ready : ScxIsReady TreeAllows run (from c h) h None
   scx_ready = hand_ready c h m.share m.nodes.first.0 (top e m f) (piece e m f) run x.run.1.lawful x.full x.some over
-      (λ i p. let u = usable i p in (u.moment, snapped_usable c h (edit_key (e.edit m.edit)) f (snap_at run.update.snaps i) x.run.1.lawful u)) at is.fresh is_scx
-      (λ d says. promised_allowed c.layout c.pass h run.scx.0 d (e.edit m.edit) (sound.promised m.edit c h f m.snaps.items m.nodes m.loaded (job_of run) d x.run x.need x.all is says))
+      (λ i p. let u = usable i p in (u.moment, snapped_usable c h (e.goal m.edit) f (snap_at run.update.snaps i) x.run.1.lawful u)) at is.fresh is_scx
+      (λ d says. promised_allowed c.layout c.pass h run.scx.0 d (e.edit m.edit f) (sound.promised m.edit c h f m.snaps.items m.nodes m.loaded (job_of run) d x.run x.need x.all is says))
 
-  promised : (d : Descriptor) → Says d (job_of run) → IsPromised c.layout c.pass h run.scx.0 d (e.edit m.edit)
+  promised : (d : Descriptor) → Says d (job_of run) → IsPromised c.layout c.pass h run.scx.0 d (e.edit m.edit f)
   promised d says = sound.promised m.edit c h f m.snaps.items m.nodes m.loaded (job_of run) d x.run x.need x.all is says
 
-  tracked : Tracks c.layout c.pass h (job_of run) (e.edit m.edit)
+  tracked : Tracks c.layout c.pass h (job_of run) (e.edit m.edit f)
   tracked = waits promised scx_ready.1.is_open.unnamed
 
   scx_is : after.scx.0 ≡ m.share.next_scx
@@ -138,7 +137,7 @@ module _ {E : Type 0} (e : EditMeaning E) (m : UpdateRun E) (run after : ScxRun)
       found = x.all.looked.found;
       need = x.need;
       only = λ row before t within since w own. absurd (none_quiet c.layout c.pass h c.start x.run.1.lawful x.quiet row before t within since w own);
-      usable = subst (λ (u : Update). AreUsable c h (edit_key (e.edit m.edit)) f u.snaps) (sym same_update) usable;
+      usable = subst (λ (u : Update). AreUsable c h (e.goal m.edit) f u.snaps) (sym same_update) usable;
       quiet = x.quiet;
       leaf = leaf;
       now = x.since;
@@ -149,7 +148,7 @@ module _ {E : Type 0} (e : EditMeaning E) (m : UpdateRun E) (run after : ScxRun)
       own = subst (λ n. IsOwnNode c.layout c.pass n) (sym fresh_is) (x.full.hand.own (top e m f) x.full.some (omega arith));
       own_scx = subst (λ s. IsOwnScx c.layout c.pass s) (sym scx_is) (left_own_scx c.layout h c.pass m.share m.nodes.first.0 m.share.next_scx m.share.next_scx x.full.share here);
       over = over_begins c.layout c.pass after.scx.0 h x.full.over;
-      tracks = subst (λ (j : Job). Tracks c.layout c.pass h j (e.edit m.edit)) (λ i. record { scx = sym same_scx i; call = sym same_call i; update = sym same_update i }) tracked;
+      tracks = subst (λ (j : Job). Tracks c.layout c.pass h j (e.edit m.edit f)) (λ i. record { scx = sym same_scx i; call = sym same_call i; update = sym same_update i }) tracked;
     },
     rw asked at w,
   )

@@ -21,6 +21,7 @@ use Rattle.prims.specs.declared.snap.Snap.{Snap}
 use Rattle.spelling.specs.Runs.{IsTreeRun}
 use Rattle.spelling.proofs.Lemmas.{blame_finalizer}
 use Rattle.template.specs.declared.walk.Found.{Found}
+use Rattle.template.specs.declared.walk.Goal.{Goal}
 use Rattle.updates.specs.Blame.{IsContended, WasNotFinal, way_wider}
 use Rattle.updates.specs.declared.edit.Look.TheVariants.{At, Differs}
 use Rattle.updates.specs.declared.edit.Need.TheVariants.{Nothing}
@@ -40,28 +41,28 @@ pub finalized_contended : (c : Call) (h : History) (n s : ℕ) → Lawful c.layo
 finalized_contended c h n s l quiet x is = way_contended c h x.moment n s l quiet x.since (blame_finalizer c.layout h x.moment n s l x.within x.was record { won = committed_won c.layout h s l is.committed; removed = is.by.removed })
 
 -- a pass that was idle all through its call has left alone what it has looked at
-left_alone : (c : Call) (h : History) (k : ℕ) (f : Found) (snap : Snap) → Lawful c.layout h → IsQuietSince c.layout c.pass c.start h → HasSnapped c h k f snap → IsLeftAlone c.layout c.pass h snap
-left_alone c h k f snap l quiet x = record {
+left_alone : (c : Call) (h : History) (goal : Goal) (f : Found) (snap : Snap) → Lawful c.layout h → IsQuietSince c.layout c.pass c.start h → HasSnapped c h goal f snap → IsLeftAlone c.layout c.pass h snap
+left_alone c h goal f snap l quiet x = record {
   moment = x.moment;
-  found = (snapped_usable c h k f snap l x).found;
+  found = (snapped_usable c h goal f snap l x).found;
   idle = λ m within since t own running covers. quiet m within (ends_trans m x.moment c.start since x.since) t own running;
 }
 
 -- its SCX, which begins at this moment of the try, is lost
-pub lost_contended : (c : Call) (begin h : History) (k : ℕ) (f : Found) (m : ScxRun) (n s : ℕ) → Lawful c.layout begin → IsQuietSince c.layout c.pass c.start begin → AreUsable c begin k f m.update.snaps → IsLost (from c begin) h m n s → IsContended c h n s
-lost_contended c begin h k f m n s l quiet usable x = subst (λ t. IsContended c h t s) x.changed.is record {
-  others = x.changed.blamed.others (left_alone c begin k f (snap_at m.update.snaps i) l quiet snapped);
+pub lost_contended : (c : Call) (begin h : History) (goal : Goal) (f : Found) (m : ScxRun) (n s : ℕ) → Lawful c.layout begin → IsQuietSince c.layout c.pass c.start begin → AreUsable c begin goal f m.update.snaps → IsLost (from c begin) h m n s → IsContended c h n s
+lost_contended c begin h goal f m n s l quiet usable x = subst (λ t. IsContended c h t s) x.changed.is record {
+  others = x.changed.blamed.others (left_alone c begin goal f (snap_at m.update.snaps i) l quiet snapped);
   in_the_way = way_wider c h snapped.moment (snap_at m.update.snaps i).node.0 s snapped.since (x.changed.blamed.in_the_way snapped.moment (moment_since c.layout h begin snapped.moment (snap_at m.update.snaps i) since found));
 }
   where
     i : ℕ
     i = x.changed.index
 
-    snapped : HasSnapped c begin k f (snap_at m.update.snaps i)
+    snapped : HasSnapped c begin goal f (snap_at m.update.snaps i)
     snapped = usable i x.changed.within
 
     found : IsMoment c.layout begin (snap_at m.update.snaps i) snapped.moment
-    found = (snapped_usable c begin k f (snap_at m.update.snaps i) l snapped).found
+    found = (snapped_usable c begin goal f (snap_at m.update.snaps i) l snapped).found
 
     since : Extends h begin
     since = ends_trans h (x.changed.found.row ⊳ x.changed.found.before) begin x.changed.found.last.within (inr x.changed.found.since)

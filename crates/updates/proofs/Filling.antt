@@ -8,7 +8,6 @@ use Rattle.arena.specs.declared.word.NodeWord.TheVariants.{Head, Key, Value, Chi
 use Rattle.arena.specs.Fills.{IsInField}
 use Rattle.arena.specs.History.{History}
 use Rattle.arena.specs.Machines.{Call}
-use Rattle.histories.proofs.Lemmas.{IsNodeFill}
 use Rattle.template.specs.declared.walk.Found.{Found}
 use Rattle.updates.specs.declared.edit.Need.{Need}
 use Rattle.updates.specs.declared.edit.Need.TheVariants.{Nothing, One, Three}
@@ -50,17 +49,16 @@ left_right _ i = absurd i
 
 -- a word of the piece that is filled, behind those that are filled up to another
 record ComesNext (p : Piece) (part next : NodeWord) : Type 0 where
-  fill : IsNodeFill next
   is : IsPieceWord p next
   before : (q : NodeWord) → IsBefore next q → IsUpTo part q
 
 next_word : (p : Piece) (part next : NodeWord) → part_behind p part ≡ Some next → ComesNext p part next
-next_word (Leaf level class key v) Head next e = subst (λ q. ComesNext (Leaf level class key v) Head q) (the_same Key next e) record { fill = tt; is = tt; before = head_key }
-next_word (Leaf level class key v) Key next e = subst (λ q. ComesNext (Leaf level class key v) Key q) (the_same Value next e) record { fill = tt; is = tt; before = key_value }
+next_word (Leaf level class key v) Head next e = subst (λ q. ComesNext (Leaf level class key v) Head q) (the_same Key next e) record { is = tt; before = head_key }
+next_word (Leaf level class key v) Key next e = subst (λ q. ComesNext (Leaf level class key v) Key q) (the_same Value next e) record { is = tt; before = key_value }
 next_word (Leaf level class key v) _ next e = absurd (let d : None ≡ Some next = e in cc)
-next_word (Fork level class key l r) Head next e = subst (λ q. ComesNext (Fork level class key l r) Head q) (the_same Key next e) record { fill = tt; is = tt; before = head_key }
-next_word (Fork level class key l r) Key next e = subst (λ q. ComesNext (Fork level class key l r) Key q) (the_same (Child Left) next e) record { fill = tt; is = tt; before = key_left }
-next_word (Fork level class key l r) (Child Left) next e = subst (λ q. ComesNext (Fork level class key l r) (Child Left) q) (the_same (Child Right) next e) record { fill = tt; is = tt; before = left_right }
+next_word (Fork level class key l r) Head next e = subst (λ q. ComesNext (Fork level class key l r) Head q) (the_same Key next e) record { is = tt; before = head_key }
+next_word (Fork level class key l r) Key next e = subst (λ q. ComesNext (Fork level class key l r) Key q) (the_same (Child Left) next e) record { is = tt; before = key_left }
+next_word (Fork level class key l r) (Child Left) next e = subst (λ q. ComesNext (Fork level class key l r) (Child Left) q) (the_same (Child Right) next e) record { is = tt; before = left_right }
 next_word (Fork level class key l r) _ next e = absurd (let d : None ≡ Some next = e in cc)
 
 -- The last word
@@ -212,7 +210,7 @@ module _ {E : Type 0} (e : EditMeaning E) (m : UpdateRun E) (c : Call) (h : Hist
   -- it may fill the next word
   pub fills_next : (next : NodeWord) → FillsWell e → part_behind said part ≡ Some next → CanFill e m c h f nth next
   fills_next next sound is = record {
-    fills = record { works = x.0.works; full = x.0.full; hand = x.0.hand; done = x.0.done; fill = next_is.fill; part_is = subst (λ p. IsPieceWord p next) (sym is_said) next_is.is };
+    fills = record { works = x.0.works; full = x.0.full; hand = x.0.hand; done = x.0.done; part_is = subst (λ p. IsPieceWord p next) (sym is_said) next_is.is };
     same = is_said;
     may = subst (λ p. FieldMay next (IsForField c.layout h m.nodes.first.0 (top e m f) (word_of p next))) (sym is_said) (field_may sound next next_is.is);
     words = λ q i. x.1 q (next_is.before q i);

@@ -136,7 +136,6 @@ module _ {E : Type 0} (e : EditMeaning E) where
       full = x.full;
       hand = x.hand;
       done = done;
-      fill = tt;
       part_is = is_head (piece e m f (nth_node m.nodes nth).0);
     };
     same = piece_is (λ i. e.pieces m.edit f m.snaps.items m.nodes m.loaded i) m.nodes (e.needs m.edit f) nth x.works.need x.works.in_order;

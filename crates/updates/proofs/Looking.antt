@@ -25,9 +25,9 @@ use Rattle.updates.specs.Laws.HandScx.{from}
 use Rattle.prims.specs.Snap.{snap_at}
 use Rattle.prims.specs.declared.snap.Snap.{Snap}
 use Rattle.prims.proofs.Lemmas.{left_own_node}
-use Rattle.spelling.specs.OrderedMap.{edit_key}
-use Rattle.template.specs.FoundLeaf.{HasFoundLeaf}
+use Rattle.template.specs.FoundLeaf.{HasFound}
 use Rattle.template.specs.declared.walk.Found.{Found}
+use Rattle.template.specs.declared.walk.Goal.{Goal}
 use Rattle.updates.specs.declared.edit.Look.TheVariants.{At, Enough}
 use Rattle.updates.specs.declared.edit.Need.{Need}
 use Rattle.updates.specs.declared.edit.Need.TheVariants.{Nothing, One, Three}
@@ -51,15 +51,15 @@ at_end (t ∷ snaps) s zero p = inl (omega arith, refl)
 at_end (t ∷ snaps) s (suc i) p = ⊎_elim (λ x. inl ((let y = x.0 in omega (arith, y)), x.1)) (λ x. inr ((let y = x.0 in omega (arith, y)), x.1)) (at_end snaps s i (omega (arith, p)))
 
 -- the pass may use a snapshot that it has just taken
-pub usable_one_more : (c : Call) (h : History) (k : ℕ) (f : Found) (snaps : List Snap) (s : Snap) (n : ℕ) → Extends h c.start → HasFoundLeaf c h k f → IsSnapshot c.layout h n s → AreUsable c h k f snaps → AreUsable c h k f (snaps ++ s ∷ [])
-usable_one_more c h k f snaps s n since found is x i p = go (at_end snaps s i p)
+pub usable_one_more : (c : Call) (h : History) (goal : Goal) (f : Found) (snaps : List Snap) (s : Snap) (n : ℕ) → Extends h c.start → HasFound goal c h f → IsSnapshot c.layout h n s → AreUsable c h goal f snaps → AreUsable c h goal f (snaps ++ s ∷ [])
+usable_one_more c h goal f snaps s n since found is x i p = go (at_end snaps s i p)
   where
-    now : HasSnapped c h k f s
+    now : HasSnapped c h goal f s
     now = record { moment = h; within = ends_self h; since = since; found = found; is = subst (λ m. IsSnapshot c.layout h m s) (sym is.node) is }
 
-    go : ((i < length snaps) × (snap_at (snaps ++ s ∷ []) i ≡ snap_at snaps i)) ⊎ ((i ≡ length snaps) × (snap_at (snaps ++ s ∷ []) i ≡ s)) → HasSnapped c h k f (snap_at (snaps ++ s ∷ []) i)
-    go (inl q) = subst (HasSnapped c h k f) (sym q.1) (x i q.0)
-    go (inr q) = subst (HasSnapped c h k f) (sym q.1) now
+    go : ((i < length snaps) × (snap_at (snaps ++ s ∷ []) i ≡ snap_at snaps i)) ⊎ ((i ≡ length snaps) × (snap_at (snaps ++ s ∷ []) i ≡ s)) → HasSnapped c h goal f (snap_at (snaps ++ s ∷ []) i)
+    go (inl q) = subst (HasSnapped c h goal f) (sym q.1) (x i q.0)
+    go (inr q) = subst (HasSnapped c h goal f) (sym q.1) now
 
 take_all : (snaps : List Snap) → take (length snaps) snaps ≡ snaps
 take_all [] = refl
@@ -80,7 +80,7 @@ looked_one_more e m now c h f s n ed share items named is x = record {
   looked = rw (ed, items) record {
     small = x.looked.small;
     found = x.looked.found;
-    usable = usable_one_more c h (edit_key (e.edit m.edit)) f m.snaps.items s n x.begins.since x.looked.found is x.looked.usable;
+    usable = usable_one_more c h (e.goal m.edit) f m.snaps.items s n x.begins.since x.looked.found is x.looked.usable;
     seen = seen_one_more e m.edit f m.snaps.items s named x.looked.seen;
   };
   room = rw (ed, share) x.room;
@@ -95,7 +95,7 @@ share_has One left d few some = (omega (arith, few), omega (arith, some))
 share_has Three left d few some = (omega (arith, few), omega (arith, some))
 
 -- the walk has found its leaf, and nothing is looked at
-pub may_look : {E : Type 0} (e : EditMeaning E) (m now : UpdateRun E) (c : Call) (h : History) (f : Found) → now.edit ≡ m.edit → now.share ≡ m.share → now.snaps.items ≡ [] → Begins e m c h → IsQuietSince c.layout c.pass c.start h → HasFoundLeaf c h (edit_key (e.edit m.edit)) f → HasNodesFor (e.needs m.edit f) m.share → CanLook e now c h f
+pub may_look : {E : Type 0} (e : EditMeaning E) (m now : UpdateRun E) (c : Call) (h : History) (f : Found) → now.edit ≡ m.edit → now.share ≡ m.share → now.snaps.items ≡ [] → Begins e m c h → IsQuietSince c.layout c.pass c.start h → HasFound (e.goal m.edit) c h f → HasNodesFor (e.needs m.edit f) m.share → CanLook e now c h f
 may_look e m now c h f ed share items b quiet found room = record {
   begins = record { run = b.run; small = rw ed b.small; since = b.since; rests = rw share b.rests };
   quiet = quiet;

@@ -24,9 +24,11 @@ use Rattle.spelling.specs.TreeWords.{said}
 use Rattle.spelling.specs.declared.pair.Pair.{Pair}
 use Rattle.spelling.proofs.Lemmas.{SameSettled, run_since, walk_named, win_makes, wins_of}
 use Rattle.template.proofs.Lemmas.{tracked_makes}
+use Rattle.template.specs.FoundLeaf.{path_key}
 use Rattle.template.specs.declared.walk.Found.{Found}
 use Rattle.updates.specs.declared.update.UpdateRun.{UpdateRun}
 use Rattle.updates.specs.Edits.{EditMeaning}
+use Rattle.updates.specs.Sound.{IsAtFound}
 use Rattle.updates.specs.Known.{Scxs, HasMade}
 use Rattle.updates.specs.Laws.Entered.{only_joined}
 use Rattle.updates.specs.Laws.HandScx.{from}
@@ -66,10 +68,10 @@ module _ (c : Call) (h : History) (m : ScxRun) (row : Row) (before : History) (l
   covers : CoversSnaps before m.scx.0 m.update.snaps
   covers j p = ap (member before m.scx.0) (let z : j ≡ j + 0 = omega arith in z) ∙ members_are before m.scx.0 0 (count before m.scx.0) m.update.snaps (ap (λ (e : Entry). e.members) entry_is) j p
 
-module _ {E : Type 0} (e : EditMeaning E) (m : UpdateRun E) (scx after : ScxRun) (f : Found) (c : Call) (b begin h : History) (try : IsTry c b) (x : Scxs e m (from c b) h f scx begin)
+module _ {E : Type 0} (e : EditMeaning E) (at_found : IsAtFound e) (m : UpdateRun E) (scx after : ScxRun) (f : Found) (c : Call) (b begin h : History) (try : IsTry c b) (x : Scxs e m (from c b) h f scx begin)
     (same_scx : after.scx ≡ scx.scx) (same_update : after.update ≡ scx.update) (same_call : after.call ≡ scx.call) (done : IsDone (from c begin) h after) where
   abbrev k : ℕ
-  k = edit_key (e.edit m.edit)
+  k = edit_key (e.edit m.edit f)
 
   abbrev before : History
   before = done.entry.before
@@ -83,25 +85,25 @@ module _ {E : Type 0} (e : EditMeaning E) (m : UpdateRun E) (scx after : ScxRun)
   run : IsTreeRun c.layout before
   run = run_since c.layout h before x.run within
 
-  made : Makes c.layout h after.scx.0 (e.edit m.edit)
-  made = subst (λ (s : ScxNo). Makes c.layout h s.0 (e.edit m.edit)) (sym same_scx)
-      (tracked_makes c.layout c.pass h (job_of scx) (e.edit m.edit) x.run.1.lawful (subst (λ (s : ScxNo). HasWon h s.0) same_scx done.won) x.tracks)
+  made : Makes c.layout h after.scx.0 (e.edit m.edit f)
+  made = subst (λ (s : ScxNo). Makes c.layout h s.0 (e.edit m.edit f)) (sym same_scx)
+      (tracked_makes c.layout c.pass h (job_of scx) (e.edit m.edit f) x.run.1.lawful (subst (λ (s : ScxNo). HasWon h s.0) same_scx done.won) x.tracks)
 
-  edits : IsEditAt c.layout before done.entry.row after.scx.0 (e.edit m.edit)
-  edits = win_makes c.layout h before done.entry.row after.scx.0 (e.edit m.edit) x.run y.within y.wins made
+  edits : IsEditAt c.layout before done.entry.row after.scx.0 (e.edit m.edit f)
+  edits = win_makes c.layout h before done.entry.row after.scx.0 (e.edit m.edit f) x.run y.within y.wins made
 
-  leaf : edit_leaf before after.scx.0 (e.edit m.edit) ≡ f.trail.node.0
-  leaf = ap (λ (s : ScxNo). edit_leaf before s.0 (e.edit m.edit)) same_scx ∙ x.leaf before run y.since
+  leaf : edit_leaf before after.scx.0 (e.edit m.edit f) ≡ f.trail.node.0
+  leaf = ap (λ (s : ScxNo). edit_leaf before s.0 (e.edit m.edit f)) same_scx ∙ x.leaf before run y.since
       (subst (λ (u : Update). CoversSnaps before scx.scx.0 u.snaps) same_update (subst (λ (s : ScxNo). CoversSnaps before s.0 after.update.snaps) same_scx (covers (from c begin) h after done.entry.row before x.run.1.lawful y)))
 
   named : IsNamed c.layout begin f.trail.node.0
-  named = walk_named c.layout begin x.found.trail.node.first k f.trail.node.0 (run_since c.layout h begin x.run (ends_trans h before begin within y.since)) x.found.trail.node.passed
+  named = walk_named c.layout begin x.found.trail.node.first (path_key (e.goal m.edit)) f.trail.node.0 (run_since c.layout h begin x.run (ends_trans h before begin within y.since)) x.found.trail.node.passed
 
   settled : SameSettled (value begin) (value before) f.trail.node.0
   settled part i = node_since c.layout before begin f.trail.node.0 part run.1.lawful y.since i named
 
   -- its edit is made by one entry, and just before that the leaf that was found told what the map did
-  pub has_made : HasMade (e.edit m.edit) c h m.call f.value
+  pub has_made : HasMade (e.edit m.edit f) c h m.call f.value
   has_made = record {
     scx = after.scx.0;
     own = subst (λ (s : ScxNo). IsOwnScx c.layout c.pass s.0) (sym same_scx) x.own_scx;
@@ -112,7 +114,7 @@ module _ {E : Type 0} (e : EditMeaning E) (m : UpdateRun E) (scx after : ScxRun)
     since = ends_trans before begin c.start y.since (ends_trans begin b c.start x.since try.since);
     wins = y.wins;
     edits = edits;
-    told = λ map spells. edits.replies map spells ∙ ap (said (value before) k) leaf ∙ same_said (value begin) (value before) k f.trail.node.0 settled ∙ sym x.found.says;
+    told = λ map spells. edits.replies map spells ∙ ap (said (value before) k) leaf ∙ same_said (value begin) (value before) k f.trail.node.0 settled ∙ ap (λ q. said (value begin) q f.trail.node.0) (at_found m.edit f) ∙ sym x.found.says;
     entry = update_entry c.pass after;
     logged = y.logged;
     of_scx = refl;

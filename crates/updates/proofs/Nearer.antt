@@ -1,4 +1,4 @@
--- That each turn of an update leaves fewer steps.
+-- That each turn of an update leaves fewer steps, and takes no more of the share than it may.
 use Rattle.std.proofs.Common.{◌≡◌, ◌≢◌, ℕ, zero, suc, ◌+◌, ◌*◌, ◌-◌, ◌<◌, ◌≤◌, ◌⊎◌, refl, arith, inl, inr, ap, subst, Some, None}
 use Rattle.std.specs.Prelude.{unwrap_or, Result, Ok, Err, OnOk, OnErr}
 use Rattle.std.proofs.Math.Nat.{suc-mul}
@@ -15,14 +15,21 @@ use Rattle.updates.specs.declared.edit.Nth.TheVariants.{First, Second, Third}
 use Rattle.updates.specs.declared.edit.Piece.{Piece}
 use Rattle.updates.specs.declared.edit.Piece.TheVariants.{Leaf, Fork}
 use Rattle.updates.specs.Edits.{EditMeaning}
-use Rattle.updates.specs.Pieces.{nth_behind, part_behind, fills_behind}
-use Rattle.updates.specs.Steps.{works_after}
+use Rattle.updates.specs.Pieces.{nth_behind, part_behind, fills_behind, HasPlace}
+use Rattle.arena.specs.Share.{Remaining}
+use Rattle.updates.specs.Steps.{works_after, IsSpending}
+use Rattle.updates.specs.declared.update.UpdateRun.{UpdateRun}
 use Rattle.updates.specs.declared.update.Updated.{Updated}
 
 -- what is below a number is below a greater one
 pub below : (turn : Turn Updated) (x a b : ℕ) → MatchTurn turn (λ _. x < a) (λ _. Unit {0}) → a ≤ b → MatchTurn turn (λ _. x < b) (λ _. Unit {0})
 below (Ask s) x a b i j = omega (arith, i, j)
 below (Done u) x a b i j = tt
+
+-- what is taken before a turn counts for one try more
+pub spends_before : {E : Type 0} (e : EditMeaning E) (turn : Turn Updated) (old mid : Remaining) (m : UpdateRun E) (nodes scx : ℕ) → old.nodes ≤ mid.nodes + e.most_nodes → mid.scx ≡ old.scx → IsSpending e turn mid m nodes scx → IsSpending e turn old m (nodes + 1) scx
+spends_before e (Ask s) old mid m nodes scx i same x = (omega (arith, i, x.0), omega (arith, same, x.1))
+spends_before e (Done u) old mid m nodes scx i same x = (omega (arith, i, x.0), omega (arith, same, x.1))
 
 no_more : (n : ℕ) → n ≤ n
 no_more n = omega arith
@@ -100,6 +107,14 @@ after_next e One nth after d = absurd (let z : None ≡ Some after = d in cc)
 after_next e Three First after d = subst (λ i. e.most_works Second + e.most_works Third ≡ e.most_works i + works_after e i) (the_same Second after d) refl
 after_next e Three Second after d = subst (λ i. e.most_works Third ≡ e.most_works i + works_after e i) (the_same Third after d) (none_more (e.most_works Third))
 after_next e Three Third after d = absurd (let z : None ≡ Some after = d in cc)
+
+-- and one has its place there
+pub place_behind : (need : Need) (nth after : Nth) → nth_behind need nth ≡ Some after → HasPlace need after
+place_behind Nothing nth after d = absurd (let z : None ≡ Some after = d in cc)
+place_behind One nth after d = absurd (let z : None ≡ Some after = d in cc)
+place_behind Three First after d = subst (λ i. HasPlace Three i) (the_same Second after d) refl
+place_behind Three Second after d = subst (λ i. HasPlace Three i) (the_same Third after d) refl
+place_behind Three Third after d = absurd (let z : None ≡ Some after = d in cc)
 
 -- fewer words are filled behind the next
 pub fewer_fills : (p : Piece) (part next : NodeWord) → part_behind p part ≡ Some next → fills_behind p next < fills_behind p part

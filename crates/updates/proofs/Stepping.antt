@@ -25,7 +25,7 @@ module _ {E : Type 0} (e : EditMeaning E) (m : UpdateRun E) (c : Call) (h : Hist
   at_start None is r = (r.0, r.1, r.2)
   at_start (Some v) is r = absurd (subst (λ p. UpdateIsToldAt e m (from c r.0) h v p) is r.3)
 
-  pub at_walk : (got : Option ℕ) (walk : WalkRun) → m.at ≡ Walk walk → UpdateIsReady e m c h got → (b : History) × IsTry c b × IsUntouched c b m.share × Walks e m (from c b) h walk.key × WalkIsReady walk (from c b) h got
+  pub at_walk : (got : Option ℕ) (walk : WalkRun) → m.at ≡ Walk walk → UpdateIsReady e m c h got → (b : History) × IsTry c b × IsUntouched c b m.share × Walks e m (from c b) h walk.goal × WalkIsReady walk (from c b) h got
   at_walk None walk is r = absurd (let d : Walk walk ≡ Start = sym is ∙ r.3 in cc)
   at_walk (Some v) walk is r = let t = subst (λ p. UpdateIsToldAt e m (from c r.0) h v p) is r.3 in (r.0, r.1, subst (λ p. FirstOrLost e m c r.0 p) is r.2, t.0, t.1)
 

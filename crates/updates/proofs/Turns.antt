@@ -30,11 +30,10 @@ use Rattle.prims.specs.declared.scx.Scx.TheVariants.{Done as ScxDone, Lost}
 use Rattle.prims.specs.declared.scx.ScxRun.{ScxRun}
 use Rattle.prims.specs.declared.update.Update.{Update}
 use Rattle.prims.proofs.Lemmas.{over_ends}
-use Rattle.spelling.specs.OrderedMap.{edit_key}
 use Rattle.spelling.specs.Runs.{Makes}
 use Rattle.spelling.specs.TreeShape.{TreeAllows}
 use Rattle.template.proofs.Lemmas.{own_since, walk_ready_run}
-use Rattle.template.specs.FoundLeaf.{HasFoundLeaf}
+use Rattle.template.specs.FoundLeaf.{path_key, HasFound}
 use Rattle.template.specs.Tracked.{Tracks}
 use Rattle.template.specs.Walk.Known.{WalkIsReady, WalkWaits, WalkAnswers}
 use Rattle.template.specs.declared.walk.Found.{Found}
@@ -43,11 +42,13 @@ use Rattle.template.specs.declared.walk.WalkRun.{WalkRun}
 use Rattle.updates.specs.declared.edit.Look.TheVariants.{At}
 use Rattle.updates.specs.declared.edit.Nth.{Nth}
 use Rattle.updates.specs.declared.edit.Piece.{Piece}
+use Rattle.updates.specs.declared.update.Updated.{Updated}
 use Rattle.updates.specs.declared.update.Updated.TheVariants.{Done as UpdateDone}
 use Rattle.updates.specs.declared.update.UpdateAt.TheVariants.{Walk, Look, Fill, Scx}
 use Rattle.updates.specs.declared.update.UpdateRun.{UpdateRun}
 use Rattle.updates.specs.Blame.{IsContended, contended_later, contended_wider}
 use Rattle.updates.specs.Edits.{EditMeaning}
+use Rattle.updates.specs.Sound.{IsAtFound}
 use Rattle.updates.specs.Known.{RestsWith, AreUsable, CoversLeaf, Begins, Walks, CanLook, CanFill, Scxs, IsUntouched, TryWaits, UpdateWaits, UpdateAnswers}
 use Rattle.updates.specs.Laws.Entered.{none_joined, none_lost, none_quiet}
 use Rattle.updates.specs.Laws.HandScx.{from}
@@ -84,7 +85,7 @@ module _ {E : Type 0} (e : EditMeaning E) where
   begins_again m now c h ed share b = record { run = b.run; small = rw ed b.small; since = b.since; rests = rw share b.rests }
 
   -- its walk begins, and a try with it
-  pub begins_walk : (m : UpdateRun E) (walk after : WalkRun) (c : Call) (h : History) (turn : Turn Found) (step : Step) → Begins e m c h → IsTry c h → IsUntouched c h m.share → walk.key ≡ edit_key (e.edit m.edit) → walk.at ≡ WalkStart → walk.trail.node.0 ≡ 0 → after.key ≡ walk.key → turn ≡ Ask step → (WalkIsReady walk (from c h) h None → MatchTurn turn (WalkWaits after (from c h) h) (WalkAnswers after (from c h) h)) → UpdateWaits e (record m { at = Walk after }) c h step
+  pub begins_walk : (m : UpdateRun E) (walk after : WalkRun) (c : Call) (h : History) (turn : Turn Found) (step : Step) → Begins e m c h → IsTry c h → IsUntouched c h m.share → walk.goal ≡ e.goal m.edit → walk.at ≡ WalkStart → walk.trail.node.0 ≡ 0 → after.goal ≡ walk.goal → turn ≡ Ask step → (WalkIsReady walk (from c h) h None → MatchTurn turn (WalkWaits after (from c h) h) (WalkAnswers after (from c h) h)) → UpdateWaits e (record m { at = Walk after }) c h step
   begins_walk m walk after c h turn step b try first is at root same asked w = (
     h,
     try,
@@ -96,7 +97,7 @@ module _ {E : Type 0} (e : EditMeaning E) where
   )
 
   -- its walk asks for a step
-  pub walks_on : (m : UpdateRun E) (walk after : WalkRun) (c : Call) (h : History) (turn : Turn Found) (step : Step) → Walks e m c h walk.key → after.key ≡ walk.key → turn ≡ Ask step → MatchTurn turn (WalkWaits after c h) (WalkAnswers after c h) → TryWaits e (record m { at = Walk after }) c h step
+  pub walks_on : (m : UpdateRun E) (walk after : WalkRun) (c : Call) (h : History) (turn : Turn Found) (step : Step) → Walks e m c h walk.goal → after.goal ≡ walk.goal → turn ≡ Ask step → MatchTurn turn (WalkWaits after c h) (WalkAnswers after c h) → TryWaits e (record m { at = Walk after }) c h step
   walks_on m walk after c h turn step x same asked w = (record { small = x.small; rests = x.rests; quiet = x.quiet; same = same ∙ x.same }, rw asked at w)
 
   walk_since : (walk : WalkRun) (c : Call) (h : History) (got : Option ℕ) → WalkIsReady walk c h got → Extends h c.start
@@ -104,12 +105,12 @@ module _ {E : Type 0} (e : EditMeaning E) where
   walk_since walk c h (Some v) x = own_since c h x.own
 
   -- its walk is told something, at a moment of the call
-  pub walk_rests : (m : UpdateRun E) (walk : WalkRun) (c : Call) (h : History) (got : Option ℕ) → Walks e m c h walk.key → WalkIsReady walk c h got → Begins e m c h
+  pub walk_rests : (m : UpdateRun E) (walk : WalkRun) (c : Call) (h : History) (got : Option ℕ) → Walks e m c h walk.goal → WalkIsReady walk c h got → Begins e m c h
   walk_rests m walk c h got x ready = record { run = (walk_ready_run walk c h got ready).0; small = x.small; since = walk_since walk c h got ready; rests = x.rests }
 
   -- its walk has found a leaf
-  pub walk_found : (m : UpdateRun E) (walk after : WalkRun) (c : Call) (h : History) (turn : Turn Found) (f : Found) → Walks e m c h walk.key → after.key ≡ walk.key → turn ≡ Done f → MatchTurn turn (WalkWaits after c h) (WalkAnswers after c h) → HasFoundLeaf c h (edit_key (e.edit m.edit)) f
-  walk_found m walk after c h turn f x same done w = subst (λ k. HasFoundLeaf c h k f) (same ∙ x.same) (rw done at w)
+  pub walk_found : (m : UpdateRun E) (walk after : WalkRun) (c : Call) (h : History) (turn : Turn Found) (f : Found) → Walks e m c h walk.goal → after.goal ≡ walk.goal → turn ≡ Done f → MatchTurn turn (WalkWaits after c h) (WalkAnswers after c h) → HasFound (e.goal m.edit) c h f
+  walk_found m walk after c h turn f x same done w = subst (λ goal. HasFound goal c h f) (same ∙ x.same) (rw done at w)
 
   -- its LLX may begin
   pub look_ready : (m : UpdateRun E) (llx : LlxRun) (f : Found) (n : NodeNo) (c : Call) (h : History) → CanLook e m c h f → IsOpened c.layout h n.0 → llx.node ≡ n → llx.at ≡ LlxStart → LlxIsReady TreeAllows llx (from c h) h None
@@ -159,7 +160,6 @@ module _ {E : Type 0} (e : EditMeaning E) where
       full = x.fills.full;
       hand = record { lowest = x.fills.hand.lowest; highest = x.fills.hand.highest };
       done = x.fills.done;
-      fill = x.fills.fill;
       part_is = x.fills.part_is;
     },
     x.may,
@@ -180,7 +180,7 @@ module _ {E : Type 0} (e : EditMeaning E) where
       need = x.need;
       call = is_call ∙ x.call;
       only = subst (λ (s : ScxNo). HasEnteredOnly c.layout c.pass s.0 h c.start) (sym is_scx) x.only;
-      usable = subst (λ (u : Update). AreUsable c begin (edit_key (e.edit m.edit)) f u.snaps) (sym is_update) x.usable;
+      usable = subst (λ (u : Update). AreUsable c begin (e.goal m.edit) f u.snaps) (sym is_update) x.usable;
       quiet = x.quiet;
       leaf = subst (λ (s : ScxNo). CoversLeaf e m.edit f c begin s.0 after.update.snaps) (sym is_scx) (subst (λ (u : Update). CoversLeaf e m.edit f c begin scx.scx.0 u.snaps) (sym is_update) x.leaf);
       share = subst (λ (s : ScxNo). IsShare c.layout h c.pass m.share m.share.next_node s.0) (sym is_scx) x.share;
@@ -189,7 +189,7 @@ module _ {E : Type 0} (e : EditMeaning E) where
       own_scx = subst (λ (s : ScxNo). IsOwnScx c.layout c.pass s.0) (sym is_scx) x.own_scx;
       own = subst (λ (u : Update). IsOwnNode c.layout c.pass u.fresh.0) (sym is_update) x.own;
       over = subst (λ (s : ScxNo). AreFinished c.layout c.pass s.0 h) (sym is_scx) x.over;
-      tracks = subst (λ (j : Job). Tracks c.layout c.pass h j (e.edit m.edit)) (λ i. record { scx = sym is_scx i; call = sym is_call i; update = sym is_update i }) x.tracks;
+      tracks = subst (λ (j : Job). Tracks c.layout c.pass h j (e.edit m.edit f)) (λ i. record { scx = sym is_scx i; call = sym is_call i; update = sym is_update i }) x.tracks;
     },
     rw asked at w,
   )
@@ -199,18 +199,16 @@ module _ {E : Type 0} (e : EditMeaning E) where
   scx_rests m scx f c b begin h x finished = rests_again c h m.share scx x.run.1.lawful x.share x.next_scx x.over (λ z. (let a = x.own_scx.from in omega (arith, z))) finished
 
   -- its SCX is done
-  pub scx_done : (m : UpdateRun E) (scx after : ScxRun) (f : Found) (c : Call) (b begin h : History) (turn : Turn ScxAnswer) → IsTry c b → Scxs e m (from c b) h f scx begin → after.scx ≡ scx.scx → after.update ≡ scx.update → after.call ≡ scx.call → turn ≡ Done ScxDone → MatchTurn turn (ScxWaits TreeAllows after (from c begin) h) (ScxAnswers after (from c begin) h) → UpdateAnswers e m c h (UpdateDone f.value)
-  scx_done m scx after f c b begin h turn try x is_scx is_update is_call done w = (
+  pub scx_done : IsAtFound e → (m : UpdateRun E) (scx after : ScxRun) (f : Found) (c : Call) (b begin h : History) (turn : Turn ScxAnswer) → IsTry c b → Scxs e m (from c b) h f scx begin → after.scx ≡ scx.scx → after.update ≡ scx.update → after.call ≡ scx.call → turn ≡ Done ScxDone → MatchTurn turn (ScxWaits TreeAllows after (from c begin) h) (ScxAnswers after (from c begin) h) → UpdateAnswers e m c h (UpdateDone f)
+  scx_done laws m scx after f c b begin h turn try x is_scx is_update is_call done w = (
     scx_rests m scx f c b begin h x finished,
     inr (
-      has_made e m scx after f c b begin h try x is_scx is_update is_call is_done,
+      has_made e laws m scx after f c b begin h try x is_scx is_update is_call is_done,
       record {
-        found = f;
         moment = begin;
         within = ends_trans h (is_done.entry.row ⊳ is_done.entry.before) begin is_done.entry.is.within (inr is_done.entry.is.since);
-        has_found = found_wider c b try.since begin (edit_key (e.edit m.edit)) f x.found;
+        has_found = found_wider c b try.since begin (path_key (e.goal m.edit)) f x.found;
         needed = x.need;
-        told = refl;
       },
     ),
   )
@@ -226,8 +224,8 @@ module _ {E : Type 0} (e : EditMeaning E) where
   scx_lost m scx after f c b begin h turn n s try x is_scx is_update done w = (
     record { run = x.run; small = x.small; since = since; rests = scx_rests m scx f c b begin h x finished },
     record { since = since; none = none_joined c.layout c.pass h b c.start x.now try.none (none_lost c.layout c.pass scx.scx.0 h b x.run.1.lawful aborted x.only) },
-    contended_wider c b h n.0 s.0 try.since (lost_contended (from c b) begin h (edit_key (e.edit m.edit)) f after n.0 s.0 (lawful_since c.layout h begin x.run.1.lawful (ends_trans h (lost.changed.found.row ⊳ lost.changed.found.before) begin lost.changed.found.last.within (inr lost.changed.found.since))) x.quiet
-        (subst (λ (u : Update). AreUsable (from c b) begin (edit_key (e.edit m.edit)) f u.snaps) (sym is_update) x.usable) lost),
+    contended_wider c b h n.0 s.0 try.since (lost_contended (from c b) begin h (e.goal m.edit) f after n.0 s.0 (lawful_since c.layout h begin x.run.1.lawful (ends_trans h (lost.changed.found.row ⊳ lost.changed.found.before) begin lost.changed.found.last.within (inr lost.changed.found.since))) x.quiet
+        (subst (λ (u : Update). AreUsable (from c b) begin (e.goal m.edit) f u.snaps) (sym is_update) x.usable) lost),
   )
     where
       since : Extends h c.start
@@ -257,6 +255,11 @@ module _ {E : Type 0} (e : EditMeaning E) where
   -- at rest in a try it is so in the call
   pub at_rest : (m : UpdateRun E) (c : Call) (b h : History) → Begins e m (from c b) h → RestsWith c h m.share
   at_rest m c b h x = record { share = x.rests.share; over = x.rests.over }
+
+-- a turn that always asks for a step answers nothing
+pub asks_on : (P : Type 0) (turn : Turn Updated) → MatchTurn turn (λ _. Unit {0}) (λ _. ⊥) → MatchTurn turn (λ _. Unit {0}) (λ _. P)
+asks_on P (Ask step) x = tt
+asks_on P (Done answer) x = absurd x
 
 -- what was so as the walk began is so as it ends
 pub untouched_later : (c : Call) (b h : History) (left : Remaining) → Extends h b → IsUntouched c b left → IsUntouched c h left

@@ -4,7 +4,7 @@ use Rattle.arena.specs.declared.word.Side.{Side}
 use Rattle.arena.specs.History.{History, Extends}
 use Rattle.arena.specs.Machines.{Call}
 use Rattle.arena.proofs.Lemmas.{ends_trans}
-use Rattle.template.specs.FoundLeaf.{HasFoundLeaf}
+use Rattle.template.specs.FoundLeaf.{HasEnded}
 use Rattle.template.specs.Trails.{IsOwnMoment, WasPassed, HasShown, HasTurned}
 use Rattle.template.specs.declared.walk.Found.{Found}
 use Rattle.updates.specs.Laws.HandScx.{from}
@@ -30,7 +30,7 @@ module _ (c : Call) (b : History) (since : Extends b c.start) where
     };
   }
 
-  pub found_wider : (h : History) (k : ℕ) (f : Found) → HasFoundLeaf (from c b) h k f → HasFoundLeaf c h k f
+  pub found_wider : {asked : ℕ} (h : History) (k : ℕ) (f : Found) → HasEnded (from c b) h k asked f → HasEnded c h k asked f
   found_wider h k f x = record {
     trail = record {
       node = passed_wider h k f.trail.node.0 x.trail.node;

@@ -7,6 +7,7 @@ use Rattle.arena.specs.declared.word.Side.{Side}
 use Rattle.prims.specs.declared.snap.Snap.{Snap}
 use Rattle.spelling.specs.OrderedMap.{MapEdit}
 use Rattle.template.specs.declared.walk.Found.{Found}
+use Rattle.template.specs.declared.walk.Goal.{Goal}
 use Rattle.updates.specs.declared.edit.Loaded.{Loaded}
 use Rattle.updates.specs.declared.edit.Look.{Look}
 use Rattle.updates.specs.declared.edit.Look.TheVariants.{At}
@@ -14,14 +15,18 @@ use Rattle.updates.specs.declared.edit.Need.{Need}
 use Rattle.updates.specs.declared.edit.Nodes.{Nodes}
 use Rattle.updates.specs.declared.edit.Nth.{Nth}
 use Rattle.updates.specs.declared.edit.Piece.{Piece}
-use Rattle.updates.specs.Pieces.{with_word, fills_behind}
+use Rattle.updates.specs.Pieces.{many_nodes, with_word, fills_behind, HasPlace}
 
 -- what an edit answers at each of its places
 pub record EditMeaning (E : Type 0) : Type 0 where
-  -- the edit of the map that it makes
-  pub edit : E → MapEdit
+  -- to which leaf it walks
+  pub goal : E → Goal
+  -- the edit of the map that it makes at the leaf that was found
+  pub edit : E → Found → MapEdit
   -- how many fresh nodes it needs for the leaf that was found
   pub needs : E → Found → Need
+  -- at most so many, whatever leaf is found
+  pub most_nodes : ℕ
   -- on which side of the node that it looks at first is the field that it changes
   pub side : E → Found → Side
   -- what it looks at next, with these snapshots
@@ -43,8 +48,10 @@ pub record EditMeaning (E : Type 0) : Type 0 where
 pub record EditBounds {E : Type 0} (m : EditMeaning E) : Type 0 where
   pub few_looks : (e : E) (f : Found) (snaps : List Snap) (n : NodeNo) → m.looks e f snaps ≡ At n → length snaps < m.most_looks
   pub small : m.most_looks ≤ 4
+  pub few_nodes : (e : E) (f : Found) → many_nodes (m.needs e f) ≤ m.most_nodes
+  pub some_nodes : 0 < m.most_nodes
   pub few_works : (e : E) (f : Found) (snaps : List Snap) (ld : Loaded) (nth : Nth) → m.works e f snaps ld nth ≤ m.most_works nth
   -- a load is one of them, whatever it tells
   pub load_works : (e : E) (f : Found) (snaps : List Snap) (ld : Loaded) (nth : Nth) (part : NodeWord) → m.wants e f snaps ld nth ≡ Some part → (v : ℕ) → m.works e f snaps (with_word ld part v) nth < m.works e f snaps ld nth
-  -- and so is each fill
-  pub fill_works : (e : E) (f : Found) (snaps : List Snap) (ld : Loaded) (nth : Nth) → m.wants e f snaps ld nth ≡ None → (ns : Nodes) → fills_behind (m.pieces e f snaps ns ld nth) Head < m.works e f snaps ld nth
+  -- and so is each fill of a node that is needed
+  pub fill_works : (e : E) (f : Found) (snaps : List Snap) (ld : Loaded) (nth : Nth) → HasPlace (m.needs e f) nth → m.wants e f snaps ld nth ≡ None → (ns : Nodes) → fills_behind (m.pieces e f snaps ns ld nth) Head < m.works e f snaps ld nth

@@ -18,7 +18,6 @@ use Rattle.arena.specs.Log.{Entry, log}
 use Rattle.arena.specs.Machines.{Call, MatchTurn}
 use Rattle.arena.specs.Share.{Remaining}
 use Rattle.arena.specs.Words.{node}
-use Rattle.histories.proofs.Lemmas.{IsNodeFill}
 use Rattle.prims.specs.Laws.Idle.{IsQuietSince}
 use Rattle.prims.specs.Llx.Known.{load, IsSnapshot, LlxIsReady, LlxWaits}
 use Rattle.prims.specs.Moments.{AreFinished}
@@ -34,11 +33,12 @@ use Rattle.spelling.specs.Runs.{IsTreeRun, IsEditAt}
 use Rattle.spelling.specs.Spelled.{Spells}
 use Rattle.spelling.specs.TreeShape.{TreeAllows, edit_leaf}
 use Rattle.spelling.specs.declared.pair.Pair.{Pair}
-use Rattle.template.specs.FoundLeaf.{HasFoundLeaf}
+use Rattle.template.specs.FoundLeaf.{path_key, HasFound}
 use Rattle.template.specs.Promises.{IsFresh}
 use Rattle.template.specs.Tracked.{Tracks}
 use Rattle.template.specs.Walk.Known.{WalkIsReady, WalkWaits}
 use Rattle.template.specs.declared.walk.Found.{Found}
+use Rattle.template.specs.declared.walk.Goal.{Goal}
 use Rattle.updates.specs.declared.edit.Loaded.{Loaded}
 use Rattle.updates.specs.declared.edit.Look.TheVariants.{At, Enough}
 use Rattle.updates.specs.declared.edit.Need.{Need}
@@ -84,17 +84,18 @@ IsShort need left ScxRecords k = (many_nodes need ≤ left.nodes) × (left.scx �
 
 -- What it has found
 
--- the snapshot was right at a moment of the call, by which that had found this leaf on its way to k
-pub record HasSnapped (c : Call) (h : History) (k : ℕ) (f : Found) (snap : Snap) : Type 0 where
+-- the snapshot was right at a moment of the call, by which that had found this leaf, to which its
+-- walk was to go
+pub record HasSnapped (c : Call) (h : History) (goal : Goal) (f : Found) (snap : Snap) : Type 0 where
   pub moment : History
   pub within : Extends h moment
   pub since : Extends moment c.start
-  pub found : HasFoundLeaf c moment k f
+  pub found : HasFound goal c moment f
   pub is : IsSnapshot c.layout moment snap.node.0 snap
 
 -- each of these snapshots was, and so it may be used
-abbrev pub AreUsable : Call → History → ℕ → Found → List Snap → Type 0
-AreUsable c h k f snaps = (i : ℕ) → i < length snaps → HasSnapped c h k f (snap_at snaps i)
+abbrev pub AreUsable : Call → History → Goal → Found → List Snap → Type 0
+AreUsable c h goal f snaps = (i : ℕ) → i < length snaps → HasSnapped c h goal f (snap_at snaps i)
 
 -- the word that was loaded, if it was, is what the node holds
 abbrev pub IsLoaded : Option ℕ → ℕ → Type 0
@@ -170,9 +171,9 @@ module _ {E : Type 0} (e : EditMeaning E) where
 
   -- what is known of the leaf and of the snapshots
   pub record HasLooked (c : Call) (h : History) (ed : E) (f : Found) (snaps : List Snap) : Type 0 where
-    pub small : edit_key (e.edit ed) < 2 ^ 64
-    pub found : HasFoundLeaf c h (edit_key (e.edit ed)) f
-    pub usable : AreUsable c h (edit_key (e.edit ed)) f snaps
+    pub small : path_key (e.goal ed) < 2 ^ 64
+    pub found : HasFound (e.goal ed) c h f
+    pub usable : AreUsable c h (e.goal ed) f snaps
     pub seen : AreSeen ed f snaps
 
   -- all is looked at, all that the edit wants is loaded, and its fresh nodes hold what they are to
@@ -195,7 +196,7 @@ module _ {E : Type 0} (e : EditMeaning E) where
   -- whatever the SCX-record s makes of these snapshots later, the leaf of the edit is the one that
   -- was found
   abbrev pub CoversLeaf : E → Found → Call → History → ℕ → List Snap → Type 0
-  CoversLeaf ed f c begin s snaps = (k : History) → IsTreeRun c.layout k → Extends k begin → CoversSnaps k s snaps → edit_leaf k s (e.edit ed) ≡ f.trail.node.0
+  CoversLeaf ed f c begin s snaps = (k : History) → IsTreeRun c.layout k → Extends k begin → CoversSnaps k s snaps → edit_leaf k s (e.edit ed f) ≡ f.trail.node.0
 
   -- what each fresh node is to hold
   abbrev pub piece : UpdateRun E → Found → ℕ → Piece
@@ -262,7 +263,6 @@ module _ {E : Type 0} (e : EditMeaning E) where
     pub full : AreFull m c h f nth
     pub hand : IsInHand m f nth
     pub done : e.wants m.edit f m.snaps.items m.loaded nth ≡ None
-    pub fill : IsNodeFill part
     pub part_is : IsPieceWord (piece m f (nth_node m.nodes nth).0) part
 
   -- that word is filled, as those before it
@@ -272,7 +272,7 @@ module _ {E : Type 0} (e : EditMeaning E) where
   -- a step of its SCX, which has the fresh nodes and an SCX-record in hand
   pub record Scxs (m : UpdateRun E) (c : Call) (h : History) (f : Found) (scx : ScxRun) (begin : History) : Type 0 where
     pub run : IsTreeRun c.layout h
-    pub small : edit_key (e.edit m.edit) < 2 ^ 64
+    pub small : path_key (e.goal m.edit) < 2 ^ 64
     pub now : Extends h c.start
     pub since : Extends begin c.start
     pub share : IsShare c.layout h c.pass m.share m.share.next_node scx.scx.0
@@ -283,22 +283,22 @@ module _ {E : Type 0} (e : EditMeaning E) where
     pub own_scx : IsOwnScx c.layout c.pass scx.scx.0
     pub over : AreFinished c.layout c.pass scx.scx.0 h
     -- it makes the edit, if it makes any, and no other of the pass has won since the try began
-    pub tracks : Tracks c.layout c.pass h (job_of scx) (e.edit m.edit)
+    pub tracks : Tracks c.layout c.pass h (job_of scx) (e.edit m.edit f)
     pub only : HasEnteredOnly c.layout c.pass scx.scx.0 h c.start
     -- as it began the leaf was found, at which there is something to make, the snapshots could be
     -- used, and it covers that leaf
-    pub found : HasFoundLeaf c begin (edit_key (e.edit m.edit)) f
+    pub found : HasFound (e.goal m.edit) c begin f
     pub need : e.needs m.edit f ≢ Nothing
-    pub usable : AreUsable c begin (edit_key (e.edit m.edit)) f scx.update.snaps
+    pub usable : AreUsable c begin (e.goal m.edit) f scx.update.snaps
     pub quiet : IsQuietSince c.layout c.pass c.start begin
     pub leaf : CoversLeaf m.edit f c begin scx.scx.0 scx.update.snaps
 
-  -- the walk is to the edit's key, and the pass is at rest
-  pub record Walks (m : UpdateRun E) (c : Call) (h : History) (key : ℕ) : Type 0 where
-    pub small : edit_key (e.edit m.edit) < 2 ^ 64
+  -- the walk goes where the edit's is to go, and the pass is at rest
+  pub record Walks (m : UpdateRun E) (c : Call) (h : History) (goal : Goal) : Type 0 where
+    pub small : path_key (e.goal m.edit) < 2 ^ 64
     pub rests : RestsWith c h m.share
     pub quiet : IsQuietSince c.layout c.pass c.start h
-    pub same : key ≡ edit_key (e.edit m.edit)
+    pub same : goal ≡ e.goal m.edit
 
   -- the word that is filled
   abbrev pub fill_step : UpdateRun E → Found → Nth → NodeWord → Step
@@ -307,7 +307,7 @@ module _ {E : Type 0} (e : EditMeaning E) where
   -- what holds while it waits for this step at this place
   abbrev pub UpdateWaitsAt : UpdateRun E → Call → History → Step → UpdateAt → Type 0
   UpdateWaitsAt m c h s Start = ⊥
-  UpdateWaitsAt m c h s (Walk walk) = Walks m c h walk.key × WalkWaits walk c h s
+  UpdateWaitsAt m c h s (Walk walk) = Walks m c h walk.goal × WalkWaits walk c h s
   UpdateWaitsAt m c h s (Look f llx) = (begin : History) × Looks m c h f llx begin × LlxWaits TreeAllows llx (from c begin) h s
   UpdateWaitsAt m c h s (Load f nth part) = Loads m c h f nth part × (s ≡ load LoadSettled (node (copied m f) part))
   UpdateWaitsAt m c h s (Fill f nth part) = Fills m c h f nth part × FieldMay part (IsForField c.layout h m.nodes.first.0 (top m f) (word_of (piece m f (nth_node m.nodes nth).0) part)) × HoldsWords h (nth_node m.nodes nth).0 (piece m f (nth_node m.nodes nth).0) (IsBefore part) × (s ≡ fill_step m f nth part)
@@ -316,7 +316,7 @@ module _ {E : Type 0} (e : EditMeaning E) where
   -- what holds once the step of this place has told v
   abbrev pub UpdateIsToldAt : UpdateRun E → Call → History → ℕ → UpdateAt → Type 0
   UpdateIsToldAt m c h v Start = ⊥
-  UpdateIsToldAt m c h v (Walk walk) = Walks m c h walk.key × WalkIsReady walk c h (Some v)
+  UpdateIsToldAt m c h v (Walk walk) = Walks m c h walk.goal × WalkIsReady walk c h (Some v)
   UpdateIsToldAt m c h v (Look f llx) = (begin : History) × Looks m c h f llx begin × LlxIsReady TreeAllows llx (from c begin) h (Some v)
   UpdateIsToldAt m c h v (Load f nth part) = Loads m c h f nth part × (value h (node (copied m f) part) ≡ v)
   UpdateIsToldAt m c h v (Fill f nth part) = IsFilledUpTo m c h f nth part
@@ -325,7 +325,7 @@ module _ {E : Type 0} (e : EditMeaning E) where
   -- it may begin a try
   pub record Begins (m : UpdateRun E) (c : Call) (h : History) : Type 0 where
     pub run : IsTreeRun c.layout h
-    pub small : edit_key (e.edit m.edit) < 2 ^ 64
+    pub small : path_key (e.goal m.edit) < 2 ^ 64
     pub since : Extends h c.start
     pub rests : RestsWith c h m.share
 
@@ -381,38 +381,33 @@ module _ {E : Type 0} (e : EditMeaning E) where
 
   -- What it answers
 
-  -- There was nothing to make at the leaf that was found, of which it tells the value of the key,
-  -- and the pass has entered nothing.
-  pub record HasNothingToMake (ed : E) (c : Call) (h : History) (old : Option ℕ) : Type 0 where
-    pub found : Found
-    pub has_found : HasFoundLeaf c h (edit_key (e.edit ed)) found
+  -- there was nothing to make at the leaf that it tells, which it has found, and the pass has entered
+  -- nothing
+  pub record HasNothingToMake (ed : E) (c : Call) (h : History) (found : Found) : Type 0 where
+    pub has_found : HasFound (e.goal ed) c h found
     pub needless : e.needs ed found ≡ Nothing
-    pub told : old ≡ found.value
     pub none : HasEnteredNone c.layout c.pass h c.start
 
   -- The share has too little left for the edit at the leaf that was found. Nothing of it was taken
   -- since the call began, or a try was lost to another pass; and the pass has entered nothing.
   pub record IsFullFor (m : UpdateRun E) (c : Call) (h : History) (full : Full) : Type 0 where
     pub found : Found
-    pub has_found : HasFoundLeaf c h (edit_key (e.edit m.edit)) found
+    pub has_found : HasFound (e.goal m.edit) c h found
     pub needed : e.needs m.edit found ≢ Nothing
     pub short : IsShort (e.needs m.edit found) m.share full.what full.left
     pub first : IsUntouched c h m.share
     pub none : HasEnteredNone c.layout c.pass h c.start
 
-  -- at a moment of the call it had found a leaf at which there was something to make, and of which
-  -- it tells the value of the key
-  pub record WasNeeded (ed : E) (c : Call) (h : History) (old : Option ℕ) : Type 0 where
-    pub found : Found
+  -- at a moment of the call it had found this leaf, at which there was something to make
+  pub record WasNeeded (ed : E) (c : Call) (h : History) (found : Found) : Type 0 where
     pub moment : History
     pub within : Extends h moment
-    pub has_found : HasFoundLeaf c moment (edit_key (e.edit ed)) found
+    pub has_found : HasFound (e.goal ed) c moment found
     pub needed : e.needs ed found ≢ Nothing
-    pub told : old ≡ found.value
 
   -- what its answer says
   abbrev pub UpdateSays : UpdateRun E → Call → History → Updated → Type 0
-  UpdateSays m c h (Done old) = HasNothingToMake m.edit c h old ⊎ (HasMade (e.edit m.edit) c h m.call old × WasNeeded m.edit c h old)
+  UpdateSays m c h (Done found) = HasNothingToMake m.edit c h found ⊎ (HasMade (e.edit m.edit found) c h m.call found.value × WasNeeded m.edit c h found)
   UpdateSays m c h (FullAnswer full) = IsFullFor m c h full
   UpdateSays m c h (Contended node scx) = IsContended c h node.0 scx.0 × (m.tries ≡ 0) × HasEnteredNone c.layout c.pass h c.start
 

@@ -1,5 +1,5 @@
 -- What fresh nodes are to hold.
-use Rattle.std.specs.Prelude.{ℕ, ◌+◌, ◌*◌, ◌-◌, ◌%◌, ◌^◌, min, ltb, Bool, true, false, List, [], ◌∷◌, Option, Some, None}
+use Rattle.std.specs.Prelude.{◌≡◌, ℕ, ◌+◌, ◌*◌, ◌-◌, ◌%◌, ◌^◌, min, ltb, Bool, true, false, List, [], ◌∷◌, Option, Some, None}
 use Rattle.arena.specs.declared.word.Side.{Side}
 use Rattle.arena.specs.declared.number.NodeNo.{NodeNo}
 use Rattle.arena.specs.declared.word.Side.TheVariants.{Left, Right}
@@ -82,6 +82,11 @@ abbrev pub nth_behind : Need → Nth → Option Nth
 nth_behind Three First = Some Second
 nth_behind Three Second = Some Third
 nth_behind _ _ = None
+
+-- so many fresh nodes have one at this place: the first is filled in any case
+abbrev pub HasPlace : Need → Nth → Type 0
+HasPlace need First = Unit {0}
+HasPlace need nth = need ≡ Three
 
 -- which of so many nodes an update finalizes: all but the first
 abbrev pub all_but_first : ℕ → List Bool

@@ -14,12 +14,14 @@ use Rattle.prims.specs.Laws.Idle.{IsQuietSince}
 use Rattle.prims.specs.Llx.Known.{IsOpened}
 use Rattle.prims.specs.Scx.Known.{Job, Says}
 use Rattle.prims.specs.Snaps.{AreDistinct}
+use Rattle.spelling.specs.OrderedMap.{edit_key}
 use Rattle.spelling.specs.Runs.{IsTreeRun}
 use Rattle.updates.specs.declared.edit.Look.TheVariants.{At, Differs, Enough}
 use Rattle.updates.specs.declared.edit.Need.TheVariants.{Nothing}
 use Rattle.arena.specs.Lawful.{IsSettled}
 use Rattle.arena.specs.Words.{node}
 use Rattle.prims.specs.declared.snap.Snap.{Snap}
+use Rattle.template.specs.FoundLeaf.{asked_key}
 use Rattle.template.specs.Promises.{IsPromised}
 use Rattle.template.specs.declared.walk.Found.{Found}
 use Rattle.updates.specs.declared.edit.Loaded.{Loaded}
@@ -56,13 +58,18 @@ pub record FillsWell {E : Type 0} (m : EditMeaning E) : Type 0 where
 -- what an edit looks at are nodes apart, one at least, and what it makes of them is its edit
 pub record MakesWell {E : Type 0} (m : EditMeaning E) : Type 0 where
   pub some : (e : E) (f : Found) → m.looks e f [] ≢ Enough
-  pub distinct : (e : E) (c : Call) (h : History) (f : Found) (snaps : List Snap) → IsTreeRun c.layout h → HasLooked m c h e f snaps → m.looks e f snaps ≡ Enough → AreDistinct snaps
+  pub distinct : (e : E) (c : Call) (h : History) (f : Found) (snaps : List Snap) → IsTreeRun c.layout h → m.needs e f ≢ Nothing → HasLooked m c h e f snaps → m.looks e f snaps ≡ Enough → AreDistinct snaps
   -- and its leaf is the one that was found
   pub leaf : (e : E) (c : Call) (h : History) (f : Found) (snaps : List Snap) (s : ℕ) → IsTreeRun c.layout h → m.needs e f ≢ Nothing → HasLooked m c h e f snaps → m.looks e f snaps ≡ Enough → CoversLeaf m e f c h s snaps
-  pub promised : (e : E) (c : Call) (h : History) (f : Found) (snaps : List Snap) (ns : Nodes) (ld : Loaded) (j : Job) (d : Descriptor) → IsTreeRun c.layout h → m.needs e f ≢ Nothing → HasFilledAll m c h e f snaps ns ld → IsUpdateFor m e f snaps ns j.update → Says d j → IsPromised c.layout c.pass h j.scx.0 d (m.edit e)
+  pub promised : (e : E) (c : Call) (h : History) (f : Found) (snaps : List Snap) (ns : Nodes) (ld : Loaded) (j : Job) (d : Descriptor) → IsTreeRun c.layout h → m.needs e f ≢ Nothing → HasFilledAll m c h e f snaps ns ld → IsUpdateFor m e f snaps ns j.update → Says d j → IsPromised c.layout c.pass h j.scx.0 d (m.edit e f)
+
+-- its edit is of the key of which the leaf that was found tells the value
+abbrev pub IsAtFound : {E : Type 0} → EditMeaning E → Type 0
+IsAtFound {E} m = (e : E) (f : Found) → edit_key (m.edit e f) ≡ asked_key (m.goal e) f.key
 
 -- what the machine of an edit needs of it
 pub record EditLaws {E : Type 0} (m : EditMeaning E) : Type 0 where
+  pub at_found : IsAtFound m
   pub bounds : EditBounds m
   pub looks : LooksWell m
   pub loads : LoadsWell m

@@ -16,7 +16,7 @@ use Rattle.updates.specs.declared.update.UpdateAt.{UpdateAt}
 use Rattle.updates.specs.declared.update.UpdateAt.TheVariants.{Start, Walk, Look, Load, Fill, Scx}
 use Rattle.updates.specs.declared.update.UpdateRun.{UpdateRun}
 use Rattle.updates.specs.Edits.{EditMeaning}
-use Rattle.updates.specs.Pieces.{fills_behind}
+use Rattle.updates.specs.Pieces.{fills_behind, HasPlace}
 
 -- how many loads and fills are made at most for the fresh nodes behind this one
 abbrev pub works_after : {E : Type 0} → EditMeaning E → Nth → ℕ
@@ -58,9 +58,9 @@ update_left e m nodes = m.tries * try_left e nodes + phase_left e m nodes m.at
 abbrev pub IsNearer : {E : Type 0} → EditMeaning E → UpdateRun E → ℕ → Turn Updated → ℕ → Type 0
 IsNearer e m nodes turn n = MatchTurn turn (λ _. update_left e m nodes < n) (λ _. Unit {0})
 
--- the edit wants this word next for the fresh node of this place
+-- the edit has a fresh node at this place, and wants this word next for it
 abbrev pub IsWanted : {E : Type 0} → EditMeaning E → UpdateRun E → Found → Nth → NodeWord → Type 0
-IsWanted e m f nth part = e.wants m.edit f m.snaps.items m.loaded nth ≡ Some part
+IsWanted e m f nth part = (e.wants m.edit f m.snaps.items m.loaded nth ≡ Some part) × HasPlace (e.needs m.edit f) nth
 
 -- what the run is told at this place fits so many taken nodes
 abbrev pub UpdateFitsAt : {E : Type 0} → EditMeaning E → UpdateRun E → Option ℕ → ℕ → UpdateAt → Type 0
@@ -86,11 +86,11 @@ abbrev pub scx_tries : {E : Type 0} → UpdateRun E → UpdateAt → ℕ
 scx_tries m (Scx f scx) = m.tries
 scx_tries m _ = m.tries + 1
 
--- At most three nodes are taken for each of the tries that might take some and no longer may, and
+-- At most so many nodes are taken for each of the tries that might take some and no longer may, and
 -- at most one SCX-record.
-abbrev pub Spends : Remaining → Remaining → ℕ → ℕ → ℕ → ℕ → Type 0
-Spends old now nodes nodes_then scx scx_then = (old.nodes + 3 * nodes_then ≤ now.nodes + 3 * nodes) × (old.scx + scx_then ≤ now.scx + scx)
+abbrev pub Spends : ℕ → Remaining → Remaining → ℕ → ℕ → ℕ → ℕ → Type 0
+Spends most old now nodes nodes_then scx scx_then = (old.nodes + most * nodes_then ≤ now.nodes + most * nodes) × (old.scx + scx_then ≤ now.scx + scx)
 
 -- so much is taken of the share, where so many tries might take of it
-abbrev pub IsSpending : {E : Type 0} → Turn Updated → Remaining → UpdateRun E → ℕ → ℕ → Type 0
-IsSpending turn old m nodes scx = MatchTurn turn (λ _. Spends old m.share nodes (node_tries m m.at) scx (scx_tries m m.at)) (λ _. Spends old m.share nodes 0 scx 0)
+abbrev pub IsSpending : {E : Type 0} → EditMeaning E → Turn Updated → Remaining → UpdateRun E → ℕ → ℕ → Type 0
+IsSpending e turn old m nodes scx = MatchTurn turn (λ _. Spends e.most_nodes old m.share nodes (node_tries m m.at) scx (scx_tries m m.at)) (λ _. Spends e.most_nodes old m.share nodes 0 scx 0)

@@ -1,12 +1,11 @@
 //! Edits of the tree, as data for the machine that makes them.
 ghost use Rattle.std.specs.Prelude.{◌≡◌};
-ghost use Rattle.spelling.specs.OrderedMap.{edit_key};
 ghost use Rattle.updates.specs.Edits.{EditMeaning};
 ghost use Rattle.updates.specs.Sound.{EditLaws};
 
 use arena::{Head, NodeNo, NodeWord, ScxNo, Side};
 use prims::Snap;
-use template::Found;
+use template::{Found, Goal};
 
 /// How many fresh nodes an edit needs, once the walk has found the leaf.
 #[derive(Clone, Copy, Debug, PartialEq, Eq)]
@@ -205,9 +204,9 @@ pub trait Edit {
     /// What each of its functions answers, and which edit of the map it is.
     ghost means: { EditMeaning Self };
 
-    /// The key to which it walks.
-    fn key(&self) -> u64
-        ensures { result ≡ edit_key (means.edit self.now) };
+    /// To which leaf it walks.
+    fn goal(&self) -> Goal
+        ensures { result ≡ means.goal self.now };
 
     /// How many fresh nodes it needs.
     fn need(&self, found: &Found) -> Need

@@ -15,8 +15,8 @@ use template::{Found, Tree, WalkRun};
 /// What an update answers.
 #[derive(Clone, Copy, Debug, PartialEq, Eq)]
 pub enum Updated {
-    /// It is made, or there was nothing to make. The key had this value.
-    Done { old: Option<u64> },
+    /// It is made, or there was nothing to make, at this leaf, which tells what the key had.
+    Done { found: Found },
     /// All tries were lost, the last to this SCX-record over this node.
     Contended { node: NodeNo, scx: ScxNo },
     /// The share has too little left for the next try.
@@ -120,10 +120,10 @@ impl<E: Edit + Drop> UpdateRun<E> {
         ensures begins { (c : Call) (h : History) → Begins E.means self.old c h → MatchTurn result (λ _. Unit {0}) (λ _. ⊥) }
         ensures same { (self.new.edit ≡ self.old.edit) × (self.new.call ≡ self.old.call) }
         ensures nearer { (nodes : ℕ) → IsNearer E.means self.new nodes result (self.old.tries * try_left E.means nodes + try_left E.means nodes) }
-        ensures spends { IsSpending result self.old.share self.new (self.old.tries + 1) (self.old.tries + 1) }
+        ensures spends { IsSpending E.means result self.old.share self.new (self.old.tries + 1) (self.old.tries + 1) }
         ensures tries { self.new.tries ≡ self.old.tries }
     {
-        let mut walk = WalkRun::new(self.edit.key());
+        let mut walk = WalkRun::new(self.edit.goal());
         match Machine::<Tree>::next(&mut walk, None) {
             Turn::Ask(step) => {
                 self.at = UpdateAt::Walk { walk };
@@ -140,8 +140,9 @@ impl<E: Edit + Drop> UpdateRun<E> {
     fn lost(&mut self, node: NodeNo, scx: ScxNo) -> Turn<Updated>
         ensures turn { (c : Call) (h : History) → IsRun TreeAllows c.layout h → Begins E.means self.old c h → IsTry c h → IsContended c h node.0 scx.0 → UpdateTurn E.means c h self.new result }
         ensures same { (self.new.edit ≡ self.old.edit) × (self.new.call ≡ self.old.call) }
+        ensures gives_up { (c : Call) (h : History) → Begins E.means self.old c h → MatchTurn result (λ _. Unit {0}) (λ _. self.old.tries ≡ 0) }
         ensures nearer { (nodes : ℕ) → IsNearer E.means self.new nodes result (self.old.tries * try_left E.means nodes) }
-        ensures spends { IsSpending result self.old.share self.new self.old.tries self.old.tries }
+        ensures spends { IsSpending E.means result self.old.share self.new self.old.tries self.old.tries }
         ensures tries { (self.old.tries ≤ self.new.tries + 1) × (self.new.tries ≤ self.old.tries) }
     {
         if self.tries == 0 {
@@ -153,10 +154,10 @@ impl<E: Edit + Drop> UpdateRun<E> {
 
     /// Goes on with what the last step of the walk found.
     fn walk_on(&mut self, mut walk: WalkRun, got: Option<u64>) -> Turn<Updated>
-        ensures turn { (c : Call) (b h : History) → IsRun TreeAllows c.layout h → IsTry c b → IsUntouched c b self.old.share → Walks E.means self.old (from c b) h walk.key → WalkIsReady walk (from c b) h got → UpdateTurn E.means c h self.new result }
+        ensures turn { (c : Call) (b h : History) → IsRun TreeAllows c.layout h → IsTry c b → IsUntouched c b self.old.share → Walks E.means self.old (from c b) h walk.goal → WalkIsReady walk (from c b) h got → UpdateTurn E.means c h self.new result }
         ensures same { (self.new.edit ≡ self.old.edit) × (self.new.call ≡ self.old.call) }
         ensures nearer { (nodes : ℕ) → WalkFits walk got nodes → IsNearer E.means self.new nodes result (self.old.tries * try_left E.means nodes + (walk_left walk.at nodes + (64 * E.means.most_looks + works_behind E.means First + 39))) }
-        ensures spends { IsSpending result self.old.share self.new (self.old.tries + 1) (self.old.tries + 1) }
+        ensures spends { IsSpending E.means result self.old.share self.new (self.old.tries + 1) (self.old.tries + 1) }
         ensures tries { (self.old.tries ≤ self.new.tries + 1) × (self.new.tries ≤ self.old.tries) }
     {
         match Machine::<Tree>::next(&mut walk, got) {
@@ -187,15 +188,15 @@ impl<E: Edit + Drop> UpdateRun<E> {
 
     /// Goes on behind the walk, if the share has what the edit needs.
     fn test_share(&mut self, found: Found) -> Turn<Updated>
-        ensures turn { (c : Call) (b h : History) → IsRun TreeAllows c.layout h → IsTry c b → IsUntouched c b self.old.share → Begins E.means self.old (from c b) h → IsQuietSince c.layout c.pass b h → HasFoundLeaf (from c b) h (edit_key (E.means.edit self.old.edit)) found → UpdateTurn E.means c h self.new result }
+        ensures turn { (c : Call) (b h : History) → IsRun TreeAllows c.layout h → IsTry c b → IsUntouched c b self.old.share → Begins E.means self.old (from c b) h → IsQuietSince c.layout c.pass b h → HasFound (E.means.goal self.old.edit) (from c b) h found → UpdateTurn E.means c h self.new result }
         ensures same { (self.new.edit ≡ self.old.edit) × (self.new.call ≡ self.old.call) }
         ensures nearer { (nodes : ℕ) → IsNearer E.means self.new nodes result (self.old.tries * try_left E.means nodes + (64 * E.means.most_looks + works_behind E.means First + 39)) }
-        ensures spends { IsSpending result self.old.share self.new (self.old.tries + 1) (self.old.tries + 1) }
+        ensures spends { IsSpending E.means result self.old.share self.new (self.old.tries + 1) (self.old.tries + 1) }
         ensures tries { (self.old.tries ≤ self.new.tries + 1) × (self.new.tries ≤ self.old.tries) }
     {
         let need = self.edit.need(&found);
         if need == Need::Nothing {
-            return Turn::Done(Updated::Done { old: found.value });
+            return Turn::Done(Updated::Done { found });
         }
         if let Some(full) = self.lacks(need) {
             return Turn::Done(Updated::Full(full));
@@ -209,7 +210,7 @@ impl<E: Edit + Drop> UpdateRun<E> {
         ensures turn { (c : Call) (b h : History) → IsRun TreeAllows c.layout h → IsTry c b → CanLook E.means self.old (from c b) h found → UpdateTurn E.means c h self.new result }
         ensures same { (self.new.edit ≡ self.old.edit) × (self.new.call ≡ self.old.call) }
         ensures nearer { (nodes : ℕ) → IsNearer E.means self.new nodes result (self.old.tries * try_left E.means nodes + (64 * (E.means.most_looks - length self.old.snaps.items) + works_behind E.means First + 39)) }
-        ensures spends { IsSpending result self.old.share self.new (self.old.tries + 1) (self.old.tries + 1) }
+        ensures spends { IsSpending E.means result self.old.share self.new (self.old.tries + 1) (self.old.tries + 1) }
         ensures tries { (self.old.tries ≤ self.new.tries + 1) × (self.new.tries ≤ self.old.tries) }
     {
         match self.edit.look(&found, self.snaps.as_slice()) {
@@ -224,7 +225,7 @@ impl<E: Edit + Drop> UpdateRun<E> {
         ensures turn { (c : Call) (b h : History) → IsRun TreeAllows c.layout h → IsTry c b → CanLook E.means self.old (from c b) h found → E.means.looks self.old.edit found self.old.snaps.items ≡ Look.At node → IsOpened c.layout h node.0 → UpdateTurn E.means c h self.new result }
         ensures same { (self.new.edit ≡ self.old.edit) × (self.new.call ≡ self.old.call) }
         ensures nearer { (nodes : ℕ) → IsNearer E.means self.new nodes result (self.old.tries * try_left E.means nodes + (64 + 64 * (E.means.most_looks - 1 - length self.old.snaps.items) + works_behind E.means First + 39)) }
-        ensures spends { IsSpending result self.old.share self.new (self.old.tries + 1) (self.old.tries + 1) }
+        ensures spends { IsSpending E.means result self.old.share self.new (self.old.tries + 1) (self.old.tries + 1) }
         ensures tries { self.new.tries ≡ self.old.tries }
     {
         let mut llx = LlxRun::new(node);
@@ -245,7 +246,7 @@ impl<E: Edit + Drop> UpdateRun<E> {
         ensures turn { (c : Call) (b begin h : History) → IsRun TreeAllows c.layout h → IsTry c b → Looks E.means self.old (from c b) h found llx begin → LlxIsReady TreeAllows llx (from (from c b) begin) h got → UpdateTurn E.means c h self.new result }
         ensures same { (self.new.edit ≡ self.old.edit) × (self.new.call ≡ self.old.call) }
         ensures nearer { (nodes : ℕ) → IsNearer E.means self.new nodes result (self.old.tries * try_left E.means nodes + (llx_left llx.at + 64 * (E.means.most_looks - 1 - length self.old.snaps.items) + works_behind E.means First + 39)) }
-        ensures spends { IsSpending result self.old.share self.new (self.old.tries + 1) (self.old.tries + 1) }
+        ensures spends { IsSpending E.means result self.old.share self.new (self.old.tries + 1) (self.old.tries + 1) }
         ensures tries { (self.old.tries ≤ self.new.tries + 1) × (self.new.tries ≤ self.old.tries) }
     {
         match Machine::<Tree>::next(&mut llx, got) {
@@ -264,7 +265,7 @@ impl<E: Edit + Drop> UpdateRun<E> {
         ensures turn { (c : Call) (b h : History) → IsRun TreeAllows c.layout h → IsTry c b → CanLook E.means self.old (from c b) h found → E.means.looks self.old.edit found self.old.snaps.items ≡ Look.At snap.node → IsSnapshot c.layout h snap.node.0 snap → UpdateTurn E.means c h self.new result }
         ensures same { (self.new.edit ≡ self.old.edit) × (self.new.call ≡ self.old.call) }
         ensures nearer { (nodes : ℕ) → IsNearer E.means self.new nodes result (self.old.tries * try_left E.means nodes + (64 * (E.means.most_looks - 1 - length self.old.snaps.items) + works_behind E.means First + 39)) }
-        ensures spends { IsSpending result self.old.share self.new (self.old.tries + 1) (self.old.tries + 1) }
+        ensures spends { IsSpending E.means result self.old.share self.new (self.old.tries + 1) (self.old.tries + 1) }
         ensures tries { (self.old.tries ≤ self.new.tries + 1) × (self.new.tries ≤ self.old.tries) }
     {
         let _fits = self.snaps.try_push(snap);
@@ -276,7 +277,7 @@ impl<E: Edit + Drop> UpdateRun<E> {
         ensures turn { (c : Call) (b h : History) → IsRun TreeAllows c.layout h → IsTry c b → CanLook E.means self.old (from c b) h found → E.means.looks self.old.edit found self.old.snaps.items ≡ Look.Enough → UpdateTurn E.means c h self.new result }
         ensures same { (self.new.edit ≡ self.old.edit) × (self.new.call ≡ self.old.call) }
         ensures nearer { (nodes : ℕ) → IsNearer E.means self.new nodes result (self.old.tries * try_left E.means nodes + (works_behind E.means First + 39)) }
-        ensures spends { IsSpending result self.old.share self.new (self.old.tries + 1) (self.old.tries + 1) }
+        ensures spends { IsSpending E.means result self.old.share self.new (self.old.tries + 1) (self.old.tries + 1) }
         ensures tries { self.new.tries ≡ self.old.tries }
     {
         self.loaded = Loaded {
@@ -296,7 +297,7 @@ impl<E: Edit + Drop> UpdateRun<E> {
         ensures turn { (c : Call) (b h : History) → IsRun TreeAllows c.layout h → IsTry c b → CanLook E.means self.old (from c b) h found → E.means.looks self.old.edit found self.old.snaps.items ≡ Look.Enough → E.means.needs self.old.edit found ≡ Need.One → self.old.loaded ≡ nothing_loaded → UpdateTurn E.means c h self.new result }
         ensures same { (self.new.edit ≡ self.old.edit) × (self.new.call ≡ self.old.call) }
         ensures nearer { (nodes : ℕ) → IsNearer E.means self.new nodes result (self.old.tries * try_left E.means nodes + (works_behind E.means First + 39)) }
-        ensures spends { IsSpending result self.old.share self.new (self.old.tries + 1) (self.old.tries + 1) }
+        ensures spends { IsSpending E.means result self.old.share self.new (self.old.tries + 1) (self.old.tries + 1) }
         ensures tries { self.new.tries ≡ self.old.tries }
     {
         let first = self.take();
@@ -313,7 +314,7 @@ impl<E: Edit + Drop> UpdateRun<E> {
         ensures turn { (c : Call) (b h : History) → IsRun TreeAllows c.layout h → IsTry c b → CanLook E.means self.old (from c b) h found → E.means.looks self.old.edit found self.old.snaps.items ≡ Look.Enough → E.means.needs self.old.edit found ≡ Need.Three → self.old.loaded ≡ nothing_loaded → UpdateTurn E.means c h self.new result }
         ensures same { (self.new.edit ≡ self.old.edit) × (self.new.call ≡ self.old.call) }
         ensures nearer { (nodes : ℕ) → IsNearer E.means self.new nodes result (self.old.tries * try_left E.means nodes + (works_behind E.means First + 39)) }
-        ensures spends { IsSpending result self.old.share self.new (self.old.tries + 1) (self.old.tries + 1) }
+        ensures spends { E.means.needs self.old.edit found ≡ Need.Three → IsSpending E.means result self.old.share self.new (self.old.tries + 1) (self.old.tries + 1) }
         ensures tries { self.new.tries ≡ self.old.tries }
     {
         let first = self.take();
@@ -344,8 +345,8 @@ impl<E: Edit + Drop> UpdateRun<E> {
     fn load(&mut self, found: Found, nth: Nth) -> Turn<Updated>
         ensures turn { (c : Call) (b h : History) → IsRun TreeAllows c.layout h → IsTry c b → CanLoad E.means self.old (from c b) h found nth → UpdateTurn E.means c h self.new result }
         ensures same { (self.new.edit ≡ self.old.edit) × (self.new.call ≡ self.old.call) }
-        ensures nearer { (nodes : ℕ) → IsNearer E.means self.new nodes result (self.old.tries * try_left E.means nodes + (works_left E.means self.old found nth + 39)) }
-        ensures spends { IsSpending result self.old.share self.new self.old.tries (self.old.tries + 1) }
+        ensures nearer { (nodes : ℕ) → HasPlace (E.means.needs self.old.edit found) nth → IsNearer E.means self.new nodes result (self.old.tries * try_left E.means nodes + (works_left E.means self.old found nth + 39)) }
+        ensures spends { IsSpending E.means result self.old.share self.new self.old.tries (self.old.tries + 1) }
         ensures tries { self.new.tries ≡ self.old.tries }
     {
         let snaps = self.snaps.as_slice();
@@ -366,7 +367,7 @@ impl<E: Edit + Drop> UpdateRun<E> {
         ensures turn { (c : Call) (b h : History) → IsRun TreeAllows c.layout h → IsTry c b → Loads E.means self.old (from c b) h found nth part → value h (node (copied E.means self.old found) part) ≡ told → UpdateTurn E.means c h self.new result }
         ensures same { (self.new.edit ≡ self.old.edit) × (self.new.call ≡ self.old.call) }
         ensures nearer { (nodes : ℕ) → IsWanted E.means self.old found nth part → IsNearer E.means self.new nodes result (self.old.tries * try_left E.means nodes + (works_left E.means self.old found nth - 1 + 39)) }
-        ensures spends { IsSpending result self.old.share self.new self.old.tries (self.old.tries + 1) }
+        ensures spends { IsSpending E.means result self.old.share self.new self.old.tries (self.old.tries + 1) }
         ensures tries { self.new.tries ≡ self.old.tries }
     {
         self.loaded = self.loaded.with(part, told);
@@ -378,7 +379,7 @@ impl<E: Edit + Drop> UpdateRun<E> {
         ensures turn { (c : Call) (b h : History) → IsRun TreeAllows c.layout h → IsTry c b → CanFill E.means self.old (from c b) h found nth part → UpdateTurn E.means c h self.new result }
         ensures same { (self.new.edit ≡ self.old.edit) × (self.new.call ≡ self.old.call) }
         ensures nearer { (nodes : ℕ) → IsNearer E.means self.new nodes result (self.old.tries * try_left E.means nodes + (fills_left E.means self.old found nth part + 1 + 39)) }
-        ensures spends { IsSpending result self.old.share self.new self.old.tries (self.old.tries + 1) }
+        ensures spends { IsSpending E.means result self.old.share self.new self.old.tries (self.old.tries + 1) }
         ensures tries { self.new.tries ≡ self.old.tries }
     {
         let snaps = self.snaps.as_slice();
@@ -398,7 +399,7 @@ impl<E: Edit + Drop> UpdateRun<E> {
         ensures turn { (c : Call) (b h : History) → IsRun TreeAllows c.layout h → IsTry c b → IsFilledUpTo E.means self.old (from c b) h found nth part → UpdateTurn E.means c h self.new result }
         ensures same { (self.new.edit ≡ self.old.edit) × (self.new.call ≡ self.old.call) }
         ensures nearer { (nodes : ℕ) → IsNearer E.means self.new nodes result (self.old.tries * try_left E.means nodes + (fills_left E.means self.old found nth part + 39)) }
-        ensures spends { IsSpending result self.old.share self.new self.old.tries (self.old.tries + 1) }
+        ensures spends { IsSpending E.means result self.old.share self.new self.old.tries (self.old.tries + 1) }
         ensures tries { self.new.tries ≡ self.old.tries }
     {
         let snaps = self.snaps.as_slice();
@@ -441,7 +442,7 @@ impl<E: Edit + Drop> UpdateRun<E> {
         ensures turn { (c : Call) (b h : History) → IsRun TreeAllows c.layout h → IsTry c b → CanScx E.means self.old (from c b) h found → UpdateTurn E.means c h self.new result }
         ensures same { (self.new.edit ≡ self.old.edit) × (self.new.call ≡ self.old.call) }
         ensures nearer { (nodes : ℕ) → IsNearer E.means self.new nodes result (self.old.tries * try_left E.means nodes + 39) }
-        ensures spends { IsSpending result self.old.share self.new self.old.tries (self.old.tries + 1) }
+        ensures spends { IsSpending E.means result self.old.share self.new self.old.tries (self.old.tries + 1) }
         ensures tries { self.new.tries ≡ self.old.tries }
     {
         let update = self.update(&found);
@@ -467,7 +468,7 @@ impl<E: Edit + Drop> UpdateRun<E> {
         ensures turn { (c : Call) (b begin h : History) → IsRun TreeAllows c.layout h → IsTry c b → Scxs E.means self.old (from c b) h found scx begin → ScxIsReady TreeAllows scx (from (from c b) begin) h got → UpdateTurn E.means c h self.new result }
         ensures same { (self.new.edit ≡ self.old.edit) × (self.new.call ≡ self.old.call) }
         ensures nearer { (nodes : ℕ) → IsNearer E.means self.new nodes result (self.old.tries * try_left E.means nodes + scx_left scx.at) }
-        ensures spends { IsSpending result self.old.share self.new self.old.tries self.old.tries }
+        ensures spends { IsSpending E.means result self.old.share self.new self.old.tries self.old.tries }
         ensures tries { (self.old.tries ≤ self.new.tries + 1) × (self.new.tries ≤ self.old.tries) }
     {
         match Machine::<Tree>::next(&mut scx, got) {
@@ -475,7 +476,7 @@ impl<E: Edit + Drop> UpdateRun<E> {
                 self.at = UpdateAt::Scx { found, scx };
                 Turn::Ask(step)
             }
-            Turn::Done(Scx::Done) => Turn::Done(Updated::Done { old: found.value }),
+            Turn::Done(Scx::Done) => Turn::Done(Updated::Done { found }),
             Turn::Done(Scx::Lost { node, scx }) => self.lost(node, scx),
         }
     }
@@ -486,7 +487,7 @@ impl<E: Edit + Drop> UpdateRun<E> {
         ensures begins { got ≡ None → (c : Call) (h : History) → UpdateIsReady E.means self.old c h None → MatchTurn result (λ _. Unit {0}) (λ _. ⊥) }
         ensures same { (self.new.edit ≡ self.old.edit) × (self.new.call ≡ self.old.call) }
         ensures nearer { (nodes : ℕ) → UpdateFits E.means self.old got nodes → IsNearer E.means self.new nodes result (update_left E.means self.old nodes) }
-        ensures spends { IsSpending result self.old.share self.new (node_tries self.old self.old.at) (scx_tries self.old self.old.at) }
+        ensures spends { IsSpending E.means result self.old.share self.new (node_tries self.old self.old.at) (scx_tries self.old self.old.at) }
         ensures tries { (self.old.tries ≤ self.new.tries + 1) × (self.new.tries ≤ self.old.tries) }
     {
         match self.at {
@@ -502,12 +503,11 @@ impl<E: Edit + Drop> UpdateRun<E> {
     }
 
     ghost use Rattle.std.specs.Prelude.{◌≢◌, IfNone, IfSome, None};
-    ghost use Rattle.spelling.specs.OrderedMap.{edit_key};
-    ghost use Rattle.template.specs.FoundLeaf.{HasFoundLeaf};
+    ghost use Rattle.template.specs.FoundLeaf.{HasFound};
     ghost use Rattle.template.specs.Walk.Known.{WalkIsReady};
     ghost use Rattle.prims.specs.Snap.{child_of, snap_at};
     ghost use Rattle.updates.specs.Known.{HasNodesFor, IsShort, Walks, IsFilledUpTo, CanScx, UpdateIsReady};
-    ghost use Rattle.updates.specs.Pieces.{plan_over, top_of};
+    ghost use Rattle.updates.specs.Pieces.{HasPlace, plan_over, top_of};
     ghost use Rattle.updates.specs.Steps.{IsWanted, UpdateFits, fills_left};
     ghost use Rattle.updates.specs.Pieces.{less_a_node};
     ghost use Rattle.arena.specs.History.{History, value};

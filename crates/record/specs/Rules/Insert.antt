@@ -1,26 +1,17 @@
 -- The rules of `insert`.
 use Rattle.std.specs.Prelude.{ℕ, ◌+◌, ◌*◌, Bool, true, false, Option, Some, None}
 use Rattle.arena.specs.declared.layout.Layout.{Layout}
-use Rattle.arena.specs.declared.step.Row.{Row as StepRow}
-use Rattle.arena.specs.Blame.{WasInTheWay}
-use Rattle.arena.specs.Fills.{IsOthersScx}
-use Rattle.arena.specs.History.{History, ◌⊳◌, Extends}
+use Rattle.arena.specs.History.{History}
 use Rattle.spelling.specs.OrderedMap.{Edit, Insert}
-use Rattle.spelling.specs.Paths.{IsAnswerAt}
 use Rattle.spelling.specs.Runs.{Makes}
 use Rattle.record.specs.declared.record.Answer.{Answer}
 use Rattle.record.specs.declared.record.Answer.TheVariants.{Value, Contended, Full}
+use Rattle.record.specs.Answers.{WasBlockedBy}
+use Rattle.record.specs.Edits.{EditAfterStep, HadAtKey}
 use Rattle.record.specs.MapRecord.{reply_told}
 use Rattle.record.specs.Placed.{IsPlacedOnMap}
 use Rattle.record.specs.Rules.{Rules}
 use Rattle.record.specs.Shares.{HasTooFewToTry}
-
--- it tells what the key had before, or is refused
-abbrev pub InsertAfterStep : Answer → Type 0
-InsertAfterStep (Value old) = Unit {0}
-InsertAfterStep (Contended node scx) = Unit {0}
-InsertAfterStep (Full what left) = Unit {0}
-InsertAfterStep _ = ⊥
 
 -- one that tells a value has an entry, and no other
 abbrev pub has_inserted : Answer → Bool
@@ -33,16 +24,11 @@ abbrev pub nodes_for : Option ℕ → ℕ
 nodes_for (Some old) = 1
 nodes_for None = 3
 
--- after some row behind the call's begin, the map that the words spelled had this at the key
-abbrev pub HadAtKey : Layout → History → History → ℕ → Option ℕ → Type 0
-HadAtKey lay now start key old = (row : StepRow) × (before : History) × Extends before start × IsAnswerAt lay now (row ⊳ before) key old
-
 -- what its answers say
 abbrev pub InsertIsRight : ℕ → Layout → ℕ → History → History → (ℕ → Option History) → Answer → Type 0
 -- of one that tells a value, its entry and where it took place say all
 InsertIsRight key lay c now start linked (Value old) = Unit {0}
--- after some row behind the call's begin another client's SCX-record was in progress over this node
-InsertIsRight key lay c now start linked (Contended node scx) = IsOthersScx lay c scx.0 × WasInTheWay now start node.0 scx.0
+InsertIsRight key lay c now start linked (Contended node scx) = WasBlockedBy lay c now start node.0 scx.0
 -- the share has too little for what the map had at the key, and not by the call's own doing
 InsertIsRight key lay c now start linked (Full what left) = (old : Option ℕ) × HadAtKey lay now start key old × HasTooFewToTry lay c now start (nodes_for old) what left
 InsertIsRight key lay c now start linked _ = ⊥
@@ -57,7 +43,7 @@ insert_rules key value = record {
   most_scx = λ tries. tries;
   MayMake = λ kind. Unit {0};
   IsAtOnce = λ answer. ⊥;
-  IsAfterStep = InsertAfterStep;
+  IsAfterStep = EditAfterStep;
   enters = has_inserted;
   linked_then = λ answer now n old. old;
   IsRight = InsertIsRight key;

@@ -1,5 +1,5 @@
 -- When a walk may go on, what it waits for, and what its answer says.
-use Rattle.std.specs.Prelude.{◌≡◌, ℕ, ◌^◌, ◌<◌, true, false, Option, Some, None}
+use Rattle.std.specs.Prelude.{◌≡◌, ℕ, ◌^◌, ◌<◌, Bool, true, false, cond, eqb, Option, Some, None}
 use Rattle.arena.specs.declared.head.Head.{Head as HeadParts}
 use Rattle.arena.specs.declared.machine.Turn.{Turn}
 use Rattle.arena.specs.declared.machine.Turn.TheVariants.{Ask, Done}
@@ -15,9 +15,11 @@ use Rattle.arena.specs.Machines.{Call, MatchTurn}
 use Rattle.prims.specs.Llx.Known.{load}
 use Rattle.spelling.specs.Runs.{IsTreeRun}
 use Rattle.spelling.specs.TreeWords.{is_leaf, level, toward}
-use Rattle.template.specs.FoundLeaf.{HasFoundLeaf}
+use Rattle.template.specs.FoundLeaf.{path_key, asked_key, HasFound}
 use Rattle.template.specs.Trails.{OnTrail, IsOwnMoment}
 use Rattle.template.specs.declared.walk.Found.{Found}
+use Rattle.template.specs.declared.walk.Goal.{Goal}
+use Rattle.template.specs.declared.walk.Goal.TheVariants.{Key as ToKey, Least}
 use Rattle.template.specs.declared.walk.WalkRun.{WalkRun}
 use Rattle.template.specs.declared.walk.WalkAt.{WalkAt}
 use Rattle.template.specs.declared.walk.WalkAt.TheVariants.{Start, Root, Head, Key, Child, Value}
@@ -26,20 +28,25 @@ use Rattle.template.specs.declared.walk.WalkAt.TheVariants.{Start, Root, Head, K
 abbrev pub here : History → WalkRun → NodeWord → ℕ
 here h m part = value h (node m.trail.node.0 part)
 
+-- whether a walk loads the key of a node with this head: not of a fork where it always goes left
+abbrev pub asks_key : Goal → HeadParts → Bool
+asks_key (ToKey k) head = eqb head.class 0
+asks_key Least head = cond (eqb head.class 0) head.leaf false
+
 -- what holds while a walk waits at this place
 abbrev pub WalkKnows : Call → History → WalkRun → WalkAt → Type 0
 WalkKnows c h m Start = ⊥
 WalkKnows c h m Root = m.trail.node.0 ≡ 0
-WalkKnows c h m (Head above) = OnTrail c h m.key m.trail × (above < level (value h) m.trail.node.0)
-WalkKnows c h m (Key head) = OnTrail c h m.key m.trail × (head_of (here h m HeadWord) ≡ head) × (head.class ≡ 0)
-WalkKnows c h m (Child low side) = OnTrail c h m.key m.trail × (level (value h) m.trail.node.0 ≡ low) × (is_leaf (value h) m.trail.node.0 ≡ false) × (toward (value h) m.trail.node.0 m.key ≡ side)
-WalkKnows c h m (Value head) = OnTrail c h m.key m.trail × (head_of (here h m HeadWord) ≡ head) × (head.class ≡ 0) × (head.leaf ≡ true) × (here h m KeyWord ≡ m.key)
+WalkKnows c h m (Head above) = OnTrail c h (path_key m.goal) m.trail × (above < level (value h) m.trail.node.0)
+WalkKnows c h m (Key head) = OnTrail c h (path_key m.goal) m.trail × (head_of (here h m HeadWord) ≡ head) × (head.class ≡ 0)
+WalkKnows c h m (Child low side) = OnTrail c h (path_key m.goal) m.trail × (level (value h) m.trail.node.0 ≡ low) × (is_leaf (value h) m.trail.node.0 ≡ false) × (toward (value h) m.trail.node.0 (path_key m.goal) ≡ side)
+WalkKnows c h m (Value head key) = OnTrail c h (path_key m.goal) m.trail × (head_of (here h m HeadWord) ≡ head) × (head.class ≡ 0) × (head.leaf ≡ true) × (here h m KeyWord ≡ key) × (asked_key m.goal key ≡ key)
 
 -- the word that it loads at this place
 abbrev pub walk_part : WalkAt → NodeWord
 walk_part (Key head) = KeyWord
 walk_part (Child low side) = ChildWord side
-walk_part (Value head) = ValueWord
+walk_part (Value head key) = ValueWord
 walk_part _ = HeadWord
 
 -- the kind of the load
@@ -54,7 +61,7 @@ walk_step m at = load (walk_kind at) (node m.trail.node.0 (walk_part at))
 -- a walk waits for this step, at a moment of its call
 pub record WalkWaits (m : WalkRun) (c : Call) (h : History) (step : Step) : Type 0 where
   pub run : IsTreeRun c.layout h
-  pub small : m.key < 2 ^ 64
+  pub small : path_key m.goal < 2 ^ 64
   pub since : Extends h c.start
   pub known : WalkKnows c h m m.at
   pub asked : step ≡ walk_step m m.at
@@ -62,7 +69,7 @@ pub record WalkWaits (m : WalkRun) (c : Call) (h : History) (step : Step) : Type
 -- an own row has told v, which is what the word of its place holds
 pub record WalkIsTold (m : WalkRun) (c : Call) (h : History) (v : ℕ) : Type 0 where
   pub run : IsTreeRun c.layout h
-  pub small : m.key < 2 ^ 64
+  pub small : path_key m.goal < 2 ^ 64
   pub own : IsOwnMoment c h
   pub known : WalkKnows c h m m.at
   pub told : here h m (walk_part m.at) ≡ v
@@ -70,7 +77,7 @@ pub record WalkIsTold (m : WalkRun) (c : Call) (h : History) (v : ℕ) : Type 0 
 -- a walk may begin, at the root
 pub record WalkBegins (m : WalkRun) (c : Call) (h : History) : Type 0 where
   pub run : IsTreeRun c.layout h
-  pub small : m.key < 2 ^ 64
+  pub small : path_key m.goal < 2 ^ 64
   pub since : Extends h c.start
   pub at : m.at ≡ Start
   pub root : m.trail.node.0 ≡ 0
@@ -80,9 +87,9 @@ abbrev pub WalkIsReady : WalkRun → Call → History → Option ℕ → Type 0
 WalkIsReady m c h None = WalkBegins m c h
 WalkIsReady m c h (Some v) = WalkIsTold m c h v
 
--- the walk has found this leaf on its way to the key
+-- the walk has found this leaf, to which it was to go
 abbrev pub WalkAnswers : WalkRun → Call → History → Found → Type 0
-WalkAnswers m c h f = HasFoundLeaf c h m.key f
+WalkAnswers m c h f = HasFound m.goal c h f
 
 -- a walk waits for the step of the turn, or its answer is right
 abbrev pub WalkTurn : Call → History → WalkRun → Turn Found → Type 0
@@ -104,6 +111,6 @@ pub record WalkEnds (old now : WalkRun) (turn : Turn Found) (head : HeadParts) (
 -- on its path
 pub record WalkStands (m : WalkRun) (c : Call) (h : History) : Type 0 where
   pub run : IsTreeRun c.layout h
-  pub small : m.key < 2 ^ 64
+  pub small : path_key m.goal < 2 ^ 64
   pub own : IsOwnMoment c h
-  pub trail : OnTrail c h m.key m.trail
+  pub trail : OnTrail c h (path_key m.goal) m.trail

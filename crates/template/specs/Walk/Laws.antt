@@ -21,6 +21,7 @@ use Rattle.spelling.specs.Runs.{IsTreeRun}
 use Rattle.spelling.specs.TreeShape.{TreeAllows}
 use Rattle.spelling.specs.TreeWords.{level, toward}
 use Rattle.spelling.proofs.Lemmas.{walk_stays, walk_named, walk_inside, walk_first, walk_next, walk_rises, passed_depth, SameSettled, settled_leaf, settled_toward, settled_class, settled_level}
+use Rattle.template.specs.FoundLeaf.{path_key}
 use Rattle.template.specs.Trails.{WasPassed, HasTurned, OnTrail}
 use Rattle.template.specs.declared.walk.Trail.{Trail}
 use Rattle.template.specs.declared.walk.WalkRun.{WalkRun}
@@ -64,15 +65,15 @@ module _ (c : Call) (h : History) (r : Row) (g : IsTreeRun c.layout h) (run : Is
   known_more m Start k = k
   known_more m Root k = k
   known_more m (Head above) k =
-      let y : level (value (r ⊳ h)) m.trail.node.0 ≡ level (value h) m.trail.node.0 = settled_level (value h) (value (r ⊳ h)) m.trail.node.0 (settled_more m.key m.trail.node.0 k.0.node) in
-      (trail_more m.key m.trail k.0, (let z = k.1 in omega (arith, y, z)))
-  known_more m (Key head) k = (trail_more m.key m.trail k.0, ap head_of (settled_more m.key m.trail.node.0 k.0.node HeadWord tt) ∙ k.1, k.2)
+      let y : level (value (r ⊳ h)) m.trail.node.0 ≡ level (value h) m.trail.node.0 = settled_level (value h) (value (r ⊳ h)) m.trail.node.0 (settled_more (path_key m.goal) m.trail.node.0 k.0.node) in
+      (trail_more (path_key m.goal) m.trail k.0, (let z = k.1 in omega (arith, y, z)))
+  known_more m (Key head) k = (trail_more (path_key m.goal) m.trail k.0, ap head_of (settled_more (path_key m.goal) m.trail.node.0 k.0.node HeadWord tt) ∙ k.1, k.2)
   known_more m (Child low side) k =
-      let same : SameSettled (value h) (value (r ⊳ h)) m.trail.node.0 = settled_more m.key m.trail.node.0 k.0.node in
-      (trail_more m.key m.trail k.0, settled_level (value h) (value (r ⊳ h)) m.trail.node.0 same ∙ k.1, settled_leaf (value h) (value (r ⊳ h)) m.trail.node.0 same ∙ k.2, settled_toward (value h) (value (r ⊳ h)) m.trail.node.0 m.key same ∙ k.3)
-  known_more m (Value head) k =
-      let same : SameSettled (value h) (value (r ⊳ h)) m.trail.node.0 = settled_more m.key m.trail.node.0 k.0.node in
-      (trail_more m.key m.trail k.0, ap head_of (same HeadWord tt) ∙ k.1, k.2, k.3, same KeyWord tt ∙ k.4)
+      let same : SameSettled (value h) (value (r ⊳ h)) m.trail.node.0 = settled_more (path_key m.goal) m.trail.node.0 k.0.node in
+      (trail_more (path_key m.goal) m.trail k.0, settled_level (value h) (value (r ⊳ h)) m.trail.node.0 same ∙ k.1, settled_leaf (value h) (value (r ⊳ h)) m.trail.node.0 same ∙ k.2, settled_toward (value h) (value (r ⊳ h)) m.trail.node.0 (path_key m.goal) same ∙ k.3)
+  known_more m (Value head key) k =
+      let same : SameSettled (value h) (value (r ⊳ h)) m.trail.node.0 = settled_more (path_key m.goal) m.trail.node.0 k.0.node in
+      (trail_more (path_key m.goal) m.trail k.0, ap head_of (same HeadWord tt) ∙ k.1, k.2, k.3, same KeyWord tt ∙ k.4, k.5)
 
 run_more : (c : Call) (h : History) (r : Row) → IsTreeRun c.layout h → IsRun TreeAllows c.layout (r ⊳ h) → IsTreeRun c.layout (r ⊳ h)
 run_more c h r g run = (g.0, run)
@@ -89,10 +90,10 @@ root_inside lay e = rw e (omega arith)
 inside : (c : Call) (h : History) (m : WalkRun) (at : WalkAt) → IsTreeRun c.layout h → WalkKnows c h m at → m.trail.node.0 < all_nodes c.layout
 inside c h m Start g k = absurd k
 inside c h m Root g k = rw k (root_inside c.layout g.0)
-inside c h m (Head above) g k = walk_inside c.layout h k.0.node.first m.key m.trail.node.0 g.1.lawful k.0.node.passed
-inside c h m (Key head) g k = walk_inside c.layout h k.0.node.first m.key m.trail.node.0 g.1.lawful k.0.node.passed
-inside c h m (Child low side) g k = walk_inside c.layout h k.0.node.first m.key m.trail.node.0 g.1.lawful k.0.node.passed
-inside c h m (Value head) g k = walk_inside c.layout h k.0.node.first m.key m.trail.node.0 g.1.lawful k.0.node.passed
+inside c h m (Head above) g k = walk_inside c.layout h k.0.node.first (path_key m.goal) m.trail.node.0 g.1.lawful k.0.node.passed
+inside c h m (Key head) g k = walk_inside c.layout h k.0.node.first (path_key m.goal) m.trail.node.0 g.1.lawful k.0.node.passed
+inside c h m (Child low side) g k = walk_inside c.layout h k.0.node.first (path_key m.goal) m.trail.node.0 g.1.lawful k.0.node.passed
+inside c h m (Value head key) g k = walk_inside c.layout h k.0.node.first (path_key m.goal) m.trail.node.0 g.1.lawful k.0.node.passed
 
 lawful_at : (m : WalkRun) (c : Call) (h : History) (at : WalkAt) (s : Step) → IsRun TreeAllows c.layout h → s ≡ walk_step m at → m.trail.node.0 < all_nodes c.layout → IsRun TreeAllows c.layout (row_of c s h ⊳ h)
 lawful_at m c h Start s run e i = load_lawful TreeAllows c h LoadSettled (node m.trail.node.0 HeadWord) s run e record { word = tt; same = refl } (λ q. cc) i
@@ -100,7 +101,7 @@ lawful_at m c h Root s run e i = load_lawful TreeAllows c h LoadSettled (node m.
 lawful_at m c h (Head above) s run e i = load_lawful TreeAllows c h LoadSettled (node m.trail.node.0 HeadWord) s run e record { word = tt; same = refl } (λ q. cc) i
 lawful_at m c h (Key head) s run e i = load_lawful TreeAllows c h LoadSettled (node m.trail.node.0 KeyWord) s run e record { word = tt; same = refl } (λ q. cc) i
 lawful_at m c h (Child low side) s run e i = load_lawful TreeAllows c h LoadChild (node m.trail.node.0 (ChildWord side)) s run e record { word = tt; same = refl } (λ q. cc) i
-lawful_at m c h (Value head) s run e i = load_lawful TreeAllows c h LoadSettled (node m.trail.node.0 ValueWord) s run e record { word = tt; same = refl } (λ q. cc) i
+lawful_at m c h (Value head key) s run e i = load_lawful TreeAllows c h LoadSettled (node m.trail.node.0 ValueWord) s run e record { word = tt; same = refl } (λ q. cc) i
 
 -- the step that a walk waits for continues the run
 pub walk_lawful : (m : WalkRun) (c : Call) (h : History) (s : Step) → IsRun TreeAllows c.layout h → WalkWaits m c h s → IsRun TreeAllows c.layout (row_of c s h ⊳ h)
@@ -126,19 +127,19 @@ depth lay h start k n l nodes g p few e =
 
 fits_at : (m : WalkRun) (c : Call) (h : History) (v nodes : ℕ) (at : WalkAt) → IsTreeRun c.layout h → WalkKnows c h m at → here h m (walk_part at) ≡ v → length (taken_nodes h) ≤ nodes → WalkFitsAt at v nodes
 fits_at m c h v nodes Start g k t few = tt
-fits_at m c h v nodes Root g k t few = depth c.layout h h m.key 0 (head_of v).level nodes g (walk_first c.layout h m.key g) few (rw k at (ap (λ w. (head_of w).level) t))
+fits_at m c h v nodes Root g k t few = depth c.layout h h (path_key m.goal) 0 (head_of v).level nodes g (walk_first c.layout h (path_key m.goal) g) few (rw k at (ap (λ w. (head_of w).level) t))
 fits_at m c h v nodes (Head above) g k t few =
     let e : level (value h) m.trail.node.0 ≡ (head_of v).level = ap (λ w. (head_of w).level) t in
-    (subst (λ l. above < l) e k.1, depth c.layout h k.0.node.first m.key m.trail.node.0 (head_of v).level nodes g k.0.node.passed few e)
-fits_at m c h v nodes (Key head) g k t few = depth c.layout h k.0.node.first m.key m.trail.node.0 head.level nodes g k.0.node.passed few (ap (λ w. w.level) k.1)
+    (subst (λ l. above < l) e k.1, depth c.layout h k.0.node.first (path_key m.goal) m.trail.node.0 (head_of v).level nodes g k.0.node.passed few e)
+fits_at m c h v nodes (Key head) g k t few = depth c.layout h k.0.node.first (path_key m.goal) m.trail.node.0 head.level nodes g k.0.node.passed few (ap (λ w. w.level) k.1)
 fits_at m c h v nodes (Child low side) g k t few =
     let n = m.trail.node.0 in
-    let next : Passed h k.0.node.first m.key (value h (child n (toward (value h) n m.key))) = walk_next c.layout h k.0.node.first m.key n g k.0.node.passed k.2 in
-    let deep = depth c.layout h k.0.node.first m.key _ (level (value h) (value h (child n (toward (value h) n m.key)))) nodes g next few refl in
-    let rises : level (value h) n < level (value h) (value h (child n (toward (value h) n m.key))) = walk_rises c.layout h k.0.node.first m.key n (toward (value h) n m.key) g k.0.node.passed k.2 in
+    let next : Passed h k.0.node.first (path_key m.goal) (value h (child n (toward (value h) n (path_key m.goal)))) = walk_next c.layout h k.0.node.first (path_key m.goal) n g k.0.node.passed k.2 in
+    let deep = depth c.layout h k.0.node.first (path_key m.goal) _ (level (value h) (value h (child n (toward (value h) n (path_key m.goal))))) nodes g next few refl in
+    let rises : level (value h) n < level (value h) (value h (child n (toward (value h) n (path_key m.goal)))) = walk_rises c.layout h k.0.node.first (path_key m.goal) n (toward (value h) n (path_key m.goal)) g k.0.node.passed k.2 in
     let e = k.1 in
     omega (arith, deep, rises, e)
-fits_at m c h v nodes (Value head) g k t few = tt
+fits_at m c h v nodes (Value head key) g k t few = tt
 
 -- what a walk may be told fits the nodes that are taken by then
 pub walk_told : (m : WalkRun) (c : Call) (h : History) (got : Option ℕ) (nodes : ℕ) → IsRun TreeAllows c.layout h → WalkIsReady m c h got → length (taken_nodes h) ≤ nodes → WalkFits m got nodes

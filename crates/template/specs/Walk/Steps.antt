@@ -13,7 +13,7 @@ walk_left Root nodes = 3 * (2 + nodes) - 1
 walk_left (Head above) nodes = 3 * (1 + nodes - above) - 1
 walk_left (Key head) nodes = 3 * (2 + nodes - head.level) - 2
 walk_left (Child level side) nodes = 3 * (2 + nodes - level) - 3
-walk_left (Value head) nodes = 3 * (2 + nodes - head.level) - 3
+walk_left (Value head key) nodes = 3 * (2 + nodes - head.level) - 3
 
 -- what a walk is told at this place does not lead it deeper than so many taken nodes allow
 abbrev pub WalkFitsAt : WalkAt → ℕ → ℕ → Type 0

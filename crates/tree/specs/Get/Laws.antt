@@ -13,16 +13,16 @@ use Rattle.tree.specs.Get.Steps.{GetFits}
 
 -- rows of other passes leave a get waiting for the same step
 pub get_keeps : (m : GetRun) (c : Call) (h : History) (s : Step) (r : Row) → IsRun TreeAllows c.layout (r ⊳ h) → r.pass.0 ≢ c.pass → GetWaits m c h s → GetWaits m c (r ⊳ h) s
-get_keeps m c h s r run other w = walk_keeps m.walk c h s r run other w
+get_keeps m c h s r run other w = (walk_keeps m.walk c h s r run other w.0, w.1)
 
 -- the step that a get waits for continues the run
 pub get_lawful : (m : GetRun) (c : Call) (h : History) (s : Step) → IsRun TreeAllows c.layout h → GetWaits m c h s → IsRun TreeAllows c.layout (row_of c s h ⊳ h)
-get_lawful m c h s run w = walk_lawful m.walk c h s run w
+get_lawful m c h s run w = walk_lawful m.walk c h s run w.0
 
 -- once the step is made, the get may be called with what it told
 pub get_made : (m : GetRun) (c : Call) (h : History) (s : Step) (v : ℕ) → IsRun TreeAllows c.layout (row_of c s h ⊳ h) → IsTold s.access (value h s.word) v → GetWaits m c h s → GetIsReady m c (row_of c s h ⊳ h) (Some v)
-get_made m c h s v run t w = walk_made m.walk c h s v run t w
+get_made m c h s v run t w = (walk_made m.walk c h s v run t w.0, w.1)
 
 -- what a get may be told fits the nodes that are taken by then
 pub get_told : (m : GetRun) (c : Call) (h : History) (got : Option ℕ) (nodes : ℕ) → IsRun TreeAllows c.layout h → GetIsReady m c h got → length (taken_nodes h) ≤ nodes → GetFits m got nodes
-get_told m c h got nodes run ready few = walk_told m.walk c h got nodes run ready few
+get_told m c h got nodes run ready few = walk_told m.walk c h got nodes run ready.0 few

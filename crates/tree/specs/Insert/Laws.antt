@@ -13,8 +13,8 @@ use Rattle.updates.specs.declared.edit.Nth.{Nth}
 use Rattle.updates.specs.declared.edit.Nth.TheVariants.{First, Second, Third}
 use Rattle.updates.specs.declared.edit.Piece.TheVariants.{Fork}
 use Rattle.updates.specs.Edits.{EditBounds}
-use Rattle.updates.specs.Pieces.{with_word, fills_behind}
-use Rattle.tree.specs.Insert.Means.{insert_means, insert_looks, insert_wants, insert_works, insert_pieces, value_if_none, copy_works, is_below}
+use Rattle.updates.specs.Pieces.{many_nodes, with_word, fills_behind}
+use Rattle.tree.specs.Insert.Means.{insert_means, insert_need, insert_looks, insert_wants, insert_works, insert_pieces, value_if_none, copy_works, is_below}
 
 few_looks : (f : Found) (snaps : List Snap) (n : NodeNo) → insert_looks f snaps ≡ At n → length snaps < 2
 few_looks f [] n e = omega arith
@@ -59,12 +59,18 @@ fill_works e f ld First d ns = omega arith
 fill_works e f ld Second d ns = fill_at_second (eqb f.head.class 0) ld.value d
 fill_works e f ld Third d ns = fork_fills (is_below e.key f) f.head.level f.head.class 0 f.key e.key ns.first ns.second
 
--- an insert looks at two nodes, and makes at most 11 loads and fills
+few_nodes : (o : Option ℕ) → many_nodes (insert_need o) ≤ 3
+few_nodes None = omega arith
+few_nodes (Some v) = omega arith
+
+-- an insert looks at two nodes, takes at most three, and makes at most 11 loads and fills
 pub insert_bounds : EditBounds insert_means
 insert_bounds = record {
   few_looks = λ e f snaps n d. few_looks f snaps n d;
   small = omega arith;
+  few_nodes = λ e f. few_nodes f.value;
+  some_nodes = omega arith;
   few_works = λ e f snaps ld nth. few_works f ld nth;
   load_works = λ e f snaps ld nth part d v. load_works f ld nth part d v;
-  fill_works = λ e f snaps ld nth d ns. fill_works e f ld nth d ns;
+  fill_works = λ e f snaps ld nth place d ns. fill_works e f ld nth d ns;
 }

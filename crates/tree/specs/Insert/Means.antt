@@ -6,6 +6,7 @@ use Rattle.prims.specs.declared.snap.Snap.{Snap}
 use Rattle.prims.specs.Snap.{child_of}
 use Rattle.spelling.specs.OrderedMap.{Insert as PutEdit}
 use Rattle.template.specs.declared.walk.Found.{Found}
+use Rattle.template.specs.declared.walk.Goal.TheVariants.{Key as ToKey}
 use Rattle.tree.specs.declared.insert.Insert.{Insert}
 use Rattle.updates.specs.declared.edit.Loaded.{Loaded}
 use Rattle.updates.specs.declared.edit.Look.{Look}
@@ -91,8 +92,10 @@ insert_most_works Third = 4
 -- the edit that an insert is
 abbrev pub insert_means : EditMeaning Insert
 insert_means = record {
-  edit = λ e. PutEdit e.key e.value;
+  goal = λ e. ToKey e.key;
+  edit = λ e f. PutEdit e.key e.value;
   needs = λ e f. insert_need f.value;
+  most_nodes = 3;
   side = λ e f. f.trail.side;
   looks = λ e f snaps. insert_looks f snaps;
   most_looks = 2;

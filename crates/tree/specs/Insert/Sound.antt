@@ -30,12 +30,13 @@ use Rattle.template.specs.FreshNodes.{IsLeafWith, IsForkWith, IsInsertAt, HasFre
 use Rattle.template.specs.Promises.{IsPromised}
 use Rattle.template.specs.Trails.{HasTurned}
 use Rattle.template.specs.declared.walk.Found.{Found}
+use Rattle.template.specs.declared.walk.Goal.TheVariants.{Key as ToKey}
 use Rattle.template.proofs.Lemmas.{found_below, found_class, found_level, found_no_value, insert_words, swap_promised, split_promised}
 use Rattle.tree.specs.declared.insert.Insert.{Insert}
 use Rattle.tree.specs.Insert.Laws.{insert_bounds}
+use Rattle.tree.specs.Looks.{same_node, goes_on, not_enough, is_other}
 use Rattle.tree.specs.Insert.Means.{insert_means, insert_need, insert_looks, insert_wants, insert_pieces, value_if_none, leaf_level, is_below, lower}
 use Rattle.updates.specs.declared.edit.Loaded.{Loaded}
-use Rattle.updates.specs.declared.edit.Look.{Look}
 use Rattle.updates.specs.declared.edit.Look.TheVariants.{At, Differs, Enough}
 use Rattle.updates.specs.declared.edit.Nodes.{Nodes}
 use Rattle.updates.specs.declared.edit.Nth.{Nth}
@@ -87,26 +88,10 @@ insert_loads = record {
 
 -- What it looks at
 
-abbrev node_of : Look → NodeNo
-node_of (At n) = n
-node_of (Differs n s) = n
-node_of Enough = record { 0 = 0 }
-
-same_node : (a b : NodeNo) → At a ≡ At b → a ≡ b
-same_node a b e = ap node_of e
-
-is_child : (b : Bool) (f : Found) (p : Snap) (n : NodeNo) → cond b (At f.trail.node) (Differs p.node p.scx) ≡ At n → (b ≡ true) × (f.trail.node ≡ n)
-is_child true f p n e = (refl, same_node f.trail.node n e)
-is_child false f p n e = absurd (let d : Differs p.node p.scx ≡ At n = e in cc)
-
-not_enough : (b : Bool) (f : Found) (p : Snap) → cond b (At f.trail.node) (Differs p.node p.scx) ≡ Enough → ⊥
-not_enough true f p e = let d : At f.trail.node ≡ Enough = e in cc
-not_enough false f p e = let d : Differs p.node p.scx ≡ Enough = e in cc
-
 -- it looks at the leaf's parent or at the leaf
 looks_at : (f : Found) (snaps : List Snap) (n : NodeNo) → insert_looks f snaps ≡ At n → (f.trail.parent ≡ n) ⊎ (f.trail.node ≡ n)
 looks_at f [] n e = inl (same_node f.trail.parent n e)
-looks_at f (p ∷ []) n e = inr (is_child (eqb (child_of p f.trail.side).0 f.trail.node.0) f p n e).1
+looks_at f (p ∷ []) n e = inr (goes_on (eqb (child_of p f.trail.side).0 f.trail.node.0) f.trail.node p n e).1
 looks_at f (p ∷ l ∷ snaps) n e = absurd (let d : Enough ≡ At n = e in cc)
 
 insert_opens : (ed : Insert) (c : Call) (h : History) (f : Found) (snaps : List Snap) (n : NodeNo) → IsTreeRun c.layout h → HasLooked insert_means c h ed f snaps → insert_looks f snaps ≡ At n → IsOpened c.layout h n.0
@@ -124,15 +109,6 @@ insert_stood ed c h f snaps n run x e = go (looks_at f snaps n e)
     go (inl q) = subst (λ (k : NodeNo). WasNotFinal c h k.0) q (passed_not_final c h ed.key f.trail.parent.0 run (x.found.trail.parent (found_below ed.key c h f run x.found)).passed)
     go (inr q) = subst (λ (k : NodeNo). WasNotFinal c h k.0) q (passed_not_final c h ed.key f.trail.node.0 run x.found.trail.node)
 
-abbrev scx_of : Look → ScxNo
-scx_of (Differs n s) = s
-scx_of _ = record { 0 = 0 }
-
--- it says no more than the snapshot of the parent that shows another child
-is_other : (b : Bool) (f : Found) (p : Snap) (n : NodeNo) (s : ScxNo) → cond b (At f.trail.node) (Differs p.node p.scx) ≡ Differs n s → (b ≡ false) × (p.node ≡ n) × (p.scx ≡ s)
-is_other true f p n s e = absurd (let d : At f.trail.node ≡ Differs n s = e in cc)
-is_other false f p n s e = (refl, ap node_of e, ap scx_of e)
-
 -- the walk has found the leaf there, and the snapshot came later
 insert_differs : (ed : Insert) (c : Call) (h : History) (f : Found) (snaps : List Snap) (n : NodeNo) (s : ScxNo) → IsTreeRun c.layout h → HasLooked insert_means c h ed f snaps → insert_looks f snaps ≡ Differs n s → IsQuietSince c.layout c.pass c.start h → IsContended c h n.0 s.0
 insert_differs ed c h f [] n s run x e quiet = absurd (let d : At f.trail.parent ≡ Differs n s = e in cc)
@@ -140,12 +116,12 @@ insert_differs ed c h f (p ∷ l ∷ snaps) n s run x e quiet = absurd (let d : 
 insert_differs ed c h f (p ∷ []) n s run x e quiet = rw (sym other.1, sym other.2) (turned_contended c h ed.key f p f.trail.side f.trail.node.0 run quiet snapped turned apart)
   where
     other : (eqb (child_of p f.trail.side).0 f.trail.node.0 ≡ false) × (p.node ≡ n) × (p.scx ≡ s)
-    other = is_other (eqb (child_of p f.trail.side).0 f.trail.node.0) f p n s e
+    other = is_other (eqb (child_of p f.trail.side).0 f.trail.node.0) f.trail.node p n s e
 
     parent : f.trail.parent ≡ p.node
     parent = same_node f.trail.parent p.node (x.seen 0 (omega arith))
 
-    snapped : HasSnapped c h ed.key f p
+    snapped : HasSnapped c h (ToKey ed.key) f p
     snapped = x.usable 0 (omega arith)
 
     turned : HasTurned c snapped.moment ed.key p.node.0 f.trail.side f.trail.node.0
@@ -175,10 +151,10 @@ record HasBoth (f : Found) (snaps : List Snap) : Type 0 where
 
 has_both : (ed : Insert) (f : Found) (snaps : List Snap) → insert_looks f snaps ≡ Enough → AreSeen insert_means ed f snaps → HasBoth f snaps
 has_both ed f [] e x = absurd (let d : At f.trail.parent ≡ Enough = e in cc)
-has_both ed f (p ∷ []) e x = absurd (not_enough (eqb (child_of p f.trail.side).0 f.trail.node.0) f p e)
+has_both ed f (p ∷ []) e x = absurd (not_enough (eqb (child_of p f.trail.side).0 f.trail.node.0) f.trail.node p e)
 has_both ed f (p ∷ l ∷ []) e x =
     let parent : f.trail.parent ≡ p.node = same_node f.trail.parent p.node (x 0 (omega arith)) in
-    let leaf : (eqb (child_of p f.trail.side).0 f.trail.node.0 ≡ true) × (f.trail.node ≡ l.node) = is_child (eqb (child_of p f.trail.side).0 f.trail.node.0) f p l.node (x 1 (omega arith)) in
+    let leaf : (eqb (child_of p f.trail.side).0 f.trail.node.0 ≡ true) × (f.trail.node ≡ l.node) = goes_on (eqb (child_of p f.trail.side).0 f.trail.node.0) f.trail.node p l.node (x 1 (omega arith)) in
     record {
       two = refl;
       parent = ap (λ (n : NodeNo). n.0) (sym parent);
@@ -237,7 +213,7 @@ insert_fills = record { fields = λ e c h f snaps ns ld nth side run x enough n 
 -- What it makes
 
 -- a level that a word holds is filled as it is
-head_is : (level class : ℕ) (leaf : Bool) → level < 2 ^ 61 → class < 4 → piece_head level leaf class ≡ head_word record { level = level; leaf = leaf; class = class }
+pub head_is : (level class : ℕ) (leaf : Bool) → level < 2 ^ 61 → class < 4 → piece_head level leaf class ≡ head_word record { level = level; leaf = leaf; class = class }
 head_is level class leaf deep small = λ i. head_word record { level = least i; leaf = leaf; class = rest i }
   where
     least : min level (2 ^ 61 - 1) ≡ level
@@ -339,11 +315,11 @@ module _ (ed : Insert) (c : Call) (h : History) (f : Found) (snaps : List Snap) 
 pub insert_makes : MakesWell insert_means
 insert_makes = record {
   some = λ e f d. let z : At f.trail.parent ≡ Enough = d in cc;
-  distinct = λ e c h f snaps run x enough. insert_distinct e c h f snaps run x enough;
+  distinct = λ e c h f snaps run d x enough. insert_distinct e c h f snaps run x enough;
   leaf = λ e c h f snaps s run n x enough k later since covers. covered_leaf e f snaps k s (has_both e f snaps enough x.seen) covers;
   promised = λ e c h f snaps ns ld j d run n x is says. promised_by e c h f snaps ns ld run x j d is says f.value refl;
 }
 
 -- an insert is an edit that an update can make
 pub insert_laws : EditLaws insert_means
-insert_laws = record { bounds = insert_bounds; looks = insert_look; loads = insert_loads; fills = insert_fills; makes = insert_makes }
+insert_laws = record { at_found = λ e f. refl; bounds = insert_bounds; looks = insert_look; loads = insert_loads; fills = insert_fills; makes = insert_makes }

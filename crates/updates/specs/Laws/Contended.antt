@@ -16,6 +16,7 @@ use Rattle.spelling.specs.Runs.{IsTreeRun}
 use Rattle.spelling.proofs.Lemmas.{child_not_final, path_not_final, run_since, was_passed}
 use Rattle.template.specs.Trails.{HasTurned, WasPassed}
 use Rattle.template.specs.declared.walk.Found.{Found}
+use Rattle.template.specs.declared.walk.Goal.{Goal}
 use Rattle.template.proofs.Lemmas.{own_since, turned_lost}
 use Rattle.updates.specs.Blame.{IsContended, WasNotFinal, way_wider}
 use Rattle.updates.specs.Known.{HasSnapped}
@@ -37,7 +38,7 @@ passed_not_final c h k n run x = record {
 
 -- A fork by a field of which the call went down has had no final node in its fields as long as it
 -- was not final: what a snapshot of it shows was not final then.
-pub shown_not_final : (c : Call) (h : History) (k : ℕ) (f : Found) (snap : Snap) (turn side : Side) (next : ℕ) → IsTreeRun c.layout h → (x : HasSnapped c h k f snap) → HasTurned c x.moment k snap.node.0 turn next → WasNotFinal c h (child_of snap side).0
+pub shown_not_final : {goal : Goal} (c : Call) (h : History) (k : ℕ) (f : Found) (snap : Snap) (turn side : Side) (next : ℕ) → IsTreeRun c.layout h → (x : HasSnapped c h goal f snap) → HasTurned c x.moment k snap.node.0 turn next → WasNotFinal c h (child_of snap side).0
 shown_not_final c h k f snap turn side next run x turned = record {
   moment = x.moment;
   within = x.within;
@@ -48,7 +49,7 @@ shown_not_final c h k f snap turn side next run x turned = record {
 
 -- Where the call went down by a field of a fork, and its snapshot of the fork shows another node
 -- there, what the snapshot found in the fork's info was in the way.
-pub turned_contended : (c : Call) (h : History) (k : ℕ) (f : Found) (snap : Snap) (side : Side) (next : ℕ) → IsTreeRun c.layout h → IsQuietSince c.layout c.pass c.start h → (x : HasSnapped c h k f snap) → HasTurned c x.moment k snap.node.0 side next → (child_of snap side).0 ≢ next → IsContended c h snap.node.0 snap.scx.0
+pub turned_contended : {goal : Goal} (c : Call) (h : History) (k : ℕ) (f : Found) (snap : Snap) (side : Side) (next : ℕ) → IsTreeRun c.layout h → IsQuietSince c.layout c.pass c.start h → (x : HasSnapped c h goal f snap) → HasTurned c x.moment k snap.node.0 side next → (child_of snap side).0 ≢ next → IsContended c h snap.node.0 snap.scx.0
 turned_contended c h k f snap side next run quiet x turned d = way_contended c h c.start snap.node.0 snap.scx.0 run.1.lawful quiet (ends_self c.start) way
   where
     way : WasInTheWay h c.start snap.node.0 snap.scx.0

@@ -65,6 +65,17 @@ IsPieceWord (Leaf level class key v) Value = Unit {0}
 IsPieceWord (Fork level class key l r) (Child side) = Unit {0}
 IsPieceWord _ _ = ⊥
 
+-- each of them is filled
+pub piece_fill : (p : Piece) (part : NodeWord) → IsPieceWord p part → IsNodeFill part
+piece_fill p Head i = tt
+piece_fill p Key i = tt
+piece_fill p Value i = tt
+piece_fill p (Child side) i = tt
+piece_fill (Leaf level class key v) Info i = absurd i
+piece_fill (Leaf level class key v) Marked i = absurd i
+piece_fill (Fork level class key l r) Info i = absurd i
+piece_fill (Fork level class key l r) Marked i = absurd i
+
 -- these words of the node hold what the piece says
 abbrev pub HoldsWords : History → ℕ → Piece → (NodeWord → Type 0) → Type 0
 HoldsWords h n p P = (q : NodeWord) → P q → value h (node n q) ≡ word_of p q

@@ -15,12 +15,13 @@ use Rattle.prims.specs.Moments.{AreFinished}
 use Rattle.prims.specs.Shares.{IsUsable}
 use Rattle.prims.specs.declared.snap.Snap.{Snap}
 use Rattle.prims.proofs.Lemmas.{over_more, share_by_others, share_by_step, usable_now, usable_since}
-use Rattle.spelling.specs.OrderedMap.{edit_key}
 use Rattle.spelling.specs.Runs.{IsTreeRun}
 use Rattle.spelling.specs.TreeShape.{TreeAllows}
 use Rattle.spelling.specs.TreeWords.{said}
 use Rattle.spelling.proofs.Lemmas.{SameSettled}
+use Rattle.template.specs.FoundLeaf.{path_key, asked_key}
 use Rattle.template.specs.declared.walk.Found.{Found}
+use Rattle.template.specs.declared.walk.Goal.{Goal}
 use Rattle.updates.specs.declared.edit.Loaded.{Loaded}
 use Rattle.updates.specs.declared.edit.Nth.{Nth}
 use Rattle.updates.specs.declared.update.UpdateRun.{UpdateRun}
@@ -59,12 +60,12 @@ pub same_said : (f g : Word → ℕ) (k n : ℕ) → SameSettled f g n → said 
 same_said f g k n e = rw (e Head tt, e Key tt, e Value tt) refl
 
 -- a snapshot that the call has taken may be used
-pub snapped_usable : (c : Call) (h : History) (k : ℕ) (f : Found) (snap : Snap) → Lawful c.layout h → (x : HasSnapped c h k f snap) → IsUsable c.layout h snap x.moment
-snapped_usable c h k f snap l x = usable_since c.layout h x.moment snap x.moment l x.within (usable_now c.layout x.moment snap.node.0 snap x.is)
+pub snapped_usable : (c : Call) (h : History) (goal : Goal) (f : Found) (snap : Snap) → Lawful c.layout h → (x : HasSnapped c h goal f snap) → IsUsable c.layout h snap x.moment
+snapped_usable c h goal f snap l x = usable_since c.layout h x.moment snap x.moment l x.within (usable_now c.layout x.moment snap.node.0 snap x.is)
 
 -- snapshots may be used for ever
-pub usable_more : (c : Call) (h : History) (r : Row) (k : ℕ) (f : Found) (snaps : List Snap) → AreUsable c h k f snaps → AreUsable c (r ⊳ h) k f snaps
-usable_more c h r k f snaps x i p = let u = x i p in record { moment = u.moment; within = inr u.within; since = u.since; found = u.found; is = u.is }
+pub usable_more : (c : Call) (h : History) (r : Row) (goal : Goal) (f : Found) (snaps : List Snap) → AreUsable c h goal f snaps → AreUsable c (r ⊳ h) goal f snaps
+usable_more c h r goal f snaps x i p = let u = x i p in record { moment = u.moment; within = inr u.within; since = u.since; found = u.found; is = u.is }
 
 loaded_word : (o : Option ℕ) (v w : ℕ) → w ≡ v → IsLoaded o v → IsLoaded o w
 loaded_word None v w e x = tt
@@ -82,8 +83,8 @@ module _ {E : Type 0} (e : EditMeaning E) where
   pub looked_more : (c : Call) (h : History) (r : Row) (ed : E) (f : Found) (snaps : List Snap) → IsTreeRun c.layout h → IsRun TreeAllows c.layout (r ⊳ h) → HasLooked e c h ed f snaps → HasLooked e c (r ⊳ h) ed f snaps
   looked_more c h r ed f snaps g run x = record {
     small = x.small;
-    found = found_more c h r (edit_key (e.edit ed)) f g run x.found;
-    usable = usable_more c h r (edit_key (e.edit ed)) f snaps x.usable;
+    found = found_more c h r (path_key (e.goal ed)) (asked_key (e.goal ed) f.key) f g run x.found;
+    usable = usable_more c h r (e.goal ed) f snaps x.usable;
     seen = x.seen;
   }
 

@@ -24,21 +24,24 @@ use Rattle.prims.specs.Scx.Known.{job_of, ScxWaits}
 use Rattle.prims.specs.declared.llx.LlxRun.{LlxRun}
 use Rattle.prims.specs.declared.scx.ScxRun.{ScxRun}
 use Rattle.prims.proofs.Lemmas.{llx_fills_not, over_more, share_by_others, share_by_scx, untaken_at}
-use Rattle.spelling.specs.OrderedMap.{edit_key}
 use Rattle.spelling.specs.TreeShape.{TreeAllows}
 use Rattle.template.specs.Walk.Laws.{walk_keeps, walk_lawful, walk_made, walk_told}
 use Rattle.template.proofs.Lemmas.{tracks_by_others, tracks_by_scx, walk_fills_not}
 use Rattle.template.specs.declared.walk.Found.{Found}
+use Rattle.template.specs.declared.walk.Goal.{Goal}
+use Rattle.updates.specs.declared.edit.Need.{Need}
+use Rattle.updates.specs.declared.edit.Need.TheVariants.{Nothing, One, Three}
 use Rattle.updates.specs.declared.edit.Nth.{Nth}
+use Rattle.updates.specs.declared.edit.Nth.TheVariants.{First, Second, Third}
 use Rattle.updates.specs.declared.edit.Piece.{Piece}
 use Rattle.updates.specs.declared.update.UpdateAt.{UpdateAt}
 use Rattle.updates.specs.declared.update.UpdateAt.TheVariants.{Start, Walk, Look, Load, Fill, Scx}
 use Rattle.updates.specs.declared.update.UpdateRun.{UpdateRun}
 use Rattle.updates.specs.Edits.{EditMeaning}
 use Rattle.updates.specs.Steps.{UpdateFitsAt, UpdateFits}
-use Rattle.updates.specs.Pieces.{nth_node, word_of}
-use Rattle.updates.specs.Known.{RestsWith, Looks, Loads, Fills, Scxs, Walks, fill_step, UpdateWaitsAt, UpdateIsToldAt, UpdateWaits, UpdateIsReady, piece, top, copied}
-use Rattle.updates.specs.Laws.Hand.{IsBefore, IsUpTo, HoldsWords, HasFilledTo, IsForField, FieldMay, by_others, by_load, filled_more, words_by_others, words_more, taken_now, may_fill}
+use Rattle.updates.specs.Pieces.{HasPlace, nth_node, word_of}
+use Rattle.updates.specs.Known.{IsNeeded, RestsWith, Looks, Loads, Fills, Scxs, Walks, fill_step, UpdateWaitsAt, UpdateIsToldAt, UpdateWaits, UpdateIsReady, piece, top, copied}
+use Rattle.updates.specs.Laws.Hand.{IsBefore, IsUpTo, HoldsWords, HasFilledTo, IsForField, FieldMay, piece_fill, by_others, by_load, filled_more, words_by_others, words_more, taken_now, may_fill}
 use Rattle.updates.specs.Laws.HandScx.{from}
 use Rattle.updates.specs.Laws.Kept.{idle_over, quiet_rests, rests_by_others, rests_by_step, looked_more, works_more}
 use Rattle.updates.specs.Laws.Entered.{only_more}
@@ -60,8 +63,8 @@ field_may_more Marked P Q f x = tt
 module _ {E : Type 0} (e : EditMeaning E) where
   -- Rows of other passes
 
-  walks_by_others : (m : UpdateRun E) (c : Call) (h : History) (r : Row) (key : ℕ) → IsRun TreeAllows c.layout (r ⊳ h) → r.pass.0 ≢ c.pass → Walks e m c h key → Walks e m c (r ⊳ h) key
-  walks_by_others m c h r key run other x =
+  walks_by_others : (m : UpdateRun E) (c : Call) (h : History) (r : Row) (goal : Goal) → IsRun TreeAllows c.layout (r ⊳ h) → r.pass.0 ≢ c.pass → Walks e m c h goal → Walks e m c (r ⊳ h) goal
+  walks_by_others m c h r goal run other x =
       let rests : RestsWith c (r ⊳ h) m.share = rests_by_others c h r m.share run.lawful other x.rests in
       record { small = x.small; rests = rests; quiet = quiet_rests c h r m.share run.lawful rests x.quiet; same = x.same }
 
@@ -93,7 +96,7 @@ module _ {E : Type 0} (e : EditMeaning E) where
     own = x.own;
     own_scx = x.own_scx;
     over = over_more c.layout c.pass scx.scx.0 h r run.lawful (takes_by_others c.layout c.pass scx.scx.0 h r run.lawful other) x.over;
-    tracks = tracks_by_others c.layout c.pass h r (job_of scx) (e.edit m.edit) run.lawful other x.own_scx x.tracks;
+    tracks = tracks_by_others c.layout c.pass h r (job_of scx) (e.edit m.edit f) run.lawful other x.own_scx x.tracks;
     only = only_more c.layout c.pass scx.scx.0 h r c.start run.lawful x.over x.only;
     found = x.found;
     need = x.need;
@@ -104,14 +107,14 @@ module _ {E : Type 0} (e : EditMeaning E) where
 
   kept_at : (m : UpdateRun E) (c : Call) (h : History) (s : Step) (r : Row) (at : UpdateAt) → IsRun TreeAllows c.layout (r ⊳ h) → r.pass.0 ≢ c.pass → UpdateWaitsAt e m c h s at → UpdateWaitsAt e m c (r ⊳ h) s at
   kept_at m c h s r Start run other w = w
-  kept_at m c h s r (Walk walk) run other w = (walks_by_others m c h r walk.key run other w.0, walk_keeps walk c h s r run other w.1)
+  kept_at m c h s r (Walk walk) run other w = (walks_by_others m c h r walk.goal run other w.0, walk_keeps walk c h s r run other w.1)
   kept_at m c h s r (Look f llx) run other w = (w.0, looks_by_others m c h r f llx w.0 run other w.1, llx_keeps TreeAllows llx (from c w.0) h s r run other w.2)
   kept_at m c h s r (Load f nth part) run other w = (
     record { works = works_more e m c h r f nth run (idle_over c (r ⊳ h) run.lawful (full_by_others m c h r f nth run other w.0.full).over) w.0.works; full = full_by_others m c h r f nth run other w.0.full; hand = w.0.hand; wanted = w.0.wanted; settled = w.0.settled },
     w.1,
   )
   kept_at m c h s r (Fill f nth part) run other w = (
-    record { works = works_more e m c h r f nth run (idle_over c (r ⊳ h) run.lawful (full_by_others m c h r f nth run other w.0.full).over) w.0.works; full = full_by_others m c h r f nth run other w.0.full; hand = w.0.hand; done = w.0.done; fill = w.0.fill; part_is = w.0.part_is },
+    record { works = works_more e m c h r f nth run (idle_over c (r ⊳ h) run.lawful (full_by_others m c h r f nth run other w.0.full).over) w.0.works; full = full_by_others m c h r f nth run other w.0.full; hand = w.0.hand; done = w.0.done; part_is = w.0.part_is },
     field_may_more part _ _ (for_field_more c.layout h r m.nodes.first.0 (top e m f) (word_of (piece e m f (nth_node m.nodes nth).0) part)) w.1,
     words_by_others c.layout h r c.pass m.share m.nodes.first.0 (top e m f) (piece e m f) c.is_pass run.lawful other (nth_node m.nodes nth).0 (piece e m f (nth_node m.nodes nth).0) (IsBefore part) w.0.full.hand w.0.hand.lowest w.0.hand.highest w.2,
     w.3,
@@ -131,7 +134,7 @@ module _ {E : Type 0} (e : EditMeaning E) where
   lawful_at m c h s (Load f nth part) run w = load_lawful TreeAllows c h LoadSettled (node (copied e m f) part) s run w.1 record { word = w.0.settled; same = refl } (λ q. cc) w.0.works.inside
   lawful_at m c h s (Fill f nth part) run w = fill_lawful TreeAllows c h (nth_node m.nodes nth).0 part (word_of (piece e m f (nth_node m.nodes nth).0) part) s run w.3
       (w.0.full.hand.own (nth_node m.nodes nth).0 w.0.hand.lowest w.0.hand.highest)
-      (may_fill c.layout h c.pass m.share m.nodes.first.0 (top e m f) (nth_node m.nodes nth).0 (piece e m f) part (word_of (piece e m f (nth_node m.nodes nth).0) part) w.0.fill w.0.hand.lowest w.0.hand.highest w.1 w.0.full)
+      (may_fill c.layout h c.pass m.share m.nodes.first.0 (top e m f) (nth_node m.nodes nth).0 (piece e m f) part (word_of (piece e m f (nth_node m.nodes nth).0) part) (piece_fill (piece e m f (nth_node m.nodes nth).0) part w.0.part_is) w.0.hand.lowest w.0.hand.highest w.1 w.0.full)
   lawful_at m c h s (Scx f scx) run w = scx_lawful TreeAllows scx (from c w.0) h s run w.2
 
   -- the step that an update waits for continues the run
@@ -140,8 +143,8 @@ module _ {E : Type 0} (e : EditMeaning E) where
 
   -- Its own row
 
-  walks_by_step : (m : UpdateRun E) (c : Call) (h : History) (r : Row) (key : ℕ) → IsRun TreeAllows c.layout (r ⊳ h) → r.kind ≢ FillKind → Walks e m c h key → Walks e m c (r ⊳ h) key
-  walks_by_step m c h r key run no_fill x =
+  walks_by_step : (m : UpdateRun E) (c : Call) (h : History) (r : Row) (goal : Goal) → IsRun TreeAllows c.layout (r ⊳ h) → r.kind ≢ FillKind → Walks e m c h goal → Walks e m c (r ⊳ h) goal
+  walks_by_step m c h r goal run no_fill x =
       let rests : RestsWith c (r ⊳ h) m.share = rests_by_step c h r m.share run.lawful no_fill x.rests in
       record { small = x.small; rests = rests; quiet = quiet_rests c h r m.share run.lawful rests x.quiet; same = x.same }
 
@@ -197,15 +200,14 @@ module _ {E : Type 0} (e : EditMeaning E) where
         full = full;
         hand = x.hand;
         done = x.done;
-        fill = x.fill;
         part_is = x.part_is;
       },
-      words_more c.layout h r c.pass m.share m.nodes.first.0 (top e m f) n (piece e m f) part run.lawful refl refl x.fill x.hand.lowest x.hand.highest may x.full p refl words,
-      taken_now c.layout h r c.pass m.share m.nodes.first.0 (top e m f) n (piece e m f) part run.lawful refl refl x.fill x.hand.lowest x.hand.highest may x.full,
+      words_more c.layout h r c.pass m.share m.nodes.first.0 (top e m f) n (piece e m f) part run.lawful refl refl (piece_fill p part x.part_is) x.hand.lowest x.hand.highest may x.full p refl words,
+      taken_now c.layout h r c.pass m.share m.nodes.first.0 (top e m f) n (piece e m f) part run.lawful refl refl (piece_fill p part x.part_is) x.hand.lowest x.hand.highest may x.full,
     )
       where
         full : HasFilledTo c.layout (r ⊳ h) c.pass m.share m.nodes.first.0 (top e m f) n (piece e m f)
-        full = filled_more c.layout h r c.pass m.share m.nodes.first.0 (top e m f) n (piece e m f) part run.lawful refl refl x.fill x.hand.lowest x.hand.highest may x.full
+        full = filled_more c.layout h r c.pass m.share m.nodes.first.0 (top e m f) n (piece e m f) part run.lawful refl refl (piece_fill p part x.part_is) x.hand.lowest x.hand.highest may x.full
 
     fills_then : (s : Step) → s ≡ fill_step e m f nth part → IsRun TreeAllows c.layout (row_of c s h ⊳ h) → Fills e m c h f nth part → May → HoldsWords h n p (IsBefore part) → Then (row_of c s h ⊳ h)
     fills_then s asked run x may words = rw asked (fills_made (rw asked at run) x may words)
@@ -223,7 +225,7 @@ module _ {E : Type 0} (e : EditMeaning E) where
     own = x.own;
     own_scx = x.own_scx;
     over = over_more c.layout c.pass scx.scx.0 h (row_of c s h) run.lawful (λ t own d free. untaken_at TreeAllows (job_of scx) (from c begin) h scx.at s t w d free) x.over;
-    tracks = tracks_by_scx (from c begin) h scx s (e.edit m.edit) run x.run.1 w x.tracks;
+    tracks = tracks_by_scx (from c begin) h scx s (e.edit m.edit f) run x.run.1 w x.tracks;
     only = only_more c.layout c.pass scx.scx.0 h (row_of c s h) c.start run.lawful x.over x.only;
     found = x.found;
     need = x.need;
@@ -234,7 +236,7 @@ module _ {E : Type 0} (e : EditMeaning E) where
 
   made_at : (m : UpdateRun E) (c : Call) (h : History) (s : Step) (v : ℕ) (at : UpdateAt) → IsRun TreeAllows c.layout (row_of c s h ⊳ h) → IsTold s.access (value h s.word) v → UpdateWaitsAt e m c h s at → UpdateIsToldAt e m c (row_of c s h ⊳ h) v at
   made_at m c h s v Start run t w = w
-  made_at m c h s v (Walk walk) run t w = (walks_by_step m c h (row_of c s h) walk.key run (walk_fills_not walk c h s w.1) w.0, walk_made walk c h s v run t w.1)
+  made_at m c h s v (Walk walk) run t w = (walks_by_step m c h (row_of c s h) walk.goal run (walk_fills_not walk c h s w.1) w.0, walk_made walk c h s v run t w.1)
   made_at m c h s v (Look f llx) run t w = (w.0, looks_by_step m c h (row_of c s h) f llx w.0 run (llx_fills_not TreeAllows llx (from c w.0) h s w.2) w.1, llx_made TreeAllows llx (from c w.0) h s v run t w.2)
   made_at m c h s v (Load f nth part) run t w = (loads_made m c h s f nth part run w.1 w.0, load_told c h LoadSettled (node (copied e m f) part) s v w.1 t)
   made_at m c h s v (Fill f nth part) run t w = fills_then m c h f nth part s w.3 run w.0 w.1 w.2
@@ -246,11 +248,20 @@ module _ {E : Type 0} (e : EditMeaning E) where
 
   -- What it is told
 
+  needed_place : (need : Need) (nth : Nth) → IsNeeded need nth → HasPlace need nth
+  needed_place need First x = tt
+  needed_place Three Second x = refl
+  needed_place Three Third x = refl
+  needed_place One Second x = absurd x
+  needed_place One Third x = absurd x
+  needed_place Nothing Second x = absurd x
+  needed_place Nothing Third x = absurd x
+
   fits_at : (m : UpdateRun E) (c : Call) (h : History) (v nodes : ℕ) (at : UpdateAt) → IsRun TreeAllows c.layout h → UpdateIsToldAt e m c h v at → length (taken_nodes h) ≤ nodes → UpdateFitsAt e m (Some v) nodes at
   fits_at m c h v nodes Start run x few = absurd x
   fits_at m c h v nodes (Walk walk) run x few = walk_told walk c h (Some v) nodes run x.1 few
   fits_at m c h v nodes (Look f llx) run x few = tt
-  fits_at m c h v nodes (Load f nth part) run x few = x.0.wanted
+  fits_at m c h v nodes (Load f nth part) run x few = (x.0.wanted, needed_place (e.needs m.edit f) nth x.0.works.need)
   fits_at m c h v nodes (Fill f nth part) run x few = tt
   fits_at m c h v nodes (Scx f scx) run x few = tt
 

@@ -41,14 +41,21 @@ returns-in-Get c v began sound some mode r u is =
     let rests = rests_at v c.args.self.now c.args.turn r in
     let tree = mode ∙ ap (λ (k : Command). mode_of k) c.in-Get.is in
     begins_run v c.args.self.now c.run-in-Get.new.self c.args.turn c.run-in-Get.result
-    (c.run-in-Get.ensures.begins v sound (get_starts v began _ c.new-in-Get.result c.in-Get.key sound tree rests u c.new-in-Get.ensures.key c.new-in-Get.ensures.start (get_ready_first c.new-in-Get.result (machine_call v (record c.args.self.now { begin = c.args.turn }) rests.stands.is_pass v.past) v.past (tree, as_tree v.layout v.past tree sound) (omega (arith, c.new-in-Get.ensures.key)) (ends_self v.past) c.new-in-Get.ensures.start c.new-in-Get.ensures.root) (is ∙ ap (λ (k : Command). Some k) c.in-Get.is)))
+    (c.run-in-Get.ensures.begins v sound (get_starts v began _ c.new-in-Get.result c.in-Get.key sound tree rests u c.new-in-Get.ensures.key c.new-in-Get.ensures.start (get_ready_first c.new-in-Get.result (machine_call v (record c.args.self.now { begin = c.args.turn }) rests.stands.is_pass v.past) v.past (tree, as_tree v.layout v.past tree sound) (omega (arith, c.new-in-Get.ensures.key)) (ends_self v.past) c.new-in-Get.ensures.start c.new-in-Get.ensures.root c.new-in-Get.ensures.goal) (is ∙ ap (λ (k : Command). Some k) c.in-Get.is)))
 
 pub returns-in-Insert : goal.returns-in-Insert
 returns-in-Insert c v began sound some mode r u is =
     let rests = rests_at v c.args.self.now c.args.turn r in
     let tree = mode ∙ ap (λ (k : Command). mode_of k) c.in-Insert.is in
-    begins_run v c.args.self.now c.begin_insert.new.self c.args.turn c.begin_insert.result
-    (c.begin_insert.ensures v began sound some tree rests u (is ∙ ap (λ (k : Command). Some k) c.in-Insert.is))
+    begins_run v c.args.self.now c.begin_edit.new.self c.args.turn c.begin_edit.result
+    (c.begin_edit.ensures v began sound some tree rests u (is ∙ ap (λ (k : Command). Some k) c.in-Insert.is))
+
+pub returns-in-Delete : goal.returns-in-Delete
+returns-in-Delete c v began sound some mode r u is =
+    let rests = rests_at v c.args.self.now c.args.turn r in
+    let tree = mode ∙ ap (λ (k : Command). mode_of k) c.in-Delete.is in
+    begins_run v c.args.self.now c.begin_edit-in-Delete.new.self c.args.turn c.begin_edit-in-Delete.result
+    (c.begin_edit-in-Delete.ensures v began sound some tree rests u (is ∙ ap (λ (k : Command). Some k) c.in-Delete.is))
 
 pub returns-in-Scx : goal.returns-in-Scx
 returns-in-Scx c v began sound some mode r u is =

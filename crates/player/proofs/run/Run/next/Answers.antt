@@ -6,9 +6,7 @@ use Rattle.prims.specs.Put.Known.{PutIsReady}
 use Rattle.prims.specs.Vlx.Known.{VlxIsReady}
 use Rattle.tree.specs.Get.Known.{GetIsReady}
 use Rattle.tree.specs.Get.Laws.{get_told}
-use Rattle.tree.specs.Insert.Means.{insert_means}
-use Rattle.updates.specs.Known.{UpdateIsReady}
-use Rattle.updates.specs.Laws.Update.{update_told}
+use Rattle.player.specs.EditRuns.{EditIsReady}
 use Rattle.player.proofs.Shapes.{as_cells, as_tree}
 use Rattle.player.proofs.run.Run.next.Goals as goal
 
@@ -64,12 +62,12 @@ returns-in-Done-next-2-clause-begins c none first d h ready =
 
 pub returns-in-Ask-next-3-clause-nearer : goal.returns-in-Ask-next-3-clause-nearer
 returns-in-Ask-next-3-clause-nearer c d h nodes mode run ready few =
+    let tree : d.layout.mode ≡ Tree = rw c.in-Edit.is at mode in
+    let r : EditIsReady c.in-Edit.run' d h c.args.got = rw c.in-Edit.is at ready in
+    rw c.in-Edit.is (c.in-Ask-next-3.ensures.nearer d h nodes (as_tree d.layout h tree run) r few)
+
+pub returns-in-Ask-next-4-clause-nearer : goal.returns-in-Ask-next-4-clause-nearer
+returns-in-Ask-next-4-clause-nearer c d h nodes mode run ready few =
     let tree : d.layout.mode ≡ Tree = rw c.in-Get.is at mode in
     let r : GetIsReady c.in-Get.run' d h c.args.got = rw c.in-Get.is at ready in
-    rw c.in-Get.is (c.in-Ask-next-3.ensures.nearer nodes (get_told c.in-Get.run' d h c.args.got nodes (as_tree d.layout h tree run) r few))
-
-pub returns-in-Ask-step-clause-nearer : goal.returns-in-Ask-step-clause-nearer
-returns-in-Ask-step-clause-nearer c d h nodes mode run ready few =
-    let tree : d.layout.mode ≡ Tree = rw c.in-Insert.is at mode in
-    let r : UpdateIsReady insert_means c.in-Insert.run' d h c.args.got = rw c.in-Insert.is at ready in
-    rw c.in-Insert.is (c.in-Ask-step.ensures.nearer nodes (update_told insert_means c.in-Insert.run' d h c.args.got nodes (as_tree d.layout h tree run) r few))
+    rw c.in-Get.is (c.in-Ask-next-4.ensures.nearer nodes (get_told c.in-Get.run' d h c.args.got nodes (as_tree d.layout h tree run) r few))

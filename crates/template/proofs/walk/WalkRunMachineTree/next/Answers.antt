@@ -20,8 +20,8 @@ returns-in-Root-clause-nearer c nodes fits =
 pub returns-in-Value-clause-turn : goal.returns-in-Value-clause-turn
 returns-in-Value-clause-turn c d h run r =
     let found = c.unwrap_or-found.result in
-    let t = told_at c.args.self.now d h c.args.got found (Value c.in-Value.head) c.in-Value.is (λ e. cc) c.unwrap_or-found.ensures r in
-    turn_value d h c.args.self.now c.end.new.self c.end.result c.in-Value.head found c.in-Value.is t c.end.ensures
+    let t = told_at c.args.self.now d h c.args.got found (Value c.in-Value.head c.in-Value.key) c.in-Value.is (λ e. cc) c.unwrap_or-found.ensures r in
+    turn_value d h c.args.self.now c.end.new.self c.end.result c.in-Value.head c.in-Value.key found c.in-Value.is t c.end.ensures
 
 pub returns-in-Head-clause-nearer : goal.returns-in-Head-clause-nearer
 returns-in-Head-clause-nearer c nodes fits =

@@ -13,3 +13,8 @@ pub returns-else-eq-clause-turn : goal.returns-else-eq-clause-turn
 returns-else-eq-clause-turn g c d b h run try x enough =
     let other : c.need.result ≢ Three = search rules in
     c.begin_one.ensures.turn d b h run try (forgets g.E.Edit.means c.args.self.now (from d b) h c.args.found x) enough (needs_one g.E.Edit.means c.args.self.now (from d b) h c.args.found x (rw c.need.ensures at other)) refl
+
+pub returns-then-eq-clause-spends : goal.returns-then-eq-clause-spends
+returns-then-eq-clause-spends g c =
+    let three : c.need.result ≡ Three = search rules in
+    c.begin_three.ensures.spends (rw c.need.ensures at three)

@@ -1,7 +1,13 @@
-use Rattle.std.proofs.Common.{refl, inr}
+use Rattle.std.proofs.Common.{◌≡◌, refl, inr}
 use Rattle.updates.proofs.Nearer.{below, try_less}
-use Rattle.updates.proofs.Turns.{begins_again}
+use Rattle.updates.proofs.Turns.{begins_again, asks_on}
 use Rattle.updates.proofs.update.UpdateRun.lost.Goals as goal
+
+pub returns-clause-gives_up : goal.returns-clause-gives_up
+returns-clause-gives_up g c d h b = asks_on (c.args.self.now.tries ≡ 0) c.begin_walk.result (c.begin_walk.ensures.begins d h (begins_again g.E.Edit.means c.args.self.now _ d h refl refl b))
+
+pub returns-then-self-eq0-clause-gives_up : goal.returns-then-self-eq0-clause-gives_up
+returns-then-self-eq0-clause-gives_up g c d h b = c.if-self-eq0.true
 
 pub returns-clause-nearer : goal.returns-clause-nearer
 returns-clause-nearer g c nodes = below c.begin_walk.result _ _ _ (c.begin_walk.ensures.nearer nodes) (try_less _ _ c.if-self-eq0.false)

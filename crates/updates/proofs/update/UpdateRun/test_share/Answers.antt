@@ -20,10 +20,8 @@ returns-then-eq-clause-turn g c d b h run try first x quiet found =
     let none : c.need-need.result ≡ Nothing = search rules in (
       at_rest g.E.Edit.means c.args.self.now d b h x,
       inl record {
-        found = c.args.found;
         has_found = found_wider d b try.since h _ c.args.found found;
         needless = rw c.need-need.ensures at none;
-        told = refl;
         none = nothing_entered g.E.Edit.means c.args.self.now d b h try x quiet;
       },
     )

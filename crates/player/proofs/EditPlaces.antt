@@ -1,5 +1,5 @@
--- Where an insert took place: at its one entry, which tells what the map had just before. One that
--- is refused has none.
+-- Where an edit took place: at its one entry, which tells what the map had just before. A delete of
+-- an absent key reads; an edit that is refused took place nowhere.
 use Rattle.std.proofs.Common.{◌≡◌, ℕ, suc, ◌⊎◌, inl, inr, ⊎_elim, Bool, true, false, cond, ◌&&◌, ◌||◌, eqb, eqb-true, eq-eqb, ne_eqb, is_some, List, [], ◌∷◌, ◌++◌, Option, Some, None, refl, sym, ◌∙◌, ap, subst}
 use Rattle.arena.specs.declared.limits.Mode.TheVariants.{Tree}
 use Rattle.arena.specs.declared.layout.Layout.{Layout}
@@ -9,11 +9,12 @@ use Rattle.arena.specs.Fills.{IsOwnScx}
 use Rattle.arena.specs.Lawful.{Lawful, IsWin}
 use Rattle.arena.specs.Machines.{IsRun}
 use Rattle.histories.proofs.Lemmas.{UpdateWins, lawful_row, one_scx_owner}
-use Rattle.spelling.specs.OrderedMap.{MapReply, OneValue, Edit, Insert}
+use Rattle.spelling.specs.OrderedMap.{MapEdit, MapReply, OneValue, Edit, Insert, Delete, edit_key}
 use Rattle.spelling.specs.Spelled.{Spells}
 use Rattle.updates.specs.Laws.Entered.{none_yet}
 use Rattle.script.specs.declared.command.Call.{Call}
-use Rattle.script.specs.declared.command.Command.TheVariants.{Insert as InsertOf}
+use Rattle.script.specs.declared.command.Command.{Command}
+use Rattle.script.specs.declared.command.Command.TheVariants.{Insert as InsertOf, Delete as DeleteOf}
 use Rattle.record.specs.declared.record.Line.{Line}
 use Rattle.record.specs.declared.record.Line.TheVariants.{Step, Log, Reply as ReplyLine}
 use Rattle.record.specs.declared.record.Row.{Row as Turn}
@@ -21,20 +22,25 @@ use Rattle.record.specs.declared.record.Row.TheVariants.{Step as Made, Idle}
 use Rattle.record.specs.declared.record.Entry.{Entry}
 use Rattle.record.specs.declared.record.Reply.{Reply}
 use Rattle.record.specs.declared.record.Answer.{Answer}
-use Rattle.record.specs.declared.record.Answer.TheVariants.{Snapshot, Finalized, Fail, Done, Lost, Same, Changed, Unlinked, Full, Value, Contended}
+use Rattle.record.specs.declared.record.Answer.TheVariants.{Full, Value, Contended}
 use Rattle.record.specs.Answers.{HasItsEntry}
 use Rattle.record.specs.CommandRules.{enters, IsRight}
 use Rattle.record.specs.LawfulRun.{AreLines}
 use Rattle.record.specs.Linked.{linked}
 use Rattle.record.specs.MapRecord.{map_of, written_log, entries_of_call, reply_told}
-use Rattle.record.specs.Placed.{IsChange, IsRefused, IsPlacedOnMap}
-use Rattle.record.specs.Turns.{history, answered, begin, start, won, entry_owed, client_of}
+use Rattle.record.specs.Commands.{next_command}
+use Rattle.record.specs.Edits.{HadAtKey}
+use Rattle.record.specs.Placed.{IsChange, IsReading, IsRefused, IsPlacedOnMap}
+use Rattle.record.specs.SpelledMap.{AreSpelled}
+use Rattle.record.specs.Turns.{history, turns, answered, begin, start, won, entry_owed, client_of}
 use Rattle.player.specs.Allowed.{PlayedAllows}
 use Rattle.places.specs.declared.places.Change.{Change}
+use Rattle.player.specs.EditRuns.{edit_command}
 use Rattle.player.specs.Moments.{IsMomentBy}
-use Rattle.player.specs.ClientView.{client_view, Tells, HasInserted}
+use Rattle.player.specs.ClientView.{client_view, Tells, HasEdited}
 use Rattle.record.proofs.Lemmas.{entries_none}
-use Rattle.places.proofs.Lemmas.{spelled}
+use Rattle.places.specs.Entries.{AreEntries}
+use Rattle.places.proofs.Lemmas.{absent_placed, spelled}
 use Rattle.player.proofs.MapCalls.{AreOf, map_calls, run_before, tree_run}
 use Rattle.player.proofs.Winners.{win_enters}
 
@@ -174,37 +180,65 @@ pub unwon_none : (won : Option ℕ) → HasItsEntry false won → won ≡ None
 unwon_none None x = refl
 unwon_none (Some k) x = absurd x
 
-pub insert_placed : (lay : Layout) (tries : ℕ) (calls : List Call) (mode : lay.mode ≡ Tree) (all : AreOf lay.mode calls) (lines : List Line) (changes : List Change) (r : Reply) (c key value' : ℕ) → IsRun PlayedAllows lay (history lay.mode lines) → AreLines lay tries calls lines → entry_owed lay lines ≡ None → r.client.0 ≡ c → r.call ≡ answered lines c → IsRight lay c (history lay.mode lines) (start lay.mode lines c) (linked calls lay.mode lines c) (InsertOf key value') r.answer → Tells (client_view lay tries calls lines c) c (InsertOf key value') r.answer
-    → HasItsEntry (enters (InsertOf key value') r.answer) (won lay lines c) → IsMomentBy calls lines changes (InsertOf key value') r.answer r.begin r.end (won lay lines c) r.moment → IsPlacedOnMap (reply_told r.answer) calls lines (Edit (Insert key value')) r
-insert_placed lay tries calls mode all lines changes r c key value' run x owed own called right tells entry moment = go r.answer refl
-  where
-    refused : HasItsEntry false (won lay lines c) → r.moment ≡ None → IsRefused lines r
-    refused y none = record { none = rw (own, called) (entries_none lay tries calls lines x c (unwon_none (won lay lines c) y)); moment = none }
+-- what is known of a reply that an edit has given
+pub record IsEditReply (lay : Layout) (tries : ℕ) (calls : List Call) (lines : List Line) (changes : List Change) (r : Reply) (c : ℕ) (command : Command) : Type 0 where
+  pub mode : lay.mode ≡ Tree
+  pub all : AreOf lay.mode calls
+  pub run : IsRun PlayedAllows lay (history lay.mode lines)
+  pub lines_are : AreLines lay tries calls lines
+  pub spells : AreSpelled lay calls lines
+  pub entries : AreEntries calls lines changes
+  pub owed : entry_owed lay lines ≡ None
+  pub client : r.client.0 ≡ c
+  pub number : r.call ≡ answered lines c
+  pub next : next_command calls lines c ≡ Some command
+  pub began : begin lines c ≡ Some r.begin
+  pub ended : r.end ≡ turns lines
+  pub right : IsRight lay c (history lay.mode lines) (start lay.mode lines c) (linked calls lay.mode lines c) command r.answer
+  pub tells : Tells (client_view lay tries calls lines c) c command r.answer
+  pub entry : HasItsEntry (enters command r.answer) (won lay lines c)
+  pub moment : IsMomentBy calls lines changes command r.answer r.begin r.end (won lay lines c) r.moment
 
-    told : (old : Option ℕ) → r.answer ≡ Value old → HasInserted (client_view lay tries calls lines c) c key old → r.moment ≡ won lay lines c → IsChange calls lines (Edit (Insert key value')) r
-    told old e y at =
-        let f = find_win lay tries calls c mode all y.row y.before y.scx y.win.wins y.win.own lines run x owed y.win.within y.win.since in
-        record {
-          entry = f.entry;
-          newer = f.newer;
-          older = Step (Made f.number f.row) ∷ f.rest;
-          entered = f.entered;
-          client = f.client ∙ sym own;
-          number = f.call ∙ sym called;
-          once = rw (own, called) f.once;
-          moment = at ∙ f.won_is;
-          replies = rw e (ap (λ (o : Option ℕ). let t : MapReply = OneValue o in Some t) (sym (y.told (map_of calls (written_log f.rest)) (subst (λ (h : History). Spells lay (value h) (map_of calls (written_log f.rest))) f.before_is f.spells))));
-        }
+module _ (lay : Layout) (tries : ℕ) (calls : List Call) (lines : List Line) (changes : List Change) (r : Reply) (c : ℕ) where
+  refused : (command : Command) → IsEditReply lay tries calls lines changes r c command → HasItsEntry false (won lay lines c) → r.moment ≡ None → IsRefused lines r
+  refused command x y none = record { none = rw (x.client, x.number) (entries_none lay tries calls lines x.lines_are c (unwon_none (won lay lines c) y)); moment = none }
 
-    go : (answer : Answer) → r.answer ≡ answer → IsPlacedOnMap (reply_told answer) calls lines (Edit (Insert key value')) r
-    go (Value old) e = told old e (rw e at tells) (rw e at moment)
-    go (Full what left) e = refused (rw e at entry) (rw e at moment)
-    go (Contended node scx) e = refused (rw e at entry) (rw e at moment)
-    go (Snapshot left next) e = absurd (rw e at right)
-    go Finalized e = absurd (rw e at right)
-    go (Fail node scx) e = absurd (rw e at right)
-    go Done e = absurd (rw e at right)
-    go (Lost node scx) e = absurd (rw e at right)
-    go Same e = absurd (rw e at right)
-    go (Changed node scx) e = absurd (rw e at right)
-    go (Unlinked node) e = absurd (rw e at right)
+  told : (e : MapEdit) (old : Option ℕ) → IsEditReply lay tries calls lines changes r c (edit_command e) → r.answer ≡ Value old → HasEdited (client_view lay tries calls lines c) c (edit_key e) old → r.moment ≡ won lay lines c → IsChange calls lines (Edit e) r
+  told e old x is y at =
+      let f = find_win lay tries calls c x.mode x.all y.row y.before y.scx y.win.wins y.win.own lines x.run x.lines_are x.owed y.win.within y.win.since in
+      record {
+        entry = f.entry;
+        newer = f.newer;
+        older = Step (Made f.number f.row) ∷ f.rest;
+        entered = f.entered;
+        client = f.client ∙ sym x.client;
+        number = f.call ∙ sym x.number;
+        once = rw (x.client, x.number) f.once;
+        moment = at ∙ f.won_is;
+        replies = rw is (ap (λ (o : Option ℕ). let t : MapReply = OneValue o in Some t) (sym (y.told (map_of calls (written_log f.rest)) (subst (λ (h : History). Spells lay (value h) (map_of calls (written_log f.rest))) f.before_is f.spells))));
+      }
+
+  -- one that finds nothing at the key reads
+  absent : (key : ℕ) → IsEditReply lay tries calls lines changes r c (DeleteOf key) → r.answer ≡ Value None → IsReading calls lines (Edit (Delete key)) r
+  absent key x is =
+      let found = (rw is at x.moment) x.entries in
+      let had : HadAtKey lay (history lay.mode lines) (start lay.mode lines c) key None = rw is at x.right in
+      let none = unwon_none (won lay lines c) (rw is at x.entry) in
+      absent_placed lay tries calls lines r key x.lines_are x.spells x.owed (rw x.client x.next) (rw x.client none) (rw x.client x.number) (rw x.client x.began) x.ended is (rw x.client had) record { found = found.0; none = found.1 }
+
+  insert_placed : (key put : ℕ) (answer : Answer) → IsEditReply lay tries calls lines changes r c (InsertOf key put) → r.answer ≡ answer → IsPlacedOnMap (reply_told answer) calls lines (Edit (Insert key put)) r
+  insert_placed key put (Value old) x is = told (Insert key put) old x is (rw is at x.tells) (rw is at x.moment)
+  insert_placed key put (Full what left) x is = refused (InsertOf key put) x (rw is at x.entry) (rw is at x.moment)
+  insert_placed key put (Contended node scx) x is = refused (InsertOf key put) x (rw is at x.entry) (rw is at x.moment)
+  insert_placed key put answer x is = absurd (rw is at x.right)
+
+  delete_placed : (key : ℕ) (answer : Answer) → IsEditReply lay tries calls lines changes r c (DeleteOf key) → r.answer ≡ answer → IsPlacedOnMap (reply_told answer) calls lines (Edit (Delete key)) r
+  delete_placed key (Value (Some old)) x is = told (Delete key) (Some old) x is (rw is at x.tells) (rw is at x.moment)
+  delete_placed key (Value None) x is = absent key x is
+  delete_placed key (Full what left) x is = refused (DeleteOf key) x (rw is at x.entry) (rw is at x.moment)
+  delete_placed key (Contended node scx) x is = refused (DeleteOf key) x (rw is at x.entry) (rw is at x.moment)
+  delete_placed key answer x is = absurd (rw is at x.right)
+
+  pub edit_placed : (e : MapEdit) → IsEditReply lay tries calls lines changes r c (edit_command e) → IsPlacedOnMap (reply_told r.answer) calls lines (Edit e) r
+  edit_placed (Insert key put) x = insert_placed key put r.answer x refl
+  edit_placed (Delete key) x = delete_placed key r.answer x refl

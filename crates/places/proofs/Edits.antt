@@ -1,4 +1,4 @@
--- An insert that has made its edit stands at its entry, and tells what the map gave just before.
+-- A call that has made its edit stands at its entry, and tells what the map gave just before.
 use Rattle.std.proofs.Common.{◌≡◌, ℕ, List, ◌∷◌, Option, Some, None, inl, inr, sym, ◌∙◌, ap, subst}
 use Rattle.arena.specs.declared.limits.Mode.TheVariants.{Tree}
 use Rattle.arena.specs.declared.layout.Layout.{Layout}
@@ -8,7 +8,7 @@ use Rattle.arena.specs.Lawful.{Lawful, IsWin, HasWon}
 use Rattle.arena.proofs.Lemmas.{ends_self}
 use Rattle.histories.proofs.Lemmas.{facts_before, lawful_row, lawful_tail, update_is_first, won_since}
 use Rattle.spelling.specs.declared.pair.Pair.{Pair}
-use Rattle.spelling.specs.OrderedMap.{Edit, Insert, OneValue, get}
+use Rattle.spelling.specs.OrderedMap.{MapEdit, Edit, OneValue, edit_key, get}
 use Rattle.spelling.specs.Runs.{IsTreeRun}
 use Rattle.spelling.specs.Spelled.{Spells}
 use Rattle.spelling.proofs.Lemmas.{run_since}
@@ -25,16 +25,9 @@ use Rattle.record.specs.LawfulRun.{AreLines}
 use Rattle.record.proofs.Lemmas.{AreMapCalls}
 use Rattle.places.proofs.Changes.{HasOwnEntry, own_entry}
 use Rattle.places.proofs.Spelled.{spelled}
+use Rattle.places.proofs.Turns.{same_tail}
 
 -- An SCX-record wins once
-
-tail_of : History → History
-tail_of (Start mode) = Start mode
-tail_of (r ⊳ h) = h
-
-same_tail : (a b : History) (r t : StepRow) → r ⊳ a ≡ t ⊳ b → a ≡ b
-unfolding tail_of
-same_tail a b r t e = ap tail_of e
 
 -- none that has won wins again
 no_second : (lay : Layout) (h before older : History) (row win : StepRow) (s : ℕ) → Lawful lay (row ⊳ before) → IsWin before row s → Extends before (win ⊳ older) → IsWin older win s → ⊥
@@ -50,17 +43,17 @@ one_win lay (q ⊳ h) a b r t s l (inr x) (inr y) w v = one_win lay h a b r t s 
 
 -- Where it stands
 
--- what the machine of the insert says: just before the win of this SCX-record the map had this at
--- the key
-pub record HasInserted (lay : Layout) (h : History) (key scx : ℕ) (old : Option ℕ) : Type 0 where
+-- what the machine of an edit says: just before the win of this SCX-record the map had this at the
+-- key
+pub record HasEdited (lay : Layout) (h : History) (key scx : ℕ) (old : Option ℕ) : Type 0 where
   pub row : StepRow
   pub before : History
   pub within : Extends h (row ⊳ before)
   pub wins : IsWin before row scx
   pub told : (map : List Pair) → Spells lay (value before) map → get key map ≡ old
 
-pub insert_placed : (lay : Layout) (tries : ℕ) (calls : List Call) (lines : List Line) (r : Reply) (key v scx turn : ℕ) (old : Option ℕ) → lay.mode ≡ Tree → AreMapCalls calls → AreLines lay tries calls lines → IsTreeRun lay (history lay.mode lines) → entry_owed lay lines ≡ None → won lay lines r.client.0 ≡ Some turn → r.call ≡ answered lines r.client.0 → r.moment ≡ Some turn → r.answer ≡ Value old → HasInserted lay (history lay.mode lines) key scx old → ((x : HasOwnEntry lay tries calls r.client.0 turn lines) → x.entry.scx.0 ≡ scx) → IsChange calls lines (Edit (Insert key v)) r
-insert_placed lay tries calls lines r key v scx turn old mode all a g owed w number moment answer made is = record {
+pub edit_placed : (lay : Layout) (tries : ℕ) (calls : List Call) (lines : List Line) (r : Reply) (edit : MapEdit) (scx turn : ℕ) (old : Option ℕ) → lay.mode ≡ Tree → AreMapCalls calls → AreLines lay tries calls lines → IsTreeRun lay (history lay.mode lines) → entry_owed lay lines ≡ None → won lay lines r.client.0 ≡ Some turn → r.call ≡ answered lines r.client.0 → r.moment ≡ Some turn → r.answer ≡ Value old → HasEdited lay (history lay.mode lines) (edit_key edit) scx old → ((x : HasOwnEntry lay tries calls r.client.0 turn lines) → x.entry.scx.0 ≡ scx) → IsChange calls lines (Edit edit) r
+edit_placed lay tries calls lines r edit scx turn old mode all a g owed w number moment answer made is = record {
   entry = x.entry;
   newer = x.newer;
   older = Step (Made x.number x.row) ∷ x.older;
@@ -81,5 +74,5 @@ insert_placed lay tries calls lines r key v scx turn old mode all a g owed w num
     same : made.before ≡ history lay.mode x.older
     same = one_win lay (history lay.mode lines) made.before (history lay.mode x.older) made.row x.row scx g.1.lawful made.within x.within made.wins (subst (λ (s : ℕ). IsWin (history lay.mode x.older) x.row s) (is x) x.win.wins)
 
-    gives : get key (map_of calls (written_log x.older)) ≡ old
+    gives : get (edit_key edit) (map_of calls (written_log x.older)) ≡ old
     gives = made.told (map_of calls (written_log x.older)) (subst (λ (k : History). Spells lay (value k) (map_of calls (written_log x.older))) (sym same) (spelled lay tries calls mode all x.older x.so_far run x.settled))

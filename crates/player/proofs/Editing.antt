@@ -1,5 +1,5 @@
--- An insert that runs: what its SCX-record in progress says, and the word `call` that it fills.
-use Rattle.std.proofs.Common.{◌≡◌, ℕ, Option, Some, None, refl, sym, ◌∙◌, ap, arith}
+-- An edit that runs: what its SCX-record in progress says, and the word `call` that it fills.
+use Rattle.std.proofs.Common.{◌≡◌, ℕ, Option, Some, None, refl, sym, ◌∙◌, ap, subst, arith}
 use Rattle.arena.specs.declared.layout.Layout.{Layout}
 use Rattle.arena.specs.declared.step.Step.{Step}
 use Rattle.arena.specs.declared.step.Kind.TheVariants.{Fill as FillKind, LoadSettled}
@@ -22,15 +22,17 @@ use Rattle.prims.specs.declared.put.PutAt.TheVariants.{Start as PutStart, Fill a
 use Rattle.prims.specs.declared.scx.ScxAt.{ScxAt}
 use Rattle.prims.specs.declared.scx.ScxAt.TheVariants.{Start as ScxStart, Plan as AtPlan, New as AtNew, Old as AtOld, Member as AtMember, Seen as AtSeen, Call as AtCall, Help}
 use Rattle.prims.proofs.Lemmas.{llx_fills_not, vlx_fills_not, own_in_hand}
-use Rattle.spelling.specs.OrderedMap.{Insert as PutEdit}
+use Rattle.spelling.specs.OrderedMap.{MapEdit}
 use Rattle.spelling.specs.Runs.{Makes}
 use Rattle.spelling.specs.TreeShape.{TreeAllows}
 use Rattle.template.proofs.Lemmas.{walk_fills_not}
 use Rattle.template.specs.Tracked.{Tracks}
-use Rattle.tree.specs.declared.insert.Insert.{Insert as Inserted}
+use Rattle.template.specs.declared.walk.Found.{Found}
+use Rattle.tree.specs.Delete.Means.{delete_means}
 use Rattle.tree.specs.Insert.Means.{insert_means}
 use Rattle.tree.proofs.Lemmas.{get_fills_not}
-use Rattle.updates.specs.Known.{UpdateWaits, UpdateWaitsAt}
+use Rattle.updates.specs.Edits.{EditMeaning}
+use Rattle.updates.specs.Known.{UpdateWaitsAt}
 use Rattle.updates.specs.Laws.Entered.{only_joined}
 use Rattle.updates.specs.Laws.HandScx.{from}
 use Rattle.updates.specs.Laws.Kept.{idle_rests}
@@ -39,12 +41,15 @@ use Rattle.updates.specs.declared.update.UpdateAt.{UpdateAt}
 use Rattle.updates.specs.declared.update.UpdateAt.TheVariants.{Start, Walk, Look, Load, Fill, Scx}
 use Rattle.updates.specs.declared.update.UpdateRun.{UpdateRun}
 use Rattle.script.specs.declared.command.Command.{Command}
-use Rattle.script.specs.declared.command.Command.TheVariants.{Llx as LlxOf, Scx as ScxOf, Vlx as VlxOf, Set as SetOf, Insert as InsertOf, Get as GetOf}
+use Rattle.script.specs.declared.command.Command.TheVariants.{Llx as LlxOf, Scx as ScxOf, Vlx as VlxOf, Set as SetOf, Insert as InsertOf, Delete as DeleteOf, Get as GetOf}
 use Rattle.player.specs.declared.client.Put.{Put}
+use Rattle.player.specs.EditRuns.{EditWaits, edit_of, call_of}
+use Rattle.player.specs.declared.edit.EditRun.{EditRun}
+use Rattle.player.specs.declared.edit.EditRun.TheVariants.{Insert, Delete}
 use Rattle.player.specs.declared.run.Run.{Run}
-use Rattle.player.specs.declared.run.Run.TheVariants.{Llx, Scx as ScxRun, Vlx, Insert, Get}
+use Rattle.player.specs.declared.run.Run.TheVariants.{Llx, Scx as ScxRun, Vlx, Edit, Get}
 use Rattle.player.specs.RunKnown.{RunWaits}
-use Rattle.player.specs.ClientView.{IsMachineOf, IsInsertOf, IsScxOf}
+use Rattle.player.specs.ClientView.{IsMachineOf, IsScxOf}
 
 -- The SCX-record in hand
 
@@ -75,47 +80,57 @@ module _ (allows : Layout → History → ℕ → Type 0) (m : Job) (c : Machine
   scx_says (AtSeen j) s t v w kind word = says_at (part_at (AtSeen j)) s t v w.asked word
   scx_says AtCall s t v w kind word = says_at (part_at AtCall) s t v w.asked word
 
--- what an insert's SCX-record in progress says: it is of the call, makes the insert, and no other
--- of the call has won
-pub record IsInsertHand (m : UpdateRun Inserted) (call : MachineCall) (h : History) (t : ℕ) : Type 0 where
-  pub called : value h (scx_word t CallWord) ≡ m.call
-  pub makes : Makes call.layout h t (PutEdit m.edit.key m.edit.value)
+-- what an edit's SCX-record in progress says: it is of the call of this number, makes the edit, and
+-- no other of the call has won
+pub record IsHandOf (number : ℕ) (edit : MapEdit) (call : MachineCall) (h : History) (t : ℕ) : Type 0 where
+  pub called : value h (scx_word t CallWord) ≡ number
+  pub makes : Makes call.layout h t edit
   pub only : HasEnteredOnly call.layout call.pass t h call.start
 
-module _ (m : UpdateRun Inserted) (call : MachineCall) (h : History) (t : ℕ) (l : Lawful call.layout h) (own : IsOwnScx call.layout call.pass t) (p : IsInProgress h t) where
-  -- what it makes if it is not aborted
-  makes_it : (j : Job) → j.scx.0 ≡ t → Tracks call.layout call.pass h j (PutEdit m.edit.key m.edit.value) → Makes call.layout h t (PutEdit m.edit.key m.edit.value)
-  makes_it j e (Tracks.waits f free) = absurd (free (rw e p.named))
-  makes_it j e (Tracks.begun x) = rw e at x
-  makes_it j e (Tracks.over x) = absurd (let z = p.unfinished in let y = rw e at x in omega (arith, z, y))
+abbrev pub IsEditHand : EditRun → MachineCall → History → ℕ → Type 0
+IsEditHand m call h t = IsHandOf (call_of m) (edit_of m) call h t
 
-  hand_at : (b : History) (s : Step) (at : UpdateAt) → IsTry call b → UpdateWaitsAt insert_means m (from call b) h s at → IsInsertHand m call h t
-  hand_at b s Start try w = absurd w
-  hand_at b s (Walk walk) try w = absurd (idle_rests (from call b) h m.share l w.0.rests t own p)
-  hand_at b s (Look f llx) try w = absurd (idle_rests (from call b) h m.share l w.1.rests t own p)
-  hand_at b s (Load f nth part) try w = absurd (w.0.works.quiet h (ends_self h) w.0.works.since t own p)
-  hand_at b s (Fill f nth part) try w = absurd (w.0.works.quiet h (ends_self h) w.0.works.since t own p)
-  hand_at b s (Scx f scx) try (begin, x, w) =
-      let same : t ≡ scx.scx.0 = own_in_hand call.layout h call.pass t scx.scx.0 l x.over own p in
-      let filled = scx_filled TreeAllows (job_of scx) (from (from call b) begin) h scx.at s (rw same at p.named) w in
-      record {
-        called = rw same (filled.called ∙ x.call);
-        makes = makes_it (job_of scx) (sym same) x.tracks;
-        only = rw same (only_joined call.layout call.pass scx.scx.0 h b call.start x.now try.none x.only);
-      }
+module _ {E : Type 0} (means : EditMeaning E) (m : UpdateRun E) where
+  -- whatever leaf it finds, its edit is this
+  module _ (edit : MapEdit) (fixed : (f : Found) → means.edit m.edit f ≡ edit) (call : MachineCall) (h : History) (t : ℕ) (l : Lawful call.layout h) (own : IsOwnScx call.layout call.pass t) (p : IsInProgress h t) where
+    -- what it makes if it is not aborted
+    makes_it : (j : Job) → j.scx.0 ≡ t → Tracks call.layout call.pass h j edit → Makes call.layout h t edit
+    makes_it j e (Tracks.waits f free) = absurd (free (rw e p.named))
+    makes_it j e (Tracks.begun x) = rw e at x
+    makes_it j e (Tracks.over x) = absurd (let z = p.unfinished in let y = rw e at x in omega (arith, z, y))
 
-  pub insert_hand : (s : Step) → UpdateWaits insert_means m call h s → IsInsertHand m call h t
-  insert_hand s w = hand_at w.0 s m.at w.1 w.3
+    hand_at : (b : History) (s : Step) (at : UpdateAt) → IsTry call b → UpdateWaitsAt means m (from call b) h s at → IsHandOf m.call edit call h t
+    hand_at b s Start try w = absurd w
+    hand_at b s (Walk walk) try w = absurd (idle_rests (from call b) h m.share l w.0.rests t own p)
+    hand_at b s (Look f llx) try w = absurd (idle_rests (from call b) h m.share l w.1.rests t own p)
+    hand_at b s (Load f nth part) try w = absurd (w.0.works.quiet h (ends_self h) w.0.works.since t own p)
+    hand_at b s (Fill f nth part) try w = absurd (w.0.works.quiet h (ends_self h) w.0.works.since t own p)
+    hand_at b s (Scx f scx) try (begin, x, w) =
+        let same : t ≡ scx.scx.0 = own_in_hand call.layout h call.pass t scx.scx.0 l x.over own p in
+        let filled = scx_filled TreeAllows (job_of scx) (from (from call b) begin) h scx.at s (rw same at p.named) w in
+        record {
+          called = rw same (filled.called ∙ x.call);
+          makes = makes_it (job_of scx) (sym same) (subst (Tracks call.layout call.pass h (job_of scx)) (fixed f) x.tracks);
+          only = rw same (only_joined call.layout call.pass scx.scx.0 h b call.start x.now try.none x.only);
+        }
 
--- The word `call`
+  -- The word `call`
 
-insert_says_at : (m : UpdateRun Inserted) (call : MachineCall) (h : History) (s : Step) (t v : ℕ) (at : UpdateAt) → UpdateWaitsAt insert_means m call h s at → s.kind ≡ FillKind → s.word ≡ scx_word t CallWord → word_after s.access v ≡ m.call
-insert_says_at m call h s t v Start w kind word = absurd w
-insert_says_at m call h s t v (Walk walk) w kind word = absurd (walk_fills_not walk call h s w.1 kind)
-insert_says_at m call h s t v (Look f llx) w kind word = absurd (llx_fills_not TreeAllows llx (from call w.0) h s w.2 kind)
-insert_says_at m call h s t v (Load f nth part) w kind word = absurd (let z : LoadSettled ≡ FillKind = ap (λ (q : Step). q.kind) (sym w.1) ∙ kind in cc)
-insert_says_at m call h s t v (Fill f nth part) w kind word = absurd (let z = ap (λ (q : Step). q.word) (sym w.3) ∙ word in cc)
-insert_says_at m call h s t v (Scx f scx) w kind word = scx_says TreeAllows (job_of scx) (from call w.0) h scx.at s t v w.2 kind word ∙ w.1.call
+  update_says_at : (call : MachineCall) (h : History) (s : Step) (t v : ℕ) (at : UpdateAt) → UpdateWaitsAt means m call h s at → s.kind ≡ FillKind → s.word ≡ scx_word t CallWord → word_after s.access v ≡ m.call
+  update_says_at call h s t v Start w kind word = absurd w
+  update_says_at call h s t v (Walk walk) w kind word = absurd (walk_fills_not walk call h s w.1 kind)
+  update_says_at call h s t v (Look f llx) w kind word = absurd (llx_fills_not TreeAllows llx (from call w.0) h s w.2 kind)
+  update_says_at call h s t v (Load f nth part) w kind word = absurd (let z : LoadSettled ≡ FillKind = ap (λ (q : Step). q.kind) (sym w.1) ∙ kind in cc)
+  update_says_at call h s t v (Fill f nth part) w kind word = absurd (let z = ap (λ (q : Step). q.word) (sym w.3) ∙ word in cc)
+  update_says_at call h s t v (Scx f scx) w kind word = scx_says TreeAllows (job_of scx) (from call w.0) h scx.at s t v w.2 kind word ∙ w.1.call
+
+pub edit_hand : (m : EditRun) (call : MachineCall) (h : History) (t : ℕ) → Lawful call.layout h → IsOwnScx call.layout call.pass t → IsInProgress h t → (s : Step) → EditWaits m call h s → IsEditHand m call h t
+edit_hand (Insert m) call h t l own p s w = hand_at insert_means m (edit_of (Insert m)) (λ f. refl) call h t l own p w.0 s m.at w.1 w.3
+edit_hand (Delete m) call h t l own p s w = hand_at delete_means m (edit_of (Delete m)) (λ f. refl) call h t l own p w.0 s m.at w.1 w.3
+
+edit_says : (m : EditRun) (call : MachineCall) (h : History) (s : Step) (t v : ℕ) → EditWaits m call h s → s.kind ≡ FillKind → s.word ≡ scx_word t CallWord → word_after s.access v ≡ call_of m
+edit_says (Insert m) call h s t v w kind word = update_says_at insert_means m (from call w.0) h s t v m.at w.3 kind word
+edit_says (Delete m) call h s t v w kind word = update_says_at delete_means m (from call w.0) h s t v m.at w.3 kind word
 
 put_says_at : (m : PutRun) (call : MachineCall) (h : History) (s : Step) (t v : ℕ) (at : PutAt) → PutWaitsAt AllowsAll call h m at s → s.kind ≡ FillKind → s.word ≡ scx_word t CallWord → word_after s.access v ≡ m.scx.call
 put_says_at m call h s t v PutStart w kind word = absurd w
@@ -130,16 +145,8 @@ put_called (SetOf field y) number m (Some put) x = absurd x
 put_called (LlxOf cell) number m then x = absurd x
 put_called (VlxOf cells) number m then x = absurd x
 put_called (InsertOf key value) number m then x = absurd x
+put_called (DeleteOf key) number m then x = absurd x
 put_called (GetOf key) number m then x = absurd x
-
-pub insert_called : (command : Command) (number : ℕ) (m : UpdateRun Inserted) (then : Option Put) → IsInsertOf command number m then → m.call ≡ number
-insert_called (InsertOf key value) number m None x = x.2
-insert_called (InsertOf key value) number m (Some put) x = absurd x
-insert_called (ScxOf update) number m then x = absurd x
-insert_called (SetOf field y) number m then x = absurd x
-insert_called (LlxOf cell) number m then x = absurd x
-insert_called (VlxOf cells) number m then x = absurd x
-insert_called (GetOf key) number m then x = absurd x
 
 -- a machine that fills the word `call` stores there the number of the client's call
 pub run_says : (command : Command) (number : ℕ) (run : Run) (then : Option Put) (call : MachineCall) (h : History) (s : Step) (t v : ℕ) → IsMachineOf command number run then → RunWaits run call h s → s.kind ≡ FillKind → s.word ≡ scx_word t CallWord → word_after s.access v ≡ number
@@ -147,4 +154,4 @@ run_says command number (Llx m) then call h s t v of w kind word = absurd (llx_f
 run_says command number (Vlx m) then call h s t v of w kind word = absurd (vlx_fills_not m.snaps m.asked call h s w kind)
 run_says command number (Get m) then call h s t v of w kind word = absurd (get_fills_not m call h s w kind)
 run_says command number (ScxRun m) then call h s t v of w kind word = put_says_at m call h s t v m.at w kind word ∙ put_called command number m then of
-run_says command number (Insert m) then call h s t v of w kind word = insert_says_at m (from call w.0) h s t v m.at w.3 kind word ∙ insert_called command number m then of.1
+run_says command number (Edit m) then call h s t v of w kind word = edit_says m call h s t v w kind word ∙ of.1.called

@@ -1,0 +1,73 @@
+-- A call that has answered and changed nothing took place in a turn of its own that `greatest`
+-- finds.
+use Rattle.std.proofs.Common.{◌≡◌, ◌≢◌, ℕ, ◌≤◌, ⊎_elim, false, List, Option, Some, None, IfSome, refl, sym, ap, subst}
+use Rattle.std.specs.Prelude.{IfNone}
+use Rattle.arena.specs.declared.layout.Layout.{Layout}
+use Rattle.arena.specs.declared.step.Kind.{Kind}
+use Rattle.spelling.specs.declared.pair.Pair.{Pair}
+use Rattle.spelling.specs.OrderedMap.{MapCall, Edit, Delete, OneValue, Get, get, reply}
+use Rattle.spelling.specs.Paths.{IsAnswerAt}
+use Rattle.script.specs.declared.command.Call.{Call}
+use Rattle.script.specs.declared.command.Command.TheVariants.{Delete as DeleteOf, Get as GetOf}
+use Rattle.record.specs.declared.record.Line.{Line}
+use Rattle.record.specs.declared.record.Reply.{Reply}
+use Rattle.record.specs.declared.record.Answer.TheVariants.{Value}
+use Rattle.record.specs.Turns.{history, turns, answered, begin, start, won, entry_owed, is_update}
+use Rattle.record.specs.Commands.{next_command}
+use Rattle.record.specs.CommandRules.{MayMake}
+use Rattle.record.specs.Edits.{HadAtKey}
+use Rattle.record.specs.MapRecord.{reply_told, map_at, written_log, entries_of_call}
+use Rattle.record.specs.Placed.{IsGreatestTurn, IsReading}
+use Rattle.record.specs.SpelledMap.{AreSpelled}
+use Rattle.record.specs.LawfulRun.{AreLines}
+use Rattle.record.proofs.Lemmas.{entries_none}
+use Rattle.places.proofs.Turns.{IsAnsweredIn, answer_turn, had_turn}
+
+-- what is found for the call
+pub record IsFoundFor (calls : List Call) (lines : List Line) (key : ℕ) (answer : Option ℕ) (first last : ℕ) (moment : Option ℕ) : Type 0 where
+  pub found : IfSome moment (λ m. IsGreatestTurn (λ n. get key (map_at calls lines n) ≡ answer) first last m)
+  pub none : IfNone moment ((n : ℕ) → first ≤ n → n ≤ last → get key (map_at calls lines n) ≢ answer)
+
+-- a call that tells the value of its key, and that the map has had so after a turn of its own, is a
+-- reading where it stands as was found for it
+reading_placed : (lay : Layout) (tries : ℕ) (calls : List Call) (lines : List Line) (r : Reply) (call : MapCall) (key : ℕ) (answer : Option ℕ) → ((m : List Pair) → reply call m ≡ OneValue (get key m)) → AreLines lay tries calls lines → won lay lines r.client.0 ≡ None → r.call ≡ answered lines r.client.0 → r.end ≡ turns lines → r.answer ≡ Value answer → IsAnsweredIn calls lines key answer r.begin → IsFoundFor calls lines key answer r.begin r.end r.moment → IsReading calls lines call r
+reading_placed lay tries calls lines r call key answer says a unwon number end told some found = go r.moment refl found
+  where
+    tells : (n : ℕ) → get key (map_at calls lines n) ≡ answer → reply_told r.answer ≡ Some (reply call (map_at calls lines n))
+    tells n d = rw (told, says (map_at calls lines n), d) refl
+
+    gives : (n : ℕ) → reply_told r.answer ≡ Some (reply call (map_at calls lines n)) → get key (map_at calls lines n) ≡ answer
+    gives n d = let y : Some (OneValue answer) ≡ Some (OneValue (get key (map_at calls lines n))) = rw (told, says (map_at calls lines n)) at d in cc
+
+    go : (moment : Option ℕ) → r.moment ≡ moment → IsFoundFor calls lines key answer r.begin r.end moment → IsReading calls lines call r
+    go None same y = absurd (y.none some.0 some.1 (subst (λ (n : ℕ). some.0 ≤ n) (sym end) some.2) some.3)
+    go (Some m) same y = record {
+      none = subst (λ (n : ℕ). entries_of_call r.client.0 n (written_log lines) ≡ 0) (sym number) (entries_none lay tries calls lines a r.client.0 unwon);
+      turn = m;
+      moment = same;
+      greatest = record { from = y.found.from; to = y.found.to; holds = tells m y.found.holds; none_later = λ n i j d. y.found.none_later n i j (gives n d) };
+    }
+
+-- A get
+
+-- a get makes no update
+get_reads : (key : ℕ) (kind : Kind) → MayMake (GetOf key) kind → is_update kind ≡ false
+get_reads key kind x = ⊎_elim (λ e. ap is_update e) (λ e. ap is_update e) x
+
+-- some turn of a get that has answered is one after which the map gives its answer
+pub get_turn : (lay : Layout) (tries : ℕ) (calls : List Call) (lines : List Line) (c key : ℕ) (answer : Option ℕ) (first : ℕ) → AreLines lay tries calls lines → AreSpelled lay calls lines → entry_owed lay lines ≡ None → next_command calls lines c ≡ Some (GetOf key) → begin lines c ≡ Some first → IsAnswerAt lay (history lay.mode lines) (start lay.mode lines c) key answer → IsAnsweredIn calls lines key answer first
+get_turn lay tries calls lines c key answer first a x owed is e at = answer_turn lay tries calls c (GetOf key) lines key answer first (get_reads key) a x owed is e at
+
+-- so a get that stands there is a reading
+pub get_placed : (lay : Layout) (tries : ℕ) (calls : List Call) (lines : List Line) (r : Reply) (key : ℕ) (answer : Option ℕ) → AreLines lay tries calls lines → AreSpelled lay calls lines → entry_owed lay lines ≡ None → next_command calls lines r.client.0 ≡ Some (GetOf key) → won lay lines r.client.0 ≡ None → r.call ≡ answered lines r.client.0 → begin lines r.client.0 ≡ Some r.begin → r.end ≡ turns lines → r.answer ≡ Value answer → IsAnswerAt lay (history lay.mode lines) (start lay.mode lines r.client.0) key answer → IsFoundFor calls lines key answer r.begin r.end r.moment → IsReading calls lines (Get key) r
+get_placed lay tries calls lines r key answer a x owed is unwon number e end told at found = reading_placed lay tries calls lines r (Get key) key answer (λ m. refl) a unwon number end told (get_turn lay tries calls lines r.client.0 key answer r.begin a x owed is e at) found
+
+-- A delete of a key that the map lacks
+
+-- some turn of one that has told none is one after which the map lacks the key
+pub absent_turn : (lay : Layout) (tries : ℕ) (calls : List Call) (lines : List Line) (c key : ℕ) (first : ℕ) → AreLines lay tries calls lines → AreSpelled lay calls lines → entry_owed lay lines ≡ None → next_command calls lines c ≡ Some (DeleteOf key) → begin lines c ≡ Some first → HadAtKey lay (history lay.mode lines) (start lay.mode lines c) key None → IsAnsweredIn calls lines key None first
+absent_turn lay tries calls lines c key first a x owed is e had = had_turn lay tries calls c (DeleteOf key) lines key None first a x owed is e had
+
+-- so one that stands there is a reading too
+pub absent_placed : (lay : Layout) (tries : ℕ) (calls : List Call) (lines : List Line) (r : Reply) (key : ℕ) → AreLines lay tries calls lines → AreSpelled lay calls lines → entry_owed lay lines ≡ None → next_command calls lines r.client.0 ≡ Some (DeleteOf key) → won lay lines r.client.0 ≡ None → r.call ≡ answered lines r.client.0 → begin lines r.client.0 ≡ Some r.begin → r.end ≡ turns lines → r.answer ≡ Value None → HadAtKey lay (history lay.mode lines) (start lay.mode lines r.client.0) key None → IsFoundFor calls lines key None r.begin r.end r.moment → IsReading calls lines (Edit (Delete key)) r
+absent_placed lay tries calls lines r key a x owed is unwon number e end told had found = reading_placed lay tries calls lines r (Edit (Delete key)) key None (λ m. refl) a unwon number end told (absent_turn lay tries calls lines r.client.0 key r.begin a x owed is e had) found

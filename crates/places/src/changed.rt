@@ -1,0 +1,16 @@
+//! Which key of the map a command may change.
+ghost use Rattle.std.specs.Prelude.{◌≡◌};
+ghost use Rattle.places.specs.Changed.{changed_key};
+
+use script::Command;
+
+/// The key whose value a command may change, if it may change one.
+pub(crate) fn changed_key(command: Command) -> Option<u64>
+    ensures { result ≡ changed_key command }
+{
+    match command {
+        Command::Insert { key, value: _ } => Some(key),
+        Command::Delete { key } => Some(key),
+        _ => None,
+    }
+}

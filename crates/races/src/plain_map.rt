@@ -1,0 +1,43 @@
+//! A map as a plain list.
+use spelling::Pair;
+use std::alloc::{AllocError, Global};
+
+/// Pairs by rising key.
+#[derive(Drop)]
+pub(crate) struct PlainMap {
+    pairs: Vec<Pair>,
+}
+
+impl PlainMap {
+    pub(crate) fn new(alloc: Global) -> PlainMap {
+        PlainMap {
+            pairs: Vec::new(alloc),
+        }
+    }
+
+    pub(crate) fn pairs(&self) -> &[Pair] {
+        self.pairs.as_slice()
+    }
+
+    pub(crate) fn get(&self, key: u64) -> Option<u64> {
+        self.pairs
+            .iter()
+            .find(|pair| pair.key == key)
+            .map(|pair| pair.value)
+    }
+
+    /// Gives a key a value, and tells the one that it had.
+    pub(crate) fn insert(&mut self, key: u64, value: u64) -> Result<Option<u64>, AllocError> {
+        let old = self.delete(key);
+        self.pairs.push(Pair { key, value })?;
+        self.pairs.sort_by_key(|pair| pair.key)?;
+        Ok(old)
+    }
+
+    /// Takes a key out, and tells the value that it had.
+    pub(crate) fn delete(&mut self, key: u64) -> Option<u64> {
+        let old = self.get(key);
+        self.pairs.retain(|pair| pair.key != key);
+        old
+    }
+}

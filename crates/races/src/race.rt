@@ -1,0 +1,14 @@
+//! A script and a schedule as texts, and the record of their play.
+use arena::Mode;
+use program::{Fault, run};
+use record::Record;
+use script::{read_schedule, read_script};
+use std::alloc::Global;
+use texts::Metered;
+
+/// The record of a script on the tree by a schedule.
+pub(crate) fn played(alloc: Global, script: &str, schedule: &str) -> Result<Record, Fault> {
+    let script = read_script(alloc, Mode::Tree, &mut Metered::new(script.as_bytes()))?;
+    let schedule = read_schedule(alloc, &script, &mut Metered::new(schedule.as_bytes()))?;
+    Ok(run(alloc, &script, &schedule)?)
+}

@@ -1,0 +1,135 @@
+//! Races in which a client stops after each of its steps in turn.
+use crate::check::check;
+use crate::race::played;
+use std::alloc::{AllocError, Global};
+use std::process::Abort;
+use std::test::Fail;
+
+/// A script of two clients, and how many steps client 0 makes by itself: 48 for a key that comes
+/// into the empty map, 45 for another value of it, 72 to take it out again.
+#[derive(Clone, Copy, Debug)]
+struct Race {
+    script: &'static str,
+    steps: u64,
+}
+
+/// Client 0 gives a key three values, client 1 a fourth.
+const INSERTS: Race = Race {
+    script: "\
+limits,2,20,20,3
+0,insert,5,50,
+0,insert,5,51,
+0,insert,5,52,
+1,insert,5,90,
+end,4,,,
+",
+    steps: 48 + 45 + 45,
+};
+
+/// Client 0 takes its key out again, client 1 brings in another one.
+const DELETE_AND_INSERT: Race = Race {
+    script: "\
+limits,2,20,20,3
+0,insert,5,50,
+0,delete,5,,
+1,insert,7,70,
+end,3,,,
+",
+    steps: 48 + 72,
+};
+
+/// Both take client 0's key out.
+const DELETES: Race = Race {
+    script: "\
+limits,2,20,20,2
+0,insert,5,50,
+0,delete,5,,
+1,delete,5,,
+end,3,,,
+",
+    steps: 48 + 72,
+};
+
+const RACES: [Race; 3] = [INSERTS, DELETE_AND_INSERT, DELETES];
+
+/// What the others make of a client that has stopped.
+#[derive(Clone, Copy, Debug)]
+enum Then {
+    /// They finish.
+    Left,
+    /// They finish, and then it does.
+    Finishes,
+    /// The other one makes so many steps, then it finishes, and then the other one does.
+    FinishesBetween(u64),
+}
+
+/// Client 0 makes so many turns, and then this.
+fn schedule(alloc: Global, turns: u64, then: Then) -> Result<String, AllocError> {
+    match then {
+        Then::Left => format!(in alloc; "step,0,,{turns}\nfinish,1,,\nend,2,,\n"),
+        Then::Finishes => {
+            format!(in alloc; "step,0,,{turns}\nfinish,1,,\nfinish,0,,\nend,3,,\n")
+        }
+        Then::FinishesBetween(steps) => format!(in alloc;
+            "step,0,,{turns}\nstep,1,,{steps}\nfinish,0,,\nfinish,1,,\nend,4,,\n"
+        ),
+    }
+}
+
+/// Client 0 stops after each of its steps in turn: each record passes the check.
+fn sweep(rt: &impl Abort, alloc: Global, race: Race, then: Then) -> Result<(), Fail> {
+    for turns in 1..=race.steps {
+        let schedule = schedule(alloc, turns, then)?;
+        let record = played(alloc, race.script, schedule.as_str())?;
+        assert_eq!(rt;
+            check(alloc, &record),
+            Ok(()),
+            "{then:?} after {turns} turns of {race:?}"
+        );
+    }
+    Ok(())
+}
+
+#[test]
+fn a_stopped_client_is_left(rt: HostRuntime) -> Result<(), Fail> {
+    for race in RACES {
+        sweep(&rt, rt.alloc(), race, Then::Left)?;
+    }
+    Ok(())
+}
+
+#[test]
+fn a_stopped_client_goes_on_at_last(rt: HostRuntime) -> Result<(), Fail> {
+    for race in RACES {
+        sweep(&rt, rt.alloc(), race, Then::Finishes)?;
+    }
+    Ok(())
+}
+
+/// The other one stops too: behind its walk, in its look at the node above, just before the update
+/// that it helps to make, behind that, and just before its own.
+#[test]
+fn each_of_two_stops(rt: HostRuntime) -> Result<(), Fail> {
+    for steps in [7, 12, 23, 26, 43] {
+        sweep(&rt, rt.alloc(), INSERTS, Then::FinishesBetween(steps))?;
+    }
+    Ok(())
+}
+
+/// The same with a delete that is helped, or beaten: it is made in the 31st step of the insert that
+/// helps it, which makes its own in the 81st; the delete that beats makes its own in the 71st.
+#[test]
+fn each_of_two_stops_around_a_delete(rt: HostRuntime) -> Result<(), Fail> {
+    for steps in [6, 12, 30, 31, 80] {
+        sweep(
+            &rt,
+            rt.alloc(),
+            DELETE_AND_INSERT,
+            Then::FinishesBetween(steps),
+        )?;
+    }
+    for steps in [7, 12, 30, 31, 70] {
+        sweep(&rt, rt.alloc(), DELETES, Then::FinishesBetween(steps))?;
+    }
+    Ok(())
+}

@@ -1,0 +1,19 @@
+-- What the answers of inserts and deletes have in common.
+use Rattle.std.specs.Prelude.{ℕ, Option}
+use Rattle.arena.specs.declared.layout.Layout.{Layout}
+use Rattle.arena.specs.declared.step.Row.{Row as StepRow}
+use Rattle.arena.specs.History.{History, ◌⊳◌, Extends}
+use Rattle.spelling.specs.Paths.{IsAnswerAt}
+use Rattle.record.specs.declared.record.Answer.{Answer}
+use Rattle.record.specs.declared.record.Answer.TheVariants.{Value, Contended, Full}
+
+-- an edit of the map tells what the key had before, or is refused
+abbrev pub EditAfterStep : Answer → Type 0
+EditAfterStep (Value old) = Unit {0}
+EditAfterStep (Contended node scx) = Unit {0}
+EditAfterStep (Full what left) = Unit {0}
+EditAfterStep _ = ⊥
+
+-- after some row behind the call's begin, the map that the words spelled had this at the key
+abbrev pub HadAtKey : Layout → History → History → ℕ → Option ℕ → Type 0
+HadAtKey lay now start key old = (row : StepRow) × (before : History) × Extends before start × IsAnswerAt lay now (row ⊳ before) key old

@@ -1,0 +1,49 @@
+-- The rules of `delete`.
+use Rattle.std.specs.Prelude.{ℕ, ◌+◌, ◌*◌, Bool, true, false, Option, Some, None}
+use Rattle.arena.specs.declared.layout.Layout.{Layout}
+use Rattle.arena.specs.History.{History}
+use Rattle.spelling.specs.OrderedMap.{Edit, Delete}
+use Rattle.spelling.specs.Runs.{Makes}
+use Rattle.record.specs.declared.record.Answer.{Answer}
+use Rattle.record.specs.declared.record.Answer.TheVariants.{Value, Contended, Full}
+use Rattle.record.specs.Answers.{WasBlockedBy}
+use Rattle.record.specs.Edits.{EditAfterStep, HadAtKey}
+use Rattle.record.specs.MapRecord.{reply_told}
+use Rattle.record.specs.Placed.{IsPlacedOnMap}
+use Rattle.record.specs.Rules.{Rules}
+use Rattle.record.specs.Shares.{HasTooFewToTry}
+
+-- one that tells a value has an entry, and no other: where the map lacks the key it is a reading
+abbrev pub has_deleted : Answer → Bool
+has_deleted (Value (Some old)) = true
+has_deleted _ = false
+
+-- what its answers say
+abbrev pub DeleteIsRight : ℕ → Layout → ℕ → History → History → (ℕ → Option History) → Answer → Type 0
+-- of one that tells a value, its entry and where it took place say all
+DeleteIsRight key lay c now start linked (Value (Some old)) = Unit {0}
+-- after some row behind the call's begin the map lacked the key
+DeleteIsRight key lay c now start linked (Value None) = HadAtKey lay now start key None
+DeleteIsRight key lay c now start linked (Contended node scx) = WasBlockedBy lay c now start node.0 scx.0
+-- after some row behind the call's begin the map had the key, and the share has too little for the
+-- copy of its leaf's sibling, and not by the call's own doing
+DeleteIsRight key lay c now start linked (Full what left) = (old : ℕ) × HadAtKey lay now start key (Some old) × HasTooFewToTry lay c now start 1 what left
+DeleteIsRight key lay c now start linked _ = ⊥
+
+-- in each of its tries: at most three steps for each level that the tree may have, two more than
+-- nodes are taken, and 301 others, of any kind; a node and an SCX-record. It leaves snapshots
+-- alone. Its entry is of an SCX-record that takes the key out
+abbrev pub delete_rules : ℕ → Rules
+delete_rules key = record {
+  most_steps = λ tries taken. tries * (3 * (2 + taken) + 301);
+  most_nodes = λ tries. tries;
+  most_scx = λ tries. tries;
+  MayMake = λ kind. Unit {0};
+  IsAtOnce = λ answer. ⊥;
+  IsAfterStep = EditAfterStep;
+  enters = has_deleted;
+  linked_then = λ answer now n old. old;
+  IsRight = DeleteIsRight key;
+  IsEntryFor = λ lay c before start linked e. Makes lay before e.scx (Delete key);
+  IsPlaced = λ lay calls lines reply. IsPlacedOnMap (reply_told reply.answer) calls lines (Edit (Delete key)) reply;
+}

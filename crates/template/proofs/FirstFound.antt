@@ -1,0 +1,130 @@
+-- What the walk to the first leaf has found: the leaf on the path of its own key, and the first pair
+-- of the map.
+use Rattle.std.proofs.Common.{true, false, ◌≡◌, ◌≢◌, ℕ, ◌<◌, ◌≤◌, ◌^◌, cond, eqb, ltb, eq-eqb, ne_eqb, lt-ltb, refl, sym, ◌∙◌, ap, arith, subst, Option, Some, None}
+use Rattle.std.specs.Prelude.{unwrap_or}
+use native.Mathlib.Decide.{ℕ_discrete}
+use Rattle.arena.specs.declared.word.Side.{Side}
+use Rattle.arena.specs.declared.word.Side.TheVariants.{Left, Right}
+use Rattle.arena.specs.declared.word.NodeWord.TheVariants.{Key as KeyWord, Value as ValueWord}
+use Rattle.arena.specs.Words.{node, child}
+use Rattle.arena.specs.History.{History, value, Extends}
+use Rattle.arena.specs.Machines.{Call}
+use Rattle.histories.proofs.Lemmas.{node_since}
+use Rattle.spelling.specs.declared.pair.Pair.{Pair}
+use Rattle.spelling.specs.OrderedMap.{pair, get}
+use Rattle.spelling.specs.Paths.{Passed, IsFirstAt}
+use Rattle.spelling.specs.Runs.{IsTreeRun}
+use Rattle.spelling.specs.TreeWords.{class, is_leaf, rank, toward, said, first_said}
+use Rattle.spelling.proofs.Lemmas.{run_since, walk_small, walk_before, walk_left, walk_least, walk_named, walk_next, walk_own, SameSettled, settled_rank, settled_leaf}
+use Rattle.template.specs.FoundLeaf.{HasEnded, HasFound, HasFoundLeaf, first_told}
+use Rattle.template.specs.Trails.{WasPassed, HasShown, HasTurned}
+use Rattle.template.specs.declared.walk.Found.{Found}
+use Rattle.template.specs.declared.walk.Goal.TheVariants.{Least}
+
+-- what was passed on the way to the least key was passed on the way to each up to its own
+own_passed : (c : Call) (h : History) (k n : ℕ) → IsTreeRun c.layout h → WasPassed c h 0 n → k ≤ rank (value h) n → WasPassed c h k n
+own_passed c h k n run x low = record { first = x.first; own = x.own; passed = walk_own c.layout h x.first k n run x.passed low }
+
+-- what was passed by a moment says what it said
+passed_same : (c : Call) (h m : History) (k n : ℕ) → IsTreeRun c.layout h → Extends h m → WasPassed c m k n → SameSettled (value m) (value h) n
+passed_same c h m k n run e x part i = node_since c.layout h m n part run.1.lawful e i (walk_named c.layout m x.first k n (run_since c.layout h m run e) x.passed)
+
+module _ (c : Call) (h : History) (n : ℕ) (side : Side) (next : ℕ) (run : IsTreeRun c.layout h) (x : HasTurned c h 0 n side next) where
+  -- a walk to the least key has turned left
+  is_left : side ≡ Left
+  is_left = sym x.side_is ∙ walk_left c.layout h x.passed.first n run x.passed.passed x.fork
+
+  -- and what it has found there comes before the fork
+  turned_before : rank (value h) next < rank (value h) n
+  turned_before =
+      let s = x.shown in
+      let then : IsTreeRun c.layout s.moment = run_since c.layout h s.moment run s.within in
+      let same : SameSettled (value s.moment) (value h) n = passed_same c h s.moment 0 n run s.within s.passed in
+      let fork : is_leaf (value s.moment) n ≡ false = sym (settled_leaf (value s.moment) (value h) n same) ∙ x.fork in
+      let held : value s.moment (child n Left) ≡ next = subst (λ (q : Side). value s.moment (child n q) ≡ next) is_left s.held in
+      let left : toward (value s.moment) n 0 ≡ Left = walk_left c.layout s.moment s.passed.first n then s.passed.passed fork in
+      let down : WasPassed c s.moment 0 next = record { first = s.passed.first; own = s.passed.own; passed = subst (Passed s.moment s.passed.first 0) (ap (λ (q : Side). value s.moment (child n q)) left ∙ held) (walk_next c.layout s.moment s.passed.first 0 n then s.passed.passed fork) } in
+      let before : rank (value s.moment) (value s.moment (child n Left)) < rank (value s.moment) n = walk_before c.layout s.moment s.passed.first 0 n then s.passed.passed fork in
+      rw (settled_rank (value s.moment) (value h) n same, settled_rank (value s.moment) (value h) next (passed_same c h s.moment 0 next run s.within down)) (rw held at before)
+
+  -- so it is on the way to each key before the fork
+  own_turned : (k : ℕ) → k < rank (value h) n → HasTurned c h k n side next
+  own_turned k low = record {
+    passed = own_passed c h k n run x.passed (omega (arith, low));
+    fork = x.fork;
+    side_is = rw (lt-ltb k (rank (value h) n) low) (sym is_left);
+    shown =
+        let s = x.shown in
+        let e : rank (value h) n ≡ rank (value s.moment) n = settled_rank (value s.moment) (value h) n (passed_same c h s.moment 0 n run s.within s.passed) in
+        record {
+          moment = s.moment;
+          within = s.within;
+          own = s.own;
+          passed = own_passed c s.moment k n (run_since c.layout h s.moment run s.within) s.passed (omega (arith, low, e));
+          held = s.held;
+        };
+  }
+
+-- the key of a leaf of class 0 is below 2 ^ 64
+pub found_small : {asked : ℕ} (k : ℕ) (c : Call) (h : History) (f : Found) → IsTreeRun c.layout h → HasEnded c h k asked f → f.head.class ≡ 0 → f.key < 2 ^ 64
+found_small k c h f run a low = rw (a.key low) at (walk_small c.layout h a.trail.node.first k f.trail.node.0 run a.trail.node.passed a.leaf)
+
+module _ (c : Call) (h : History) (f : Found) (run : IsTreeRun c.layout h) (a : HasFound Least c h f) where
+  abbrev leaf : ℕ
+  leaf = f.trail.node.0
+
+  class_is : class (value h) leaf ≡ f.head.class
+  class_is = ap (λ w. w.class) a.head
+
+  own_key : f.head.class ≡ 0 → rank (value h) leaf ≡ f.key
+  own_key low = let x = class_is in let y = a.key low in omega (arith, x, y, low)
+
+  -- where the first leaf has a key, it is the leaf of that
+  pub found_own : f.head.class ≡ 0 → HasFoundLeaf c h f.key f
+  found_own low = record {
+    trail = record {
+      node = own_passed c h f.key leaf run a.trail.node (omega (arith, own_key low));
+      parent = λ d. own_turned c h f.trail.parent.0 f.trail.side leaf run (a.trail.parent d) f.key (above_parent d);
+      grand = λ d p. own_turned c h f.trail.grand.0 f.trail.grand_side f.trail.parent.0 run (a.trail.grand d p) f.key (above_grand d p);
+      high = a.trail.high;
+    };
+    leaf = a.leaf;
+    head = a.head;
+    deep = a.deep;
+    key = a.key;
+    blank = a.blank;
+    says = a.says;
+  }
+    where
+      above_parent : leaf ≢ 0 → f.key < rank (value h) f.trail.parent.0
+      above_parent d =
+          let x : rank (value h) leaf < rank (value h) f.trail.parent.0 = turned_before c h f.trail.parent.0 f.trail.side leaf run (a.trail.parent d) in
+          let y = own_key low in
+          omega (arith, x, y)
+
+      above_grand : leaf ≢ 0 → f.trail.parent.0 ≢ 0 → f.key < rank (value h) f.trail.grand.0
+      above_grand d p =
+          let x : rank (value h) f.trail.parent.0 < rank (value h) f.trail.grand.0 = turned_before c h f.trail.grand.0 f.trail.grand_side f.trail.parent.0 run (a.trail.grand d p) in
+          let y = above_parent d in
+          omega (arith, x, y)
+
+  -- it tells the first pair of the map, at a moment of the call
+  pub found_first : IsFirstAt c.layout h a.trail.node.first (first_told f)
+  found_first = subst (IsFirstAt c.layout h a.trail.node.first) told (walk_least c.layout h a.trail.node.first leaf run a.trail.node.passed a.leaf)
+    where
+      at_low : f.head.class ≡ 0 → first_said (value h) leaf ≡ first_told f
+      at_low z =
+          let low : class (value h) leaf ≡ 0 = class_is ∙ z in
+          let key : value h (node leaf KeyWord) ≡ f.key = a.key z in
+          let says : f.value ≡ Some (value h (node leaf ValueWord)) = a.says ∙ rw (eq-eqb (class (value h) leaf) 0 low, eq-eqb f.key (value h (node leaf KeyWord)) (sym key)) refl in
+          rw (eq-eqb (class (value h) leaf) 0 low, eq-eqb f.head.class 0 z, says) (λ i. Some (pair (key i) (value h (node leaf ValueWord))))
+
+      at_high : f.head.class ≢ 0 → first_said (value h) leaf ≡ first_told f
+      at_high d = rw (ne_eqb (class (value h) leaf) 0 (λ z. d (sym class_is ∙ z)), ne_eqb f.head.class 0 d) refl
+
+      go : Dec (f.head.class ≡ 0) → first_said (value h) leaf ≡ first_told f
+      go (yes z) = at_low z
+      go (no d) = at_high d
+
+      told : first_said (value h) leaf ≡ first_told f
+      told = go (ℕ_discrete f.head.class 0)

@@ -1,0 +1,111 @@
+-- A delete fills its copy in order: nothing mentions the copy, and its fields get what the sibling's
+-- held, which has stood in the tree.
+use Rattle.std.proofs.Common.{◌≡◌, ℕ, ◌/◌, ◌%◌, ◌<◌, ◌⊎◌, inl, inr, Bool, true, false, cond, eqb, Option, Some, None, refl, sym, ◌∙◌, ap, subst, arith}
+use Rattle.std.specs.Prelude.{unwrap_or}
+use Rattle.arena.specs.declared.limits.Mode.{Mode}
+use Rattle.arena.specs.declared.word.NodeWord.{NodeWord}
+use Rattle.arena.specs.declared.word.NodeWord.TheVariants.{Head, Child}
+use Rattle.arena.specs.declared.word.Side.{Side}
+use Rattle.arena.specs.declared.step.Step.{Step}
+use Rattle.arena.specs.Fills.{IsInField}
+use Rattle.arena.specs.Heads.{head_of}
+use Rattle.arena.specs.History.{History, value}
+use Rattle.arena.specs.Layout.{opening_nodes}
+use Rattle.arena.specs.Machines.{Call, row_of}
+use Rattle.arena.specs.Words.{node, child}
+use Rattle.histories.proofs.Lemmas.{node_since}
+use Rattle.prims.specs.Laws.Linked.{in_field_named}
+use Rattle.prims.specs.Snap.{child_of}
+use Rattle.prims.specs.declared.snap.Snap.{Snap}
+use Rattle.spelling.specs.FillOrder.{HasStoodInField, AreFilledInOrder, IsFillInOrder}
+use Rattle.spelling.specs.Paths.{WasInTree}
+use Rattle.spelling.specs.TreeShape.{sibling_place}
+use Rattle.spelling.specs.TreeWords.{is_leaf}
+use Rattle.spelling.proofs.Lemmas.{held_stood}
+use Rattle.template.specs.declared.walk.Found.{Found}
+use Rattle.template.specs.declared.walk.Goal.TheVariants.{Key as ToKey}
+use Rattle.tree.specs.declared.delete.Delete.{Delete}
+use Rattle.tree.specs.Delete.Means.{delete_means, delete_need, delete_piece, sibling_of}
+use Rattle.tree.specs.Delete.Sound.{HasFour, copy_fields, few_places, has_four, loaded_head, usable_at}
+use Rattle.tree.proofs.Fills.{piece_is, same_number, same_part, unstood, update_in_order}
+use Rattle.updates.specs.declared.edit.Nodes.{Nodes}
+use Rattle.updates.specs.declared.edit.Nth.{Nth}
+use Rattle.updates.specs.declared.edit.Nth.TheVariants.{First, Second, Third}
+use Rattle.updates.specs.declared.edit.Piece.{Piece}
+use Rattle.updates.specs.declared.edit.Piece.TheVariants.{Leaf, Fork}
+use Rattle.updates.specs.declared.update.UpdateRun.{UpdateRun}
+use Rattle.updates.specs.Known.{HasSnapped, IsNeeded, Fills, UpdateWaits, fill_step, piece, top}
+use Rattle.updates.specs.Laws.Hand.{IsPieceWord}
+use Rattle.updates.specs.Pieces.{nth_node, top_of, word_of}
+
+-- One fresh node
+
+one_place : (o : Option ℕ) (nth : Nth) → IsNeeded (delete_need o) nth → nth ≡ First
+one_place (Some v) First x = refl
+one_place (Some v) Second x = absurd x
+one_place (Some v) Third x = absurd x
+one_place None nth x = absurd x
+
+one_top : (o : Option ℕ) (nth : Nth) (ns : Nodes) → IsNeeded (delete_need o) nth → (nth_node ns nth).0 ≡ top_of (delete_need o) ns
+one_top (Some v) First ns x = refl
+one_top (Some v) Second ns x = absurd x
+one_top (Some v) Third ns x = absurd x
+one_top None nth ns x = absurd x
+
+-- only a fork has fields
+fork_there : (leaf : Bool) (level class k v : ℕ) (s : Snap) (side : Side) → IsPieceWord (cond leaf (Leaf level class k v) (Fork level class k s.left s.right)) (Child side) → leaf ≡ false
+fork_there true level class k v s side p = absurd p
+fork_there false level class k v s side p = refl
+
+module _ (m : UpdateRun Delete) (c : Call) (h : History) (f : Found) (nth : Nth) (part : NodeWord) (x : Fills delete_means m c h f nth part) where
+  -- what the node at hand is to hold
+  abbrev copy : Piece
+  copy = delete_piece f m.snaps.items m.loaded
+
+  said_is : piece delete_means m f (nth_node m.nodes nth).0 ≡ copy
+  said_is = piece_is (delete_need f.value) m.nodes (λ i. delete_piece f m.snaps.items m.loaded) nth x.works.need x.works.in_order
+
+  head_ordered : (k : ℕ) → node (nth_node m.nodes nth).0 part ≡ node k Head → ¬ HasStoodInField h k
+  head_ordered k e = subst (λ n. ¬ HasStoodInField h n) (sym (one_top f.value nth m.nodes x.works.need) ∙ same_number (nth_node m.nodes nth).0 k part Head e) (unstood c.layout h c.pass (top delete_means m f) x.works.run.0 (x.full.hand.own (top delete_means m f) x.full.some (omega arith)) x.full.hand.unmentioned)
+
+  abbrev sibling : Snap
+  sibling = sibling_of f m.snaps.items
+
+  -- the head of the sibling is loaded
+  head_is : unwrap_or m.loaded.head 0 ≡ value h (node sibling.node.0 Head)
+  head_is = ap (λ o. unwrap_or o 0) (loaded_head m.loaded.head m.loaded.key m.loaded.value (value h (node sibling.node.0 Head)) (subst (λ i. delete_means.wants m.edit f m.snaps.items m.loaded i ≡ None) (one_place f.value nth x.works.need) x.done) x.works.loaded.head)
+
+  -- what a field of the sibling held has stood in the tree
+  field_stood : (side : Side) → AreFilledInOrder h → is_leaf (value h) sibling.node.0 ≡ false → WasInTree h (child_of sibling side).0
+  field_stood side filled fork = subst (WasInTree h) (u.is.linked.fields side u.is.info) (held_stood c.layout h u.moment sibling.node.0 side x.works.run filled u.within (named u.is.linked.in_field) u.is.not_final then)
+    where
+      four : HasFour f m.snaps.items
+      four = has_four m.edit f m.snaps.items x.works.enough x.works.looked.seen
+
+      u : HasSnapped c h (ToKey m.edit.key) f sibling
+      u = usable_at m.edit c h f m.snaps.items (sibling_place f.trail.side) (few_places f.trail.side) four x.works.looked
+
+      named : IsInField c.layout u.moment sibling.node.0 → HasStoodInField u.moment sibling.node.0
+      named (inl i) = inl (subst (λ (q : Mode). sibling.node.0 < opening_nodes q) x.works.run.0 i)
+      named (inr y) = inr (y.0, y.1, y.3)
+
+      then : is_leaf (value u.moment) sibling.node.0 ≡ false
+      then = ap (λ w. eqb (w / 4 % 2) 1) (sym (node_since c.layout h u.moment sibling.node.0 Head x.works.run.1.lawful u.within tt (in_field_named sibling.node.0 u.is.linked.in_field))) ∙ fork
+
+  field_ordered : (k : ℕ) (side : Side) → AreFilledInOrder h → node (nth_node m.nodes nth).0 part ≡ child k side → WasInTree h (word_of (piece delete_means m f (nth_node m.nodes nth).0) part)
+  field_ordered k side filled e =
+      let p : part ≡ Child side = same_part (nth_node m.nodes nth).0 k part (Child side) e in
+      let q : IsPieceWord copy (Child side) = subst (λ (a : Piece). IsPieceWord a (Child side)) said_is (subst (λ (a : NodeWord). IsPieceWord (piece delete_means m f (nth_node m.nodes nth).0) a) p x.part_is) in
+      let w : ℕ = unwrap_or m.loaded.head 0 in
+      let fork : (head_of w).leaf ≡ false = fork_there (head_of w).leaf (head_of w).level (head_of w).class (unwrap_or m.loaded.key 0) (unwrap_or m.loaded.value 0) sibling side q in
+      let held : (child_of sibling side).0 ≡ word_of copy (Child side) = copy_fields (head_of w).leaf (head_of w).level (head_of w).class (unwrap_or m.loaded.key 0) (unwrap_or m.loaded.value 0) sibling side q in
+      let same : word_of (piece delete_means m f (nth_node m.nodes nth).0) part ≡ word_of copy (Child side) = ap (λ (a : NodeWord). word_of (piece delete_means m f (nth_node m.nodes nth).0) a) p ∙ ap (λ (a : Piece). word_of a (Child side)) said_is in
+      subst (WasInTree h) (held ∙ sym same) (field_stood side filled (ap (λ v. eqb (v / 4 % 2) 1) (sym head_is) ∙ fork))
+
+  -- a fill of its node is in order
+  fill_in_order : AreFilledInOrder h → IsFillInOrder h (row_of c (fill_step delete_means m f nth part) h)
+  fill_in_order filled = record { head = λ k kind e. inr (head_ordered k e); field = λ k side kind e. inl (field_ordered k side filled e) }
+
+-- whatever step a delete waits for, where nodes were filled in order before
+pub delete_in_order : (m : UpdateRun Delete) (c : Call) (h : History) (s : Step) → AreFilledInOrder h → UpdateWaits delete_means m c h s → IsFillInOrder h (row_of c s h)
+delete_in_order m c h s filled x = update_in_order delete_means m c h s (λ d f nth part y. fill_in_order m d h f nth part y filled) x

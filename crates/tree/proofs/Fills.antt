@@ -1,0 +1,118 @@
+-- In which order the machines of the tree fill words: what all of them have in common.
+use Rattle.std.proofs.Common.{◌≡◌, ◌≢◌, ℕ, suc, ◌/◌, ◌%◌, ◌<◌, ◌≤◌, ◌⊎◌, inl, inr, true, eqb, refl, sym, ◌∙◌, ap, subst, arith}
+use Rattle.std.proofs.lemmas.Bool.{eq-eqb, ne_eqb}
+use Rattle.arena.specs.declared.layout.Layout.{Layout}
+use Rattle.arena.specs.declared.limits.Mode.{Mode}
+use Rattle.arena.specs.declared.limits.Mode.TheVariants.{Tree as TreeMode}
+use Rattle.arena.specs.declared.step.Kind.TheVariants.{Fill as FillKind, LoadSettled}
+use Rattle.arena.specs.declared.step.Step.{Step}
+use Rattle.arena.specs.declared.word.NodeWord.{NodeWord}
+use Rattle.arena.specs.declared.word.NodeWord.TheVariants.{Head, Child}
+use Rattle.arena.specs.declared.word.ScxWord.{ScxWord}
+use Rattle.arena.specs.declared.word.Side.{Side}
+use Rattle.arena.specs.declared.word.Word.{Word}
+use Rattle.arena.specs.declared.word.Word.TheVariants.{Node, Scx as ScxOf}
+use Rattle.arena.specs.Fills.{IsOwnNode}
+use Rattle.arena.specs.History.{History, value}
+use Rattle.arena.specs.Layout.{opening_nodes}
+use Rattle.arena.specs.Machines.{Call, row_of}
+use Rattle.arena.specs.Words.{node, scx, child}
+use Rattle.help.specs.Help.Lawful.{help_fills_not}
+use Rattle.histories.specs.Unmentioned.{IsUnmentioned}
+use Rattle.prims.specs.Scx.Known.{Job, ScxWaitsAt, fill_step as scx_fill, job_of}
+use Rattle.prims.specs.declared.scx.ScxAt.{ScxAt}
+use Rattle.prims.specs.declared.scx.ScxAt.TheVariants as scx_at
+use Rattle.prims.proofs.Lemmas.{llx_fills_not}
+use Rattle.spelling.specs.FillOrder.{HasStoodInField, IsFillInOrder}
+use Rattle.spelling.specs.TreeShape.{TreeAllows}
+use Rattle.template.specs.declared.walk.Found.{Found}
+use Rattle.template.proofs.Lemmas.{walk_fills_not}
+use Rattle.tree.specs.declared.get.GetRun.{GetRun}
+use Rattle.tree.specs.Get.Known.{GetWaits}
+use Rattle.tree.proofs.GetTurns.{get_fills_not}
+use Rattle.updates.specs.Edits.{EditMeaning}
+use Rattle.updates.specs.declared.edit.Need.{Need}
+use Rattle.updates.specs.declared.edit.Need.TheVariants.{Nothing, One, Three}
+use Rattle.updates.specs.declared.edit.Nodes.{Nodes}
+use Rattle.updates.specs.declared.edit.Nth.{Nth}
+use Rattle.updates.specs.declared.edit.Nth.TheVariants.{First, Second, Third}
+use Rattle.updates.specs.declared.edit.Piece.{Piece}
+use Rattle.updates.specs.declared.update.UpdateAt.{UpdateAt}
+use Rattle.updates.specs.declared.update.UpdateAt.TheVariants.{Start, Walk, Look, Load, Fill, Scx}
+use Rattle.updates.specs.declared.update.UpdateRun.{UpdateRun}
+use Rattle.updates.specs.Known.{IsNeeded, AreInOrder, Fills, UpdateWaits, UpdateWaitsAt, fill_step, pieces_by, top}
+use Rattle.updates.specs.Laws.HandScx.{from}
+use Rattle.updates.specs.Pieces.{nth_node, piece_head}
+
+-- each holds its own piece
+pub piece_is : (need : Need) (ns : Nodes) (p : Nth → Piece) (nth : Nth) → IsNeeded need nth → AreInOrder need ns → pieces_by p ns (nth_node ns nth).0 ≡ p nth
+piece_is Nothing ns p nth x o = absurd x
+piece_is One ns p First x o = rw (eq-eqb ns.first.0 ns.first.0 refl) refl
+piece_is One ns p Second x o = absurd x
+piece_is One ns p Third x o = absurd x
+piece_is Three ns p First x o = rw (eq-eqb ns.first.0 ns.first.0 refl) refl
+piece_is Three ns p Second x o = rw (ne_eqb ns.second.0 ns.first.0 (λ e. omega (o.0, e, arith)), eq-eqb ns.second.0 ns.second.0 refl) refl
+piece_is Three ns p Third x o = rw (ne_eqb ns.third.0 ns.first.0 (λ e. omega (o.0, o.1, e, arith)), ne_eqb ns.third.0 ns.second.0 (λ e. omega (o.1, e, arith))) refl
+
+-- the head of a leaf says so
+pub leaf_head : (level class : ℕ) → eqb (piece_head level true class / 4 % 2) 1 ≡ true
+leaf_head level class = eq-eqb (piece_head level true class / 4 % 2) 1 (omega arith)
+
+-- Words of nodes
+
+word_part : Word → NodeWord
+word_part (Node n part) = part
+word_part (ScxOf s part) = Head
+
+word_number : Word → ℕ
+word_number (Node n part) = n.0
+word_number (ScxOf s part) = 0
+
+pub same_part : (n k : ℕ) (a b : NodeWord) → node n a ≡ node k b → a ≡ b
+unfolding word_part
+same_part n k a b e = ap word_part e
+
+pub same_number : (n k : ℕ) (a b : NodeWord) → node n a ≡ node k b → n ≡ k
+unfolding word_number
+same_number n k a b e = ap word_number e
+
+-- what nothing mentions has stood in no field
+pub unstood : (lay : Layout) (h : History) (c n : ℕ) → lay.mode ≡ TreeMode → IsOwnNode lay c n → IsUnmentioned h n → ¬ HasStoodInField h n
+unstood lay h c n mode own u (inl i) =
+    let a = own.from in
+    let b : n < opening_nodes lay.mode = subst (λ (m : Mode). n < opening_nodes m) (sym mode) i in
+    omega (a, b, arith)
+unstood lay h c n mode own u (inr x) = u.in_no_field x.0 x.1 x.2
+
+-- a step that fills no node is
+pub no_fill : (c : Call) (h : History) (s : Step) → s.kind ≢ FillKind → IsFillInOrder h (row_of c s h)
+no_fill c h s none = record { head = λ n k e. absurd (none k); field = λ n side k e. absurd (none k) }
+
+scx_fill_in_order : (c : Call) (h : History) (j : Job) (part : ScxWord) → IsFillInOrder h (row_of c (scx_fill j part) h)
+scx_fill_in_order c h j part = record { head = λ n k e. let y : scx j.scx.0 part ≡ node n Head = e in cc; field = λ n side k e. let y : scx j.scx.0 part ≡ child n side = e in cc }
+
+scx_in_order : (c begun : Call) (h : History) (j : Job) (at : ScxAt) (s : Step) → ScxWaitsAt TreeAllows begun h j at s → IsFillInOrder h (row_of c s h)
+scx_in_order c begun h j scx_at.Start s w = absurd w
+scx_in_order c begun h j (scx_at.Help help) s w = no_fill c h s (help_fills_not TreeAllows help begun h s w.0)
+scx_in_order c begun h j scx_at.Plan s w = subst (λ (t : Step). IsFillInOrder h (row_of c t h)) (sym w.asked) (scx_fill_in_order c h j _)
+scx_in_order c begun h j scx_at.New s w = subst (λ (t : Step). IsFillInOrder h (row_of c t h)) (sym w.asked) (scx_fill_in_order c h j _)
+scx_in_order c begun h j scx_at.Old s w = subst (λ (t : Step). IsFillInOrder h (row_of c t h)) (sym w.asked) (scx_fill_in_order c h j _)
+scx_in_order c begun h j (scx_at.Member i) s w = subst (λ (t : Step). IsFillInOrder h (row_of c t h)) (sym w.asked) (scx_fill_in_order c h j _)
+scx_in_order c begun h j (scx_at.Seen i) s w = subst (λ (t : Step). IsFillInOrder h (row_of c t h)) (sym w.asked) (scx_fill_in_order c h j _)
+scx_in_order c begun h j scx_at.Call s w = subst (λ (t : Step). IsFillInOrder h (row_of c t h)) (sym w.asked) (scx_fill_in_order c h j _)
+
+-- an update whose fills of nodes are in order makes all its steps so
+pub update_in_order : {E : Type 0} (means : EditMeaning E) (m : UpdateRun E) (c : Call) (h : History) (s : Step) → ((d : Call) (f : Found) (nth : Nth) (part : NodeWord) → Fills means m d h f nth part → IsFillInOrder h (row_of d (fill_step means m f nth part) h)) → UpdateWaits means m c h s → IsFillInOrder h (row_of c s h)
+update_in_order means m c h s fills x = go m.at x.3
+  where
+    go : (at : UpdateAt) → UpdateWaitsAt means m (from c x.0) h s at → IsFillInOrder h (row_of c s h)
+    go Start w = absurd w
+    go (Walk walk) w = no_fill c h s (walk_fills_not walk (from c x.0) h s w.1)
+    go (Look f llx) w = no_fill c h s (llx_fills_not TreeAllows llx (from (from c x.0) w.0) h s w.2)
+    go (Load f nth part) w = no_fill c h s (λ k. let e : s.kind ≡ LoadSettled = ap (λ (t : Step). t.kind) w.1 in cc)
+    go (Fill f nth part) w = subst (λ (t : Step). IsFillInOrder h (row_of c t h)) (sym w.3) (fills (from c x.0) f nth part w.0)
+    go (Scx f run) w = scx_in_order c (from (from c x.0) w.0) h (job_of run) run.at s w.2
+
+-- a get fills nothing
+pub get_in_order : (m : GetRun) (c : Call) (h : History) (s : Step) → GetWaits m c h s → IsFillInOrder h (row_of c s h)
+get_in_order m c h s w = no_fill c h s (get_fills_not m c h s w)

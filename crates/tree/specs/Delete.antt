@@ -1,0 +1,5 @@
+pub mod Means
+pub mod Laws
+pub mod Shown
+pub mod Sound
+pub mod First
