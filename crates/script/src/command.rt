@@ -23,6 +23,10 @@ pub enum Command {
     Delete { key: u64 },
     /// Looks up a key of the map, in tree mode.
     Get { key: u64 },
+    /// Looks for the pair of the map with the least key above this one, in tree mode.
+    Successor { key: u64 },
+    /// Takes the first pairs of the map from one key to another, at most so many, in tree mode.
+    Range { low: u64, high: u64, most: u32 },
 }
 
 /// What an SCX changes: a field of one of its cells gets a fresh cell with this value, and some of
