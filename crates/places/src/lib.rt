@@ -2,6 +2,7 @@
 #![tactic(auto)]
 
 mod changed;
+mod ordered;
 mod places;
 
 pub use places::{Change, Places};
