@@ -1,5 +1,5 @@
 -- Counting the numbers below a bound of which something is true.
-use Rattle.std.proofs.Common.{◌≡◌, ◌≢◌, ℕ, zero, suc, ◌+◌, ◌<◌, ◌≤◌, Bool, true, false, cond, refl, sym, ◌∙◌, ap, subst, arith}
+use Rattle.std.proofs.Common.{◌≡◌, ◌≢◌, ℕ, zero, suc, ◌+◌, ◌<◌, Bool, true, false, inl, inr, refl, sym, ap, arith}
 use Rattle.std.proofs.lemmas.Bool.{cases_order}
 
 abbrev pub bit : Bool → ℕ
@@ -28,7 +28,7 @@ count_changed zero k f g i e = absurd (omega (i, arith))
 count_changed (suc n) k f g i e = elim (cases_order n k) [
   | inl q ↦ rw (sym q) (newest q)
   | inr (inl q) ↦ absurd (omega (q, i, arith))
-  | inr (inr q) ↦ older q
+  | inr (inr q) ↦ older q (count_changed n k f g q e)
 ]
   where
     newest : n ≡ k → (bit (f n) + count n f) + bit (g n) ≡ (bit (g n) + count n g) + bit (f n)
@@ -36,9 +36,8 @@ count_changed (suc n) k f g i e = elim (cases_order n k) [
         let s = same_below n f g (λ j l. e j (λ r. omega (r, q, l, arith))) in
         omega (s, arith)
 
-    older : k < n → (bit (f n) + count n f) + bit (g k) ≡ (bit (g n) + count n g) + bit (f k)
-    older q =
-        let s = count_changed n k f g q e in
+    older : k < n → count n f + bit (g k) ≡ count n g + bit (f k) → (bit (f n) + count n f) + bit (g k) ≡ (bit (g n) + count n g) + bit (f k)
+    older q s =
         let t : bit (f n) ≡ bit (g n) = ap bit (e n (λ r. omega (r, q, arith))) in
         omega (s, t, arith)
 
@@ -46,7 +45,7 @@ count_changed (suc n) k f g i e = elim (cases_order n k) [
 pub count_nothing : (n : ℕ) (f : ℕ → Bool) → ((j : ℕ) → f j ≡ false) → count n f ≡ 0
 unfolding count
 count_nothing zero f e = refl
-count_nothing (suc n) f e = rw (e n) (count_nothing n f e)
+count_nothing (suc n) f e = let r = count_nothing n f e in rw (e n) (omega (r, arith))
 
 none_left : (b : Bool) (m : ℕ) → bit b + m ≡ 0 → b ≡ false
 none_left true m e = absurd (omega (e, arith))

@@ -51,9 +51,9 @@ pub reply_tells : (command : Command) (call : MapCall) (m : List Pair) → IsOrd
 reply_tells (SuccessorOf k) call m ordered is =
     let same : Successor k ≡ call = cc in
     ap (λ (c : MapCall). pairs_in (Some (reply c m))) (sym same) ∙ ap (λ (o : Option Pair). pairs_in (Some (pair_or_none o))) (successor_first k m) ∙ one_pair (filter (λ (p : Pair). ltb k p.key) m)
-reply_tells (RangeOf low high most) call m ordered is =
-    let same : Range low high most ≡ call = cc in
-    ap (λ (c : MapCall). pairs_in (Some (reply c m))) (sym same) ∙ ap (take most) (between_all low high m)
+reply_tells (RangeOf span) call m ordered is =
+    let same : Range span.low span.high span.most ≡ call = cc in
+    ap (λ (c : MapCall). pairs_in (Some (reply c m))) (sym same) ∙ ap (take span.most) (between_all span.low span.high m)
 reply_tells (Llx cell) call m ordered is = absurd ordered
 reply_tells (Scx update) call m ordered is = absurd ordered
 reply_tells (Vlx cells) call m ordered is = absurd ordered
@@ -68,9 +68,9 @@ same_reply (SuccessorOf k) call m n ordered is same =
     let this : Successor k ≡ call = cc in
     let first : successor k m ≡ successor k n = successor_first k m ∙ first_taken (filter (λ (p : Pair). ltb k p.key) m) ∙ ap first_pair same ∙ sym (first_taken (filter (λ (p : Pair). ltb k p.key) n)) ∙ sym (successor_first k n) in
     subst (λ (c : MapCall). reply c m ≡ reply c n) this (ap pair_or_none first)
-same_reply (RangeOf low high most) call m n ordered is same =
-    let this : Range low high most ≡ call = cc in
-    let all : range low high most m ≡ range low high most n = ap (take most) (between_all low high m) ∙ same ∙ sym (ap (take most) (between_all low high n)) in
+same_reply (RangeOf span) call m n ordered is same =
+    let this : Range span.low span.high span.most ≡ call = cc in
+    let all : range span.low span.high span.most m ≡ range span.low span.high span.most n = ap (take span.most) (between_all span.low span.high m) ∙ same ∙ sym (ap (take span.most) (between_all span.low span.high n)) in
     subst (λ (c : MapCall). reply c m ≡ reply c n) this (ap ManyPairs all)
 same_reply (Llx cell) call m n ordered is same = absurd ordered
 same_reply (Scx update) call m n ordered is same = absurd ordered

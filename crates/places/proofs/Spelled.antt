@@ -70,7 +70,7 @@ module _ (lay : Layout) (tries : ℕ) (calls : List Call) (mode : lay.mode ≡ T
       go (DeleteOf key) is does = rw (call_is (DeleteOf key) is) (edits (Delete key) does)
       go (GetOf key) is does = absurd does
       go (SuccessorOf key) is does = absurd does
-      go (RangeOf low high most) is does = absurd does
+      go (RangeOf span) is does = absurd does
       go (Llx cell) is does = absurd (other (Llx cell) is refl)
       go (Scx update) is does = absurd (other (Scx update) is refl)
       go (Vlx cells) is does = absurd (other (Vlx cells) is refl)

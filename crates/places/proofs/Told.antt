@@ -1,8 +1,8 @@
 -- What an ordered read tells depends on the values of a few keys: those that it reaches.
 use Rattle.std.proofs.Common.{◌≡◌, ◌≢◌, ℕ, zero, suc, ◌<◌, ◌≤◌, ◌⊎◌, inl, inr, ⊎_elim, Bool, true, false, cond, ◌&&◌, ◌||◌, not, eqb, leb, ltb, List, [], ◌∷◌, length, take, Option, Some, None, refl, sym, ◌∙◌, ap, subst, arith}
-use Rattle.std.specs.Prelude.{option_eq}
+use Rattle.std.specs.Option.{option_eq}
 use Rattle.std.specs.List.{filter, list_any}
-use Rattle.std.proofs.lemmas.Bool.{eqb-true, eq-eqb, ne_eqb, leb-true, le-leb, lt-leb, lt-ltb, le-ltb, cases_order, cases_eq, cases_lt, or_right, or_left}
+use Rattle.std.proofs.lemmas.Bool.{eqb-true, eq-eqb, ne_eqb, leb-true, le-leb, lt-leb, lt-ltb, le-ltb, cases_order, cases_eq, cases_lt, or_right, or_left, not-false}
 use Rattle.spelling.specs.declared.pair.Pair.{Pair}
 use Rattle.spelling.specs.OrderedMap.{get, AllAbove, IsRising}
 use Rattle.spelling.proofs.Lemmas.{get_above}
@@ -98,9 +98,9 @@ some_same a b e = cc
 -- lists that agree on all keys which the first pairs of the one reach have the same first pairs
 take_same : (n : ℕ) (b c : List Pair) → IsRising b → IsRising c → ((j : ℕ) → reaches n (take n c) j ≡ true → get j b ≡ get j c) → take n b ≡ take n c
 take_same zero b c r s agree = refl
-take_same (suc n) b [] r s agree = ap (take (suc n)) (no_values b (λ j. agree j refl))
+take_same (suc n) b [] r s agree = ap (take (suc n)) (no_values b (λ j. agree j (let few : ltb 0 (suc n) ≡ true = lt-ltb 0 (suc n) (omega arith) in rw few refl)))
 take_same (suc n) [] (q ∷ qs) r s agree = absurd (let y : None ≡ Some q.value = agree q.key (reaches_more n q.key q (take n qs) ∙ or_left (leb q.key q.key) _ (le-leb q.key q.key (omega arith))) ∙ get_first q qs in cc)
-take_same (suc n) (p ∷ ps) (q ∷ qs) r s agree = go (cases_order p.key q.key)
+take_same (suc n) (p ∷ ps) (q ∷ qs) r s agree = go (cases_order p.key q.key) (λ e. take_same n ps qs r.1 s.1 (rest e))
   where
     reached : (j : ℕ) → j ≤ q.key → reaches (suc n) (q ∷ take n qs) j ≡ true
     reached j l = reaches_more n j q (take n qs) ∙ or_left (leb j q.key) _ (le-leb j q.key l)
@@ -111,14 +111,14 @@ take_same (suc n) (p ∷ ps) (q ∷ qs) r s agree = go (cases_order p.key q.key)
       | inr l ↦ get_low j p.key ps (omega (l, e, arith)) r.0 ∙ sym (get_low j q.key qs l s.0)
     ]
 
-    go : (p.key ≡ q.key) ⊎ ((p.key < q.key) ⊎ (q.key < p.key)) → p ∷ take n ps ≡ q ∷ take n qs
-    go (inl e) =
+    go : (p.key ≡ q.key) ⊎ ((p.key < q.key) ⊎ (q.key < p.key)) → (p.key ≡ q.key → take n ps ≡ take n qs) → p ∷ take n ps ≡ q ∷ take n qs
+    go (inl e) more =
         let v : p.value ≡ q.value = some_same p.value q.value (sym (get_first p ps) ∙ agree p.key (reached p.key (omega (e, arith))) ∙ (rw (eq-eqb p.key q.key e) refl)) in
-        let same : take n ps ≡ take n qs = take_same n ps qs r.1 s.1 (rest e) in
+        let same : take n ps ≡ take n qs = more e in
         let first : p ≡ q = λ i. record { key = e i; value = v i } in
         ap (λ (x : Pair). x ∷ take n ps) first ∙ ap (λ xs. q ∷ xs) same
-    go (inr (inl l)) = absurd (let y : Some p.value ≡ None = sym (get_first p ps) ∙ agree p.key (reached p.key (omega (l, arith))) ∙ get_low p.key p.key (q ∷ qs) (omega arith) (l, above_less p.key q.key qs (omega (l, arith)) s.0) in cc)
-    go (inr (inr l)) = absurd (let y : None ≡ Some q.value = sym (get_low q.key q.key (p ∷ ps) (omega arith) (l, above_less q.key p.key ps (omega (l, arith)) r.0)) ∙ agree q.key (reached q.key (omega arith)) ∙ get_first q qs in cc)
+    go (inr (inl l)) more = absurd (let y : Some p.value ≡ None = sym (get_first p ps) ∙ agree p.key (reached p.key (omega (l, arith))) ∙ get_low p.key p.key (q ∷ qs) (omega arith) (l, above_less p.key q.key qs (omega (l, arith)) s.0) in cc)
+    go (inr (inr l)) more = absurd (let y : None ≡ Some q.value = sym (get_low q.key q.key (p ∷ ps) (omega arith) (l, above_less q.key p.key ps (omega (l, arith)) r.0)) ∙ agree q.key (reached q.key (omega arith)) ∙ get_first q qs in cc)
 
 -- What a read tells of a map
 
@@ -163,9 +163,5 @@ like_told command pairs m old r s told like = take_same (most_told command) soug
             let has : get j before ≡ get j old = get_filter (looks_for command) j old ∙ rw e refl in
             let gives = take_gives (most_told command) j before (filter_rises (looks_for command) old s) t in
             let equal : not (option_eq eqb (get j pairs) (get j m)) ≡ false = rw (e, within) at (like j) in
-            let same : get j pairs ≡ get j m = values_same (get j pairs) (get j m) (not_not (option_eq eqb (get j pairs) (get j m)) equal) in
+            let same : get j pairs ≡ get j m = values_same (get j pairs) (get j m) (not-false (option_eq eqb (get j pairs) (get j m)) equal) in
             sym same ∙ ap (get j) (sym told) ∙ sym gives ∙ has
-
-        not_not : (b : Bool) → not b ≡ false → b ≡ true
-        not_not true e = refl
-        not_not false e = absurd (cc)

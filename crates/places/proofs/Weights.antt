@@ -1,13 +1,14 @@
 -- How many keys are not as told after each turn, from the newest change to the oldest.
-use Rattle.std.proofs.Common.{◌≡◌, ◌≢◌, ℕ, zero, suc, ◌+◌, ◌-◌, ◌<◌, ◌≤◌, ◌⊎◌, inl, inr, ⊎_elim, Bool, true, false, cond, eqb, leb, List, [], ◌∷◌, ◌++◌, length, Option, Some, None, refl, sym, ◌∙◌, ap, subst, arith, append_assoc}
+use Rattle.std.proofs.Common.{◌≡◌, ◌≢◌, ℕ, zero, suc, ◌+◌, ◌-◌, ◌<◌, ◌≤◌, ◌⊎◌, inl, inr, ⊎_elim, Bool, true, false, cond, eqb, leb, List, [], ◌∷◌, ◌++◌, length, length-append, get_or, reverse, Option, Some, None, refl, sym, ◌∙◌, ap, subst, arith, append_assoc}
 use Rattle.std.proofs.lemmas.Bool.{le-leb, eq-eqb, ne_eqb, cases_lt}
+use Rattle.std.proofs.lemmas.List.{length-reverse}
 use Rattle.places.specs.declared.places.Change.{Change}
 use Rattle.places.specs.declared.places.Place.{Place}
-use Rattle.places.specs.Links.{newest_value}
+use Rattle.places.specs.Links.{latest, newest_value, AreLinked}
 use Rattle.places.specs.Ordered.{FallFrom, IsNextBest}
 use Rattle.places.proofs.Values.{value_at}
 use Rattle.places.proofs.Counts.{bit, count, count_same, count_changed}
-use Rattle.places.proofs.Chains.{changes_of, value_before}
+use Rattle.places.proofs.Chains.{changes_of, place_at, value_before}
 
 -- The keys of changes
 
@@ -25,9 +26,57 @@ pub value_beyond : (j m : ℕ) (cs : List Change) → key_bound cs ≤ j → val
 value_beyond j m [] i = refl
 value_beyond j m (c ∷ cs) i = rw (ne_eqb j c.key (λ e. omega (e, i, arith)), value_beyond j m cs (omega (i, arith))) (either (leb c.turn m))
   where
-    either : (b : Bool) → cond b None None ≡ None
+    none : Option ℕ
+    none = None
+
+    either : (b : Bool) → cond b none none ≡ none
     either true = refl
     either false = refl
+
+-- Values after places
+
+-- a key without a place has none
+pub newest_none : (key : ℕ) (ps : List Place) → latest key ps ≡ None → newest_value key (changes_of ps) ≡ None
+newest_none key [] e = refl
+newest_none key (p ∷ ps) e = go (eqb key p.change.key) e (newest_none key ps)
+  where
+    go : (b : Bool) → cond b (Some (length ps)) (latest key ps) ≡ None → (latest key ps ≡ None → newest_value key (changes_of ps) ≡ None) → cond b p.change.value (newest_value key (changes_of ps)) ≡ None
+    go true d more = absurd (let y : Some (length ps) ≡ None = d in cc)
+    go false d more = more d
+
+-- and one with a place has what that says
+pub record IsSaidAt (key i : ℕ) (ps : List Place) : Type 0 where
+  pub newer : List Place
+  pub place : Place
+  pub older : List Place
+  pub is : ps ≡ newer ++ place ∷ older
+  pub number : length older ≡ i
+  pub says : newest_value key (changes_of ps) ≡ place.change.value
+
+said_at : (key i : ℕ) (ps : List Place) → latest key ps ≡ Some i → IsSaidAt key i ps
+said_at key i [] e = absurd (let y : None ≡ Some i = e in cc)
+said_at key i (p ∷ ps) e = go (eqb key p.change.key) refl e (said_at key i ps)
+  where
+    go : (b : Bool) → eqb key p.change.key ≡ b → cond b (Some (length ps)) (latest key ps) ≡ Some i → (latest key ps ≡ Some i → IsSaidAt key i ps) → IsSaidAt key i (p ∷ ps)
+    go true t d more = record { newer = []; place = p; older = ps; is = refl; number = let n : length ps ≡ i = cc in n; says = rw t refl }
+    go false t d more =
+        let x = more d in
+        record { newer = p ∷ x.newer; place = x.place; older = x.older; is = ap (λ qs. p ∷ qs) x.is; number = x.number; says = rw t x.says }
+
+-- the list that has the oldest in front has it there
+pub newest_some : (key i : ℕ) (places newer ps : List Place) (d : Place) → reverse places ≡ newer ++ ps → latest key ps ≡ Some i → newest_value key (changes_of ps) ≡ (get_or places i d).change.value
+newest_some key i places newer ps d split e =
+    let x = said_at key i ps e in
+    let all : reverse places ≡ (newer ++ x.newer) ++ x.place ∷ x.older = split ∙ ap (λ qs. newer ++ qs) x.is ∙ sym (append_assoc newer x.newer (x.place ∷ x.older)) in
+    x.says ∙ ap (λ (q : Place). q.change.value) (sym (ap (λ n. get_or places n d) (sym x.number) ∙ place_at places (newer ++ x.newer) x.place x.older d all))
+
+pub newest_within : (key i : ℕ) (places newer ps : List Place) → reverse places ≡ newer ++ ps → latest key ps ≡ Some i → i < length places
+newest_within key i places newer ps split e =
+    let x = said_at key i ps e in
+    let n : length places ≡ length newer + length ps = sym (length-reverse places) ∙ ap length split ∙ length-append newer ps in
+    let m : length ps ≡ length x.newer + suc (length x.older) = ap length x.is ∙ length-append x.newer (x.place ∷ x.older) in
+    let k = x.number in
+    omega (n, m, k, arith)
 
 -- Turns that fall
 
@@ -171,3 +220,61 @@ module _ (unlike : ℕ → Option ℕ → Bool) (n first last : ℕ) (all : List
     | inl q ↦ x.least m (omega (q, arith)) l
     | inr q ↦ (let h = weight_here best more m rest x q (fall_less (suc first) (suc m) (changes_of rest) (omega (i, arith)) falls) in let v = x.heavy in omega (h, v, arith))
   ]
+
+-- The search, place by place
+
+-- so many places are left
+pub record IsWeighing (unlike : ℕ → Option ℕ → Bool) (n first last best more left : ℕ) (all : List Place) : Type 0 where
+  pub newer : List Place
+  pub rest : List Place
+  pub is : all ≡ newer ++ rest
+  pub number : length rest ≡ left
+  pub weighed : IsWeighed unlike n first last best more all rest
+
+pub next_few : (was is : Bool) (older best more best' more' : ℕ) → IsNextBest was is older best more best' more' → more' ≤ suc more
+next_few true true older best more best' more' x = let e = x.1 in omega (e, arith)
+next_few false false older best more best' more' x = let e = x.1 in omega (e, arith)
+next_few true false older best more best' more' x = let e = x.1 in omega (e, arith)
+next_few false true older best more best' more' (inl x) = let e = x.2 in omega (e, arith)
+next_few false true older best more best' more' (inr x) = let e = x.1 in omega (e, arith)
+
+-- the next of them is the one that the list has there
+record IsPlaceNext (left : ℕ) (place : Place) (rest : List Place) : Type 0 where
+  older : List Place
+  is : rest ≡ place ∷ older
+  number : length older ≡ left - 1
+
+place_next : (items newer rest : List Place) (left : ℕ) (place : Place) → reverse items ≡ newer ++ rest → length rest ≡ left → 0 < left → get_or items (left - 1) place ≡ place → IsPlaceNext left place rest
+place_next items newer [] left place is number some here = absurd (omega (number, some, arith))
+place_next items newer (p ∷ older) left place is number some here =
+    let n : length older ≡ left - 1 = omega (number, arith) in
+    let same : p ≡ place = sym (place_at items newer p older place is) ∙ ap (λ i. get_or items i place) n ∙ here in
+    record { older = older; is = ap (λ q. q ∷ older) same; number = n }
+
+module _ (unlike : ℕ → Option ℕ → Bool) (first last best more left : ℕ) (items : List Place) (place : Place) (some : 0 < left) (here : get_or items (left - 1) place ≡ place) where
+  pub weighing_next : (best' more' : ℕ) (value : Option ℕ) (was is : Bool) → IsWeighing unlike (key_bound (changes_of (reverse items))) first last best more left (reverse items) → AreLinked (reverse items) → first < place.change.turn → ((key : ℕ) (newer older : List Place) → reverse items ≡ newer ++ older → place.before ≡ latest key older → value ≡ newest_value key (changes_of older)) → was ≡ unlike place.change.key value → is ≡ unlike place.change.key place.change.value → IsNextBest was is (place.change.turn - 1) best more best' more' → IsWeighing unlike (key_bound (changes_of (reverse items))) first last best' more' (left - 1) (reverse items)
+  weighing_next best' more' value was is x linked late says w s next =
+      let y = place_next items x.newer x.rest left place x.is x.number some here in
+      let split : reverse items ≡ x.newer ++ place ∷ y.older = x.is ∙ ap (λ qs. x.newer ++ qs) y.is in
+      let behind : reverse items ≡ (x.newer ++ place ∷ []) ++ y.older = split ∙ sym (append_assoc x.newer (place ∷ []) y.older) in
+      let said = says place.change.key (x.newer ++ place ∷ []) y.older behind (linked x.newer place y.older split) in
+      let below : place.change.key < key_bound (changes_of (reverse items)) = subst (λ qs. place.change.key < key_bound (changes_of qs)) (sym split) (key_below x.newer place y.older) in
+      record {
+        newer = x.newer ++ place ∷ [];
+        rest = y.older;
+        is = behind;
+        number = y.number;
+        weighed = weighed_next unlike (key_bound (changes_of (reverse items))) first last (reverse items) best more best' more' place y.older was is (subst (λ qs. IsWeighed unlike (key_bound (changes_of (reverse items))) first last best more (reverse items) qs) y.is x.weighed) late below (ap (unlike place.change.key) (sym said) ∙ sym w) (sym s) next;
+      }
+
+  -- where the next change is not behind the first turn, no other one is
+  pub weighing_ends : (x : IsWeighing unlike (key_bound (changes_of (reverse items))) first last best more left (reverse items)) → place.change.turn ≤ first → FallFrom (suc first) (changes_of x.rest)
+  weighing_ends x early =
+      let y = place_next items x.newer x.rest left place x.is x.number some here in
+      let falls : FallFrom (suc x.weighed.until) (changes_of (place ∷ y.older)) = subst (λ qs. FallFrom (suc x.weighed.until) (changes_of qs)) y.is x.weighed.falls in
+      subst (λ qs. FallFrom (suc first) (changes_of qs)) (sym y.is) (omega (early, arith), falls.1)
+
+-- nor where none is left
+pub none_left_falls : (turn : ℕ) (rest : List Place) → length rest ≤ 0 → FallFrom turn (changes_of rest)
+none_left_falls turn [] e = tt
+none_left_falls turn (p ∷ ps) e = absurd (omega (e, arith))

@@ -1,5 +1,6 @@
 -- Ordered reads: which keys they look for, and what they tell of the map.
-use Rattle.std.specs.Prelude.{ℕ, ◌<◌, Bool, false, ◌&&◌, ◌||◌, not, eqb, leb, ltb, ◌⊎◌, ◌≡◌, suc, true, List, [], ◌∷◌, length, take, Option, Some, option_eq}
+use Rattle.std.specs.Prelude.{ℕ, ◌<◌, Bool, false, ◌&&◌, ◌||◌, not, eqb, leb, ltb, ◌⊎◌, ◌≡◌, suc, true, List, [], ◌∷◌, length, take, Option, Some}
+use Rattle.std.specs.Option.{option_eq}
 use Rattle.std.specs.List.{filter, list_any}
 use Rattle.spelling.specs.declared.pair.Pair.{Pair}
 use Rattle.spelling.specs.OrderedMap.{get, MapReply, OnePair, ManyPairs}
@@ -10,19 +11,19 @@ use Rattle.places.specs.declared.places.Change.{Change}
 -- it is one
 abbrev pub IsOrderedRead : Command → Type 0
 IsOrderedRead (Successor key) = Unit {0}
-IsOrderedRead (Range low high most) = Unit {0}
+IsOrderedRead (Range span) = Unit {0}
 IsOrderedRead _ = ⊥
 
 -- whether it looks for this key
 abbrev pub looks_for : Command → ℕ → Bool
 looks_for (Successor above) key = ltb above key
-looks_for (Range low high most) key = leb low key && leb key high
+looks_for (Range span) key = leb span.low key && leb key span.high
 looks_for _ key = false
 
 -- how many pairs it tells at most
 abbrev pub most_told : Command → ℕ
 most_told (Successor above) = 1
-most_told (Range low high most) = most
+most_told (Range span) = span.most
 most_told _ = 0
 
 -- the pairs that it tells of the map m: the first of those that it looks for

@@ -1,5 +1,6 @@
 //! Ordered reads: which keys they look for, and what they tell of the map.
-ghost use Rattle.std.specs.Prelude.{◌≡◌, ◌+◌, ◌^◌, ◌<◌};
+ghost use Rattle.std.specs.Prelude.{◌≡◌, ◌+◌, ◌^◌, ◌<◌, leb};
+ghost use Rattle.std.specs.List.{list_any};
 ghost use Rattle.spelling.specs.OrderedMap.{get};
 ghost use Rattle.places.specs.Ordered.{looks_for, most_told, reaches, is_unlike, IsNextBest};
 
@@ -21,7 +22,7 @@ fn looks_for(command: Command, key: u64) -> bool
 {
     match command {
         Command::Successor { key: above } => above < key,
-        Command::Range { low, high, most: _ } => low <= key && key <= high,
+        Command::Range(span) => span.low <= key && key <= span.high,
         _ => false,
     }
 }
@@ -32,11 +33,7 @@ fn most_told(command: Command) -> usize
 {
     match command {
         Command::Successor { key: _ } => 1,
-        Command::Range {
-            low: _,
-            high: _,
-            most,
-        } => most as usize,
+        Command::Range(span) => span.most as usize,
         _ => 0,
     }
 }
@@ -45,7 +42,19 @@ fn most_told(command: Command) -> usize
 fn reaches(most: usize, pairs: &[Pair], key: u64) -> bool
     ensures { result ≡ reaches most pairs.now key }
 {
-    pairs.len() < most || pairs.iter().any(|pair| key <= pair.key)
+    pairs.len() < most || go_as_far(pairs, key)
+}
+
+/// Whether one of these pairs has this key, or a key above it.
+fn go_as_far(pairs: &[Pair], key: u64) -> bool
+    ensures { result ≡ list_any (λ p. leb key p.key) pairs.now }
+{
+    for pair in pairs {
+        if key <= pair.key {
+            return true;
+        }
+    }
+    false
 }
 
 /// The value of the key in these pairs.

@@ -33,7 +33,7 @@ use Rattle.prims.specs.declared.llx.LlxRun.{LlxRun}
 use Rattle.prims.specs.declared.llx.LlxAt.TheVariants.{Start}
 use Rattle.prims.specs.declared.vlx.VlxRun.{VlxRun}
 use Rattle.script.specs.declared.command.Command.{Command}
-use Rattle.script.specs.declared.command.Command.TheVariants.{Llx as LlxCommand, Vlx as VlxCommand, Scx as ScxCommand, Set as SetCommand, Insert as InsertCommand, Delete as DeleteCommand, Get as GetCommand}
+use Rattle.script.specs.declared.command.Command.TheVariants.{Llx as LlxCommand, Vlx as VlxCommand, Scx as ScxCommand, Set as SetCommand, Insert as InsertCommand, Delete as DeleteCommand, Get as GetCommand, Successor as SuccessorCommand, Range as RangeCommand}
 use Rattle.player.specs.EditRuns.{EditIsReady, HasSpentOf, IsUnbegunEdit, call_of, edit_command, edit_left, edit_of, edit_steps, share_of}
 use Rattle.player.specs.declared.edit.EditRun.{EditRun}
 use Rattle.player.specs.declared.edit.EditRun.TheVariants.{Insert, Delete}
@@ -81,6 +81,8 @@ llx_few tries (VlxCommand cells) n then f taken = absurd f
 llx_few tries (InsertCommand key value) n then f taken = absurd f
 llx_few tries (DeleteCommand key) n then f taken = absurd f
 llx_few tries (GetCommand key) n then f taken = absurd f
+llx_few tries (SuccessorCommand key) n then f taken = absurd f
+llx_few tries (RangeCommand span) n then f taken = absurd f
 
 -- an LLX of a cell
 pub llx_starts : (v : ClientView) (began : Option ℕ) (c : Client) (m : LlxRun) (then : Option Put) (command : Command) → IsSound v → v.layout.mode ≡ Records → Rests v c → IsUnbegun v began → m.at ≡ Start → m.node.0 ≤ 8 → command_of v c ≡ Some command → IsLlxOf command m.node.0 then → Starts v c (Llx m) then

@@ -32,7 +32,7 @@ use Rattle.prims.specs.declared.llx.Llx.TheVariants.{Snapshot as LlxSnapshot, Fi
 use Rattle.prims.specs.declared.scx.Scx.TheVariants.{Done as ScxDone, Lost as ScxLost}
 use Rattle.prims.specs.declared.vlx.Vlx.TheVariants.{Same as VlxSame, Changed as VlxChanged}
 use Rattle.script.specs.declared.command.Command.{Command}
-use Rattle.script.specs.declared.command.Command.TheVariants.{Llx as LlxOf, Scx as ScxOf, Vlx as VlxOf, Set as SetOf, Insert as InsertOf, Delete as DeleteOf, Get as GetOf}
+use Rattle.script.specs.declared.command.Command.TheVariants.{Llx as LlxOf, Scx as ScxOf, Vlx as VlxOf, Set as SetOf, Insert as InsertOf, Delete as DeleteOf, Get as GetOf, Successor as SuccessorOf, Range as RangeOf}
 use Rattle.script.specs.Cells.{cells_of}
 use Rattle.script.specs.Update.{update_cells}
 use Rattle.player.specs.declared.run.Run.{Run}
@@ -204,6 +204,8 @@ scx_outcome v c (VlxOf cells) m then a start since is_pass x moments alone room 
 scx_outcome v c (InsertOf key value) m then a start since is_pass x moments alone room done lost took y = absurd x
 scx_outcome v c (DeleteOf key) m then a start since is_pass x moments alone room done lost took y = absurd x
 scx_outcome v c (GetOf key) m then a start since is_pass x moments alone room done lost took y = absurd x
+scx_outcome v c (SuccessorOf key) m then a start since is_pass x moments alone room done lost took y = absurd x
+scx_outcome v c (RangeOf span) m then a start since is_pass x moments alone room done lost took y = absurd x
 
 -- a client whose SCX has ended drops its snapshots
 stands_scx : (v : ClientView) (c : Client) (m : PutRun) (linked : ℕ → Option History) → IsDropped m.scx.update.snaps v.linked linked → IsClientState v c (in_hand (held c) (Scx m)) → IsClientState (record v { linked = linked }) c (no_hand (held c))
@@ -338,6 +340,8 @@ vlx_outcome v c (SetOf field value) m then a x moments alone won took is_pass y 
 vlx_outcome v c (InsertOf key value) m then a x moments alone won took is_pass y = absurd x
 vlx_outcome v c (DeleteOf key) m then a x moments alone won took is_pass y = absurd x
 vlx_outcome v c (GetOf key) m then a x moments alone won took is_pass y = absurd x
+vlx_outcome v c (SuccessorOf key) m then a x moments alone won took is_pass y = absurd x
+vlx_outcome v c (RangeOf span) m then a x moments alone won took is_pass y = absurd x
 
 -- what is said of the snapshots as before leaves a client at rest
 rests_as : (v : ClientView) (c : Client) (linked : ℕ → Option History) → IsDropped [] v.linked linked → IsClientState v c (no_hand (held c)) → IsClientState (record v { linked = linked }) c (no_hand (held c))
@@ -401,6 +405,8 @@ ends_as v c command answer is stands holds none o late = record {
 get_outcome : (v : ClientView) (c : Client) (m : GetRun) (command : Command) (then : Option Put) (a : Option ℕ) → IsGetOf command m.key then → IsAnswerAt v.layout v.past v.start m.key a → v.won ≡ None → HasTakenAtMost v.layout c.pass.0 v.past v.start 0 0 → IsOutcome v c.pass.0 [] command (Value a)
 get_outcome v c m (GetOf key) None a of x won took = record { answers = tt; right = rw (sym of) x; entry = entered_none v.won won; tells = tt; took = took; drops = record { gone = λ n z. absurd (among_none n z); others = λ n z. refl } }
 get_outcome v c m (GetOf key) (Some put) a of x won took = absurd of
+get_outcome v c m (SuccessorOf key) then a of x won took = absurd of
+get_outcome v c m (RangeOf span) then a of x won took = absurd of
 get_outcome v c m (LlxOf cell) then a of x won took = absurd of
 get_outcome v c m (ScxOf update) then a of x won took = absurd of
 get_outcome v c m (VlxOf cells) then a of x won took = absurd of
@@ -547,6 +553,8 @@ llx_outcome v c (VlxOf cells) m then a d x took y = absurd x
 llx_outcome v c (InsertOf key value) m then a d x took y = absurd x
 llx_outcome v c (DeleteOf key) m then a d x took y = absurd x
 llx_outcome v c (GetOf key) m then a d x took y = absurd x
+llx_outcome v c (SuccessorOf key) m then a d x took y = absurd x
+llx_outcome v c (RangeOf span) m then a d x took y = absurd x
 
 -- its call ends, where no SCX follows
 pub ends_llx : (v : ClientView) (old : Client) (kept : Kept) (m : LlxRun) (then : Option Put) (a : LlxAnswer) → IsSound v → Answered v old (Llx m) then (ended.Llx a) → kept.found ≡ set old.kept.found (node_of a) (found_of a) → ((then ≡ None) ⊎ ((snap : Snap) → a ≢ LlxSnapshot snap)) → Ends v old (record old { kept = kept }) (answer_of (ended.Llx a))

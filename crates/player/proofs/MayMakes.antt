@@ -7,7 +7,7 @@ use Rattle.arena.specs.Machines.{Call}
 use Rattle.prims.specs.Cells.{AllowsAll}
 use Rattle.prims.proofs.Lemmas.{llx_fills_not}
 use Rattle.script.specs.declared.command.Command.{Command}
-use Rattle.script.specs.declared.command.Command.TheVariants.{Llx as LlxOf, Scx as ScxOf, Vlx as VlxOf, Set as SetOf, Insert as InsertOf, Delete as DeleteOf, Get as GetOf}
+use Rattle.script.specs.declared.command.Command.TheVariants.{Llx as LlxOf, Scx as ScxOf, Vlx as VlxOf, Set as SetOf, Insert as InsertOf, Delete as DeleteOf, Get as GetOf, Successor as SuccessorOf, Range as RangeOf}
 use Rattle.spelling.specs.OrderedMap.{MapEdit, Insert as PutEdit, Delete as TakeEdit}
 use Rattle.player.specs.EditRuns.{edit_of, edit_command}
 use Rattle.player.specs.declared.run.Run.{Run}

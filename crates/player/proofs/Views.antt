@@ -22,7 +22,7 @@ use Rattle.prims.specs.Snaps.{IsAmong}
 use Rattle.prims.specs.Snap.{snap_at}
 use Rattle.prims.specs.declared.snap.Snap.{Snap}
 use Rattle.script.specs.declared.command.Command.{Command}
-use Rattle.script.specs.declared.command.Command.TheVariants.{Llx as LlxOf, Scx as ScxOf, Vlx as VlxOf, Set as SetOf, Insert as InsertOf, Delete as DeleteOf, Get as GetOf}
+use Rattle.script.specs.declared.command.Command.TheVariants.{Llx as LlxOf, Scx as ScxOf, Vlx as VlxOf, Set as SetOf, Insert as InsertOf, Delete as DeleteOf, Get as GetOf, Successor as SuccessorOf, Range as RangeOf}
 use Rattle.player.specs.declared.run.Run.{Run}
 use Rattle.player.specs.declared.run.Run.TheVariants.{Llx, Scx, Vlx, Edit, Get}
 use Rattle.player.specs.declared.client.Client.{Client}
@@ -234,6 +234,8 @@ module _ (v : ClientView) (c : Client) (r : Row) (number : ℕ) (start : History
       source_more (InsertOf key value) n moment y = y
       source_more (DeleteOf key) n moment y = y
       source_more (GetOf key) n moment y = y
+      source_more (SuccessorOf key) n moment y = y
+      source_more (RangeOf span) n moment y = y
 
   -- an LLX has no snapshots yet, and those of a VLX are kept ones
   moments_by : (q : Run) (then : Option Put) (command : Command) → start ≡ v.start → ((m : PutRun) → q ≡ Scx m → r.pass.0 ≡ c.pass.0 → r.kind ≢ LoadInfo) → IsMachineOf command c.number q then → HaveMoments v c.pass.0 command (snaps_of q) → HaveMoments (after_row v r start steps won) c.pass.0 command (snaps_of q)
@@ -246,6 +248,8 @@ module _ (v : ClientView) (c : Client) (r : Row) (number : ℕ) (start : History
   moments_by (Vlx m) then (DeleteOf key) since looks of x = absurd of
   moments_by (Vlx m) then (LlxOf cell) since looks of x = absurd of
   moments_by (Vlx m) then (GetOf key) since looks of x = absurd of
+  moments_by (Vlx m) then (SuccessorOf key) since looks of x = absurd of
+  moments_by (Vlx m) then (RangeOf span) since looks of x = absurd of
   moments_by (Vlx m) then (ScxOf update) since looks of x = absurd of
   moments_by (Vlx m) then (SetOf field x) since looks of y = absurd of
 

@@ -29,7 +29,7 @@ struct Running {
 }
 
 /// How a client stands before a turn.
-#[derive(Clone, Copy, Debug, PartialEq, Eq)]
+#[derive(Debug, Drop, PartialEq, Eq)]
 pub(crate) enum NextAction {
     /// It has no call left.
     Finished,
@@ -74,7 +74,7 @@ impl Client {
     ghost use Rattle.arena.specs.Share.{IsFull, after_taking};
     ghost use Rattle.record.specs.declared.record.Line.{Line};
     ghost use Rattle.places.specs.Places.{changes};
-    ghost use Rattle.player.specs.Moments.{IsMomentBy, IsValueMoment};
+    ghost use Rattle.player.specs.Moments.{IsMomentBy, IsPairsMoment, IsValueMoment};
     ghost use Rattle.player.specs.RunKnown.{share_behind};
     ghost use Rattle.player.specs.RunKnown.{RunAsksFirst};
     ghost use Rattle.player.specs.ClientView.{ClientView, client_view, IsSound, IsAtNextCall, Rests, command_of, Starts, Hears, Answered, Told, CanPut, Puts, held, BeginsOrRefuses, IsNextAction, IsUnbegun, IsClient};
@@ -346,26 +346,49 @@ impl Client {
     }
 
     /// The turn at which an answer stands: of an update that is done, and of an edit, that of its
-    /// entry, of a VLX its first, of an LLX its last, of a get, and of a delete of an absent key, one
-    /// of its turns after which the map was as it tells. `won` is the turn of the last update of the
+    /// entry, of a VLX its first, of an LLX its last, of a reading of the map one of its turns after
+    /// which the map was as it tells. `won` is the turn of the last update of the
     /// client's that has won.
     pub(crate) fn moment(
         &self,
         calls: &[Call],
         turn: u64,
-        answer: Answer,
+        answer: &Answer,
         won: Option<u64>,
         places: &Places,
     ) -> Option<u64>
         requires { self.now.begin ≤ turn }
-        ensures { (call : ScriptCall) (at : ℕ) (lines : List Line) → self.now.next ≡ Some at → slice_get calls.now at ≡ Some call → IsMomentBy calls.now lines (changes places.now) call.command answer self.now.begin turn won result }
+        ensures { (call : ScriptCall) (at : ℕ) (lines : List Line) → self.now.next ≡ Some at → slice_get calls.now at ≡ Some call → IsMomentBy calls.now lines (changes places.now) call.command answer.now self.now.begin turn won result }
     {
         match answer {
             Answer::Done => won,
             Answer::Same => Some(self.begin),
             Answer::Snapshot { left: _, right: _ } => Some(turn),
             Answer::Finalized => Some(turn),
-            Answer::Value(value) => self.value_moment(calls, turn, value, won, places),
+            Answer::Value(value) => self.value_moment(calls, turn, *value, won, places),
+            Answer::Pair(_) => self.pairs_moment(calls, turn, answer, places),
+            Answer::Pairs(_) => self.pairs_moment(calls, turn, answer, places),
+            _ => None,
+        }
+    }
+
+    /// The turn at which an answer stands that tells pairs.
+    fn pairs_moment(
+        &self,
+        calls: &[Call],
+        turn: u64,
+        answer: &Answer,
+        places: &Places,
+    ) -> Option<u64>
+        requires { self.now.begin ≤ turn }
+        ensures { (call : ScriptCall) (at : ℕ) (lines : List Line) → self.now.next ≡ Some at → slice_get calls.now at ≡ Some call → IsPairsMoment calls.now lines (changes places.now) call.command answer.now self.now.begin turn result }
+    {
+        let command = self.call(calls)?.command;
+        match command {
+            Command::Successor { key: _ } => {
+                Some(places.greatest_of(command, answer, self.begin, turn))
+            }
+            Command::Range(_) => Some(places.greatest_of(command, answer, self.begin, turn)),
             _ => None,
         }
     }
@@ -382,13 +405,18 @@ impl Client {
         requires { self.now.begin ≤ turn }
         ensures { (call : ScriptCall) (at : ℕ) (lines : List Line) → self.now.next ≡ Some at → slice_get calls.now at ≡ Some call → IsValueMoment calls.now lines (changes places.now) call.command value self.now.begin turn won result }
     {
-        match self.call(calls)?.command {
+        let command = self.call(calls)?.command;
+        match command {
             Command::Insert { key: _, value: _ } => won,
             Command::Delete { key } => match value {
                 Some(_) => won,
                 None => places.greatest(key, None, self.begin, turn),
             },
             Command::Get { key } => places.greatest(key, value, self.begin, turn),
+            Command::Successor { key: _ } => {
+                let answer = Answer::Value(value);
+                Some(places.greatest_of(command, &answer, self.begin, turn))
+            }
             _ => None,
         }
     }

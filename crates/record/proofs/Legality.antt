@@ -41,7 +41,7 @@ rule_of (InsertOf key value) call lay calls lines r e x = let i : Edit (Insert k
 rule_of (DeleteOf key) call lay calls lines r e x = let i : Edit (Delete key) ≡ call = cc in subst (λ m. IsPlacedOnMap (reply_told r.answer) calls lines m r) i x
 rule_of (GetOf key) call lay calls lines r e x = let i : Get key ≡ call = cc in subst (λ m. IsPlacedOnMap (reply_told r.answer) calls lines m r) i x
 rule_of (SuccessorOf key) call lay calls lines r e x = let i : Successor key ≡ call = cc in subst (λ m. IsPlacedOnMap (reply_told r.answer) calls lines m r) i x
-rule_of (RangeOf low high most) call lay calls lines r e x = let i : Range low high most ≡ call = cc in subst (λ m. IsPlacedOnMap (reply_told r.answer) calls lines m r) i x
+rule_of (RangeOf span) call lay calls lines r e x = let i : Range span.low span.high span.most ≡ call = cc in subst (λ m. IsPlacedOnMap (reply_told r.answer) calls lines m r) i x
 rule_of (Llx cell) call lay calls lines r e x = let y : None ≡ Some call = e in absurd (cc)
 rule_of (ScxOf update) call lay calls lines r e x = let y : None ≡ Some call = e in absurd (cc)
 rule_of (Vlx cells) call lay calls lines r e x = let y : None ≡ Some call = e in absurd (cc)

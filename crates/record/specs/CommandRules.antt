@@ -33,7 +33,7 @@ rules (Insert key value) = insert_rules key value
 rules (Delete key) = delete_rules key
 rules (Get key) = get_rules key
 rules (Successor key) = successor_rules key
-rules (Range low high most) = range_rules low high most
+rules (Range span) = range_rules span.low span.high span.most
 
 -- how many steps a call may make, where it may try so often, while so many nodes are taken, by any
 -- client; those of cells make no more where nodes are taken

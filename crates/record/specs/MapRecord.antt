@@ -19,7 +19,7 @@ map_call (Some (InsertOf key value)) = Some (Edit (Insert key value))
 map_call (Some (DeleteOf key)) = Some (Edit (Delete key))
 map_call (Some (GetOf key)) = Some (Get key)
 map_call (Some (SuccessorOf key)) = Some (Successor key)
-map_call (Some (RangeOf low high most)) = Some (Range low high most)
+map_call (Some (RangeOf span)) = Some (Range span.low span.high span.most)
 map_call _ = None
 
 -- call j of client c, in the script, as a call of the map

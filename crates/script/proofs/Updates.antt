@@ -38,7 +38,7 @@ no_update cells finalize change none (Insert key value) valid row = absurd (omeg
 no_update cells finalize change none (Delete key) valid row = absurd (omega (arith, ap (letter 0) row))
 no_update cells finalize change none (Get key) valid row = absurd (omega (arith, ap (letter 0) row))
 no_update cells finalize change none (Successor key) valid row = absurd (omega (arith, ap (letter 1) row))
-no_update cells finalize change none (Range low high most) valid row = absurd (omega (arith, ap (letter 0) row))
+no_update cells finalize change none (Range span) valid row = absurd (omega (arith, ap (letter 0) row))
 
 taken_or_left : (x y : ℕ) (part whole : List ℕ) (b : Bool) → (b ≡ true → x ≡ y) → IsCell y → (is_subsequence part whole ≡ true → All IsCell part) → (is_subsequence (x ∷ part) whole ≡ true → All IsCell (x ∷ part)) → cond b (is_subsequence part whole) (is_subsequence (x ∷ part) whole) ≡ true → All IsCell (x ∷ part)
 taken_or_left x y part whole true same cell taken left is = All-cons IsCell x part (rw (same refl) cell) (taken is)

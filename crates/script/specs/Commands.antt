@@ -39,7 +39,7 @@ command_row (Insert key value) = codes "insert" ∷ decimal key ∷ decimal valu
 command_row (Delete key) = codes "delete" ∷ decimal key ∷ [] ∷ [] ∷ []
 command_row (Get key) = codes "get" ∷ decimal key ∷ [] ∷ [] ∷ []
 command_row (Successor key) = codes "successor" ∷ decimal key ∷ [] ∷ [] ∷ []
-command_row (Range low high most) = codes "range" ∷ decimal low ∷ decimal high ∷ decimal most ∷ []
+command_row (Range span) = codes "range" ∷ decimal span.low ∷ decimal span.high ∷ decimal span.most ∷ []
 
 -- the mode whose scripts have the command
 abbrev pub mode_of : Command → Mode
@@ -47,7 +47,7 @@ mode_of (Insert key value) = Tree
 mode_of (Delete key) = Tree
 mode_of (Get key) = Tree
 mode_of (Successor key) = Tree
-mode_of (Range low high most) = Tree
+mode_of (Range span) = Tree
 mode_of _ = Records
 
 -- the texts behind references
@@ -63,9 +63,9 @@ IsCell node = (1 ≤ node) × (node ≤ 8)
 abbrev pub AreCells : List ℕ → Type 0
 AreCells nodes = (1 ≤ length nodes) × All IsCell nodes
 
--- the command is one that there is: its nodes are cells, its keys and value fit a word, a range
--- takes at most 64 pairs; an `Update` itself says that those finalized are a part of its cells, and
--- that its field belongs to one
+-- the command is one that there is: its nodes are cells, its keys and value fit a word; an `Update`
+-- itself says that those finalized are a part of its cells, and that its field belongs to one, a
+-- `Span` that it takes at most 64 pairs
 abbrev pub IsCommand : Command → Type 0
 IsCommand (Llx cell) = IsCell cell
 IsCommand (Scx update) = AreCells (update_cells update) × (update_value update < 2 ^ 64)
@@ -75,7 +75,7 @@ IsCommand (Insert key value) = (key < 2 ^ 64) × (value < 2 ^ 64)
 IsCommand (Delete key) = key < 2 ^ 64
 IsCommand (Get key) = key < 2 ^ 64
 IsCommand (Successor key) = key < 2 ^ 64
-IsCommand (Range low high most) = (low < 2 ^ 64) × (high < 2 ^ 64) × (most ≤ 64)
+IsCommand (Range span) = (span.low < 2 ^ 64) × (span.high < 2 ^ 64)
 
 -- what is found is the command that has this row, or nothing where no command has it
 abbrev pub IsCommandOf : List (List ℕ) → Option Command → Type 0

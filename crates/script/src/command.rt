@@ -25,8 +25,18 @@ pub enum Command {
     Get { key: u64 },
     /// Looks for the pair of the map with the least key above this one, in tree mode.
     Successor { key: u64 },
-    /// Takes the first pairs of the map from one key to another, at most so many, in tree mode.
-    Range { low: u64, high: u64, most: u32 },
+    /// Takes the first pairs of the map between two keys, in tree mode.
+    Range(Span),
+}
+
+/// Which pairs a range takes: the first by key of those with keys from `low` to `high`.
+#[derive(Clone, Copy, Debug, PartialEq, Eq)]
+pub struct Span {
+    pub low: u64,
+    pub high: u64,
+    /// How many pairs at most.
+    pub most: u32,
+    ghost few: { most ≤ 64 },
 }
 
 /// What an SCX changes: a field of one of its cells gets a fresh cell with this value, and some of

@@ -7,7 +7,7 @@ ghost use Rattle.script.specs.Cells.{cells_of, maybe_cells_of};
 ghost use Rattle.script.specs.Commands.{command_row, mode_of, change_text, numbers_text, side_text, texts, AreCells, IsCell, IsCommand, IsCommandOf};
 
 use crate::cells::{Cell, Cells};
-use crate::command::{Command, Update};
+use crate::command::{Command, Span, Update};
 use crate::fault::ScriptCause;
 use arena::{Mode, Side};
 use itoa::Buffer;
@@ -129,11 +129,11 @@ fn range_of(arguments: [&str; 3]) -> Option<Command>
     ensures { IsCommandOf (codes "range" ∷ texts arguments.entry) result }
 {
     let [low, high, most] = arguments;
-    Some(Command::Range {
+    Some(Command::Range(Span {
         low: number_of(low)?,
         high: number_of(high)?,
         most: most_of(most)?,
-    })
+    }))
 }
 
 /// How many pairs a range may take: 64 at most.
@@ -266,7 +266,7 @@ impl CommandText {
                 b: String::new(alloc),
                 c: String::new(alloc),
             }),
-            Command::Range { low, high, most } => Ok(CommandText {
+            Command::Range(Span { low, high, most }) => Ok(CommandText {
                 name: "range",
                 a: format!(in alloc; "{low}")?,
                 b: format!(in alloc; "{high}")?,

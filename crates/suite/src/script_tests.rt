@@ -2,7 +2,7 @@ use crate::table::case_of;
 use arena::{Kind, Limits, Mode, PassNo, Side};
 use script::{
     Call, Cell, Cells, Command, Order, Schedule, ScheduleCause, ScheduleFault, Script, ScriptCause,
-    ScriptFault, Update, kind_name, kind_of, read_schedule, read_script,
+    ScriptFault, Span, Update, kind_name, kind_of, read_schedule, read_script,
 };
 use std::alloc::{AllocError, Global};
 use std::io::{Read, Write};
@@ -254,7 +254,20 @@ fn a_script_on_the_tree_is_read(rt: HostRuntime) -> Result<(), Fail> {
     let insert = |key, value| Command::Insert { key, value };
     let delete = |key| Command::Delete { key };
     let successor = |key| Command::Successor { key };
-    let range = |low, high, most| Command::Range { low, high, most };
+    let range = |low, high| {
+        let most = 3;
+        Command::Range(Span { low, high, most })
+    };
+    let all = Span {
+        low: 0,
+        high: u64::MAX,
+        most: 64,
+    };
+    let none = Span {
+        low: 9,
+        high: 1,
+        most: 0,
+    };
     let calls = [
         (0, insert(5, 50)),
         (1, Command::Get { key: 5 }),
@@ -264,9 +277,9 @@ fn a_script_on_the_tree_is_read(rt: HostRuntime) -> Result<(), Fail> {
         (0, delete(u64::MAX)),
         (0, successor(0)),
         (1, successor(u64::MAX)),
-        (0, range(1, 9, 3)),
-        (1, range(9, 1, 0)),
-        (0, range(0, u64::MAX, 64)),
+        (0, range(1, 9)),
+        (1, Command::Range(none)),
+        (0, Command::Range(all)),
     ];
     assert_eq!(rt; script.calls.len(), calls.len());
     for (call, (client, command)) in script.calls.iter().zip(calls) {
