@@ -47,7 +47,7 @@ use Rattle.player.specs.EditRuns.{EditWaits, edit_of, call_of}
 use Rattle.player.specs.declared.edit.EditRun.{EditRun}
 use Rattle.player.specs.declared.edit.EditRun.TheVariants.{Insert, Delete}
 use Rattle.player.specs.declared.run.Run.{Run}
-use Rattle.player.specs.declared.run.Run.TheVariants.{Llx, Scx as ScxRun, Vlx, Edit, Get}
+use Rattle.player.specs.declared.run.Run.TheVariants.{Llx, Scx as ScxRun, Vlx, Edit, Get, Read}
 use Rattle.player.specs.RunKnown.{RunWaits}
 use Rattle.player.specs.ClientView.{IsMachineOf, IsScxOf}
 
@@ -155,5 +155,6 @@ pub run_says : (command : Command) (number : ℕ) (run : Run) (then : Option Put
 run_says command number (Llx m) then call h s t v of w kind word = absurd (llx_fills_not AllowsAll m call h s w kind)
 run_says command number (Vlx m) then call h s t v of w kind word = absurd (vlx_fills_not m.snaps m.asked call h s w kind)
 run_says command number (Get m) then call h s t v of w kind word = absurd (get_fills_not m call h s w kind)
+run_says command number (Read m) then call h s t v of w kind word = absurd (read_fills_not m call h s w kind)
 run_says command number (ScxRun m) then call h s t v of w kind word = put_says_at m call h s t v m.at w kind word ∙ put_called command number m then of
 run_says command number (Edit m) then call h s t v of w kind word = edit_says m call h s t v w kind word ∙ of.1.called

@@ -29,7 +29,7 @@ use Rattle.script.specs.Update.{update_cells, update_finalize, update_field, upd
 use Rattle.script.specs.declared.command.Command.{Command}
 use Rattle.script.specs.declared.command.Command.TheVariants.{Llx as LlxOf, Scx as ScxOf, Vlx as VlxOf, Set as SetOf, Insert as InsertOf, Delete as DeleteOf, Get as GetOf, Successor as SuccessorOf, Range as RangeOf}
 use Rattle.player.specs.declared.run.Run.{Run}
-use Rattle.player.specs.declared.run.Run.TheVariants.{Llx, Scx, Vlx, Edit, Get}
+use Rattle.player.specs.declared.run.Run.TheVariants.{Llx, Scx, Vlx, Edit, Get, Read}
 use Rattle.player.specs.declared.client.Client.{Client}
 use Rattle.player.specs.declared.client.Running.{Running}
 use Rattle.player.specs.declared.client.Put.{Put}
@@ -260,6 +260,7 @@ module _ (v : ClientView) (c : Client) (sound : IsSound v) (row : Row) (s : ℕ)
   from_run (Vlx m) then x f g = absurd (no_hand_wins x.holds)
   from_run (Edit m) then x f g = from_edit m then x (g m refl)
   from_run (Get m) then x f g = absurd (no_hand_wins x.holds)
+  from_run (Read m) then x f g = absurd (no_hand_wins x.holds)
 
   -- and none wins for a client at rest
   pub rest_wins_not : Rests v c → ⊥

@@ -1,6 +1,6 @@
 -- What the turns of one client add.
 use Rattle.std.proofs.Common.{◌≡◌, ◌≢◌, ℕ, suc, ◌+◌, ◌*◌, ◌-◌, ◌<◌, ◌≤◌, ◌⊎◌, inl, inr, Bool, true, false, cond, eqb, eqb-true, eq-eqb, append_assoc, length-append, List, [], ◌∷◌, ◌++◌, length, replicate, Option, Some, None, is_some, refl, sym, ◌∙◌, ap, subst, arith}
-use Rattle.std.proofs.Math.Nat.{mul-le-mul_left, mul-le-mul_right}
+use Rattle.std.proofs.Math.Nat.{mul-le-mul, mul-le-mul_left}
 use Rattle.std.proofs.lemmas.Option.{slice_get_within}
 use Rattle.std.proofs.lemmas.List.{length-take}
 use Rattle.histories.proofs.Lemmas.{lawful_tail}
@@ -171,9 +171,8 @@ most_few lay tries (Get key) taken i = omega (arith, i)
 most_few lay tries (Successor key) taken i = let more : tries * (137 * (2 + taken)) ≤ tries * (4422 * (2 + lay.passes * lay.nodes) + 301) = mul-le-mul_left tries (omega (arith, i)) in omega (arith, more)
 most_few lay tries (Range span) taken i =
     let few : span.most ≤ 64 = span.few in
-    let deep : 67 * (span.most + 2) * (2 + taken) ≤ 67 * (span.most + 2) * (2 + lay.passes * lay.nodes) = mul-le-mul_left (67 * (span.most + 2)) (omega (arith, i)) in
-    let wide : 67 * (span.most + 2) * (2 + lay.passes * lay.nodes) ≤ 4422 * (2 + lay.passes * lay.nodes) = mul-le-mul_right (2 + lay.passes * lay.nodes) (omega (arith, few)) in
-    let more : tries * (67 * (span.most + 2) * (2 + taken)) ≤ tries * (4422 * (2 + lay.passes * lay.nodes) + 301) = mul-le-mul_left tries (omega (arith, deep, wide)) in
+    let deep : (span.most + 2) * (67 * (2 + taken)) ≤ 66 * (67 * (2 + lay.passes * lay.nodes)) = mul-le-mul (omega (arith, few)) (omega (arith, i)) in
+    let more : tries * ((span.most + 2) * (67 * (2 + taken))) ≤ tries * (4422 * (2 + lay.passes * lay.nodes) + 301) = mul-le-mul_left tries (omega (arith, deep)) in
     omega (arith, more)
 
 -- so the client of a lawful run has made few since its last reply

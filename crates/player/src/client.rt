@@ -4,13 +4,16 @@ ghost use Rattle.std.specs.Prelude.{◌≡◌, ℕ, ◌+◌, ◌<◌, ◌≤◌,
 use crate::edit::Edit;
 use crate::kept::Kept;
 use crate::place::next_call;
+use crate::read::ReadRun;
 use crate::run::{Ended, Run};
 use arena::{Fresh, Full, Layout, NodeNo, PassNo, Resource, ScxNo, Share, Side, Step, Turn};
 use arrayvec::ArrayVec;
+use order::{RangeRun, SuccessorRun};
 use places::Places;
 use prims::{Llx, LlxRun, PutRun, ScxRun, Snap, Snaps, Update, VlxRun};
 use record::{Answer, Reply};
-use script::{Call, Cell, Command};
+use script::{Call, Cell, Command, Span};
+use std::alloc::Global;
 use tree::{Delete, GetRun, Insert};
 
 /// What a `set` does once its LLX has given a snapshot.
@@ -40,6 +43,8 @@ pub(crate) enum NextAction {
 
 #[derive(Debug, Drop)]
 pub(crate) struct Client {
+    /// With what ordered reads grow.
+    alloc: Global,
     pass: PassNo,
     /// How often a call may try.
     tries: u32,
@@ -59,7 +64,7 @@ impl Client {
     ghost use Rattle.std.specs.Prelude.{◌≡◌, ◌≢◌, ◌<◌, ◌≤◌, ◌+◌, ◌-◌, Option, Some, None, IsSome, IfSome, is_some, IfOk, OnOk, IfErr, List, [], length, map, slice_get, MatchOption, All};
     ghost use Rattle.script.specs.Commands.{mode_of};
     ghost use Rattle.arena.specs.declared.limits.Mode.TheVariants.{Records};
-    ghost use Rattle.script.specs.declared.command.Command.TheVariants.{Scx as ScxCommand};
+    ghost use Rattle.script.specs.declared.command.Command.TheVariants.{Scx as ScxCommand, Range as RangeCommand};
     ghost use Rattle.arena.specs.History.{History};
     ghost use Rattle.prims.specs.declared.snap.Snap.{Snap};
     ghost use Rattle.player.specs.declared.run.Run.{Run};
@@ -79,12 +84,19 @@ impl Client {
     ghost use Rattle.player.specs.RunKnown.{RunAsksFirst};
     ghost use Rattle.player.specs.ClientView.{ClientView, client_view, IsSound, IsAtNextCall, Rests, command_of, Starts, Hears, Answered, Told, CanPut, Puts, held, BeginsOrRefuses, IsNextAction, IsUnbegun, IsClient};
 
-    pub(crate) fn new(layout: &Layout, tries: u32, pass: PassNo, calls: &[Call]) -> Client
+    pub(crate) fn new(
+        alloc: Global,
+        layout: &Layout,
+        tries: u32,
+        pass: PassNo,
+        calls: &[Call],
+    ) -> Client
         requires { pass.0 < layout.now.passes }
         ensures pass { result.pass ≡ pass }
         ensures rests { Rests (client_view layout.now tries calls.now [] pass.0) result }
     {
         Client {
+            alloc,
             pass,
             tries,
             share: Some(Share::of(layout, pass)),
@@ -169,6 +181,11 @@ impl Client {
             }
             Command::Delete { key } => self.begin_edit(Edit::Delete(Delete { key })),
             Command::Get { key } => self.run(Run::Get(GetRun::new(key)), None),
+            Command::Successor { key } => {
+                let run = SuccessorRun::new(self.alloc, key, self.tries);
+                self.run(Run::Read(ReadRun::Successor(run)), None)
+            }
+            Command::Range(span) => self.begin_range(&span),
         }
     }
 
@@ -179,6 +196,18 @@ impl Client {
         let share = self.share.take()?;
         let run = edit.run(share, self.tries, self.number);
         self.run(Run::Edit(run), None)
+    }
+
+    /// Begins a range; one that takes nothing answers at once.
+    fn begin_range(&mut self, span: &Span) -> Option<Answer>
+        ensures { (v : ClientView) (began : Option ℕ) → IsSound v → 0 < v.tries → v.layout.mode ≡ Tree → Rests v self.old → IsUnbegun v began → command_of v self.old ≡ Some (RangeCommand span.now) → BeginsOrRefuses v self.old.begin self.old self.new result }
+    {
+        if span.most == 0 || span.high < span.low {
+            return Some(Answer::Pairs(Vec::new(self.alloc)));
+        }
+        let most = span.most as usize;
+        let run = RangeRun::new(self.alloc, span.low, span.high, most, self.tries);
+        self.run(Run::Read(ReadRun::Range(run)), None)
     }
 
     /// Takes the snapshots and the records of an `scx`, if they are there.

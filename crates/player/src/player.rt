@@ -313,6 +313,7 @@ fn clients(alloc: Global, script: &Script) -> Result<Vec<Client>, NoMemory>
     let mut clients = Vec::new(alloc);
     for pass in 0..script.layout.passes {
         clients.push(Client::new(
+            alloc,
             &script.layout,
             script.limits.tries,
             PassNo(pass),

@@ -8,6 +8,7 @@ ghost use Rattle.player.specs.RunKnown.{RunIsReady, RunWaits, RunAnswers, RunAsk
 ghost use Rattle.player.specs.RunSteps.{run_left, HasSpentSome, HasSpentRest};
 
 use crate::edit::EditRun;
+use crate::read::ReadRun;
 use arena::{Full, Machine, Share, Turn};
 use prims::{Cells, Llx, LlxRun, PutRun, Scx, Snaps, Vlx, VlxRun};
 use record::Answer;
@@ -23,16 +24,19 @@ pub(crate) enum Run {
     /// It has the client's share, until it has answered.
     Edit(EditRun),
     Get(GetRun),
+    Read(ReadRun),
 }
 
 /// What a machine answered.
-#[derive(Clone, Copy, Debug, PartialEq, Eq)]
+#[derive(Debug, Drop, PartialEq, Eq)]
 pub(crate) enum Ended {
     Llx(Llx),
     Scx(Scx),
     Vlx(Vlx),
     Edit(Updated),
     Get(Option<u64>),
+    /// An ordered read, in the words of the record.
+    Read(Answer),
 }
 
 impl Ended {
@@ -58,6 +62,7 @@ impl Ended {
             Ended::Edit(Updated::Contended { node, scx }) => Answer::Contended { node, scx },
             Ended::Edit(Updated::Full(Full { what, left })) => Answer::Full { what, left },
             Ended::Get(value) => Answer::Value(value),
+            Ended::Read(answer) => answer,
         }
     }
 }
@@ -94,6 +99,10 @@ impl Run {
             Run::Get(run) => match Machine::<Tree>::next(run, got) {
                 Turn::Ask(step) => Turn::Ask(step),
                 Turn::Done(value) => Turn::Done(Ended::Get(value)),
+            },
+            Run::Read(run) => match run.next(got) {
+                Turn::Ask(step) => Turn::Ask(step),
+                Turn::Done(answer) => Turn::Done(Ended::Read(answer)),
             },
         }
     }

@@ -1,5 +1,5 @@
 -- The rules of `range`.
-use Rattle.std.specs.Prelude.{◌≡◌, ◌≢◌, ℕ, false, ◌+◌, ◌*◌, ◌<◌, ◌⊎◌, Option}
+use Rattle.std.specs.Prelude.{◌≡◌, ◌≢◌, ℕ, false, ◌+◌, ◌*◌, ◌<◌, ◌⊎◌, [], Option}
 use Rattle.arena.specs.declared.layout.Layout.{Layout}
 use Rattle.arena.specs.declared.step.Kind.TheVariants.{Fill}
 use Rattle.arena.specs.History.{History}
@@ -15,9 +15,9 @@ use Rattle.record.specs.Rules.{Rules}
 abbrev pub TakesNothing : ℕ → ℕ → ℕ → Type 0
 TakesNothing low high most = (most ≡ 0) ⊎ (high < low)
 
--- one that takes nothing answers at once, and each may be refused memory before its first step
+-- one that takes nothing answers so at once, and each may be refused memory before its first step
 abbrev pub RangeAtOnce : ℕ → ℕ → ℕ → Answer → Type 0
-RangeAtOnce low high most (Pairs found) = TakesNothing low high most
+RangeAtOnce low high most (Pairs found) = TakesNothing low high most × (found.items ≡ [])
 RangeAtOnce low high most NoMemory = Unit {0}
 RangeAtOnce low high most _ = ⊥
 
@@ -41,7 +41,7 @@ RangeIsRight lay c now start linked _ = ⊥
 -- where it takes nothing. It takes nothing of the share, leaves snapshots alone, and has no entry
 abbrev pub range_rules : ℕ → ℕ → ℕ → Rules
 range_rules low high most = record {
-  most_steps = λ tries taken. tries * (67 * (most + 2) * (2 + taken));
+  most_steps = λ tries taken. tries * ((most + 2) * (67 * (2 + taken)));
   most_nodes = λ tries. 0;
   most_scx = λ tries. 0;
   MayMake = λ kind. (kind ≢ Fill) × ¬ TakesNothing low high most;
