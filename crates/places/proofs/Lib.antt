@@ -3,7 +3,7 @@ mod Chains
 mod Counts
 mod Told
 mod Weights
-mod Ordered
+mod OrderedReads
 mod Falls
 mod Keys
 mod Turns

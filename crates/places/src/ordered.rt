@@ -8,8 +8,8 @@ use script::Command;
 use spelling::Pair;
 
 /// Whether a key of this value is not as these pairs tell, which the read has told.
-pub(crate) fn is_unlike(command: Command, pairs: &[Pair], key: u64, value: Option<u64>) -> bool
-    ensures { result ≡ is_unlike command pairs.now key value }
+pub(crate) fn is_unlike(command: &Command, pairs: &[Pair], key: u64, value: Option<u64>) -> bool
+    ensures { result ≡ is_unlike command.now pairs.now key value }
 {
     looks_for(command, key)
         && reaches(most_told(command), pairs, key)
@@ -17,19 +17,19 @@ pub(crate) fn is_unlike(command: Command, pairs: &[Pair], key: u64, value: Optio
 }
 
 /// Whether the read looks for this key.
-fn looks_for(command: Command, key: u64) -> bool
-    ensures { result ≡ looks_for command key }
+fn looks_for(command: &Command, key: u64) -> bool
+    ensures { result ≡ looks_for command.now key }
 {
     match command {
-        Command::Successor { key: above } => above < key,
+        Command::Successor { key: above } => *above < key,
         Command::Range(span) => span.low <= key && key <= span.high,
         _ => false,
     }
 }
 
 /// How many pairs it tells at most.
-fn most_told(command: Command) -> usize
-    ensures { result ≡ most_told command }
+fn most_told(command: &Command) -> usize
+    ensures { result ≡ most_told command.now }
 {
     match command {
         Command::Successor { key: _ } => 1,

@@ -119,9 +119,9 @@ impl Places {
 
     /// The greatest turn from `first` to `last` after which the map replies to an ordered read what
     /// this answer tells, if there is one.
-    pub fn greatest_of(&self, command: Command, answer: &Answer, first: u64, last: u64) -> u64
+    pub fn greatest_of(&self, command: &Command, answer: &Answer, first: u64, last: u64) -> u64
         ensures within { first ≤ last → FallFrom (suc last) (changes self.now) → (first ≤ result) × (result ≤ last) }
-        ensures greatest { (calls : List Call) (lines : List Line) (call : MapCall) (n : ℕ) → AreEntries calls lines (changes self.now) → FallFrom (suc last) (changes self.now) → IsOrderedRead command → map_call (Some command) ≡ Some call → first ≤ n → n ≤ last → reply_told answer.now ≡ Some (reply call (map_at calls lines n)) → IsGreatestTurn (λ m. reply_told answer.now ≡ Some (reply call (map_at calls lines m))) first last result }
+        ensures greatest { (calls : List Call) (lines : List Line) (call : MapCall) (n : ℕ) → AreEntries calls lines (changes self.now) → FallFrom (suc last) (changes self.now) → IsOrderedRead command.now → map_call (Some command.now) ≡ Some call → first ≤ n → n ≤ last → reply_told answer.now ≡ Some (reply call (map_at calls lines n)) → IsGreatestTurn (λ m. reply_told answer.now ≡ Some (reply call (map_at calls lines m))) first last result }
     {
         match answer {
             Answer::Pair(pair) => self.greatest_told(command, &[*pair], first, last),
@@ -132,9 +132,9 @@ impl Places {
 
     /// The same by the pairs that are told: the best turn, after which the fewest keys are not as
     /// told, and of these the greatest. It goes back from change to change.
-    fn greatest_told(&self, command: Command, pairs: &[Pair], first: u64, last: u64) -> u64
+    fn greatest_told(&self, command: &Command, pairs: &[Pair], first: u64, last: u64) -> u64
         ensures within { first ≤ last → FallFrom (suc last) (changes self.now) → (first ≤ result) × (result ≤ last) }
-        ensures greatest { (calls : List Call) (lines : List Line) (n : ℕ) → AreEntries calls lines (changes self.now) → FallFrom (suc last) (changes self.now) → first ≤ n → n ≤ last → pairs_read command (map_at calls lines n) ≡ pairs.now → IsGreatestTurn (λ m. pairs_read command (map_at calls lines m) ≡ pairs.now) first last result }
+        ensures greatest { (calls : List Call) (lines : List Line) (n : ℕ) → AreEntries calls lines (changes self.now) → FallFrom (suc last) (changes self.now) → first ≤ n → n ≤ last → pairs_read command.now (map_at calls lines n) ≡ pairs.now → IsGreatestTurn (λ m. pairs_read command.now (map_at calls lines m) ≡ pairs.now) first last result }
     {
         let mut best = last;
         let mut more = 0;

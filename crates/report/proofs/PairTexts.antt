@@ -15,3 +15,12 @@ pairs_more (q ∷ ps) p =
     ap (λ (text : List ℕ). codes " " ++ (decimal q.key ++ (codes " " ++ (decimal q.value ++ text)))) (pairs_more ps p)
     ∙ ap (λ (text : List ℕ). codes " " ++ (decimal q.key ++ (codes " " ++ text))) (sym (append_assoc (decimal q.value) (spaced_pairs ps) (pair_text p)))
     ∙ ap (λ (text : List ℕ). codes " " ++ text) (sym (append_assoc (decimal q.key) (codes " " ++ (decimal q.value ++ spaced_pairs ps)) (pair_text p)))
+
+-- a pair at the head of what is left joins those before
+pub pair_taken : (ps : List Pair) (p : Pair) (text rest whole : List ℕ) → whole ≡ spaced_pairs ps ++ (codes " " ++ text) → text ≡ decimal p.key ++ (codes " " ++ (decimal p.value ++ rest)) → whole ≡ spaced_pairs (ps ++ p ∷ []) ++ rest
+pair_taken ps p text rest whole left head =
+    left
+    ∙ ap (λ (t : List ℕ). spaced_pairs ps ++ (codes " " ++ t)) head
+    ∙ ap (λ (t : List ℕ). spaced_pairs ps ++ (codes " " ++ t)) (sym (append_assoc (decimal p.key) (codes " " ++ decimal p.value) rest))
+    ∙ sym (append_assoc (spaced_pairs ps) (pair_text p) rest)
+    ∙ ap (λ (t : List ℕ). t ++ rest) (sym (pairs_more ps p))

@@ -4,7 +4,6 @@ ghost use Rattle.report.specs.Answers.{answer_text, spaced_pairs, rest_text};
 
 use crate::name::{node_of, scx_of, small_number_of};
 use arena::{NodeNo, Resource, ScxNo};
-use itoa::Buffer;
 use record::Answer;
 use spelling::Pair;
 use std::alloc::{AllocError, Global};
@@ -46,10 +45,8 @@ fn pairs_text(alloc: Global, pairs: &[Pair]) -> Result<String, AllocError>
 {
     let mut text = format!(in alloc; "pairs")?;
     for pair in pairs {
-        text.push(' ')?;
-        text.push_str(Buffer::new().format(pair.key))?;
-        text.push(' ')?;
-        text.push_str(Buffer::new().format(pair.value))?;
+        let more = format!(in alloc; " {} {}", pair.key, pair.value)?;
+        text.push_str(more.as_str())?;
     }
     Ok(text)
 }
@@ -67,7 +64,7 @@ pub fn answer_of(alloc: Global, text: &str) -> Result<Option<Answer>, AllocError
 
 /// The answer of the pairs that are told behind its name.
 fn pairs_of(alloc: Global, told: Option<&str>) -> Result<Option<Answer>, AllocError>
-    ensures { IfOk result (λ o. IfSome o (λ answer. codes "pairs" ++ rest_text told ≡ answer_text answer)) }
+    ensures { IfOk result (λ o. IfSome o (λ answer. codes "pairs" ++ rest_text told.entry ≡ answer_text answer)) }
 {
     let mut pairs = Vec::new(alloc);
     let mut left = told;

@@ -138,7 +138,7 @@ fn entry_of(fields: [&str; 7]) -> Option<Entry>
 
 /// The reply with this answer, which the last field spells.
 fn reply_of(fields: [&str; 7], answer: Answer) -> Option<Line>
-    requires { get_or (texts fields.entry) 6 [] ≡ answer_text answer }
+    requires { get_or (texts fields) 6 [] ≡ answer_text answer }
     ensures row { IfSome result (λ line. texts fields.entry ≡ seven (line_row line)) }
     ensures call { (calls : ℕ → ℕ) → IfSome result (IsOfNextCall calls) }
 {

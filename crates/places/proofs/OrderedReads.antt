@@ -8,7 +8,9 @@ use Rattle.script.specs.declared.command.Call.{Call}
 use Rattle.script.specs.declared.command.Command.{Command}
 use Rattle.script.specs.declared.command.Command.TheVariants.{Llx, Scx, Vlx, Set, Insert as InsertOf, Delete as DeleteOf, Get as GetOf, Successor as SuccessorOf, Range as RangeOf}
 use Rattle.record.specs.declared.record.Line.{Line}
-use Rattle.record.specs.MapRecord.{map_call, map_at, map_of, written_log, entries_until}
+use Rattle.record.specs.declared.record.Answer.{Answer}
+use Rattle.record.specs.declared.record.Answer.TheVariants.{Snapshot, Finalized, Fail, Done, Lost, Same, Changed, Unlinked, Value, Pair as PairOf, Pairs, Contended, Full, NoMemory}
+use Rattle.record.specs.MapRecord.{map_call, map_at, map_of, written_log, entries_until, reply_told}
 use Rattle.record.specs.Placed.{IsGreatestTurn}
 use Rattle.places.specs.declared.places.Change.{Change}
 use Rattle.places.specs.declared.places.Place.{Place}
@@ -122,3 +124,28 @@ module _ (command : Command) (pairs : List Pair) (all : List Place) (calls : Lis
     where
       lightest : weight_at (is_unlike command pairs) (key_bound (changes_of all)) (changes_of all) best ≡ 0
       lightest = let l = weighed_all (is_unlike command pairs) (key_bound (changes_of all)) first last all best more rest x falls n from to in let w = weightless n told in omega (l, w, arith)
+
+-- In the words of an answer
+
+-- what is found of the pairs that an answer tells is found of its reply
+pub found_reply : (command : Command) (call : MapCall) (answer : Answer) (pairs : List Pair) (calls : List Call) (lines : List Line) (n first last m : ℕ) → IsOrderedRead command → map_call (Some command) ≡ Some call → pairs_in (reply_told answer) ≡ pairs → reply_told answer ≡ Some (reply call (map_at calls lines n)) → (pairs_read command (map_at calls lines n) ≡ pairs → IsGreatestTurn (λ j. pairs_read command (map_at calls lines j) ≡ pairs) first last m) → IsGreatestTurn (λ j. reply_told answer ≡ Some (reply call (map_at calls lines j))) first last m
+found_reply command call answer pairs calls lines n first last m ordered is tells says found =
+    let told = sym (reply_tells command call (map_at calls lines n) ordered is) ∙ ap pairs_in (sym says) ∙ tells in
+    greatest_reply command call (reply_told answer) calls lines n first last m ordered is says (subst (λ ps. IsGreatestTurn (λ j. pairs_read command (map_at calls lines j) ≡ ps) first last m) (sym tells) (found told))
+
+-- an answer that tells no pairs
+pub no_pairs : (answer : Answer) → ((p : Pair) → answer ≢ PairOf p) → ((ps : _) → answer ≢ Pairs ps) → pairs_in (reply_told answer) ≡ []
+no_pairs (PairOf p) one many = absurd (one p refl)
+no_pairs (Pairs ps) one many = absurd (many ps refl)
+no_pairs (Value v) one many = refl
+no_pairs (Snapshot left right) one many = refl
+no_pairs Finalized one many = refl
+no_pairs (Fail node scx) one many = refl
+no_pairs Done one many = refl
+no_pairs (Lost node scx) one many = refl
+no_pairs Same one many = refl
+no_pairs (Changed node scx) one many = refl
+no_pairs (Unlinked node) one many = refl
+no_pairs (Contended node scx) one many = refl
+no_pairs (Full what left) one many = refl
+no_pairs NoMemory one many = refl
