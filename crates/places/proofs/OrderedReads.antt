@@ -1,23 +1,22 @@
 -- The best turn is the greatest after which an ordered read tells what it has told.
-use Rattle.std.proofs.Common.{◌≡◌, ◌≢◌, ℕ, zero, suc, ◌+◌, ◌<◌, ◌≤◌, inl, inr, Bool, true, false, cond, ltb, leb, ◌&&◌, List, [], ◌∷◌, ◌++◌, length, take, Option, Some, None, refl, sym, ◌∙◌, ap, subst, arith}
+use Rattle.std.proofs.Common.{◌≡◌, ◌≢◌, ℕ, suc, ◌≤◌, inl, inr, Bool, true, false, cond, ltb, leb, ◌&&◌, List, [], ◌∷◌, take, Option, Some, refl, sym, ◌∙◌, ap, subst, arith}
 use Rattle.std.specs.List.{filter}
 use Rattle.std.proofs.lemmas.Bool.{cases_lt}
 use Rattle.spelling.specs.declared.pair.Pair.{Pair}
-use Rattle.spelling.specs.OrderedMap.{MapCall, Successor, Range, MapReply, OnePair, ManyPairs, pair_or_none, first_pair, successor, between, range, reply, get, IsRising}
+use Rattle.spelling.specs.OrderedMap.{MapCall, Successor, Range, MapReply, ManyPairs, pair_or_none, first_pair, successor, between, range, reply, get, IsRising}
 use Rattle.script.specs.declared.command.Call.{Call}
 use Rattle.script.specs.declared.command.Command.{Command}
 use Rattle.script.specs.declared.command.Command.TheVariants.{Llx, Scx, Vlx, Set, Insert as InsertOf, Delete as DeleteOf, Get as GetOf, Successor as SuccessorOf, Range as RangeOf}
 use Rattle.record.specs.declared.record.Line.{Line}
 use Rattle.record.specs.declared.record.Answer.{Answer}
 use Rattle.record.specs.declared.record.Answer.TheVariants.{Snapshot, Finalized, Fail, Done, Lost, Same, Changed, Unlinked, Value, Pair as PairOf, Pairs, Contended, Full, NoMemory}
-use Rattle.record.specs.MapRecord.{map_call, map_at, map_of, written_log, entries_until, reply_told}
+use Rattle.record.specs.MapRecord.{map_call, map_at, written_log, reply_told}
 use Rattle.record.specs.Placed.{IsGreatestTurn}
-use Rattle.places.specs.declared.places.Change.{Change}
 use Rattle.places.specs.declared.places.Place.{Place}
 use Rattle.places.specs.Entries.{AreEntries}
-use Rattle.places.specs.Ordered.{FallFrom, IsOrderedRead, is_unlike, looks_for, most_told, pairs_in, pairs_read}
+use Rattle.places.specs.Ordered.{FallFrom, IsOrderedRead, is_unlike, pairs_in, pairs_read}
 use Rattle.places.proofs.Values.{value_at, value_is, values}
-use Rattle.places.proofs.Counts.{count, count_nothing, nothing_counted}
+use Rattle.places.proofs.Counts.{count_nothing, nothing_counted}
 use Rattle.places.proofs.Chains.{changes_of}
 use Rattle.places.proofs.Told.{told_like, like_told}
 use Rattle.places.proofs.Weights.{key_bound, value_beyond, weight_at, IsWeighed, weighed_all}

@@ -1,14 +1,14 @@
 -- What an ordered read tells depends on the values of a few keys: those that it reaches.
-use Rattle.std.proofs.Common.{◌≡◌, ◌≢◌, ℕ, zero, suc, ◌<◌, ◌≤◌, ◌⊎◌, inl, inr, ⊎_elim, Bool, true, false, cond, ◌&&◌, ◌||◌, not, eqb, leb, ltb, List, [], ◌∷◌, length, take, Option, Some, None, refl, sym, ◌∙◌, ap, subst, arith}
+use Rattle.std.proofs.Common.{◌≡◌, ◌≢◌, ℕ, zero, suc, ◌<◌, ◌≤◌, ◌⊎◌, inl, inr, ⊎_elim, Bool, true, false, cond, ◌&&◌, ◌||◌, not, eqb, leb, ltb, List, [], ◌∷◌, length, take, Option, Some, None, refl, sym, ◌∙◌, ap, arith}
 use Rattle.std.specs.Option.{option_eq}
-use Rattle.std.specs.List.{filter, list_any}
-use Rattle.std.proofs.lemmas.Bool.{eqb-true, eq-eqb, ne_eqb, leb-true, le-leb, lt-leb, lt-ltb, le-ltb, cases_order, cases_eq, cases_lt, or_right, or_left, not-false}
+use Rattle.std.specs.List.{filter}
+use Rattle.std.proofs.lemmas.Bool.{eq-eqb, ne_eqb, le-leb, lt-leb, lt-ltb, le-ltb, cases_order, cases_eq, cases_lt, or_right, or_left, not-false}
 use Rattle.spelling.specs.declared.pair.Pair.{Pair}
 use Rattle.spelling.specs.OrderedMap.{get, AllAbove, IsRising}
 use Rattle.spelling.proofs.Lemmas.{get_above}
 use Rattle.script.specs.declared.command.Command.{Command}
 use Rattle.places.specs.Ordered.{looks_for, most_told, pairs_read, reaches, is_unlike}
-use Rattle.places.proofs.Chains.{values_same, values_differ}
+use Rattle.places.proofs.Chains.{values_same}
 
 -- Lists of pairs by rising key
 

@@ -415,9 +415,9 @@ impl Client {
         let command = self.call(calls)?.command;
         match command {
             Command::Successor { key: _ } => {
-                Some(places.greatest_of(command, answer, self.begin, turn))
+                Some(places.greatest_of(&command, answer, self.begin, turn))
             }
-            Command::Range(_) => Some(places.greatest_of(command, answer, self.begin, turn)),
+            Command::Range(_) => Some(places.greatest_of(&command, answer, self.begin, turn)),
             _ => None,
         }
     }
@@ -444,7 +444,7 @@ impl Client {
             Command::Get { key } => places.greatest(key, value, self.begin, turn),
             Command::Successor { key: _ } => {
                 let answer = Answer::Value(value);
-                Some(places.greatest_of(command, &answer, self.begin, turn))
+                Some(places.greatest_of(&command, &answer, self.begin, turn))
             }
             _ => None,
         }

@@ -1,5 +1,5 @@
 -- The text of pairs, one by one.
-use Rattle.std.proofs.Common.{◌≡◌, ℕ, suc, ◌+◌, ◌<◌, List, [], ◌∷◌, ◌++◌, codes, decimal, get_or, length, length-append, take, arith, refl, sym, ◌∙◌, ap, append_assoc, append-nil}
+use Rattle.std.proofs.Common.{◌≡◌, ℕ, List, [], ◌∷◌, ◌++◌, codes, decimal, sym, ◌∙◌, ap, append_assoc, append-nil}
 use Rattle.spelling.specs.declared.pair.Pair.{Pair}
 use Rattle.report.specs.Answers.{spaced_pairs}
 

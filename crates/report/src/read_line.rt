@@ -68,11 +68,7 @@ fn next_line<R: Read + Drop>(
 
 /// The line that a row says, by its form. A step is of its client's first call that has no reply
 /// yet. The only error is want of memory.
-fn line_of(
-    alloc: Global,
-    fields: [&str; 7],
-    replies: &Counts,
-) -> Result<Option<Line>, AllocError>
+fn line_of(alloc: Global, fields: [&str; 7], replies: &Counts) -> Result<Option<Line>, AllocError>
     ensures row { IfOk result (λ o. IfSome o (λ line. texts fields.entry ≡ seven (line_row line))) }
     ensures call { IfOk result (λ o. IfSome o (IsOfNextCall (calls_counted replies.now))) }
 {

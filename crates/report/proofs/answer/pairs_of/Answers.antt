@@ -1,4 +1,4 @@
-use Rattle.std.proofs.Common.{◌≡◌, refl, sym, ◌∙◌, ap}
+use Rattle.std.proofs.Common.{refl}
 use Rattle.report.specs.Answers.{rest_text, spaced_pairs}
 use Rattle.report.proofs.PairTexts.{pair_taken}
 use Rattle.report.proofs.answer.pairs_of.Goals as goal

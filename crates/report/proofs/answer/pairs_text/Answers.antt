@@ -1,4 +1,4 @@
-use Rattle.std.proofs.Common.{◌≡◌, ◌++◌, List, codes, get_or, string_bytes, sym, take, ◌∙◌, ap}
+use Rattle.std.proofs.Common.{◌++◌, codes, get_or, string_bytes, sym, take, ◌∙◌, ap}
 use Rattle.std.proofs.lemmas.List.{take_more}
 use Rattle.spelling.specs.declared.pair.Pair.{Pair}
 use Rattle.report.specs.Answers.{spaced_pairs}

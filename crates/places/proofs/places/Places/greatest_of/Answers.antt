@@ -1,4 +1,4 @@
-use Rattle.std.proofs.Common.{◌≡◌, [], ◌∷◌, sym, ◌∙◌, ap}
+use Rattle.std.proofs.Common.{[], ◌∷◌, sym, ◌∙◌, ap}
 use Rattle.record.specs.declared.record.Answer.{Answer}
 use Rattle.record.specs.MapRecord.{reply_told}
 use Rattle.places.specs.Ordered.{pairs_in}
