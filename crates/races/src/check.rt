@@ -210,8 +210,8 @@ impl<'a> Seen<'a> {
         call: MapCall,
         entered: Option<Entered>,
     ) -> Result<(), Wrong> {
-        match reply.answer {
-            Answer::Value(value) => self.took_place(reply, call, value, entered),
+        match &reply.answer {
+            Answer::Value(value) => self.took_place(reply, call, *value, entered),
             Answer::Contended { .. } | Answer::Full { .. } if call.may_change() => {
                 refused(reply, entered)
             }

@@ -68,7 +68,7 @@ enum Edit {
     End((u32, u64), u64),
     Moment((u32, u64), Option<u64>),
     Value((u32, u64), Option<u64>),
-    Answer((u32, u64), Answer),
+    Full((u32, u64), Resource, u32),
     /// The entry of this place is left out.
     NoEntry(u64),
     /// The reply is left out.
@@ -78,46 +78,76 @@ enum Edit {
 }
 
 impl Edit {
-    fn line(self, line: Line) -> Option<Line> {
+    fn line(self, line: &Line) -> Option<Line> {
         match line {
             Line::Reply(reply) => Some(Line::Reply(self.reply(reply)?)),
             Line::Log(entry) => match self {
                 Edit::NoEntry(place) if place == entry.place => None,
-                _ => Some(line),
+                _ => Some(Line::Log(*entry)),
             },
-            Line::Step(Row::Step { number, .. }) => match self {
-                Edit::OnTheLeaf(turn, kind, before, after) if turn == number => {
-                    let row = on_the_leaf(kind, before, after);
-                    Some(Line::Step(Row::Step { number, row }))
-                }
-                _ => Some(line),
-            },
-            Line::Step(_) => Some(line),
+            Line::Step(row) => Some(Line::Step(self.row(*row))),
         }
     }
 
-    fn reply(self, reply: Reply) -> Option<Reply> {
-        let told = (reply.client.0, reply.call);
-        match self {
-            Edit::Begin(call, begin) if call == told => Some(Reply { begin, ..reply }),
-            Edit::End(call, end) if call == told => Some(Reply { end, ..reply }),
-            Edit::Moment(call, moment) if call == told => Some(Reply { moment, ..reply }),
-            Edit::Answer(call, answer) if call == told => Some(Reply { answer, ..reply }),
-            Edit::Value(call, value) if call == told => {
-                let answer = Answer::Value(value);
-                Some(Reply { answer, ..reply })
+    fn row(self, row: Row) -> Row {
+        match (self, row) {
+            (Edit::OnTheLeaf(turn, kind, before, after), Row::Step { number, .. })
+                if turn == number => {
+                let row = on_the_leaf(kind, before, after);
+                Row::Step { number, row }
             }
-            Edit::NoReply(call) if call == told => None,
-            _ => Some(reply),
+            _ => row,
         }
     }
+
+    fn reply(self, reply: &Reply) -> Option<Reply> {
+        let mut said = copied(reply)?;
+        let told = (reply.client.0, reply.call);
+        match self {
+            Edit::Begin(call, begin) if call == told => said.begin = begin,
+            Edit::End(call, end) if call == told => said.end = end,
+            Edit::Moment(call, moment) if call == told => said.moment = moment,
+            Edit::Full(call, what, left) if call == told => said.answer = Answer::Full {
+                what,
+                left,
+            },
+            Edit::Value(call, value) if call == told => said.answer = Answer::Value(value),
+            Edit::NoReply(call) if call == told => return None,
+            _ => {}
+        }
+        Some(said)
+    }
+}
+
+/// A copy of a reply that tells a value or was refused.
+fn copied(reply: &Reply) -> Option<Reply> {
+    let answer = match &reply.answer {
+        Answer::Value(value) => Answer::Value(*value),
+        Answer::Contended { node, scx } => Answer::Contended {
+            node: *node,
+            scx: *scx,
+        },
+        Answer::Full { what, left } => Answer::Full {
+            what: *what,
+            left: *left,
+        },
+        _ => return None,
+    };
+    Some(Reply {
+        client: reply.client,
+        call: reply.call,
+        begin: reply.begin,
+        end: reply.end,
+        moment: reply.moment,
+        answer,
+    })
 }
 
 /// The record with one thing said otherwise.
 fn edited(alloc: Global, record: &Record, edit: Edit) -> Result<Record, Fail> {
     let mut lines = Vec::new(alloc);
     for line in record.lines.iter() {
-        if let Some(line) = edit.line(*line) {
+        if let Some(line) = edit.line(line) {
             lines.push(line)?;
         }
     }
@@ -142,7 +172,7 @@ fn passes(rt: &impl Abort, alloc: Global, race: Race, replies: [Reply; 4]) -> Re
     let mut said = Vec::new(alloc);
     for line in record.lines.iter() {
         if let Line::Reply(reply) = line {
-            said.push(*reply)?;
+            said.push(copied(reply).ok_or("another answer")?)?;
         }
     }
     assert_eq!(rt; said.as_slice(), replies.as_slice());
@@ -217,10 +247,6 @@ fn other_moments_are_found(rt: HostRuntime) -> Result<(), Fail> {
 /// A value that the key never had, none, one of another time, and refusals.
 #[test]
 fn other_answers_are_found(rt: HostRuntime) -> Result<(), Fail> {
-    let full = Answer::Full {
-        what: Resource::Nodes,
-        left: 2,
-    };
     let edits = [
         (Edit::Value((0, 1), Some(51)), Wrong::Answer(99)),
         (Edit::Value((0, 1), None), Wrong::Answer(99)),
@@ -228,8 +254,8 @@ fn other_answers_are_found(rt: HostRuntime) -> Result<(), Fail> {
         (Edit::Value((1, 0), None), Wrong::Answer(100)),
         (Edit::Value((1, 0), Some(51)), Wrong::Moment(100)),
         (Edit::Value((1, 1), Some(50)), Wrong::Answer(107)),
-        (Edit::Answer((0, 1), full), Wrong::Entry(99)),
-        (Edit::Answer((1, 1), full), Wrong::Answer(107)),
+        (Edit::Full((0, 1), Resource::Nodes, 2), Wrong::Entry(99)),
+        (Edit::Full((1, 1), Resource::Nodes, 2), Wrong::Answer(107)),
     ];
     are_found(&rt, rt.alloc(), RACE, &edits)
 }
@@ -276,17 +302,13 @@ fn other_moments_of_deletes_are_found(rt: HostRuntime) -> Result<(), Fail> {
 /// and an entry is left out.
 #[test]
 fn other_answers_of_deletes_are_found(rt: HostRuntime) -> Result<(), Fail> {
-    let full = Answer::Full {
-        what: Resource::Scx,
-        left: 0,
-    };
     let edits = [
         (Edit::Value((0, 0), Some(50)), Wrong::Entry(51)),
-        (Edit::Answer((0, 0), full), Wrong::Moment(51)),
+        (Edit::Full((0, 0), Resource::Scx, 0), Wrong::Moment(51)),
         (Edit::Value((0, 1), Some(50)), Wrong::Answer(168)),
         (Edit::Value((0, 1), Some(52)), Wrong::Answer(168)),
         (Edit::Value((0, 1), None), Wrong::Entry(168)),
-        (Edit::Answer((0, 1), full), Wrong::Entry(168)),
+        (Edit::Full((0, 1), Resource::Scx, 0), Wrong::Entry(168)),
         (Edit::NoEntry(3), Wrong::Entry(167)),
     ];
     are_found(&rt, rt.alloc(), DELETES, &edits)

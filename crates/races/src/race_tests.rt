@@ -66,7 +66,7 @@ struct Counts {
 }
 
 impl Counts {
-    fn count(&mut self, answer: Answer) {
+    fn count(&mut self, answer: &Answer) {
         let counter = match answer {
             Answer::Value(Some(_)) => &mut self.some,
             Answer::Contended { .. } => &mut self.contended,
@@ -86,8 +86,8 @@ fn count_answers(record: &Record, deletes: &mut Counts, others: &mut Counts) {
     for line in record.lines.iter() {
         if let Line::Reply(reply) = line {
             match MapCall::of(&record.script, reply.client, reply.call) {
-                Some(MapCall::Delete { .. }) => deletes.count(reply.answer),
-                _ => others.count(reply.answer),
+                Some(MapCall::Delete { .. }) => deletes.count(&reply.answer),
+                _ => others.count(&reply.answer),
             }
         }
     }
