@@ -50,6 +50,7 @@ use Rattle.player.specs.declared.run.Run.{Run}
 use Rattle.player.specs.declared.run.Run.TheVariants.{Llx, Scx as ScxRun, Vlx, Edit, Get, Read}
 use Rattle.player.specs.RunKnown.{RunWaits}
 use Rattle.player.specs.ClientView.{IsMachineOf, IsScxOf}
+use Rattle.player.proofs.ReadMachines.{read_fills_not}
 
 -- The SCX-record in hand
 

@@ -10,6 +10,7 @@ use Rattle.player.specs.declared.edit.EditRun.TheVariants.{Insert, Delete}
 use Rattle.player.specs.declared.run.Run.{Run}
 use Rattle.player.specs.declared.run.Run.TheVariants.{Llx, Scx, Vlx, Edit, Get, Read}
 use Rattle.player.specs.RunKnown.{RunWaits, run_mode}
+use Rattle.player.proofs.ReadMachines.{read_in_order}
 
 pub run_in_order : (run : Run) (call : Call) (h : History) (s : Step) → run_mode run ≡ Tree → AreFilledInOrder h → RunWaits run call h s → IsFillInOrder h (row_of call s h)
 run_in_order (Edit (Insert m)) call h s tree filled w = insert_in_order m call h s w

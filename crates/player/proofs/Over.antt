@@ -18,6 +18,7 @@ use Rattle.updates.specs.Steps.{Spends}
 use Rattle.record.specs.Shares.{HasTakenAtMost}
 use Rattle.player.specs.RunKnown.{RunWaits}
 use Rattle.player.specs.ClientView.{ClientView, Hand, HasTaken, no_hand, in_hand}
+use Rattle.player.proofs.ReadMachines.{read_fills_not}
 
 -- the machine is none of an edit, which takes of the share by itself
 abbrev pub IsNoEdit : Run → Type 0

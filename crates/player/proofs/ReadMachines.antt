@@ -8,11 +8,11 @@ use Rattle.arena.specs.History.{History, ◌⊳◌, value}
 use Rattle.arena.specs.Machines.{Call, IsRun, IsTold, row_of}
 use Rattle.spelling.specs.FillOrder.{IsFillInOrder}
 use Rattle.spelling.specs.TreeShape.{TreeAllows}
-use Rattle.order.specs.Range.Laws.{range_keeps, range_lawful, range_made}
-use Rattle.order.specs.Successor.Laws.{successor_keeps, successor_lawful, successor_made}
-use Rattle.order.proofs.Lemmas.{range_fills_not, successor_fills_not}
+use Rattle.order.specs.Range.Laws.{range_fills_not, range_keeps, range_lawful, range_made}
+use Rattle.order.specs.Successor.Laws.{successor_fills_not, successor_keeps, successor_lawful, successor_made}
 use Rattle.script.specs.declared.command.Command.{Command}
 use Rattle.script.specs.declared.command.Command.TheVariants as commands
+use Rattle.places.specs.Ordered.{IsOrderedRead}
 use Rattle.record.specs.CommandRules.{MayMake}
 use Rattle.record.specs.Rules.Range.{TakesNothing}
 use Rattle.player.specs.ReadRuns.{IsReadBy, IsSameRead, ReadIsReady, ReadWaits}
@@ -37,7 +37,7 @@ read_made (Range m) c h s v run told w = (range_made m c h s v run told w.0, w.1
 
 -- a machine that fills nothing fills in order
 pub read_in_order : (m : ReadRun) (c : Call) (h : History) (s : Step) → ReadWaits m c h s → IsFillInOrder h (row_of c s h)
-read_in_order m c h s w = λ fill. absurd (read_fills_not m c h s w fill)
+read_in_order m c h s w = record { head = λ n fill. absurd (read_fills_not m c h s w fill); field = λ n side fill. absurd (read_fills_not m c h s w fill) }
 
 -- it serves its command all the way
 pub same_read : (old now : ReadRun) (command : Command) → IsSameRead old now → IsReadBy old command → IsReadBy now command
@@ -82,3 +82,24 @@ read_may_make (Range m) (commands.Insert key value) c h s of w = absurd of
 read_may_make (Range m) (commands.Delete key) c h s of w = absurd of
 read_may_make (Range m) (commands.Get key) c h s of w = absurd of
 read_may_make (Range m) (commands.Successor key) c h s of w = absurd of
+
+-- a command that it serves is one
+pub read_is_ordered : (m : ReadRun) (command : Command) → IsReadBy m command → IsOrderedRead command
+read_is_ordered (Successor m) (commands.Llx cell) of = absurd of
+read_is_ordered (Successor m) (commands.Scx update) of = absurd of
+read_is_ordered (Successor m) (commands.Vlx cells) of = absurd of
+read_is_ordered (Successor m) (commands.Set field value) of = absurd of
+read_is_ordered (Successor m) (commands.Insert key value) of = absurd of
+read_is_ordered (Successor m) (commands.Delete key) of = absurd of
+read_is_ordered (Successor m) (commands.Get key) of = absurd of
+read_is_ordered (Successor m) (commands.Successor key) of = tt
+read_is_ordered (Successor m) (commands.Range span) of = absurd of
+read_is_ordered (Range m) (commands.Llx cell) of = absurd of
+read_is_ordered (Range m) (commands.Scx update) of = absurd of
+read_is_ordered (Range m) (commands.Vlx cells) of = absurd of
+read_is_ordered (Range m) (commands.Set field value) of = absurd of
+read_is_ordered (Range m) (commands.Insert key value) of = absurd of
+read_is_ordered (Range m) (commands.Delete key) of = absurd of
+read_is_ordered (Range m) (commands.Get key) of = absurd of
+read_is_ordered (Range m) (commands.Successor key) of = absurd of
+read_is_ordered (Range m) (commands.Range span) of = tt

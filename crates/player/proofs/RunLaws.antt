@@ -18,6 +18,7 @@ use Rattle.player.specs.declared.run.Run.TheVariants.{Llx, Scx, Vlx, Edit, Get, 
 use Rattle.player.specs.Allowed.{PlayedAllows}
 use Rattle.player.specs.RunKnown.{RunIsReady, RunWaits, run_mode}
 use Rattle.player.proofs.Shapes.{as_cells, as_played, as_tree, as_played_tree}
+use Rattle.player.proofs.ReadMachines.{read_keeps, read_lawful, read_made}
 
 -- rows of other passes leave the machine waiting for the same step
 pub run_keeps : (m : Run) (c : Call) (h : History) (s : Step) (r : Row) → c.layout.mode ≡ run_mode m → IsRun PlayedAllows c.layout (r ⊳ h) → r.pass.0 ≢ c.pass → RunWaits m c h s → RunWaits m c (r ⊳ h) s

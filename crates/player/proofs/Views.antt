@@ -38,6 +38,7 @@ use Rattle.prims.specs.Shares.{IsShare}
 use Rattle.player.proofs.Over.{IsNoEdit, takes_by_own, nodes_by_own}
 use Rattle.prims.specs.declared.put.PutRun.{PutRun}
 use Rattle.arena.specs.declared.step.Kind.TheVariants.{LoadInfo}
+use Rattle.player.proofs.ReadMachines.{read_fills_not}
 
 some_number : (a b : ℕ) → Some a ≡ Some b → a ≡ b
 some_number a b e = cc
