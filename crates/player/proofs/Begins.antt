@@ -143,8 +143,8 @@ read_begins v c snaps sound mode r none = rw none (record {
 pub successor_ready : (v : ClientView) (c : Client) (m : SuccessorRun) → IsSound v → v.layout.mode ≡ Tree → (r : Rests v c) → m.key < 2 ^ 64 → m.snaps.items ≡ [] → m.at ≡ NextStart → ReadIsReady (NextOf m) (machine_call v c r.stands.is_pass v.past) v.past None
 successor_ready v c m sound mode r small none start = (record { reads = read_begins v c m.snaps.items sound mode r none; small = small }, start)
 
-pub range_ready : (v : ClientView) (c : Client) (m : RangeRun) → IsSound v → v.layout.mode ≡ Tree → (r : Rests v c) → m.high < 2 ^ 64 → m.snaps.items ≡ [] → m.at ≡ RangeStart → ¬ TakesNothing m.low m.high m.most → ReadIsReady (PairsOf m) (machine_call v c r.stands.is_pass v.past) v.past None
-range_ready v c m sound mode r small none start takes = ((record { reads = read_begins v c m.snaps.items sound mode r none; small = small }, start), takes)
+pub range_ready : (v : ClientView) (c : Client) (m : RangeRun) → IsSound v → v.layout.mode ≡ Tree → (r : Rests v c) → m.high < 2 ^ 64 → m.most ≤ 64 → m.snaps.items ≡ [] → m.at ≡ RangeStart → ¬ TakesNothing m.low m.high m.most → ReadIsReady (PairsOf m) (machine_call v c r.stands.is_pass v.past) v.past None
+range_ready v c m sound mode r small few none start takes = ((record { reads = read_begins v c m.snaps.items sound mode r none; small = small; few = few }, start), takes)
 
 -- an ordered read from its start
 pub read_starts : (v : ClientView) (began : Option ℕ) (c : Client) (m : ReadRun) (command : Command) → IsSound v → v.layout.mode ≡ Tree → (r : Rests v c) → IsUnbegun v began → IsReadBy m command → ReadIsReady m (machine_call v c r.stands.is_pass v.past) v.past None → ((taken : ℕ) → read_left m taken ≤ most_steps command v.tries taken) → command_of v c ≡ Some command → Starts v c (Read m) None

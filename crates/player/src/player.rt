@@ -208,7 +208,13 @@ impl Player {
     {
         let at = client.0 as usize;
         let won = self.wins[at];
-        let moment = self.clients[at].moment(&self.script.calls, number, &answer, won, &self.places);
+        let moment = self.clients[at].moment(
+            &self.script.calls,
+            number,
+            &answer,
+            won,
+            &self.places,
+        );
         let reply = self.clients[at].end(&self.script.calls, number, answer, moment);
         self.lines.push_reply(reply);
     }

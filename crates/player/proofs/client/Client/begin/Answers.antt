@@ -71,9 +71,9 @@ returns-in-Successor c v began sound some mode r u is =
     let new = c.new-in-Successor.ensures in
     begins_run v c.args.self.now c.run-in-Successor.new.self c.args.turn c.run-in-Successor.result
     (c.run-in-Successor.ensures.begins v sound (read_starts v began _ (NextOf c.new-in-Successor.result) (SuccessorCommand c.in-Successor.key) sound tree rests u new.key
-        (successor_ready v _ c.new-in-Successor.result sound tree rests (omega (arith, new.key)) new.snaps new.start)
-        (λ taken. rw (sym r.stands.tries) (new.bound taken (rw (sym r.stands.tries) at some)))
-        (is ∙ ap (λ (k : Command). Some k) c.in-Successor.is)))
+    (successor_ready v _ c.new-in-Successor.result sound tree rests (omega (arith, new.key)) new.snaps new.start)
+    (λ taken. rw (sym r.stands.tries) (new.bound taken (rw (sym r.stands.tries) at some)))
+    (is ∙ ap (λ (k : Command). Some k) c.in-Successor.is)))
 
 pub returns-in-Range : goal.returns-in-Range
 returns-in-Range c v began sound some mode r u is =
