@@ -1,0 +1,5 @@
+mod Searching
+mod Blaming
+mod Finding
+mod Turns
+mod Nearer

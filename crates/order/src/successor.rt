@@ -1,4 +1,6 @@
 //! Successor.
+ghost use Rattle.std.specs.Prelude.{◌≡◌};
+ghost use Rattle.order.specs.Successor.Steps.{last_turn};
 
 use crate::refused::Refused;
 use arena::{Access, Head, Kind, Machine, NodeNo, NodeWord, ScxNo, Side, Step, Turn, Word};
@@ -79,8 +81,32 @@ pub struct SuccessorRun {
 }
 
 impl SuccessorRun {
-    /// A run that has not begun. What it keeps grows with this allocator.
-    pub fn new(alloc: Global, key: u64, tries: u32) -> SuccessorRun {
+    ghost use Rattle.std.specs.Prelude.{◌≡◌, ℕ, ◌+◌, ◌-◌, ◌*◌, ◌<◌, ◌≤◌, length, [], None};
+    ghost use Rattle.arena.specs.History.{History, Extends};
+    ghost use Rattle.arena.specs.Machines.{MatchTurn, Call};
+    ghost use Rattle.prims.specs.Llx.Known.{IsSnapshot, LlxIsReady};
+    ghost use Rattle.prims.specs.Llx.Steps.{llx_left};
+    ghost use Rattle.prims.specs.Vlx.Known.{VlxIsReady};
+    ghost use Rattle.prims.specs.Vlx.Steps.{vlx_left};
+    ghost use Rattle.spelling.specs.TreeShape.{TreeAllows};
+    ghost use Rattle.template.specs.Trails.{IsOwnMoment};
+    ghost use Rattle.template.specs.Walk.Known.{WalkIsReady};
+    ghost use Rattle.template.specs.Walk.Steps.{walk_left, WalkFits};
+    ghost use Rattle.order.specs.Reads.{from, Whenever};
+    ghost use Rattle.order.specs.Replies.{IsContended};
+    ghost use Rattle.order.specs.Search.{IsNextAt};
+    ghost use Rattle.order.specs.Successor.Known.{head_at, key_at, level_at, IsLastTurn, LooksAt, StandsAt, HasHead, Validates, Goes, SuccessorIsReady, SuccessorTurn};
+    ghost use Rattle.order.specs.Successor.Steps.{behind, HeadFits, IsNearer, try_left, successor_left, SuccessorFits};
+
+    /// A run that has not begun. What it keeps grows with this allocator. In each try it asks for at
+    /// most 137 steps for each node that has been taken when it ends, and for 274 more.
+    pub fn new(alloc: Global, key: u64, tries: u32) -> SuccessorRun
+        ensures key { result.key ≡ key }
+        ensures start { result.at ≡ SuccessorAt.Start }
+        ensures snaps { result.snaps.items ≡ [] }
+        ensures tries { result.tries ≡ tries - 1 }
+        ensures bound { (nodes : ℕ) → 0 < tries → successor_left result nodes ≤ tries * try_left nodes }
+    {
         SuccessorRun {
             key,
             tries: tries.saturating_sub(1),
@@ -91,7 +117,10 @@ impl SuccessorRun {
     }
 
     /// Asks for a load of a settled word, and stands there.
-    fn load(&mut self, at: SuccessorAt, node: NodeNo, part: NodeWord) -> Turn<Told> {
+    fn load(&mut self, at: SuccessorAt, node: NodeNo, part: NodeWord) -> Turn<Told>
+        ensures stands { self.new ≡ record self.old { at = at } }
+        ensures asked { result ≡ Turn.Ask record { kind = Kind.LoadSettled; word = Word.Node node part; access = Access.Load } }
+    {
         self.at = at;
         Turn::Ask(Step {
             kind: Kind::LoadSettled,
@@ -101,14 +130,23 @@ impl SuccessorRun {
     }
 
     /// Begins a try.
-    fn begin(&mut self) -> Turn<Told> {
+    fn begin(&mut self) -> Turn<Told>
+        ensures turn { (c : Call) (h : History) → Goes self.old c h → SuccessorTurn c h self.new result }
+        ensures begins { (c : Call) (h : History) → Goes self.old c h → MatchTurn result (λ _. Unit {0}) (λ _. ⊥) }
+        ensures same { self.new.key ≡ self.old.key }
+        ensures nearer { (nodes : ℕ) → IsNearer self.new nodes result (self.old.tries * try_left nodes + try_left nodes) }
+    {
         self.snaps.clear();
         let walk = WalkRun::new(Goal::Key(self.key));
         self.walk_on(walk, NodeNo(0), None)
     }
 
     /// Ends a try that is lost to this SCX-record over this node, and begins the next if there is one.
-    fn lost(&mut self, node: NodeNo, scx: ScxNo) -> Turn<Told> {
+    fn lost(&mut self, node: NodeNo, scx: ScxNo) -> Turn<Told>
+        ensures turn { (c : Call) (h : History) → Goes self.old c h → IsContended c h node.0 scx.0 → SuccessorTurn c h self.new result }
+        ensures same { self.new.key ≡ self.old.key }
+        ensures nearer { (nodes : ℕ) → IsNearer self.new nodes result (self.old.tries * try_left nodes) }
+    {
         if self.tries == 0 {
             return Turn::Done(Err(Refused::Contended { node, scx }));
         }
@@ -117,7 +155,12 @@ impl SuccessorRun {
     }
 
     /// Goes on with what the last step of the walk found.
-    fn walk_on(&mut self, mut walk: WalkRun, turn: NodeNo, got: Option<u64>) -> Turn<Told> {
+    fn walk_on(&mut self, mut walk: WalkRun, turn: NodeNo, got: Option<u64>) -> Turn<Told>
+        ensures turn { (c : Call) (h : History) → Goes self.old c h → walk.goal ≡ Goal.Key self.old.key → IsLastTurn c h self.old.key turn.0 → WalkIsReady walk c h got → SuccessorTurn c h self.new result }
+        ensures begins { got ≡ None → (c : Call) (h : History) → WalkIsReady walk c h None → MatchTurn result (λ _. Unit {0}) (λ _. ⊥) }
+        ensures same { self.new.key ≡ self.old.key }
+        ensures nearer { (nodes : ℕ) → WalkFits walk got nodes → IsNearer self.new nodes result (self.old.tries * try_left nodes + (walk_left walk.at nodes + length self.old.snaps.items + 134 * (2 + nodes))) }
+    {
         match Machine::<Tree>::next(&mut walk, got) {
             Turn::Ask(step) => {
                 let turn = last_turn(&walk, turn);
@@ -129,7 +172,11 @@ impl SuccessorRun {
     }
 
     /// Looks at a fork of this level, to go on to this side of it.
-    fn look(&mut self, route: Route, level: u64, side: Side, node: NodeNo) -> Turn<Told> {
+    fn look(&mut self, route: Route, level: u64, side: Side, node: NodeNo) -> Turn<Told>
+        ensures turn { (c : Call) (h : History) → Goes self.old c h → LooksAt self.old c h route level side node.0 → SuccessorTurn c h self.new result }
+        ensures same { self.new.key ≡ self.old.key }
+        ensures nearer { (nodes : ℕ) → level + 1 < 2 + nodes → IsNearer self.new nodes result (self.old.tries * try_left nodes + (64 + length self.old.snaps.items + 1 + 67 * (1 + nodes - level) + behind route nodes)) }
+    {
         self.look_on(route, level, side, LlxRun::new(node), None)
     }
 
@@ -141,7 +188,11 @@ impl SuccessorRun {
         side: Side,
         mut llx: LlxRun,
         got: Option<u64>,
-    ) -> Turn<Told> {
+    ) -> Turn<Told>
+        ensures turn { (c : Call) (begin h : History) → Goes self.old c h → LooksAt self.old c h route level side llx.node.0 → Extends begin c.start → LlxIsReady TreeAllows llx (from c begin) h got → SuccessorTurn c h self.new result }
+        ensures same { self.new.key ≡ self.old.key }
+        ensures nearer { (nodes : ℕ) → level + 1 < 2 + nodes → IsNearer self.new nodes result (self.old.tries * try_left nodes + (llx_left llx.at + length self.old.snaps.items + 1 + 67 * (1 + nodes - level) + behind route nodes)) }
+    {
         match Machine::<Tree>::next(&mut llx, got) {
             Turn::Ask(step) => {
                 self.at = SuccessorAt::Look {
@@ -159,7 +210,11 @@ impl SuccessorRun {
     }
 
     /// Keeps a snapshot, and goes on to a child of its node.
-    fn looked(&mut self, route: Route, level: u64, side: Side, snap: Snap) -> Turn<Told> {
+    fn looked(&mut self, route: Route, level: u64, side: Side, snap: Snap) -> Turn<Told>
+        ensures turn { (c : Call) (h : History) → Goes self.old c h → LooksAt self.old c h route level side snap.node.0 → IsSnapshot c.layout h snap.node.0 snap → SuccessorTurn c h self.new result }
+        ensures same { self.new.key ≡ self.old.key }
+        ensures nearer { (nodes : ℕ) → level + 1 < 2 + nodes → IsNearer self.new nodes result (self.old.tries * try_left nodes + (length self.old.snaps.items + 1 + 67 * (1 + nodes - level) + behind route nodes)) }
+    {
         if self.snaps.push(snap).is_err() {
             return Turn::Done(Err(Refused::NoMemory));
         }
@@ -174,14 +229,22 @@ impl SuccessorRun {
     }
 
     /// Asks for the head of a node below a fork of the level `above`.
-    fn load_head(&mut self, route: Route, above: u64, node: NodeNo) -> Turn<Told> {
+    fn load_head(&mut self, route: Route, above: u64, node: NodeNo) -> Turn<Told>
+        ensures turn { (c : Call) (h : History) → Goes self.old c h → StandsAt self.old c h route node.0 → above < level_at h node.0 → SuccessorTurn c h self.new result }
+        ensures same { self.new.key ≡ self.old.key }
+        ensures nearer { (nodes : ℕ) → above + 1 < 2 + nodes → IsNearer self.new nodes result (self.old.tries * try_left nodes + (length self.old.snaps.items + 67 * (1 + nodes - above) + behind route nodes)) }
+    {
         let at = SuccessorAt::Head { route, above, node };
         self.load(at, node, NodeWord::Head)
     }
 
     /// Goes on with the head of a node. Above all keys there is no pair. Behind the path of the key
     /// it always goes left.
-    fn head_on(&mut self, route: Route, head: Head, node: NodeNo) -> Turn<Told> {
+    fn head_on(&mut self, route: Route, head: Head, node: NodeNo) -> Turn<Told>
+        ensures turn { (c : Call) (h : History) → Goes self.old c h → IsOwnMoment c h → StandsAt self.old c h route node.0 → head_at h node.0 ≡ head → SuccessorTurn c h self.new result }
+        ensures same { self.new.key ≡ self.old.key }
+        ensures nearer { (nodes : ℕ) → HeadFits head nodes → IsNearer self.new nodes result (self.old.tries * try_left nodes + (length self.old.snaps.items + 67 * (2 + nodes - head.level) - 1 + behind route nodes)) }
+    {
         if head.class == 0 && (head.leaf || route == Route::Along) {
             let at = SuccessorAt::Key { route, head, node };
             self.load(at, node, NodeWord::Key)
@@ -193,7 +256,11 @@ impl SuccessorRun {
     }
 
     /// Goes on with the key of a node of class 0.
-    fn key_on(&mut self, route: Route, head: Head, node: NodeNo, key: u64) -> Turn<Told> {
+    fn key_on(&mut self, route: Route, head: Head, node: NodeNo, key: u64) -> Turn<Told>
+        ensures turn { (c : Call) (h : History) → Goes self.old c h → StandsAt self.old c h route node.0 → HasHead h route node.0 head → key_at h node.0 ≡ key → SuccessorTurn c h self.new result }
+        ensures same { self.new.key ≡ self.old.key }
+        ensures nearer { (nodes : ℕ) → HeadFits head nodes → IsNearer self.new nodes result (self.old.tries * try_left nodes + (length self.old.snaps.items + 67 * (2 + nodes - head.level) - 2 + behind route nodes)) }
+    {
         let above = self.key < key;
         if !head.leaf {
             let side = if above { Side::Left } else { Side::Right };
@@ -207,12 +274,20 @@ impl SuccessorRun {
     }
 
     /// Looks whether all nodes are still as they were found.
-    fn validate(&mut self, found: Option<Pair>) -> Turn<Told> {
+    fn validate(&mut self, found: Option<Pair>) -> Turn<Told>
+        ensures turn { (c : Call) (h : History) → Goes self.old c h → IsOwnMoment c h → 0 < length self.old.snaps.items → Whenever c.layout h self.old.snaps.items (λ b. IsNextAt c.layout b self.old.key found) → SuccessorTurn c h self.new result }
+        ensures same { self.new.key ≡ self.old.key }
+        ensures nearer { (nodes : ℕ) → IsNearer self.new nodes result (self.old.tries * try_left nodes + length self.old.snaps.items) }
+    {
         self.validate_on(0, found, None)
     }
 
     /// Goes on with what the last step of the VLX found.
-    fn validate_on(&mut self, asked: usize, found: Option<Pair>, got: Option<u64>) -> Turn<Told> {
+    fn validate_on(&mut self, asked: usize, found: Option<Pair>, got: Option<u64>) -> Turn<Told>
+        ensures turn { (c : Call) (begin h : History) → Goes self.old c h → Validates self.old c h begin found → VlxIsReady self.old.snaps.items asked (from c begin) h got → SuccessorTurn c h self.new result }
+        ensures same { self.new.key ≡ self.old.key }
+        ensures nearer { (nodes : ℕ) → IsNearer self.new nodes result (self.old.tries * try_left nodes + vlx_left self.old.snaps.items asked) }
+    {
         let mut vlx = VlxRun {
             snaps: self.snaps.as_slice(),
             asked,
@@ -230,7 +305,12 @@ impl SuccessorRun {
     }
 
     /// Goes on with what the last step found; with nothing at the first call, which asks for a step.
-    pub fn step(&mut self, got: Option<u64>) -> Turn<Told> {
+    pub fn step(&mut self, got: Option<u64>) -> Turn<Told>
+        ensures turn { (c : Call) (h : History) → SuccessorIsReady self.old c h got → SuccessorTurn c h self.new result }
+        ensures begins { got ≡ None → (c : Call) (h : History) → SuccessorIsReady self.old c h None → MatchTurn result (λ _. Unit {0}) (λ _. ⊥) }
+        ensures same { self.new.key ≡ self.old.key }
+        ensures nearer { (nodes : ℕ) → SuccessorFits self.old got nodes → IsNearer self.new nodes result (successor_left self.old nodes) }
+    {
         let value = got.unwrap_or(0);
         match self.at {
             SuccessorAt::Start => self.begin(),
@@ -253,8 +333,45 @@ impl SuccessorRun {
     }
 }
 
+impl Machine<Tree> for SuccessorRun {
+    type Answer = Result<Option<Pair>, Refused>;
+
+    ghost use Rattle.std.specs.Prelude.{◌≡◌};
+    ghost use Rattle.order.specs.Successor.Steps.{successor_left, SuccessorFits};
+    ghost use Rattle.order.specs.Successor.Known.{SuccessorIsReady, SuccessorWaits, SuccessorAnswers};
+    ghost use Rattle.order.specs.Successor.Laws.{successor_keeps, successor_lawful, successor_made, successor_told};
+
+    ghost ready = { SuccessorIsReady };
+
+    ghost waits = { SuccessorWaits };
+
+    ghost answers = { SuccessorAnswers };
+
+    ghost same = { λ old now. now.key ≡ old.key };
+
+    ghost left = { successor_left };
+
+    ghost fits = { SuccessorFits };
+
+    ghost asks_first = { λ _. Unit {0} };
+
+    fn next(&mut self, got: Option<u64>) -> Turn<Told> {
+        self.step(got)
+    }
+
+    ghost keeps = { successor_keeps };
+
+    ghost lawful = { successor_lawful };
+
+    ghost made = { successor_made };
+
+    ghost told = { successor_told };
+}
+
 /// The last fork where a walk has turned left, where that was `turn` before its last step.
-fn last_turn(walk: &WalkRun, turn: NodeNo) -> NodeNo {
+fn last_turn(walk: &WalkRun, turn: NodeNo) -> NodeNo
+    ensures { result ≡ last_turn walk.now.at walk.now.trail.node turn }
+{
     match walk.at {
         WalkAt::Child {
             level: _,

@@ -23,6 +23,7 @@ mod Taken
 mod TreeRuns
 mod Rising
 mod FirstLeaf
+mod Following
 mod Reading
 mod LeafLists
 mod Maps

@@ -1,0 +1,363 @@
+-- What a successor knows one place further.
+use Rattle.std.proofs.Common.{◌≡◌, ◌≢◌, ℕ, zero, suc, ◌+◌, ◌*◌, ◌%◌, ◌^◌, ◌<◌, ◌≤◌, ◌⊎◌, true, false, cond, ltb, List, [], ◌∷◌, ◌++◌, length, inl, inr, ⊎_elim, refl, sym, ◌∙◌, ap, subst, arith, lt-ltb, le-ltb, Option, Some, None}
+use Rattle.arena.specs.declared.head.Head.{Head as HeadParts}
+use Rattle.arena.specs.declared.word.NodeWord.TheVariants.{Head as HeadWord, Key as KeyWord, Value as ValueWord}
+use Rattle.arena.specs.declared.word.Side.{Side}
+use Rattle.arena.specs.declared.word.Side.TheVariants.{Left, Right}
+use Rattle.arena.specs.declared.word.Word.{Word}
+use Rattle.arena.specs.Words.{node, child, info, marked}
+use Rattle.arena.specs.History.{History, value, Extends}
+use Rattle.arena.specs.Log.{log, is_final}
+use Rattle.arena.specs.Machines.{Call}
+use Rattle.arena.proofs.Lemmas.{ends_self, ends_trans}
+use Rattle.prims.specs.Laws.Idle.{quiet_at_start}
+use Rattle.prims.specs.Laws.InTheWay.{been_now}
+use Rattle.prims.specs.Laws.Linked.{IsLinked, linked_since}
+use Rattle.prims.specs.Llx.Known.{IsSnapshot, LlxKnows, LlxIsReady}
+use Rattle.prims.specs.Snap.{child_of, snap_at}
+use Rattle.prims.specs.Vlx.Known.{IsSame, VlxIsReady}
+use Rattle.prims.specs.declared.llx.LlxAt.TheVariants.{Start as LlxStart}
+use Rattle.prims.specs.declared.llx.LlxRun.{LlxRun}
+use Rattle.prims.specs.declared.snap.Snap.{Snap}
+use Rattle.spelling.specs.declared.pair.Pair.{Pair}
+use Rattle.spelling.specs.OrderedMap.{pair, Successor, OnePair}
+use Rattle.spelling.specs.Paths.{IsOnPath, Passed, WasInTree}
+use Rattle.spelling.specs.Runs.{IsTreeRun}
+use Rattle.spelling.specs.Spelled.{Spells}
+use Rattle.spelling.specs.TreeShape.{TreeAllows}
+use Rattle.spelling.specs.TreeWords.{class, is_leaf, level, rank, toward}
+use Rattle.spelling.proofs.Lemmas.{child_not_final, child_stood, levels_rise, passed_unmarked, path_not_final, root_head, run_since, run_spells, stood_settled, walk_first, was_passed, SameSettled, settled_class, settled_leaf, settled_rank, settled_toward}
+use Rattle.template.specs.FoundLeaf.{HasEnded}
+use Rattle.template.specs.Trails.{IsOwnMoment, WasPassed}
+use Rattle.template.specs.declared.walk.Found.{Found}
+use Rattle.template.proofs.Lemmas.{own_since}
+use Rattle.order.specs.Kept.{idle_over, stood_opened}
+use Rattle.order.specs.Reads.{from, AreSnapped, HasSnapped, Reads, AllHold, Whenever, HasStood}
+use Rattle.order.specs.Replies.{IsReplyAt}
+use Rattle.order.specs.Search.{IsSearched, IsFirstBehind, IsNextAt}
+use Rattle.order.specs.Successor.Known.{head_at, key_at, HasTurnedLeft, IsLastTurn, IsOnRoute, IsSideOf, IsAtFork, IsRightThere, LooksAt, StandsAt, HasHead, HasLeaf, Validates, Goes}
+use Rattle.order.specs.declared.successor.Route.{Route}
+use Rattle.order.specs.declared.successor.Route.TheVariants.{Along, Beyond}
+use Rattle.order.specs.declared.successor.SuccessorRun.{SuccessorRun}
+use Rattle.order.proofs.Blaming.{snapped_usable}
+use Rattle.order.proofs.Searching.{begins_below, goes_left, goes_right, ends_here, ends_behind, first_left, first_small, first_tells, tells_pair, tells_none}
+
+-- Sides
+
+left_below : (f : Word → ℕ) (n k : ℕ) → toward f n k ≡ Left → k < rank f n
+left_below f n k e = ⊎_elim (λ l. l) (λ l. absurd (let x : Right ≡ Left = sym (right_of l) ∙ e in cc)) (split k (rank f n))
+  where
+    split : (a b : ℕ) → (a < b) ⊎ (b ≤ a)
+    split a b = grind arith
+
+    right_of : rank f n ≤ k → toward f n k ≡ Right
+    right_of l = rw (le-ltb k (rank f n) l) refl
+
+right_above : (f : Word → ℕ) (n k : ℕ) → toward f n k ≡ Right → rank f n ≤ k
+right_above f n k e = ⊎_elim (λ l. absurd (let x : Left ≡ Right = sym (left_of l) ∙ e in cc)) (λ l. l) (split k (rank f n))
+  where
+    split : (a b : ℕ) → (a < b) ⊎ (b ≤ a)
+    split a b = grind arith
+
+    left_of : k < rank f n → toward f n k ≡ Left
+    left_of l = rw (lt-ltb k (rank f n) l) refl
+
+no_side : (P : Type 0) → Left ≡ Right → P
+no_side P e = absurd (let x : Left ≡ Right = e in cc)
+
+no_route : (P : Type 0) → Beyond ≡ Along → P
+no_route P e = absurd (let x : Beyond ≡ Along = e in cc)
+
+-- The fork where the search begins
+
+-- the root is a fork of class 2
+root_turned : (c : Call) (h : History) (k asked : ℕ) (f : Found) → IsTreeRun c.layout h → k < 2 ^ 64 → HasEnded c h k asked f → HasTurnedLeft c h k 0
+root_turned c h k asked f run small a = record { passed = record { first = a.trail.node.first; own = a.trail.node.own; passed = there }; fork = rw head refl; left = rw (lt-ltb k (rank (value h) 0) high) refl }
+  where
+    head : value h (node 0 HeadWord) ≡ 2
+    head = root_head c.layout h run
+
+    high : k < rank (value h) 0
+    high = let e = head in omega (arith, small, e)
+
+    there : Passed h a.trail.node.first k 0
+    there =
+        let p = a.trail.node.passed in
+        let x : Passed p.0 p.0 k 0 = walk_first c.layout p.0 k (run_since c.layout h p.0 run p.1) in
+        (x.0, ends_trans h p.0 x.0 p.1 x.1, ends_trans x.0 p.0 a.trail.node.first x.2 p.2, x.3)
+
+pub last_turned : (c : Call) (h : History) (k asked n : ℕ) (f : Found) → IsTreeRun c.layout h → k < 2 ^ 64 → HasEnded c h k asked f → IsLastTurn c h k n → HasTurnedLeft c h k n
+last_turned c h k asked n f run small a (inl e) = rw e (root_turned c h k asked f run small a)
+last_turned c h k asked n f run small a (inr x) = x
+
+-- it may look there
+pub looks_first : (m : SuccessorRun) (c : Call) (h : History) (n : ℕ) → Goes m c h → HasTurnedLeft c h m.key n → LooksAt m c h Along 0 Left n
+looks_first m c h n goes x = record {
+  stood = record {
+    stood = was_passed h x.passed.first m.key n p;
+    not_final = record { moment = p.0; within = p.1; since = ends_trans p.0 x.passed.first c.start p.2 (own_since c x.passed.first x.passed.own); was = path_not_final c.layout p.0 m.key n (run_since c.layout h p.0 goes.reads.run p.1) p.3 };
+  };
+  fork = x.fork;
+  deep = omega arith;
+  side_is = x.left;
+  right = λ a e. no_side _ e;
+  at_fork = λ b run e hold unmarked. inr (refl, refl, passed_unmarked c.layout b x.passed.first m.key n run (p.0, ends_trans b h p.0 e p.1, p.2, p.3) unmarked);
+}
+  where
+    p : Passed h x.passed.first m.key n
+    p = x.passed.passed
+
+-- An LLX
+
+pub look_ready : (m : SuccessorRun) (c : Call) (h : History) (n : ℕ) (llx : LlxRun) → Goes m c h → HasStood c h n → llx.node.0 ≡ n → llx.at ≡ LlxStart → LlxIsReady TreeAllows llx (from c h) h None
+look_ready m c h n llx goes stood is at = record {
+  opened = rw is (stood_opened c.layout h n goes.reads.run stood.stood);
+  since = ends_self h;
+  quiet = quiet_at_start c.layout c.pass h (idle_over c h goes.reads.run.1.lawful goes.reads.over);
+  known = subst (LlxKnows (from c h) h llx.node.0) (sym at) tt;
+  told = at;
+}
+
+-- a place in the longer list is one of the shorter, or the last
+at_end : (snaps : List Snap) (s : Snap) (i : ℕ) → i < length (snaps ++ s ∷ []) → ((i < length snaps) × (snap_at (snaps ++ s ∷ []) i ≡ snap_at snaps i)) ⊎ ((i ≡ length snaps) × (snap_at (snaps ++ s ∷ []) i ≡ s))
+at_end [] s zero p = inr (refl, refl)
+at_end [] s (suc i) p = absurd (omega (arith, p))
+at_end (t ∷ snaps) s zero p = inl (omega arith, refl)
+at_end (t ∷ snaps) s (suc i) p = ⊎_elim (λ x. inl ((let y = x.0 in omega (arith, y)), x.1)) (λ x. inr ((let y = x.0 in omega (arith, y)), x.1)) (at_end snaps s i (omega (arith, p)))
+
+at_first : (snaps : List Snap) (s : Snap) (i : ℕ) → i < length snaps → (i < length (snaps ++ s ∷ [])) × (snap_at (snaps ++ s ∷ []) i ≡ snap_at snaps i)
+at_first [] s i p = absurd (omega (arith, p))
+at_first (t ∷ snaps) s zero p = (omega arith, refl)
+at_first (t ∷ snaps) s (suc i) p = let x = at_first snaps s i (omega (arith, p)) in ((let y = x.0 in omega (arith, y)), x.1)
+
+at_last : (snaps : List Snap) (s : Snap) → (length snaps < length (snaps ++ s ∷ [])) × (snap_at (snaps ++ s ∷ []) (length snaps) ≡ s)
+at_last [] s = (omega arith, refl)
+at_last (t ∷ snaps) s = let x = at_last snaps s in ((let y = x.0 in omega (arith, y)), x.1)
+
+-- where the infos of the longer list hold, those of the shorter do
+hold_before : (b : History) (snaps : List Snap) (s : Snap) → AllHold b (snaps ++ s ∷ []) → AllHold b snaps
+hold_before b snaps s x i p = let y = at_first snaps s i p in rw y.1 at (x i y.0)
+
+hold_last : (b : History) (snaps : List Snap) (s : Snap) → AllHold b (snaps ++ s ∷ []) → value b (info s.node.0) ≡ s.scx.0
+hold_last b snaps s x = let y = at_last snaps s in rw y.1 at (x (length snaps) y.0)
+
+-- A snapshot more
+
+module _ (m : SuccessorRun) (c : Call) (h : History) (snap : Snap) (goes : Goes m c h) (is : IsSnapshot c.layout h snap.node.0 snap) where
+  snapped_one_more : AreSnapped c h (m.snaps.items ++ snap ∷ [])
+  snapped_one_more i p = ⊎_elim (λ q. subst (HasSnapped c h) (sym q.1) (goes.reads.snapped i q.0)) (λ q. subst (HasSnapped c h) (sym q.1) now) (at_end m.snaps.items snap i p)
+    where
+      now : HasSnapped c h snap
+      now = record { moment = h; within = ends_self h; since = goes.reads.since; is = is }
+
+  pub goes_one_more : (now : SuccessorRun) → now.key ≡ m.key → now.snaps.items ≡ m.snaps.items ++ snap ∷ [] → Goes now c h
+  goes_one_more now key items = record {
+    reads = rw items record { run = goes.reads.run; since = goes.reads.since; over = goes.reads.over; quiet = goes.reads.quiet; snapped = snapped_one_more };
+    small = rw key goes.small;
+  }
+
+  module _ (route : Route) (low : ℕ) (side : Side) (x : LooksAt m c h route low side snap.node.0) where
+    -- a child of the node has stood in the tree, too
+    child_there : (s : Side) → HasStood c h (child_of snap s).0
+    child_there s = subst (HasStood c h) (is.linked.fields s is.info) record {
+      stood = child_stood c.layout h h snap.node.0 s goes.reads.run (ends_self h) x.stood.stood is.not_final x.fork;
+      not_final = been_now h c.start _ goes.reads.since (child_not_final c.layout h snap.node.0 s goes.reads.run x.stood.stood is.not_final x.fork);
+    }
+
+    pub child_deeper : (s : Side) → low < level (value h) (child_of snap s).0
+    child_deeper s =
+        let i : level (value h) snap.node.0 < level (value h) (value h (child snap.node.0 s)) = levels_rise c.layout h snap.node.0 s goes.reads.run x.stood.stood x.fork in
+        let j : level (value h) snap.node.0 < level (value h) (child_of snap s).0 = rw (is.linked.fields s is.info) at i in
+        let deep = x.deep in
+        omega (arith, j, deep)
+
+    right_there : IsRightThere c h snap.right.0
+    right_there = record { stood = child_there Right; below = let i = child_deeper Right in omega (arith, i) }
+
+    -- at a moment at which all infos still hold
+    module _ (b : History) (run : IsTreeRun c.layout b) (e : Extends b h) (hold : AllHold b (m.snaps.items ++ snap ∷ [])) where
+      linked : IsLinked c.layout b snap
+      linked = linked_since c.layout b h snap run.1.lawful e is.linked
+
+      field : (s : Side) → value b (child snap.node.0 s) ≡ (child_of snap s).0
+      field s = linked.fields s (hold_last b m.snaps.items snap hold)
+
+      same : SameSettled (value h) (value b) snap.node.0
+      same = stood_settled c.layout b h snap.node.0 run e x.stood.stood
+
+      fork : is_leaf (value b) snap.node.0 ≡ false
+      fork = settled_leaf (value h) (value b) snap.node.0 same ∙ x.fork
+
+      side_then : toward (value h) snap.node.0 m.key ≡ side → toward (value b) snap.node.0 m.key ≡ side
+      side_then d = settled_toward (value h) (value b) snap.node.0 m.key same ∙ d
+
+      at_fork : IsOnRoute route b m.key snap.node.0 m.right.0 ⊎ ((route ≡ Along) × (side ≡ Left) × IsOnPath b m.key snap.node.0)
+      at_fork = x.at_fork b run e (hold_before b m.snaps.items snap hold) (linked.unmarked (hold_last b m.snaps.items snap hold))
+
+      searched_left : IsSearched b m.key (value b (child snap.node.0 Left)) (value b (child snap.node.0 Right)) → IsSearched b m.key snap.left.0 snap.right.0
+      searched_left y = rw (field Left, field Right) at y
+
+    pub along_left : route ≡ Along → side ≡ Left → Whenever c.layout h (m.snaps.items ++ snap ∷ []) (λ b. IsSearched b m.key snap.left.0 snap.right.0)
+    along_left a l b run e hold = searched_left b run e hold (go (at_fork b run e hold))
+      where
+        below : m.key < rank (value b) snap.node.0
+        below = left_below (value b) snap.node.0 m.key (side_then b run e hold (subst (λ r. IsSideOf r h m.key snap.node.0 side) a x.side_is) ∙ l)
+
+        go : IsOnRoute route b m.key snap.node.0 m.right.0 ⊎ ((route ≡ Along) × (side ≡ Left) × IsOnPath b m.key snap.node.0) → IsSearched b m.key (value b (child snap.node.0 Left)) (value b (child snap.node.0 Right))
+        go (inl y) = goes_left b m.key snap.node.0 m.right.0 (subst (λ r. IsOnRoute r b m.key snap.node.0 m.right.0) a y) (fork b run e hold) below
+        go (inr y) = begins_below b m.key snap.node.0 y.2 (fork b run e hold) below
+
+    pub along_right : route ≡ Along → side ≡ Right → Whenever c.layout h (m.snaps.items ++ snap ∷ []) (λ b. IsSearched b m.key snap.right.0 m.right.0)
+    along_right a r b run e hold = rw (field b run e hold Right) at (go (at_fork b run e hold))
+      where
+        above : rank (value b) snap.node.0 ≤ m.key
+        above = right_above (value b) snap.node.0 m.key (side_then b run e hold (subst (λ q. IsSideOf q h m.key snap.node.0 side) a x.side_is) ∙ r)
+
+        go : IsOnRoute route b m.key snap.node.0 m.right.0 ⊎ ((route ≡ Along) × (side ≡ Left) × IsOnPath b m.key snap.node.0) → IsSearched b m.key (value b (child snap.node.0 Right)) m.right.0
+        go (inl y) = goes_right b m.key snap.node.0 m.right.0 (subst (λ q. IsOnRoute q b m.key snap.node.0 m.right.0) a y) (fork b run e hold) above
+        go (inr y) = no_side _ (sym y.1 ∙ r)
+
+    pub beyond_left : route ≡ Beyond → Whenever c.layout h (m.snaps.items ++ snap ∷ []) (λ b. IsFirstBehind b m.key snap.left.0)
+    beyond_left a b run e hold = rw (field b run e hold Left) at (go (at_fork b run e hold))
+      where
+        go : IsOnRoute route b m.key snap.node.0 m.right.0 ⊎ ((route ≡ Along) × (side ≡ Left) × IsOnPath b m.key snap.node.0) → IsFirstBehind b m.key (value b (child snap.node.0 Left))
+        go (inl y) = first_left b m.key snap.node.0 (subst (λ q. IsOnRoute q b m.key snap.node.0 m.right.0) a y) (fork b run e hold)
+        go (inr y) = no_route _ (sym a ∙ y.0)
+
+    some_more : 0 < length (m.snaps.items ++ snap ∷ [])
+    some_more = let i = (at_last m.snaps.items snap).0 in omega (arith, i)
+
+    -- it stands at the child to which it goes
+    pub stands_left : (now : SuccessorRun) → now.key ≡ m.key → now.snaps.items ≡ m.snaps.items ++ snap ∷ [] → route ≡ Along → side ≡ Left → now.right ≡ snap.right → StandsAt now c h Along snap.left.0
+    stands_left now key items a l right = record {
+      stood = child_there Left;
+      some = rw items some_more;
+      right = λ _. rw right right_there;
+      on_route = rw (key, items, right) (along_left a l);
+    }
+
+    pub stands_right : (now : SuccessorRun) → now.key ≡ m.key → now.snaps.items ≡ m.snaps.items ++ snap ∷ [] → route ≡ Along → side ≡ Right → now.right ≡ m.right → StandsAt now c h Along snap.right.0
+    stands_right now key items a r right = record {
+      stood = child_there Right;
+      some = rw items some_more;
+      right = λ _. rw right (x.right a r);
+      on_route = rw (key, items, right) (along_right a r);
+    }
+
+    pub stands_beyond : (now : SuccessorRun) → now.key ≡ m.key → now.snaps.items ≡ m.snaps.items ++ snap ∷ [] → route ≡ Beyond → StandsAt now c h Beyond snap.left.0
+    stands_beyond now key items a = record {
+      stood = child_there Left;
+      some = rw items some_more;
+      right = λ e. no_route _ e;
+      on_route = rw (key, items) (beyond_left a);
+    }
+
+-- At a node
+
+module _ (m : SuccessorRun) (c : Call) (h : History) (route : Route) (n : ℕ) (goes : Goes m c h) (x : StandsAt m c h route n) where
+  module _ (b : History) (run : IsTreeRun c.layout b) (e : Extends b h) where
+    same_then : SameSettled (value h) (value b) n
+    same_then = stood_settled c.layout b h n run e x.stood.stood
+
+  -- a leaf above all keys: there is no pair
+  pub tells_nothing : is_leaf (value h) n ≡ true → class (value h) n ≢ 0 → Whenever c.layout h m.snaps.items (λ b. IsNextAt c.layout b m.key None)
+  tells_nothing leaf high b run e hold ps spelled = first_tells b m.key n (go route (x.on_route b run e hold)) c.layout ps leaf_then spelled ∙ tells_none (value b) n high_then
+    where
+      same : SameSettled (value h) (value b) n
+      same = same_then b run e
+
+      leaf_then : is_leaf (value b) n ≡ true
+      leaf_then = settled_leaf (value h) (value b) n same ∙ leaf
+
+      high_then : class (value b) n ≢ 0
+      high_then z = high (sym (settled_class (value h) (value b) n same) ∙ z)
+
+      above : m.key < rank (value b) n
+      above = let s = goes.small in omega (arith, s, high_then)
+
+      go : (r : Route) → IsOnRoute r b m.key n m.right.0 → IsFirstBehind b m.key n
+      go Along y = ends_here b m.key n m.right.0 y leaf_then above
+      go Beyond y = y
+
+  -- a fork: it goes on to this side
+  pub looks_at : (low : ℕ) (side : Side) → is_leaf (value h) n ≡ false → low ≤ level (value h) n → IsSideOf route h m.key n side → LooksAt m c h route low side n
+  looks_at low side fork deep side_is = record {
+    stood = x.stood;
+    fork = fork;
+    deep = deep;
+    side_is = side_is;
+    right = λ a r. x.right a;
+    at_fork = λ b run e hold unmarked. inl (x.on_route b run e hold);
+  }
+
+  -- a leaf of the map
+  module _ (key : ℕ) (leaf : is_leaf (value h) n ≡ true) (low : class (value h) n ≡ 0) (d : key_at h n ≡ key) where
+    rank_then : (b : History) (run : IsTreeRun c.layout b) (e : Extends b h) → rank (value b) n ≡ key
+    rank_then b run e =
+        let r : rank (value b) n ≡ rank (value h) n = settled_rank (value h) (value b) n (same_then b run e) in
+        let y = low in let z = d in
+        omega (arith, r, y, z)
+
+    pub leaf_above : m.key < key → HasLeaf m c h n key
+    leaf_above i = record { stood = x.stood; some = x.some; leaf = leaf; low = low; key_is = d; first = λ b run e hold. go b run e route (x.on_route b run e hold) }
+      where
+        go : (b : History) → IsTreeRun c.layout b → Extends b h → (r : Route) → IsOnRoute r b m.key n m.right.0 → IsFirstBehind b m.key n
+        go b run e Along y = ends_here b m.key n m.right.0 y (settled_leaf (value h) (value b) n (same_then b run e) ∙ leaf) (let r = rank_then b run e in omega (arith, r, i))
+        go b run e Beyond y = y
+
+    pub leaf_beyond : route ≡ Beyond → HasLeaf m c h n key
+    leaf_beyond a = record { stood = x.stood; some = x.some; leaf = leaf; low = low; key_is = d; first = λ b run e hold. subst (λ r. IsOnRoute r b m.key n m.right.0) a (x.on_route b run e hold) }
+
+    -- that is not above the key: it goes on from the right child
+    pub stands_behind : route ≡ Along → key ≤ m.key → StandsAt m c h Beyond m.right.0
+    stands_behind a i = record {
+      stood = (x.right a).stood;
+      some = x.some;
+      right = λ q. no_route _ q;
+      on_route = λ b run e hold. ends_behind b m.key n m.right.0 (subst (λ r. IsOnRoute r b m.key n m.right.0) a (x.on_route b run e hold)) (settled_leaf (value h) (value b) n (same_then b run e) ∙ leaf) (let r = rank_then b run e in omega (arith, r, i));
+    }
+
+-- At the leaf of the answer
+
+pub tells_this : (m : SuccessorRun) (c : Call) (h : History) (n key v : ℕ) → HasLeaf m c h n key → value h (node n ValueWord) ≡ v → Whenever c.layout h m.snaps.items (λ b. IsNextAt c.layout b m.key (Some (pair key v)))
+tells_this m c h n key v x d b run e hold ps spelled = first_tells b m.key n first c.layout ps leaf spelled ∙ tells_pair (value b) n key v (settled_class (value h) (value b) n same ∙ x.low) is_key (subst (λ j. j < 2 ^ 64) is_key (first_small b m.key n first leaf)) (same ValueWord tt ∙ d)
+  where
+    first : IsFirstBehind b m.key n
+    first = x.first b run e hold
+
+    same : SameSettled (value h) (value b) n
+    same = stood_settled c.layout b h n run e x.stood.stood
+
+    leaf : is_leaf (value b) n ≡ true
+    leaf = settled_leaf (value h) (value b) n same ∙ x.leaf
+
+    is_key : value b (node n KeyWord) ≡ key
+    is_key = same KeyWord tt ∙ x.key_is
+
+-- The VLX
+
+pub validates : (m : SuccessorRun) (c : Call) (h : History) (found : Option Pair) → Goes m c h → IsOwnMoment c h → Whenever c.layout h m.snaps.items (λ b. IsNextAt c.layout b m.key found) → Validates m c h h found
+validates m c h found goes own x = record { own = own; within = ends_self h; then = goes.reads; right = λ hold. x h goes.reads.run (ends_self h) hold }
+
+pub vlx_ready : (m : SuccessorRun) (c : Call) (h : History) → Goes m c h → 0 < length m.snaps.items → VlxIsReady m.snaps.items 0 (from c h) h None
+vlx_ready m c h goes some = record {
+  asked = refl;
+  some = some;
+  linked = λ i p. (snapped_usable c h (snap_at m.snaps.items i) goes.reads.run.1.lawful (goes.reads.snapped i p)).linked;
+  begins = refl;
+  clear = record { over = goes.reads.over; found = λ i p. ((goes.reads.snapped i p).moment, (snapped_usable c h (snap_at m.snaps.items i) goes.reads.run.1.lawful (goes.reads.snapped i p)).found) };
+}
+
+-- all nodes are as they were found: the answer is the map's as the VLX began
+pub replies : (m : SuccessorRun) (c : Call) (begin h : History) (found : Option Pair) → Validates m c h begin found → IsSame (from c begin) h m.snaps.items → IsReplyAt c h (Successor m.key) (OnePair found)
+replies m c begin h found x same = record {
+  moment = begin;
+  within = x.within;
+  own = x.own;
+  map = spelled.0;
+  spelled = spelled.1;
+  gives = ap OnePair (x.right same.info spelled.0 spelled.1);
+}
+  where
+    spelled : (ps : List Pair) × Spells c.layout (value begin) ps
+    spelled = run_spells c.layout begin x.then.run
