@@ -2,16 +2,14 @@
 -- are told is so.
 use Rattle.std.proofs.Common.{◌≡◌, ◌≢◌, ℕ, ◌+◌, ◌<◌, ◌≤◌, false, length, inl, inr, refl, sym, ◌∙◌, ap, subst, arith, Option, Some, None}
 use Rattle.arena.specs.declared.head.Head.{Head as HeadParts}
-use Rattle.arena.specs.declared.layout.Layout.{Layout}
 use Rattle.arena.specs.declared.step.Row.{Row}
 use Rattle.arena.specs.declared.step.Step.{Step}
 use Rattle.arena.specs.declared.step.Kind.TheVariants.{Fill, LoadSettled}
 use Rattle.arena.specs.declared.word.NodeWord.TheVariants.{Head as HeadWord, Key as KeyWord, Value as ValueWord}
 use Rattle.arena.specs.declared.word.Side.{Side}
-use Rattle.arena.specs.declared.word.Side.TheVariants.{Left}
 use Rattle.arena.specs.declared.word.Word.{Word}
 use Rattle.arena.specs.Heads.{head_of}
-use Rattle.arena.specs.Words.{node, child}
+use Rattle.arena.specs.Words.{node}
 use Rattle.arena.specs.History.{History, ◌⊳◌, value}
 use Rattle.arena.specs.Machines.{IsRun, Call, row_of, IsTold}
 use Rattle.arena.specs.TakenNodes.{taken_nodes}
@@ -22,14 +20,14 @@ use Rattle.prims.specs.Llx.Laws.{llx_keeps, llx_lawful, llx_made, load_lawful, l
 use Rattle.prims.specs.Vlx.Laws.{vlx_keeps, vlx_lawful, vlx_made}
 use Rattle.prims.proofs.Lemmas.{llx_fills_not, vlx_fills_not}
 use Rattle.spelling.specs.declared.pair.Pair.{Pair}
-use Rattle.spelling.specs.Paths.{WasInTree}
 use Rattle.spelling.specs.Runs.{IsTreeRun}
 use Rattle.spelling.specs.TreeShape.{TreeAllows}
 use Rattle.spelling.specs.TreeWords.{is_leaf, level}
-use Rattle.spelling.proofs.Lemmas.{child_stood, levels_rise, run_since, stood_depth, stood_settled, tree_not_final, was_now, was_passed, walk_stays, SameSettled, settled_class, settled_leaf, settled_level, settled_toward}
+use Rattle.spelling.proofs.Lemmas.{stood_settled, was_passed, walk_stays, SameSettled, settled_class, settled_leaf, settled_level, settled_toward}
 use Rattle.template.specs.Walk.Laws.{walk_keeps, walk_lawful, walk_made, walk_told}
 use Rattle.template.proofs.Lemmas.{walk_fills_not}
-use Rattle.order.specs.Kept.{stood_inside, stood_more, taken_since, whenever_more, reads_more, settled_more}
+use Rattle.order.specs.Depth.{fork_depth, head_fits}
+use Rattle.order.specs.Kept.{stood_inside, stood_more, whenever_more, reads_more, settled_more}
 use Rattle.order.specs.Reads.{from, HasStood}
 use Rattle.order.specs.Successor.Known.{IsLastTurn, IsSideOf, IsRightThere, LooksAt, StandsAt, HasHead, HasLeaf, Validates, Goes, SuccessorWaitsAt, SuccessorIsToldAt, SuccessorWaits, SuccessorIsReady}
 use Rattle.order.specs.Successor.Steps.{HeadFits, SuccessorFitsAt, SuccessorFits}
@@ -114,7 +112,7 @@ module _ (m : SuccessorRun) (c : Call) (h : History) (r : Row) (g : IsTreeRun c.
 kept_at : (m : SuccessorRun) (c : Call) (h : History) (s : Step) (r : Row) (at : SuccessorAt) → IsTreeRun c.layout h → IsRun TreeAllows c.layout (r ⊳ h) → r.pass.0 ≢ c.pass → SuccessorWaitsAt m c h s at → SuccessorWaitsAt m c (r ⊳ h) s at
 kept_at m c h s r Start g run other w = w
 kept_at m c h s r (Walk walk turn) g run other w = (w.0, last_more m c h r g run turn.0 w.1, walk_keeps walk c h s r run other w.2)
-kept_at m c h s r (Look route low side llx) g run other w = (looks_more m c h r g run route low side llx.node.0 w.0, (w.1, w.2, llx_keeps TreeAllows llx (from c w.1) h s r run other w.3))
+kept_at m c h s r (Look route low side llx) g run other w = (looks_more m c h r g run route low side llx.node.0 w.0, (w.1.0, w.1.1, llx_keeps TreeAllows llx (from c w.1.0) h s r run other w.1.2))
 kept_at m c h s r (Head route above n) g run other w = (stands_more m c h r g run route n.0 w.0, deeper_more m c h r g run above n.0 w.0.stood w.1, w.2)
 kept_at m c h s r (Key route head n) g run other w = (stands_more m c h r g run route n.0 w.0, head_more m c h r g run route n.0 head w.0.stood w.1, w.2)
 kept_at m c h s r (Value key n) g run other w = (leaf_more m c h r g run n.0 key w.0, w.1)
@@ -133,7 +131,7 @@ successor_keeps m c h s r run other w = (
 lawful_at : (m : SuccessorRun) (c : Call) (h : History) (s : Step) (at : SuccessorAt) → IsTreeRun c.layout h → SuccessorWaitsAt m c h s at → IsRun TreeAllows c.layout (row_of c s h ⊳ h)
 lawful_at m c h s Start g w = absurd w
 lawful_at m c h s (Walk walk turn) g w = walk_lawful walk c h s g.1 w.2
-lawful_at m c h s (Look route low side llx) g w = llx_lawful TreeAllows llx (from c w.1) h s g.1 w.3
+lawful_at m c h s (Look route low side llx) g w = llx_lawful TreeAllows llx (from c w.1.0) h s g.1 w.1.2
 lawful_at m c h s (Head route above n) g w = load_lawful TreeAllows c h LoadSettled (node n.0 HeadWord) s g.1 w.2 record { word = tt; same = refl } (λ q. cc) (stood_inside c.layout h n.0 g w.0.stood.stood)
 lawful_at m c h s (Key route head n) g w = load_lawful TreeAllows c h LoadSettled (node n.0 KeyWord) s g.1 w.2 record { word = tt; same = refl } (λ q. cc) (stood_inside c.layout h n.0 g w.0.stood.stood)
 lawful_at m c h s (Value key n) g w = load_lawful TreeAllows c h LoadSettled (node n.0 ValueWord) s g.1 w.1 record { word = tt; same = refl } (λ q. cc) (stood_inside c.layout h n.0 g w.0.stood.stood)
@@ -151,7 +149,7 @@ load_fills_not s w e f = let z : LoadSettled ≡ Fill = sym (ap (λ (t : Step). 
 fills_not_at : (m : SuccessorRun) (c : Call) (h : History) (s : Step) (at : SuccessorAt) → SuccessorWaitsAt m c h s at → s.kind ≢ Fill
 fills_not_at m c h s Start w = absurd w
 fills_not_at m c h s (Walk walk turn) w = walk_fills_not walk c h s w.2
-fills_not_at m c h s (Look route low side llx) w = llx_fills_not TreeAllows llx (from c w.1) h s w.3
+fills_not_at m c h s (Look route low side llx) w = llx_fills_not TreeAllows llx (from c w.1.0) h s w.1.2
 fills_not_at m c h s (Head route above n) w = load_fills_not s (node n.0 HeadWord) w.2
 fills_not_at m c h s (Key route head n) w = load_fills_not s (node n.0 KeyWord) w.2
 fills_not_at m c h s (Value key n) w = load_fills_not s (node n.0 ValueWord) w.1
@@ -170,7 +168,7 @@ module _ (m : SuccessorRun) (c : Call) (h : History) (s : Step) (v : ℕ) (g : I
   made_at : (at : SuccessorAt) → SuccessorWaitsAt m c h s at → SuccessorIsToldAt m c (row_of c s h ⊳ h) v at
   made_at Start w = w
   made_at (Walk walk turn) w = (w.0, last_more m c h r g run turn.0 w.1, walk_made walk c h s v run t w.2)
-  made_at (Look route low side llx) w = (looks_more m c h r g run route low side llx.node.0 w.0, (w.1, w.2, llx_made TreeAllows llx (from c w.1) h s v run t w.3))
+  made_at (Look route low side llx) w = (looks_more m c h r g run route low side llx.node.0 w.0, (w.1.0, w.1.1, llx_made TreeAllows llx (from c w.1.0) h s v run t w.1.2))
   made_at (Head route above n) w = (stands_more m c h r g run route n.0 w.0, deeper_more m c h r g run above n.0 w.0.stood w.1, load_told c h LoadSettled (node n.0 HeadWord) s v w.2 t)
   made_at (Key route head n) w = (stands_more m c h r g run route n.0 w.0, head_more m c h r g run route n.0 head w.0.stood w.1, load_told c h LoadSettled (node n.0 KeyWord) s v w.2 t)
   made_at (Value key n) w = (leaf_more m c h r g run n.0 key w.0, load_told c h LoadSettled (node n.0 ValueWord) s v w.1 t)
@@ -185,27 +183,6 @@ successor_made m c h s v run t w = (
 )
 
 -- What it is told
-
--- the children of a fork that has stood in the tree are not deeper than the taken nodes allow
-fork_depth : (lay : Layout) (h : History) (n : ℕ) → IsTreeRun lay h → WasInTree h n → is_leaf (value h) n ≡ false → level (value h) n + 1 < 2 + length (taken_nodes h)
-fork_depth lay h n g x fork =
-    let k : History = x.moment in
-    let run : IsTreeRun lay k = run_since lay h k g x.within in
-    let here : WasInTree k n = was_now k x.tree n x.is_tree x.has in
-    let same : SameSettled (value k) (value h) n = stood_settled lay h k n g x.within here in
-    let fork_then : is_leaf (value k) n ≡ false = sym (settled_leaf (value k) (value h) n same) ∙ fork in
-    let rises : level (value k) n < level (value k) (value k (child n Left)) = levels_rise lay k n Left run here fork_then in
-    let below : WasInTree k (value k (child n Left)) = child_stood lay k k n Left run (ends_self k) here (tree_not_final lay k x.tree n run x.is_tree x.has) fork_then in
-    let deep : level (value k) (value k (child n Left)) < 2 + length (taken_nodes k) = stood_depth lay k (value k (child n Left)) run below in
-    let more : length (taken_nodes k) ≤ length (taken_nodes h) = taken_since h k x.within in
-    let same_level : level (value h) n ≡ level (value k) n = settled_level (value k) (value h) n same in
-    omega (arith, rises, deep, more, same_level)
-
-head_fits : (lay : Layout) (h : History) (n nodes : ℕ) (head : HeadParts) → IsTreeRun lay h → WasInTree h n → head_of (value h (node n HeadWord)) ≡ head → length (taken_nodes h) ≤ nodes → HeadFits head nodes
-head_fits lay h n nodes head g x e few = (
-  (let d : level (value h) n < 2 + length (taken_nodes h) = stood_depth lay h n g x in let l : level (value h) n ≡ head.level = ap (λ (w : HeadParts). w.level) e in omega (arith, d, l, few)),
-  λ fork. (let d : level (value h) n + 1 < 2 + length (taken_nodes h) = fork_depth lay h n g x (ap (λ (w : HeadParts). w.leaf) e ∙ fork) in let l : level (value h) n ≡ head.level = ap (λ (w : HeadParts). w.level) e in omega (arith, d, l, few)),
-)
 
 fits_at : (m : SuccessorRun) (c : Call) (h : History) (v nodes : ℕ) (at : SuccessorAt) → IsTreeRun c.layout h → SuccessorIsToldAt m c h v at → length (taken_nodes h) ≤ nodes → SuccessorFitsAt m (Some v) nodes at
 fits_at m c h v nodes Start g x few = absurd x
