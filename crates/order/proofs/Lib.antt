@@ -5,4 +5,7 @@ mod Snapping
 mod Finding
 mod Turns
 mod Nearer
+mod Undisturbed
 mod Visiting
+mod Ready
+pub mod Lemmas
