@@ -1,5 +1,5 @@
 -- Who was in the way of a try that is lost.
-use Rattle.std.proofs.Common.{◌≡◌, ◌≢◌, ℕ, ◌<◌, List, length, inr, refl, subst, sym, None}
+use Rattle.std.proofs.Common.{ℕ, ◌<◌, List, length, inr, refl, subst, sym, None}
 use Rattle.arena.specs.Blame.{WasInTheWay, HasFailed}
 use Rattle.arena.specs.declared.number.NodeNo.{NodeNo}
 use Rattle.arena.specs.declared.number.ScxNo.{ScxNo}

@@ -1,5 +1,5 @@
 -- What a successor knows one place further.
-use Rattle.std.proofs.Common.{◌≡◌, ◌≢◌, ℕ, zero, suc, ◌+◌, ◌*◌, ◌%◌, ◌^◌, ◌<◌, ◌≤◌, ◌⊎◌, Bool, true, false, cond, eqb, ltb, List, [], ◌∷◌, ◌++◌, length, inl, inr, ⊎_elim, refl, sym, ◌∙◌, ap, subst, arith, lt-ltb, le-ltb, ltb-true, ltb-false, eqb-true, eq-eqb, Option, Some, None}
+use Rattle.std.proofs.Common.{◌≡◌, ◌≢◌, ℕ, ◌^◌, ◌<◌, ◌≤◌, ◌⊎◌, Bool, true, false, cond, eqb, List, [], ◌∷◌, ◌++◌, length, inl, inr, ⊎_elim, refl, sym, ◌∙◌, ap, subst, arith, lt-ltb, le-ltb, ltb-true, ltb-false, eqb-true, eq-eqb, Option, Some, None}
 use Rattle.arena.specs.declared.head.Head.{Head as HeadParts}
 use Rattle.arena.specs.declared.word.NodeWord.TheVariants.{Head as HeadWord, Key as KeyWord, Value as ValueWord}
 use Rattle.arena.specs.declared.word.Side.{Side}
@@ -11,28 +11,28 @@ use Rattle.arena.specs.Machines.{Call}
 use Rattle.arena.proofs.Lemmas.{ends_self, ends_trans}
 use Rattle.prims.specs.Laws.Idle.{quiet_at_start}
 use Rattle.prims.specs.Llx.Known.{IsSnapshot, LlxKnows, LlxIsReady}
-use Rattle.prims.specs.Snap.{child_of, snap_at}
+use Rattle.prims.specs.Snap.{child_of}
 use Rattle.prims.specs.Vlx.Known.{IsSame, VlxIsReady}
 use Rattle.prims.specs.declared.llx.LlxAt.TheVariants.{Start as LlxStart}
 use Rattle.prims.specs.declared.llx.LlxRun.{LlxRun}
 use Rattle.prims.specs.declared.snap.Snap.{Snap}
 use Rattle.spelling.specs.declared.pair.Pair.{Pair}
 use Rattle.spelling.specs.OrderedMap.{pair, Successor, OnePair}
-use Rattle.spelling.specs.Paths.{IsOnPath, Passed, WasInTree}
+use Rattle.spelling.specs.Paths.{IsOnPath, Passed}
 use Rattle.spelling.specs.Runs.{IsTreeRun}
 use Rattle.spelling.specs.Spelled.{Spells}
 use Rattle.spelling.specs.TreeShape.{TreeAllows}
 use Rattle.spelling.specs.TreeWords.{class, is_leaf, level, rank, toward}
 use Rattle.spelling.proofs.Lemmas.{passed_unmarked, path_not_final, root_head, run_since, run_spells, stood_settled, walk_first, was_passed, SameSettled, settled_class, settled_leaf, settled_rank, settled_toward}
 use Rattle.template.specs.FoundLeaf.{HasEnded}
-use Rattle.template.specs.Trails.{IsOwnMoment, WasPassed}
+use Rattle.template.specs.Trails.{IsOwnMoment}
 use Rattle.template.specs.declared.walk.Found.{Found}
 use Rattle.template.proofs.Lemmas.{own_since}
 use Rattle.order.specs.Kept.{idle_over, stood_opened}
 use Rattle.order.specs.Reads.{from, AllHold, Whenever, HasStood}
 use Rattle.order.specs.Replies.{IsReplyAt}
 use Rattle.order.specs.Search.{IsSearched, IsFirstBehind, IsNextAt}
-use Rattle.order.specs.Successor.Known.{head_at, key_at, asks_key, is_answer, HasTurnedLeft, IsLastTurn, IsOnRoute, IsSideOf, IsAtFork, IsRightThere, LooksAt, StandsAt, HasHead, HasLeaf, Validates, Goes}
+use Rattle.order.specs.Successor.Known.{head_at, key_at, asks_key, is_answer, HasTurnedLeft, IsLastTurn, IsOnRoute, IsSideOf, IsRightThere, LooksAt, StandsAt, HasHead, HasLeaf, Validates, Goes}
 use Rattle.order.specs.declared.successor.Route.{Route}
 use Rattle.order.specs.declared.successor.Route.TheVariants.{Along, Beyond}
 use Rattle.order.specs.declared.successor.SuccessorRun.{SuccessorRun}

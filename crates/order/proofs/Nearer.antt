@@ -1,5 +1,5 @@
 -- That each turn of a successor leaves fewer steps.
-use Rattle.std.proofs.Common.{◌≡◌, ◌≢◌, ℕ, zero, suc, ◌+◌, ◌*◌, ◌-◌, ◌<◌, ◌≤◌, length, refl, sym, ◌∙◌, subst, arith, Option, unwrap_or}
+use Rattle.std.proofs.Common.{◌≡◌, ◌≢◌, ℕ, zero, suc, ◌+◌, ◌*◌, ◌-◌, ◌<◌, ◌≤◌, length, refl, sym, subst, arith, Option, unwrap_or}
 use Rattle.std.proofs.Math.Nat.{suc-mul}
 use Rattle.arena.specs.declared.machine.Turn.{Turn}
 use Rattle.arena.specs.declared.machine.Turn.TheVariants.{Ask, Done}
@@ -9,7 +9,6 @@ use Rattle.arena.specs.declared.head.Head.{Head as HeadParts}
 use Rattle.arena.specs.declared.number.NodeNo.{NodeNo}
 use Rattle.order.specs.declared.successor.Route.{Route}
 use Rattle.order.specs.declared.successor.Route.TheVariants.{Along}
-use Rattle.order.specs.declared.successor.SuccessorAt.{SuccessorAt}
 use Rattle.order.specs.declared.successor.SuccessorAt.TheVariants.{Head}
 use Rattle.order.specs.declared.successor.SuccessorRun.{SuccessorRun}
 use Rattle.order.specs.Successor.Steps.{behind, try_left, phase_left, successor_left, HeadFits, SuccessorFitsAt, SuccessorFits}

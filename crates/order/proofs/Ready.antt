@@ -1,5 +1,5 @@
 -- How an ordered read begins.
-use Rattle.std.proofs.Common.{◌≡◌, ℕ, ◌^◌, ◌<◌, [], subst, arith, None}
+use Rattle.std.proofs.Common.{◌≡◌, ◌^◌, ◌<◌, [], subst, arith, None}
 use Rattle.arena.specs.History.{History, Extends}
 use Rattle.arena.specs.Machines.{Call}
 use Rattle.arena.proofs.Lemmas.{ends_self}

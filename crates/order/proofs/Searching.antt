@@ -1,5 +1,5 @@
 -- How the search for the least key above k goes down a tree.
-use Rattle.std.proofs.Common.{◌≡◌, ◌≢◌, ℕ, ◌+◌, ◌*◌, ◌%◌, ◌^◌, ◌<◌, ◌≤◌, true, false, cond, ltb, inl, inr, List, refl, sym, ◌∙◌, ap, subst, arith, lt-ltb, le-ltb, Option, Some, None}
+use Rattle.std.proofs.Common.{◌≡◌, ◌≢◌, ℕ, ◌^◌, ◌<◌, ◌≤◌, true, false, inl, inr, List, refl, sym, ◌∙◌, ap, arith, lt-ltb, le-ltb, Option, Some, None}
 use Rattle.arena.specs.declared.layout.Layout.{Layout}
 use Rattle.arena.specs.declared.word.NodeWord.TheVariants.{Key, Value}
 use Rattle.arena.specs.declared.word.Side.TheVariants.{Left, Right}
@@ -12,7 +12,7 @@ use Rattle.spelling.specs.Paths.{IsOnPath}
 use Rattle.spelling.specs.Spelled.{Spells}
 use Rattle.spelling.specs.TreeWords.{Tree, Leaf, Fork, root, Shows, Passes, class, is_leaf, rank}
 use Rattle.spelling.proofs.Lemmas.{first, search_next}
-use Rattle.order.specs.Search.{IsPartAt, IsSearched, IsFirstBehind}
+use Rattle.order.specs.Search.{IsSearched, IsFirstBehind}
 use Rattle.order.proofs.Following.{low_pair, no_leaf, one_tree, search_tells}
 
 -- At a fork on the path, with k on the left of it

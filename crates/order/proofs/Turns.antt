@@ -1,5 +1,5 @@
 -- What a successor waits for after each of its turns.
-use Rattle.std.proofs.Common.{◌≡◌, ◌≢◌, ℕ, ◌^◌, ◌<◌, ◌≤◌, true, false, List, [], ◌∷◌, ◌++◌, length, inl, inr, refl, sym, ◌∙◌, ap, subst, arith, Option, Some, None, unwrap_or, Result, Ok, Err}
+use Rattle.std.proofs.Common.{◌≡◌, ℕ, ◌<◌, [], inl, inr, refl, sym, ◌∙◌, ap, subst, arith, Option, Some, None, unwrap_or, Result, Ok}
 use Rattle.arena.specs.declared.head.Head.{Head as HeadParts}
 use Rattle.arena.specs.declared.machine.Turn.{Turn}
 use Rattle.arena.specs.declared.machine.Turn.TheVariants.{Ask, Done}
@@ -24,7 +24,7 @@ use Rattle.prims.specs.declared.vlx.Vlx.TheVariants.{Same, Changed}
 use Rattle.spelling.specs.declared.pair.Pair.{Pair}
 use Rattle.spelling.specs.TreeShape.{TreeAllows}
 use Rattle.spelling.specs.TreeWords.{level}
-use Rattle.template.specs.FoundLeaf.{path_key, asked_key, HasEnded, HasFound}
+use Rattle.template.specs.FoundLeaf.{path_key, HasEnded, HasFound}
 use Rattle.template.specs.Trails.{IsOwnMoment}
 use Rattle.template.specs.Walk.Known.{WalkKnows, WalkIsReady, WalkWaits, WalkAnswers}
 use Rattle.template.specs.declared.walk.Found.{Found}
@@ -35,7 +35,7 @@ use Rattle.template.specs.declared.walk.WalkRun.{WalkRun}
 use Rattle.template.proofs.Lemmas.{walk_ready_first}
 use Rattle.order.specs.Reads.{from}
 use Rattle.order.specs.Replies.{IsContended}
-use Rattle.order.specs.Successor.Known.{head_at, HasTurnedLeft, IsLastTurn, LooksAt, StandsAt, HasHead, HasLeaf, Validates, Goes, SuccessorWaitsAt, SuccessorIsToldAt, SuccessorWaits, SuccessorIsReady, SuccessorAnswers, SuccessorTurn}
+use Rattle.order.specs.Successor.Known.{HasTurnedLeft, IsLastTurn, LooksAt, StandsAt, HasHead, HasLeaf, Validates, Goes, SuccessorIsToldAt, SuccessorWaits, SuccessorIsReady, SuccessorAnswers, SuccessorTurn}
 use Rattle.order.specs.Successor.Steps.{last_turn}
 use Rattle.order.specs.declared.refused.Refused.{Refused}
 use Rattle.order.specs.declared.successor.Route.{Route}
@@ -43,7 +43,7 @@ use Rattle.order.specs.declared.successor.SuccessorAt.{SuccessorAt}
 use Rattle.order.specs.declared.successor.SuccessorAt.TheVariants.{Start, Walk, Look, Head, Key, Value, Validate}
 use Rattle.order.specs.declared.successor.SuccessorRun.{SuccessorRun}
 use Rattle.order.proofs.Blaming.{look_failed, look_finalized, look_changed}
-use Rattle.order.proofs.Finding.{last_turned, look_ready, replies}
+use Rattle.order.proofs.Finding.{last_turned, replies}
 
 abbrev pub Told : Type 0
 Told = Result (Option Pair) Refused

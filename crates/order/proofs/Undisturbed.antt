@@ -1,5 +1,5 @@
 -- A call by itself: nobody is in its way.
-use Rattle.std.proofs.Common.{◌≡◌, ◌≢◌, ℕ, ◌<◌, inl, inr, sym, ◌∙◌, subst, arith}
+use Rattle.std.proofs.Common.{◌≡◌, ℕ, inl, inr, sym, ◌∙◌, subst, arith}
 use Rattle.arena.specs.Blame.{IsInProgress}
 use Rattle.arena.specs.Fills.{IsOthersScx}
 use Rattle.arena.specs.History.{History, Start, ◌⊳◌, Extends}

@@ -1,5 +1,5 @@
 -- How the visits of a range go down a tree, and on from leaf to leaf.
-use Rattle.std.proofs.Common.{◌≡◌, ◌≢◌, ℕ, zero, suc, ◌+◌, ◌-◌, ◌*◌, ◌%◌, ◌^◌, ◌<◌, ◌≤◌, ◌⊎◌, Bool, true, false, cond, ◌&&◌, leb, ⊎_elim, le-leb, List, [], ◌∷◌, ◌++◌, length, refl, sym, ◌∙◌, ap, subst, arith, append_assoc, append-nil, eq-eqb, ne_eqb}
+use Rattle.std.proofs.Common.{◌≡◌, ◌≢◌, ℕ, zero, suc, ◌+◌, ◌-◌, ◌*◌, ◌^◌, ◌<◌, ◌≤◌, Bool, true, false, cond, ◌&&◌, leb, ⊎_elim, le-leb, List, [], ◌∷◌, ◌++◌, length, refl, sym, ◌∙◌, ap, subst, arith, append_assoc, append-nil, eq-eqb, ne_eqb}
 use Rattle.std.specs.Prelude.{take}
 use Rattle.std.proofs.lemmas.Bool.Decides.{leb_tells}
 use native.Mathlib.Decide.{ℕ_discrete}
@@ -11,11 +11,10 @@ use Rattle.arena.specs.declared.word.Word.{Word}
 use Rattle.arena.specs.Words.{node, child}
 use Rattle.arena.specs.History.{History, value}
 use Rattle.spelling.specs.declared.pair.Pair.{Pair}
-use Rattle.spelling.specs.OrderedMap.{pair, between, range}
+use Rattle.spelling.specs.OrderedMap.{pair, between}
 use Rattle.spelling.specs.Spelled.{IsTree, Spells}
 use Rattle.spelling.specs.TreeWords.{Tree, Leaf, Fork, root, Shows, class, is_leaf, rank, pairs, leaf_pairs}
-use Rattle.order.specs.Search.{IsPartAt}
-use Rattle.order.specs.Visits.{Bounds, part_pairs, AreWaiting, IsVisiting, HasVisited, IsRangeAt}
+use Rattle.order.specs.Visits.{Bounds, part_pairs, IsVisiting, HasVisited, IsRangeAt}
 use Rattle.order.proofs.Following.{no_leaf, one_tree, open_part}
 
 -- Pairs within bounds

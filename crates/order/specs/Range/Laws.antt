@@ -1,6 +1,6 @@
 -- The laws of ranges: rows of others leave them waiting, their steps are lawful, and what they are
 -- told is so.
-use Rattle.std.proofs.Common.{◌≡◌, ◌≢◌, ℕ, ◌+◌, ◌*◌, ◌%◌, ◌^◌, ◌<◌, ◌≤◌, Bool, true, false, length, List, [], ◌∷◌, inr, refl, sym, ◌∙◌, ap, subst, arith, Option, Some, None}
+use Rattle.std.proofs.Common.{◌≡◌, ◌≢◌, ℕ, ◌+◌, ◌<◌, ◌≤◌, Bool, length, List, [], ◌∷◌, inr, refl, sym, ◌∙◌, ap, subst, arith, Option, Some, None}
 use Rattle.arena.specs.declared.head.Head.{Head as HeadParts}
 use Rattle.arena.specs.declared.number.NodeNo.{NodeNo}
 use Rattle.arena.specs.declared.step.Row.{Row}
@@ -20,7 +20,7 @@ use Rattle.prims.specs.Vlx.Laws.{vlx_keeps, vlx_lawful, vlx_made}
 use Rattle.prims.proofs.Lemmas.{llx_fills_not, vlx_fills_not}
 use Rattle.spelling.specs.Runs.{IsTreeRun}
 use Rattle.spelling.specs.TreeShape.{TreeAllows}
-use Rattle.spelling.specs.TreeWords.{is_leaf, level, rank}
+use Rattle.spelling.specs.TreeWords.{level, rank}
 use Rattle.spelling.proofs.Lemmas.{SameSettled, settled_class, settled_leaf, settled_level, settled_rank}
 use Rattle.order.specs.Depth.{fork_depth, head_fits}
 use Rattle.order.specs.Kept.{stood_inside, stood_more, whenever_more, reads_more, settled_more}

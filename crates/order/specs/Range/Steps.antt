@@ -1,5 +1,5 @@
 -- How many steps a range may still ask for: 67 a node of each path to a leaf.
-use Rattle.std.specs.Prelude.{◌≡◌, ℕ, ◌+◌, ◌*◌, ◌-◌, ◌<◌, length, List, Option, unwrap_or, Result}
+use Rattle.std.specs.Prelude.{ℕ, ◌+◌, ◌*◌, ◌-◌, ◌<◌, length, Option, unwrap_or}
 use Rattle.arena.specs.Heads.{head_of}
 use Rattle.arena.specs.Machines.{MatchTurn}
 use Rattle.arena.specs.declared.machine.Turn.{Turn}

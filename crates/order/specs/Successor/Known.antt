@@ -1,5 +1,5 @@
 -- When a successor may go on, what it waits for, and what its answer says.
-use Rattle.std.specs.Prelude.{◌≡◌, ℕ, ◌^◌, ◌<◌, ◌≤◌, Bool, true, false, cond, eqb, ltb, ◌⊎◌, length, List, Option, Some, None, Result, Ok, Err}
+use Rattle.std.specs.Prelude.{◌≡◌, ℕ, ◌^◌, ◌<◌, ◌≤◌, Bool, true, false, cond, eqb, ltb, ◌⊎◌, length, Option, Some, None, Result, Ok, Err}
 use Rattle.arena.specs.declared.head.Head.{Head as HeadParts}
 use Rattle.arena.specs.declared.machine.Turn.{Turn}
 use Rattle.arena.specs.declared.step.Step.{Step}
@@ -14,7 +14,6 @@ use Rattle.arena.specs.Machines.{Call, MatchTurn}
 use Rattle.prims.specs.Llx.Known.{load, LlxIsReady, LlxWaits}
 use Rattle.prims.specs.Moments.{AreFinished}
 use Rattle.prims.specs.Vlx.Known.{VlxIsReady, VlxWaits}
-use Rattle.prims.specs.declared.snap.Snap.{Snap}
 use Rattle.spelling.specs.declared.pair.Pair.{Pair}
 use Rattle.spelling.specs.OrderedMap.{Successor, OnePair}
 use Rattle.spelling.specs.Paths.{IsOnPath}
@@ -23,7 +22,6 @@ use Rattle.spelling.specs.TreeWords.{class, is_leaf, level, toward}
 use Rattle.template.specs.Trails.{IsOwnMoment, WasPassed}
 use Rattle.template.specs.Walk.Known.{WalkIsReady, WalkWaits}
 use Rattle.template.specs.declared.walk.Goal.TheVariants.{Key as ToKey}
-use Rattle.template.specs.declared.walk.WalkRun.{WalkRun}
 use Rattle.order.specs.Reads.{from, Reads, AllHold, Whenever, HasStood}
 use Rattle.order.specs.Replies.{IsReplyAt, IsContended}
 use Rattle.order.specs.Search.{IsSearched, IsFirstBehind, IsNextAt}

@@ -1,6 +1,6 @@
 -- The laws of successors: rows of others leave them waiting, their steps are lawful, and what they
 -- are told is so.
-use Rattle.std.proofs.Common.{◌≡◌, ◌≢◌, ℕ, ◌+◌, ◌<◌, ◌≤◌, false, length, inl, inr, refl, sym, ◌∙◌, ap, subst, arith, Option, Some, None}
+use Rattle.std.proofs.Common.{◌≡◌, ◌≢◌, ℕ, ◌+◌, ◌<◌, ◌≤◌, length, inl, inr, refl, sym, ◌∙◌, ap, subst, arith, Option, Some, None}
 use Rattle.arena.specs.declared.head.Head.{Head as HeadParts}
 use Rattle.arena.specs.declared.step.Row.{Row}
 use Rattle.arena.specs.declared.step.Step.{Step}
@@ -22,7 +22,7 @@ use Rattle.prims.proofs.Lemmas.{llx_fills_not, vlx_fills_not}
 use Rattle.spelling.specs.declared.pair.Pair.{Pair}
 use Rattle.spelling.specs.Runs.{IsTreeRun}
 use Rattle.spelling.specs.TreeShape.{TreeAllows}
-use Rattle.spelling.specs.TreeWords.{is_leaf, level}
+use Rattle.spelling.specs.TreeWords.{level}
 use Rattle.spelling.proofs.Lemmas.{stood_settled, was_passed, walk_stays, SameSettled, settled_class, settled_leaf, settled_level, settled_toward}
 use Rattle.template.specs.Walk.Laws.{walk_keeps, walk_lawful, walk_made, walk_told}
 use Rattle.template.proofs.Lemmas.{walk_fills_not}

@@ -1,6 +1,6 @@
 use Rattle.std.proofs.Common.{refl, ap, length}
 use Rattle.order.proofs.Nearer.{begins_walk}
-use Rattle.order.proofs.Turns.{goes_again, walk_ready, walks_first}
+use Rattle.order.proofs.Turns.{walk_ready, walks_first}
 use Rattle.order.proofs.successor.SuccessorRun.begin.Goals as goal
 
 pub returns-in-Ask-clause-turn : goal.returns-in-Ask-clause-turn

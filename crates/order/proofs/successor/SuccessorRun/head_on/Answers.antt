@@ -1,4 +1,4 @@
-use Rattle.std.proofs.Common.{◌≡◌, sym, ◌∙◌}
+use Rattle.std.proofs.Common.{sym, ◌∙◌}
 use Rattle.order.proofs.Finding.{head_there, high_there, leaf_is, looks_left, tells_nothing}
 use Rattle.order.proofs.Nearer.{below, head_to_look, head_to_validate}
 use Rattle.order.proofs.Turns.{asks_key}

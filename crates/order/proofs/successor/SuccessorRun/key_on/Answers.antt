@@ -1,4 +1,4 @@
-use Rattle.std.proofs.Common.{◌≡◌, true, false, sym, ◌∙◌, arith}
+use Rattle.std.proofs.Common.{sym, ◌∙◌, arith}
 use Rattle.std.proofs.lemmas.Bool.{not-true, not-false}
 use Rattle.order.proofs.Finding.{answers_here, answers_behind, deeper_behind, along_of}
 use Rattle.order.proofs.Nearer.{below, key_to_look, key_to_behind}

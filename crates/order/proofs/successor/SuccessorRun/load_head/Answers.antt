@@ -1,4 +1,3 @@
-use Rattle.order.proofs.Nearer.{less_head}
 use Rattle.order.proofs.Turns.{asks_head}
 use Rattle.order.proofs.successor.SuccessorRun.load_head.Goals as goal
 

@@ -1,4 +1,4 @@
-use Rattle.std.proofs.Common.{◌≡◌, refl}
+use Rattle.std.proofs.Common.{refl}
 use Rattle.arena.specs.declared.word.Side.TheVariants.{Left, Right}
 use Rattle.order.proofs.Finding.{goes_one_more, stands_left, stands_right, stands_beyond, child_deeper}
 use Rattle.order.proofs.successor.SuccessorRun.looked.Goals as goal

@@ -1,6 +1,6 @@
-use Rattle.std.proofs.Common.{◌≡◌, sym, ◌∙◌, ap, refl}
+use Rattle.std.proofs.Common.{◌≡◌, sym, ◌∙◌, ap}
 use Rattle.arena.specs.Heads.{head_of}
-use Rattle.order.specs.declared.successor.SuccessorAt.TheVariants.{Start, Walk, Look, Head, Key, Value, Validate}
+use Rattle.order.specs.declared.successor.SuccessorAt.TheVariants.{Start, Walk, Look, Key, Validate}
 use Rattle.order.proofs.Finding.{tells_this}
 use Rattle.order.proofs.Nearer.{below, head_nearer}
 use Rattle.order.proofs.Turns.{at_start, at_walk, at_look, at_head, at_key, at_value, at_validate}

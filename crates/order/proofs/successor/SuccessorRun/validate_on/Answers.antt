@@ -1,4 +1,4 @@
-use Rattle.std.proofs.Common.{◌≡◌, ap, ◌∙◌}
+use Rattle.std.proofs.Common.{ap, ◌∙◌}
 use Rattle.arena.specs.declared.machine.Turn.TheVariants.{Done}
 use Rattle.order.specs.Reads.{from}
 use Rattle.order.proofs.Nearer.{below, less_vlx, to_tries}
