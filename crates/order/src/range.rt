@@ -1,0 +1,269 @@
+//! Range.
+
+use crate::refused::Refused;
+use arena::{Access, Head, Kind, Machine, NodeNo, NodeWord, ScxNo, Step, Turn, Word};
+use prims::{Llx, LlxRun, Snap, Vlx, VlxRun};
+use spelling::Pair;
+use std::alloc::Global;
+use std::mem;
+use template::Tree;
+
+/// What a range answers.
+type Told = Result<Vec<Pair>, Refused>;
+
+/// The step that a range has asked for.
+#[derive(Clone, Copy, Debug, PartialEq, Eq)]
+pub enum RangeAt {
+    /// None yet.
+    Start,
+    /// The load of the root's head.
+    Root,
+    /// The load of the head of a node that is below a fork of the level `above`.
+    Head {
+        above: u64,
+        node: NodeNo,
+    },
+    /// The load of the key of a node of class 0.
+    Key {
+        head: Head,
+        node: NodeNo,
+    },
+    /// The load of the value of a leaf with a key of the range.
+    Value {
+        key: u64,
+        node: NodeNo,
+    },
+    /// A step of the LLX of a fork of this level, of which these children are to be visited: the left
+    /// one, the right one.
+    Look {
+        level: u64,
+        left: bool,
+        right: bool,
+        llx: LlxRun,
+    },
+    /// A step of the VLX.
+    Validate {
+        asked: usize,
+    },
+}
+
+/// The first pairs by key of those with keys from `low` to `high`: visits from the root down, with an
+/// LLX of each fork, and a VLX over all nodes that were looked at. And again where such a try is
+/// lost, as long as tries are left.
+#[derive(Debug, Drop)]
+pub struct RangeRun {
+    pub low: u64,
+    pub high: u64,
+    /// How many pairs it tells at most.
+    pub most: usize,
+    /// How many tries are left behind this one.
+    pub tries: u32,
+    /// With what the lists grow.
+    pub alloc: Global,
+    /// What the LLXs of this try have found.
+    pub snaps: Vec<Snap>,
+    /// The nodes that are still to be visited, the next one last.
+    pub waiting: Vec<NodeNo>,
+    /// The pairs of this try.
+    pub taken: Vec<Pair>,
+    /// How many leaves it may still visit in this try.
+    pub leaves: usize,
+    /// Where the run stands.
+    pub at: RangeAt,
+}
+
+impl RangeRun {
+    /// A run that has not begun. What it keeps grows with this allocator.
+    pub fn new(alloc: Global, low: u64, high: u64, most: usize, tries: u32) -> RangeRun {
+        RangeRun {
+            low,
+            high,
+            most,
+            tries: tries.saturating_sub(1),
+            alloc,
+            snaps: Vec::new(alloc),
+            waiting: Vec::new(alloc),
+            taken: Vec::new(alloc),
+            leaves: 0,
+            at: RangeAt::Start,
+        }
+    }
+
+    /// Asks for a load of a settled word, and stands there.
+    fn load(&mut self, at: RangeAt, node: NodeNo, part: NodeWord) -> Turn<Told> {
+        self.at = at;
+        Turn::Ask(Step {
+            kind: Kind::LoadSettled,
+            word: Word::Node(node, part),
+            access: Access::Load,
+        })
+    }
+
+    /// Begins a try; of no keys, and of no pairs, it knows the answer.
+    fn begin(&mut self) -> Turn<Told> {
+        self.snaps.clear();
+        self.waiting.clear();
+        self.taken.clear();
+        self.leaves = self.most.saturating_add(2);
+        if self.most == 0 {
+            return self.tell();
+        }
+        if self.high < self.low {
+            return self.tell();
+        }
+        self.load(RangeAt::Root, NodeNo(0), NodeWord::Head)
+    }
+
+    /// Ends with the pairs that were taken.
+    fn tell(&mut self) -> Turn<Told> {
+        let none = Vec::new(self.alloc);
+        Turn::Done(Ok(mem::replace(&mut self.taken, none)))
+    }
+
+    /// Ends a try that is lost to this SCX-record over this node, and begins the next if there is one.
+    fn lost(&mut self, node: NodeNo, scx: ScxNo) -> Turn<Told> {
+        if self.tries == 0 {
+            return Turn::Done(Err(Refused::Contended { node, scx }));
+        }
+        self.tries -= 1;
+        self.begin()
+    }
+
+    fn load_head(&mut self, above: u64, node: NodeNo) -> Turn<Told> {
+        self.load(RangeAt::Head { above, node }, node, NodeWord::Head)
+    }
+
+    /// Goes on with the head of a node. On the right of what is above all keys there is no pair.
+    fn head_on(&mut self, head: Head, node: NodeNo) -> Turn<Told> {
+        if head.class == 0 {
+            self.load(RangeAt::Key { head, node }, node, NodeWord::Key)
+        } else if head.leaf {
+            self.visited()
+        } else {
+            self.look(head.level, true, false, node)
+        }
+    }
+
+    /// Goes on with the key of a node of class 0.
+    fn key_on(&mut self, head: Head, node: NodeNo, key: u64) -> Turn<Told> {
+        if !head.leaf {
+            self.look(head.level, self.low < key, key <= self.high, node)
+        } else if self.low > key || key > self.high {
+            self.visited()
+        } else {
+            self.load(RangeAt::Value { key, node }, node, NodeWord::Value)
+        }
+    }
+
+    /// Takes a pair.
+    fn value_on(&mut self, pair: Pair) -> Turn<Told> {
+        if self.taken.push(pair).is_err() {
+            return Turn::Done(Err(Refused::NoMemory));
+        }
+        self.visited()
+    }
+
+    /// Goes on behind a leaf.
+    fn visited(&mut self) -> Turn<Told> {
+        self.leaves = self.leaves.saturating_sub(1);
+        if self.taken.len() >= self.most {
+            return self.validate();
+        }
+        if self.leaves == 0 {
+            return self.validate();
+        }
+        match self.waiting.pop() {
+            Some(node) => self.load_head(0, node),
+            None => self.validate(),
+        }
+    }
+
+    /// Looks at a fork of this level, to visit these children of it.
+    fn look(&mut self, level: u64, left: bool, right: bool, node: NodeNo) -> Turn<Told> {
+        self.look_on(level, left, right, LlxRun::new(node), None)
+    }
+
+    /// Goes on with what the last step of an LLX found.
+    fn look_on(
+        &mut self,
+        level: u64,
+        left: bool,
+        right: bool,
+        mut llx: LlxRun,
+        got: Option<u64>,
+    ) -> Turn<Told> {
+        match Machine::<Tree>::next(&mut llx, got) {
+            Turn::Ask(step) => {
+                self.at = RangeAt::Look {
+                    level,
+                    left,
+                    right,
+                    llx,
+                };
+                Turn::Ask(step)
+            }
+            Turn::Done(Llx::Snapshot(snap)) => self.looked(level, left, right, snap),
+            Turn::Done(Llx::Finalized { node, scx }) => self.lost(node, scx),
+            Turn::Done(Llx::Fail { node, scx }) => self.lost(node, scx),
+        }
+    }
+
+    /// Keeps a snapshot, and goes on to the children that are to be visited.
+    fn looked(&mut self, level: u64, left: bool, right: bool, snap: Snap) -> Turn<Told> {
+        if self.snaps.push(snap).is_err() {
+            return Turn::Done(Err(Refused::NoMemory));
+        }
+        match (left, right) {
+            (true, true) => {
+                if self.waiting.push(snap.right).is_err() {
+                    return Turn::Done(Err(Refused::NoMemory));
+                }
+                self.load_head(level, snap.left)
+            }
+            (true, false) => self.load_head(level, snap.left),
+            (false, _) => self.load_head(level, snap.right),
+        }
+    }
+
+    /// Looks whether all nodes are still as they were found.
+    fn validate(&mut self) -> Turn<Told> {
+        self.validate_on(0, None)
+    }
+
+    /// Goes on with what the last step of the VLX found.
+    fn validate_on(&mut self, asked: usize, got: Option<u64>) -> Turn<Told> {
+        let mut vlx = VlxRun {
+            snaps: self.snaps.as_slice(),
+            asked,
+        };
+        let turn = Machine::<Tree>::next(&mut vlx, got);
+        let asked = vlx.asked;
+        match turn {
+            Turn::Ask(step) => {
+                self.at = RangeAt::Validate { asked };
+                Turn::Ask(step)
+            }
+            Turn::Done(Vlx::Same) => self.tell(),
+            Turn::Done(Vlx::Changed { node, scx }) => self.lost(node, scx),
+        }
+    }
+
+    /// Goes on with what the last step found; with nothing at the first call.
+    pub fn step(&mut self, got: Option<u64>) -> Turn<Told> {
+        let value = got.unwrap_or(0);
+        match self.at {
+            RangeAt::Start => self.begin(),
+            RangeAt::Root => self.head_on(Head::of(value), NodeNo(0)),
+            RangeAt::Head { above: _, node } => self.head_on(Head::of(value), node),
+            RangeAt::Key { head, node } => self.key_on(head, node, value),
+            RangeAt::Value { key, node: _ } => self.value_on(Pair { key, value }),
+            RangeAt::Look {
+                level,
+                left,
+                right,
+                llx,
+            } => self.look_on(level, left, right, llx, got),
+            RangeAt::Validate { asked } => self.validate_on(asked, got),
+        }
+    }
+}

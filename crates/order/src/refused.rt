@@ -1,0 +1,11 @@
+//! Why an ordered read tells nothing.
+use arena::{NodeNo, ScxNo};
+
+/// Why an ordered read tells nothing. It has changed nothing, and its pass may go on.
+#[derive(Clone, Copy, Debug, PartialEq, Eq)]
+pub enum Refused {
+    /// All tries were lost, the last to this SCX-record over this node.
+    Contended { node: NodeNo, scx: ScxNo },
+    /// A growth of what it keeps was refused.
+    NoMemory,
+}
