@@ -17,7 +17,7 @@ use Rattle.prims.specs.declared.llx.LlxAt.TheVariants.{Start as LlxStart}
 use Rattle.prims.specs.declared.llx.LlxRun.{LlxRun}
 use Rattle.prims.specs.declared.snap.Snap.{Snap}
 use Rattle.spelling.specs.declared.pair.Pair.{Pair}
-use Rattle.spelling.specs.OrderedMap.{pair, Successor, OnePair}
+use Rattle.spelling.specs.OrderedMap.{pair, Successor, pair_or_none}
 use Rattle.spelling.specs.Paths.{IsOnPath, Passed}
 use Rattle.spelling.specs.Runs.{IsTreeRun}
 use Rattle.spelling.specs.Spelled.{Spells}
@@ -386,14 +386,14 @@ pub vlx_ready : (m : SuccessorRun) (c : Call) (h : History) → Goes m c h → 0
 vlx_ready m c h goes some = first_look c h m.snaps.items goes.reads some
 
 -- all nodes are as they were found: the answer is the map's as the VLX began
-pub replies : (m : SuccessorRun) (c : Call) (begin h : History) (found : Option Pair) → Validates m c h begin found → IsSame (from c begin) h m.snaps.items → IsReplyAt c h (Successor m.key) (OnePair found)
+pub replies : (m : SuccessorRun) (c : Call) (begin h : History) (found : Option Pair) → Validates m c h begin found → IsSame (from c begin) h m.snaps.items → IsReplyAt c h (Successor m.key) (pair_or_none found)
 replies m c begin h found x same = record {
   moment = begin;
   within = x.within;
   own = x.own;
   map = spelled.0;
   spelled = spelled.1;
-  gives = ap OnePair (x.right same.info spelled.0 spelled.1);
+  gives = ap pair_or_none (x.right same.info spelled.0 spelled.1);
 }
   where
     spelled : (ps : List Pair) × Spells c.layout (value begin) ps

@@ -15,7 +15,7 @@ use Rattle.prims.specs.Llx.Known.{load, LlxIsReady, LlxWaits}
 use Rattle.prims.specs.Moments.{AreFinished}
 use Rattle.prims.specs.Vlx.Known.{VlxIsReady, VlxWaits}
 use Rattle.spelling.specs.declared.pair.Pair.{Pair}
-use Rattle.spelling.specs.OrderedMap.{Successor, OnePair}
+use Rattle.spelling.specs.OrderedMap.{Successor, pair_or_none}
 use Rattle.spelling.specs.Paths.{IsOnPath}
 use Rattle.spelling.specs.TreeShape.{TreeAllows}
 use Rattle.spelling.specs.TreeWords.{class, is_leaf, level, toward}
@@ -166,7 +166,7 @@ SuccessorIsReady m c h (Some v) = Goes m c h × IsOwnMoment c h × SuccessorIsTo
 
 -- what its answer says: the map's reply at a moment of the call, or who was in the way
 abbrev pub SuccessorSays : SuccessorRun → Call → History → Result (Option Pair) Refused → Type 0
-SuccessorSays m c h (Ok found) = IsReplyAt c h (Successor m.key) (OnePair found)
+SuccessorSays m c h (Ok found) = IsReplyAt c h (Successor m.key) (pair_or_none found)
 SuccessorSays m c h (Err (Contended n s)) = IsContended c h n.0 s.0 × (m.tries ≡ 0)
 SuccessorSays m c h (Err NoMemory) = Unit {0}
 
