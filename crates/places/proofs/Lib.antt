@@ -4,6 +4,4 @@ mod Keys
 mod Turns
 mod Readings
 mod Spelled
-mod Changes
-mod Edits
 pub mod Lemmas
