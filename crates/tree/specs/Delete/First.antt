@@ -1,4 +1,5 @@
--- The delete of the least pair, as an edit: at the first leaf it does what a delete of its key does.
+-- The delete of the least pair, as an edit: at the first leaf it does what a delete of its key
+-- does.
 use Rattle.std.proofs.Common.{◌≡◌, ◌≢◌, ℕ, List, Option, Some, None, refl, sym, ◌∙◌, ap}
 use Rattle.arena.specs.History.{History, value}
 use Rattle.arena.specs.Machines.{Call}
