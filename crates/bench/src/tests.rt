@@ -1,7 +1,7 @@
-//! What no clause says: the words, the middle, the text of a row, and small runs.
-use crate::crowd::{Repetition, run};
+//! What no clause says: the words, the text of a row, and small runs.
+use crate::crowd::run;
 use crate::fault::Fault;
-use crate::measure::{Measurement, PerCall, best_and_median};
+use crate::measure::{Measurement, PerCall};
 use crate::tally::Tally;
 use crate::task::Task;
 use crate::words::tasks_of;
@@ -68,30 +68,6 @@ fn words_are_refused(rt: HostRuntime) -> Result<(), AllocError> {
         assert_eq!(rt; refused, Some(Fault::Usage), "of {words}");
     }
     Ok(())
-}
-
-fn repetition(nanos: u128, done: u64) -> Repetition {
-    let (lost, fail) = (0, 0);
-    Repetition {
-        nanos,
-        tally: Tally { done, lost, fail },
-    }
-}
-
-#[test]
-fn takes_the_best_and_the_middle(rt: HostRuntime) {
-    let mut five = [
-        repetition(50, 1),
-        repetition(20, 2),
-        repetition(90, 3),
-        repetition(30, 4),
-        repetition(40, 5),
-    ];
-    let (best, median) = best_and_median(&mut five);
-    assert_eq!(rt; (best.nanos, best.tally.done), (20, 2));
-    assert_eq!(rt; (median.nanos, median.tally.done), (40, 5));
-    let (best, median) = best_and_median(&mut five[..2]);
-    assert_eq!(rt; (best.nanos, median.nanos), (20, 30));
 }
 
 #[test]

@@ -9,6 +9,4 @@ mod Keys
 mod Turns
 mod Readings
 mod Spelled
-mod Changes
-mod Edits
 pub mod Lemmas

@@ -52,7 +52,7 @@ tail_of : History → History
 tail_of (Start mode) = Start mode
 tail_of (r ⊳ h) = h
 
-pub same_tail : (a b : History) (r t : StepRow) → r ⊳ a ≡ t ⊳ b → a ≡ b
+same_tail : (a b : History) (r t : StepRow) → r ⊳ a ≡ t ⊳ b → a ≡ b
 unfolding tail_of
 same_tail a b r t e = ap tail_of e
 

@@ -14,8 +14,8 @@ use Rattle.places.specs.declared.places.Change.{Change}
 use Rattle.places.specs.Entries.{AreEntries}
 use Rattle.places.specs.Ordered.{FallFrom, IsOrderedRead}
 
--- the moment of a call that reads: the greatest of its turns after which the map has this at the
--- key, where the changes are those of the log
+-- the moment of a call that reads: the greatest turn within the call, whoever's, after which the
+-- map has this at the key, where the changes are those of the log
 abbrev pub IsReadMoment : List Call → List Line → List Change → ℕ → Option ℕ → ℕ → ℕ → Option ℕ → Type 0
 IsReadMoment calls lines changes key told first last moment = AreEntries calls lines changes → IfSome moment (λ m. IsGreatestTurn (λ n. get key (map_at calls lines n) ≡ told) first last m) × IfNone moment ((n : ℕ) → first ≤ n → n ≤ last → get key (map_at calls lines n) ≢ told)
 

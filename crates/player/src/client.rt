@@ -375,9 +375,9 @@ impl Client {
     }
 
     /// The turn at which an answer stands: of an update that is done, and of an edit, that of its
-    /// entry, of a VLX its first, of an LLX its last, of a reading of the map one of its turns after
-    /// which the map was as it tells. `won` is the turn of the last update of the
-    /// client's that has won.
+    /// entry, of a VLX its first, of an LLX its last, of a reading of the map the greatest within the
+    /// call, whoever's, after which the map was as it tells. `won` is the turn of the last update of
+    /// the client's that has won.
     pub(crate) fn moment(
         &self,
         calls: &[Call],

@@ -1,5 +1,5 @@
--- Which nodes fields have named, how the levels of such forks rise, and in which order machines fill
--- the words of nodes so that they do: the table of kinds leaves that open.
+-- Which nodes fields have named, how the levels of such forks rise, and in which order machines
+-- fill the words of nodes so that they do: the table of kinds leaves that open.
 use Rattle.std.specs.Prelude.{◌≡◌, ℕ, ◌/◌, ◌%◌, ◌<◌, true, false, ◌⊎◌, eqb}
 use Rattle.arena.specs.declared.word.Side.{Side}
 use Rattle.arena.specs.declared.word.NodeWord.TheVariants.{Head}

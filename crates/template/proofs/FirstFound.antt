@@ -1,23 +1,21 @@
 -- What the walk to the first leaf has found: the leaf on the path of its own key, and the first pair
 -- of the map.
-use Rattle.std.proofs.Common.{true, false, ◌≡◌, ◌≢◌, ℕ, ◌<◌, ◌≤◌, ◌^◌, cond, eqb, ltb, eq-eqb, ne_eqb, lt-ltb, refl, sym, ◌∙◌, ap, arith, subst, Option, Some, None}
-use Rattle.std.specs.Prelude.{unwrap_or}
+use Rattle.std.proofs.Common.{false, ◌≡◌, ◌≢◌, ℕ, ◌<◌, ◌≤◌, ◌^◌, eq-eqb, ne_eqb, lt-ltb, refl, sym, ◌∙◌, ap, arith, subst, Some}
 use native.Mathlib.Decide.{ℕ_discrete}
 use Rattle.arena.specs.declared.word.Side.{Side}
-use Rattle.arena.specs.declared.word.Side.TheVariants.{Left, Right}
+use Rattle.arena.specs.declared.word.Side.TheVariants.{Left}
 use Rattle.arena.specs.declared.word.NodeWord.TheVariants.{Key as KeyWord, Value as ValueWord}
 use Rattle.arena.specs.Words.{node, child}
 use Rattle.arena.specs.History.{History, value, Extends}
 use Rattle.arena.specs.Machines.{Call}
 use Rattle.histories.proofs.Lemmas.{node_since}
-use Rattle.spelling.specs.declared.pair.Pair.{Pair}
-use Rattle.spelling.specs.OrderedMap.{pair, get}
+use Rattle.spelling.specs.OrderedMap.{pair}
 use Rattle.spelling.specs.Paths.{Passed, IsFirstAt}
 use Rattle.spelling.specs.Runs.{IsTreeRun}
-use Rattle.spelling.specs.TreeWords.{class, is_leaf, rank, toward, said, first_said}
+use Rattle.spelling.specs.TreeWords.{class, is_leaf, rank, toward, first_said}
 use Rattle.spelling.proofs.Lemmas.{run_since, walk_small, walk_before, walk_left, walk_least, walk_named, walk_next, walk_own, SameSettled, settled_rank, settled_leaf}
 use Rattle.template.specs.FoundLeaf.{HasEnded, HasFound, HasFoundLeaf, first_told}
-use Rattle.template.specs.Trails.{WasPassed, HasShown, HasTurned}
+use Rattle.template.specs.Trails.{WasPassed, HasTurned}
 use Rattle.template.specs.declared.walk.Found.{Found}
 use Rattle.template.specs.declared.walk.Goal.TheVariants.{Least}
 

@@ -1,5 +1,5 @@
 -- In which order the machines of the tree fill words: what all of them have in common.
-use Rattle.std.proofs.Common.{◌≡◌, ◌≢◌, ℕ, suc, ◌/◌, ◌%◌, ◌<◌, ◌≤◌, ◌⊎◌, inl, inr, true, eqb, refl, sym, ◌∙◌, ap, subst, arith}
+use Rattle.std.proofs.Common.{◌≡◌, ◌≢◌, ℕ, ◌/◌, ◌%◌, ◌<◌, inl, inr, true, eqb, refl, sym, ap, subst, arith}
 use Rattle.std.proofs.lemmas.Bool.{eq-eqb, ne_eqb}
 use Rattle.arena.specs.declared.layout.Layout.{Layout}
 use Rattle.arena.specs.declared.limits.Mode.{Mode}
@@ -7,13 +7,12 @@ use Rattle.arena.specs.declared.limits.Mode.TheVariants.{Tree as TreeMode}
 use Rattle.arena.specs.declared.step.Kind.TheVariants.{Fill as FillKind, LoadSettled}
 use Rattle.arena.specs.declared.step.Step.{Step}
 use Rattle.arena.specs.declared.word.NodeWord.{NodeWord}
-use Rattle.arena.specs.declared.word.NodeWord.TheVariants.{Head, Child}
+use Rattle.arena.specs.declared.word.NodeWord.TheVariants.{Head}
 use Rattle.arena.specs.declared.word.ScxWord.{ScxWord}
-use Rattle.arena.specs.declared.word.Side.{Side}
 use Rattle.arena.specs.declared.word.Word.{Word}
 use Rattle.arena.specs.declared.word.Word.TheVariants.{Node, Scx as ScxOf}
 use Rattle.arena.specs.Fills.{IsOwnNode}
-use Rattle.arena.specs.History.{History, value}
+use Rattle.arena.specs.History.{History}
 use Rattle.arena.specs.Layout.{opening_nodes}
 use Rattle.arena.specs.Machines.{Call, row_of}
 use Rattle.arena.specs.Words.{node, scx, child}
@@ -40,7 +39,7 @@ use Rattle.updates.specs.declared.edit.Piece.{Piece}
 use Rattle.updates.specs.declared.update.UpdateAt.{UpdateAt}
 use Rattle.updates.specs.declared.update.UpdateAt.TheVariants.{Start, Walk, Look, Load, Fill, Scx}
 use Rattle.updates.specs.declared.update.UpdateRun.{UpdateRun}
-use Rattle.updates.specs.Known.{IsNeeded, AreInOrder, Fills, UpdateWaits, UpdateWaitsAt, fill_step, pieces_by, top}
+use Rattle.updates.specs.Known.{IsNeeded, AreInOrder, Fills, UpdateWaits, UpdateWaitsAt, fill_step, pieces_by}
 use Rattle.updates.specs.Laws.HandScx.{from}
 use Rattle.updates.specs.Pieces.{nth_node, piece_head}
 

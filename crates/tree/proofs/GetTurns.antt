@@ -15,7 +15,7 @@ use Rattle.template.specs.declared.walk.Found.{Found}
 use Rattle.template.specs.declared.walk.Goal.TheVariants.{Key as ToKey}
 use Rattle.template.specs.declared.walk.WalkRun.{WalkRun}
 use Rattle.template.specs.declared.walk.WalkAt.TheVariants.{Start}
-use Rattle.template.specs.Walk.Known.{WalkIsReady, WalkWaits, WalkAnswers}
+use Rattle.template.specs.Walk.Known.{WalkWaits, WalkAnswers}
 use Rattle.template.proofs.Lemmas.{found_gives, walk_ready_run, walk_ready_first, walk_loads, walk_fills_not, own_since}
 use Rattle.tree.specs.declared.get.GetRun.{GetRun}
 use Rattle.tree.specs.Get.Known.{GetIsReady, GetWaits, GetAnswers}

@@ -1,11 +1,10 @@
 -- What the call has made once its SCX is done.
-use Rattle.std.proofs.Common.{◌≡◌, ◌≢◌, ℕ, zero, suc, ◌+◌, ◌<◌, ◌⊎◌, inl, inr, List, [], ◌∷◌, length, get_or, refl, sym, ◌∙◌, ap, subst, arith}
-use Rattle.arena.specs.declared.layout.Layout.{Layout}
+use Rattle.std.proofs.Common.{◌≡◌, ℕ, zero, suc, ◌+◌, ◌<◌, inr, List, [], ◌∷◌, length, get_or, refl, sym, ◌∙◌, ap, subst, arith}
 use Rattle.arena.specs.declared.number.ScxNo.{ScxNo}
 use Rattle.arena.specs.declared.step.Row.{Row}
 use Rattle.arena.specs.Fills.{IsNamed, IsOwnScx}
 use Rattle.arena.specs.History.{History, ◌⊳◌, value, Extends}
-use Rattle.arena.specs.Lawful.{Lawful, IsWin, HasWon}
+use Rattle.arena.specs.Lawful.{Lawful, HasWon}
 use Rattle.arena.specs.Log.{Entry, log, members_from}
 use Rattle.arena.specs.Machines.{Call}
 use Rattle.arena.specs.ScxRecords.{member, count}
@@ -16,12 +15,10 @@ use Rattle.prims.specs.Snap.{snap_at}
 use Rattle.prims.specs.declared.snap.Snap.{Snap}
 use Rattle.prims.specs.declared.scx.ScxRun.{ScxRun}
 use Rattle.prims.specs.declared.update.Update.{Update}
-use Rattle.spelling.specs.OrderedMap.{edit_key, get}
+use Rattle.spelling.specs.OrderedMap.{edit_key}
 use Rattle.spelling.specs.Runs.{IsTreeRun, Makes, IsEditAt}
-use Rattle.spelling.specs.Spelled.{Spells}
 use Rattle.spelling.specs.TreeShape.{edit_leaf}
 use Rattle.spelling.specs.TreeWords.{said}
-use Rattle.spelling.specs.declared.pair.Pair.{Pair}
 use Rattle.spelling.proofs.Lemmas.{SameSettled, run_since, walk_named, win_makes, wins_of}
 use Rattle.template.proofs.Lemmas.{tracked_makes}
 use Rattle.template.specs.FoundLeaf.{path_key}

@@ -39,6 +39,11 @@ pub try_less : (tries each : ℕ) → tries ≢ 0 → (tries - 1) * each + each 
 try_less zero each d = absurd (d refl)
 try_less (suc tries) each d = let e : suc tries - 1 ≡ tries = omega arith in rw (e, suc-mul tries each) (no_more (tries * each + each))
 
+-- a try that is given up was one of those left
+pub one_back : (tries : ℕ) → tries ≢ 0 → tries - 1 + 1 ≡ tries
+one_back zero d = absurd (d refl)
+one_back (suc tries) d = omega arith
+
 -- the bounds of the places, where t is what the later tries may take
 pub from_walk : (t left rest : ℕ) → t + rest ≤ t + (left + rest)
 from_walk t left rest = omega arith

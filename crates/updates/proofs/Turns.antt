@@ -1,5 +1,5 @@
 -- What an update waits for after each of its turns.
-use Rattle.std.proofs.Common.{◌≡◌, ◌≢◌, ℕ, suc, ◌<◌, ◌⊎◌, inl, inr, refl, Option, Some, None, ⊎_elim, sym, ◌∙◌, ap, subst, arith}
+use Rattle.std.proofs.Common.{◌≡◌, ◌≢◌, ℕ, suc, ◌<◌, ◌⊎◌, inl, inr, Option, Some, None, ⊎_elim, sym, ◌∙◌, ap, subst, arith}
 use Rattle.arena.specs.declared.machine.Turn.{Turn}
 use Rattle.arena.specs.declared.machine.Turn.TheVariants.{Ask, Done}
 use Rattle.arena.specs.declared.number.NodeNo.{NodeNo}
@@ -11,7 +11,7 @@ use Rattle.arena.specs.declared.word.NodeWord.{NodeWord}
 use Rattle.arena.specs.declared.word.Word.TheVariants.{Node as NodeOf}
 use Rattle.arena.specs.History.{History, ◌⊳◌, value, Extends}
 use Rattle.arena.specs.Fills.{IsOwnNode, IsOwnScx}
-use Rattle.arena.specs.Lawful.{Lawful, HasWon}
+use Rattle.arena.specs.Lawful.{Lawful}
 use Rattle.arena.specs.Machines.{Call, MatchTurn}
 use Rattle.arena.specs.Share.{Remaining}
 use Rattle.arena.specs.Words.{state}
@@ -20,7 +20,7 @@ use Rattle.histories.proofs.Lemmas.{finished_taken, lawful_since}
 use Rattle.prims.specs.Laws.Idle.{IsQuietSince, quiet_at_start}
 use Rattle.prims.specs.Llx.Known.{IsOpened, LlxIsReady, LlxKnows, LlxWaits, LlxAnswers}
 use Rattle.prims.specs.Moments.{AreFinished}
-use Rattle.prims.specs.Scx.Known.{Job, job_of, IsDone, IsLost, ScxWaits, ScxAnswers}
+use Rattle.prims.specs.Scx.Known.{Job, IsDone, IsLost, ScxWaits, ScxAnswers}
 use Rattle.prims.specs.Shares.{IsShare}
 use Rattle.prims.specs.declared.llx.Llx.{Llx}
 use Rattle.prims.specs.declared.llx.LlxRun.{LlxRun}
@@ -30,7 +30,6 @@ use Rattle.prims.specs.declared.scx.Scx.TheVariants.{Done as ScxDone, Lost}
 use Rattle.prims.specs.declared.scx.ScxRun.{ScxRun}
 use Rattle.prims.specs.declared.update.Update.{Update}
 use Rattle.prims.proofs.Lemmas.{over_ends}
-use Rattle.spelling.specs.Runs.{Makes}
 use Rattle.spelling.specs.TreeShape.{TreeAllows}
 use Rattle.template.proofs.Lemmas.{own_since, walk_ready_run}
 use Rattle.template.specs.FoundLeaf.{path_key, HasFound}

@@ -1,5 +1,5 @@
 -- What a call by itself finds and leaves: it has the map to itself.
-use Rattle.std.proofs.Common.{◌≡◌, ◌≢◌, ℕ, ◌^◌, ◌<◌, ◌⊎◌, inl, inr, List, ◌∷◌, Option, refl, sym, ◌∙◌, ap, subst, arith}
+use Rattle.std.proofs.Common.{◌≡◌, ◌≢◌, ℕ, ◌^◌, ◌<◌, inl, inr, List, Option, refl, sym, ◌∙◌, ap, subst, arith}
 use native.Mathlib.Decide.{ℕ_discrete}
 use Rattle.arena.specs.declared.layout.Layout.{Layout}
 use Rattle.arena.specs.declared.step.Row.{Row}
@@ -7,7 +7,7 @@ use Rattle.arena.specs.Blame.{IsInProgress}
 use Rattle.arena.specs.Fills.{IsOwnScx, IsOthersScx}
 use Rattle.arena.specs.History.{History, Start, ◌⊳◌, value, Extends}
 use Rattle.arena.specs.Lawful.{Lawful, HasWon, IsWin}
-use Rattle.arena.specs.Log.{Entry, log}
+use Rattle.arena.specs.Log.{log}
 use Rattle.arena.specs.Machines.{Call}
 use Rattle.arena.specs.Words.{state}
 use Rattle.arena.proofs.Lemmas.{ends_self, ends_trans}
@@ -23,11 +23,11 @@ use Rattle.spelling.specs.Spelled.{Spells}
 use Rattle.spelling.specs.declared.pair.Pair.{Pair}
 use Rattle.spelling.specs.Laws.{AreEdits}
 use Rattle.spelling.specs.Runs.{map_of_log}
-use Rattle.spelling.proofs.Lemmas.{log_edits, one_spelling, run_since, spells_log, walk_answers, wins_of}
+use Rattle.spelling.proofs.Lemmas.{log_edits, one_spelling, spells_log, walk_answers, wins_of}
 use Rattle.template.proofs.Lemmas.{own_since}
 use Rattle.template.specs.FoundLeaf.{HasFoundLeaf}
 use Rattle.template.specs.declared.walk.Found.{Found}
-use Rattle.updates.specs.Undisturbed.{IsAtRest, IsUndisturbed}
+use Rattle.updates.specs.Undisturbed.{IsUndisturbed}
 use Rattle.updates.specs.Blame.{IsContended}
 use Rattle.updates.specs.Known.{HasMade}
 use Rattle.updates.specs.Tries.{HasEnteredNone}
@@ -95,18 +95,22 @@ module _ (c : Call) (h : History) (run : IsTreeRun c.layout h) (alone : IsUndist
       no_win : HasNoWin k c.start
       no_win row before t within since w = none row before t (ends_trans h k (row ⊳ before) e within) since w (own_wins row before t (ends_trans h k (row ⊳ before) e within) since w)
 
-  -- and the leaf that it has found tells what the map has
+  -- and what a map at a moment of the call gives, it gives
+  pub alone_reads : (key : ℕ) (told : Option ℕ) (map : List Pair) → IsAnswerAt c.layout h c.start key told → HasEnteredNone c.layout c.pass h c.start → Spells c.layout (value c.start) map → told ≡ get key map
+  alone_reads key told map x none spells = sym x.gives ∙ ap (get key) (one_spelling c.layout (value x.moment) x.map map x.spelled (alone_keeps x.moment map x.within x.since none spells))
+
+  -- so the leaf that it has found tells what the map has
   pub alone_found : (key : ℕ) (f : Found) (map : List Pair) → key < 2 ^ 64 → HasFoundLeaf c h key f → HasEnteredNone c.layout c.pass h c.start → Spells c.layout (value c.start) map → f.value ≡ get key map
-  alone_found key f map small found none spells = found.says ∙ sym answer.gives ∙ ap (get key) (one_spelling c.layout (value answer.moment) answer.map map answer.spelled (alone_keeps answer.moment map answer.within since none spells))
+  alone_found key f map small found none spells = found.says ∙ alone_reads key (said (value h) key f.trail.node.0) map answer none spells
     where
       first : History
       first = found.trail.node.first
 
-      answer : IsAnswerAt c.layout h first key (said (value h) key f.trail.node.0)
-      answer = walk_answers c.layout h first key f.trail.node.0 small run found.trail.node.passed found.leaf
+      then : IsAnswerAt c.layout h first key (said (value h) key f.trail.node.0)
+      then = walk_answers c.layout h first key f.trail.node.0 small run found.trail.node.passed found.leaf
 
-      since : Extends answer.moment c.start
-      since = ends_trans answer.moment first c.start answer.since (own_since c first found.trail.node.own)
+      answer : IsAnswerAt c.layout h c.start key (said (value h) key f.trail.node.0)
+      answer = record { moment = then.moment; within = then.within; since = ends_trans then.moment first c.start then.since (own_since c first found.trail.node.own); map = then.map; spelled = then.spelled; gives = then.gives }
 
   -- what it has made it has made of the map that was there
   module _ (edit : MapEdit) (number : ℕ) (old : Option ℕ) (map : List Pair) (x : HasMade edit c h number old) (spells : Spells c.layout (value c.start) map) where

@@ -1,11 +1,11 @@
 -- What a try has found its call has found.
-use Rattle.std.proofs.Common.{◌≡◌, ℕ}
+use Rattle.std.proofs.Common.{ℕ}
 use Rattle.arena.specs.declared.word.Side.{Side}
 use Rattle.arena.specs.History.{History, Extends}
 use Rattle.arena.specs.Machines.{Call}
 use Rattle.arena.proofs.Lemmas.{ends_trans}
 use Rattle.template.specs.FoundLeaf.{HasEnded}
-use Rattle.template.specs.Trails.{IsOwnMoment, WasPassed, HasShown, HasTurned}
+use Rattle.template.specs.Trails.{IsOwnMoment, WasPassed, HasTurned}
 use Rattle.template.specs.declared.walk.Found.{Found}
 use Rattle.updates.specs.Laws.HandScx.{from}
 

@@ -381,8 +381,8 @@ module _ {E : Type 0} (e : EditMeaning E) where
 
   -- What it answers
 
-  -- there was nothing to make at the leaf that it tells, which it has found, and the pass has entered
-  -- nothing
+  -- there was nothing to make at the leaf that it tells, which it has found, and the pass has
+  -- entered nothing
   pub record HasNothingToMake (ed : E) (c : Call) (h : History) (found : Found) : Type 0 where
     pub has_found : HasFound (e.goal ed) c h found
     pub needless : e.needs ed found ≡ Nothing

@@ -1,5 +1,6 @@
--- The delete of the least pair, as an edit: at the first leaf it does what a delete of its key does.
-use Rattle.std.proofs.Common.{◌≡◌, ◌≢◌, ℕ, ◌<◌, List, length, Option, Some, None, refl, sym, ◌∙◌, ap, subst}
+-- The delete of the least pair, as an edit: at the first leaf it does what a delete of its key
+-- does.
+use Rattle.std.proofs.Common.{◌≡◌, ◌≢◌, ℕ, List, Option, Some, None, refl, sym, ◌∙◌, ap}
 use Rattle.arena.specs.History.{History, value}
 use Rattle.arena.specs.Machines.{Call}
 use Rattle.prims.specs.Snap.{snap_at}
@@ -17,7 +18,6 @@ use Rattle.tree.specs.Delete.Laws.{delete_bounds}
 use Rattle.tree.specs.Delete.Means.{delete_means, delete_need}
 use Rattle.tree.specs.Delete.Sound.{key_there, delete_loads, delete_look, delete_fills, delete_makes}
 use Rattle.updates.specs.declared.edit.Loaded.{Loaded}
-use Rattle.updates.specs.declared.edit.Need.{Need}
 use Rattle.updates.specs.declared.edit.Need.TheVariants.{Nothing}
 use Rattle.updates.specs.declared.edit.Nodes.{Nodes}
 use Rattle.updates.specs.declared.edit.Nth.{Nth}

@@ -1,16 +1,15 @@
 -- What the pass of a call has entered since a moment: nothing while it is quiet, and nothing but
 -- its SCX-record in hand.
-use Rattle.std.proofs.Common.{◌≡◌, ◌≢◌, ℕ, suc, ◌<◌, ◌⊎◌, inl, inr, refl, sym, ◌∙◌, ap, subst, arith}
+use Rattle.std.proofs.Common.{◌≡◌, ℕ, suc, ◌⊎◌, inl, inr, sym, ap, subst, arith}
 use Rattle.arena.specs.declared.layout.Layout.{Layout}
 use Rattle.arena.specs.declared.step.Row.{Row}
 use Rattle.arena.specs.Blame.{IsInProgress}
-use Rattle.arena.specs.Fills.{IsOwnScx}
 use Rattle.arena.specs.History.{History, Start, ◌⊳◌, value, Extends}
 use Rattle.arena.specs.Lawful.{Lawful, HasWon, IsWin}
 use Rattle.arena.specs.Words.{state}
 use Rattle.arena.proofs.Lemmas.{ends_self, ends_trans, same_moment}
 use Rattle.histories.proofs.Lemmas.{aborted_never_won, lawful_since, won_since}
-use Rattle.prims.specs.Laws.Idle.{IsIdle, IsQuietSince}
+use Rattle.prims.specs.Laws.Idle.{IsQuietSince}
 use Rattle.prims.specs.Laws.Wins.{ends_either}
 use Rattle.prims.specs.Moments.{AreFinished}
 use Rattle.prims.proofs.Lemmas.{own_in_hand, wins_in_progress}

@@ -1,5 +1,5 @@
 use Rattle.arena.proofs.Lemmas.{ends_self}
-use Rattle.updates.proofs.Undisturbed.{alone_made, alone_found, alone_keeps, never_contended, one_never_contended}
+use Rattle.updates.proofs.Undisturbed.{alone_made, alone_found, alone_keeps, alone_reads, never_contended, one_never_contended}
 use Rattle.updates.proofs.alone.alone_holds.Goals as goal
 
 pub returns-clause-made : goal.returns-clause-made
@@ -7,6 +7,9 @@ returns-clause-made f c h edit number old map run alone x spells = alone_made c 
 
 pub returns-clause-found : goal.returns-clause-found
 returns-clause-found g c h k f map small run alone found none spells = alone_found c h run alone k f map small found none spells
+
+pub returns-clause-read : goal.returns-clause-read
+returns-clause-read g c h k told map run alone x none spells = alone_reads c h run alone k told map x none spells
 
 pub returns-clause-kept : goal.returns-clause-kept
 returns-clause-kept f c h map run alone none spells = alone_keeps c h run alone h map (ends_self h) alone.since none spells

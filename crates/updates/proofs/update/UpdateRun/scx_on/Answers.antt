@@ -11,6 +11,9 @@ returns-in-Ask-clause-nearer g c nodes = less_scx _ _ _ (rw c.in-Ask.is at c.nex
 pub returns-in-Done-Lost-clause-nearer : goal.returns-in-Done-Lost-clause-nearer
 returns-in-Done-Lost-clause-nearer g c nodes = below c.lost.result _ _ _ (c.lost.ensures.nearer nodes) (to_tries _ _)
 
+pub returns-in-Done-Done-clause-nearer : goal.returns-in-Done-Done-clause-nearer
+returns-in-Done-Done-clause-nearer g c nodes = tt
+
 pub returns-in-Ask-clause-turn : goal.returns-in-Ask-clause-turn
 returns-in-Ask-clause-turn g c d b begin h run try x ready = (b, try, tt, scx_asks g.E.Edit.means c.args.self.now c.args.scx c.next.new.self c.args.found begin (from d b) h c.next.result c.in-Ask.step x c.next.ensures.same.0 c.next.ensures.same.1 c.next.ensures.same.2 c.in-Ask.is (c.next.ensures.turn (from (from d b) begin) h run ready))
 
