@@ -1,5 +1,5 @@
 -- Who was in the way of a try that is lost.
-use Rattle.std.proofs.Common.{◌≡◌, ◌≢◌, ℕ, ◌<◌, List, length, inr, subst, sym}
+use Rattle.std.proofs.Common.{◌≡◌, ◌≢◌, ℕ, ◌<◌, List, length, inr, refl, subst, sym, None}
 use Rattle.arena.specs.Blame.{WasInTheWay, HasFailed}
 use Rattle.arena.specs.declared.number.NodeNo.{NodeNo}
 use Rattle.arena.specs.declared.number.ScxNo.{ScxNo}
@@ -15,7 +15,7 @@ use Rattle.prims.specs.Llx.Known.{IsFinalBy, LlxAnswers}
 use Rattle.prims.specs.Moments.{IsMoment, IsLeftAlone}
 use Rattle.prims.specs.Shares.{IsUsable}
 use Rattle.prims.specs.Snap.{snap_at}
-use Rattle.prims.specs.Vlx.Known.{IsFirstChange}
+use Rattle.prims.specs.Vlx.Known.{IsFirstChange, VlxIsReady}
 use Rattle.prims.specs.declared.llx.Llx.TheVariants.{Finalized, Fail}
 use Rattle.prims.specs.declared.llx.LlxRun.{LlxRun}
 use Rattle.prims.specs.declared.snap.Snap.{Snap}
@@ -55,6 +55,16 @@ module _ (c : Call) (h : History) (snaps : List Snap) (reads : Reads c h snaps) 
 -- a snapshot that the call has taken may be used
 pub snapped_usable : (c : Call) (h : History) (snap : Snap) → Lawful c.layout h → (x : HasSnapped c h snap) → IsUsable c.layout h snap x.moment
 snapped_usable c h snap l x = usable_since c.layout h x.moment snap x.moment l x.within (usable_now c.layout x.moment snap.node.0 snap x.is)
+
+-- so a VLX over all of them may begin
+pub first_look : (c : Call) (h : History) (snaps : List Snap) → Reads c h snaps → 0 < length snaps → VlxIsReady snaps 0 (from c h) h None
+first_look c h snaps reads some = record {
+  asked = refl;
+  some = some;
+  linked = λ i p. (snapped_usable c h (snap_at snaps i) reads.run.1.lawful (reads.snapped i p)).linked;
+  begins = refl;
+  clear = record { over = reads.over; found = λ i p. ((reads.snapped i p).moment, (snapped_usable c h (snap_at snaps i) reads.run.1.lawful (reads.snapped i p)).found) };
+}
 
 -- its VLX, which has begun at a moment of the call, finds a change
 pub look_changed : (c : Call) (begin h : History) (snaps : List Snap) (n s : ℕ) → Reads c begin snaps → IsFirstChange (from c begin) h snaps n s → IsContended c h n s

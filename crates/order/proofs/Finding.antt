@@ -5,14 +5,11 @@ use Rattle.arena.specs.declared.word.NodeWord.TheVariants.{Head as HeadWord, Key
 use Rattle.arena.specs.declared.word.Side.{Side}
 use Rattle.arena.specs.declared.word.Side.TheVariants.{Left, Right}
 use Rattle.arena.specs.declared.word.Word.{Word}
-use Rattle.arena.specs.Words.{node, child, info, marked}
+use Rattle.arena.specs.Words.{node, child}
 use Rattle.arena.specs.History.{History, value, Extends}
-use Rattle.arena.specs.Log.{log, is_final}
 use Rattle.arena.specs.Machines.{Call}
 use Rattle.arena.proofs.Lemmas.{ends_self, ends_trans}
 use Rattle.prims.specs.Laws.Idle.{quiet_at_start}
-use Rattle.prims.specs.Laws.InTheWay.{been_now}
-use Rattle.prims.specs.Laws.Linked.{IsLinked, linked_since}
 use Rattle.prims.specs.Llx.Known.{IsSnapshot, LlxKnows, LlxIsReady}
 use Rattle.prims.specs.Snap.{child_of, snap_at}
 use Rattle.prims.specs.Vlx.Known.{IsSame, VlxIsReady}
@@ -26,20 +23,21 @@ use Rattle.spelling.specs.Runs.{IsTreeRun}
 use Rattle.spelling.specs.Spelled.{Spells}
 use Rattle.spelling.specs.TreeShape.{TreeAllows}
 use Rattle.spelling.specs.TreeWords.{class, is_leaf, level, rank, toward}
-use Rattle.spelling.proofs.Lemmas.{child_not_final, child_stood, levels_rise, passed_unmarked, path_not_final, root_head, run_since, run_spells, stood_settled, walk_first, was_passed, SameSettled, settled_class, settled_leaf, settled_rank, settled_toward}
+use Rattle.spelling.proofs.Lemmas.{passed_unmarked, path_not_final, root_head, run_since, run_spells, stood_settled, walk_first, was_passed, SameSettled, settled_class, settled_leaf, settled_rank, settled_toward}
 use Rattle.template.specs.FoundLeaf.{HasEnded}
 use Rattle.template.specs.Trails.{IsOwnMoment, WasPassed}
 use Rattle.template.specs.declared.walk.Found.{Found}
 use Rattle.template.proofs.Lemmas.{own_since}
 use Rattle.order.specs.Kept.{idle_over, stood_opened}
-use Rattle.order.specs.Reads.{from, AreSnapped, HasSnapped, Reads, AllHold, Whenever, HasStood}
+use Rattle.order.specs.Reads.{from, AllHold, Whenever, HasStood}
 use Rattle.order.specs.Replies.{IsReplyAt}
 use Rattle.order.specs.Search.{IsSearched, IsFirstBehind, IsNextAt}
 use Rattle.order.specs.Successor.Known.{head_at, key_at, HasTurnedLeft, IsLastTurn, IsOnRoute, IsSideOf, IsAtFork, IsRightThere, LooksAt, StandsAt, HasHead, HasLeaf, Validates, Goes}
 use Rattle.order.specs.declared.successor.Route.{Route}
 use Rattle.order.specs.declared.successor.Route.TheVariants.{Along, Beyond}
 use Rattle.order.specs.declared.successor.SuccessorRun.{SuccessorRun}
-use Rattle.order.proofs.Blaming.{snapped_usable}
+use Rattle.order.proofs.Blaming.{first_look}
+use Rattle.order.proofs.Snapping.{hold_before, some_more, reads_one_more, child_there, child_rises, unmarked_then, field_then}
 use Rattle.order.proofs.Searching.{begins_below, goes_left, goes_right, ends_here, ends_behind, first_left, first_small, first_tells, tells_pair, tells_none}
 
 -- Sides
@@ -118,69 +116,29 @@ look_ready m c h n llx goes stood is at = record {
   told = at;
 }
 
--- a place in the longer list is one of the shorter, or the last
-at_end : (snaps : List Snap) (s : Snap) (i : ℕ) → i < length (snaps ++ s ∷ []) → ((i < length snaps) × (snap_at (snaps ++ s ∷ []) i ≡ snap_at snaps i)) ⊎ ((i ≡ length snaps) × (snap_at (snaps ++ s ∷ []) i ≡ s))
-at_end [] s zero p = inr (refl, refl)
-at_end [] s (suc i) p = absurd (omega (arith, p))
-at_end (t ∷ snaps) s zero p = inl (omega arith, refl)
-at_end (t ∷ snaps) s (suc i) p = ⊎_elim (λ x. inl ((let y = x.0 in omega (arith, y)), x.1)) (λ x. inr ((let y = x.0 in omega (arith, y)), x.1)) (at_end snaps s i (omega (arith, p)))
-
-at_first : (snaps : List Snap) (s : Snap) (i : ℕ) → i < length snaps → (i < length (snaps ++ s ∷ [])) × (snap_at (snaps ++ s ∷ []) i ≡ snap_at snaps i)
-at_first [] s i p = absurd (omega (arith, p))
-at_first (t ∷ snaps) s zero p = (omega arith, refl)
-at_first (t ∷ snaps) s (suc i) p = let x = at_first snaps s i (omega (arith, p)) in ((let y = x.0 in omega (arith, y)), x.1)
-
-at_last : (snaps : List Snap) (s : Snap) → (length snaps < length (snaps ++ s ∷ [])) × (snap_at (snaps ++ s ∷ []) (length snaps) ≡ s)
-at_last [] s = (omega arith, refl)
-at_last (t ∷ snaps) s = let x = at_last snaps s in ((let y = x.0 in omega (arith, y)), x.1)
-
--- where the infos of the longer list hold, those of the shorter do
-hold_before : (b : History) (snaps : List Snap) (s : Snap) → AllHold b (snaps ++ s ∷ []) → AllHold b snaps
-hold_before b snaps s x i p = let y = at_first snaps s i p in rw y.1 at (x i y.0)
-
-hold_last : (b : History) (snaps : List Snap) (s : Snap) → AllHold b (snaps ++ s ∷ []) → value b (info s.node.0) ≡ s.scx.0
-hold_last b snaps s x = let y = at_last snaps s in rw y.1 at (x (length snaps) y.0)
-
 -- A snapshot more
 
 module _ (m : SuccessorRun) (c : Call) (h : History) (snap : Snap) (goes : Goes m c h) (is : IsSnapshot c.layout h snap.node.0 snap) where
-  snapped_one_more : AreSnapped c h (m.snaps.items ++ snap ∷ [])
-  snapped_one_more i p = ⊎_elim (λ q. subst (HasSnapped c h) (sym q.1) (goes.reads.snapped i q.0)) (λ q. subst (HasSnapped c h) (sym q.1) now) (at_end m.snaps.items snap i p)
-    where
-      now : HasSnapped c h snap
-      now = record { moment = h; within = ends_self h; since = goes.reads.since; is = is }
-
   pub goes_one_more : (now : SuccessorRun) → now.key ≡ m.key → now.snaps.items ≡ m.snaps.items ++ snap ∷ [] → Goes now c h
-  goes_one_more now key items = record {
-    reads = rw items record { run = goes.reads.run; since = goes.reads.since; over = goes.reads.over; quiet = goes.reads.quiet; snapped = snapped_one_more };
-    small = rw key goes.small;
-  }
+  goes_one_more now key items = record { reads = rw items (reads_one_more c h m.snaps.items snap goes.reads is); small = rw key goes.small }
 
   module _ (route : Route) (low : ℕ) (side : Side) (x : LooksAt m c h route low side snap.node.0) where
-    -- a child of the node has stood in the tree, too
-    child_there : (s : Side) → HasStood c h (child_of snap s).0
-    child_there s = subst (HasStood c h) (is.linked.fields s is.info) record {
-      stood = child_stood c.layout h h snap.node.0 s goes.reads.run (ends_self h) x.stood.stood is.not_final x.fork;
-      not_final = been_now h c.start _ goes.reads.since (child_not_final c.layout h snap.node.0 s goes.reads.run x.stood.stood is.not_final x.fork);
-    }
+    there : (s : Side) → HasStood c h (child_of snap s).0
+    there = child_there c h m.snaps.items snap goes.reads is x.stood x.fork
 
     pub child_deeper : (s : Side) → low < level (value h) (child_of snap s).0
     child_deeper s =
-        let i : level (value h) snap.node.0 < level (value h) (value h (child snap.node.0 s)) = levels_rise c.layout h snap.node.0 s goes.reads.run x.stood.stood x.fork in
-        let j : level (value h) snap.node.0 < level (value h) (child_of snap s).0 = rw (is.linked.fields s is.info) at i in
+        let i : level (value h) snap.node.0 < level (value h) (child_of snap s).0 = child_rises c h m.snaps.items snap goes.reads is x.stood x.fork s in
         let deep = x.deep in
-        omega (arith, j, deep)
+        omega (arith, i, deep)
 
     right_there : IsRightThere c h snap.right.0
-    right_there = record { stood = child_there Right; below = let i = child_deeper Right in omega (arith, i) }
+    right_there = record { stood = there Right; below = let i = child_deeper Right in omega (arith, i) }
 
     -- at a moment at which all infos still hold
     module _ (b : History) (run : IsTreeRun c.layout b) (e : Extends b h) (hold : AllHold b (m.snaps.items ++ snap ∷ [])) where
-      linked : IsLinked c.layout b snap
-      linked = linked_since c.layout b h snap run.1.lawful e is.linked
-
       field : (s : Side) → value b (child snap.node.0 s) ≡ (child_of snap s).0
-      field s = linked.fields s (hold_last b m.snaps.items snap hold)
+      field = field_then c h m.snaps.items snap goes.reads is x.stood x.fork b run e hold
 
       same : SameSettled (value h) (value b) snap.node.0
       same = stood_settled c.layout b h snap.node.0 run e x.stood.stood
@@ -192,7 +150,7 @@ module _ (m : SuccessorRun) (c : Call) (h : History) (snap : Snap) (goes : Goes 
       side_then d = settled_toward (value h) (value b) snap.node.0 m.key same ∙ d
 
       at_fork : IsOnRoute route b m.key snap.node.0 m.right.0 ⊎ ((route ≡ Along) × (side ≡ Left) × IsOnPath b m.key snap.node.0)
-      at_fork = x.at_fork b run e (hold_before b m.snaps.items snap hold) (linked.unmarked (hold_last b m.snaps.items snap hold))
+      at_fork = x.at_fork b run e (hold_before b m.snaps.items snap hold) (unmarked_then c h m.snaps.items snap goes.reads is x.stood x.fork b run e hold)
 
       searched_left : IsSearched b m.key (value b (child snap.node.0 Left)) (value b (child snap.node.0 Right)) → IsSearched b m.key snap.left.0 snap.right.0
       searched_left y = rw (field Left, field Right) at y
@@ -224,30 +182,27 @@ module _ (m : SuccessorRun) (c : Call) (h : History) (snap : Snap) (goes : Goes 
         go (inl y) = first_left b m.key snap.node.0 (subst (λ q. IsOnRoute q b m.key snap.node.0 m.right.0) a y) (fork b run e hold)
         go (inr y) = no_route _ (sym a ∙ y.0)
 
-    some_more : 0 < length (m.snaps.items ++ snap ∷ [])
-    some_more = let i = (at_last m.snaps.items snap).0 in omega (arith, i)
-
     -- it stands at the child to which it goes
     pub stands_left : (now : SuccessorRun) → now.key ≡ m.key → now.snaps.items ≡ m.snaps.items ++ snap ∷ [] → route ≡ Along → side ≡ Left → now.right ≡ snap.right → StandsAt now c h Along snap.left.0
     stands_left now key items a l right = record {
-      stood = child_there Left;
-      some = rw items some_more;
+      stood = there Left;
+      some = rw items (some_more m.snaps.items snap);
       right = λ _. rw right right_there;
       on_route = rw (key, items, right) (along_left a l);
     }
 
     pub stands_right : (now : SuccessorRun) → now.key ≡ m.key → now.snaps.items ≡ m.snaps.items ++ snap ∷ [] → route ≡ Along → side ≡ Right → now.right ≡ m.right → StandsAt now c h Along snap.right.0
     stands_right now key items a r right = record {
-      stood = child_there Right;
-      some = rw items some_more;
+      stood = there Right;
+      some = rw items (some_more m.snaps.items snap);
       right = λ _. rw right (x.right a r);
       on_route = rw (key, items, right) (along_right a r);
     }
 
     pub stands_beyond : (now : SuccessorRun) → now.key ≡ m.key → now.snaps.items ≡ m.snaps.items ++ snap ∷ [] → route ≡ Beyond → StandsAt now c h Beyond snap.left.0
     stands_beyond now key items a = record {
-      stood = child_there Left;
-      some = rw items some_more;
+      stood = there Left;
+      some = rw items (some_more m.snaps.items snap);
       right = λ e. no_route _ e;
       on_route = rw (key, items) (beyond_left a);
     }
@@ -340,13 +295,7 @@ pub validates : (m : SuccessorRun) (c : Call) (h : History) (found : Option Pair
 validates m c h found goes own x = record { own = own; within = ends_self h; then = goes.reads; right = λ hold. x h goes.reads.run (ends_self h) hold }
 
 pub vlx_ready : (m : SuccessorRun) (c : Call) (h : History) → Goes m c h → 0 < length m.snaps.items → VlxIsReady m.snaps.items 0 (from c h) h None
-vlx_ready m c h goes some = record {
-  asked = refl;
-  some = some;
-  linked = λ i p. (snapped_usable c h (snap_at m.snaps.items i) goes.reads.run.1.lawful (goes.reads.snapped i p)).linked;
-  begins = refl;
-  clear = record { over = goes.reads.over; found = λ i p. ((goes.reads.snapped i p).moment, (snapped_usable c h (snap_at m.snaps.items i) goes.reads.run.1.lawful (goes.reads.snapped i p)).found) };
-}
+vlx_ready m c h goes some = first_look c h m.snaps.items goes.reads some
 
 -- all nodes are as they were found: the answer is the map's as the VLX began
 pub replies : (m : SuccessorRun) (c : Call) (begin h : History) (found : Option Pair) → Validates m c h begin found → IsSame (from c begin) h m.snaps.items → IsReplyAt c h (Successor m.key) (OnePair found)

@@ -11,12 +11,9 @@ use Rattle.spelling.specs.OrderedMap.{pair, successor}
 use Rattle.spelling.specs.Paths.{IsOnPath}
 use Rattle.spelling.specs.Spelled.{Spells}
 use Rattle.spelling.specs.TreeWords.{Tree, Leaf, Fork, root, Shows, Passes, class, is_leaf, rank}
-use Rattle.spelling.proofs.Lemmas.{first, low_pair, one_tree, search_next, search_tells}
+use Rattle.spelling.proofs.Lemmas.{first, search_next}
 use Rattle.order.specs.Search.{IsPartAt, IsSearched, IsFirstBehind}
-
--- what is no leaf is a fork
-no_leaf : (f : Word → ℕ) (n : ℕ) (P : Type 0) → is_leaf f n ≡ true → is_leaf f n ≡ false → P
-no_leaf f n P a b = absurd (let x : true ≡ false = sym a ∙ b in cc)
+use Rattle.order.proofs.Following.{low_pair, no_leaf, one_tree, search_tells}
 
 -- At a fork on the path, with k on the left of it
 

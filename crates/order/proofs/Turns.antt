@@ -130,6 +130,10 @@ module _ (m : SuccessorRun) (walk after : WalkRun) (turn : NodeNo) (c : Call) (h
 pub walk_ready : (m : SuccessorRun) (walk : WalkRun) (c : Call) (h : History) → Goes m c h → walk.goal ≡ ToKey m.key → walk.at ≡ WalkStart → walk.trail.node.0 ≡ 0 → WalkIsReady walk c h None
 walk_ready m walk c h goes goal at root = walk_ready_first walk c h goes.reads.run (rw goal goes.small) goes.reads.since at root
 
+-- and asks for its first step, once the snapshots of the last try are forgotten
+pub walks_first : (m now : SuccessorRun) (walk after : WalkRun) (c : Call) (h : History) (t : Turn Found) (step : Step) → Goes m c h → now.key ≡ m.key → now.snaps.items ≡ [] → walk.goal ≡ ToKey m.key → after.goal ≡ walk.goal → t ≡ Ask step → MatchTurn t (WalkWaits after c h) (WalkAnswers after c h) → SuccessorWaits (record now { at = Walk after (record { 0 = 0 }) }) c h step
+walks_first m now walk after c h t step goes key items goal same asked w = (goes_at now (Walk after (record { 0 = 0 })) c h (goes_again m now c h key items goes), (rw key (same ∙ goal), inl refl, rw asked at w))
+
 -- Its LLXs
 
 module _ (m : SuccessorRun) (c : Call) (begin h : History) (route : Route) (low : ℕ) (side : Side) (llx after : LlxRun) (turn : Turn Llx) (goes : Goes m c h) (x : LooksAt m c h route low side llx.node.0) (since : Extends begin c.start)

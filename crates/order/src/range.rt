@@ -105,7 +105,10 @@ impl RangeRun {
         self.waiting.clear();
         self.taken.clear();
         self.leaves = self.most.saturating_add(2);
-        if self.most == 0 || self.high < self.low {
+        if self.most == 0 {
+            return self.tell();
+        }
+        if self.high < self.low {
             return self.tell();
         }
         self.load(RangeAt::Root, NodeNo(0), NodeWord::Head)
@@ -145,10 +148,10 @@ impl RangeRun {
     fn key_on(&mut self, head: Head, node: NodeNo, key: u64) -> Turn<Told> {
         if !head.leaf {
             self.look(head.level, self.low < key, key <= self.high, node)
-        } else if self.low <= key && key <= self.high {
-            self.load(RangeAt::Value { key, node }, node, NodeWord::Value)
-        } else {
+        } else if self.low > key || key > self.high {
             self.visited()
+        } else {
+            self.load(RangeAt::Value { key, node }, node, NodeWord::Value)
         }
     }
 
@@ -163,12 +166,15 @@ impl RangeRun {
     /// Goes on behind a leaf.
     fn visited(&mut self) -> Turn<Told> {
         self.leaves = self.leaves.saturating_sub(1);
-        if self.taken.len() >= self.most || self.leaves == 0 {
-            return self.validate_on(0, None);
+        if self.taken.len() >= self.most {
+            return self.validate();
+        }
+        if self.leaves == 0 {
+            return self.validate();
         }
         match self.waiting.pop() {
             Some(node) => self.load_head(0, node),
-            None => self.validate_on(0, None),
+            None => self.validate(),
         }
     }
 
@@ -204,11 +210,24 @@ impl RangeRun {
 
     /// Keeps a snapshot, and goes on to the children that are to be visited.
     fn looked(&mut self, level: u64, left: bool, right: bool, snap: Snap) -> Turn<Told> {
-        let kept = self.snaps.push(snap).is_ok();
-        if !kept || left && right && self.waiting.push(snap.right).is_err() {
+        if self.snaps.push(snap).is_err() {
             return Turn::Done(Err(Refused::NoMemory));
         }
-        self.load_head(level, if left { snap.left } else { snap.right })
+        match (left, right) {
+            (true, true) => {
+                if self.waiting.push(snap.right).is_err() {
+                    return Turn::Done(Err(Refused::NoMemory));
+                }
+                self.load_head(level, snap.left)
+            }
+            (true, false) => self.load_head(level, snap.left),
+            (false, _) => self.load_head(level, snap.right),
+        }
+    }
+
+    /// Looks whether all nodes are still as they were found.
+    fn validate(&mut self) -> Turn<Told> {
+        self.validate_on(0, None)
     }
 
     /// Goes on with what the last step of the VLX found.

@@ -1,5 +1,6 @@
 //! Successor.
 ghost use Rattle.std.specs.Prelude.{◌≡◌};
+ghost use Rattle.order.specs.Successor.Known.{asks_key};
 ghost use Rattle.order.specs.Successor.Steps.{last_turn};
 
 use crate::refused::Refused;
@@ -81,7 +82,7 @@ pub struct SuccessorRun {
 }
 
 impl SuccessorRun {
-    ghost use Rattle.std.specs.Prelude.{◌≡◌, ℕ, ◌+◌, ◌-◌, ◌*◌, ◌<◌, ◌≤◌, length, [], None};
+    ghost use Rattle.std.specs.Prelude.{◌≡◌, ℕ, ◌+◌, ◌-◌, ◌*◌, ◌<◌, ◌≤◌, cond, ltb, length, [], None};
     ghost use Rattle.arena.specs.History.{History, Extends};
     ghost use Rattle.arena.specs.Machines.{MatchTurn, Call};
     ghost use Rattle.prims.specs.Llx.Known.{IsSnapshot, LlxIsReady};
@@ -95,7 +96,7 @@ impl SuccessorRun {
     ghost use Rattle.order.specs.Reads.{from, Whenever};
     ghost use Rattle.order.specs.Replies.{IsContended};
     ghost use Rattle.order.specs.Search.{IsNextAt};
-    ghost use Rattle.order.specs.Successor.Known.{head_at, key_at, level_at, IsLastTurn, LooksAt, StandsAt, HasHead, Validates, Goes, SuccessorIsReady, SuccessorTurn};
+    ghost use Rattle.order.specs.Successor.Known.{head_at, key_at, level_at, is_answer, IsLastTurn, LooksAt, StandsAt, HasHead, Validates, Goes, SuccessorIsReady, SuccessorTurn};
     ghost use Rattle.order.specs.Successor.Steps.{behind, HeadFits, IsNearer, try_left, successor_left, SuccessorFits};
 
     /// A run that has not begun. What it keeps grows with this allocator. In each try it asks for at
@@ -137,8 +138,18 @@ impl SuccessorRun {
         ensures nearer { (nodes : ℕ) → IsNearer self.new nodes result (self.old.tries * try_left nodes + try_left nodes) }
     {
         self.snaps.clear();
-        let walk = WalkRun::new(Goal::Key(self.key));
-        self.walk_on(walk, NodeNo(0), None)
+        let mut walk = WalkRun::new(Goal::Key(self.key));
+        match Machine::<Tree>::next(&mut walk, None) {
+            Turn::Ask(step) => {
+                let turn = NodeNo(0);
+                self.at = SuccessorAt::Walk { walk, turn };
+                Turn::Ask(step)
+            }
+            Turn::Done(_) => Turn::Done(Err(Refused::Contended {
+                node: NodeNo(0),
+                scx: ScxNo(0),
+            })),
+        }
     }
 
     /// Ends a try that is lost to this SCX-record over this node, and begins the next if there is one.
@@ -218,14 +229,14 @@ impl SuccessorRun {
         if self.snaps.push(snap).is_err() {
             return Turn::Done(Err(Refused::NoMemory));
         }
-        if route == Route::Along && side == Side::Left {
-            self.right = snap.right;
+        match (route, side) {
+            (Route::Along, Side::Left) => {
+                self.right = snap.right;
+                self.load_head(route, level, snap.left)
+            }
+            (Route::Along, Side::Right) => self.load_head(route, level, snap.right),
+            (Route::Beyond, _) => self.load_head(route, level, snap.left),
         }
-        let node = match side {
-            Side::Left => snap.left,
-            Side::Right => snap.right,
-        };
-        self.load_head(route, level, node)
     }
 
     /// Asks for the head of a node below a fork of the level `above`.
@@ -245,7 +256,7 @@ impl SuccessorRun {
         ensures same { self.new.key ≡ self.old.key }
         ensures nearer { (nodes : ℕ) → HeadFits head nodes → IsNearer self.new nodes result (self.old.tries * try_left nodes + (length self.old.snaps.items + 67 * (2 + nodes - head.level) - 1 + behind route nodes)) }
     {
-        if head.class == 0 && (head.leaf || route == Route::Along) {
+        if asks_key(route, head) {
             let at = SuccessorAt::Key { route, head, node };
             self.load(at, node, NodeWord::Key)
         } else if head.leaf {
@@ -261,15 +272,34 @@ impl SuccessorRun {
         ensures same { self.new.key ≡ self.old.key }
         ensures nearer { (nodes : ℕ) → HeadFits head nodes → IsNearer self.new nodes result (self.old.tries * try_left nodes + (length self.old.snaps.items + 67 * (2 + nodes - head.level) - 2 + behind route nodes)) }
     {
-        let above = self.key < key;
         if !head.leaf {
-            let side = if above { Side::Left } else { Side::Right };
-            self.look(route, head.level, side, node)
-        } else if above || route == Route::Beyond {
+            self.look(route, head.level, self.side(key), node)
+        } else if self.is_answer(route, key) {
             let at = SuccessorAt::Value { key, node };
             self.load(at, node, NodeWord::Value)
         } else {
             self.load_head(Route::Beyond, 0, self.right)
+        }
+    }
+
+    /// Where the path of the key goes at a fork of class 0 with this key.
+    fn side(&self, key: u64) -> Side
+        ensures { result ≡ cond (ltb self.now.key key) Side.Left Side.Right }
+    {
+        if self.key < key {
+            Side::Left
+        } else {
+            Side::Right
+        }
+    }
+
+    /// Whether a leaf of class 0 with this key, to which it has come, is the answer.
+    fn is_answer(&self, route: Route, key: u64) -> bool
+        ensures { result ≡ is_answer route self.now.key key }
+    {
+        match route {
+            Route::Along => key > self.key,
+            Route::Beyond => true,
         }
     }
 
@@ -366,6 +396,17 @@ impl Machine<Tree> for SuccessorRun {
     ghost made = { successor_made };
 
     ghost told = { successor_told };
+}
+
+/// Whether it loads the key of a node with this head: behind the path of its key it goes left at all
+/// forks.
+fn asks_key(route: Route, head: Head) -> bool
+    ensures { result ≡ asks_key route head }
+{
+    match route {
+        Route::Along => head.class == 0,
+        Route::Beyond => head.class == 0 && head.leaf,
+    }
 }
 
 /// The last fork where a walk has turned left, where that was `turn` before its last step.

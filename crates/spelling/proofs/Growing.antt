@@ -31,7 +31,7 @@ use Rattle.spelling.proofs.Edited.{root_side}
 use Rattle.spelling.proofs.Grown.{IsGrown, tree_facts, grown_tail}
 
 -- the pairs are the items below 2 ^ 64
-unfoldable pub low : List Pair → List Pair
+pub low : List Pair → List Pair
 low [] = []
 low (p ∷ ps) = cond (ltb p.key (2 ^ 64)) (p ∷ low ps) (low ps)
 

@@ -1,7 +1,7 @@
 -- What the layers above know of histories of the tree, passed on from one place: no other module of
 -- these proofs can be named outside. Declares nothing.
 pub use Rattle.spelling.proofs.Meanings.{one_spelling, opening_run, opening_spells, run_since, log_edits, spells_log, run_spells, run_spells_log, won_makes, win_edits, win_makes, wins_of, quiet_spells, makes_since, below_root, walk_first, walk_next, walk_rises, walk_named, walk_answers}
-pub use Rattle.spelling.proofs.Stood.{one_tree, was_now, was_passed}
+pub use Rattle.spelling.proofs.Stood.{was_now, was_passed}
 pub use Rattle.spelling.proofs.Past.{walk_stays}
 pub use Rattle.spelling.proofs.Inside.{tree_inside, walk_inside}
 pub use Rattle.spelling.proofs.TreeRuns.{tree_not_final, path_not_final, tree_remains, new_stood, levels_rise, stood_blank, passed_blank, root_head, passed_unmarked, passed_level, log_short, passed_depth, child_stood, child_not_final, stood_depth, stood_settled, stood_in_field, children_apart}
@@ -14,4 +14,3 @@ pub use Rattle.spelling.proofs.Next.{first, search_next, search_is}
 pub use Rattle.spelling.proofs.Maps.{get_above, inserted, insert_keeps, deleted, delete_keeps, edited_rises, same_values, successor_is, between_gives, between_rises}
 pub use Rattle.spelling.proofs.Rising.{rising_levels, held_stood}
 pub use Rattle.spelling.proofs.FirstLeaf.{walk_small, walk_left, walk_before, walk_own, walk_least}
-pub use Rattle.spelling.proofs.Following.{low_pair, search_tells}

@@ -23,7 +23,6 @@ mod Taken
 mod TreeRuns
 mod Rising
 mod FirstLeaf
-mod Following
 mod Reading
 mod LeafLists
 mod Maps

@@ -1,5 +1,5 @@
 -- When a successor may go on, what it waits for, and what its answer says.
-use Rattle.std.specs.Prelude.{◌≡◌, ℕ, ◌^◌, ◌<◌, ◌≤◌, true, false, ◌⊎◌, length, List, Option, Some, None, Result, Ok, Err}
+use Rattle.std.specs.Prelude.{◌≡◌, ℕ, ◌^◌, ◌<◌, ◌≤◌, Bool, true, false, cond, eqb, ltb, ◌⊎◌, length, List, Option, Some, None, Result, Ok, Err}
 use Rattle.arena.specs.declared.head.Head.{Head as HeadParts}
 use Rattle.arena.specs.declared.machine.Turn.{Turn}
 use Rattle.arena.specs.declared.step.Step.{Step}
@@ -43,6 +43,9 @@ head_at h n = head_of (value h (node n HeadWord))
 abbrev pub key_at : History → ℕ → ℕ
 key_at h n = value h (node n KeyWord)
 
+abbrev pub value_at : History → ℕ → ℕ
+value_at h n = value h (node n ValueWord)
+
 abbrev pub level_at : History → ℕ → ℕ
 level_at h n = level (value h) n
 
@@ -55,6 +58,16 @@ pub record HasTurnedLeft (c : Call) (h : History) (k n : ℕ) : Type 0 where
 -- so it is with the last fork where the walk has turned left; the root is always one
 abbrev pub IsLastTurn : Call → History → ℕ → ℕ → Type 0
 IsLastTurn c h k n = (n ≡ 0) ⊎ HasTurnedLeft c h k n
+
+-- whether it loads the key of a node with this head
+abbrev pub asks_key : Route → HeadParts → Bool
+asks_key Along head = eqb head.class 0
+asks_key Beyond head = cond (eqb head.class 0) head.leaf false
+
+-- whether a leaf of class 0 with this key is the answer of k
+abbrev pub is_answer : Route → ℕ → ℕ → Bool
+is_answer Along k key = ltb k key
+is_answer Beyond k key = true
 
 -- where the search stands on this part of its way
 abbrev pub IsOnRoute : Route → History → ℕ → ℕ → ℕ → Type 0

@@ -2,16 +2,14 @@
 -- are told is so.
 use Rattle.std.proofs.Common.{◌≡◌, ◌≢◌, ℕ, ◌+◌, ◌<◌, ◌≤◌, false, length, inl, inr, refl, sym, ◌∙◌, ap, subst, arith, Option, Some, None}
 use Rattle.arena.specs.declared.head.Head.{Head as HeadParts}
-use Rattle.arena.specs.declared.layout.Layout.{Layout}
 use Rattle.arena.specs.declared.step.Row.{Row}
 use Rattle.arena.specs.declared.step.Step.{Step}
 use Rattle.arena.specs.declared.step.Kind.TheVariants.{Fill, LoadSettled}
 use Rattle.arena.specs.declared.word.NodeWord.TheVariants.{Head as HeadWord, Key as KeyWord, Value as ValueWord}
 use Rattle.arena.specs.declared.word.Side.{Side}
-use Rattle.arena.specs.declared.word.Side.TheVariants.{Left}
 use Rattle.arena.specs.declared.word.Word.{Word}
 use Rattle.arena.specs.Heads.{head_of}
-use Rattle.arena.specs.Words.{node, child}
+use Rattle.arena.specs.Words.{node}
 use Rattle.arena.specs.History.{History, ◌⊳◌, value}
 use Rattle.arena.specs.Machines.{IsRun, Call, row_of, IsTold}
 use Rattle.arena.specs.TakenNodes.{taken_nodes}
@@ -22,14 +20,14 @@ use Rattle.prims.specs.Llx.Laws.{llx_keeps, llx_lawful, llx_made, load_lawful, l
 use Rattle.prims.specs.Vlx.Laws.{vlx_keeps, vlx_lawful, vlx_made}
 use Rattle.prims.proofs.Lemmas.{llx_fills_not, vlx_fills_not}
 use Rattle.spelling.specs.declared.pair.Pair.{Pair}
-use Rattle.spelling.specs.Paths.{WasInTree}
 use Rattle.spelling.specs.Runs.{IsTreeRun}
 use Rattle.spelling.specs.TreeShape.{TreeAllows}
 use Rattle.spelling.specs.TreeWords.{is_leaf, level}
-use Rattle.spelling.proofs.Lemmas.{child_stood, levels_rise, run_since, stood_depth, stood_settled, tree_not_final, was_now, was_passed, walk_stays, SameSettled, settled_class, settled_leaf, settled_level, settled_toward}
+use Rattle.spelling.proofs.Lemmas.{stood_settled, was_passed, walk_stays, SameSettled, settled_class, settled_leaf, settled_level, settled_toward}
 use Rattle.template.specs.Walk.Laws.{walk_keeps, walk_lawful, walk_made, walk_told}
 use Rattle.template.proofs.Lemmas.{walk_fills_not}
-use Rattle.order.specs.Kept.{stood_inside, stood_more, taken_since, whenever_more, reads_more, settled_more}
+use Rattle.order.specs.Depth.{fork_depth, head_fits}
+use Rattle.order.specs.Kept.{stood_inside, stood_more, whenever_more, reads_more, settled_more}
 use Rattle.order.specs.Reads.{from, HasStood}
 use Rattle.order.specs.Successor.Known.{IsLastTurn, IsSideOf, IsRightThere, LooksAt, StandsAt, HasHead, HasLeaf, Validates, Goes, SuccessorWaitsAt, SuccessorIsToldAt, SuccessorWaits, SuccessorIsReady}
 use Rattle.order.specs.Successor.Steps.{HeadFits, SuccessorFitsAt, SuccessorFits}
@@ -185,27 +183,6 @@ successor_made m c h s v run t w = (
 )
 
 -- What it is told
-
--- the children of a fork that has stood in the tree are not deeper than the taken nodes allow
-fork_depth : (lay : Layout) (h : History) (n : ℕ) → IsTreeRun lay h → WasInTree h n → is_leaf (value h) n ≡ false → level (value h) n + 1 < 2 + length (taken_nodes h)
-fork_depth lay h n g x fork =
-    let k : History = x.moment in
-    let run : IsTreeRun lay k = run_since lay h k g x.within in
-    let here : WasInTree k n = was_now k x.tree n x.is_tree x.has in
-    let same : SameSettled (value k) (value h) n = stood_settled lay h k n g x.within here in
-    let fork_then : is_leaf (value k) n ≡ false = sym (settled_leaf (value k) (value h) n same) ∙ fork in
-    let rises : level (value k) n < level (value k) (value k (child n Left)) = levels_rise lay k n Left run here fork_then in
-    let below : WasInTree k (value k (child n Left)) = child_stood lay k k n Left run (ends_self k) here (tree_not_final lay k x.tree n run x.is_tree x.has) fork_then in
-    let deep : level (value k) (value k (child n Left)) < 2 + length (taken_nodes k) = stood_depth lay k (value k (child n Left)) run below in
-    let more : length (taken_nodes k) ≤ length (taken_nodes h) = taken_since h k x.within in
-    let same_level : level (value h) n ≡ level (value k) n = settled_level (value k) (value h) n same in
-    omega (arith, rises, deep, more, same_level)
-
-head_fits : (lay : Layout) (h : History) (n nodes : ℕ) (head : HeadParts) → IsTreeRun lay h → WasInTree h n → head_of (value h (node n HeadWord)) ≡ head → length (taken_nodes h) ≤ nodes → HeadFits head nodes
-head_fits lay h n nodes head g x e few = (
-  (let d : level (value h) n < 2 + length (taken_nodes h) = stood_depth lay h n g x in let l : level (value h) n ≡ head.level = ap (λ (w : HeadParts). w.level) e in omega (arith, d, l, few)),
-  λ fork. (let d : level (value h) n + 1 < 2 + length (taken_nodes h) = fork_depth lay h n g x (ap (λ (w : HeadParts). w.leaf) e ∙ fork) in let l : level (value h) n ≡ head.level = ap (λ (w : HeadParts). w.level) e in omega (arith, d, l, few)),
-)
 
 fits_at : (m : SuccessorRun) (c : Call) (h : History) (v nodes : ℕ) (at : SuccessorAt) → IsTreeRun c.layout h → SuccessorIsToldAt m c h v at → length (taken_nodes h) ≤ nodes → SuccessorFitsAt m (Some v) nodes at
 fits_at m c h v nodes Start g x few = absurd x
