@@ -1,5 +1,6 @@
 -- When a range may go on, what it waits for, and what its answer says.
 use Rattle.std.specs.Prelude.{◌≡◌, ◌≢◌, ℕ, ◌^◌, ◌<◌, ◌≤◌, Bool, true, false, ◌⊎◌, length, List, [], ◌∷◌, reverse, Option, Some, None, Result, Ok, Err, Vec}
+use Rattle.std.specs.Global.{Global}
 use Rattle.arena.specs.declared.head.Head.{Head as HeadParts}
 use Rattle.arena.specs.declared.machine.Turn.{Turn}
 use Rattle.arena.specs.declared.machine.Turn.TheVariants.{Done}
@@ -43,6 +44,10 @@ IsSameRange old now = (now.low ≡ old.low) × (now.high ≡ old.high) × (now.m
 -- there are no keys, or no pairs, to be told
 abbrev pub AsksForNothing : RangeRun → Type 0
 AsksForNothing m = (m.most ≡ 0) ⊎ (m.high < m.low)
+
+-- or there may be some
+abbrev pub AsksForSome : RangeRun → Type 0
+AsksForSome m = (0 < m.most) × (m.low ≤ m.high)
 
 -- What it knows of nodes
 
@@ -149,24 +154,28 @@ abbrev pub RangeReplies : RangeRun → Call → History → List Pair → Type 0
 RangeReplies m c h told = IsReplyAt c h (Range m.low m.high m.most) (ManyPairs told) ⊎ (AsksForNothing m × ((map : List Pair) → range m.low m.high m.most map ≡ told))
 
 -- what its answer says: that, or who was in the way
-abbrev pub RangeSays : RangeRun → Call → History → Result (Vec Pair) Refused → Type 0
+abbrev pub RangeSays : RangeRun → Call → History → Result (Vec Pair Global) Refused → Type 0
 RangeSays m c h (Ok told) = RangeReplies m c h told.items
 RangeSays m c h (Err (Contended n s)) = IsContended c h n.0 s.0 × (m.tries ≡ 0)
 RangeSays m c h (Err NoMemory) = Unit {0}
 
 -- and behind it the pass is at rest
-abbrev pub RangeAnswers : RangeRun → Call → History → Result (Vec Pair) Refused → Type 0
+abbrev pub RangeAnswers : RangeRun → Call → History → Result (Vec Pair Global) Refused → Type 0
 RangeAnswers m c h answer = AreFinished c.layout c.pass 0 h × RangeSays m c h answer
 
 -- it ends with the pairs that it has taken
-pub record HasTold (old now : RangeRun) (turn : Turn (Result (Vec Pair) Refused)) : Type 0 where
-  pub told : Vec Pair
+pub record HasTold (old now : RangeRun) (turn : Turn (Result (Vec Pair Global) Refused)) : Type 0 where
+  pub told : Vec Pair Global
   pub done : turn ≡ Done (Ok told)
   pub taken : told.items ≡ old.taken.items
   pub low : now.low ≡ old.low
   pub high : now.high ≡ old.high
   pub most : now.most ≡ old.most
 
+-- it ends with no pairs
+abbrev pub TellsNone : Turn (Result (Vec Pair Global) Refused) → Type 0
+TellsNone turn = (told : Vec Pair Global) × (turn ≡ Done (Ok told)) × (told.items ≡ [])
+
 -- it waits for the step that it asks for, or its answer is right
-abbrev pub RangeTurn : Call → History → RangeRun → Turn (Result (Vec Pair) Refused) → Type 0
+abbrev pub RangeTurn : Call → History → RangeRun → Turn (Result (Vec Pair Global) Refused) → Type 0
 RangeTurn c h m turn = MatchTurn turn (RangeWaits m c h) (RangeAnswers m c h)
