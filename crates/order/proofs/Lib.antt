@@ -6,3 +6,6 @@ mod Finding
 mod Turns
 mod Nearer
 mod Visiting
+mod RangeVisits
+mod RangeNearer
+mod RangeTurns
