@@ -1,5 +1,5 @@
 -- What a range waits for after each of its turns.
-use Rattle.std.proofs.Common.{◌≡◌, ◌≢◌, ℕ, ◌+◌, ◌*◌, ◌-◌, ◌<◌, ◌≤◌, ◌⊎◌, Bool, true, false, List, [], ◌∷◌, ◌++◌, length, inl, inr, refl, sym, ◌∙◌, ap, subst, arith, Option, Some, None, unwrap_or, Result, Ok, Err, Vec, is_err, OnOk, not}
+use Rattle.std.proofs.Common.{◌≡◌, ◌≢◌, ℕ, ◌+◌, ◌*◌, ◌-◌, ◌<◌, ◌≤◌, ◌⊎◌, Bool, true, false, List, [], ◌∷◌, ◌++◌, length, inl, inr, refl, sym, ◌∙◌, ap, subst, arith, Option, Some, None, unwrap_or, Result, Ok, Err, Vec, not}
 use Rattle.std.specs.Prelude.{take}
 use Rattle.std.specs.Global.{Global}
 use Rattle.arena.specs.declared.head.Head.{Head as HeadParts}
@@ -188,11 +188,7 @@ vlx_turn m c begin h before after asked now got turn is same step goes ready = s
 pub vlx_nearer : (m : RangeRun) (before after : List Snap) (asked now : ℕ) (turn : Turn Vlx) (step : Step) → before ≡ m.snaps.items → after ≡ before → turn ≡ Ask step → MatchTurn turn (λ _. vlx_left after now < vlx_left before asked) (λ _. Unit {0}) → vlx_left m.snaps.items now < vlx_left m.snaps.items asked
 vlx_nearer m before after asked now turn step is same asks near = subst (λ (l : List Snap). vlx_left l now < vlx_left l asked) is (subst (λ (l : List Snap). vlx_left l now < vlx_left before asked) same (rw asks at near))
 
--- Where a growth was not refused
-
-pub on_ok : {A E : Type 0} (r : Result A E) (P : Type 0) → is_err r ≡ false → OnOk r P → P
-on_ok (Ok a) P e p = p
-on_ok (Err e) P q p = absurd (let z : true ≡ false = q in cc)
+-- Little facts
 
 pub none_left : {A : Type 0} (items : List A) → length items ≡ 0 → items ≡ []
 none_left [] e = refl

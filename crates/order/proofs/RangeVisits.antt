@@ -132,7 +132,7 @@ module _ (m : RangeRun) (c : Call) (h : History) (snap : Snap) (goes : Goes m c 
       fork = settled_leaf (value h) (value b) snap.node.0 same ∙ x.fork
 
       choice_then : (l r : Bool) → left ≡ l → right ≡ r → IsChoice m (rank (value b) snap.node.0) l r
-      choice_then l r p q = rw (settled_rank (value h) (value b) snap.node.0 same) (choice l r p q)
+      choice_then l r p q = subst (λ k. IsChoice m k l r) (sym (settled_rank (value h) (value b) snap.node.0 same)) (choice l r p q)
 
       visiting : IsVisiting b (bounds_of m) snap.node.0 m.taken.items (waiting_of m) m.leaves
       visiting = x.visits.visiting b run e (hold_before b m.snaps.items snap hold)
@@ -255,7 +255,7 @@ module _ (m : RangeRun) (c : Call) (h : History) (n : ℕ) (goes : Goes m c h) (
     rank_is = omega (arith, zero_class, d)
 
     pub low_looks : (low : ℕ) → is_leaf (value h) n ≡ false → low ≤ level (value h) n → LooksIn m c h low (ltb m.low key) (leb key m.high) n
-    low_looks low fork deep = record { visits = x; fork = fork; deep = deep; choice = rw rank_is (go (ltb m.low key) (leb key m.high) refl refl) }
+    low_looks low fork deep = record { visits = x; fork = fork; deep = deep; choice = subst (λ k. IsChoice m k (ltb m.low key) (leb key m.high)) (sym rank_is) (go (ltb m.low key) (leb key m.high) refl refl) }
       where
         go : (a b : Bool) → ltb m.low key ≡ a → leb key m.high ≡ b → IsChoice m key a b
         go true true p q = (lt_of m.low key p, le_of key m.high q)
@@ -274,9 +274,9 @@ module _ (m : RangeRun) (c : Call) (h : History) (n : ℕ) (goes : Goes m c h) (
 
     pub low_behind : IsOwnMoment c h → is_leaf (value h) n ≡ true → (key < m.low) ⊎ (m.high < key) → GoesBehind m c h (m.leaves - 1)
     low_behind own leaf out = goes_behind own leaf (λ b run e hold. ⊎_elim
-      (λ i. passes_below b (bounds_of m) n m.taken.items (waiting_of m) m.leaves (x.visiting b run e hold) (low_leaf b run e leaf) (low_class b run e) (rw (low_key b run e) i))
-      (λ i. passes_above b (bounds_of m) n m.taken.items (waiting_of m) m.leaves (x.visiting b run e hold) (low_leaf b run e leaf) (let z = low_class b run e in let k = low_key b run e in omega (arith, z, k, i)))
-      out)
+        (λ i. passes_below b (bounds_of m) n m.taken.items (waiting_of m) m.leaves (x.visiting b run e hold) (low_leaf b run e leaf) (low_class b run e) (rw (low_key b run e) i))
+        (λ i. passes_above b (bounds_of m) n m.taken.items (waiting_of m) m.leaves (x.visiting b run e hold) (low_leaf b run e leaf) (let z = low_class b run e in let k = low_key b run e in omega (arith, z, k, i)))
+        out)
 
     pub low_taken : is_leaf (value h) n ≡ true → m.low ≤ key → key ≤ m.high → HasKey m c h n key
     low_taken leaf i j = record { visits = x; leaf = leaf; low = zero_class; key_is = d; from = i; to = j }
@@ -363,7 +363,4 @@ replies m c begin h x same = record {
 -- The leaves of a try
 
 pub so_many_leaves : (most leaves : ℕ) → most ≤ 64 → leaves ≡ min (most + 2) 18446744073709551615 → leaves ≡ most + 2
-so_many_leaves most leaves few is = is ∙ min_first (most + 2) 18446744073709551615 (omega (arith, few))
-  where
-    min_first : (a b : ℕ) → a ≤ b → min a b ≡ a
-    min_first a b i = grind (arith, i)
+so_many_leaves most leaves few is = omega (arith, few, is)

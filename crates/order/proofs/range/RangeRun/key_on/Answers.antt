@@ -13,8 +13,8 @@ returns-then-not-head-clause-nearer c nodes fits = below c.look.result _ _ _ (c.
 pub returns-then-key-self-clause-turn : goal.returns-then-key-self-clause-turn
 returns-then-key-self-clause-turn c d h goes own x has is =
     let out : (c.args.key < c.args.self.now.low) ⊎ (c.args.self.now.high < c.args.key) = elim c.if-self-key.branch [
-      then-self-key w ↦ inl w.if-self-key.true
-    | else-self-key w ↦ inr (lt_of _ _ (sym w.value-is ∙ c.if-key-self.true))
+      | then-self-key w ↦ inl w.if-self-key.true
+      | else-self-key w ↦ inr (lt_of _ _ (sym w.value-is ∙ c.if-key-self.true))
     ] in
     c.visited.ensures.turn d h goes (low_behind c.args.self.now d h c.args.node.0 goes x c.args.key (ap (λ (w : HeadParts). w.class) has.head_is ∙ has.low) is own (ap (λ (w : HeadParts). w.leaf) has.head_is ∙ not_false _ c.if-not-head.false) out)
 
@@ -24,7 +24,7 @@ returns-then-key-self-clause-nearer c nodes fits = below c.visited.result _ _ _ 
 pub returns-else-key-self-clause-turn : goal.returns-else-key-self-clause-turn
 returns-else-key-self-clause-turn c d h goes own x has is =
     let inside : (c.args.self.now.low ≤ c.args.key) × (c.args.key ≤ c.args.self.now.high) = elim c.if-self-key.branch [
-      then-self-key w ↦ absurd (let z : true ≡ false = sym w.value-is ∙ c.if-key-self.false in cc)
-    | else-self-key w ↦ (w.if-self-key.false, ge_of _ _ (sym w.value-is ∙ c.if-key-self.false))
+      | then-self-key w ↦ absurd (let z : true ≡ false = sym w.value-is ∙ c.if-key-self.false in cc)
+      | else-self-key w ↦ (w.if-self-key.false, ge_of _ _ (sym w.value-is ∙ c.if-key-self.false))
     ] in
     asks_value c.args.self.now _ d h _ goes c.args.key c.args.node c.load.ensures.stands c.load.ensures.asked (low_taken c.args.self.now d h c.args.node.0 goes x c.args.key (ap (λ (w : HeadParts). w.class) has.head_is ∙ has.low) is (ap (λ (w : HeadParts). w.leaf) has.head_is ∙ not_false _ c.if-not-head.false) inside.0 inside.1)

@@ -1,9 +1,9 @@
-use Rattle.std.proofs.Common.{ap, ◌∙◌, Bor, List, refl}
+use Rattle.std.proofs.Common.{ap, ◌∙◌, Bor, List}
 use Rattle.arena.specs.declared.machine.Turn.TheVariants.{Done}
 use Rattle.prims.specs.declared.snap.Snap.{Snap}
 use Rattle.order.proofs.Nearer.{below, to_tries}
 use Rattle.order.proofs.RangeNearer.{less_validate}
-use Rattle.order.proofs.RangeTurns.{goes_less, told_all, vlx_turn, vlx_nearer, validates_on, told, changed}
+use Rattle.order.proofs.RangeTurns.{told_all, vlx_turn, vlx_nearer, validates_on, told, changed}
 use Rattle.order.proofs.range.RangeRun.validate_on.Goals as goal
 
 pub returns-in-Ask-clause-turn : goal.returns-in-Ask-clause-turn
