@@ -79,7 +79,7 @@ pub told_none : (m now : RangeRun) (c : Call) (h : History) (turn : Turn Told) �
 told_none m now c h turn x none nothing goes = told_all m now c h turn x goes (rw none (inr (nothing, nothing_told m nothing)))
 
 pub tells_none : (m now : RangeRun) (turn : Turn Told) → HasTold m now turn → m.taken.items ≡ [] → TellsNone turn
-tells_none m now turn x none = (x.told, (x.done, x.taken ∙ none))
+tells_none m now turn x none = (x.told, x.done, x.taken ∙ none)
 
 -- Its LLXs
 
@@ -142,7 +142,7 @@ module _ (m : RangeRun) (c : Call) (h : History) where
 
   pub at_look : (got : Option ℕ) (low : ℕ) (left right : Bool) (llx : LlxRun) → m.at ≡ Look low left right llx → RangeIsReady m c h got → Goes m c h × LooksIn m c h low left right llx.node.0 × ((begin : History) × Extends begin c.start × LlxIsReady TreeAllows llx (from c begin) h got)
   at_look None low left right llx is r = absurd (let d : Look low left right llx ≡ Start = sym is ∙ r.1 in cc)
-  at_look (Some v) low left right llx is r = let t = subst (λ p. RangeIsToldAt m c h v p) is r.2 in (r.0, t.0, (t.1, t.2, t.3))
+  at_look (Some v) low left right llx is r = let t = subst (λ p. RangeIsToldAt m c h v p) is r.2 in (r.0, t.0, t.1)
 
   pub at_root : (got : Option ℕ) → m.at ≡ Root → RangeIsReady m c h got → Goes m c h × IsOwnMoment c h × Visits m c h 0 × (value h (node 0 HeadWord) ≡ unwrap_or got 0)
   at_root None is r = absurd (let d : Root ≡ Start = sym is ∙ r.1 in cc)
@@ -168,16 +168,15 @@ module _ (m : RangeRun) (c : Call) (h : History) where
 
 module _ (m now : RangeRun) (c : Call) (h : History) (turn : Turn Told) (goes : Goes m c h) where
   pub asks_root : now ≡ record m { at = Root } → turn ≡ Ask (load LoadSettled (node 0 HeadWord)) → Visits m c h 0 → RangeTurn c h now turn
-  asks_root is asked x = rw (asked, is) (goes_at m Root c h goes, visits_at m Root c h 0 x, refl)
+  asks_root is asked x = rw (asked, is) (goes_at m Root c h goes, (visits_at m Root c h 0 x, refl))
 
   pub asks_key : (head : HeadParts) (n : NodeNo) → now ≡ record m { at = Key head n } → turn ≡ Ask (load LoadSettled (node n.0 KeyWord)) → Visits m c h n.0 → HasLowHead h n.0 head → RangeTurn c h now turn
-  asks_key head n is asked x has = rw (asked, is) (goes_at m (Key head n) c h goes, visits_at m (Key head n) c h n.0 x, has, refl)
+  asks_key head n is asked x has = rw (asked, is) (goes_at m (Key head n) c h goes, (visits_at m (Key head n) c h n.0 x, has, refl))
 
   pub asks_value : (key : ℕ) (n : NodeNo) → now ≡ record m { at = Value key n } → turn ≡ Ask (load LoadSettled (node n.0 ValueWord)) → HasKey m c h n.0 key → RangeTurn c h now turn
   asks_value key n is asked x = rw (asked, is) (
     goes_at m (Value key n) c h goes,
-    record { visits = visits_at m (Value key n) c h n.0 x.visits; leaf = x.leaf; low = x.low; key_is = x.key_is; from = x.from; to = x.to },
-    refl,
+    (record { visits = visits_at m (Value key n) c h n.0 x.visits; leaf = x.leaf; low = x.low; key_is = x.key_is; from = x.from; to = x.to }, refl),
   )
 
 -- What a VLX is told and tells, of the snapshots as they stand in their list

@@ -190,7 +190,7 @@ module _ (m : RangeRun) (c : Call) (h : History) (snap : Snap) (goes : Goes m c 
 -- At a node
 
 pub lt_of : (a b : ℕ) → ltb a b ≡ true → a < b
-lt_of a b p = ⊎_elim (λ i. i) (λ i. absurd (let f : true ≡ false = sym p ∙ le-ltb b a i in cc)) (split a b)
+lt_of a b p = ⊎_elim (λ i. i) (λ i. absurd (let f : true ≡ false = sym p ∙ le-ltb a b i in cc)) (split a b)
 
 pub ge_of : (a b : ℕ) → ltb a b ≡ false → b ≤ a
 ge_of a b p = ⊎_elim (λ i. absurd (let f : false ≡ true = sym p ∙ lt-ltb a b i in cc)) (λ i. i) (split a b)

@@ -148,7 +148,7 @@ module _ (h : History) (w : Bounds) (n : ℕ) (taken : List Pair) (waiting : Lis
       is_tree = x.is_tree;
       part = record { tree = parts.left; low = x.part.low; high = rank (value h) n; shows = parts.left_shows; is = parts.left_is };
       rest = part_pairs h w parts.right ++ x.rest;
-      waits = (record { tree = parts.right; low = rank (value h) n; high = x.part.high; shows = parts.right_shows; is = parts.right_is }, (x.rest, (x.waits, (refl, (i, x.below)))));
+      waits = (record { tree = parts.right; low = rank (value h) n; high = x.part.high; shows = parts.right_shows; is = parts.right_is }, x.rest, x.waits, refl, i, x.below);
       finds = x.finds ∙ ap (λ z. taken ++ z) (ap (λ z. z ++ x.rest) parts.splits ∙ append_assoc (part_pairs h w parts.left) (part_pairs h w parts.right) x.rest);
       few = x.few;
       behind = x.behind;

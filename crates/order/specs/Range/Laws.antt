@@ -96,7 +96,7 @@ kept_at m c h s r Root g run other w = (visits_more m c h r g run 0 w.0, w.1)
 kept_at m c h s r (Head above n) g run other w = (visits_more m c h r g run n.0 w.0, deeper_more m c h r g run above n.0 w.0.stood w.1, w.2)
 kept_at m c h s r (Key head n) g run other w = (visits_more m c h r g run n.0 w.0, head_more m c h r g run n.0 head w.0.stood w.1, w.2)
 kept_at m c h s r (Value key n) g run other w = (key_more m c h r g run n.0 key w.0, w.1)
-kept_at m c h s r (Look low left right llx) g run other w = (looks_more m c h r g run low left right llx.node.0 w.0, (w.1, w.2, llx_keeps TreeAllows llx (from c w.1) h s r run other w.3))
+kept_at m c h s r (Look low left right llx) g run other w = (looks_more m c h r g run low left right llx.node.0 w.0, (w.1.0, w.1.1, llx_keeps TreeAllows llx (from c w.1.0) h s r run other w.1.2))
 kept_at m c h s r (Validate asked) g run other w = (w.0, validates_more m c h r g run w.0 w.1, vlx_keeps TreeAllows m.snaps.items asked (from c w.0) h s r run other w.2)
 
 -- rows of other passes leave a range waiting for the same step
@@ -114,7 +114,7 @@ lawful_at m c h s Root g w = load_lawful TreeAllows c h LoadSettled (node 0 Head
 lawful_at m c h s (Head above n) g w = load_lawful TreeAllows c h LoadSettled (node n.0 HeadWord) s g.1 w.2 record { word = tt; same = refl } (λ q. cc) (stood_inside c.layout h n.0 g w.0.stood.stood)
 lawful_at m c h s (Key head n) g w = load_lawful TreeAllows c h LoadSettled (node n.0 KeyWord) s g.1 w.2 record { word = tt; same = refl } (λ q. cc) (stood_inside c.layout h n.0 g w.0.stood.stood)
 lawful_at m c h s (Value key n) g w = load_lawful TreeAllows c h LoadSettled (node n.0 ValueWord) s g.1 w.1 record { word = tt; same = refl } (λ q. cc) (stood_inside c.layout h n.0 g w.0.visits.stood.stood)
-lawful_at m c h s (Look low left right llx) g w = llx_lawful TreeAllows llx (from c w.1) h s g.1 w.3
+lawful_at m c h s (Look low left right llx) g w = llx_lawful TreeAllows llx (from c w.1.0) h s g.1 w.1.2
 lawful_at m c h s (Validate asked) g w = vlx_lawful TreeAllows m.snaps.items asked (from c w.0) h s g.1 w.2
 
 -- the step that a range waits for continues the run
@@ -132,7 +132,7 @@ fills_not_at m c h s Root w = load_fills_not s (node 0 HeadWord) w.1
 fills_not_at m c h s (Head above n) w = load_fills_not s (node n.0 HeadWord) w.2
 fills_not_at m c h s (Key head n) w = load_fills_not s (node n.0 KeyWord) w.2
 fills_not_at m c h s (Value key n) w = load_fills_not s (node n.0 ValueWord) w.1
-fills_not_at m c h s (Look low left right llx) w = llx_fills_not TreeAllows llx (from c w.1) h s w.3
+fills_not_at m c h s (Look low left right llx) w = llx_fills_not TreeAllows llx (from c w.1.0) h s w.1.2
 fills_not_at m c h s (Validate asked) w = vlx_fills_not m.snaps.items asked (from c w.0) h s w.2
 
 -- a range never asks for a fill: it takes nothing of its share
@@ -151,7 +151,7 @@ module _ (m : RangeRun) (c : Call) (h : History) (s : Step) (v : ℕ) (g : IsTre
   made_at (Head above n) w = (visits_more m c h r g run n.0 w.0, deeper_more m c h r g run above n.0 w.0.stood w.1, load_told c h LoadSettled (node n.0 HeadWord) s v w.2 t)
   made_at (Key head n) w = (visits_more m c h r g run n.0 w.0, head_more m c h r g run n.0 head w.0.stood w.1, load_told c h LoadSettled (node n.0 KeyWord) s v w.2 t)
   made_at (Value key n) w = (key_more m c h r g run n.0 key w.0, load_told c h LoadSettled (node n.0 ValueWord) s v w.1 t)
-  made_at (Look low left right llx) w = (looks_more m c h r g run low left right llx.node.0 w.0, (w.1, w.2, llx_made TreeAllows llx (from c w.1) h s v run t w.3))
+  made_at (Look low left right llx) w = (looks_more m c h r g run low left right llx.node.0 w.0, (w.1.0, w.1.1, llx_made TreeAllows llx (from c w.1.0) h s v run t w.1.2))
   made_at (Validate asked) w = (w.0, validates_more m c h r g run w.0 w.1, vlx_made TreeAllows m.snaps.items asked (from c w.0) h s v run t w.2)
 
 -- once the step is made, a range may be called with what it told
