@@ -1,5 +1,5 @@
 -- What a successor knows one place further.
-use Rattle.std.proofs.Common.{◌≡◌, ◌≢◌, ℕ, zero, suc, ◌+◌, ◌*◌, ◌%◌, ◌^◌, ◌<◌, ◌≤◌, ◌⊎◌, true, false, cond, ltb, List, [], ◌∷◌, ◌++◌, length, inl, inr, ⊎_elim, refl, sym, ◌∙◌, ap, subst, arith, lt-ltb, le-ltb, Option, Some, None}
+use Rattle.std.proofs.Common.{◌≡◌, ◌≢◌, ℕ, zero, suc, ◌+◌, ◌*◌, ◌%◌, ◌^◌, ◌<◌, ◌≤◌, ◌⊎◌, Bool, true, false, cond, eqb, ltb, List, [], ◌∷◌, ◌++◌, length, inl, inr, ⊎_elim, refl, sym, ◌∙◌, ap, subst, arith, lt-ltb, le-ltb, ltb-true, ltb-false, eqb-true, eq-eqb, Option, Some, None}
 use Rattle.arena.specs.declared.head.Head.{Head as HeadParts}
 use Rattle.arena.specs.declared.word.NodeWord.TheVariants.{Head as HeadWord, Key as KeyWord, Value as ValueWord}
 use Rattle.arena.specs.declared.word.Side.{Side}
@@ -32,7 +32,7 @@ use Rattle.order.specs.Kept.{idle_over, stood_opened}
 use Rattle.order.specs.Reads.{from, AllHold, Whenever, HasStood}
 use Rattle.order.specs.Replies.{IsReplyAt}
 use Rattle.order.specs.Search.{IsSearched, IsFirstBehind, IsNextAt}
-use Rattle.order.specs.Successor.Known.{head_at, key_at, HasTurnedLeft, IsLastTurn, IsOnRoute, IsSideOf, IsAtFork, IsRightThere, LooksAt, StandsAt, HasHead, HasLeaf, Validates, Goes}
+use Rattle.order.specs.Successor.Known.{head_at, key_at, asks_key, is_answer, HasTurnedLeft, IsLastTurn, IsOnRoute, IsSideOf, IsAtFork, IsRightThere, LooksAt, StandsAt, HasHead, HasLeaf, Validates, Goes}
 use Rattle.order.specs.declared.successor.Route.{Route}
 use Rattle.order.specs.declared.successor.Route.TheVariants.{Along, Beyond}
 use Rattle.order.specs.declared.successor.SuccessorRun.{SuccessorRun}
@@ -271,6 +271,94 @@ module _ (m : SuccessorRun) (c : Call) (h : History) (route : Route) (n : ℕ) (
       right = λ q. no_route _ q;
       on_route = λ b run e hold. ends_behind b m.key n m.right.0 (subst (λ r. IsOnRoute r b m.key n m.right.0) a (x.on_route b run e hold)) (settled_leaf (value h) (value b) n (same_then b run e) ∙ leaf) (let r = rank_then b run e in omega (arith, r, i));
     }
+
+-- What its tests say
+
+module _ (m : SuccessorRun) (c : Call) (h : History) (route : Route) (n : ℕ) (goes : Goes m c h) (x : StandsAt m c h route n) (head : HeadParts) (is : head_at h n ≡ head) where
+  class_is : class (value h) n ≡ head.class
+  class_is = ap (λ (w : HeadParts). w.class) is
+
+  pub leaf_is : head.leaf ≡ true → is_leaf (value h) n ≡ true
+  leaf_is e = ap (λ (w : HeadParts). w.leaf) is ∙ e
+
+  pub fork_is : head.leaf ≡ false → is_leaf (value h) n ≡ false
+  fork_is e = ap (λ (w : HeadParts). w.leaf) is ∙ e
+
+  -- it loads the key
+  pub head_there : asks_key route head ≡ true → HasHead h route n head
+  head_there e = record { head_is = is; low = low route e; leaf = λ b. leaf (subst (λ r. asks_key r head ≡ true) b e) }
+    where
+      zero_class : eqb head.class 0 ≡ true → head.class ≡ 0
+      zero_class d = eqb-true head.class 0 d
+
+      both : (b : Bool) → eqb head.class 0 ≡ b → cond b head.leaf false ≡ true → (eqb head.class 0 ≡ true) × (head.leaf ≡ true)
+      both true q d = (q, d)
+      both false q d = absurd (let y : false ≡ true = d in cc)
+
+      low : (r : Route) → asks_key r head ≡ true → head.class ≡ 0
+      low Along d = zero_class d
+      low Beyond d = zero_class (both (eqb head.class 0) refl d).0
+
+      leaf : asks_key Beyond head ≡ true → head.leaf ≡ true
+      leaf d = (both (eqb head.class 0) refl d).1
+
+  -- a leaf of which it loads no key is above all keys
+  pub high_there : asks_key route head ≡ false → head.leaf ≡ true → class (value h) n ≢ 0
+  high_there e leaf z = go route e
+    where
+      zero_class : head.class ≡ 0
+      zero_class = sym class_is ∙ z
+
+      go : (r : Route) → asks_key r head ≡ false → ⊥
+      go Along d = let y : true ≡ false = sym (eq-eqb head.class 0 zero_class) ∙ d in cc
+      go Beyond d = let y : true ≡ false = sym (ap (λ b. cond b head.leaf false) (eq-eqb head.class 0 zero_class) ∙ leaf) ∙ d in cc
+
+  -- a fork of which it loads no key it leaves on the left
+  pub looks_left : asks_key route head ≡ false → head.leaf ≡ false → LooksAt m c h route head.level Left n
+  looks_left e fork = looks_at m c h route n goes x head.level Left (fork_is fork) (let l : level (value h) n ≡ head.level = ap (λ (w : HeadParts). w.level) is in omega (arith, l)) (go route e)
+    where
+      high : asks_key Along head ≡ false → class (value h) n ≢ 0
+      high d z = let y : true ≡ false = sym (eq-eqb head.class 0 (sym class_is ∙ z)) ∙ d in cc
+
+      above : asks_key Along head ≡ false → m.key < rank (value h) n
+      above d = let s = goes.small in let z = high d in omega (arith, s, z)
+
+      go : (r : Route) → asks_key r head ≡ false → IsSideOf r h m.key n Left
+      go Along d = rw (lt-ltb m.key (rank (value h) n) (above d)) refl
+      go Beyond d = refl
+
+-- behind the path each leaf of class 0 is the answer
+pub along_of : (route : Route) (k key : ℕ) → is_answer route k key ≡ false → route ≡ Along
+along_of Along k key e = refl
+along_of Beyond k key e = absurd (let y : true ≡ false = e in cc)
+
+module _ (m : SuccessorRun) (c : Call) (h : History) (route : Route) (n key : ℕ) (goes : Goes m c h) (x : StandsAt m c h route n) (head : HeadParts) (has : HasHead h route n head) (key_is : key_at h n ≡ key) where
+  low_class : class (value h) n ≡ 0
+  low_class = ap (λ (w : HeadParts). w.class) has.head_is ∙ has.low
+
+  -- the leaf is the answer
+  pub answers_here : head.leaf ≡ true → is_answer route m.key key ≡ true → HasLeaf m c h n key
+  answers_here leaf e = go route refl e
+    where
+      is : is_leaf (value h) n ≡ true
+      is = ap (λ (w : HeadParts). w.leaf) has.head_is ∙ leaf
+
+      go : (r : Route) → route ≡ r → is_answer r m.key key ≡ true → HasLeaf m c h n key
+      go Along a d = leaf_above m c h route n goes x key is low_class key_is (ltb-true m.key key d)
+      go Beyond a d = leaf_beyond m c h route n goes x key is low_class key_is a
+
+  -- or it goes on from the right child
+  along_then : is_answer route m.key key ≡ false → route ≡ Along
+  along_then e = along_of route m.key key e
+
+  pub answers_behind : head.leaf ≡ true → is_answer route m.key key ≡ false → StandsAt m c h Beyond m.right.0
+  answers_behind leaf e = stands_behind m c h route n goes x key is low_class key_is (along_then e) (ltb-false m.key key (subst (λ r. is_answer r m.key key ≡ false) (along_then e) e))
+    where
+      is : is_leaf (value h) n ≡ true
+      is = ap (λ (w : HeadParts). w.leaf) has.head_is ∙ leaf
+
+  pub deeper_behind : is_answer route m.key key ≡ false → 0 < level (value h) m.right.0
+  deeper_behind e = (x.right (along_then e)).below
 
 -- At the leaf of the answer
 

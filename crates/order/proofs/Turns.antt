@@ -73,24 +73,19 @@ module _ (m now : SuccessorRun) (c : Call) (h : History) (turn : Turn Told) (goe
   pub asks_head : (route : Route) (above : ℕ) (n : NodeNo) → now ≡ record m { at = Head route above n } → turn ≡ Ask (load LoadSettled (node n.0 HeadWord)) → StandsAt m c h route n.0 → above < level (value h) n.0 → SuccessorTurn c h now turn
   asks_head route above n is asked x deep = rw (asked, is) (
     goes_at m (Head route above n) c h goes,
-    record { stood = x.stood; some = x.some; right = x.right; on_route = x.on_route },
-    deep,
-    refl,
+    (record { stood = x.stood; some = x.some; right = x.right; on_route = x.on_route }, deep, refl),
   )
 
   pub asks_key : (route : Route) (head : HeadParts) (n : NodeNo) → now ≡ record m { at = Key route head n } → turn ≡ Ask (load LoadSettled (node n.0 KeyWord)) → StandsAt m c h route n.0 → HasHead h route n.0 head → SuccessorTurn c h now turn
   asks_key route head n is asked x has = rw (asked, is) (
     goes_at m (Key route head n) c h goes,
-    record { stood = x.stood; some = x.some; right = x.right; on_route = x.on_route },
-    has,
-    refl,
+    (record { stood = x.stood; some = x.some; right = x.right; on_route = x.on_route }, has, refl),
   )
 
   pub asks_value : (key : ℕ) (n : NodeNo) → now ≡ record m { at = Value key n } → turn ≡ Ask (load LoadSettled (node n.0 ValueWord)) → HasLeaf m c h n.0 key → SuccessorTurn c h now turn
   asks_value key n is asked x = rw (asked, is) (
     goes_at m (Value key n) c h goes,
-    record { stood = x.stood; some = x.some; leaf = x.leaf; low = x.low; key_is = x.key_is; first = x.first },
-    refl,
+    (record { stood = x.stood; some = x.some; leaf = x.leaf; low = x.low; key_is = x.key_is; first = x.first }, refl),
   )
 
 -- Its walk
@@ -193,7 +188,7 @@ module _ (m : SuccessorRun) (c : Call) (h : History) where
 
   pub at_look : (got : Option ℕ) (route : Route) (low : ℕ) (side : Side) (llx : LlxRun) → m.at ≡ Look route low side llx → SuccessorIsReady m c h got → Goes m c h × LooksAt m c h route low side llx.node.0 × ((begin : History) × Extends begin c.start × LlxIsReady TreeAllows llx (from c begin) h got)
   at_look None route low side llx is r = absurd (let d : Look route low side llx ≡ Start = sym is ∙ r.1 in cc)
-  at_look (Some v) route low side llx is r = let t = subst (λ p. SuccessorIsToldAt m c h v p) is r.2 in (r.0, t.0, (t.1, t.2, t.3))
+  at_look (Some v) route low side llx is r = let t = subst (λ p. SuccessorIsToldAt m c h v p) is r.2 in (r.0, t.0, (t.1.0, t.1.1, t.1.2))
 
   pub at_head : (got : Option ℕ) (route : Route) (above : ℕ) (n : NodeNo) → m.at ≡ Head route above n → SuccessorIsReady m c h got → Goes m c h × IsOwnMoment c h × StandsAt m c h route n.0 × (value h (node n.0 HeadWord) ≡ unwrap_or got 0)
   at_head None route above n is r = absurd (let d : Head route above n ≡ Start = sym is ∙ r.1 in cc)

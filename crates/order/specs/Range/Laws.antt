@@ -40,7 +40,7 @@ module _ (m : RangeRun) (c : Call) (h : History) (r : Row) (g : IsTreeRun c.layo
 
   there_more : (ns : List NodeNo) → AreThere c h ns → AreThere c (r ⊳ h) ns
   there_more [] x = tt
-  there_more (n ∷ ns) x = (stood_more c h r n.0 x.0, (deeper_more 0 n.0 x.0 x.1, there_more ns x.2))
+  there_more (n ∷ ns) x = (stood_more c h r n.0 x.0, deeper_more 0 n.0 x.0 x.1, there_more ns x.2)
 
   visits_more : (n : ℕ) → Visits m c h n → Visits m c (r ⊳ h) n
   visits_more n x = record {

@@ -112,7 +112,7 @@ module _ (m : SuccessorRun) (c : Call) (h : History) (r : Row) (g : IsTreeRun c.
 kept_at : (m : SuccessorRun) (c : Call) (h : History) (s : Step) (r : Row) (at : SuccessorAt) → IsTreeRun c.layout h → IsRun TreeAllows c.layout (r ⊳ h) → r.pass.0 ≢ c.pass → SuccessorWaitsAt m c h s at → SuccessorWaitsAt m c (r ⊳ h) s at
 kept_at m c h s r Start g run other w = w
 kept_at m c h s r (Walk walk turn) g run other w = (w.0, last_more m c h r g run turn.0 w.1, walk_keeps walk c h s r run other w.2)
-kept_at m c h s r (Look route low side llx) g run other w = (looks_more m c h r g run route low side llx.node.0 w.0, (w.1, w.2, llx_keeps TreeAllows llx (from c w.1) h s r run other w.3))
+kept_at m c h s r (Look route low side llx) g run other w = (looks_more m c h r g run route low side llx.node.0 w.0, (w.1.0, w.1.1, llx_keeps TreeAllows llx (from c w.1.0) h s r run other w.1.2))
 kept_at m c h s r (Head route above n) g run other w = (stands_more m c h r g run route n.0 w.0, deeper_more m c h r g run above n.0 w.0.stood w.1, w.2)
 kept_at m c h s r (Key route head n) g run other w = (stands_more m c h r g run route n.0 w.0, head_more m c h r g run route n.0 head w.0.stood w.1, w.2)
 kept_at m c h s r (Value key n) g run other w = (leaf_more m c h r g run n.0 key w.0, w.1)
@@ -131,7 +131,7 @@ successor_keeps m c h s r run other w = (
 lawful_at : (m : SuccessorRun) (c : Call) (h : History) (s : Step) (at : SuccessorAt) → IsTreeRun c.layout h → SuccessorWaitsAt m c h s at → IsRun TreeAllows c.layout (row_of c s h ⊳ h)
 lawful_at m c h s Start g w = absurd w
 lawful_at m c h s (Walk walk turn) g w = walk_lawful walk c h s g.1 w.2
-lawful_at m c h s (Look route low side llx) g w = llx_lawful TreeAllows llx (from c w.1) h s g.1 w.3
+lawful_at m c h s (Look route low side llx) g w = llx_lawful TreeAllows llx (from c w.1.0) h s g.1 w.1.2
 lawful_at m c h s (Head route above n) g w = load_lawful TreeAllows c h LoadSettled (node n.0 HeadWord) s g.1 w.2 record { word = tt; same = refl } (λ q. cc) (stood_inside c.layout h n.0 g w.0.stood.stood)
 lawful_at m c h s (Key route head n) g w = load_lawful TreeAllows c h LoadSettled (node n.0 KeyWord) s g.1 w.2 record { word = tt; same = refl } (λ q. cc) (stood_inside c.layout h n.0 g w.0.stood.stood)
 lawful_at m c h s (Value key n) g w = load_lawful TreeAllows c h LoadSettled (node n.0 ValueWord) s g.1 w.1 record { word = tt; same = refl } (λ q. cc) (stood_inside c.layout h n.0 g w.0.stood.stood)
@@ -149,7 +149,7 @@ load_fills_not s w e f = let z : LoadSettled ≡ Fill = sym (ap (λ (t : Step). 
 fills_not_at : (m : SuccessorRun) (c : Call) (h : History) (s : Step) (at : SuccessorAt) → SuccessorWaitsAt m c h s at → s.kind ≢ Fill
 fills_not_at m c h s Start w = absurd w
 fills_not_at m c h s (Walk walk turn) w = walk_fills_not walk c h s w.2
-fills_not_at m c h s (Look route low side llx) w = llx_fills_not TreeAllows llx (from c w.1) h s w.3
+fills_not_at m c h s (Look route low side llx) w = llx_fills_not TreeAllows llx (from c w.1.0) h s w.1.2
 fills_not_at m c h s (Head route above n) w = load_fills_not s (node n.0 HeadWord) w.2
 fills_not_at m c h s (Key route head n) w = load_fills_not s (node n.0 KeyWord) w.2
 fills_not_at m c h s (Value key n) w = load_fills_not s (node n.0 ValueWord) w.1
@@ -168,7 +168,7 @@ module _ (m : SuccessorRun) (c : Call) (h : History) (s : Step) (v : ℕ) (g : I
   made_at : (at : SuccessorAt) → SuccessorWaitsAt m c h s at → SuccessorIsToldAt m c (row_of c s h ⊳ h) v at
   made_at Start w = w
   made_at (Walk walk turn) w = (w.0, last_more m c h r g run turn.0 w.1, walk_made walk c h s v run t w.2)
-  made_at (Look route low side llx) w = (looks_more m c h r g run route low side llx.node.0 w.0, (w.1, w.2, llx_made TreeAllows llx (from c w.1) h s v run t w.3))
+  made_at (Look route low side llx) w = (looks_more m c h r g run route low side llx.node.0 w.0, (w.1.0, w.1.1, llx_made TreeAllows llx (from c w.1.0) h s v run t w.1.2))
   made_at (Head route above n) w = (stands_more m c h r g run route n.0 w.0, deeper_more m c h r g run above n.0 w.0.stood w.1, load_told c h LoadSettled (node n.0 HeadWord) s v w.2 t)
   made_at (Key route head n) w = (stands_more m c h r g run route n.0 w.0, head_more m c h r g run route n.0 head w.0.stood w.1, load_told c h LoadSettled (node n.0 KeyWord) s v w.2 t)
   made_at (Value key n) w = (leaf_more m c h r g run n.0 key w.0, load_told c h LoadSettled (node n.0 ValueWord) s v w.1 t)

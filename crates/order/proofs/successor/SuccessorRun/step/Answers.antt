@@ -2,6 +2,7 @@ use Rattle.std.proofs.Common.{◌≡◌, sym, ◌∙◌, ap, refl}
 use Rattle.arena.specs.Heads.{head_of}
 use Rattle.order.specs.declared.successor.SuccessorAt.TheVariants.{Start, Walk, Look, Head, Key, Value, Validate}
 use Rattle.order.proofs.Finding.{tells_this}
+use Rattle.order.proofs.Nearer.{below, head_nearer}
 use Rattle.order.proofs.Turns.{at_start, at_walk, at_look, at_head, at_key, at_value, at_validate}
 use Rattle.order.proofs.successor.SuccessorRun.step.Goals as goal
 
@@ -16,12 +17,17 @@ returns-in-Walk-clause-turn c d h r =
 pub returns-in-Look-clause-turn : goal.returns-in-Look-clause-turn
 returns-in-Look-clause-turn c d h r =
     let t = at_look c.args.self.now d h c.args.got c.in-Look.route c.in-Look.level c.in-Look.side c.in-Look.llx c.in-Look.is r in
-    c.look_on.ensures.turn d t.2 h t.0 t.1 t.3 t.4
+    c.look_on.ensures.turn d t.2.0 h t.0 t.1 t.2.1 t.2.2
 
 pub returns-in-Head-clause-turn : goal.returns-in-Head-clause-turn
 returns-in-Head-clause-turn c d h r =
     let t = at_head c.args.self.now d h c.args.got c.in-Head.route _ c.in-Head.node c.in-Head.is r in
     c.head_on.ensures.turn d h t.0 t.1 t.2 (ap head_of (t.3 ∙ sym c.unwrap_or-value.ensures) ∙ sym c.of.ensures)
+
+pub returns-in-Head-clause-nearer : goal.returns-in-Head-clause-nearer
+returns-in-Head-clause-nearer c nodes fits =
+    let t = head_nearer c.args.self.now c.args.got nodes c.in-Head.route _ c.in-Head.node c.of.result (c.of.ensures ∙ ap head_of c.unwrap_or-value.ensures) c.in-Head.is fits in
+    below c.head_on.result _ _ _ (c.head_on.ensures.nearer nodes t.0) t.1
 
 pub returns-in-Key-clause-turn : goal.returns-in-Key-clause-turn
 returns-in-Key-clause-turn c d h r =
@@ -36,7 +42,7 @@ returns-in-Value-clause-turn c d h r =
 pub returns-in-Validate-clause-turn : goal.returns-in-Validate-clause-turn
 returns-in-Validate-clause-turn c d h r =
     let t = at_validate c.args.self.now d h c.args.got c.in-Validate.asked c.in-Validate.found c.in-Validate.is r in
-    c.validate_on.ensures.turn d t.1 h t.0 t.2 t.3
+    c.validate_on.ensures.turn d t.1.0 h t.0 t.1.1 t.1.2
 
 pub returns-in-Start-clause-begins : goal.returns-in-Start-clause-begins
 returns-in-Start-clause-begins c none d h r = c.begin.ensures.begins d h r.0
