@@ -1,4 +1,4 @@
-use Rattle.std.proofs.Common.{◌≡◌, true, false, ◌<◌, ◌≤◌, ◌⊎◌, inl, inr, ap, sym, ◌∙◌, arith}
+use Rattle.std.proofs.Common.{◌<◌, ◌≤◌, ◌⊎◌, inl, inr, ap, sym, ◌∙◌, arith}
 use Rattle.arena.specs.declared.head.Head.{Head as HeadParts}
 use Rattle.order.proofs.Nearer.{below}
 use Rattle.order.proofs.RangeNearer.{key_to_leaf, key_to_look}
@@ -24,7 +24,7 @@ returns-then-key-self-clause-nearer c nodes fits = below c.visited.result _ _ _ 
 pub returns-else-key-self-clause-turn : goal.returns-else-key-self-clause-turn
 returns-else-key-self-clause-turn c d h goes own x has is =
     let inside : (c.args.self.now.low ≤ c.args.key) × (c.args.key ≤ c.args.self.now.high) = elim c.if-self-key.branch [
-      | then-self-key w ↦ absurd (let z : true ≡ false = sym w.value-is ∙ c.if-key-self.false in cc)
+      | then-self-key w ↦ absurd (let i = ge_of _ _ (sym w.value-is ∙ c.if-key-self.false) in let j = w.if-self-key.true in omega (arith, i, j))
       | else-self-key w ↦ (w.if-self-key.false, ge_of _ _ (sym w.value-is ∙ c.if-key-self.false))
     ] in
     asks_value c.args.self.now _ d h _ goes c.args.key c.args.node c.load.ensures.stands c.load.ensures.asked (low_taken c.args.self.now d h c.args.node.0 goes x c.args.key (ap (λ (w : HeadParts). w.class) has.head_is ∙ has.low) is (ap (λ (w : HeadParts). w.leaf) has.head_is ∙ not_false _ c.if-not-head.false) inside.0 inside.1)

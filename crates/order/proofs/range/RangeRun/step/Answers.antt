@@ -1,5 +1,4 @@
-use Rattle.std.proofs.Common.{ap, sym, ◌∙◌}
-use Rattle.arena.specs.Heads.{head_of}
+use Rattle.std.proofs.Common.{sym, ◌∙◌}
 use Rattle.order.proofs.Nearer.{below}
 use Rattle.order.proofs.RangeNearer.{head_at_root, head_below}
 use Rattle.order.proofs.RangeTurns.{at_value, at_validate, fits_at, left_at}
@@ -11,8 +10,7 @@ returns-in-Root-clause-nearer c nodes fits = left_at c.args.self.now nodes c.hea
 pub returns-in-Head-clause-nearer : goal.returns-in-Head-clause-nearer
 returns-in-Head-clause-nearer c nodes fits =
     let f = fits_at c.args.self.now c.args.got nodes _ c.in-Head.is fits in
-    let value = ap head_of c.unwrap_or-value.ensures in
-    left_at c.args.self.now nodes c.head_on-in-Head.new.self c.head_on-in-Head.result _ c.in-Head.is (below c.head_on-in-Head.result _ _ _ (c.head_on-in-Head.ensures.nearer nodes (rw (c.of-in-Head.ensures, value) f.1)) (head_below _ _ _ _ _ _ (rw (c.of-in-Head.ensures, value) f.0) (rw (c.of-in-Head.ensures, value) f.1.0)))
+    left_at c.args.self.now nodes c.head_on-in-Head.new.self c.head_on-in-Head.result _ c.in-Head.is (below c.head_on-in-Head.result _ _ _ (c.head_on-in-Head.ensures.nearer nodes (rw (c.of-in-Head.ensures, c.unwrap_or-value.ensures) f.1)) (head_below _ _ _ _ _ _ (rw (c.of-in-Head.ensures, c.unwrap_or-value.ensures) f.0) (rw (c.of-in-Head.ensures, c.unwrap_or-value.ensures) f.1.0)))
 
 pub returns-in-Value-clause-turn : goal.returns-in-Value-clause-turn
 returns-in-Value-clause-turn c d h r =
