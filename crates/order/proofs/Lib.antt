@@ -5,7 +5,10 @@ mod Snapping
 mod Finding
 mod Turns
 mod Nearer
+mod Undisturbed
 mod Visiting
 mod RangeVisits
 mod RangeNearer
 mod RangeTurns
+mod Ready
+pub mod Lemmas

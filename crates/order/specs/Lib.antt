@@ -1,5 +1,6 @@
 pub mod Replies
 pub mod Reads
+pub mod Undisturbed
 pub mod Kept
 pub mod Search
 pub mod Depth

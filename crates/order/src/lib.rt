@@ -2,6 +2,7 @@
 //! keys.
 #![tactic(auto)]
 
+mod alone;
 mod range;
 mod refused;
 mod successor;
@@ -10,6 +11,7 @@ mod table;
 #[cfg(test)]
 mod tests;
 
+pub use alone::alone_holds;
 pub use range::{RangeAt, RangeRun};
 pub use refused::Refused;
 pub use successor::{Route, SuccessorAt, SuccessorRun};
