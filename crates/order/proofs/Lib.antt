@@ -11,4 +11,5 @@ mod RangeVisits
 mod RangeNearer
 mod RangeTurns
 mod Ready
+mod RangeReady
 pub mod Lemmas
