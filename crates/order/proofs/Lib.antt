@@ -7,5 +7,9 @@ mod Turns
 mod Nearer
 mod Undisturbed
 mod Visiting
+mod RangeVisits
+mod RangeNearer
+mod RangeTurns
 mod Ready
+mod RangeReady
 pub mod Lemmas

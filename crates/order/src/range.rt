@@ -1,4 +1,5 @@
 //! Range.
+ghost use Rattle.std.specs.Prelude.{◌≡◌};
 
 use crate::refused::Refused;
 use arena::{Access, Head, Kind, Machine, NodeNo, NodeWord, ScxNo, Step, Turn, Word};
@@ -73,8 +74,35 @@ pub struct RangeRun {
 }
 
 impl RangeRun {
-    /// A run that has not begun. What it keeps grows with this allocator.
-    pub fn new(alloc: Global, low: u64, high: u64, most: usize, tries: u32) -> RangeRun {
+    ghost use Rattle.std.specs.Prelude.{◌≡◌, ℕ, Bool, ◌+◌, ◌-◌, ◌*◌, ◌<◌, ◌≤◌, length, [], None};
+    ghost use Rattle.arena.specs.History.{History, Extends};
+    ghost use Rattle.arena.specs.Machines.{MatchTurn, Call};
+    ghost use Rattle.prims.specs.Llx.Known.{IsSnapshot, LlxIsReady};
+    ghost use Rattle.prims.specs.Llx.Steps.{llx_left};
+    ghost use Rattle.prims.specs.Vlx.Known.{VlxIsReady};
+    ghost use Rattle.prims.specs.Vlx.Steps.{vlx_left};
+    ghost use Rattle.spelling.specs.TreeShape.{TreeAllows};
+    ghost use Rattle.template.specs.Trails.{IsOwnMoment};
+    ghost use Rattle.order.specs.Reads.{from, Whenever};
+    ghost use Rattle.order.specs.Replies.{IsContended};
+    ghost use Rattle.order.specs.Visits.{IsRangeAt};
+    ghost use Rattle.order.specs.Successor.Known.{head_at, key_at, value_at, level_at};
+    ghost use Rattle.order.specs.Successor.Steps.{HeadFits};
+    ghost use Rattle.order.specs.Range.Known.{bounds_of, IsSameRange, AsksForNothing, AsksForSome, TellsNone, Visits, LooksIn, HasLowHead, HasKey, GoesBehind, Validates, Goes, HasTold, RangeIsReady, RangeTurn};
+    ghost use Rattle.order.specs.Range.Steps.{try_left, leaves_left, range_left, IsNearer, RangeFits};
+
+    /// A run that has not begun. What it keeps grows with this allocator. In each try it asks for at
+    /// most 67 steps for each node that has been taken when it ends, and for 134 more; and that for
+    /// each of the pairs it is to tell at most, and twice more.
+    pub fn new(alloc: Global, low: u64, high: u64, most: usize, tries: u32) -> RangeRun
+        ensures low { result.low ≡ low }
+        ensures high { result.high ≡ high }
+        ensures most { result.most ≡ most }
+        ensures start { result.at ≡ RangeAt.Start }
+        ensures snaps { result.snaps.items ≡ [] }
+        ensures tries { result.tries ≡ tries - 1 }
+        ensures bound { (nodes : ℕ) → 0 < tries → range_left result nodes ≤ tries * try_left most nodes }
+    {
         RangeRun {
             low,
             high,
@@ -90,7 +118,10 @@ impl RangeRun {
     }
 
     /// Asks for a load of a settled word, and stands there.
-    fn load(&mut self, at: RangeAt, node: NodeNo, part: NodeWord) -> Turn<Told> {
+    fn load(&mut self, at: RangeAt, node: NodeNo, part: NodeWord) -> Turn<Told>
+        ensures stands { self.new ≡ record self.old { at = at } }
+        ensures asked { result ≡ Turn.Ask record { kind = Kind.LoadSettled; word = Word.Node node part; access = Access.Load } }
+    {
         self.at = at;
         Turn::Ask(Step {
             kind: Kind::LoadSettled,
@@ -100,7 +131,13 @@ impl RangeRun {
     }
 
     /// Begins a try; of no keys, and of no pairs, it knows the answer.
-    fn begin(&mut self) -> Turn<Told> {
+    fn begin(&mut self) -> Turn<Told>
+        ensures turn { (c : Call) (h : History) → Goes self.old c h → RangeTurn c h self.new result }
+        ensures begins { AsksForSome self.old → MatchTurn result (λ _. Unit {0}) (λ _. ⊥) }
+        ensures nothing { AsksForNothing self.old → TellsNone result }
+        ensures same { IsSameRange self.old self.new }
+        ensures nearer { (nodes : ℕ) → IsNearer self.new nodes result (self.old.tries * try_left self.old.most nodes + try_left self.old.most nodes) }
+    {
         self.snaps.clear();
         self.waiting.clear();
         self.taken.clear();
@@ -115,13 +152,19 @@ impl RangeRun {
     }
 
     /// Ends with the pairs that were taken.
-    fn tell(&mut self) -> Turn<Told> {
+    fn tell(&mut self) -> Turn<Told>
+        ensures told { HasTold self.old self.new result }
+    {
         let none = Vec::new(self.alloc);
         Turn::Done(Ok(mem::replace(&mut self.taken, none)))
     }
 
     /// Ends a try that is lost to this SCX-record over this node, and begins the next if there is one.
-    fn lost(&mut self, node: NodeNo, scx: ScxNo) -> Turn<Told> {
+    fn lost(&mut self, node: NodeNo, scx: ScxNo) -> Turn<Told>
+        ensures turn { (c : Call) (h : History) → Goes self.old c h → IsContended c h node.0 scx.0 → RangeTurn c h self.new result }
+        ensures same { IsSameRange self.old self.new }
+        ensures nearer { (nodes : ℕ) → IsNearer self.new nodes result (self.old.tries * try_left self.old.most nodes) }
+    {
         if self.tries == 0 {
             return Turn::Done(Err(Refused::Contended { node, scx }));
         }
@@ -129,12 +172,20 @@ impl RangeRun {
         self.begin()
     }
 
-    fn load_head(&mut self, above: u64, node: NodeNo) -> Turn<Told> {
+    fn load_head(&mut self, above: u64, node: NodeNo) -> Turn<Told>
+        ensures turn { (c : Call) (h : History) → Goes self.old c h → Visits self.old c h node.0 → above < level_at h node.0 → RangeTurn c h self.new result }
+        ensures same { IsSameRange self.old self.new }
+        ensures nearer { (nodes : ℕ) → above + 1 < 2 + nodes → IsNearer self.new nodes result (self.old.tries * try_left self.old.most nodes + (length self.old.snaps.items + 67 * (1 + nodes - above) + leaves_left self.old.leaves nodes)) }
+    {
         self.load(RangeAt::Head { above, node }, node, NodeWord::Head)
     }
 
     /// Goes on with the head of a node. On the right of what is above all keys there is no pair.
-    fn head_on(&mut self, head: Head, node: NodeNo) -> Turn<Told> {
+    fn head_on(&mut self, head: Head, node: NodeNo) -> Turn<Told>
+        ensures turn { (c : Call) (h : History) → Goes self.old c h → IsOwnMoment c h → Visits self.old c h node.0 → head_at h node.0 ≡ head → RangeTurn c h self.new result }
+        ensures same { IsSameRange self.old self.new }
+        ensures nearer { (nodes : ℕ) → HeadFits head nodes → IsNearer self.new nodes result (self.old.tries * try_left self.old.most nodes + (length self.old.snaps.items + 67 * (2 + nodes - head.level) - 1 + leaves_left self.old.leaves nodes)) }
+    {
         if head.class == 0 {
             self.load(RangeAt::Key { head, node }, node, NodeWord::Key)
         } else if head.leaf {
@@ -145,7 +196,11 @@ impl RangeRun {
     }
 
     /// Goes on with the key of a node of class 0.
-    fn key_on(&mut self, head: Head, node: NodeNo, key: u64) -> Turn<Told> {
+    fn key_on(&mut self, head: Head, node: NodeNo, key: u64) -> Turn<Told>
+        ensures turn { (c : Call) (h : History) → Goes self.old c h → IsOwnMoment c h → Visits self.old c h node.0 → HasLowHead h node.0 head → key_at h node.0 ≡ key → RangeTurn c h self.new result }
+        ensures same { IsSameRange self.old self.new }
+        ensures nearer { (nodes : ℕ) → HeadFits head nodes → IsNearer self.new nodes result (self.old.tries * try_left self.old.most nodes + (length self.old.snaps.items + 67 * (2 + nodes - head.level) - 2 + leaves_left self.old.leaves nodes)) }
+    {
         if !head.leaf {
             self.look(head.level, self.low < key, key <= self.high, node)
         } else if self.low > key || key > self.high {
@@ -156,7 +211,11 @@ impl RangeRun {
     }
 
     /// Takes a pair.
-    fn value_on(&mut self, pair: Pair) -> Turn<Told> {
+    fn value_on(&mut self, pair: Pair) -> Turn<Told>
+        ensures turn { (c : Call) (h : History) (n : ℕ) → Goes self.old c h → IsOwnMoment c h → HasKey self.old c h n pair.key → value_at h n ≡ pair.value → RangeTurn c h self.new result }
+        ensures same { IsSameRange self.old self.new }
+        ensures nearer { (nodes : ℕ) → IsNearer self.new nodes result (self.old.tries * try_left self.old.most nodes + (length self.old.snaps.items + leaves_left self.old.leaves nodes)) }
+    {
         if self.taken.push(pair).is_err() {
             return Turn::Done(Err(Refused::NoMemory));
         }
@@ -164,7 +223,11 @@ impl RangeRun {
     }
 
     /// Goes on behind a leaf.
-    fn visited(&mut self) -> Turn<Told> {
+    fn visited(&mut self) -> Turn<Told>
+        ensures turn { (c : Call) (h : History) → Goes self.old c h → GoesBehind self.old c h (self.old.leaves - 1) → RangeTurn c h self.new result }
+        ensures same { IsSameRange self.old self.new }
+        ensures nearer { (nodes : ℕ) → IsNearer self.new nodes result (self.old.tries * try_left self.old.most nodes + (length self.old.snaps.items + leaves_left self.old.leaves nodes)) }
+    {
         self.leaves = self.leaves.saturating_sub(1);
         if self.taken.len() >= self.most {
             return self.validate();
@@ -179,7 +242,11 @@ impl RangeRun {
     }
 
     /// Looks at a fork of this level, to visit these children of it.
-    fn look(&mut self, level: u64, left: bool, right: bool, node: NodeNo) -> Turn<Told> {
+    fn look(&mut self, level: u64, left: bool, right: bool, node: NodeNo) -> Turn<Told>
+        ensures turn { (c : Call) (h : History) → Goes self.old c h → LooksIn self.old c h level left right node.0 → RangeTurn c h self.new result }
+        ensures same { IsSameRange self.old self.new }
+        ensures nearer { (nodes : ℕ) → level + 1 < 2 + nodes → IsNearer self.new nodes result (self.old.tries * try_left self.old.most nodes + (64 + length self.old.snaps.items + 1 + 67 * (1 + nodes - level) + leaves_left self.old.leaves nodes)) }
+    {
         self.look_on(level, left, right, LlxRun::new(node), None)
     }
 
@@ -191,7 +258,11 @@ impl RangeRun {
         right: bool,
         mut llx: LlxRun,
         got: Option<u64>,
-    ) -> Turn<Told> {
+    ) -> Turn<Told>
+        ensures turn { (c : Call) (begin h : History) → Goes self.old c h → LooksIn self.old c h level left right llx.node.0 → Extends begin c.start → LlxIsReady TreeAllows llx (from c begin) h got → RangeTurn c h self.new result }
+        ensures same { IsSameRange self.old self.new }
+        ensures nearer { (nodes : ℕ) → level + 1 < 2 + nodes → IsNearer self.new nodes result (self.old.tries * try_left self.old.most nodes + (llx_left llx.at + length self.old.snaps.items + 1 + 67 * (1 + nodes - level) + leaves_left self.old.leaves nodes)) }
+    {
         match Machine::<Tree>::next(&mut llx, got) {
             Turn::Ask(step) => {
                 self.at = RangeAt::Look {
@@ -209,7 +280,11 @@ impl RangeRun {
     }
 
     /// Keeps a snapshot, and goes on to the children that are to be visited.
-    fn looked(&mut self, level: u64, left: bool, right: bool, snap: Snap) -> Turn<Told> {
+    fn looked(&mut self, level: u64, left: bool, right: bool, snap: Snap) -> Turn<Told>
+        ensures turn { (c : Call) (h : History) → Goes self.old c h → LooksIn self.old c h level left right snap.node.0 → IsSnapshot c.layout h snap.node.0 snap → RangeTurn c h self.new result }
+        ensures same { IsSameRange self.old self.new }
+        ensures nearer { (nodes : ℕ) → level + 1 < 2 + nodes → IsNearer self.new nodes result (self.old.tries * try_left self.old.most nodes + (length self.old.snaps.items + 1 + 67 * (1 + nodes - level) + leaves_left self.old.leaves nodes)) }
+    {
         if self.snaps.push(snap).is_err() {
             return Turn::Done(Err(Refused::NoMemory));
         }
@@ -226,12 +301,20 @@ impl RangeRun {
     }
 
     /// Looks whether all nodes are still as they were found.
-    fn validate(&mut self) -> Turn<Told> {
+    fn validate(&mut self) -> Turn<Told>
+        ensures turn { (c : Call) (h : History) → Goes self.old c h → IsOwnMoment c h → 0 < length self.old.snaps.items → Whenever c.layout h self.old.snaps.items (λ b. IsRangeAt c.layout b (bounds_of self.old) self.old.taken.items) → RangeTurn c h self.new result }
+        ensures same { IsSameRange self.old self.new }
+        ensures nearer { (nodes : ℕ) → IsNearer self.new nodes result (self.old.tries * try_left self.old.most nodes + length self.old.snaps.items) }
+    {
         self.validate_on(0, None)
     }
 
     /// Goes on with what the last step of the VLX found.
-    fn validate_on(&mut self, asked: usize, got: Option<u64>) -> Turn<Told> {
+    fn validate_on(&mut self, asked: usize, got: Option<u64>) -> Turn<Told>
+        ensures turn { (c : Call) (begin h : History) → Goes self.old c h → Validates self.old c h begin → VlxIsReady self.old.snaps.items asked (from c begin) h got → RangeTurn c h self.new result }
+        ensures same { IsSameRange self.old self.new }
+        ensures nearer { (nodes : ℕ) → IsNearer self.new nodes result (self.old.tries * try_left self.old.most nodes + vlx_left self.old.snaps.items asked) }
+    {
         let mut vlx = VlxRun {
             snaps: self.snaps.as_slice(),
             asked,
@@ -248,8 +331,15 @@ impl RangeRun {
         }
     }
 
-    /// Goes on with what the last step found; with nothing at the first call.
-    pub fn step(&mut self, got: Option<u64>) -> Turn<Told> {
+    /// Goes on with what the last step found; with nothing at the first call, which asks for a step
+    /// if there is something to be told, and else ends.
+    pub fn step(&mut self, got: Option<u64>) -> Turn<Told>
+        ensures turn { (c : Call) (h : History) → RangeIsReady self.old c h got → RangeTurn c h self.new result }
+        ensures begins { got ≡ None → AsksForSome self.old → (c : Call) (h : History) → RangeIsReady self.old c h None → MatchTurn result (λ _. Unit {0}) (λ _. ⊥) }
+        ensures nothing { self.old.at ≡ RangeAt.Start → AsksForNothing self.old → TellsNone result }
+        ensures same { IsSameRange self.old self.new }
+        ensures nearer { (nodes : ℕ) → RangeFits self.old got nodes → IsNearer self.new nodes result (range_left self.old nodes) }
+    {
         let value = got.unwrap_or(0);
         match self.at {
             RangeAt::Start => self.begin(),
@@ -266,4 +356,38 @@ impl RangeRun {
             RangeAt::Validate { asked } => self.validate_on(asked, got),
         }
     }
+}
+
+impl Machine<Tree> for RangeRun {
+    type Answer = Result<Vec<Pair>, Refused>;
+
+    ghost use Rattle.order.specs.Range.Steps.{range_left, RangeFits};
+    ghost use Rattle.order.specs.Range.Known.{IsSameRange, AsksForSome, RangeIsReady, RangeWaits, RangeAnswers};
+    ghost use Rattle.order.specs.Range.Laws.{range_keeps, range_lawful, range_made, range_told};
+
+    ghost ready = { RangeIsReady };
+
+    ghost waits = { RangeWaits };
+
+    ghost answers = { RangeAnswers };
+
+    ghost same = { IsSameRange };
+
+    ghost left = { range_left };
+
+    ghost fits = { RangeFits };
+
+    ghost asks_first = { AsksForSome };
+
+    fn next(&mut self, got: Option<u64>) -> Turn<Told> {
+        self.step(got)
+    }
+
+    ghost keeps = { range_keeps };
+
+    ghost lawful = { range_lawful };
+
+    ghost made = { range_made };
+
+    ghost told = { range_told };
 }
