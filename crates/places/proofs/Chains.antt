@@ -54,10 +54,10 @@ same_branch : (b : Bool) (v : Option ℕ) → cond b v v ≡ v
 same_branch true v = refl
 same_branch false v = refl
 
-cases_lt_le : (a b : ℕ) → (a < b) ⊎ (b ≤ a)
+pub cases_lt_le : (a b : ℕ) → (a < b) ⊎ (b ≤ a)
 cases_lt_le a b = elim (cases_order a b) [ inl q ↦ inr (omega (q, arith)) | inr (inl q) ↦ inl q | inr (inr q) ↦ inr (omega (q, arith)) ]
 
-gt_leb : (a b : ℕ) → b < a → leb a b ≡ false
+pub gt_leb : (a b : ℕ) → b < a → leb a b ≡ false
 gt_leb a b i = go (leb a b) refl
   where
     go : (d : Bool) → leb a b ≡ d → d ≡ false
@@ -170,7 +170,7 @@ look_here key value first last until i places place e x = record {
 value_here : (key m : ℕ) (c : Change) (cs : List Change) → c.key ≡ key → c.turn ≤ m → value_at key m (c ∷ cs) ≡ c.value
 value_here key m c cs e i = rw (e, le-leb c.turn m i, eq-eqb key key refl) refl
 
-value_before : (key m : ℕ) (c : Change) (cs : List Change) → m < c.turn → value_at key m (c ∷ cs) ≡ value_at key m cs
+pub value_before : (key m : ℕ) (c : Change) (cs : List Change) → m < c.turn → value_at key m (c ∷ cs) ≡ value_at key m cs
 value_before key m c cs i = rw (gt_leb c.turn m i) refl
 
 -- it has the value sought

@@ -1,3 +1,5 @@
 -- The lemmas of this crate that the layers above may cite.
-pub use Rattle.places.proofs.Readings.{IsFoundFor, get_placed, absent_placed}
+pub use Rattle.places.proofs.Turns.{IsAnsweredIn, map_now, answer_turn, had_turn, IsRepliedIn, replied_turn}
+pub use Rattle.places.proofs.Readings.{IsFoundFor, get_turn, get_placed, absent_turn, absent_placed, ordered_placed, nothing_taken}
+pub use Rattle.places.proofs.Falls.{falls}
 pub use Rattle.places.proofs.Spelled.{spelled, are_spelled}

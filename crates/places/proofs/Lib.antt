@@ -1,5 +1,10 @@
 mod Values
 mod Chains
+mod Counts
+mod Told
+mod Weights
+mod OrderedReads
+mod Falls
 mod Keys
 mod Turns
 mod Readings

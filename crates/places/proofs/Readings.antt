@@ -1,12 +1,14 @@
 -- A call that has answered and changed nothing took place in a turn of its own that `greatest`
 -- finds.
-use Rattle.std.proofs.Common.{◌≡◌, ◌≢◌, ℕ, ◌≤◌, ⊎_elim, false, List, Option, Some, None, IfSome, refl, sym, ap, subst}
+use Rattle.std.proofs.Common.{◌≡◌, ◌≢◌, ℕ, zero, suc, ◌<◌, ◌≤◌, inl, inr, ⊎_elim, false, leb, List, [], ◌∷◌, take, arith, Option, Some, None, IfSome, refl, sym, ap, subst}
 use Rattle.std.specs.Prelude.{IfNone}
+use Rattle.std.proofs.lemmas.Bool.{cases_lt, lt-leb, and_right}
 use Rattle.arena.specs.declared.layout.Layout.{Layout}
 use Rattle.arena.specs.declared.step.Kind.{Kind}
 use Rattle.spelling.specs.declared.pair.Pair.{Pair}
-use Rattle.spelling.specs.OrderedMap.{MapCall, Edit, Delete, OneValue, Get, get, reply}
+use Rattle.spelling.specs.OrderedMap.{MapCall, Edit, Delete, OneValue, ManyPairs, Get, Range, get, between, reply}
 use Rattle.spelling.specs.Paths.{IsAnswerAt}
+use Rattle.record.specs.Rules.Range.{TakesNothing}
 use Rattle.script.specs.declared.command.Call.{Call}
 use Rattle.script.specs.declared.command.Command.TheVariants.{Delete as DeleteOf, Get as GetOf}
 use Rattle.record.specs.declared.record.Line.{Line}
@@ -71,3 +73,30 @@ absent_turn lay tries calls lines c key first a x owed is e had = had_turn lay t
 -- so one that stands there is a reading too
 pub absent_placed : (lay : Layout) (tries : ℕ) (calls : List Call) (lines : List Line) (r : Reply) (key : ℕ) → AreLines lay tries calls lines → AreSpelled lay calls lines → entry_owed lay lines ≡ None → next_command calls lines r.client.0 ≡ Some (DeleteOf key) → won lay lines r.client.0 ≡ None → r.call ≡ answered lines r.client.0 → begin lines r.client.0 ≡ Some r.begin → r.end ≡ turns lines → r.answer ≡ Value None → HadAtKey lay (history lay.mode lines) (start lay.mode lines r.client.0) key None → IsFoundFor calls lines key None r.begin r.end r.moment → IsReading calls lines (Edit (Delete key)) r
 absent_placed lay tries calls lines r key a x owed is unwon number e end told had found = reading_placed lay tries calls lines r (Edit (Delete key)) key None (λ m. refl) a unwon number end told (absent_turn lay tries calls lines r.client.0 key r.begin a x owed is e had) found
+
+-- An ordered read
+
+-- a call that stands at the greatest turn after which the map replies what it has told is a reading
+pub ordered_placed : (lay : Layout) (tries : ℕ) (calls : List Call) (lines : List Line) (r : Reply) (call : MapCall) (turn : ℕ) → AreLines lay tries calls lines → won lay lines r.client.0 ≡ None → r.call ≡ answered lines r.client.0 → r.moment ≡ Some turn → IsGreatestTurn (λ m. reply_told r.answer ≡ Some (reply call (map_at calls lines m))) r.begin r.end turn → IsReading calls lines call r
+ordered_placed lay tries calls lines r call turn a unwon number moment greatest = record {
+  none = subst (λ (n : ℕ). entries_of_call r.client.0 n (written_log lines) ≡ 0) (sym number) (entries_none lay tries calls lines a r.client.0 unwon);
+  turn = turn;
+  moment = moment;
+  greatest = greatest;
+}
+
+-- what a range tells that takes nothing
+none_between : (low high : ℕ) (m : List Pair) → high < low → between low high m ≡ []
+none_between low high [] i = refl
+none_between low high (p ∷ ps) i = elim (cases_lt high p.key) [
+  | inl q ↦ rw (lt-leb p.key high q, and_right (leb low p.key) false refl) (none_between low high ps i)
+  | inr q ↦ rw (lt-leb low p.key (omega (q, i, arith))) (none_between low high ps i)
+]
+
+pub nothing_taken : (low high most : ℕ) (m : List Pair) → TakesNothing low high most → reply (Range low high most) m ≡ ManyPairs []
+nothing_taken low high most m (inl none) = rw none refl
+nothing_taken low high most m (inr empty) = rw (none_between low high m empty) (ap ManyPairs (none_taken most))
+  where
+    none_taken : (n : ℕ) → take n (let ps : List Pair = [] in ps) ≡ []
+    none_taken zero = refl
+    none_taken (suc n) = refl

@@ -18,7 +18,7 @@ use Rattle.spelling.specs.Spelled.{Spells}
 use Rattle.spelling.proofs.Lemmas.{makes_since, opening_spells, quiet_spells, rising_levels, run_since, win_makes}
 use Rattle.script.specs.declared.command.Call.{Call}
 use Rattle.script.specs.declared.command.Command.{Command}
-use Rattle.script.specs.declared.command.Command.TheVariants.{Llx, Scx, Vlx, Set, Insert as InsertOf, Delete as DeleteOf, Get as GetOf}
+use Rattle.script.specs.declared.command.Command.TheVariants.{Llx, Scx, Vlx, Set, Insert as InsertOf, Delete as DeleteOf, Get as GetOf, Successor as SuccessorOf, Range as RangeOf}
 use Rattle.record.specs.declared.record.Line.{Line}
 use Rattle.record.specs.declared.record.Line.TheVariants.{Step, Log, Reply as ReplyLine}
 use Rattle.record.specs.declared.record.Row.TheVariants.{Step as Made, Idle}
@@ -69,6 +69,8 @@ module _ (lay : Layout) (tries : ℕ) (calls : List Call) (mode : lay.mode ≡ T
       go (InsertOf key v) is does = rw (call_is (InsertOf key v) is) (edits (Insert key v) does)
       go (DeleteOf key) is does = rw (call_is (DeleteOf key) is) (edits (Delete key) does)
       go (GetOf key) is does = absurd does
+      go (SuccessorOf key) is does = absurd does
+      go (RangeOf span) is does = absurd does
       go (Llx cell) is does = absurd (other (Llx cell) is refl)
       go (Scx update) is does = absurd (other (Scx update) is refl)
       go (Vlx cells) is does = absurd (other (Vlx cells) is refl)

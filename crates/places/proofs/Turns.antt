@@ -9,7 +9,7 @@ use Rattle.arena.specs.declared.step.Row.{Row as StepRow}
 use Rattle.arena.specs.History.{History, Start, ◌⊳◌, value, Extends}
 use Rattle.arena.proofs.Lemmas.{ends_self, ends_trans, same_moment}
 use Rattle.spelling.specs.declared.pair.Pair.{Pair}
-use Rattle.spelling.specs.OrderedMap.{get}
+use Rattle.spelling.specs.OrderedMap.{MapCall, MapReply, get, reply}
 use Rattle.spelling.specs.Spelled.{Spells}
 use Rattle.spelling.specs.Paths.{IsAnswerAt}
 use Rattle.spelling.proofs.Lemmas.{one_spelling}
@@ -29,6 +29,7 @@ use Rattle.record.specs.MapRecord.{written_log, entries_until, map_of, map_at}
 use Rattle.record.specs.SpelledMap.{AreSpelled, IsSpelledAfter}
 use Rattle.record.specs.LawfulRun.{AreLines}
 use Rattle.record.proofs.Lemmas.{start_unbegun, begin_within, log_step}
+use Rattle.places.specs.Replied.{HasReplied}
 
 -- The map after the newest turn
 
@@ -86,6 +87,10 @@ after_log calls lines row e first ps s x = record { turn = x.turn; from = x.from
 -- the map gives this of the key after one of the turns from the turn `first` on
 abbrev pub IsAnsweredIn : List Call → List Line → ℕ → Option ℕ → ℕ → Type 0
 IsAnsweredIn calls lines key answer first = (m : ℕ) × (first ≤ m) × (m ≤ turns lines) × (get key (map_at calls lines m) ≡ answer)
+
+-- the map replies this after one of the turns from the turn `first` on
+abbrev pub IsRepliedIn : List Call → List Line → MapCall → MapReply → ℕ → Type 0
+IsRepliedIn calls lines call told first = (m : ℕ) × (first ≤ m) × (m ≤ turns lines) × (reply call (map_at calls lines m) ≡ told)
 
 -- an update that has won was made by a step of that kind
 is_won_update : (lay : Layout) (lines : List Line) (n : ℕ) (row : StepRow) (e : Entry) → entry_of lay lines n row ≡ Some e → is_update row.kind ≡ false → ⊥
@@ -190,3 +195,10 @@ module _ (lay : Layout) (tries : ℕ) (calls : List Call) (c : ℕ) (command : C
     where
       whole : IsAnswerAt lay (history lay.mode lines) (start lay.mode lines c) key answer
       whole = record { moment = at.moment; within = at.within; since = ends_trans at.moment (row ⊳ before) (start lay.mode lines c) at.since (inr since); map = at.map; spelled = at.spelled; gives = at.gives }
+
+  -- so there is a turn of an ordered read after which the map replies what it has told
+  pub replied_turn : (lines : List Line) (call : MapCall) (told : MapReply) (first : ℕ) → AreLines lay tries calls lines → AreSpelled lay calls lines → entry_owed lay lines ≡ None → next_command calls lines c ≡ Some command → begin lines c ≡ Some first → HasReplied lay (history lay.mode lines) (start lay.mode lines c) call told → IsRepliedIn calls lines call told first
+  replied_turn lines call told first a x owed is e h =
+      let since = ends_trans h.moment (h.row ⊳ h.before) (start lay.mode lines c) h.behind (inr h.since) in
+      let y = moments lines a x owed h.moment h.map first is e h.within (since, λ same. absurd (never_behind h.before h.row (ends_trans h.before (start lay.mode lines c) (h.row ⊳ h.before) h.since (subst (λ (k : History). Extends k (h.row ⊳ h.before)) same h.behind)))) h.spelled in
+      (y.turn, y.from, y.to, ap (reply call) (sym y.is) ∙ h.replies)

@@ -39,7 +39,7 @@ value_more calls e es c cs m x older true =
 value_more calls e es c cs m x older false = older
 
 -- the map of the entries up to a turn gives the values of the changes up to then
-values : (calls : List Call) (es : List Entry) (cs : List Change) (m : ℕ) → AreChangesOf calls es cs → IsRising (map_of calls (entries_until m es)) × ((key : ℕ) → get key (map_of calls (entries_until m es)) ≡ value_at key m cs)
+pub values : (calls : List Call) (es : List Entry) (cs : List Change) (m : ℕ) → AreChangesOf calls es cs → IsRising (map_of calls (entries_until m es)) × ((key : ℕ) → get key (map_of calls (entries_until m es)) ≡ value_at key m cs)
 values calls [] [] m x = (tt, λ key. refl)
 values calls [] (c ∷ cs) m x = absurd x
 values calls (e ∷ es) [] m x = absurd x

@@ -2,3 +2,5 @@ pub mod Links
 pub mod Changed
 pub mod Places
 pub mod Entries
+pub mod Ordered
+pub mod Replied

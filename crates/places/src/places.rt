@@ -5,8 +5,11 @@ ghost use Rattle.std.specs.BTreeMap.{get as get_newest};
 ghost use Rattle.places.specs.Links.{latest, AreLinked};
 
 use crate::changed::changed_key;
+use crate::ordered::{is_unlike, next_best};
 use arena::NoMemory;
-use script::Call;
+use record::Answer;
+use script::{Call, Command};
+use spelling::Pair;
 use std::alloc::Global;
 use std::collections::BTreeMap;
 
@@ -35,12 +38,16 @@ pub struct Places {
 }
 
 impl Places {
-    ghost use Rattle.std.specs.Prelude.{◌≡◌, ◌≢◌, ℕ, ◌+◌, ◌≤◌, List, [], ◌∷◌, IfOk, IfSome, IfNone, OnOk, All};
+    ghost use Rattle.std.specs.Prelude.{◌≡◌, ◌≢◌, ℕ, suc, ◌+◌, ◌≤◌, List, [], ◌∷◌, ◌++◌, Some, map, reverse, IfOk, IfSome, IfNone, OnOk, All};
     ghost use Rattle.script.specs.declared.command.Call.{Call};
     ghost use Rattle.record.specs.declared.record.Line.{Line};
     ghost use Rattle.record.specs.MapRecord.{map_at};
     ghost use Rattle.record.specs.Placed.{IsGreatestTurn};
-    ghost use Rattle.spelling.specs.OrderedMap.{get};
+    ghost use Rattle.spelling.specs.OrderedMap.{MapCall, get, reply};
+    ghost use Rattle.record.specs.MapRecord.{map_call, reply_told};
+    ghost use Rattle.places.specs.Ordered.{IsOrderedRead, FallFrom, pairs_read};
+    ghost use Rattle.places.specs.Links.{newest_value};
+    ghost use Rattle.places.specs.declared.places.Place.{Place};
     ghost use Rattle.places.specs.Places.{changes, room, Knows, HoldsOfKey};
     ghost use Rattle.places.specs.Entries.{AreEntries};
 
@@ -108,6 +115,50 @@ impl Places {
             at = place.before;
         }
         if value.is_none() { Some(until) } else { None }
+    }
+
+    /// The greatest turn from `first` to `last` after which the map replies to an ordered read what
+    /// this answer tells, if there is one.
+    pub fn greatest_of(&self, command: &Command, answer: &Answer, first: u64, last: u64) -> u64
+        ensures within { first ≤ last → FallFrom (suc last) (changes self.now) → (first ≤ result) × (result ≤ last) }
+        ensures greatest { (calls : List Call) (lines : List Line) (call : MapCall) (n : ℕ) → AreEntries calls lines (changes self.now) → FallFrom (suc last) (changes self.now) → IsOrderedRead command.now → map_call (Some command.now) ≡ Some call → first ≤ n → n ≤ last → reply_told answer.now ≡ Some (reply call (map_at calls lines n)) → IsGreatestTurn (λ m. reply_told answer.now ≡ Some (reply call (map_at calls lines m))) first last result }
+    {
+        match answer {
+            Answer::Pair(pair) => self.greatest_told(command, &[*pair], first, last),
+            Answer::Pairs(pairs) => self.greatest_told(command, pairs.as_slice(), first, last),
+            _ => self.greatest_told(command, &[], first, last),
+        }
+    }
+
+    /// The same by the pairs that are told: the best turn, after which the fewest keys are not as
+    /// told, and of these the greatest. It goes back from change to change.
+    fn greatest_told(&self, command: &Command, pairs: &[Pair], first: u64, last: u64) -> u64
+        ensures within { first ≤ last → FallFrom (suc last) (changes self.now) → (first ≤ result) × (result ≤ last) }
+        ensures greatest { (calls : List Call) (lines : List Line) (n : ℕ) → AreEntries calls lines (changes self.now) → FallFrom (suc last) (changes self.now) → first ≤ n → n ≤ last → pairs_read command.now (map_at calls lines n) ≡ pairs.now → IsGreatestTurn (λ m. pairs_read command.now (map_at calls lines m) ≡ pairs.now) first last result }
+    {
+        let mut best = last;
+        let mut more = 0;
+        let mut left = self.list.len();
+        while left > 0 {
+            let place = self.list[left - 1];
+            if place.change.turn <= first {
+                return best;
+            }
+            let Change { turn, key, value } = place.change;
+            let was = is_unlike(command, pairs, key, self.value_at(place.before));
+            let is = is_unlike(command, pairs, key, value);
+            (best, more) = next_best(was, is, turn - 1, best, more);
+            left -= 1;
+        }
+        best
+    }
+
+    /// The value that the change at a place has left to its key; none where there is no place.
+    fn value_at(&self, at: Option<usize>) -> Option<u64>
+        ensures { (key : ℕ) (newer older : List Place) → reverse self.now.list.items ≡ newer ++ older → at ≡ latest key older → result ≡ newest_value key (map (λ (q : Place). q.change) older) }
+    {
+        let place = self.list.get(at?)?;
+        place.change.value
     }
 
     /// Where the newest change of a key stands.

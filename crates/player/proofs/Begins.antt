@@ -1,5 +1,5 @@
 -- What calls need to begin.
-use Rattle.std.proofs.Common.{◌≡◌, ◌≢◌, ℕ, suc, ◌+◌, ◌^◌, ◌<◌, ◌≤◌, inl, List, Option, Some, None, refl, sym, ◌∙◌, ap, subst, arith, length, zero, [], ◌∷◌, ◌⊎◌, ⊎_elim, slice_index_or, slice_get, get_or, unwrap_or, nat_lt, map, AllPairs, Contains, MatchOption, Bool, true, false, All}
+use Rattle.std.proofs.Common.{Vec, ◌≡◌, ◌≢◌, ℕ, suc, ◌+◌, ◌^◌, ◌<◌, ◌≤◌, inl, List, Option, Some, None, refl, sym, ◌∙◌, ap, subst, arith, length, zero, [], ◌∷◌, ◌⊎◌, ⊎_elim, slice_index_or, slice_get, get_or, unwrap_or, nat_lt, map, AllPairs, Contains, MatchOption, Bool, true, false, All}
 use Rattle.tree.specs.declared.get.GetRun.{GetRun}
 use Rattle.tree.specs.Get.Known.{GetIsReady}
 use Rattle.script.specs.Commands.{mode_of}
@@ -33,11 +33,11 @@ use Rattle.prims.specs.declared.llx.LlxRun.{LlxRun}
 use Rattle.prims.specs.declared.llx.LlxAt.TheVariants.{Start}
 use Rattle.prims.specs.declared.vlx.VlxRun.{VlxRun}
 use Rattle.script.specs.declared.command.Command.{Command}
-use Rattle.script.specs.declared.command.Command.TheVariants.{Llx as LlxCommand, Vlx as VlxCommand, Scx as ScxCommand, Set as SetCommand, Insert as InsertCommand, Delete as DeleteCommand, Get as GetCommand}
+use Rattle.script.specs.declared.command.Command.TheVariants.{Llx as LlxCommand, Vlx as VlxCommand, Scx as ScxCommand, Set as SetCommand, Insert as InsertCommand, Delete as DeleteCommand, Get as GetCommand, Successor as SuccessorCommand, Range as RangeCommand}
 use Rattle.player.specs.EditRuns.{EditIsReady, HasSpentOf, IsUnbegunEdit, call_of, edit_command, edit_left, edit_of, edit_steps, share_of}
 use Rattle.player.specs.declared.edit.EditRun.{EditRun}
 use Rattle.player.specs.declared.edit.EditRun.TheVariants.{Insert, Delete}
-use Rattle.player.specs.declared.run.Run.TheVariants.{Llx, Vlx, Edit, Get}
+use Rattle.player.specs.declared.run.Run.TheVariants.{Llx, Vlx, Edit, Get, Read}
 use Rattle.player.specs.declared.client.Client.{Client}
 use Rattle.player.specs.declared.client.Put.{Put}
 use Rattle.record.specs.declared.record.Answer.{Answer}
@@ -62,6 +62,20 @@ use Rattle.player.specs.declared.client.NextAction.TheVariants.{Finished, Answer
 use Rattle.script.specs.declared.command.Call.{Call}
 use Rattle.std.proofs.lemmas.Option.{slice_get_read, slice_get_within, get_or_from_slice_get}
 use Rattle.player.proofs.Commands.{next_at}
+use Rattle.prims.specs.Laws.Idle.{quiet_at_start}
+use Rattle.order.specs.Reads.{Reads}
+use Rattle.order.specs.declared.range.RangeRun.{RangeRun}
+use Rattle.order.specs.declared.range.RangeAt.TheVariants.{Start as RangeStart}
+use Rattle.order.specs.declared.successor.SuccessorRun.{SuccessorRun}
+use Rattle.order.specs.declared.successor.SuccessorAt.TheVariants.{Start as NextStart}
+use Rattle.script.specs.declared.command.Span.{Span}
+use Rattle.spelling.specs.declared.pair.Pair.{Pair as PairOf}
+use Rattle.std.specs.Global.{Global}
+use Rattle.record.specs.declared.record.Answer.TheVariants.{Pairs}
+use Rattle.record.specs.Rules.Range.{TakesNothing}
+use Rattle.player.specs.ReadRuns.{HasReadTries, IsReadBy, ReadIsReady, read_left}
+use Rattle.player.specs.declared.read.ReadRun.{ReadRun}
+use Rattle.player.specs.declared.read.ReadRun.TheVariants.{Successor as NextOf, Range as PairsOf}
 
 none_late : (won : Option ℕ) (turn begin : ℕ) → won ≡ None → won ≡ Some turn → begin ≤ turn
 none_late won turn begin e d = cc
@@ -81,6 +95,8 @@ llx_few tries (VlxCommand cells) n then f taken = absurd f
 llx_few tries (InsertCommand key value) n then f taken = absurd f
 llx_few tries (DeleteCommand key) n then f taken = absurd f
 llx_few tries (GetCommand key) n then f taken = absurd f
+llx_few tries (SuccessorCommand key) n then f taken = absurd f
+llx_few tries (RangeCommand span) n then f taken = absurd f
 
 -- an LLX of a cell
 pub llx_starts : (v : ClientView) (began : Option ℕ) (c : Client) (m : LlxRun) (then : Option Put) (command : Command) → IsSound v → v.layout.mode ≡ Records → Rests v c → IsUnbegun v began → m.at ≡ Start → m.node.0 ≤ 8 → command_of v c ≡ Some command → IsLlxOf command m.node.0 then → Starts v c (Llx m) then
@@ -113,6 +129,45 @@ get_starts v began c m key sound mode r u at start ready is = record {
   ready = ready;
   tries = tt;
   few = λ taken i. rw (u.steps, start) (omega arith);
+}
+
+-- what an ordered read knows as its call begins
+read_begins : (v : ClientView) (c : Client) (snaps : List Snap) → IsSound v → v.layout.mode ≡ Tree → (r : Rests v c) → snaps ≡ [] → Reads (machine_call v c r.stands.is_pass v.past) v.past snaps
+read_begins v c snaps sound mode r none = rw none (record {
+  run = (mode, as_tree v.layout v.past mode sound);
+  since = ends_self v.past;
+  over = all_over v.layout v.past c.pass.0 (held c) _ _ r.holds.share r.holds.over;
+  quiet = quiet_at_start v.layout c.pass.0 v.past (all_idle v.layout v.past c.pass.0 (held c) _ _ sound.lawful r.holds.share r.holds.over);
+  snapped = λ i p. absurd (omega (p, arith));
+})
+
+pub successor_ready : (v : ClientView) (c : Client) (m : SuccessorRun) → IsSound v → v.layout.mode ≡ Tree → (r : Rests v c) → m.key < 2 ^ 64 → m.snaps.items ≡ [] → m.at ≡ NextStart → ReadIsReady (NextOf m) (machine_call v c r.stands.is_pass v.past) v.past None
+successor_ready v c m sound mode r small none start = (record { reads = read_begins v c m.snaps.items sound mode r none; small = small }, start)
+
+pub range_ready : (v : ClientView) (c : Client) (m : RangeRun) → IsSound v → v.layout.mode ≡ Tree → (r : Rests v c) → m.high < 2 ^ 64 → m.most ≤ 64 → m.snaps.items ≡ [] → m.at ≡ RangeStart → ¬ TakesNothing m.low m.high m.most → ReadIsReady (PairsOf m) (machine_call v c r.stands.is_pass v.past) v.past None
+range_ready v c m sound mode r small few none start takes = ((record { reads = read_begins v c m.snaps.items sound mode r none; small = small; few = few }, start), takes)
+
+-- an ordered read from its start
+pub read_starts : (v : ClientView) (began : Option ℕ) (c : Client) (m : ReadRun) (command : Command) → IsSound v → v.layout.mode ≡ Tree → (r : Rests v c) → IsUnbegun v began → IsReadBy m command → ReadIsReady m (machine_call v c r.stands.is_pass v.past) v.past None → HasReadTries m v.tries → ((taken : ℕ) → read_left m taken ≤ most_steps command v.tries taken) → command_of v c ≡ Some command → Starts v c (Read m) None
+read_starts v began c m command sound mode r u of ready tries left is = record {
+  works = record { mode = mode; stands = r.stands; holds = r.holds; newest = tt; command = command; is = is; run_of = (of, refl); is_pass = r.stands.is_pass; start = v.past; since = ends_self v.past; begun = sym u.start; moments = λ j p. absurd (omega arith); alone = λ j p. absurd (omega arith); room = tt; opening = held c; took = taken_none v c.pass.0 (no_hand (held c)) u.start; won = u.won; late = λ turn e. none_late v.won turn c.begin u.won e };
+  none = r.none;
+  spent = tt;
+  ready = ready;
+  tries = tries;
+  few = λ taken i. let few = left taken in let steps = u.steps in omega (steps, few, arith);
+}
+
+-- a range that takes nothing answers so at once
+pub range_refuses : (v : ClientView) (began : Option ℕ) (c : Client) (span : Span) (found : Vec PairOf Global) → Rests v c → IsUnbegun v began → command_of v c ≡ Some (RangeCommand span) → TakesNothing span.low span.high span.most → found.items ≡ [] → Refuses v c (Pairs found)
+range_refuses v began c span found r u is nothing none = record {
+  rests = r;
+  command = RangeCommand span;
+  is = is;
+  refusal = (nothing, none);
+  right = tt;
+  unwon = u.won;
+  took = taken_nothing v c.pass.0 (held c) 0 0 r.holds.share (taken_none v c.pass.0 (no_hand (held c)) u.start);
 }
 
 -- the machine of an edit at its start has taken nothing

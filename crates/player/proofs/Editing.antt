@@ -41,15 +41,16 @@ use Rattle.updates.specs.declared.update.UpdateAt.{UpdateAt}
 use Rattle.updates.specs.declared.update.UpdateAt.TheVariants.{Start, Walk, Look, Load, Fill, Scx}
 use Rattle.updates.specs.declared.update.UpdateRun.{UpdateRun}
 use Rattle.script.specs.declared.command.Command.{Command}
-use Rattle.script.specs.declared.command.Command.TheVariants.{Llx as LlxOf, Scx as ScxOf, Vlx as VlxOf, Set as SetOf, Insert as InsertOf, Delete as DeleteOf, Get as GetOf}
+use Rattle.script.specs.declared.command.Command.TheVariants.{Llx as LlxOf, Scx as ScxOf, Vlx as VlxOf, Set as SetOf, Insert as InsertOf, Delete as DeleteOf, Get as GetOf, Successor as SuccessorOf, Range as RangeOf}
 use Rattle.player.specs.declared.client.Put.{Put}
 use Rattle.player.specs.EditRuns.{EditWaits, edit_of, call_of}
 use Rattle.player.specs.declared.edit.EditRun.{EditRun}
 use Rattle.player.specs.declared.edit.EditRun.TheVariants.{Insert, Delete}
 use Rattle.player.specs.declared.run.Run.{Run}
-use Rattle.player.specs.declared.run.Run.TheVariants.{Llx, Scx as ScxRun, Vlx, Edit, Get}
+use Rattle.player.specs.declared.run.Run.TheVariants.{Llx, Scx as ScxRun, Vlx, Edit, Get, Read}
 use Rattle.player.specs.RunKnown.{RunWaits}
 use Rattle.player.specs.ClientView.{IsMachineOf, IsScxOf}
+use Rattle.player.proofs.ReadMachines.{read_fills_not}
 
 -- The SCX-record in hand
 
@@ -147,11 +148,14 @@ put_called (VlxOf cells) number m then x = absurd x
 put_called (InsertOf key value) number m then x = absurd x
 put_called (DeleteOf key) number m then x = absurd x
 put_called (GetOf key) number m then x = absurd x
+put_called (SuccessorOf key) number m then x = absurd x
+put_called (RangeOf span) number m then x = absurd x
 
 -- a machine that fills the word `call` stores there the number of the client's call
 pub run_says : (command : Command) (number : ℕ) (run : Run) (then : Option Put) (call : MachineCall) (h : History) (s : Step) (t v : ℕ) → IsMachineOf command number run then → RunWaits run call h s → s.kind ≡ FillKind → s.word ≡ scx_word t CallWord → word_after s.access v ≡ number
 run_says command number (Llx m) then call h s t v of w kind word = absurd (llx_fills_not AllowsAll m call h s w kind)
 run_says command number (Vlx m) then call h s t v of w kind word = absurd (vlx_fills_not m.snaps m.asked call h s w kind)
 run_says command number (Get m) then call h s t v of w kind word = absurd (get_fills_not m call h s w kind)
+run_says command number (Read m) then call h s t v of w kind word = absurd (read_fills_not m call h s w kind)
 run_says command number (ScxRun m) then call h s t v of w kind word = put_says_at m call h s t v m.at w kind word ∙ put_called command number m then of
 run_says command number (Edit m) then call h s t v of w kind word = edit_says m call h s t v w kind word ∙ of.1.called

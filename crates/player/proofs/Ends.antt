@@ -32,11 +32,11 @@ use Rattle.prims.specs.declared.llx.Llx.TheVariants.{Snapshot as LlxSnapshot, Fi
 use Rattle.prims.specs.declared.scx.Scx.TheVariants.{Done as ScxDone, Lost as ScxLost}
 use Rattle.prims.specs.declared.vlx.Vlx.TheVariants.{Same as VlxSame, Changed as VlxChanged}
 use Rattle.script.specs.declared.command.Command.{Command}
-use Rattle.script.specs.declared.command.Command.TheVariants.{Llx as LlxOf, Scx as ScxOf, Vlx as VlxOf, Set as SetOf, Insert as InsertOf, Delete as DeleteOf, Get as GetOf}
+use Rattle.script.specs.declared.command.Command.TheVariants.{Llx as LlxOf, Scx as ScxOf, Vlx as VlxOf, Set as SetOf, Insert as InsertOf, Delete as DeleteOf, Get as GetOf, Successor as SuccessorOf, Range as RangeOf}
 use Rattle.script.specs.Cells.{cells_of}
 use Rattle.script.specs.Update.{update_cells}
 use Rattle.player.specs.declared.run.Run.{Run}
-use Rattle.player.specs.declared.run.Run.TheVariants.{Llx, Scx, Vlx, Edit, Get}
+use Rattle.player.specs.declared.run.Run.TheVariants.{Llx, Scx, Vlx, Edit, Get, Read}
 use Rattle.player.specs.declared.run.Ended.{Ended}
 use Rattle.player.specs.declared.run.Ended.TheVariants as ended
 use Rattle.player.specs.declared.client.Client.{Client}
@@ -63,6 +63,10 @@ use Rattle.player.specs.ClientView.{ClientView, IsSound, IsLlxOf, IsScxOf, IsVlx
 use Rattle.player.proofs.Puts.{put_committed, put_aborted}
 use Rattle.player.proofs.Snapshots.{has_snap, snap_there, snap_found, kept_after, unkept_after}
 use Rattle.player.proofs.Over.{taken_one, taken_nothing, taken_tries}
+use Rattle.places.specs.Ordered.{IsOrderedRead}
+use Rattle.player.specs.ReadRuns.{ReadAnswers}
+use Rattle.player.proofs.ReadEnds.{IsReadEnd, read_ends}
+use Rattle.player.proofs.ReadMachines.{read_is_ordered}
 
 -- Nodes of snapshots
 
@@ -204,6 +208,8 @@ scx_outcome v c (VlxOf cells) m then a start since is_pass x moments alone room 
 scx_outcome v c (InsertOf key value) m then a start since is_pass x moments alone room done lost took y = absurd x
 scx_outcome v c (DeleteOf key) m then a start since is_pass x moments alone room done lost took y = absurd x
 scx_outcome v c (GetOf key) m then a start since is_pass x moments alone room done lost took y = absurd x
+scx_outcome v c (SuccessorOf key) m then a start since is_pass x moments alone room done lost took y = absurd x
+scx_outcome v c (RangeOf span) m then a start since is_pass x moments alone room done lost took y = absurd x
 
 -- a client whose SCX has ended drops its snapshots
 stands_scx : (v : ClientView) (c : Client) (m : PutRun) (linked : ℕ → Option History) → IsDropped m.scx.update.snaps v.linked linked → IsClientState v c (in_hand (held c) (Scx m)) → IsClientState (record v { linked = linked }) c (no_hand (held c))
@@ -274,6 +280,7 @@ ends_scx v c (Llx m) then a sound x = absurd x.answers
 ends_scx v c (Vlx m) then a sound x = absurd x.answers
 ends_scx v c (Edit m) then a sound x = absurd x.answers
 ends_scx v c (Get m) then a sound x = absurd x.answers
+ends_scx v c (Read m) then a sound x = absurd x.answers
 
 -- The end of a VLX
 
@@ -338,6 +345,8 @@ vlx_outcome v c (SetOf field value) m then a x moments alone won took is_pass y 
 vlx_outcome v c (InsertOf key value) m then a x moments alone won took is_pass y = absurd x
 vlx_outcome v c (DeleteOf key) m then a x moments alone won took is_pass y = absurd x
 vlx_outcome v c (GetOf key) m then a x moments alone won took is_pass y = absurd x
+vlx_outcome v c (SuccessorOf key) m then a x moments alone won took is_pass y = absurd x
+vlx_outcome v c (RangeOf span) m then a x moments alone won took is_pass y = absurd x
 
 -- what is said of the snapshots as before leaves a client at rest
 rests_as : (v : ClientView) (c : Client) (linked : ℕ → Option History) → IsDropped [] v.linked linked → IsClientState v c (no_hand (held c)) → IsClientState (record v { linked = linked }) c (no_hand (held c))
@@ -378,6 +387,7 @@ ends_vlx v c (Llx m) then a x = absurd x.answers
 ends_vlx v c (Scx m) then a x = absurd x.answers
 ends_vlx v c (Edit m) then a x = absurd x.answers
 ends_vlx v c (Get m) then a x = absurd x.answers
+ends_vlx v c (Read m) then a x = absurd x.answers
 
 -- a call ends with this answer, which leaves what the client has
 ends_as : (v : ClientView) (c : Client) (command : Command) (answer : Answer) → command_of v c ≡ Some command → IsClientState v c (no_hand (held c)) → HoldsShare v c (no_hand (held c)) → c.running ≡ None → IsOutcome v c.pass.0 [] command answer → ((turn : ℕ) → v.won ≡ Some turn → c.begin ≤ turn) → Ends v c c answer
@@ -401,6 +411,8 @@ ends_as v c command answer is stands holds none o late = record {
 get_outcome : (v : ClientView) (c : Client) (m : GetRun) (command : Command) (then : Option Put) (a : Option ℕ) → IsGetOf command m.key then → IsAnswerAt v.layout v.past v.start m.key a → v.won ≡ None → HasTakenAtMost v.layout c.pass.0 v.past v.start 0 0 → IsOutcome v c.pass.0 [] command (Value a)
 get_outcome v c m (GetOf key) None a of x won took = record { answers = tt; right = rw (sym of) x; entry = entered_none v.won won; tells = tt; took = took; drops = record { gone = λ n z. absurd (among_none n z); others = λ n z. refl } }
 get_outcome v c m (GetOf key) (Some put) a of x won took = absurd of
+get_outcome v c m (SuccessorOf key) then a of x won took = absurd of
+get_outcome v c m (RangeOf span) then a of x won took = absurd of
 get_outcome v c m (LlxOf cell) then a of x won took = absurd of
 get_outcome v c m (ScxOf update) then a of x won took = absurd of
 get_outcome v c m (VlxOf cells) then a of x won took = absurd of
@@ -418,6 +430,33 @@ ends_get v c (Llx m) then a sound x = absurd x.answers
 ends_get v c (Scx m) then a sound x = absurd x.answers
 ends_get v c (Vlx m) then a sound x = absurd x.answers
 ends_get v c (Edit m) then a sound x = absurd x.answers
+ends_get v c (Read m) then a sound x = absurd x.answers
+
+-- The end of an ordered read
+
+-- what it tells the map has replied, and it leaves the snapshots
+read_outcome : (v : ClientView) (c : Client) (command : Command) (a : Answer) → IsReadEnd v c.pass.0 command a → IsOrderedRead command → v.won ≡ None → HasTakenAtMost v.layout c.pass.0 v.past v.start 0 0 → IsOutcome v c.pass.0 [] command a
+read_outcome v c (SuccessorOf key) a x is won took = record { answers = x.answers; right = x.right; entry = entered_none v.won won; tells = x.tells; took = took; drops = record { gone = λ n z. absurd (among_none n z); others = λ n z. refl } }
+read_outcome v c (RangeOf span) a x is won took = record { answers = x.answers; right = x.right; entry = entered_none v.won won; tells = x.tells; took = took; drops = record { gone = λ n z. absurd (among_none n z); others = λ n z. refl } }
+read_outcome v c (LlxOf cell) a x is won took = absurd is
+read_outcome v c (ScxOf update) a x is won took = absurd is
+read_outcome v c (VlxOf cells) a x is won took = absurd is
+read_outcome v c (SetOf field value) a x is won took = absurd is
+read_outcome v c (InsertOf key value) a x is won took = absurd is
+read_outcome v c (DeleteOf key) a x is won took = absurd is
+read_outcome v c (GetOf key) a x is won took = absurd is
+
+ends_read : (v : ClientView) (c : Client) (run : Run) (then : Option Put) (a : Answer) → IsSound v → Answered v c run then (ended.Read a) → Ends v c c (answer_of (ended.Read a))
+ends_read v c (Read m) then a sound x =
+    let answers = subst (λ (k : History). ReadAnswers m (machine_call v c x.works.is_pass k) v.past a) x.works.begun x.answers in
+    let end = read_ends v c x.works.is_pass m x.works.command a x.works.run_of.0 answers in
+    let o = read_outcome v c x.works.command a end (read_is_ordered m x.works.command x.works.run_of.0) x.works.won (taken_nothing v c.pass.0 (held c) 0 0 x.works.holds.share x.works.took) in
+    ends_as v c x.works.command a x.works.is x.works.stands x.works.holds x.none o x.works.late
+ends_read v c (Llx m) then a sound x = absurd x.answers
+ends_read v c (Scx m) then a sound x = absurd x.answers
+ends_read v c (Vlx m) then a sound x = absurd x.answers
+ends_read v c (Edit m) then a sound x = absurd x.answers
+ends_read v c (Get m) then a sound x = absurd x.answers
 
 -- The end of an edit
 
@@ -448,6 +487,7 @@ ends_edit v c (Llx m) then a sound x = absurd x.answers
 ends_edit v c (Scx m) then a sound x = absurd x.answers
 ends_edit v c (Vlx m) then a sound x = absurd x.answers
 ends_edit v c (Get m) then a sound x = absurd x.answers
+ends_edit v c (Read m) then a sound x = absurd x.answers
 
 -- what has ended is the call of a machine other than an LLX
 pub ends_other : (v : ClientView) (c : Client) (run : Run) (then : Option Put) (end : Ended) → ((a : LlxAnswer) → end ≢ ended.Llx a) → IsSound v → Answered v c run then end → Ends v c c (answer_of end)
@@ -456,6 +496,7 @@ ends_other v c run then (ended.Scx a) d sound x = ends_scx v c run then a sound 
 ends_other v c run then (ended.Vlx a) d sound x = ends_vlx v c run then a x
 ends_other v c run then (ended.Edit a) d sound x = ends_edit v c run then a sound x
 ends_other v c run then (ended.Get a) d sound x = ends_get v c run then a sound x
+ends_other v c run then (ended.Read a) d sound x = ends_read v c run then a sound x
 
 -- The end of an LLX
 
@@ -547,6 +588,8 @@ llx_outcome v c (VlxOf cells) m then a d x took y = absurd x
 llx_outcome v c (InsertOf key value) m then a d x took y = absurd x
 llx_outcome v c (DeleteOf key) m then a d x took y = absurd x
 llx_outcome v c (GetOf key) m then a d x took y = absurd x
+llx_outcome v c (SuccessorOf key) m then a d x took y = absurd x
+llx_outcome v c (RangeOf span) m then a d x took y = absurd x
 
 -- its call ends, where no SCX follows
 pub ends_llx : (v : ClientView) (old : Client) (kept : Kept) (m : LlxRun) (then : Option Put) (a : LlxAnswer) → IsSound v → Answered v old (Llx m) then (ended.Llx a) → kept.found ≡ set old.kept.found (node_of a) (found_of a) → ((then ≡ None) ⊎ ((snap : Snap) → a ≢ LlxSnapshot snap)) → Ends v old (record old { kept = kept }) (answer_of (ended.Llx a))

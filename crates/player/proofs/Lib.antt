@@ -1,4 +1,6 @@
 mod Shapes
+mod ReadMachines
+mod ReadEnds
 mod RunLaws
 mod Readings
 mod InOrder

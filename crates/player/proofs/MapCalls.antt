@@ -8,11 +8,11 @@ use Rattle.arena.specs.declared.step.Row.{Row}
 use Rattle.arena.specs.History.{History, ◌⊳◌}
 use Rattle.arena.specs.Machines.{IsRun}
 use Rattle.histories.proofs.Lemmas.{lawful_tail, shaped_tail}
-use Rattle.spelling.specs.OrderedMap.{MapCall, Edit, Get, Insert, Delete}
+use Rattle.spelling.specs.OrderedMap.{MapCall, Edit, Get, Successor, Range, Insert, Delete}
 use Rattle.spelling.specs.Runs.{IsTreeRun}
 use Rattle.script.specs.declared.command.Call.{Call}
 use Rattle.script.specs.declared.command.Command.{Command}
-use Rattle.script.specs.declared.command.Command.TheVariants.{Llx as LlxOf, Scx as ScxOf, Vlx as VlxOf, Set as SetOf, Insert as InsertOf, Delete as DeleteOf, Get as GetOf}
+use Rattle.script.specs.declared.command.Command.TheVariants.{Llx as LlxOf, Scx as ScxOf, Vlx as VlxOf, Set as SetOf, Insert as InsertOf, Delete as DeleteOf, Get as GetOf, Successor as SuccessorOf, Range as RangeOf}
 use Rattle.script.specs.Commands.{mode_of}
 use Rattle.record.specs.Commands.{commands}
 use Rattle.record.specs.MapRecord.{map_call}
@@ -54,6 +54,8 @@ map_calls mode calls e all c j command is = go command (command_mode mode calls 
   where
     go : (command : Command) → mode_of command ≡ Tree → (call : MapCall) × (map_call (Some command) ≡ Some call)
     go (GetOf key) e = (Get key, refl)
+    go (SuccessorOf key) e = (Successor key, refl)
+    go (RangeOf span) e = (Range span.low span.high span.most, refl)
     go (InsertOf key value) e = (Edit (Insert key value), refl)
     go (DeleteOf key) e = (Edit (Delete key), refl)
     go (LlxOf cell) e = cc

@@ -7,15 +7,16 @@ use Rattle.arena.specs.Machines.{Call}
 use Rattle.prims.specs.Cells.{AllowsAll}
 use Rattle.prims.proofs.Lemmas.{llx_fills_not}
 use Rattle.script.specs.declared.command.Command.{Command}
-use Rattle.script.specs.declared.command.Command.TheVariants.{Llx as LlxOf, Scx as ScxOf, Vlx as VlxOf, Set as SetOf, Insert as InsertOf, Delete as DeleteOf, Get as GetOf}
+use Rattle.script.specs.declared.command.Command.TheVariants.{Llx as LlxOf, Scx as ScxOf, Vlx as VlxOf, Set as SetOf, Insert as InsertOf, Delete as DeleteOf, Get as GetOf, Successor as SuccessorOf, Range as RangeOf}
 use Rattle.spelling.specs.OrderedMap.{MapEdit, Insert as PutEdit, Delete as TakeEdit}
 use Rattle.player.specs.EditRuns.{edit_of, edit_command}
 use Rattle.player.specs.declared.run.Run.{Run}
-use Rattle.player.specs.declared.run.Run.TheVariants.{Llx, Scx, Vlx, Edit, Get}
+use Rattle.player.specs.declared.run.Run.TheVariants.{Llx, Scx, Vlx, Edit, Get, Read}
 use Rattle.player.specs.declared.client.Put.{Put}
 use Rattle.record.specs.CommandRules.{MayMake}
 use Rattle.player.specs.RunKnown.{RunWaits}
 use Rattle.player.specs.ClientView.{IsMachineOf}
+use Rattle.player.proofs.ReadMachines.{read_may_make}
 
 -- whether a command is an edit
 abbrev is_edit : Command → Bool
@@ -43,6 +44,21 @@ may_make (GetOf key) number (Get m) then call h step of w = (get_loads m call h 
 may_make (GetOf key) number (Llx m) then call h step of w = absurd of.1
 may_make (GetOf key) number (Scx m) then call h step of w = absurd of
 may_make (GetOf key) number (Vlx m) then call h step of w = absurd of
+may_make (SuccessorOf key) number (Read m) then call h step of w = read_may_make m (SuccessorOf key) call h step of.0 w
+may_make (SuccessorOf key) number (Llx m) then call h step of w = absurd of.1
+may_make (SuccessorOf key) number (Scx m) then call h step of w = absurd of
+may_make (SuccessorOf key) number (Vlx m) then call h step of w = absurd of
+may_make (SuccessorOf key) number (Get m) then call h step of w = absurd of
+may_make (SuccessorOf key) number (Edit m) then call h step of w = no_edit (SuccessorOf key) (edit_of m) refl of.1.is
+may_make (RangeOf span) number (Read m) then call h step of w = read_may_make m (RangeOf span) call h step of.0 w
+may_make (RangeOf span) number (Llx m) then call h step of w = absurd of.1
+may_make (RangeOf span) number (Scx m) then call h step of w = absurd of
+may_make (RangeOf span) number (Vlx m) then call h step of w = absurd of
+may_make (RangeOf span) number (Get m) then call h step of w = absurd of
+may_make (RangeOf span) number (Edit m) then call h step of w = no_edit (RangeOf span) (edit_of m) refl of.1.is
+may_make (GetOf key) number (Read m) then call h step of w = read_may_make m (GetOf key) call h step of.0 w
+may_make (VlxOf cells) number (Read m) then call h step of w = read_may_make m (VlxOf cells) call h step of.0 w
+may_make (LlxOf cell) number (Read m) then call h step of w = read_may_make m (LlxOf cell) call h step of.0 w
 may_make (VlxOf cells) number (Get m) then call h step of w = absurd of
 may_make (LlxOf cell) number (Get m) then call h step of w = absurd of
 may_make (VlxOf cells) number (Edit m) then call h step of w = no_edit (VlxOf cells) (edit_of m) refl of.1.is

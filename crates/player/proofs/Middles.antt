@@ -38,8 +38,8 @@ use Rattle.record.specs.declared.record.Row.TheVariants.{Step as Made, Idle}
 use Rattle.record.specs.declared.record.Reply.{Reply}
 use Rattle.record.specs.declared.record.Entry.{Entry}
 use Rattle.record.specs.declared.record.Answer.{Answer}
-use Rattle.record.specs.declared.record.Answer.TheVariants.{Snapshot, Finalized, Fail, Done, Lost, Same, Changed, Unlinked, Full, Value, Contended}
-use Rattle.script.specs.declared.command.Command.TheVariants.{Llx as LlxOf, Scx as ScxOf, Vlx as VlxOf, Set as SetOf, Insert as InsertOf, Delete as DeleteOf, Get as GetOf}
+use Rattle.record.specs.declared.record.Answer.TheVariants.{Snapshot, Finalized, Fail, Done, Lost, Same, Changed, Unlinked, Full, Value, Pair, Pairs, Contended, NoMemory}
+use Rattle.script.specs.declared.command.Command.TheVariants.{Llx as LlxOf, Scx as ScxOf, Vlx as VlxOf, Set as SetOf, Insert as InsertOf, Delete as DeleteOf, Get as GetOf, Successor as SuccessorOf, Range as RangeOf}
 use Rattle.player.specs.declared.client.Client.{Client}
 use Rattle.player.specs.Lines.{newest}
 use Rattle.record.specs.Turns.{history, turns, entries, answered, begin, start, steps, won, last_client, entry_of, entry_owed, entry_at}
@@ -59,6 +59,10 @@ use Rattle.player.specs.BetweenTurns.{IsLawfulSoFar, AreOthers, IsTurnOf, AreBet
 use Rattle.player.proofs.Views.{TellsWon, client_by_others, stands_from, holds_from}
 use Rattle.record.proofs.Lemmas.{some_turn, start_kept, begin_within, won_within}
 use Rattle.player.proofs.EditEnds.{entered_none}
+use Rattle.spelling.specs.OrderedMap.{ManyPairs}
+use Rattle.script.specs.Commands.{mode_of}
+use Rattle.places.specs.Ordered.{FallFrom}
+use Rattle.places.proofs.Lemmas.{falls, nothing_taken}
 
 -- Others
 
@@ -301,8 +305,11 @@ replied lay tries calls words clients lines changes old new answer said reply co
             moment_same calls lines changes command answer old.begin number said (won lay lines old.pass.0) reply.moment o.done o.entry wins
             (subst (λ (k : Command). IsMomentBy calls lines changes k answer old.begin number said reply.moment) same (e.moment (record { client = record { 0 = old.pass.0 }; command = there.0 }) at q there.1))
 
+    of_tree : mode_of command ≡ Tree → lay.mode ≡ Tree
+    of_tree tree = sym (command_mode lay.mode calls old.pass.0 _ command x.so_far.of_mode o.is) ∙ tree
+
     within : (m : ℕ) → reply.moment ≡ Some m → (reply.begin ≤ m) × (m ≤ reply.end)
-    within m q = moment_within calls lines changes reply.begin reply.end m (won lay lines old.pass.0) reply.moment (rw (e.begin, e.end, n) begins) (λ turn w. (rw e.begin (o.late turn w), rw (e.end, n) (won_within lay tries calls lines old.pass.0 turn x.so_far.in_order w))) q command reply.answer (λ tree. entries (sym (command_mode lay.mode calls old.pass.0 _ command x.so_far.of_mode o.is) ∙ tree)) moment
+    within m q = moment_within calls lines changes reply.begin reply.end m (won lay lines old.pass.0) reply.moment (rw (e.begin, e.end, n) begins) (λ turn w. (rw e.begin (o.late turn w), rw (e.end, n) (won_within lay tries calls lines old.pass.0 turn x.so_far.in_order w))) q command reply.answer (λ tree. entries (of_tree tree)) (λ tree. subst (λ (k : ℕ). FallFrom (suc k) changes) (sym (e.end ∙ n)) (falls lay tries calls lines changes x.so_far.in_order (entries (of_tree tree)))) moment
 
     is_reply : IsReply lay tries calls lines reply
     is_reply = record {
@@ -352,8 +359,42 @@ is_refusal v (SetOf field value) answer x = absurd x
 is_refusal v (InsertOf key value) answer x = absurd x
 is_refusal v (DeleteOf key) answer x = absurd x
 is_refusal v (GetOf key) answer x = absurd x
+is_refusal v (SuccessorOf key) (Value value) x = absurd x
+is_refusal v (SuccessorOf key) (Pair found) x = absurd x
+is_refusal v (SuccessorOf key) (Pairs found) x = absurd x
+is_refusal v (SuccessorOf key) (Snapshot left right) x = absurd x
+is_refusal v (SuccessorOf key) Finalized x = absurd x
+is_refusal v (SuccessorOf key) (Fail node scx) x = absurd x
+is_refusal v (SuccessorOf key) Done x = absurd x
+is_refusal v (SuccessorOf key) (Lost node scx) x = absurd x
+is_refusal v (SuccessorOf key) Same x = absurd x
+is_refusal v (SuccessorOf key) (Changed node scx) x = absurd x
+is_refusal v (SuccessorOf key) (Unlinked node) x = absurd x
+is_refusal v (SuccessorOf key) (Full what left) x = absurd x
+is_refusal v (SuccessorOf key) (Contended node scx) x = absurd x
+is_refusal v (SuccessorOf key) NoMemory x = record { leaves = λ n. refl; not_done = λ e. cc; none = refl }
+is_refusal v (RangeOf span) (Value value) x = absurd x
+is_refusal v (RangeOf span) (Pair found) x = absurd x
+is_refusal v (RangeOf span) (Pairs found) x = record { leaves = λ n. refl; not_done = λ e. cc; none = refl }
+is_refusal v (RangeOf span) (Snapshot left right) x = absurd x
+is_refusal v (RangeOf span) Finalized x = absurd x
+is_refusal v (RangeOf span) (Fail node scx) x = absurd x
+is_refusal v (RangeOf span) Done x = absurd x
+is_refusal v (RangeOf span) (Lost node scx) x = absurd x
+is_refusal v (RangeOf span) Same x = absurd x
+is_refusal v (RangeOf span) (Changed node scx) x = absurd x
+is_refusal v (RangeOf span) (Unlinked node) x = absurd x
+is_refusal v (RangeOf span) (Full what left) x = absurd x
+is_refusal v (RangeOf span) (Contended node scx) x = absurd x
+is_refusal v (RangeOf span) NoMemory x = record { leaves = λ n. refl; not_done = λ e. cc; none = refl }
 is_refusal v (ScxOf update) (Contended node scx) x = absurd x
 is_refusal v (VlxOf cells) (Contended node scx) x = absurd x
+is_refusal v (ScxOf update) (Pair found) x = absurd x
+is_refusal v (ScxOf update) (Pairs found) x = absurd x
+is_refusal v (ScxOf update) NoMemory x = absurd x
+is_refusal v (VlxOf cells) (Pair found) x = absurd x
+is_refusal v (VlxOf cells) (Pairs found) x = absurd x
+is_refusal v (VlxOf cells) NoMemory x = absurd x
 is_refusal v (ScxOf update) (Value value) x = absurd x
 is_refusal v (VlxOf cells) (Value value) x = absurd x
 
@@ -366,6 +407,34 @@ refuses_tells v c (ScxOf update) answer x = tt
 refuses_tells v c (VlxOf cells) answer x = tt
 refuses_tells v c (SetOf field value) answer x = tt
 refuses_tells v c (GetOf key) answer x = tt
+refuses_tells v c (SuccessorOf key) (Value value) x = absurd x
+refuses_tells v c (SuccessorOf key) (Pair found) x = absurd x
+refuses_tells v c (SuccessorOf key) (Pairs found) x = absurd x
+refuses_tells v c (SuccessorOf key) (Snapshot left right) x = absurd x
+refuses_tells v c (SuccessorOf key) Finalized x = absurd x
+refuses_tells v c (SuccessorOf key) (Fail node scx) x = absurd x
+refuses_tells v c (SuccessorOf key) Done x = absurd x
+refuses_tells v c (SuccessorOf key) (Lost node scx) x = absurd x
+refuses_tells v c (SuccessorOf key) Same x = absurd x
+refuses_tells v c (SuccessorOf key) (Changed node scx) x = absurd x
+refuses_tells v c (SuccessorOf key) (Unlinked node) x = absurd x
+refuses_tells v c (SuccessorOf key) (Full what left) x = absurd x
+refuses_tells v c (SuccessorOf key) (Contended node scx) x = absurd x
+refuses_tells v c (SuccessorOf key) NoMemory x = tt
+refuses_tells v c (RangeOf span) (Value value) x = absurd x
+refuses_tells v c (RangeOf span) (Pair found) x = absurd x
+refuses_tells v c (RangeOf span) (Pairs found) x = inr (λ m. nothing_taken span.low span.high span.most m x.0 ∙ ap ManyPairs (sym x.1))
+refuses_tells v c (RangeOf span) (Snapshot left right) x = absurd x
+refuses_tells v c (RangeOf span) Finalized x = absurd x
+refuses_tells v c (RangeOf span) (Fail node scx) x = absurd x
+refuses_tells v c (RangeOf span) Done x = absurd x
+refuses_tells v c (RangeOf span) (Lost node scx) x = absurd x
+refuses_tells v c (RangeOf span) Same x = absurd x
+refuses_tells v c (RangeOf span) (Changed node scx) x = absurd x
+refuses_tells v c (RangeOf span) (Unlinked node) x = absurd x
+refuses_tells v c (RangeOf span) (Full what left) x = absurd x
+refuses_tells v c (RangeOf span) (Contended node scx) x = absurd x
+refuses_tells v c (RangeOf span) NoMemory x = tt
 
 pub refused_turn : (lay : Layout) (tries : ℕ) (calls : List Call) (words : Contents) (clients : List Client) (lines : List Line) (c new : Client) (number : ℕ) (pass : PassNo) (answer : Answer) (changes : List Change) (said : Option ℕ) (reply : Reply) → (lay.mode ≡ Tree → AreEntries calls lines changes) → length calls ≤ 65536 → OwesNothing lay calls lines → IsTurnOf lay tries calls words clients lines c → Refuses (client_view lay tries calls lines c.pass.0) c answer → begin lines c.pass.0 ≡ None → c.begin ≡ number → number ≡ suc (turns lines) → pass ≡ c.pass → IsEnd calls (Step (Idle number pass) ∷ lines) changes c new number answer said reply → AreBetweenTurns lay tries calls words (set clients c.pass.0 new) (ReplyLine reply ∷ Step (Idle number pass) ∷ lines)
 refused_turn lay tries calls words clients lines c new number pass answer changes said reply entries few settled x r unbegun begins n is e =

@@ -12,12 +12,13 @@ use Rattle.prims.specs.Cells.{AllowsAll}
 use Rattle.prims.specs.Laws.Begun.{TakesOnly, takes_by_step}
 use Rattle.prims.proofs.Lemmas.{put_takes, llx_fills_not, vlx_fills_not, untaken_node_by_step, put_untaken_node}
 use Rattle.player.specs.declared.run.Run.{Run}
-use Rattle.player.specs.declared.run.Run.TheVariants.{Llx, Scx, Vlx, Edit, Get}
+use Rattle.player.specs.declared.run.Run.TheVariants.{Llx, Scx, Vlx, Edit, Get, Read}
 use Rattle.prims.specs.Shares.{IsShare}
 use Rattle.updates.specs.Steps.{Spends}
 use Rattle.record.specs.Shares.{HasTakenAtMost}
 use Rattle.player.specs.RunKnown.{RunWaits}
 use Rattle.player.specs.ClientView.{ClientView, Hand, HasTaken, no_hand, in_hand}
+use Rattle.player.proofs.ReadMachines.{read_fills_not}
 
 -- the machine is none of an edit, which takes of the share by itself
 abbrev pub IsNoEdit : Run → Type 0
@@ -31,6 +32,7 @@ takes_by_own (Vlx m) call left h step is w = takes_by_step call.layout call.pass
 takes_by_own (Scx m) call left h step is w = put_takes AllowsAll m call h step w
 takes_by_own (Edit m) call left h step is w = absurd is
 takes_by_own (Get m) call left h step is w = takes_by_step call.layout call.pass left.next_scx h (row_of call step h) (get_fills_not m call h step w)
+takes_by_own (Read m) call left h step is w = takes_by_step call.layout call.pass left.next_scx h (row_of call step h) (read_fills_not m call h step w)
 
 pub nodes_by_own : (run : Run) (call : Call) (left : Remaining) (h : History) (step : Ask) → IsNoEdit run → RunWaits run call h step → (n : ℕ) → n ≢ (in_hand left run).node → ¬ IsTakenNode h n → ¬ IsTakenNode (row_of call step h ⊳ h) n
 nodes_by_own (Llx m) call left h step is w n other = untaken_node_by_step h (row_of call step h) n (llx_fills_not AllowsAll m call h step w)
@@ -38,6 +40,7 @@ nodes_by_own (Vlx m) call left h step is w n other = untaken_node_by_step h (row
 nodes_by_own (Scx m) call left h step is w n other = put_untaken_node AllowsAll m call h step n w other
 nodes_by_own (Edit m) call left h step is w n other = absurd is
 nodes_by_own (Get m) call left h step is w n other = untaken_node_by_step h (row_of call step h) n (get_fills_not m call h step w)
+nodes_by_own (Read m) call left h step is w n other = untaken_node_by_step h (row_of call step h) n (read_fills_not m call h step w)
 
 -- A share that is at rest has none of what a client in its call has not taken.
 

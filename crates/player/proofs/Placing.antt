@@ -1,9 +1,9 @@
 -- Where the moment of an answer lies.
-use Rattle.std.proofs.Common.{◌≡◌, ℕ, ◌≤◌, Bool, true, false, List, Option, Some, None, refl, sym, ◌∙◌, arith}
+use Rattle.std.proofs.Common.{◌≡◌, ℕ, suc, ◌≤◌, Bool, true, false, List, Option, Some, None, refl, sym, ◌∙◌, subst, arith}
 use Rattle.script.specs.declared.command.Command.{Command}
-use Rattle.script.specs.declared.command.Command.TheVariants.{Llx, Scx, Vlx, Set, Insert, Delete, Get}
+use Rattle.script.specs.declared.command.Command.TheVariants.{Llx, Scx, Vlx, Set, Insert, Delete, Get, Successor, Range}
 use Rattle.record.specs.declared.record.Answer.{Answer}
-use Rattle.record.specs.declared.record.Answer.TheVariants.{Snapshot, Finalized, Fail, Done, Lost, Same, Changed, Unlinked, Full, Value, Contended}
+use Rattle.record.specs.declared.record.Answer.TheVariants.{Snapshot, Finalized, Fail, Done, Lost, Same, Changed, Unlinked, Full, Value, Pair, Pairs, Contended, NoMemory}
 use Rattle.record.specs.Answers.{HasItsEntry}
 use Rattle.record.specs.CommandRules.{MayAnswerAfterStep, enters}
 use Rattle.record.proofs.Lemmas.{some_turn}
@@ -13,7 +13,8 @@ use Rattle.script.specs.Commands.{mode_of}
 use Rattle.arena.specs.declared.limits.Mode.TheVariants.{Tree}
 use Rattle.places.specs.declared.places.Change.{Change}
 use Rattle.places.specs.Entries.{AreEntries}
-use Rattle.player.specs.Moments.{IsMomentBy, IsReadMoment, IsValueMoment}
+use Rattle.places.specs.Ordered.{FallFrom}
+use Rattle.player.specs.Moments.{IsMomentBy, IsOrderedMoment, IsPairsMoment, IsReadMoment, IsValueMoment}
 
 -- an answer `done` says that the call has an entry, where it may answer so
 pub done_enters : (command : Command) → MayAnswerAfterStep command Done → enters command Done ≡ true
@@ -24,6 +25,8 @@ done_enters (Vlx cells) x = absurd x
 done_enters (Insert key value) x = absurd x
 done_enters (Delete key) x = absurd x
 done_enters (Get key) x = absurd x
+done_enters (Successor key) x = absurd x
+done_enters (Range span) x = absurd x
 
 same_won : (b : Bool) (said won : Option ℕ) → b ≡ true → HasItsEntry b won → ((turn : ℕ) → won ≡ Some turn → said ≡ Some turn) → said ≡ won
 same_won true said (Some turn) e x f = f turn refl
@@ -36,6 +39,8 @@ value_same calls lines changes (Insert key value) told first last said won momen
 value_same calls lines changes (Delete key) (Some old) first last said won moment entry f x = x ∙ same_won true said won refl entry f
 value_same calls lines changes (Delete key) None first last said won moment entry f x = x
 value_same calls lines changes (Get key) told first last said won moment entry f x = x
+value_same calls lines changes (Successor key) told first last said won moment entry f x = x
+value_same calls lines changes (Range span) told first last said won moment entry f x = x
 value_same calls lines changes (Llx cell) told first last said won moment entry f x = x
 value_same calls lines changes (Scx update) told first last said won moment entry f x = x
 value_same calls lines changes (Vlx cells) told first last said won moment entry f x = x
@@ -53,6 +58,9 @@ moment_same calls lines changes command (Changed node scx) first last said won m
 moment_same calls lines changes command (Unlinked node) first last said won moment done entry f x = x
 moment_same calls lines changes command (Full what left) first last said won moment done entry f x = x
 moment_same calls lines changes command (Contended node scx) first last said won moment done entry f x = x
+moment_same calls lines changes command (Pair found) first last said won moment done entry f x = x
+moment_same calls lines changes command (Pairs found) first last said won moment done entry f x = x
+moment_same calls lines changes command NoMemory first last said won moment done entry f x = x
 
 -- and lies between the first turn and the last
 module _ (calls : List Call) (lines : List Line) (changes : List Change) (first last m : ℕ) (won moment : Option ℕ) (less : first ≤ last) (between : (turn : ℕ) → won ≡ Some turn → (first ≤ turn) × (turn ≤ last)) (is : moment ≡ Some m) where
@@ -68,25 +76,47 @@ module _ (calls : List Call) (lines : List Line) (changes : List Change) (first 
   read_within : (key : ℕ) (told : Option ℕ) → AreEntries calls lines changes → IsReadMoment calls lines changes key told first last moment → (first ≤ m) × (m ≤ last)
   read_within key told entries x = let y = x entries in let z = rw is at y.0 in (z.from, z.to)
 
-  value_within : (command : Command) (told : Option ℕ) → (mode_of command ≡ Tree → AreEntries calls lines changes) → IsValueMoment calls lines changes command told first last won moment → (first ≤ m) × (m ≤ last)
-  value_within (Insert key value) told entries x = between m (sym x ∙ is)
-  value_within (Delete key) (Some old) entries x = between m (sym x ∙ is)
-  value_within (Delete key) None entries x = read_within key None (entries refl) x
-  value_within (Get key) told entries x = read_within key told (entries refl) x
-  value_within (Llx cell) told entries x = nowhere x
-  value_within (Scx update) told entries x = nowhere x
-  value_within (Vlx cells) told entries x = nowhere x
-  value_within (Set field value) told entries x = nowhere x
+  ordered_within : (command : Command) (answer : Answer) → FallFrom (suc last) changes → IsOrderedMoment calls lines changes command answer first last moment → (first ≤ m) × (m ≤ last)
+  ordered_within command answer falls x =
+      let same : x.turn ≡ m = some_turn x.turn m (sym x.is ∙ is) in
+      let y = x.within less falls in
+      (subst (λ (n : ℕ). first ≤ n) same y.0, subst (λ (n : ℕ). n ≤ last) same y.1)
 
-  pub moment_within : (command : Command) (answer : Answer) → (mode_of command ≡ Tree → AreEntries calls lines changes) → IsMomentBy calls lines changes command answer first last won moment → (first ≤ m) × (m ≤ last)
-  moment_within command (Value told) entries x = value_within command told entries x
-  moment_within command Done entries x = between m (sym x ∙ is)
-  moment_within command Same entries x = at_first x
-  moment_within command (Snapshot left right) entries x = at_last x
-  moment_within command Finalized entries x = at_last x
-  moment_within command (Fail node scx) entries x = nowhere x
-  moment_within command (Lost node scx) entries x = nowhere x
-  moment_within command (Changed node scx) entries x = nowhere x
-  moment_within command (Unlinked node) entries x = nowhere x
-  moment_within command (Full what left) entries x = nowhere x
-  moment_within command (Contended node scx) entries x = nowhere x
+  pairs_within : (command : Command) (answer : Answer) → (mode_of command ≡ Tree → FallFrom (suc last) changes) → IsPairsMoment calls lines changes command answer first last moment → (first ≤ m) × (m ≤ last)
+  pairs_within (Successor key) answer falls x = ordered_within (Successor key) answer (falls refl) x
+  pairs_within (Range span) answer falls x = ordered_within (Range span) answer (falls refl) x
+  pairs_within (Insert key value) answer falls x = nowhere x
+  pairs_within (Delete key) answer falls x = nowhere x
+  pairs_within (Get key) answer falls x = nowhere x
+  pairs_within (Llx cell) answer falls x = nowhere x
+  pairs_within (Scx update) answer falls x = nowhere x
+  pairs_within (Vlx cells) answer falls x = nowhere x
+  pairs_within (Set field value) answer falls x = nowhere x
+
+  value_within : (command : Command) (told : Option ℕ) → (mode_of command ≡ Tree → AreEntries calls lines changes) → (mode_of command ≡ Tree → FallFrom (suc last) changes) → IsValueMoment calls lines changes command told first last won moment → (first ≤ m) × (m ≤ last)
+  value_within (Insert key value) told entries falls x = between m (sym x ∙ is)
+  value_within (Delete key) (Some old) entries falls x = between m (sym x ∙ is)
+  value_within (Delete key) None entries falls x = read_within key None (entries refl) x
+  value_within (Get key) told entries falls x = read_within key told (entries refl) x
+  value_within (Successor key) told entries falls x = ordered_within (Successor key) (Value told) (falls refl) x
+  value_within (Range span) told entries falls x = nowhere x
+  value_within (Llx cell) told entries falls x = nowhere x
+  value_within (Scx update) told entries falls x = nowhere x
+  value_within (Vlx cells) told entries falls x = nowhere x
+  value_within (Set field value) told entries falls x = nowhere x
+
+  pub moment_within : (command : Command) (answer : Answer) → (mode_of command ≡ Tree → AreEntries calls lines changes) → (mode_of command ≡ Tree → FallFrom (suc last) changes) → IsMomentBy calls lines changes command answer first last won moment → (first ≤ m) × (m ≤ last)
+  moment_within command (Value told) entries falls x = value_within command told entries falls x
+  moment_within command Done entries falls x = between m (sym x ∙ is)
+  moment_within command Same entries falls x = at_first x
+  moment_within command (Snapshot left right) entries falls x = at_last x
+  moment_within command Finalized entries falls x = at_last x
+  moment_within command (Fail node scx) entries falls x = nowhere x
+  moment_within command (Lost node scx) entries falls x = nowhere x
+  moment_within command (Changed node scx) entries falls x = nowhere x
+  moment_within command (Unlinked node) entries falls x = nowhere x
+  moment_within command (Full what left) entries falls x = nowhere x
+  moment_within command (Contended node scx) entries falls x = nowhere x
+  moment_within command (Pair found) entries falls x = pairs_within command (Pair found) falls x
+  moment_within command (Pairs found) entries falls x = pairs_within command (Pairs found) falls x
+  moment_within command NoMemory entries falls x = nowhere x

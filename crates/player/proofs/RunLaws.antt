@@ -14,10 +14,11 @@ use Rattle.updates.specs.Laws.Update.{update_keeps, update_lawful, update_made}
 use Rattle.tree.specs.Get.Laws.{get_keeps, get_lawful, get_made}
 use Rattle.player.specs.declared.edit.EditRun.TheVariants.{Insert, Delete}
 use Rattle.player.specs.declared.run.Run.{Run}
-use Rattle.player.specs.declared.run.Run.TheVariants.{Llx, Scx, Vlx, Edit, Get}
+use Rattle.player.specs.declared.run.Run.TheVariants.{Llx, Scx, Vlx, Edit, Get, Read}
 use Rattle.player.specs.Allowed.{PlayedAllows}
 use Rattle.player.specs.RunKnown.{RunIsReady, RunWaits, run_mode}
 use Rattle.player.proofs.Shapes.{as_cells, as_played, as_tree, as_played_tree}
+use Rattle.player.proofs.ReadMachines.{read_keeps, read_lawful, read_made}
 
 -- rows of other passes leave the machine waiting for the same step
 pub run_keeps : (m : Run) (c : Call) (h : History) (s : Step) (r : Row) → c.layout.mode ≡ run_mode m → IsRun PlayedAllows c.layout (r ⊳ h) → r.pass.0 ≢ c.pass → RunWaits m c h s → RunWaits m c (r ⊳ h) s
@@ -27,6 +28,7 @@ run_keeps (Vlx m) c h s r mode run other w = vlx_keeps AllowsAll m.snaps m.asked
 run_keeps (Edit (Insert m)) c h s r mode run other w = update_keeps insert_means m c h s r (as_tree c.layout (r ⊳ h) mode run) other w
 run_keeps (Edit (Delete m)) c h s r mode run other w = update_keeps delete_means m c h s r (as_tree c.layout (r ⊳ h) mode run) other w
 run_keeps (Get m) c h s r mode run other w = get_keeps m c h s r (as_tree c.layout (r ⊳ h) mode run) other w
+run_keeps (Read m) c h s r mode run other w = read_keeps m c h s r (as_tree c.layout (r ⊳ h) mode run) other w
 
 -- the step that the machine waits for continues the run
 pub run_lawful : (m : Run) (c : Call) (h : History) (s : Step) → c.layout.mode ≡ run_mode m → IsRun PlayedAllows c.layout h → RunWaits m c h s → IsRun PlayedAllows c.layout (row_of c s h ⊳ h)
@@ -36,6 +38,7 @@ run_lawful (Vlx m) c h s mode run w = as_played c.layout (row_of c s h ⊳ h) mo
 run_lawful (Edit (Insert m)) c h s mode run w = as_played_tree c.layout (row_of c s h ⊳ h) mode (update_lawful insert_means m c h s (as_tree c.layout h mode run) w)
 run_lawful (Edit (Delete m)) c h s mode run w = as_played_tree c.layout (row_of c s h ⊳ h) mode (update_lawful delete_means m c h s (as_tree c.layout h mode run) w)
 run_lawful (Get m) c h s mode run w = as_played_tree c.layout (row_of c s h ⊳ h) mode (get_lawful m c h s (as_tree c.layout h mode run) w)
+run_lawful (Read m) c h s mode run w = as_played_tree c.layout (row_of c s h ⊳ h) mode (read_lawful m c h s (as_tree c.layout h mode run) w)
 
 -- once the step is made, the machine may be called with what it told
 pub run_made : (m : Run) (c : Call) (h : History) (s : Step) (v : ℕ) → c.layout.mode ≡ run_mode m → IsRun PlayedAllows c.layout (row_of c s h ⊳ h) → IsTold s.access (value h s.word) v → RunWaits m c h s → RunIsReady m c (row_of c s h ⊳ h) (Some v)
@@ -45,3 +48,4 @@ run_made (Vlx m) c h s v mode run told w = vlx_made AllowsAll m.snaps m.asked c 
 run_made (Edit (Insert m)) c h s v mode run told w = update_made insert_means m c h s v (as_tree c.layout (row_of c s h ⊳ h) mode run) told w
 run_made (Edit (Delete m)) c h s v mode run told w = update_made delete_means m c h s v (as_tree c.layout (row_of c s h ⊳ h) mode run) told w
 run_made (Get m) c h s v mode run told w = get_made m c h s v (as_tree c.layout (row_of c s h ⊳ h) mode run) told w
+run_made (Read m) c h s v mode run told w = read_made m c h s v (as_tree c.layout (row_of c s h ⊳ h) mode run) told w

@@ -34,7 +34,7 @@ use Rattle.places.specs.Changed.{changed_key}
 use Rattle.places.specs.Places.{changes, Knows, HoldsOfKey}
 use Rattle.places.specs.Entries.{AreEntries, IsChangeBy, value_left}
 use Rattle.record.specs.MapRecord.{map_call}
-use Rattle.script.specs.declared.command.Command.TheVariants.{Llx as LlxOf, Scx as ScxOf, Vlx as VlxOf, Set as SetOf, Insert as InsertOf, Delete as DeleteOf, Get as GetOf}
+use Rattle.script.specs.declared.command.Command.TheVariants.{Llx as LlxOf, Scx as ScxOf, Vlx as VlxOf, Set as SetOf, Insert as InsertOf, Delete as DeleteOf, Get as GetOf, Successor as SuccessorOf, Range as RangeOf}
 use Rattle.script.specs.declared.command.Call.{Call}
 use Rattle.script.specs.declared.command.Command.{Command}
 use Rattle.record.specs.declared.record.Line.{Line}
@@ -227,6 +227,8 @@ module _ (p : Player) (i number : ℕ) (step : Ask) (a : IsAsked p i number step
       by_command (LlxOf cell) here does = absurd does
       by_command (VlxOf cells) here does = absurd does
       by_command (GetOf key) here does = absurd does
+      by_command (SuccessorOf key) here does = absurd does
+      by_command (RangeOf span) here does = absurd does
       by_command (ScxOf update) here does = absurd (let z : Records ≡ Tree = command_mode lay.mode calls entry.client.0 _ (ScxOf update) a.turn.so_far.of_mode here ∙ tree in cc)
       by_command (SetOf field put) here does = absurd (let z : Records ≡ Tree = command_mode lay.mode calls entry.client.0 _ (SetOf field put) a.turn.so_far.of_mode here ∙ tree in cc)
 

@@ -1,6 +1,6 @@
 -- What the turns of one client add.
 use Rattle.std.proofs.Common.{◌≡◌, ◌≢◌, ℕ, suc, ◌+◌, ◌*◌, ◌-◌, ◌<◌, ◌≤◌, ◌⊎◌, inl, inr, Bool, true, false, cond, eqb, eqb-true, eq-eqb, append_assoc, length-append, List, [], ◌∷◌, ◌++◌, length, replicate, Option, Some, None, is_some, refl, sym, ◌∙◌, ap, subst, arith}
-use Rattle.std.proofs.Math.Nat.{mul-le-mul_left}
+use Rattle.std.proofs.Math.Nat.{mul-le-mul, mul-le-mul_left}
 use Rattle.std.proofs.lemmas.Option.{slice_get_within}
 use Rattle.std.proofs.lemmas.List.{length-take}
 use Rattle.histories.proofs.Lemmas.{lawful_tail}
@@ -11,7 +11,7 @@ use Rattle.arena.specs.declared.limits.Limits.{Limits}
 use Rattle.arena.specs.declared.step.Kind.{Kind}
 use Rattle.script.specs.declared.command.Call.{Call}
 use Rattle.script.specs.declared.command.Command.{Command}
-use Rattle.script.specs.declared.command.Command.TheVariants.{Llx, Scx, Vlx, Set, Insert, Delete, Get}
+use Rattle.script.specs.declared.command.Command.TheVariants.{Llx, Scx, Vlx, Set, Insert, Delete, Get, Successor, Range}
 use Rattle.record.specs.declared.record.Line.{Line}
 use Rattle.record.specs.declared.record.Line.TheVariants.{Step, Log, Reply}
 use Rattle.record.specs.declared.record.Reply.{Reply as ReplyOf}
@@ -165,9 +165,15 @@ most_few lay tries (Llx cell) taken i = omega arith
 most_few lay tries (Scx update) taken i = omega arith
 most_few lay tries (Vlx cells) taken i = let few = cells.few in grind (arith, length-take)
 most_few lay tries (Set field value) taken i = omega arith
-most_few lay tries (Insert key value) taken i = let more : tries * (3 * (2 + taken) + 178) ≤ tries * (3 * (2 + lay.passes * lay.nodes) + 301) = mul-le-mul_left tries (omega (arith, i)) in omega (arith, more)
-most_few lay tries (Delete key) taken i = let more : tries * (3 * (2 + taken) + 301) ≤ tries * (3 * (2 + lay.passes * lay.nodes) + 301) = mul-le-mul_left tries (omega (arith, i)) in omega (arith, more)
+most_few lay tries (Insert key value) taken i = let more : tries * (3 * (2 + taken) + 178) ≤ tries * (4422 * (2 + lay.passes * lay.nodes) + 301) = mul-le-mul_left tries (omega (arith, i)) in omega (arith, more)
+most_few lay tries (Delete key) taken i = let more : tries * (3 * (2 + taken) + 301) ≤ tries * (4422 * (2 + lay.passes * lay.nodes) + 301) = mul-le-mul_left tries (omega (arith, i)) in omega (arith, more)
 most_few lay tries (Get key) taken i = omega (arith, i)
+most_few lay tries (Successor key) taken i = let more : tries * (137 * (2 + taken)) ≤ tries * (4422 * (2 + lay.passes * lay.nodes) + 301) = mul-le-mul_left tries (omega (arith, i)) in omega (arith, more)
+most_few lay tries (Range span) taken i =
+    let few : span.most ≤ 64 = span.few in
+    let deep : (span.most + 2) * (67 * (2 + taken)) ≤ 66 * (67 * (2 + lay.passes * lay.nodes)) = mul-le-mul (omega (arith, few)) (omega (arith, i)) in
+    let more : tries * ((span.most + 2) * (67 * (2 + taken))) ≤ tries * (4422 * (2 + lay.passes * lay.nodes) + 301) = mul-le-mul_left tries (omega (arith, deep)) in
+    omega (arith, more)
 
 -- so the client of a lawful run has made few since its last reply
 steps_few : (lay : Layout) (tries : ℕ) (calls : List Call) (lines : List Line) (c : ℕ) → Lawful lay (history lay.mode lines) → AreLines lay tries calls lines → steps lines c ≤ most_of_all lay tries

@@ -22,9 +22,9 @@ use Rattle.prims.specs.Snaps.{IsAmong}
 use Rattle.prims.specs.Snap.{snap_at}
 use Rattle.prims.specs.declared.snap.Snap.{Snap}
 use Rattle.script.specs.declared.command.Command.{Command}
-use Rattle.script.specs.declared.command.Command.TheVariants.{Llx as LlxOf, Scx as ScxOf, Vlx as VlxOf, Set as SetOf, Insert as InsertOf, Delete as DeleteOf, Get as GetOf}
+use Rattle.script.specs.declared.command.Command.TheVariants.{Llx as LlxOf, Scx as ScxOf, Vlx as VlxOf, Set as SetOf, Insert as InsertOf, Delete as DeleteOf, Get as GetOf, Successor as SuccessorOf, Range as RangeOf}
 use Rattle.player.specs.declared.run.Run.{Run}
-use Rattle.player.specs.declared.run.Run.TheVariants.{Llx, Scx, Vlx, Edit, Get}
+use Rattle.player.specs.declared.run.Run.TheVariants.{Llx, Scx, Vlx, Edit, Get, Read}
 use Rattle.player.specs.declared.client.Client.{Client}
 use Rattle.player.specs.declared.client.Running.{Running}
 use Rattle.player.specs.declared.client.Put.{Put}
@@ -38,6 +38,7 @@ use Rattle.prims.specs.Shares.{IsShare}
 use Rattle.player.proofs.Over.{IsNoEdit, takes_by_own, nodes_by_own}
 use Rattle.prims.specs.declared.put.PutRun.{PutRun}
 use Rattle.arena.specs.declared.step.Kind.TheVariants.{LoadInfo}
+use Rattle.player.proofs.ReadMachines.{read_fills_not}
 
 some_number : (a b : ℕ) → Some a ≡ Some b → a ≡ b
 some_number a b e = cc
@@ -58,6 +59,7 @@ share_by_own (Llx m) call h step left node scx is l w newest x = share_by_step c
 share_by_own (Vlx m) call h step left node scx is l w newest x = share_by_step call.layout h (row_of call step h) call.pass left node scx l (vlx_fills_not m.snaps m.asked call h step w) x
 share_by_own (Edit m) call h step left node scx is l w newest x = absurd is
 share_by_own (Get m) call h step left node scx is l w newest x = share_by_step call.layout h (row_of call step h) call.pass left node scx l (get_fills_not m call h step w) x
+share_by_own (Read m) call h step left node scx is l w newest x = share_by_step call.layout h (row_of call step h) call.pass left node scx l (read_fills_not m call h step w) x
 share_by_own (Scx m) call h step left node scx is l w newest x = share_by_put AllowsAll m call h step left node scx l w newest.0 newest.1 x
 
 -- the view with one row more, with this begin of the call, so many steps of its own, and this turn
@@ -91,6 +93,7 @@ covers_waits (Llx m) call h step left is l w share = covers_none call.layout h c
 covers_waits (Vlx m) call h step left is l w share = covers_none call.layout h call.pass left _ _ l share
 covers_waits (Edit m) call h step left is l w share = absurd is
 covers_waits (Get m) call h step left is l w share = covers_none call.layout h call.pass left _ _ l share
+covers_waits (Read m) call h step left is l w share = covers_none call.layout h call.pass left _ _ l share
 covers_waits (Scx m) call h step left is l w share = λ n own p x. put_covers AllowsAll m call h step n w p x
 
 covers_ready : (run : Run) (call : Call) (h : History) (v : ℕ) (left : Remaining) → IsNoEdit run → Lawful call.layout h → RunIsReady run call h (Some v) → IsShare call.layout h call.pass left (in_hand left run).node (in_hand left run).scx → Covers call.layout h call.pass (in_hand left run)
@@ -98,6 +101,7 @@ covers_ready (Llx m) call h v left is l w share = covers_none call.layout h call
 covers_ready (Vlx m) call h v left is l w share = covers_none call.layout h call.pass left _ _ l share
 covers_ready (Edit m) call h v left is l w share = absurd is
 covers_ready (Get m) call h v left is l w share = covers_none call.layout h call.pass left _ _ l share
+covers_ready (Read m) call h v left is l w share = covers_none call.layout h call.pass left _ _ l share
 covers_ready (Scx m) call h v left is l w share = λ n own p x. put_covers_then AllowsAll m call h v n w p x
 
 -- One more row
@@ -216,6 +220,7 @@ module _ (v : ClientView) (c : Client) (r : Row) (number : ℕ) (start : History
   won_more_by (Vlx m) same since x w = no_win (no_hand (held c)) x refl w
   won_more_by (Edit m) same since x w = won_since same since w
   won_more_by (Get m) same since x w = no_win (no_hand (held c)) x refl w
+  won_more_by (Read m) same since x w = no_win (no_hand (held c)) x refl w
 
   late_more : c.begin ≤ number → ((turn : ℕ) → v.won ≡ Some turn → c.begin ≤ turn) → (turn : ℕ) → won ≡ Some turn → c.begin ≤ turn
   late_more i f turn e = ⊎_elim (λ q. f turn (sym q ∙ e)) (λ y. let same : number ≡ turn = some_number number turn (sym y.0 ∙ e) in rw same at i) tells.no
@@ -234,6 +239,8 @@ module _ (v : ClientView) (c : Client) (r : Row) (number : ℕ) (start : History
       source_more (InsertOf key value) n moment y = y
       source_more (DeleteOf key) n moment y = y
       source_more (GetOf key) n moment y = y
+      source_more (SuccessorOf key) n moment y = y
+      source_more (RangeOf span) n moment y = y
 
   -- an LLX has no snapshots yet, and those of a VLX are kept ones
   moments_by : (q : Run) (then : Option Put) (command : Command) → start ≡ v.start → ((m : PutRun) → q ≡ Scx m → r.pass.0 ≡ c.pass.0 → r.kind ≢ LoadInfo) → IsMachineOf command c.number q then → HaveMoments v c.pass.0 command (snaps_of q) → HaveMoments (after_row v r start steps won) c.pass.0 command (snaps_of q)
@@ -242,10 +249,13 @@ module _ (v : ClientView) (c : Client) (r : Row) (number : ℕ) (start : History
   moments_by (Vlx m) then (VlxOf cells) since looks of x = λ i p. let y = x i p in record { moment = y.moment; found = moment_more v.layout v.past r (snap_at m.snaps i) y.moment y.found; source = y.source }
   moments_by (Edit m) then command since looks of x = λ i p. absurd (omega arith)
   moments_by (Get m) then command since looks of x = λ i p. absurd (omega arith)
+  moments_by (Read m) then command since looks of x = λ i p. absurd (omega arith)
   moments_by (Vlx m) then (InsertOf key value) since looks of x = absurd of
   moments_by (Vlx m) then (DeleteOf key) since looks of x = absurd of
   moments_by (Vlx m) then (LlxOf cell) since looks of x = absurd of
   moments_by (Vlx m) then (GetOf key) since looks of x = absurd of
+  moments_by (Vlx m) then (SuccessorOf key) since looks of x = absurd of
+  moments_by (Vlx m) then (RangeOf span) since looks of x = absurd of
   moments_by (Vlx m) then (ScxOf update) since looks of x = absurd of
   moments_by (Vlx m) then (SetOf field x) since looks of y = absurd of
 
@@ -261,6 +271,7 @@ module _ (v : ClientView) (c : Client) (r : Row) (number : ℕ) (start : History
   took (Scx m) share leaves e y = took_hand (in_hand (held c) (Scx m)) leaves.0 leaves.1 e y
   took (Vlx m) share leaves e y = took_hand (in_hand (held c) (Vlx m)) leaves.0 leaves.1 e y
   took (Get m) share leaves e y = took_hand (in_hand (held c) (Get m)) leaves.0 leaves.1 e y
+  took (Read m) share leaves e y = took_hand (in_hand (held c) (Read m)) leaves.0 leaves.1 e y
 
   roomy : (q : Run) → start ≡ v.start → IsRoomy v c.pass.0 q → IsRoomy (after_row v r start steps won) c.pass.0 q
   roomy (Scx m) e y = subst (λ (k : History). HasRoom v.layout c.pass.0 k) (sym e) y
@@ -268,6 +279,7 @@ module _ (v : ClientView) (c : Client) (r : Row) (number : ℕ) (start : History
   roomy (Vlx m) e y = tt
   roomy (Edit m) e y = tt
   roomy (Get m) e y = tt
+  roomy (Read m) e y = tt
 
   -- a machine has started at the begin of its call or later
   begun_since : (q : Run) (start : History) → Extends v.past start → IsStart q start v.start → Extends v.past v.start
@@ -276,6 +288,7 @@ module _ (v : ClientView) (c : Client) (r : Row) (number : ℕ) (start : History
   begun_since (Vlx m) start since begun = subst (λ (k : History). Extends v.past k) begun since
   begun_since (Edit m) start since begun = subst (λ (k : History). Extends v.past k) begun since
   begun_since (Get m) start since begun = subst (λ (k : History). Extends v.past k) begun since
+  begun_since (Read m) start since begun = subst (λ (k : History). Extends v.past k) begun since
 
   -- a machine still runs
   works_more : (q : Run) (then : Option Put) → start ≡ v.start → c.begin ≤ number → ((m : PutRun) → q ≡ Scx m → r.pass.0 ≡ c.pass.0 → r.kind ≢ LoadInfo) → LeavesHand v c r q → IsClientState (after_row v r start steps won) c (in_hand (held c) q) → Holds (after_row v r start steps won) c q → Works v c q then → Works (after_row v r start steps won) c q then
@@ -324,6 +337,7 @@ module _ (v : ClientView) (c : Client) (r : Row) (number : ℕ) (start : History
   still_stands (Scx m) step p start w mode x h = record { stands = hand_then _ (covers_waits (Scx m) (machine_call v c p start) (r ⊳ v.past) step (held c) tt run.lawful w (share_then _ h).share) x h; holds = share_then _ h; leaves = (takes_by_others v.layout c.pass.0 _ v.past r run.lawful other, λ n own d. nodes_then n own) }
   still_stands (Vlx m) step p start w mode x h = record { stands = hand_then _ (covers_waits (Vlx m) (machine_call v c p start) (r ⊳ v.past) step (held c) tt run.lawful w (share_then _ h).share) x h; holds = share_then _ h; leaves = (takes_by_others v.layout c.pass.0 _ v.past r run.lawful other, λ n own d. nodes_then n own) }
   still_stands (Get m) step p start w mode x h = record { stands = hand_then _ (covers_waits (Get m) (machine_call v c p start) (r ⊳ v.past) step (held c) tt run.lawful w (share_then _ h).share) x h; holds = share_then _ h; leaves = (takes_by_others v.layout c.pass.0 _ v.past r run.lawful other, λ n own d. nodes_then n own) }
+  still_stands (Read m) step p start w mode x h = record { stands = hand_then _ (covers_waits (Read m) (machine_call v c p start) (r ⊳ v.past) step (held c) tt run.lawful w (share_then _ h).share) x h; holds = share_then _ h; leaves = (takes_by_others v.layout c.pass.0 _ v.past r run.lawful other, λ n own d. nodes_then n own) }
 
   rests_by_others : Rests v c → Rests (after_row v r start v.steps won) c
   rests_by_others x = record { stands = hand_then (no_hand (held c)) (covers_none v.layout (r ⊳ v.past) c.pass.0 (held c) _ _ run.lawful (share_then (no_hand (held c)) x.holds).share) x.stands x.holds; holds = share_then (no_hand (held c)) x.holds; none = x.none }
@@ -375,6 +389,7 @@ module _ (v : ClientView) (c : Client) (q : Running) (sound : IsSound v) (w : Wa
   stands_then won (Scx m) found waits ready mode newest x h = let y = hand_stands won (Scx m) found tt waits ready newest x h in record { stands = y.0; holds = y.1; leaves = (y.2, y.3) }
   stands_then won (Vlx m) found waits ready mode newest x h = let y = hand_stands won (Vlx m) found tt waits ready newest x h in record { stands = y.0; holds = y.1; leaves = (y.2, y.3) }
   stands_then won (Get m) found waits ready mode newest x h = let y = hand_stands won (Get m) found tt waits ready newest x h in record { stands = y.0; holds = y.1; leaves = (y.2, y.3) }
+  stands_then won (Read m) found waits ready mode newest x h = let y = hand_stands won (Read m) found tt waits ready newest x h in record { stands = y.0; holds = y.1; leaves = (y.2, y.3) }
 
   -- the machine may be told what the step found
   pub hears : (number : ℕ) (won : Option ℕ) → TellsWon v c.pass.0 (own_row v c q.step) number won → c.begin ≤ number → (found : ℕ) → IsTold q.step.access (value v.past q.step.word) found → Hears (after_row v (own_row v c q.step) v.start (suc v.steps) won) c q found

@@ -20,21 +20,24 @@ use Rattle.prims.specs.Snaps.{IsAmong}
 use Rattle.prims.specs.Updates.{update_field_index}
 use Rattle.prims.specs.declared.put.PutRun.{PutRun}
 use Rattle.prims.specs.declared.snap.Snap.{Snap}
-use Rattle.spelling.specs.OrderedMap.{get, edit_key}
+use Rattle.places.specs.Replied.{HasReplied}
+use Rattle.spelling.specs.OrderedMap.{MapCall, Successor, Range, MapReply, get, reply, edit_key}
 use Rattle.spelling.specs.Spelled.{Spells}
 use Rattle.spelling.specs.declared.pair.Pair.{Pair}
 use Rattle.script.specs.declared.command.Call.{Call}
 use Rattle.script.specs.declared.command.Command.{Command}
-use Rattle.script.specs.declared.command.Command.TheVariants.{Llx as LlxOf, Scx as ScxOf, Vlx as VlxOf, Set as SetOf, Insert as InsertOf, Delete as DeleteOf, Get as GetOf}
+use Rattle.script.specs.declared.command.Command.TheVariants.{Llx as LlxOf, Scx as ScxOf, Vlx as VlxOf, Set as SetOf, Insert as InsertOf, Delete as DeleteOf, Get as GetOf, Successor as SuccessorOf, Range as RangeOf}
 use Rattle.record.specs.declared.record.Line.{Line}
 use Rattle.record.specs.declared.record.Answer.{Answer}
 use Rattle.script.specs.Cells.{cells_of}
 use Rattle.script.specs.Update.{update_cells, update_finalize, update_field, update_value}
 use Rattle.record.specs.declared.record.Answer.TheVariants.{Full, Value}
 use Rattle.player.specs.EditRuns.{IsUnbegunEdit, edit_of, call_of, edit_command}
+use Rattle.player.specs.ReadRuns.{HasReadTries, IsReadBy}
 use Rattle.player.specs.declared.edit.EditRun.{EditRun}
+use Rattle.player.specs.declared.read.ReadRun.{ReadRun}
 use Rattle.player.specs.declared.run.Run.{Run}
-use Rattle.player.specs.declared.run.Run.TheVariants.{Llx, Scx, Vlx, Edit, Get}
+use Rattle.player.specs.declared.run.Run.TheVariants.{Llx, Scx, Vlx, Edit, Get, Read}
 use Rattle.player.specs.declared.client.Client.{Client}
 use Rattle.player.specs.declared.client.Running.{Running}
 use Rattle.player.specs.declared.client.Put.{Put}
@@ -49,6 +52,7 @@ use Rattle.player.specs.Place.{IsAt}
 use Rattle.record.specs.Turns.{history, answered, start, steps, won}
 use Rattle.record.specs.Commands.{commands}
 use Rattle.record.specs.Linked.{linked}
+use Rattle.record.specs.MapRecord.{reply_told}
 use Rattle.record.specs.CommandRules.{linked_then, most_steps, MayAnswerAtOnce, MayAnswerAfterStep, HasTakenFew, enters, IsRight}
 use Rattle.record.specs.Snapshots.{IsLastLook}
 use Rattle.record.specs.Answers.{HasRoom, HasItsEntry}
@@ -138,6 +142,10 @@ abbrev pub IsGetOf : Command → ℕ → Option Put → Type 0
 IsGetOf (GetOf key) k None = k ≡ key
 IsGetOf _ k then = ⊥
 
+-- an ordered read, with nothing behind it, is the one that the command is
+abbrev pub IsReadOf : Command → ReadRun → Option Put → Type 0
+IsReadOf command m then = IsReadBy m command × (then ≡ None)
+
 -- an edit in the client's call of this number is the one that the command is
 pub record IsEditOf (command : Command) (number : ℕ) (m : EditRun) (then : Option Put) : Type 0 where
   pub is : command ≡ edit_command (edit_of m)
@@ -151,6 +159,7 @@ IsMachineOf command number (Scx m) then = IsScxOf command number m then
 IsMachineOf command number (Vlx m) then = IsVlxOf command m.snaps then
 IsMachineOf command number (Edit m) then = (edit_key (edit_of m) < 2 ^ 64) × IsEditOf command number m then
 IsMachineOf command number (Get m) then = IsGetOf command m.key then
+IsMachineOf command number (Read m) then = IsReadOf command m then
 
 -- a client between two turns, but for its machine: its next call is the first that is not answered
 pub record IsClientState (v : ClientView) (c : Client) (hand : Hand) : Type 0 where
@@ -205,6 +214,7 @@ snaps_of (Scx m) = m.scx.update.snaps
 snaps_of (Vlx m) = m.snaps
 snaps_of (Edit m) = []
 snaps_of (Get m) = []
+snaps_of (Read m) = []
 
 -- the moment is that of the snapshot of node n: for a `set` one of the call itself, else that of
 -- the snapshot which the client keeps
@@ -294,9 +304,11 @@ pub record Works (v : ClientView) (c : Client) (run : Run) (then : Option Put) :
 -- for and those of what follows it, are no more than the call may make, however many nodes are
 -- taken. A step that the machine waits for counts too.
 
--- an edit of the map stands at its start, with as many tries as a call may make
+-- an edit of the map stands at its start, and that or an ordered read has as many tries as a call
+-- may make
 abbrev pub HasAllTries : Run → ℕ → Type 0
 HasAllTries (Edit m) tries = IsUnbegunEdit m tries
+HasAllTries (Read m) tries = HasReadTries m tries
 HasAllTries _ tries = Unit {0}
 
 -- the machine has not asked for a step yet
@@ -382,10 +394,18 @@ pub record HasEdited (v : ClientView) (c key : ℕ) (old : Option ℕ) : Type 0 
   pub win : IsOwnWin v c row before scx
   pub told : (map : List Pair) → Spells v.layout (value before) map → get key map ≡ old
 
--- what an edit tells is what its own row has found; a delete of an absent key has none
+-- what a call tells the map has replied in the call's own time; or it replies so whatever it has
+abbrev pub HasToldMap : ClientView → MapCall → Option MapReply → Type 0
+HasToldMap v call None = Unit {0}
+HasToldMap v call (Some told) = HasReplied v.layout v.past v.start call told ⊎ ((m : List Pair) → reply call m ≡ told)
+
+-- what an edit tells is what its own row has found, and a delete of an absent key has none; what an
+-- ordered read tells the map has replied
 abbrev pub Tells : ClientView → ℕ → Command → Answer → Type 0
 Tells v c (InsertOf key value) (Value old) = HasEdited v c key old
 Tells v c (DeleteOf key) (Value (Some old)) = HasEdited v c key (Some old)
+Tells v c (SuccessorOf key) answer = HasToldMap v (Successor key) (reply_told answer)
+Tells v c (RangeOf span) answer = HasToldMap v (Range span.low span.high span.most) (reply_told answer)
 Tells v c command answer = Unit {0}
 
 -- the client's call is answered, and the answer is right

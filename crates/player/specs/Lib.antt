@@ -1,6 +1,7 @@
 pub mod Allowed
 pub mod Moments
 pub mod EditRuns
+pub mod ReadRuns
 pub mod RunSteps
 pub mod RunKnown
 pub mod Lines

@@ -19,8 +19,9 @@ use Rattle.prims.specs.declared.vlx.Vlx.TheVariants.{Same as VlxSame, Changed as
 use Rattle.record.specs.declared.record.Answer.{Answer}
 use Rattle.record.specs.declared.record.Answer.TheVariants.{Snapshot, Finalized, Fail, Done, Lost, Same, Changed, Full, Value, Contended}
 use Rattle.player.specs.EditRuns.{EditIsReady, EditWaits, EditAnswers, edit_of, call_of, share_of}
+use Rattle.player.specs.ReadRuns.{ReadIsReady, ReadWaits, ReadAnswers, IsSameRead}
 use Rattle.player.specs.declared.run.Run.{Run}
-use Rattle.player.specs.declared.run.Run.TheVariants.{Llx, Scx, Vlx, Edit, Get}
+use Rattle.player.specs.declared.run.Run.TheVariants.{Llx, Scx, Vlx, Edit, Get, Read}
 use Rattle.player.specs.declared.run.Ended.{Ended}
 use Rattle.player.specs.declared.run.Ended.TheVariants as ended
 
@@ -31,6 +32,7 @@ RunIsReady (Scx m) c h got = PutIsReady AllowsAll m c h got
 RunIsReady (Vlx m) c h got = VlxIsReady m.snaps m.asked c h got
 RunIsReady (Edit m) c h got = EditIsReady m c h got
 RunIsReady (Get m) c h got = GetIsReady m c h got
+RunIsReady (Read m) c h got = ReadIsReady m c h got
 
 -- the machine of a call waits for this step, as the one inside
 abbrev pub RunWaits : Run → Call → History → Step → Type 0
@@ -39,6 +41,7 @@ RunWaits (Scx m) c h s = PutWaits AllowsAll m c h s
 RunWaits (Vlx m) c h s = VlxWaits m.snaps m.asked c h s
 RunWaits (Edit m) c h s = EditWaits m c h s
 RunWaits (Get m) c h s = GetWaits m c h s
+RunWaits (Read m) c h s = ReadWaits m c h s
 
 -- what the answer of the machine says, which is one of its own kind
 abbrev pub RunAnswers : Run → Call → History → Ended → Type 0
@@ -47,6 +50,7 @@ RunAnswers (Scx m) c h (ended.Scx a) = PutAnswers m c h a
 RunAnswers (Vlx m) c h (ended.Vlx a) = VlxAnswers m.snaps c h a
 RunAnswers (Edit m) c h (ended.Edit a) = EditAnswers m c h a
 RunAnswers (Get m) c h (ended.Get a) = GetAnswers m c h a
+RunAnswers (Read m) c h (ended.Read a) = ReadAnswers m c h a
 RunAnswers _ c h _ = ⊥
 
 -- what the record says where a machine has answered so
@@ -62,6 +66,7 @@ answer_of (ended.Edit (UpdateDone found)) = Value found.value
 answer_of (ended.Edit (UpdateContended node scx)) = Contended node scx
 answer_of (ended.Edit (UpdateFull full)) = Full full.what full.left
 answer_of (ended.Get value) = Value value
+answer_of (ended.Read answer) = answer
 
 -- the two are machines of one kind, and of one call
 abbrev pub IsSameMachine : Run → Run → Type 0
@@ -70,17 +75,15 @@ IsSameMachine (Scx old) (Scx now) = (now.scx.scx ≡ old.scx.scx) × (now.scx.up
 IsSameMachine (Vlx old) (Vlx now) = now.snaps ≡ old.snaps
 IsSameMachine (Edit old) (Edit now) = (edit_of now ≡ edit_of old) × (call_of now ≡ call_of old)
 IsSameMachine (Get old) (Get now) = now.key ≡ old.key
+IsSameMachine (Read old) (Read now) = IsSameRead old now
 IsSameMachine _ _ = ⊥
 
 -- the mode in whose scripts the machine runs
 abbrev pub run_mode : Run → Mode
 run_mode (Edit m) = Tree
 run_mode (Get m) = Tree
+run_mode (Read m) = Tree
 run_mode _ = Records
-
--- the machine makes a step before it answers: all do
-abbrev pub RunAsksFirst : Run → Type 0
-RunAsksFirst m = Unit {0}
 
 -- the share that the machine has, if it has one: an edit has its client's
 abbrev pub share_in : Run → Option Remaining

@@ -6,9 +6,10 @@ use Rattle.prims.specs.Put.Steps.{put_left}
 use Rattle.prims.specs.Vlx.Steps.{vlx_left}
 use Rattle.template.specs.Walk.Steps.{walk_left}
 use Rattle.player.specs.EditRuns.{edit_left, HasSpentOf, HasSpentAllOf, HasSpentTries, HasSpentAllTries}
+use Rattle.player.specs.ReadRuns.{read_left}
 use Rattle.player.specs.declared.client.Put.{Put}
 use Rattle.player.specs.declared.run.Run.{Run}
-use Rattle.player.specs.declared.run.Run.TheVariants.{Llx, Scx, Vlx, Edit, Get}
+use Rattle.player.specs.declared.run.Run.TheVariants.{Llx, Scx, Vlx, Edit, Get, Read}
 
 -- how many steps the machine of a call may still ask for, where no more nodes than these are taken
 abbrev pub run_left : Run → ℕ → ℕ
@@ -17,6 +18,7 @@ run_left (Scx run) nodes = put_left run
 run_left (Vlx run) nodes = vlx_left run.snaps run.asked
 run_left (Edit run) nodes = edit_left run nodes
 run_left (Get run) nodes = walk_left run.walk.at nodes
+run_left (Read run) nodes = read_left run nodes
 
 -- how many steps what follows the machine may ask for: 40 for the SCX of a `set`
 abbrev pub then_left : Option Put → ℕ

@@ -4,13 +4,16 @@ ghost use Rattle.std.specs.Prelude.{◌≡◌, ℕ, ◌+◌, ◌<◌, ◌≤◌,
 use crate::edit::Edit;
 use crate::kept::Kept;
 use crate::place::next_call;
+use crate::read::ReadRun;
 use crate::run::{Ended, Run};
 use arena::{Fresh, Full, Layout, NodeNo, PassNo, Resource, ScxNo, Share, Side, Step, Turn};
 use arrayvec::ArrayVec;
+use order::{RangeRun, SuccessorRun};
 use places::Places;
 use prims::{Llx, LlxRun, PutRun, ScxRun, Snap, Snaps, Update, VlxRun};
 use record::{Answer, Reply};
-use script::{Call, Cell, Command};
+use script::{Call, Cell, Command, Span};
+use std::alloc::Global;
 use tree::{Delete, GetRun, Insert};
 
 /// What a `set` does once its LLX has given a snapshot.
@@ -29,7 +32,7 @@ struct Running {
 }
 
 /// How a client stands before a turn.
-#[derive(Clone, Copy, Debug, PartialEq, Eq)]
+#[derive(Debug, Drop, PartialEq, Eq)]
 pub(crate) enum NextAction {
     /// It has no call left.
     Finished,
@@ -40,6 +43,8 @@ pub(crate) enum NextAction {
 
 #[derive(Debug, Drop)]
 pub(crate) struct Client {
+    /// With what ordered reads grow.
+    alloc: Global,
     pass: PassNo,
     /// How often a call may try.
     tries: u32,
@@ -59,7 +64,7 @@ impl Client {
     ghost use Rattle.std.specs.Prelude.{◌≡◌, ◌≢◌, ◌<◌, ◌≤◌, ◌+◌, ◌-◌, Option, Some, None, IsSome, IfSome, is_some, IfOk, OnOk, IfErr, List, [], length, map, slice_get, MatchOption, All};
     ghost use Rattle.script.specs.Commands.{mode_of};
     ghost use Rattle.arena.specs.declared.limits.Mode.TheVariants.{Records};
-    ghost use Rattle.script.specs.declared.command.Command.TheVariants.{Scx as ScxCommand};
+    ghost use Rattle.script.specs.declared.command.Command.TheVariants.{Scx as ScxCommand, Range as RangeCommand};
     ghost use Rattle.arena.specs.History.{History};
     ghost use Rattle.prims.specs.declared.snap.Snap.{Snap};
     ghost use Rattle.player.specs.declared.run.Run.{Run};
@@ -74,17 +79,23 @@ impl Client {
     ghost use Rattle.arena.specs.Share.{IsFull, after_taking};
     ghost use Rattle.record.specs.declared.record.Line.{Line};
     ghost use Rattle.places.specs.Places.{changes};
-    ghost use Rattle.player.specs.Moments.{IsMomentBy, IsValueMoment};
+    ghost use Rattle.player.specs.Moments.{IsMomentBy, IsPairsMoment, IsValueMoment};
     ghost use Rattle.player.specs.RunKnown.{share_behind};
-    ghost use Rattle.player.specs.RunKnown.{RunAsksFirst};
     ghost use Rattle.player.specs.ClientView.{ClientView, client_view, IsSound, IsAtNextCall, Rests, command_of, Starts, Hears, Answered, Told, CanPut, Puts, held, BeginsOrRefuses, IsNextAction, IsUnbegun, IsClient};
 
-    pub(crate) fn new(layout: &Layout, tries: u32, pass: PassNo, calls: &[Call]) -> Client
+    pub(crate) fn new(
+        alloc: Global,
+        layout: &Layout,
+        tries: u32,
+        pass: PassNo,
+        calls: &[Call],
+    ) -> Client
         requires { pass.0 < layout.now.passes }
         ensures pass { result.pass ≡ pass }
         ensures rests { Rests (client_view layout.now tries calls.now [] pass.0) result }
     {
         Client {
+            alloc,
             pass,
             tries,
             share: Some(Share::of(layout, pass)),
@@ -169,6 +180,11 @@ impl Client {
             }
             Command::Delete { key } => self.begin_edit(Edit::Delete(Delete { key })),
             Command::Get { key } => self.run(Run::Get(GetRun::new(key)), None),
+            Command::Successor { key } => {
+                let run = SuccessorRun::new(self.alloc, key, self.tries);
+                self.run(Run::Read(ReadRun::Successor(run)), None)
+            }
+            Command::Range(span) => self.begin_range(&span),
         }
     }
 
@@ -179,6 +195,18 @@ impl Client {
         let share = self.share.take()?;
         let run = edit.run(share, self.tries, self.number);
         self.run(Run::Edit(run), None)
+    }
+
+    /// Begins a range; one that takes nothing answers at once.
+    fn begin_range(&mut self, span: &Span) -> Option<Answer>
+        ensures { (v : ClientView) (began : Option ℕ) → IsSound v → 0 < v.tries → v.layout.mode ≡ Tree → Rests v self.old → IsUnbegun v began → command_of v self.old ≡ Some (RangeCommand span.now) → BeginsOrRefuses v self.old.begin self.old self.new result }
+    {
+        if span.most == 0 || span.high < span.low {
+            return Some(Answer::Pairs(Vec::new(self.alloc)));
+        }
+        let most = span.most as usize;
+        let run = RangeRun::new(self.alloc, span.low, span.high, most, self.tries);
+        self.run(Run::Read(ReadRun::Range(run)), None)
     }
 
     /// Takes the snapshots and the records of an `scx`, if they are there.
@@ -237,10 +265,10 @@ impl Client {
         taken
     }
 
-    /// Runs a machine from its start. It may answer at once; the call then makes no step.
+    /// Runs a machine from its start, which asks for a step first.
     fn run(&mut self, mut run: Run, then: Option<Put>) -> Option<Answer>
         ensures begins { (v : ClientView) → IsSound v → Starts v self.old run then → BeginsOrRefuses v self.old.begin self.old self.new result }
-        ensures asks { (v : ClientView) → IsSound v → Starts v self.old run then → RunAsksFirst run → result ≡ None }
+        ensures asks { (v : ClientView) → IsSound v → Starts v self.old run then → result ≡ None }
     {
         match run.next(None) {
             Turn::Ask(step) => {
@@ -346,26 +374,49 @@ impl Client {
     }
 
     /// The turn at which an answer stands: of an update that is done, and of an edit, that of its
-    /// entry, of a VLX its first, of an LLX its last, of a get, and of a delete of an absent key, the
-    /// greatest within the call, whoever's, after which the map was as it tells. `won` is the turn of
-    /// the last update of the client's that has won.
+    /// entry, of a VLX its first, of an LLX its last, of a reading of the map the greatest within the
+    /// call, whoever's, after which the map was as it tells. `won` is the turn of the last update of
+    /// the client's that has won.
     pub(crate) fn moment(
         &self,
         calls: &[Call],
         turn: u64,
-        answer: Answer,
+        answer: &Answer,
         won: Option<u64>,
         places: &Places,
     ) -> Option<u64>
         requires { self.now.begin ≤ turn }
-        ensures { (call : ScriptCall) (at : ℕ) (lines : List Line) → self.now.next ≡ Some at → slice_get calls.now at ≡ Some call → IsMomentBy calls.now lines (changes places.now) call.command answer self.now.begin turn won result }
+        ensures { (call : ScriptCall) (at : ℕ) (lines : List Line) → self.now.next ≡ Some at → slice_get calls.now at ≡ Some call → IsMomentBy calls.now lines (changes places.now) call.command answer.now self.now.begin turn won result }
     {
         match answer {
             Answer::Done => won,
             Answer::Same => Some(self.begin),
             Answer::Snapshot { left: _, right: _ } => Some(turn),
             Answer::Finalized => Some(turn),
-            Answer::Value(value) => self.value_moment(calls, turn, value, won, places),
+            Answer::Value(value) => self.value_moment(calls, turn, *value, won, places),
+            Answer::Pair(_) => self.pairs_moment(calls, turn, answer, places),
+            Answer::Pairs(_) => self.pairs_moment(calls, turn, answer, places),
+            _ => None,
+        }
+    }
+
+    /// The turn at which an answer stands that tells pairs.
+    fn pairs_moment(
+        &self,
+        calls: &[Call],
+        turn: u64,
+        answer: &Answer,
+        places: &Places,
+    ) -> Option<u64>
+        requires { self.now.begin ≤ turn }
+        ensures { (call : ScriptCall) (at : ℕ) (lines : List Line) → self.now.next ≡ Some at → slice_get calls.now at ≡ Some call → IsPairsMoment calls.now lines (changes places.now) call.command answer.now self.now.begin turn result }
+    {
+        let command = self.call(calls)?.command;
+        match command {
+            Command::Successor { key: _ } => {
+                Some(places.greatest_of(&command, answer, self.begin, turn))
+            }
+            Command::Range(_) => Some(places.greatest_of(&command, answer, self.begin, turn)),
             _ => None,
         }
     }
@@ -382,13 +433,18 @@ impl Client {
         requires { self.now.begin ≤ turn }
         ensures { (call : ScriptCall) (at : ℕ) (lines : List Line) → self.now.next ≡ Some at → slice_get calls.now at ≡ Some call → IsValueMoment calls.now lines (changes places.now) call.command value self.now.begin turn won result }
     {
-        match self.call(calls)?.command {
+        let command = self.call(calls)?.command;
+        match command {
             Command::Insert { key: _, value: _ } => won,
             Command::Delete { key } => match value {
                 Some(_) => won,
                 None => places.greatest(key, None, self.begin, turn),
             },
             Command::Get { key } => places.greatest(key, value, self.begin, turn),
+            Command::Successor { key: _ } => {
+                let answer = Answer::Value(value);
+                Some(places.greatest_of(&command, &answer, self.begin, turn))
+            }
             _ => None,
         }
     }

@@ -7,6 +7,7 @@ mod kept;
 mod lines;
 mod place;
 mod player;
+mod read;
 mod run;
 
 pub use player::{Player, play};

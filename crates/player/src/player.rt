@@ -208,7 +208,13 @@ impl Player {
     {
         let at = client.0 as usize;
         let won = self.wins[at];
-        let moment = self.clients[at].moment(&self.script.calls, number, answer, won, &self.places);
+        let moment = self.clients[at].moment(
+            &self.script.calls,
+            number,
+            &answer,
+            won,
+            &self.places,
+        );
         let reply = self.clients[at].end(&self.script.calls, number, answer, moment);
         self.lines.push_reply(reply);
     }
@@ -313,6 +319,7 @@ fn clients(alloc: Global, script: &Script) -> Result<Vec<Client>, NoMemory>
     let mut clients = Vec::new(alloc);
     for pass in 0..script.layout.passes {
         clients.push(Client::new(
+            alloc,
             &script.layout,
             script.limits.tries,
             PassNo(pass),

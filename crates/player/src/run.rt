@@ -4,10 +4,11 @@ ghost use Rattle.arena.specs.History.{History};
 ghost use Rattle.arena.specs.Machines.{Call, IsRun, MatchTurn};
 ghost use Rattle.arena.specs.TakenNodes.{taken_nodes};
 ghost use Rattle.player.specs.Allowed.{PlayedAllows};
-ghost use Rattle.player.specs.RunKnown.{RunIsReady, RunWaits, RunAnswers, RunAsksFirst, IsSameMachine, run_mode};
+ghost use Rattle.player.specs.RunKnown.{RunIsReady, RunWaits, RunAnswers, IsSameMachine, run_mode};
 ghost use Rattle.player.specs.RunSteps.{run_left, HasSpentSome, HasSpentRest};
 
 use crate::edit::EditRun;
+use crate::read::ReadRun;
 use arena::{Full, Machine, Share, Turn};
 use prims::{Cells, Llx, LlxRun, PutRun, Scx, Snaps, Vlx, VlxRun};
 use record::Answer;
@@ -23,16 +24,19 @@ pub(crate) enum Run {
     /// It has the client's share, until it has answered.
     Edit(EditRun),
     Get(GetRun),
+    Read(ReadRun),
 }
 
 /// What a machine answered.
-#[derive(Clone, Copy, Debug, PartialEq, Eq)]
+#[derive(Debug, Drop, PartialEq, Eq)]
 pub(crate) enum Ended {
     Llx(Llx),
     Scx(Scx),
     Vlx(Vlx),
     Edit(Updated),
     Get(Option<u64>),
+    /// An ordered read, in the words of the record.
+    Read(Answer),
 }
 
 impl Ended {
@@ -58,6 +62,7 @@ impl Ended {
             Ended::Edit(Updated::Contended { node, scx }) => Answer::Contended { node, scx },
             Ended::Edit(Updated::Full(Full { what, left })) => Answer::Full { what, left },
             Ended::Get(value) => Answer::Value(value),
+            Ended::Read(answer) => answer,
         }
     }
 }
@@ -66,10 +71,11 @@ impl Run {
     ghost use Rattle.std.specs.Prelude.{◌≡◌};
     ghost use Rattle.player.specs.RunKnown.{share_in};
 
-    /// Goes on with what the last step found, as the machine inside, in a run of its mode.
+    /// Goes on with what the last step found, as the machine inside, in a run of its mode. It asks for
+    /// a step before it answers.
     pub(crate) fn next(&mut self, got: Option<u64>) -> Turn<Ended>
         ensures turn { (c : Call) (h : History) → c.layout.mode ≡ run_mode self.old → IsRun PlayedAllows c.layout h → RunIsReady self.old c h got → MatchTurn result (RunWaits self.new c h) (RunAnswers self.new c h) }
-        ensures begins { got ≡ None → RunAsksFirst self.old → (c : Call) (h : History) → RunIsReady self.old c h None → MatchTurn result (λ _. Unit {0}) (λ _. ⊥) }
+        ensures begins { got ≡ None → (c : Call) (h : History) → RunIsReady self.old c h None → MatchTurn result (λ _. Unit {0}) (λ _. ⊥) }
         ensures same { IsSameMachine self.old self.new }
         ensures spends { MatchTurn result (λ _. HasSpentSome self.old self.new) (λ _. HasSpentRest self.old self.new) }
         ensures nearer { (c : Call) (h : History) (nodes : ℕ) → c.layout.mode ≡ run_mode self.old → IsRun PlayedAllows c.layout h → RunIsReady self.old c h got → length (taken_nodes h) ≤ nodes → MatchTurn result (λ _. run_left self.new nodes < run_left self.old nodes) (λ _. Unit {0}) }
@@ -95,6 +101,10 @@ impl Run {
                 Turn::Ask(step) => Turn::Ask(step),
                 Turn::Done(value) => Turn::Done(Ended::Get(value)),
             },
+            Run::Read(run) => match run.next(got) {
+                Turn::Ask(step) => Turn::Ask(step),
+                Turn::Done(answer) => Turn::Done(Ended::Read(answer)),
+            },
         }
     }
 
@@ -104,7 +114,11 @@ impl Run {
     {
         match self {
             Run::Edit(run) => Some(run.into_share()),
-            _ => None,
+            Run::Read(run) => {
+                drop(run);
+                None
+            }
+            Run::Llx(_) | Run::Scx(_) | Run::Vlx(_) | Run::Get(_) => None,
         }
     }
 }

@@ -5,7 +5,7 @@ use crate::past::{Past, Place};
 use crate::replay::Replay;
 use crate::wrong::Wrong;
 use arena::{PassNo, ScxNo, ScxWord};
-use record::{Answer, Entry, Line, Record, Reply, Row};
+use record::{Entry, Line, Record, Reply, Row};
 use script::Script;
 use std::alloc::Global;
 
@@ -18,26 +18,8 @@ struct Client {
     begun: Option<u64>,
     /// Its last turn.
     last: u64,
-    /// The entry of the call that runs.
-    entered: Option<Entered>,
-}
-
-/// A call's entry: its turn, and what the call has to answer.
-#[derive(Clone, Copy)]
-struct Entered {
-    turn: u64,
-    told: Option<u64>,
-}
-
-impl Entered {
-    /// The turn, if the call has to answer this value.
-    fn turn_of(self, value: Option<u64>) -> Option<u64> {
-        if value == self.told {
-            Some(self.turn)
-        } else {
-            None
-        }
-    }
+    /// The turn of the entry of the call that runs.
+    entered: Option<u64>,
 }
 
 const UNBEGUN: Client = Client {
@@ -52,7 +34,7 @@ const UNBEGUN: Client = Client {
 struct Seen<'a> {
     script: &'a Script,
     replay: Replay,
-    past: Past,
+    past: Past<'a>,
     clients: Vec<Client>,
     /// How many turns there were.
     turn: u64,
@@ -60,6 +42,8 @@ struct Seen<'a> {
     entries: u64,
     /// The entry that has to stand behind the last turn.
     owed: Option<Entry>,
+    /// Whether the last turn was the whole of a call, whose reply has to stand behind it.
+    at_once: bool,
 }
 
 /// Finds the first thing that is wrong with a record of calls on the tree.
@@ -86,6 +70,7 @@ impl<'a> Seen<'a> {
             turn: 0,
             entries: 0,
             owed: None,
+            at_once: false,
         })
     }
 
@@ -97,9 +82,13 @@ impl<'a> Seen<'a> {
         }
     }
 
-    /// The turn before has the entry that it owes, and the words spell the map of all entries.
+    /// The turn before has the entry or the reply that it owes, and the words spell the map of all
+    /// entries.
     fn settle(&self) -> Result<(), Wrong> {
         self.has_entry()?;
+        if self.at_once {
+            return Err(Wrong::Reply(self.turn));
+        }
         let Some(pairs) = self.replay.spelled()? else {
             return Err(Wrong::Spelled(self.turn));
         };
@@ -112,9 +101,9 @@ impl<'a> Seen<'a> {
     fn step(&mut self, row: &Row) -> Result<(), Wrong> {
         self.settle()?;
         match row {
-            Row::Idle { number, client } => self.turn_of(*number, *client, None),
+            Row::Idle { number, client } => self.idle(*number, *client),
             Row::Step { number, row } => {
-                self.turn_of(*number, row.pass, Some(row.call))?;
+                self.turn_of_call(*number, row.pass, row.call)?;
                 self.replay.make(*number, row)?;
                 self.owed = self.entry_owed(row)?;
                 Ok(())
@@ -122,23 +111,42 @@ impl<'a> Seen<'a> {
         }
     }
 
-    /// The next turn has this number, and is of this call of the client; of none where the client
-    /// has no call left.
-    fn turn_of(&mut self, number: u64, client: PassNo, call: Option<u64>) -> Result<(), Wrong> {
+    /// The next turn has this number, and this client makes it.
+    fn turn(&mut self, number: u64, client: PassNo) -> Result<&mut Client, Wrong> {
         let wrong = Wrong::Turn(number);
-        let script = self.script;
-        let clients = &mut self.clients;
-        let state = clients.get_mut(client.0 as usize).ok_or(wrong)?;
-        let answered = state.answered;
-        let next = MapCall::of(script, client, answered).map(|_| answered);
-        if self.turn.checked_add(1) != Some(number) || next != call {
+        if self.turn.checked_add(1) != Some(number) {
             return Err(wrong);
         }
         self.turn = number;
+        let state = self.clients.get_mut(client.0 as usize).ok_or(wrong)?;
         state.last = number;
-        if call.is_some() && state.begun.is_none() {
+        Ok(state)
+    }
+
+    /// The next turn is of this call, which is the client's next, and is one that makes steps.
+    fn turn_of_call(&mut self, number: u64, client: PassNo, call: u64) -> Result<(), Wrong> {
+        let script = self.script;
+        let state = self.turn(number, client)?;
+        let next = MapCall::of(script, client, state.answered);
+        if call != state.answered || next.is_none_or(|next| next.takes_nothing()) {
+            return Err(Wrong::Turn(number));
+        }
+        state.begun = state.begun.or(Some(number));
+        Ok(())
+    }
+
+    /// The next turn makes no step: its client has no call left, or its next call answers at once.
+    fn idle(&mut self, number: u64, client: PassNo) -> Result<(), Wrong> {
+        let script = self.script;
+        let state = self.turn(number, client)?;
+        if state.begun.is_some() {
+            return Err(Wrong::Turn(number));
+        }
+        let has_call = MapCall::of(script, client, state.answered).is_some();
+        if has_call {
             state.begun = Some(number);
         }
+        self.at_once = has_call;
         Ok(())
     }
 
@@ -170,11 +178,11 @@ impl<'a> Seen<'a> {
         }
         let call = self.entering(entry).ok_or(wrong)?;
         let turn = entry.step;
-        let told = self.past.change(turn, call)?;
+        self.past.change(turn, call)?;
         self.replay.finalize(entry.scx)?;
         self.entries = entry.place;
         let client = self.clients.get_mut(entry.client.0 as usize).ok_or(wrong)?;
-        client.entered = Some(Entered { turn, told });
+        client.entered = Some(turn);
         Ok(())
     }
 
@@ -189,7 +197,7 @@ impl<'a> Seen<'a> {
     }
 
     /// The reply is of the call that its client has made, and says how that went.
-    fn reply(&mut self, reply: &Reply) -> Result<(), Wrong> {
+    fn reply(&mut self, reply: &'a Reply) -> Result<(), Wrong> {
         self.has_entry()?;
         let wrong = Wrong::Reply(self.turn);
         let call = MapCall::of(self.script, reply.client, reply.call).ok_or(wrong)?;
@@ -206,48 +214,62 @@ impl<'a> Seen<'a> {
 
     fn answer(
         &mut self,
-        reply: &Reply,
+        reply: &'a Reply,
         call: MapCall,
-        entered: Option<Entered>,
+        entered: Option<u64>,
     ) -> Result<(), Wrong> {
-        match reply.answer {
-            Answer::Value(value) => self.took_place(reply, call, value, entered),
-            Answer::Contended { .. } | Answer::Full { .. } if call.may_change() => {
-                refused(reply, entered)
-            }
-            _ => Err(Wrong::Answer(reply.end)),
+        if self.at_once && !call.may_answer_at_once(&reply.answer) {
+            return Err(Wrong::Answer(reply.end));
         }
+        self.at_once = false;
+        if call.may_be_refused(&reply.answer) {
+            return refused(reply, entered);
+        }
+        self.took_place(reply, call, entered)
     }
 
-    /// A call that answers a value took place with its entry, just before which the map gave the
-    /// value; or, if it has only looked, in the last of its turns after which the map gives it.
+    /// A call that tells of the map took place with its entry, just before which the map gave its
+    /// answer; or, if it has only looked, in the last of its turns after which the map gives it.
     fn took_place(
         &mut self,
-        reply: &Reply,
+        reply: &'a Reply,
         call: MapCall,
-        value: Option<u64>,
-        entered: Option<Entered>,
+        entered: Option<u64>,
     ) -> Result<(), Wrong> {
-        let wrong = Wrong::Answer(reply.end);
-        let looks = !call.enters(value);
+        let looks = !call.enters(&reply.answer);
         let moment = match entered {
-            Some(entered) if !looks => entered.turn_of(value).ok_or(wrong)?,
-            None if looks => {
-                let turns = (reply.begin, reply.end);
-                self.past.last_telling(call, value, turns)?.ok_or(wrong)?
-            }
+            Some(turn) if !looks => self.changed(reply, call, turn)?,
+            None if looks => self.looked(reply, call)?,
             _ => return Err(Wrong::Entry(reply.end)),
         };
         if reply.moment != Some(moment) {
             return Err(Wrong::Moment(reply.end));
         }
-        let told = Some(value);
+        let told = Some(&reply.answer);
         self.past.put(Place {
             moment,
             looks,
             call,
             told,
         })
+    }
+
+    /// The turn of a call's entry, just before which the map gave its answer.
+    fn changed(&self, reply: &Reply, call: MapCall, turn: u64) -> Result<u64, Wrong> {
+        if self
+            .past
+            .tells(turn.saturating_sub(1), call, &reply.answer)?
+        {
+            return Ok(turn);
+        }
+        Err(Wrong::Answer(reply.end))
+    }
+
+    /// The last turn within a call after which the map gives its answer.
+    fn looked(&self, reply: &Reply, call: MapCall) -> Result<u64, Wrong> {
+        let turns = (reply.begin, reply.end);
+        let last = self.past.last_telling(call, &reply.answer, turns)?;
+        last.ok_or(Wrong::Answer(reply.end))
     }
 
     /// All calls that took place, those without an answer too, are calls of one map.
@@ -258,9 +280,9 @@ impl<'a> Seen<'a> {
                 continue;
             };
             let call = MapCall::of(self.script, PassNo(number), client.answered);
-            if let (Some(entered), Some(call)) = (client.entered, call) {
+            if let (Some(moment), Some(call)) = (client.entered, call) {
                 past.put(Place {
-                    moment: entered.turn,
+                    moment,
                     looks: false,
                     call,
                     told: None,
@@ -272,7 +294,7 @@ impl<'a> Seen<'a> {
 }
 
 /// A refused call has no entry and took place nowhere.
-fn refused(reply: &Reply, entered: Option<Entered>) -> Result<(), Wrong> {
+fn refused(reply: &Reply, entered: Option<u64>) -> Result<(), Wrong> {
     if entered.is_some() {
         return Err(Wrong::Entry(reply.end));
     }

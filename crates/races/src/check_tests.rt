@@ -1,17 +1,14 @@
 //! What the check finds in a record that is right but for one thing.
 use crate::call::MapCall;
 use crate::check::check;
+use crate::edit::{Edit, are_found, edited, passes, told};
 use crate::past::{Past, Place};
-use crate::race::played;
+use crate::race::{Race, played};
 use crate::wrong::Wrong;
-use arena::{Kind, NodeNo, NodeWord, PassNo, Resource, Word};
-use record::{Answer, Line, Record, Reply, Row};
+use arena::{Kind, Resource};
+use record::Answer;
 use std::alloc::Global;
-use std::process::Abort;
 use std::test::Fail;
-
-/// A script and its schedule.
-type Race = (&'static str, &'static str);
 
 const RACE: Race = (SCRIPT, SCHEDULE);
 
@@ -61,142 +58,26 @@ call,0,,
 end,5,,
 ";
 
-/// One thing that is said otherwise. A call is named by its client and number.
-#[derive(Clone, Copy, Debug)]
-enum Edit {
-    Begin((u32, u64), u64),
-    End((u32, u64), u64),
-    Moment((u32, u64), Option<u64>),
-    Value((u32, u64), Option<u64>),
-    Answer((u32, u64), Answer),
-    /// The entry of this place is left out.
-    NoEntry(u64),
-    /// The reply is left out.
-    NoReply((u32, u64)),
-    /// This turn's step is one on the value of node 3, the leaf of 50.
-    OnTheLeaf(u64, Kind, u64, u64),
-}
-
-impl Edit {
-    fn line(self, line: Line) -> Option<Line> {
-        match line {
-            Line::Reply(reply) => Some(Line::Reply(self.reply(reply)?)),
-            Line::Log(entry) => match self {
-                Edit::NoEntry(place) if place == entry.place => None,
-                _ => Some(line),
-            },
-            Line::Step(Row::Step { number, .. }) => match self {
-                Edit::OnTheLeaf(turn, kind, before, after) if turn == number => {
-                    let row = on_the_leaf(kind, before, after);
-                    Some(Line::Step(Row::Step { number, row }))
-                }
-                _ => Some(line),
-            },
-            Line::Step(_) => Some(line),
-        }
-    }
-
-    fn reply(self, reply: Reply) -> Option<Reply> {
-        let told = (reply.client.0, reply.call);
-        match self {
-            Edit::Begin(call, begin) if call == told => Some(Reply { begin, ..reply }),
-            Edit::End(call, end) if call == told => Some(Reply { end, ..reply }),
-            Edit::Moment(call, moment) if call == told => Some(Reply { moment, ..reply }),
-            Edit::Answer(call, answer) if call == told => Some(Reply { answer, ..reply }),
-            Edit::Value(call, value) if call == told => {
-                let answer = Answer::Value(value);
-                Some(Reply { answer, ..reply })
-            }
-            Edit::NoReply(call) if call == told => None,
-            _ => Some(reply),
-        }
-    }
-}
-
-/// The record with one thing said otherwise.
-fn edited(alloc: Global, record: &Record, edit: Edit) -> Result<Record, Fail> {
-    let mut lines = Vec::new(alloc);
-    for line in record.lines.iter() {
-        if let Some(line) = edit.line(*line) {
-            lines.push(line)?;
-        }
-    }
-    let script = record.script.copy(alloc)?;
-    Ok(Record { script, lines })
-}
-
-fn told(call: (u32, u64), turns: (u64, u64), moment: Option<u64>, value: Option<u64>) -> Reply {
-    Reply {
-        client: PassNo(call.0),
-        call: call.1,
-        begin: turns.0,
-        end: turns.1,
-        moment,
-        answer: Answer::Value(value),
-    }
-}
-
-/// The record has these replies, and passes.
-fn passes(rt: &impl Abort, alloc: Global, race: Race, replies: [Reply; 4]) -> Result<(), Fail> {
-    let record = played(alloc, race.0, race.1)?;
-    let mut said = Vec::new(alloc);
-    for line in record.lines.iter() {
-        if let Line::Reply(reply) = line {
-            said.push(*reply)?;
-        }
-    }
-    assert_eq!(rt; said.as_slice(), replies.as_slice());
-    assert_eq!(rt; check(alloc, &record), Ok(()));
-    Ok(())
-}
-
 #[test]
 fn a_good_record_passes(rt: HostRuntime) -> Result<(), Fail> {
     let replies = [
-        told((0, 0), (1, 48), Some(47), None),
-        told((0, 1), (49, 99), Some(98), Some(50)),
-        told((1, 0), (90, 100), Some(97), Some(50)),
-        told((1, 1), (101, 107), Some(107), Some(51)),
+        told((0, 0), (1, 48), Some(47), Answer::Value(None)),
+        told((0, 1), (49, 99), Some(98), Answer::Value(Some(50))),
+        told((1, 0), (90, 100), Some(97), Answer::Value(Some(50))),
+        told((1, 1), (101, 107), Some(107), Answer::Value(Some(51))),
     ];
-    passes(&rt, rt.alloc(), RACE, replies)
+    passes(&rt, rt.alloc(), RACE, &replies)
 }
 
 #[test]
 fn a_good_record_of_deletes_passes(rt: HostRuntime) -> Result<(), Fail> {
     let replies = [
-        told((1, 0), (3, 50), Some(49), None),
-        told((0, 0), (1, 51), Some(48), None),
-        told((1, 1), (52, 96), Some(95), Some(50)),
-        told((0, 1), (97, 168), Some(167), Some(51)),
+        told((1, 0), (3, 50), Some(49), Answer::Value(None)),
+        told((0, 0), (1, 51), Some(48), Answer::Value(None)),
+        told((1, 1), (52, 96), Some(95), Answer::Value(Some(50))),
+        told((0, 1), (97, 168), Some(167), Answer::Value(Some(51))),
     ];
-    passes(&rt, rt.alloc(), DELETES, replies)
-}
-
-/// A step of client 1 on the value of node 3, in its second call.
-fn on_the_leaf(kind: Kind, before: u64, after: u64) -> arena::Row {
-    arena::Row {
-        pass: PassNo(1),
-        call: 1,
-        kind,
-        word: Word::Node(NodeNo(3), NodeWord::Value),
-        before,
-        after,
-    }
-}
-
-/// Each of these edits is found, as this.
-fn are_found(
-    rt: &impl Abort,
-    alloc: Global,
-    race: Race,
-    edits: &[(Edit, Wrong)],
-) -> Result<(), Fail> {
-    let record = played(alloc, race.0, race.1)?;
-    for (edit, wrong) in edits {
-        let record = edited(alloc, &record, *edit)?;
-        assert_eq!(rt; check(alloc, &record), Err(*wrong), "{edit:?}");
-    }
-    Ok(())
+    passes(&rt, rt.alloc(), DELETES, &replies)
 }
 
 #[test]
@@ -217,10 +98,6 @@ fn other_moments_are_found(rt: HostRuntime) -> Result<(), Fail> {
 /// A value that the key never had, none, one of another time, and refusals.
 #[test]
 fn other_answers_are_found(rt: HostRuntime) -> Result<(), Fail> {
-    let full = Answer::Full {
-        what: Resource::Nodes,
-        left: 2,
-    };
     let edits = [
         (Edit::Value((0, 1), Some(51)), Wrong::Answer(99)),
         (Edit::Value((0, 1), None), Wrong::Answer(99)),
@@ -228,8 +105,8 @@ fn other_answers_are_found(rt: HostRuntime) -> Result<(), Fail> {
         (Edit::Value((1, 0), None), Wrong::Answer(100)),
         (Edit::Value((1, 0), Some(51)), Wrong::Moment(100)),
         (Edit::Value((1, 1), Some(50)), Wrong::Answer(107)),
-        (Edit::Answer((0, 1), full), Wrong::Entry(99)),
-        (Edit::Answer((1, 1), full), Wrong::Answer(107)),
+        (Edit::Full((0, 1), Resource::Nodes, 2), Wrong::Entry(99)),
+        (Edit::Full((1, 1), Resource::Nodes, 2), Wrong::Answer(107)),
     ];
     are_found(&rt, rt.alloc(), RACE, &edits)
 }
@@ -276,17 +153,13 @@ fn other_moments_of_deletes_are_found(rt: HostRuntime) -> Result<(), Fail> {
 /// and an entry is left out.
 #[test]
 fn other_answers_of_deletes_are_found(rt: HostRuntime) -> Result<(), Fail> {
-    let full = Answer::Full {
-        what: Resource::Scx,
-        left: 0,
-    };
     let edits = [
         (Edit::Value((0, 0), Some(50)), Wrong::Entry(51)),
-        (Edit::Answer((0, 0), full), Wrong::Moment(51)),
+        (Edit::Full((0, 0), Resource::Scx, 0), Wrong::Moment(51)),
         (Edit::Value((0, 1), Some(50)), Wrong::Answer(168)),
         (Edit::Value((0, 1), Some(52)), Wrong::Answer(168)),
         (Edit::Value((0, 1), None), Wrong::Entry(168)),
-        (Edit::Answer((0, 1), full), Wrong::Entry(168)),
+        (Edit::Full((0, 1), Resource::Scx, 0), Wrong::Entry(168)),
         (Edit::NoEntry(3), Wrong::Entry(167)),
     ];
     are_found(&rt, rt.alloc(), DELETES, &edits)
@@ -312,13 +185,13 @@ fn swapped_answers_are_found(rt: HostRuntime) -> Result<(), Fail> {
 }
 
 /// A change of key 5 to 50 in turn 7, and a look that finds it, in this turn.
-fn change_and_look(alloc: Global, looked: u64) -> Result<Past, Wrong> {
+fn change_and_look(alloc: Global, looked: u64, told: &Answer) -> Result<(), Wrong> {
     let mut past = Past::new(alloc);
     past.put(Place {
         moment: looked,
         looks: true,
         call: MapCall::Get { key: 5 },
-        told: Some(Some(50)),
+        told: Some(told),
     })?;
     past.put(Place {
         moment: 7,
@@ -326,16 +199,17 @@ fn change_and_look(alloc: Global, looked: u64) -> Result<Past, Wrong> {
         call: MapCall::Insert { key: 5, value: 50 },
         told: None,
     })?;
-    Ok(past)
+    past.in_order()
 }
 
 #[test]
 fn a_change_comes_before_looks_of_its_turn(rt: HostRuntime) {
+    let told = Answer::Value(Some(50));
     for (looked, found) in [(6, Err(Wrong::Order(6))), (7, Ok(())), (8, Ok(()))] {
-        let found_in = match change_and_look(rt.alloc(), looked) {
-            Ok(past) => past.in_order(),
-            Err(wrong) => Err(wrong),
-        };
-        assert_eq!(rt; found_in, found, "looked in turn {looked}");
+        assert_eq!(rt;
+            change_and_look(rt.alloc(), looked, &told),
+            found,
+            "looked in turn {looked}"
+        );
     }
 }

@@ -8,6 +8,10 @@ mod check;
 #[cfg(test)]
 mod check_tests;
 #[cfg(test)]
+mod counts;
+#[cfg(test)]
+mod edit;
+#[cfg(test)]
 mod past;
 #[cfg(test)]
 mod plain_map;
@@ -17,6 +21,8 @@ mod race;
 mod race_tests;
 #[cfg(test)]
 mod random;
+#[cfg(test)]
+mod read_tests;
 #[cfg(test)]
 mod replay;
 #[cfg(test)]

@@ -2,31 +2,32 @@
 use crate::call::MapCall;
 use crate::plain_map::PlainMap;
 use crate::wrong::Wrong;
+use record::Answer;
 use std::alloc::Global;
 
 /// A call that took place.
-#[derive(Clone, Copy, Debug, PartialEq, Eq)]
-pub(crate) struct Place {
+#[derive(Clone, Copy, Debug)]
+pub(crate) struct Place<'a> {
     /// The turn.
     pub(crate) moment: u64,
     /// Whether it only looked: it then comes behind the change of the same turn.
     pub(crate) looks: bool,
     pub(crate) call: MapCall,
-    /// The value that it answered, if it has answered.
-    pub(crate) told: Option<Option<u64>>,
+    /// What it answered, if it has answered.
+    pub(crate) told: Option<&'a Answer>,
 }
 
 /// The map so far, the calls that have changed it, by rising turn, and the calls that took place.
 #[derive(Drop)]
-pub(crate) struct Past {
+pub(crate) struct Past<'a> {
     alloc: Global,
     map: PlainMap,
     changes: Vec<(u64, MapCall)>,
-    places: Vec<Place>,
+    places: Vec<Place<'a>>,
 }
 
-impl Past {
-    pub(crate) fn new(alloc: Global) -> Past {
+impl<'a> Past<'a> {
+    pub(crate) fn new(alloc: Global) -> Past<'a> {
         Past {
             alloc,
             map: PlainMap::new(alloc),
@@ -39,10 +40,11 @@ impl Past {
         &self.map
     }
 
-    /// Changes the map by a call, in a turn, and tells what the call has to answer.
-    pub(crate) fn change(&mut self, turn: u64, call: MapCall) -> Result<Option<u64>, Wrong> {
+    /// Changes the map by a call, in a turn.
+    pub(crate) fn change(&mut self, turn: u64, call: MapCall) -> Result<(), Wrong> {
         self.changes.push((turn, call))?;
-        Ok(call.make(&mut self.map)?)
+        call.make(&mut self.map)?;
+        Ok(())
     }
 
     /// The map after a turn.
@@ -56,16 +58,21 @@ impl Past {
         Ok(map)
     }
 
-    /// The last of these turns after which the map gives a call this value.
+    /// Whether the map after a turn gives a call this answer.
+    pub(crate) fn tells(&self, turn: u64, call: MapCall, answer: &Answer) -> Result<bool, Wrong> {
+        let mut map = self.map_after(turn)?;
+        Ok(call.make(&mut map)? == *answer)
+    }
+
+    /// The last of these turns after which the map gives a call this answer.
     pub(crate) fn last_telling(
         &self,
         call: MapCall,
-        value: Option<u64>,
+        answer: &Answer,
         turns: (u64, u64),
     ) -> Result<Option<u64>, Wrong> {
         for turn in (turns.0..=turns.1).rev() {
-            let mut map = self.map_after(turn)?;
-            if call.make(&mut map)? == value {
+            if self.tells(turn, call, answer)? {
                 return Ok(Some(turn));
             }
         }
@@ -73,7 +80,7 @@ impl Past {
     }
 
     /// Takes down that a call took place.
-    pub(crate) fn put(&mut self, place: Place) -> Result<(), Wrong> {
+    pub(crate) fn put(&mut self, place: Place<'a>) -> Result<(), Wrong> {
         self.places.push(place)?;
         Ok(())
     }
@@ -85,7 +92,7 @@ impl Past {
         let mut map = PlainMap::new(self.alloc);
         for place in places.iter() {
             let told = place.call.make(&mut map)?;
-            if place.told.is_some() && place.told != Some(told) {
+            if place.told.is_some_and(|answer| *answer != told) {
                 return Err(Wrong::Order(place.moment));
             }
         }

@@ -1,16 +1,19 @@
 //! A map as a plain list.
+use script::Span;
 use spelling::Pair;
 use std::alloc::{AllocError, Global};
 
 /// Pairs by rising key.
 #[derive(Drop)]
 pub(crate) struct PlainMap {
+    alloc: Global,
     pairs: Vec<Pair>,
 }
 
 impl PlainMap {
     pub(crate) fn new(alloc: Global) -> PlainMap {
         PlainMap {
+            alloc,
             pairs: Vec::new(alloc),
         }
     }
@@ -24,6 +27,23 @@ impl PlainMap {
             .iter()
             .find(|pair| pair.key == key)
             .map(|pair| pair.value)
+    }
+
+    /// The pair with the least key above this one.
+    pub(crate) fn successor(&self, key: u64) -> Option<Pair> {
+        self.pairs.iter().find(|pair| pair.key > key).copied()
+    }
+
+    /// The first pairs of those with keys of the span.
+    pub(crate) fn range(&self, span: Span) -> Result<Vec<Pair>, AllocError> {
+        let mut taken = Vec::new(self.alloc);
+        for pair in self.pairs.iter() {
+            let inside = span.low <= pair.key && pair.key <= span.high;
+            if inside && taken.len() < span.most as usize {
+                taken.push(*pair)?;
+            }
+        }
+        Ok(taken)
     }
 
     /// Gives a key a value, and tells the one that it had.

@@ -6,6 +6,9 @@ use script::{read_schedule, read_script};
 use std::alloc::Global;
 use texts::Metered;
 
+/// A script and its schedule.
+pub(crate) type Race = (&'static str, &'static str);
+
 /// The record of a script on the tree by a schedule.
 pub(crate) fn played(alloc: Global, script: &str, schedule: &str) -> Result<Record, Fault> {
     let script = read_script(alloc, Mode::Tree, &mut Metered::new(script.as_bytes()))?;

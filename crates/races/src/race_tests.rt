@@ -1,11 +1,10 @@
 //! Random races: each record passes the check.
 ghost use Rattle.std.specs.Prelude.{◌<◌, ◌≤◌};
 
-use crate::call::MapCall;
 use crate::check::check;
+use crate::counts::Counts;
 use crate::race::played;
 use crate::random::Random;
-use record::{Answer, Line, Record};
 use std::alloc::{AllocError, Global};
 use std::test::Fail;
 
@@ -24,9 +23,13 @@ fn random_script(alloc: Global, random: &mut Random, clients: u64) -> Result<Str
     let (calls, keys) = (2 + random.below(15), 1 + random.below(6));
     for value in 1..=calls {
         let (client, key) = (random.below(clients), random.below(keys));
-        let row = match random.below(6) {
-            0 | 1 => format!(in alloc; "{client},get,{key},,\n")?,
-            2 | 3 => format!(in alloc; "{client},delete,{key},,\n")?,
+        let (other, most) = (random.below(keys), random.below(4));
+        let row = match random.below(10) {
+            0 => format!(in alloc; "{client},get,{key},,\n")?,
+            1 | 2 => format!(in alloc; "{client},delete,{key},,\n")?,
+            3 | 4 => format!(in alloc; "{client},successor,{key},,\n")?,
+            5 => format!(in alloc; "{client},range,{key},{other},{most}\n")?,
+            6 => format!(in alloc; "{client},range,0,9,64\n")?,
             _ => format!(in alloc; "{client},insert,{key},{value},\n")?,
         };
         text.push_str(row.as_str())?;
@@ -55,50 +58,13 @@ fn random_schedule(alloc: Global, random: &mut Random, clients: u64) -> Result<S
     Ok(text)
 }
 
-/// How many calls told a value, how many told that there is none, and how many were refused and
-/// why.
-#[derive(Clone, Copy, Debug, Default)]
-struct Counts {
-    some: u64,
-    none: u64,
-    contended: u64,
-    full: u64,
-}
-
-impl Counts {
-    fn count(&mut self, answer: Answer) {
-        let counter = match answer {
-            Answer::Value(Some(_)) => &mut self.some,
-            Answer::Contended { .. } => &mut self.contended,
-            Answer::Full { .. } => &mut self.full,
-            _ => &mut self.none,
-        };
-        *counter = counter.saturating_add(1);
-    }
-
-    fn each_occurred(self) -> bool {
-        self.some > 0 && self.none > 0 && self.contended > 0 && self.full > 0
-    }
-}
-
-/// Counts the answers of deletes, and those of the other calls.
-fn count_answers(record: &Record, deletes: &mut Counts, others: &mut Counts) {
-    for line in record.lines.iter() {
-        if let Line::Reply(reply) = line {
-            match MapCall::of(&record.script, reply.client, reply.call) {
-                Some(MapCall::Delete { .. }) => deletes.count(reply.answer),
-                _ => others.count(reply.answer),
-            }
-        }
-    }
-}
-
-/// Among the answers are all kinds, of deletes and of other calls, so that each was checked.
+/// Among the answers are all kinds, of deletes, ordered reads and other calls, so that each was
+/// checked.
 #[test]
 fn random_races_pass(rt: HostRuntime) -> Result<(), Fail> {
     let alloc = rt.alloc();
     let mut random = Random::new(SEED);
-    let (mut deletes, mut others) = (Counts::default(), Counts::default());
+    let mut counts = Counts::default();
     for race in 0..RACES {
         let clients = 1 + random.below(4);
         let script = random_script(alloc, &mut random, clients)?;
@@ -109,9 +75,8 @@ fn random_races_pass(rt: HostRuntime) -> Result<(), Fail> {
             Ok(()),
             "race {race}:\n{script}{schedule}"
         );
-        count_answers(&record, &mut deletes, &mut others);
+        counts.count(&record);
     }
-    assert!(rt; deletes.each_occurred(), "deletes: {deletes:?}");
-    assert!(rt; others.each_occurred(), "other calls: {others:?}");
+    assert!(rt; counts.each_occurred(), "{counts:?}");
     Ok(())
 }

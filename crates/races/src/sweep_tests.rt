@@ -6,7 +6,8 @@ use std::process::Abort;
 use std::test::Fail;
 
 /// A script of two clients, and how many steps client 0 makes by itself: 48 for a key that comes
-/// into the empty map, 45 for another value of it, 72 to take it out again.
+/// into the empty map, 45 for another value of it, 72 to take it out again; 52 for a second key, 48
+/// for another value of one of two, 34 for a range of both, 20 for the successor of one below both.
 #[derive(Clone, Copy, Debug)]
 struct Race {
     script: &'static str,
@@ -50,7 +51,25 @@ end,3,,,
     steps: 48 + 72,
 };
 
-const RACES: [Race; 3] = [INSERTS, DELETE_AND_INSERT, DELETES];
+/// Client 0 reads in order, and gives a key a new value; client 1 takes one of the keys out that
+/// client 0 has brought in, gives the other a new value, and reads in order too.
+const READS: Race = Race {
+    script: "\
+limits,2,20,20,2
+0,insert,5,50,
+0,insert,7,70,
+0,range,0,9,64
+0,successor,4,,
+0,insert,7,71,
+1,delete,5,,
+1,insert,7,72,
+1,range,5,7,2
+end,8,,,
+",
+    steps: 48 + 52 + 34 + 20 + 48,
+};
+
+const RACES: [Race; 4] = [INSERTS, DELETE_AND_INSERT, DELETES, READS];
 
 /// What the others make of a client that has stopped.
 #[derive(Clone, Copy, Debug)]

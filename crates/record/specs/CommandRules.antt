@@ -6,7 +6,7 @@ use Rattle.arena.specs.History.{History, value}
 use Rattle.arena.specs.Log.{Entry as Entered}
 use Rattle.script.specs.declared.command.Call.{Call}
 use Rattle.script.specs.declared.command.Command.{Command}
-use Rattle.script.specs.declared.command.Command.TheVariants.{Llx, Scx, Vlx, Set, Insert, Delete, Get}
+use Rattle.script.specs.declared.command.Command.TheVariants.{Llx, Scx, Vlx, Set, Insert, Delete, Get, Successor, Range}
 use Rattle.record.specs.declared.record.Line.{Line}
 use Rattle.record.specs.declared.record.Reply.{Reply}
 use Rattle.record.specs.declared.record.Answer.{Answer}
@@ -16,8 +16,10 @@ use Rattle.record.specs.Rules.Delete.{delete_rules}
 use Rattle.record.specs.Rules.Get.{get_rules}
 use Rattle.record.specs.Rules.Insert.{insert_rules}
 use Rattle.record.specs.Rules.Llx.{llx_rules}
+use Rattle.record.specs.Rules.Range.{range_rules}
 use Rattle.record.specs.Rules.Scx.{scx_rules}
 use Rattle.record.specs.Rules.Set.{set_rules}
+use Rattle.record.specs.Rules.Successor.{successor_rules}
 use Rattle.record.specs.Rules.Vlx.{vlx_rules}
 use Rattle.record.specs.Shares.{HasTakenAtMost}
 
@@ -30,6 +32,8 @@ rules (Set field value) = set_rules field value
 rules (Insert key value) = insert_rules key value
 rules (Delete key) = delete_rules key
 rules (Get key) = get_rules key
+rules (Successor key) = successor_rules key
+rules (Range span) = range_rules span.low span.high span.most
 
 -- how many steps a call may make, where it may try so often, while so many nodes are taken, by any
 -- client; those of cells make no more where nodes are taken

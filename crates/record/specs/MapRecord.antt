@@ -2,15 +2,15 @@
 -- stand here with the newest first.
 use Rattle.std.specs.Prelude.{ℕ, suc, Bool, cond, ◌&&◌, eqb, leb, List, [], ◌∷◌, Option, Some, None, slice_get}
 use Rattle.spelling.specs.declared.pair.Pair.{Pair}
-use Rattle.spelling.specs.OrderedMap.{MapCall, Edit, Insert, Delete, Get, MapReply, OneValue, after}
+use Rattle.spelling.specs.OrderedMap.{MapCall, Edit, Insert, Delete, Get, Successor, Range, MapReply, OneValue, OnePair, ManyPairs, after}
 use Rattle.script.specs.declared.command.Call.{Call}
 use Rattle.script.specs.declared.command.Command.{Command}
-use Rattle.script.specs.declared.command.Command.TheVariants.{Insert as InsertOf, Delete as DeleteOf, Get as GetOf}
+use Rattle.script.specs.declared.command.Command.TheVariants.{Insert as InsertOf, Delete as DeleteOf, Get as GetOf, Successor as SuccessorOf, Range as RangeOf}
 use Rattle.record.specs.declared.record.Line.{Line}
 use Rattle.record.specs.declared.record.Line.TheVariants.{Step, Log, Reply as ReplyLine}
 use Rattle.record.specs.declared.record.Entry.{Entry}
 use Rattle.record.specs.declared.record.Answer.{Answer}
-use Rattle.record.specs.declared.record.Answer.TheVariants.{Value}
+use Rattle.record.specs.declared.record.Answer.TheVariants.{Value, Pair as PairOf, Pairs}
 use Rattle.record.specs.Commands.{commands}
 
 -- a command as a call of the map, if it is one
@@ -18,6 +18,8 @@ abbrev pub map_call : Option Command → Option MapCall
 map_call (Some (InsertOf key value)) = Some (Edit (Insert key value))
 map_call (Some (DeleteOf key)) = Some (Edit (Delete key))
 map_call (Some (GetOf key)) = Some (Get key)
+map_call (Some (SuccessorOf key)) = Some (Successor key)
+map_call (Some (RangeOf span)) = Some (Range span.low span.high span.most)
 map_call _ = None
 
 -- call j of client c, in the script, as a call of the map
@@ -27,6 +29,8 @@ map_call_of calls c j = map_call (slice_get (commands calls c) j)
 -- what an answer tells of the map; a refusal tells nothing
 abbrev pub reply_told : Answer → Option MapReply
 reply_told (Value v) = Some (OneValue v)
+reply_told (PairOf p) = Some (OnePair p)
+reply_told (Pairs ps) = Some (ManyPairs ps.items)
 reply_told _ = None
 
 -- the entries that were written down, the newest first

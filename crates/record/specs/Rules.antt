@@ -6,6 +6,8 @@ pub mod Set
 pub mod Insert
 pub mod Delete
 pub mod Get
+pub mod Successor
+pub mod Range
 use Rattle.std.specs.Prelude.{ℕ, Bool, List, Option}
 use Rattle.arena.specs.declared.layout.Layout.{Layout}
 use Rattle.arena.specs.declared.step.Kind.{Kind}

@@ -1,6 +1,7 @@
 //! What a run leaves behind.
 use arena::{Kind, NodeNo, PassNo, Resource, ScxNo};
 use script::Script;
+use spelling::Pair;
 
 /// The script, and the lines of a run in order.
 #[derive(Debug, Drop)]
@@ -10,7 +11,7 @@ pub struct Record {
 }
 
 /// One line of a run.
-#[derive(Clone, Copy, Debug, PartialEq, Eq)]
+#[derive(Debug, Drop, PartialEq, Eq)]
 pub enum Line {
     /// A turn.
     Step(Row),
@@ -64,7 +65,7 @@ pub struct Entry {
 }
 
 /// A finished call.
-#[derive(Clone, Copy, Debug, PartialEq, Eq)]
+#[derive(Debug, Drop, PartialEq, Eq)]
 pub struct Reply {
     pub client: PassNo,
     /// The number of the call among the client's own, counted from 0.
@@ -81,7 +82,7 @@ pub struct Reply {
 
 /// What a call answers. In an answer with both, `node` is a cell of the call or a node of the tree,
 /// and `scx` another client's SCX-record that its info has named.
-#[derive(Clone, Copy, Debug, PartialEq, Eq)]
+#[derive(Debug, Drop, PartialEq, Eq)]
 pub enum Answer {
     /// `llx`: the fields of the cell at the call's last turn, where it is not final.
     Snapshot { left: NodeNo, right: NodeNo },
@@ -104,12 +105,19 @@ pub enum Answer {
     Unlinked { node: NodeNo },
     /// `get`: the value of its key in the map, if the key has one, at the reply's moment. `insert`,
     /// `delete`: the value that its key had, if it had one, just before the reply's moment. A
-    /// `delete` that tells none has changed nothing.
+    /// `delete` that tells none has changed nothing. `successor`: none, for no key of the map is
+    /// above its own.
     Value(Option<u64>),
-    /// `insert`, `delete`: it was not made and never will be; all its tries were lost, and `scx` was
-    /// in progress over the node `node` of the tree within the call.
+    /// `successor`: the pair of the map with the least key above its own, at the reply's moment.
+    Pair(Pair),
+    /// `range`: the first pairs of the map between its keys, by rising key, at the reply's moment.
+    Pairs(Vec<Pair>),
+    /// `insert`, `delete`, `successor`, `range`: all its tries were lost, and `scx` was in progress
+    /// over the node `node` of the tree within the call. An edit was not made and never will be.
     Contended { node: NodeNo, scx: ScxNo },
     /// `scx`, `set`, `insert`, `delete`: `left` of the resource are left in the client's share, too
     /// few for the call.
     Full { what: Resource, left: u32 },
+    /// `successor`, `range`: an allocation was refused.
+    NoMemory,
 }

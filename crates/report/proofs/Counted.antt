@@ -65,3 +65,9 @@ numbered_more passes counts lines (Step (Made number row)) counted next numbered
 numbered_more passes counts lines (Step (Idle number client)) counted next numbered = numbered
 numbered_more passes counts lines (Log entry) counted next numbered = numbered
 numbered_more passes counts lines (Reply reply) counted next numbered = numbered
+
+-- nor does another line count
+pub counted_other : (counts : Counts) (passes : ℕ) (lines : List Line) (line : Line) → ((r : ReplyLine) → line ≢ Reply r) → HasCountedReplies counts passes lines → HasCountedReplies counts passes (line ∷ lines)
+counted_other counts passes lines (Step row) other counted = counted
+counted_other counts passes lines (Log entry) other counted = counted
+counted_other counts passes lines (Reply r) other counted = absurd (other r refl)

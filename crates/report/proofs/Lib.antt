@@ -1,5 +1,6 @@
 mod Texts
 mod Parts
+mod PairTexts
 mod Counted
 mod CallRows
 mod Reading

@@ -109,6 +109,6 @@ fn reply_line(alloc: Global, page: &mut Page, reply: &Reply) -> Result<(), Alloc
         Some(moment) => page.number(moment)?,
         None => page.text("")?,
     }
-    page.text(answer_text(alloc, reply.answer)?.as_str())?;
+    page.text(answer_text(alloc, &reply.answer)?.as_str())?;
     page.end_line()
 }

@@ -1,11 +1,12 @@
 //! The lines of a run, as rows say them.
-ghost use Rattle.std.specs.Prelude.{◌≡◌, ◌<◌, ◌-◌, ◌^◌, List, ◌∷◌, ◌++◌, ℕ, IfOk, IfSome, length, map, reverse};
+ghost use Rattle.std.specs.Prelude.{◌≡◌, ◌<◌, ◌-◌, ◌^◌, List, [], ◌∷◌, ◌++◌, ℕ, get_or, IfOk, IfSome, length, map, reverse};
 ghost use Rattle.record.specs.declared.record.Line.{Line};
-ghost use Rattle.record.specs.declared.record.Line.TheVariants.{Step as StepLine, Log, Reply as ReplyLine};
+ghost use Rattle.record.specs.declared.record.Line.TheVariants.{Step as StepLine, Log};
 ghost use Rattle.report.specs.Counts.{HasCountedReplies, calls_counted};
 ghost use Rattle.report.specs.Numbered.{AreNumbered, IsOfNextCall};
 ghost use Rattle.script.specs.Commands.{texts};
 ghost use Rattle.texts.specs.Reads.{IsAtRow, last_row};
+ghost use Rattle.report.specs.Answers.{answer_text};
 ghost use Rattle.report.specs.Report.{line_row, moment_text};
 ghost use Rattle.texts.specs.Pages.{seven};
 
@@ -15,9 +16,9 @@ use crate::fault::{NotLawful, RowFault};
 use crate::name::{client_of, scx_of};
 use crate::rows::{next_row, row_fields};
 use crate::word::word_of;
-use record::{Entry, Line, Reply, Row};
+use record::{Answer, Entry, Line, Reply, Row};
 use script::kind_of;
-use std::alloc::Global;
+use std::alloc::{AllocError, Global};
 use std::io::Read;
 use texts::{Rows, number_of};
 
@@ -33,7 +34,7 @@ pub fn lines_of<R: Read + Drop>(
     let mut lines = Vec::new(alloc);
     let mut replies = Counts::new(alloc);
     while row_fields(rows)[0] != "end" {
-        let line = next_line(rows, passes, &mut replies)?;
+        let line = next_line(alloc, rows, passes, &mut replies)?;
         lines.push(line).map_err(|_| RowFault::NoMemory)?;
         next_row(rows)?;
     }
@@ -42,6 +43,7 @@ pub fn lines_of<R: Read + Drop>(
 
 /// The line of this row, whose reply is counted if it is of one of so many clients.
 fn next_line<R: Read + Drop>(
+    alloc: Global,
     rows: &Rows<R>,
     passes: u32,
     replies: &mut Counts,
@@ -50,7 +52,10 @@ fn next_line<R: Read + Drop>(
     ensures call { IfOk result (IsOfNextCall (calls_counted replies.old)) }
     ensures counted { (lines : List Line) → HasCountedReplies replies.old passes lines → length lines < 2 ^ 64 - 1 → IfOk result (λ line. HasCountedReplies replies.new passes (line ∷ lines)) }
 {
-    let Some(line) = line_of(row_fields(rows), replies) else {
+    let Ok(line) = line_of(alloc, row_fields(rows), replies) else {
+        return Err(RowFault::NoMemory);
+    };
+    let Some(line) = line else {
         return Err(rows.fault(NotLawful));
     };
     if let Line::Reply(reply) = &line {
@@ -62,15 +67,27 @@ fn next_line<R: Read + Drop>(
 }
 
 /// The line that a row says, by its form. A step is of its client's first call that has no reply
-/// yet.
-fn line_of(fields: [&str; 7], replies: &Counts) -> Option<Line>
+/// yet. The only error is want of memory.
+fn line_of(alloc: Global, fields: [&str; 7], replies: &Counts) -> Result<Option<Line>, AllocError>
+    ensures row { IfOk result (λ o. IfSome o (λ line. texts fields.entry ≡ seven (line_row line))) }
+    ensures call { IfOk result (λ o. IfSome o (IsOfNextCall (calls_counted replies.now))) }
+{
+    if fields[0] != "reply" {
+        return Ok(turn_or_entry_of(fields, replies));
+    }
+    match answer_of(alloc, fields[6])? {
+        Some(answer) => Ok(reply_of(fields, answer)),
+        None => Ok(None),
+    }
+}
+
+fn turn_or_entry_of(fields: [&str; 7], replies: &Counts) -> Option<Line>
     ensures row { IfSome result (λ line. texts fields.entry ≡ seven (line_row line)) }
     ensures call { IfSome result (IsOfNextCall (calls_counted replies.now)) }
 {
     match fields[0] {
         "step" => Some(Line::Step(turn_of(fields, replies)?)),
         "log" => Some(Line::Log(entry_of(fields)?)),
-        "reply" => Some(Line::Reply(reply_of(fields)?)),
         _ => None,
     }
 }
@@ -115,20 +132,24 @@ fn entry_of(fields: [&str; 7]) -> Option<Entry>
     })
 }
 
-fn reply_of(fields: [&str; 7]) -> Option<Reply>
-    ensures { IfSome result (λ reply. texts fields.entry ≡ seven (line_row (ReplyLine reply))) }
+/// The reply with this answer, which the last field spells.
+fn reply_of(fields: [&str; 7], answer: Answer) -> Option<Line>
+    requires { get_or (texts fields) 6 [] ≡ answer_text answer }
+    ensures row { IfSome result (λ line. texts fields.entry ≡ seven (line_row line)) }
+    ensures call { (calls : ℕ → ℕ) → IfSome result (IsOfNextCall calls) }
 {
-    let ["reply", client, call, begin, end, moment, answer] = fields else {
+    let ["reply", client, call, begin, end, moment, _] = fields else {
         return None;
     };
-    Some(Reply {
+    let reply = Reply {
         client: client_of(client)?,
         call: number_of(call)?,
         begin: number_of(begin)?,
         end: number_of(end)?,
         moment: moment_of(moment)?,
-        answer: answer_of(answer)?,
-    })
+        answer,
+    };
+    Some(Line::Reply(reply))
 }
 
 /// The moment of a reply, which may have none.

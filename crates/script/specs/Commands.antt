@@ -8,7 +8,7 @@ use Rattle.arena.specs.declared.word.Side.TheVariants.{Left, Right}
 use Rattle.script.specs.Cells.{cells_of}
 use Rattle.script.specs.Update.{update_cells, update_finalize, update_field, update_value}
 use Rattle.script.specs.declared.command.Command.{Command}
-use Rattle.script.specs.declared.command.Command.TheVariants.{Llx, Scx, Vlx, Set, Insert, Delete, Get}
+use Rattle.script.specs.declared.command.Command.TheVariants.{Llx, Scx, Vlx, Set, Insert, Delete, Get, Successor, Range}
 
 -- the word for a side
 abbrev pub side_text : Side → List ℕ
@@ -38,12 +38,16 @@ command_row (Set field value) = codes "set" ∷ decimal field.0 ∷ side_text fi
 command_row (Insert key value) = codes "insert" ∷ decimal key ∷ decimal value ∷ [] ∷ []
 command_row (Delete key) = codes "delete" ∷ decimal key ∷ [] ∷ [] ∷ []
 command_row (Get key) = codes "get" ∷ decimal key ∷ [] ∷ [] ∷ []
+command_row (Successor key) = codes "successor" ∷ decimal key ∷ [] ∷ [] ∷ []
+command_row (Range span) = codes "range" ∷ decimal span.low ∷ decimal span.high ∷ decimal span.most ∷ []
 
 -- the mode whose scripts have the command
 abbrev pub mode_of : Command → Mode
 mode_of (Insert key value) = Tree
 mode_of (Delete key) = Tree
 mode_of (Get key) = Tree
+mode_of (Successor key) = Tree
+mode_of (Range span) = Tree
 mode_of _ = Records
 
 -- the texts behind references
@@ -59,8 +63,9 @@ IsCell node = (1 ≤ node) × (node ≤ 8)
 abbrev pub AreCells : List ℕ → Type 0
 AreCells nodes = (1 ≤ length nodes) × All IsCell nodes
 
--- the command is one that there is: its nodes are cells, its key and value fit a word; an `Update`
--- itself says that those finalized are a part of its cells, and that its field belongs to one
+-- the command is one that there is: its nodes are cells, its keys and value fit a word; an `Update`
+-- itself says that those finalized are a part of its cells, and that its field belongs to one, a
+-- `Span` that it takes at most 64 pairs
 abbrev pub IsCommand : Command → Type 0
 IsCommand (Llx cell) = IsCell cell
 IsCommand (Scx update) = AreCells (update_cells update) × (update_value update < 2 ^ 64)
@@ -69,6 +74,8 @@ IsCommand (Set field value) = IsCell field.0 × (value < 2 ^ 64)
 IsCommand (Insert key value) = (key < 2 ^ 64) × (value < 2 ^ 64)
 IsCommand (Delete key) = key < 2 ^ 64
 IsCommand (Get key) = key < 2 ^ 64
+IsCommand (Successor key) = key < 2 ^ 64
+IsCommand (Range span) = (span.low < 2 ^ 64) × (span.high < 2 ^ 64)
 
 -- what is found is the command that has this row, or nothing where no command has it
 abbrev pub IsCommandOf : List (List ℕ) → Option Command → Type 0

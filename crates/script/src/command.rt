@@ -23,6 +23,20 @@ pub enum Command {
     Delete { key: u64 },
     /// Looks up a key of the map, in tree mode.
     Get { key: u64 },
+    /// Looks for the pair of the map with the least key above this one, in tree mode.
+    Successor { key: u64 },
+    /// Takes the first pairs of the map between two keys, in tree mode.
+    Range(Span),
+}
+
+/// Which pairs a range takes: the first by key of those with keys from `low` to `high`.
+#[derive(Clone, Copy, Debug, PartialEq, Eq)]
+pub struct Span {
+    pub low: u64,
+    pub high: u64,
+    /// How many pairs at most.
+    pub most: u32,
+    ghost few: { most ≤ 64 },
 }
 
 /// What an SCX changes: a field of one of its cells gets a fresh cell with this value, and some of

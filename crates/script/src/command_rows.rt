@@ -1,5 +1,5 @@
 //! Commands as fields of a row, read and written.
-ghost use Rattle.std.specs.Prelude.{◌≡◌, ◌≢◌, ◌<◌, ◌^◌, ◌↔◌, ℕ, [], ◌∷◌, ◌++◌, All, Contains, length, decimal, codes, IsSome, IfSome, MatchOption, Option, IfOk, IfErr, string_bytes};
+ghost use Rattle.std.specs.Prelude.{◌≡◌, ◌≢◌, ◌<◌, ◌≤◌, ◌^◌, ◌↔◌, ℕ, [], ◌∷◌, ◌++◌, All, Contains, length, decimal, codes, IsSome, IfSome, MatchOption, Option, IfOk, IfErr, string_bytes};
 ghost use Rattle.arena.specs.declared.word.Side.{Side};
 ghost use Rattle.script.specs.declared.cells.Cells.{Cells};
 ghost use Rattle.script.specs.Calls.{IsNoCommand};
@@ -7,12 +7,12 @@ ghost use Rattle.script.specs.Cells.{cells_of, maybe_cells_of};
 ghost use Rattle.script.specs.Commands.{command_row, mode_of, change_text, numbers_text, side_text, texts, AreCells, IsCell, IsCommand, IsCommandOf};
 
 use crate::cells::{Cell, Cells};
-use crate::command::{Command, Update};
+use crate::command::{Command, Span, Update};
 use crate::fault::ScriptCause;
 use arena::{Mode, Side};
 use itoa::Buffer;
 use std::alloc::{AllocError, Global};
-use texts::number_of;
+use texts::{number_of, small_number_of};
 
 /// The command that a row of a script says by this name and these arguments. The cause is `Command`
 /// where no command of the mode has the name, and else `Argument`: none of the name has these
@@ -29,6 +29,8 @@ pub fn command_of(mode: Mode, name: &str, arguments: [&str; 3]) -> Result<Comman
         (Mode::Tree, "insert") => insert_of(arguments),
         (Mode::Tree, "delete") => delete_of(arguments),
         (Mode::Tree, "get") => get_of(arguments),
+        (Mode::Tree, "successor") => successor_of(arguments),
+        (Mode::Tree, "range") => range_of(arguments),
         _ => return Err(ScriptCause::Command),
     };
     match command {
@@ -110,6 +112,37 @@ fn get_of(arguments: [&str; 3]) -> Option<Command>
     Some(Command::Get {
         key: number_of(key)?,
     })
+}
+
+fn successor_of(arguments: [&str; 3]) -> Option<Command>
+    ensures { IsCommandOf (codes "successor" ∷ texts arguments.entry) result }
+{
+    let [key, "", ""] = arguments else {
+        return None;
+    };
+    Some(Command::Successor {
+        key: number_of(key)?,
+    })
+}
+
+fn range_of(arguments: [&str; 3]) -> Option<Command>
+    ensures { IsCommandOf (codes "range" ∷ texts arguments.entry) result }
+{
+    let [low, high, most] = arguments;
+    Some(Command::Range(Span {
+        low: number_of(low)?,
+        high: number_of(high)?,
+        most: most_of(most)?,
+    }))
+}
+
+/// How many pairs a range may take: 64 at most.
+#[tactic(auto, using(texts::proofs::Lemmas::same_number))]
+fn most_of(text: &str) -> Option<u32>
+    ensures { MatchOption result ((most : ℕ) → most ≤ 64 → text.now ≢ decimal most) (λ most. (most ≤ 64) × (text.now ≡ decimal most)) }
+{
+    let most = small_number_of(text)?;
+    if most <= 64 { Some(most) } else { None }
 }
 
 #[tactic(auto, using(texts::proofs::Lemmas::same_number))]
@@ -226,6 +259,18 @@ impl CommandText {
                 a: format!(in alloc; "{key}")?,
                 b: String::new(alloc),
                 c: String::new(alloc),
+            }),
+            Command::Successor { key } => Ok(CommandText {
+                name: "successor",
+                a: format!(in alloc; "{key}")?,
+                b: String::new(alloc),
+                c: String::new(alloc),
+            }),
+            Command::Range(Span { low, high, most }) => Ok(CommandText {
+                name: "range",
+                a: format!(in alloc; "{low}")?,
+                b: format!(in alloc; "{high}")?,
+                c: format!(in alloc; "{most}")?,
             }),
         }
     }

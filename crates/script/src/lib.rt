@@ -12,7 +12,7 @@ mod schedule;
 mod script;
 
 pub use cells::{Cell, Cells};
-pub use command::{Call, Command, Update};
+pub use command::{Call, Command, Span, Update};
 pub use command_rows::{CommandText, command_of};
 pub use fault::{ScheduleCause, ScheduleFault, ScriptCause, ScriptFault};
 pub use kind::{kind_name, kind_of};

@@ -76,17 +76,22 @@ pub data MapCall : Type 0 where
   Successor : ℕ → MapCall
   Range : ℕ → ℕ → ℕ → MapCall
 
--- what a call may reply
+-- what a call may reply: a value, or none; a pair; some pairs
 pub data MapReply : Type 0 where
   OneValue : Option ℕ → MapReply
-  OnePair : Option Pair → MapReply
+  OnePair : Pair → MapReply
   ManyPairs : List Pair → MapReply
+
+-- the pair if there is one, and else none, which is the same reply for all calls
+abbrev pub pair_or_none : Option Pair → MapReply
+pair_or_none (Some p) = OnePair p
+pair_or_none None = OneValue None
 
 -- what the call replies on the map m: an edit tells the value that its key has in m, if it has one
 abbrev pub reply : MapCall → List Pair → MapReply
 reply (Edit e) m = OneValue (get (edit_key e) m)
 reply (Get k) m = OneValue (get k m)
-reply (Successor k) m = OnePair (successor k m)
+reply (Successor k) m = pair_or_none (successor k m)
 reply (Range low high most) m = ManyPairs (range low high most m)
 
 -- the map that the call leaves

@@ -171,6 +171,16 @@ const BAD_REPORTS: &str = "\
 37;snap 9 0;fail n9 0
 37;snap 9 0;full words 9
 37;snap 9 0;full nodes 4294967296
+37;snap 9 0;pair 9
+37;snap 9 0;pair 9 0 1
+37;snap 9 0;pair 09 0
+37;snap 9 0;pairs 
+37;snap 9 0;pairs 9
+37;snap 9 0;pairs 9 0 1
+37;snap 9 0;pairs  9 0
+37;snap 9 0;pairs 9 0 1 01
+37;snap 9 0;pairs 9 0 
+37;snap 9 0;no memory 0
 # The end row, and what stands behind it.
 38;end,30,2,1;end,29,2,1
 38;end,30,2,1;end,30,1,1

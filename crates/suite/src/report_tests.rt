@@ -2,6 +2,7 @@ use arena::{Kind, Mode, NodeNo, NodeWord, PassNo, Resource, ScxNo, ScxWord, Side
 use record::{Answer, Entry, Line, Record, Reply, Row};
 use report::{WriteFault, read_record, write_record};
 use script::read_script;
+use spelling::Pair;
 use std::alloc::Global;
 use std::test::Fail;
 use texts::{FailAt, Metered};
@@ -142,7 +143,7 @@ fn untouched(alloc: Global) -> Result<Record, Fail> {
         Line::Reply(reply),
     ];
     let script = "limits,1,0,0,1\n0,llx,8,,\nend,1,,,\n";
-    record(alloc, script, lines.to_vec(alloc)?)
+    record(alloc, script, Vec::from_array(alloc, lines)?)
 }
 
 /// Each kind of step but one, and each word.
@@ -228,7 +229,9 @@ fn each_line(alloc: Global) -> Result<Vec<Line>, Fail> {
     for (place, (kind, word)) in (0u64..).zip(each_word()) {
         lines.push(step(place + 1, kind, word, place))?;
     }
-    lines.extend_from_slice(&rest)?;
+    for line in rest {
+        lines.push(line)?;
+    }
     Ok(lines)
 }
 
@@ -239,7 +242,9 @@ limits,2,20,20,1
 1,get,5,,
 1,insert,18446744073709551615,0,
 0,delete,5,,
-end,4,,,
+0,successor,5,,
+1,range,1,9,64
+end,6,,,
 ";
 
 /// Its rows, and those of the lines that `each_tree_line` gives.
@@ -250,17 +255,24 @@ call,0,0,insert,5,50,
 call,1,0,get,5,,
 call,1,1,insert,18446744073709551615,0,
 call,0,1,delete,5,,
+call,0,2,successor,5,,
+call,1,2,range,1,9,64
 log,1,47,s1,0,0,
 reply,1,3,30,41,40,none
 reply,1,3,30,41,40,some 50
+reply,1,3,30,41,40,pair 7 70
+reply,1,3,30,41,40,pairs
+reply,1,3,30,41,40,pairs 5 50
+reply,1,3,30,41,40,pairs 0 18446744073709551615 7 70
+reply,1,3,30,41,,no memory
 reply,1,3,30,41,,contended n0 s21
 reply,1,3,30,41,,full nodes 2
 reply,1,3,30,41,,full scx 0
-end,0,5,1,,,
+end,0,10,1,,,
 ";
 
 /// An entry, and each answer on the tree.
-fn each_tree_line() -> [Line; 6] {
+fn each_tree_line(alloc: Global) -> Result<[Line; 11], Fail> {
     let entry = Entry {
         place: 1,
         step: 47,
@@ -280,14 +292,22 @@ fn each_tree_line() -> [Line; 6] {
         what: Resource::Scx,
         left: 0,
     };
-    [
+    let pair = |key, value| Pair { key, value };
+    let one = Vec::from_array(alloc, [pair(5, 50)])?;
+    let two = Vec::from_array(alloc, [pair(0, u64::MAX), pair(7, 70)])?;
+    Ok([
         Line::Log(entry),
         reply(Answer::Value(None), Some(40)),
         reply(Answer::Value(Some(50)), Some(40)),
+        reply(Answer::Pair(pair(7, 70)), Some(40)),
+        reply(Answer::Pairs(Vec::new(alloc)), Some(40)),
+        reply(Answer::Pairs(one), Some(40)),
+        reply(Answer::Pairs(two), Some(40)),
+        reply(Answer::NoMemory, None),
         reply(contended, None),
         reply(no_nodes, None),
         reply(no_scx, None),
-    ]
+    ])
 }
 
 /// What gets on a tree tell.
@@ -316,7 +336,7 @@ fn written(alloc: Global, record: &Record, bytes: usize) -> (Vec<u8>, Result<(),
 #[test]
 fn whole_reports(rt: HostRuntime) -> Result<(), Fail> {
     let each = record(rt.alloc(), SCRIPT, each_line(rt.alloc())?)?;
-    let lines = each_tree_line().to_vec(rt.alloc())?;
+    let lines = Vec::from_array(rt.alloc(), each_tree_line(rt.alloc())?)?;
     let tree = record_in(rt.alloc(), Mode::Tree, TREE_SCRIPT, lines)?;
     let records = [
         (untouched(rt.alloc())?, UNTOUCHED),

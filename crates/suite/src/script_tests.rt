@@ -2,7 +2,7 @@ use crate::table::case_of;
 use arena::{Kind, Limits, Mode, PassNo, Side};
 use script::{
     Call, Cell, Cells, Command, Order, Schedule, ScheduleCause, ScheduleFault, Script, ScriptCause,
-    ScriptFault, Update, kind_name, kind_of, read_schedule, read_script,
+    ScriptFault, Span, Update, kind_name, kind_of, read_schedule, read_script,
 };
 use std::alloc::{AllocError, Global};
 use std::io::{Read, Write};
@@ -141,6 +141,8 @@ row 2: command;limits,1,1,1,1|0,put,x,,|
 row 2: command;limits,1,1,1,1|0,,,,|
 row 2: command;limits,1,1,1,1|0,insert,5,50,|
 row 2: command;limits,1,1,1,1|0,delete,5,,|
+row 2: command;limits,1,1,1,1|0,successor,5,,|
+row 2: command;limits,1,1,1,1|0,range,1,9,3|
 # The arguments.
 row 2: argument;limits,1,1,1,1|0,llx,0,,|
 row 2: argument;limits,1,1,1,1|0,llx,9,,|
@@ -241,7 +243,9 @@ fn the_mode_decides_which_commands_there_are(rt: HostRuntime) -> Result<(), Fail
 /// A script with each command on the tree.
 const TREE_SCRIPT: &str = "limits,2,10,10,3\n0,insert,5,50,\n1,get,5,,\n\
     1,insert,18446744073709551615,0,\n0,insert,0,18446744073709551615,\n\
-    1,delete,5,,\n0,delete,18446744073709551615,,\nend,6,,,\n";
+    1,delete,5,,\n0,delete,18446744073709551615,,\n\
+    0,successor,0,,\n1,successor,18446744073709551615,,\n0,range,1,9,3\n\
+    1,range,9,1,0\n0,range,0,18446744073709551615,64\nend,11,,,\n";
 
 #[test]
 fn a_script_on_the_tree_is_read(rt: HostRuntime) -> Result<(), Fail> {
@@ -249,6 +253,21 @@ fn a_script_on_the_tree_is_read(rt: HostRuntime) -> Result<(), Fail> {
     let script = read_script(rt.alloc(), Mode::Tree, &mut text)?;
     let insert = |key, value| Command::Insert { key, value };
     let delete = |key| Command::Delete { key };
+    let successor = |key| Command::Successor { key };
+    let range = |low, high| {
+        let most = 3;
+        Command::Range(Span { low, high, most })
+    };
+    let all = Span {
+        low: 0,
+        high: u64::MAX,
+        most: 64,
+    };
+    let none = Span {
+        low: 9,
+        high: 1,
+        most: 0,
+    };
     let calls = [
         (0, insert(5, 50)),
         (1, Command::Get { key: 5 }),
@@ -256,6 +275,11 @@ fn a_script_on_the_tree_is_read(rt: HostRuntime) -> Result<(), Fail> {
         (0, insert(0, u64::MAX)),
         (1, delete(5)),
         (0, delete(u64::MAX)),
+        (0, successor(0)),
+        (1, successor(u64::MAX)),
+        (0, range(1, 9)),
+        (1, Command::Range(none)),
+        (0, Command::Range(all)),
     ];
     assert_eq!(rt; script.calls.len(), calls.len());
     for (call, (client, command)) in script.calls.iter().zip(calls) {
@@ -293,6 +317,25 @@ row 2: argument;limits,1,10,10,3|0,delete,5,50,|end,1,,,|
 row 2: argument;limits,1,10,10,3|0,delete,5,,0|end,1,,,|
 row 2: argument;limits,1,10,10,3|0,delete,+5,,|end,1,,,|
 row 2: argument;limits,1,10,10,3|0,delete,18446744073709551616,,|end,1,,,|
+row 2: fields;limits,1,10,10,3|0,successor,5|end,1,,,|
+row 2: client;limits,1,10,10,3|1,successor,5,,|end,1,,,|
+row 2: command;limits,1,10,10,3|0,predecessor,5,,|end,1,,,|
+row 2: argument;limits,1,10,10,3|0,successor,,,|end,1,,,|
+row 2: argument;limits,1,10,10,3|0,successor,5,6,|end,1,,,|
+row 2: argument;limits,1,10,10,3|0,successor,5,,0|end,1,,,|
+row 2: argument;limits,1,10,10,3|0,successor,05,,|end,1,,,|
+row 2: argument;limits,1,10,10,3|0,successor,18446744073709551616,,|end,1,,,|
+row 2: fields;limits,1,10,10,3|0,range,1,9|end,1,,,|
+row 2: client;limits,1,10,10,3|1,range,1,9,3|end,1,,,|
+row 2: command;limits,1,10,10,3|0,ranges,1,9,3|end,1,,,|
+row 2: argument;limits,1,10,10,3|0,range,,9,3|end,1,,,|
+row 2: argument;limits,1,10,10,3|0,range,1,,3|end,1,,,|
+row 2: argument;limits,1,10,10,3|0,range,1,9,|end,1,,,|
+row 2: argument;limits,1,10,10,3|0,range,1,9,65|end,1,,,|
+row 2: argument;limits,1,10,10,3|0,range,1,9,03|end,1,,,|
+row 2: argument;limits,1,10,10,3|0,range,1,9,4294967299|end,1,,,|
+row 2: argument;limits,1,10,10,3|0,range,18446744073709551616,9,3|end,1,,,|
+row 2: argument;limits,1,10,10,3|0,range,1,18446744073709551616,3|end,1,,,|
 ";
 
 #[test]

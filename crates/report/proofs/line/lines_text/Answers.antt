@@ -1,6 +1,8 @@
-use Rattle.std.proofs.Common.{[], refl, map}
+use Rattle.std.proofs.Common.{[], refl, map, subst}
+use Rattle.std.specs.Io.KnownBytes.{Appends}
+use Rattle.record.specs.declared.record.Line.{Line}
 use Rattle.report.specs.Report.{line_row}
-use Rattle.texts.specs.Pages.{rows_text, page_text}
+use Rattle.texts.specs.Pages.{line_of, rows_text, page_text}
 use Rattle.report.proofs.Texts.{all_out, if_ok, one_out}
 use Rattle.report.proofs.line.lines_text.Goals as goal
 
@@ -13,7 +15,7 @@ loop-line-preserved c =
     record {
       ready = done.ready;
       row = done.row;
-      midway = one_out line_row c.args.lines.now c.loop-line.line-index _ (page_text c.loop-line.page) (page_text c.put_line.new.page) (rows_text (map line_row c.args.lines.now)) c.loop-line-test.true done.text c.loop-line.invariant.midway;
+      midway = one_out line_row c.args.lines.now c.loop-line.line-index c.line-item.result (page_text c.loop-line.page) (page_text c.put_line.new.page) (rows_text (map line_row c.args.lines.now)) c.loop-line-test.true (subst (λ (l : Line). Appends (page_text c.loop-line.page) (page_text c.put_line.new.page) (line_of (line_row l))) c.line-item.is done.text) c.loop-line.invariant.midway;
     }
 
 pub returns : goal.returns

@@ -6,13 +6,13 @@ use Rattle.report.specs.Report.{line_row}
 use Rattle.texts.specs.Pages.{seven}
 use Rattle.report.proofs.read_line.lines_of.Given as goal
 
-abbrev pub invariant-loop-rows : goal.invariant-loop-rows
-invariant-loop-rows g l = record {
+abbrev pub invariant-loop-alloc : goal.invariant-loop-alloc
+invariant-loop-alloc g l = record {
   counted : HasCountedReplies l.replies l.fn.passes (reverse l.lines.items);
   calls : AreNumbered l.fn.passes (reverse l.lines.items);
   rows : (bytes : List ℕ) (before : List (List (List ℕ))) → IsAtRow g.R.Read.remaining bytes before 7 l.fn.rows
       → IsAtRow g.R.Read.remaining bytes (before ++ map seven (map line_row l.lines.items)) 7 l.rows;
 }
 
-abbrev pub decreases-loop-rows : goal.decreases-loop-rows
-decreases-loop-rows g l = 2 ^ 64 - vec_len l.lines
+abbrev pub decreases-loop-alloc : goal.decreases-loop-alloc
+decreases-loop-alloc g l = 2 ^ 64 - vec_len l.lines

@@ -1,4 +1,4 @@
-use Rattle.std.proofs.Common.{arith, ℕ, List, length, refl, ◌∙◌, ap, Some, None}
+use Rattle.std.proofs.Common.{arith, ℕ, List, length, refl, sym, ◌∙◌, ap, Some, None}
 use Rattle.script.specs.declared.command.Command.{Command}
 use Rattle.player.proofs.Snapshots.{kept_linked}
 use Rattle.arena.proofs.Lemmas.{ends_self}
@@ -6,7 +6,9 @@ use Rattle.script.specs.Commands.{mode_of}
 use Rattle.tree.proofs.Lemmas.{get_ready_first}
 use Rattle.player.specs.ClientView.{machine_call}
 use Rattle.player.proofs.Shapes.{as_tree}
-use Rattle.player.proofs.Begins.{get_starts, llx_starts, vlx_starts, vlx_unlinked, rests_at, begins_run, some_snaps, as_many_snaps}
+use Rattle.script.specs.declared.command.Command.TheVariants.{Successor as SuccessorCommand}
+use Rattle.player.specs.declared.read.ReadRun.TheVariants.{Successor as NextOf}
+use Rattle.player.proofs.Begins.{get_starts, read_starts, successor_ready, llx_starts, vlx_starts, vlx_unlinked, rests_at, begins_run, some_snaps, as_many_snaps}
 use Rattle.player.proofs.client.Client.begin.Goals as goal
 
 pub returns-in-Llx : goal.returns-in-Llx
@@ -61,3 +63,22 @@ pub returns-in-Scx : goal.returns-in-Scx
 returns-in-Scx c v began sound some mode r u is =
     begins_run v c.args.self.now c.begin_scx.new.self c.args.turn c.begin_scx.result
     (c.begin_scx.ensures v began sound (mode ∙ ap (λ (k : Command). mode_of k) c.in-Scx.is) (rests_at v c.args.self.now c.args.turn r) u (is ∙ ap (λ (k : Command). Some k) c.in-Scx.is))
+
+pub returns-in-Successor : goal.returns-in-Successor
+returns-in-Successor c v began sound some mode r u is =
+    let rests = rests_at v c.args.self.now c.args.turn r in
+    let tree = mode ∙ ap (λ (k : Command). mode_of k) c.in-Successor.is in
+    let new = c.new-run.ensures in
+    begins_run v c.args.self.now c.run-in-Successor.new.self c.args.turn c.run-in-Successor.result
+    (c.run-in-Successor.ensures.begins v sound (read_starts v began _ (NextOf c.new-run.result) (SuccessorCommand c.in-Successor.key) sound tree rests u new.key
+    (successor_ready v _ c.new-run.result sound tree rests (omega (arith, new.key)) new.snaps new.start)
+    (rw (sym r.stands.tries) new.tries)
+    (λ taken. rw (sym r.stands.tries) (new.bound taken (rw (sym r.stands.tries) at some)))
+    (is ∙ ap (λ (k : Command). Some k) c.in-Successor.is)))
+
+pub returns-in-Range : goal.returns-in-Range
+returns-in-Range c v began sound some mode r u is =
+    let rests = rests_at v c.args.self.now c.args.turn r in
+    let tree = mode ∙ ap (λ (k : Command). mode_of k) c.in-Range.is in
+    begins_run v c.args.self.now c.begin_range.new.self c.args.turn c.begin_range.result
+    (c.begin_range.ensures v began sound some tree rests u (is ∙ ap (λ (k : Command). Some k) c.in-Range.is))

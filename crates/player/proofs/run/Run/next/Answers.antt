@@ -7,6 +7,7 @@ use Rattle.prims.specs.Vlx.Known.{VlxIsReady}
 use Rattle.tree.specs.Get.Known.{GetIsReady}
 use Rattle.tree.specs.Get.Laws.{get_told}
 use Rattle.player.specs.EditRuns.{EditIsReady}
+use Rattle.player.specs.ReadRuns.{ReadIsReady}
 use Rattle.player.proofs.Shapes.{as_cells, as_tree}
 use Rattle.player.proofs.run.Run.next.Goals as goal
 
@@ -56,7 +57,7 @@ pub returns-in-Ask-next-2-clause-nearer : goal.returns-in-Ask-next-2-clause-near
 returns-in-Ask-next-2-clause-nearer c d h nodes mode run ready few = rw c.in-Vlx.is (c.in-Ask-next-2.ensures.nearer nodes tt)
 
 pub returns-in-Done-next-2-clause-begins : goal.returns-in-Done-next-2-clause-begins
-returns-in-Done-next-2-clause-begins c none first d h ready =
+returns-in-Done-next-2-clause-begins c none d h ready =
     let r : VlxIsReady c.in-Vlx.run'.snaps c.in-Vlx.run'.asked d h None = rw c.in-Vlx.is at ready in
     c.in-Done-next-2.ensures.begins none tt d h r
 
@@ -71,3 +72,15 @@ returns-in-Ask-next-4-clause-nearer c d h nodes mode run ready few =
     let tree : d.layout.mode ≡ Tree = rw c.in-Get.is at mode in
     let r : GetIsReady c.in-Get.run' d h c.args.got = rw c.in-Get.is at ready in
     rw c.in-Get.is (c.in-Ask-next-4.ensures.nearer nodes (get_told c.in-Get.run' d h c.args.got nodes (as_tree d.layout h tree run) r few))
+
+pub returns-in-Ask-next-5-clause-nearer : goal.returns-in-Ask-next-5-clause-nearer
+returns-in-Ask-next-5-clause-nearer c d h nodes mode run ready few =
+    let tree : d.layout.mode ≡ Tree = rw c.in-Read.is at mode in
+    let r : ReadIsReady c.in-Read.run' d h c.args.got = rw c.in-Read.is at ready in
+    rw c.in-Read.is (c.in-Ask-next-5.ensures.nearer d h nodes (as_tree d.layout h tree run) r few)
+
+pub returns-in-Done-next-5-clause-turn : goal.returns-in-Done-next-5-clause-turn
+returns-in-Done-next-5-clause-turn c d h mode run ready =
+    let tree : d.layout.mode ≡ Tree = rw c.in-Read.is at mode in
+    let r : ReadIsReady c.in-Read.run' d h c.args.got = rw c.in-Read.is at ready in
+    c.in-Done-next-5.ensures.turn d h (as_tree d.layout h tree run) r

@@ -1,0 +1,4 @@
+-- What the layers above know of ordered reads beside their clauses, passed on from one place: no other
+-- module of these proofs can be named outside. Declares nothing.
+pub use Rattle.order.proofs.Ready.{successor_ready_first}
+pub use Rattle.order.proofs.RangeReady.{range_ready_first}

@@ -1,0 +1,9 @@
+pub mod Replies
+pub mod Reads
+pub mod Undisturbed
+pub mod Kept
+pub mod Search
+pub mod Depth
+pub mod Successor
+pub mod Visits
+pub mod Range

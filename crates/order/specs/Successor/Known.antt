@@ -1,0 +1,179 @@
+-- When a successor may go on, what it waits for, and what its answer says.
+use Rattle.std.specs.Prelude.{◌≡◌, ℕ, ◌^◌, ◌<◌, ◌≤◌, Bool, true, false, cond, eqb, ltb, ◌⊎◌, length, Option, Some, None, Result, Ok, Err}
+use Rattle.arena.specs.declared.head.Head.{Head as HeadParts}
+use Rattle.arena.specs.declared.machine.Turn.{Turn}
+use Rattle.arena.specs.declared.step.Step.{Step}
+use Rattle.arena.specs.declared.step.Kind.TheVariants.{LoadSettled}
+use Rattle.arena.specs.declared.word.NodeWord.TheVariants.{Head as HeadWord, Key as KeyWord, Value as ValueWord}
+use Rattle.arena.specs.declared.word.Side.{Side}
+use Rattle.arena.specs.declared.word.Side.TheVariants.{Left, Right}
+use Rattle.arena.specs.Heads.{head_of}
+use Rattle.arena.specs.Words.{node, marked}
+use Rattle.arena.specs.History.{History, value, Extends}
+use Rattle.arena.specs.Machines.{Call, MatchTurn}
+use Rattle.prims.specs.Llx.Known.{load, LlxIsReady, LlxWaits}
+use Rattle.prims.specs.Moments.{AreFinished}
+use Rattle.prims.specs.Vlx.Known.{VlxIsReady, VlxWaits}
+use Rattle.spelling.specs.declared.pair.Pair.{Pair}
+use Rattle.spelling.specs.OrderedMap.{Successor, pair_or_none}
+use Rattle.spelling.specs.Paths.{IsOnPath}
+use Rattle.spelling.specs.TreeShape.{TreeAllows}
+use Rattle.spelling.specs.TreeWords.{class, is_leaf, level, toward}
+use Rattle.template.specs.Trails.{IsOwnMoment, WasPassed}
+use Rattle.template.specs.Walk.Known.{WalkIsReady, WalkWaits}
+use Rattle.template.specs.declared.walk.Goal.TheVariants.{Key as ToKey}
+use Rattle.order.specs.Reads.{from, Reads, AllHold, Whenever, HasStood}
+use Rattle.order.specs.Replies.{IsReplyAt, IsContended}
+use Rattle.order.specs.Search.{IsSearched, IsFirstBehind, IsNextAt}
+use Rattle.order.specs.declared.refused.Refused.{Refused}
+use Rattle.order.specs.declared.refused.Refused.TheVariants.{Contended, NoMemory}
+use Rattle.order.specs.declared.successor.Route.{Route}
+use Rattle.order.specs.declared.successor.Route.TheVariants.{Along, Beyond}
+use Rattle.order.specs.declared.successor.SuccessorAt.{SuccessorAt}
+use Rattle.order.specs.declared.successor.SuccessorAt.TheVariants.{Start, Walk, Look, Head, Key, Value, Validate}
+use Rattle.order.specs.declared.successor.SuccessorRun.{SuccessorRun}
+
+-- What it knows of nodes
+
+abbrev pub head_at : History → ℕ → HeadParts
+head_at h n = head_of (value h (node n HeadWord))
+
+abbrev pub key_at : History → ℕ → ℕ
+key_at h n = value h (node n KeyWord)
+
+abbrev pub value_at : History → ℕ → ℕ
+value_at h n = value h (node n ValueWord)
+
+abbrev pub level_at : History → ℕ → ℕ
+level_at h n = level (value h) n
+
+-- the call has passed this fork on its way to k, which is on the left of it
+pub record HasTurnedLeft (c : Call) (h : History) (k n : ℕ) : Type 0 where
+  pub passed : WasPassed c h k n
+  pub fork : is_leaf (value h) n ≡ false
+  pub left : toward (value h) n k ≡ Left
+
+-- so it is with the last fork where the walk has turned left; the root is always one
+abbrev pub IsLastTurn : Call → History → ℕ → ℕ → Type 0
+IsLastTurn c h k n = (n ≡ 0) ⊎ HasTurnedLeft c h k n
+
+-- whether it loads the key of a node with this head
+abbrev pub asks_key : Route → HeadParts → Bool
+asks_key Along head = eqb head.class 0
+asks_key Beyond head = cond (eqb head.class 0) head.leaf false
+
+-- whether a leaf of class 0 with this key is the answer of k
+abbrev pub is_answer : Route → ℕ → ℕ → Bool
+is_answer Along k key = ltb k key
+is_answer Beyond k key = true
+
+-- where the search stands on this part of its way
+abbrev pub IsOnRoute : Route → History → ℕ → ℕ → ℕ → Type 0
+IsOnRoute Along h k n right = IsSearched h k n right
+IsOnRoute Beyond h k n right = IsFirstBehind h k n
+
+-- the node from which the second part goes down stands below some fork
+pub record IsRightThere (c : Call) (h : History) (right : ℕ) : Type 0 where
+  pub stood : HasStood c h right
+  pub below : 0 < level (value h) right
+
+-- the side to which the search goes on from the fork n: that of k, or else the left
+abbrev pub IsSideOf : Route → History → ℕ → ℕ → Side → Type 0
+IsSideOf Along h k n side = toward (value h) n k ≡ side
+IsSideOf Beyond h k n side = side ≡ Left
+
+-- The search stands at a fork that is not marked; or that is the fork where its first part begins,
+-- with k on the left.
+abbrev pub IsAtFork : Route → History → ℕ → ℕ → ℕ → Side → Type 0
+IsAtFork route b k n right side = value b (marked n) ≡ 0 → IsOnRoute route b k n right ⊎ ((route ≡ Along) × (side ≡ Left) × IsOnPath b k n)
+
+-- it may look at this fork, to go on to this side
+pub record LooksAt (m : SuccessorRun) (c : Call) (h : History) (route : Route) (low : ℕ) (side : Side) (n : ℕ) : Type 0 where
+  pub stood : HasStood c h n
+  pub fork : is_leaf (value h) n ≡ false
+  pub deep : low ≤ level (value h) n
+  pub side_is : IsSideOf route h m.key n side
+  pub right : route ≡ Along → side ≡ Right → IsRightThere c h m.right.0
+  pub at_fork : Whenever c.layout h m.snaps.items (λ b. IsAtFork route b m.key n m.right.0 side)
+
+-- it stands at this node, below a fork of which it has a snapshot
+pub record StandsAt (m : SuccessorRun) (c : Call) (h : History) (route : Route) (n : ℕ) : Type 0 where
+  pub stood : HasStood c h n
+  pub some : 0 < length m.snaps.items
+  pub right : route ≡ Along → IsRightThere c h m.right.0
+  pub on_route : Whenever c.layout h m.snaps.items (λ b. IsOnRoute route b m.key n m.right.0)
+
+-- this is the head of a node of class 0 where it stands, a leaf on the second part of its way
+pub record HasHead (h : History) (route : Route) (n : ℕ) (head : HeadParts) : Type 0 where
+  pub head_is : head_of (value h (node n HeadWord)) ≡ head
+  pub low : head.class ≡ 0
+  pub leaf : route ≡ Beyond → head.leaf ≡ true
+
+-- it has found the leaf of the answer, which has this key
+pub record HasLeaf (m : SuccessorRun) (c : Call) (h : History) (n key : ℕ) : Type 0 where
+  pub stood : HasStood c h n
+  pub some : 0 < length m.snaps.items
+  pub leaf : is_leaf (value h) n ≡ true
+  pub low : class (value h) n ≡ 0
+  pub key_is : value h (node n KeyWord) ≡ key
+  pub first : Whenever c.layout h m.snaps.items (λ b. IsFirstBehind b m.key n)
+
+-- its VLX has begun at an own moment of the call, at which this was the answer if all infos were as
+-- found
+pub record Validates (m : SuccessorRun) (c : Call) (h begin : History) (found : Option Pair) : Type 0 where
+  pub own : IsOwnMoment c begin
+  pub within : Extends h begin
+  pub then : Reads c begin m.snaps.items
+  pub right : AllHold begin m.snaps.items → IsNextAt c.layout begin m.key found
+
+-- What it waits for
+
+-- what holds at any place
+pub record Goes (m : SuccessorRun) (c : Call) (h : History) : Type 0 where
+  pub reads : Reads c h m.snaps.items
+  pub small : m.key < 2 ^ 64
+
+-- what holds while it waits for this step at this place
+abbrev pub SuccessorWaitsAt : SuccessorRun → Call → History → Step → SuccessorAt → Type 0
+SuccessorWaitsAt m c h s Start = ⊥
+SuccessorWaitsAt m c h s (Walk walk turn) = (walk.goal ≡ ToKey m.key) × IsLastTurn c h m.key turn.0 × WalkWaits walk c h s
+SuccessorWaitsAt m c h s (Look route low side llx) = LooksAt m c h route low side llx.node.0 × ((begin : History) × Extends begin c.start × LlxWaits TreeAllows llx (from c begin) h s)
+SuccessorWaitsAt m c h s (Head route above n) = StandsAt m c h route n.0 × (above < level (value h) n.0) × (s ≡ load LoadSettled (node n.0 HeadWord))
+SuccessorWaitsAt m c h s (Key route head n) = StandsAt m c h route n.0 × HasHead h route n.0 head × (s ≡ load LoadSettled (node n.0 KeyWord))
+SuccessorWaitsAt m c h s (Value key n) = HasLeaf m c h n.0 key × (s ≡ load LoadSettled (node n.0 ValueWord))
+SuccessorWaitsAt m c h s (Validate asked found) = (begin : History) × Validates m c h begin found × VlxWaits m.snaps.items asked (from c begin) h s
+
+-- what holds once the step of this place has told v
+abbrev pub SuccessorIsToldAt : SuccessorRun → Call → History → ℕ → SuccessorAt → Type 0
+SuccessorIsToldAt m c h v Start = ⊥
+SuccessorIsToldAt m c h v (Walk walk turn) = (walk.goal ≡ ToKey m.key) × IsLastTurn c h m.key turn.0 × WalkIsReady walk c h (Some v)
+SuccessorIsToldAt m c h v (Look route low side llx) = LooksAt m c h route low side llx.node.0 × ((begin : History) × Extends begin c.start × LlxIsReady TreeAllows llx (from c begin) h (Some v))
+SuccessorIsToldAt m c h v (Head route above n) = StandsAt m c h route n.0 × (above < level (value h) n.0) × (value h (node n.0 HeadWord) ≡ v)
+SuccessorIsToldAt m c h v (Key route head n) = StandsAt m c h route n.0 × HasHead h route n.0 head × (value h (node n.0 KeyWord) ≡ v)
+SuccessorIsToldAt m c h v (Value key n) = HasLeaf m c h n.0 key × (value h (node n.0 ValueWord) ≡ v)
+SuccessorIsToldAt m c h v (Validate asked found) = (begin : History) × Validates m c h begin found × VlxIsReady m.snaps.items asked (from c begin) h (Some v)
+
+-- it waits for this step where it stands
+abbrev pub SuccessorWaits : SuccessorRun → Call → History → Step → Type 0
+SuccessorWaits m c h s = Goes m c h × SuccessorWaitsAt m c h s m.at
+
+-- it may be called with this: with nothing at its start, then with what its step told by an own row
+abbrev pub SuccessorIsReady : SuccessorRun → Call → History → Option ℕ → Type 0
+SuccessorIsReady m c h None = Goes m c h × (m.at ≡ Start)
+SuccessorIsReady m c h (Some v) = Goes m c h × IsOwnMoment c h × SuccessorIsToldAt m c h v m.at
+
+-- What it answers
+
+-- what its answer says: the map's reply at a moment of the call, or who was in the way
+abbrev pub SuccessorSays : SuccessorRun → Call → History → Result (Option Pair) Refused → Type 0
+SuccessorSays m c h (Ok found) = IsReplyAt c h (Successor m.key) (pair_or_none found)
+SuccessorSays m c h (Err (Contended n s)) = IsContended c h n.0 s.0 × (m.tries ≡ 0)
+SuccessorSays m c h (Err NoMemory) = Unit {0}
+
+-- and behind it the pass is at rest
+abbrev pub SuccessorAnswers : SuccessorRun → Call → History → Result (Option Pair) Refused → Type 0
+SuccessorAnswers m c h answer = AreFinished c.layout c.pass 0 h × SuccessorSays m c h answer
+
+-- it waits for the step that it asks for, or its answer is right
+abbrev pub SuccessorTurn : Call → History → SuccessorRun → Turn (Result (Option Pair) Refused) → Type 0
+SuccessorTurn c h m turn = MatchTurn turn (SuccessorWaits m c h) (SuccessorAnswers m c h)

@@ -1,0 +1,45 @@
+-- A call by itself, and what an ordered read tells and leaves then.
+use Rattle.std.specs.Prelude.{◌≡◌, ℕ, ◌<◌, List, Option, Result, Ok, Err, Vec}
+use Rattle.std.specs.Global.{Global}
+use Rattle.arena.specs.declared.step.Row.{Row}
+use Rattle.arena.specs.Blame.{IsInProgress}
+use Rattle.arena.specs.History.{History, ◌⊳◌, value, Extends}
+use Rattle.arena.specs.Log.{log}
+use Rattle.arena.specs.Machines.{Call, MatchTurn}
+use Rattle.arena.specs.declared.machine.Turn.{Turn}
+use Rattle.spelling.specs.declared.pair.Pair.{Pair}
+use Rattle.spelling.specs.OrderedMap.{successor, range}
+use Rattle.spelling.specs.Spelled.{Spells}
+use Rattle.order.specs.declared.refused.Refused.{Refused}
+use Rattle.order.specs.declared.refused.Refused.TheVariants.{Contended, NoMemory}
+
+-- no SCX-record is in progress
+abbrev pub IsAtRest : History → Type 0
+IsAtRest h = (s : ℕ) → ¬ IsInProgress h s
+
+-- Nothing was in progress as the call began, and each row since then is its pass's.
+pub record IsUndisturbed (c : Call) (h : History) : Type 0 where
+  pub since : Extends h c.start
+  pub rest : IsAtRest c.start
+  pub own : (row : Row) (before : History) → Extends h (row ⊳ before) → Extends before c.start → row.pass.0 ≡ c.pass
+
+-- where a turn asks for a step, fewer are left then in this try than were before it
+abbrev pub HasLessOfTry : {A : Type 0} → Turn A → ℕ → ℕ → Type 0
+HasLessOfTry turn now before = MatchTurn turn (λ _. now < before) (λ _. Unit {0})
+
+-- the log is what it was as the call began, and the map is still this
+pub record HasLeftAll (c : Call) (h : History) (map : List Pair) : Type 0 where
+  pub entries : log c.layout h ≡ log c.layout c.start
+  pub spelled : Spells c.layout (value h) map
+
+-- a successor tells of this map the pair behind the key, or that there is none; it is not contended
+abbrev pub TellsNext : List Pair → ℕ → Result (Option Pair) Refused → Type 0
+TellsNext map k (Ok found) = found ≡ successor k map
+TellsNext map k (Err (Contended n s)) = ⊥
+TellsNext map k (Err NoMemory) = Unit {0}
+
+-- a range tells of this map the first pairs within the bounds; it is not contended
+abbrev pub TellsRange : List Pair → ℕ → ℕ → ℕ → Result (Vec Pair Global) Refused → Type 0
+TellsRange map low high most (Ok told) = told.items ≡ range low high most map
+TellsRange map low high most (Err (Contended n s)) = ⊥
+TellsRange map low high most (Err NoMemory) = Unit {0}

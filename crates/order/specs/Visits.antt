@@ -1,0 +1,54 @@
+-- How far the visits of a range have come, in the tree that the words show.
+use Rattle.std.specs.Prelude.{◌≡◌, ◌≢◌, ℕ, ◌+◌, ◌<◌, ◌≤◌, List, [], ◌∷◌, ◌++◌, length}
+use Rattle.arena.specs.declared.layout.Layout.{Layout}
+use Rattle.arena.specs.declared.number.NodeNo.{NodeNo}
+use Rattle.arena.specs.History.{History, value}
+use Rattle.spelling.specs.declared.pair.Pair.{Pair}
+use Rattle.spelling.specs.OrderedMap.{between, range}
+use Rattle.spelling.specs.Spelled.{IsTree, Spells}
+use Rattle.spelling.specs.TreeWords.{Tree, pairs}
+use Rattle.order.specs.Search.{IsPartAt}
+
+-- the keys that are asked for, and how many pairs at most
+pub record Bounds : Type 0 where
+  pub low : ℕ
+  pub high : ℕ
+  pub most : ℕ
+
+-- the pairs within the bounds below the root of a part
+abbrev pub part_pairs : History → Bounds → Tree → List Pair
+part_pairs h w t = between w.low w.high (pairs (value h) t)
+
+-- The nodes that wait to be visited, the next one first, are roots of parts of the tree, and within
+-- the bounds these hold the pairs `ps`. Each is above the lower bound, and all but the last below
+-- the upper one.
+abbrev pub AreWaiting : History → Bounds → List NodeNo → List Pair → Type 0
+AreWaiting h w [] ps = ps ≡ []
+AreWaiting h w (n ∷ ns) ps = (part : IsPartAt h n.0) × (rest : List Pair) × AreWaiting h w ns rest × (ps ≡ part_pairs h w part.tree ++ rest) × (w.low < part.low) × (ns ≢ [] → part.high ≤ w.high)
+
+-- The visits stand at the node n, with these pairs taken, these nodes waiting, and so many leaves
+-- left to be visited. The pairs of the tree within the bounds are those taken, those below n, and
+-- those of the nodes that wait. At most one leaf was visited of which no pair was taken.
+pub record IsVisiting (h : History) (w : Bounds) (n : ℕ) (taken : List Pair) (waiting : List NodeNo) (leaves : ℕ) : Type 0 where
+  pub tree : Tree
+  pub is_tree : IsTree (value h) tree
+  pub part : IsPartAt h n
+  pub rest : List Pair
+  pub waits : AreWaiting h w waiting rest
+  pub finds : between w.low w.high (pairs (value h) tree) ≡ taken ++ (part_pairs h w part.tree ++ rest)
+  pub few : w.most + 1 ≤ leaves + length taken
+  pub behind : leaves ≢ w.most + 2 → w.low < part.low
+  pub below : waiting ≢ [] → part.high ≤ w.high
+
+-- a leaf is visited: its pair was taken, or it has none within the bounds
+pub record HasVisited (h : History) (w : Bounds) (taken : List Pair) (waiting : List NodeNo) (leaves : ℕ) : Type 0 where
+  pub tree : Tree
+  pub is_tree : IsTree (value h) tree
+  pub rest : List Pair
+  pub waits : AreWaiting h w waiting rest
+  pub finds : between w.low w.high (pairs (value h) tree) ≡ taken ++ rest
+  pub few : waiting ≢ [] → w.most + 1 ≤ leaves + length taken
+
+-- the map that the words spell has these as the first pairs within the bounds
+abbrev pub IsRangeAt : Layout → History → Bounds → List Pair → Type 0
+IsRangeAt lay h w answer = (m : List Pair) → Spells lay (value h) m → range w.low w.high w.most m ≡ answer

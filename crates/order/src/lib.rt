@@ -1,0 +1,18 @@
+//! The ordered reads of the tree, step by step: the pair behind a key, and the pairs between two
+//! keys.
+#![tactic(auto)]
+
+mod alone;
+mod range;
+mod refused;
+mod successor;
+#[cfg(test)]
+mod table;
+#[cfg(test)]
+mod tests;
+
+pub use alone::alone_holds;
+pub use range::{RangeAt, RangeRun};
+pub use refused::Refused;
+pub use successor::{Route, SuccessorAt, SuccessorRun};
+pub use template::Tree;

@@ -1,0 +1,438 @@
+//! Successor.
+ghost use Rattle.std.specs.Prelude.{◌≡◌};
+ghost use Rattle.order.specs.Successor.Known.{asks_key};
+ghost use Rattle.order.specs.Successor.Steps.{last_turn};
+
+use crate::refused::Refused;
+use arena::{Access, Head, Kind, Machine, NodeNo, NodeWord, ScxNo, Side, Step, Turn, Word};
+use prims::{Llx, LlxRun, Snap, Vlx, VlxRun};
+use spelling::Pair;
+use std::alloc::Global;
+use template::{Goal, Tree, WalkAt, WalkRun};
+
+/// The two parts of a search.
+#[derive(Clone, Copy, Debug, PartialEq, Eq)]
+pub enum Route {
+    /// Down the path of the key.
+    Along,
+    /// Then down to the first leaf behind that path.
+    Beyond,
+}
+
+/// What a successor answers.
+type Told = Result<Option<Pair>, Refused>;
+
+/// The step that a successor has asked for.
+#[derive(Clone, Copy, Debug, PartialEq, Eq)]
+pub enum SuccessorAt {
+    /// None yet.
+    Start,
+    /// A step of its walk, which has last turned left at the fork `turn`.
+    Walk {
+        walk: WalkRun,
+        turn: NodeNo,
+    },
+    /// A step of the LLX of a fork of this level, from which it goes on to this side.
+    Look {
+        route: Route,
+        level: u64,
+        side: Side,
+        llx: LlxRun,
+    },
+    /// The load of the head of a node that is below a fork of the level `above`.
+    Head {
+        route: Route,
+        above: u64,
+        node: NodeNo,
+    },
+    /// The load of the key of a node of class 0.
+    Key {
+        route: Route,
+        head: Head,
+        node: NodeNo,
+    },
+    /// The load of the value of the leaf that has the key of the answer.
+    Value {
+        key: u64,
+        node: NodeNo,
+    },
+    /// A step of the VLX, behind which this is the answer.
+    Validate {
+        asked: usize,
+        found: Option<Pair>,
+    },
+}
+
+/// The pair with the least key above a key, if there is one: a walk to the leaf of the key; LLXs from
+/// the last fork where that turned left down to the leaf again, and on to the next leaf where the
+/// first has no key above; a VLX over all nodes that were looked at. And again where such a try is
+/// lost, as long as tries are left.
+#[derive(Debug, Drop)]
+pub struct SuccessorRun {
+    /// The key.
+    pub key: u64,
+    /// How many tries are left behind this one.
+    pub tries: u32,
+    /// What the LLXs of this try have found.
+    pub snaps: Vec<Snap>,
+    /// The right child of the last fork where this try turned left, as its snapshot says.
+    pub right: NodeNo,
+    /// Where the run stands.
+    pub at: SuccessorAt,
+}
+
+impl SuccessorRun {
+    ghost use Rattle.std.specs.Prelude.{◌≡◌, ℕ, ◌+◌, ◌-◌, ◌*◌, ◌<◌, ◌≤◌, cond, ltb, length, [], None};
+    ghost use Rattle.arena.specs.History.{History, Extends};
+    ghost use Rattle.arena.specs.Machines.{MatchTurn, Call};
+    ghost use Rattle.prims.specs.Llx.Known.{IsSnapshot, LlxIsReady};
+    ghost use Rattle.prims.specs.Llx.Steps.{llx_left};
+    ghost use Rattle.prims.specs.Vlx.Known.{VlxIsReady};
+    ghost use Rattle.prims.specs.Vlx.Steps.{vlx_left};
+    ghost use Rattle.spelling.specs.TreeShape.{TreeAllows};
+    ghost use Rattle.template.specs.Trails.{IsOwnMoment};
+    ghost use Rattle.template.specs.Walk.Known.{WalkIsReady};
+    ghost use Rattle.template.specs.Walk.Steps.{walk_left, WalkFits};
+    ghost use Rattle.order.specs.Reads.{from, Whenever};
+    ghost use Rattle.order.specs.Replies.{IsContended, KeepsTries};
+    ghost use Rattle.order.specs.Search.{IsNextAt};
+    ghost use Rattle.order.specs.Successor.Known.{head_at, key_at, level_at, is_answer, IsLastTurn, LooksAt, StandsAt, HasHead, Validates, Goes, SuccessorIsReady, SuccessorTurn};
+    ghost use Rattle.order.specs.Successor.Steps.{behind, HeadFits, IsNearer, try_left, successor_left, SuccessorFits};
+
+    /// A run that has not begun. What it keeps grows with this allocator. In each try it asks for at
+    /// most 137 steps for each node that has been taken when it ends, and for 274 more.
+    pub fn new(alloc: Global, key: u64, tries: u32) -> SuccessorRun
+        ensures key { result.key ≡ key }
+        ensures start { result.at ≡ SuccessorAt.Start }
+        ensures snaps { result.snaps.items ≡ [] }
+        ensures tries { result.tries ≡ tries - 1 }
+        ensures bound { (nodes : ℕ) → 0 < tries → successor_left result nodes ≤ tries * try_left nodes }
+    {
+        SuccessorRun {
+            key,
+            tries: tries.saturating_sub(1),
+            snaps: Vec::new(alloc),
+            right: NodeNo(0),
+            at: SuccessorAt::Start,
+        }
+    }
+
+    /// Asks for a load of a settled word, and stands there.
+    fn load(&mut self, at: SuccessorAt, node: NodeNo, part: NodeWord) -> Turn<Told>
+        ensures stands { self.new ≡ record self.old { at = at } }
+        ensures asked { result ≡ Turn.Ask record { kind = Kind.LoadSettled; word = Word.Node node part; access = Access.Load } }
+    {
+        self.at = at;
+        Turn::Ask(Step {
+            kind: Kind::LoadSettled,
+            word: Word::Node(node, part),
+            access: Access::Load,
+        })
+    }
+
+    /// Begins a try.
+    fn begin(&mut self) -> Turn<Told>
+        ensures turn { (c : Call) (h : History) → Goes self.old c h → SuccessorTurn c h self.new result }
+        ensures begins { (c : Call) (h : History) → Goes self.old c h → MatchTurn result (λ _. Unit {0}) (λ _. ⊥) }
+        ensures same { self.new.key ≡ self.old.key }
+        ensures nearer { (nodes : ℕ) → IsNearer self.new nodes result (self.old.tries * try_left nodes + try_left nodes) }
+        ensures tries { self.new.tries ≡ self.old.tries }
+    {
+        self.snaps.clear();
+        let mut walk = WalkRun::new(Goal::Key(self.key));
+        match Machine::<Tree>::next(&mut walk, None) {
+            Turn::Ask(step) => {
+                let turn = NodeNo(0);
+                self.at = SuccessorAt::Walk { walk, turn };
+                Turn::Ask(step)
+            }
+            // Never: a walk begins with a step, by the clause `begins` of a machine's `next`.
+            Turn::Done(_) => Turn::Done(Err(Refused::Contended {
+                node: NodeNo(0),
+                scx: ScxNo(0),
+            })),
+        }
+    }
+
+    /// Ends a try that is lost to this SCX-record over this node, and begins the next if there is one.
+    fn lost(&mut self, node: NodeNo, scx: ScxNo) -> Turn<Told>
+        ensures turn { (c : Call) (h : History) → Goes self.old c h → IsContended c h node.0 scx.0 → SuccessorTurn c h self.new result }
+        ensures same { self.new.key ≡ self.old.key }
+        ensures nearer { (nodes : ℕ) → IsNearer self.new nodes result (self.old.tries * try_left nodes) }
+        ensures tries { (c : Call) (h : History) → Goes self.old c h → IsContended c h node.0 scx.0 → KeepsTries c h self.old.tries self.new.tries result }
+    {
+        if self.tries == 0 {
+            return Turn::Done(Err(Refused::Contended { node, scx }));
+        }
+        self.tries -= 1;
+        self.begin()
+    }
+
+    /// Goes on with what the last step of the walk found.
+    fn walk_on(&mut self, mut walk: WalkRun, turn: NodeNo, got: Option<u64>) -> Turn<Told>
+        ensures turn { (c : Call) (h : History) → Goes self.old c h → walk.goal ≡ Goal.Key self.old.key → IsLastTurn c h self.old.key turn.0 → WalkIsReady walk c h got → SuccessorTurn c h self.new result }
+        ensures begins { got ≡ None → (c : Call) (h : History) → WalkIsReady walk c h None → MatchTurn result (λ _. Unit {0}) (λ _. ⊥) }
+        ensures same { self.new.key ≡ self.old.key }
+        ensures nearer { (nodes : ℕ) → WalkFits walk got nodes → IsNearer self.new nodes result (self.old.tries * try_left nodes + (walk_left walk.at nodes + length self.old.snaps.items + 134 * (2 + nodes))) }
+        ensures tries { (c : Call) (h : History) → Goes self.old c h → walk.goal ≡ Goal.Key self.old.key → IsLastTurn c h self.old.key turn.0 → WalkIsReady walk c h got → KeepsTries c h self.old.tries self.new.tries result }
+    {
+        match Machine::<Tree>::next(&mut walk, got) {
+            Turn::Ask(step) => {
+                let turn = last_turn(&walk, turn);
+                self.at = SuccessorAt::Walk { walk, turn };
+                Turn::Ask(step)
+            }
+            Turn::Done(_) => self.look(Route::Along, 0, Side::Left, turn),
+        }
+    }
+
+    /// Looks at a fork of this level, to go on to this side of it.
+    fn look(&mut self, route: Route, level: u64, side: Side, node: NodeNo) -> Turn<Told>
+        ensures turn { (c : Call) (h : History) → Goes self.old c h → LooksAt self.old c h route level side node.0 → SuccessorTurn c h self.new result }
+        ensures same { self.new.key ≡ self.old.key }
+        ensures nearer { (nodes : ℕ) → level + 1 < 2 + nodes → IsNearer self.new nodes result (self.old.tries * try_left nodes + (64 + length self.old.snaps.items + 1 + 67 * (1 + nodes - level) + behind route nodes)) }
+        ensures tries { (c : Call) (h : History) → Goes self.old c h → LooksAt self.old c h route level side node.0 → KeepsTries c h self.old.tries self.new.tries result }
+    {
+        self.look_on(route, level, side, LlxRun::new(node), None)
+    }
+
+    /// Goes on with what the last step of an LLX found.
+    fn look_on(
+        &mut self,
+        route: Route,
+        level: u64,
+        side: Side,
+        mut llx: LlxRun,
+        got: Option<u64>,
+    ) -> Turn<Told>
+        ensures turn { (c : Call) (begin h : History) → Goes self.old c h → LooksAt self.old c h route level side llx.node.0 → Extends begin c.start → LlxIsReady TreeAllows llx (from c begin) h got → SuccessorTurn c h self.new result }
+        ensures same { self.new.key ≡ self.old.key }
+        ensures nearer { (nodes : ℕ) → level + 1 < 2 + nodes → IsNearer self.new nodes result (self.old.tries * try_left nodes + (llx_left llx.at + length self.old.snaps.items + 1 + 67 * (1 + nodes - level) + behind route nodes)) }
+        ensures tries { (c : Call) (begin h : History) → Goes self.old c h → LooksAt self.old c h route level side llx.node.0 → Extends begin c.start → LlxIsReady TreeAllows llx (from c begin) h got → KeepsTries c h self.old.tries self.new.tries result }
+    {
+        match Machine::<Tree>::next(&mut llx, got) {
+            Turn::Ask(step) => {
+                self.at = SuccessorAt::Look {
+                    route,
+                    level,
+                    side,
+                    llx,
+                };
+                Turn::Ask(step)
+            }
+            Turn::Done(Llx::Snapshot(snap)) => self.looked(route, level, side, snap),
+            Turn::Done(Llx::Finalized { node, scx }) => self.lost(node, scx),
+            Turn::Done(Llx::Fail { node, scx }) => self.lost(node, scx),
+        }
+    }
+
+    /// Keeps a snapshot, and goes on to a child of its node.
+    fn looked(&mut self, route: Route, level: u64, side: Side, snap: Snap) -> Turn<Told>
+        ensures turn { (c : Call) (h : History) → Goes self.old c h → LooksAt self.old c h route level side snap.node.0 → IsSnapshot c.layout h snap.node.0 snap → SuccessorTurn c h self.new result }
+        ensures same { self.new.key ≡ self.old.key }
+        ensures nearer { (nodes : ℕ) → level + 1 < 2 + nodes → IsNearer self.new nodes result (self.old.tries * try_left nodes + (length self.old.snaps.items + 1 + 67 * (1 + nodes - level) + behind route nodes)) }
+        ensures tries { self.new.tries ≡ self.old.tries }
+    {
+        if self.snaps.push(snap).is_err() {
+            return Turn::Done(Err(Refused::NoMemory));
+        }
+        match (route, side) {
+            (Route::Along, Side::Left) => {
+                self.right = snap.right;
+                self.load_head(route, level, snap.left)
+            }
+            (Route::Along, Side::Right) => self.load_head(route, level, snap.right),
+            (Route::Beyond, _) => self.load_head(route, level, snap.left),
+        }
+    }
+
+    /// Asks for the head of a node below a fork of the level `above`.
+    fn load_head(&mut self, route: Route, above: u64, node: NodeNo) -> Turn<Told>
+        ensures turn { (c : Call) (h : History) → Goes self.old c h → StandsAt self.old c h route node.0 → above < level_at h node.0 → SuccessorTurn c h self.new result }
+        ensures same { self.new.key ≡ self.old.key }
+        ensures nearer { (nodes : ℕ) → above + 1 < 2 + nodes → IsNearer self.new nodes result (self.old.tries * try_left nodes + (length self.old.snaps.items + 67 * (1 + nodes - above) + behind route nodes)) }
+        ensures tries { self.new.tries ≡ self.old.tries }
+    {
+        let at = SuccessorAt::Head { route, above, node };
+        self.load(at, node, NodeWord::Head)
+    }
+
+    /// Goes on with the head of a node. Above all keys there is no pair. Behind the path of the key
+    /// it always goes left.
+    fn head_on(&mut self, route: Route, head: Head, node: NodeNo) -> Turn<Told>
+        ensures turn { (c : Call) (h : History) → Goes self.old c h → IsOwnMoment c h → StandsAt self.old c h route node.0 → head_at h node.0 ≡ head → SuccessorTurn c h self.new result }
+        ensures same { self.new.key ≡ self.old.key }
+        ensures nearer { (nodes : ℕ) → HeadFits head nodes → IsNearer self.new nodes result (self.old.tries * try_left nodes + (length self.old.snaps.items + 67 * (2 + nodes - head.level) - 1 + behind route nodes)) }
+        ensures tries { (c : Call) (h : History) → Goes self.old c h → IsOwnMoment c h → StandsAt self.old c h route node.0 → head_at h node.0 ≡ head → KeepsTries c h self.old.tries self.new.tries result }
+    {
+        if asks_key(route, head) {
+            let at = SuccessorAt::Key { route, head, node };
+            self.load(at, node, NodeWord::Key)
+        } else if head.leaf {
+            self.validate(None)
+        } else {
+            self.look(route, head.level, Side::Left, node)
+        }
+    }
+
+    /// Goes on with the key of a node of class 0.
+    fn key_on(&mut self, route: Route, head: Head, node: NodeNo, key: u64) -> Turn<Told>
+        ensures turn { (c : Call) (h : History) → Goes self.old c h → StandsAt self.old c h route node.0 → HasHead h route node.0 head → key_at h node.0 ≡ key → SuccessorTurn c h self.new result }
+        ensures same { self.new.key ≡ self.old.key }
+        ensures nearer { (nodes : ℕ) → HeadFits head nodes → IsNearer self.new nodes result (self.old.tries * try_left nodes + (length self.old.snaps.items + 67 * (2 + nodes - head.level) - 2 + behind route nodes)) }
+        ensures tries { (c : Call) (h : History) → Goes self.old c h → StandsAt self.old c h route node.0 → HasHead h route node.0 head → key_at h node.0 ≡ key → KeepsTries c h self.old.tries self.new.tries result }
+    {
+        if !head.leaf {
+            self.look(route, head.level, self.side(key), node)
+        } else if self.is_answer(route, key) {
+            let at = SuccessorAt::Value { key, node };
+            self.load(at, node, NodeWord::Value)
+        } else {
+            self.load_head(Route::Beyond, 0, self.right)
+        }
+    }
+
+    /// Where the path of the key goes at a fork of class 0 with this key.
+    fn side(&self, key: u64) -> Side
+        ensures { result ≡ cond (ltb self.now.key key) Side.Left Side.Right }
+    {
+        if self.key < key {
+            Side::Left
+        } else {
+            Side::Right
+        }
+    }
+
+    /// Whether a leaf of class 0 with this key, to which it has come, is the answer.
+    fn is_answer(&self, route: Route, key: u64) -> bool
+        ensures { result ≡ is_answer route self.now.key key }
+    {
+        match route {
+            Route::Along => key > self.key,
+            Route::Beyond => true,
+        }
+    }
+
+    /// Looks whether all nodes are still as they were found.
+    fn validate(&mut self, found: Option<Pair>) -> Turn<Told>
+        ensures turn { (c : Call) (h : History) → Goes self.old c h → IsOwnMoment c h → 0 < length self.old.snaps.items → Whenever c.layout h self.old.snaps.items (λ b. IsNextAt c.layout b self.old.key found) → SuccessorTurn c h self.new result }
+        ensures same { self.new.key ≡ self.old.key }
+        ensures nearer { (nodes : ℕ) → IsNearer self.new nodes result (self.old.tries * try_left nodes + length self.old.snaps.items) }
+        ensures tries { (c : Call) (h : History) → Goes self.old c h → IsOwnMoment c h → 0 < length self.old.snaps.items → Whenever c.layout h self.old.snaps.items (λ b. IsNextAt c.layout b self.old.key found) → KeepsTries c h self.old.tries self.new.tries result }
+    {
+        self.validate_on(0, found, None)
+    }
+
+    /// Goes on with what the last step of the VLX found.
+    fn validate_on(&mut self, asked: usize, found: Option<Pair>, got: Option<u64>) -> Turn<Told>
+        ensures turn { (c : Call) (begin h : History) → Goes self.old c h → Validates self.old c h begin found → VlxIsReady self.old.snaps.items asked (from c begin) h got → SuccessorTurn c h self.new result }
+        ensures same { self.new.key ≡ self.old.key }
+        ensures nearer { (nodes : ℕ) → IsNearer self.new nodes result (self.old.tries * try_left nodes + vlx_left self.old.snaps.items asked) }
+        ensures tries { (c : Call) (begin h : History) → Goes self.old c h → Validates self.old c h begin found → VlxIsReady self.old.snaps.items asked (from c begin) h got → KeepsTries c h self.old.tries self.new.tries result }
+    {
+        let mut vlx = VlxRun {
+            snaps: self.snaps.as_slice(),
+            asked,
+        };
+        let turn = Machine::<Tree>::next(&mut vlx, got);
+        let asked = vlx.asked;
+        match turn {
+            Turn::Ask(step) => {
+                self.at = SuccessorAt::Validate { asked, found };
+                Turn::Ask(step)
+            }
+            Turn::Done(Vlx::Same) => Turn::Done(Ok(found)),
+            Turn::Done(Vlx::Changed { node, scx }) => self.lost(node, scx),
+        }
+    }
+
+    /// Goes on with what the last step found; with nothing at the first call, which asks for a step.
+    /// It gives up one try at most, where an SCX-record of another pass was in the way of the call;
+    /// and none as it ends.
+    pub fn step(&mut self, got: Option<u64>) -> Turn<Told>
+        ensures turn { (c : Call) (h : History) → SuccessorIsReady self.old c h got → SuccessorTurn c h self.new result }
+        ensures begins { got ≡ None → (c : Call) (h : History) → SuccessorIsReady self.old c h None → MatchTurn result (λ _. Unit {0}) (λ _. ⊥) }
+        ensures same { self.new.key ≡ self.old.key }
+        ensures nearer { (nodes : ℕ) → SuccessorFits self.old got nodes → IsNearer self.new nodes result (successor_left self.old nodes) }
+        ensures tries { (c : Call) (h : History) → SuccessorIsReady self.old c h got → KeepsTries c h self.old.tries self.new.tries result }
+    {
+        let value = got.unwrap_or(0);
+        match self.at {
+            SuccessorAt::Start => self.begin(),
+            SuccessorAt::Walk { walk, turn } => self.walk_on(walk, turn, got),
+            SuccessorAt::Look {
+                route,
+                level,
+                side,
+                llx,
+            } => self.look_on(route, level, side, llx, got),
+            SuccessorAt::Head {
+                route,
+                above: _,
+                node,
+            } => self.head_on(route, Head::of(value), node),
+            SuccessorAt::Key { route, head, node } => self.key_on(route, head, node, value),
+            SuccessorAt::Value { key, node: _ } => self.validate(Some(Pair { key, value })),
+            SuccessorAt::Validate { asked, found } => self.validate_on(asked, found, got),
+        }
+    }
+}
+
+impl Machine<Tree> for SuccessorRun {
+    type Answer = Result<Option<Pair>, Refused>;
+
+    ghost use Rattle.std.specs.Prelude.{◌≡◌};
+    ghost use Rattle.order.specs.Successor.Steps.{successor_left, SuccessorFits};
+    ghost use Rattle.order.specs.Successor.Known.{SuccessorIsReady, SuccessorWaits, SuccessorAnswers};
+    ghost use Rattle.order.specs.Successor.Laws.{successor_keeps, successor_lawful, successor_made, successor_told};
+
+    ghost ready = { SuccessorIsReady };
+
+    ghost waits = { SuccessorWaits };
+
+    ghost answers = { SuccessorAnswers };
+
+    ghost same = { λ old now. now.key ≡ old.key };
+
+    ghost left = { successor_left };
+
+    ghost fits = { SuccessorFits };
+
+    ghost asks_first = { λ _. Unit {0} };
+
+    fn next(&mut self, got: Option<u64>) -> Turn<Told> {
+        self.step(got)
+    }
+
+    ghost keeps = { successor_keeps };
+
+    ghost lawful = { successor_lawful };
+
+    ghost made = { successor_made };
+
+    ghost told = { successor_told };
+}
+
+/// Whether it loads the key of a node with this head: behind the path of its key it goes left at all
+/// forks.
+fn asks_key(route: Route, head: Head) -> bool
+    ensures { result ≡ asks_key route head }
+{
+    match route {
+        Route::Along => head.class == 0,
+        Route::Beyond => head.class == 0 && head.leaf,
+    }
+}
+
+/// The last fork where a walk has turned left, where that was `turn` before its last step.
+fn last_turn(walk: &WalkRun, turn: NodeNo) -> NodeNo
+    ensures { result ≡ last_turn walk.now.at walk.now.trail.node turn }
+{
+    match walk.at {
+        WalkAt::Child {
+            level: _,
+            side: Side::Left,
+        } => walk.trail.node,
+        _ => turn,
+    }
+}

@@ -1,0 +1,7 @@
+use Rattle.std.proofs.Common.{◌≡◌, drop}
+use Rattle.spelling.specs.OrderedMap.{get}
+use Rattle.places.proofs.ordered.value_in.Given as goal
+
+-- what the pairs that are left have
+abbrev pub invariant-loop-pair : goal.invariant-loop-pair
+invariant-loop-pair l = get l.key l.pairs ≡ get l.key (drop l.pair-index l.pairs)

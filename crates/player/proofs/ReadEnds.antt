@@ -1,0 +1,105 @@
+-- What the answer of an ordered read says.
+use Rattle.std.proofs.Common.{◌≡◌, ℕ, ◌<◌, inl, inr, ⊎_elim, List, Some, None, sym, ap, subst}
+use Rattle.arena.specs.History.{History, Extends}
+use Rattle.arena.specs.Machines.{Call}
+use Rattle.arena.proofs.Lemmas.{ends_self}
+use Rattle.spelling.specs.declared.pair.Pair.{Pair as PairOf}
+use Rattle.spelling.specs.OrderedMap.{MapCall, Successor as NextOf, Range as PairsOf, MapReply, OneValue, OnePair, ManyPairs}
+use Rattle.order.specs.Range.Known.{RangeReplies}
+use Rattle.order.specs.Replies.{IsReplyAt}
+use Rattle.order.specs.declared.range.RangeRun.{RangeRun}
+use Rattle.order.specs.declared.successor.SuccessorRun.{SuccessorRun}
+use Rattle.script.specs.declared.command.Command.{Command}
+use Rattle.script.specs.declared.command.Command.TheVariants as commands
+use Rattle.script.specs.declared.command.Span.{Span}
+use Rattle.record.specs.declared.record.Answer.{Answer}
+use Rattle.record.specs.declared.record.Answer.TheVariants.{Snapshot, Finalized, Fail, Done, Lost, Same, Changed, Unlinked, Full, Value, Pair, Pairs, Contended, NoMemory}
+use Rattle.record.specs.CommandRules.{MayAnswerAfterStep, IsRight}
+use Rattle.places.specs.Replied.{HasReplied}
+use Rattle.player.specs.ClientView.{ClientView, HasToldMap, Tells, machine_call}
+use Rattle.player.specs.ReadRuns.{IsReadBy, ReadAnswers}
+use Rattle.player.specs.declared.client.Client.{Client}
+use Rattle.player.specs.declared.read.ReadRun.{ReadRun}
+use Rattle.player.specs.declared.read.ReadRun.TheVariants.{Successor, Range}
+
+-- what a machine's reply says, said of the client's call
+replied : (c : Call) (h : History) (call : MapCall) (told : MapReply) → IsReplyAt c h call told → HasReplied c.layout h c.start call told
+replied c h call told x = record {
+  row = x.own.row;
+  before = x.own.before;
+  since = x.own.since;
+  moment = x.moment;
+  behind = subst (λ (k : History). Extends x.moment k) x.own.is (ends_self x.moment);
+  within = x.within;
+  map = x.map;
+  spelled = x.spelled;
+  replies = x.gives;
+}
+
+-- what is said of it where it ends
+pub record IsReadEnd (v : ClientView) (c : ℕ) (command : Command) (answer : Answer) : Type 0 where
+  pub answers : MayAnswerAfterStep command answer
+  pub right : IsRight v.layout c v.past v.start v.linked command answer
+  pub tells : Tells v c command answer
+
+module _ (v : ClientView) (c : Client) (is_pass : c.pass.0 < v.layout.passes) where
+  -- a successor tells what the map has replied
+  next_told : (m : SuccessorRun) (key : ℕ) (told : MapReply) → m.key ≡ key → IsReplyAt (machine_call v c is_pass v.start) v.past (NextOf m.key) told → HasToldMap v (NextOf key) (Some told)
+  next_told m key told of x = inl (subst (λ (k : ℕ). HasReplied v.layout v.past v.start (NextOf k) told) of (replied (machine_call v c is_pass v.start) v.past (NextOf m.key) told x))
+
+  successor_ends : (m : SuccessorRun) (key : ℕ) (a : Answer) → m.key ≡ key → ReadAnswers (Successor m) (machine_call v c is_pass v.start) v.past a → IsReadEnd v c.pass.0 (commands.Successor key) a
+  successor_ends m key (Value None) of x = record { answers = tt; right = tt; tells = next_told m key (OneValue None) of x.1 }
+  successor_ends m key (Pair found) of x = record { answers = tt; right = tt; tells = next_told m key (OnePair found) of x.1 }
+  successor_ends m key (Contended node scx) of x = let y = x.1.0 in record { answers = tt; right = (y.others, y.in_the_way); tells = tt }
+  successor_ends m key NoMemory of x = record { answers = tt; right = tt; tells = tt }
+  successor_ends m key (Value (Some told)) of x = absurd x
+  successor_ends m key (Pairs found) of x = absurd x
+  successor_ends m key (Snapshot left right) of x = absurd x
+  successor_ends m key Finalized of x = absurd x
+  successor_ends m key (Fail node scx) of x = absurd x
+  successor_ends m key Done of x = absurd x
+  successor_ends m key (Lost node scx) of x = absurd x
+  successor_ends m key Same of x = absurd x
+  successor_ends m key (Changed node scx) of x = absurd x
+  successor_ends m key (Unlinked node) of x = absurd x
+  successor_ends m key (Full what left) of x = absurd x
+
+  -- so does a range, or it takes nothing
+  many_told : (m : RangeRun) (low high most : ℕ) (told : List PairOf) → m.low ≡ low → m.high ≡ high → m.most ≡ most → RangeReplies m (machine_call v c is_pass v.start) v.past told → HasToldMap v (PairsOf low high most) (Some (ManyPairs told))
+  many_told m low high most told is_low is_high is_most x = rw (sym is_low, sym is_high, sym is_most) (⊎_elim (λ y. inl (replied (machine_call v c is_pass v.start) v.past (PairsOf m.low m.high m.most) (ManyPairs told) y)) (λ y. inr (λ map. ap ManyPairs (y.1 map))) x)
+
+  range_ends : (m : RangeRun) (span : Span) (a : Answer) → (m.low ≡ span.low) × (m.high ≡ span.high) × (m.most ≡ span.most) → ReadAnswers (Range m) (machine_call v c is_pass v.start) v.past a → IsReadEnd v c.pass.0 (commands.Range span) a
+  range_ends m span (Pairs found) of x = record { answers = tt; right = tt; tells = many_told m span.low span.high span.most found.items of.0 of.1 of.2 x.1 }
+  range_ends m span (Contended node scx) of x = let y = x.1.0 in record { answers = tt; right = (y.others, y.in_the_way); tells = tt }
+  range_ends m span NoMemory of x = record { answers = tt; right = tt; tells = tt }
+  range_ends m span (Value told) of x = absurd x
+  range_ends m span (Pair found) of x = absurd x
+  range_ends m span (Snapshot left right) of x = absurd x
+  range_ends m span Finalized of x = absurd x
+  range_ends m span (Fail node scx) of x = absurd x
+  range_ends m span Done of x = absurd x
+  range_ends m span (Lost node scx) of x = absurd x
+  range_ends m span Same of x = absurd x
+  range_ends m span (Changed node scx) of x = absurd x
+  range_ends m span (Unlinked node) of x = absurd x
+  range_ends m span (Full what left) of x = absurd x
+
+  pub read_ends : (m : ReadRun) (command : Command) (a : Answer) → IsReadBy m command → ReadAnswers m (machine_call v c is_pass v.start) v.past a → IsReadEnd v c.pass.0 command a
+  read_ends (Successor m) (commands.Successor key) a of x = successor_ends m key a of x
+  read_ends (Range m) (commands.Range span) a of x = range_ends m span a of x
+  read_ends (Successor m) (commands.Llx cell) a of x = absurd of
+  read_ends (Successor m) (commands.Scx update) a of x = absurd of
+  read_ends (Successor m) (commands.Vlx cells) a of x = absurd of
+  read_ends (Successor m) (commands.Set field value) a of x = absurd of
+  read_ends (Successor m) (commands.Insert key value) a of x = absurd of
+  read_ends (Successor m) (commands.Delete key) a of x = absurd of
+  read_ends (Successor m) (commands.Get key) a of x = absurd of
+  read_ends (Successor m) (commands.Range span) a of x = absurd of
+  read_ends (Range m) (commands.Llx cell) a of x = absurd of
+  read_ends (Range m) (commands.Scx update) a of x = absurd of
+  read_ends (Range m) (commands.Vlx cells) a of x = absurd of
+  read_ends (Range m) (commands.Set field value) a of x = absurd of
+  read_ends (Range m) (commands.Insert key value) a of x = absurd of
+  read_ends (Range m) (commands.Delete key) a of x = absurd of
+  read_ends (Range m) (commands.Get key) a of x = absurd of
+  read_ends (Range m) (commands.Successor key) a of x = absurd of

@@ -1,0 +1,61 @@
+-- The machine of an ordered read of the map, a successor's or a range's: when it may go on, what it
+-- waits for, and what its answer says, as the machine inside.
+use Rattle.std.specs.Prelude.{◌≡◌, ◌-◌, ℕ, Option, Some, None, Ok, Err}
+use Rattle.arena.specs.declared.step.Step.{Step}
+use Rattle.arena.specs.History.{History}
+use Rattle.arena.specs.Machines.{Call}
+use Rattle.order.specs.Range.Known.{RangeIsReady, RangeWaits, RangeAnswers}
+use Rattle.order.specs.Range.Steps.{range_left}
+use Rattle.order.specs.Successor.Known.{SuccessorIsReady, SuccessorWaits, SuccessorAnswers}
+use Rattle.order.specs.Successor.Steps.{successor_left}
+use Rattle.order.specs.declared.refused.Refused.TheVariants as refused
+use Rattle.script.specs.declared.command.Command.{Command}
+use Rattle.script.specs.declared.command.Command.TheVariants.{Successor as SuccessorOf, Range as RangeOf}
+use Rattle.record.specs.declared.record.Answer.{Answer}
+use Rattle.record.specs.declared.record.Answer.TheVariants.{Value, Pair, Pairs, Contended, NoMemory}
+use Rattle.record.specs.Rules.Range.{TakesNothing}
+use Rattle.player.specs.declared.read.ReadRun.{ReadRun}
+use Rattle.player.specs.declared.read.ReadRun.TheVariants.{Successor, Range}
+
+-- the machine serves this command
+abbrev pub IsReadBy : ReadRun → Command → Type 0
+IsReadBy (Successor m) (SuccessorOf key) = m.key ≡ key
+IsReadBy (Range m) (RangeOf span) = (m.low ≡ span.low) × (m.high ≡ span.high) × (m.most ≡ span.most)
+IsReadBy m command = ⊥
+
+-- the two serve the same
+abbrev pub IsSameRead : ReadRun → ReadRun → Type 0
+IsSameRead (Successor old) (Successor now) = now.key ≡ old.key
+IsSameRead (Range old) (Range now) = (now.low ≡ old.low) × (now.high ≡ old.high) × (now.most ≡ old.most)
+IsSameRead old now = ⊥
+
+-- it has so many tries left, the one that it begins with among them
+abbrev pub HasReadTries : ReadRun → ℕ → Type 0
+HasReadTries (Successor m) tries = m.tries ≡ tries - 1
+HasReadTries (Range m) tries = m.tries ≡ tries - 1
+
+-- it may be called with this, as the machine inside; a range takes something
+abbrev pub ReadIsReady : ReadRun → Call → History → Option ℕ → Type 0
+ReadIsReady (Successor m) c h got = SuccessorIsReady m c h got
+ReadIsReady (Range m) c h got = RangeIsReady m c h got × ¬ TakesNothing m.low m.high m.most
+
+-- it waits for this step, as the machine inside
+abbrev pub ReadWaits : ReadRun → Call → History → Step → Type 0
+ReadWaits (Successor m) c h s = SuccessorWaits m c h s
+ReadWaits (Range m) c h s = RangeWaits m c h s × ¬ TakesNothing m.low m.high m.most
+
+-- what its answer says, as that of the machine inside
+abbrev pub ReadAnswers : ReadRun → Call → History → Answer → Type 0
+ReadAnswers (Successor m) c h (Value None) = SuccessorAnswers m c h (Ok None)
+ReadAnswers (Successor m) c h (Pair found) = SuccessorAnswers m c h (Ok (Some found))
+ReadAnswers (Successor m) c h (Contended node scx) = SuccessorAnswers m c h (Err (refused.Contended node scx))
+ReadAnswers (Successor m) c h NoMemory = SuccessorAnswers m c h (Err refused.NoMemory)
+ReadAnswers (Range m) c h (Pairs found) = RangeAnswers m c h (Ok found)
+ReadAnswers (Range m) c h (Contended node scx) = RangeAnswers m c h (Err (refused.Contended node scx))
+ReadAnswers (Range m) c h NoMemory = RangeAnswers m c h (Err refused.NoMemory)
+ReadAnswers m c h answer = ⊥
+
+-- how many steps it may still ask for, where no more nodes than these are taken
+abbrev pub read_left : ReadRun → ℕ → ℕ
+read_left (Successor m) nodes = successor_left m nodes
+read_left (Range m) nodes = range_left m nodes

@@ -1,0 +1,65 @@
+/* Stands in front of the C library's malloc, calloc and realloc, and refuses one call of them: the
+   one whose number, from 1 on, REFUSE gives; 0 refuses none. As the program ends it appends to the
+   file that REFUSE_COUNT names how many calls there were. */
+#define _GNU_SOURCE
+#include <dlfcn.h>
+#include <errno.h>
+#include <stdio.h>
+#include <stdlib.h>
+
+/* Blocks for dlsym itself, which may ask for one before the next malloc is known. */
+static char early[4096];
+static size_t early_used;
+static unsigned long calls, refused;
+static void *(*next_malloc)(size_t), *(*next_realloc)(void *, size_t);
+static void (*next_free)(void *);
+
+static int is_early(void *block) {
+    return (char *)block >= early && (char *)block < early + sizeof early;
+}
+
+static void *early_block(size_t size) {
+    size_t at = early_used;
+    size = (size + 15) & ~(size_t)15;
+    if (size > sizeof early - at) return NULL;
+    early_used += size;
+    return early + at;
+}
+
+__attribute__((constructor)) static void begin(void) {
+    const char *number = getenv("REFUSE");
+    next_realloc = dlsym(RTLD_NEXT, "realloc");
+    next_free = dlsym(RTLD_NEXT, "free");
+    next_malloc = dlsym(RTLD_NEXT, "malloc");
+    calls = 0;
+    refused = number ? strtoul(number, NULL, 10) : 0;
+}
+
+__attribute__((destructor)) static void end(void) {
+    const char *name = getenv("REFUSE_COUNT");
+    FILE *file;
+    unsigned long counted = calls;
+    if (!name || !(file = fopen(name, "a"))) return;
+    fprintf(file, "%lu\n", counted);
+    fclose(file);
+}
+
+static int is_refused(void) {
+    if (++calls != refused) return 0;
+    errno = ENOMEM;
+    return 1;
+}
+
+void *malloc(size_t size) {
+    if (!next_malloc) return early_block(size);
+    return is_refused() ? NULL : next_malloc(size);
+}
+
+void *realloc(void *block, size_t size) {
+    if (!next_realloc || is_early(block)) return NULL;
+    return is_refused() ? NULL : next_realloc(block, size);
+}
+
+void free(void *block) {
+    if (next_free && !is_early(block)) next_free(block);
+}
