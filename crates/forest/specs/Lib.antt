@@ -10,3 +10,4 @@ pub mod Traces
 pub mod TableRule
 pub mod JoinedSeats
 pub mod PassInvariant
+pub mod Dictionary
