@@ -19,3 +19,5 @@ mod StraightLlx
 mod StraightHelp
 mod StraightScx
 mod StraightVlx
+mod Entered
+mod Dictionary
