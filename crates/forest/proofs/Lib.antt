@@ -6,6 +6,7 @@ pub mod Calls
 pub mod Called
 pub mod Blames
 pub mod Passes
+pub mod Entered
 pub mod LlxCalls
 pub mod VlxCalls
 pub mod ScxCalls
