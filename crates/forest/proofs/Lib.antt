@@ -13,6 +13,7 @@ pub mod ScxCalls
 pub mod Meets
 pub mod Openings
 pub mod Closes
+pub mod Copies
 pub mod AllBack
 pub mod Crowds
 mod Places
