@@ -1,6 +1,7 @@
 pub mod Shares
 pub mod Passes
 pub mod Puts
+pub mod Copies
 pub mod Blames
 pub mod StraightLlx
 pub mod StraightHelp

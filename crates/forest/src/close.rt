@@ -8,7 +8,7 @@ ghost use Rattle.arena.specs.PlainWords.{Contents, word_at};
 ghost use Rattle.arena.specs.Words.{child};
 ghost use Rattle.forest.specs.declared.view.SeatedPass.{SeatedPass};
 ghost use Rattle.forest.specs.TableRule.{IsTableOf};
-ghost use Rattle.forest.specs.Passes.{ground, IsOf, AreAllBack, IsClosed};
+ghost use Rattle.forest.specs.Passes.{IsOn, IsOf, AreAllBack, IsClosed};
 ghost use Rattle.forest.specs.JoinedSeats.{IsFrom, AreIn};
 
 use crate::forest::Forest;
@@ -73,7 +73,11 @@ impl<S: Shape> Forest<S> {
         ensures layout { result.layout ≡ self.layout }
         ensures closed { IsClosed S.allows self.layout passes.items result }
     {
-        let Forest { words, layout } = self;
+        let Forest {
+            words,
+            layout,
+            tries: _,
+        } = self;
         match gather(&words, &layout, passes) {
             Some(seat) => Closed {
                 words: words.close(seat),
@@ -91,7 +95,7 @@ fn gather<S: Shape>(
     mut passes: Vec<Pass<S>>,
 ) -> Option<Seat<u8, SeatView>>
     requires table { IsTableOf words.now.table.shared.table_id words.now.table.shared.key layout.now }
-    requires passes { All (IsOf (ground words.now.table.shared.table_id layout.now)) passes.items }
+    requires passes { All (IsOn words.now.table.shared.table_id layout.now) passes.items }
     ensures some { 0 < vec_len passes → IsSome result }
     ensures table { IfSome result (λ s. s.table_id ≡ words.now.table.shared.table_id) }
     ensures all { IfSome result (λ s. AreIn S.allows passes.items s.me.0.passes) }
@@ -107,7 +111,7 @@ fn gather<S: Shape>(
 /// The seat of a pass, which has looked at the table once more.
 fn seat_of<S: Shape>(words: &Words<S>, layout: &Layout, pass: Pass<S>) -> Seat<u8, SeatView>
     requires table { IsTableOf words.now.table.shared.table_id words.now.table.shared.key layout.now }
-    requires pass { IsOf (ground words.now.table.shared.table_id layout.now) pass }
+    requires pass { IsOn words.now.table.shared.table_id layout.now pass }
     ensures table { result.table_id ≡ words.now.table.shared.table_id }
     ensures bare { result.me.1 ≡ [] }
     ensures pass { (k : SeatedPass) × (result.me.0.passes ≡ k ∷ []) × IsFrom S.allows pass k }
