@@ -1,0 +1,5 @@
+pub mod WordReplies
+pub mod Calls
+pub mod Says
+pub mod Known
+pub mod Steps
