@@ -1,0 +1,3 @@
+pub mod Offsets
+pub mod Names
+pub mod Words
