@@ -1,3 +1,6 @@
+pub mod Offsets
+pub mod Names
+pub mod Words
 pub mod WordReplies
 pub mod Calls
 pub mod Says
