@@ -1,0 +1,4 @@
+mod Readings
+mod Endings
+mod Ends
+mod MapLaws
