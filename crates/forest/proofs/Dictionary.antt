@@ -4,7 +4,6 @@ use Rattle.atomic_table.specs.Seated.{TableId}
 use Rattle.arena.specs.declared.fault.Full.{Full as FullOf}
 use Rattle.arena.specs.declared.layout.Layout.{Layout}
 use Rattle.arena.specs.declared.step.Row.{Row}
-use Rattle.arena.specs.declared.step.Step.{Step}
 use Rattle.arena.specs.History.{History, ◌⊳◌, value, Extends}
 use Rattle.arena.specs.Machines.{Call, IsRun}
 use Rattle.arena.specs.Share.{Remaining}
@@ -19,15 +18,7 @@ use Rattle.updates.specs.Tries.{HasEnteredNone}
 use Rattle.dict.specs.Says.{HasChanged, HasRead, HasToldBy, HasTold, HasLost, HasRunOut}
 use Rattle.forest.specs.Dictionary.{IsVersion, IsChange, IsReading, IsChangeOrReading, IsContendedCall, IsFullCall}
 use Rattle.forest.specs.Passes.{PassView, run_of, done_of, taken_of}
-use Rattle.forest.specs.Traces.{Trace, begins, others, makes, goes_on}
 use Rattle.forest.proofs.Entered.{none_entered, one_entered}
-
--- the run of a call goes on from its begin
-pub course_since : {M : Type 0} {allows : Layout → History → ℕ → Type 0} {waits : M → Call → History → Step → Type 0} {same : M → M → Type 0} (c : Call) {first : M} (m : M) (h : History) → Trace allows waits same c first m h → Extends h c.start
-course_since c m h (begins e k) = subst (λ g. Extends g c.start) (sym k) (ends_self c.start)
-course_since c m h (others s r g e w other run x) = subst (λ k. Extends k c.start) (sym e) (inr (course_since c m g x))
-course_since c m h (makes s g e w run x) = subst (λ k. Extends k c.start) (sym e) (inr (course_since c m g x))
-course_since c m h (goes_on old is x) = course_since c old h x
 
 -- what the words spell at a moment of the run is a version
 pub version_at : (p : PassView) → IsTreeRun p.layout (run_of p) → (moment : History) → Extends (run_of p) moment → (m : List Pair) → Spells p.layout (value moment) m → IsVersion p moment m
@@ -58,7 +49,7 @@ module _ (was : PassView) (is_pass : was.number < was.layout.passes) (number : �
           since = y.since;
           entry = y.entry;
           logged = y.logged;
-          done = one_entered call_by (run_of then) edit number told run.1.lawful since y;
+          done = one_entered call_by (run_of then) run.1.lawful y;
           of_pass = y.owner;
           of_call = y.call ∙ same;
           makes = subst (λ (u : ℕ). Makes was.layout (run_of then) u edit) (sym y.of_scx) (makes_since was.layout (run_of then) before y.scx edit within y.edits.makes);

@@ -22,3 +22,4 @@ mod StraightHelp
 mod StraightScx
 mod StraightVlx
 mod Dictionary
+mod DictCalls
