@@ -29,7 +29,7 @@ still_same from old new u x c i e = go (same_word u x) refl
   where
     go : (b : Bool) → same_word u x ≡ b → Same from new x
     go true s = subst (Same from new) (word_same u x s) c.changed
-    go false s = c.others x i (λ q. word_apart u x s (sym q)) ∙ e
+    go false s = c.others x i (word_apart u x s) ∙ e
 
 -- A node
 
