@@ -18,7 +18,9 @@ use crate::pass::Pass;
 use crate::rule::Asked;
 use crate::view::SeatView;
 use crate::words::Words;
-use arena::{Access, Kind, Layout, NoMemory, NodeNo, NodeWord, PlainWords, Shape, Side, Step, Word};
+use arena::{
+    Access, Kind, Layout, NoMemory, NodeNo, NodeWord, PlainWords, Shape, Side, Step, Word,
+};
 use atomic_table::Seat;
 use spelling::{Pair, spelled};
 use std::alloc::Global;
