@@ -1,5 +1,5 @@
 -- Words of which some are copied: what map they spell.
-use Rattle.std.proofs.Common.{◌≡◌, ◌≢◌, ℕ, suc, ◌+◌, ◌<◌, ◌≤◌, Bool, true, false, ◌⊎◌, ⊎_elim, inl, inr, List, [], ◌∷◌, ◌++◌, refl, sym, ◌∙◌, ap, subst, arith}
+use Rattle.std.proofs.Common.{◌≡◌, ℕ, ◌+◌, ◌<◌, Bool, true, false, ⊎_elim, inl, inr, List, [], ◌∷◌, ◌++◌, refl, sym, ◌∙◌, subst, arith}
 use Rattle.std.proofs.Math.Nat.{eq-or-lt_of_le}
 use Rattle.std.specs.List.{All}
 use Rattle.std.proofs.lemmas.List.Elements.{All-nil, All-cons, All-head, All-tail, All-append}
@@ -13,7 +13,7 @@ use Rattle.arena.specs.PlainWords.{Contents, IsChanged, word_at}
 use Rattle.arena.specs.Words.{node, child, same_word}
 use Rattle.arena.proofs.Lemmas.{word_same, word_apart}
 use Rattle.spelling.specs.declared.pair.Pair.{Pair}
-use Rattle.spelling.specs.TreeWords.{class, is_leaf, level, rank, IsForkOver, Tree, Leaf, Fork, root, Shows, Has, pairs, leaf_nodes}
+use Rattle.spelling.specs.TreeWords.{class, rank, IsForkOver, Tree, Leaf, Fork, root, Shows, Has, pairs, leaf_nodes}
 use Rattle.spelling.specs.Spelled.{Spells}
 use Rattle.forest.specs.Copies.{IsMapWord, AreCopied}
 
@@ -29,7 +29,7 @@ still_same from old new u x c i e = go (same_word u x) refl
   where
     go : (b : Bool) → same_word u x ≡ b → Same from new x
     go true s = subst (Same from new) (word_same u x s) c.changed
-    go false s = c.others x i (λ q. word_apart u x s (sym q)) ∙ e
+    go false s = c.others x i (word_apart u x s) ∙ e
 
 -- A node
 

@@ -10,7 +10,7 @@ use Rattle.arena.specs.Share.{Remaining}
 use Rattle.arena.specs.History.{History, Start, ◌⊳◌, Extends}
 use Rattle.arena.specs.Fills.{IsOwnScx}
 use Rattle.arena.specs.Lawful.{HasWon, IsWin, Lawful}
-use Rattle.arena.specs.Log.{Entry, log, owner}
+use Rattle.arena.specs.Log.{log, owner}
 use Rattle.arena.specs.Machines.{Call, IsRun}
 use Rattle.arena.proofs.Lemmas.{ends_self, ends_trans, owner_is}
 use Rattle.histories.specs.Descriptor.{descriptor}
@@ -24,7 +24,7 @@ use Rattle.forest.specs.declared.pass.Pass.TheInside.{Inside}
 use Rattle.forest.specs.TableRule.{history_of, seated_pass}
 use Rattle.forest.specs.Traces.{Trace, HoldsForCall, begins, others, makes, goes_on, known_of, seat_steps}
 use Rattle.forest.specs.Shares.{IsBetweenCalls, entries_of}
-use Rattle.forest.specs.Passes.{PassView, AreOfCall, HasBlamed, HasGoneOn, IsLaterView, run_of, steps_of}
+use Rattle.forest.specs.Passes.{AreOfCall, HasBlamed, HasGoneOn, IsLaterView, run_of}
 use Rattle.forest.specs.PassInvariant.{pass_view, IsPass}
 use Rattle.forest.proofs.Frames.{entry_mine, entry_others}
 use Rattle.forest.proofs.Called.{course_calls}

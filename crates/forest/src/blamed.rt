@@ -42,7 +42,7 @@ impl Blamed {
     }
 
     /// This one is blamed too.
-    fn push(&mut self, scx: ScxNo)
+    pub(crate) fn push(&mut self, scx: ScxNo)
         ensures { self.new ≡ scx.0 ∷ self.old }
     {
         let Blamed { names } = replace(self, Blamed::new());
