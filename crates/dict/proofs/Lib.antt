@@ -1,4 +1,3 @@
 mod Readings
 mod Endings
 mod Ends
-mod MapLaws

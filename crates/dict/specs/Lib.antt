@@ -6,3 +6,10 @@ pub mod Calls
 pub mod Says
 pub mod Known
 pub mod Steps
+pub mod MapLaws
+pub mod Typed
+pub mod TypedMaps
+pub mod TypedSteps
+pub mod Translated
+pub mod DictKnown
+pub mod DictLaws

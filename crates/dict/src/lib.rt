@@ -2,20 +2,23 @@
 //! machine of one.
 #![tactic(auto)]
 
+mod dict;
 mod key;
 mod name;
-mod reading;
 mod reply;
 mod request;
 mod run;
+mod shape;
 mod told;
+mod translation;
 mod value;
 
+pub use dict::DictRun;
 pub use key::WordKey;
 pub use name::Name8;
-pub use reading::{pair_of, pairs_of, value_of};
 pub use reply::Reply;
 pub use request::Request;
 pub use run::MapRun;
+pub use shape::Dict;
 pub use told::WordReply;
 pub use value::WordValue;

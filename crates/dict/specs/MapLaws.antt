@@ -32,7 +32,7 @@ module _ (c : Call) (h : History) (r : Row) (share : Remaining) (run : IsRun Tre
   still other x = rests_more x (rests_by_others c h r share run.lawful other x.now)
 
   -- an own row that fills nothing leaves it so
-  on : r.kind ≢ Fill → Rests c h share → Rests c (r ⊳ h) share
+  pub on : r.kind ≢ Fill → Rests c h share → Rests c (r ⊳ h) share
   on fills_not x = rests_more x (rests_by_step c h r share run.lawful fills_not x.now)
 
 -- rows of other passes leave the machine waiting for the same step
