@@ -1,3 +1,4 @@
 mod Readings
 mod Endings
 mod Ends
+mod Undisturbed

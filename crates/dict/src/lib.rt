@@ -2,6 +2,7 @@
 //! machine of one.
 #![tactic(auto)]
 
+mod alone;
 mod dict;
 mod key;
 mod name;
@@ -13,6 +14,7 @@ mod told;
 mod translation;
 mod value;
 
+pub use alone::alone_holds;
 pub use dict::DictRun;
 pub use key::WordKey;
 pub use name::Name8;
