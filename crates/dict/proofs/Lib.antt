@@ -1,3 +1,5 @@
 mod Readings
 mod Endings
 mod Ends
+mod Translating
+mod DictEnds
