@@ -2,3 +2,5 @@ mod Readings
 mod Endings
 mod Ends
 mod Undisturbed
+mod Translating
+mod DictEnds

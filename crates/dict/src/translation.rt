@@ -1,8 +1,8 @@
 //! Replies in words as replies of keys and values.
-ghost use Rattle.std.specs.Prelude.{◌≡◌, ℕ, map, All, IfSome, IfOk};
+ghost use Rattle.std.specs.Prelude.{◌≡◌, IfSome, IfOk};
 ghost use Rattle.std.specs.Option.{option_map};
-ghost use Rattle.dict.specs.Words.{IsWord, IsPairWord, IsValidPair, IsValidReply, word_pair};
-ghost use Rattle.dict.specs.Translated.{IsTranslated};
+ghost use Rattle.dict.specs.Words.{IsWord, IsValidReply};
+ghost use Rattle.dict.specs.Translated.{ArePairsOf, IsPairOf, IsTranslated};
 
 use crate::key::WordKey;
 use crate::reply::Reply;
@@ -25,8 +25,7 @@ fn value_of<V: WordValue>(word: Option<u64>) -> Option<V>
 
 /// The pair of two words, if they are a key's and a value's.
 fn known_pair<K: WordKey, V: WordValue>(words: Pair) -> Option<(K, V)>
-    ensures valid { IfSome result (IsValidPair K.is_valid V.is_valid) }
-    ensures words { IsPairWord K.is_valid K.word_of V.is_valid V.word_of words → option_map (word_pair K.word_of V.word_of) result ≡ Option.Some words }
+    ensures { IsPairOf K.is_valid K.word_of V.is_valid V.word_of (Option.Some words) result }
 {
     let key = K::from_word(words.key)?;
     let value = V::from_word(words.value)?;
@@ -35,8 +34,7 @@ fn known_pair<K: WordKey, V: WordValue>(words: Pair) -> Option<(K, V)>
 
 /// The same, if there are two words.
 fn pair_of<K: WordKey, V: WordValue>(words: Option<Pair>) -> Option<(K, V)>
-    ensures valid { IfSome result (IsValidPair K.is_valid V.is_valid) }
-    ensures words { IfSome words (IsPairWord K.is_valid K.word_of V.is_valid V.word_of) → option_map (word_pair K.word_of V.word_of) result ≡ words }
+    ensures { IsPairOf K.is_valid K.word_of V.is_valid V.word_of words result }
 {
     match words {
         Some(words) => known_pair(words),
@@ -49,13 +47,13 @@ fn pairs_of<K: WordKey, V: WordValue>(
     alloc: Global,
     words: &[Pair],
 ) -> Result<Vec<(K, V)>, NoMemory>
-    ensures valid { IfOk result (λ ps. All (IsValidPair K.is_valid V.is_valid) ps.items) }
-    ensures words { AreTyped (IsWord K.is_valid K.word_of) (IsWord V.is_valid V.word_of) words.now → IfOk result (λ ps. map (word_pair K.word_of V.word_of) ps.items ≡ words.now) }
+    ensures { IfOk result (λ ps. ArePairsOf K.is_valid K.word_of V.is_valid V.word_of words.now ps.items) }
 {
     let mut pairs = Vec::with_capacity(alloc, words.len())?;
-    for words in words {
-        if let Some(pair) = known_pair(*words) {
-            pairs.push(pair)?;
+    for both in words {
+        match known_pair(*both) {
+            Some(pair) => pairs.push(pair)?,
+            None => {}
         }
     }
     Ok(pairs)
@@ -80,4 +78,3 @@ pub(crate) fn translated<K: WordKey, V: WordValue>(alloc: Global, reply: WordRep
 }
 
 ghost use Rattle.std.specs.Prelude.{Option};
-ghost use Rattle.dict.specs.Typed.{AreTyped};
