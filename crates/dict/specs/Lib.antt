@@ -1,3 +1,4 @@
 pub mod Offsets
 pub mod Names
+pub mod NameKeys
 pub mod Words

@@ -3,6 +3,7 @@
 
 mod key;
 mod name;
+mod name_key;
 mod reading;
 mod reply;
 mod request;
