@@ -4,3 +4,4 @@ mod Ends
 mod Undisturbed
 mod Translating
 mod DictEnds
+mod Names
