@@ -1,5 +1,5 @@
 -- What the machine of a call has answered is right, where the machine inside has answered.
-use Rattle.std.proofs.Common.{◌≡◌, ℕ, ◌^◌, ◌<◌, List, Option, Result, Vec, refl, sym, ◌∙◌, ap, subst, arith}
+use Rattle.std.proofs.Common.{◌≡◌, ℕ, ◌^◌, ◌<◌, List, Option, Result, Ok, Err, Vec, refl, sym, ◌∙◌, ap, subst, arith}
 use Rattle.std.specs.Global.{Global}
 use Rattle.arena.specs.History.{History}
 use Rattle.arena.specs.Machines.{Call, IsRun}
@@ -8,8 +8,9 @@ use Rattle.order.specs.Range.Known.{RangeAnswers}
 use Rattle.order.specs.Successor.Known.{SuccessorAnswers}
 use Rattle.order.specs.declared.range.RangeRun.{RangeRun}
 use Rattle.order.specs.declared.refused.Refused.{Refused}
+use Rattle.order.specs.declared.refused.Refused.TheVariants as refused
 use Rattle.order.specs.declared.successor.SuccessorRun.{SuccessorRun}
-use Rattle.spelling.specs.OrderedMap.{Edit, Get as GetOf, Successor as SuccessorOf, Range as RangeOf, Insert as PutEdit, Delete as TakeEdit}
+use Rattle.spelling.specs.OrderedMap.{MapEdit, Edit, Get as GetOf, Successor as SuccessorOf, Range as RangeOf, Insert as PutEdit, Delete as TakeEdit}
 use Rattle.spelling.specs.TreeShape.{TreeAllows}
 use Rattle.spelling.specs.declared.pair.Pair.{Pair}
 use Rattle.tree.specs.Delete.Means.{delete_means}
@@ -22,11 +23,32 @@ use Rattle.updates.specs.Known.{RestsWith, UpdateAnswers}
 use Rattle.updates.specs.Steps.{node_tries, scx_tries, Spends}
 use Rattle.updates.specs.declared.update.UpdateRun.{UpdateRun}
 use Rattle.updates.specs.declared.update.Updated.{Updated}
+use Rattle.updates.specs.declared.update.Updated.TheVariants as updated
+use Rattle.dict.specs.Forms.{MayReply, word_form}
 use Rattle.dict.specs.Known.{Rests, Goes, MapAnswers}
 use Rattle.dict.specs.WordReplies.{update_reply, successor_reply, range_reply}
 use Rattle.dict.specs.declared.run.MapRun.TheVariants.{Insert, Delete, Get, Successor, Range}
 use Rattle.dict.specs.declared.told.WordReply.TheVariants as words
 use Rattle.dict.proofs.Endings.{insert_says, delete_says, get_says, successor_says, range_says, read_spent, edit_spends, insert_spent, delete_spent}
+
+-- What they answer is of a form that such a call may reply
+
+update_form : (e : MapEdit) (a : Updated) → MayReply (Edit e) (word_form (update_reply a))
+update_form e (updated.Done found) = tt
+update_form e (updated.Contended node scx) = tt
+update_form e (updated.Full full) = tt
+
+successor_form : (k : ℕ) (a : Result (Option Pair) Refused) → MayReply (SuccessorOf k) (word_form (successor_reply a))
+successor_form k (Ok found) = tt
+successor_form k (Err (refused.Contended node scx)) = tt
+successor_form k (Err refused.NoMemory) = tt
+
+range_form : (low high most : ℕ) (a : Result (Vec Pair Global) Refused) → MayReply (RangeOf low high most) (word_form (range_reply a))
+range_form low high most (Ok found) = tt
+range_form low high most (Err (refused.Contended node scx)) = tt
+range_form low high most (Err refused.NoMemory) = tt
+
+-- Their answers
 
 module _ (tries : ℕ) (c : Call) (h : History) where
   pub insert_ends : (old now : UpdateRun Inserted) (a : Updated) → IsRun TreeAllows c.layout h → Goes (Insert old) tries c → now.edit ≡ old.edit → now.call ≡ old.call → Spends 3 old.share now.share (node_tries old old.at) 0 (scx_tries old old.at) 0 → UpdateAnswers insert_means now c h a → MapAnswers tries (Insert now) c h (update_reply a)
@@ -35,6 +57,7 @@ module _ (tries : ℕ) (c : Call) (h : History) where
       record {
         rests = x.0;
         spent = insert_spent c now.edit.key now.edit.value tries now.share (edit_spends c 3 old.share now.share tries (node_tries old old.at) 0 (scx_tries old old.at) 0 goes.spent spends);
+        form = update_form (PutEdit now.edit.key now.edit.value) a;
         says = insert_says c h now a (goes.mode, run) small (call ∙ goes.number) x.1;
       }
 
@@ -44,14 +67,15 @@ module _ (tries : ℕ) (c : Call) (h : History) where
       record {
         rests = x.0;
         spent = delete_spent c now.edit.key tries now.share (edit_spends c 1 old.share now.share tries (node_tries old old.at) 0 (scx_tries old old.at) 0 goes.spent spends);
+        form = update_form (TakeEdit now.edit.key) a;
         says = delete_says c h now a (goes.mode, run) small (call ∙ goes.number) x.1;
       }
 
   pub get_ends : (now : GetRun) (share : Remaining) (a : Option ℕ) → Rests c h share → RestsWith c c.start share → GetAnswers now c h a → MapAnswers tries (Get now share) c h (words.Value a)
-  get_ends now share a x spent y = record { rests = x.now; spent = read_spent c (GetOf now.key) tries share spent; says = get_says c h now share a x y }
+  get_ends now share a x spent y = record { rests = x.now; spent = read_spent c (GetOf now.key) tries share spent; form = tt; says = get_says c h now share a x y }
 
   pub successor_ends : (now : SuccessorRun) (share : Remaining) (a : Result (Option Pair) Refused) → Rests c h share → RestsWith c c.start share → SuccessorAnswers now c h a → MapAnswers tries (Successor now share) c h (successor_reply a)
-  successor_ends now share a x spent y = record { rests = x.now; spent = read_spent c (SuccessorOf now.key) tries share spent; says = successor_says c h now share a x y }
+  successor_ends now share a x spent y = record { rests = x.now; spent = read_spent c (SuccessorOf now.key) tries share spent; form = successor_form now.key a; says = successor_says c h now share a x y }
 
   pub range_ends : (now : RangeRun) (share : Remaining) (a : Result (Vec Pair Global) Refused) → Rests c h share → RestsWith c c.start share → RangeAnswers now c h a → MapAnswers tries (Range now share) c h (range_reply a)
-  range_ends now share a x spent y = record { rests = x.now; spent = read_spent c (RangeOf now.low now.high now.most) tries share spent; says = range_says c h now share a x y }
+  range_ends now share a x spent y = record { rests = x.now; spent = read_spent c (RangeOf now.low now.high now.most) tries share spent; form = range_form now.low now.high now.most a; says = range_says c h now share a x y }

@@ -8,6 +8,7 @@ use Rattle.spelling.specs.OrderedMap.{MapCall}
 use Rattle.updates.specs.Known.{RestsWith}
 use Rattle.updates.specs.Tries.{HasEnteredNone}
 use Rattle.dict.specs.Calls.{call_in, share_of, tries_behind, HasSpent}
+use Rattle.dict.specs.Forms.{MayReply, form_of}
 use Rattle.dict.specs.Known.{MapIsReady, MapWaits}
 use Rattle.dict.specs.Says.{HasLost, HasRunOut, KeepsLists, Tells}
 use Rattle.dict.specs.Typed.{IsTypedCall}
@@ -36,6 +37,7 @@ DictRefuses c h call share tries _ = Unit {0}
 pub record DictAnswers {K V : Type 0} (valid_key : K → Type 0) (key : K → ℕ) (valid_value : V → Type 0) (value : V → ℕ) (m : DictRun K V) (c : Call) (h : History) (reply : Reply K V) : Type 0 where
   pub rests : RestsWith c h (share_of m.run)
   pub spent : HasSpent c (call_in m.run) m.tries (share_of m.run)
+  pub form : MayReply (call_in m.run) (form_of reply)
   pub valid : IsValidReply valid_key valid_value reply
   pub tells : Tells c h (call_in m.run) (told_of key value reply)
   pub refuses : DictRefuses c h (call_in m.run) (share_of m.run) (tries_behind m.run) reply

@@ -16,6 +16,7 @@ use Rattle.tree.specs.Insert.Means.{insert_means}
 use Rattle.updates.specs.Known.{RestsWith, UpdateIsReady, UpdateWaits}
 use Rattle.updates.specs.Steps.{node_tries, scx_tries, Spends}
 use Rattle.dict.specs.Calls.{call_in, share_of, tries_behind, most_nodes, IsSmallCall, HasSpent}
+use Rattle.dict.specs.Forms.{MayReply, word_form}
 use Rattle.dict.specs.Says.{WordSays}
 use Rattle.dict.specs.declared.run.MapRun.{MapRun}
 use Rattle.dict.specs.declared.run.MapRun.TheVariants.{Insert, Delete, Get, Successor, Range}
@@ -86,6 +87,7 @@ MapWaits tries m c h s = Goes m tries c × WaitsInside m c h s
 pub record MapAnswers (tries : ℕ) (m : MapRun) (c : Call) (h : History) (reply : WordReply) : Type 0 where
   pub rests : RestsWith c h (share_of m)
   pub spent : HasSpent c (call_in m) tries (share_of m)
+  pub form : MayReply (call_in m) (word_form reply)
   pub says : WordSays c h (call_in m) (share_of m) (tries_behind m) reply
 
 -- all but a range that takes no pair ask for a step before they answer

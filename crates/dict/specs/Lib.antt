@@ -3,6 +3,7 @@ pub mod Names
 pub mod NameKeys
 pub mod Words
 pub mod WordReplies
+pub mod Forms
 pub mod Calls
 pub mod Says
 pub mod Known

@@ -63,6 +63,7 @@ fn pairs_of<K: WordKey, V: WordValue>(
 pub(crate) fn translated<K: WordKey, V: WordValue>(alloc: Global, reply: WordReply) -> Reply<K, V>
     ensures valid { IsValidReply K.is_valid V.is_valid result }
     ensures says { IsTranslated K.is_valid K.word_of V.is_valid V.word_of reply result }
+    ensures form { HasFormOf reply result }
 {
     match reply {
         WordReply::Value(word) => Reply::Value(value_of(word)),
