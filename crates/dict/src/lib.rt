@@ -5,6 +5,7 @@
 mod dict;
 mod key;
 mod name;
+mod name_key;
 mod reply;
 mod request;
 mod run;

@@ -1,5 +1,7 @@
 //! Short names.
-ghost use Rattle.std.specs.Prelude.{◌≡◌, ◌↔◌, IsTrue, IsSome, IfSome};
+ghost use Rattle.std.specs.Prelude.{◌≡◌, ◌≢◌, ◌↔◌, true, IsSome, IsNone, IfSome};
+ghost use Rattle.std.specs.List.{list_all};
+ghost use Rattle.std.specs.Char.{is_ascii_graphic};
 ghost use Rattle.dict.specs.Names.{IsName, is_padded, is_name_word, name_word};
 
 use std::fmt;
@@ -28,6 +30,24 @@ impl Name8 {
             word: u64::from_be_bytes(bytes),
         })
     }
+
+    /// The name of this word, if it is one's.
+    pub(crate) fn of_word(word: u64) -> Option<Name8>
+        ensures some { IfSome result (λ n. n.word ≡ word) }
+        ensures none { IsNone result → is_name_word word ≢ true }
+    {
+        if !is_padded(word.to_be_bytes().as_slice()) {
+            return None;
+        }
+        Some(Name8 { word })
+    }
+
+    /// The word of it: its characters, the first most significant, and zero bytes behind them.
+    pub(crate) fn to_word(self) -> u64
+        ensures { result ≡ self.word }
+    {
+        self.word
+    }
 }
 
 /// Whether these bytes are visible ASCII characters.
@@ -37,14 +57,26 @@ fn are_letters(bytes: &[u8]) -> bool
     bytes.iter().all(|byte| byte.is_ascii_graphic())
 }
 
+/// Whether these bytes are zeros.
+fn are_zeros(bytes: &[u8]) -> bool
+    ensures { result ≡ list_all (λ b. b == 0) bytes.now }
+{
+    bytes.iter().all(|byte| *byte == 0)
+}
+
 /// Whether these bytes are visible ASCII characters, and zeros behind them.
 fn is_padded(bytes: &[u8]) -> bool
     ensures { result ≡ is_padded bytes.now }
 {
     match bytes {
         [] => true,
-        [0, rest @ ..] => rest.iter().all(|byte| *byte == 0),
-        [letter, rest @ ..] => letter.is_ascii_graphic() && is_padded(rest),
+        [first, rest @ ..] => {
+            if *first == 0 {
+                are_zeros(rest)
+            } else {
+                first.is_ascii_graphic() && is_padded(rest)
+            }
+        }
     }
 }
 
@@ -59,32 +91,4 @@ impl fmt::Display for Name8 {
     }
 }
 
-impl WordKey for Name8 {
-    ghost is_valid = { λ _. Unit {0} };
-
-    ghost word_of = { λ k. k.word };
-
-    fn word(&self) -> u64 {
-        self.word
-    }
-
-    fn valid(&self) {}
-
-    fn from_word(word: u64) -> Option<Name8> {
-        if !is_padded(word.to_be_bytes().as_slice()) {
-            return None;
-        }
-        Some(Name8 { word })
-    }
-
-    ghost fits = { name_fits };
-
-    ghost exact = { name_exact };
-
-    ghost ordered = { λ _ _ _ _. refl };
-}
-
-use crate::key::WordKey;
-ghost use Rattle.std.specs.Prelude.{true, refl};
-ghost use Rattle.std.specs.List.{list_all};
-ghost use Rattle.std.specs.Char.{is_ascii_graphic};
+ghost use Rattle.std.specs.Prelude.{◌==◌};
