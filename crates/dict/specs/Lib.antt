@@ -14,3 +14,4 @@ pub mod TypedSteps
 pub mod Translated
 pub mod DictKnown
 pub mod DictLaws
+pub mod Begins
