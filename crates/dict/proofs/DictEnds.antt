@@ -13,9 +13,11 @@ use Rattle.spelling.proofs.Lemmas.{run_spells}
 use Rattle.updates.specs.Tries.{HasEnteredNone}
 use Rattle.dict.specs.Calls.{call_in, share_of, tries_behind}
 use Rattle.dict.specs.DictKnown.{DictRefuses, DictAnswers}
+use Rattle.dict.specs.Forms.{MayReply, word_form, form_of}
+use Rattle.dict.specs.Forms as form
 use Rattle.dict.specs.Known.{MapAnswers}
 use Rattle.dict.specs.Says.{HasChanged, HasRead, HasTold, HasToldBy, KeepsLists, Tells, WordSays}
-use Rattle.dict.specs.Translated.{TellsTyped, SaysSame, IsTranslated}
+use Rattle.dict.specs.Translated.{TellsTyped, SaysSame, IsTranslated, HasFormOf}
 use Rattle.dict.specs.Typed.{AreTyped, IsTypedValue, IsTypedReply, TypedAllows}
 use Rattle.dict.specs.TypedMaps.{typed_map, typed_run, typed_since}
 use Rattle.dict.specs.WordReplies.{told_in}
@@ -124,9 +126,20 @@ module _ (c : Call) (h : History) where
     says_right (words.Full full) r e x = subst Right (sym e) (tt, x.1)
     says_right words.NoMemory r e x = subst Right (sym e) (tt, x.1)
 
+-- a call that may tell pairs may be refused memory
+may_lack : (call : MapCall) → MayReply call form.Pairs → MayReply call form.NoMemory
+may_lack (Edit e) x = x
+may_lack (Get k) x = x
+may_lack (Successor k) x = absurd x
+may_lack (Range low high most) x = tt
+
+may_reply : {K V : Type 0} (call : MapCall) (w : WordReply) (r : Reply K V) → HasFormOf w r → MayReply call (word_form w) → MayReply call (form_of r)
+may_reply call w r (inl e) x = subst (MayReply call) (sym e) x
+may_reply call w r (inr e) x = subst (MayReply call) (sym e.1) (may_lack call (subst (MayReply call) e.0 x))
+
 module _ {K V : Type 0} (valid_key : K → Type 0) (key : K → ℕ) (valid_value : V → Type 0) (value_of : V → ℕ) where
-  pub dict_ends : (m : DictRun K V) (c : Call) (h : History) (w : WordReply) (r : Reply K V) → c.layout.mode ≡ TreeMode → IsRun (TypedAllows (IsWord valid_key key) (IsWord valid_value value_of)) c.layout h → MapAnswers m.tries m.run c h w → IsValidReply valid_key valid_value r → IsTranslated valid_key key valid_value value_of w r → DictAnswers valid_key key valid_value value_of m c h r
-  dict_ends m c h w r mode run x valid same =
+  pub dict_ends : (m : DictRun K V) (c : Call) (h : History) (w : WordReply) (r : Reply K V) → c.layout.mode ≡ TreeMode → IsRun (TypedAllows (IsWord valid_key key) (IsWord valid_value value_of)) c.layout h → MapAnswers m.tries m.run c h w → IsValidReply valid_key valid_value r → IsTranslated valid_key key valid_value value_of w r → HasFormOf w r → DictAnswers valid_key key valid_value value_of m c h r
+  dict_ends m c h w r mode run x valid same forms =
       let e : SaysSame key value_of w r = same (told_typed (IsWord valid_key key) (IsWord valid_value value_of) c h mode run (call_in m.run) (told_in w) x.says.0) in
       let y = says_right c h key value_of (call_in m.run) (share_of m.run) (tries_behind m.run) w r e x.says in
-      record { rests = x.rests; spent = x.spent; valid = valid; tells = y.0; refuses = y.1 }
+      record { rests = x.rests; spent = x.spent; form = may_reply (call_in m.run) w r forms x.form; valid = valid; tells = y.0; refuses = y.1 }

@@ -1,7 +1,7 @@
+mod Names
 mod Readings
 mod Endings
 mod Ends
 mod Undisturbed
 mod Translating
 mod DictEnds
-mod Names

@@ -75,3 +75,13 @@ abbrev pub need : MapCall → List Pair → ℕ
 need (Edit (Insert key value)) map = insert_nodes (get key map)
 need (Edit (Delete key)) map = delete_nodes (get key map)
 need _ map = 0
+
+-- it takes some pairs, where it is a range
+abbrev pub AsksForPairs : MapCall → Type 0
+AsksForPairs (Range low high most) = (0 < most) × (low ≤ high)
+AsksForPairs _ = Unit {0}
+
+-- and not too many
+abbrev pub IsFewCall : MapCall → Type 0
+IsFewCall (Range low high most) = most ≤ 64
+IsFewCall _ = Unit {0}

@@ -1,21 +1,25 @@
 -- When the machine of a call of the map may go on, what it waits for, and what its answer says.
-use Rattle.std.specs.Prelude.{◌≡◌, ℕ, Option}
+use Rattle.std.specs.Prelude.{◌≡◌, ℕ, ◌+◌, ◌^◌, ◌<◌, Option, []}
 use Rattle.arena.specs.declared.limits.Mode.TheVariants.{Tree as TreeMode}
 use Rattle.arena.specs.declared.step.Step.{Step}
 use Rattle.arena.specs.History.{History, Extends}
 use Rattle.arena.specs.Machines.{Call}
 use Rattle.arena.specs.Share.{Remaining}
-use Rattle.order.specs.Range.Known.{AsksForSome, RangeIsReady, RangeWaits}
+use Rattle.order.specs.Range.Known.{RangeIsReady, RangeWaits}
 use Rattle.order.specs.Successor.Known.{SuccessorIsReady, SuccessorWaits}
+use Rattle.order.specs.declared.range.RangeAt.TheVariants.{Start as RangeStart}
+use Rattle.order.specs.declared.successor.SuccessorAt.TheVariants.{Start as SuccessorStart}
 use Rattle.prims.specs.Laws.Idle.{IsQuietSince}
-use Rattle.spelling.specs.OrderedMap.{MapCall}
 use Rattle.spelling.specs.Runs.{IsTreeRun}
+use Rattle.template.specs.declared.walk.Goal.TheVariants.{Key as ToKey}
+use Rattle.template.specs.declared.walk.WalkAt.TheVariants.{Start as WalkStart}
 use Rattle.tree.specs.Delete.Means.{delete_means}
 use Rattle.tree.specs.Get.Known.{GetIsReady, GetWaits}
 use Rattle.tree.specs.Insert.Means.{insert_means}
 use Rattle.updates.specs.Known.{RestsWith, UpdateIsReady, UpdateWaits}
 use Rattle.updates.specs.Steps.{node_tries, scx_tries, Spends}
-use Rattle.dict.specs.Calls.{call_in, share_of, tries_behind, most_nodes, IsSmallCall, HasSpent}
+use Rattle.updates.specs.declared.update.UpdateAt.TheVariants.{Start as UpdateStart}
+use Rattle.dict.specs.Calls.{call_in, share_of, tries_behind, AsksForPairs, IsSmallCall, HasSpent}
 use Rattle.dict.specs.Forms.{MayReply, word_form}
 use Rattle.dict.specs.Says.{WordSays}
 use Rattle.dict.specs.declared.run.MapRun.{MapRun}
@@ -92,5 +96,14 @@ pub record MapAnswers (tries : ℕ) (m : MapRun) (c : Call) (h : History) (reply
 
 -- all but a range that takes no pair ask for a step before they answer
 abbrev pub AsksFirst : MapRun → Type 0
-AsksFirst (Range m share) = AsksForSome m
-AsksFirst m = Unit {0}
+AsksFirst m = AsksForPairs (call_in m)
+
+-- Before it begins
+
+-- it stands at its start, with so many tries in all, in the call of this number
+abbrev pub IsUnbegun : MapRun → ℕ → ℕ → Type 0
+IsUnbegun (Insert m) tries call = (m.at ≡ UpdateStart) × (m.tries + 1 ≡ tries) × (m.call ≡ call) × (m.edit.key < 2 ^ 64)
+IsUnbegun (Delete m) tries call = (m.at ≡ UpdateStart) × (m.tries + 1 ≡ tries) × (m.call ≡ call) × (m.edit.key < 2 ^ 64)
+IsUnbegun (Get m share) tries call = (m.walk.at ≡ WalkStart) × (m.walk.trail.node.0 ≡ 0) × (m.walk.goal ≡ ToKey m.key) × (m.key < 2 ^ 64)
+IsUnbegun (Successor m share) tries call = (m.at ≡ SuccessorStart) × (m.tries + 1 ≡ tries) × (m.snaps.items ≡ []) × (m.key < 2 ^ 64)
+IsUnbegun (Range m share) tries call = (m.at ≡ RangeStart) × (m.tries + 1 ≡ tries) × (m.snaps.items ≡ []) × (m.high < 2 ^ 64)

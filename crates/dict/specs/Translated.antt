@@ -3,6 +3,7 @@ use Rattle.std.specs.Prelude.{◌≡◌, ◌⊎◌, ℕ, map, All, List, Option,
 use Rattle.std.specs.Option.{option_map}
 use Rattle.spelling.specs.OrderedMap.{MapReply}
 use Rattle.spelling.specs.declared.pair.Pair.{Pair}
+use Rattle.dict.specs.Forms.{Pairs, NoMemory, word_form, form_of}
 use Rattle.dict.specs.Typed.{AreTyped, IsTypedReply}
 use Rattle.dict.specs.Words.{IsWord, IsPairWord, IsValidPair, word_pair, told_of}
 use Rattle.dict.specs.WordReplies.{told_in}
@@ -39,3 +40,7 @@ SaysSame key value (words.Pairs told) reply = (told_of key value reply ≡ told_
 -- it does so where the words that are told are of a key or of a value
 abbrev pub IsTranslated : {K V : Type 0} → (K → Type 0) → (K → ℕ) → (V → Type 0) → (V → ℕ) → WordReply → Reply K V → Type 0
 IsTranslated valid_key key valid_value value told reply = TellsTyped (IsWord valid_key key) (IsWord valid_value value) (told_in told) → SaysSame key value told reply
+
+-- it is of the same form; or there was no memory for the pairs
+abbrev pub HasFormOf : {K V : Type 0} → WordReply → Reply K V → Type 0
+HasFormOf told reply = (form_of reply ≡ word_form told) ⊎ ((word_form told ≡ Pairs) × (form_of reply ≡ NoMemory))

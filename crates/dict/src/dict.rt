@@ -1,9 +1,15 @@
 //! The machine of a call of a dictionary.
-ghost use Rattle.std.specs.Prelude.{◌≡◌, ℕ};
+ghost use Rattle.std.specs.Prelude.{◌≡◌, ◌<◌, ◌≤◌, ℕ, IsSome};
 ghost use Rattle.dict.specs.Calls.{call_in, share_of};
+ghost use Rattle.dict.specs.Known.{AsksFirst, IsUnbegun};
+ghost use Rattle.dict.specs.Says.{KeepsLists};
+ghost use Rattle.dict.specs.Steps.{map_left, most_steps, MapFits};
+ghost use Rattle.dict.specs.Typed.{IsTypedCall};
+ghost use Rattle.dict.specs.Words.{IsWord, map_call_of};
 
 use crate::key::WordKey;
 use crate::reply::Reply;
+use crate::request::Request;
 use crate::run::MapRun;
 use crate::shape::Dict;
 use crate::translation::translated;
@@ -19,12 +25,38 @@ pub struct DictRun<K, V> {
     pub run: MapRun,
     /// How many tries it has in all.
     pub tries: u32,
-    /// With what the pairs of its reply grow.
-    pub alloc: Global,
+    /// With what the pairs of its reply grow; there is none where it takes no memory.
+    pub alloc: Option<Global>,
     pub types: PhantomData<(K, V)>,
 }
 
-impl<K, V> DictRun<K, V> {
+impl<K: WordKey, V: WordValue> DictRun<K, V> {
+    /// A call that has not begun, with so many tries, in the caller's call of this number. The pairs of
+    /// its reply, and what an ordered read keeps, grow with this allocator; other calls need none. What
+    /// is said of its turns holds for some tries, and of a range for at most 64 pairs.
+    pub fn new(
+        alloc: Option<Global>,
+        request: Request<K, V>,
+        share: Share,
+        tries: u32,
+        call: u64,
+    ) -> DictRun<K, V>
+        requires memory { KeepsLists (map_call_of K.word_of V.word_of request) → IsSome alloc }
+        ensures call { call_in result.run ≡ map_call_of K.word_of V.word_of request }
+        ensures typed { IsTypedCall (IsWord K.is_valid K.word_of) (IsWord V.is_valid V.word_of) (call_in result.run) }
+        ensures share { share_of result.run ≡ share }
+        ensures tries { result.tries ≡ tries }
+        ensures fresh { 0 < tries → IsUnbegun result.run tries call }
+        ensures steps { (nodes : ℕ) → 0 < tries → map_left result.run nodes ≤ most_steps (call_in result.run) tries nodes }
+    {
+        DictRun {
+            run: MapRun::new(alloc, in_words(request), share, tries, call),
+            tries,
+            alloc,
+            types: PhantomData,
+        }
+    }
+
     /// Gives the share back.
     pub fn into_share(self) -> Share
         ensures { result ≡ share_of self.run }
@@ -33,12 +65,37 @@ impl<K, V> DictRun<K, V> {
     }
 }
 
+/// The same call, in words.
+fn in_words<K: WordKey, V: WordValue>(request: Request<K, V>) -> Request<u64, u64>
+    ensures call { map_call_of (λ k. k) (λ v. v) result ≡ map_call_of K.word_of V.word_of request }
+    ensures typed { IsTypedCall (IsWord K.is_valid K.word_of) (IsWord V.is_valid V.word_of) (map_call_of K.word_of V.word_of request) }
+{
+    match request {
+        Request::Insert { key, value } => {
+            key.valid();
+            value.valid();
+            Request::Insert {
+                key: key.word(),
+                value: value.word(),
+            }
+        }
+        Request::Delete { key } => {
+            key.valid();
+            Request::Delete { key: key.word() }
+        }
+        Request::Get { key } => Request::Get { key: key.word() },
+        Request::Successor { key } => Request::Successor { key: key.word() },
+        Request::Range { low, high, most } => Request::Range {
+            low: low.word(),
+            high: high.word(),
+            most,
+        },
+    }
+}
+
 impl<K: WordKey, V: WordValue> Machine<Dict<K, V>> for DictRun<K, V> {
     type Answer = Reply<K, V>;
 
-    ghost use Rattle.dict.specs.Words.{IsWord};
-    ghost use Rattle.dict.specs.Known.{AsksFirst};
-    ghost use Rattle.dict.specs.Steps.{map_left, MapFits};
     ghost use Rattle.dict.specs.DictKnown.{DictIsReady, DictWaits, DictAnswers};
     ghost use Rattle.dict.specs.DictLaws.{dict_keeps, dict_lawful, dict_made, dict_told};
 

@@ -1,16 +1,20 @@
 //! The machine of a call of the map, in words.
-ghost use Rattle.std.specs.Prelude.{◌≡◌, ℕ, None};
+ghost use Rattle.std.specs.Prelude.{◌≡◌, ◌<◌, ◌≤◌, ℕ, None};
 ghost use Rattle.arena.specs.History.{History};
 ghost use Rattle.arena.specs.Machines.{Call, IsRun, MatchTurn};
 ghost use Rattle.spelling.specs.TreeShape.{TreeAllows};
 ghost use Rattle.dict.specs.Calls.{call_in, share_of};
-ghost use Rattle.dict.specs.Known.{AsksFirst, MapIsReady, MapWaits, MapAnswers};
-ghost use Rattle.dict.specs.Steps.{MapFits, IsNearer};
+ghost use Rattle.dict.specs.Known.{AsksFirst, IsUnbegun, MapIsReady, MapWaits, MapAnswers};
+ghost use Rattle.dict.specs.Says.{KeepsLists};
+ghost use Rattle.dict.specs.Steps.{map_left, most_steps, MapFits, IsNearer};
+ghost use Rattle.dict.specs.Words.{map_call_of};
 
+use crate::request::Request;
 use crate::told::WordReply;
 use arena::{Machine, Share, Turn};
 use order::{RangeRun, SuccessorRun};
-use tree::{DeleteRun, GetRun, InsertRun, Tree};
+use std::alloc::Global;
+use tree::{Delete, DeleteRun, GetRun, Insert, InsertRun, Tree};
 
 /// A call that has begun. It has its pass's share until it has answered, of which a read takes
 /// nothing.
@@ -24,6 +28,44 @@ pub enum MapRun {
 }
 
 impl MapRun {
+    /// A call that has not begun, with so many tries, in the caller's call of this number. What it keeps
+    /// grows with this allocator.
+    pub fn new(
+        alloc: Option<Global>,
+        request: Request<u64, u64>,
+        share: Share,
+        tries: u32,
+        call: u64,
+    ) -> MapRun
+        requires memory { KeepsLists (map_call_of (λ k. k) (λ v. v) request) → IsSome alloc }
+        ensures call { call_in result ≡ map_call_of (λ k. k) (λ v. v) request }
+        ensures share { share_of result ≡ share }
+        ensures fresh { 0 < tries → IsUnbegun result tries call }
+        ensures steps { (nodes : ℕ) → 0 < tries → map_left result nodes ≤ most_steps (call_in result) tries nodes }
+    {
+        match (request, alloc) {
+            (Request::Insert { key, value }, _) => {
+                MapRun::Insert(Insert { key, value }.run(share, tries, call))
+            }
+            (Request::Delete { key }, _) => {
+                MapRun::Delete(Delete { key }.run(share, tries, call))
+            }
+            (Request::Get { key }, _) => MapRun::Get {
+                run: GetRun::new(key),
+                share,
+            },
+            (Request::Successor { key }, Some(alloc)) => MapRun::Successor {
+                run: SuccessorRun::new(alloc, key, tries),
+                share,
+            },
+            (Request::Range { low, high, most }, Some(alloc)) => MapRun::Range {
+                run: RangeRun::new(alloc, low, high, most as usize, tries),
+                share,
+            },
+            (Request::Successor { .. } | Request::Range { .. }, None) => unreachable!(),
+        }
+    }
+
     /// Goes on with what the last step found, as the machine inside.
     pub(crate) fn next(&mut self, got: Option<u64>) -> Turn<WordReply>
         ensures turn { (tries : ℕ) (c : Call) (h : History) → IsRun TreeAllows c.layout h → MapIsReady tries self.old c h got → MatchTurn result (MapWaits tries self.new c h) (MapAnswers tries self.new c h) }

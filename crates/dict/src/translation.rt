@@ -2,7 +2,7 @@
 ghost use Rattle.std.specs.Prelude.{◌≡◌, IfSome, IfOk};
 ghost use Rattle.std.specs.Option.{option_map};
 ghost use Rattle.dict.specs.Words.{IsWord, IsValidReply};
-ghost use Rattle.dict.specs.Translated.{ArePairsOf, IsPairOf, IsTranslated};
+ghost use Rattle.dict.specs.Translated.{ArePairsOf, HasFormOf, IsPairOf, IsTranslated};
 
 use crate::key::WordKey;
 use crate::reply::Reply;
@@ -60,7 +60,10 @@ fn pairs_of<K: WordKey, V: WordValue>(
 }
 
 /// A reply in words as one of keys and values.
-pub(crate) fn translated<K: WordKey, V: WordValue>(alloc: Global, reply: WordReply) -> Reply<K, V>
+pub(crate) fn translated<K: WordKey, V: WordValue>(
+    alloc: Option<Global>,
+    reply: WordReply,
+) -> Reply<K, V>
     ensures valid { IsValidReply K.is_valid V.is_valid result }
     ensures says { IsTranslated K.is_valid K.word_of V.is_valid V.word_of reply result }
     ensures form { HasFormOf reply result }
@@ -68,9 +71,12 @@ pub(crate) fn translated<K: WordKey, V: WordValue>(alloc: Global, reply: WordRep
     match reply {
         WordReply::Value(word) => Reply::Value(value_of(word)),
         WordReply::Pair(words) => Reply::Pair(pair_of(words)),
-        WordReply::Pairs(words) => match pairs_of(alloc, &words) {
-            Ok(pairs) => Reply::Pairs(pairs),
-            Err(NoMemory) => Reply::NoMemory,
+        WordReply::Pairs(words) => match alloc {
+            Some(alloc) => match pairs_of(alloc, &words) {
+                Ok(pairs) => Reply::Pairs(pairs),
+                Err(NoMemory) => Reply::NoMemory,
+            },
+            None => Reply::NoMemory,
         },
         WordReply::Contended { node, scx } => Reply::Contended { node, scx },
         WordReply::Full(full) => Reply::Full(full),

@@ -16,4 +16,4 @@ returns-in-Done-clause-turn g c d h run ready =
     let keys = IsWord g.K.WordKey.is_valid g.K.WordKey.word_of in
     let values = IsWord g.V.WordValue.is_valid g.V.WordValue.word_of in
     let answers = c.in-Done.ensures.turn c.args.self.now.tries d h (typed_run keys values d.layout h run) ready.1 in
-    dict_ends g.K.WordKey.is_valid g.K.WordKey.word_of g.V.WordValue.is_valid g.V.WordValue.word_of _ d h c.in-Done.reply c.translated.result ready.1.0.mode run answers c.translated.ensures.valid c.translated.ensures.says
+    dict_ends g.K.WordKey.is_valid g.K.WordKey.word_of g.V.WordValue.is_valid g.V.WordValue.word_of _ d h c.in-Done.reply c.translated.result ready.1.0.mode run answers c.translated.ensures.valid c.translated.ensures.says c.translated.ensures.form
