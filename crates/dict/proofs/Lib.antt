@@ -1,4 +1,3 @@
-mod Names
 mod Readings
 mod Endings
 mod Ends

@@ -1,6 +1,5 @@
 pub mod Offsets
 pub mod Names
-pub mod NameKeys
 pub mod Words
 pub mod WordReplies
 pub mod Forms

@@ -5,8 +5,6 @@
 mod alone;
 mod dict;
 mod key;
-mod name;
-mod name_key;
 mod reply;
 mod request;
 mod run;
@@ -18,7 +16,6 @@ mod value;
 pub use alone::alone_holds;
 pub use dict::DictRun;
 pub use key::WordKey;
-pub use name::Name8;
 pub use reply::Reply;
 pub use request::Request;
 pub use run::MapRun;
