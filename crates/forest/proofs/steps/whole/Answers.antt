@@ -1,6 +1,4 @@
-use Rattle.std.proofs.Common.{◌≡◌, None, arith}
-use Rattle.arena.specs.Machines.{Call}
-use Rattle.forest.specs.Traces.{CallBegins, Stands}
+use Rattle.std.proofs.Common.{None, arith}
 use Rattle.forest.proofs.Advances.{few_taken, weighs}
 use Rattle.forest.proofs.Places.{stands}
 use Rattle.forest.proofs.steps.whole.Goals as goal
