@@ -264,18 +264,14 @@ HaveLeftShares passes = All (λ p. All (λ q. All (λ s. ¬ HasScx q.share s) p.
 
 -- New passes
 
--- pass c of this table before its first step: it has its whole share and knows nothing
-abbrev pub new_pass : TableId → Layout → ℕ → PassView
-new_pass table lay c = record { table = table; layout = lay; number = c; share = whole_share lay c; known = []; blamed = [] }
+-- pass c of the forest before its first step: it has its whole share and knows nothing
+abbrev pub new_pass : Ground → ℕ → PassView
+new_pass f c = record { table = f.table; layout = f.layout; number = c; share = whole_share f.layout c; known = []; blamed = [] }
 
--- these are all passes of this table, in order, before their first steps
-pub record AreNewOn (table : TableId) (lay : Layout) (passes : List PassView) : Type 0 where
-  pub count : length passes ≡ lay.passes
-  pub each : (j : ℕ) (d : PassView) → slice_get passes j ≡ Some d → d ≡ new_pass table lay j
-
--- these are all passes of the forest
-abbrev pub AreNew : Ground → List PassView → Type 0
-AreNew f = AreNewOn f.table f.layout
+-- these are all passes of the forest, in order, before their first steps
+pub record AreNew (f : Ground) (passes : List PassView) : Type 0 where
+  pub count : length passes ≡ f.layout.passes
+  pub each : (j : ℕ) (d : PassView) → slice_get passes j ≡ Some d → d ≡ new_pass f j
 
 -- All passes
 
