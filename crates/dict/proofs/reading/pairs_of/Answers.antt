@@ -15,6 +15,6 @@ loop-pair-preserved g c =
     let more = take_more c.args.words.now c.loop-pair.pair-index (record { key = 0; value = 0 }) c.loop-pair-test.true in
     let front = map_push words c.loop-pair.pairs.items c.known_pair.result in
     record {
-      valid = subst (All P) (sym pushed) (All-push P c.loop-pair.pairs.items c.known_pair.result c.loop-pair.invariant.valid c.known_pair.ensures.valid);
+      valid = subst (All P) {y = c.push.new.self.items} (sym pushed) (All-push P c.loop-pair.pairs.items c.known_pair.result c.loop-pair.invariant.valid c.known_pair.ensures.valid);
       words = ap (map words) pushed ∙ front ∙ (rw c.loop-pair.invariant.words (rw c.known_pair.ensures.words (sym more)))
     }
