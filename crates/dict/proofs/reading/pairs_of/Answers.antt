@@ -1,4 +1,4 @@
-use Rattle.std.proofs.Common.{◌≡◌, ◌++◌, ◌∷◌, [], map, take, All, sym, ap, ◌∙◌, subst}
+use Rattle.std.proofs.Common.{map, All, sym, ap, ◌∙◌, subst}
 use Rattle.std.proofs.lemmas.List.{map_push, take_more}
 use Rattle.std.proofs.lemmas.List.Elements.{All-push}
 use Rattle.dict.specs.Words.{IsValidPair, word_pair}
@@ -16,5 +16,5 @@ loop-pair-preserved g c =
     let front = map_push words c.loop-pair.pairs.items c.known_pair.result in
     record {
       valid = subst (All P) {y = c.push.new.self.items} (sym pushed) (All-push P c.loop-pair.pairs.items c.known_pair.result c.loop-pair.invariant.valid c.known_pair.ensures.valid);
-      words = ap (map words) pushed ∙ front ∙ (rw c.loop-pair.invariant.words (rw c.known_pair.ensures.words (sym more)))
+      words = ap (map words) pushed ∙ front ∙ (rw c.loop-pair.invariant.words (rw c.known_pair.ensures.words (sym more)));
     }
