@@ -1,3 +1,4 @@
+mod Names
 mod Readings
 mod Endings
 mod Ends

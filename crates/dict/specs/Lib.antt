@@ -1,5 +1,6 @@
 pub mod Offsets
 pub mod Names
+pub mod NameKeys
 pub mod Words
 pub mod WordReplies
 pub mod Forms

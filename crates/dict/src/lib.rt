@@ -5,6 +5,8 @@
 mod alone;
 mod dict;
 mod key;
+mod name;
+mod name_key;
 mod reply;
 mod request;
 mod run;
@@ -16,6 +18,7 @@ mod value;
 pub use alone::alone_holds;
 pub use dict::DictRun;
 pub use key::WordKey;
+pub use name::Name8;
 pub use reply::Reply;
 pub use request::Request;
 pub use run::MapRun;

@@ -3,6 +3,8 @@
 #![tactic(auto)]
 
 #[cfg(test)]
+mod dict_tests;
+#[cfg(test)]
 mod forest_tests;
 #[cfg(test)]
 mod judge_tests;
