@@ -12,15 +12,19 @@ use Rattle.spelling.specs.OrderedMap.{MapCall, MapReply}
 use Rattle.spelling.specs.Runs.{IsTreeRun}
 use Rattle.prims.specs.Laws.Begun.{taken_since}
 use Rattle.prims.specs.Shares.{IsShare}
-use Rattle.prims.proofs.Lemmas.{taken_node_since}
+use Rattle.prims.proofs.Lemmas.{all_over, taken_node_since}
 use Rattle.updates.specs.Known.{RestsWith}
-use Rattle.dict.specs.Calls.{call_in, share_of, most_nodes, most_scx, HasSpent}
-use Rattle.dict.specs.DictKnown.{DictAnswers, DictRefuses}
+use Rattle.dict.specs.Begins.{dict_begins}
+use Rattle.dict.specs.Calls.{call_in, share_of, tries_behind, IsFewCall}
+use Rattle.dict.specs.DictKnown.{DictIsReady, DictWaits, DictAnswers, DictRefuses}
+use Rattle.dict.specs.Known.{IsUnbegun}
 use Rattle.dict.specs.Says.{Tells}
-use Rattle.dict.specs.Typed.{TypedAllows}
+use Rattle.dict.specs.Typed.{IsTypedCall, TypedAllows}
 use Rattle.dict.specs.TypedMaps.{typed_run}
-use Rattle.dict.specs.Words.{IsWord, told_of}
+use Rattle.dict.specs.Words.{IsWord, AsksForFew, map_call_of, told_of}
 use Rattle.dict.specs.declared.dict.DictRun.{DictRun}
+use Rattle.dict.specs.declared.request.Request.{Request}
+use Rattle.dict.specs.declared.request.Request.TheVariants as requests
 use Rattle.dict.specs.declared.reply.Reply.{Reply}
 use Rattle.dict.specs.declared.reply.Reply.TheVariants as replies
 use Rattle.forest.specs.declared.view.SeatView.{SeatView}
@@ -29,10 +33,11 @@ use Rattle.forest.specs.Dictionary.{IsToldOf, IsRefusalOf, HasSpentAtMost, blame
 use Rattle.forest.specs.Passes.{PassView, HasBlamed, HasGoneOn, run_of, taken_of}
 use Rattle.forest.specs.PassInvariant.{pass_view, IsPass}
 use Rattle.forest.specs.Shares.{IsBetweenCalls}
-use Rattle.forest.specs.Traces.{known_of, seat_steps}
+use Rattle.forest.specs.Traces.{CallBegins, HoldsForCall, Trace, known_of, seat_steps}
 use Rattle.forest.proofs.Blames.{blamed_later, blamed_on_tree}
-use Rattle.forest.proofs.Dictionary.{told_says, lost_says, full_says, nothing_says}
-use Rattle.forest.proofs.Entered.{HasEnded, left_with, ended_pass, ended_goes_on, rests_between}
+use Rattle.forest.proofs.Versions.{told_says, lost_says, full_says, nothing_says}
+use Rattle.forest.proofs.Calls.{course_keeps}
+use Rattle.forest.proofs.Entered.{HasEnded, ended, left_with, ended_pass, ended_goes_on, rests_between}
 use Rattle.forest.proofs.Passes.{call_of}
 
 -- Shares
@@ -59,11 +64,45 @@ module _ (lay : Layout) (c : ℕ) (h start : History) (a b : Remaining) (e : Ext
   pub share_scx : b.scx ≤ a.scx
   share_scx = let n = scx_go in let t = y.to_scx in let u = x.to_scx in omega (arith, n, t, u)
 
+-- a range that asks for few pairs is such a call
+pub few_of : {K V : Type 0} (key : K → ℕ) (value_word : V → ℕ) (request : Request K V) (call : MapCall) → call ≡ map_call_of key value_word request → AsksForFew request → IsFewCall call
+few_of key value_word (requests.Insert k v) call e few = subst IsFewCall (sym e) tt
+few_of key value_word (requests.Delete k) call e few = subst IsFewCall (sym e) tt
+few_of key value_word (requests.Get k) call e few = subst IsFewCall (sym e) tt
+few_of key value_word (requests.Successor k) call e few = subst IsFewCall (sym e) tt
+few_of key value_word (requests.Range low high most) call e few = subst IsFewCall (sym e) few
+
 -- What a call leaves
 
 module _ {K V : Type 0} (valid_key : K → Type 0) (key : K → ℕ) (valid_value : V → Type 0) (value_word : V → ℕ) where
   abbrev allows : Layout → History → ℕ → Type 0
   allows = TypedAllows (IsWord valid_key key) (IsWord valid_value value_word)
+
+  abbrev keys : ℕ → Type 0
+  keys = IsWord valid_key key
+
+  abbrev values : ℕ → Type 0
+  values = IsWord valid_value value_word
+
+  -- the second machine is of the same call as the first
+  abbrev pub IsSameCall : DictRun K V → DictRun K V → Type 0
+  IsSameCall old now = (call_in now.run ≡ call_in old.run) × (now.tries ≡ old.tries)
+
+  -- a call that has not begun may begin, with the pass's share
+  pub dict_starts : {T : Type 0} (p : Inside T) (x : IsPass allows Tree p) (m : DictRun K V) → IsTypedCall keys values (call_in m.run) → IsUnbegun m.run m.tries (taken_of (pass_view p)) → IsFewCall (call_in m.run) → share_of m.run ≡ p.share → CallBegins allows (DictIsReady keys values) (call_of p x (taken_of (pass_view p))) p.seat.me.0.passes m
+  dict_starts p x m typed unbegun few share = record {
+    known = known_of p.seat.me.0.passes;
+    is = x.seat;
+    sound = x.sound;
+    so = (refl, dict_begins keys values m (call_of p x (taken_of (pass_view p))) x.is_mode x.sound typed unbegun few (rw share rests));
+  }
+    where
+      rests : RestsWith (call_of p x (taken_of (pass_view p))) (call_of p x (taken_of (pass_view p))).start p.share
+      rests = record { share = x.rest.share; over = all_over p.layout _ p.number.0 p.share p.share.next_node p.share.next_scx x.rest.share x.rest.over }
+
+  -- so may the machine of a request
+  pub request_starts : {T : Type 0} (p : Inside T) (x : IsPass allows Tree p) (m : DictRun K V) (request : Request K V) (tries number : ℕ) → taken_of (pass_view p) ≡ number → call_in m.run ≡ map_call_of key value_word request → IsTypedCall keys values (call_in m.run) → m.tries ≡ tries → IsUnbegun m.run tries number → AsksForFew request → share_of m.run ≡ p.share → CallBegins allows (DictIsReady keys values) (call_of p x (taken_of (pass_view p))) p.seat.me.0.passes m
+  request_starts p x m request tries number named call typed same fresh few share = dict_starts p x m typed (rw (same, named) fresh) (few_of key value_word request (call_in m.run) call few) share
 
   module _ {T : Type 0} (p : Inside T) (x : IsPass allows Tree p) (s : Seat ℕ SeatView) (m : DictRun K V) (reply : Reply K V) where
     -- the number of the call
@@ -73,6 +112,13 @@ module _ {K V : Type 0} (valid_key : K → Type 0) (key : K → ℕ) (valid_valu
     -- its answer is right in the run that is known now
     abbrev pub Answered : History → Type 0
     Answered h = DictAnswers valid_key key valid_value value_word m (call_of p x called) h reply
+
+    -- how it has ended
+    pub dict_ended : (first : DictRun K V) → HoldsForCall allows s.me.0.passes (call_of p x called) (λ h. Answered h × Trace allows (DictWaits keys values) IsSameCall (call_of p x called) first m h) → HasEnded allows p s called Answered × IsSameCall first m
+    dict_ended first y = (
+      ended p x s called (DictWaits keys values) IsSameCall first m Answered y,
+      course_keeps (λ (k : DictRun K V). IsSameCall first k) (refl, refl) (λ old now e q. (e.0 ∙ q.0, e.1 ∙ q.1)) m _ y.so.1,
+    )
 
     -- the pass behind it
     abbrev pub behind : Inside T
@@ -95,7 +141,7 @@ module _ {K V : Type 0} (valid_key : K → Type 0) (key : K → ℕ) (valid_valu
           none : HasBlamed (pass_view (left_with p x s called Answered (share_of m.run) p.blamed))
           none = blamed_later (pass_view p) (pass_view (left_with p x s called Answered (share_of m.run) p.blamed)) refl refl refl y.sound.lawful y.since x.blamed
 
-          go : (r : Reply K V) → DictRefuses (call_of p x called) (run_of now) (call_in m.run) (share_of m.run) _ r → HasBlamed (pass_view (left_with p x s called Answered (share_of m.run) (blamed_by_reply r p.blamed)))
+          go : (r : Reply K V) → DictRefuses (call_of p x called) (run_of now) (call_in m.run) (share_of m.run) (tries_behind m.run) r → HasBlamed (pass_view (left_with p x s called Answered (share_of m.run) (blamed_by_reply r p.blamed)))
           go (replies.Value v) z = none
           go (replies.Pair v) z = none
           go (replies.Pairs v) z = none
@@ -133,10 +179,10 @@ module _ {K V : Type 0} (valid_key : K → Type 0) (key : K → ℕ) (valid_valu
       pub dict_refuses : IsRefusalOf (pass_view p) now (call_in m.run) reply
       dict_refuses = go reply y.answers.refuses
         where
-          go : (r : Reply K V) → DictRefuses (call_of p x called) (run_of now) (call_in m.run) (share_of m.run) _ r → IsRefusalOf (pass_view p) now (call_in m.run) r
+          go : (r : Reply K V) → DictRefuses (call_of p x called) (run_of now) (call_in m.run) (share_of m.run) (tries_behind m.run) r → IsRefusalOf (pass_view p) now (call_in m.run) r
           go (replies.Value v) z = tt
           go (replies.Pair v) z = tt
           go (replies.Pairs v) z = tt
           go (replies.Full f) z = full_says (pass_view p) x.is_pass called refl s.table_id (share_of m.run) (known_of s.me.0.passes) (blamed_by_reply reply p.blamed) tree y.since (call_in m.run) f z
           go replies.NoMemory z = (z.0, nothing_says (pass_view p) x.is_pass called refl s.table_id (share_of m.run) (known_of s.me.0.passes) (blamed_by_reply reply p.blamed) tree y.since z.1)
-          go (replies.Contended n u) z = lost_says (pass_view p) x.is_pass called refl s.table_id (share_of m.run) (known_of s.me.0.passes) (blamed_by_reply reply p.blamed) tree y.since _ n.0 u.0 z
+          go (replies.Contended n u) z = lost_says (pass_view p) x.is_pass called refl s.table_id (share_of m.run) (known_of s.me.0.passes) (blamed_by_reply reply p.blamed) tree y.since (tries_behind m.run) n.0 u.0 z

@@ -21,5 +21,5 @@ mod StraightLlx
 mod StraightHelp
 mod StraightScx
 mod StraightVlx
-mod Dictionary
+mod Versions
 mod DictCalls

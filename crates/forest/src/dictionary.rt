@@ -3,6 +3,8 @@ ghost use Rattle.std.specs.Prelude.{◌≡◌, ◌≤◌, ◌+◌, ◌*◌, ◌�
 ghost use Rattle.std.specs.Option.{option_map};
 ghost use Rattle.arena.specs.Limits.{IsAccepted, IsLayoutOf};
 ghost use Rattle.arena.specs.declared.limits.Mode.TheVariants.{Tree};
+ghost use Rattle.dict.specs.Forms.{MayReply, form_of};
+ghost use Rattle.dict.specs.Says.{KeepsLists};
 ghost use Rattle.dict.specs.Steps.{most_steps};
 ghost use Rattle.dict.specs.Typed.{TypedAllows};
 ghost use Rattle.dict.specs.Words.{AsksForFew, IsValidReply, IsWord, map_call_of, told_of};
@@ -28,18 +30,19 @@ impl<K: WordKey, V: WordValue> Forest<Dict<K, V>> {
         request: Request<K, V>,
     ) -> Reply<K, V>
         requires pass { IsOf self.now pass.old }
-        requires memory { TakesMemory request → IsSome alloc }
+        requires memory { KeepsLists (map_call_of K.word_of V.word_of request) → IsSome alloc }
         requires few { AsksForFew request }
         ensures pass { IsOf self.now pass.new }
         ensures goes_on { HasGoneOn (TypedAllows (IsWord K.is_valid K.word_of) (IsWord V.is_valid V.word_of)) pass.old pass.new (taken_of pass.old) (most_steps (map_call_of K.word_of V.word_of request) self.now.tries (shared_nodes self.now.layout)) (blamed_by_reply result pass.old.blamed) }
         ensures spends { HasSpentAtMost pass.old pass.new (map_call_of K.word_of V.word_of request) self.now.tries }
         ensures told { IsToldOf pass.old pass.new (map_call_of K.word_of V.word_of request) (told_of K.word_of V.word_of result) }
         ensures refused { IsRefusalOf pass.old pass.new (map_call_of K.word_of V.word_of request) result }
+        ensures form { MayReply (map_call_of K.word_of V.word_of request) (form_of result) }
         ensures valid { IsValidReply K.is_valid V.is_valid result }
     {
         let number = pass.taken();
         let share = replace(&mut pass.share, Share::of(&self.layout, pass.number));
-        let run = DictRun::ask(alloc, request, share, self.tries, number);
+        let run = DictRun::new(alloc, request, share, self.tries, number);
         let (run, reply) = whole(&self.words, &self.layout, &mut pass.seat, number, run);
         pass.share = run.into_share();
         pass.blamed.note_reply(&reply);
