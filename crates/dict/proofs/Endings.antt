@@ -65,10 +65,13 @@ module _ (c : Call) (h : History) where
   insert_says m (Done found) run small number (inl x) = absurd (something found.value x.needless)
   insert_says m (Done found) run small number (inr x) = (record { edit = PutEdit m.edit.key m.edit.value; is_edit = refl; old = found.value; tells = refl; made = subst (λ n. HasMade (PutEdit m.edit.key m.edit.value) c h n found.value) number x.0 }, tt)
   insert_says m (Contended node scx) run small number x = (tt, record { way = x.0; over = x.1; none = x.2 })
-  insert_says m (Full full) run small number x = (tt, ran_out c h (Edit (PutEdit m.edit.key m.edit.value)) m.edit.key x.found (insert_need x.found.value) m.share full
-      (leaf_read c h m.edit.key x.found small run x.has_found x.none)
-      (λ map e. insert_many x.found.value ∙ ap insert_nodes (sym e))
-      (insert_some x.found.value) x.short)
+  insert_says m (Full full) run small number x = (
+    tt,
+    ran_out c h (Edit (PutEdit m.edit.key m.edit.value)) m.edit.key x.found (insert_need x.found.value) m.share full
+        (leaf_read c h m.edit.key x.found small run x.has_found x.none)
+        (λ map e. insert_many x.found.value ∙ ap insert_nodes (sym e))
+        (insert_some x.found.value) x.short,
+  )
 
   -- a delete that is done has changed it, or has found no value
   delete_done : (m : UpdateRun Deleted) (found : Found) (old : Option ℕ) → found.value ≡ old → IsTreeRun c.layout h → m.edit.key < 2 ^ 64 → m.call ≡ c.number → UpdateSays delete_means m c h (Done found) → WordSays c h (Edit (TakeEdit m.edit.key)) m.share m.tries (words.Value old)
@@ -84,10 +87,13 @@ module _ (c : Call) (h : History) where
   pub delete_says : (m : UpdateRun Deleted) (a : Updated) → IsTreeRun c.layout h → m.edit.key < 2 ^ 64 → m.call ≡ c.number → UpdateSays delete_means m c h a → WordSays c h (Edit (TakeEdit m.edit.key)) m.share m.tries (update_reply a)
   delete_says m (Done found) run small number x = delete_done m found found.value refl run small number x
   delete_says m (Contended node scx) run small number x = (tt, record { way = x.0; over = x.1; none = x.2 })
-  delete_says m (Full full) run small number x = (tt, ran_out c h (Edit (TakeEdit m.edit.key)) m.edit.key x.found (delete_need x.found.value) m.share full
-      (leaf_read c h m.edit.key x.found small run x.has_found x.none)
-      (λ map e. delete_many x.found.value ∙ ap delete_nodes (sym e))
-      (delete_some x.found.value x.needed) x.short)
+  delete_says m (Full full) run small number x = (
+    tt,
+    ran_out c h (Edit (TakeEdit m.edit.key)) m.edit.key x.found (delete_need x.found.value) m.share full
+        (leaf_read c h m.edit.key x.found small run x.has_found x.none)
+        (λ map e. delete_many x.found.value ∙ ap delete_nodes (sym e))
+        (delete_some x.found.value x.needed) x.short,
+  )
 
   -- a get has read what it tells
   pub get_says : (m : GetRun) (share : Remaining) (a : Option ℕ) → Rests c h share → GetAnswers m c h a → WordSays c h (call_in (runs.Get m share)) share 0 (words.Value a)
