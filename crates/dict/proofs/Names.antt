@@ -1,5 +1,5 @@
 -- The words of texts are names'.
-use Rattle.std.proofs.Common.{◌≡◌, ℕ, zero, suc, ◌+◌, ◌-◌, ◌<◌, ◌≤◌, ◌^◌, ◌==◌, Bool, true, false, cond, ◌&&◌, List, [], ◌∷◌, ◌++◌, length, get_or, refl, sym, ap, ◌∙◌, arith, w64}
+use Rattle.std.proofs.Common.{◌≡◌, ℕ, zero, suc, ◌+◌, ◌-◌, ◌<◌, ◌≤◌, ◌^◌, ◌==◌, Bool, true, false, cond, ◌&&◌, List, [], ◌∷◌, ◌++◌, length, get_or, drop, refl, sym, ap, ◌∙◌, arith, w64}
 use Rattle.std.specs.List.{list_all, repeat}
 use Rattle.std.specs.Char.{is_ascii_graphic}
 use Rattle.std.specs.Int.{from_be_bytes, to_be_bytes}
@@ -48,6 +48,16 @@ bytes_there : (bs : List ℕ) (n : ℕ) → ((i : ℕ) → get_or bs i 0 < 256) 
 bytes_there [] n h i = let e = zero_there n i in omega arith
 bytes_there (b ∷ bs) n h zero = h zero
 bytes_there (b ∷ bs) n h (suc i) = bytes_there bs n (λ j. h (suc j)) i
+
+zeros_left : (n k : ℕ) → drop {A = ℕ} k (repeat n (0 ∷ [])) ≡ repeat (n - k) (0 ∷ [])
+zeros_left zero zero = refl
+zeros_left zero (suc k) = let e : 0 - suc k ≡ 0 = omega arith in rw e refl
+zeros_left (suc n) zero = let e : suc n - 0 ≡ suc n = omega arith in rw e refl
+zeros_left (suc n) (suc k) = let e : suc n - suc k ≡ n - k = omega arith in rw e (zeros_left n k)
+
+-- what is copied over zeros, and the zeros that are left
+pub copied_over : (text letters front : List ℕ) → front ≡ letters → letters ≡ text → front ++ drop (length letters) (0 ∷ 0 ∷ 0 ∷ 0 ∷ 0 ∷ 0 ∷ 0 ∷ 0 ∷ []) ≡ filled text
+copied_over text letters front e f = rw e (rw f (ap (λ zs. text ++ zs) (zeros_left 8 (length text))))
 
 -- these bytes are those of their number
 own_bytes : (bs : List ℕ) (w : ℕ) → length bs ≤ 8 → ((i : ℕ) → get_or bs i 0 < 256) → w ≡ from_be_bytes w64 (filled bs) → to_be_bytes w64 w ≡ filled bs
