@@ -1,5 +1,5 @@
 -- What the answers of the machines inside say of the call, in words.
-use Rattle.std.proofs.Common.{◌≡◌, ◌≢◌, ◌⊎◌, ℕ, ◌^◌, ◌<◌, ◌≤◌, ◌+◌, ◌*◌, inl, inr, ⊎_elim, List, Option, Some, None, Result, Ok, Err, Vec, refl, sym, ◌∙◌, ap, subst, arith}
+use Rattle.std.proofs.Common.{◌≡◌, ◌≢◌, ℕ, ◌^◌, ◌<◌, ◌≤◌, ◌+◌, ◌*◌, inl, inr, ⊎_elim, Option, Some, None, Result, Ok, Err, Vec, refl, sym, ◌∙◌, ap, subst, arith}
 use Rattle.std.specs.Global.{Global}
 use Rattle.arena.specs.History.{History}
 use Rattle.arena.specs.Machines.{Call}
@@ -10,7 +10,7 @@ use Rattle.order.specs.declared.range.RangeRun.{RangeRun}
 use Rattle.order.specs.declared.refused.Refused.{Refused}
 use Rattle.order.specs.declared.refused.Refused.TheVariants as refused
 use Rattle.order.specs.declared.successor.SuccessorRun.{SuccessorRun}
-use Rattle.spelling.specs.OrderedMap.{MapCall, Edit, Successor as SuccessorOf, Range as RangeOf, Insert as PutEdit, Delete as TakeEdit, OneValue, ManyPairs, get, pair_or_none}
+use Rattle.spelling.specs.OrderedMap.{MapCall, Edit, Successor as SuccessorOf, Range as RangeOf, Insert as PutEdit, Delete as TakeEdit, OneValue, ManyPairs, pair_or_none}
 use Rattle.spelling.specs.Runs.{IsTreeRun}
 use Rattle.spelling.specs.declared.pair.Pair.{Pair}
 use Rattle.template.specs.declared.walk.Found.{Found}
@@ -28,11 +28,10 @@ use Rattle.updates.specs.declared.edit.Need.TheVariants.{Nothing, One}
 use Rattle.updates.specs.declared.update.UpdateRun.{UpdateRun}
 use Rattle.updates.specs.declared.update.Updated.{Updated}
 use Rattle.updates.specs.declared.update.Updated.TheVariants.{Done, Contended, Full}
-use Rattle.dict.specs.Calls.{call_in, share_of, tries_behind, need, insert_nodes, delete_nodes, HasSpent}
-use Rattle.dict.specs.Known.{Rests, Goes, HasSpentSo, MapAnswers}
-use Rattle.dict.specs.Says.{WordSays, HasRead, HasChanged}
+use Rattle.dict.specs.Calls.{call_in, insert_nodes, delete_nodes, HasSpent}
+use Rattle.dict.specs.Known.{Rests, HasSpentSo}
+use Rattle.dict.specs.Says.{WordSays, HasRead}
 use Rattle.dict.specs.WordReplies.{update_reply, successor_reply, range_reply}
-use Rattle.dict.specs.declared.run.MapRun.{MapRun}
 use Rattle.dict.specs.declared.run.MapRun.TheVariants as runs
 use Rattle.dict.specs.declared.told.WordReply.TheVariants as words
 use Rattle.dict.proofs.Readings.{none_entered, answer_read, reply_read, always_read, way_of_read, leaf_read, ran_out}

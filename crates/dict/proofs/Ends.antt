@@ -1,5 +1,5 @@
 -- What the machine of a call has answered is right, where the machine inside has answered.
-use Rattle.std.proofs.Common.{◌≡◌, ℕ, ◌^◌, ◌<◌, List, Option, Result, Vec, refl, sym, ◌∙◌, ap, subst, arith}
+use Rattle.std.proofs.Common.{◌≡◌, ℕ, ◌^◌, ◌<◌, Option, Result, Vec, ◌∙◌}
 use Rattle.std.specs.Global.{Global}
 use Rattle.arena.specs.History.{History}
 use Rattle.arena.specs.Machines.{Call, IsRun}
@@ -9,7 +9,7 @@ use Rattle.order.specs.Successor.Known.{SuccessorAnswers}
 use Rattle.order.specs.declared.range.RangeRun.{RangeRun}
 use Rattle.order.specs.declared.refused.Refused.{Refused}
 use Rattle.order.specs.declared.successor.SuccessorRun.{SuccessorRun}
-use Rattle.spelling.specs.OrderedMap.{Edit, Get as GetOf, Successor as SuccessorOf, Range as RangeOf, Insert as PutEdit, Delete as TakeEdit}
+use Rattle.spelling.specs.OrderedMap.{Get as GetOf, Successor as SuccessorOf, Range as RangeOf}
 use Rattle.spelling.specs.TreeShape.{TreeAllows}
 use Rattle.spelling.specs.declared.pair.Pair.{Pair}
 use Rattle.tree.specs.Delete.Means.{delete_means}

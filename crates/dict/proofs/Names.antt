@@ -1,11 +1,11 @@
 -- The words of texts are names'.
-use Rattle.std.proofs.Common.{◌≡◌, ℕ, zero, suc, ◌+◌, ◌-◌, ◌<◌, ◌≤◌, ◌^◌, ◌==◌, Bool, true, false, cond, ◌&&◌, List, [], ◌∷◌, ◌++◌, length, get_or, drop, refl, sym, ap, ◌∙◌, arith, w64}
+use Rattle.std.proofs.Common.{◌≡◌, ℕ, zero, suc, ◌+◌, ◌-◌, ◌<◌, ◌≤◌, ◌==◌, Bool, true, false, cond, ◌&&◌, List, [], ◌∷◌, ◌++◌, length, get_or, drop, refl, ap, ◌∙◌, arith, w64}
 use Rattle.std.specs.List.{list_all, repeat}
 use Rattle.std.specs.Char.{is_ascii_graphic}
 use Rattle.std.specs.Int.{from_be_bytes, to_be_bytes}
 use Rattle.std.proofs.lemmas.Bool.Decides.{nat_tests}
 use Rattle.std.proofs.lemmas.Nat.{be_bytes_8}
-use Rattle.dict.specs.Names.{IsName, filled, is_padded, is_name_word, name_word}
+use Rattle.dict.specs.Names.{filled, is_padded, is_name_word, name_word}
 
 zeros_are_zeros : (n : ℕ) → list_all (λ c. c == 0) (repeat n (0 ∷ [])) ≡ true
 zeros_are_zeros zero = refl

@@ -1,5 +1,5 @@
 -- Signed keys by their words.
-use Rattle.std.specs.Prelude.{◌≡◌, ℕ, ℤ, pos, negsuc, ◌<ℤ◌, ◌+◌, ◌-◌, ◌<◌, ◌^◌, refl}
+use Rattle.std.specs.Prelude.{◌≡◌, ℕ, ℤ, pos, negsuc, ◌<ℤ◌, ◌+◌, ◌-◌, ◌<◌, ◌^◌}
 use Rattle.std.specs.Ordering.{int_cmp, nat_cmp, MatchOrdering}
 use Rattle.std.specs.declared.cmp.Ordering.{Ordering}
 use Rattle.std.specs.declared.cmp.Ordering.TheVariants.{Less, Equal, Greater}

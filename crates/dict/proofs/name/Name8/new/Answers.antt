@@ -1,4 +1,4 @@
-use Rattle.std.proofs.Common.{◌≡◌, ◌∙◌, ap, sym, rules, w64}
+use Rattle.std.proofs.Common.{◌∙◌, ap, rules, w64}
 use Rattle.std.specs.Int.{from_be_bytes}
 use Rattle.dict.proofs.Names.{copied_over, word_is, word_spells}
 use Rattle.dict.proofs.name.Name8.new.Goals as goal
