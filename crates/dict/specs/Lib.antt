@@ -15,3 +15,4 @@ pub mod Translated
 pub mod DictKnown
 pub mod DictLaws
 pub mod Begins
+pub mod OneShare
