@@ -1,12 +1,12 @@
 -- What the machine of a call of a dictionary has answered is right, where its reply is that of the map
 -- in words.
-use Rattle.std.proofs.Common.{◌≡◌, ℕ, List, [], ◌∷◌, Bool, true, false, cond, eqb, ltb, leb, ◌&&◌, zero, suc, take, Option, Some, None, inl, inr, refl, sym, ◌∙◌, ap, subst}
+use Rattle.std.proofs.Common.{◌≡◌, ℕ, List, [], ◌∷◌, Bool, true, false, cond, eqb, ltb, leb, ◌&&◌, zero, suc, take, Option, Some, None, inl, inr, sym, subst}
 use Rattle.arena.specs.declared.limits.Mode.TheVariants.{Tree as TreeMode}
 use Rattle.arena.specs.History.{History, ◌⊳◌, value, Extends}
 use Rattle.arena.specs.Machines.{Call, IsRun}
 use Rattle.arena.specs.Share.{Remaining}
 use Rattle.arena.proofs.Lemmas.{ends_self, ends_trans}
-use Rattle.spelling.specs.OrderedMap.{MapEdit, edit_key, MapCall, Edit, Get, Successor, Range, Insert, Delete, MapReply, OneValue, OnePair, ManyPairs, changes, get, pair_or_none, reply, successor, between}
+use Rattle.spelling.specs.OrderedMap.{edit_key, MapCall, Edit, Get, Successor, Range, Insert, Delete, MapReply, OneValue, ManyPairs, changes, get, pair_or_none, reply, successor, between}
 use Rattle.spelling.specs.Spelled.{Spells}
 use Rattle.spelling.specs.declared.pair.Pair.{Pair}
 use Rattle.spelling.proofs.Lemmas.{run_spells}

@@ -1,5 +1,5 @@
 -- What the answers of the machines inside say of the call, in words.
-use Rattle.std.proofs.Common.{◌≡◌, ◌≢◌, ◌⊎◌, ℕ, ◌^◌, ◌<◌, ◌≤◌, ◌+◌, ◌*◌, inl, inr, ⊎_elim, List, Option, Some, None, Result, Ok, Err, Vec, refl, sym, ◌∙◌, ap, subst, arith}
+use Rattle.std.proofs.Common.{◌≡◌, ◌≢◌, ℕ, ◌^◌, ◌<◌, ◌≤◌, ◌+◌, ◌*◌, inl, inr, ⊎_elim, Option, Some, None, Result, Ok, Err, Vec, refl, sym, ◌∙◌, ap, subst, arith}
 use Rattle.std.specs.Global.{Global}
 use Rattle.arena.specs.History.{History}
 use Rattle.arena.specs.Machines.{Call}
@@ -10,7 +10,7 @@ use Rattle.order.specs.declared.range.RangeRun.{RangeRun}
 use Rattle.order.specs.declared.refused.Refused.{Refused}
 use Rattle.order.specs.declared.refused.Refused.TheVariants as refused
 use Rattle.order.specs.declared.successor.SuccessorRun.{SuccessorRun}
-use Rattle.spelling.specs.OrderedMap.{MapCall, Edit, Successor as SuccessorOf, Range as RangeOf, Insert as PutEdit, Delete as TakeEdit, OneValue, ManyPairs, get, pair_or_none}
+use Rattle.spelling.specs.OrderedMap.{MapCall, Edit, Successor as SuccessorOf, Range as RangeOf, Insert as PutEdit, Delete as TakeEdit, OneValue, ManyPairs, pair_or_none}
 use Rattle.spelling.specs.Runs.{IsTreeRun}
 use Rattle.spelling.specs.declared.pair.Pair.{Pair}
 use Rattle.template.specs.declared.walk.Found.{Found}
@@ -28,11 +28,10 @@ use Rattle.updates.specs.declared.edit.Need.TheVariants.{Nothing, One}
 use Rattle.updates.specs.declared.update.UpdateRun.{UpdateRun}
 use Rattle.updates.specs.declared.update.Updated.{Updated}
 use Rattle.updates.specs.declared.update.Updated.TheVariants.{Done, Contended, Full}
-use Rattle.dict.specs.Calls.{call_in, share_of, tries_behind, need, insert_nodes, delete_nodes, HasSpent}
-use Rattle.dict.specs.Known.{Rests, Goes, HasSpentSo, MapAnswers}
-use Rattle.dict.specs.Says.{WordSays, HasRead, HasChanged}
+use Rattle.dict.specs.Calls.{call_in, insert_nodes, delete_nodes, HasSpent}
+use Rattle.dict.specs.Known.{Rests, HasSpentSo}
+use Rattle.dict.specs.Says.{WordSays, HasRead}
 use Rattle.dict.specs.WordReplies.{update_reply, successor_reply, range_reply}
-use Rattle.dict.specs.declared.run.MapRun.{MapRun}
 use Rattle.dict.specs.declared.run.MapRun.TheVariants as runs
 use Rattle.dict.specs.declared.told.WordReply.TheVariants as words
 use Rattle.dict.proofs.Readings.{none_entered, answer_read, reply_read, always_read, way_of_read, leaf_read, ran_out}
@@ -65,10 +64,13 @@ module _ (c : Call) (h : History) where
   insert_says m (Done found) run small number (inl x) = absurd (something found.value x.needless)
   insert_says m (Done found) run small number (inr x) = (record { edit = PutEdit m.edit.key m.edit.value; is_edit = refl; old = found.value; tells = refl; made = subst (λ n. HasMade (PutEdit m.edit.key m.edit.value) c h n found.value) number x.0 }, tt)
   insert_says m (Contended node scx) run small number x = (tt, record { way = x.0; over = x.1; none = x.2 })
-  insert_says m (Full full) run small number x = (tt, ran_out c h (Edit (PutEdit m.edit.key m.edit.value)) m.edit.key x.found (insert_need x.found.value) m.share full
-      (leaf_read c h m.edit.key x.found small run x.has_found x.none)
-      (λ map e. insert_many x.found.value ∙ ap insert_nodes (sym e))
-      (insert_some x.found.value) x.short)
+  insert_says m (Full full) run small number x = (
+    tt,
+    ran_out c h (Edit (PutEdit m.edit.key m.edit.value)) m.edit.key x.found (insert_need x.found.value) m.share full
+        (leaf_read c h m.edit.key x.found small run x.has_found x.none)
+        (λ map e. insert_many x.found.value ∙ ap insert_nodes (sym e))
+        (insert_some x.found.value) x.short,
+  )
 
   -- a delete that is done has changed it, or has found no value
   delete_done : (m : UpdateRun Deleted) (found : Found) (old : Option ℕ) → found.value ≡ old → IsTreeRun c.layout h → m.edit.key < 2 ^ 64 → m.call ≡ c.number → UpdateSays delete_means m c h (Done found) → WordSays c h (Edit (TakeEdit m.edit.key)) m.share m.tries (words.Value old)
@@ -84,10 +86,13 @@ module _ (c : Call) (h : History) where
   pub delete_says : (m : UpdateRun Deleted) (a : Updated) → IsTreeRun c.layout h → m.edit.key < 2 ^ 64 → m.call ≡ c.number → UpdateSays delete_means m c h a → WordSays c h (Edit (TakeEdit m.edit.key)) m.share m.tries (update_reply a)
   delete_says m (Done found) run small number x = delete_done m found found.value refl run small number x
   delete_says m (Contended node scx) run small number x = (tt, record { way = x.0; over = x.1; none = x.2 })
-  delete_says m (Full full) run small number x = (tt, ran_out c h (Edit (TakeEdit m.edit.key)) m.edit.key x.found (delete_need x.found.value) m.share full
-      (leaf_read c h m.edit.key x.found small run x.has_found x.none)
-      (λ map e. delete_many x.found.value ∙ ap delete_nodes (sym e))
-      (delete_some x.found.value x.needed) x.short)
+  delete_says m (Full full) run small number x = (
+    tt,
+    ran_out c h (Edit (TakeEdit m.edit.key)) m.edit.key x.found (delete_need x.found.value) m.share full
+        (leaf_read c h m.edit.key x.found small run x.has_found x.none)
+        (λ map e. delete_many x.found.value ∙ ap delete_nodes (sym e))
+        (delete_some x.found.value x.needed) x.short,
+  )
 
   -- a get has read what it tells
   pub get_says : (m : GetRun) (share : Remaining) (a : Option ℕ) → Rests c h share → GetAnswers m c h a → WordSays c h (call_in (runs.Get m share)) share 0 (words.Value a)

@@ -1,6 +1,6 @@
 -- What a reply of the map comes from: the moment of a read, the leaf that an edit has found, the
 -- edit that it has made.
-use Rattle.std.proofs.Common.{◌≡◌, ◌≢◌, ℕ, ◌^◌, ◌<◌, ◌≤◌, inl, inr, ⊎_elim, List, Option, Some, None, Ok, Err, refl, sym, ◌∙◌, ap, subst, arith}
+use Rattle.std.proofs.Common.{◌≡◌, ℕ, ◌^◌, ◌<◌, List, Option, None, sym, ap, subst}
 use Rattle.arena.specs.declared.fault.Full.{Full as FullOf}
 use Rattle.arena.specs.declared.fault.Resource.{Resource}
 use Rattle.arena.specs.declared.fault.Resource.TheVariants.{Nodes, Scx as ScxRecords}
@@ -8,12 +8,8 @@ use Rattle.arena.specs.History.{History, value, Extends}
 use Rattle.arena.specs.Machines.{Call}
 use Rattle.arena.specs.Share.{Remaining}
 use Rattle.arena.proofs.Lemmas.{ends_self, ends_trans}
-use Rattle.order.specs.Range.Known.{RangeAnswers, RangeReplies}
 use Rattle.order.specs.Replies.{IsReplyAt, IsContended as IsReadContended}
-use Rattle.order.specs.Successor.Known.{SuccessorAnswers}
-use Rattle.order.specs.declared.range.RangeRun.{RangeRun}
-use Rattle.order.specs.declared.successor.SuccessorRun.{SuccessorRun}
-use Rattle.spelling.specs.OrderedMap.{MapCall, Edit, Get, Successor as SuccessorOf, Range as RangeOf, Insert as PutEdit, Delete as TakeEdit, MapReply, OneValue, ManyPairs, get, pair_or_none, reply}
+use Rattle.spelling.specs.OrderedMap.{MapCall, Get, MapReply, OneValue, get, reply}
 use Rattle.spelling.specs.Paths.{IsAnswerAt}
 use Rattle.spelling.specs.Runs.{IsTreeRun}
 use Rattle.spelling.specs.Spelled.{Spells}
@@ -23,8 +19,6 @@ use Rattle.template.specs.FoundLeaf.{HasFoundLeaf}
 use Rattle.template.specs.Trails.{IsOwnMoment}
 use Rattle.template.specs.declared.walk.Found.{Found}
 use Rattle.template.proofs.Lemmas.{own_since}
-use Rattle.tree.specs.Get.Known.{GetAnswers}
-use Rattle.tree.specs.declared.get.GetRun.{GetRun}
 use Rattle.updates.specs.Blame.{IsContended}
 use Rattle.updates.specs.Known.{IsShort}
 use Rattle.updates.specs.Laws.Entered.{none_quiet}

@@ -1,7 +1,7 @@
 -- When the machine of a call of a dictionary may go on, what it waits for, and what its answer says.
-use Rattle.std.specs.Prelude.{◌≡◌, ℕ, ◌-◌, ◌<◌, ◌≤◌, ◌^◌, Option, Some, None, []}
+use Rattle.std.specs.Prelude.{ℕ, Option}
 use Rattle.arena.specs.declared.step.Step.{Step}
-use Rattle.arena.specs.History.{History, Extends}
+use Rattle.arena.specs.History.{History}
 use Rattle.arena.specs.Machines.{Call}
 use Rattle.arena.specs.Share.{Remaining}
 use Rattle.spelling.specs.OrderedMap.{MapCall}
@@ -12,7 +12,7 @@ use Rattle.dict.specs.Forms.{MayReply, form_of}
 use Rattle.dict.specs.Known.{MapIsReady, MapWaits}
 use Rattle.dict.specs.Says.{HasLost, HasRunOut, KeepsLists, Tells}
 use Rattle.dict.specs.Typed.{IsTypedCall}
-use Rattle.dict.specs.Words.{IsWord, IsValidReply, told_of}
+use Rattle.dict.specs.Words.{IsValidReply, told_of}
 use Rattle.dict.specs.declared.dict.DictRun.{DictRun}
 use Rattle.dict.specs.declared.reply.Reply.{Reply}
 use Rattle.dict.specs.declared.reply.Reply.TheVariants.{Contended, Full, NoMemory}

@@ -1,6 +1,6 @@
 -- The laws of the machine of a call of a dictionary: rows of others leave it waiting, its steps are
 -- lawful and begin edits of typed words alone, and what it is told is so.
-use Rattle.std.proofs.Common.{◌≡◌, ◌≢◌, ℕ, ◌≤◌, length, Option, Some, None}
+use Rattle.std.proofs.Common.{◌≢◌, ℕ, ◌≤◌, length, Option, Some}
 use Rattle.arena.specs.declared.step.Kind.TheVariants.{Fill}
 use Rattle.arena.specs.declared.step.Row.{Row}
 use Rattle.arena.specs.declared.step.Step.{Step}

@@ -16,3 +16,4 @@ pub mod Translated
 pub mod DictKnown
 pub mod DictLaws
 pub mod Begins
+pub mod OneShare

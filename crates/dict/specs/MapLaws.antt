@@ -1,6 +1,6 @@
 -- The machine of a call of the map: rows of others leave it waiting, its steps are lawful, and what
 -- it is told is so, as of the machine inside.
-use Rattle.std.proofs.Common.{◌≡◌, ◌≢◌, ℕ, ◌≤◌, length, inr, Option, Some, None}
+use Rattle.std.proofs.Common.{◌≢◌, ℕ, ◌≤◌, length, inr, Option, Some}
 use Rattle.arena.specs.declared.step.Kind.TheVariants.{Fill}
 use Rattle.arena.specs.declared.step.Row.{Row}
 use Rattle.arena.specs.declared.step.Step.{Step}
@@ -18,7 +18,7 @@ use Rattle.tree.proofs.Lemmas.{get_fills_not}
 use Rattle.updates.specs.Known.{RestsWith}
 use Rattle.updates.specs.Laws.Kept.{quiet_rests, rests_by_others, rests_by_step}
 use Rattle.updates.specs.Laws.Update.{update_keeps, update_lawful, update_made, update_told}
-use Rattle.dict.specs.Known.{Rests, Goes, IsReadyInside, WaitsInside, MapIsReady, MapWaits}
+use Rattle.dict.specs.Known.{Rests, IsReadyInside, WaitsInside, MapIsReady, MapWaits}
 use Rattle.dict.specs.Steps.{MapFits}
 use Rattle.dict.specs.declared.run.MapRun.{MapRun}
 use Rattle.dict.specs.declared.run.MapRun.TheVariants.{Insert, Delete, Get, Successor, Range}

@@ -6,7 +6,7 @@ use Rattle.arena.specs.declared.fault.Resource.TheVariants.{Nodes, Scx as ScxRec
 use Rattle.arena.specs.History.{History, value, Extends}
 use Rattle.arena.specs.Machines.{Call}
 use Rattle.arena.specs.Share.{Remaining}
-use Rattle.spelling.specs.OrderedMap.{MapEdit, MapCall, Edit, Get, Successor, Range, MapReply, OneValue, reply, changes}
+use Rattle.spelling.specs.OrderedMap.{MapEdit, MapCall, Edit, Successor, Range, MapReply, OneValue, reply, changes}
 use Rattle.spelling.specs.Spelled.{Spells}
 use Rattle.spelling.specs.declared.pair.Pair.{Pair}
 use Rattle.updates.specs.Blame.{IsContended}

@@ -9,6 +9,8 @@ use Rattle.spelling.specs.Spelled.{Spells}
 use Rattle.spelling.specs.TreeShape.{MayEdit}
 use Rattle.spelling.specs.declared.pair.Pair.{Pair}
 
+-- `keys` and `values` say of a word whether it is one of a key, or of a value.
+
 -- an edit with such a key, and such a value
 abbrev pub IsTypedEdit : (ℕ → Type 0) → (ℕ → Type 0) → MapEdit → Type 0
 IsTypedEdit keys values (Insert k v) = keys k × values v

@@ -1,6 +1,6 @@
 -- Every run in which edits of typed words alone begin is one of the tree, and its words spell a map of
 -- such words.
-use Rattle.std.proofs.Common.{◌≡◌, ℕ, List, [], ◌∷◌, Option, Some, None, Bool, true, false, cond, eqb, ltb, inl, inr, refl, sym, ◌∙◌, ap, subst}
+use Rattle.std.proofs.Common.{◌≡◌, ℕ, List, [], ◌∷◌, Bool, true, false, cond, eqb, ltb, inl, inr, refl, sym, subst}
 use Rattle.arena.specs.declared.layout.Layout.{Layout}
 use Rattle.arena.specs.declared.limits.Mode.TheVariants.{Tree as TreeMode}
 use Rattle.arena.specs.declared.step.Row.{Row}
@@ -8,7 +8,7 @@ use Rattle.arena.specs.History.{History, Start, ◌⊳◌, value, Extends}
 use Rattle.arena.specs.Lawful.{Lawful}
 use Rattle.arena.specs.Log.{Entry, log, IsEntered}
 use Rattle.arena.specs.Machines.{IsRun}
-use Rattle.arena.specs.Shape.{Shaped, IsBegin}
+use Rattle.arena.specs.Shape.{Shaped}
 use Rattle.arena.proofs.Lemmas.{ends_self, run_as}
 use Rattle.histories.proofs.Lemmas.{lawful_since, shaped_begin, shaped_since}
 use Rattle.spelling.specs.OrderedMap.{MapEdit, Insert, Delete, insert, delete, edited, pair}

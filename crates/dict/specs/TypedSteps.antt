@@ -1,6 +1,6 @@
 -- A row keeps a run one of a typed dictionary, if what it begins makes an edit of such words; a pass
 -- whose SCX-records are all finished begins none.
-use Rattle.std.proofs.Common.{◌≡◌, ◌≢◌, ℕ, inl, inr, refl, sym, ◌∙◌, ap, subst, arith}
+use Rattle.std.proofs.Common.{◌≡◌, ◌≢◌, ℕ, inl, refl, sym, ◌∙◌, ap, subst, arith}
 use Rattle.arena.specs.declared.layout.Layout.{Layout}
 use Rattle.arena.specs.declared.step.Access.{Access}
 use Rattle.arena.specs.declared.step.Access.TheVariants.{Load as LoadAccess, Store, Exchange}
@@ -10,7 +10,6 @@ use Rattle.arena.specs.declared.step.Row.{Row}
 use Rattle.arena.specs.declared.step.Step.{Step}
 use Rattle.arena.specs.declared.word.ScxWord.TheVariants.{State}
 use Rattle.arena.specs.Blame.{IsInProgress}
-use Rattle.arena.specs.Fills.{IsOwnScx}
 use Rattle.arena.specs.History.{History, ◌⊳◌, value}
 use Rattle.arena.specs.Lawful.{Lawful}
 use Rattle.arena.specs.Machines.{Call, IsRun, IsTold, row_of}

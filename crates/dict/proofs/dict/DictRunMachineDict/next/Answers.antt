@@ -1,4 +1,4 @@
-use Rattle.std.proofs.Common.{◌≡◌, sym, subst}
+use Rattle.std.proofs.Common.{sym, subst}
 use Rattle.dict.specs.Typed.{IsTypedCall}
 use Rattle.dict.specs.TypedMaps.{typed_run}
 use Rattle.dict.specs.Words.{IsWord}

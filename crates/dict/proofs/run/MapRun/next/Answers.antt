@@ -1,5 +1,4 @@
-use Rattle.std.proofs.Common.{◌≡◌}
-use Rattle.dict.specs.Known.{MapIsReady, MapAnswers}
+use Rattle.dict.specs.Known.{MapIsReady}
 use Rattle.dict.specs.declared.run.MapRun.TheVariants.{Insert, Delete, Get, Successor, Range}
 use Rattle.dict.proofs.Ends.{insert_ends, delete_ends, get_ends, successor_ends, range_ends}
 use Rattle.dict.proofs.run.MapRun.next.Goals as goal
