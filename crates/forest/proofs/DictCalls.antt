@@ -165,7 +165,12 @@ module _ {K V : Type 0} (valid_key : K → Type 0) (key : K → ℕ) (valid_valu
           let scx = share_scx p.layout p.number.0 (run_of (pass_view p)) (run_of (pass_view p)) z.left p.share (ends_self (run_of (pass_view p))) z.first.share x.rest.share in
           let a = z.nodes in
           let b = z.scx in
-          record { nodes = omega (arith, nodes, a); scx = omega (arith, scx, b) }
+          record {
+            nodes = omega (arith, nodes, a);
+            scx = omega (arith, scx, b);
+            gone_nodes = share_nodes p.layout p.number.0 (run_of now) (run_of (pass_view p)) p.share (share_of m.run) y.since x.rest.share rest.share;
+            gone_scx = share_scx p.layout p.number.0 (run_of now) (run_of (pass_view p)) p.share (share_of m.run) y.since x.rest.share rest.share;
+          }
 
       -- what it tells
       pub dict_tells : IsToldOf (pass_view p) now (call_in m.run) (told_of key value_word reply)

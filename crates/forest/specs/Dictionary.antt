@@ -1,5 +1,7 @@
 -- What the calls of a dictionary say of the pass that makes them.
-use Rattle.std.specs.Prelude.{◌≡◌, ℕ, ◌+◌, ◌*◌, ◌<◌, ◌≤◌, Bool, true, false, List, [], ◌∷◌, Option, Some, None}
+use Rattle.std.specs.Prelude.{◌≡◌, ℕ, ◌+◌, ◌*◌, ◌<◌, ◌≤◌, Bool, true, false, List, [], ◌∷◌, Option, Some, None, Result, Ok, Err, Vec, map}
+use Rattle.std.specs.Global.{Global}
+use Rattle.std.specs.Option.{option_map}
 use Rattle.arena.specs.declared.fault.Full.{Full as FullOf}
 use Rattle.arena.specs.declared.step.Row.{Row}
 use Rattle.arena.specs.Blame.{WasInTheWay}
@@ -8,14 +10,20 @@ use Rattle.arena.specs.History.{History, ◌⊳◌, value, Extends}
 use Rattle.arena.specs.Log.{Entry, log}
 use Rattle.spelling.specs.declared.pair.Pair.{Pair as PairOf}
 use Rattle.spelling.specs.Laws.{AreEdits}
-use Rattle.spelling.specs.OrderedMap.{MapCall, Edit, MapReply, OneValue, MapEdit, edit_key, edited, get, reply, changes}
+use Rattle.spelling.specs.OrderedMap.{MapCall, Edit, Successor, Range, MapReply, OneValue, ManyPairs, pair_or_none, MapEdit, edit_key, edited, get, reply, changes}
 use Rattle.spelling.specs.Runs.{Makes, map_of_log}
 use Rattle.spelling.specs.Spelled.{Spells}
 use Rattle.dict.specs.Calls.{need, most_nodes, most_scx}
 use Rattle.dict.specs.Says.{HasTooLittle, KeepsLists}
-use Rattle.dict.specs.Words.{told_of}
+use Rattle.dict.specs.Forms.{Form}
+use Rattle.dict.specs.Forms as form
+use Rattle.dict.specs.Words.{word_pair}
 use Rattle.dict.specs.declared.reply.Reply.{Reply}
-use Rattle.dict.specs.declared.reply.Reply.TheVariants.{Contended, Full, NoMemory}
+use Rattle.dict.specs.declared.reply.Reply.TheVariants.{Value, Contended, Full, NoMemory}
+use Rattle.forest.specs.declared.fault.OrderFault.{OrderFault}
+use Rattle.forest.specs.declared.fault.OrderFault.TheVariants as reads
+use Rattle.forest.specs.declared.fault.UpdateFault.{UpdateFault}
+use Rattle.forest.specs.declared.fault.UpdateFault.TheVariants as updates
 use Rattle.forest.specs.Passes.{PassView, run_of, done_of, taken_of}
 
 -- The one history of a dictionary is the log of its run: each entry makes an edit of the map. A
@@ -107,8 +115,63 @@ IsRefusalOf old new call _ = Unit {0}
 pub record HasSpentAtMost (old new : PassView) (call : MapCall) (tries : ℕ) : Type 0 where
   pub nodes : old.share.nodes ≤ new.share.nodes + most_nodes call * tries
   pub scx : old.share.scx ≤ new.share.scx + most_scx call * tries
+  -- and nothing has come back
+  pub gone_nodes : new.share.nodes ≤ old.share.nodes
+  pub gone_scx : new.share.scx ≤ old.share.scx
 
 -- the blame list after this reply: `Contended` blames its SCX-record
 abbrev pub blamed_by_reply : {K V : Type 0} → Reply K V → List ℕ → List ℕ
 blamed_by_reply (Contended node scx) blamed = scx.0 ∷ blamed
 blamed_by_reply _ blamed = blamed
+
+-- What each call answers
+
+-- a reply that an edit may give
+abbrev pub IsUpdateForm : Form → Type 0
+IsUpdateForm form.Value = Unit {0}
+IsUpdateForm form.Contended = Unit {0}
+IsUpdateForm form.Full = Unit {0}
+IsUpdateForm _ = ⊥
+
+-- the answer of an edit as a reply
+abbrev pub update_reply : {K V : Type 0} → Result (Option V) UpdateFault → Reply K V
+update_reply (Ok old) = Value old
+update_reply (Err (updates.Contended node scx)) = Contended node scx
+update_reply (Err (updates.Full full)) = Full full
+
+-- an insert has changed the map, and so has a delete that tells a value; else that has read it
+abbrev pub HasEdited : PassView → PassView → MapEdit → Option ℕ → Type 0
+HasEdited old new (MapEdit.Insert k v) told = IsChange old new (MapEdit.Insert k v) told
+HasEdited old new (MapEdit.Delete k) (Some told) = IsChange old new (MapEdit.Delete k) (Some told)
+HasEdited old new (MapEdit.Delete k) None = IsReading old new (Edit (MapEdit.Delete k)) (OneValue None)
+
+-- what an answer of `insert` or `delete` says
+abbrev pub UpdateSays : {V : Type 0} → (V → ℕ) → PassView → PassView → MapEdit → Result (Option V) UpdateFault → Type 0
+UpdateSays value_word old new edit (Ok told) = HasEdited old new edit (option_map value_word told)
+UpdateSays value_word old new edit (Err (updates.Contended node scx)) = IsContendedCall old new node.0 scx.0
+UpdateSays value_word old new edit (Err (updates.Full full)) = IsFullCall old new (Edit edit) full
+
+-- whom it blames
+abbrev pub blamed_by_update : {V : Type 0} → Result (Option V) UpdateFault → List ℕ → List ℕ
+blamed_by_update (Err (updates.Contended node scx)) blamed = scx.0 ∷ blamed
+blamed_by_update _ blamed = blamed
+
+-- why an ordered read has told nothing
+abbrev pub ReadRefuses : PassView → PassView → OrderFault → Type 0
+ReadRefuses old new (reads.Contended node scx) = IsContendedCall old new node.0 scx.0
+ReadRefuses old new reads.NoMemory = done_of new ≡ done_of old
+
+-- what an answer of `successor` says
+abbrev pub SuccessorSays : {K V : Type 0} → (K → ℕ) → (V → ℕ) → PassView → PassView → ℕ → Result (Option (K × V)) OrderFault → Type 0
+SuccessorSays key_word value_word old new k (Ok found) = IsReading old new (Successor k) (pair_or_none (option_map (word_pair key_word value_word) found))
+SuccessorSays key_word value_word old new k (Err fault) = ReadRefuses old new fault
+
+-- what an answer of `range` says
+abbrev pub RangeSays : {K V : Type 0} → (K → ℕ) → (V → ℕ) → PassView → PassView → ℕ → ℕ → ℕ → Result (Vec (K × V) Global) OrderFault → Type 0
+RangeSays key_word value_word old new low high most (Ok found) = IsReading old new (Range low high most) (ManyPairs (map (word_pair key_word value_word) found.items))
+RangeSays key_word value_word old new low high most (Err fault) = ReadRefuses old new fault
+
+-- whom an ordered read blames
+abbrev pub blamed_by_read : {A : Type 0} → Result A OrderFault → List ℕ → List ℕ
+blamed_by_read (Err (reads.Contended node scx)) blamed = scx.0 ∷ blamed
+blamed_by_read _ blamed = blamed

@@ -1,14 +1,16 @@
 //! A dictionary that threads share.
-ghost use Rattle.std.specs.Prelude.{◌≡◌, ◌≤◌, ◌+◌, ◌*◌, ◌↔◌, Err, IfErr, IfOk, IfSome, IsSome, OnOk, Some};
+ghost use Rattle.std.specs.Prelude.{◌≡◌, ◌≤◌, ◌+◌, ◌*◌, ◌↔◌, Err, IfOk, IfSome, IsSome, OnOk};
+ghost use Rattle.std.specs.List.{All};
 ghost use Rattle.std.specs.Option.{option_map};
 ghost use Rattle.arena.specs.Limits.{IsAccepted, IsLayoutOf};
 ghost use Rattle.arena.specs.declared.limits.Mode.TheVariants.{Tree};
+ghost use Rattle.spelling.specs.OrderedMap.{Edit, Get, Insert, Delete, OneValue, Range, Successor};
 ghost use Rattle.dict.specs.Forms.{MayReply, form_of};
 ghost use Rattle.dict.specs.Says.{KeepsLists};
 ghost use Rattle.dict.specs.Steps.{most_steps};
 ghost use Rattle.dict.specs.Typed.{TypedAllows};
-ghost use Rattle.dict.specs.Words.{AsksForFew, IsValidReply, IsWord, map_call_of, told_of};
-ghost use Rattle.forest.specs.Dictionary.{IsToldOf, IsRefusalOf, HasSpentAtMost, blamed_by_reply};
+ghost use Rattle.dict.specs.Words.{AsksForFew, IsValidPair, IsValidReply, IsWord, map_call_of, told_of};
+ghost use Rattle.forest.specs.Dictionary.{IsReading, IsUpdateForm, update_reply, IsToldOf, IsRefusalOf, HasSpentAtMost, UpdateSays, SuccessorSays, RangeSays, blamed_by_reply, blamed_by_update, blamed_by_read};
 ghost use Rattle.forest.specs.Passes.{HasGoneOn, IsOf, AreNew, taken_of};
 ghost use Rattle.forest.specs.Traces.{shared_nodes};
 
@@ -16,12 +18,144 @@ use crate::fault::{NewFault, OrderFault, UpdateFault};
 use crate::forest::Forest;
 use crate::pass::Pass;
 use crate::steps::whole;
-use arena::{Limits, Share};
+use arena::{Limits, Mode, NoMemory, Share};
 use dict::{Dict, DictRun, Reply, Request, WordKey, WordValue};
 use std::alloc::Global;
 use std::mem::replace;
 
 impl<K: WordKey, V: WordValue> Forest<Dict<K, V>> {
+    /// An empty dictionary within these limits, and a pass for each client. Refused are limits out of
+    /// range and want of memory.
+    pub fn new(
+        alloc: Global,
+        limits: Limits,
+    ) -> Result<(Forest<Dict<K, V>>, Vec<Pass<Dict<K, V>>>), NewFault>
+        ensures accepted { OnOk result (IsAccepted limits) }
+        ensures refused { (result ≡ Err NewFault.Limits) ↔ (¬ IsAccepted limits) }
+        ensures layout { IfOk result (λ r. IsLayoutOf limits Tree r.0.layout) }
+        ensures tries { IfOk result (λ r. r.0.tries ≡ limits.tries) }
+        ensures passes { IfOk result (λ r. AreNew r.0 r.1.items) }
+    {
+        let Ok(layout) = limits.check(Mode::Tree) else {
+            return Err(NewFault::Limits);
+        };
+        match Forest::open(alloc, layout, limits.tries) {
+            Ok(opened) => Ok(opened),
+            Err(NoMemory) => Err(NewFault::NoMemory),
+        }
+    }
+
+    /// Sets a key to a value, and tells the value that the key had just before. It takes at most three
+    /// nodes and an SCX-record of the pass's share in a try, and no memory. The pass blames the
+    /// SCX-record that `Contended` names. After Brown, Ellen and Ruppert (PPoPP 2014), as is `delete`.
+    pub fn insert(
+        &self,
+        pass: &mut Pass<Dict<K, V>>,
+        key: K,
+        value: V,
+    ) -> Result<Option<V>, UpdateFault>
+        requires pass { IsOf self.now pass.old }
+        ensures pass { IsOf self.now pass.new }
+        ensures goes_on { HasGoneOn (TypedAllows (IsWord K.is_valid K.word_of) (IsWord V.is_valid V.word_of)) pass.old pass.new (taken_of pass.old) (self.now.tries * (3 * (2 + shared_nodes self.now.layout) + 178)) (blamed_by_update result pass.old.blamed) }
+        ensures spends { HasSpentAtMost pass.old pass.new (Edit (Insert (K.word_of key) (V.word_of value))) self.now.tries }
+        ensures says { UpdateSays V.word_of pass.old pass.new (Insert (K.word_of key) (V.word_of value)) result }
+        ensures valid { IfOk result (λ old. IfSome old V.is_valid) }
+    {
+        of_update(self.ask(None, pass, Request::Insert { key, value }))
+    }
+
+    /// Takes a key away, and tells the value that it had just before. It takes at most a node and an
+    /// SCX-record of the pass's share in a try, and no memory.
+    pub fn delete(
+        &self,
+        pass: &mut Pass<Dict<K, V>>,
+        key: &K,
+    ) -> Result<Option<V>, UpdateFault>
+        requires pass { IsOf self.now pass.old }
+        ensures pass { IsOf self.now pass.new }
+        ensures goes_on { HasGoneOn (TypedAllows (IsWord K.is_valid K.word_of) (IsWord V.is_valid V.word_of)) pass.old pass.new (taken_of pass.old) (self.now.tries * (3 * (2 + shared_nodes self.now.layout) + 301)) (blamed_by_update result pass.old.blamed) }
+        ensures spends { HasSpentAtMost pass.old pass.new (Edit (Delete (K.word_of key.now))) self.now.tries }
+        ensures says { UpdateSays V.word_of pass.old pass.new (Delete (K.word_of key.now)) result }
+        ensures valid { IfOk result (λ old. IfSome old V.is_valid) }
+    {
+        of_update(self.ask(None, pass, Request::Delete { key: *key }))
+    }
+
+    /// The value of a key, if it has one. It takes nothing, and is never refused.
+    pub fn get(&self, pass: &mut Pass<Dict<K, V>>, key: &K) -> Option<V>
+        requires pass { IsOf self.now pass.old }
+        ensures pass { IsOf self.now pass.new }
+        ensures goes_on { HasGoneOn (TypedAllows (IsWord K.is_valid K.word_of) (IsWord V.is_valid V.word_of)) pass.old pass.new (taken_of pass.old) (3 * (2 + shared_nodes self.now.layout)) pass.old.blamed }
+        ensures spends { HasSpentAtMost pass.old pass.new (Get (K.word_of key.now)) self.now.tries }
+        ensures says { IsReading pass.old pass.new (Get (K.word_of key.now)) (OneValue (option_map V.word_of result)) }
+        ensures valid { IfSome result V.is_valid }
+    {
+        match self.ask(None, pass, Request::Get { key: *key }) {
+            Reply::Value(value) => value,
+            Reply::Pair(_) | Reply::Contended { .. } | Reply::Full(_) | Reply::NoMemory => {
+                unreachable!()
+            }
+            Reply::Pairs(pairs) => {
+                drop(pairs);
+                unreachable!()
+            }
+        }
+    }
+
+    /// The pair with the least key above this one, if there is one. It takes nothing of the pass's
+    /// share, but memory for what it looks at.
+    pub fn successor(
+        &self,
+        alloc: Global,
+        pass: &mut Pass<Dict<K, V>>,
+        key: &K,
+    ) -> Result<Option<(K, V)>, OrderFault>
+        requires pass { IsOf self.now pass.old }
+        ensures pass { IsOf self.now pass.new }
+        ensures goes_on { HasGoneOn (TypedAllows (IsWord K.is_valid K.word_of) (IsWord V.is_valid V.word_of)) pass.old pass.new (taken_of pass.old) (self.now.tries * (137 * (2 + shared_nodes self.now.layout))) (blamed_by_read result pass.old.blamed) }
+        ensures spends { HasSpentAtMost pass.old pass.new (Successor (K.word_of key.now)) self.now.tries }
+        ensures says { SuccessorSays K.word_of V.word_of pass.old pass.new (K.word_of key.now) result }
+        ensures valid { IfOk result (λ pair. IfSome pair (IsValidPair K.is_valid V.is_valid)) }
+    {
+        match self.ask(Some(alloc), pass, Request::Successor { key: *key }) {
+            Reply::Pair(pair) => Ok(pair),
+            Reply::Contended { node, scx } => Err(OrderFault::Contended { node, scx }),
+            Reply::NoMemory => Err(OrderFault::NoMemory),
+            Reply::Value(_) | Reply::Full(_) => unreachable!(),
+            Reply::Pairs(pairs) => {
+                drop(pairs);
+                unreachable!()
+            }
+        }
+    }
+
+    /// The first pairs by rising key with keys from `low` to `high`, both with them, and at most so
+    /// many, 64 at the most. It takes nothing of the pass's share, but memory.
+    pub fn range(
+        &self,
+        alloc: Global,
+        pass: &mut Pass<Dict<K, V>>,
+        low: &K,
+        high: &K,
+        most: u32,
+    ) -> Result<Vec<(K, V)>, OrderFault>
+        requires pass { IsOf self.now pass.old }
+        requires few { most ≤ 64 }
+        ensures pass { IsOf self.now pass.new }
+        ensures goes_on { HasGoneOn (TypedAllows (IsWord K.is_valid K.word_of) (IsWord V.is_valid V.word_of)) pass.old pass.new (taken_of pass.old) (self.now.tries * ((most + 2) * (67 * (2 + shared_nodes self.now.layout)))) (blamed_by_read result pass.old.blamed) }
+        ensures spends { HasSpentAtMost pass.old pass.new (Range (K.word_of low.now) (K.word_of high.now) most) self.now.tries }
+        ensures says { RangeSays K.word_of V.word_of pass.old pass.new (K.word_of low.now) (K.word_of high.now) most result }
+        ensures valid { IfOk result (λ pairs. All (IsValidPair K.is_valid V.is_valid) pairs.items) }
+    {
+        let (low, high) = (*low, *high);
+        match self.ask(Some(alloc), pass, Request::Range { low, high, most }) {
+            Reply::Pairs(pairs) => Ok(pairs),
+            Reply::Contended { node, scx } => Err(OrderFault::Contended { node, scx }),
+            Reply::NoMemory => Err(OrderFault::NoMemory),
+            Reply::Value(_) | Reply::Pair(_) | Reply::Full(_) => unreachable!(),
+        }
+    }
+
     /// Makes a whole call. An ordered read takes memory.
     fn ask(
         &self,
@@ -47,5 +181,22 @@ impl<K: WordKey, V: WordValue> Forest<Dict<K, V>> {
         pass.share = run.into_share();
         pass.blamed.note_reply(&reply);
         reply
+    }
+}
+
+/// What an edit has answered.
+fn of_update<K: WordKey, V: WordValue>(reply: Reply<K, V>) -> Result<Option<V>, UpdateFault>
+    requires { IsUpdateForm (form_of reply) }
+    ensures { reply ≡ update_reply result }
+{
+    match reply {
+        Reply::Value(old) => Ok(old),
+        Reply::Contended { node, scx } => Err(UpdateFault::Contended { node, scx }),
+        Reply::Full(full) => Err(UpdateFault::Full(full)),
+        Reply::Pair(_) | Reply::NoMemory => unreachable!(),
+        Reply::Pairs(pairs) => {
+            drop(pairs);
+            unreachable!()
+        }
     }
 }
