@@ -24,4 +24,5 @@ pub use request::Request;
 pub use run::MapRun;
 pub use shape::Dict;
 pub use told::WordReply;
+pub use translation::pairs_of;
 pub use value::WordValue;

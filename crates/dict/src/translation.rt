@@ -43,7 +43,7 @@ fn pair_of<K: WordKey, V: WordValue>(words: Option<Pair>) -> Option<(K, V)>
 }
 
 /// The pairs of such words, in their order; what is none is left out.
-fn pairs_of<K: WordKey, V: WordValue>(
+pub fn pairs_of<K: WordKey, V: WordValue>(
     alloc: Global,
     words: &[Pair],
 ) -> Result<Vec<(K, V)>, NoMemory>

@@ -1,5 +1,5 @@
 //! The end of a forest, once all passes are back.
-ghost use Rattle.std.specs.Prelude.{◌≡◌, ◌<◌, ◌+◌, ◌↔◌, List, [], ◌∷◌, vec_len, IsSome, IfSome, IfOk};
+ghost use Rattle.std.specs.Prelude.{◌≡◌, ◌<◌, ◌+◌, ◌↔◌, List, [], ◌∷◌, vec_len, IsSome, IfSome, IfOk, map};
 ghost use Rattle.std.specs.List.{All};
 ghost use Rattle.std.specs.Slots.{IsFull, slots_len};
 ghost use Rattle.arena.specs.declared.word.Side.TheVariants.{Left, Right};
@@ -7,7 +7,12 @@ ghost use Rattle.arena.specs.Layout.{all_nodes, table_size, IsWord};
 ghost use Rattle.arena.specs.PlainWords.{Contents, IsChanged, word_at};
 ghost use Rattle.arena.specs.Words.{child};
 ghost use Rattle.spelling.specs.Spelled.{Spells};
-ghost use Rattle.forest.specs.Copies.{AreCopied};
+ghost use Rattle.arena.specs.declared.limits.Mode.TheVariants.{Tree};
+ghost use Rattle.arena.specs.History.{History, value};
+ghost use Rattle.arena.specs.Machines.{IsRun};
+ghost use Rattle.dict.specs.Typed.{TypedAllows};
+ghost use Rattle.dict.specs.Words.{IsValidPair, IsWord as IsWordOf, word_pair};
+ghost use Rattle.forest.specs.Copies.{AreCopied, HoldsWordsOf};
 ghost use Rattle.forest.specs.declared.view.SeatedPass.{SeatedPass};
 ghost use Rattle.forest.specs.TableRule.{IsTableOf};
 ghost use Rattle.forest.specs.Passes.{IsOn, IsOf, AreAllBack, IsClosed};
@@ -22,6 +27,7 @@ use arena::{
     Access, Kind, Layout, NoMemory, NodeNo, NodeWord, PlainWords, Shape, Side, Step, Word,
 };
 use atomic_table::Seat;
+use dict::{WordKey, WordValue, pairs_of};
 use spelling::{Pair, spelled};
 use std::alloc::Global;
 use std::marker::{Brand, Model};
@@ -71,6 +77,16 @@ impl Closed {
             Some(pairs) => Ok(pairs),
             None => Ok(Vec::new(alloc)),
         }
+    }
+
+    /// The pairs of a dictionary, by rising key, as its run has left them. The only error is want of
+    /// memory.
+    pub fn pairs<K: WordKey, V: WordValue>(&self, alloc: Global) -> Result<Vec<(K, V)>, NoMemory>
+        ensures valid { IfOk result (λ pairs. All (IsValidPair K.is_valid V.is_valid) pairs.items) }
+        ensures pairs { (h : History) → self.now.layout.mode ≡ Tree → IsRun (TypedAllows (IsWordOf K.is_valid K.word_of) (IsWordOf V.is_valid V.word_of)) self.now.layout h → HoldsWordsOf self.now h → IfOk result (λ pairs. Spells self.now.layout (value h) (map (word_pair K.word_of V.word_of) pairs.items)) }
+    {
+        let pairs = self.map(alloc)?;
+        pairs_of(alloc, &pairs)
     }
 
     /// A copy of the words that a map is read from.
