@@ -1,7 +1,6 @@
 -- What a call by itself tells and leaves.
-use Rattle.std.proofs.Common.{◌≡◌, ◌∙◌, ℕ, Bool, true, false, cond, eqb, inl, inr, List, [], ◌∷◌, Option, Some, None, refl, sym, ap, subst}
+use Rattle.std.proofs.Common.{◌≡◌, ◌∙◌, ℕ, Bool, true, false, cond, eqb, List, [], ◌∷◌, Option, Some, None, refl, sym, ap, subst}
 use Rattle.arena.specs.History.{History, ◌⊳◌, value, Extends}
-use Rattle.arena.specs.declared.layout.Layout.{Layout}
 use Rattle.arena.specs.Machines.{Call}
 use Rattle.arena.proofs.Lemmas.{ends_self, ends_trans}
 use Rattle.spelling.specs.declared.pair.Pair.{Pair}
@@ -12,7 +11,7 @@ use Rattle.spelling.proofs.Lemmas.{one_spelling, run_since}
 use Rattle.updates.specs.Known.{HasMade}
 use Rattle.updates.specs.Tries.{HasEnteredNone}
 use Rattle.updates.specs.Undisturbed.{IsUndisturbed}
-use Rattle.dict.specs.Says.{HasToldBy, HasChanged, HasRead}
+use Rattle.dict.specs.Says.{HasToldBy}
 
 -- an absent key may be taken away, and nothing changes
 pub delete_absent : (k : ℕ) (m : List Pair) → get k m ≡ None → delete k m ≡ m

@@ -1,11 +1,10 @@
 -- What the calls of a dictionary say.
-use Rattle.std.proofs.Common.{◌≡◌, ◌∙◌, ℕ, ◌<◌, Bool, true, false, inr, List, [], ◌∷◌, Option, refl, sym, ap, subst}
+use Rattle.std.proofs.Common.{◌≡◌, ◌∙◌, ℕ, ◌<◌, Bool, true, false, inr, List, Option, sym, subst}
 use Rattle.atomic_table.specs.Seated.{TableId}
 use Rattle.arena.specs.declared.fault.Full.{Full as FullOf}
-use Rattle.arena.specs.declared.layout.Layout.{Layout}
 use Rattle.arena.specs.declared.step.Row.{Row}
 use Rattle.arena.specs.History.{History, ◌⊳◌, value, Extends}
-use Rattle.arena.specs.Machines.{Call, IsRun}
+use Rattle.arena.specs.Machines.{Call}
 use Rattle.arena.specs.Share.{Remaining}
 use Rattle.arena.proofs.Lemmas.{ends_self, ends_trans}
 use Rattle.spelling.specs.declared.pair.Pair.{Pair}
@@ -15,8 +14,8 @@ use Rattle.spelling.specs.Spelled.{Spells}
 use Rattle.spelling.proofs.Lemmas.{one_spelling, run_spells, run_since, spells_log, makes_since}
 use Rattle.updates.specs.Known.{HasMade}
 use Rattle.updates.specs.Tries.{HasEnteredNone}
-use Rattle.dict.specs.Says.{HasChanged, HasRead, HasToldBy, HasTold, HasLost, HasRunOut}
-use Rattle.forest.specs.Dictionary.{IsVersion, IsChange, IsReading, IsChangeOrReading, IsContendedCall, IsFullCall}
+use Rattle.dict.specs.Says.{HasToldBy, HasTold, HasLost, HasRunOut}
+use Rattle.forest.specs.Dictionary.{IsVersion, IsChange, IsChangeOrReading, IsContendedCall, IsFullCall}
 use Rattle.forest.specs.Passes.{PassView, run_of, done_of, taken_of}
 use Rattle.forest.proofs.Entered.{none_entered, one_entered}
 

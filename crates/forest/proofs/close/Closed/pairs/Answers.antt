@@ -1,14 +1,13 @@
-use Rattle.std.proofs.Common.{◌≡◌, List, Result, Ok, Err, map, sym, ap, subst, ◌∙◌}
+use Rattle.std.proofs.Common.{◌≡◌, Result, Ok, Err, sym, subst, ◌∙◌}
 use Rattle.std.specs.Prelude.{IfOk}
 use Rattle.arena.specs.History.{value}
 use Rattle.arena.specs.PlainWords.{word_at}
 use Rattle.arena.specs.Words.{node}
 use Rattle.spelling.specs.Spelled.{Spells}
 use Rattle.spelling.proofs.Lemmas.{run_spells}
-use Rattle.dict.specs.Translated.{ArePairsOf}
 use Rattle.dict.specs.Typed.{AreTyped}
 use Rattle.dict.specs.TypedMaps.{typed_map, typed_run}
-use Rattle.dict.specs.Words.{IsWord, word_pair}
+use Rattle.dict.specs.Words.{IsWord}
 use Rattle.forest.proofs.Copies.{copy_spells}
 use Rattle.forest.proofs.close.Closed.pairs.Goals as goal
 

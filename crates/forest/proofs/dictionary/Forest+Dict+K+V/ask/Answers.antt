@@ -1,4 +1,4 @@
-use Rattle.std.proofs.Common.{◌≡◌, ◌∙◌, ◌≤◌, arith, ℕ, refl, sym, ap, subst}
+use Rattle.std.proofs.Common.{◌≡◌, ◌∙◌, ◌≤◌, sym, ap, subst}
 use Rattle.dict.specs.Calls.{call_in}
 use Rattle.dict.specs.Forms.{MayReply, form_of}
 use Rattle.dict.specs.Steps.{map_left, most_steps}
