@@ -3,7 +3,6 @@
 #![tactic(auto)]
 
 #[cfg(test)]
-mod dict_tests;
 #[cfg(test)]
 mod forest_tests;
 #[cfg(test)]
