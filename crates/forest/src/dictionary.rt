@@ -66,11 +66,7 @@ impl<K: WordKey, V: WordValue> Forest<Dict<K, V>> {
 
     /// Takes a key away, and tells the value that it had just before. It takes at most a node and an
     /// SCX-record of the pass's share in a try, and no memory.
-    pub fn delete(
-        &self,
-        pass: &mut Pass<Dict<K, V>>,
-        key: &K,
-    ) -> Result<Option<V>, UpdateFault>
+    pub fn delete(&self, pass: &mut Pass<Dict<K, V>>, key: &K) -> Result<Option<V>, UpdateFault>
         requires pass { IsOf self.now pass.old }
         ensures pass { IsOf self.now pass.new }
         ensures goes_on { HasGoneOn (TypedAllows (IsWord K.is_valid K.word_of) (IsWord V.is_valid V.word_of)) pass.old pass.new (taken_of pass.old) (self.now.tries * (3 * (2 + shared_nodes self.now.layout) + 301)) (blamed_by_update result pass.old.blamed) }

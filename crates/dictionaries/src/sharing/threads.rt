@@ -103,7 +103,10 @@ fn is_window(pairs: &[(u64, u64)]) -> bool {
         Some((key, _)) => *key,
         None => 0,
     };
-    let mut keys = pairs.iter().map(|(key, _)| key.wrapping_sub(first)).enumerate();
+    let mut keys = pairs
+        .iter()
+        .map(|(key, _)| key.wrapping_sub(first))
+        .enumerate();
     let steps = keys.all(|(place, above)| place as u64 == above);
     steps && (many == WINDOW || many == WINDOW + 1 || first == 0 && many < WINDOW)
 }
@@ -150,7 +153,11 @@ fn make_round(
             let place = round.wrapping_mul(377) % ROUNDS;
             put_fresh(forest, pass, (2 * place).wrapping_add(number))
         }
-        Work::Mixed => mix(forest, pass, number.wrapping_mul(ROUNDS).wrapping_add(round)),
+        Work::Mixed => mix(
+            forest,
+            pass,
+            number.wrapping_mul(ROUNDS).wrapping_add(round),
+        ),
         Work::Window if number == 0 => move_window(forest, pass, round),
         Work::Window => see_window(alloc, forest, pass),
     }

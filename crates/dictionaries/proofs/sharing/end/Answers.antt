@@ -3,4 +3,4 @@ use Rattle.forest.specs.Passes.{PassView, AreAllBack}
 use Rattle.dictionaries.proofs.sharing.end.Goals as goal
 
 pub close-closed-requires-clause-all : goal.close-closed-requires-clause-all
-close-closed-requires-clause-all c = subst (λ (ps : List PassView). AreAllBack c.args.forest.layout ps) c.deref.ensures.value (c.all_back.ensures.0 c.if-all_back.true)
+close-closed-requires-clause-all g c = subst (λ (ps : List PassView). AreAllBack c.args.forest.layout ps) c.deref.ensures.value (c.all_back.ensures.0 c.if-all_back.true)

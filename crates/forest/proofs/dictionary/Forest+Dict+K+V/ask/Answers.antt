@@ -16,8 +16,7 @@ use Rattle.forest.proofs.dictionary.Forest+Dict+K+V.ask.Goals as goal
 pub whole-run-requires-clause-begins : goal.whole-run-requires-clause-begins
 whole-run-requires-clause-begins g c =
     let named = ap taken_of c.pass.view_is ∙ sym c.taken-number.ensures in
-    let made = c.new-run.ensures in
-    (
+    let made = c.new-run.ensures in (
       call_of c.pass.inside c.pass.invariant (taken_of (pass_view c.pass.inside)),
       layout_of c.pass.view_is c.self.view_is c.requires.pass,
       named,
@@ -30,8 +29,8 @@ ended g c =
     let named = ap taken_of c.pass.view_is ∙ sym c.taken-number.ensures in
     let made = c.new-run.ensures in
     dict_ended g.K.WordKey.is_valid g.K.WordKey.word_of g.V.WordValue.is_valid g.V.WordValue.word_of c.pass.inside c.pass.invariant c.whole-run.new.seat c.whole-run.result.0 c.whole-run.result.1 c.new-run.result
-        (c.whole-run.ensures.ends (call_of c.pass.inside c.pass.invariant (taken_of (pass_view c.pass.inside))) (layout_of c.pass.view_is c.self.view_is c.requires.pass) named
-        (request_starts g.K.WordKey.is_valid g.K.WordKey.word_of g.V.WordValue.is_valid g.V.WordValue.word_of c.pass.inside c.pass.invariant c.new-run.result c.args.request c.self.inside.tries c.taken-number.result named made.call made.typed made.tries (made.fresh c.self.invariant.3) c.requires.few (made.share ∙ c.replace-share.ensures.value)))
+    (c.whole-run.ensures.ends (call_of c.pass.inside c.pass.invariant (taken_of (pass_view c.pass.inside))) (layout_of c.pass.view_is c.self.view_is c.requires.pass) named
+    (request_starts g.K.WordKey.is_valid g.K.WordKey.word_of g.V.WordValue.is_valid g.V.WordValue.word_of c.pass.inside c.pass.invariant c.new-run.result c.args.request c.self.inside.tries c.taken-number.result named made.call made.typed made.tries (made.fresh c.self.invariant.3) c.requires.few (made.share ∙ c.replace-share.ensures.value)))
 
 -- it is of the call that was asked for
 same_call : (g : Over) (c : goal.After-note_reply g) → call_in c.whole-run.result.0.run ≡ map_call_of g.K.WordKey.word_of g.V.WordValue.word_of c.args.request
