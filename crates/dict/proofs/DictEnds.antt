@@ -1,5 +1,5 @@
--- What the machine of a call of a dictionary has answered is right, where its reply is that of the map
--- in words.
+-- What the machine of a call of a dictionary has answered is right, where its reply is that of the
+-- map in words.
 use Rattle.std.proofs.Common.{◌≡◌, ℕ, List, [], ◌∷◌, Bool, true, false, cond, eqb, ltb, leb, ◌&&◌, zero, suc, take, Option, Some, None, inl, inr, sym, subst}
 use Rattle.arena.specs.declared.limits.Mode.TheVariants.{Tree as TreeMode}
 use Rattle.arena.specs.History.{History, ◌⊳◌, value, Extends}

@@ -84,7 +84,8 @@ module _ (c : Call) (h : History) where
   told_value (OneValue told) = told
   told_value _ = None
 
-  -- so the share has run out for the edit that needs it, where the leaf that was found tells its need
+  -- so the share has run out for the edit that needs it, where the leaf that was found tells its
+  -- need
   pub ran_out : (call : MapCall) (key : ℕ) (f : Found) (want : Need) (share : Remaining) (full : FullOf) → HasRead c h (Get key) (OneValue f.value) → ((map : List Pair) → get key map ≡ f.value → many_nodes want ≡ need call map) → 0 < many_nodes want → IsShort want share full.what full.left → HasRunOut c h call share full
   ran_out call key f want share full x needs some short =
       let gives : get key x.map ≡ f.value = ap told_value x.gives in

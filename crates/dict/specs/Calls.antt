@@ -1,5 +1,5 @@
--- The machine of a call of the map: what it is a call of, what it has left, and what such a call may
--- take of its share.
+-- The machine of a call of the map: what it is a call of, what it has left, and what such a call
+-- may take of its share.
 use Rattle.std.specs.Prelude.{ℕ, ◌*◌, ◌+◌, ◌^◌, ◌<◌, ◌≤◌, List, Option, Some, None}
 use Rattle.arena.specs.Machines.{Call}
 use Rattle.arena.specs.Share.{Remaining}

@@ -1,4 +1,5 @@
--- When the machine of a call of a dictionary may go on, what it waits for, and what its answer says.
+-- When the machine of a call of a dictionary may go on, what it waits for, and what its answer
+-- says.
 use Rattle.std.specs.Prelude.{ℕ, Option}
 use Rattle.arena.specs.declared.step.Step.{Step}
 use Rattle.arena.specs.History.{History}
@@ -32,8 +33,8 @@ DictRefuses c h call share tries (Full full) = HasRunOut c h call share full
 DictRefuses c h call share tries NoMemory = KeepsLists call × HasEnteredNone c.layout c.pass h c.start
 DictRefuses c h call share tries _ = Unit {0}
 
--- Its answer is right. Behind it the pass is at rest with what is left of the share, of which no more
--- is gone than the tries may take. Its keys and values are of their types.
+-- Its answer is right. Behind it the pass is at rest with what is left of the share, of which no
+-- more is gone than the tries may take. Its keys and values are of their types.
 pub record DictAnswers {K V : Type 0} (valid_key : K → Type 0) (key : K → ℕ) (valid_value : V → Type 0) (value : V → ℕ) (m : DictRun K V) (c : Call) (h : History) (reply : Reply K V) : Type 0 where
   pub rests : RestsWith c h (share_of m.run)
   pub spent : HasSpent c (call_in m.run) m.tries (share_of m.run)

@@ -30,8 +30,8 @@ form_of (replies.Contended node scx) = Contended
 form_of (replies.Full full) = Full
 form_of replies.NoMemory = NoMemory
 
--- an edit and a get tell a value, a successor a pair, a range pairs; a get is never refused, an edit
--- is contended or full, and an ordered read contended or without memory
+-- an edit and a get tell a value, a successor a pair, a range pairs; a get is never refused, an
+-- edit is contended or full, and an ordered read contended or without memory
 abbrev pub MayReply : MapCall → Form → Type 0
 MayReply (Edit e) Value = Unit {0}
 MayReply (Edit e) Contended = Unit {0}

@@ -86,8 +86,8 @@ MapIsReady tries m c h got = Goes m tries c × IsReadyInside m c h got
 abbrev pub MapWaits : ℕ → MapRun → Call → History → Step → Type 0
 MapWaits tries m c h s = Goes m tries c × WaitsInside m c h s
 
--- Its answer is right. Behind it the pass is at rest with what is left of the share, of which no more
--- is gone than the tries may take.
+-- Its answer is right. Behind it the pass is at rest with what is left of the share, of which no
+-- more is gone than the tries may take.
 pub record MapAnswers (tries : ℕ) (m : MapRun) (c : Call) (h : History) (reply : WordReply) : Type 0 where
   pub rests : RestsWith c h (share_of m)
   pub spent : HasSpent c (call_in m) tries (share_of m)

@@ -45,8 +45,8 @@ HasToldBy false c h call told = HasRead c h call told
 abbrev pub HasTold : Call → History → MapCall → MapReply → Type 0
 HasTold c h call told = HasToldBy (changes call told) c h call told
 
--- All tries were lost: this SCX-record over this node was in the way of the call, no try is left, and
--- the pass has entered nothing since the call began.
+-- All tries were lost: this SCX-record over this node was in the way of the call, no try is left,
+-- and the pass has entered nothing since the call began.
 pub record HasLost (c : Call) (h : History) (tries n s : ℕ) : Type 0 where
   pub way : IsContended c h n s
   pub over : tries ≡ 0

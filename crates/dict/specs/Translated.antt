@@ -12,7 +12,8 @@ use Rattle.dict.specs.declared.reply.Reply.TheVariants as replies
 use Rattle.dict.specs.declared.told.WordReply.{WordReply}
 use Rattle.dict.specs.declared.told.WordReply.TheVariants as words
 
--- The pair has a key and a value of their types; and if these words are of such ones, they are its own.
+-- The pair has a key and a value of their types; and if these words are of such ones, they are its
+-- own.
 pub record IsPairOf {K V : Type 0} (valid_key : K → Type 0) (key : K → ℕ) (valid_value : V → Type 0) (value : V → ℕ) (words : Option Pair) (pair : Option (K × V)) : Type 0 where
   pub valid : IfSome pair (IsValidPair valid_key valid_value)
   pub words_are : IfSome words (IsPairWord valid_key key valid_value value) → option_map (word_pair key value) pair ≡ words
@@ -27,8 +28,8 @@ abbrev pub TellsTyped : (ℕ → Type 0) → (ℕ → Type 0) → Option MapRepl
 TellsTyped keys values None = Unit {0}
 TellsTyped keys values (Some told) = IsTypedReply keys values told
 
--- It refuses what the other refuses; or it tells the same of the map, or there was no memory for the
--- pairs.
+-- It refuses what the other refuses; or it tells the same of the map, or there was no memory for
+-- the pairs.
 abbrev pub SaysSame : {K V : Type 0} → (K → ℕ) → (V → ℕ) → WordReply → Reply K V → Type 0
 SaysSame key value (words.Contended node scx) reply = reply ≡ replies.Contended node scx
 SaysSame key value (words.Full full) reply = reply ≡ replies.Full full

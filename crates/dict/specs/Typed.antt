@@ -1,5 +1,5 @@
--- A dictionary of typed keys and values, told by their words: its SCX-records make edits of such words
--- alone, so its map has no others.
+-- A dictionary of typed keys and values, told by their words: its SCX-records make edits of such
+-- words alone, so its map has no others.
 use Rattle.std.specs.Prelude.{◌≡◌, ℕ, List, [], ◌∷◌, Option, Some, None}
 use Rattle.arena.specs.declared.layout.Layout.{Layout}
 use Rattle.arena.specs.declared.limits.Mode.TheVariants.{Tree as TreeMode}

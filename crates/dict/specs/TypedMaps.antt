@@ -1,5 +1,5 @@
--- Every run in which edits of typed words alone begin is one of the tree, and its words spell a map of
--- such words.
+-- Every run in which edits of typed words alone begin is one of the tree, and its words spell a map
+-- of such words.
 use Rattle.std.proofs.Common.{◌≡◌, ℕ, List, [], ◌∷◌, Bool, true, false, cond, eqb, ltb, inl, inr, refl, sym, subst}
 use Rattle.arena.specs.declared.layout.Layout.{Layout}
 use Rattle.arena.specs.declared.limits.Mode.TheVariants.{Tree as TreeMode}

@@ -1,5 +1,5 @@
--- A row keeps a run one of a typed dictionary, if what it begins makes an edit of such words; a pass
--- whose SCX-records are all finished begins none.
+-- A row keeps a run one of a typed dictionary, if what it begins makes an edit of such words; a
+-- pass whose SCX-records are all finished begins none.
 use Rattle.std.proofs.Common.{◌≡◌, ◌≢◌, ℕ, inl, refl, sym, ◌∙◌, ap, subst, arith}
 use Rattle.arena.specs.declared.layout.Layout.{Layout}
 use Rattle.arena.specs.declared.step.Access.{Access}

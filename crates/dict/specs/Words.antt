@@ -1,5 +1,5 @@
--- Typed keys, values, calls and replies in words. `word` stands for the word of a key or of a value,
--- `valid` for whether it is one of its type.
+-- Typed keys, values, calls and replies in words. `word` stands for the word of a key or of a
+-- value, `valid` for whether it is one of its type.
 use Rattle.std.specs.Prelude.{◌≡◌, ℕ, ◌≤◌, map, All, IfSome, Option, Some, None}
 use Rattle.std.specs.Option.{option_map}
 use Rattle.spelling.specs.declared.pair.Pair.{Pair}

@@ -3,7 +3,8 @@ ghost use Rattle.std.specs.Prelude.{◌≡◌, ◌≢◌, ℕ, ◌<◌, ◌^◌,
 ghost use Rattle.std.specs.Ordering.{nat_cmp};
 ghost use Rattle.dict.specs.Offsets.{IsLong, offset_of, offset_fits, offset_exact, offset_ordered};
 
-/// A type of keys that a word holds: each has a word of its own, and their order is that of the words.
+/// A type of keys that a word holds: each has a word of its own, and their order is that of the
+/// words.
 pub trait WordKey: Copy + Ord {
     /// Whether this is a value of the type. In proofs an integer is any number, also one that the
     /// type does not have.
@@ -15,7 +16,8 @@ pub trait WordKey: Copy + Ord {
     fn word(&self) -> u64
         ensures { result ≡ word_of self.now };
 
-    /// What is in hand is a value of the type. It does nothing; a caller learns it from its contract.
+    /// What is in hand is a value of the type. It does nothing; a caller learns it from its
+    /// contract.
     fn valid(&self)
         ensures { is_valid self.now };
 

@@ -28,8 +28,8 @@ pub enum MapRun {
 }
 
 impl MapRun {
-    /// A call that has not begun, with so many tries, in the caller's call of this number. What it keeps
-    /// grows with this allocator.
+    /// A call that has not begun, with so many tries, in the caller's call of this number. What it
+    /// keeps grows with this allocator.
     pub fn new(
         alloc: Option<Global>,
         request: Request<u64, u64>,

@@ -14,7 +14,8 @@ pub trait WordValue: Copy {
     fn word(&self) -> u64
         ensures { result ≡ word_of self.now };
 
-    /// What is in hand is a value of the type. It does nothing; a caller learns it from its contract.
+    /// What is in hand is a value of the type. It does nothing; a caller learns it from its
+    /// contract.
     fn valid(&self)
         ensures { is_valid self.now };
 

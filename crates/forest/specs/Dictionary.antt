@@ -29,8 +29,8 @@ use Rattle.forest.specs.Passes.{PassView, run_of, done_of, taken_of}
 -- The one history of a dictionary is the log of its run: each entry makes an edit of the map. A
 -- version is the map that the entries up to a moment of the run make of the empty map.
 
--- at this moment of the run that the pass knows the map is m: the words spell it, and it is what the
--- entries so far make of the empty map
+-- at this moment of the run that the pass knows the map is m: the words spell it, and it is what
+-- the entries so far make of the empty map
 pub record IsVersion (p : PassView) (moment : History) (m : List PairOf) : Type 0 where
   pub spelled : Spells p.layout (value moment) m
   pub made : (edits : ℕ → MapEdit) → AreEdits edits p.layout (run_of p) → map_of_log edits (log p.layout moment) ≡ m
@@ -40,7 +40,8 @@ pub record IsVersion (p : PassView) (moment : History) (m : List PairOf) : Type 
 -- The call has made this edit: the pass has one entry more. Just before it the map told this of the
 -- edit's key, and just after it the map is what the edit leaves.
 pub record IsChange (old new : PassView) (edit : MapEdit) (told : Option ℕ) : Type 0 where
-  -- the row that has put the entry there, which may be another pass's, is behind what was known before
+  -- the row that has put the entry there, which may be another pass's, is behind what was known
+  -- before
   pub row : Row
   pub before : History
   pub within : Extends (run_of new) (row ⊳ before)
@@ -90,8 +91,8 @@ pub record IsContendedCall (old new : PassView) (n s : ℕ) : Type 0 where
   pub done : done_of new ≡ done_of old
 
 -- The share has too little left for the next try: at a moment from what was known before to what is
--- known now the call needed some nodes, of which there are not enough, or no SCX-record is left. The
--- pass has no entry more.
+-- known now the call needed some nodes, of which there are not enough, or no SCX-record is left.
+-- The pass has no entry more.
 pub record IsFullCall (old new : PassView) (call : MapCall) (full : FullOf) : Type 0 where
   pub moment : History
   pub within : Extends (run_of new) moment

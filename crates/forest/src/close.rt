@@ -79,8 +79,8 @@ impl Closed {
         }
     }
 
-    /// The pairs of a dictionary, by rising key, as its run has left them. The only error is want of
-    /// memory.
+    /// The pairs of a dictionary, by rising key, as its run has left them. The only error is want
+    /// of memory.
     pub fn pairs<K: WordKey, V: WordValue>(&self, alloc: Global) -> Result<Vec<(K, V)>, NoMemory>
         ensures valid { IfOk result (λ pairs. All (IsValidPair K.is_valid V.is_valid) pairs.items) }
         ensures pairs { (h : History) → self.now.layout.mode ≡ Tree → IsRun (TypedAllows (IsWordOf K.is_valid K.word_of) (IsWordOf V.is_valid V.word_of)) self.now.layout h → HoldsWordsOf self.now h → IfOk result (λ pairs. Spells self.now.layout (value h) (map (word_pair K.word_of V.word_of) pairs.items)) }

@@ -24,8 +24,8 @@ use std::alloc::Global;
 use std::mem::replace;
 
 impl<K: WordKey, V: WordValue> Forest<Dict<K, V>> {
-    /// An empty dictionary within these limits, and a pass for each client. Refused are limits out of
-    /// range and want of memory.
+    /// An empty dictionary within these limits, and a pass for each client. Refused are limits out
+    /// of range and want of memory.
     pub fn new(
         alloc: Global,
         limits: Limits,
@@ -45,9 +45,10 @@ impl<K: WordKey, V: WordValue> Forest<Dict<K, V>> {
         }
     }
 
-    /// Sets a key to a value, and tells the value that the key had just before. It takes at most three
-    /// nodes and an SCX-record of the pass's share in a try, and no memory. The pass blames the
-    /// SCX-record that `Contended` names. After Brown, Ellen and Ruppert (PPoPP 2014), as is `delete`.
+    /// Sets a key to a value, and tells the value that the key had just before. It takes at most
+    /// three nodes and an SCX-record of the pass's share in a try, and no memory. The pass blames
+    /// the SCX-record that `Contended` names. After Brown, Ellen and Ruppert (PPoPP 2014), as is
+    /// `delete`.
     pub fn insert(
         &self,
         pass: &mut Pass<Dict<K, V>>,
@@ -64,8 +65,8 @@ impl<K: WordKey, V: WordValue> Forest<Dict<K, V>> {
         of_update(self.ask(None, pass, Request::Insert { key, value }))
     }
 
-    /// Takes a key away, and tells the value that it had just before. It takes at most a node and an
-    /// SCX-record of the pass's share in a try, and no memory.
+    /// Takes a key away, and tells the value that it had just before. It takes at most a node and
+    /// an SCX-record of the pass's share in a try, and no memory.
     pub fn delete(&self, pass: &mut Pass<Dict<K, V>>, key: &K) -> Result<Option<V>, UpdateFault>
         requires pass { IsOf self.now pass.old }
         ensures pass { IsOf self.now pass.new }
