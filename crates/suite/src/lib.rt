@@ -3,7 +3,6 @@
 #![tactic(auto)]
 
 #[cfg(test)]
-#[cfg(test)]
 mod forest_tests;
 #[cfg(test)]
 mod judge_tests;
