@@ -58,8 +58,7 @@ fn is_fork_on_path(table: &Table, key: u64, fork: u64) -> bool {
 
 /// Whether two nodes have the same class and key.
 fn are_alike(table: &Table, one: u64, other: u64) -> bool {
-    head(table, one).class == head(table, other).class
-        && key_of(table, one) == key_of(table, other)
+    head(table, one).class == head(table, other).class && key_of(table, one) == key_of(table, other)
 }
 
 /// Whether a node is a leaf with this pair.
@@ -93,9 +92,7 @@ fn is_insert(table: &Table, scx: u64, pair: (u64, u64)) -> bool {
 
 /// Whether a leaf of the key is replaced by another leaf.
 fn is_swap(table: &Table, leaf: u64, new: u64, pair: (u64, u64)) -> bool {
-    head(table, leaf).class == 0
-        && key_of(table, leaf) == pair.0
-        && is_pair_leaf(table, new, pair)
+    head(table, leaf).class == 0 && key_of(table, leaf) == pair.0 && is_pair_leaf(table, new, pair)
 }
 
 /// Whether a leaf without the key is replaced by a fork over a fresh leaf of the key and a fresh copy
@@ -145,7 +142,11 @@ fn is_delete(table: &Table, scx: u64, key: u64) -> bool {
 
 /// Whether the parent is a fork, and the child that goes a leaf of the key.
 fn is_join(table: &Table, scx: u64, leaf: u64, key: u64) -> bool {
-    let Head { leaf: is_leaf, class, .. } = head(table, leaf);
+    let Head {
+        leaf: is_leaf,
+        class,
+        ..
+    } = head(table, leaf);
     let is_fork = !head(table, table.member(scx, 1)).leaf;
     is_fork && is_leaf && class == 0 && key_of(table, leaf) == key
 }

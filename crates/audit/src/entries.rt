@@ -9,12 +9,7 @@ use script::{Cell, Command};
 
 /// Whether an entry of this SCX-record is one that the client's call makes: it was not in the log
 /// before.
-pub(crate) fn is_entry_for(
-    table: &Table,
-    client: &Client,
-    command: &Command,
-    scx: ScxNo,
-) -> bool {
+pub(crate) fn is_entry_for(table: &Table, client: &Client, command: &Command, scx: ScxNo) -> bool {
     match command {
         Command::Insert { .. } | Command::Delete { .. } => table.scx_facts(scx.0).makes_edit,
         Command::Scx(update) => {

@@ -35,7 +35,11 @@ impl Refused {
 
 /// Refuses a line of which this does not hold.
 pub(crate) fn hold(fits: bool) -> Result<(), Refused> {
-    if fits { Ok(()) } else { Err(Refused::NotLawful) }
+    if fits {
+        Ok(())
+    } else {
+        Err(Refused::NotLawful)
+    }
 }
 
 impl From<NoMemory> for Refused {

@@ -37,12 +37,7 @@ fn moment(past: &Past, client: &Client, command: &Command, reply: &Reply) -> Opt
     }
 }
 
-fn read_moment(
-    past: &Past,
-    command: &Command,
-    answer: &Answer,
-    turns: (u64, u64),
-) -> Option<u64> {
+fn read_moment(past: &Past, command: &Command, answer: &Answer, turns: (u64, u64)) -> Option<u64> {
     match (command, answer) {
         (Command::Get { key }, Answer::Value(value)) => past.greatest(*key, *value, turns),
         (Command::Delete { key }, Answer::Value(value)) => past.greatest(*key, *value, turns),
@@ -92,7 +87,8 @@ fn is_full(
     let too_few = |needed| has_too_few_to_try(table, client, needed, full, turns.0);
     match command {
         Command::Insert { key, .. } => {
-            (past.had(*key, false, turns) && too_few(3)) || (past.had(*key, true, turns) && too_few(1))
+            (past.had(*key, false, turns) && too_few(3))
+                || (past.had(*key, true, turns) && too_few(1))
         }
         Command::Delete { key } => past.had(*key, true, turns) && too_few(1),
         _ => false,

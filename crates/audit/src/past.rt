@@ -116,8 +116,9 @@ impl Past {
             if change.turn <= first {
                 return None;
             }
-            unlike = (unlike + usize::from(told.is_unlike(change.key, change.was)))
-                .saturating_sub(usize::from(told.is_unlike(change.key, change.is)));
+            unlike = (unlike + usize::from(told.is_unlike(change.key, change.was))).saturating_sub(
+                usize::from(told.is_unlike(change.key, change.is)),
+            );
             until = change.turn - 1;
         }
         if unlike == 0 { Some(until) } else { None }

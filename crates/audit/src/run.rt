@@ -276,9 +276,7 @@ impl<'a> Run<'a> {
 
     /// Whether a reply is that to the client's call, with its first turn and its last.
     fn is_of_call(&self, client: &Client, reply: &Reply) -> bool {
-        reply.call == client.answered
-            && client.begun == Some(reply.begin)
-            && reply.end == self.turn
+        reply.call == client.answered && client.begun == Some(reply.begin) && reply.end == self.turn
     }
 
     /// Whether a call may answer so, has an entry if its answer says so, and has taken no more of its
@@ -296,8 +294,14 @@ impl<'a> Run<'a> {
 
     fn has_taken_few(&self, client: &Client, command: &Command) -> bool {
         let (nodes, scx) = most_taken(command, &self.script.limits);
-        let taken_nodes = client.left.0.saturating_sub(nodes_left(&self.table, client.pass));
-        let taken_scx = client.left.1.saturating_sub(scx_left(&self.table, client.pass));
+        let taken_nodes = client
+            .left
+            .0
+            .saturating_sub(nodes_left(&self.table, client.pass));
+        let taken_scx = client
+            .left
+            .1
+            .saturating_sub(scx_left(&self.table, client.pass));
         taken_nodes <= nodes && taken_scx <= scx
     }
 

@@ -18,8 +18,7 @@ pub(crate) fn is_own_scx(layout: &Layout, pass: PassNo, scx: u64) -> bool {
 
 /// Whether a node is of another pass's share.
 pub(crate) fn is_others_node(layout: &Layout, pass: PassNo, node: u64) -> bool {
-    let is_of_share =
-        u64::from(layout.opening()) <= node && node < u64::from(layout.all_nodes());
+    let is_of_share = u64::from(layout.opening()) <= node && node < u64::from(layout.all_nodes());
     is_of_share && !is_own_node(layout, pass, node)
 }
 
@@ -47,8 +46,7 @@ pub(crate) fn scx_left(table: &Table, pass: PassNo) -> u32 {
 pub(crate) fn may_take_node(table: &Table, pass: PassNo, node: u64) -> bool {
     let layout = table.layout();
     let taken = table.pass_facts(pass).nodes;
-    is_own_node(layout, pass, node)
-        && node - u64::from(layout.first_node(pass)) <= u64::from(taken)
+    is_own_node(layout, pass, node) && node - u64::from(layout.first_node(pass)) <= u64::from(taken)
 }
 
 /// Whether an SCX-record is one of a pass's share that it has taken, or takes next.

@@ -1,7 +1,7 @@
 //! The words after the rows so far, and what is remembered of the rows.
 use arena::{
-    Access, Kind, Layout, NoMemory, NodeNo, NodeWord, PassNo, PlainWords, Plan, Row, ScxNo, ScxWord,
-    Step, Word,
+    Access, Kind, Layout, NoMemory, NodeNo, NodeWord, PassNo, PlainWords, Plan, Row, ScxNo,
+    ScxWord, Step, Word,
 };
 use std::alloc::Global;
 

@@ -19,7 +19,7 @@ const RACES: u64 = 30;
 const CHANGES: u64 = 100;
 
 /// The steps of a record.
-fn steps(alloc: Global, record: &Record) -> Result<Vec<StepRow>, AllocError> {
+pub(crate) fn steps(alloc: Global, record: &Record) -> Result<Vec<StepRow>, AllocError> {
     let mut rows = Vec::new(alloc);
     for line in record.lines.iter() {
         if let Line::Step(Row::Step { row, .. }) = line {

@@ -6,6 +6,8 @@ mod audit_tests;
 #[cfg(test)]
 mod call;
 #[cfg(test)]
+mod cell_race_tests;
+#[cfg(test)]
 mod change;
 #[cfg(test)]
 mod changed_tests;
