@@ -3,7 +3,6 @@
 //! kept up by the entries, and the tree is looked at where an SCX-record begins.
 #![tactic(auto)]
 
-mod audit;
 mod begins;
 mod blame;
 mod cell_replies;
@@ -27,6 +26,7 @@ mod states;
 mod table;
 mod told;
 mod updates;
+mod verdict;
 
-pub use audit::audit;
 pub use fault::AuditFault;
+pub use verdict::audit;
