@@ -62,7 +62,11 @@ fn are_found(
 ) -> Result<(), Fail> {
     for (old, new, row) in changes {
         let text = edited(alloc, text, old, new)?;
-        assert_eq!(rt; unlawful_row(alloc, text.as_str())?, Some(*row), "{old} {new}");
+        assert_eq!(rt;
+            unlawful_row(alloc, text.as_str())?,
+            Some(*row),
+            "{old} {new}"
+        );
     }
     Ok(())
 }
@@ -115,7 +119,12 @@ fn changed_rows_of_edits_are_named(rt: HostRuntime) -> Result<(), Fail> {
     let bytes = report_of(alloc, SCRIPT, FINISH)?;
     let text = std::str::from_utf8(bytes.as_slice()).map_err(|_| "no text")?;
     assert_eq!(rt; unlawful_row(alloc, text)?, None);
-    let changed = edited(alloc, text, "reply,0,1,49,55,55,some 50", "reply,0,1,49,55,55,none")?;
+    let changed = edited(
+        alloc,
+        text,
+        "reply,0,1,49,55,55,some 50",
+        "reply,0,1,49,55,55,none",
+    )?;
     let swapped = edited(
         alloc,
         changed.as_str(),

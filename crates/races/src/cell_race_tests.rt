@@ -65,7 +65,11 @@ fn random_cell_script(
     let calls = 6 + random.below(25);
     for value in 1..=calls {
         let (client, cell) = (random.below(clients), 1 + random.below(3));
-        let side = if random.below(2) == 0 { "left" } else { "right" };
+        let side = if random.below(2) == 0 {
+            "left"
+        } else {
+            "right"
+        };
         let cells = random_cells(random);
         let part = random_part(random, cells);
         let field = last_of(cells);
@@ -155,11 +159,18 @@ fn races_on_cells_are_lawful(rt: HostRuntime) -> Result<(), Fail> {
         let script = random_cell_script(alloc, &mut random, clients)?;
         let schedule = random_schedule(alloc, &mut random, clients)?;
         let record = played_in(alloc, Mode::Records, script.as_str(), schedule.as_str())?;
-        assert_eq!(rt; audit(alloc, &record), Ok(()), "race {race}:\n{script}{schedule}");
+        assert_eq!(rt;
+            audit(alloc, &record),
+            Ok(()),
+            "race {race}:\n{script}{schedule}"
+        );
         told.count(&record);
         for _ in 0..CHANGES {
             let other = changed_once(alloc, &mut random, &record)?;
-            assert!(rt; is_judged_alike(alloc, &other)?, "race {race}:\n{script}{schedule}");
+            assert!(rt;
+                is_judged_alike(alloc, &other)?,
+                "race {race}:\n{script}{schedule}"
+            );
         }
     }
     assert!(rt; told.each_occurred(), "{told:?}");

@@ -14,7 +14,11 @@ const SEED: u64 = 20260723;
 const RACES: u64 = 400;
 
 /// A few calls of so many clients on few keys, under tight limits.
-pub(crate) fn random_script(alloc: Global, random: &mut Random, clients: u64) -> Result<String, AllocError>
+pub(crate) fn random_script(
+    alloc: Global,
+    random: &mut Random,
+    clients: u64,
+) -> Result<String, AllocError>
     requires { 0 < clients }
 {
     let nodes = random.among([2, 6, 9, 40]);
@@ -40,7 +44,11 @@ pub(crate) fn random_script(alloc: Global, random: &mut Random, clients: u64) ->
 }
 
 /// Turns of these clients, long ones or short ones. After half of the schedules no call is left.
-pub(crate) fn random_schedule(alloc: Global, random: &mut Random, clients: u64) -> Result<String, AllocError>
+pub(crate) fn random_schedule(
+    alloc: Global,
+    random: &mut Random,
+    clients: u64,
+) -> Result<String, AllocError>
     requires some { 0 < clients }
     requires few { clients ≤ 4 }
 {
