@@ -26,7 +26,7 @@ use Rattle.forest.specs.TableRule.{history_of, seated_pass, look, after_look, Ma
 use Rattle.forest.specs.Traces.{known_of, rows_of}
 use Rattle.prims.specs.Shares.{IsShare}
 use Rattle.forest.specs.Shares.{entries_of}
-use Rattle.forest.specs.Passes.{PassView, ground, IsOf, AreOfCall, AreBegun, HasBlamed, HaveLeftShares, IsClosed, run_of, done_of, steps_of}
+use Rattle.forest.specs.Passes.{PassView, IsOn, AreOfCall, AreBegun, HasBlamed, HaveLeftShares, IsClosed, run_of, done_of, steps_of}
 use Rattle.forest.specs.JoinedSeats.{IsFrom, IsOneOf, AreIn}
 use Rattle.forest.specs.PassInvariant.{pass_view, IsPass}
 use Rattle.forest.proofs.Called.{calls_others}
@@ -135,12 +135,12 @@ one_ended {allows} d k lay run same f sound b =
       blamed = f.blamed;
     })
 
-all_ended : {allows : Layout → History → ℕ → Type 0} (id : _) (lay : Layout) (run : List Row) (owner : ℕ → ℕ) (seat : ℕ) (ks : List SeatedPass) → IsRun allows lay (history_of lay.mode run) → Owns lay run owner seat ks → (ds : List PassView) → All (IsOf (ground id lay)) ds → AreIn allows ds ks → All (IsAtEnd lay run) ds
+all_ended : {allows : Layout → History → ℕ → Type 0} (id : _) (lay : Layout) (run : List Row) (owner : ℕ → ℕ) (seat : ℕ) (ks : List SeatedPass) → IsRun allows lay (history_of lay.mode run) → Owns lay run owner seat ks → (ds : List PassView) → All (IsOn id lay) ds → AreIn allows ds ks → All (IsAtEnd lay run) ds
 all_ended id lay run owner seat ks sound o [] of a = All-nil (IsAtEnd lay run)
 all_ended id lay run owner seat ks sound o (d ∷ ds) of a =
     let k = a.0.0 in
     let b = owned_behind lay run owner seat k ks o a.0.1 in
-    All-cons (IsAtEnd lay run) d ds (one_ended d k lay run (All-head (IsOf (ground id lay)) d ds of).1 a.0.2 sound b.1) (all_ended id lay run owner seat ks sound o ds (All-tail (IsOf (ground id lay)) d ds of) a.1)
+    All-cons (IsAtEnd lay run) d ds (one_ended d k lay run (All-head (IsOn id lay) d ds of).1 a.0.2 sound b.1) (all_ended id lay run owner seat ks sound o ds (All-tail (IsOn id lay) d ds of) a.1)
 
 all_begun : (lay : Layout) (run : List Row) (ds : List PassView) → All (IsAtEnd lay run) ds → AreBegun ds run
 all_begun lay run [] a = tt
@@ -158,7 +158,7 @@ all_left lay rows ds l all = All-weaker (IsAtEnd lay rows) (λ p. All (λ q. All
     ends_at : (p : PassView) → IsAtEnd lay rows p → Extends (history_of lay.mode rows) (run_of p)
     ends_at p a = subst (λ (l : Layout). Extends (history_of l.mode rows) (run_of p)) a.same a.ends
 
-pub closes : {allows : Layout → History → ℕ → Type 0} (id : _) (lay : Layout) (ds : List PassView) (seat : ℕ) (v : SeatView) (words : List ℕ) (slots : List ℕ) → All (IsOf (ground id lay)) ds → AreIn allows ds v.passes → Final (Seen (TableIsLawful allows lay) seat v) words slots → IsClosed allows lay ds (record { layout = lay; words = words })
+pub closes : {allows : Layout → History → ℕ → Type 0} (id : _) (lay : Layout) (ds : List PassView) (seat : ℕ) (v : SeatView) (words : List ℕ) (slots : List ℕ) → All (IsOn id lay) ds → AreIn allows ds v.passes → Final (Seen (TableIsLawful allows lay) seat v) words slots → IsClosed allows lay ds (record { layout = lay; words = words })
 closes {allows} id lay ds seat v words slots of a f =
     let kept : TableIsLawful allows lay f.0 = f.1.0 in
     let holds : (w : Word) → IsWord lay w → slice_index words (place lay w) ≡ value (history_of lay.mode kept.run) w = λ w i. rw (← f.2) (kept.holds w i) in

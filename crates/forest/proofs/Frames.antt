@@ -24,10 +24,10 @@ use Rattle.forest.specs.Shares.{entries_of}
 -- Entries
 
 -- the entry is of the pass, or it is not
-entry_mine : (c : ℕ) (e : Entry) (es : List Entry) → e.owner ≡ c → entries_of c (e ∷ es) ≡ e ∷ entries_of c es
+pub entry_mine : (c : ℕ) (e : Entry) (es : List Entry) → e.owner ≡ c → entries_of c (e ∷ es) ≡ e ∷ entries_of c es
 entry_mine c e es same = rw (eq-eqb e.owner c same) refl
 
-entry_others : (c : ℕ) (e : Entry) (es : List Entry) → e.owner ≢ c → entries_of c (e ∷ es) ≡ entries_of c es
+pub entry_others : (c : ℕ) (e : Entry) (es : List Entry) → e.owner ≢ c → entries_of c (e ∷ es) ≡ entries_of c es
 entry_others c e es apart = rw (ne_eqb e.owner c apart) refl
 
 -- the update of an SCX-record of the pass has won

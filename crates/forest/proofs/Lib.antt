@@ -6,12 +6,14 @@ pub mod Calls
 pub mod Called
 pub mod Blames
 pub mod Passes
+pub mod Entered
 pub mod LlxCalls
 pub mod VlxCalls
 pub mod ScxCalls
 pub mod Meets
 pub mod Openings
 pub mod Closes
+pub mod Copies
 pub mod AllBack
 pub mod Crowds
 mod Places
@@ -19,3 +21,5 @@ mod StraightLlx
 mod StraightHelp
 mod StraightScx
 mod StraightVlx
+mod Dictionary
+mod DictCalls

@@ -1,6 +1,7 @@
 pub mod Shares
 pub mod Passes
 pub mod Puts
+pub mod Copies
 pub mod Blames
 pub mod StraightLlx
 pub mod StraightHelp
@@ -10,3 +11,4 @@ pub mod Traces
 pub mod TableRule
 pub mod JoinedSeats
 pub mod PassInvariant
+pub mod Dictionary

@@ -15,7 +15,7 @@ abbrev pub pass_view : {T : Type 0} → Inside T → PassView
 pass_view p = record { table = p.seat.table_id; layout = p.layout; number = p.number.0; share = p.share; known = known_of p.seat.me.0.passes; blamed = p.blamed }
 
 -- what holds of every pass: its seat has it alone; in the run that it knows, a lawful one of a
--- table of this mode, it is between two calls, and all that it has blamed is finished
+-- table of this mode, it is between two calls
 pub record IsPass (allows : Layout → History → ℕ → Type 0) (mode : Mode) {T : Type 0} (p : Inside T) : Type 0 where
   pub seat : p.seat.me.0.passes ≡ seated_pass p.number.0 p.layout (known_of p.seat.me.0.passes) ∷ []
   pub bare : p.seat.me.1 ≡ []

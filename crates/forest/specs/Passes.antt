@@ -15,7 +15,8 @@ use Rattle.arena.specs.Machines.{IsRun}
 use Rattle.arena.specs.PlainWords.{Contents, word_at}
 use Rattle.arena.specs.Words.{state, child, node as node_word}
 use Rattle.arena.specs.History.{History, ◌⊳◌, value, Extends}
-use Rattle.arena.specs.Fills.{IsOthersScx, IsOwnNode, IsOwnScx, IsTakenNode, IsTakenScx}
+use Rattle.arena.specs.declared.limits.Mode.TheVariants.{Records}
+use Rattle.arena.specs.Fills.{IsNamedScx, IsOthersScx, IsOwnNode, IsOwnScx, IsTakenNode, IsTakenScx}
 use Rattle.arena.specs.Blame.{HasFailed}
 use Rattle.arena.specs.Lawful.{IsWin}
 use Rattle.arena.specs.Log.{Entry, log, has, fields}
@@ -66,18 +67,23 @@ done_of p = entries_of p.number (seen_of p)
 abbrev pub steps_of : PassView → ℕ
 steps_of p = rows_of p.number p.known
 
--- what contracts see of a forest: its table and layout
+-- what contracts see of a forest: its table and layout, and how often a call of a map tries
 pub record Ground : Type 0 where
   pub table : TableId
   pub layout : Layout
+  pub tries : ℕ
 
--- the forest of this table and layout
-abbrev pub ground : TableId → Layout → Ground
-ground table lay = record { table = table; layout = lay }
+-- the forest of this table and layout, whose calls try so often
+abbrev pub ground : TableId → Layout → ℕ → Ground
+ground table lay tries = record { table = table; layout = lay; tries = tries }
+
+-- the pass is of this table and layout
+abbrev pub IsOn : TableId → Layout → PassView → Type 0
+IsOn table lay p = (p.table ≡ table) × (p.layout ≡ lay)
 
 -- the pass is of this forest
 abbrev pub IsOf : Ground → PassView → Type 0
-IsOf f p = (p.table ≡ f.table) × (p.layout ≡ f.layout)
+IsOf f = IsOn f.table f.layout
 
 -- the same pass, later on: the run that it knows goes on from what it knew
 pub record IsLaterView (old new : PassView) : Type 0 where
@@ -112,12 +118,14 @@ Each P (x ∷ xs) = P x × Each P xs
 
 -- Blame lists
 
--- the blame list has SCX-records of other passes' shares, each finished in the
--- run that the pass knows, and none of them twice
+-- The blame list has SCX-records of other passes' shares, each of which an info word has named in
+-- the run that the pass knows. In cells each is finished there too, and none of them is blamed
+-- twice; a call on the tree may name one that is in progress, and name it again.
 pub record HasBlamed (p : PassView) : Type 0 where
   pub others : All (λ s. IsOthersScx p.layout p.number s) p.blamed
-  pub over : All (λ s. value (run_of p) (state s) ≢ 0) p.blamed
-  pub different : AllPairs (λ s t. s ≢ t) p.blamed
+  pub begun : All (λ s. IsNamedScx (run_of p) s) p.blamed
+  pub over : p.layout.mode ≡ Records → All (λ s. value (run_of p) (state s) ≢ 0) p.blamed
+  pub different : p.layout.mode ≡ Records → AllPairs (λ s t. s ≢ t) p.blamed
 
 -- What every call leaves
 
@@ -129,7 +137,7 @@ pub record HasGoneOn (allows : Layout → History → ℕ → Type 0) (old new :
   -- its own rows there are of this call, and no more than `most`
   pub calls : AreOfCall new.number number (run_of old) (run_of new)
   pub steps : steps_of new ≤ steps_of old + most
-  -- it has blamed these now, and each that it has blamed is finished
+  -- it has blamed these now
   pub blamed_these : new.blamed ≡ blamed
   pub blames : HasBlamed new
   -- it may use each snapshot that it could use
@@ -256,14 +264,18 @@ HaveLeftShares passes = All (λ p. All (λ q. All (λ s. ¬ HasScx q.share s) p.
 
 -- New passes
 
--- pass c of the forest before its first step: it has its whole share and knows nothing
-abbrev pub new_pass : Ground → ℕ → PassView
-new_pass f c = record { table = f.table; layout = f.layout; number = c; share = whole_share f.layout c; known = []; blamed = [] }
+-- pass c of this table before its first step: it has its whole share and knows nothing
+abbrev pub new_pass : TableId → Layout → ℕ → PassView
+new_pass table lay c = record { table = table; layout = lay; number = c; share = whole_share lay c; known = []; blamed = [] }
 
--- these are all passes of the forest, in order, before their first steps
-pub record AreNew (f : Ground) (passes : List PassView) : Type 0 where
-  pub count : length passes ≡ f.layout.passes
-  pub each : (j : ℕ) (d : PassView) → slice_get passes j ≡ Some d → d ≡ new_pass f j
+-- these are all passes of this table, in order, before their first steps
+pub record AreNewOn (table : TableId) (lay : Layout) (passes : List PassView) : Type 0 where
+  pub count : length passes ≡ lay.passes
+  pub each : (j : ℕ) (d : PassView) → slice_get passes j ≡ Some d → d ≡ new_pass table lay j
+
+-- these are all passes of the forest
+abbrev pub AreNew : Ground → List PassView → Type 0
+AreNew f = AreNewOn f.table f.layout
 
 -- All passes
 

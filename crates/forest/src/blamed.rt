@@ -2,6 +2,7 @@
 ghost use Rattle.std.specs.Prelude.{◌≡◌, [], ◌∷◌};
 
 use arena::ScxNo;
+use dict::Reply;
 use prims::Llx;
 use std::marker::Model;
 use std::mem::replace;
@@ -41,7 +42,7 @@ impl Blamed {
     }
 
     /// This one is blamed too.
-    fn push(&mut self, scx: ScxNo)
+    pub(crate) fn push(&mut self, scx: ScxNo)
         ensures { self.new ≡ scx.0 ∷ self.old }
     {
         let Blamed { names } = replace(self, Blamed::new());
@@ -51,12 +52,22 @@ impl Blamed {
 
 impl Blamed {
     ghost use Rattle.forest.specs.Passes.{blamed_by};
+    ghost use Rattle.forest.specs.Dictionary.{blamed_by_reply};
 
     /// Takes in what an answer of `llx` blames.
     pub(crate) fn note(&mut self, answer: &Llx)
         ensures { self.new ≡ blamed_by answer.now self.old }
     {
         if let Llx::Fail { node: _, scx } = answer {
+            self.push(*scx);
+        }
+    }
+
+    /// Takes in what a reply of a dictionary blames.
+    pub(crate) fn note_reply<K, V>(&mut self, reply: &Reply<K, V>)
+        ensures { self.new ≡ blamed_by_reply reply.now self.old }
+    {
+        if let Reply::Contended { node: _, scx } = reply {
             self.push(*scx);
         }
     }

@@ -1,14 +1,16 @@
 //! The end of a forest, once all passes are back.
-ghost use Rattle.std.specs.Prelude.{◌≡◌, ◌<◌, ◌↔◌, [], ◌∷◌, vec_len, IsSome, IfSome};
+ghost use Rattle.std.specs.Prelude.{◌≡◌, ◌<◌, ◌+◌, ◌↔◌, List, [], ◌∷◌, vec_len, IsSome, IfSome, IfOk};
 ghost use Rattle.std.specs.List.{All};
 ghost use Rattle.std.specs.Slots.{IsFull, slots_len};
 ghost use Rattle.arena.specs.declared.word.Side.TheVariants.{Left, Right};
 ghost use Rattle.arena.specs.Layout.{all_nodes, table_size, IsWord};
-ghost use Rattle.arena.specs.PlainWords.{Contents, word_at};
+ghost use Rattle.arena.specs.PlainWords.{Contents, IsChanged, word_at};
 ghost use Rattle.arena.specs.Words.{child};
+ghost use Rattle.spelling.specs.Spelled.{Spells};
+ghost use Rattle.forest.specs.Copies.{AreCopied};
 ghost use Rattle.forest.specs.declared.view.SeatedPass.{SeatedPass};
 ghost use Rattle.forest.specs.TableRule.{IsTableOf};
-ghost use Rattle.forest.specs.Passes.{ground, IsOf, AreAllBack, IsClosed};
+ghost use Rattle.forest.specs.Passes.{IsOn, IsOf, AreAllBack, IsClosed};
 ghost use Rattle.forest.specs.JoinedSeats.{IsFrom, AreIn};
 
 use crate::forest::Forest;
@@ -16,8 +18,11 @@ use crate::pass::Pass;
 use crate::rule::Asked;
 use crate::view::SeatView;
 use crate::words::Words;
-use arena::{Access, Kind, Layout, NodeNo, NodeWord, Shape, Side, Step, Word};
+use arena::{
+    Access, Kind, Layout, NoMemory, NodeNo, NodeWord, PlainWords, Shape, Side, Step, Word,
+};
 use atomic_table::Seat;
+use spelling::{Pair, spelled};
 use std::alloc::Global;
 use std::marker::{Brand, Model};
 
@@ -56,6 +61,58 @@ impl Closed {
     {
         self.words.word(self.layout.place(word))
     }
+
+    /// The pairs of the map that the words spell, if they spell one. The only error is want of
+    /// memory.
+    pub(crate) fn map(&self, alloc: Global) -> Result<Vec<Pair>, NoMemory>
+        ensures { (m : List Pair) → Spells self.now.layout (word_at self.now) m → IfOk result (λ r. r.items ≡ m) }
+    {
+        match spelled(alloc, &self.plain(alloc)?)? {
+            Some(pairs) => Ok(pairs),
+            None => Ok(Vec::new(alloc)),
+        }
+    }
+
+    /// A copy of the words that a map is read from.
+    fn plain(&self, alloc: Global) -> Result<PlainWords, NoMemory>
+        ensures layout { IfOk result (λ p. p.layout ≡ self.now.layout) }
+        ensures copied { IfOk result (λ p. AreCopied self.now p (all_nodes self.now.layout)) }
+    {
+        let mut words = PlainWords::new(alloc, &self.layout)?;
+        for number in 0..self.layout.all_nodes() {
+            self.copy_node(&mut words, NodeNo(u64::from(number)));
+        }
+        Ok(words)
+    }
+
+    /// Copies those of one node.
+    fn copy_node(&self, words: &mut PlainWords, node: NodeNo)
+        requires inside { node.0 < all_nodes self.now.layout }
+        requires layout { words.old.layout ≡ self.now.layout }
+        requires before { AreCopied self.now words.old node.0 }
+        ensures layout { words.new.layout ≡ self.now.layout }
+        ensures copied { AreCopied self.now words.new (node.0 + 1) }
+    {
+        self.copy(words, Word::Node(node, NodeWord::Head));
+        self.copy(words, Word::Node(node, NodeWord::Key));
+        self.copy(words, Word::Node(node, NodeWord::Value));
+        self.copy(words, Word::Node(node, NodeWord::Child(Side::Left)));
+        self.copy(words, Word::Node(node, NodeWord::Child(Side::Right)));
+    }
+
+    /// Copies a word.
+    fn copy(&self, words: &mut PlainWords, word: Word)
+        requires inside { IsWord self.now.layout word }
+        requires layout { words.old.layout ≡ self.now.layout }
+        ensures { IsChanged words.old words.new word (word_at self.now word) }
+    {
+        let access = Access::Store(self.word(word));
+        words.apply(Step {
+            kind: Kind::Fill,
+            word,
+            access,
+        });
+    }
 }
 
 impl Drop for Closed {
@@ -73,7 +130,11 @@ impl<S: Shape> Forest<S> {
         ensures layout { result.layout ≡ self.layout }
         ensures closed { IsClosed S.allows self.layout passes.items result }
     {
-        let Forest { words, layout } = self;
+        let Forest {
+            words,
+            layout,
+            tries: _,
+        } = self;
         match gather(&words, &layout, passes) {
             Some(seat) => Closed {
                 words: words.close(seat),
@@ -91,7 +152,7 @@ fn gather<S: Shape>(
     mut passes: Vec<Pass<S>>,
 ) -> Option<Seat<u8, SeatView>>
     requires table { IsTableOf words.now.table.shared.table_id words.now.table.shared.key layout.now }
-    requires passes { All (IsOf (ground words.now.table.shared.table_id layout.now)) passes.items }
+    requires passes { All (IsOn words.now.table.shared.table_id layout.now) passes.items }
     ensures some { 0 < vec_len passes → IsSome result }
     ensures table { IfSome result (λ s. s.table_id ≡ words.now.table.shared.table_id) }
     ensures all { IfSome result (λ s. AreIn S.allows passes.items s.me.0.passes) }
@@ -107,7 +168,7 @@ fn gather<S: Shape>(
 /// The seat of a pass, which has looked at the table once more.
 fn seat_of<S: Shape>(words: &Words<S>, layout: &Layout, pass: Pass<S>) -> Seat<u8, SeatView>
     requires table { IsTableOf words.now.table.shared.table_id words.now.table.shared.key layout.now }
-    requires pass { IsOf (ground words.now.table.shared.table_id layout.now) pass }
+    requires pass { IsOn words.now.table.shared.table_id layout.now pass }
     ensures table { result.table_id ≡ words.now.table.shared.table_id }
     ensures bare { result.me.1 ≡ [] }
     ensures pass { (k : SeatedPass) × (result.me.0.passes ≡ k ∷ []) × IsFrom S.allows pass k }

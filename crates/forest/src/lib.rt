@@ -1,8 +1,9 @@
-//! Threads that share the cells of one table of atomic words.
+//! Threads that share one table of atomic words: cells, or an ordered dictionary.
 #![tactic(auto)]
 
 mod blamed;
 mod close;
+mod dictionary;
 mod fault;
 mod forest;
 mod meet;
@@ -15,6 +16,6 @@ mod words;
 
 pub use arena::{Full, Resource};
 pub use close::Closed;
-pub use fault::NewFault;
+pub use fault::{NewFault, OrderFault, UpdateFault};
 pub use forest::Forest;
 pub use pass::Pass;

@@ -1,12 +1,12 @@
 use Rattle.std.proofs.Common.{◌≡◌, ◌-◌, ℕ, [], Some, slice_get, vec_len}
 use Rattle.forest.specs.TableRule.{new_passes}
-use Rattle.forest.specs.Passes.{PassView, ground, new_pass}
+use Rattle.forest.specs.Passes.{PassView, new_pass}
 use Rattle.forest.proofs.forest.pass_all.Given as goal
 
 abbrev pub invariant-loop-number : goal.invariant-loop-number
-invariant-loop-number l = record {
+invariant-loop-number g l = record {
   count : vec_len l.passes ≡ l.number;
-  each : (j : ℕ) (d : PassView) → slice_get l.passes.items j ≡ Some d → d ≡ new_pass (ground l.words.table.shared.table_id l.layout) j;
+  each : (j : ℕ) (d : PassView) → slice_get l.passes.items j ≡ Some d → d ≡ new_pass l.words.table.shared.table_id l.layout j;
   table : l.seat.table_id ≡ l.words.table.shared.table_id;
   bare : l.seat.me.1 ≡ [];
   left : l.seat.me.0.passes ≡ new_passes l.layout l.number (l.layout.passes - l.number);

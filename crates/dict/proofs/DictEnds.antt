@@ -1,0 +1,132 @@
+-- What the machine of a call of a dictionary has answered is right, where its reply is that of the map
+-- in words.
+use Rattle.std.proofs.Common.{◌≡◌, ℕ, List, [], ◌∷◌, Bool, true, false, cond, eqb, ltb, leb, ◌&&◌, zero, suc, take, Option, Some, None, inl, inr, refl, sym, ◌∙◌, ap, subst}
+use Rattle.arena.specs.declared.limits.Mode.TheVariants.{Tree as TreeMode}
+use Rattle.arena.specs.History.{History, ◌⊳◌, value, Extends}
+use Rattle.arena.specs.Machines.{Call, IsRun}
+use Rattle.arena.specs.Share.{Remaining}
+use Rattle.arena.proofs.Lemmas.{ends_self, ends_trans}
+use Rattle.spelling.specs.OrderedMap.{MapEdit, edit_key, MapCall, Edit, Get, Successor, Range, Insert, Delete, MapReply, OneValue, OnePair, ManyPairs, changes, get, pair_or_none, reply, successor, between}
+use Rattle.spelling.specs.Spelled.{Spells}
+use Rattle.spelling.specs.declared.pair.Pair.{Pair}
+use Rattle.spelling.proofs.Lemmas.{run_spells}
+use Rattle.updates.specs.Tries.{HasEnteredNone}
+use Rattle.dict.specs.Calls.{call_in, share_of, tries_behind}
+use Rattle.dict.specs.DictKnown.{DictRefuses, DictAnswers}
+use Rattle.dict.specs.Known.{MapAnswers}
+use Rattle.dict.specs.Says.{HasChanged, HasRead, HasTold, HasToldBy, KeepsLists, Tells, WordSays}
+use Rattle.dict.specs.Translated.{TellsTyped, SaysSame, IsTranslated}
+use Rattle.dict.specs.Typed.{AreTyped, IsTypedValue, IsTypedReply, TypedAllows}
+use Rattle.dict.specs.TypedMaps.{typed_map, typed_run, typed_since}
+use Rattle.dict.specs.WordReplies.{told_in}
+use Rattle.dict.specs.Words.{IsWord, IsValidReply, told_of}
+use Rattle.dict.specs.declared.dict.DictRun.{DictRun}
+use Rattle.dict.specs.declared.reply.Reply.{Reply}
+use Rattle.dict.specs.declared.reply.Reply.TheVariants as replies
+use Rattle.dict.specs.declared.told.WordReply.{WordReply}
+use Rattle.dict.specs.declared.told.WordReply.TheVariants as words
+
+-- What a map of typed words replies is typed
+
+module _ (keys values : ℕ → Type 0) where
+  if_value : (b : Bool) (v w : Option ℕ) → IsTypedValue values v → IsTypedValue values w → IsTypedValue values (cond b v w)
+  if_value true v w x y = x
+  if_value false v w x y = y
+
+  get_typed : (k : ℕ) (m : List Pair) → AreTyped keys values m → IsTypedValue values (get k m)
+  get_typed k [] x = tt
+  get_typed k (p ∷ ps) x = if_value (eqb k p.key) (Some p.value) (get k ps) x.1 (get_typed k ps x.2)
+
+  if_pair : (b : Bool) (p q : Option Pair) → IsTypedReply keys values (pair_or_none p) → IsTypedReply keys values (pair_or_none q) → IsTypedReply keys values (pair_or_none (cond b p q))
+  if_pair true p q x y = x
+  if_pair false p q x y = y
+
+  successor_typed : (k : ℕ) (m : List Pair) → AreTyped keys values m → IsTypedReply keys values (pair_or_none (successor k m))
+  successor_typed k [] x = tt
+  successor_typed k (p ∷ ps) x = if_pair (ltb k p.key) (Some p) (successor k ps) (x.0, x.1) (successor_typed k ps x.2)
+
+  if_pairs : (b : Bool) (ps qs : List Pair) → AreTyped keys values ps → AreTyped keys values qs → AreTyped keys values (cond b ps qs)
+  if_pairs true ps qs x y = x
+  if_pairs false ps qs x y = y
+
+  between_typed : (low high : ℕ) (m : List Pair) → AreTyped keys values m → AreTyped keys values (between low high m)
+  between_typed low high [] x = tt
+  between_typed low high (p ∷ ps) x = let y = between_typed low high ps x.2 in if_pairs (leb low p.key && leb p.key high) (p ∷ between low high ps) (between low high ps) (x.0, x.1, y) y
+
+  take_typed : (most : ℕ) (m : List Pair) → AreTyped keys values m → AreTyped keys values (take most m)
+  take_typed zero m x = tt
+  take_typed (suc most) [] x = tt
+  take_typed (suc most) (p ∷ ps) x = (x.0, x.1, take_typed most ps x.2)
+
+  reply_typed : (call : MapCall) (m : List Pair) → AreTyped keys values m → IsTypedReply keys values (reply call m)
+  reply_typed (Edit e) m x = get_typed (edit_key e) m x
+  reply_typed (Get k) m x = get_typed k m x
+  reply_typed (Successor k) m x = successor_typed k m x
+  reply_typed (Range low high most) m x = take_typed most (between low high m) (between_typed low high m x)
+
+  -- so is what a call tells in a run of the dictionary
+  module _ (c : Call) (h : History) (mode : c.layout.mode ≡ TreeMode) (run : IsRun (TypedAllows keys values) c.layout h) where
+    map_typed : (moment : History) (m : List Pair) → Extends h moment → Spells c.layout (value moment) m → AreTyped keys values m
+    map_typed moment m within x = typed_map keys values c.layout moment mode (typed_since keys values c.layout h moment run within) m x
+
+    changed_typed : (call : MapCall) (told : MapReply) → HasChanged c h call told → IsTypedReply keys values told
+    changed_typed call told x =
+        let within : Extends h x.made.before = ends_trans h (x.made.row ⊳ x.made.before) x.made.before x.made.within (inr (ends_self x.made.before)) in
+        let map : (m : List Pair) × Spells c.layout (value x.made.before) m = run_spells c.layout x.made.before (mode, typed_run keys values c.layout x.made.before (typed_since keys values c.layout h x.made.before run within)) in
+        let typed : IsTypedValue values (get (edit_key x.edit) map.0) = get_typed (edit_key x.edit) map.0 (map_typed x.made.before map.0 within map.1) in
+        let old : IsTypedValue values x.old = subst (IsTypedValue values) (x.made.told map.0 map.1) typed in
+        subst (IsTypedReply keys values) (sym x.tells) old
+
+    read_typed : (call : MapCall) (told : MapReply) → HasRead c h call told → IsTypedReply keys values told
+    read_typed call told x = subst (IsTypedReply keys values) x.gives (reply_typed call x.map (map_typed x.moment x.map x.within x.spelled))
+
+    by_typed : (b : Bool) (call : MapCall) (told : MapReply) → HasToldBy b c h call told → IsTypedReply keys values told
+    by_typed true call told x = changed_typed call told x
+    by_typed false call told x = read_typed call told x
+
+    pub told_typed : (call : MapCall) (told : Option MapReply) → Tells c h call told → TellsTyped keys values told
+    told_typed call None x = tt
+    told_typed call (Some told) x = by_typed (changes call told) call told x
+
+-- What the reply of keys and values says
+
+module _ (c : Call) (h : History) where
+  -- a call that tells pairs keeps lists, and has entered nothing
+  keeps : (call : MapCall) (ps : List Pair) → HasTold c h call (ManyPairs ps) → KeepsLists call × HasEnteredNone c.layout c.pass h c.start
+  keeps (Edit (Insert k v)) ps x = absurd (let e = x.tells in cc)
+  keeps (Edit (Delete k)) ps x = absurd (let e = x.gives in cc)
+  keeps (Get k) ps x = absurd (let e = x.gives in cc)
+  keeps (Successor k) ps x = (tt, x.none)
+  keeps (Range low high most) ps x = (tt, x.none)
+
+  module _ {K V : Type 0} (key : K → ℕ) (value_of : V → ℕ) (call : MapCall) (share : Remaining) (tries : ℕ) where
+    abbrev Right : Reply K V → Type 0
+    Right r = Tells c h call (told_of key value_of r) × DictRefuses c h call share tries r
+
+    -- a reply that tells something refuses nothing
+    refuses_none : (r : Reply K V) (told : MapReply) → told_of key value_of r ≡ Some told → DictRefuses c h call share tries r
+    refuses_none (replies.Value v) told e = tt
+    refuses_none (replies.Pair p) told e = tt
+    refuses_none (replies.Pairs ps) told e = tt
+    refuses_none (replies.Contended node scx) told e = absurd cc
+    refuses_none (replies.Full full) told e = absurd cc
+    refuses_none replies.NoMemory told e = absurd cc
+
+    tells_same : (r : Reply K V) (told : MapReply) → told_of key value_of r ≡ Some told → HasTold c h call told → Right r
+    tells_same r told e x = (subst (Tells c h call) (sym e) x, refuses_none r told e)
+
+    pub says_right : (w : WordReply) (r : Reply K V) → SaysSame key value_of w r → WordSays c h call share tries w → Right r
+    says_right (words.Value told) r e x = tells_same r (OneValue told) e x.0
+    says_right (words.Pair found) r e x = tells_same r (pair_or_none found) e x.0
+    says_right (words.Pairs found) r (inl e) x = tells_same r (ManyPairs found.items) e x.0
+    says_right (words.Pairs found) r (inr e) x = subst Right (sym e) (tt, keeps call found.items x.0)
+    says_right (words.Contended node scx) r e x = subst Right (sym e) (tt, x.1)
+    says_right (words.Full full) r e x = subst Right (sym e) (tt, x.1)
+    says_right words.NoMemory r e x = subst Right (sym e) (tt, x.1)
+
+module _ {K V : Type 0} (valid_key : K → Type 0) (key : K → ℕ) (valid_value : V → Type 0) (value_of : V → ℕ) where
+  pub dict_ends : (m : DictRun K V) (c : Call) (h : History) (w : WordReply) (r : Reply K V) → c.layout.mode ≡ TreeMode → IsRun (TypedAllows (IsWord valid_key key) (IsWord valid_value value_of)) c.layout h → MapAnswers m.tries m.run c h w → IsValidReply valid_key valid_value r → IsTranslated valid_key key valid_value value_of w r → DictAnswers valid_key key valid_value value_of m c h r
+  dict_ends m c h w r mode run x valid same =
+      let e : SaysSame key value_of w r = same (told_typed (IsWord valid_key key) (IsWord valid_value value_of) c h mode run (call_in m.run) (told_in w) x.says.0) in
+      let y = says_right c h key value_of (call_in m.run) (share_of m.run) (tries_behind m.run) w r e x.says in
+      record { rests = x.rests; spent = x.spent; valid = valid; tells = y.0; refuses = y.1 }

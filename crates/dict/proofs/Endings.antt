@@ -1,0 +1,133 @@
+-- What the answers of the machines inside say of the call, in words.
+use Rattle.std.proofs.Common.{◌≡◌, ◌≢◌, ◌⊎◌, ℕ, ◌^◌, ◌<◌, ◌≤◌, ◌+◌, ◌*◌, inl, inr, ⊎_elim, List, Option, Some, None, Result, Ok, Err, Vec, refl, sym, ◌∙◌, ap, subst, arith}
+use Rattle.std.specs.Global.{Global}
+use Rattle.arena.specs.History.{History}
+use Rattle.arena.specs.Machines.{Call}
+use Rattle.arena.specs.Share.{Remaining}
+use Rattle.order.specs.Range.Known.{RangeAnswers}
+use Rattle.order.specs.Successor.Known.{SuccessorAnswers}
+use Rattle.order.specs.declared.range.RangeRun.{RangeRun}
+use Rattle.order.specs.declared.refused.Refused.{Refused}
+use Rattle.order.specs.declared.refused.Refused.TheVariants as refused
+use Rattle.order.specs.declared.successor.SuccessorRun.{SuccessorRun}
+use Rattle.spelling.specs.OrderedMap.{MapCall, Edit, Successor as SuccessorOf, Range as RangeOf, Insert as PutEdit, Delete as TakeEdit, OneValue, ManyPairs, get, pair_or_none}
+use Rattle.spelling.specs.Runs.{IsTreeRun}
+use Rattle.spelling.specs.declared.pair.Pair.{Pair}
+use Rattle.template.specs.declared.walk.Found.{Found}
+use Rattle.tree.specs.Delete.Means.{delete_means, delete_need}
+use Rattle.tree.specs.Get.Known.{GetAnswers}
+use Rattle.tree.specs.Insert.Means.{insert_means, insert_need}
+use Rattle.tree.specs.declared.delete.Delete.{Delete as Deleted}
+use Rattle.tree.specs.declared.get.GetRun.{GetRun}
+use Rattle.tree.specs.declared.insert.Insert.{Insert as Inserted}
+use Rattle.updates.specs.Known.{RestsWith, HasMade, UpdateSays}
+use Rattle.updates.specs.Pieces.{many_nodes}
+use Rattle.updates.specs.Steps.{Spends}
+use Rattle.updates.specs.Tries.{HasEnteredNone}
+use Rattle.updates.specs.declared.edit.Need.TheVariants.{Nothing, One}
+use Rattle.updates.specs.declared.update.UpdateRun.{UpdateRun}
+use Rattle.updates.specs.declared.update.Updated.{Updated}
+use Rattle.updates.specs.declared.update.Updated.TheVariants.{Done, Contended, Full}
+use Rattle.dict.specs.Calls.{call_in, share_of, tries_behind, need, insert_nodes, delete_nodes, HasSpent}
+use Rattle.dict.specs.Known.{Rests, Goes, HasSpentSo, MapAnswers}
+use Rattle.dict.specs.Says.{WordSays, HasRead, HasChanged}
+use Rattle.dict.specs.WordReplies.{update_reply, successor_reply, range_reply}
+use Rattle.dict.specs.declared.run.MapRun.{MapRun}
+use Rattle.dict.specs.declared.run.MapRun.TheVariants as runs
+use Rattle.dict.specs.declared.told.WordReply.TheVariants as words
+use Rattle.dict.proofs.Readings.{none_entered, answer_read, reply_read, always_read, way_of_read, leaf_read, ran_out}
+
+-- an insert always has something to make
+something : (old : Option ℕ) → insert_need old ≢ Nothing
+something None e = cc
+something (Some v) e = cc
+
+-- and needs as many nodes as the call does
+insert_many : (old : Option ℕ) → many_nodes (insert_need old) ≡ insert_nodes old
+insert_many None = refl
+insert_many (Some v) = refl
+
+insert_some : (old : Option ℕ) → 0 < many_nodes (insert_need old)
+insert_some None = omega arith
+insert_some (Some v) = omega arith
+
+delete_many : (old : Option ℕ) → many_nodes (delete_need old) ≡ delete_nodes old
+delete_many None = refl
+delete_many (Some v) = refl
+
+delete_some : (old : Option ℕ) → delete_need old ≢ Nothing → 0 < many_nodes (delete_need old)
+delete_some None d = absurd (d refl)
+delete_some (Some v) d = omega arith
+
+module _ (c : Call) (h : History) where
+  -- an insert that is done has changed the map
+  pub insert_says : (m : UpdateRun Inserted) (a : Updated) → IsTreeRun c.layout h → m.edit.key < 2 ^ 64 → m.call ≡ c.number → UpdateSays insert_means m c h a → WordSays c h (Edit (PutEdit m.edit.key m.edit.value)) m.share m.tries (update_reply a)
+  insert_says m (Done found) run small number (inl x) = absurd (something found.value x.needless)
+  insert_says m (Done found) run small number (inr x) = (record { edit = PutEdit m.edit.key m.edit.value; is_edit = refl; old = found.value; tells = refl; made = subst (λ n. HasMade (PutEdit m.edit.key m.edit.value) c h n found.value) number x.0 }, tt)
+  insert_says m (Contended node scx) run small number x = (tt, record { way = x.0; over = x.1; none = x.2 })
+  insert_says m (Full full) run small number x = (tt, ran_out c h (Edit (PutEdit m.edit.key m.edit.value)) m.edit.key x.found (insert_need x.found.value) m.share full
+      (leaf_read c h m.edit.key x.found small run x.has_found x.none)
+      (λ map e. insert_many x.found.value ∙ ap insert_nodes (sym e))
+      (insert_some x.found.value) x.short)
+
+  -- a delete that is done has changed it, or has found no value
+  delete_done : (m : UpdateRun Deleted) (found : Found) (old : Option ℕ) → found.value ≡ old → IsTreeRun c.layout h → m.edit.key < 2 ^ 64 → m.call ≡ c.number → UpdateSays delete_means m c h (Done found) → WordSays c h (Edit (TakeEdit m.edit.key)) m.share m.tries (words.Value old)
+  delete_done m found None e run small number (inl x) =
+      let y : HasRead c h (Edit (TakeEdit m.edit.key)) (OneValue found.value) = let z = leaf_read c h m.edit.key found small run x.has_found x.none in record { moment = z.moment; within = z.within; since = z.since; map = z.map; spelled = z.spelled; gives = z.gives; none = z.none } in
+      (rw e at y, tt)
+  delete_done m found (Some old) e run small number (inl x) = absurd (let none : One ≡ Nothing = subst (λ o. delete_need o ≡ Nothing) e x.needless in cc)
+  delete_done m found None e run small number (inr x) = absurd (x.1.needed (subst (λ o. delete_need o ≡ Nothing) (sym e) refl))
+  delete_done m found (Some old) e run small number (inr x) =
+      let made : HasMade (TakeEdit m.edit.key) c h c.number (Some old) = rw (number, e) at x.0 in
+      (record { edit = TakeEdit m.edit.key; is_edit = refl; old = Some old; tells = refl; made = made }, tt)
+
+  pub delete_says : (m : UpdateRun Deleted) (a : Updated) → IsTreeRun c.layout h → m.edit.key < 2 ^ 64 → m.call ≡ c.number → UpdateSays delete_means m c h a → WordSays c h (Edit (TakeEdit m.edit.key)) m.share m.tries (update_reply a)
+  delete_says m (Done found) run small number x = delete_done m found found.value refl run small number x
+  delete_says m (Contended node scx) run small number x = (tt, record { way = x.0; over = x.1; none = x.2 })
+  delete_says m (Full full) run small number x = (tt, ran_out c h (Edit (TakeEdit m.edit.key)) m.edit.key x.found (delete_need x.found.value) m.share full
+      (leaf_read c h m.edit.key x.found small run x.has_found x.none)
+      (λ map e. delete_many x.found.value ∙ ap delete_nodes (sym e))
+      (delete_some x.found.value x.needed) x.short)
+
+  -- a get has read what it tells
+  pub get_says : (m : GetRun) (share : Remaining) (a : Option ℕ) → Rests c h share → GetAnswers m c h a → WordSays c h (call_in (runs.Get m share)) share 0 (words.Value a)
+  get_says m share a x y = (answer_read c h y.first m.key a y.own y.right (none_entered c h share x), tt)
+
+  -- so has a successor
+  pub successor_says : (m : SuccessorRun) (share : Remaining) (a : Result (Option Pair) Refused) → Rests c h share → SuccessorAnswers m c h a → WordSays c h (SuccessorOf m.key) share m.tries (successor_reply a)
+  successor_says m share (Ok found) x y = (reply_read c h (SuccessorOf m.key) (pair_or_none found) y.1 (none_entered c h share x), tt)
+  successor_says m share (Err (refused.Contended node scx)) x y = (tt, record { way = way_of_read c h node.0 scx.0 y.1.0; over = y.1.1; none = none_entered c h share x })
+  successor_says m share (Err refused.NoMemory) x y = (tt, (tt, none_entered c h share x))
+
+  -- and a range, or it tells what every map replies
+  pub range_says : (m : RangeRun) (share : Remaining) (a : Result (Vec Pair Global) Refused) → Rests c h share → RangeAnswers m c h a → WordSays c h (RangeOf m.low m.high m.most) share m.tries (range_reply a)
+  range_says m share (Ok found) x y = (⊎_elim (λ z. reply_read c h (RangeOf m.low m.high m.most) (ManyPairs found.items) z none) (λ z. always_read c h (RangeOf m.low m.high m.most) (ManyPairs found.items) x.run x.since (λ map. ap ManyPairs (z.1 map)) none) y.1, tt)
+    where
+      none : HasEnteredNone c.layout c.pass h c.start
+      none = none_entered c h share x
+  range_says m share (Err (refused.Contended node scx)) x y = (tt, record { way = way_of_read c h node.0 scx.0 y.1.0; over = y.1.1; none = none_entered c h share x })
+  range_says m share (Err refused.NoMemory) x y = (tt, (tt, none_entered c h share x))
+
+-- What is gone of the share
+
+-- what a read has taken is nothing
+pub read_spent : (c : Call) (call : MapCall) (tries : ℕ) (share : Remaining) → RestsWith c c.start share → HasSpent c call tries share
+read_spent c call tries share x = record { left = share; first = x; nodes = omega arith; scx = omega arith }
+
+spent_on : (left old now a b tries : ℕ) → left + a ≤ old + tries → old + b ≤ now + a → left + b ≤ now + tries
+spent_on left old now a b tries x y = omega arith
+
+-- what an edit has taken by now
+pub edit_spends : (c : Call) (most : ℕ) (old now : Remaining) (tries nodes nodes_then scx scx_then : ℕ) → HasSpentSo c most old tries nodes scx → Spends most old now nodes nodes_then scx scx_then → HasSpentSo c most now tries nodes_then scx_then
+edit_spends c most old now tries nodes nodes_then scx scx_then x y = record {
+  left = x.left;
+  first = x.first;
+  spends = (spent_on x.left.nodes old.nodes now.nodes (most * nodes) (most * nodes_then) (most * tries) x.spends.0 y.0, spent_on x.left.scx old.scx now.scx scx scx_then tries x.spends.1 y.1);
+}
+
+-- and once it has answered
+pub insert_spent : (c : Call) (key value tries : ℕ) (share : Remaining) → HasSpentSo c 3 share tries 0 0 → HasSpent c (Edit (PutEdit key value)) tries share
+insert_spent c key value tries share x = record { left = x.left; first = x.first; nodes = let s = x.spends.0 in omega (arith, s); scx = let s = x.spends.1 in omega (arith, s) }
+
+pub delete_spent : (c : Call) (key tries : ℕ) (share : Remaining) → HasSpentSo c 1 share tries 0 0 → HasSpent c (Edit (TakeEdit key)) tries share
+delete_spent c key tries share x = record { left = x.left; first = x.first; nodes = let s = x.spends.0 in omega (arith, s); scx = let s = x.spends.1 in omega (arith, s) }

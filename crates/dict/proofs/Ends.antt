@@ -1,0 +1,57 @@
+-- What the machine of a call has answered is right, where the machine inside has answered.
+use Rattle.std.proofs.Common.{◌≡◌, ℕ, ◌^◌, ◌<◌, List, Option, Result, Vec, refl, sym, ◌∙◌, ap, subst, arith}
+use Rattle.std.specs.Global.{Global}
+use Rattle.arena.specs.History.{History}
+use Rattle.arena.specs.Machines.{Call, IsRun}
+use Rattle.arena.specs.Share.{Remaining}
+use Rattle.order.specs.Range.Known.{RangeAnswers}
+use Rattle.order.specs.Successor.Known.{SuccessorAnswers}
+use Rattle.order.specs.declared.range.RangeRun.{RangeRun}
+use Rattle.order.specs.declared.refused.Refused.{Refused}
+use Rattle.order.specs.declared.successor.SuccessorRun.{SuccessorRun}
+use Rattle.spelling.specs.OrderedMap.{Edit, Get as GetOf, Successor as SuccessorOf, Range as RangeOf, Insert as PutEdit, Delete as TakeEdit}
+use Rattle.spelling.specs.TreeShape.{TreeAllows}
+use Rattle.spelling.specs.declared.pair.Pair.{Pair}
+use Rattle.tree.specs.Delete.Means.{delete_means}
+use Rattle.tree.specs.Get.Known.{GetAnswers}
+use Rattle.tree.specs.Insert.Means.{insert_means}
+use Rattle.tree.specs.declared.delete.Delete.{Delete as Deleted}
+use Rattle.tree.specs.declared.get.GetRun.{GetRun}
+use Rattle.tree.specs.declared.insert.Insert.{Insert as Inserted}
+use Rattle.updates.specs.Known.{RestsWith, UpdateAnswers}
+use Rattle.updates.specs.Steps.{node_tries, scx_tries, Spends}
+use Rattle.updates.specs.declared.update.UpdateRun.{UpdateRun}
+use Rattle.updates.specs.declared.update.Updated.{Updated}
+use Rattle.dict.specs.Known.{Rests, Goes, MapAnswers}
+use Rattle.dict.specs.WordReplies.{update_reply, successor_reply, range_reply}
+use Rattle.dict.specs.declared.run.MapRun.TheVariants.{Insert, Delete, Get, Successor, Range}
+use Rattle.dict.specs.declared.told.WordReply.TheVariants as words
+use Rattle.dict.proofs.Endings.{insert_says, delete_says, get_says, successor_says, range_says, read_spent, edit_spends, insert_spent, delete_spent}
+
+module _ (tries : ℕ) (c : Call) (h : History) where
+  pub insert_ends : (old now : UpdateRun Inserted) (a : Updated) → IsRun TreeAllows c.layout h → Goes (Insert old) tries c → now.edit ≡ old.edit → now.call ≡ old.call → Spends 3 old.share now.share (node_tries old old.at) 0 (scx_tries old old.at) 0 → UpdateAnswers insert_means now c h a → MapAnswers tries (Insert now) c h (update_reply a)
+  insert_ends old now a run goes edit call spends x =
+      let small : now.edit.key < 2 ^ 64 = rw edit goes.small in
+      record {
+        rests = x.0;
+        spent = insert_spent c now.edit.key now.edit.value tries now.share (edit_spends c 3 old.share now.share tries (node_tries old old.at) 0 (scx_tries old old.at) 0 goes.spent spends);
+        says = insert_says c h now a (goes.mode, run) small (call ∙ goes.number) x.1;
+      }
+
+  pub delete_ends : (old now : UpdateRun Deleted) (a : Updated) → IsRun TreeAllows c.layout h → Goes (Delete old) tries c → now.edit ≡ old.edit → now.call ≡ old.call → Spends 1 old.share now.share (node_tries old old.at) 0 (scx_tries old old.at) 0 → UpdateAnswers delete_means now c h a → MapAnswers tries (Delete now) c h (update_reply a)
+  delete_ends old now a run goes edit call spends x =
+      let small : now.edit.key < 2 ^ 64 = rw edit goes.small in
+      record {
+        rests = x.0;
+        spent = delete_spent c now.edit.key tries now.share (edit_spends c 1 old.share now.share tries (node_tries old old.at) 0 (scx_tries old old.at) 0 goes.spent spends);
+        says = delete_says c h now a (goes.mode, run) small (call ∙ goes.number) x.1;
+      }
+
+  pub get_ends : (now : GetRun) (share : Remaining) (a : Option ℕ) → Rests c h share → RestsWith c c.start share → GetAnswers now c h a → MapAnswers tries (Get now share) c h (words.Value a)
+  get_ends now share a x spent y = record { rests = x.now; spent = read_spent c (GetOf now.key) tries share spent; says = get_says c h now share a x y }
+
+  pub successor_ends : (now : SuccessorRun) (share : Remaining) (a : Result (Option Pair) Refused) → Rests c h share → RestsWith c c.start share → SuccessorAnswers now c h a → MapAnswers tries (Successor now share) c h (successor_reply a)
+  successor_ends now share a x spent y = record { rests = x.now; spent = read_spent c (SuccessorOf now.key) tries share spent; says = successor_says c h now share a x y }
+
+  pub range_ends : (now : RangeRun) (share : Remaining) (a : Result (Vec Pair Global) Refused) → Rests c h share → RestsWith c c.start share → RangeAnswers now c h a → MapAnswers tries (Range now share) c h (range_reply a)
+  range_ends now share a x spent y = record { rests = x.now; spent = read_spent c (RangeOf now.low now.high now.most) tries share spent; says = range_says c h now share a x y }

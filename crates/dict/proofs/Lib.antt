@@ -1,0 +1,7 @@
+mod Readings
+mod Endings
+mod Ends
+mod Undisturbed
+mod Translating
+mod DictEnds
+mod Names

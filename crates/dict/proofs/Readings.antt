@@ -1,0 +1,107 @@
+-- What a reply of the map comes from: the moment of a read, the leaf that an edit has found, the
+-- edit that it has made.
+use Rattle.std.proofs.Common.{◌≡◌, ◌≢◌, ℕ, ◌^◌, ◌<◌, ◌≤◌, inl, inr, ⊎_elim, List, Option, Some, None, Ok, Err, refl, sym, ◌∙◌, ap, subst, arith}
+use Rattle.arena.specs.declared.fault.Full.{Full as FullOf}
+use Rattle.arena.specs.declared.fault.Resource.{Resource}
+use Rattle.arena.specs.declared.fault.Resource.TheVariants.{Nodes, Scx as ScxRecords}
+use Rattle.arena.specs.History.{History, value, Extends}
+use Rattle.arena.specs.Machines.{Call}
+use Rattle.arena.specs.Share.{Remaining}
+use Rattle.arena.proofs.Lemmas.{ends_self, ends_trans}
+use Rattle.order.specs.Range.Known.{RangeAnswers, RangeReplies}
+use Rattle.order.specs.Replies.{IsReplyAt, IsContended as IsReadContended}
+use Rattle.order.specs.Successor.Known.{SuccessorAnswers}
+use Rattle.order.specs.declared.range.RangeRun.{RangeRun}
+use Rattle.order.specs.declared.successor.SuccessorRun.{SuccessorRun}
+use Rattle.spelling.specs.OrderedMap.{MapCall, Edit, Get, Successor as SuccessorOf, Range as RangeOf, Insert as PutEdit, Delete as TakeEdit, MapReply, OneValue, ManyPairs, get, pair_or_none, reply}
+use Rattle.spelling.specs.Paths.{IsAnswerAt}
+use Rattle.spelling.specs.Runs.{IsTreeRun}
+use Rattle.spelling.specs.Spelled.{Spells}
+use Rattle.spelling.specs.declared.pair.Pair.{Pair}
+use Rattle.spelling.proofs.Lemmas.{run_spells, walk_answers}
+use Rattle.template.specs.FoundLeaf.{HasFoundLeaf}
+use Rattle.template.specs.Trails.{IsOwnMoment}
+use Rattle.template.specs.declared.walk.Found.{Found}
+use Rattle.template.proofs.Lemmas.{own_since}
+use Rattle.tree.specs.Get.Known.{GetAnswers}
+use Rattle.tree.specs.declared.get.GetRun.{GetRun}
+use Rattle.updates.specs.Blame.{IsContended}
+use Rattle.updates.specs.Known.{IsShort}
+use Rattle.updates.specs.Laws.Entered.{none_quiet}
+use Rattle.updates.specs.Pieces.{many_nodes}
+use Rattle.updates.specs.Tries.{HasEnteredNone}
+use Rattle.updates.specs.declared.edit.Need.{Need}
+use Rattle.dict.specs.Calls.{need}
+use Rattle.dict.specs.Known.{Rests}
+use Rattle.dict.specs.Says.{HasRead, HasTooLittle, HasRunOut}
+
+module _ (c : Call) (h : History) where
+  -- a pass at rest has entered nothing
+  pub none_entered : (share : Remaining) → Rests c h share → HasEnteredNone c.layout c.pass h c.start
+  none_entered share x = none_quiet c.layout c.pass h c.start x.run.1.lawful x.quiet
+
+  -- what was the answer at a moment behind an own one was read in the call
+  pub answer_read : (first : History) (key : ℕ) (answer : Option ℕ) → IsOwnMoment c first → IsAnswerAt c.layout h first key answer → HasEnteredNone c.layout c.pass h c.start → HasRead c h (Get key) (OneValue answer)
+  answer_read first key answer own x none = record {
+    moment = x.moment;
+    within = x.within;
+    since = ends_trans x.moment first c.start x.since (own_since c first own);
+    map = x.map;
+    spelled = x.spelled;
+    gives = ap OneValue x.gives;
+    none = none;
+  }
+
+  -- so was what an ordered read has replied
+  pub reply_read : (call : MapCall) (told : MapReply) → IsReplyAt c h call told → HasEnteredNone c.layout c.pass h c.start → HasRead c h call told
+  reply_read call told x none = record {
+    moment = x.moment;
+    within = x.within;
+    since = own_since c x.moment x.own;
+    map = x.map;
+    spelled = x.spelled;
+    gives = x.gives;
+    none = none;
+  }
+
+  -- and what every map replies
+  pub always_read : (call : MapCall) (told : MapReply) → IsTreeRun c.layout h → Extends h c.start → ((map : List Pair) → reply call map ≡ told) → HasEnteredNone c.layout c.pass h c.start → HasRead c h call told
+  always_read call told run since gives none =
+      let map : (ps : List Pair) × Spells c.layout (value h) ps = run_spells c.layout h run in
+      record { moment = h; within = ends_self h; since = since; map = map.0; spelled = map.1; gives = gives map.0; none = none }
+
+  -- who was in the way of a read was in the way of the call
+  pub way_of_read : (n s : ℕ) → IsReadContended c h n s → IsContended c h n s
+  way_of_read n s x = record { others = x.others; in_the_way = x.in_the_way }
+
+  -- the leaf that was found tells what the map had at a moment of the call
+  pub leaf_read : (key : ℕ) (f : Found) → key < 2 ^ 64 → IsTreeRun c.layout h → HasFoundLeaf c h key f → HasEnteredNone c.layout c.pass h c.start → HasRead c h (Get key) (OneValue f.value)
+  leaf_read key f small run x none =
+      let first = x.trail.node.first in
+      answer_read first key f.value x.trail.node.own (subst (IsAnswerAt c.layout h first key) (sym x.says) (walk_answers c.layout h first key f.trail.node.0 small run x.trail.node.passed x.leaf)) none
+
+  -- a share that is too small for the need is too small for as many nodes
+  short_of : (want : Need) (many : ℕ) (left : Remaining) (what : Resource) (k : ℕ) → many_nodes want ≡ many → IsShort want left what k → HasTooLittle many left what k
+  short_of want many left Nodes k e x = rw (sym e) x
+  short_of want many left ScxRecords k e x = rw (sym e) x
+
+  -- the value of a reply
+  abbrev told_value : (told : MapReply) → Option ℕ
+  told_value (OneValue told) = told
+  told_value _ = None
+
+  -- so the share has run out for the edit that needs it, where the leaf that was found tells its need
+  pub ran_out : (call : MapCall) (key : ℕ) (f : Found) (want : Need) (share : Remaining) (full : FullOf) → HasRead c h (Get key) (OneValue f.value) → ((map : List Pair) → get key map ≡ f.value → many_nodes want ≡ need call map) → 0 < many_nodes want → IsShort want share full.what full.left → HasRunOut c h call share full
+  ran_out call key f want share full x needs some short =
+      let gives : get key x.map ≡ f.value = ap told_value x.gives in
+      let e : many_nodes want ≡ need call x.map = needs x.map gives in
+      record {
+        moment = x.moment;
+        within = x.within;
+        since = x.since;
+        map = x.map;
+        spelled = x.spelled;
+        some = rw (sym e) some;
+        short = short_of want (need call x.map) share full.what full.left e short;
+        none = x.none;
+      }

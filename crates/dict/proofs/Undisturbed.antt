@@ -1,0 +1,62 @@
+-- What a call by itself tells and leaves.
+use Rattle.std.proofs.Common.{◌≡◌, ◌∙◌, ℕ, Bool, true, false, cond, eqb, inl, inr, List, [], ◌∷◌, Option, Some, None, refl, sym, ap, subst}
+use Rattle.arena.specs.History.{History, ◌⊳◌, value, Extends}
+use Rattle.arena.specs.declared.layout.Layout.{Layout}
+use Rattle.arena.specs.Machines.{Call}
+use Rattle.arena.proofs.Lemmas.{ends_self, ends_trans}
+use Rattle.spelling.specs.declared.pair.Pair.{Pair}
+use Rattle.spelling.specs.OrderedMap.{MapCall, Edit, Get, Successor, Range, MapEdit, Insert, Delete, MapReply, OneValue, reply, after, changes, edited, edit_key, get, delete}
+use Rattle.spelling.specs.Runs.{IsTreeRun}
+use Rattle.spelling.specs.Spelled.{Spells}
+use Rattle.spelling.proofs.Lemmas.{one_spelling, run_since}
+use Rattle.updates.specs.Known.{HasMade}
+use Rattle.updates.specs.Tries.{HasEnteredNone}
+use Rattle.updates.specs.Undisturbed.{IsUndisturbed}
+use Rattle.dict.specs.Says.{HasToldBy, HasChanged, HasRead}
+
+-- an absent key may be taken away, and nothing changes
+pub delete_absent : (k : ℕ) (m : List Pair) → get k m ≡ None → delete k m ≡ m
+delete_absent k [] e = refl
+delete_absent k (p ∷ ps) e = go (eqb k p.key) (delete_absent k ps) e
+  where
+    go : (same : Bool) → (get k ps ≡ None → delete k ps ≡ ps) → cond same (Some p.value) (get k ps) ≡ None → cond same ps (p ∷ delete k ps) ≡ p ∷ ps
+    go true rest x = let y : Some p.value ≡ None = x in cc
+    go false rest x = ap (λ qs. p ∷ qs) (rest x)
+
+-- what a made edit leaves, and what a call by itself that has entered nothing leaves
+abbrev pub Makes : Type 0
+Makes = (c : Call) (h : History) (edit : MapEdit) (number : ℕ) (old : Option ℕ) (map : List Pair) → IsTreeRun c.layout h → IsUndisturbed c h → HasMade edit c h number old → Spells c.layout (value c.start) map → (get (edit_key edit) map ≡ old) × Spells c.layout (value h) (edited edit map)
+
+abbrev pub Keeps : Type 0
+Keeps = (c : Call) (h : History) (map : List Pair) → IsTreeRun c.layout h → IsUndisturbed c h → HasEnteredNone c.layout c.pass h c.start → Spells c.layout (value c.start) map → Spells c.layout (value h) map
+
+module _ (makes : Makes) (keeps : Keeps) (c : Call) (h : History) (map : List Pair) (run : IsTreeRun c.layout h) (alone : IsUndisturbed c h) (s : Spells c.layout (value c.start) map) where
+  -- the map at any moment of a call that has entered nothing
+  keeps_at : (moment : History) → Extends h moment → Extends moment c.start → HasEnteredNone c.layout c.pass h c.start → Spells c.layout (value moment) map
+  keeps_at moment e f none = keeps c moment map (run_since c.layout h moment run e)
+      record { since = f; rest = alone.rest; own = λ row before w x. alone.own row before (ends_trans h moment (row ⊳ before) e w) x }
+      (λ row before t w x y. none row before t (ends_trans h moment (row ⊳ before) e w) x y) s
+
+  -- a reading leaves the map as it was
+  after_reading : (call : MapCall) (told : MapReply) → changes call told ≡ false → told ≡ reply call map → after call map ≡ map
+  after_reading (Edit (Insert k v)) told e same = let x : true ≡ false = e in cc
+  after_reading (Edit (Delete k)) told e same = delete_absent k map (go (get k map) (subst (λ t. changes (Edit (Delete k)) t ≡ false) same e))
+    where
+      go : (v : Option ℕ) → changes (Edit (Delete k)) (OneValue v) ≡ false → v ≡ None
+      go None x = refl
+      go (Some w) x = let y : true ≡ false = x in cc
+  after_reading (Get k) told e same = refl
+  after_reading (Successor k) told e same = refl
+  after_reading (Range low high most) told e same = refl
+
+  told_by : (b : Bool) (call : MapCall) (told : MapReply) → changes call told ≡ b → HasToldBy b c h call told → (told ≡ reply call map) × Spells c.layout (value h) (after call map)
+  told_by true call told e x =
+      let y = makes c h x.edit c.number x.old map run alone x.made s in
+      (x.tells ∙ ap OneValue (sym y.0) ∙ ap (λ k. reply k map) (sym x.is_edit), subst (λ k. Spells c.layout (value h) (after k map)) (sym x.is_edit) y.1)
+  told_by false call told e x =
+      let same : x.map ≡ map = one_spelling c.layout (value x.moment) x.map map x.spelled (keeps_at x.moment x.within x.since x.none) in
+      let is : told ≡ reply call map = sym x.gives ∙ ap (reply call) same in
+      (is, subst (Spells c.layout (value h)) (sym (after_reading call told e is)) (keeps_at h (ends_self h) alone.since x.none))
+
+  pub told_alone : (call : MapCall) (told : MapReply) → HasToldBy (changes call told) c h call told → (told ≡ reply call map) × Spells c.layout (value h) (after call map)
+  told_alone call told x = told_by (changes call told) call told refl x

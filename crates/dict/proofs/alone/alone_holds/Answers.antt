@@ -1,0 +1,14 @@
+use Rattle.dict.proofs.Undisturbed.{told_alone}
+use Rattle.dict.proofs.alone.alone_holds.Goals as goal
+
+pub returns-clause-told : goal.returns-clause-told
+returns-clause-told g = λ c h call told map run alone s x. told_alone g.alone_holds.ensures.made g.alone_holds.ensures.kept c h map run alone s call told x
+
+pub returns-clause-refused : goal.returns-clause-refused
+returns-clause-refused g = λ c h map run alone s none. g.alone_holds.ensures.kept c h map run alone none s
+
+pub returns-clause-undisturbed : goal.returns-clause-undisturbed
+returns-clause-undisturbed g = λ c h tries n s run alone x. g.alone_holds.ensures.undisturbed c h n s run alone x.way
+
+pub returns-clause-one_pass : goal.returns-clause-one_pass
+returns-clause-one_pass g = λ c h tries n s one x. g.alone_holds.ensures.one_pass c h n s one x.way

@@ -1,0 +1,32 @@
+use Rattle.std.proofs.Common.{◌≡◌}
+use Rattle.dict.specs.Known.{MapIsReady, MapAnswers}
+use Rattle.dict.specs.declared.run.MapRun.TheVariants.{Insert, Delete, Get, Successor, Range}
+use Rattle.dict.proofs.Ends.{insert_ends, delete_ends, get_ends, successor_ends, range_ends}
+use Rattle.dict.proofs.run.MapRun.next.Goals as goal
+
+pub returns-in-Done-clause-turn : goal.returns-in-Done-clause-turn
+returns-in-Done-clause-turn c tries d h run ready =
+    let r : MapIsReady tries (Insert c.in-Insert.run') d h c.args.got = rw c.in-Insert.is at ready in
+    let same = c.step.ensures.same in
+    rw c.of_update.ensures (insert_ends tries d h c.in-Insert.run' c.step.new.self c.in-Done.updated run r.0 same.0 same.1 c.in-Done.ensures.spends (c.in-Done.ensures.turn d h run r.1))
+
+pub returns-in-Done-step-clause-turn : goal.returns-in-Done-step-clause-turn
+returns-in-Done-step-clause-turn c tries d h run ready =
+    let r : MapIsReady tries (Delete c.in-Delete.run') d h c.args.got = rw c.in-Delete.is at ready in
+    let same = c.step-in-Delete.ensures.same in
+    rw c.of_update-in-Done-step.ensures (delete_ends tries d h c.in-Delete.run' c.step-in-Delete.new.self c.in-Done-step.updated run r.0 same.0 same.1 c.in-Done-step.ensures.spends (c.in-Done-step.ensures.turn d h run r.1))
+
+pub returns-in-Done-next-clause-turn : goal.returns-in-Done-next-clause-turn
+returns-in-Done-next-clause-turn c tries d h run ready =
+    let r : MapIsReady tries (Get c.in-Get.run' c.in-Get.share) d h c.args.got = rw c.in-Get.is at ready in
+    get_ends tries d h c.next.new.self c.in-Get.share c.in-Done-next.value r.1.1 r.0.spent (c.in-Done-next.ensures.turn d h run r.1.0)
+
+pub returns-in-Done-step-2-clause-turn : goal.returns-in-Done-step-2-clause-turn
+returns-in-Done-step-2-clause-turn c tries d h run ready =
+    let r : MapIsReady tries (Successor c.in-Successor.run' c.in-Successor.share) d h c.args.got = rw c.in-Successor.is at ready in
+    rw c.of_successor.ensures (successor_ends tries d h c.step-in-Successor.new.self c.in-Successor.share c.in-Done-step-2.told r.1.1 r.0.spent (c.in-Done-step-2.ensures.turn d h r.1.0))
+
+pub returns-in-Done-step-3-clause-turn : goal.returns-in-Done-step-3-clause-turn
+returns-in-Done-step-3-clause-turn c tries d h run ready =
+    let r : MapIsReady tries (Range c.in-Range.run' c.in-Range.share) d h c.args.got = rw c.in-Range.is at ready in
+    rw c.of_range.ensures (range_ends tries d h c.step-in-Range.new.self c.in-Range.share c.in-Done-step-3.told r.1.1 r.0.spent (c.in-Done-step-3.ensures.turn d h r.1.0))

@@ -1,0 +1,77 @@
+-- The machine of a call of the map: what it is a call of, what it has left, and what such a call may
+-- take of its share.
+use Rattle.std.specs.Prelude.{◌≡◌, ℕ, ◌*◌, ◌+◌, ◌^◌, ◌<◌, ◌≤◌, List, Option, Some, None}
+use Rattle.arena.specs.History.{History}
+use Rattle.arena.specs.Machines.{Call}
+use Rattle.arena.specs.Share.{Remaining}
+use Rattle.spelling.specs.OrderedMap.{MapCall, Edit, Get, Successor, Range, Insert, Delete, edit_key, get}
+use Rattle.spelling.specs.declared.pair.Pair.{Pair}
+use Rattle.updates.specs.Known.{RestsWith}
+use Rattle.dict.specs.declared.run.MapRun.{MapRun}
+use Rattle.dict.specs.declared.run.MapRun.TheVariants as runs
+
+-- what it is a call of
+abbrev pub call_in : MapRun → MapCall
+call_in (runs.Insert m) = Edit (Insert m.edit.key m.edit.value)
+call_in (runs.Delete m) = Edit (Delete m.edit.key)
+call_in (runs.Get m share) = Get m.key
+call_in (runs.Successor m share) = Successor m.key
+call_in (runs.Range m share) = Range m.low m.high m.most
+
+-- what is left of its share
+abbrev pub share_of : MapRun → Remaining
+share_of (runs.Insert m) = m.share
+share_of (runs.Delete m) = m.share
+share_of (runs.Get m share) = share
+share_of (runs.Successor m share) = share
+share_of (runs.Range m share) = share
+
+-- how many tries are left behind this one; a get has one alone
+abbrev pub tries_behind : MapRun → ℕ
+tries_behind (runs.Insert m) = m.tries
+tries_behind (runs.Delete m) = m.tries
+tries_behind (runs.Get m share) = 0
+tries_behind (runs.Successor m share) = m.tries
+tries_behind (runs.Range m share) = m.tries
+
+-- the key of an edit is one of a word
+abbrev pub IsSmallCall : MapCall → Type 0
+IsSmallCall (Edit e) = edit_key e < 2 ^ 64
+IsSmallCall _ = Unit {0}
+
+-- What a call may take
+
+-- at most so many nodes in a try
+abbrev pub most_nodes : MapCall → ℕ
+most_nodes (Edit (Insert key value)) = 3
+most_nodes (Edit (Delete key)) = 1
+most_nodes _ = 0
+
+-- and so many SCX-records
+abbrev pub most_scx : MapCall → ℕ
+most_scx (Edit e) = 1
+most_scx _ = 0
+
+-- In so many tries a call has taken no more than that of the share with which it began.
+pub record HasSpent (c : Call) (call : MapCall) (tries : ℕ) (share : Remaining) : Type 0 where
+  -- what there was as it began
+  pub left : Remaining
+  pub first : RestsWith c c.start left
+  pub nodes : left.nodes ≤ share.nodes + most_nodes call * tries
+  pub scx : left.scx ≤ share.scx + most_scx call * tries
+
+-- how many nodes an insert needs, where the key has this value
+abbrev pub insert_nodes : Option ℕ → ℕ
+insert_nodes None = 3
+insert_nodes (Some value) = 1
+
+-- how many a delete needs
+abbrev pub delete_nodes : Option ℕ → ℕ
+delete_nodes None = 0
+delete_nodes (Some value) = 1
+
+-- how many nodes the call needs on this map
+abbrev pub need : MapCall → List Pair → ℕ
+need (Edit (Insert key value)) map = insert_nodes (get key map)
+need (Edit (Delete key)) map = delete_nodes (get key map)
+need _ map = 0

@@ -1,0 +1,41 @@
+-- When the machine of a call of a dictionary may go on, what it waits for, and what its answer says.
+use Rattle.std.specs.Prelude.{◌≡◌, ℕ, ◌-◌, ◌<◌, ◌≤◌, ◌^◌, Option, Some, None, []}
+use Rattle.arena.specs.declared.step.Step.{Step}
+use Rattle.arena.specs.History.{History, Extends}
+use Rattle.arena.specs.Machines.{Call}
+use Rattle.arena.specs.Share.{Remaining}
+use Rattle.spelling.specs.OrderedMap.{MapCall}
+use Rattle.updates.specs.Known.{RestsWith}
+use Rattle.updates.specs.Tries.{HasEnteredNone}
+use Rattle.dict.specs.Calls.{call_in, share_of, tries_behind, HasSpent}
+use Rattle.dict.specs.Known.{MapIsReady, MapWaits}
+use Rattle.dict.specs.Says.{HasLost, HasRunOut, KeepsLists, Tells}
+use Rattle.dict.specs.Typed.{IsTypedCall}
+use Rattle.dict.specs.Words.{IsWord, IsValidReply, told_of}
+use Rattle.dict.specs.declared.dict.DictRun.{DictRun}
+use Rattle.dict.specs.declared.reply.Reply.{Reply}
+use Rattle.dict.specs.declared.reply.Reply.TheVariants.{Contended, Full, NoMemory}
+
+-- it may be called with this: its edit, if it makes one, is of such words
+abbrev pub DictIsReady : {K V : Type 0} → (ℕ → Type 0) → (ℕ → Type 0) → DictRun K V → Call → History → Option ℕ → Type 0
+DictIsReady keys values m c h got = IsTypedCall keys values (call_in m.run) × MapIsReady m.tries m.run c h got
+
+-- it waits for this step
+abbrev pub DictWaits : {K V : Type 0} → (ℕ → Type 0) → (ℕ → Type 0) → DictRun K V → Call → History → Step → Type 0
+DictWaits keys values m c h s = IsTypedCall keys values (call_in m.run) × MapWaits m.tries m.run c h s
+
+-- why a reply tells nothing of the map
+abbrev pub DictRefuses : {K V : Type 0} → Call → History → MapCall → Remaining → ℕ → Reply K V → Type 0
+DictRefuses c h call share tries (Contended node scx) = HasLost c h tries node.0 scx.0
+DictRefuses c h call share tries (Full full) = HasRunOut c h call share full
+DictRefuses c h call share tries NoMemory = KeepsLists call × HasEnteredNone c.layout c.pass h c.start
+DictRefuses c h call share tries _ = Unit {0}
+
+-- Its answer is right. Behind it the pass is at rest with what is left of the share, of which no more
+-- is gone than the tries may take. Its keys and values are of their types.
+pub record DictAnswers {K V : Type 0} (valid_key : K → Type 0) (key : K → ℕ) (valid_value : V → Type 0) (value : V → ℕ) (m : DictRun K V) (c : Call) (h : History) (reply : Reply K V) : Type 0 where
+  pub rests : RestsWith c h (share_of m.run)
+  pub spent : HasSpent c (call_in m.run) m.tries (share_of m.run)
+  pub valid : IsValidReply valid_key valid_value reply
+  pub tells : Tells c h (call_in m.run) (told_of key value reply)
+  pub refuses : DictRefuses c h (call_in m.run) (share_of m.run) (tries_behind m.run) reply

@@ -1,0 +1,94 @@
+-- When the machine of a call of the map may go on, what it waits for, and what its answer says.
+use Rattle.std.specs.Prelude.{◌≡◌, ℕ, Option}
+use Rattle.arena.specs.declared.limits.Mode.TheVariants.{Tree as TreeMode}
+use Rattle.arena.specs.declared.step.Step.{Step}
+use Rattle.arena.specs.History.{History, Extends}
+use Rattle.arena.specs.Machines.{Call}
+use Rattle.arena.specs.Share.{Remaining}
+use Rattle.order.specs.Range.Known.{AsksForSome, RangeIsReady, RangeWaits}
+use Rattle.order.specs.Successor.Known.{SuccessorIsReady, SuccessorWaits}
+use Rattle.prims.specs.Laws.Idle.{IsQuietSince}
+use Rattle.spelling.specs.OrderedMap.{MapCall}
+use Rattle.spelling.specs.Runs.{IsTreeRun}
+use Rattle.tree.specs.Delete.Means.{delete_means}
+use Rattle.tree.specs.Get.Known.{GetIsReady, GetWaits}
+use Rattle.tree.specs.Insert.Means.{insert_means}
+use Rattle.updates.specs.Known.{RestsWith, UpdateIsReady, UpdateWaits}
+use Rattle.updates.specs.Steps.{node_tries, scx_tries, Spends}
+use Rattle.dict.specs.Calls.{call_in, share_of, tries_behind, most_nodes, IsSmallCall, HasSpent}
+use Rattle.dict.specs.Says.{WordSays}
+use Rattle.dict.specs.declared.run.MapRun.{MapRun}
+use Rattle.dict.specs.declared.run.MapRun.TheVariants.{Insert, Delete, Get, Successor, Range}
+use Rattle.dict.specs.declared.told.WordReply.{WordReply}
+
+-- A read rests all the way: its share is untouched, all its pass's SCX-records are finished, and
+-- none was in progress since the call began.
+pub record Rests (c : Call) (h : History) (share : Remaining) : Type 0 where
+  pub run : IsTreeRun c.layout h
+  pub since : Extends h c.start
+  pub now : RestsWith c h share
+  pub quiet : IsQuietSince c.layout c.pass c.start h
+
+-- of the share with which an edit began no more is gone than the tries that are over may take: with
+-- `tries` in all, so many may still take nodes, and so many an SCX-record
+pub record HasSpentSo (c : Call) (most : ℕ) (share : Remaining) (tries nodes scx : ℕ) : Type 0 where
+  pub left : Remaining
+  pub first : RestsWith c c.start left
+  pub spends : Spends most left share tries nodes tries scx
+
+-- what is gone of the share of a call with so many tries: of a read nothing
+abbrev pub HasSpentIn : MapRun → ℕ → Call → Type 0
+HasSpentIn (Insert m) tries c = HasSpentSo c 3 m.share tries (node_tries m m.at) (scx_tries m m.at)
+HasSpentIn (Delete m) tries c = HasSpentSo c 1 m.share tries (node_tries m m.at) (scx_tries m m.at)
+HasSpentIn (Get m share) tries c = RestsWith c c.start share
+HasSpentIn (Successor m share) tries c = RestsWith c c.start share
+HasSpentIn (Range m share) tries c = RestsWith c c.start share
+
+-- an edit knows the number of its call, which goes into its entry
+abbrev pub IsNumbered : MapRun → ℕ → Type 0
+IsNumbered (Insert m) number = m.call ≡ number
+IsNumbered (Delete m) number = m.call ≡ number
+IsNumbered m number = Unit {0}
+
+-- what holds of the machine all the way of its call, which has so many tries
+pub record Goes (m : MapRun) (tries : ℕ) (c : Call) : Type 0 where
+  pub mode : c.layout.mode ≡ TreeMode
+  pub small : IsSmallCall (call_in m)
+  pub number : IsNumbered m c.number
+  pub spent : HasSpentIn m tries c
+
+-- the machine inside may be called with this
+abbrev pub IsReadyInside : MapRun → Call → History → Option ℕ → Type 0
+IsReadyInside (Insert m) c h got = UpdateIsReady insert_means m c h got
+IsReadyInside (Delete m) c h got = UpdateIsReady delete_means m c h got
+IsReadyInside (Get m share) c h got = GetIsReady m c h got × Rests c h share
+IsReadyInside (Successor m share) c h got = SuccessorIsReady m c h got × Rests c h share
+IsReadyInside (Range m share) c h got = RangeIsReady m c h got × Rests c h share
+
+-- the machine inside waits for this step
+abbrev pub WaitsInside : MapRun → Call → History → Step → Type 0
+WaitsInside (Insert m) c h s = UpdateWaits insert_means m c h s
+WaitsInside (Delete m) c h s = UpdateWaits delete_means m c h s
+WaitsInside (Get m share) c h s = GetWaits m c h s × Rests c h share
+WaitsInside (Successor m share) c h s = SuccessorWaits m c h s × Rests c h share
+WaitsInside (Range m share) c h s = RangeWaits m c h s × Rests c h share
+
+-- the machine may be called with this
+abbrev pub MapIsReady : ℕ → MapRun → Call → History → Option ℕ → Type 0
+MapIsReady tries m c h got = Goes m tries c × IsReadyInside m c h got
+
+-- it waits for this step
+abbrev pub MapWaits : ℕ → MapRun → Call → History → Step → Type 0
+MapWaits tries m c h s = Goes m tries c × WaitsInside m c h s
+
+-- Its answer is right. Behind it the pass is at rest with what is left of the share, of which no more
+-- is gone than the tries may take.
+pub record MapAnswers (tries : ℕ) (m : MapRun) (c : Call) (h : History) (reply : WordReply) : Type 0 where
+  pub rests : RestsWith c h (share_of m)
+  pub spent : HasSpent c (call_in m) tries (share_of m)
+  pub says : WordSays c h (call_in m) (share_of m) (tries_behind m) reply
+
+-- all but a range that takes no pair ask for a step before they answer
+abbrev pub AsksFirst : MapRun → Type 0
+AsksFirst (Range m share) = AsksForSome m
+AsksFirst m = Unit {0}

@@ -1,0 +1,16 @@
+pub mod Offsets
+pub mod Names
+pub mod NameKeys
+pub mod Words
+pub mod WordReplies
+pub mod Calls
+pub mod Says
+pub mod Known
+pub mod Steps
+pub mod MapLaws
+pub mod Typed
+pub mod TypedMaps
+pub mod TypedSteps
+pub mod Translated
+pub mod DictKnown
+pub mod DictLaws

@@ -1,0 +1,92 @@
+-- What the reply of a call of the map says, in words.
+use Rattle.std.specs.Prelude.{◌≡◌, ℕ, ◌<◌, ◌≤◌, Bool, true, false, List, Option, Some, None}
+use Rattle.arena.specs.declared.fault.Full.{Full as FullOf}
+use Rattle.arena.specs.declared.fault.Resource.{Resource}
+use Rattle.arena.specs.declared.fault.Resource.TheVariants.{Nodes, Scx as ScxRecords}
+use Rattle.arena.specs.History.{History, value, Extends}
+use Rattle.arena.specs.Machines.{Call}
+use Rattle.arena.specs.Share.{Remaining}
+use Rattle.spelling.specs.OrderedMap.{MapEdit, MapCall, Edit, Get, Successor, Range, MapReply, OneValue, reply, changes}
+use Rattle.spelling.specs.Spelled.{Spells}
+use Rattle.spelling.specs.declared.pair.Pair.{Pair}
+use Rattle.updates.specs.Blame.{IsContended}
+use Rattle.updates.specs.Known.{HasMade}
+use Rattle.updates.specs.Tries.{HasEnteredNone}
+use Rattle.dict.specs.Calls.{need}
+use Rattle.dict.specs.declared.told.WordReply.{WordReply}
+use Rattle.dict.specs.declared.told.WordReply.TheVariants as words
+use Rattle.dict.specs.WordReplies.{told_in}
+
+-- A change: the call has made its edit, and tells the value that the key had just before.
+pub record HasChanged (c : Call) (h : History) (call : MapCall) (told : MapReply) : Type 0 where
+  pub edit : MapEdit
+  pub is_edit : call ≡ Edit edit
+  pub old : Option ℕ
+  pub tells : told ≡ OneValue old
+  pub made : HasMade edit c h c.number old
+
+-- A reading: at a moment of the call the words spell a map that replies this, and the pass has
+-- entered nothing since the call began.
+pub record HasRead (c : Call) (h : History) (call : MapCall) (told : MapReply) : Type 0 where
+  pub moment : History
+  pub within : Extends h moment
+  pub since : Extends moment c.start
+  pub map : List Pair
+  pub spelled : Spells c.layout (value moment) map
+  pub gives : reply call map ≡ told
+  pub none : HasEnteredNone c.layout c.pass h c.start
+
+-- what is told is told of a change, or of a reading
+abbrev pub HasToldBy : Bool → Call → History → MapCall → MapReply → Type 0
+HasToldBy true c h call told = HasChanged c h call told
+HasToldBy false c h call told = HasRead c h call told
+
+-- which of the two it is, the call and what is told say
+abbrev pub HasTold : Call → History → MapCall → MapReply → Type 0
+HasTold c h call told = HasToldBy (changes call told) c h call told
+
+-- All tries were lost: this SCX-record over this node was in the way of the call, no try is left, and
+-- the pass has entered nothing since the call began.
+pub record HasLost (c : Call) (h : History) (tries n s : ℕ) : Type 0 where
+  pub way : IsContended c h n s
+  pub over : tries ≡ 0
+  pub none : HasEnteredNone c.layout c.pass h c.start
+
+-- the share has fewer nodes than these; or as many, and no SCX-record. So many are left
+abbrev pub HasTooLittle : ℕ → Remaining → Resource → ℕ → Type 0
+HasTooLittle many left Nodes k = (left.nodes < many) × (k ≡ left.nodes)
+HasTooLittle many left ScxRecords k = (many ≤ left.nodes) × (left.scx ≡ 0) × (k ≡ 0)
+
+-- The share has too little left for the next try: the map of a moment of the call needs some nodes,
+-- of which there are not enough, or no SCX-record is left. The pass has entered nothing.
+pub record HasRunOut (c : Call) (h : History) (call : MapCall) (share : Remaining) (full : FullOf) : Type 0 where
+  pub moment : History
+  pub within : Extends h moment
+  pub since : Extends moment c.start
+  pub map : List Pair
+  pub spelled : Spells c.layout (value moment) map
+  pub some : 0 < need call map
+  pub short : HasTooLittle (need call map) share full.what full.left
+  pub none : HasEnteredNone c.layout c.pass h c.start
+
+-- the call keeps lists, which grow
+abbrev pub KeepsLists : MapCall → Type 0
+KeepsLists (Successor key) = Unit {0}
+KeepsLists (Range low high most) = Unit {0}
+KeepsLists _ = ⊥
+
+-- what a reply says of the map, if it is one
+abbrev pub Tells : Call → History → MapCall → Option MapReply → Type 0
+Tells c h call None = Unit {0}
+Tells c h call (Some told) = HasTold c h call told
+
+-- why there is none, where the call has this share left, and so many tries
+abbrev pub Refuses : Call → History → MapCall → Remaining → ℕ → WordReply → Type 0
+Refuses c h call share tries (words.Contended node scx) = HasLost c h tries node.0 scx.0
+Refuses c h call share tries (words.Full full) = HasRunOut c h call share full
+Refuses c h call share tries words.NoMemory = KeepsLists call × HasEnteredNone c.layout c.pass h c.start
+Refuses c h call share tries _ = Unit {0}
+
+-- what the reply says
+abbrev pub WordSays : Call → History → MapCall → Remaining → ℕ → WordReply → Type 0
+WordSays c h call share tries reply = Tells c h call (told_in reply) × Refuses c h call share tries reply

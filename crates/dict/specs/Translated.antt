@@ -1,0 +1,41 @@
+-- What a reply of keys and values has of one in words.
+use Rattle.std.specs.Prelude.{◌≡◌, ◌⊎◌, ℕ, map, All, List, Option, Some, None, IfSome}
+use Rattle.std.specs.Option.{option_map}
+use Rattle.spelling.specs.OrderedMap.{MapReply}
+use Rattle.spelling.specs.declared.pair.Pair.{Pair}
+use Rattle.dict.specs.Typed.{AreTyped, IsTypedReply}
+use Rattle.dict.specs.Words.{IsWord, IsPairWord, IsValidPair, word_pair, told_of}
+use Rattle.dict.specs.WordReplies.{told_in}
+use Rattle.dict.specs.declared.reply.Reply.{Reply}
+use Rattle.dict.specs.declared.reply.Reply.TheVariants as replies
+use Rattle.dict.specs.declared.told.WordReply.{WordReply}
+use Rattle.dict.specs.declared.told.WordReply.TheVariants as words
+
+-- The pair has a key and a value of their types; and if these words are of such ones, they are its own.
+pub record IsPairOf {K V : Type 0} (valid_key : K → Type 0) (key : K → ℕ) (valid_value : V → Type 0) (value : V → ℕ) (words : Option Pair) (pair : Option (K × V)) : Type 0 where
+  pub valid : IfSome pair (IsValidPair valid_key valid_value)
+  pub words_are : IfSome words (IsPairWord valid_key key valid_value value) → option_map (word_pair key value) pair ≡ words
+
+-- So it is with all of these pairs.
+pub record ArePairsOf {K V : Type 0} (valid_key : K → Type 0) (key : K → ℕ) (valid_value : V → Type 0) (value : V → ℕ) (words : List Pair) (pairs : List (K × V)) : Type 0 where
+  pub valid : All (IsValidPair valid_key valid_value) pairs
+  pub words_are : AreTyped (IsWord valid_key key) (IsWord valid_value value) words → map (word_pair key value) pairs ≡ words
+
+-- what is told is of such words
+abbrev pub TellsTyped : (ℕ → Type 0) → (ℕ → Type 0) → Option MapReply → Type 0
+TellsTyped keys values None = Unit {0}
+TellsTyped keys values (Some told) = IsTypedReply keys values told
+
+-- It refuses what the other refuses; or it tells the same of the map, or there was no memory for the
+-- pairs.
+abbrev pub SaysSame : {K V : Type 0} → (K → ℕ) → (V → ℕ) → WordReply → Reply K V → Type 0
+SaysSame key value (words.Contended node scx) reply = reply ≡ replies.Contended node scx
+SaysSame key value (words.Full full) reply = reply ≡ replies.Full full
+SaysSame key value words.NoMemory reply = reply ≡ replies.NoMemory
+SaysSame key value (words.Value told) reply = told_of key value reply ≡ told_in (words.Value told)
+SaysSame key value (words.Pair told) reply = told_of key value reply ≡ told_in (words.Pair told)
+SaysSame key value (words.Pairs told) reply = (told_of key value reply ≡ told_in (words.Pairs told)) ⊎ (reply ≡ replies.NoMemory)
+
+-- it does so where the words that are told are of a key or of a value
+abbrev pub IsTranslated : {K V : Type 0} → (K → Type 0) → (K → ℕ) → (V → Type 0) → (V → ℕ) → WordReply → Reply K V → Type 0
+IsTranslated valid_key key valid_value value told reply = TellsTyped (IsWord valid_key key) (IsWord valid_value value) (told_in told) → SaysSame key value told reply

@@ -1,0 +1,44 @@
+-- A dictionary of typed keys and values, told by their words: its SCX-records make edits of such words
+-- alone, so its map has no others.
+use Rattle.std.specs.Prelude.{◌≡◌, ℕ, List, [], ◌∷◌, Option, Some, None}
+use Rattle.arena.specs.declared.layout.Layout.{Layout}
+use Rattle.arena.specs.declared.limits.Mode.TheVariants.{Tree as TreeMode}
+use Rattle.arena.specs.History.{History, value}
+use Rattle.spelling.specs.OrderedMap.{MapEdit, Insert, Delete, MapCall, Edit, MapReply, OneValue, OnePair, ManyPairs}
+use Rattle.spelling.specs.Spelled.{Spells}
+use Rattle.spelling.specs.TreeShape.{MayEdit}
+use Rattle.spelling.specs.declared.pair.Pair.{Pair}
+
+-- an edit with such a key, and such a value
+abbrev pub IsTypedEdit : (ℕ → Type 0) → (ℕ → Type 0) → MapEdit → Type 0
+IsTypedEdit keys values (Insert k v) = keys k × values v
+IsTypedEdit keys values (Delete k) = keys k
+
+-- a call that edits nothing, or with such an edit
+abbrev pub IsTypedCall : (ℕ → Type 0) → (ℕ → Type 0) → MapCall → Type 0
+IsTypedCall keys values (Edit e) = IsTypedEdit keys values e
+IsTypedCall keys values _ = Unit {0}
+
+-- all pairs are of such keys and values
+abbrev pub AreTyped : (ℕ → Type 0) → (ℕ → Type 0) → List Pair → Type 0
+AreTyped keys values [] = Unit {0}
+AreTyped keys values (p ∷ ps) = keys p.key × values p.value × AreTyped keys values ps
+
+-- the value, if there is one, is such a value
+abbrev pub IsTypedValue : (ℕ → Type 0) → Option ℕ → Type 0
+IsTypedValue values None = Unit {0}
+IsTypedValue values (Some v) = values v
+
+-- a reply of such keys and values
+abbrev pub IsTypedReply : (ℕ → Type 0) → (ℕ → Type 0) → MapReply → Type 0
+IsTypedReply keys values (OneValue told) = IsTypedValue values told
+IsTypedReply keys values (OnePair p) = keys p.key × values p.value
+IsTypedReply keys values (ManyPairs ps) = AreTyped keys values ps
+
+-- the shape of a typed dictionary: each SCX-record that begins makes an edit of such words
+abbrev pub TypedAllows : (ℕ → Type 0) → (ℕ → Type 0) → Layout → History → ℕ → Type 0
+TypedAllows keys values lay h s = (e : MapEdit) × MayEdit lay h s e × IsTypedEdit keys values e
+
+-- in tree mode the words spell a map of such pairs
+abbrev pub IsTypedThere : (ℕ → Type 0) → (ℕ → Type 0) → Layout → History → Type 0
+IsTypedThere keys values lay h = lay.mode ≡ TreeMode → (m : List Pair) × Spells lay (value h) m × AreTyped keys values m

@@ -1,0 +1,61 @@
+-- Typed keys, values, calls and replies in words. `word` stands for the word of a key or of a value,
+-- `valid` for whether it is one of its type.
+use Rattle.std.specs.Prelude.{◌≡◌, ℕ, ◌≤◌, map, List, All, IfSome, Option, Some, None}
+use Rattle.std.specs.Option.{option_map}
+use Rattle.spelling.specs.declared.pair.Pair.{Pair}
+use Rattle.spelling.specs.OrderedMap.{MapCall, Edit, Insert, Delete, Get, Successor, Range, MapReply, OneValue, ManyPairs, pair, pair_or_none}
+use Rattle.dict.specs.declared.request.Request.{Request}
+use Rattle.dict.specs.declared.request.Request.TheVariants.{Insert as InsertOf, Delete as DeleteOf, Get as GetOf, Successor as SuccessorOf, Range as RangeOf}
+use Rattle.dict.specs.declared.reply.Reply.{Reply}
+use Rattle.dict.specs.declared.reply.Reply.TheVariants.{Value, Pair as PairOf, Pairs}
+
+-- a word of a key or a value
+abbrev pub IsWord : {T : Type 0} → (T → Type 0) → (T → ℕ) → ℕ → Type 0
+IsWord {T} valid word n = (x : T) × valid x × (word x ≡ n)
+
+-- a pair of such words
+abbrev pub IsPairWord : {K V : Type 0} → (K → Type 0) → (K → ℕ) → (V → Type 0) → (V → ℕ) → Pair → Type 0
+IsPairWord valid_key key valid_value value p = IsWord valid_key key p.key × IsWord valid_value value p.value
+
+-- a pair of a key and a value of their types
+abbrev pub IsValidPair : {K V : Type 0} → (K → Type 0) → (V → Type 0) → K × V → Type 0
+IsValidPair valid_key valid_value p = valid_key p.0 × valid_value p.1
+
+-- the pair of the words of a key and a value
+abbrev pub word_pair : {K V : Type 0} → (K → ℕ) → (V → ℕ) → K × V → Pair
+word_pair key value p = pair (key p.0) (value p.1)
+
+-- a call of a dictionary as a call of the map of words
+abbrev pub map_call_of : {K V : Type 0} → (K → ℕ) → (V → ℕ) → Request K V → MapCall
+map_call_of key value (InsertOf k v) = Edit (Insert (key k) (value v))
+map_call_of key value (DeleteOf k) = Edit (Delete (key k))
+map_call_of key value (GetOf k) = Get (key k)
+map_call_of key value (SuccessorOf k) = Successor (key k)
+map_call_of key value (RangeOf low high most) = Range (key low) (key high) most
+
+-- its keys and its value are those of their types
+abbrev pub IsValidRequest : {K V : Type 0} → (K → Type 0) → (V → Type 0) → Request K V → Type 0
+IsValidRequest valid_key valid_value (InsertOf k v) = valid_key k × valid_value v
+IsValidRequest valid_key valid_value (DeleteOf k) = valid_key k
+IsValidRequest valid_key valid_value (GetOf k) = valid_key k
+IsValidRequest valid_key valid_value (SuccessorOf k) = valid_key k
+IsValidRequest valid_key valid_value (RangeOf low high most) = valid_key low × valid_key high
+
+-- it asks for at most 64 pairs
+abbrev pub AsksForFew : {K V : Type 0} → Request K V → Type 0
+AsksForFew (RangeOf low high most) = most ≤ 64
+AsksForFew _ = Unit {0}
+
+-- what a reply tells of the map of words; a refusal tells nothing
+abbrev pub told_of : {K V : Type 0} → (K → ℕ) → (V → ℕ) → Reply K V → Option MapReply
+told_of key value (Value v) = Some (OneValue (option_map value v))
+told_of key value (PairOf p) = Some (pair_or_none (option_map (word_pair key value) p))
+told_of key value (Pairs ps) = Some (ManyPairs (map (word_pair key value) ps.items))
+told_of key value _ = None
+
+-- its keys and its values are those of their types
+abbrev pub IsValidReply : {K V : Type 0} → (K → Type 0) → (V → Type 0) → Reply K V → Type 0
+IsValidReply valid_key valid_value (Value v) = IfSome v valid_value
+IsValidReply valid_key valid_value (PairOf p) = IfSome p (IsValidPair valid_key valid_value)
+IsValidReply valid_key valid_value (Pairs ps) = All (IsValidPair valid_key valid_value) ps.items
+IsValidReply valid_key valid_value _ = Unit {0}

@@ -1,0 +1,24 @@
+//! An ordered dictionary on the tree: keys and values of one word each, its five calls, and the
+//! machine of one.
+#![tactic(auto)]
+
+mod alone;
+mod dict;
+mod key;
+mod reply;
+mod request;
+mod run;
+mod shape;
+mod told;
+mod translation;
+mod value;
+
+pub use alone::alone_holds;
+pub use dict::DictRun;
+pub use key::WordKey;
+pub use reply::Reply;
+pub use request::Request;
+pub use run::MapRun;
+pub use shape::Dict;
+pub use told::WordReply;
+pub use value::WordValue;

@@ -1,0 +1,20 @@
+//! What a call of a typed dictionary replies.
+use arena::{Full, NodeNo, ScxNo};
+
+/// What a call of a dictionary replies.
+#[derive(Debug, Drop)]
+pub enum Reply<K, V> {
+    /// To an insert, a delete and a get: the value that the key had, if it had one.
+    Value(Option<V>),
+    /// To a successor: the pair, if there is one.
+    Pair(Option<(K, V)>),
+    /// To a range: the pairs, by rising key.
+    Pairs(Vec<(K, V)>),
+    /// All tries were lost. During the call this SCX-record of another pass was in progress over
+    /// this node.
+    Contended { node: NodeNo, scx: ScxNo },
+    /// The share has too little left.
+    Full(Full),
+    /// A growth of what an ordered read keeps was refused.
+    NoMemory,
+}

@@ -1,0 +1,16 @@
+//! Calls of a typed dictionary.
+
+/// A call of a dictionary.
+#[derive(Clone, Copy, Debug, PartialEq, Eq)]
+pub enum Request<K, V> {
+    /// Gives a key a value.
+    Insert { key: K, value: V },
+    /// Takes a key out.
+    Delete { key: K },
+    /// Looks up a key.
+    Get { key: K },
+    /// Looks for the pair with the least key above this one.
+    Successor { key: K },
+    /// Takes the first pairs by key of those with keys from `low` to `high`, at most so many.
+    Range { low: K, high: K, most: u32 },
+}

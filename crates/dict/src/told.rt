@@ -1,0 +1,60 @@
+//! What a call replies, in words.
+ghost use Rattle.std.specs.Prelude.{◌≡◌};
+ghost use Rattle.dict.specs.WordReplies.{update_reply, successor_reply, range_reply};
+
+use arena::{Full, NodeNo, ScxNo};
+use order::Refused;
+use spelling::Pair;
+use updates::Updated;
+
+/// What a call replies, in words, or why it replies nothing.
+#[derive(Debug, Drop, PartialEq, Eq)]
+pub enum WordReply {
+    /// What the key had, of an edit, or has.
+    Value(Option<u64>),
+    /// The pair behind a key.
+    Pair(Option<Pair>),
+    /// The pairs between two keys.
+    Pairs(Vec<Pair>),
+    /// All tries were lost, one of them to this SCX-record over this node.
+    Contended { node: NodeNo, scx: ScxNo },
+    /// The share has too little left.
+    Full(Full),
+    /// A growth was refused.
+    NoMemory,
+}
+
+impl WordReply {
+    /// What an edit has answered.
+    pub(crate) fn of_update(updated: Updated) -> WordReply
+        ensures { result ≡ update_reply updated }
+    {
+        match updated {
+            Updated::Done { found } => WordReply::Value(found.value),
+            Updated::Contended { node, scx } => WordReply::Contended { node, scx },
+            Updated::Full(full) => WordReply::Full(full),
+        }
+    }
+
+    /// What a successor has answered.
+    pub(crate) fn of_successor(told: Result<Option<Pair>, Refused>) -> WordReply
+        ensures { result ≡ successor_reply told }
+    {
+        match told {
+            Ok(found) => WordReply::Pair(found),
+            Err(Refused::Contended { node, scx }) => WordReply::Contended { node, scx },
+            Err(Refused::NoMemory) => WordReply::NoMemory,
+        }
+    }
+
+    /// What a range has answered.
+    pub(crate) fn of_range(told: Result<Vec<Pair>, Refused>) -> WordReply
+        ensures { result ≡ range_reply told }
+    {
+        match told {
+            Ok(pairs) => WordReply::Pairs(pairs),
+            Err(Refused::Contended { node, scx }) => WordReply::Contended { node, scx },
+            Err(Refused::NoMemory) => WordReply::NoMemory,
+        }
+    }
+}

@@ -1,0 +1,142 @@
+-- What a call of a dictionary leaves of its pass.
+use Rattle.std.proofs.Common.{◌≡◌, ◌≢◌, ◌∙◌, arith, ℕ, suc, ◌+◌, ◌*◌, ◌<◌, ◌≤◌, inl, inr, List, ◌∷◌, Option, Some, None, refl, sym, ap, subst}
+use Rattle.std.proofs.Math.Nat.{lt_of_not-le}
+use Rattle.atomic_table.specs.declared.shared.Seat.{Seat}
+use Rattle.arena.specs.declared.layout.Layout.{Layout}
+use Rattle.arena.specs.declared.limits.Mode.TheVariants.{Tree}
+use Rattle.arena.specs.History.{History, Extends}
+use Rattle.arena.specs.Machines.{Call, IsRun}
+use Rattle.arena.specs.Share.{Remaining}
+use Rattle.arena.proofs.Lemmas.{ends_self}
+use Rattle.spelling.specs.OrderedMap.{MapCall, MapReply}
+use Rattle.spelling.specs.Runs.{IsTreeRun}
+use Rattle.prims.specs.Laws.Begun.{taken_since}
+use Rattle.prims.specs.Shares.{IsShare}
+use Rattle.prims.proofs.Lemmas.{taken_node_since}
+use Rattle.updates.specs.Known.{RestsWith}
+use Rattle.dict.specs.Calls.{call_in, share_of, most_nodes, most_scx, HasSpent}
+use Rattle.dict.specs.DictKnown.{DictAnswers, DictRefuses}
+use Rattle.dict.specs.Says.{Tells}
+use Rattle.dict.specs.Typed.{TypedAllows}
+use Rattle.dict.specs.TypedMaps.{typed_run}
+use Rattle.dict.specs.Words.{IsWord, told_of}
+use Rattle.dict.specs.declared.dict.DictRun.{DictRun}
+use Rattle.dict.specs.declared.reply.Reply.{Reply}
+use Rattle.dict.specs.declared.reply.Reply.TheVariants as replies
+use Rattle.forest.specs.declared.view.SeatView.{SeatView}
+use Rattle.forest.specs.declared.pass.Pass.TheInside.{Inside}
+use Rattle.forest.specs.Dictionary.{IsToldOf, IsRefusalOf, HasSpentAtMost, blamed_by_reply}
+use Rattle.forest.specs.Passes.{PassView, HasBlamed, HasGoneOn, run_of, taken_of}
+use Rattle.forest.specs.PassInvariant.{pass_view, IsPass}
+use Rattle.forest.specs.Shares.{IsBetweenCalls}
+use Rattle.forest.specs.Traces.{known_of, seat_steps}
+use Rattle.forest.proofs.Blames.{blamed_later, blamed_on_tree}
+use Rattle.forest.proofs.Dictionary.{told_says, lost_says, full_says, nothing_says}
+use Rattle.forest.proofs.Entered.{HasEnded, left_with, ended_pass, ended_goes_on, rests_between}
+use Rattle.forest.proofs.Passes.{call_of}
+
+-- Shares
+
+-- what is left of a share later on is not more
+module _ (lay : Layout) (c : ℕ) (h start : History) (a b : Remaining) (e : Extends h start) (x : IsShare lay start c a a.next_node a.next_scx) (y : IsShare lay h c b b.next_node b.next_scx) where
+  nodes_go : a.next_node ≤ b.next_node
+  nodes_go = let q : a.next_node < suc b.next_node = lt_of_not-le (λ d. y.untaken_nodes b.next_node
+      record { from = omega arith; below = let t = y.to_node in let u = x.to_node in omega (arith, d, t, u) }
+      (taken_node_since h start b.next_node e (x.taken_nodes b.next_node
+      record { from = y.from_node; below = let t = y.to_node in let u = x.to_node in omega (arith, d, t, u) }
+      (omega (arith, d))))) in omega (arith, q)
+
+  scx_go : a.next_scx ≤ b.next_scx
+  scx_go = let q : a.next_scx < suc b.next_scx = lt_of_not-le (λ d. y.untaken b.next_scx
+      record { from = omega arith; below = let t = y.to_scx in let u = x.to_scx in omega (arith, d, t, u) }
+      (taken_since h start b.next_scx e (x.taken_scx b.next_scx
+      record { from = y.from_scx; below = let t = y.to_scx in let u = x.to_scx in omega (arith, d, t, u) }
+      (omega (arith, d))))) in omega (arith, q)
+
+  pub share_nodes : b.nodes ≤ a.nodes
+  share_nodes = let n = nodes_go in let t = y.to_node in let u = x.to_node in omega (arith, n, t, u)
+
+  pub share_scx : b.scx ≤ a.scx
+  share_scx = let n = scx_go in let t = y.to_scx in let u = x.to_scx in omega (arith, n, t, u)
+
+-- What a call leaves
+
+module _ {K V : Type 0} (valid_key : K → Type 0) (key : K → ℕ) (valid_value : V → Type 0) (value_word : V → ℕ) where
+  abbrev allows : Layout → History → ℕ → Type 0
+  allows = TypedAllows (IsWord valid_key key) (IsWord valid_value value_word)
+
+  module _ {T : Type 0} (p : Inside T) (x : IsPass allows Tree p) (s : Seat ℕ SeatView) (m : DictRun K V) (reply : Reply K V) where
+    -- the number of the call
+    abbrev pub called : ℕ
+    called = taken_of (pass_view p)
+
+    -- its answer is right in the run that is known now
+    abbrev pub Answered : History → Type 0
+    Answered h = DictAnswers valid_key key valid_value value_word m (call_of p x called) h reply
+
+    -- the pass behind it
+    abbrev pub behind : Inside T
+    behind = left_with p x s called Answered (share_of m.run) (blamed_by_reply reply p.blamed)
+
+    abbrev now : PassView
+    now = pass_view behind
+
+    module _ (y : HasEnded allows p s called Answered) where
+      tree : IsTreeRun p.layout (run_of now)
+      tree = (x.is_mode, typed_run (IsWord valid_key key) (IsWord valid_value value_word) p.layout (run_of now) y.sound)
+
+      rest : IsBetweenCalls p.layout p.number.0 (run_of now) (share_of m.run)
+      rest = rests_between (call_of p x called) (run_of now) (share_of m.run) y.answers.rests
+
+      -- whom it blames
+      pub dict_blames : HasBlamed now
+      dict_blames = go reply y.answers.refuses
+        where
+          none : HasBlamed (pass_view (left_with p x s called Answered (share_of m.run) p.blamed))
+          none = blamed_later (pass_view p) (pass_view (left_with p x s called Answered (share_of m.run) p.blamed)) refl refl refl y.sound.lawful y.since x.blamed
+
+          go : (r : Reply K V) → DictRefuses (call_of p x called) (run_of now) (call_in m.run) (share_of m.run) _ r → HasBlamed (pass_view (left_with p x s called Answered (share_of m.run) (blamed_by_reply r p.blamed)))
+          go (replies.Value v) z = none
+          go (replies.Pair v) z = none
+          go (replies.Pairs v) z = none
+          go (replies.Full f) z = none
+          go replies.NoMemory z = none
+          go (replies.Contended n u) z = blamed_on_tree (pass_view p) (pass_view (left_with p x s called Answered (share_of m.run) (u.0 ∷ p.blamed))) (run_of (pass_view p)) n.0 u.0 x.is_mode refl refl refl y.sound.lawful y.since z.way.others z.way.in_the_way x.blamed
+
+      -- it is a pass again
+      pub dict_pass : s.me.1 ≡ p.seat.me.1 → IsPass allows Tree behind
+      dict_pass bare = ended_pass p x s called Answered (share_of m.run) (blamed_by_reply reply p.blamed) bare y rest dict_blames
+
+      -- and has gone on
+      pub dict_goes_on : (few most : ℕ) → s.table_id ≡ p.seat.table_id → seat_steps s.me.0.passes ≤ seat_steps p.seat.me.0.passes + few → few ≤ most → HasGoneOn allows (pass_view p) now called most (blamed_by_reply reply p.blamed)
+      dict_goes_on few most table steps small = ended_goes_on p x s called Answered (share_of m.run) (blamed_by_reply reply p.blamed) few most table y steps small dict_blames
+
+      -- what it has spent
+      pub dict_spends : HasSpentAtMost (pass_view p) now (call_in m.run) m.tries
+      dict_spends =
+          let z = y.answers.spent in
+          let nodes = share_nodes p.layout p.number.0 (run_of (pass_view p)) (run_of (pass_view p)) z.left p.share (ends_self (run_of (pass_view p))) z.first.share x.rest.share in
+          let scx = share_scx p.layout p.number.0 (run_of (pass_view p)) (run_of (pass_view p)) z.left p.share (ends_self (run_of (pass_view p))) z.first.share x.rest.share in
+          let a = z.nodes in
+          let b = z.scx in
+          record { nodes = omega (arith, nodes, a); scx = omega (arith, scx, b) }
+
+      -- what it tells
+      pub dict_tells : IsToldOf (pass_view p) now (call_in m.run) (told_of key value_word reply)
+      dict_tells = go (told_of key value_word reply) y.answers.tells
+        where
+          go : (told : Option MapReply) → Tells (call_of p x called) (run_of now) (call_in m.run) told → IsToldOf (pass_view p) now (call_in m.run) told
+          go None z = tt
+          go (Some told) z = told_says (pass_view p) x.is_pass called refl s.table_id (share_of m.run) (known_of s.me.0.passes) (blamed_by_reply reply p.blamed) tree y.since (call_in m.run) told z
+
+      -- why it tells nothing
+      pub dict_refuses : IsRefusalOf (pass_view p) now (call_in m.run) reply
+      dict_refuses = go reply y.answers.refuses
+        where
+          go : (r : Reply K V) → DictRefuses (call_of p x called) (run_of now) (call_in m.run) (share_of m.run) _ r → IsRefusalOf (pass_view p) now (call_in m.run) r
+          go (replies.Value v) z = tt
+          go (replies.Pair v) z = tt
+          go (replies.Pairs v) z = tt
+          go (replies.Full f) z = full_says (pass_view p) x.is_pass called refl s.table_id (share_of m.run) (known_of s.me.0.passes) (blamed_by_reply reply p.blamed) tree y.since (call_in m.run) f z
+          go replies.NoMemory z = (z.0, nothing_says (pass_view p) x.is_pass called refl s.table_id (share_of m.run) (known_of s.me.0.passes) (blamed_by_reply reply p.blamed) tree y.since z.1)
+          go (replies.Contended n u) z = lost_says (pass_view p) x.is_pass called refl s.table_id (share_of m.run) (known_of s.me.0.passes) (blamed_by_reply reply p.blamed) tree y.since _ n.0 u.0 z

@@ -1,0 +1,95 @@
+-- What the calls of a dictionary say.
+use Rattle.std.proofs.Common.{◌≡◌, ◌∙◌, ℕ, ◌<◌, Bool, true, false, inr, List, [], ◌∷◌, Option, refl, sym, ap, subst}
+use Rattle.atomic_table.specs.Seated.{TableId}
+use Rattle.arena.specs.declared.fault.Full.{Full as FullOf}
+use Rattle.arena.specs.declared.layout.Layout.{Layout}
+use Rattle.arena.specs.declared.step.Row.{Row}
+use Rattle.arena.specs.History.{History, ◌⊳◌, value, Extends}
+use Rattle.arena.specs.Machines.{Call, IsRun}
+use Rattle.arena.specs.Share.{Remaining}
+use Rattle.arena.proofs.Lemmas.{ends_self, ends_trans}
+use Rattle.spelling.specs.declared.pair.Pair.{Pair}
+use Rattle.spelling.specs.OrderedMap.{MapCall, MapReply, MapEdit, edited, changes}
+use Rattle.spelling.specs.Runs.{IsTreeRun, Makes}
+use Rattle.spelling.specs.Spelled.{Spells}
+use Rattle.spelling.proofs.Lemmas.{one_spelling, run_spells, run_since, spells_log, makes_since}
+use Rattle.updates.specs.Known.{HasMade}
+use Rattle.updates.specs.Tries.{HasEnteredNone}
+use Rattle.dict.specs.Says.{HasChanged, HasRead, HasToldBy, HasTold, HasLost, HasRunOut}
+use Rattle.forest.specs.Dictionary.{IsVersion, IsChange, IsReading, IsChangeOrReading, IsContendedCall, IsFullCall}
+use Rattle.forest.specs.Passes.{PassView, run_of, done_of, taken_of}
+use Rattle.forest.proofs.Entered.{none_entered, one_entered}
+
+-- what the words spell at a moment of the run is a version
+pub version_at : (p : PassView) → IsTreeRun p.layout (run_of p) → (moment : History) → Extends (run_of p) moment → (m : List Pair) → Spells p.layout (value moment) m → IsVersion p moment m
+version_at p run moment e m s = record { spelled = s; made = λ edits are. one_spelling p.layout (value moment) _ m (spells_log p.layout (run_of p) edits run are moment e) s }
+
+-- a call of the pass `was`, which leaves it at this table with this share, run and blame list
+module _ (was : PassView) (is_pass : was.number < was.layout.passes) (number : ℕ) (same : number ≡ taken_of was) (table : TableId) (left : Remaining) (known : List Row) (blamed : List ℕ) where
+  abbrev pub call_by : Call
+  call_by = record { layout = was.layout; pass = was.number; is_pass = is_pass; number = number; start = run_of was }
+
+  abbrev pub then : PassView
+  then = record { table = table; layout = was.layout; number = was.number; share = left; known = known; blamed = blamed }
+
+  module _ (run : IsTreeRun was.layout (run_of then)) (since : Extends (run_of then) (run_of was)) where
+    none_more : HasEnteredNone was.layout was.number (run_of then) (run_of was) → done_of then ≡ done_of was
+    none_more none = none_entered was.layout was.number (run_of then) (run_of was) run.1.lawful since none
+
+    -- an edit that is made
+    change_says : (edit : MapEdit) (told : Option ℕ) → HasMade edit call_by (run_of then) number told → IsChange was then edit told
+    change_says edit told y =
+        let before : History = y.before in
+        let within : Extends (run_of then) before = ends_trans (run_of then) (y.row ⊳ before) before y.within (inr (ends_self before)) in
+        let m = run_spells was.layout before (run_since was.layout (run_of then) before run within) in
+        record {
+          row = y.row;
+          before = before;
+          within = y.within;
+          since = y.since;
+          entry = y.entry;
+          logged = y.logged;
+          done = one_entered call_by (run_of then) run.1.lawful y;
+          of_pass = y.owner;
+          of_call = y.call ∙ same;
+          makes = subst (λ (u : ℕ). Makes was.layout (run_of then) u edit) (sym y.of_scx) (makes_since was.layout (run_of then) before y.scx edit within y.edits.makes);
+          map = m.0;
+          was = version_at then run before within m.0 m.1;
+          tells = y.told m.0 m.1;
+          is = version_at then run (y.row ⊳ before) y.within (edited edit m.0) (y.edits.changes m.0 m.1);
+        }
+
+    told_by : (b : Bool) (call : MapCall) (told : MapReply) → HasToldBy b call_by (run_of then) call told → IsChangeOrReading b was then call told
+    told_by true call told y = (y.edit, y.old, y.is_edit, y.tells, change_says y.edit y.old y.made)
+    told_by false call told y = record {
+      moment = y.moment;
+      within = y.within;
+      since = y.since;
+      map = y.map;
+      version = version_at then run y.moment y.within y.map y.spelled;
+      gives = y.gives;
+      done = none_more y.none;
+    }
+
+    -- what is told
+    pub told_says : (call : MapCall) (told : MapReply) → HasTold call_by (run_of then) call told → IsChangeOrReading (changes call told) was then call told
+    told_says call told y = told_by (changes call told) call told y
+
+    -- refusals
+    pub lost_says : (tries n s : ℕ) → HasLost call_by (run_of then) tries n s → IsContendedCall was then n s
+    lost_says tries n s y = record { others = y.way.others; in_the_way = y.way.in_the_way; done = none_more y.none }
+
+    pub full_says : (call : MapCall) (full : FullOf) → HasRunOut call_by (run_of then) call left full → IsFullCall was then call full
+    full_says call full y = record {
+      moment = y.moment;
+      within = y.within;
+      since = y.since;
+      map = y.map;
+      version = version_at then run y.moment y.within y.map y.spelled;
+      some = y.some;
+      short = y.short;
+      done = none_more y.none;
+    }
+
+    pub nothing_says : HasEnteredNone was.layout was.number (run_of then) (run_of was) → done_of then ≡ done_of was
+    nothing_says none = none_more none

@@ -1,0 +1,114 @@
+-- What the calls of a dictionary say of the pass that makes them.
+use Rattle.std.specs.Prelude.{◌≡◌, ℕ, ◌+◌, ◌*◌, ◌<◌, ◌≤◌, Bool, true, false, List, [], ◌∷◌, Option, Some, None}
+use Rattle.arena.specs.declared.fault.Full.{Full as FullOf}
+use Rattle.arena.specs.declared.step.Row.{Row}
+use Rattle.arena.specs.Blame.{WasInTheWay}
+use Rattle.arena.specs.Fills.{IsOthersScx}
+use Rattle.arena.specs.History.{History, ◌⊳◌, value, Extends}
+use Rattle.arena.specs.Log.{Entry, log}
+use Rattle.spelling.specs.declared.pair.Pair.{Pair as PairOf}
+use Rattle.spelling.specs.Laws.{AreEdits}
+use Rattle.spelling.specs.OrderedMap.{MapCall, Edit, MapReply, OneValue, MapEdit, edit_key, edited, get, reply, changes}
+use Rattle.spelling.specs.Runs.{Makes, map_of_log}
+use Rattle.spelling.specs.Spelled.{Spells}
+use Rattle.dict.specs.Calls.{need, most_nodes, most_scx}
+use Rattle.dict.specs.Says.{HasTooLittle, KeepsLists}
+use Rattle.dict.specs.Words.{told_of}
+use Rattle.dict.specs.declared.reply.Reply.{Reply}
+use Rattle.dict.specs.declared.reply.Reply.TheVariants.{Contended, Full, NoMemory}
+use Rattle.forest.specs.Passes.{PassView, run_of, done_of, taken_of}
+
+-- The one history of a dictionary is the log of its run: each entry makes an edit of the map. A
+-- version is the map that the entries up to a moment of the run make of the empty map.
+
+-- at this moment of the run that the pass knows the map is m: the words spell it, and it is what the
+-- entries so far make of the empty map
+pub record IsVersion (p : PassView) (moment : History) (m : List PairOf) : Type 0 where
+  pub spelled : Spells p.layout (value moment) m
+  pub made : (edits : ℕ → MapEdit) → AreEdits edits p.layout (run_of p) → map_of_log edits (log p.layout moment) ≡ m
+
+-- What a call tells of the map
+
+-- The call has made this edit: the pass has one entry more. Just before it the map told this of the
+-- edit's key, and just after it the map is what the edit leaves.
+pub record IsChange (old new : PassView) (edit : MapEdit) (told : Option ℕ) : Type 0 where
+  -- the row that has put the entry there, which may be another pass's, is behind what was known before
+  pub row : Row
+  pub before : History
+  pub within : Extends (run_of new) (row ⊳ before)
+  pub since : Extends before (run_of old)
+  pub entry : Entry
+  pub logged : log new.layout (row ⊳ before) ≡ entry ∷ log new.layout before
+  -- it is the pass's only entry behind what the pass had seen
+  pub done : done_of new ≡ entry ∷ done_of old
+  -- it is of this call, and makes this edit
+  pub of_pass : entry.owner ≡ old.number
+  pub of_call : entry.call ≡ taken_of old
+  pub makes : Makes new.layout (run_of new) entry.scx edit
+  -- the maps just before it and just after it
+  pub map : List PairOf
+  pub was : IsVersion new before map
+  pub tells : get (edit_key edit) map ≡ told
+  pub is : IsVersion new (row ⊳ before) (edited edit map)
+
+-- The call has read the map: at a moment from what was known before to what is known now it gave
+-- this reply. The pass has no entry more.
+pub record IsReading (old new : PassView) (call : MapCall) (told : MapReply) : Type 0 where
+  pub moment : History
+  pub within : Extends (run_of new) moment
+  pub since : Extends moment (run_of old)
+  pub map : List PairOf
+  pub version : IsVersion new moment map
+  pub gives : reply call map ≡ told
+  pub done : done_of new ≡ done_of old
+
+-- a change, or a reading
+abbrev pub IsChangeOrReading : Bool → PassView → PassView → MapCall → MapReply → Type 0
+IsChangeOrReading true old new call told = (edit : MapEdit) × (v : Option ℕ) × (call ≡ Edit edit) × (told ≡ OneValue v) × IsChange old new edit v
+IsChangeOrReading false old new call told = IsReading old new call told
+
+-- what is told of the map, if anything, is of a version of it
+abbrev pub IsToldOf : PassView → PassView → MapCall → Option MapReply → Type 0
+IsToldOf old new call (Some told) = IsChangeOrReading (changes call told) old new call told
+IsToldOf old new call None = Unit {0}
+
+-- Refusals
+
+-- All tries were lost: the SCX-record s is another pass's, and was in the way of the call over the
+-- node n. The pass has no entry more.
+pub record IsContendedCall (old new : PassView) (n s : ℕ) : Type 0 where
+  pub others : IsOthersScx new.layout new.number s
+  pub in_the_way : WasInTheWay (run_of new) (run_of old) n s
+  pub done : done_of new ≡ done_of old
+
+-- The share has too little left for the next try: at a moment from what was known before to what is
+-- known now the call needed some nodes, of which there are not enough, or no SCX-record is left. The
+-- pass has no entry more.
+pub record IsFullCall (old new : PassView) (call : MapCall) (full : FullOf) : Type 0 where
+  pub moment : History
+  pub within : Extends (run_of new) moment
+  pub since : Extends moment (run_of old)
+  pub map : List PairOf
+  pub version : IsVersion new moment map
+  pub some : 0 < need call map
+  pub short : HasTooLittle (need call map) new.share full.what full.left
+  pub done : done_of new ≡ done_of old
+
+-- why nothing is told
+abbrev pub IsRefusalOf : {K V : Type 0} → PassView → PassView → MapCall → Reply K V → Type 0
+IsRefusalOf old new call (Contended node scx) = IsContendedCall old new node.0 scx.0
+IsRefusalOf old new call (Full full) = IsFullCall old new call full
+IsRefusalOf old new call NoMemory = KeepsLists call × (done_of new ≡ done_of old)
+IsRefusalOf old new call _ = Unit {0}
+
+-- What a call takes and blames
+
+-- of the share no more is gone than so many tries of the call may take
+pub record HasSpentAtMost (old new : PassView) (call : MapCall) (tries : ℕ) : Type 0 where
+  pub nodes : old.share.nodes ≤ new.share.nodes + most_nodes call * tries
+  pub scx : old.share.scx ≤ new.share.scx + most_scx call * tries
+
+-- the blame list after this reply: `Contended` blames its SCX-record
+abbrev pub blamed_by_reply : {K V : Type 0} → Reply K V → List ℕ → List ℕ
+blamed_by_reply (Contended node scx) blamed = scx.0 ∷ blamed
+blamed_by_reply _ blamed = blamed
