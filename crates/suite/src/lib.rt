@@ -3,6 +3,8 @@
 #![tactic(auto)]
 
 #[cfg(test)]
+mod dictionary_tests;
+#[cfg(test)]
 mod forest_tests;
 #[cfg(test)]
 mod judge_tests;
