@@ -41,12 +41,12 @@ inline void fill(const Dictionary& map, Word number, Word stream, Word keys, Wor
     }
 }
 
-// Half of so many keys, by the passes behind those of the threads.
+// Half of so many keys, by the passes behind those of the threads, the last of them first.
 inline void fill_half(const Dictionary& map, Word threads, Word keys) {
     Word left = keys / 2;
     for (Word filler = 0; left > 0; filler++) {
         const Word pairs = left < PAIRS_OF_A_PASS ? left : PAIRS_OF_A_PASS;
-        fill(map, threads + filler, filler, keys, pairs);
+        fill(map, threads + fillers(keys) - 1 - filler, filler, keys, pairs);
         left -= pairs;
     }
 }

@@ -116,21 +116,21 @@ void measure(const Task& task) {
     std::fflush(stdout);
 }
 
-// The number from `least` to `most` at this place of the words, or the usual one where there is no such word.
-std::optional<Word> number_at(int count, char** words, int place, Word least, Word most, Word usual) {
+// The number from 1 to `most` at this place of the words, or the usual one where there is no such word.
+std::optional<Word> number_at(int count, char** words, int place, Word most, Word usual) {
     if (place >= count) return usual;
     const char* end = words[place] + std::strlen(words[place]);
     Word number = 0;
     const auto [stop, error] = std::from_chars(words[place], end, number);
-    if (error != std::errc() || stop != end || number < least || number > most) return std::nullopt;
+    if (error != std::errc() || stop != end || number < 1 || number > most) return std::nullopt;
     return number;
 }
 
 std::optional<Task> task_of(const WorkRow& row, int count, char** words) {
-    const auto threads = number_at(count, words, 2, 1, row.most_threads, 1);
-    const auto calls = number_at(count, words, 3, 1, row.most_calls, row.usual_calls);
-    const auto times = number_at(count, words, 4, 1, UINT32_MAX, 15);
-    const auto keys = number_at(count, words, 5, 2, MOST_KEYS, USUAL_KEYS);
+    const auto threads = number_at(count, words, 2, row.most_threads, 1);
+    const auto calls = number_at(count, words, 3, row.most_calls, row.usual_calls);
+    const auto times = number_at(count, words, 4, UINT32_MAX, 15);
+    const auto keys = number_at(count, words, 5, MOST_KEYS, USUAL_KEYS);
     if (!threads || !calls || !times || !keys || count > 6) return std::nullopt;
     return Task{row, *threads, *calls, *times, row.kind == std::string("tree") ? *keys : 0};
 }

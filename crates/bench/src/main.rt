@@ -1,14 +1,18 @@
 //! Times whole calls of a forest: `bench WORK THREADS CALLS TIMES`.
 #![tactic(auto)]
 
+mod call;
 mod crowd;
+mod draws;
 mod fault;
 mod measure;
 mod pair;
 mod program;
+mod repetition;
 mod round;
 mod tally;
 mod task;
+mod tree;
 mod words;
 mod work;
 

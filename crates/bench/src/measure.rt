@@ -1,10 +1,10 @@
 //! A measurement.
 ghost use Rattle.std.specs.Prelude.{◌≡◌, ◌≤◌, ◌<◌, ◌/◌, length, slice_get, Some};
 ghost use Rattle.std.specs.List.Sorted.{IsNonDecreasingBy, IsPermutation};
-ghost use Rattle.bench.specs.declared.crowd.Repetition.{Repetition};
+ghost use Rattle.bench.specs.declared.repetition.Repetition.{Repetition};
 
-use crate::crowd::{Repetition, run};
 use crate::fault::Fault;
+use crate::repetition::{Repetition, run};
 use crate::tally::Tally;
 use crate::task::Task;
 use std::fmt;
@@ -12,7 +12,8 @@ use std::rt::Clock;
 use std::thread::Threads;
 
 /// The names of a row's fields.
-pub const HEADER: &str = "structure,work,threads,calls,times,median_ns,best_ns,done,lost,fail";
+pub const HEADER: &str =
+    "structure,work,keys,threads,calls,times,median_ns,best_ns,done,lost,fail,checksum";
 
 /// What the repetitions of a task took, and how the rounds of the fastest ended.
 #[derive(Clone, Copy, Debug)]
@@ -55,13 +56,20 @@ impl fmt::Display for Measurement {
             threads,
             calls,
             times,
+            keys: _,
         } = self.task;
-        let Tally { done, lost, fail } = self.tally;
-        let (name, median, best) = (work.name(), self.median, self.best);
+        let (name, keys, median, best) = (work.name(), self.task.told_keys(), self.median, self.best);
         write!(
             f,
-            "regnubas,{name},{threads},{calls},{times},{median},{best},{done},{lost},{fail}"
-        )
+            "regnubas,{name},{keys},{threads},{calls},{times},{median},{best},"
+        )?;
+        let Tally {
+            done,
+            lost,
+            fail,
+            checksum,
+        } = self.tally;
+        write!(f, "{done},{lost},{fail},{checksum}")
     }
 }
 

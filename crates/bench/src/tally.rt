@@ -7,9 +7,9 @@ ghost use Rattle.bench.specs.Tally.{total};
 pub enum End {
     /// With what was to be done.
     Done,
-    /// With an SCX that another thread's was in the way of.
+    /// With an SCX that another thread's was in the way of, or with a call that was contended.
     Lost,
-    /// With no SCX: no LLX gave a snapshot, or the thread's share was used up.
+    /// With no SCX: no LLX gave a snapshot, or the thread's share was used up; or for want of memory.
     Fail,
 }
 
@@ -19,6 +19,8 @@ pub struct Tally {
     pub done: u64,
     pub lost: u64,
     pub fail: u64,
+    /// A number made of all that was told: one that is told otherwise changes it.
+    pub checksum: u64,
 }
 
 impl Tally {
@@ -34,10 +36,18 @@ impl Tally {
         }
     }
 
+    /// This was told.
+    pub fn tell(&mut self, reply: u64)
+        ensures { total self.new ≡ total self.old }
+    {
+        self.checksum = self.checksum.wrapping_mul(31).wrapping_add(reply);
+    }
+
     /// The rounds of another tally are counted too.
     pub fn add(&mut self, other: Tally) {
         self.done = self.done.saturating_add(other.done);
         self.lost = self.lost.saturating_add(other.lost);
         self.fail = self.fail.saturating_add(other.fail);
+        self.checksum = self.checksum.wrapping_add(other.checksum);
     }
 }

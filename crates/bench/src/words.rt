@@ -11,12 +11,18 @@ use std::rt::Env;
 use std::{env, io};
 
 /// The most words that there may be, of which the first is the program's own name.
-const MOST_WORDS: usize = 5;
+const MOST_WORDS: usize = 6;
 
-/// How many threads there are, and how often all is done, where the words do not say it.
+/// How many threads there are, how often all is done, and how many keys there are, where the words
+/// do not say it.
 const USUAL_THREADS: u32 = 1;
 
 const USUAL_TIMES: u32 = 15;
+
+const USUAL_KEYS: u32 = 1000;
+
+/// The most keys: half of them fit the shares of five passes.
+const MOST_KEYS: u32 = 100_000;
 
 /// The words that the program was given, of which the first is its own name.
 pub fn words_of<R: Env + AllocGlobal>(rt: &R) -> Result<Vec<String>, Fault> {
@@ -43,7 +49,10 @@ pub fn tasks_of(alloc: Global, words: &[String]) -> Result<Vec<Task>, Fault> {
 
 fn asks_for(words: &[String], work: Work) -> bool {
     match words.get(1) {
-        Some(word) => word.as_str() == "all" || word.as_str() == work.name(),
+        Some(word) => {
+            let word = word.as_str();
+            word == "all" || word == work.kind() || word == work.name()
+        }
         None => false,
     }
 }
@@ -59,6 +68,7 @@ fn task_of(words: &[String], work: Work) -> Result<Task, Fault> {
         threads: number_at(words, 2, bounds.threads, USUAL_THREADS)?,
         calls: number_at(words, 3, bounds.calls, bounds.usual_calls)?,
         times: number_at(words, 4, u32::MAX, USUAL_TIMES)?,
+        keys: number_at(words, 5, MOST_KEYS, USUAL_KEYS)?,
     })
 }
 

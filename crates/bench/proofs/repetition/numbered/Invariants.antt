@@ -1,6 +1,6 @@
 use Rattle.std.specs.List.{All}
 use Rattle.forest.specs.Passes.{IsOf}
-use Rattle.bench.proofs.crowd.numbered.Given as goal
+use Rattle.bench.proofs.repetition.numbered.Given as goal
 
 abbrev pub invariant-loop-pass : goal.invariant-loop-pass
 invariant-loop-pass l =

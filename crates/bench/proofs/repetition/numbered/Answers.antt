@@ -1,7 +1,7 @@
 use Rattle.std.proofs.Common.{ℕ, sym, [], ◌∷◌, ◌++◌}
 use Rattle.std.proofs.lemmas.List.Elements.{All-head, All-rest, All-same, All-push}
 use Rattle.forest.specs.Passes.{PassView, IsOf}
-use Rattle.bench.proofs.crowd.numbered.Goals as goal
+use Rattle.bench.proofs.repetition.numbered.Goals as goal
 
 pub loop-pass-preserved : goal.loop-pass-preserved
 loop-pass-preserved c =
