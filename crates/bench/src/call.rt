@@ -4,7 +4,7 @@ ghost use Rattle.forest.specs.Passes.{IsOf};
 ghost use Rattle.bench.specs.Tally.{total};
 
 use crate::draws::Draws;
-use crate::tally::{End, Tally};
+use crate::tally::{End, Tally, with_reply};
 use crate::task::Task;
 use crate::work::TreeWork;
 use dict::Dict;
@@ -128,9 +128,11 @@ fn told_pairs(reply: Result<Vec<(u64, u64)>, OrderFault>, tally: &mut Tally) -> 
 {
     match reply {
         Ok(pairs) => {
+            let mut checksum = tally.checksum;
             for pair in &pairs {
-                tally.tell(pair_word(*pair));
+                checksum = with_reply(checksum, pair_word(*pair));
             }
+            tally.checksum = checksum;
             End::Done
         }
         Err(fault) => refused(fault),

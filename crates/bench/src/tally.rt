@@ -40,7 +40,7 @@ impl Tally {
     pub fn tell(&mut self, reply: u64)
         ensures { total self.new ≡ total self.old }
     {
-        self.checksum = self.checksum.wrapping_mul(31).wrapping_add(reply);
+        self.checksum = with_reply(self.checksum, reply);
     }
 
     /// The rounds of another tally are counted too.
@@ -50,4 +50,9 @@ impl Tally {
         self.fail = self.fail.saturating_add(other.fail);
         self.checksum = self.checksum.wrapping_add(other.checksum);
     }
+}
+
+/// The checksum once this was told too.
+pub fn with_reply(checksum: u64, reply: u64) -> u64 {
+    checksum.wrapping_mul(31).wrapping_add(reply)
 }
