@@ -1,5 +1,5 @@
 use Rattle.forest.specs.Passes.{IsOf}
 use Rattle.suite.proofs.dictionary_tests.threads.take.Given as goal
 
-abbrev pub invariant-loop-_ask : goal.invariant-loop-_ask
-invariant-loop-_ask l = IsOf l.forest l.pass
+abbrev pub invariant-loop-ask : goal.invariant-loop-ask
+invariant-loop-ask l = IsOf l.forest l.pass
