@@ -23,3 +23,5 @@ mod StraightScx
 mod StraightVlx
 mod Versions
 mod DictCalls
+pub mod OpenCalls
+pub mod OpenSteps
