@@ -25,6 +25,9 @@ use Rattle.forest.proofs.Advances.{weighs}
 use Rattle.forest.proofs.Calls.{course_keeps}
 use Rattle.forest.proofs.DictCalls.{IsSameCall}
 
+pub differ : true ≡ false → ⊥
+differ e = cc
+
 module _ {K V : Type 0} (valid_key : K → Type 0) (key : K → ℕ) (valid_value : V → Type 0) (value : V → ℕ) where
   -- where the machine of such a call stands
   abbrev pub DictStands : Call → List SeatedPass → DictRun K V → DictRun K V → Turn (Reply K V) → Type 0
@@ -34,6 +37,10 @@ module _ {K V : Type 0} (valid_key : K → Type 0) (key : K → ℕ) (valid_valu
   pub same_so_far : (c : Call) (ps : List SeatedPass) (first m : DictRun K V) (turn : Turn (Reply K V)) → DictStands c ps first m turn → IsSameCall valid_key key valid_value value first m
   same_so_far c ps first m (Ask s) y = course_keeps (λ (k : DictRun K V). IsSameCall valid_key key valid_value value first k) (refl, refl) (λ old now e q. (e.0 ∙ q.0, e.1 ∙ q.1)) m _ y.so.1
   same_so_far c ps first m (Done a) y = course_keeps (λ (k : DictRun K V). IsSameCall valid_key key valid_value value first k) (refl, refl) (λ old now e q. (e.0 ∙ q.0, e.1 ∙ q.1)) m _ y.so.1
+
+  -- one that has answered is over
+  pub is_answered : (o : Inside K V) → IsOpen valid_key key valid_value value o → (reply : Reply K V) → o.turn ≡ Done reply → IsOpen valid_key key valid_value value (record o { over = true })
+  is_answered o x reply is = record { pass = x.pass; table = x.table; bare = x.bare; number = x.number; layout = x.layout; call = x.call; blamed = x.blamed; first = x.first; stands = x.stands; since = x.since; steps = x.steps; over = λ e. rw is tt; none = λ e. absurd (differ e) }
 
   module _ (o : Inside K V) (x : IsOpen valid_key key valid_value value o) (step : Step) (is : o.turn ≡ Ask step) where
     -- the machine waits for this step
