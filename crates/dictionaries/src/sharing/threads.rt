@@ -111,14 +111,15 @@ fn is_window(pairs: &[(u64, u64)]) -> bool {
     steps && (many == WINDOW || many == WINDOW + 1 || first == 0 && many < WINDOW)
 }
 
-/// Looks at the window. A look that is contended tells nothing.
+/// Looks at the window, and answers how many keys it has seen. A look that is refused tells nothing.
 fn see_window(alloc: Global, forest: &Forest<Numbers>, pass: &mut Pass<Numbers>) -> Out
     requires { IsOf forest.now pass.old }
     ensures { IsOf forest.now pass.new }
 {
     match forest.range(alloc, pass, &0, &u64::MAX, 64) {
-        Ok(pairs) if !is_window(&pairs) => None,
-        _ => Some(None),
+        Ok(pairs) if is_window(&pairs) => Some(Some(pairs.len() as u64)),
+        Ok(_) => None,
+        Err(_) => Some(None),
     }
 }
 
@@ -227,6 +228,13 @@ impl Ended {
             .all(|outs| outs.iter().all(|out| out.is_some()))
     }
 
+    /// Something came out in some round.
+    fn have_come(&self) -> bool {
+        self.outs
+            .iter()
+            .any(|outs| outs.iter().any(|out| matches!(out, Some(Some(_)))))
+    }
+
     /// The values that came out, and those that are left, in their order.
     fn values(&self, alloc: Global) -> Result<Vec<u64>, AllocError> {
         let mut values = Vec::new(alloc);
@@ -305,6 +313,7 @@ fn three_threads_see_a_window_move(rt: HostRuntime) -> Result<(), Fail> {
         return Ok(());
     };
     assert!(rt; ended.are_right());
+    assert!(rt; ended.have_come());
     assert!(rt; ended.has_keys(980, 20));
     Ok(())
 }
