@@ -34,7 +34,7 @@ use Rattle.dict.specs.Says.{WordSays, HasRead}
 use Rattle.dict.specs.WordReplies.{update_reply, successor_reply, range_reply}
 use Rattle.dict.specs.declared.run.MapRun.TheVariants as runs
 use Rattle.dict.specs.declared.told.WordReply.TheVariants as words
-use Rattle.dict.proofs.Readings.{none_entered, answer_read, reply_read, always_read, way_of_read, leaf_read, ran_out}
+use Rattle.dict.proofs.Readings.{none_entered, answer_read, reply_read, always_read, leaf_read, ran_out}
 
 -- an insert always has something to make
 something : (old : Option ℕ) → insert_need old ≢ Nothing
@@ -101,7 +101,7 @@ module _ (c : Call) (h : History) where
   -- so has a successor
   pub successor_says : (m : SuccessorRun) (share : Remaining) (a : Result (Option Pair) Refused) → Rests c h share → SuccessorAnswers m c h a → WordSays c h (SuccessorOf m.key) share m.tries (successor_reply a)
   successor_says m share (Ok found) x y = (reply_read c h (SuccessorOf m.key) (pair_or_none found) y.1 (none_entered c h share x), tt)
-  successor_says m share (Err (refused.Contended node scx)) x y = (tt, record { way = way_of_read c h node.0 scx.0 y.1.0; over = y.1.1; none = none_entered c h share x })
+  successor_says m share (Err (refused.Contended node scx)) x y = (tt, record { way = y.1.0; over = y.1.1; none = none_entered c h share x })
   successor_says m share (Err refused.NoMemory) x y = (tt, (tt, none_entered c h share x))
 
   -- and a range, or it tells what every map replies
@@ -110,7 +110,7 @@ module _ (c : Call) (h : History) where
     where
       none : HasEnteredNone c.layout c.pass h c.start
       none = none_entered c h share x
-  range_says m share (Err (refused.Contended node scx)) x y = (tt, record { way = way_of_read c h node.0 scx.0 y.1.0; over = y.1.1; none = none_entered c h share x })
+  range_says m share (Err (refused.Contended node scx)) x y = (tt, record { way = y.1.0; over = y.1.1; none = none_entered c h share x })
   range_says m share (Err refused.NoMemory) x y = (tt, (tt, none_entered c h share x))
 
 -- What is gone of the share

@@ -8,7 +8,7 @@ use Rattle.arena.specs.History.{History, value, Extends}
 use Rattle.arena.specs.Machines.{Call}
 use Rattle.arena.specs.Share.{Remaining}
 use Rattle.arena.proofs.Lemmas.{ends_self, ends_trans}
-use Rattle.order.specs.Replies.{IsReplyAt, IsContended as IsReadContended}
+use Rattle.order.specs.Replies.{IsReplyAt}
 use Rattle.spelling.specs.OrderedMap.{MapCall, Get, MapReply, OneValue, get, reply}
 use Rattle.spelling.specs.Paths.{IsAnswerAt}
 use Rattle.spelling.specs.Runs.{IsTreeRun}
@@ -19,7 +19,6 @@ use Rattle.template.specs.FoundLeaf.{HasFoundLeaf}
 use Rattle.template.specs.Trails.{IsOwnMoment}
 use Rattle.template.specs.declared.walk.Found.{Found}
 use Rattle.template.proofs.Lemmas.{own_since}
-use Rattle.updates.specs.Blame.{IsContended}
 use Rattle.updates.specs.Known.{IsShort}
 use Rattle.updates.specs.Laws.Entered.{none_quiet}
 use Rattle.updates.specs.Pieces.{many_nodes}
@@ -63,10 +62,6 @@ module _ (c : Call) (h : History) where
   always_read call told run since gives none =
       let map : (ps : List Pair) × Spells c.layout (value h) ps = run_spells c.layout h run in
       record { moment = h; within = ends_self h; since = since; map = map.0; spelled = map.1; gives = gives map.0; none = none }
-
-  -- who was in the way of a read was in the way of the call
-  pub way_of_read : (n s : ℕ) → IsReadContended c h n s → IsContended c h n s
-  way_of_read n s x = record { others = x.others; in_the_way = x.in_the_way }
 
   -- the leaf that was found tells what the map had at a moment of the call
   pub leaf_read : (key : ℕ) (f : Found) → key < 2 ^ 64 → IsTreeRun c.layout h → HasFoundLeaf c h key f → HasEnteredNone c.layout c.pass h c.start → HasRead c h (Get key) (OneValue f.value)

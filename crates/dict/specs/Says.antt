@@ -9,7 +9,7 @@ use Rattle.arena.specs.Share.{Remaining}
 use Rattle.spelling.specs.OrderedMap.{MapEdit, MapCall, Edit, Successor, Range, MapReply, OneValue, reply, changes}
 use Rattle.spelling.specs.Spelled.{Spells}
 use Rattle.spelling.specs.declared.pair.Pair.{Pair}
-use Rattle.updates.specs.Blame.{IsContended}
+use Rattle.template.specs.Blame.{IsContended}
 use Rattle.updates.specs.Known.{HasMade}
 use Rattle.updates.specs.Tries.{HasEnteredNone}
 use Rattle.dict.specs.Calls.{need}

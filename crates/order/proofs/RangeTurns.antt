@@ -28,7 +28,7 @@ use Rattle.spelling.specs.TreeShape.{TreeAllows}
 use Rattle.spelling.specs.TreeWords.{rank}
 use Rattle.template.specs.Trails.{IsOwnMoment}
 use Rattle.order.specs.Reads.{from}
-use Rattle.order.specs.Replies.{IsContended}
+use Rattle.template.specs.Blame.{IsContended}
 use Rattle.order.specs.Range.Known.{AsksForNothing, TellsNone, IsSameRange, Visits, IsChoice, LooksIn, HasLowHead, HasKey, Validates, Goes, HasTold, RangeIsToldAt, RangeWaits, RangeIsReady, RangeReplies, RangeTurn}
 use Rattle.order.specs.Range.Steps.{try_left, phase_left, range_left, IsNearer, RangeFitsAt, RangeFits}
 use Rattle.order.specs.declared.refused.Refused.{Refused}
@@ -131,7 +131,7 @@ module _ (m : RangeRun) (c : Call) (begin h : History) (asked : ℕ) (turn : Tur
   told is = inl (replies m c begin h x (rw is at w))
 
   pub changed : (n : NodeNo) (s : ScxNo) → turn ≡ Done (Changed n s) → IsContended c h n.0 s.0
-  changed n s is = look_changed c begin h m.snaps.items n.0 s.0 x.then (rw is at w)
+  changed n s is = look_changed c begin h m.snaps.items n.0 s.0 goes.reads.run.1.lawful x.then (rw is at w)
 
 -- As it is told something
 

@@ -34,7 +34,7 @@ use Rattle.template.specs.declared.walk.WalkAt.TheVariants.{Start as WalkStart, 
 use Rattle.template.specs.declared.walk.WalkRun.{WalkRun}
 use Rattle.template.proofs.Lemmas.{walk_ready_first}
 use Rattle.order.specs.Reads.{from}
-use Rattle.order.specs.Replies.{IsContended}
+use Rattle.template.specs.Blame.{IsContended}
 use Rattle.order.specs.Successor.Known.{HasTurnedLeft, IsLastTurn, LooksAt, StandsAt, HasHead, HasLeaf, Validates, Goes, SuccessorIsToldAt, SuccessorWaits, SuccessorIsReady, SuccessorAnswers, SuccessorTurn}
 use Rattle.order.specs.Successor.Steps.{last_turn}
 use Rattle.order.specs.declared.refused.Refused.{Refused}
@@ -173,7 +173,7 @@ module _ (m : SuccessorRun) (c : Call) (begin h : History) (asked : ℕ) (found 
   told is = (goes.reads.over, replies m c begin h found x (rw is at w))
 
   pub changed : (n : NodeNo) (s : ScxNo) → turn ≡ Done (Changed n s) → IsContended c h n.0 s.0
-  changed n s is = look_changed c begin h m.snaps.items n.0 s.0 x.then (rw is at w)
+  changed n s is = look_changed c begin h m.snaps.items n.0 s.0 goes.reads.run.1.lawful x.then (rw is at w)
 
 -- As it is told something
 

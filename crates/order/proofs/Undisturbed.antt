@@ -25,7 +25,8 @@ use Rattle.spelling.proofs.Lemmas.{one_spelling, quiet_spells, run_since}
 use Rattle.template.proofs.Lemmas.{own_since}
 use Rattle.order.specs.Range.Known.{IsSameRange, RangeIsReady, RangeAnswers, RangeReplies, RangeTurn, Goes as RangeGoes}
 use Rattle.order.specs.Range.Steps.{range_left, IsNearer as RangeIsNearer, phase_left as range_phase, try_left as range_try}
-use Rattle.order.specs.Replies.{IsContended, IsReplyAt, KeepsTries}
+use Rattle.order.specs.Replies.{IsReplyAt, KeepsTries}
+use Rattle.template.specs.Blame.{IsContended}
 use Rattle.order.specs.Successor.Known.{SuccessorIsReady, SuccessorAnswers, SuccessorTurn, Goes as SuccessorGoes}
 use Rattle.order.specs.Successor.Steps.{successor_left, IsNearer as NextIsNearer, phase_left as next_phase, try_left as next_try}
 use Rattle.order.specs.Undisturbed.{HasLeftAll, HasLessOfTry, IsUndisturbed, TellsNext, TellsRange}

@@ -1,13 +1,12 @@
 -- What an ordered read replies, and when it is contended.
 use Rattle.std.specs.Prelude.{◌≡◌, ℕ, suc, ◌⊎◌, List}
-use Rattle.arena.specs.Blame.{WasInTheWay}
-use Rattle.arena.specs.Fills.{IsOthersScx}
 use Rattle.arena.specs.History.{History, value, Extends}
 use Rattle.arena.specs.Machines.{Call, MatchTurn}
 use Rattle.arena.specs.declared.machine.Turn.{Turn}
 use Rattle.spelling.specs.declared.pair.Pair.{Pair}
 use Rattle.spelling.specs.OrderedMap.{MapCall, MapReply, reply}
 use Rattle.spelling.specs.Spelled.{Spells}
+use Rattle.template.specs.Blame.{IsContended}
 use Rattle.template.specs.Trails.{IsOwnMoment}
 
 -- at a moment of the call, from its first own row on, the words spell a map that replies this
@@ -18,12 +17,6 @@ pub record IsReplyAt (c : Call) (h : History) (call : MapCall) (told : MapReply)
   pub map : List Pair
   pub spelled : Spells c.layout (value moment) map
   pub gives : reply call map ≡ told
-
--- the SCX-record s is another pass's, and covered the node n while in progress, after some row
--- since the call's begin
-pub record IsContended (c : Call) (h : History) (n s : ℕ) : Type 0 where
-  pub others : IsOthersScx c.layout c.pass s
-  pub in_the_way : WasInTheWay h c.start n s
 
 -- one try fewer is left, and this SCX-record over this node was in the way of the call
 pub record GivesUpOne (c : Call) (h : History) (before now : ℕ) : Type 0 where

@@ -84,7 +84,8 @@ impl RangeRun {
     ghost use Rattle.spelling.specs.TreeShape.{TreeAllows};
     ghost use Rattle.template.specs.Trails.{IsOwnMoment};
     ghost use Rattle.order.specs.Reads.{from, Whenever};
-    ghost use Rattle.order.specs.Replies.{IsContended, KeepsTries};
+    ghost use Rattle.order.specs.Replies.{KeepsTries};
+    ghost use Rattle.template.specs.Blame.{IsContended};
     ghost use Rattle.order.specs.Visits.{IsRangeAt};
     ghost use Rattle.order.specs.Successor.Known.{head_at, key_at, value_at, level_at};
     ghost use Rattle.order.specs.Successor.Steps.{HeadFits};

@@ -94,7 +94,8 @@ impl SuccessorRun {
     ghost use Rattle.template.specs.Walk.Known.{WalkIsReady};
     ghost use Rattle.template.specs.Walk.Steps.{walk_left, WalkFits};
     ghost use Rattle.order.specs.Reads.{from, Whenever};
-    ghost use Rattle.order.specs.Replies.{IsContended, KeepsTries};
+    ghost use Rattle.order.specs.Replies.{KeepsTries};
+    ghost use Rattle.template.specs.Blame.{IsContended};
     ghost use Rattle.order.specs.Search.{IsNextAt};
     ghost use Rattle.order.specs.Successor.Known.{head_at, key_at, level_at, is_answer, IsLastTurn, LooksAt, StandsAt, HasHead, Validates, Goes, SuccessorIsReady, SuccessorTurn};
     ghost use Rattle.order.specs.Successor.Steps.{behind, HeadFits, IsNearer, try_left, successor_left, SuccessorFits};

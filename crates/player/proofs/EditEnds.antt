@@ -15,7 +15,7 @@ use Rattle.tree.specs.declared.insert.Insert.{Insert as Inserted}
 use Rattle.tree.specs.declared.delete.Delete.{Delete as Deleted}
 use Rattle.tree.specs.Delete.Means.{delete_means, delete_need}
 use Rattle.tree.specs.Insert.Means.{insert_means, insert_need}
-use Rattle.updates.specs.Blame.{IsContended}
+use Rattle.template.specs.Blame.{IsContended}
 use Rattle.updates.specs.Known.{RestsWith, IsUntouched, IsShort, HasMade, UpdateSays, UpdateAnswers}
 use Rattle.updates.specs.Pieces.{many_nodes}
 use Rattle.updates.specs.Tries.{HasEnteredNone}

@@ -5,4 +5,5 @@ mod Promised
 mod Inserting
 mod Deleting
 mod Tracking
+mod Contending
 pub mod Lemmas

@@ -5,3 +5,4 @@ pub mod Walk
 pub mod Promises
 pub mod FreshNodes
 pub mod Tracked
+pub mod Blame

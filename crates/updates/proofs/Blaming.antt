@@ -1,17 +1,15 @@
 -- Who was in the way of a try that is lost.
 use Rattle.std.proofs.Common.{◌≡◌, ◌≢◌, ℕ, List, inr, subst, sym}
-use Rattle.arena.specs.Blame.{HasFailed}
 use Rattle.arena.specs.declared.number.NodeNo.{NodeNo}
 use Rattle.arena.specs.declared.number.ScxNo.{ScxNo}
+use Rattle.arena.specs.declared.step.Kind.TheVariants.{Freeze}
 use Rattle.arena.specs.History.{History, ◌⊳◌, Extends}
 use Rattle.arena.specs.Lawful.{Lawful}
 use Rattle.arena.specs.Machines.{Call}
 use Rattle.arena.proofs.Lemmas.{ends_trans}
-use Rattle.histories.proofs.Lemmas.{committed_won}
-use Rattle.prims.specs.Laws.Blamed.{moment_since}
+use Rattle.histories.proofs.Lemmas.{lawful_since}
 use Rattle.prims.specs.Laws.Idle.{IsQuietSince}
-use Rattle.prims.specs.Llx.Known.{IsFinalBy, LlxAnswers}
-use Rattle.prims.specs.Moments.{IsMoment, IsLeftAlone}
+use Rattle.prims.specs.Llx.Known.{LlxAnswers}
 use Rattle.prims.specs.Scx.Known.{IsLost}
 use Rattle.prims.specs.Snap.{snap_at}
 use Rattle.prims.specs.declared.llx.Llx.TheVariants.{Finalized, Fail}
@@ -19,41 +17,21 @@ use Rattle.prims.specs.declared.llx.LlxRun.{LlxRun}
 use Rattle.prims.specs.declared.scx.ScxRun.{ScxRun}
 use Rattle.prims.specs.declared.snap.Snap.{Snap}
 use Rattle.spelling.specs.Runs.{IsTreeRun}
-use Rattle.spelling.proofs.Lemmas.{blame_finalizer}
+use Rattle.template.specs.Blame.{IsContended}
 use Rattle.template.specs.declared.walk.Found.{Found}
 use Rattle.template.specs.declared.walk.Goal.{Goal}
-use Rattle.updates.specs.Blame.{IsContended, WasNotFinal, way_wider}
+use Rattle.template.proofs.Lemmas.{changed_contended, failed_contended, finalized_contended}
 use Rattle.updates.specs.declared.edit.Look.TheVariants.{At, Differs}
 use Rattle.updates.specs.declared.edit.Need.TheVariants.{Nothing}
 use Rattle.updates.specs.Edits.{EditMeaning}
 use Rattle.updates.specs.Known.{HasSnapped, AreUsable, HasLooked}
-use Rattle.updates.specs.Laws.Contended.{way_contended}
 use Rattle.updates.specs.Laws.HandScx.{from}
 use Rattle.updates.specs.Laws.Kept.{snapped_usable}
 use Rattle.updates.specs.Sound.{LooksWell}
 
--- its LLX fails
-pub failed_contended : (c : Call) (begin h : History) (n s : ℕ) → Extends begin c.start → HasFailed c.layout c.pass h begin n s → IsContended c h n s
-failed_contended c begin h n s e x = record { others = x.others; in_the_way = way_wider c h begin n s e x.in_the_way }
-
--- its LLX finds a node finalized that was not final at a moment of the try
-pub finalized_contended : (c : Call) (h : History) (n s : ℕ) → Lawful c.layout h → IsQuietSince c.layout c.pass c.start h → WasNotFinal c h n → IsFinalBy c.layout h n s → IsContended c h n s
-finalized_contended c h n s l quiet x is = way_contended c h x.moment n s l quiet x.since (blame_finalizer c.layout h x.moment n s l x.within x.was record { won = committed_won c.layout h s l is.committed; removed = is.by.removed })
-
--- a pass that was idle all through its call has left alone what it has looked at
-left_alone : (c : Call) (h : History) (goal : Goal) (f : Found) (snap : Snap) → Lawful c.layout h → IsQuietSince c.layout c.pass c.start h → HasSnapped c h goal f snap → IsLeftAlone c.layout c.pass h snap
-left_alone c h goal f snap l quiet x = record {
-  moment = x.moment;
-  found = (snapped_usable c h goal f snap l x).found;
-  idle = λ m within since t own running covers. quiet m within (ends_trans m x.moment c.start since x.since) t own running;
-}
-
 -- its SCX, which begins at this moment of the try, is lost
-pub lost_contended : (c : Call) (begin h : History) (goal : Goal) (f : Found) (m : ScxRun) (n s : ℕ) → Lawful c.layout begin → IsQuietSince c.layout c.pass c.start begin → AreUsable c begin goal f m.update.snaps → IsLost (from c begin) h m n s → IsContended c h n s
-lost_contended c begin h goal f m n s l quiet usable x = subst (λ t. IsContended c h t s) x.changed.is record {
-  others = x.changed.blamed.others (left_alone c begin goal f (snap_at m.update.snaps i) l quiet snapped);
-  in_the_way = way_wider c h snapped.moment (snap_at m.update.snaps i).node.0 s snapped.since (x.changed.blamed.in_the_way snapped.moment (moment_since c.layout h begin snapped.moment (snap_at m.update.snaps i) since found));
-}
+pub lost_contended : (c : Call) (begin h : History) (goal : Goal) (f : Found) (m : ScxRun) (n s : ℕ) → Lawful c.layout h → IsQuietSince c.layout c.pass c.start begin → AreUsable c begin goal f m.update.snaps → IsLost (from c begin) h m n s → IsContended c h n s
+lost_contended c begin h goal f m n s l quiet usable x = changed_contended c Freeze begin h m.update.snaps n s l quiet x.changed snapped.moment snapped.since (snapped_usable c begin goal f (snap_at m.update.snaps i) then snapped).found
   where
     i : ℕ
     i = x.changed.index
@@ -61,11 +39,8 @@ lost_contended c begin h goal f m n s l quiet usable x = subst (λ t. IsContende
     snapped : HasSnapped c begin goal f (snap_at m.update.snaps i)
     snapped = usable i x.changed.within
 
-    found : IsMoment c.layout begin (snap_at m.update.snaps i) snapped.moment
-    found = (snapped_usable c begin goal f (snap_at m.update.snaps i) l snapped).found
-
-    since : Extends h begin
-    since = ends_trans h (x.changed.found.row ⊳ x.changed.found.before) begin x.changed.found.last.within (inr x.changed.found.since)
+    then : Lawful c.layout begin
+    then = lawful_since c.layout h begin l (ends_trans h (x.changed.found.row ⊳ x.changed.found.before) begin x.changed.found.last.within (inr x.changed.found.since))
 
 module _ {E : Type 0} (e : EditMeaning E) (looks : LooksWell e) (ed : E) (c : Call) (h : History) (f : Found) (snaps : List Snap) (run : IsTreeRun c.layout h) (needed : e.needs ed f ≢ Nothing) (looked : HasLooked e c h ed f snaps) where
   -- an LLX of what the edit looks at, begun in the try, ends without a snapshot

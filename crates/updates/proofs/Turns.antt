@@ -16,7 +16,7 @@ use Rattle.arena.specs.Machines.{Call, MatchTurn}
 use Rattle.arena.specs.Share.{Remaining}
 use Rattle.arena.specs.Words.{state}
 use Rattle.arena.proofs.Lemmas.{ends_self, ends_trans}
-use Rattle.histories.proofs.Lemmas.{finished_taken, lawful_since}
+use Rattle.histories.proofs.Lemmas.{finished_taken}
 use Rattle.prims.specs.Laws.Idle.{IsQuietSince, quiet_at_start}
 use Rattle.prims.specs.Llx.Known.{IsOpened, LlxIsReady, LlxKnows, LlxWaits, LlxAnswers}
 use Rattle.prims.specs.Moments.{AreFinished}
@@ -31,7 +31,7 @@ use Rattle.prims.specs.declared.scx.ScxRun.{ScxRun}
 use Rattle.prims.specs.declared.update.Update.{Update}
 use Rattle.prims.proofs.Lemmas.{over_ends}
 use Rattle.spelling.specs.TreeShape.{TreeAllows}
-use Rattle.template.proofs.Lemmas.{own_since, walk_ready_run}
+use Rattle.template.proofs.Lemmas.{contended_later, contended_wider, own_since, walk_ready_run}
 use Rattle.template.specs.FoundLeaf.{path_key, HasFound}
 use Rattle.template.specs.Tracked.{Tracks}
 use Rattle.template.specs.Walk.Known.{WalkIsReady, WalkWaits, WalkAnswers}
@@ -45,7 +45,7 @@ use Rattle.updates.specs.declared.update.Updated.{Updated}
 use Rattle.updates.specs.declared.update.Updated.TheVariants.{Done as UpdateDone}
 use Rattle.updates.specs.declared.update.UpdateAt.TheVariants.{Walk, Look, Fill, Scx}
 use Rattle.updates.specs.declared.update.UpdateRun.{UpdateRun}
-use Rattle.updates.specs.Blame.{IsContended, contended_later, contended_wider}
+use Rattle.template.specs.Blame.{IsContended}
 use Rattle.updates.specs.Edits.{EditMeaning}
 use Rattle.updates.specs.Sound.{IsAtFound}
 use Rattle.updates.specs.Known.{RestsWith, AreUsable, CoversLeaf, Begins, Walks, CanLook, CanFill, Scxs, IsUntouched, TryWaits, UpdateWaits, UpdateAnswers}
@@ -223,7 +223,7 @@ module _ {E : Type 0} (e : EditMeaning E) where
   scx_lost m scx after f c b begin h turn n s try x is_scx is_update done w = (
     record { run = x.run; small = x.small; since = since; rests = scx_rests m scx f c b begin h x finished },
     record { since = since; none = none_joined c.layout c.pass h b c.start x.now try.none (none_lost c.layout c.pass scx.scx.0 h b x.run.1.lawful aborted x.only) },
-    contended_wider c b h n.0 s.0 try.since (lost_contended (from c b) begin h (e.goal m.edit) f after n.0 s.0 (lawful_since c.layout h begin x.run.1.lawful (ends_trans h (lost.changed.found.row ⊳ lost.changed.found.before) begin lost.changed.found.last.within (inr lost.changed.found.since))) x.quiet
+    contended_wider c b h n.0 s.0 try.since (lost_contended (from c b) begin h (e.goal m.edit) f after n.0 s.0 x.run.1.lawful x.quiet
         (subst (λ (u : Update). AreUsable (from c b) begin (e.goal m.edit) f u.snaps) (sym is_update) x.usable) lost),
   )
     where
@@ -261,6 +261,6 @@ asks_on P (Ask step) x = tt
 asks_on P (Done answer) x = absurd x
 
 -- what was so as the walk began is so as it ends
-pub untouched_later : (c : Call) (b h : History) (left : Remaining) → Extends h b → IsUntouched c b left → IsUntouched c h left
-untouched_later c b h left e (inl x) = inl x
-untouched_later c b h left e (inr x) = inr (x.0, x.1, contended_later c h b x.0 x.1 e x.2)
+pub untouched_later : (c : Call) (b h : History) (left : Remaining) → Lawful c.layout h → Extends h b → IsUntouched c b left → IsUntouched c h left
+untouched_later c b h left l e (inl x) = inl x
+untouched_later c b h left l e (inr x) = inr (x.0, x.1, contended_later c h b x.0 x.1 l e x.2)

@@ -28,7 +28,7 @@ use Rattle.template.proofs.Lemmas.{own_since}
 use Rattle.template.specs.FoundLeaf.{HasFoundLeaf}
 use Rattle.template.specs.declared.walk.Found.{Found}
 use Rattle.updates.specs.Undisturbed.{IsUndisturbed}
-use Rattle.updates.specs.Blame.{IsContended}
+use Rattle.template.specs.Blame.{IsContended}
 use Rattle.updates.specs.Known.{HasMade}
 use Rattle.updates.specs.Tries.{HasEnteredNone}
 

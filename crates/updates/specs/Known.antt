@@ -52,7 +52,7 @@ use Rattle.updates.specs.declared.update.Updated.TheVariants.{Done, Contended, F
 use Rattle.updates.specs.declared.update.UpdateAt.{UpdateAt}
 use Rattle.updates.specs.declared.update.UpdateAt.TheVariants.{Start, Walk, Look, Load, Fill, Scx}
 use Rattle.updates.specs.declared.update.UpdateRun.{UpdateRun}
-use Rattle.updates.specs.Blame.{IsContended}
+use Rattle.template.specs.Blame.{IsContended}
 use Rattle.updates.specs.Edits.{EditMeaning}
 use Rattle.updates.specs.Laws.Hand.{IsBefore, IsUpTo, IsPieceWord, HoldsWords, HasFilledTo, IsForField, FieldMay}
 use Rattle.updates.specs.Laws.HandScx.{from}

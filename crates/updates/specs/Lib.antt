@@ -3,7 +3,6 @@ pub mod Edits
 pub mod Steps
 pub mod Tries
 pub mod Undisturbed
-pub mod Blame
 pub mod Known
 pub mod Sound
 pub mod Laws

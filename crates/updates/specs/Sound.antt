@@ -27,7 +27,7 @@ use Rattle.template.specs.declared.walk.Found.{Found}
 use Rattle.updates.specs.declared.edit.Loaded.{Loaded}
 use Rattle.updates.specs.declared.edit.Nodes.{Nodes}
 use Rattle.updates.specs.declared.edit.Nth.{Nth}
-use Rattle.updates.specs.Blame.{IsContended, WasNotFinal}
+use Rattle.template.specs.Blame.{IsContended, WasNotFinal}
 use Rattle.updates.specs.Edits.{EditMeaning, EditBounds}
 use Rattle.updates.specs.Known.{ComesBefore, CoversLeaf, IsNeeded, HasLooked, HasFilledAll, IsUpdateFor}
 use Rattle.updates.specs.Laws.Hand.{IsPieceWord}

@@ -10,7 +10,7 @@ ghost use Rattle.spelling.specs.Spelled.{Spells};
 ghost use Rattle.template.specs.FoundLeaf.{HasFoundLeaf};
 ghost use Rattle.template.specs.declared.walk.Found.{Found};
 ghost use Rattle.updates.specs.Undisturbed.{IsUndisturbed};
-ghost use Rattle.updates.specs.Blame.{IsContended};
+ghost use Rattle.template.specs.Blame.{IsContended};
 ghost use Rattle.updates.specs.Known.{HasMade};
 ghost use Rattle.updates.specs.Tries.{HasEnteredNone};
 

@@ -519,7 +519,7 @@ impl<E: Edit + Drop> UpdateRun<E> {
     ghost use Rattle.arena.specs.Words.{node};
     ghost use Rattle.updates.specs.Laws.HandScx.{from};
     ghost use Rattle.updates.specs.Steps.{IsSpending, node_tries, scx_tries};
-    ghost use Rattle.updates.specs.Blame.{IsContended};
+    ghost use Rattle.template.specs.Blame.{IsContended};
     ghost use Rattle.updates.specs.Tries.{IsTry};
     ghost use Rattle.prims.specs.Laws.Idle.{IsQuietSince};
 }

@@ -21,7 +21,8 @@ use Rattle.spelling.specs.TreeShape.{TreeAllows}
 use Rattle.spelling.specs.TreeWords.{class, is_leaf, level, rank}
 use Rattle.template.specs.Trails.{IsOwnMoment}
 use Rattle.order.specs.Reads.{from, Reads, AllHold, Whenever, HasStood}
-use Rattle.order.specs.Replies.{IsReplyAt, IsContended}
+use Rattle.order.specs.Replies.{IsReplyAt}
+use Rattle.template.specs.Blame.{IsContended}
 use Rattle.order.specs.Visits.{Bounds, IsVisiting, HasVisited, IsRangeAt}
 use Rattle.order.specs.declared.refused.Refused.{Refused}
 use Rattle.order.specs.declared.refused.Refused.TheVariants.{Contended, NoMemory}

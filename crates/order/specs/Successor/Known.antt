@@ -23,7 +23,8 @@ use Rattle.template.specs.Trails.{IsOwnMoment, WasPassed}
 use Rattle.template.specs.Walk.Known.{WalkIsReady, WalkWaits}
 use Rattle.template.specs.declared.walk.Goal.TheVariants.{Key as ToKey}
 use Rattle.order.specs.Reads.{from, Reads, AllHold, Whenever, HasStood}
-use Rattle.order.specs.Replies.{IsReplyAt, IsContended}
+use Rattle.order.specs.Replies.{IsReplyAt}
+use Rattle.template.specs.Blame.{IsContended}
 use Rattle.order.specs.Search.{IsSearched, IsFirstBehind, IsNextAt}
 use Rattle.order.specs.declared.refused.Refused.{Refused}
 use Rattle.order.specs.declared.refused.Refused.TheVariants.{Contended, NoMemory}

@@ -42,7 +42,7 @@ use Rattle.updates.specs.declared.edit.Nodes.{Nodes}
 use Rattle.updates.specs.declared.edit.Nth.{Nth}
 use Rattle.updates.specs.declared.edit.Nth.TheVariants.{First, Second, Third}
 use Rattle.updates.specs.declared.edit.Piece.TheVariants.{Leaf, Fork}
-use Rattle.updates.specs.Blame.{IsContended, WasNotFinal}
+use Rattle.template.specs.Blame.{IsContended, WasNotFinal}
 use Rattle.updates.specs.Known.{ComesBefore, IsNeeded, IsLoaded, HasSnapped, AreSeen, HasLooked, HasFilledAll, HoldsPiece, IsUpdateFor}
 use Rattle.updates.specs.Laws.Contended.{passed_not_final, turned_contended}
 use Rattle.updates.specs.Laws.Hand.{IsPieceWord, HoldsWords}

@@ -1,31 +1,25 @@
 -- Who was in the way of a call at a node that it has passed, and whose snapshot it has taken.
 use Rattle.std.proofs.Common.{◌≡◌, ◌≢◌, ℕ, false, sym, ◌∙◌, subst}
 use Rattle.arena.specs.Blame.{WasInTheWay}
-use Rattle.arena.specs.History.{History, Extends}
-use Rattle.arena.specs.Lawful.{Lawful}
+use Rattle.arena.specs.History.{History, value}
 use Rattle.arena.specs.Log.{log, is_final}
 use Rattle.arena.specs.Machines.{Call}
+use Rattle.arena.specs.Words.{state}
 use Rattle.arena.specs.declared.word.Side.{Side}
 use Rattle.arena.proofs.Lemmas.{ends_self, ends_trans}
+use Rattle.histories.proofs.Lemmas.{state_since}
 use Rattle.prims.specs.Laws.Blamed.{way_since}
 use Rattle.prims.specs.Laws.Idle.{IsQuietSince}
-use Rattle.prims.specs.Laws.InTheWay.{way_others}
 use Rattle.prims.specs.Snap.{child_of}
 use Rattle.prims.specs.declared.snap.Snap.{Snap}
 use Rattle.spelling.specs.Runs.{IsTreeRun}
 use Rattle.spelling.proofs.Lemmas.{child_not_final, path_not_final, run_since, was_passed}
+use Rattle.template.specs.Blame.{IsContended, WasNotFinal}
 use Rattle.template.specs.Trails.{HasTurned, WasPassed}
 use Rattle.template.specs.declared.walk.Found.{Found}
 use Rattle.template.specs.declared.walk.Goal.{Goal}
-use Rattle.template.proofs.Lemmas.{own_since, turned_lost}
-use Rattle.updates.specs.Blame.{IsContended, WasNotFinal, way_wider}
+use Rattle.template.proofs.Lemmas.{own_since, turned_lost, way_contended}
 use Rattle.updates.specs.Known.{HasSnapped}
-
--- what was in the way of a pass that was idle all through its call is another pass's
-pub way_contended : (c : Call) (h m : History) (n s : ℕ) → Lawful c.layout h → IsQuietSince c.layout c.pass c.start h → Extends m c.start → WasInTheWay h m n s → IsContended c h n s
-way_contended c h m n s l quiet e x =
-    let way : WasInTheWay h c.start n s = way_wider c h m n s e x in
-    record { others = way_others c.layout c.pass h c.start n s l quiet way; in_the_way = way }
 
 -- a node that the call has passed stood in the tree then, and so was not final
 pub passed_not_final : (c : Call) (h : History) (k n : ℕ) → IsTreeRun c.layout h → WasPassed c h k n → WasNotFinal c h n
@@ -50,9 +44,12 @@ shown_not_final c h k f snap turn side next run x turned = record {
 -- Where the call went down by a field of a fork, and its snapshot of the fork shows another node
 -- there, what the snapshot found in the fork's info was in the way.
 pub turned_contended : {goal : Goal} (c : Call) (h : History) (k : ℕ) (f : Found) (snap : Snap) (side : Side) (next : ℕ) → IsTreeRun c.layout h → IsQuietSince c.layout c.pass c.start h → (x : HasSnapped c h goal f snap) → HasTurned c x.moment k snap.node.0 side next → (child_of snap side).0 ≢ next → IsContended c h snap.node.0 snap.scx.0
-turned_contended c h k f snap side next run quiet x turned d = way_contended c h c.start snap.node.0 snap.scx.0 run.1.lawful quiet (ends_self c.start) way
+turned_contended c h k f snap side next run quiet x turned d = way_contended c h c.start snap.node.0 snap.scx.0 run.1.lawful quiet (ends_self c.start) way over
   where
     way : WasInTheWay h c.start snap.node.0 snap.scx.0
     way = way_since h x.moment c.start snap.node.0 snap.scx.0 x.within
         (subst (WasInTheWay x.moment c.start snap.node.0) x.is.info
         (turned_lost c x.moment k snap.node.0 side next (run_since c.layout h x.moment run x.within) turned (λ e. d (sym (x.is.linked.fields side x.is.info) ∙ e))))
+
+    over : value h (state snap.scx.0) ≢ 0
+    over z = x.is.linked.rest (sym (state_since c.layout h x.moment snap.scx.0 run.1.lawful x.within x.is.linked.rest) ∙ z)

@@ -35,7 +35,7 @@ returns-in-Some-clause-turn g c d b h run try first x quiet found =
         has_found = found_wider d b try.since h _ c.args.found found;
         needed = rw c.need-need.ensures at some;
         short = rw c.need-need.ensures at (rw c.in-Some.is at c.lacks.ensures.short);
-        first = untouched_later d b h c.args.self.now.share x.since first;
+        first = untouched_later d b h c.args.self.now.share run.lawful x.since first;
         none = nothing_entered g.E.Edit.means c.args.self.now d b h try x quiet;
       },
     )

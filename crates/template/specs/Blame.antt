@@ -1,0 +1,31 @@
+-- Who was in the way of a call on the tree.
+use Rattle.std.specs.Prelude.{◌≡◌, ◌≢◌, ◌⊎◌, ℕ, false}
+use Rattle.arena.specs.Blame.{WasInTheWay}
+use Rattle.arena.specs.Fills.{IsOthersScx}
+use Rattle.arena.specs.History.{History, value, HasHeld}
+use Rattle.arena.specs.Log.{log, is_final}
+use Rattle.arena.specs.Machines.{Call}
+use Rattle.arena.specs.Words.{info, state}
+use Rattle.prims.specs.Laws.InTheWay.{HasBeen}
+
+-- at a moment of the call the node was not final
+abbrev pub WasNotFinal : Call → History → ℕ → Type 0
+WasNotFinal c h n = HasBeen h c.start (λ m. is_final (log c.layout m) n ≡ false)
+
+-- the SCX-record s has come to the node n since the moment `start`: the info of n names s, or has
+-- named it, and had not by then
+pub record HasCome (h start : History) (n s : ℕ) : Type 0 where
+  pub named : HasHeld h (info n) s
+  pub new : ¬ HasHeld start (info n) s
+
+-- s is finished now, or has come to n since the moment `start`
+abbrev pub IsOverOrNew : History → History → ℕ → ℕ → Type 0
+IsOverOrNew h start n s = (value h (state s) ≢ 0) ⊎ HasCome h start n s
+
+-- The SCX-record s is another pass's, and covered the node n while in progress, after some row since
+-- the call's begin; it is finished now, or has come to n since then. So calls one behind the other
+-- name s no more than once for each node that it covers, and once when it is finished.
+pub record IsContended (c : Call) (h : History) (n s : ℕ) : Type 0 where
+  pub others : IsOthersScx c.layout c.pass s
+  pub in_the_way : WasInTheWay h c.start n s
+  pub over_or_new : IsOverOrNew h c.start n s
