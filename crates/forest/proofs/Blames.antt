@@ -1,5 +1,5 @@
 -- What the passes have blamed.
-use Rattle.std.proofs.Common.{◌≡◌, ◌≢◌, ℕ, inr, List, [], ◌∷◌, sym, ◌∙◌, ap, arith}
+use Rattle.std.proofs.Common.{◌≡◌, ◌≢◌, ℕ, inl, inr, List, [], ◌∷◌, sym, ◌∙◌, ap, arith}
 use Rattle.std.specs.List.{All}
 use Rattle.std.proofs.lemmas.List.Elements.{All-nil, All-cons, All-weaker}
 use Rattle.std.proofs.lemmas.List.Kept.{AllPairs-cons}
@@ -14,7 +14,9 @@ use Rattle.arena.specs.Lawful.{Lawful}
 use Rattle.histories.proofs.Lemmas.{lawful_since, named_scx_more, named_scx_taken, since, state_since}
 use Rattle.prims.specs.Laws.Begun.{taken_since}
 use Rattle.prims.specs.Shares.{IsShare}
+use Rattle.template.specs.Blame.{IsOverOrNew}
 use Rattle.forest.specs.Passes.{PassView, HasBlamed, run_of}
+use Rattle.forest.proofs.BlameCounts.{for_nobody, for_later, few_more, each_more}
 
 -- What stays
 
@@ -43,13 +45,15 @@ never_in_the_way lay h start n s l d w = over_since lay (w.row ⊳ w.before) sta
 
 -- one with nobody
 pub blamed_nobody : (p : PassView) → p.blamed ≡ [] → HasBlamed p
-blamed_nobody p e = record { others = rw e (All-nil _); begun = rw e (All-nil _); over = λ cells. rw e (All-nil _); different = λ cells. rw e (λ i j d less within. absurd (omega arith)) }
+blamed_nobody p e = record { others = rw e (All-nil _); begun = rw e (All-nil _); few = λ s. rw e (omega arith); each = λ s. rw e (for_nobody (run_of p) s); over = λ cells. rw e (All-nil _); different = λ cells. rw e (λ i j d less within. absurd (omega arith)) }
 
 -- a blame list of a pass that knows a longer run
 pub blamed_later : (old new : PassView) → new.layout ≡ old.layout → new.number ≡ old.number → new.blamed ≡ old.blamed → Lawful new.layout (run_of new) → Extends (run_of new) (run_of old) → HasBlamed old → HasBlamed new
 blamed_later old new lay number same l e x = record {
   others = rw (lay, number, same) x.others;
   begun = rw same (all_begun_since new.layout (run_of new) (run_of old) l e old.blamed x.begun);
+  few = rw same x.few;
+  each = λ s. rw same (for_later new.layout (run_of new) (run_of old) old.blamed s l e (x.each s));
   over = λ cells. rw same (all_over_since new.layout (run_of new) (run_of old) l e old.blamed (x.over (was cells)));
   different = λ cells. rw same (x.different (was cells));
 }
@@ -64,11 +68,14 @@ begun_more old new start n s more l e w x = rw more (All-cons (IsNamedScx (run_o
 others_more : (old new : PassView) (s : ℕ) → new.layout ≡ old.layout → new.number ≡ old.number → new.blamed ≡ s ∷ old.blamed → IsOthersScx new.layout new.number s → HasBlamed old → All (IsOthersScx new.layout new.number) new.blamed
 others_more old new s lay number more other x = let before : All (IsOthersScx new.layout new.number) old.blamed = rw (lay, number) x.others in rw more (All-cons (IsOthersScx new.layout new.number) s old.blamed other before)
 
--- one more that a call on the tree has named, which was in its way
-pub blamed_on_tree : (old new : PassView) (start : History) (n s : ℕ) → new.layout.mode ≡ Tree → new.layout ≡ old.layout → new.number ≡ old.number → new.blamed ≡ s ∷ old.blamed → Lawful new.layout (run_of new) → Extends (run_of new) (run_of old) → IsOthersScx new.layout new.number s → WasInTheWay (run_of new) start n s → HasBlamed old → HasBlamed new
-blamed_on_tree old new start n s tree lay number more l e other w x = record {
+-- one more that a call on the tree has named, which was in its way, and is finished now or has come
+-- to the node in the call
+pub blamed_on_tree : (old new : PassView) (n s : ℕ) → new.layout.mode ≡ Tree → new.layout ≡ old.layout → new.number ≡ old.number → new.blamed ≡ s ∷ old.blamed → Lawful new.layout (run_of new) → Extends (run_of new) (run_of old) → IsOthersScx new.layout new.number s → WasInTheWay (run_of new) (run_of old) n s → IsOverOrNew (run_of new) (run_of old) n s → HasBlamed old → HasBlamed new
+blamed_on_tree old new n s tree lay number more l e other w y x = record {
   others = others_more old new s lay number more other x;
-  begun = begun_more old new start n s more l e w x;
+  begun = begun_more old new (run_of old) n s more l e w x;
+  few = rw more (few_more new.layout (run_of new) (run_of old) old.blamed n s l e w y x.each x.few);
+  each = rw more (each_more new.layout (run_of new) (run_of old) old.blamed n s l e w y x.each);
   over = λ cells. absurd (not_both cells);
   different = λ cells. absurd (not_both cells);
 }
@@ -81,6 +88,8 @@ pub blamed_more : (old new : PassView) (n s : ℕ) → new.layout ≡ old.layout
 blamed_more old new n s lay number more l e f x = record {
   others = others_more old new s lay number more f.others x;
   begun = begun_more old new (run_of old) n s more l e f.in_the_way x;
+  few = rw more (few_more new.layout (run_of new) (run_of old) old.blamed n s l e f.in_the_way (inl f.over) x.each x.few);
+  each = rw more (each_more new.layout (run_of new) (run_of old) old.blamed n s l e f.in_the_way (inl f.over) x.each);
   over = λ cells. rw more (All-cons (λ t. value (run_of new) (state t) ≢ 0) s old.blamed f.over (all_over_since new.layout (run_of new) (run_of old) l e old.blamed (x.over (was cells))));
   different = λ cells. rw more (AllPairs-cons (λ t u. t ≢ u) s old.blamed (All-weaker (λ t. value (run_of old) (state t) ≢ 0) (λ t. s ≢ t) (λ t d same. never_in_the_way new.layout (run_of new) (run_of old) n s l (rw same d) f.in_the_way) old.blamed (x.over (was cells))) (x.different (was cells)));
 }

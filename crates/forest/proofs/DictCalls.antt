@@ -146,7 +146,7 @@ module _ {K V : Type 0} (valid_key : K → Type 0) (key : K → ℕ) (valid_valu
           go (replies.Pairs v) z = none
           go (replies.Full f) z = none
           go replies.NoMemory z = none
-          go (replies.Contended n u) z = blamed_on_tree (pass_view p) (pass_view (left_with p x s called Answered (share_of m.run) (u.0 ∷ p.blamed))) (run_of (pass_view p)) n.0 u.0 x.is_mode refl refl refl y.sound.lawful y.since z.way.others z.way.in_the_way x.blamed
+          go (replies.Contended n u) z = blamed_on_tree (pass_view p) (pass_view (left_with p x s called Answered (share_of m.run) (u.0 ∷ p.blamed))) n.0 u.0 x.is_mode refl refl refl y.sound.lawful y.since z.way.others z.way.in_the_way z.way.over_or_new x.blamed
 
       -- it is a pass again
       pub dict_pass : s.me.1 ≡ p.seat.me.1 → IsPass allows Tree behind

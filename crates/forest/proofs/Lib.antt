@@ -4,6 +4,7 @@ pub mod Deals
 pub mod Frames
 pub mod Calls
 pub mod Called
+mod BlameCounts
 pub mod Blames
 pub mod Passes
 pub mod Entered

@@ -76,7 +76,7 @@ module _ (was : PassView) (is_pass : was.number < was.layout.passes) (number : �
 
     -- refusals
     pub lost_says : (tries n s : ℕ) → HasLost call_by (run_of then) tries n s → IsContendedCall was then n s
-    lost_says tries n s y = record { others = y.way.others; in_the_way = y.way.in_the_way; done = none_more y.none }
+    lost_says tries n s y = record { others = y.way.others; in_the_way = y.way.in_the_way; over_or_new = y.way.over_or_new; done = none_more y.none }
 
     pub full_says : (call : MapCall) (full : FullOf) → HasRunOut call_by (run_of then) call left full → IsFullCall was then call full
     full_says call full y = record {

@@ -13,6 +13,7 @@ use Rattle.spelling.specs.Laws.{AreEdits}
 use Rattle.spelling.specs.OrderedMap.{MapCall, Edit, Successor, Range, MapReply, OneValue, ManyPairs, pair_or_none, MapEdit, edit_key, edited, get, reply, changes}
 use Rattle.spelling.specs.Runs.{Makes, map_of_log}
 use Rattle.spelling.specs.Spelled.{Spells}
+use Rattle.template.specs.Blame.{IsOverOrNew}
 use Rattle.dict.specs.Calls.{need, most_nodes, most_scx}
 use Rattle.dict.specs.Says.{HasTooLittle, KeepsLists}
 use Rattle.dict.specs.Forms.{Form}
@@ -84,10 +85,12 @@ IsToldOf old new call None = Unit {0}
 -- Refusals
 
 -- All tries were lost: the SCX-record s is another pass's, and was in the way of the call over the
--- node n. The pass has no entry more.
+-- node n; it is finished now, or has come to n since what was known before. The pass has no entry
+-- more.
 pub record IsContendedCall (old new : PassView) (n s : ℕ) : Type 0 where
   pub others : IsOthersScx new.layout new.number s
   pub in_the_way : WasInTheWay (run_of new) (run_of old) n s
+  pub over_or_new : IsOverOrNew (run_of new) (run_of old) n s
   pub done : done_of new ≡ done_of old
 
 -- The share has too little left for the next try: at a moment from what was known before to what is

@@ -1,6 +1,6 @@
 -- What contracts see of a pass, and what its calls say.
-use Rattle.std.specs.Prelude.{◌≡◌, ◌≢◌, ◌+◌, ◌-◌, ◌<◌, ◌≤◌, ◌⊎◌, ◌↔◌, ℕ, suc, true, List, [], ◌∷◌, length, slice_get, Some, map}
-use Rattle.std.specs.List.{All, AllPairs, Contains}
+use Rattle.std.specs.Prelude.{◌≡◌, ◌≢◌, ◌+◌, ◌-◌, ◌<◌, ◌≤◌, ◌⊎◌, ◌↔◌, ℕ, suc, true, eqb, List, [], ◌∷◌, length, slice_get, Some, map}
+use Rattle.std.specs.List.{All, AllPairs, Contains, count_by}
 use Rattle.atomic_table.specs.Seated.{TableId}
 use Rattle.arena.specs.declared.layout.Layout.{Layout}
 use Rattle.arena.specs.declared.step.Row.{Row}
@@ -13,8 +13,8 @@ use Rattle.arena.specs.declared.word.Word.{Word}
 use Rattle.arena.specs.Layout.{all_nodes, IsWord}
 use Rattle.arena.specs.Machines.{IsRun}
 use Rattle.arena.specs.PlainWords.{Contents, word_at}
-use Rattle.arena.specs.Words.{state, child, node as node_word}
-use Rattle.arena.specs.History.{History, ◌⊳◌, value, Extends}
+use Rattle.arena.specs.Words.{info, state, child, node as node_word}
+use Rattle.arena.specs.History.{History, ◌⊳◌, value, HasHeld, Extends}
 use Rattle.arena.specs.declared.limits.Mode.TheVariants.{Records}
 use Rattle.arena.specs.Fills.{IsNamedScx, IsOthersScx, IsOwnNode, IsOwnScx, IsTakenNode, IsTakenScx}
 use Rattle.arena.specs.Blame.{HasFailed}
@@ -118,12 +118,29 @@ Each P (x ∷ xs) = P x × Each P xs
 
 -- Blame lists
 
+-- how often the SCX-record s stands in a list
+abbrev pub times_in : List ℕ → ℕ → ℕ
+times_in blamed s = count_by (eqb s) blamed
+
+-- In a run the SCX-record s has frozen these nodes, no two of them the same. It stands in the blame
+-- list once at most for each of them, and if it is finished there once more at most.
+pub record IsBlamedFor (h : History) (blamed : List ℕ) (s : ℕ) : Type 0 where
+  pub nodes : List ℕ
+  pub different : AllPairs (λ n m. n ≢ m) nodes
+  pub frozen : All (λ n. HasHeld h (info n) s) nodes
+  pub running : value h (state s) ≡ 0 → times_in blamed s ≤ length nodes
+  pub most : times_in blamed s ≤ suc (length nodes)
+
 -- The blame list has SCX-records of other passes' shares, each of which an info word has named in
--- the run that the pass knows. In cells each is finished there too, and none of them is blamed
--- twice; a call on the tree may name one that is in progress, and name it again.
+-- the run that the pass knows. None stands there more than five times: once for each of the nodes
+-- that it covers, of which there are four at most, and once when it is finished. In cells each is
+-- finished in the run, and none of them is blamed twice; a call on the tree may name one that is in
+-- progress, and name it again.
 pub record HasBlamed (p : PassView) : Type 0 where
   pub others : All (λ s. IsOthersScx p.layout p.number s) p.blamed
   pub begun : All (λ s. IsNamedScx (run_of p) s) p.blamed
+  pub few : (s : ℕ) → times_in p.blamed s ≤ 5
+  pub each : (s : ℕ) → IsBlamedFor (run_of p) p.blamed s
   pub over : p.layout.mode ≡ Records → All (λ s. value (run_of p) (state s) ≢ 0) p.blamed
   pub different : p.layout.mode ≡ Records → AllPairs (λ s t. s ≢ t) p.blamed
 
