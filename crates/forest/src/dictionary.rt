@@ -39,7 +39,7 @@ impl<K: WordKey, V: WordValue> Forest<Dict<K, V>> {
         let Ok(layout) = limits.check(Mode::Tree) else {
             return Err(NewFault::Limits);
         };
-        match Forest::open(alloc, layout, limits.tries) {
+        match Forest::with_layout(alloc, layout, limits.tries) {
             Ok(opened) => Ok(opened),
             Err(NoMemory) => Err(NewFault::NoMemory),
         }
