@@ -94,7 +94,6 @@ module _ (was : PassView) (is_pass : was.number < was.layout.passes) (number : �
       first = untouched y.first;
       done = none_more y.none;
     }
-
       where
         untouched : IsUntouched call_by (run_of then) left → (left ≡ was.share) ⊎ ((n : ℕ) × (s : ℕ) × IsOthersScx was.layout was.number s × WasInTheWay (run_of then) (run_of was) n s)
         untouched (inl z) = inl (one_share call_by (run_of was) left was.share z rests)
