@@ -169,6 +169,8 @@ module _ {K V : Type 0} (valid_key : K → Type 0) (key : K → ℕ) (valid_valu
             scx = omega (arith, scx, b);
             gone_nodes = share_nodes p.layout p.number.0 (run_of now) (run_of (pass_view p)) p.share (share_of m.run) y.since x.rest.share rest.share;
             gone_scx = share_scx p.layout p.number.0 (run_of now) (run_of (pass_view p)) p.share (share_of m.run) y.since x.rest.share rest.share;
+            end_nodes = rest.share.to_node ∙ sym x.rest.share.to_node;
+            end_scx = rest.share.to_scx ∙ sym x.rest.share.to_scx;
           }
 
       -- what it tells

@@ -121,6 +121,9 @@ pub record HasSpentAtMost (old new : PassView) (call : MapCall) (tries : ℕ) : 
   -- and nothing has come back
   pub gone_nodes : new.share.nodes ≤ old.share.nodes
   pub gone_scx : new.share.scx ≤ old.share.scx
+  -- what is left is the upper end of what there was
+  pub end_nodes : new.share.next_node + new.share.nodes ≡ old.share.next_node + old.share.nodes
+  pub end_scx : new.share.next_scx + new.share.scx ≡ old.share.next_scx + old.share.scx
 
 -- the blame list after this reply: `Contended` blames its SCX-record
 abbrev pub blamed_by_reply : {K V : Type 0} → Reply K V → List ℕ → List ℕ
