@@ -5,7 +5,7 @@ use Rattle.arena.specs.declared.limits.Mode.TheVariants.{Tree}
 use Rattle.arena.specs.declared.machine.Turn.{Turn}
 use Rattle.arena.specs.declared.machine.Turn.TheVariants.{Ask, Done}
 use Rattle.arena.specs.Machines.{MatchTurn}
-use Rattle.dict.specs.Calls.{call_in}
+use Rattle.dict.specs.Calls.{call_in, AsksForPairs}
 use Rattle.dict.specs.Steps.{map_left, most_steps}
 use Rattle.dict.specs.Typed.{TypedAllows}
 use Rattle.dict.specs.Words.{IsWord}
@@ -30,7 +30,7 @@ module _ {K V : Type 0} (valid_key : K → Type 0) (key : K → ℕ) (valid_valu
   none_made : seat_steps p.seat.me.0.passes ≡ steps_of (pass_view p)
   none_made = steps_are p.number.0 p.layout p.seat.me.0.passes x.seat
 
-  module _ (first m : DictRun K V) (turn : Turn (Reply K V)) (number : ℕ) (named : number ≡ taken_of (pass_view p)) (y : DictStands valid_key key valid_value value (call_of p x (taken_of (pass_view p))) p.seat.me.0.passes first m turn) (few : weight turn (map_left m.run (shared_nodes p.layout)) ≤ most_steps (call_in m.run) m.tries (shared_nodes p.layout)) where
+  module _ (first m : DictRun K V) (turn : Turn (Reply K V)) (number : ℕ) (named : number ≡ taken_of (pass_view p)) (y : DictStands valid_key key valid_value value (call_of p x (taken_of (pass_view p))) p.seat.me.0.passes first m turn) (few : weight turn (map_left m.run (shared_nodes p.layout)) ≤ most_steps (call_in m.run) m.tries (shared_nodes p.layout)) (asks : AsksForPairs (call_in m.run) → MatchTurn turn (λ _. Unit {0}) (λ _. ⊥)) where
     as_seen : (seen : Snapshot PassView) → IsOpen valid_key key valid_value value (opened m turn number (record seen { value = pass_view p }))
     as_seen seen = record {
       pass = record { seat = refl; bare = refl; is_mode = x.is_mode; is_pass = x.is_pass; sound = x.sound; rest = x.rest; blamed = x.blamed };
@@ -45,12 +45,12 @@ module _ {K V : Type 0} (valid_key : K → Type 0) (key : K → ℕ) (valid_valu
       since = let e = none_made in omega (arith, e);
       steps = let e = none_made in omega (arith, e, few);
       over = λ e. absurd (differ (sym e));
-      none = λ e. on turn;
+      none = λ e. on turn asks;
     }
       where
-        on : (t : Turn (Reply K V)) → MatchTurn t (λ _. Unit {0}) (λ _. seat_steps p.seat.me.0.passes ≡ steps_of (pass_view p))
-        on (Ask u) = tt
-        on (Done a) = none_made
+        on : (t : Turn (Reply K V)) → (AsksForPairs (call_in m.run) → MatchTurn t (λ _. Unit {0}) (λ _. ⊥)) → MatchTurn t (λ _. Unit {0}) (λ _. (seat_steps p.seat.me.0.passes ≡ steps_of (pass_view p)) × ¬ AsksForPairs (call_in m.run))
+        on (Ask u) z = tt
+        on (Done a) z = (none_made, z)
 
     -- it is held open
     pub begins_open : (seen : Snapshot PassView) → seen.value ≡ pass_view p → IsOpen valid_key key valid_value value (opened m turn number seen)

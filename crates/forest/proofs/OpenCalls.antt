@@ -1,5 +1,5 @@
 -- What a call that was held open leaves of its pass, once it has answered.
-use Rattle.std.proofs.Common.{◌≡◌, ◌+◌, ◌≤◌, ℕ, List, refl, sym, ap, subst, arith}
+use Rattle.std.proofs.Common.{◌≡◌, ◌+◌, ◌-◌, ◌≤◌, ℕ, List, refl, sym, ap, subst, arith}
 use Rattle.arena.specs.declared.limits.Mode.TheVariants.{Tree}
 use Rattle.arena.specs.declared.machine.Turn.TheVariants.{Done}
 use Rattle.arena.specs.declared.number.PassNo.{PassNo}
@@ -15,11 +15,12 @@ use Rattle.forest.specs.declared.open.OpenCall.TheInside.{Inside}
 use Rattle.forest.specs.declared.pass.Pass.TheInside as pass
 use Rattle.forest.specs.Dictionary.{IsToldOf, IsRefusalOf, HasSpentAtMost, blamed_by_reply}
 use Rattle.forest.specs.OpenInvariant.{IsOpen, next_call, pass_as}
-use Rattle.forest.specs.Passes.{HasGoneOn, taken_of}
+use Rattle.forest.specs.Passes.{HasGoneOn, steps_of, taken_of}
 use Rattle.forest.specs.PassInvariant.{IsPass, pass_view}
 use Rattle.forest.specs.Traces.{Stands, seat_steps, shared_nodes}
 use Rattle.forest.proofs.DictCalls.{Answered, IsSameCall, behind, dict_ended, dict_pass, dict_goes_on, dict_spends, dict_tells, dict_refuses}
 use Rattle.forest.proofs.Entered.{HasEnded}
+use Rattle.forest.proofs.Passes.{steps_are}
 
 abbrev numbered : ℕ → PassNo
 numbered n = record { 0 = n }
@@ -45,6 +46,10 @@ module _ {K V : Type 0} (valid_key : K → Type 0) (key : K → ℕ) (valid_valu
 
     pub open_pass : IsPass (TypedAllows (IsWord valid_key key) (IsWord valid_value value)) Tree back
     open_pass = subst (λ p. IsPass (TypedAllows (IsWord valid_key key) (IsWord valid_value value)) Tree p) (sym back_is) (dict_pass valid_key key valid_value value was x.pass o.seat o.run reply over x.bare)
+
+    -- it has made the steps that were counted
+    pub open_made : steps_of (pass_view back) ≡ steps_of o.began.value + (seat_steps o.seat.me.0.passes - steps_of o.began.value)
+    open_made = let e = steps_are o.number.0 o.layout o.seat.me.0.passes open_pass.seat in let z = x.since in omega (arith, e, z)
 
     pub open_goes_on : HasGoneOn (TypedAllows (IsWord valid_key key) (IsWord valid_value value)) o.began.value (pass_view back) (taken_of o.began.value) (most_steps (call_in o.run.run) o.run.tries (shared_nodes o.began.value.layout)) (blamed_by_reply reply o.began.value.blamed)
     open_goes_on = subst (λ p. HasGoneOn (TypedAllows (IsWord valid_key key) (IsWord valid_value value)) o.began.value (pass_view p) (taken_of o.began.value) (most_steps (call_in o.run.run) o.run.tries (shared_nodes o.began.value.layout)) (blamed_by_reply reply o.began.value.blamed)) (sym back_is)

@@ -5,7 +5,7 @@ use Rattle.arena.specs.declared.step.Step.{Step}
 use Rattle.arena.specs.declared.machine.Turn.{Turn}
 use Rattle.arena.specs.declared.machine.Turn.TheVariants.{Ask, Done}
 use Rattle.arena.specs.Machines.{Call, MatchTurn}
-use Rattle.dict.specs.Calls.{call_in}
+use Rattle.dict.specs.Calls.{call_in, AsksForPairs}
 use Rattle.dict.specs.DictKnown.{DictWaits, DictAnswers}
 use Rattle.dict.specs.Steps.{map_left, most_steps}
 use Rattle.dict.specs.Typed.{TypedAllows}
@@ -78,6 +78,6 @@ module _ {K V : Type 0} (valid_key : K → Type 0) (key : K → ℕ) (valid_valu
           none = λ e. on turn (goes e);
         }
           where
-            on : (t : Turn (Reply K V)) → MatchTurn t (λ _. Unit {0}) (λ _. ⊥) → MatchTurn t (λ _. Unit {0}) (λ _. seat_steps s.me.0.passes ≡ steps_of o.began.value)
+            on : (t : Turn (Reply K V)) → MatchTurn t (λ _. Unit {0}) (λ _. ⊥) → MatchTurn t (λ _. Unit {0}) (λ _. (seat_steps s.me.0.passes ≡ steps_of o.began.value) × ¬ AsksForPairs (call_in m.run))
             on (Ask u) z = tt
             on (Done a) z = absurd z

@@ -3,7 +3,7 @@ use Rattle.std.specs.Prelude.{◌≡◌, ◌+◌, ◌-◌, ◌<◌, ◌≤◌, �
 use Rattle.atomic_table.specs.declared.shared.Seat.{Seat}
 use Rattle.arena.specs.declared.limits.Mode.TheVariants.{Tree}
 use Rattle.arena.specs.Machines.{Call, MatchTurn}
-use Rattle.dict.specs.Calls.{call_in}
+use Rattle.dict.specs.Calls.{call_in, AsksForPairs}
 use Rattle.dict.specs.DictKnown.{DictWaits, DictAnswers}
 use Rattle.dict.specs.Steps.{map_left, most_steps}
 use Rattle.dict.specs.Typed.{TypedAllows}
@@ -17,12 +17,13 @@ use Rattle.forest.specs.Opened.{OpenView}
 use Rattle.forest.specs.Passes.{PassView, run_of, steps_of, taken_of}
 use Rattle.forest.specs.PassInvariant.{IsPass}
 use Rattle.forest.specs.TableRule.{seated_pass}
-use Rattle.forest.specs.Traces.{Stands, seat_steps, shared_nodes, weight}
+use Rattle.forest.specs.Traces.{Stands, known_of, seat_steps, shared_nodes, weight}
 
 -- what contracts see of a call that is held open
 abbrev pub open_view : {K V : Type 0} → Inside K V → OpenView
 open_view o = record {
   began = o.began.value;
+  known = known_of o.seat.me.0.passes;
   call = call_in o.run.run;
   tries = o.run.tries;
   made = seat_steps o.seat.me.0.passes - steps_of o.began.value;
@@ -62,6 +63,7 @@ pub record IsOpen {K V : Type 0} (valid_key : K → Type 0) (key : K → ℕ) (v
   -- it has made no more steps than such a call may
   pub since : steps_of o.began.value ≤ seat_steps o.seat.me.0.passes
   pub steps : seat_steps o.seat.me.0.passes + weight o.turn (map_left o.run.run (shared_nodes o.layout)) ≤ steps_of o.began.value + most_steps (call_in o.run.run) o.run.tries (shared_nodes o.layout)
-  -- it is over only where it has answered, which it may have before its first step
+  -- It is over only where it has answered. A range that asks for no pairs has answered before its
+  -- first step.
   pub over : o.over ≡ true → MatchTurn o.turn (λ _. ⊥) (λ _. Unit {0})
-  pub none : o.over ≡ false → MatchTurn o.turn (λ _. Unit {0}) (λ _. seat_steps o.seat.me.0.passes ≡ steps_of o.began.value)
+  pub none : o.over ≡ false → MatchTurn o.turn (λ _. Unit {0}) (λ _. (seat_steps o.seat.me.0.passes ≡ steps_of o.began.value) × ¬ AsksForPairs (call_in o.run.run))

@@ -1,12 +1,13 @@
 //! Calls that are held open: each makes one atomic step at a time.
-ghost use Rattle.std.specs.Prelude.{◌≡◌, ◌≤◌, true, false};
+ghost use Rattle.std.specs.Prelude.{◌≡◌, ◌≤◌, ◌+◌, true, false};
+ghost use Rattle.arena.specs.Machines.{IsRun};
 ghost use Rattle.dict.specs.Forms.{MayReply, form_of};
 ghost use Rattle.dict.specs.Steps.{most_steps};
 ghost use Rattle.dict.specs.Typed.{TypedAllows};
 ghost use Rattle.dict.specs.Words.{AsksForFew, IsValidReply, IsWord, map_call_of, told_of};
 ghost use Rattle.forest.specs.Dictionary.{IsToldOf, IsRefusalOf, HasSpentAtMost, blamed_by_reply};
-ghost use Rattle.forest.specs.Opened.{HasStepped, IsSameOpen};
-ghost use Rattle.forest.specs.Passes.{HasGoneOn, IsOf, taken_of};
+ghost use Rattle.forest.specs.Opened.{HasStepped, IsSameOpen, pass_now};
+ghost use Rattle.forest.specs.Passes.{Ground, HasGoneOn, IsOf, run_of, steps_of, taken_of};
 ghost use Rattle.forest.specs.Traces.{shared_nodes};
 
 use crate::blamed::Blamed;
@@ -69,6 +70,7 @@ impl<K: WordKey, V: WordValue> Forest<Dict<K, V>> {
         requires pass { IsOf self.now pass }
         requires few { AsksForFew request }
         ensures began { result.began ≡ pass }
+        ensures known { result.known ≡ pass.known }
         ensures call { result.call ≡ map_call_of K.word_of V.word_of request }
         ensures tries { result.tries ≡ self.now.tries }
         ensures none { (result.made ≡ 0) × (result.over ≡ false) }
@@ -107,6 +109,7 @@ impl<K: WordKey, V: WordValue> OpenCall<K, V> {
         requires goes { self.old.over ≡ false }
         ensures same { IsSameOpen self.old self.new }
         ensures stepped { HasStepped self.old self.new result }
+        ensures lawful { IsRun (TypedAllows (IsWord K.is_valid K.word_of) (IsWord V.is_valid V.word_of)) self.new.began.layout (run_of (pass_now self.new)) }
     {
         let Turn::Ask(step) = &self.turn else {
             self.over = true;
@@ -133,6 +136,9 @@ impl<K: WordKey, V: WordValue> OpenCall<K, V> {
     /// Gives the pass back, and what the call replies.
     pub fn finish(self) -> (Pass<Dict<K, V>>, Reply<K, V>)
         requires over { self.over ≡ true }
+        ensures pass { (f : Ground) → IsOf f self.began → IsOf f result.0 }
+        ensures known { result.0.known ≡ self.known }
+        ensures made { steps_of result.0 ≡ steps_of self.began + self.made }
         ensures goes_on { HasGoneOn (TypedAllows (IsWord K.is_valid K.word_of) (IsWord V.is_valid V.word_of)) self.began result.0 (taken_of self.began) (most_steps self.call self.tries (shared_nodes self.began.layout)) (blamed_by_reply result.1 self.began.blamed) }
         ensures spends { HasSpentAtMost self.began result.0 self.call self.tries }
         ensures told { IsToldOf self.began result.0 self.call (told_of K.word_of V.word_of result.1) }
