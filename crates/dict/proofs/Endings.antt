@@ -69,7 +69,7 @@ module _ (c : Call) (h : History) where
     ran_out c h (Edit (PutEdit m.edit.key m.edit.value)) m.edit.key x.found (insert_need x.found.value) m.share full
         (leaf_read c h m.edit.key x.found small run x.has_found x.none)
         (λ map e. insert_many x.found.value ∙ ap insert_nodes (sym e))
-        (insert_some x.found.value) x.short,
+        (insert_some x.found.value) x.short x.first,
   )
 
   -- a delete that is done has changed it, or has found no value
@@ -91,7 +91,7 @@ module _ (c : Call) (h : History) where
     ran_out c h (Edit (TakeEdit m.edit.key)) m.edit.key x.found (delete_need x.found.value) m.share full
         (leaf_read c h m.edit.key x.found small run x.has_found x.none)
         (λ map e. delete_many x.found.value ∙ ap delete_nodes (sym e))
-        (delete_some x.found.value x.needed) x.short,
+        (delete_some x.found.value x.needed) x.short x.first,
   )
 
   -- a get has read what it tells

@@ -19,7 +19,7 @@ use Rattle.template.specs.FoundLeaf.{HasFoundLeaf}
 use Rattle.template.specs.Trails.{IsOwnMoment}
 use Rattle.template.specs.declared.walk.Found.{Found}
 use Rattle.template.proofs.Lemmas.{own_since}
-use Rattle.updates.specs.Known.{IsShort}
+use Rattle.updates.specs.Known.{IsShort, IsUntouched}
 use Rattle.updates.specs.Laws.Entered.{none_quiet}
 use Rattle.updates.specs.Pieces.{many_nodes}
 use Rattle.updates.specs.Tries.{HasEnteredNone}
@@ -81,8 +81,8 @@ module _ (c : Call) (h : History) where
 
   -- so the share has run out for the edit that needs it, where the leaf that was found tells its
   -- need
-  pub ran_out : (call : MapCall) (key : ℕ) (f : Found) (want : Need) (share : Remaining) (full : FullOf) → HasRead c h (Get key) (OneValue f.value) → ((map : List Pair) → get key map ≡ f.value → many_nodes want ≡ need call map) → 0 < many_nodes want → IsShort want share full.what full.left → HasRunOut c h call share full
-  ran_out call key f want share full x needs some short =
+  pub ran_out : (call : MapCall) (key : ℕ) (f : Found) (want : Need) (share : Remaining) (full : FullOf) → HasRead c h (Get key) (OneValue f.value) → ((map : List Pair) → get key map ≡ f.value → many_nodes want ≡ need call map) → 0 < many_nodes want → IsShort want share full.what full.left → IsUntouched c h share → HasRunOut c h call share full
+  ran_out call key f want share full x needs some short first =
       let gives : get key x.map ≡ f.value = ap told_value x.gives in
       let e : many_nodes want ≡ need call x.map = needs x.map gives in
       record {
@@ -93,5 +93,6 @@ module _ (c : Call) (h : History) where
         spelled = x.spelled;
         some = rw (sym e) some;
         short = short_of want (need call x.map) share full.what full.left e short;
+        first = first;
         none = x.none;
       }

@@ -1,5 +1,5 @@
 -- What a call by itself tells and leaves.
-use Rattle.std.proofs.Common.{◌≡◌, ◌∙◌, ℕ, Bool, true, false, cond, eqb, List, [], ◌∷◌, Option, Some, None, refl, sym, ap, subst}
+use Rattle.std.proofs.Common.{◌≡◌, ◌∙◌, ◌<◌, ℕ, inl, inr, Bool, true, false, cond, eqb, List, [], ◌∷◌, Option, Some, None, refl, sym, ap, subst}
 use Rattle.arena.specs.History.{History, ◌⊳◌, value, Extends}
 use Rattle.arena.specs.Machines.{Call}
 use Rattle.arena.proofs.Lemmas.{ends_self, ends_trans}
@@ -8,10 +8,14 @@ use Rattle.spelling.specs.OrderedMap.{MapCall, Edit, Get, Successor, Range, MapE
 use Rattle.spelling.specs.Runs.{IsTreeRun}
 use Rattle.spelling.specs.Spelled.{Spells}
 use Rattle.spelling.proofs.Lemmas.{one_spelling, run_since}
-use Rattle.updates.specs.Known.{HasMade}
+use Rattle.template.specs.Blame.{IsContended}
+use Rattle.updates.specs.Known.{HasMade, RestsWith, IsUntouched}
 use Rattle.updates.specs.Tries.{HasEnteredNone}
 use Rattle.updates.specs.Undisturbed.{IsUndisturbed}
-use Rattle.dict.specs.Says.{HasToldBy}
+use Rattle.arena.specs.declared.fault.Full.{Full as FullOf}
+use Rattle.arena.specs.Share.{Remaining}
+use Rattle.dict.specs.Calls.{need}
+use Rattle.dict.specs.Says.{HasToldBy, HasRunOut, HasTooLittle}
 
 -- an absent key may be taken away, and nothing changes
 pub delete_absent : (k : ℕ) (m : List Pair) → get k m ≡ None → delete k m ≡ m
@@ -28,6 +32,14 @@ Makes = (c : Call) (h : History) (edit : MapEdit) (number : ℕ) (old : Option �
 
 abbrev pub Keeps : Type 0
 Keeps = (c : Call) (h : History) (map : List Pair) → IsTreeRun c.layout h → IsUndisturbed c h → HasEnteredNone c.layout c.pass h c.start → Spells c.layout (value c.start) map → Spells c.layout (value h) map
+
+-- a call that no other was in the way of, and that is full, had all of its share as it began
+untouched : (c : Call) (h : History) (share : Remaining) → ((n t : ℕ) → ¬ IsContended c h n t) → IsUntouched c h share → RestsWith c c.start share
+untouched c h share never (inl rests) = rests
+untouched c h share never (inr lost) = absurd (never lost.0 lost.1 lost.2)
+
+pub full_by_one : (c : Call) (h : History) (call : MapCall) (share : Remaining) (full : FullOf) → ((n t : ℕ) → ¬ IsContended c h n t) → HasRunOut c h call share full → RestsWith c c.start share
+full_by_one c h call share full never x = untouched c h share never x.first
 
 module _ (makes : Makes) (keeps : Keeps) (c : Call) (h : History) (map : List Pair) (run : IsTreeRun c.layout h) (alone : IsUndisturbed c h) (s : Spells c.layout (value c.start) map) where
   -- the map at any moment of a call that has entered nothing
@@ -56,6 +68,14 @@ module _ (makes : Makes) (keeps : Keeps) (c : Call) (h : History) (map : List Pa
       let same : x.map ≡ map = one_spelling c.layout (value x.moment) x.map map x.spelled (keeps_at x.moment x.within x.since x.none) in
       let is : told ≡ reply call map = sym x.gives ∙ ap (reply call) same in
       (is, subst (Spells c.layout (value h)) (sym (after_reading call told e is)) (keeps_at h (ends_self h) alone.since x.none))
+
+  -- what is refused for want of its share had all of it as it began, and too little for that map
+  pub full_alone : ((n t : ℕ) → ¬ IsContended c h n t) → (call : MapCall) (share : Remaining) (full : FullOf) → HasRunOut c h call share full → RestsWith c c.start share × (0 < need call map) × HasTooLittle (need call map) share full.what full.left
+  full_alone never call share full x =
+      let same : x.map ≡ map = one_spelling c.layout (value x.moment) x.map map x.spelled (keeps_at x.moment x.within x.since x.none) in
+      let some : 0 < need call map = subst (λ m. 0 < need call m) same x.some in
+      let short : HasTooLittle (need call map) share full.what full.left = subst (λ m. HasTooLittle (need call m) share full.what full.left) same x.short in
+      (untouched c h share never x.first, some, short)
 
   pub told_alone : (call : MapCall) (told : MapReply) → HasToldBy (changes call told) c h call told → (told ≡ reply call map) × Spells c.layout (value h) (after call map)
   told_alone call told x = told_by (changes call told) call told refl x

@@ -51,7 +51,7 @@ abbrev pub most_scx : MapCall → ℕ
 most_scx (Edit e) = 1
 most_scx _ = 0
 
--- In so many tries a call has taken no more than that of the share with which it began.
+-- Of the share with which a call began no more is gone than so many tries may take.
 pub record HasSpent (c : Call) (call : MapCall) (tries : ℕ) (share : Remaining) : Type 0 where
   -- what there was as it began
   pub left : Remaining
@@ -80,7 +80,7 @@ abbrev pub AsksForPairs : MapCall → Type 0
 AsksForPairs (Range low high most) = (0 < most) × (low ≤ high)
 AsksForPairs _ = Unit {0}
 
--- and not too many
+-- a range asks for at most 64 pairs
 abbrev pub IsFewCall : MapCall → Type 0
 IsFewCall (Range low high most) = most ≤ 64
 IsFewCall _ = Unit {0}

@@ -14,6 +14,7 @@ pub data Form : Type 0 where
   Full : Form
   NoMemory : Form
 
+-- the form of a reply in words
 abbrev pub word_form : WordReply → Form
 word_form (words.Value told) = Value
 word_form (words.Pair found) = Pair
@@ -22,6 +23,7 @@ word_form (words.Contended node scx) = Contended
 word_form (words.Full full) = Full
 word_form words.NoMemory = NoMemory
 
+-- the form of a reply
 abbrev pub form_of : {K V : Type 0} → Reply K V → Form
 form_of (replies.Value told) = Value
 form_of (replies.Pair found) = Pair

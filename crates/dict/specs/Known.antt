@@ -34,8 +34,8 @@ pub record Rests (c : Call) (h : History) (share : Remaining) : Type 0 where
   pub now : RestsWith c h share
   pub quiet : IsQuietSince c.layout c.pass c.start h
 
--- of the share with which an edit began no more is gone than the tries that are over may take: with
--- `tries` in all, so many may still take nodes, and so many an SCX-record
+-- of the share with which an edit began no more is gone than the tries that are over may take: of
+-- `tries` in all, `nodes` may still take nodes, and `scx` an SCX-record
 pub record HasSpentSo (c : Call) (most : ℕ) (share : Remaining) (tries nodes scx : ℕ) : Type 0 where
   pub left : Remaining
   pub first : RestsWith c c.start left

@@ -62,6 +62,7 @@ made (Get m share) c h s v run told w = (get_made m c h s v run told w.0, on c h
 made (Successor m share) c h s v run told w = (successor_made m c h s v run told w.0, on c h (row_of c s h) share run (successor_fills_not m c h s w.0) w.1)
 made (Range m share) c h s v run told w = (range_made m c h s v run told w.0, on c h (row_of c s h) share run (range_fills_not m c h s w.0) w.1)
 
+-- once its step is made the machine is ready for what the step has found
 pub map_made : (tries : ℕ) (m : MapRun) (c : Call) (h : History) (s : Step) (v : ℕ) → IsRun TreeAllows c.layout (row_of c s h ⊳ h) → IsTold s.access (value h s.word) v → MapWaits tries m c h s → MapIsReady tries m c (row_of c s h ⊳ h) (Some v)
 map_made tries m c h s v run told w = (w.0, made m c h s v run told w.1)
 

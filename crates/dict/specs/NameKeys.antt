@@ -13,6 +13,7 @@ one_way w a b = let h : IsProp (is_name_word w ≡ true) = hlevel props in h a b
 made : (w : ℕ) → is_name_word w ≡ true → Name8
 made w p = record { word = w; spelled = p }
 
+-- two names of one word are one name
 pub name_exact : (j k : Name8) → j.word ≡ k.word → j ≡ k
 unfolding made
 name_exact j k e =

@@ -17,10 +17,12 @@ abbrev pub offset_of : ℤ → ℕ
 offset_of (pos n) = n + 2 ^ 63
 offset_of (negsuc n) = 2 ^ 63 - (n + 1)
 
+-- the offset of an `i64` is a word
 pub offset_fits : (k : ℤ) → IsLong k → offset_of k < 2 ^ 64
 offset_fits (pos n) long = omega arith
 offset_fits (negsuc n) long = omega arith
 
+-- two of one offset are the same
 pub offset_exact : (j k : ℤ) → IsLong j → IsLong k → offset_of j ≡ offset_of k → j ≡ k
 offset_exact (pos a) (pos b) x y e = ap pos (omega arith)
 offset_exact (pos a) (negsuc b) x y e = absurd (omega arith)
@@ -40,6 +42,7 @@ ordering_then Less h below same above = below h
 ordering_then Equal h below same above = same h
 ordering_then Greater h below same above = above h
 
+-- they are ordered as their offsets are
 pub offset_ordered : (j k : ℤ) → IsLong j → IsLong k → int_cmp j k ≡ nat_cmp (offset_of j) (offset_of k)
 offset_ordered j k x y =
     nat_cmp_is (offset_of j) (offset_of k) (int_cmp j k) (ordering_then (int_cmp j k) (int_ranks j k) (offset_below j k x y) (ap offset_of) (offset_below k j y x))

@@ -1,5 +1,4 @@
--- What a pass at rest has left of its share is one thing alone: so what is known of it under some
--- name is known of the share that the pass has.
+-- A pass at rest has one share left: two that it rests with are the same.
 use Rattle.std.proofs.Common.{◌≡◌, ℕ, ◌<◌, arith}
 use Rattle.arena.specs.declared.layout.Layout.{Layout}
 use Rattle.arena.specs.History.{History}

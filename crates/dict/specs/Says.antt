@@ -10,7 +10,7 @@ use Rattle.spelling.specs.OrderedMap.{MapEdit, MapCall, Edit, Successor, Range, 
 use Rattle.spelling.specs.Spelled.{Spells}
 use Rattle.spelling.specs.declared.pair.Pair.{Pair}
 use Rattle.template.specs.Blame.{IsContended}
-use Rattle.updates.specs.Known.{HasMade}
+use Rattle.updates.specs.Known.{HasMade, IsUntouched}
 use Rattle.updates.specs.Tries.{HasEnteredNone}
 use Rattle.dict.specs.Calls.{need}
 use Rattle.dict.specs.declared.told.WordReply.{WordReply}
@@ -52,13 +52,14 @@ pub record HasLost (c : Call) (h : History) (tries n s : ℕ) : Type 0 where
   pub over : tries ≡ 0
   pub none : HasEnteredNone c.layout c.pass h c.start
 
--- the share has fewer nodes than these; or as many, and no SCX-record. So many are left
+-- the share has fewer nodes than these; or enough of them, and no SCX-record. So many are left
 abbrev pub HasTooLittle : ℕ → Remaining → Resource → ℕ → Type 0
 HasTooLittle many left Nodes k = (left.nodes < many) × (k ≡ left.nodes)
 HasTooLittle many left ScxRecords k = (many ≤ left.nodes) × (left.scx ≡ 0) × (k ≡ 0)
 
 -- The share has too little left for the next try: the map of a moment of the call needs some nodes,
--- of which there are not enough, or no SCX-record is left. The pass has entered nothing.
+-- of which there are not enough, or no SCX-record is left. Nothing of it was taken since the call
+-- began, or a try was lost to another pass. The pass has entered nothing.
 pub record HasRunOut (c : Call) (h : History) (call : MapCall) (share : Remaining) (full : FullOf) : Type 0 where
   pub moment : History
   pub within : Extends h moment
@@ -67,6 +68,7 @@ pub record HasRunOut (c : Call) (h : History) (call : MapCall) (share : Remainin
   pub spelled : Spells c.layout (value moment) map
   pub some : 0 < need call map
   pub short : HasTooLittle (need call map) share full.what full.left
+  pub first : IsUntouched c h share
   pub none : HasEnteredNone c.layout c.pass h c.start
 
 -- the call keeps lists, which grow

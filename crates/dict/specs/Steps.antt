@@ -34,7 +34,8 @@ abbrev pub IsNearer : MapRun → MapRun → ℕ → Turn WordReply → Type 0
 IsNearer old now nodes turn = MatchTurn turn (λ _. map_left now nodes < map_left old nodes) (λ _. Unit {0})
 
 -- How many steps a call asks for at most, with so many tries, where so many nodes are taken when it
--- ends: three for each level of a walk, 67 for each level of a search with snapshots, and others.
+-- ends: three for each level of a walk, 67 for each level of a search with snapshots, 137 for two
+-- of these and the walk before them, and others.
 abbrev pub most_steps : MapCall → ℕ → ℕ → ℕ
 most_steps (Edit (InsertOf key value)) tries nodes = tries * (3 * (2 + nodes) + 178)
 most_steps (Edit (DeleteOf key)) tries nodes = tries * (3 * (2 + nodes) + 301)

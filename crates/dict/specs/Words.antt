@@ -33,7 +33,7 @@ map_call_of key value (GetOf k) = Get (key k)
 map_call_of key value (SuccessorOf k) = Successor (key k)
 map_call_of key value (RangeOf low high most) = Range (key low) (key high) most
 
--- its keys and its value are those of their types
+-- the keys and the value of a request are those of their types
 abbrev pub IsValidRequest : {K V : Type 0} → (K → Type 0) → (V → Type 0) → Request K V → Type 0
 IsValidRequest valid_key valid_value (InsertOf k v) = valid_key k × valid_value v
 IsValidRequest valid_key valid_value (DeleteOf k) = valid_key k
@@ -53,7 +53,7 @@ told_of key value (PairOf p) = Some (pair_or_none (option_map (word_pair key val
 told_of key value (Pairs ps) = Some (ManyPairs (map (word_pair key value) ps.items))
 told_of key value _ = None
 
--- its keys and its values are those of their types
+-- the keys and the values of a reply are those of their types
 abbrev pub IsValidReply : {K V : Type 0} → (K → Type 0) → (V → Type 0) → Reply K V → Type 0
 IsValidReply valid_key valid_value (Value v) = IfSome v valid_value
 IsValidReply valid_key valid_value (PairOf p) = IfSome p (IsValidPair valid_key valid_value)

@@ -169,6 +169,8 @@ module _ {K V : Type 0} (valid_key : K → Type 0) (key : K → ℕ) (valid_valu
             scx = omega (arith, scx, b);
             gone_nodes = share_nodes p.layout p.number.0 (run_of now) (run_of (pass_view p)) p.share (share_of m.run) y.since x.rest.share rest.share;
             gone_scx = share_scx p.layout p.number.0 (run_of now) (run_of (pass_view p)) p.share (share_of m.run) y.since x.rest.share rest.share;
+            end_nodes = rest.share.to_node ∙ sym x.rest.share.to_node;
+            end_scx = rest.share.to_scx ∙ sym x.rest.share.to_scx;
           }
 
       -- what it tells
@@ -179,6 +181,10 @@ module _ {K V : Type 0} (valid_key : K → Type 0) (key : K → ℕ) (valid_valu
           go None z = tt
           go (Some told) z = told_says (pass_view p) x.is_pass called refl s.table_id (share_of m.run) (known_of s.me.0.passes) (blamed_by_reply reply p.blamed) tree y.since (call_in m.run) told z
 
+      -- what it had of its share as the call began
+      rests : RestsWith (call_of p x called) (run_of (pass_view p)) p.share
+      rests = record { share = x.rest.share; over = all_over p.layout _ p.number.0 p.share p.share.next_node p.share.next_scx x.rest.share x.rest.over }
+
       -- why it tells nothing
       pub dict_refuses : IsRefusalOf (pass_view p) now (call_in m.run) reply
       dict_refuses = go reply y.answers.refuses
@@ -187,6 +193,6 @@ module _ {K V : Type 0} (valid_key : K → Type 0) (key : K → ℕ) (valid_valu
           go (replies.Value v) z = tt
           go (replies.Pair v) z = tt
           go (replies.Pairs v) z = tt
-          go (replies.Full f) z = full_says (pass_view p) x.is_pass called refl s.table_id (share_of m.run) (known_of s.me.0.passes) (blamed_by_reply reply p.blamed) tree y.since (call_in m.run) f z
+          go (replies.Full f) z = full_says (pass_view p) x.is_pass called refl s.table_id (share_of m.run) (known_of s.me.0.passes) (blamed_by_reply reply p.blamed) tree y.since (call_in m.run) f rests z
           go replies.NoMemory z = (z.0, nothing_says (pass_view p) x.is_pass called refl s.table_id (share_of m.run) (known_of s.me.0.passes) (blamed_by_reply reply p.blamed) tree y.since z.1)
           go (replies.Contended n u) z = lost_says (pass_view p) x.is_pass called refl s.table_id (share_of m.run) (known_of s.me.0.passes) (blamed_by_reply reply p.blamed) tree y.since (tries_behind m.run) n.0 u.0 z

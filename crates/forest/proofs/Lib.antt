@@ -24,3 +24,6 @@ mod StraightScx
 mod StraightVlx
 mod Versions
 mod DictCalls
+mod OpenCalls
+mod OpenSteps
+mod OpenBegins

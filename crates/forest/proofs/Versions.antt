@@ -1,8 +1,10 @@
 -- What the calls of a dictionary say.
-use Rattle.std.proofs.Common.{◌≡◌, ◌∙◌, ℕ, ◌<◌, Bool, true, false, inr, List, Option, sym, subst}
+use Rattle.std.proofs.Common.{◌≡◌, ◌∙◌, ℕ, ◌<◌, ◌⊎◌, Bool, true, false, inl, inr, List, Option, sym, subst}
 use Rattle.atomic_table.specs.Seated.{TableId}
 use Rattle.arena.specs.declared.fault.Full.{Full as FullOf}
 use Rattle.arena.specs.declared.step.Row.{Row}
+use Rattle.arena.specs.Blame.{WasInTheWay}
+use Rattle.arena.specs.Fills.{IsOthersScx}
 use Rattle.arena.specs.History.{History, ◌⊳◌, value, Extends}
 use Rattle.arena.specs.Machines.{Call}
 use Rattle.arena.specs.Share.{Remaining}
@@ -12,8 +14,9 @@ use Rattle.spelling.specs.OrderedMap.{MapCall, MapReply, MapEdit, edited, change
 use Rattle.spelling.specs.Runs.{IsTreeRun, Makes}
 use Rattle.spelling.specs.Spelled.{Spells}
 use Rattle.spelling.proofs.Lemmas.{one_spelling, run_spells, run_since, spells_log, makes_since}
-use Rattle.updates.specs.Known.{HasMade}
+use Rattle.updates.specs.Known.{HasMade, RestsWith, IsUntouched}
 use Rattle.updates.specs.Tries.{HasEnteredNone}
+use Rattle.dict.specs.OneShare.{one_share}
 use Rattle.dict.specs.Says.{HasToldBy, HasTold, HasLost, HasRunOut}
 use Rattle.forest.specs.Dictionary.{IsVersion, IsChange, IsChangeOrReading, IsContendedCall, IsFullCall}
 use Rattle.forest.specs.Passes.{PassView, run_of, done_of, taken_of}
@@ -78,8 +81,9 @@ module _ (was : PassView) (is_pass : was.number < was.layout.passes) (number : �
     pub lost_says : (tries n s : ℕ) → HasLost call_by (run_of then) tries n s → IsContendedCall was then n s
     lost_says tries n s y = record { others = y.way.others; in_the_way = y.way.in_the_way; over_or_new = y.way.over_or_new; done = none_more y.none }
 
-    pub full_says : (call : MapCall) (full : FullOf) → HasRunOut call_by (run_of then) call left full → IsFullCall was then call full
-    full_says call full y = record {
+    -- with what its share had as the call began
+    pub full_says : (call : MapCall) (full : FullOf) → RestsWith call_by (run_of was) was.share → HasRunOut call_by (run_of then) call left full → IsFullCall was then call full
+    full_says call full rests y = record {
       moment = y.moment;
       within = y.within;
       since = y.since;
@@ -87,8 +91,13 @@ module _ (was : PassView) (is_pass : was.number < was.layout.passes) (number : �
       version = version_at then run y.moment y.within y.map y.spelled;
       some = y.some;
       short = y.short;
+      first = untouched y.first;
       done = none_more y.none;
     }
+      where
+        untouched : IsUntouched call_by (run_of then) left → (left ≡ was.share) ⊎ ((n : ℕ) × (s : ℕ) × IsOthersScx was.layout was.number s × WasInTheWay (run_of then) (run_of was) n s)
+        untouched (inl z) = inl (one_share call_by (run_of was) left was.share z rests)
+        untouched (inr z) = inr (z.0, z.1, z.2.others, z.2.in_the_way)
 
     pub nothing_says : HasEnteredNone was.layout was.number (run_of then) (run_of was) → done_of then ≡ done_of was
     nothing_says none = none_more none

@@ -1,5 +1,5 @@
 -- What the calls of a dictionary say of the pass that makes them.
-use Rattle.std.specs.Prelude.{◌≡◌, ℕ, ◌+◌, ◌*◌, ◌<◌, ◌≤◌, Bool, true, false, List, ◌∷◌, Option, Some, None, Result, Ok, Err, Vec, map}
+use Rattle.std.specs.Prelude.{◌≡◌, ℕ, ◌+◌, ◌*◌, ◌<◌, ◌≤◌, ◌⊎◌, Bool, true, false, List, ◌∷◌, Option, Some, None, Result, Ok, Err, Vec, map}
 use Rattle.std.specs.Global.{Global}
 use Rattle.std.specs.Option.{option_map}
 use Rattle.arena.specs.declared.fault.Full.{Full as FullOf}
@@ -95,6 +95,7 @@ pub record IsContendedCall (old new : PassView) (n s : ℕ) : Type 0 where
 
 -- The share has too little left for the next try: at a moment from what was known before to what is
 -- known now the call needed some nodes, of which there are not enough, or no SCX-record is left.
+-- The call has taken nothing of the share, or a try was lost to another pass, which was in the way.
 -- The pass has no entry more.
 pub record IsFullCall (old new : PassView) (call : MapCall) (full : FullOf) : Type 0 where
   pub moment : History
@@ -104,6 +105,7 @@ pub record IsFullCall (old new : PassView) (call : MapCall) (full : FullOf) : Ty
   pub version : IsVersion new moment map
   pub some : 0 < need call map
   pub short : HasTooLittle (need call map) new.share full.what full.left
+  pub first : (new.share ≡ old.share) ⊎ ((n : ℕ) × (s : ℕ) × IsOthersScx new.layout new.number s × WasInTheWay (run_of new) (run_of old) n s)
   pub done : done_of new ≡ done_of old
 
 -- why nothing is told
@@ -122,6 +124,9 @@ pub record HasSpentAtMost (old new : PassView) (call : MapCall) (tries : ℕ) : 
   -- and nothing has come back
   pub gone_nodes : new.share.nodes ≤ old.share.nodes
   pub gone_scx : new.share.scx ≤ old.share.scx
+  -- what is left is the upper end of what there was
+  pub end_nodes : new.share.next_node + new.share.nodes ≡ old.share.next_node + old.share.nodes
+  pub end_scx : new.share.next_scx + new.share.scx ≡ old.share.next_scx + old.share.scx
 
 -- the blame list after this reply: `Contended` blames its SCX-record
 abbrev pub blamed_by_reply : {K V : Type 0} → Reply K V → List ℕ → List ℕ

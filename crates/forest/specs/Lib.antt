@@ -12,3 +12,5 @@ pub mod TableRule
 pub mod JoinedSeats
 pub mod PassInvariant
 pub mod Dictionary
+pub mod Opened
+pub mod OpenInvariant

@@ -48,7 +48,8 @@ pub record PassView : Type 0 where
   pub share : Remaining
   -- the run up to its own last step, newest row first
   pub known : List Row
-  -- its blame list: the SCX-records that its calls of `llx` have named with `fail`, the last first
+  -- its blame list: the SCX-records that its refusals have named, the last first: `Fail` of an LLX
+  -- of cells, `Contended` of a dictionary
   pub blamed : List ℕ
 
 -- the run that the pass knows

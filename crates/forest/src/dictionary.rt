@@ -39,7 +39,7 @@ impl<K: WordKey, V: WordValue> Forest<Dict<K, V>> {
         let Ok(layout) = limits.check(Mode::Tree) else {
             return Err(NewFault::Limits);
         };
-        match Forest::open(alloc, layout, limits.tries) {
+        match Forest::with_layout(alloc, layout, limits.tries) {
             Ok(opened) => Ok(opened),
             Err(NoMemory) => Err(NewFault::NoMemory),
         }
@@ -57,6 +57,7 @@ impl<K: WordKey, V: WordValue> Forest<Dict<K, V>> {
     ) -> Result<Option<V>, UpdateFault>
         requires pass { IsOf self.now pass.old }
         ensures pass { IsOf self.now pass.new }
+        ensures tree { pass.new.layout.mode ≡ Tree }
         ensures goes_on { HasGoneOn (TypedAllows (IsWord K.is_valid K.word_of) (IsWord V.is_valid V.word_of)) pass.old pass.new (taken_of pass.old) (self.now.tries * (3 * (2 + shared_nodes self.now.layout) + 178)) (blamed_by_update result pass.old.blamed) }
         ensures spends { HasSpentAtMost pass.old pass.new (Edit (Insert (K.word_of key) (V.word_of value))) self.now.tries }
         ensures says { UpdateSays V.word_of pass.old pass.new (Insert (K.word_of key) (V.word_of value)) result }
@@ -70,6 +71,7 @@ impl<K: WordKey, V: WordValue> Forest<Dict<K, V>> {
     pub fn delete(&self, pass: &mut Pass<Dict<K, V>>, key: &K) -> Result<Option<V>, UpdateFault>
         requires pass { IsOf self.now pass.old }
         ensures pass { IsOf self.now pass.new }
+        ensures tree { pass.new.layout.mode ≡ Tree }
         ensures goes_on { HasGoneOn (TypedAllows (IsWord K.is_valid K.word_of) (IsWord V.is_valid V.word_of)) pass.old pass.new (taken_of pass.old) (self.now.tries * (3 * (2 + shared_nodes self.now.layout) + 301)) (blamed_by_update result pass.old.blamed) }
         ensures spends { HasSpentAtMost pass.old pass.new (Edit (Delete (K.word_of key.now))) self.now.tries }
         ensures says { UpdateSays V.word_of pass.old pass.new (Delete (K.word_of key.now)) result }
@@ -82,6 +84,7 @@ impl<K: WordKey, V: WordValue> Forest<Dict<K, V>> {
     pub fn get(&self, pass: &mut Pass<Dict<K, V>>, key: &K) -> Option<V>
         requires pass { IsOf self.now pass.old }
         ensures pass { IsOf self.now pass.new }
+        ensures tree { pass.new.layout.mode ≡ Tree }
         ensures goes_on { HasGoneOn (TypedAllows (IsWord K.is_valid K.word_of) (IsWord V.is_valid V.word_of)) pass.old pass.new (taken_of pass.old) (3 * (2 + shared_nodes self.now.layout)) pass.old.blamed }
         ensures spends { HasSpentAtMost pass.old pass.new (Get (K.word_of key.now)) self.now.tries }
         ensures says { IsReading pass.old pass.new (Get (K.word_of key.now)) (OneValue (option_map V.word_of result)) }
@@ -109,6 +112,7 @@ impl<K: WordKey, V: WordValue> Forest<Dict<K, V>> {
     ) -> Result<Option<(K, V)>, OrderFault>
         requires pass { IsOf self.now pass.old }
         ensures pass { IsOf self.now pass.new }
+        ensures tree { pass.new.layout.mode ≡ Tree }
         ensures goes_on { HasGoneOn (TypedAllows (IsWord K.is_valid K.word_of) (IsWord V.is_valid V.word_of)) pass.old pass.new (taken_of pass.old) (self.now.tries * (137 * (2 + shared_nodes self.now.layout))) (blamed_by_read result pass.old.blamed) }
         ensures spends { HasSpentAtMost pass.old pass.new (Successor (K.word_of key.now)) self.now.tries }
         ensures says { SuccessorSays K.word_of V.word_of pass.old pass.new (K.word_of key.now) result }
@@ -139,6 +143,7 @@ impl<K: WordKey, V: WordValue> Forest<Dict<K, V>> {
         requires pass { IsOf self.now pass.old }
         requires few { most ≤ 64 }
         ensures pass { IsOf self.now pass.new }
+        ensures tree { pass.new.layout.mode ≡ Tree }
         ensures goes_on { HasGoneOn (TypedAllows (IsWord K.is_valid K.word_of) (IsWord V.is_valid V.word_of)) pass.old pass.new (taken_of pass.old) (self.now.tries * ((most + 2) * (67 * (2 + shared_nodes self.now.layout)))) (blamed_by_read result pass.old.blamed) }
         ensures spends { HasSpentAtMost pass.old pass.new (Range (K.word_of low.now) (K.word_of high.now) most) self.now.tries }
         ensures says { RangeSays K.word_of V.word_of pass.old pass.new (K.word_of low.now) (K.word_of high.now) most result }
@@ -164,6 +169,7 @@ impl<K: WordKey, V: WordValue> Forest<Dict<K, V>> {
         requires memory { KeepsLists (map_call_of K.word_of V.word_of request) → IsSome alloc }
         requires few { AsksForFew request }
         ensures pass { IsOf self.now pass.new }
+        ensures tree { pass.new.layout.mode ≡ Tree }
         ensures goes_on { HasGoneOn (TypedAllows (IsWord K.is_valid K.word_of) (IsWord V.is_valid V.word_of)) pass.old pass.new (taken_of pass.old) (most_steps (map_call_of K.word_of V.word_of request) self.now.tries (shared_nodes self.now.layout)) (blamed_by_reply result pass.old.blamed) }
         ensures spends { HasSpentAtMost pass.old pass.new (map_call_of K.word_of V.word_of request) self.now.tries }
         ensures told { IsToldOf pass.old pass.new (map_call_of K.word_of V.word_of request) (told_of K.word_of V.word_of result) }

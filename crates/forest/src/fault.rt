@@ -16,7 +16,7 @@ pub enum NewFault {
 /// Why an insert or a delete was refused. It has not changed the map.
 #[derive(Clone, Copy, Debug, PartialEq, Eq, Error)]
 pub enum UpdateFault {
-    /// All tries were lost, the last to this SCX-record of another pass over this node.
+    /// All tries were lost: this SCX-record of another pass was in the way, over this node.
     #[error("contended")]
     Contended { node: NodeNo, scx: ScxNo },
     /// The pass's share has too little left for the next try.
@@ -27,7 +27,7 @@ pub enum UpdateFault {
 /// Why an ordered read was refused.
 #[derive(Clone, Copy, Debug, PartialEq, Eq, Error)]
 pub enum OrderFault {
-    /// All tries were lost, the last to this SCX-record of another pass over this node.
+    /// All tries were lost: this SCX-record of another pass was in the way, over this node.
     #[error("contended")]
     Contended { node: NodeNo, scx: ScxNo },
     /// An allocation was refused.

@@ -1,4 +1,4 @@
-use Rattle.dict.proofs.Undisturbed.{told_alone}
+use Rattle.dict.proofs.Undisturbed.{told_alone, full_alone, full_by_one}
 use Rattle.dict.proofs.alone.alone_holds.Goals as goal
 
 pub returns-clause-told : goal.returns-clause-told
@@ -12,3 +12,9 @@ returns-clause-undisturbed g = λ c h tries n s run alone x. g.alone_holds.ensur
 
 pub returns-clause-one_pass : goal.returns-clause-one_pass
 returns-clause-one_pass g = λ c h tries n s one x. g.alone_holds.ensures.one_pass c h n s one x.way
+
+pub returns-clause-full : goal.returns-clause-full
+returns-clause-full g = λ c h call share full map run alone s x. full_alone g.alone_holds.ensures.made g.alone_holds.ensures.kept c h map run alone s (λ n t. g.alone_holds.ensures.undisturbed c h n t run alone) call share full x
+
+pub returns-clause-one_pass_full : goal.returns-clause-one_pass_full
+returns-clause-one_pass_full g = λ c h call share full one x. full_by_one c h call share full (λ n t. g.alone_holds.ensures.one_pass c h n t one) x

@@ -1,0 +1,57 @@
+-- A call that is held open begins.
+use Rattle.std.proofs.Common.{◌≡◌, ◌≤◌, ℕ, false, refl, sym, subst, arith}
+use Rattle.std.specs.declared.snapshot.Snapshot.{Snapshot}
+use Rattle.arena.specs.declared.limits.Mode.TheVariants.{Tree}
+use Rattle.arena.specs.declared.machine.Turn.{Turn}
+use Rattle.arena.specs.declared.machine.Turn.TheVariants.{Ask, Done}
+use Rattle.arena.specs.Machines.{MatchTurn}
+use Rattle.dict.specs.Calls.{call_in, AsksForPairs}
+use Rattle.dict.specs.Steps.{map_left, most_steps}
+use Rattle.dict.specs.Typed.{TypedAllows}
+use Rattle.dict.specs.Words.{IsWord}
+use Rattle.dict.specs.declared.dict.DictRun.{DictRun}
+use Rattle.dict.specs.declared.reply.Reply.{Reply}
+use Rattle.dict.specs.declared.shape.Dict.{Dict}
+use Rattle.forest.specs.declared.open.OpenCall.TheInside.{Inside}
+use Rattle.forest.specs.declared.pass.Pass.TheInside as pass
+use Rattle.forest.specs.OpenInvariant.{IsOpen}
+use Rattle.forest.specs.Passes.{PassView, steps_of, taken_of}
+use Rattle.forest.specs.PassInvariant.{IsPass, pass_view}
+use Rattle.forest.specs.Traces.{seat_steps, shared_nodes, weight}
+use Rattle.forest.proofs.OpenSteps.{DictStands, differ}
+use Rattle.forest.proofs.Passes.{call_of, steps_are}
+
+module _ {K V : Type 0} (valid_key : K → Type 0) (key : K → ℕ) (valid_value : V → Type 0) (value : V → ℕ) (p : pass.Inside (Dict K V)) (x : IsPass (TypedAllows (IsWord valid_key key) (IsWord valid_value value)) Tree p) where
+  -- a call of this pass, of this number, which began as it was seen then
+  abbrev pub opened : DictRun K V → Turn (Reply K V) → ℕ → Snapshot PassView → Inside K V
+  opened m turn number seen = record { number = p.number; layout = p.layout; seat = p.seat; blamed = p.blamed; call = number; run = m; turn = turn; over = false; began = seen }
+
+  -- no step is made yet
+  none_made : seat_steps p.seat.me.0.passes ≡ steps_of (pass_view p)
+  none_made = steps_are p.number.0 p.layout p.seat.me.0.passes x.seat
+
+  module _ (first m : DictRun K V) (turn : Turn (Reply K V)) (number : ℕ) (named : number ≡ taken_of (pass_view p)) (y : DictStands valid_key key valid_value value (call_of p x (taken_of (pass_view p))) p.seat.me.0.passes first m turn) (few : weight turn (map_left m.run (shared_nodes p.layout)) ≤ most_steps (call_in m.run) m.tries (shared_nodes p.layout)) (asks : AsksForPairs (call_in m.run) → MatchTurn turn (λ _. Unit {0}) (λ _. ⊥)) where
+    as_seen : (seen : Snapshot PassView) → IsOpen valid_key key valid_value value (opened m turn number (record seen { value = pass_view p }))
+    as_seen seen = record {
+      pass = record { seat = refl; bare = refl; is_mode = x.is_mode; is_pass = x.is_pass; sound = x.sound; rest = x.rest; blamed = x.blamed };
+      table = refl;
+      bare = x.bare;
+      number = refl;
+      layout = refl;
+      call = named;
+      blamed = refl;
+      first = first;
+      stands = y;
+      since = let e = none_made in omega (arith, e);
+      steps = let e = none_made in omega (arith, e, few);
+      over = λ e. absurd (differ (sym e));
+      none = λ e. on turn asks;
+    }
+      where
+        on : (t : Turn (Reply K V)) → (AsksForPairs (call_in m.run) → MatchTurn t (λ _. Unit {0}) (λ _. ⊥)) → MatchTurn t (λ _. Unit {0}) (λ _. (seat_steps p.seat.me.0.passes ≡ steps_of (pass_view p)) × ¬ AsksForPairs (call_in m.run))
+        on (Ask u) z = tt
+        on (Done a) z = (none_made, z)
+
+    -- it is held open
+    pub begins_open : (seen : Snapshot PassView) → seen.value ≡ pass_view p → IsOpen valid_key key valid_value value (opened m turn number seen)
+    begins_open seen e = subst (λ v. IsOpen valid_key key valid_value value (opened m turn number (record seen { value = v }))) (sym e) (as_seen seen)

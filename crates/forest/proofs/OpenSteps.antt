@@ -1,0 +1,83 @@
+-- A call that is held open stays one, step by step.
+use Rattle.std.proofs.Common.{◌≡◌, ◌∙◌, ◌+◌, ◌-◌, ◌<◌, ◌≤◌, ℕ, suc, Bool, true, false, List, refl, sym, subst, arith}
+use Rattle.atomic_table.specs.declared.shared.Seat.{Seat}
+use Rattle.arena.specs.declared.step.Step.{Step}
+use Rattle.arena.specs.declared.machine.Turn.{Turn}
+use Rattle.arena.specs.declared.machine.Turn.TheVariants.{Ask, Done}
+use Rattle.arena.specs.Machines.{Call, MatchTurn}
+use Rattle.dict.specs.Calls.{call_in, AsksForPairs}
+use Rattle.dict.specs.DictKnown.{DictWaits, DictAnswers}
+use Rattle.dict.specs.Steps.{map_left, most_steps}
+use Rattle.dict.specs.Typed.{TypedAllows}
+use Rattle.dict.specs.Words.{IsWord}
+use Rattle.dict.specs.declared.dict.DictRun.{DictRun}
+use Rattle.dict.specs.declared.reply.Reply.{Reply}
+use Rattle.forest.specs.declared.open.OpenCall.TheInside.{Inside}
+use Rattle.forest.specs.declared.view.SeatedPass.{SeatedPass}
+use Rattle.forest.specs.declared.view.SeatView.{SeatView}
+use Rattle.forest.specs.OpenInvariant.{IsOpen, next_call}
+use Rattle.forest.specs.Passes.{steps_of}
+use Rattle.forest.specs.Traces.{Stands, seat_steps, shared_nodes, weight}
+use Rattle.forest.proofs.Advances.{weighs}
+use Rattle.forest.proofs.Calls.{course_keeps}
+use Rattle.forest.proofs.DictCalls.{IsSameCall}
+
+pub differ : true ≡ false → ⊥
+differ e = cc
+
+module _ {K V : Type 0} (valid_key : K → Type 0) (key : K → ℕ) (valid_value : V → Type 0) (value : V → ℕ) where
+  -- where the machine of such a call stands
+  abbrev pub DictStands : Call → List SeatedPass → DictRun K V → DictRun K V → Turn (Reply K V) → Type 0
+  DictStands c ps first m turn = Stands (TypedAllows (IsWord valid_key key) (IsWord valid_value value)) (DictWaits (IsWord valid_key key) (IsWord valid_value value)) (IsSameCall valid_key key valid_value value) c ps first (DictAnswers valid_key key valid_value value) m turn
+
+  -- it is of the same call as the first
+  pub same_so_far : (c : Call) (ps : List SeatedPass) (first m : DictRun K V) (turn : Turn (Reply K V)) → DictStands c ps first m turn → IsSameCall valid_key key valid_value value first m
+  same_so_far c ps first m (Ask s) y = course_keeps (λ (k : DictRun K V). IsSameCall valid_key key valid_value value first k) (refl, refl) (λ old now e q. (e.0 ∙ q.0, e.1 ∙ q.1)) m _ y.so.1
+  same_so_far c ps first m (Done a) y = course_keeps (λ (k : DictRun K V). IsSameCall valid_key key valid_value value first k) (refl, refl) (λ old now e q. (e.0 ∙ q.0, e.1 ∙ q.1)) m _ y.so.1
+
+  -- one that has answered is over
+  pub is_answered : (o : Inside K V) → IsOpen valid_key key valid_value value o → (reply : Reply K V) → o.turn ≡ Done reply → IsOpen valid_key key valid_value value (record o { over = true })
+  is_answered o x reply is = record { pass = x.pass; table = x.table; bare = x.bare; number = x.number; layout = x.layout; call = x.call; blamed = x.blamed; first = x.first; stands = x.stands; since = x.since; steps = x.steps; over = λ e. rw is tt; none = λ e. absurd (differ e) }
+
+  module _ (o : Inside K V) (x : IsOpen valid_key key valid_value value o) (step : Step) (is : o.turn ≡ Ask step) where
+    -- the machine waits for this step
+    pub open_waits : DictStands (next_call o.began.value x.pass.is_pass) o.seat.me.0.passes x.first o.run (Ask step)
+    open_waits = subst (λ turn. DictStands (next_call o.began.value x.pass.is_pass) o.seat.me.0.passes x.first o.run turn) is x.stands
+
+    module _ (s : Seat ℕ SeatView) (m : DictRun K V) (turn : Turn (Reply K V)) (table : s.table_id ≡ o.seat.table_id) (bare : s.me.1 ≡ o.seat.me.1) (one : seat_steps s.me.0.passes ≡ suc (seat_steps o.seat.me.0.passes)) (y : DictStands (next_call o.began.value x.pass.is_pass) s.me.0.passes x.first m turn) where
+      -- it is of the same call as before
+      pub same_call : IsSameCall valid_key key valid_value value o.run m
+      same_call = let a = same_so_far _ _ x.first o.run o.turn x.stands in let b = same_so_far _ _ x.first m turn y in (b.0 ∙ sym a.0, b.1 ∙ sym a.1)
+
+      -- it has made one step more
+      pub one_more : seat_steps s.me.0.passes - steps_of o.began.value ≡ suc (seat_steps o.seat.me.0.passes - steps_of o.began.value)
+      one_more = let z = x.since in omega (arith, one, z)
+
+      module _ (nearer : MatchTurn turn (λ _. map_left m.run (shared_nodes o.layout) < map_left o.run.run (shared_nodes o.layout)) (λ _. Unit {0})) where
+        few : seat_steps s.me.0.passes + weight turn (map_left m.run (shared_nodes o.layout)) ≤ steps_of o.began.value + most_steps (call_in o.run.run) o.run.tries (shared_nodes o.layout)
+        few =
+            let w = weighs turn (map_left m.run (shared_nodes o.layout)) (map_left o.run.run (shared_nodes o.layout)) nearer in
+            let z = rw is at x.steps in
+            omega (arith, one, w, z)
+
+        -- it stays a call that is held open
+        pub stays_open : (over : Bool) → (over ≡ true → MatchTurn turn (λ _. ⊥) (λ _. Unit {0})) → (over ≡ false → MatchTurn turn (λ _. Unit {0}) (λ _. ⊥)) → IsOpen valid_key key valid_value value (record o { seat = s; run = m; turn = turn; over = over })
+        stays_open over ends goes = record {
+          pass = record { seat = refl; bare = refl; is_mode = x.pass.is_mode; is_pass = x.pass.is_pass; sound = x.pass.sound; rest = x.pass.rest; blamed = x.pass.blamed };
+          table = table ∙ x.table;
+          bare = bare ∙ x.bare;
+          number = x.number;
+          layout = x.layout;
+          call = x.call;
+          blamed = x.blamed;
+          first = x.first;
+          stands = y;
+          since = let z = x.since in omega (arith, one, z);
+          steps = rw (same_call.0, same_call.1) few;
+          over = ends;
+          none = λ e. on turn (goes e);
+        }
+          where
+            on : (t : Turn (Reply K V)) → MatchTurn t (λ _. Unit {0}) (λ _. ⊥) → MatchTurn t (λ _. Unit {0}) (λ _. (seat_steps s.me.0.passes ≡ steps_of o.began.value) × ¬ AsksForPairs (call_in m.run))
+            on (Ask u) z = tt
+            on (Done a) z = absurd z

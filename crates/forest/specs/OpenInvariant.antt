@@ -1,0 +1,69 @@
+-- What is true of the fields of every call that is held open.
+use Rattle.std.specs.Prelude.{◌≡◌, ◌+◌, ◌-◌, ◌<◌, ◌≤◌, ℕ, true, false, [], ◌∷◌}
+use Rattle.atomic_table.specs.declared.shared.Seat.{Seat}
+use Rattle.arena.specs.declared.limits.Mode.TheVariants.{Tree}
+use Rattle.arena.specs.Machines.{Call, MatchTurn}
+use Rattle.dict.specs.Calls.{call_in, AsksForPairs}
+use Rattle.dict.specs.DictKnown.{DictWaits, DictAnswers}
+use Rattle.dict.specs.Steps.{map_left, most_steps}
+use Rattle.dict.specs.Typed.{TypedAllows}
+use Rattle.dict.specs.Words.{IsWord}
+use Rattle.dict.specs.declared.dict.DictRun.{DictRun}
+use Rattle.dict.specs.declared.shape.Dict.{Dict}
+use Rattle.forest.specs.declared.open.OpenCall.TheInside.{Inside}
+use Rattle.forest.specs.declared.pass.Pass.TheInside as pass
+use Rattle.forest.specs.declared.view.SeatView.{SeatView}
+use Rattle.forest.specs.Opened.{OpenView}
+use Rattle.forest.specs.Passes.{PassView, run_of, steps_of, taken_of}
+use Rattle.forest.specs.PassInvariant.{IsPass}
+use Rattle.forest.specs.TableRule.{seated_pass}
+use Rattle.forest.specs.Traces.{Stands, known_of, seat_steps, shared_nodes, weight}
+
+-- what contracts see of a call that is held open
+abbrev pub open_view : {K V : Type 0} → Inside K V → OpenView
+open_view o = record {
+  began = o.began.value;
+  known = known_of o.seat.me.0.passes;
+  call = call_in o.run.run;
+  tries = o.run.tries;
+  made = seat_steps o.seat.me.0.passes - steps_of o.began.value;
+  left = weight o.turn (map_left o.run.run (shared_nodes o.layout));
+  over = o.over;
+}
+
+-- The fields of this pass, at a seat that has it alone. They are told from what contracts see of it.
+abbrev pub pass_as : {T : Type 0} → PassView → Seat ℕ SeatView → pass.Inside T
+pass_as p s = record {
+  number = record { 0 = p.number };
+  layout = p.layout;
+  share = p.share;
+  seat = record s { table_id = p.table; me = (record { passes = seated_pass p.number p.layout p.known ∷ [] }, []) };
+  blamed = p.blamed;
+  shape = record {};
+}
+
+-- the call that a pass begins next
+abbrev pub next_call : (p : PassView) → p.number < p.layout.passes → Call
+next_call p is_pass = record { layout = p.layout; pass = p.number; is_pass = is_pass; number = taken_of p; start = run_of p }
+
+-- what holds of every call that is held open
+pub record IsOpen {K V : Type 0} (valid_key : K → Type 0) (key : K → ℕ) (valid_value : V → Type 0) (value : V → ℕ) (o : Inside K V) : Type 0 where
+  -- as it began its pass was one between two calls
+  pub pass : IsPass (TypedAllows (IsWord valid_key key) (IsWord valid_value value)) Tree (pass_as {T = Dict K V} o.began.value o.seat)
+  -- of which only the seat and the share have changed
+  pub table : o.seat.table_id ≡ o.began.value.table
+  pub bare : o.seat.me.1 ≡ []
+  pub number : o.number.0 ≡ o.began.value.number
+  pub layout : o.layout ≡ o.began.value.layout
+  pub call : o.call ≡ taken_of o.began.value
+  pub blamed : o.blamed ≡ o.began.value.blamed
+  -- its machine waits for a step, or has answered
+  pub first : DictRun K V
+  pub stands : Stands (TypedAllows (IsWord valid_key key) (IsWord valid_value value)) (DictWaits (IsWord valid_key key) (IsWord valid_value value)) (λ old now. (call_in now.run ≡ call_in old.run) × (now.tries ≡ old.tries)) (next_call o.began.value pass.is_pass) o.seat.me.0.passes first (DictAnswers valid_key key valid_value value) o.run o.turn
+  -- it has made no more steps than such a call may
+  pub since : steps_of o.began.value ≤ seat_steps o.seat.me.0.passes
+  pub steps : seat_steps o.seat.me.0.passes + weight o.turn (map_left o.run.run (shared_nodes o.layout)) ≤ steps_of o.began.value + most_steps (call_in o.run.run) o.run.tries (shared_nodes o.layout)
+  -- It is over only where it has answered. A range that asks for no pairs has answered before its
+  -- first step.
+  pub over : o.over ≡ true → MatchTurn o.turn (λ _. ⊥) (λ _. Unit {0})
+  pub none : o.over ≡ false → MatchTurn o.turn (λ _. Unit {0}) (λ _. (seat_steps o.seat.me.0.passes ≡ steps_of o.began.value) × ¬ AsksForPairs (call_in o.run.run))

@@ -1,0 +1,175 @@
+//! Calls that are held open: each makes one atomic step at a time.
+ghost use Rattle.std.specs.Prelude.{◌≡◌, ◌≤◌, ◌+◌, true, false};
+ghost use Rattle.arena.specs.Machines.{IsRun};
+ghost use Rattle.dict.specs.Forms.{MayReply, form_of};
+ghost use Rattle.dict.specs.Steps.{most_steps};
+ghost use Rattle.dict.specs.Typed.{TypedAllows};
+ghost use Rattle.dict.specs.Words.{AsksForFew, IsValidReply, IsWord, map_call_of, told_of};
+ghost use Rattle.forest.specs.Dictionary.{IsToldOf, IsRefusalOf, HasSpentAtMost, blamed_by_reply};
+ghost use Rattle.forest.specs.Opened.{HasStepped, IsSameOpen, pass_now};
+ghost use Rattle.forest.specs.Passes.{Ground, HasGoneOn, IsOf, run_of, steps_of, taken_of};
+ghost use Rattle.forest.specs.Traces.{shared_nodes};
+
+use crate::blamed::Blamed;
+use crate::forest::Forest;
+use crate::pass::Pass;
+use crate::steps::advance;
+use crate::view::SeatView;
+use arena::{Kind, Layout, Machine, PassNo, Turn};
+use atomic_table::Seat;
+use dict::{Dict, DictRun, Reply, Request, WordKey, WordValue};
+use std::alloc::Global;
+use std::marker::{Model, PhantomData};
+use std::snapshot::Snapshot;
+
+/// What a step of a call leaves.
+#[derive(Clone, Copy, Debug, PartialEq, Eq)]
+pub enum Stepped {
+    /// It was of this kind, and the call goes on.
+    More(Kind),
+    /// The call is over. Its last step was of this kind; a call that needs no step has none.
+    Done(Option<Kind>),
+}
+
+/// A call that has begun, with its pass.
+#[derive(Drop)]
+pub struct OpenCall<K: WordKey, V: WordValue> {
+    number: PassNo,
+    layout: Layout,
+    seat: Seat<u8, SeatView>,
+    blamed: Blamed,
+    /// Which of the pass's calls it is.
+    call: u64,
+    run: DictRun<K, V>,
+    turn: Turn<Reply<K, V>>,
+    over: bool,
+    /// The pass as the call began. Only proofs read it: no bytes are kept.
+    began: Snapshot<Pass<Dict<K, V>>>,
+}
+
+impl<K: WordKey, V: WordValue> Model for OpenCall<K, V> {
+    ghost use Rattle.forest.specs.Opened.{OpenView};
+
+    ghost Value = { OpenView };
+
+    ghost use Rattle.forest.specs.OpenInvariant.{open_view, IsOpen};
+
+    ghost view = { open_view };
+
+    ghost invariant = { IsOpen K.is_valid K.word_of V.is_valid V.word_of };
+}
+
+impl<K: WordKey, V: WordValue> Forest<Dict<K, V>> {
+    /// Begins a call with this pass, which it keeps until it is finished. It has made no step yet.
+    pub fn open(
+        &self,
+        alloc: Global,
+        pass: Pass<Dict<K, V>>,
+        request: Request<K, V>,
+    ) -> OpenCall<K, V>
+        requires pass { IsOf self.now pass }
+        requires few { AsksForFew request }
+        ensures began { result.began ≡ pass }
+        ensures known { result.known ≡ pass.known }
+        ensures call { result.call ≡ map_call_of K.word_of V.word_of request }
+        ensures tries { result.tries ≡ self.now.tries }
+        ensures none { (result.made ≡ 0) × (result.over ≡ false) }
+        ensures left { result.left ≤ most_steps result.call result.tries (shared_nodes self.now.layout) }
+    {
+        let began = Snapshot::of(&pass);
+        let call = pass.taken();
+        let Pass {
+            number,
+            layout,
+            share,
+            seat,
+            blamed,
+            shape: _,
+        } = pass;
+        let mut run = DictRun::new(Some(alloc), request, share, self.tries, call);
+        let turn = run.next(None);
+        OpenCall {
+            number,
+            layout,
+            seat,
+            blamed,
+            call,
+            run,
+            turn,
+            over: false,
+            began,
+        }
+    }
+}
+
+impl<K: WordKey, V: WordValue> OpenCall<K, V> {
+    /// Makes the next atomic step of the call, which is of this forest.
+    pub fn step(&mut self, forest: &Forest<Dict<K, V>>) -> Stepped
+        requires forest { IsOf forest.now self.old.began }
+        requires goes { self.old.over ≡ false }
+        ensures same { IsSameOpen self.old self.new }
+        ensures stepped { HasStepped self.old self.new result }
+        ensures lawful { IsRun (TypedAllows (IsWord K.is_valid K.word_of) (IsWord V.is_valid V.word_of)) self.new.began.layout (run_of (pass_now self.new)) }
+    {
+        let Turn::Ask(step) = &self.turn else {
+            self.over = true;
+            return Stepped::Done(None);
+        };
+        let (step, layout) = (*step, self.layout);
+        self.turn = advance(
+            &forest.words,
+            &layout,
+            &mut self.seat,
+            self.call,
+            &mut self.run,
+            step,
+        );
+        match &self.turn {
+            Turn::Ask(_) => Stepped::More(step.kind),
+            Turn::Done(_) => {
+                self.over = true;
+                Stepped::Done(Some(step.kind))
+            }
+        }
+    }
+
+    /// Gives the pass back, and what the call replies.
+    pub fn finish(self) -> (Pass<Dict<K, V>>, Reply<K, V>)
+        requires over { self.over ≡ true }
+        ensures pass { (f : Ground) → IsOf f self.began → IsOf f result.0 }
+        ensures known { result.0.known ≡ self.known }
+        ensures made { steps_of result.0 ≡ steps_of self.began + self.made }
+        ensures goes_on { HasGoneOn (TypedAllows (IsWord K.is_valid K.word_of) (IsWord V.is_valid V.word_of)) self.began result.0 (taken_of self.began) (most_steps self.call self.tries (shared_nodes self.began.layout)) (blamed_by_reply result.1 self.began.blamed) }
+        ensures spends { HasSpentAtMost self.began result.0 self.call self.tries }
+        ensures told { IsToldOf self.began result.0 self.call (told_of K.word_of V.word_of result.1) }
+        ensures refused { IsRefusalOf self.began result.0 self.call result.1 }
+        ensures form { MayReply self.call (form_of result.1) }
+        ensures valid { IsValidReply K.is_valid V.is_valid result.1 }
+    {
+        let OpenCall {
+            number,
+            layout,
+            seat,
+            mut blamed,
+            call: _,
+            run,
+            turn,
+            over: _,
+            began: _,
+        } = self;
+        let reply = match turn {
+            Turn::Done(reply) => reply,
+            Turn::Ask(_) => unreachable!(),
+        };
+        blamed.note_reply(&reply);
+        let pass = Pass {
+            number,
+            layout,
+            share: run.into_share(),
+            seat,
+            blamed,
+            shape: PhantomData,
+        };
+        (pass, reply)
+    }
+}
