@@ -21,5 +21,7 @@ mod StraightLlx
 mod StraightHelp
 mod StraightScx
 mod StraightVlx
+mod StraightWalk
 mod Versions
 mod DictCalls
+mod StraightGet
