@@ -5,3 +5,4 @@ mod Ends
 mod Undisturbed
 mod Translating
 mod DictEnds
+pub mod Lemmas

@@ -13,7 +13,8 @@ use spelling::Pair;
 use std::alloc::Global;
 
 /// The value of a word, if it is one's.
-fn value_of<V: WordValue>(word: Option<u64>) -> Option<V>
+#[inline(always)]
+pub fn value_of<V: WordValue>(word: Option<u64>) -> Option<V>
     ensures valid { IfSome result (λ v. V.is_valid v) }
     ensures word { IfSome word (IsWord V.is_valid V.word_of) → option_map V.word_of result ≡ word }
 {

@@ -22,8 +22,10 @@ mod StraightLlx
 mod StraightHelp
 mod StraightScx
 mod StraightVlx
+mod StraightWalk
 mod Versions
 mod DictCalls
 mod OpenCalls
 mod OpenSteps
 mod OpenBegins
+mod StraightGet

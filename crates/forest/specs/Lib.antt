@@ -7,6 +7,8 @@ pub mod StraightLlx
 pub mod StraightHelp
 pub mod StraightScx
 pub mod StraightVlx
+pub mod StraightWalk
+pub mod StraightGet
 pub mod Traces
 pub mod TableRule
 pub mod JoinedSeats

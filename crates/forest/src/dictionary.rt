@@ -18,8 +18,9 @@ use crate::fault::{NewFault, OrderFault, UpdateFault};
 use crate::forest::Forest;
 use crate::pass::Pass;
 use crate::steps::whole;
+use crate::straight::walk;
 use arena::{Limits, Mode, NoMemory, Share};
-use dict::{Dict, DictRun, Reply, Request, WordKey, WordValue};
+use dict::{Dict, DictRun, Reply, Request, WordKey, WordValue, value_of};
 use std::alloc::Global;
 use std::mem::replace;
 
@@ -90,16 +91,12 @@ impl<K: WordKey, V: WordValue> Forest<Dict<K, V>> {
         ensures says { IsReading pass.old pass.new (Get (K.word_of key.now)) (OneValue (option_map V.word_of result)) }
         ensures valid { IfSome result V.is_valid }
     {
-        match self.ask(None, pass, Request::Get { key: *key }) {
-            Reply::Value(value) => value,
-            Reply::Pair(_) | Reply::Contended { .. } | Reply::Full(_) | Reply::NoMemory => {
-                unreachable!()
-            }
-            Reply::Pairs(pairs) => {
-                drop(pairs);
-                unreachable!()
-            }
-        }
+        key.valid();
+        let number = pass.taken();
+        let (words, layout, seat) = (&self.words, &self.layout, &mut pass.seat);
+        let key = key.word();
+        let found = walk::call::<Dict<K, V>, DictRun<K, V>>(words, layout, seat, number, key);
+        value_of(found.value)
     }
 
     /// The pair with the least key above this one, if there is one. It takes nothing of the pass's

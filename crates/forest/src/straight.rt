@@ -4,5 +4,7 @@
 
 pub(crate) mod helping;
 pub(crate) mod llx;
+pub(crate) mod placed;
 pub(crate) mod scx;
 pub(crate) mod vlx;
+pub(crate) mod walk;

@@ -8,3 +8,4 @@ pub use Rattle.template.proofs.Inserting.{insert_words, swap_promised, split_pro
 pub use Rattle.template.proofs.Deleting.{join_promised}
 pub use Rattle.template.proofs.FirstFound.{found_small, found_own, found_first}
 pub use Rattle.template.proofs.Contending.{changed_contended, contended_later, contended_wider, failed_contended, finalized_contended, way_contended}
+pub use Rattle.template.proofs.WalkEdges.{walk_begins, head_to_key, head_ends, head_to_child, key_to_child, key_to_value, key_ends, value_ends, child_to_head}

@@ -1,5 +1,6 @@
 mod WalkTurns
 mod WalkBounds
+mod WalkEdges
 mod FirstFound
 mod Promised
 mod Inserting

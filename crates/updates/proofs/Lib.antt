@@ -9,3 +9,4 @@ mod Filling
 mod Beginning
 mod Stepping
 mod Blaming
+pub mod Lemmas

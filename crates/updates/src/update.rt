@@ -187,7 +187,7 @@ impl<E: Edit + Drop> UpdateRun<E> {
     }
 
     /// Goes on behind the walk, if the share has what the edit needs.
-    fn test_share(&mut self, found: Found) -> Turn<Updated>
+    pub fn test_share(&mut self, found: Found) -> Turn<Updated>
         ensures turn { (c : Call) (b h : History) → IsRun TreeAllows c.layout h → IsTry c b → IsUntouched c b self.old.share → Begins E.means self.old (from c b) h → IsQuietSince c.layout c.pass b h → HasFound (E.means.goal self.old.edit) (from c b) h found → UpdateTurn E.means c h self.new result }
         ensures same { (self.new.edit ≡ self.old.edit) × (self.new.call ≡ self.old.call) }
         ensures nearer { (nodes : ℕ) → IsNearer E.means self.new nodes result (self.old.tries * try_left E.means nodes + (64 * E.means.most_looks + works_behind E.means First + 39)) }
@@ -261,7 +261,7 @@ impl<E: Edit + Drop> UpdateRun<E> {
     }
 
     /// Keeps a snapshot, and goes on behind it.
-    fn looked(&mut self, found: Found, snap: Snap) -> Turn<Updated>
+    pub fn looked(&mut self, found: Found, snap: Snap) -> Turn<Updated>
         ensures turn { (c : Call) (b h : History) → IsRun TreeAllows c.layout h → IsTry c b → CanLook E.means self.old (from c b) h found → E.means.looks self.old.edit found self.old.snaps.items ≡ Look.At snap.node → IsSnapshot c.layout h snap.node.0 snap → UpdateTurn E.means c h self.new result }
         ensures same { (self.new.edit ≡ self.old.edit) × (self.new.call ≡ self.old.call) }
         ensures nearer { (nodes : ℕ) → IsNearer E.means self.new nodes result (self.old.tries * try_left E.means nodes + (64 * (E.means.most_looks - 1 - length self.old.snaps.items) + works_behind E.means First + 39)) }
@@ -363,7 +363,7 @@ impl<E: Edit + Drop> UpdateRun<E> {
     }
 
     /// Goes on with what that load has told.
-    fn load_on(&mut self, found: Found, nth: Nth, part: NodeWord, told: u64) -> Turn<Updated>
+    pub fn load_on(&mut self, found: Found, nth: Nth, part: NodeWord, told: u64) -> Turn<Updated>
         ensures turn { (c : Call) (b h : History) → IsRun TreeAllows c.layout h → IsTry c b → Loads E.means self.old (from c b) h found nth part → value h (node (copied E.means self.old found) part) ≡ told → UpdateTurn E.means c h self.new result }
         ensures same { (self.new.edit ≡ self.old.edit) × (self.new.call ≡ self.old.call) }
         ensures nearer { (nodes : ℕ) → IsWanted E.means self.old found nth part → IsNearer E.means self.new nodes result (self.old.tries * try_left E.means nodes + (works_left E.means self.old found nth - 1 + 39)) }
@@ -395,7 +395,7 @@ impl<E: Edit + Drop> UpdateRun<E> {
     }
 
     /// Goes on behind that fill: with the next word, the next node, or the SCX.
-    fn fill_on(&mut self, found: Found, nth: Nth, part: NodeWord) -> Turn<Updated>
+    pub fn fill_on(&mut self, found: Found, nth: Nth, part: NodeWord) -> Turn<Updated>
         ensures turn { (c : Call) (b h : History) → IsRun TreeAllows c.layout h → IsTry c b → IsFilledUpTo E.means self.old (from c b) h found nth part → UpdateTurn E.means c h self.new result }
         ensures same { (self.new.edit ≡ self.old.edit) × (self.new.call ≡ self.old.call) }
         ensures nearer { (nodes : ℕ) → IsNearer E.means self.new nodes result (self.old.tries * try_left E.means nodes + (fills_left E.means self.old found nth part + 39)) }

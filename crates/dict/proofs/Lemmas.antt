@@ -1,0 +1,4 @@
+-- What the layers above know of calls of a dictionary beside their clauses, passed on from one
+-- place: no other module of these proofs can be named outside. Declares nothing.
+pub use Rattle.dict.proofs.Ends.{insert_ends, delete_ends, get_ends}
+pub use Rattle.dict.proofs.DictEnds.{dict_ends}

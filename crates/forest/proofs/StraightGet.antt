@@ -1,0 +1,120 @@
+-- A get of a dictionary whose walk is straight.
+use Rattle.std.proofs.Common.{◌≡◌, ℕ, List, ◌^◌, ◌<◌, Option, None, Some, IfSome, inl, refl, sym, ◌∙◌, ap}
+use Rattle.std.specs.Option.{option_map}
+use Rattle.arena.specs.declared.layout.Layout.{Layout}
+use Rattle.arena.specs.declared.limits.Mode.TheVariants.{Tree}
+use Rattle.arena.specs.declared.step.Kind.TheVariants.{LoadSettled}
+use Rattle.arena.specs.declared.step.Step.{Step}
+use Rattle.arena.specs.declared.word.NodeWord.TheVariants.{Head}
+use Rattle.arena.specs.History.{History}
+use Rattle.arena.specs.Machines.{Call, IsRun}
+use Rattle.arena.specs.Share.{Remaining}
+use Rattle.arena.specs.Words.{node}
+use Rattle.arena.proofs.Lemmas.{ends_self}
+use Rattle.atomic_table.specs.declared.shared.Seat.{Seat}
+use Rattle.prims.specs.Llx.Known.{load}
+use Rattle.spelling.specs.OrderedMap.{OneValue}
+use Rattle.spelling.specs.Runs.{IsTreeRun}
+use Rattle.template.specs.FoundLeaf.{HasFound}
+use Rattle.template.specs.Walk.Known.{WalkIsTold, WalkWaits}
+use Rattle.template.specs.Walk.Places.{root_trail, walk_at, walk_from}
+use Rattle.template.specs.declared.walk.Found.{Found}
+use Rattle.template.specs.declared.walk.Goal.TheVariants.{Key as ToKey}
+use Rattle.template.specs.declared.walk.WalkAt.TheVariants.{Start}
+use Rattle.template.specs.declared.walk.WalkRun.{WalkRun}
+use Rattle.template.proofs.Lemmas.{found_gives, walk_begins}
+use Rattle.tree.specs.Get.Known.{GetAnswers}
+use Rattle.tree.specs.declared.get.GetRun.{GetRun}
+use Rattle.dict.specs.DictKnown.{DictIsReady, DictWaits, DictAnswers}
+use Rattle.dict.specs.Typed.{IsTypedValue, TypedAllows}
+use Rattle.dict.specs.Words.{IsWord}
+use Rattle.dict.specs.declared.dict.DictRun.{DictRun}
+use Rattle.dict.specs.declared.reply.Reply.TheVariants as replies
+use Rattle.dict.specs.declared.told.WordReply.TheVariants as words
+use Rattle.dict.proofs.Lemmas.{get_ends, dict_ends}
+use Rattle.forest.specs.declared.pass.Pass.TheInside.{Inside}
+use Rattle.forest.specs.declared.view.SeatedPass.{SeatedPass}
+use Rattle.forest.specs.declared.view.SeatView.{SeatView}
+use Rattle.forest.specs.Passes.{taken_of}
+use Rattle.forest.specs.PassInvariant.{pass_view, IsPass}
+use Rattle.forest.specs.StraightGet.{getting}
+use Rattle.forest.specs.StraightWalk.{Walker, WalkerWaits, WalkerFinds}
+use Rattle.forest.specs.Traces.{CallBegins, HoldsForCall, Trace, goes_on}
+use Rattle.forest.proofs.DictCalls.{Answered, IsSameCall, dict_ended, dict_starts}
+use Rattle.forest.proofs.Entered.{HasEnded}
+use Rattle.forest.proofs.Passes.{call_of}
+use Rattle.forest.proofs.Places.{starts}
+
+module _ {K V : Type 0} (valid_key : K → Type 0) (key : K → ℕ) (valid_value : V → Type 0) (value_word : V → ℕ) where
+  abbrev pub allows : Layout → History → ℕ → Type 0
+  allows = TypedAllows (IsWord valid_key key) (IsWord valid_value value_word)
+
+  abbrev pub ready : DictRun K V → Call → History → Option ℕ → Type 0
+  ready = DictIsReady (IsWord valid_key key) (IsWord valid_value value_word)
+
+  abbrev pub waits : DictRun K V → Call → History → Step → Type 0
+  waits = DictWaits (IsWord valid_key key) (IsWord valid_value value_word)
+
+  abbrev pub same : DictRun K V → DictRun K V → Type 0
+  same = IsSameCall valid_key key valid_value value_word
+
+  module _ (share : Remaining) (tries wanted : ℕ) where
+    abbrev at : WalkRun → DictRun K V
+    at = getting share tries wanted
+
+    -- a call is one of a machine that walks
+    pub walker : (c : Call) (layout : Layout) (number : ℕ) → c.layout ≡ layout → c.number ≡ number → Walker allows ready waits same layout number
+    walker c layout number is_layout is_number = record {
+      call = c;
+      is_layout = is_layout;
+      is_number = is_number;
+      first = at (walk_at wanted root_trail Start);
+      with_walk = at;
+      tells = λ m h v x. (c, is_layout, x.1.1.0.0);
+      turns = λ m now h v s goal turn x. (x.0, (record { mode = x.1.0.mode; small = x.1.0.small; number = x.1.0.number; spent = x.1.0.spent }, ((turn c x.1.1.0.0, goal ∙ x.1.1.0.1), x.1.1.1)));
+      stays = λ m now goal. (refl, refl);
+    }
+
+  -- its machine waits for the head of the root
+  pub get_walks : {T : Type 0} (p : Inside T) (x : IsPass allows Tree p) (tries wanted number : ℕ) (layout : Layout) (is_layout : p.layout ≡ layout) (is_number : taken_of (pass_view p) ≡ number) → wanted < 2 ^ 64
+      → WalkerWaits allows ready waits same layout number (walker p.share tries wanted (call_of p x (taken_of (pass_view p))) layout number is_layout is_number) p.seat.me.0.passes (walk_from wanted) (load LoadSettled (node 0 Head))
+  unfolding walker
+  get_walks p x tries wanted number layout is_layout is_number small =
+      let first : DictRun K V = getting p.share tries wanted (walk_at wanted root_trail Start) in
+      let c : Call = call_of p x (taken_of (pass_view p)) in
+      starts allows ready waits same c p.seat.me.0.passes first (getting p.share tries wanted (walk_from wanted)) _ (refl, refl)
+      (λ h run r. (r.0, (record { mode = r.1.0.mode; small = r.1.0.small; number = r.1.0.number; spent = r.1.0.spent }, ((walk_begins wanted c h r.1.1.0.0.run r.1.1.0.0.small r.1.1.0.0.since, refl), r.1.1.1))))
+      (dict_starts valid_key key valid_value value_word p x first tt (refl, refl, refl, small) tt refl)
+
+  -- the value of its word
+  same_told : (told : Option ℕ) (v : Option V) → (IfSome told (IsWord valid_value value_word) → option_map value_word v ≡ told) → IsTypedValue (IsWord valid_value value_word) told → Some (OneValue (option_map value_word v)) ≡ Some (OneValue told)
+  same_told None v e t = ap (λ (o : Option ℕ). Some (OneValue o)) (e tt)
+  same_told (Some w) v e t = ap (λ (o : Option ℕ). Some (OneValue o)) (e t)
+
+  -- what its walk finds, it answers
+  pub get_ended : (share : Remaining) (tries wanted number : ℕ) (layout : Layout) (c : Call) (is_layout : c.layout ≡ layout) (is_number : c.number ≡ number) (ps : List SeatedPass) (f : Found) (v : Option V) → c.layout.mode ≡ Tree → IfSome v valid_value → (IfSome f.value (IsWord valid_value value_word) → option_map value_word v ≡ f.value)
+      → (x : WalkerFinds allows ready waits same layout number (walker share tries wanted c layout number is_layout is_number) ps wanted f)
+      → HoldsForCall allows ps c (λ h. DictAnswers valid_key key valid_value value_word (getting share tries wanted x.last) c h (replies.Value v) × Trace allows waits same c (getting share tries wanted (walk_at wanted root_trail Start)) (getting share tries wanted x.last) h)
+  unfolding walker
+  get_ended share tries wanted number layout c is_layout is_number ps f v mode valid same_word x =
+      record { known = x.so.known; is = x.so.is; sound = x.so.sound; so = (answers _ x.so.sound x.so.so.0, x.so.so.1) }
+    where
+      m : GetRun
+      m = record { key = wanted; walk = x.last }
+
+      answers : (h : History) → IsRun allows c.layout h → ready (getting share tries wanted x.last) c h (Some x.told) → DictAnswers valid_key key valid_value value_word (getting share tries wanted x.last) c h (replies.Value v)
+      answers h run r =
+          let t : WalkIsTold x.last c h x.told = r.1.1.0.0 in
+          let found : HasFound (ToKey wanted) c h f = x.finds c h t in
+          let got : GetAnswers m c h f.value = record { first = found.trail.node.first; own = found.trail.node.own; right = found_gives c h wanted f t.run (rw x.goal at t.small) found } in
+          dict_ends valid_key key valid_value value_word (getting share tries wanted x.last) c h (words.Value f.value) (replies.Value v) mode run
+          (get_ends tries c h m share f.value r.1.1.1 r.1.0.spent got) valid (λ typed. same_told f.value v same_word typed) (inl refl)
+
+  -- and so it has ended
+  pub get_has_ended : {T : Type 0} (p : Inside T) (x : IsPass allows Tree p) (s : Seat ℕ SeatView) (tries wanted number : ℕ) (layout : Layout) (is_layout : p.layout ≡ layout) (is_number : taken_of (pass_view p) ≡ number) (f : Found) (v : Option V) → IfSome v valid_value → (IfSome f.value (IsWord valid_value value_word) → option_map value_word v ≡ f.value)
+      → (y : WalkerFinds allows ready waits same layout number (walker p.share tries wanted (call_of p x (taken_of (pass_view p))) layout number is_layout is_number) s.me.0.passes wanted f)
+      → HasEnded allows p s (taken_of (pass_view p)) (Answered valid_key key valid_value value_word p x s (getting p.share tries wanted y.last) (replies.Value v))
+  unfolding walker
+  get_has_ended p x s tries wanted number layout is_layout is_number f v valid same_word y =
+      (dict_ended valid_key key valid_value value_word p x s (getting p.share tries wanted y.last) (replies.Value v) (getting p.share tries wanted (walk_at wanted root_trail Start))
+      (get_ended p.share tries wanted number layout (call_of p x (taken_of (pass_view p))) is_layout is_number s.me.0.passes f v x.is_mode valid same_word y)).0

@@ -1,0 +1,83 @@
+-- From place to place of a walk, of whatever machine walks.
+use Rattle.std.proofs.Common.{◌≡◌, ◌≢◌, ℕ, suc, ◌+◌, ◌*◌, ◌-◌, ◌<◌, ◌≤◌, true, false, cond, ltb, List, length, Option, None, Some, refl, sym, subst, arith}
+use Rattle.arena.specs.declared.head.Head.{Head as HeadParts}
+use Rattle.arena.specs.declared.layout.Layout.{Layout}
+use Rattle.arena.specs.declared.step.Kind.TheVariants.{LoadSettled, LoadChild}
+use Rattle.arena.specs.declared.step.Step.{Step}
+use Rattle.arena.specs.declared.word.Side.{Side}
+use Rattle.arena.specs.declared.word.Side.TheVariants.{Left, Right}
+use Rattle.arena.specs.declared.word.NodeWord.TheVariants.{Head as HeadWord, Key as KeyWord, Value as ValueWord, Child as ChildWord}
+use Rattle.arena.specs.Heads.{head_of}
+use Rattle.arena.specs.History.{History}
+use Rattle.arena.specs.Machines.{Call, IsRun}
+use Rattle.arena.specs.TakenNodes.{taken_nodes}
+use Rattle.arena.specs.Words.{node}
+use Rattle.prims.specs.Llx.Known.{load}
+use Rattle.template.specs.Walk.Known.{WalkIsTold, WalkWaits}
+use Rattle.template.specs.Walk.Laws.{walk_told}
+use Rattle.template.specs.Walk.Places.{walk_at, walk_from, trail_below, LoadsHead}
+use Rattle.template.specs.Walk.Steps.{walk_left, WalkFitsAt}
+use Rattle.template.specs.declared.walk.Goal.TheVariants.{Key as ToKey}
+use Rattle.template.specs.declared.walk.Trail.{Trail}
+use Rattle.template.specs.declared.walk.WalkAt.{WalkAt}
+use Rattle.template.specs.declared.walk.WalkAt.TheVariants.{Start, Root, Head, Key, Child, Value}
+use Rattle.template.specs.declared.walk.WalkRun.{WalkRun}
+use Rattle.template.proofs.Lemmas.{head_to_key, head_ends, head_to_child, key_to_child, key_to_value, key_ends, value_ends, child_to_head}
+use Rattle.forest.specs.declared.view.SeatedPass.{SeatedPass}
+use Rattle.forest.specs.StraightWalk.{Walker, WalkerWaits, WalkerIsTold, WalkerFinds}
+use Rattle.forest.specs.Traces.{goes_on, shared_nodes}
+use Rattle.forest.proofs.Advances.{few_taken}
+
+module _ {M : Type 0} (allows : Layout → History → ℕ → Type 0) (ready : M → Call → History → Option ℕ → Type 0) (waits : M → Call → History → Step → Type 0) (same : M → M → Type 0) (layout : Layout) (number : ℕ) (w : Walker allows ready waits same layout number) (ps : List SeatedPass) where
+  -- an edge takes it from place to place
+  goes : (m now : WalkRun) (v : ℕ) (s : Step) → now.goal ≡ m.goal → ((d : Call) (h : History) → WalkIsTold m d h v → WalkWaits now d h s) → WalkerIsTold allows ready waits same layout number w ps m v → WalkerWaits allows ready waits same layout number w ps now s
+  goes m now v s goal edge x = record { known = x.known; is = x.is; sound = x.sound; so = (w.turns m now _ v s goal (λ d. edge d _) x.so.0, goes_on (w.with_walk m) (w.stays m now goal) x.so.1) }
+
+  module _ (key : ℕ) (t : Trail) where
+    pub to_key : (p : WalkAt) (v : ℕ) (head : HeadParts) → LoadsHead p → head_of v ≡ head → head.class ≡ 0 → WalkerIsTold allows ready waits same layout number w ps (walk_at key t p) v → WalkerWaits allows ready waits same layout number w ps (walk_at key t (Key head)) (load LoadSettled (node t.node.0 KeyWord))
+    to_key p v head at is low = goes (walk_at key t p) (walk_at key t (Key head)) v _ refl (λ d h x. head_to_key key t d h p v head at is x low)
+
+    pub leaves : (p : WalkAt) (v : ℕ) (head : HeadParts) → LoadsHead p → head_of v ≡ head → head.class ≢ 0 → head.leaf ≡ true → WalkerIsTold allows ready waits same layout number w ps (walk_at key t p) v → WalkerFinds allows ready waits same layout number w ps key record { trail = t; head = head; key = 0; value = None }
+    leaves p v head at is high leaf x = record { last = walk_at key t p; goal = refl; told = v; finds = λ d h y. head_ends key t d h p v head at is y high leaf; so = x }
+
+    pub to_left : (p : WalkAt) (v : ℕ) (head : HeadParts) → LoadsHead p → head_of v ≡ head → head.class ≢ 0 → head.leaf ≡ false → WalkerIsTold allows ready waits same layout number w ps (walk_at key t p) v → WalkerWaits allows ready waits same layout number w ps (walk_at key t (Child head.level Left)) (load LoadChild (node t.node.0 (ChildWord Left)))
+    to_left p v head at is high fork = goes (walk_at key t p) (walk_at key t (Child head.level Left)) v _ refl (λ d h x. head_to_child key t d h p v head at is x high fork)
+
+    pub to_side : (head : HeadParts) (low : ℕ) (side : Side) → side ≡ cond (ltb key low) Left Right → head.leaf ≡ false → WalkerIsTold allows ready waits same layout number w ps (walk_at key t (Key head)) low → WalkerWaits allows ready waits same layout number w ps (walk_at key t (Child head.level side)) (load LoadChild (node t.node.0 (ChildWord side)))
+    to_side head low side is fork = goes (walk_at key t (Key head)) (walk_at key t (Child head.level side)) low _ refl (λ d h x. key_to_child key t d h head low x side is fork)
+
+    pub to_value : (head : HeadParts) (low : ℕ) → head.leaf ≡ true → key ≡ low → WalkerIsTold allows ready waits same layout number w ps (walk_at key t (Key head)) low → WalkerWaits allows ready waits same layout number w ps (walk_at key t (Value head low)) (load LoadSettled (node t.node.0 ValueWord))
+    to_value head low leaf is = goes (walk_at key t (Key head)) (walk_at key t (Value head low)) low _ refl (λ d h x. key_to_value key t d h head low x leaf is)
+
+    pub finds_other : (head : HeadParts) (low : ℕ) → head.leaf ≡ true → key ≢ low → WalkerIsTold allows ready waits same layout number w ps (walk_at key t (Key head)) low → WalkerFinds allows ready waits same layout number w ps key record { trail = t; head = head; key = low; value = None }
+    finds_other head low leaf other x = record { last = walk_at key t (Key head); goal = refl; told = low; finds = λ d h y. key_ends key t d h head low y leaf other; so = x }
+
+    pub finds_value : (head : HeadParts) (low v : ℕ) → WalkerIsTold allows ready waits same layout number w ps (walk_at key t (Value head low)) v → WalkerFinds allows ready waits same layout number w ps key record { trail = t; head = head; key = low; value = Some v }
+    finds_value head low v x = record { last = walk_at key t (Value head low); goal = refl; told = v; finds = λ d h y. value_ends key t d h head low v y; so = x }
+
+    pub to_head : (level : ℕ) (side : Side) (n : ℕ) → WalkerIsTold allows ready waits same layout number w ps (walk_at key t (Child level side)) n → WalkerWaits allows ready waits same layout number w ps (walk_at key (trail_below t side n) (Head level)) (load LoadSettled (node n HeadWord))
+    to_head level side n = goes (walk_at key t (Child level side)) (walk_at key (trail_below t side n) (Head level)) n _ refl (λ d h x. child_to_head key t d h level side n x)
+
+  -- what it is told leads it no deeper than the taken nodes allow
+  pub fits : (m : WalkRun) (v : ℕ) → WalkerIsTold allows ready waits same layout number w ps m v → WalkFitsAt m.at v (shared_nodes layout)
+  fits m v x =
+      let y = w.tells m _ v x.so.0 in
+      walk_told m y.0 _ (Some v) (shared_nodes layout) y.2.run.1 y.2 (few_taken allows layout w.call _ w.is_layout x.sound)
+
+-- a node's head, and what is loaded behind it, take at most three steps
+pub fewer : (p : WalkAt) (v nodes : ℕ) (head : HeadParts) → LoadsHead p → head_of v ≡ head → WalkFitsAt p v nodes → head.level + 1 < 2 + nodes → 3 + walk_left (Head head.level) nodes ≤ walk_left p nodes
+fewer Root v nodes head x is fits deep = omega (arith, deep)
+fewer (Head above) v nodes head x is fits deep = let rises : above < head.level = subst (λ (k : HeadParts). above < k.level) is fits.0 in omega (arith, rises, deep)
+fewer Start v nodes head x is fits deep = absurd x
+fewer (Key k) v nodes head x is fits deep = absurd x
+fewer (Child low side) v nodes head x is fits deep = absurd x
+fewer (Value k low) v nodes head x is fits deep = absurd x
+
+-- and one node takes three
+pub some_left : (p : WalkAt) (v nodes : ℕ) → LoadsHead p → WalkFitsAt p v nodes → 2 ≤ walk_left p nodes
+some_left Root v nodes x fits = omega arith
+some_left (Head above) v nodes x fits = let a = fits.0 in let b = fits.1 in omega (arith, a, b)
+some_left Start v nodes x fits = absurd x
+some_left (Key k) v nodes x fits = absurd x
+some_left (Child low side) v nodes x fits = absurd x
+some_left (Value k low) v nodes x fits = absurd x

@@ -1,0 +1,45 @@
+-- Calls that stand at a place of a walk, of whatever machine that walks.
+use Rattle.std.specs.Prelude.{◌≡◌, ℕ, List, Option, Some}
+use Rattle.arena.specs.declared.layout.Layout.{Layout}
+use Rattle.arena.specs.declared.step.Step.{Step}
+use Rattle.arena.specs.History.{History}
+use Rattle.arena.specs.Machines.{Call}
+use Rattle.template.specs.FoundLeaf.{HasFound}
+use Rattle.template.specs.Walk.Known.{WalkIsTold, WalkWaits}
+use Rattle.template.specs.declared.walk.Found.{Found}
+use Rattle.template.specs.declared.walk.Goal.TheVariants.{Key as ToKey}
+use Rattle.template.specs.declared.walk.WalkRun.{WalkRun}
+use Rattle.forest.specs.declared.view.SeatedPass.{SeatedPass}
+use Rattle.forest.specs.Traces.{Waits, Told}
+
+module _ {M : Type 0} (allows : Layout → History → ℕ → Type 0) (ready : M → Call → History → Option ℕ → Type 0) (waits : M → Call → History → Step → Type 0) (same : M → M → Type 0) (layout : Layout) (number : ℕ) where
+  -- A call of a machine that walks, of this layout and number.
+  pub record Walker : Type 0 where
+    pub call : Call
+    pub is_layout : call.layout ≡ layout
+    pub is_number : call.number ≡ number
+    -- the machine with which it began, and that with its walk at some place
+    pub first : M
+    pub with_walk : WalkRun → M
+    -- what the machine is told, its walk is told, in a call of its own
+    pub tells : (m : WalkRun) (h : History) (v : ℕ) → ready (with_walk m) call h (Some v) → (d : Call) × (d.layout ≡ layout) × WalkIsTold m d h v
+    -- what its walk then waits for, the machine does
+    pub turns : (m now : WalkRun) (h : History) (v : ℕ) (s : Step) → now.goal ≡ m.goal → ((d : Call) → WalkIsTold m d h v → WalkWaits now d h s) → ready (with_walk m) call h (Some v) → waits (with_walk now) call h s
+    pub stays : (m now : WalkRun) → now.goal ≡ m.goal → same (with_walk m) (with_walk now)
+
+  module _ (w : Walker) (ps : List SeatedPass) where
+    -- its walk waits for this step
+    abbrev pub WalkerWaits : WalkRun → Step → Type 0
+    WalkerWaits m step = Waits allows waits same w.call ps w.first (w.with_walk m) step
+
+    -- the step of its walk has told v
+    abbrev pub WalkerIsTold : WalkRun → ℕ → Type 0
+    WalkerIsTold m v = Told allows waits same w.call ps w.first ready (w.with_walk m) v
+
+    -- the last step of its walk to a key has told what makes this leaf the one that it has found
+    pub record WalkerFinds (key : ℕ) (f : Found) : Type 0 where
+      pub last : WalkRun
+      pub goal : last.goal ≡ ToKey key
+      pub told : ℕ
+      pub finds : (d : Call) (h : History) → WalkIsTold last d h told → HasFound (ToKey key) d h f
+      pub so : WalkerIsTold last told

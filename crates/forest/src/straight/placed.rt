@@ -1,0 +1,32 @@
+//! Steps of a call whose machine stands nowhere: clauses alone say where it would stand.
+ghost use Rattle.std.specs.Prelude.{◌≡◌, suc};
+ghost use Rattle.arena.specs.Machines.{Call};
+ghost use Rattle.forest.specs.TableRule.{IsTableOf};
+ghost use Rattle.forest.specs.Traces.{Waits, Told, seat_steps};
+
+use crate::rule::Asked;
+use crate::view::SeatView;
+use crate::words::Words;
+use arena::{Layout, Machine, Shape, Step};
+use atomic_table::Seat;
+use std::marker::Brand;
+
+/// Makes the step for which a machine of this type waits, and answers what it may be told.
+#[inline(always)]
+pub(crate) fn step<S: Shape, M: Machine<S>>(
+    words: &Words<S>,
+    layout: &Layout,
+    seat: &mut Seat<u8, SeatView>,
+    number: u64,
+    step: Step,
+) -> u64
+    requires table { IsTableOf words.now.table.shared.table_id words.now.table.shared.key layout.now × (seat.old.table_id ≡ words.now.table.shared.table_id) }
+    requires waits { (c : Call) × (first : M) × (m : M) × (c.layout ≡ layout.now) × (c.number ≡ number) × Waits S.allows M.waits M.same c seat.old.me.0.passes first m step }
+    ensures table { (seat.new.table_id ≡ seat.old.table_id) × (seat.new.me.1 ≡ seat.old.me.1) }
+    ensures told { (c : Call) (first m : M) → c.layout ≡ layout.now → c.number ≡ number → Waits S.allows M.waits M.same c seat.old.me.0.passes first m step → Told S.allows M.waits M.same c seat.new.me.0.passes first M.ready m result }
+    ensures one { seat_steps seat.new.me.0.passes ≡ suc (seat_steps seat.old.me.0.passes) }
+{
+    let at = layout.place(step.word);
+    let asked = Asked { call: number, step };
+    words.make::<Brand>(seat, &asked, at)
+}

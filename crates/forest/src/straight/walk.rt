@@ -1,0 +1,173 @@
+//! Walks to a key, of whatever machine walks.
+ghost use Rattle.std.specs.Prelude.{◌≡◌, ℕ, ◌≤◌, ◌+◌, ◌*◌, suc, true, cond, ltb, IfOk, IfErr};
+ghost use Rattle.arena.specs.Heads.{head_of};
+ghost use Rattle.forest.specs.TableRule.{IsTableOf};
+ghost use Rattle.forest.specs.Traces.{seat_steps, shared_nodes};
+ghost use Rattle.forest.specs.StraightWalk.{Walker, WalkerWaits, WalkerIsTold, WalkerFinds};
+ghost use Rattle.prims.specs.Llx.Known.{load};
+ghost use Rattle.template.specs.declared.walk.WalkRun.{WalkRun};
+ghost use Rattle.template.specs.Walk.Places.{walk_at, walk_from, LoadsHead};
+
+use crate::straight::placed::step;
+use crate::view::SeatView;
+use crate::words::Words;
+use arena::{Access, Head, Kind, Layout, Machine, NodeNo, NodeWord, Shape, Side, Step, Word};
+use atomic_table::Seat;
+use template::{Found, Trail, WalkAt};
+
+/// Loads a word of a node.
+#[inline(always)]
+fn read<S: Shape, M: Machine<S>>(
+    words: &Words<S>,
+    layout: &Layout,
+    seat: &mut Seat<u8, SeatView>,
+    number: u64,
+    kind: Kind,
+    node: NodeNo,
+    part: NodeWord,
+) -> u64
+    requires table { IsTableOf words.now.table.shared.table_id words.now.table.shared.key layout.now × (seat.old.table_id ≡ words.now.table.shared.table_id) }
+    requires waits { (w : Walker S.allows M.ready M.waits M.same layout.now number) × (m : WalkRun) × WalkerWaits S.allows M.ready M.waits M.same layout.now number w seat.old.me.0.passes m (load kind (Word.Node node part)) }
+    ensures table { (seat.new.table_id ≡ seat.old.table_id) × (seat.new.me.1 ≡ seat.old.me.1) }
+    ensures one { seat_steps seat.new.me.0.passes ≡ suc (seat_steps seat.old.me.0.passes) }
+    ensures told { (w : Walker S.allows M.ready M.waits M.same layout.now number) (m : WalkRun) → WalkerWaits S.allows M.ready M.waits M.same layout.now number w seat.old.me.0.passes m (load kind (Word.Node node part)) → WalkerIsTold S.allows M.ready M.waits M.same layout.now number w seat.new.me.0.passes m result }
+{
+    let word = Word::Node(node, part);
+    let access = Access::Load;
+    step::<S, M>(words, layout, seat, number, Step { kind, word, access })
+}
+
+/// On which side of a fork with this key the walk goes on.
+#[inline(always)]
+fn side_of(wanted: u64, key: u64) -> Side
+    ensures { result ≡ cond (ltb wanted key) Side.Left Side.Right }
+{
+    if wanted < key {
+        Side::Left
+    } else {
+        Side::Right
+    }
+}
+
+/// Ends at a leaf of class 0 that has this key.
+#[inline(always)]
+fn end<S: Shape, M: Machine<S>>(
+    words: &Words<S>,
+    layout: &Layout,
+    seat: &mut Seat<u8, SeatView>,
+    number: u64,
+    wanted: u64,
+    trail: Trail,
+    head: Head,
+    key: u64,
+) -> Found
+    requires table { IsTableOf words.now.table.shared.table_id words.now.table.shared.key layout.now × (seat.old.table_id ≡ words.now.table.shared.table_id) }
+    requires leaf { head.leaf ≡ true }
+    requires told { (w : Walker S.allows M.ready M.waits M.same layout.now number) × WalkerIsTold S.allows M.ready M.waits M.same layout.now number w seat.old.me.0.passes (walk_at wanted trail (WalkAt.Key head)) key }
+    ensures table { (seat.new.table_id ≡ seat.old.table_id) × (seat.new.me.1 ≡ seat.old.me.1) }
+    ensures steps { seat_steps seat.new.me.0.passes ≤ seat_steps seat.old.me.0.passes + 1 }
+    ensures finds { (w : Walker S.allows M.ready M.waits M.same layout.now number) → WalkerIsTold S.allows M.ready M.waits M.same layout.now number w seat.old.me.0.passes (walk_at wanted trail (WalkAt.Key head)) key → WalkerFinds S.allows M.ready M.waits M.same layout.now number w seat.new.me.0.passes wanted result }
+{
+    if wanted != key {
+        return Found {
+            trail,
+            head,
+            key,
+            value: None,
+        };
+    }
+    let (kind, part) = (Kind::LoadSettled, NodeWord::Value);
+    let value = read::<S, M>(words, layout, seat, number, kind, trail.node, part);
+    Found {
+        trail,
+        head,
+        key,
+        value: Some(value),
+    }
+}
+
+/// Goes on behind the head of a node: on a side of a fork, or to the end at a leaf.
+#[inline(always)]
+fn pass<S: Shape, M: Machine<S>>(
+    words: &Words<S>,
+    layout: &Layout,
+    seat: &mut Seat<u8, SeatView>,
+    number: u64,
+    wanted: u64,
+    trail: Trail,
+    at: WalkAt,
+    head: Head,
+) -> Result<Side, Found>
+    requires place { LoadsHead at }
+    requires table { IsTableOf words.now.table.shared.table_id words.now.table.shared.key layout.now × (seat.old.table_id ≡ words.now.table.shared.table_id) }
+    requires told { (w : Walker S.allows M.ready M.waits M.same layout.now number) × (v : ℕ) × (head_of v ≡ head) × WalkerIsTold S.allows M.ready M.waits M.same layout.now number w seat.old.me.0.passes (walk_at wanted trail at) v }
+    ensures table { (seat.new.table_id ≡ seat.old.table_id) × (seat.new.me.1 ≡ seat.old.me.1) }
+    ensures steps { IfOk result (λ _. seat_steps seat.new.me.0.passes ≤ seat_steps seat.old.me.0.passes + 1) }
+    ensures last_steps { IfErr result (λ _. seat_steps seat.new.me.0.passes ≤ seat_steps seat.old.me.0.passes + 2) }
+    ensures down { IfOk result (λ side. (w : Walker S.allows M.ready M.waits M.same layout.now number) (v : ℕ) → head_of v ≡ head → WalkerIsTold S.allows M.ready M.waits M.same layout.now number w seat.old.me.0.passes (walk_at wanted trail at) v → WalkerWaits S.allows M.ready M.waits M.same layout.now number w seat.new.me.0.passes (walk_at wanted trail (WalkAt.Child head.level side)) (load Kind.LoadChild (Word.Node trail.node (NodeWord.Child side)))) }
+    ensures finds { IfErr result (λ found. (w : Walker S.allows M.ready M.waits M.same layout.now number) (v : ℕ) → head_of v ≡ head → WalkerIsTold S.allows M.ready M.waits M.same layout.now number w seat.old.me.0.passes (walk_at wanted trail at) v → WalkerFinds S.allows M.ready M.waits M.same layout.now number w seat.new.me.0.passes wanted found) }
+{
+    if head.class != 0 {
+        if head.leaf {
+            return Err(Found {
+                trail,
+                head,
+                key: 0,
+                value: None,
+            });
+        }
+        return Ok(Side::Left);
+    }
+    let (kind, part) = (Kind::LoadSettled, NodeWord::Key);
+    let key = read::<S, M>(words, layout, seat, number, kind, trail.node, part);
+    if head.leaf {
+        return Err(end::<S, M>(words, layout, seat, number, wanted, trail, head, key));
+    }
+    Ok(side_of(wanted, key))
+}
+
+/// The walk from the root to the leaf where a key stands, or would stand.
+#[inline(always)]
+pub(crate) fn call<S: Shape, M: Machine<S>>(
+    words: &Words<S>,
+    layout: &Layout,
+    seat: &mut Seat<u8, SeatView>,
+    number: u64,
+    wanted: u64,
+) -> Found
+    requires table { IsTableOf words.now.table.shared.table_id words.now.table.shared.key layout.now × (seat.old.table_id ≡ words.now.table.shared.table_id) }
+    requires waits { (w : Walker S.allows M.ready M.waits M.same layout.now number) × WalkerWaits S.allows M.ready M.waits M.same layout.now number w seat.old.me.0.passes (walk_from wanted) (load Kind.LoadSettled (Word.Node record { 0 = 0 } NodeWord.Head)) }
+    ensures table { (seat.new.table_id ≡ seat.old.table_id) × (seat.new.me.1 ≡ seat.old.me.1) }
+    ensures steps { seat_steps seat.new.me.0.passes ≤ seat_steps seat.old.me.0.passes + 3 * (2 + shared_nodes layout.now) }
+    ensures finds { (w : Walker S.allows M.ready M.waits M.same layout.now number) → WalkerWaits S.allows M.ready M.waits M.same layout.now number w seat.old.me.0.passes (walk_from wanted) (load Kind.LoadSettled (Word.Node record { 0 = 0 } NodeWord.Head)) → WalkerFinds S.allows M.ready M.waits M.same layout.now number w seat.new.me.0.passes wanted result }
+{
+    let layout = *layout;
+    let root = NodeNo(0);
+    let mut trail = Trail {
+        grand: root,
+        grand_side: Side::Left,
+        parent: root,
+        side: Side::Left,
+        node: root,
+    };
+    let mut at = WalkAt::Root;
+    loop {
+        let node = trail.node;
+        let (kind, part) = (Kind::LoadSettled, NodeWord::Head);
+        let head = Head::of(read::<S, M>(words, &layout, seat, number, kind, node, part));
+        let side = match pass::<S, M>(words, &layout, seat, number, wanted, trail, at, head) {
+            Ok(side) => side,
+            Err(found) => return found,
+        };
+        let (kind, part) = (Kind::LoadChild, NodeWord::Child(side));
+        let child = read::<S, M>(words, &layout, seat, number, kind, node, part);
+        trail = Trail {
+            grand: trail.parent,
+            grand_side: trail.side,
+            parent: node,
+            side,
+            node: NodeNo(child),
+        };
+        at = WalkAt::Head { above: head.level };
+    }
+}

@@ -1,0 +1,4 @@
+-- What the layers above know of updates beside their clauses, passed on from one place: no other
+-- module of these proofs can be named outside. Declares nothing.
+pub use Rattle.updates.proofs.Filling.{fills_next}
+pub use Rattle.updates.proofs.Turns.{fills_word}
