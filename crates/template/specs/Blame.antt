@@ -22,9 +22,9 @@ pub record HasCome (h start : History) (n s : ℕ) : Type 0 where
 abbrev pub IsOverOrNew : History → History → ℕ → ℕ → Type 0
 IsOverOrNew h start n s = (value h (state s) ≢ 0) ⊎ HasCome h start n s
 
--- The SCX-record s is another pass's, and covered the node n while in progress, after some row since
--- the call's begin; it is finished now, or has come to n since then. So calls one behind the other
--- name s no more than once for each node that it covers, and once when it is finished.
+-- The SCX-record s is another pass's, and covered the node n while in progress, after some row
+-- since the call's begin; it is finished now, or has come to n since then. So calls one behind the
+-- other name s no more than once for each node that it covers, and once when it is finished.
 pub record IsContended (c : Call) (h : History) (n s : ℕ) : Type 0 where
   pub others : IsOthersScx c.layout c.pass s
   pub in_the_way : WasInTheWay h c.start n s
