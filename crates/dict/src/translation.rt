@@ -61,7 +61,7 @@ pub fn pairs_of<K: WordKey, V: WordValue>(
 }
 
 /// A reply in words as one of keys and values.
-pub(crate) fn translated<K: WordKey, V: WordValue>(
+pub fn translated<K: WordKey, V: WordValue>(
     alloc: Option<Global>,
     reply: WordReply,
 ) -> Reply<K, V>

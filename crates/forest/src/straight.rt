@@ -6,5 +6,6 @@ pub(crate) mod helping;
 pub(crate) mod llx;
 pub(crate) mod placed;
 pub(crate) mod scx;
+pub(crate) mod updating;
 pub(crate) mod vlx;
 pub(crate) mod walk;
