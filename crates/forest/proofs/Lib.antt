@@ -26,3 +26,4 @@ mod StraightUpdate
 mod Versions
 mod DictCalls
 mod StraightGet
+mod StraightCalls

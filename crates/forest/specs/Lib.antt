@@ -10,6 +10,7 @@ pub mod StraightVlx
 pub mod StraightWalk
 pub mod StraightGet
 pub mod StraightUpdate
+pub mod StraightCalls
 pub mod Traces
 pub mod TableRule
 pub mod JoinedSeats
