@@ -2,3 +2,4 @@
 -- place: no other module of these proofs can be named outside. Declares nothing.
 pub use Rattle.dict.proofs.Ends.{insert_ends, delete_ends, get_ends}
 pub use Rattle.dict.proofs.DictEnds.{dict_ends}
+pub use Rattle.dict.proofs.Endings.{edit_spends}

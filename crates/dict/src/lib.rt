@@ -24,5 +24,5 @@ pub use request::Request;
 pub use run::MapRun;
 pub use shape::Dict;
 pub use told::WordReply;
-pub use translation::{pairs_of, value_of};
+pub use translation::{pairs_of, translated, value_of};
 pub use value::WordValue;

@@ -23,9 +23,11 @@ mod StraightHelp
 mod StraightScx
 mod StraightVlx
 mod StraightWalk
+mod StraightUpdate
 mod Versions
 mod DictCalls
 mod OpenCalls
 mod OpenSteps
 mod OpenBegins
 mod StraightGet
+mod StraightCalls

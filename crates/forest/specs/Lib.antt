@@ -9,6 +9,8 @@ pub mod StraightScx
 pub mod StraightVlx
 pub mod StraightWalk
 pub mod StraightGet
+pub mod StraightUpdate
+pub mod StraightCalls
 pub mod Traces
 pub mod TableRule
 pub mod JoinedSeats

@@ -17,8 +17,7 @@ ghost use Rattle.forest.specs.Traces.{shared_nodes};
 use crate::fault::{NewFault, OrderFault, UpdateFault};
 use crate::forest::Forest;
 use crate::pass::Pass;
-use crate::steps::whole;
-use crate::straight::walk;
+use crate::straight::{calls, walk};
 use arena::{Limits, Mode, NoMemory, Share};
 use dict::{Dict, DictRun, Reply, Request, WordKey, WordValue, value_of};
 use std::alloc::Global;
@@ -177,7 +176,7 @@ impl<K: WordKey, V: WordValue> Forest<Dict<K, V>> {
         let number = pass.taken();
         let share = replace(&mut pass.share, Share::of(&self.layout, pass.number));
         let run = DictRun::new(alloc, request, share, self.tries, number);
-        let (run, reply) = whole(&self.words, &self.layout, &mut pass.seat, number, run);
+        let (run, reply) = calls::call(&self.words, &self.layout, &mut pass.seat, number, run);
         pass.share = run.into_share();
         pass.blamed.note_reply(&reply);
         reply

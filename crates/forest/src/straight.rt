@@ -2,9 +2,11 @@
 //! place, so the machine's conditions say what is known there; the machine itself never runs, but
 //! where something is in the way: it goes on from that place.
 
+pub(crate) mod calls;
 pub(crate) mod helping;
 pub(crate) mod llx;
 pub(crate) mod placed;
 pub(crate) mod scx;
+pub(crate) mod updating;
 pub(crate) mod vlx;
 pub(crate) mod walk;

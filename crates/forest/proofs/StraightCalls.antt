@@ -1,0 +1,155 @@
+-- Whole calls of a dictionary whose updates are straight.
+use Rattle.std.proofs.Common.{◌≡◌, ℕ, ◌^◌, ◌<◌, List, Option, None, Some, refl, sym, subst, ap, ◌∙◌}
+use Rattle.arena.specs.declared.layout.Layout.{Layout}
+use Rattle.arena.specs.declared.machine.Turn.{Turn}
+use Rattle.arena.specs.declared.machine.Turn.TheVariants.{Ask, Done}
+use Rattle.arena.specs.declared.step.Step.{Step}
+use Rattle.arena.specs.History.{History}
+use Rattle.arena.specs.Machines.{Call, IsRun}
+use Rattle.spelling.specs.OrderedMap.{MapCall, Edit, Insert as InsertEdit, Delete as DeleteEdit}
+use Rattle.tree.specs.Delete.Means.{delete_means}
+use Rattle.tree.specs.Insert.Means.{insert_means}
+use Rattle.tree.specs.declared.delete.Delete.{Delete as Deleted}
+use Rattle.tree.specs.declared.insert.Insert.{Insert as Inserted}
+use Rattle.updates.specs.Steps.{node_tries, scx_tries}
+use Rattle.updates.specs.declared.update.UpdateRun.{UpdateRun}
+use Rattle.updates.specs.declared.update.Updated.{Updated}
+use Rattle.dict.specs.Known.{Goes}
+use Rattle.dict.specs.Typed.{IsTypedCall}
+use Rattle.dict.specs.TypedMaps.{typed_run}
+use Rattle.dict.specs.Words.{IsWord, IsValidReply}
+use Rattle.dict.specs.declared.dict.DictRun.{DictRun}
+use Rattle.dict.specs.declared.run.MapRun.TheVariants.{Insert, Delete}
+use Rattle.dict.specs.Translated.{IsTranslated, HasFormOf}
+use Rattle.dict.specs.WordReplies.{update_reply}
+use Rattle.dict.specs.declared.reply.Reply.{Reply}
+use Rattle.dict.specs.declared.told.WordReply.{WordReply}
+use Rattle.dict.proofs.Lemmas.{insert_ends, delete_ends, edit_spends, dict_ends}
+use Rattle.forest.specs.declared.view.SeatedPass.{SeatedPass}
+use Rattle.forest.specs.StraightCalls.{DictAllows, DictCallIsReady, DictCallWaits, IsSameDictCall, SeatDictBegins, SeatDictEnds, SeatUpdateStands}
+use Rattle.forest.specs.StraightUpdate.{Updater, HasGoneOn, UpdaterBegins, UpdaterStands}
+use Rattle.forest.specs.TableRule.{history_of}
+use Rattle.forest.specs.Traces.{begins, goes_on}
+
+module _ {K V : Type 0} (valid_key : K → Type 0) (key : K → ℕ) (valid_value : V → Type 0) (value_word : V → ℕ) where
+  abbrev allows : Layout → History → ℕ → Type 0
+  allows = DictAllows valid_key key valid_value value_word
+
+  abbrev ready : DictRun K V → Call → History → Option ℕ → Type 0
+  ready = DictCallIsReady valid_key key valid_value value_word
+
+  abbrev waits : DictRun K V → Call → History → Step → Type 0
+  waits = DictCallWaits valid_key key valid_value value_word
+
+  abbrev same : DictRun K V → DictRun K V → Type 0
+  same = IsSameDictCall valid_key key valid_value value_word
+
+  abbrev keys : ℕ → Type 0
+  keys = IsWord valid_key key
+
+  abbrev values : ℕ → Type 0
+  values = IsWord valid_value value_word
+
+  module _ (machine : DictRun K V) (c : Call) (layout : Layout) (number : ℕ) (is_layout : c.layout ≡ layout) (is_number : c.number ≡ number) where
+    -- Inserts
+
+    abbrev inserting : UpdateRun Inserted → DictRun K V
+    inserting m = record machine { run = Insert m }
+
+    insert_call : Inserted → MapCall
+    insert_call e = Edit (InsertEdit e.key e.value)
+
+    insert_goes : (old now : UpdateRun Inserted) → HasGoneOn allows ready waits same insert_means layout number old now (node_tries now now.at) (scx_tries now now.at) → Goes (Insert old) machine.tries c → Goes (Insert now) machine.tries c
+    insert_goes old now on x = record {
+      mode = x.mode;
+      small = subst (λ (e : Inserted). e.key < 2 ^ 64) (sym on.edit) x.small;
+      number = on.called ∙ x.number;
+      spent = edit_spends c 3 old.share now.share machine.tries (node_tries old old.at) (node_tries now now.at) (scx_tries old old.at) (scx_tries now now.at) x.spent on.spends;
+    }
+
+    pub inserter : Updater allows ready waits same insert_means layout number
+    unfolding insert_call
+    inserter = record {
+      call = c;
+      is_layout = is_layout;
+      is_number = is_number;
+      tree = λ h run. typed_run keys values c.layout h run;
+      first = machine;
+      with_run = inserting;
+      tells = λ m h got x. x.1.1;
+      turns = λ old now h got s on x w. (subst (λ (e : Inserted). IsTypedCall keys values (insert_call e)) (sym on.edit) x.0, (insert_goes old now on x.1.0, w));
+      stays = λ old now e. (ap insert_call e, refl);
+    }
+
+    pub insert_begins : (ps : List SeatedPass) (m : UpdateRun Inserted) → machine.run ≡ Insert m → SeatDictBegins valid_key key valid_value value_word c ps machine → UpdaterBegins allows ready waits same insert_means layout number inserter ps m
+    unfolding inserter
+    insert_begins ps m is x = record { known = x.known; is = x.is; sound = x.sound; so = (subst (λ r. ready (record machine { run = r }) c (history_of c.layout.mode x.known) None) is x.so.1, begins (λ i. record machine { run = sym is i }) (sym x.so.0)) }
+
+    pub insert_stands : (ps : List SeatedPass) (m : UpdateRun Inserted) (turn : Turn Updated) → UpdaterStands allows ready waits same insert_means layout number inserter ps m turn → SeatUpdateStands valid_key key valid_value value_word c ps machine (inserting m) turn
+    unfolding inserter insert_call
+    insert_stands ps m (Ask s) x = x
+    insert_stands ps m (Done a) x = let y = x.so in record {
+      known = x.known;
+      is = x.is;
+      sound = x.sound;
+      so = (
+        (y.was.1.0.mode, insert_ends machine.tries c _ y.old m a (typed_run keys values c.layout _ x.sound) y.was.1.0 y.goes.edit y.goes.called y.goes.spends y.answers),
+        goes_on (inserting y.old) (ap insert_call y.goes.edit, refl) y.course,
+      );
+    }
+
+    -- Deletes
+
+    abbrev deleting : UpdateRun Deleted → DictRun K V
+    deleting m = record machine { run = Delete m }
+
+    delete_call : Deleted → MapCall
+    delete_call e = Edit (DeleteEdit e.key)
+
+    delete_goes : (old now : UpdateRun Deleted) → HasGoneOn allows ready waits same delete_means layout number old now (node_tries now now.at) (scx_tries now now.at) → Goes (Delete old) machine.tries c → Goes (Delete now) machine.tries c
+    delete_goes old now on x = record {
+      mode = x.mode;
+      small = subst (λ (e : Deleted). e.key < 2 ^ 64) (sym on.edit) x.small;
+      number = on.called ∙ x.number;
+      spent = edit_spends c 1 old.share now.share machine.tries (node_tries old old.at) (node_tries now now.at) (scx_tries old old.at) (scx_tries now now.at) x.spent on.spends;
+    }
+
+    pub deleter : Updater allows ready waits same delete_means layout number
+    unfolding delete_call
+    deleter = record {
+      call = c;
+      is_layout = is_layout;
+      is_number = is_number;
+      tree = λ h run. typed_run keys values c.layout h run;
+      first = machine;
+      with_run = deleting;
+      tells = λ m h got x. x.1.1;
+      turns = λ old now h got s on x w. (subst (λ (e : Deleted). IsTypedCall keys values (delete_call e)) (sym on.edit) x.0, (delete_goes old now on x.1.0, w));
+      stays = λ old now e. (ap delete_call e, refl);
+    }
+
+    pub delete_begins : (ps : List SeatedPass) (m : UpdateRun Deleted) → machine.run ≡ Delete m → SeatDictBegins valid_key key valid_value value_word c ps machine → UpdaterBegins allows ready waits same delete_means layout number deleter ps m
+    unfolding deleter
+    delete_begins ps m is x = record { known = x.known; is = x.is; sound = x.sound; so = (subst (λ r. ready (record machine { run = r }) c (history_of c.layout.mode x.known) None) is x.so.1, begins (λ i. record machine { run = sym is i }) (sym x.so.0)) }
+
+    pub delete_stands : (ps : List SeatedPass) (m : UpdateRun Deleted) (turn : Turn Updated) → UpdaterStands allows ready waits same delete_means layout number deleter ps m turn → SeatUpdateStands valid_key key valid_value value_word c ps machine (deleting m) turn
+    unfolding deleter delete_call
+    delete_stands ps m (Ask s) x = x
+    delete_stands ps m (Done a) x = let y = x.so in record {
+      known = x.known;
+      is = x.is;
+      sound = x.sound;
+      so = (
+        (y.was.1.0.mode, delete_ends machine.tries c _ y.old m a (typed_run keys values c.layout _ x.sound) y.was.1.0 y.goes.edit y.goes.called y.goes.spends y.answers),
+        goes_on (deleting y.old) (ap delete_call y.goes.edit, refl) y.course,
+      );
+    }
+
+  -- an update that has answered is told as a reply of keys and values
+  pub replies : (c : Call) (ps : List SeatedPass) (first m : DictRun K V) (a : Updated) (w : WordReply) (r : Reply K V) → w ≡ update_reply a → IsValidReply valid_key valid_value r → IsTranslated valid_key key valid_value value_word w r → HasFormOf w r → SeatUpdateStands valid_key key valid_value value_word c ps first m (Done a) → SeatDictEnds valid_key key valid_value value_word c ps first m r
+  replies c ps first m a w r is valid says form x = record {
+    known = x.known;
+    is = x.is;
+    sound = x.sound;
+    so = (dict_ends valid_key key valid_value value_word m c _ w r x.so.0.0 x.sound (rw is x.so.0.1) valid says form, x.so.1);
+  }

@@ -1,0 +1,111 @@
+-- From place to place of an update, of whatever machine updates.
+use Rattle.std.proofs.Common.{◌≡◌, ℕ, ◌+◌, ◌^◌, ◌<◌, ◌≤◌, List, Option, None, Some, inl, refl, sym, arith, ◌∙◌}
+use Rattle.arena.specs.declared.layout.Layout.{Layout}
+use Rattle.arena.specs.declared.machine.Turn.{Turn}
+use Rattle.arena.specs.declared.machine.Turn.TheVariants.{Ask, Done}
+use Rattle.arena.specs.declared.step.Kind.TheVariants.{LoadSettled}
+use Rattle.arena.specs.declared.step.Step.{Step}
+use Rattle.arena.specs.declared.word.NodeWord.TheVariants.{Head}
+use Rattle.arena.specs.History.{History, Extends}
+use Rattle.arena.specs.Machines.{Call, IsRun, MatchTurn}
+use Rattle.arena.specs.Words.{node}
+use Rattle.arena.proofs.Lemmas.{ends_self}
+use Rattle.prims.specs.Laws.Idle.{quiet_at_start}
+use Rattle.prims.specs.Llx.Known.{load}
+use Rattle.spelling.specs.TreeShape.{TreeAllows}
+use Rattle.template.specs.FoundLeaf.{HasFound}
+use Rattle.template.specs.Walk.Known.{WalkIsTold, WalkWaits}
+use Rattle.template.specs.Walk.Places.{walk_from}
+use Rattle.template.specs.declared.walk.Found.{Found}
+use Rattle.template.specs.declared.walk.Goal.TheVariants.{Key as ToKey}
+use Rattle.template.specs.declared.walk.WalkRun.{WalkRun}
+use Rattle.template.proofs.Lemmas.{own_since, walk_begins}
+use Rattle.updates.specs.Edits.{EditMeaning}
+use Rattle.updates.specs.Known.{Begins, IsUntouched, UpdateIsReady, UpdateWaits, UpdateTurn, Walks}
+use Rattle.updates.specs.Laws.HandScx.{from}
+use Rattle.updates.specs.Laws.Kept.{idle_over}
+use Rattle.updates.specs.Steps.{IsSpending}
+use Rattle.updates.specs.Tries.{IsTry}
+use Rattle.updates.specs.declared.update.UpdateAt.TheVariants.{Start, Walk}
+use Rattle.updates.specs.declared.update.UpdateRun.{UpdateRun}
+use Rattle.updates.specs.declared.update.Updated.{Updated}
+use Rattle.prims.specs.Laws.Idle.{IsQuietSince}
+use Rattle.forest.specs.declared.view.SeatedPass.{SeatedPass}
+use Rattle.forest.specs.StraightUpdate.{Updater, UpdaterBegins, UpdaterWaits, UpdaterStands}
+use Rattle.forest.specs.StraightWalk.{Walker, WalkerWaits, WalkerFinds}
+use Rattle.forest.specs.TableRule.{history_of}
+use Rattle.forest.specs.Traces.{HoldsForCall, Trace, goes_on}
+use Rattle.forest.proofs.Advances.{turn_map}
+
+module _ {M E : Type 0} (allows : Layout → History → ℕ → Type 0) (ready : M → Call → History → Option ℕ → Type 0) (waits : M → Call → History → Step → Type 0) (same : M → M → Type 0) (e : EditMeaning E) (layout : Layout) (number : ℕ) (u : Updater allows ready waits same e layout number) where
+  -- the update with its walk at a place
+  abbrev pub walking : UpdateRun E → WalkRun → UpdateRun E
+  walking m walk = record m { at = Walk walk }
+
+  -- a machine that updates walks
+  pub walker : UpdateRun E → Walker allows ready waits same layout number
+  walker m = record {
+    call = u.call;
+    is_layout = u.is_layout;
+    is_number = u.is_number;
+    first = u.first;
+    with_walk = λ walk. u.with_run (walking m walk);
+    tells = λ walk h v x. let y = u.tells (walking m walk) h (Some v) x in (from u.call y.0, u.is_layout, y.3.1);
+    turns = λ walk now h v s goal turn x.
+        let y = u.tells (walking m walk) h (Some v) x in
+        let w = y.3.0 in
+        u.turns (walking m walk) (walking m now) h (Some v) s record { edit = refl; called = refl; spends = (omega arith, omega arith) } x
+        (y.0, y.1, y.2, (record { small = w.small; rests = w.rests; quiet = w.quiet; same = goal ∙ w.same }, turn (from u.call y.0) y.3.1));
+    stays = λ walk now goal. u.stays (walking m walk) (walking m now) refl;
+  }
+
+  -- an update that may begin begins its walk
+  pub walks : (ps : List SeatedPass) (m : UpdateRun E) (key : ℕ) → e.goal m.edit ≡ ToKey key → UpdaterBegins allows ready waits same e layout number u ps m → WalkerWaits allows ready waits same layout number (walker m) ps (walk_from key) (load LoadSettled (node 0 Head))
+  unfolding walker
+  walks ps m key goal x = record {
+    known = x.known;
+    is = x.is;
+    sound = x.sound;
+    so = (
+      (let r = u.tells m _ None x.so.0 in u.turns m (walking m (walk_from key)) _ None _ record { edit = refl; called = refl; spends = (rw r.3 (omega arith), rw r.3 (omega arith)) } x.so.0 (waiting _ r)),
+      goes_on (u.with_run m) (u.stays m (walking m (walk_from key)) refl) x.so.1,
+    );
+  }
+    where
+      waiting : (h : History) → UpdateIsReady e m u.call h None → UpdateWaits e (walking m (walk_from key)) u.call h (load LoadSettled (node 0 Head))
+      waiting h r =
+          let b = r.0 in (
+            h,
+            r.1,
+            inl r.2,
+            (
+              record { small = b.small; rests = record { share = b.rests.share; over = b.rests.over }; quiet = quiet_at_start u.call.layout u.call.pass h (idle_over u.call h b.run.1.lawful b.rests.over); same = sym goal },
+              walk_begins key (from u.call h) h b.run (rw goal at b.small) (ends_self h),
+            ),
+          )
+
+  -- behind its walk it goes on as its turn says
+  pub finds : (ps : List SeatedPass) (m now : UpdateRun E) (key : ℕ) (f : Found) (turn : Turn Updated) → e.goal m.edit ≡ ToKey key → now.edit ≡ m.edit → now.call ≡ m.call → IsSpending e turn m.share now (m.tries + 1) (m.tries + 1)
+      → ((b h : History) → IsRun TreeAllows u.call.layout h → IsTry u.call b → IsUntouched u.call b m.share → Begins e m (from u.call b) h → IsQuietSince u.call.layout u.call.pass b h → HasFound (e.goal m.edit) (from u.call b) h f → UpdateTurn e u.call h now turn)
+      → WalkerFinds allows ready waits same layout number (walker m) ps key f → UpdaterStands allows ready waits same e layout number u ps now turn
+  unfolding walker
+  finds ps m now key f turn goal edit called spends next x =
+      turns turn spends (next y.0 _ (u.tree _ x.so.sound) y.1 y.2 record { run = w.1.run; small = w.0.small; since = own_since (from u.call y.0) _ w.1.own; rests = record { share = w.0.rests.share; over = w.0.rests.over } } w.0.quiet (rw goal (x.finds (from u.call y.0) _ w.1)))
+    where
+      y : UpdateIsReady e (walking m x.last) u.call (history_of u.call.layout.mode x.so.known) (Some x.told)
+      y = u.tells (walking m x.last) _ (Some x.told) x.so.so.0
+
+      w : Walks e (walking m x.last) (from u.call y.0) (history_of u.call.layout.mode x.so.known) x.last.goal × WalkIsTold x.last (from u.call y.0) (history_of u.call.layout.mode x.so.known) x.told
+      w = y.3
+
+      turns : (t : Turn Updated) → IsSpending e t m.share now (m.tries + 1) (m.tries + 1) → UpdateTurn e u.call (history_of u.call.layout.mode x.so.known) now t → UpdaterStands allows ready waits same e layout number u ps now t
+      turns (Ask s) spent z = record { known = x.so.known; is = x.so.is; sound = x.so.sound; so = (u.turns (walking m x.last) now _ (Some x.told) s record { edit = edit; called = called; spends = spent } x.so.so.0 z, goes_on (u.with_run (walking m x.last)) (u.stays (walking m x.last) now edit) x.so.so.1) }
+      turns (Done a) spent z = record { known = x.so.known; is = x.so.is; sound = x.so.sound; so = record { old = walking m x.last; got = Some x.told; was = x.so.so.0; goes = record { edit = edit; called = called; spends = spent }; answers = z; course = x.so.so.1 } }
+
+  -- it stands at its start
+  pub stands_at_start : (ps : List SeatedPass) (m : UpdateRun E) → UpdaterBegins allows ready waits same e layout number u ps m → m.at ≡ Start
+  stands_at_start ps m x = (u.tells m _ None x.so.0).3
+
+-- its steps are those of its walk, and those that are left behind it
+pub walk_steps : (now old walk left tries rest : ℕ) → now ≤ old + walk → left ≤ tries + rest → now + left ≤ old + (tries + (walk + rest))
+walk_steps now old walk left tries rest a b = omega (arith, a, b)

@@ -1,0 +1,68 @@
+-- Calls that stand at a place of an update, of whatever machine updates.
+use Rattle.std.specs.Prelude.{◌≡◌, ℕ, List, Option, Some, None}
+use Rattle.arena.specs.declared.layout.Layout.{Layout}
+use Rattle.arena.specs.declared.machine.Turn.{Turn}
+use Rattle.arena.specs.declared.step.Step.{Step}
+use Rattle.arena.specs.History.{History}
+use Rattle.arena.specs.Machines.{Call, IsRun, MatchTurn}
+use Rattle.spelling.specs.TreeShape.{TreeAllows}
+use Rattle.updates.specs.Edits.{EditMeaning}
+use Rattle.updates.specs.Known.{UpdateIsReady, UpdateWaits, UpdateAnswers}
+use Rattle.updates.specs.Steps.{Spends, node_tries, scx_tries}
+use Rattle.updates.specs.declared.update.UpdateRun.{UpdateRun}
+use Rattle.updates.specs.declared.update.Updated.{Updated}
+use Rattle.forest.specs.declared.view.SeatedPass.{SeatedPass}
+use Rattle.forest.specs.Traces.{Trace, HoldsForCall, Waits, Told}
+
+module _ {M E : Type 0} (allows : Layout → History → ℕ → Type 0) (ready : M → Call → History → Option ℕ → Type 0) (waits : M → Call → History → Step → Type 0) (same : M → M → Type 0) (e : EditMeaning E) (layout : Layout) (number : ℕ) where
+  -- The second run is the same update further on: of the share no more is taken than may be, where
+  -- so many tries may still take nodes, and so many an SCX-record.
+  pub record HasGoneOn (old now : UpdateRun E) (nodes scx : ℕ) : Type 0 where
+    pub edit : now.edit ≡ old.edit
+    pub called : now.call ≡ old.call
+    pub spends : Spends e.most_nodes old.share now.share (node_tries old old.at) nodes (scx_tries old old.at) scx
+
+  -- A call of a machine that updates, of this layout and number.
+  pub record Updater : Type 0 where
+    pub call : Call
+    pub is_layout : call.layout ≡ layout
+    pub is_number : call.number ≡ number
+    pub tree : (h : History) → IsRun allows call.layout h → IsRun TreeAllows call.layout h
+    -- the machine with which it began, and that with its update as it stands
+    pub first : M
+    pub with_run : UpdateRun E → M
+    -- what the machine is told, its update is told
+    pub tells : (m : UpdateRun E) (h : History) (got : Option ℕ) → ready (with_run m) call h got → UpdateIsReady e m call h got
+    -- what its update then waits for, the machine does, where no more of the share is taken than may
+    pub turns : (old now : UpdateRun E) (h : History) (got : Option ℕ) (s : Step) → HasGoneOn old now (node_tries now now.at) (scx_tries now now.at) → ready (with_run old) call h got → UpdateWaits e now call h s → waits (with_run now) call h s
+    pub stays : (old now : UpdateRun E) → now.edit ≡ old.edit → same (with_run old) (with_run now)
+
+  -- the machine's update as it was when it was told of the last step, behind which it has answered
+  pub record HasAnswered (u : Updater) (m : UpdateRun E) (a : Updated) (h : History) : Type 0 where
+    pub old : UpdateRun E
+    pub got : Option ℕ
+    pub was : ready (u.with_run old) u.call h got
+    pub goes : HasGoneOn old m 0 0
+    pub answers : UpdateAnswers e m u.call h a
+    pub course : Trace allows waits same u.call u.first (u.with_run old) h
+
+  module _ (u : Updater) (ps : List SeatedPass) where
+    -- its update has not begun
+    abbrev pub UpdaterBegins : UpdateRun E → Type 0
+    UpdaterBegins m = HoldsForCall allows ps u.call (λ h. ready (u.with_run m) u.call h None × Trace allows waits same u.call u.first (u.with_run m) h)
+
+    -- its update waits for this step
+    abbrev pub UpdaterWaits : UpdateRun E → Step → Type 0
+    UpdaterWaits m step = Waits allows waits same u.call ps u.first (u.with_run m) step
+
+    -- the step of its update has told v
+    abbrev pub UpdaterIsTold : UpdateRun E → ℕ → Type 0
+    UpdaterIsTold m v = Told allows waits same u.call ps u.first ready (u.with_run m) v
+
+    -- its update has answered, behind the last step that it was told of
+    abbrev pub UpdaterEnds : UpdateRun E → Updated → Type 0
+    UpdaterEnds m a = HoldsForCall allows ps u.call (λ h. HasAnswered u m a h)
+
+    -- its update waits for the step of this turn, or has answered as the turn says
+    abbrev pub UpdaterStands : UpdateRun E → Turn Updated → Type 0
+    UpdaterStands m turn = MatchTurn turn (UpdaterWaits m) (UpdaterEnds m)
