@@ -10,6 +10,11 @@
 
 using Word = std::uint64_t;
 
+// A word that threads share. `steps.cpp` has one of its own, which tells what is done with it.
+#ifndef SHARED_WORD
+#define SHARED_WORD std::atomic<Word>
+#endif
+
 enum NodeWord : Word { HEAD, KEY, VALUE, LEFT, RIGHT, INFO, MARKED, NODE_WORDS };
 
 // An SCX-record has room for four nodes and for the info word that was found in each of them.
@@ -81,7 +86,7 @@ public:
         : first_node_(opening),
           scx_base_(NODE_WORDS * (opening + passes * SHARE)),
           size_(scx_base_ + SCX_WORDS * (FIRST_SCX + passes * SHARE)),
-          words_(new std::atomic<Word>[size_]) {
+          words_(new SHARED_WORD[size_]) {
         for (Word at = 0; at < size_; at++) words_[at].store(0, std::memory_order_relaxed);
         store(scx(0, STATE), ABORTED);
     }
@@ -160,5 +165,5 @@ private:
     }
 
     Word first_node_, scx_base_, size_;
-    std::unique_ptr<std::atomic<Word>[]> words_;
+    std::unique_ptr<SHARED_WORD[]> words_;
 };
