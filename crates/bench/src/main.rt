@@ -1,4 +1,4 @@
-//! Times whole calls of a forest: `bench WORK THREADS CALLS TIMES`.
+//! Times whole calls of a forest: `bench WORK THREADS CALLS TIMES KEYS`.
 #![tactic(auto)]
 
 mod call;

@@ -72,8 +72,8 @@ fn task_of(words: &[String], work: Work) -> Result<Task, Fault> {
     })
 }
 
-/// The number that the word at this place says, from a least one to a most, or the usual one where
-/// there is no such word.
+/// The number that the word at this place says, within these bounds, or the usual one where there is
+/// no such word.
 fn number_at(words: &[String], place: usize, bounds: (u32, u32), usual: u32) -> Result<u32, Fault>
     requires some { bounds.0 ≤ usual }
     requires within { usual ≤ bounds.1 }
