@@ -6,6 +6,6 @@ use Rattle.std.specs.Str.Parse.{IsNumeral, digits_value, without_leading_plus}
 abbrev pub number_in : List ℕ → ℕ
 number_in word = digits_value 10 (without_leading_plus word)
 
--- the word is such digits alone, and its number is from 1 to `most`
-abbrev pub IsNumberUpTo : ℕ → List ℕ → Type 0
-IsNumberUpTo most word = IsNumeral 10 (without_leading_plus word) × (1 ≤ number_in word) × (number_in word ≤ most)
+-- the word is such digits alone, and its number is from `least` to `most`
+abbrev pub IsNumberWithin : ℕ → ℕ → List ℕ → Type 0
+IsNumberWithin least most word = IsNumeral 10 (without_leading_plus word) × (least ≤ number_in word) × (number_in word ≤ most)

@@ -1,11 +1,15 @@
-//! Times whole calls of a forest: `bench WORK THREADS CALLS TIMES`.
+//! Times whole calls of a forest: `bench WORK THREADS CALLS TIMES KEYS`.
 #![tactic(auto)]
 
-mod crowd;
+mod call;
+mod cells;
+mod dictionary;
+mod draws;
 mod fault;
 mod measure;
 mod pair;
 mod program;
+mod repetition;
 mod round;
 mod tally;
 mod task;

@@ -1,10 +1,10 @@
 //! A measurement.
 ghost use Rattle.std.specs.Prelude.{◌≡◌, ◌≤◌, ◌<◌, ◌/◌, length, slice_get, Some};
 ghost use Rattle.std.specs.List.Sorted.{IsNonDecreasingBy, IsPermutation};
-ghost use Rattle.bench.specs.declared.crowd.Repetition.{Repetition};
+ghost use Rattle.bench.specs.declared.repetition.Repetition.{Repetition};
 
-use crate::crowd::{Repetition, run};
 use crate::fault::Fault;
+use crate::repetition::{Repetition, run};
 use crate::tally::Tally;
 use crate::task::Task;
 use std::fmt;
@@ -12,10 +12,11 @@ use std::rt::Clock;
 use std::thread::Threads;
 
 /// The names of a row's fields.
-pub const HEADER: &str = "structure,work,threads,calls,times,median_ns,best_ns,done,lost,fail";
+pub const HEADER: &str =
+    "structure,work,keys,threads,calls,times,median_ns,best_ns,done,lost,fail,checksum";
 
 /// What the repetitions of a task took, and how the rounds of the fastest ended.
-#[derive(Clone, Copy, Debug)]
+#[derive(Clone, Copy)]
 pub struct Measurement {
     /// What was measured.
     pub task: Task,
@@ -28,14 +29,17 @@ pub struct Measurement {
 }
 
 /// The time of a round in tenths of a nanosecond.
-#[derive(Clone, Copy, Debug, PartialEq, Eq)]
+#[derive(Clone, Copy)]
 pub struct PerCall(pub u128);
 
 impl PerCall {
-    fn of(nanos: u128, calls: u32) -> PerCall
-        requires { 1 ≤ calls }
-    {
-        PerCall(nanos.saturating_mul(10) / u128::from(calls))
+    /// That of a repetition which took so long. None is told where the task asks for none.
+    fn of(nanos: u128, task: Task) -> PerCall {
+        if task.times == 0 {
+            PerCall(0)
+        } else {
+            PerCall(nanos.saturating_mul(10) / u128::from(task.calls))
+        }
     }
 }
 
@@ -50,18 +54,8 @@ impl fmt::Display for PerCall {
 /// The row of the measurement.
 impl fmt::Display for Measurement {
     fn fmt<W: fmt::Write>(&self, f: &mut fmt::Formatter<W>) -> fmt::Result {
-        let Task {
-            work,
-            threads,
-            calls,
-            times,
-        } = self.task;
-        let Tally { done, lost, fail } = self.tally;
-        let (name, median, best) = (work.name(), self.median, self.best);
-        write!(
-            f,
-            "regnubas,{name},{threads},{calls},{times},{median},{best},{done},{lost},{fail}"
-        )
+        let (task, median, best, tally) = (self.task, self.median, self.best, self.tally);
+        write!(f, "regnubas,{task},{median},{best},{tally}")
     }
 }
 
@@ -71,7 +65,7 @@ pub fn measure<R: Threads + Sync + Clock + AllocGlobal>(
     task: Task,
 ) -> Result<Measurement, Fault> {
     let mut runs = Vec::new(rt.alloc());
-    for _time in 0..task.times {
+    for _time in 0..task.times.max(1) {
         runs.push(run(rt, task)?)?;
     }
     Ok(summary(task, &mut runs))
@@ -84,8 +78,8 @@ fn summary(task: Task, runs: &mut [Repetition]) -> Measurement
     let (best, median) = best_and_median(runs);
     Measurement {
         task,
-        median: PerCall::of(median.nanos, task.calls),
-        best: PerCall::of(best.nanos, task.calls),
+        median: PerCall::of(median.nanos, task),
+        best: PerCall::of(best.nanos, task),
         tally: best.tally,
     }
 }

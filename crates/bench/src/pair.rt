@@ -1,11 +1,11 @@
 //! The cells of a thread.
 ghost use Rattle.std.specs.Prelude.{◌≤◌, ◌≢◌};
 
-use crate::work::Work;
+use crate::work::CellWork;
 use arena::NodeNo;
 
 /// The two cells of a thread. Most works take the first alone.
-#[derive(Clone, Copy, Debug)]
+#[derive(Clone, Copy)]
 pub struct Pair {
     pub first: NodeNo,
     pub second: NodeNo,
@@ -16,13 +16,13 @@ pub struct Pair {
 impl Pair {
     /// The cells of the thread with this number, of those that do the work. Up to four threads have
     /// own cells that do not lie side by side, and so share no line of the cache.
-    pub fn of(work: Work, thread: u32) -> Pair {
+    pub fn of(work: CellWork, thread: u32) -> Pair {
         let number = u64::from(thread);
         let apart = 1 + 2 * (number % 4);
         let first = match work {
-            Work::Llx | Work::Own => apart + number / 4 % 2,
-            Work::Two => apart,
-            Work::Shared => 1,
+            CellWork::Llx | CellWork::Own => apart + number / 4 % 2,
+            CellWork::Two => apart,
+            CellWork::Shared => 1,
         };
         Pair {
             first: NodeNo(first),

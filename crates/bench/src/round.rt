@@ -1,11 +1,11 @@
-//! The rounds of a thread.
+//! The rounds of a thread on cells.
 ghost use Rattle.std.specs.Prelude.{◌≡◌, ◌≤◌};
 ghost use Rattle.forest.specs.Passes.{IsOf};
 ghost use Rattle.bench.specs.Tally.{total};
 
 use crate::pair::Pair;
 use crate::tally::{End, Tally};
-use crate::work::Work;
+use crate::work::CellWork;
 use arena::{NodeNo, Side};
 use forest::{Forest, Full, Pass};
 use prims::{Cells, Llx, Scx};
@@ -13,7 +13,7 @@ use prims::{Cells, Llx, Scx};
 /// All rounds of a thread.
 pub fn rounds(
     forest: &Forest<Cells>,
-    work: Work,
+    work: CellWork,
     calls: u32,
     mut pass: Pass<Cells>,
     pair: Pair,
@@ -28,14 +28,14 @@ pub fn rounds(
     tally
 }
 
-fn round(forest: &Forest<Cells>, work: Work, pass: &mut Pass<Cells>, pair: Pair) -> End
+fn round(forest: &Forest<Cells>, work: CellWork, pass: &mut Pass<Cells>, pair: Pair) -> End
     requires { IsOf forest.now pass.old }
     ensures { IsOf forest.now pass.new }
 {
     match work {
-        Work::Llx => look(forest, pass, pair.first),
-        Work::Own | Work::Shared => put(forest, pass, pair.first),
-        Work::Two => put_in_first(forest, pass, pair),
+        CellWork::Llx => look(forest, pass, pair.first),
+        CellWork::Own | CellWork::Shared => put(forest, pass, pair.first),
+        CellWork::Two => put_in_first(forest, pass, pair),
     }
 }
 

@@ -2,9 +2,10 @@
 ghost use Rattle.std.specs.Prelude.{◌≤◌};
 
 use crate::work::Work;
+use std::fmt;
 
 /// A work, which so many threads do in so many rounds each, in so many forests one after the other.
-#[derive(Clone, Copy, Debug)]
+#[derive(Clone, Copy)]
 pub struct Task {
     /// What a thread does in each round.
     pub work: Work,
@@ -12,10 +13,29 @@ pub struct Task {
     pub threads: u32,
     /// How many rounds each of them makes.
     pub calls: u32,
-    /// How many forests are made and timed.
+    /// How many forests are made and timed. With 0 there is one, and no time is told.
     pub times: u32,
+    /// How many keys there are, of which a dictionary has half at the start.
+    pub keys: u32,
     ghost some_thread: { 1 ≤ threads },
     ghost passes: { threads ≤ 32 },
     ghost some_call: { 1 ≤ calls },
-    ghost some_time: { 1 ≤ times },
+    ghost some_key: { 1 ≤ keys },
+}
+
+/// The fields of a row that say what is measured. Of cells 0 keys are told.
+impl fmt::Display for Task {
+    fn fmt<W: fmt::Write>(&self, f: &mut fmt::Formatter<W>) -> fmt::Result {
+        let (name, threads, calls, times) = (
+            self.work.name(),
+            self.threads,
+            self.calls,
+            self.times,
+        );
+        let keys = match self.work {
+            Work::Cells(_) => 0,
+            Work::Tree(_) => self.keys,
+        };
+        write!(f, "{name},{keys},{threads},{calls},{times}")
+    }
 }

@@ -1,11 +1,7 @@
-//! What no clause says: the words, the text of a row, and small runs.
-use crate::crowd::run;
+//! What no clause says of the words. The stored run of the program has a row of each work.
 use crate::fault::Fault;
-use crate::measure::{Measurement, PerCall};
-use crate::tally::Tally;
 use crate::task::Task;
 use crate::words::tasks_of;
-use crate::work::Work;
 use std::alloc::{AllocError, Global};
 
 /// The tasks of words that stand behind the program's name, one space between two of them.
@@ -27,8 +23,10 @@ fn words_are_taken(rt: HostRuntime) -> Result<(), AllocError> {
         ("two 4 7", 1, (4, 7, 15)),
         ("shared 32 1 4294967295", 1, (32, 1, 4_294_967_295)),
         ("llx 8 4294967295", 1, (8, 4_294_967_295, 15)),
-        ("all 4", 4, (4, 1_000_000, 15)),
-        ("all 2 10 3", 4, (2, 10, 3)),
+        ("get 8 4294967295 15 100000", 1, (8, 4_294_967_295, 15)),
+        ("cells 4", 4, (4, 1_000_000, 15)),
+        ("tree 8 10 0 1", 7, (8, 10, 0)),
+        ("all 2 10 3", 11, (2, 10, 3)),
     ];
     for (words, count, numbers) in cases {
         let Ok(tasks) = asked(rt.alloc(), words)? else {
@@ -47,7 +45,7 @@ fn words_are_taken(rt: HostRuntime) -> Result<(), AllocError> {
 fn words_are_refused(rt: HostRuntime) -> Result<(), AllocError> {
     let cases = [
         "",
-        "tree",
+        "trees",
         "own 0",
         "own 9",
         "two 5",
@@ -57,8 +55,12 @@ fn words_are_refused(rt: HostRuntime) -> Result<(), AllocError> {
         "own 1 32769",
         "all 1 32769",
         "llx 1 4294967296",
-        "own 1 1 0",
-        "own 1 1 1 1",
+        "own 1 1 4294967296",
+        "own 1 1 1 1 1",
+        "get 9",
+        "get 1 1 1 0",
+        "get 1 1 1 100001",
+        "insert 1 10001",
         "own one",
         "own -1",
         "own 1.5",
@@ -68,49 +70,4 @@ fn words_are_refused(rt: HostRuntime) -> Result<(), AllocError> {
         assert_eq!(rt; refused, Some(Fault::Usage), "of {words}");
     }
     Ok(())
-}
-
-#[test]
-fn prints_a_row(rt: HostRuntime) -> Result<(), AllocError> {
-    let measurement = Measurement {
-        task: Task {
-            work: Work::Shared,
-            threads: 4,
-            calls: 30_000,
-            times: 15,
-        },
-        median: PerCall(1234),
-        best: PerCall(70),
-        tally: Tally {
-            done: 100_000,
-            lost: 19_000,
-            fail: 1_000,
-        },
-    };
-    let row = format!(in rt.alloc(); "{measurement}")?;
-    assert_eq!(rt;
-        row.as_str(),
-        "regnubas,shared,4,30000,15,123.4,7.0,100000,19000,1000"
-    );
-    Ok(())
-}
-
-#[test]
-fn each_round_is_counted(rt: HostRuntime) {
-    for work in Work::ALL {
-        let task = Task {
-            work,
-            threads: 2,
-            calls: 1000,
-            times: 1,
-        };
-        let Ok(made) = run(&rt, task) else {
-            panic!(rt; "no memory or no clock");
-        };
-        let Tally { done, lost, fail } = made.tally;
-        let all = done.saturating_add(lost).saturating_add(fail);
-        assert_eq!(rt; all, 2000, "{work:?}");
-        let alone = work != Work::Shared;
-        assert!(rt; !alone || done == 2000, "{work:?}");
-    }
 }

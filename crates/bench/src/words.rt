@@ -1,7 +1,7 @@
 //! The words of the command line.
 ghost use Rattle.std.specs.Prelude.{◌≤◌, IfOk};
 ghost use Rattle.std.specs.Result.{OkIff};
-ghost use Rattle.bench.specs.Words.{IsNumberUpTo, number_in};
+ghost use Rattle.bench.specs.Words.{IsNumberWithin, number_in};
 
 use crate::fault::Fault;
 use crate::task::Task;
@@ -11,12 +11,18 @@ use std::rt::Env;
 use std::{env, io};
 
 /// The most words that there may be, of which the first is the program's own name.
-const MOST_WORDS: usize = 5;
+const MOST_WORDS: usize = 6;
 
-/// How many threads there are, and how often all is done, where the words do not say it.
+/// How many threads there are, how often all is done, and how many keys there are, where the words
+/// do not say it.
 const USUAL_THREADS: u32 = 1;
 
 const USUAL_TIMES: u32 = 15;
+
+const USUAL_KEYS: u32 = 1000;
+
+/// The most keys: half of them fit the shares of five passes.
+const MOST_KEYS: u32 = 100_000;
 
 /// The words that the program was given, of which the first is its own name.
 pub fn words_of<R: Env + AllocGlobal>(rt: &R) -> Result<Vec<String>, Fault> {
@@ -43,7 +49,10 @@ pub fn tasks_of(alloc: Global, words: &[String]) -> Result<Vec<Task>, Fault> {
 
 fn asks_for(words: &[String], work: Work) -> bool {
     match words.get(1) {
-        Some(word) => word.as_str() == "all" || word.as_str() == work.name(),
+        Some(word) => {
+            let word = word.as_str();
+            word == "all" || word == work.kind() || word == work.name()
+        }
         None => false,
     }
 }
@@ -56,31 +65,33 @@ fn task_of(words: &[String], work: Work) -> Result<Task, Fault> {
     let bounds = work.bounds();
     Ok(Task {
         work,
-        threads: number_at(words, 2, bounds.threads, USUAL_THREADS)?,
-        calls: number_at(words, 3, bounds.calls, bounds.usual_calls)?,
-        times: number_at(words, 4, u32::MAX, USUAL_TIMES)?,
+        threads: number_at(words, 2, (1, bounds.threads), USUAL_THREADS)?,
+        calls: number_at(words, 3, (1, bounds.calls), bounds.usual_calls)?,
+        times: number_at(words, 4, (0, u32::MAX), USUAL_TIMES)?,
+        keys: number_at(words, 5, (1, MOST_KEYS), USUAL_KEYS)?,
     })
 }
 
-/// The number that the word at this place says, or the usual one where there is no such word.
-fn number_at(words: &[String], place: usize, most: u32, usual: u32) -> Result<u32, Fault>
-    requires some { 1 ≤ usual }
-    requires within { usual ≤ most }
-    ensures some { IfOk result (λ n. 1 ≤ n) }
-    ensures within { IfOk result (λ n. n ≤ most) }
+/// The number that the word at this place says, within these bounds, or the usual one where there is
+/// no such word.
+fn number_at(words: &[String], place: usize, bounds: (u32, u32), usual: u32) -> Result<u32, Fault>
+    requires some { bounds.0 ≤ usual }
+    requires within { usual ≤ bounds.1 }
+    ensures some { IfOk result (λ n. bounds.0 ≤ n) }
+    ensures within { IfOk result (λ n. n ≤ bounds.1) }
 {
     match words.get(place) {
-        Some(word) => number_of(word.as_str(), most),
+        Some(word) => number_of(word.as_str(), bounds.0, bounds.1),
         None => Ok(usual),
     }
 }
 
-/// The number from 1 to `most` that a word says in decimal digits.
-pub fn number_of(word: &str, most: u32) -> Result<u32, Fault>
-    ensures { OkIff result (IsNumberUpTo most word.now) (number_in word.now) }
+/// The number from `least` to `most` that a word says in decimal digits.
+pub fn number_of(word: &str, least: u32, most: u32) -> Result<u32, Fault>
+    ensures { OkIff result (IsNumberWithin least most word.now) (number_in word.now) }
 {
     match word.parse::<u32>() {
-        Ok(number) if 1 <= number && number <= most => Ok(number),
+        Ok(number) if least <= number && number <= most => Ok(number),
         _ => Err(Fault::Usage),
     }
 }

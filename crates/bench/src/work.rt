@@ -4,8 +4,17 @@ ghost use Rattle.std.specs.Prelude.{◌≤◌};
 use arena::Limits;
 
 /// What a thread does in each of its rounds.
-#[derive(Clone, Copy, Debug, PartialEq, Eq)]
+#[derive(Clone, Copy)]
 pub enum Work {
+    /// Calls on cells.
+    Cells(CellWork),
+    /// A call of a dictionary.
+    Tree(TreeWork),
+}
+
+/// What a thread does with cells.
+#[derive(Clone, Copy)]
+pub enum CellWork {
     /// LLX of a cell that no thread changes.
     Llx,
     /// LLX of a cell that no other thread has, and SCX of it.
@@ -16,8 +25,24 @@ pub enum Work {
     Shared,
 }
 
+/// What a thread does with a key that it draws.
+#[derive(Clone, Copy)]
+pub enum TreeWork {
+    /// It looks the key up.
+    Get,
+    /// In so many of a hundred rounds it looks the key up; in one half of the others it puts it in,
+    /// and in one half it takes it out.
+    Mix { looks: u64 },
+    /// It puts the key in.
+    Insert,
+    /// It looks for the pair behind the key.
+    Successor,
+    /// It looks for the first 64 pairs from the key on.
+    Range,
+}
+
 /// How much of a work may be asked for, and how many calls are measured where none are asked for.
-#[derive(Clone, Copy, Debug)]
+#[derive(Clone, Copy)]
 pub struct Bounds {
     /// The most threads.
     pub threads: u32,
@@ -33,29 +58,97 @@ pub struct Bounds {
 
 impl Work {
     /// Each work once.
-    pub const ALL: [Work; 4] = [Work::Llx, Work::Own, Work::Two, Work::Shared];
+    pub const ALL: [Work; 11] = [
+        Work::Cells(CellWork::Llx),
+        Work::Cells(CellWork::Own),
+        Work::Cells(CellWork::Two),
+        Work::Cells(CellWork::Shared),
+        Work::Tree(TreeWork::Get),
+        Work::Tree(TreeWork::Mix { looks: 90 }),
+        Work::Tree(TreeWork::Mix { looks: 50 }),
+        Work::Tree(TreeWork::Mix { looks: 0 }),
+        Work::Tree(TreeWork::Insert),
+        Work::Tree(TreeWork::Successor),
+        Work::Tree(TreeWork::Range),
+    ];
+
+    /// The word of the command line that asks for all works of its kind.
+    pub fn kind(self) -> &'static str {
+        match self {
+            Work::Cells(_) => "cells",
+            Work::Tree(_) => "tree",
+        }
+    }
 
     /// The word of the command line that asks for it.
     pub fn name(self) -> &'static str {
         match self {
-            Work::Llx => "llx",
-            Work::Own => "own",
-            Work::Two => "two",
-            Work::Shared => "shared",
+            Work::Cells(work) => work.name(),
+            Work::Tree(work) => work.name(),
+        }
+    }
+
+    pub fn bounds(self) -> Bounds {
+        match self {
+            Work::Cells(work) => work.bounds(),
+            Work::Tree(work) => work.bounds(),
+        }
+    }
+}
+
+impl CellWork {
+    fn name(self) -> &'static str {
+        match self {
+            CellWork::Llx => "llx",
+            CellWork::Own => "own",
+            CellWork::Two => "two",
+            CellWork::Shared => "shared",
         }
     }
 
     /// There are eight cells. A round with an SCX takes a node and an SCX-record, of which a thread
     /// has a share.
-    pub fn bounds(self) -> Bounds {
+    fn bounds(self) -> Bounds {
         let (threads, calls, usual_calls) = match self {
-            Work::Llx => (8, u32::MAX, 1_000_000),
-            Work::Own => (8, Limits::MOST_RECORDS, 30_000),
-            Work::Two => (4, Limits::MOST_RECORDS, 30_000),
-            Work::Shared => (Limits::MOST_PASSES, Limits::MOST_RECORDS, 30_000),
+            CellWork::Llx => (8, u32::MAX, 1_000_000),
+            CellWork::Own => (8, Limits::MOST_RECORDS, 30_000),
+            CellWork::Two => (4, Limits::MOST_RECORDS, 30_000),
+            CellWork::Shared => (Limits::MOST_PASSES, Limits::MOST_RECORDS, 30_000),
         };
         Bounds {
             threads,
+            calls,
+            usual_calls,
+        }
+    }
+}
+
+impl TreeWork {
+    fn name(self) -> &'static str {
+        match self {
+            TreeWork::Get => "get",
+            TreeWork::Mix { looks: 90 } => "mix90",
+            TreeWork::Mix { looks: 50 } => "mix50",
+            TreeWork::Mix { .. } => "mix0",
+            TreeWork::Insert => "insert",
+            TreeWork::Successor => "succ",
+            TreeWork::Range => "range64",
+        }
+    }
+
+    /// An insert takes three nodes at most and a delete one, of which a thread has a share.
+    fn bounds(self) -> Bounds {
+        let (calls, usual_calls) = match self {
+            TreeWork::Get => (u32::MAX, 100_000),
+            TreeWork::Mix { looks: 90 } => (200_000, 100_000),
+            TreeWork::Mix { looks: 50 } => (40_000, 20_000),
+            TreeWork::Mix { .. } => (20_000, 20_000),
+            TreeWork::Insert => (10_000, 10_000),
+            TreeWork::Successor => (u32::MAX, 20_000),
+            TreeWork::Range => (u32::MAX, 2_000),
+        };
+        Bounds {
+            threads: 8,
             calls,
             usual_calls,
         }

@@ -1,7 +1,7 @@
 use Rattle.std.proofs.Common.{arith, rules}
 use Rattle.std.proofs.lemmas.List.Sorted.{IsNonDecreasingBy-from_sort_by_key}
 use Rattle.std.proofs.lemmas.Option.{slice_get-get_or}
-use Rattle.bench.specs.declared.crowd.Repetition.{Repetition}
+use Rattle.bench.specs.declared.repetition.Repetition.{Repetition}
 use Rattle.bench.proofs.measure.best_and_median.Goals as goal
 
 pub returns-clause-order : goal.returns-clause-order

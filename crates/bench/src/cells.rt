@@ -1,42 +1,35 @@
-//! One repetition: the threads of one forest.
+//! One repetition on cells.
 ghost use Rattle.std.specs.Prelude.{◌≤◌, IfOk};
 ghost use Rattle.std.specs.List.{All};
 ghost use Rattle.forest.specs.Passes.{IsOf};
 
 use crate::fault::Fault;
 use crate::pair::Pair;
+use crate::repetition::{Repetition, nanos_since, now, numbered, sum};
 use crate::round::rounds;
 use crate::tally::Tally;
 use crate::task::Task;
+use crate::work::CellWork;
 use arena::Limits;
 use forest::{Forest, NewFault, Pass};
 use prims::Cells;
 use std::alloc::{AllocError, Global};
 use std::rt::Clock;
 use std::thread::{Threads, map_vec};
-use std::time::Instant;
-
-/// What a repetition took in nanoseconds, and how its rounds ended.
-#[derive(Clone, Copy, Debug)]
-pub struct Repetition {
-    /// The time from the threads' start to their end.
-    pub nanos: u128,
-    /// How the rounds of all threads ended.
-    pub tally: Tally,
-}
 
 /// Makes a forest, and lets the threads work in it. The making is not timed.
 pub fn run<R: Threads + Sync + Clock + AllocGlobal>(
     rt: &R,
     task: Task,
+    work: CellWork,
 ) -> Result<Repetition, Fault> {
     let (forest, passes) = open(rt.alloc(), task.threads)?;
     let passes = numbered(rt.alloc(), &forest, passes)?;
-    let start = Instant::now(rt).map_err(|_| Fault::Clock)?;
-    let tallies = crowd(rt, &forest, task, passes)?;
-    let took = start.elapsed(rt).map_err(|_| Fault::Clock)?;
+    let start = now(rt)?;
+    let tallies = crowd(rt, &forest, task.calls, work, passes)?;
+    let nanos = nanos_since(rt, start)?;
     Ok(Repetition {
-        nanos: took.as_nanos(),
+        nanos,
         tally: sum(&tallies),
     })
 }
@@ -61,29 +54,12 @@ fn open(alloc: Global, threads: u32) -> Result<(Forest<Cells>, Vec<Pass<Cells>>)
     }
 }
 
-/// Each pass with the number of its thread.
-fn numbered(
-    alloc: Global,
-    forest: &Forest<Cells>,
-    passes: Vec<Pass<Cells>>,
-) -> Result<Vec<(u32, Pass<Cells>)>, AllocError>
-    requires { All (IsOf forest.now) passes.items }
-    ensures { IfOk result (λ ps. All (λ p. IsOf forest.now p.1) ps.items) }
-{
-    let mut all = Vec::new(alloc);
-    let mut number: u32 = 0;
-    for pass in passes {
-        all.push((number, pass))?;
-        number = number.wrapping_add(1);
-    }
-    Ok(all)
-}
-
 /// Each pass works in a thread of its own.
 fn crowd<R: Threads + Sync>(
     rt: &R,
     forest: &Forest<Cells>,
-    task: Task,
+    calls: u32,
+    work: CellWork,
     passes: Vec<(u32, Pass<Cells>)>,
 ) -> Result<Vec<Tally>, AllocError>
     requires { All (λ p. IsOf forest.now p.1) passes.items }
@@ -92,21 +68,7 @@ fn crowd<R: Threads + Sync>(
         rt,
         passes,
         &|(number, pass): (u32, Pass<Cells>)| {
-            rounds(
-                forest,
-                task.work,
-                task.calls,
-                pass,
-                Pair::of(task.work, number),
-            )
+            rounds(forest, work, calls, pass, Pair::of(work, number))
         },
     )
-}
-
-fn sum(tallies: &[Tally]) -> Tally {
-    let mut all = Tally::default();
-    for tally in tallies {
-        all.add(*tally);
-    }
-    all
 }

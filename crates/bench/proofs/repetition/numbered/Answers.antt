@@ -1,10 +1,10 @@
 use Rattle.std.proofs.Common.{ℕ, sym, [], ◌∷◌, ◌++◌}
 use Rattle.std.proofs.lemmas.List.Elements.{All-head, All-rest, All-same, All-push}
 use Rattle.forest.specs.Passes.{PassView, IsOf}
-use Rattle.bench.proofs.crowd.numbered.Goals as goal
+use Rattle.bench.proofs.repetition.numbered.Goals as goal
 
 pub loop-pass-preserved : goal.loop-pass-preserved
-loop-pass-preserved c =
+loop-pass-preserved g c =
     let P : PassView → Type 0 = IsOf c.args.forest.now in
     let Q : ℕ × PassView → Type 0 = λ p. P p.1 in
     let inv = c.loop-pass.invariant in (

@@ -1,10 +1,10 @@
 use Rattle.std.specs.List.{All}
 use Rattle.forest.specs.Passes.{IsOf}
-use Rattle.bench.proofs.crowd.numbered.Given as goal
+use Rattle.bench.proofs.repetition.numbered.Given as goal
 
 abbrev pub invariant-loop-pass : goal.invariant-loop-pass
-invariant-loop-pass l =
-    (goal.iterator-loop-pass).can_next l.pass-iterator ×
-    (goal.iterator-loop-pass).is_finite l.pass-iterator ×
+invariant-loop-pass g l =
+    (goal.iterator-loop-pass g).can_next l.pass-iterator ×
+    (goal.iterator-loop-pass g).is_finite l.pass-iterator ×
     All (IsOf l.forest) l.pass-iterator.rest.items ×
     All (λ p. IsOf l.forest p.1) l.all.items

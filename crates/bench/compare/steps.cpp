@@ -1,0 +1,78 @@
+// Makes the calls of a script of one client on the dictionary of the twin, and prints each atomic step: what
+// is done (`load`, `store` or `exchange`), the word, and what it held before and behind it.
+//
+//     g++ -std=c++17 -O1 -o steps steps.cpp && ./steps <script.csv
+#include <atomic>
+#include <cstdint>
+#include <cstdio>
+#include <string>
+
+class ToldWord {
+public:
+    static inline ToldWord* first = nullptr;
+    static inline bool tells = false;
+
+    std::uint64_t load() const { return tell("load", word_, word_); }
+
+    void store(std::uint64_t value, std::memory_order = std::memory_order_seq_cst) {
+        if (!first) first = this;
+        tell("store", word_, value);
+        word_ = value;
+    }
+
+    bool compare_exchange_strong(std::uint64_t& expected, std::uint64_t value) {
+        const bool wins = word_ == expected;
+        tell("exchange", word_, wins ? value : word_);
+        expected = word_;
+        if (wins) word_ = value;
+        return wins;
+    }
+
+private:
+    std::uint64_t tell(const char* what, std::uint64_t before, std::uint64_t after) const;
+    std::uint64_t word_ = 0;
+};
+
+#define SHARED_WORD ToldWord
+#include "dictionary.hpp"
+
+namespace {
+
+constexpr Word FIRST_SCX_WORD = NODE_WORDS * (Dictionary::OPENING + SHARE);
+
+std::string name(Word at) {
+    constexpr const char* of_node[] = {"head", "key", "value", "left", "right", "info", "marked"};
+    constexpr const char* of_scx[] = {"state", "allfrozen", "plan", "new", "old", "v0",
+                                      "v1", "v2", "v3", "i0", "i1", "i2", "i3", "call"};
+    if (at < FIRST_SCX_WORD) return "n" + std::to_string(at / NODE_WORDS) + "." + of_node[at % NODE_WORDS];
+    at -= FIRST_SCX_WORD;
+    return "s" + std::to_string(at / SCX_WORDS) + "." + of_scx[at % SCX_WORDS];
+}
+
+// One row of a script. Other rows than calls of the tree do nothing.
+void make(const Dictionary& map, Pass& pass, const char* row) {
+    char command[16];
+    Word a = 0, b = 0, c = 0;
+    if (std::sscanf(row, "0,%15[a-z],%ju,%ju,%ju", command, &a, &b, &c) < 2) return;
+    const std::string word = command;
+    if (word == "get") map.get(a);
+    if (word == "insert") map.insert(pass, a, b);
+    if (word == "delete") map.remove(pass, a);
+    if (word == "successor") map.successor(a);
+    if (word == "range") map.range(a, b, c);
+}
+
+}  // namespace
+
+std::uint64_t ToldWord::tell(const char* what, std::uint64_t before, std::uint64_t after) const {
+    if (tells) std::printf("%s %s %ju %ju\n", what, name(this - first).c_str(), before, after);
+    return before;
+}
+
+int main() {
+    const Dictionary map(1, 1000);
+    Pass pass = map.pass(0);
+    ToldWord::tells = true;
+    char row[256];
+    while (std::fgets(row, sizeof row, stdin)) make(map, pass, row);
+}

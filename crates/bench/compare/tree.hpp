@@ -1,0 +1,112 @@
+// Rounds on a dictionary: `get`, `mix90`, `mix50`, `mix0`, `insert`, `succ`, `range64`.
+#pragma once
+#include "dictionary.hpp"
+#include "tally.hpp"
+
+namespace tree {
+
+enum class Work { get, mix90, mix50, mix0, insert, succ, range64 };
+
+// How many pairs a pass puts into the map before the threads start.
+constexpr Word PAIRS_OF_A_PASS = 10000;
+constexpr Word TRIES = 1000;
+constexpr Word MOST_PAIRS = 64;
+
+// Numbers by Marsaglia's xorshift (13, 7, 17). Each stream has a seed of its own.
+struct Draws {
+    Word word;
+
+    explicit Draws(Word stream) : word(88172645463325252u ^ stream * 0x9E3779B97F4A7C15u) {}
+
+    Word below(Word bound) {
+        word ^= word << 13;
+        word ^= word >> 7;
+        word ^= word << 17;
+        return word % bound;
+    }
+};
+
+// How many passes fill a map to half of so many keys.
+inline Word fillers(Word keys) { return (keys / 2 + PAIRS_OF_A_PASS - 1) / PAIRS_OF_A_PASS; }
+
+// Puts so many pairs of new keys into the map.
+inline void fill(const Dictionary& map, Word number, Word stream, Word keys, Word pairs) {
+    Pass pass = map.pass(number);
+    Draws draws(stream);
+    for (Word done = 0; done < pairs;) {
+        const Word key = draws.below(keys);
+        if (map.get(key)) continue;
+        map.insert(pass, key, key);
+        done++;
+    }
+}
+
+// Half of so many keys, by the passes behind those of the threads, the last of them first.
+inline void fill_half(const Dictionary& map, Word threads, Word keys) {
+    Word left = keys / 2;
+    for (Word filler = 0; left > 0; filler++) {
+        const Word pairs = left < PAIRS_OF_A_PASS ? left : PAIRS_OF_A_PASS;
+        fill(map, threads + fillers(keys) - 1 - filler, filler, keys, pairs);
+        left -= pairs;
+    }
+}
+
+inline void count(Tally& tally, End end) {
+    if (end == End::done) tally.done++;
+    else if (end == End::contended) tally.lost++;
+    else tally.fail++;
+}
+
+inline void tell(Tally& tally, const std::optional<Word>& value) { tally.tell(value ? *value + 1 : 0); }
+
+inline void look_up(const Dictionary& map, Word key, Tally& tally) {
+    tell(tally, map.get(key));
+    tally.done++;
+}
+
+inline void count_value(Tally& tally, const Reply<std::optional<Word>>& reply) {
+    if (reply.end == End::done) tell(tally, reply.told);
+    count(tally, reply.end);
+}
+
+inline void go_on(const Dictionary& map, Word key, Tally& tally) {
+    const auto reply = map.successor(key);
+    if (reply.end == End::done) tally.tell(reply.told ? reply.told->key + reply.told->value + 1 : 0);
+    count(tally, reply.end);
+}
+
+inline void list(const Dictionary& map, Word key, Tally& tally) {
+    const auto reply = map.range(key, UINT64_MAX, MOST_PAIRS);
+    if (reply.end == End::done)
+        for (const Pair& pair : reply.told) tally.tell(pair.key + pair.value + 1);
+    count(tally, reply.end);
+}
+
+// Looks a key up in so many of a hundred rounds; in half of the others puts it in, in half takes it out.
+inline void mix(const Dictionary& map, Pass& pass, Draws& draws, Word key, Word value, Word looks, Tally& tally) {
+    const Word chance = draws.below(100);
+    if (chance < looks) look_up(map, key, tally);
+    else if (chance < looks + (100 - looks) / 2) count_value(tally, map.insert(pass, key, value));
+    else count_value(tally, map.remove(pass, key));
+}
+
+inline Tally rounds(const Dictionary& map, Work work, Word keys, Word calls, Word thread) {
+    Pass pass = map.pass(thread);
+    Draws draws(MOST_PASSES + thread);
+    Tally tally;
+    for (Word call = 0; call < calls; call++) {
+        const Word key = draws.below(keys);
+        switch (work) {
+            case Work::get: look_up(map, key, tally); break;
+            case Work::mix90: mix(map, pass, draws, key, call, 90, tally); break;
+            case Work::mix50: mix(map, pass, draws, key, call, 50, tally); break;
+            case Work::mix0: mix(map, pass, draws, key, call, 0, tally); break;
+            case Work::insert: count_value(tally, map.insert(pass, key, call)); break;
+            case Work::succ: go_on(map, key, tally); break;
+            case Work::range64: list(map, key, tally); break;
+        }
+    }
+    return tally;
+}
+
+}  // namespace tree

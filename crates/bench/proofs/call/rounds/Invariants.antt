@@ -1,0 +1,7 @@
+use Rattle.std.proofs.Common.{◌≡◌}
+use Rattle.forest.specs.Passes.{IsOf}
+use Rattle.bench.specs.Tally.{total}
+use Rattle.bench.proofs.call.rounds.Given as goal
+
+abbrev pub invariant-loop-call : goal.invariant-loop-call
+invariant-loop-call l = IsOf l.forest l.pass × (total l.tally ≡ l.call)

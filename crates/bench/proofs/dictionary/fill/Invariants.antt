@@ -1,0 +1,5 @@
+use Rattle.forest.specs.Passes.{IsOf}
+use Rattle.bench.proofs.dictionary.fill.Given as goal
+
+abbrev pub invariant-loop-draw : goal.invariant-loop-draw
+invariant-loop-draw l = IsOf l.forest l.pass

@@ -1,0 +1,151 @@
+//! The rounds of a thread on a dictionary.
+ghost use Rattle.std.specs.Prelude.{◌≡◌};
+ghost use Rattle.forest.specs.Passes.{IsOf};
+ghost use Rattle.bench.specs.Tally.{total};
+
+use crate::draws::Draws;
+use crate::tally::{End, Tally, with_reply};
+use crate::task::Task;
+use crate::work::TreeWork;
+use dict::Dict;
+use forest::{Forest, OrderFault, Pass, UpdateFault};
+use std::alloc::Global;
+
+/// A dictionary of numbers.
+pub type Numbers = Dict<u64, u64>;
+
+/// How many pairs a range tells at most.
+const MOST_PAIRS: u32 = 64;
+
+/// All rounds of a thread.
+pub fn rounds(
+    alloc: Global,
+    forest: &Forest<Numbers>,
+    task: Task,
+    work: TreeWork,
+    mut pass: Pass<Numbers>,
+    mut draws: Draws,
+) -> Tally
+    requires { IsOf forest.now pass }
+    ensures { total result ≡ task.calls }
+{
+    let mut tally = Tally::default();
+    for call in 0..task.calls {
+        let key = draws.below(u64::from(task.keys));
+        let value = u64::from(call);
+        let end = round(
+            alloc,
+            forest,
+            work,
+            &mut pass,
+            &mut draws,
+            (key, value),
+            &mut tally,
+        );
+        tally.count(end);
+    }
+    tally
+}
+
+/// A round, in which this pair may be put in.
+fn round(
+    alloc: Global,
+    forest: &Forest<Numbers>,
+    work: TreeWork,
+    pass: &mut Pass<Numbers>,
+    draws: &mut Draws,
+    pair: (u64, u64),
+    tally: &mut Tally,
+) -> End
+    requires { IsOf forest.now pass.old }
+    ensures pass { IsOf forest.now pass.new }
+    ensures total { total tally.new ≡ total tally.old }
+{
+    let key = &pair.0;
+    match work {
+        TreeWork::Get => told(Ok(forest.get(pass, key)), tally),
+        TreeWork::Mix { looks } => told(mix(forest, pass, draws, pair, looks), tally),
+        TreeWork::Insert => told(forest.insert(pass, pair.0, pair.1), tally),
+        TreeWork::Successor => told_pair(forest.successor(alloc, pass, key), tally),
+        TreeWork::Range => told_pairs(forest.range(alloc, pass, key, &u64::MAX, MOST_PAIRS), tally),
+    }
+}
+
+/// Looks a key up in so many of a hundred rounds; else puts it in or takes it out.
+fn mix(
+    forest: &Forest<Numbers>,
+    pass: &mut Pass<Numbers>,
+    draws: &mut Draws,
+    pair: (u64, u64),
+    looks: u64,
+) -> Result<Option<u64>, UpdateFault>
+    requires { IsOf forest.now pass.old }
+    ensures { IsOf forest.now pass.new }
+{
+    let chance = draws.below(100);
+    let half = 100_u64.saturating_sub(looks) / 2;
+    if chance < looks {
+        Ok(forest.get(pass, &pair.0))
+    } else if chance - looks < half {
+        forest.insert(pass, pair.0, pair.1)
+    } else {
+        forest.delete(pass, &pair.0)
+    }
+}
+
+/// Notes what a call has told of a value.
+fn told(reply: Result<Option<u64>, UpdateFault>, tally: &mut Tally) -> End
+    ensures { total tally.new ≡ total tally.old }
+{
+    match reply {
+        Ok(value) => {
+            tally.tell(match value {
+                Some(value) => value.wrapping_add(1),
+                None => 0,
+            });
+            End::Done
+        }
+        Err(UpdateFault::Contended { .. }) => End::Lost,
+        Err(UpdateFault::Full(_)) => End::Fail,
+    }
+}
+
+fn pair_word(pair: (u64, u64)) -> u64 {
+    pair.0.wrapping_add(pair.1).wrapping_add(1)
+}
+
+/// Notes what a successor has told.
+fn told_pair(reply: Result<Option<(u64, u64)>, OrderFault>, tally: &mut Tally) -> End
+    ensures { total tally.new ≡ total tally.old }
+{
+    match reply {
+        Ok(Some(pair)) => tally.tell(pair_word(pair)),
+        Ok(None) => tally.tell(0),
+        Err(fault) => return refused(fault),
+    }
+    End::Done
+}
+
+/// Notes what a range has told.
+fn told_pairs(reply: Result<Vec<(u64, u64)>, OrderFault>, tally: &mut Tally) -> End
+    ensures { total tally.new ≡ total tally.old }
+{
+    match reply {
+        Ok(pairs) => {
+            let mut checksum = tally.checksum;
+            for pair in &pairs {
+                checksum = with_reply(checksum, pair_word(*pair));
+            }
+            tally.checksum = checksum;
+            End::Done
+        }
+        Err(fault) => refused(fault),
+    }
+}
+
+fn refused(fault: OrderFault) -> End {
+    match fault {
+        OrderFault::Contended { .. } => End::Lost,
+        OrderFault::NoMemory => End::Fail,
+    }
+}

@@ -1,0 +1,126 @@
+//! One repetition on a dictionary.
+ghost use Rattle.std.specs.Prelude.{◌≤◌, ◌<◌, IfOk};
+ghost use Rattle.std.specs.List.{All};
+ghost use Rattle.forest.specs.Passes.{IsOf};
+
+use crate::call::{Numbers, rounds};
+use crate::draws::Draws;
+use crate::fault::Fault;
+use crate::repetition::{Repetition, nanos_since, now, numbered, sum};
+use crate::tally::Tally;
+use crate::task::Task;
+use crate::work::TreeWork;
+use arena::Limits;
+use forest::{Forest, NewFault, Pass};
+use std::alloc::{AllocError, Global};
+use std::rt::Clock;
+use std::thread::{Threads, map_vec};
+
+/// How many pairs a pass puts into the map before the threads start.
+const PAIRS_OF_A_PASS: u32 = 10_000;
+
+/// Makes a dictionary and fills it, and lets the threads work in it.
+pub fn run<R: Threads + Sync + Clock + AllocGlobal>(
+    rt: &R,
+    task: Task,
+    work: TreeWork,
+) -> Result<Repetition, Fault> {
+    let (forest, passes) = open(rt.alloc(), task)?;
+    let passes = fill_half(&forest, task.keys, passes);
+    let passes = numbered(rt.alloc(), &forest, passes)?;
+    let start = now(rt)?;
+    let tallies = crowd(rt, rt.alloc(), &forest, task, work, passes)?;
+    let nanos = nanos_since(rt, start)?;
+    Ok(Repetition {
+        nanos,
+        tally: sum(&tallies),
+    })
+}
+
+/// How many passes fill the map.
+fn fillers(keys: u32) -> u32 {
+    (keys / 2).div_ceil(PAIRS_OF_A_PASS)
+}
+
+/// A dictionary with a pass for each thread, and behind these the passes that fill it. Shares are
+/// whole ones.
+fn open(alloc: Global, task: Task) -> Result<(Forest<Numbers>, Vec<Pass<Numbers>>), Fault>
+    ensures { IfOk result (λ r. All (IsOf r.0) r.1.items) }
+{
+    let limits = Limits {
+        passes: task.threads.saturating_add(fillers(task.keys)),
+        nodes: Limits::MOST_RECORDS,
+        scx: Limits::MOST_RECORDS,
+        tries: Limits::MOST_TRIES,
+    };
+    match Forest::<Numbers>::new(alloc, limits) {
+        Ok(opened) => Ok(opened),
+        Err(NewFault::NoMemory) => Err(Fault::NoMemory),
+        Err(NewFault::Limits) => Err(Fault::Usage),
+    }
+}
+
+/// Puts half of so many keys into the map, by the last passes, and answers the others.
+fn fill_half(
+    forest: &Forest<Numbers>,
+    keys: u32,
+    mut passes: Vec<Pass<Numbers>>,
+) -> Vec<Pass<Numbers>>
+    requires keys { 1 ≤ keys }
+    requires passes { All (IsOf forest.now) passes.items }
+    ensures { All (IsOf forest.now) result.items }
+{
+    let mut left = keys / 2;
+    for stream in 0..fillers(keys) {
+        if let Some(pass) = passes.pop() {
+            let pairs = left.min(PAIRS_OF_A_PASS);
+            fill(forest, pass, Draws::of(stream), keys, pairs);
+            left -= pairs;
+        }
+    }
+    passes
+}
+
+/// Puts so many fresh keys of those that are drawn into the map.
+fn fill(
+    forest: &Forest<Numbers>,
+    mut pass: Pass<Numbers>,
+    mut draws: Draws,
+    keys: u32,
+    mut pairs: u32,
+)
+    requires keys { 1 ≤ keys }
+    requires pass { IsOf forest.now pass }
+{
+    for _draw in 0..u32::MAX {
+        if pairs == 0 {
+            return;
+        }
+        let key = draws.below(u64::from(keys));
+        if forest.get(&mut pass, &key).is_none() {
+            let _ = forest.insert(&mut pass, key, key);
+            pairs -= 1;
+        }
+    }
+}
+
+/// Each pass works in a thread of its own.
+fn crowd<R: Threads + Sync>(
+    rt: &R,
+    alloc: Global,
+    forest: &Forest<Numbers>,
+    task: Task,
+    work: TreeWork,
+    passes: Vec<(u32, Pass<Numbers>)>,
+) -> Result<Vec<Tally>, AllocError>
+    requires { All (λ p. IsOf forest.now p.1) passes.items }
+{
+    map_vec(
+        rt,
+        passes,
+        &|(number, pass): (u32, Pass<Numbers>)| {
+            let draws = Draws::of(number.wrapping_add(Limits::MOST_PASSES));
+            rounds(alloc, forest, task, work, pass, draws)
+        },
+    )
+}
