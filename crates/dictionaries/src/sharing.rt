@@ -1,14 +1,16 @@
 //! Dictionaries that passes share.
+ghost use Rattle.std.specs.Prelude.{IfSome};
 ghost use Rattle.std.specs.List.{All};
 ghost use Rattle.forest.specs.Passes.{IsOf};
 
 mod calls;
+mod held;
 mod threads;
 
 use arena::Limits;
 use dict::{Dict, WordKey, WordValue};
 use forest::{Forest, Pass};
-use std::alloc::Global;
+use std::alloc::{AllocError, Global};
 
 fn limits(passes: u32, nodes: u32, scx: u32) -> Limits {
     Limits {
@@ -33,4 +35,35 @@ fn end<K: WordKey, V: WordValue>(
     } else {
         None
     }
+}
+
+/// A dictionary, and its two passes.
+fn two<K: WordKey, V: WordValue>(
+    alloc: Global,
+) -> Option<(Forest<Dict<K, V>>, Pass<Dict<K, V>>, Pass<Dict<K, V>>)>
+    ensures first { IfSome result (λ t. IsOf t.0 t.1) }
+    ensures second { IfSome result (λ t. IsOf t.0 t.2) }
+{
+    let Ok((forest, mut passes)) = Forest::<Dict<K, V>>::new(alloc, limits(2, 20, 20)) else {
+        return None;
+    };
+    let second = passes.pop()?;
+    let first = passes.pop()?;
+    Some((forest, first, second))
+}
+
+/// Ends a forest of two passes.
+fn end_two<K: WordKey, V: WordValue>(
+    alloc: Global,
+    forest: Forest<Dict<K, V>>,
+    one: Pass<Dict<K, V>>,
+    other: Pass<Dict<K, V>>,
+) -> Result<Option<Vec<(K, V)>>, AllocError>
+    requires one { IsOf forest one }
+    requires other { IsOf forest other }
+{
+    let mut passes = Vec::new(alloc);
+    passes.push(one)?;
+    passes.push(other)?;
+    Ok(end(alloc, forest, passes))
 }

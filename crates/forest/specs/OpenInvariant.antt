@@ -31,7 +31,7 @@ open_view o = record {
   over = o.over;
 }
 
--- The fields of this pass, at a seat that has it alone. They are told from what contracts see of it.
+-- The fields of this pass, at a seat that has it alone, told from what contracts see of it.
 abbrev pub pass_as : {T : Type 0} → PassView → Seat ℕ SeatView → pass.Inside T
 pass_as p s = record {
   number = record { 0 = p.number };

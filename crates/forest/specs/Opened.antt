@@ -24,7 +24,7 @@ pub record OpenView : Type 0 where
   -- whether it is over
   pub over : Bool
 
--- the pass as its call knows it by now, which has its share
+-- the pass as the call began, with the run that it knows by now
 abbrev pub pass_now : OpenView → PassView
 pass_now o = record o.began { known = o.known }
 

@@ -1,43 +1,13 @@
 //! Calls by two passes.
-ghost use Rattle.std.specs.Prelude.{IfSome};
 ghost use Rattle.forest.specs.Passes.{IsOf};
 
-use super::{end, limits};
+use super::{end_two, two};
 use dict::{Dict, Name8};
 use forest::{Forest, Pass, UpdateFault};
-use std::alloc::{AllocError, Global};
 use std::test::Fail;
 
 /// A dictionary of names and numbers.
 type Names = Dict<Name8, u32>;
-
-/// One of two passes.
-fn two(alloc: Global) -> Option<(Forest<Names>, Pass<Names>, Pass<Names>)>
-    ensures first { IfSome result (λ t. IsOf t.0 t.1) }
-    ensures second { IfSome result (λ t. IsOf t.0 t.2) }
-{
-    let Ok((forest, mut passes)) = Forest::<Names>::new(alloc, limits(2, 20, 20)) else {
-        return None;
-    };
-    let second = passes.pop()?;
-    let first = passes.pop()?;
-    Some((forest, first, second))
-}
-
-fn end_two(
-    alloc: Global,
-    forest: Forest<Names>,
-    one: Pass<Names>,
-    other: Pass<Names>,
-) -> Result<Option<Vec<(Name8, u32)>>, AllocError>
-    requires one { IsOf forest one }
-    requires other { IsOf forest other }
-{
-    let mut passes = Vec::new(alloc);
-    passes.push(one)?;
-    passes.push(other)?;
-    Ok(end(alloc, forest, passes))
-}
 
 /// The names of the test: two keys, and the bounds of a range of all names of small letters.
 fn names() -> Option<[Name8; 4]> {
@@ -62,7 +32,7 @@ fn raise(board: &Forest<Names>, pass: &mut Pass<Names>, name: Name8, score: u32)
 
 #[test]
 fn two_passes_have_one_map(rt: HostRuntime) -> Result<(), Fail> {
-    let Some((forest, mut first, mut second)) = two(rt.alloc()) else {
+    let Some((forest, mut first, mut second)) = two::<Name8, u32>(rt.alloc()) else {
         assert!(rt; false);
         return Ok(());
     };

@@ -1,0 +1,248 @@
+//! Calls that are held open, while the other pass makes calls.
+ghost use Rattle.std.specs.Prelude.{◌≡◌, true, false, IfOk};
+ghost use Rattle.forest.specs.Passes.{IsOf};
+
+use super::{end_two, two};
+use arena::Kind;
+use arena::Kind::{
+    Abort, Commit, Fill, Freeze, LoadAllFrozen, LoadChild, LoadInfo, LoadMarked, LoadSettled,
+    LoadState, Mark, SetFrozen, Update,
+};
+use dict::{Dict, Reply, Request};
+use forest::{Forest, OpenCall, Pass, Stepped};
+use std::alloc::AllocError;
+use std::test::Fail;
+
+/// A dictionary of numbers.
+type Numbers = Dict<u64, u64>;
+
+/// A call of it that is held open.
+type Held = OpenCall<u64, u64>;
+
+/// LLX of two nodes.
+const LOOKS: [Kind; 14] = [
+    LoadMarked, LoadInfo, LoadState, LoadMarked, LoadChild, LoadChild, LoadInfo, LoadMarked,
+    LoadInfo, LoadState, LoadMarked, LoadChild, LoadChild, LoadInfo,
+];
+
+/// The fills of an SCX-record over two nodes, and the SCX, which finalizes one of them.
+const PUT: [Kind; 21] = [
+    Fill,
+    Fill,
+    Fill,
+    Fill,
+    Fill,
+    Fill,
+    Fill,
+    Fill,
+    LoadSettled,
+    LoadSettled,
+    LoadSettled,
+    Freeze,
+    LoadSettled,
+    LoadSettled,
+    Freeze,
+    SetFrozen,
+    Mark,
+    LoadSettled,
+    LoadSettled,
+    Update,
+    Commit,
+];
+
+/// Makes so many steps of a call, or fewer where it is over before, and notes their kinds. It tells
+/// whether the call goes on.
+fn hold(
+    forest: &Forest<Numbers>,
+    call: &mut Held,
+    steps: usize,
+    kinds: &mut Vec<Kind>,
+) -> Result<bool, AllocError>
+    requires forest { IsOf forest.now call.old.began }
+    requires goes { call.old.over ≡ false }
+    ensures forest { IfOk result (λ _. IsOf forest.now call.new.began) }
+    ensures goes { IfOk result (λ goes. goes ≡ true → call.new.over ≡ false) }
+{
+    for _step in 0..steps {
+        match call.step(forest) {
+            Stepped::More(kind) => kinds.push(kind)?,
+            Stepped::Done(_) => return Ok(false),
+        }
+    }
+    Ok(true)
+}
+
+/// Makes the rest of a call, and notes the kinds of its steps.
+fn rest(
+    forest: &Forest<Numbers>,
+    mut call: Held,
+    kinds: &mut Vec<Kind>,
+) -> Result<(Pass<Numbers>, Reply<u64, u64>), AllocError>
+    requires forest { IsOf forest.now call.began }
+    requires goes { call.over ≡ false }
+    ensures pass { IfOk result (λ r. IsOf forest.now r.0) }
+{
+    loop {
+        match call.step(forest) {
+            Stepped::More(kind) => kinds.push(kind)?,
+            Stepped::Done(Some(kind)) => {
+                kinds.push(kind)?;
+                return Ok(call.finish());
+            }
+            Stepped::Done(None) => return Ok(call.finish()),
+        }
+    }
+}
+
+/// Whether these are the kinds of the parts, one part behind the other.
+fn are(kinds: &[Kind], parts: &[&[Kind]]) -> bool {
+    let mut left = kinds;
+    for part in parts {
+        match left.strip_prefix(*part) {
+            Some(behind) => left = behind,
+            None => return false,
+        }
+    }
+    left.is_empty()
+}
+
+#[test]
+fn an_insert_that_is_held_is_helped(rt: HostRuntime) -> Result<(), Fail> {
+    let Some((forest, first, mut second)) = two::<u64, u64>(rt.alloc()) else {
+        assert!(rt; false);
+        return Ok(());
+    };
+    let mut kinds = Vec::new(rt.alloc());
+    let insert = Request::Insert { key: 5, value: 50 };
+    let mut call = forest.open(rt.alloc(), first, insert);
+    // Up to its first freeze.
+    if !hold(&forest, &mut call, 39, &mut kinds)? {
+        assert!(rt; false);
+        return Ok(());
+    }
+    assert_eq!(rt; kinds.last(), Some(&Freeze));
+    assert_eq!(rt; forest.get(&mut second, &5), None);
+    assert_eq!(rt; forest.insert(&mut second, 7, 70), Ok(None));
+    assert_eq!(rt; forest.get(&mut second, &5), Some(50));
+    let (first, reply) = rest(&forest, call, &mut kinds)?;
+    assert!(rt; matches!(reply, Reply::Value(None)));
+    let walk = [LoadSettled, LoadChild, LoadSettled];
+    assert!(rt; are(&kinds, &[&walk, &LOOKS, &[Fill; 10], &PUT]));
+    assert_eq!(rt; (first.left(), second.left()), ((17, 19), (17, 19)));
+    let left = end_two(rt.alloc(), forest, first, second)?;
+    let both = [(5, 50), (7, 70)];
+    assert!(rt; matches!(&left, Some(pairs) if pairs.as_slice() == both.as_slice()));
+    Ok(())
+}
+
+#[test]
+fn an_insert_that_is_held_too_long_tries_again(rt: HostRuntime) -> Result<(), Fail> {
+    let Some((forest, first, mut second)) = two::<u64, u64>(rt.alloc()) else {
+        assert!(rt; false);
+        return Ok(());
+    };
+    let mut kinds = Vec::new(rt.alloc());
+    let insert = Request::Insert { key: 5, value: 50 };
+    let mut call = forest.open(rt.alloc(), first, insert);
+    // Up to just before its first freeze, which then finds the SCX-record of the other insert.
+    if !hold(&forest, &mut call, 38, &mut kinds)? {
+        assert!(rt; false);
+        return Ok(());
+    }
+    assert_eq!(rt; forest.insert(&mut second, 7, 70), Ok(None));
+    assert_eq!(rt; forest.get(&mut second, &5), None);
+    let (first, reply) = rest(&forest, call, &mut kinds)?;
+    assert!(rt; matches!(reply, Reply::Value(None)));
+    let walk = [LoadSettled, LoadChild, LoadSettled];
+    let lost = [Freeze, LoadAllFrozen, Abort];
+    let again = [
+        LoadSettled,
+        LoadChild,
+        LoadSettled,
+        LoadChild,
+        LoadSettled,
+        LoadSettled,
+    ];
+    let copy = [LoadSettled];
+    assert!(rt;
+        are(
+            &kinds,
+            &[
+                &walk,
+                &LOOKS,
+                &[Fill; 10],
+                &PUT[..11],
+                &lost,
+                &again,
+                &LOOKS,
+                &[Fill; 3],
+                &copy,
+                &[Fill; 7],
+                &PUT
+            ]
+        )
+    );
+    assert_eq!(rt; (first.left(), second.left()), ((14, 18), (17, 19)));
+    let left = end_two(rt.alloc(), forest, first, second)?;
+    let both = [(5, 50), (7, 70)];
+    assert!(rt; matches!(&left, Some(pairs) if pairs.as_slice() == both.as_slice()));
+    Ok(())
+}
+
+#[test]
+fn a_get_that_is_held_reads_what_was(rt: HostRuntime) -> Result<(), Fail> {
+    let Some((forest, first, mut second)) = two::<u64, u64>(rt.alloc()) else {
+        assert!(rt; false);
+        return Ok(());
+    };
+    let mut kinds = Vec::new(rt.alloc());
+    assert_eq!(rt; forest.insert(&mut second, 5, 50), Ok(None));
+    let mut call = forest.open(rt.alloc(), first, Request::Get { key: 5 });
+    // It has come to the leaf of 5, which the delete takes off.
+    if !hold(&forest, &mut call, 4, &mut kinds)? {
+        assert!(rt; false);
+        return Ok(());
+    }
+    assert_eq!(rt; forest.delete(&mut second, &5), Ok(Some(50)));
+    assert_eq!(rt; forest.get(&mut second, &5), None);
+    let (mut first, reply) = rest(&forest, call, &mut kinds)?;
+    assert!(rt; matches!(reply, Reply::Value(Some(50))));
+    let walk = [
+        LoadSettled,
+        LoadChild,
+        LoadSettled,
+        LoadChild,
+        LoadSettled,
+        LoadSettled,
+        LoadSettled,
+    ];
+    assert!(rt; kinds.as_slice() == walk.as_slice());
+    assert_eq!(rt; forest.get(&mut first, &5), None);
+    assert_eq!(rt; (first.left(), second.left()), ((20, 20), (16, 18)));
+    let left = end_two(rt.alloc(), forest, first, second)?;
+    assert!(rt; matches!(&left, Some(pairs) if pairs.is_empty()));
+    Ok(())
+}
+
+#[test]
+fn a_range_of_no_pairs_makes_no_step(rt: HostRuntime) -> Result<(), Fail> {
+    let Some((forest, first, second)) = two::<u64, u64>(rt.alloc()) else {
+        assert!(rt; false);
+        return Ok(());
+    };
+    let none = Request::Range {
+        low: 0,
+        high: 9,
+        most: 0,
+    };
+    let mut call = forest.open(rt.alloc(), first, none);
+    let Stepped::Done(None) = call.step(&forest) else {
+        assert!(rt; false);
+        return Ok(());
+    };
+    let (first, reply) = call.finish();
+    assert!(rt; matches!(&reply, Reply::Pairs(pairs) if pairs.is_empty()));
+    let left = end_two(rt.alloc(), forest, first, second)?;
+    assert!(rt; matches!(&left, Some(pairs) if pairs.is_empty()));
+    Ok(())
+}
