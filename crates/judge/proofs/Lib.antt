@@ -1,8 +1,0 @@
-mod Steps
-mod Helds
-mod Mentions
-mod Flags
-mod Filled
-mod Judged
-mod Wins
-mod Examples

@@ -1,3 +1,3 @@
-pub mod Tests
-pub mod Names
 pub mod Histories
+pub mod Pasts
+pub mod StandsFor
