@@ -1,0 +1,3 @@
+mod Counts
+mod Chains
+mod Spreading

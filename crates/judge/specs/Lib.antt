@@ -1,3 +1,4 @@
+pub mod Graph
 pub mod Histories
 pub mod Pasts
 pub mod StandsFor

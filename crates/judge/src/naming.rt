@@ -17,10 +17,10 @@ impl Naming {
         let nodes = u64::from(layout.all_nodes());
         let scxs = u64::from(layout.all_scx());
         let mut graph = Graph::new(alloc, (2 * nodes + scxs) as usize)?;
-        graph.start(2 * nodes as usize);
+        graph.start(0, 2 * nodes as usize);
         for node in 0..layout.opening() as usize {
-            graph.start(node);
-            graph.start(nodes as usize + node);
+            graph.start(0, node);
+            graph.start(0, nodes as usize + node);
         }
         Ok(Naming { nodes, scxs, graph })
     }
@@ -69,7 +69,7 @@ impl Naming {
     /// An info word holds this.
     fn note_info(&mut self, scx: u64) {
         if scx < self.scxs {
-            self.graph.start((2 * self.nodes + scx) as usize);
+            self.graph.start(0, (2 * self.nodes + scx) as usize);
         }
     }
 
