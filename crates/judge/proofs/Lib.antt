@@ -1,3 +1,5 @@
 mod Counts
 mod Chains
 mod Spreading
+mod Names
+mod Frozen

@@ -1,14 +1,15 @@
 //! The steps of an SCX.
-ghost use Rattle.std.specs.Prelude.{◌≡◌, ◌≢◌, ℕ, ◌<◌, ◌↔◌, IsTrue, true};
+ghost use Rattle.std.specs.Prelude.{◌≡◌, ◌≢◌, ℕ, ◌<◌, ◌⊎◌, ◌↔◌, IsTrue, true};
+ghost use Rattle.arena.specs.Fills.{IsOwnScx};
 ghost use Rattle.arena.specs.History.{value};
-ghost use Rattle.arena.specs.Lawful.{IsExchange, IsFreeze, IsSetFrozen, IsMark, AllAreMarked, IsUpdate, IsCommit, IsAbort, MayBegin};
-ghost use Rattle.arena.specs.ScxRecords.{member, scx_finalizes};
+ghost use Rattle.arena.specs.Lawful.{IsExchange, IsFreeze, IsSetFrozen, IsMark, AllAreMarked, IsUpdate, IsCommit, IsAbort, MayBegin, IsFrozen, AreFrozen};
+ghost use Rattle.arena.specs.ScxRecords.{member, count, scx_finalizes};
 ghost use Rattle.arena.specs.Words.{state, marked};
 ghost use Rattle.judge.specs.Histories.{history};
 
 use crate::beginning::{is_as_seen, is_own_scx, may_begin};
 use crate::entering::finalizes;
-use crate::facts::{has_won, is_frozen, last_loaded};
+use crate::facts::{frozen_count, has_won, last_loaded};
 use crate::judge::Judge;
 use crate::records::{are_frozen, count, field, is_same, member, of_node, of_scx, plan};
 use arena::{NodeNo, NodeWord, PassNo, Row, ScxNo, ScxWord, Word};
@@ -211,6 +212,25 @@ pub fn is_some_commit(judge: &Judge, row: &Row) -> bool
     }
 }
 
+/// Whether a pass may know that an SCX-record has begun, or that it has not: it is its own, or its
+/// first node was ever frozen for it.
+fn may_end(judge: &Judge, pass: PassNo, scx: u64) -> bool
+    requires is_pass { pass.0 < judge.now.layout.passes }
+    requires some { 0 < count (history judge.now) scx }
+    ensures { IsTrue result → IsOwnScx judge.now.layout pass.0 scx ⊎ IsFrozen (history judge.now) scx 0 }
+{
+    is_own_scx(judge.layout(), pass, scx) || 0 < frozen_count(judge, scx)
+}
+
+/// Whether the node at a place is the first that was never frozen for an SCX-record.
+fn is_next(judge: &Judge, scx: u64, place: u8) -> bool
+    requires { place < count (history judge.now) scx }
+    ensures earlier { IsTrue result → AreFrozen (history judge.now) scx place }
+    ensures never { IsTrue result → IsFrozen (history judge.now) scx place → ⊥ }
+{
+    place == frozen_count(judge, scx)
+}
+
 /// Whether a row aborts an SCX-record since the node at a place is no longer as it has seen it.
 fn is_abort(judge: &Judge, row: &Row, scx: u64, place: u8) -> bool
     requires { row.now.pass.0 < judge.now.layout.passes }
@@ -219,23 +239,10 @@ fn is_abort(judge: &Judge, row: &Row, scx: u64, place: u8) -> bool
     is_same(row.word, Word::Scx(ScxNo(scx), ScxWord::State))
         && row.after == 2
         && of_scx(judge, scx, ScxWord::AllFrozen) == 0
-        && (is_own_scx(judge.layout(), row.pass, scx) || is_frozen(judge, scx, 0))
         && place < count(judge, scx)
-        && are_frozen(judge, scx, place)
-        && !is_frozen(judge, scx, place)
+        && may_end(judge, row.pass, scx)
+        && is_next(judge, scx, place)
         && !is_as_seen(judge, scx, place)
-}
-
-fn is_abort_of(judge: &Judge, row: &Row, scx: u64) -> bool
-    requires { row.now.pass.0 < judge.now.layout.passes }
-    ensures { IsTrue result → (j : ℕ) × IsAbort judge.now.layout (history judge.now) row.now scx j }
-{
-    for place in 0..4 {
-        if is_abort(judge, row, scx, place) {
-            return true;
-        }
-    }
-    false
 }
 
 /// Whether a row aborts the SCX-record of its word.
@@ -244,7 +251,7 @@ pub fn is_some_abort(judge: &Judge, row: &Row) -> bool
     ensures { IsTrue result → (s j : ℕ) × IsAbort judge.now.layout (history judge.now) row.now s j }
 {
     match row.word {
-        Word::Scx(scx, _) => is_abort_of(judge, row, scx.0),
+        Word::Scx(scx, _) => is_abort(judge, row, scx.0, frozen_count(judge, scx.0)),
         Word::Node(_, _) => false,
     }
 }

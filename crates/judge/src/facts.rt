@@ -4,6 +4,7 @@ ghost use Rattle.arena.specs.Fills.{IsOwnNode, IsOwnScx, IsNamed, IsNamedScx, Is
 ghost use Rattle.arena.specs.History.{value, HasHeld};
 ghost use Rattle.arena.specs.Lawful.{IsFrozen, HasWon};
 ghost use Rattle.arena.specs.Layout.{all_nodes, all_scx, first_node, first_scx};
+ghost use Rattle.arena.specs.ScxRecords.{count};
 ghost use Rattle.arena.specs.Words.{child, scx};
 ghost use Rattle.arena.specs.declared.word.ScxWord.TheVariants.{New};
 ghost use Rattle.arena.specs.declared.word.Side.{Side};
@@ -50,7 +51,7 @@ pub fn was_in_field(judge: &Judge, node: u64) -> bool
     requires { node < all_nodes judge.now.layout }
     ensures { (n : ℕ) → (side : Side) → HasHeld (history judge.now) (child n side) node → IsTrue result }
 {
-    judge.uses.in_field(node)
+    judge.uses.was_in_field(node)
 }
 
 /// Whether `new` of another SCX-record may have held a node of the table.
@@ -58,15 +59,14 @@ pub fn was_in_other_new(judge: &Judge, user: u64, node: u64) -> bool
     requires { node < all_nodes judge.now.layout }
     ensures { (u : ℕ) → u ≢ user → HasHeld (history judge.now) (scx u New) node → IsTrue result }
 {
-    judge.uses.in_other_new(user, node)
+    judge.uses.was_in_other_new(user, node)
 }
 
-/// Whether the node at a place was ever frozen for an SCX-record.
-pub fn is_frozen(judge: &Judge, scx: u64, place: u8) -> bool
-    requires { place < 4 }
-    ensures { IsTrue result ↔ IsFrozen (history judge.now) scx place }
+/// How many of the nodes that an SCX-record covers were ever frozen for it: the first ones.
+pub fn frozen_count(judge: &Judge, scx: u64) -> u8
+    ensures { (j : ℕ) → j < count (history judge.now) scx → IsFrozen (history judge.now) scx j ↔ (j < result) }
 {
-    scx < u64::from(judge.words.layout().all_scx()) && judge.freezing.has(scx, place)
+    judge.freezing.of(scx)
 }
 
 /// Whether an update of an SCX-record has won.

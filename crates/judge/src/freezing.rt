@@ -1,43 +1,44 @@
-//! Which nodes of each SCX-record were ever frozen for it.
-use arena::{Layout, NoMemory, NodeNo, NodeWord, PlainWords, Row, ScxNo, ScxWord, Word};
+//! How many nodes of each SCX-record were ever frozen for it: the first ones.
+ghost use Rattle.std.specs.Prelude.{◌≡◌, ◌<◌, IfOk, vec_len};
+ghost use Rattle.arena.specs.History.{Start};
+ghost use Rattle.judge.specs.Freezing.{FreezingStands, frozen_after, frozen_of, MayFreeze};
+
+use arena::{Kind, Layout, NoMemory, Row};
 use std::alloc::Global;
 
-/// Four flags of each SCX-record, one for each of its places.
+/// Of each SCX-record how many of its nodes were ever frozen for it.
 #[derive(Drop)]
 pub(crate) struct Freezing {
-    pub(crate) flags: Vec<bool>,
+    pub(crate) frozen: Vec<u8>,
 }
 
 impl Freezing {
-    /// At the start all info words name the dummy. The only error is want of memory.
-    pub(crate) fn new(alloc: Global, layout: &Layout) -> Result<Freezing, NoMemory> {
-        let mut flags = vec![in alloc; false; 4 * layout.all_scx() as usize]?;
-        for place in 0..4 {
-            flags[place] = true;
-        }
-        Ok(Freezing { flags })
+    /// No node is frozen yet. The only error is want of memory.
+    pub(crate) fn new(alloc: Global, layout: &Layout) -> Result<Freezing, NoMemory>
+        ensures { IfOk result (FreezingStands layout.now (Start layout.now.mode)) }
+    {
+        Ok(Freezing {
+            frozen: vec![in alloc; 0; layout.all_scx() as usize]?,
+        })
     }
 
-    /// Whether the node at a place was ever frozen for an SCX-record.
-    pub(crate) fn has(&self, scx: u64, place: u8) -> bool {
-        self.flags[4 * scx as usize + place as usize]
-    }
-
-    /// Takes in a row, before its step is made on the words.
-    pub(crate) fn note(&mut self, words: &PlainWords, row: &Row) {
-        if let Word::Node(node, NodeWord::Info) = row.word {
-            if row.after < u64::from(words.layout().all_scx()) {
-                self.freeze(words, ScxNo(row.after), node);
-            }
+    /// How many nodes of an SCX-record were ever frozen for it.
+    pub(crate) fn of(&self, scx: u64) -> u8
+        ensures { result ≡ frozen_of self.now.frozen.items scx }
+    {
+        match self.frozen.get(scx as usize) {
+            Some(count) => *count,
+            None => 0,
         }
     }
 
-    /// The info of a node holds this SCX-record.
-    fn freeze(&mut self, words: &PlainWords, scx: ScxNo, node: NodeNo) {
-        for place in 0..4u8 {
-            if words.get(Word::Scx(scx, ScxWord::Member(place))) == node.0 {
-                self.flags[4 * scx.0 as usize + place as usize] = true;
-            }
+    /// Takes in a lawful row.
+    pub(crate) fn note(&mut self, row: &Row)
+        requires { MayFreeze self.old.frozen.items row.now }
+        ensures { self.new.frozen.items ≡ frozen_after row.now self.old.frozen.items }
+    {
+        if row.kind == Kind::Freeze && row.before != row.after {
+            self.frozen[row.after as usize] += 1;
         }
     }
 }

@@ -118,7 +118,7 @@ impl Judge {
         self.naming.reserve()?;
         self.naming.note(row);
         self.uses.note(row);
-        self.freezing.note(&self.words, row);
+        self.freezing.note(row);
         self.entering.note(&self.words, row);
         self.taking.note(self.words.layout(), row);
         note_load(&mut self.loaded, row);

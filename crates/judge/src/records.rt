@@ -6,7 +6,7 @@ ghost use Rattle.arena.specs.ScxRecords.{plan, member, count, field};
 ghost use Rattle.arena.specs.Words.{node, scx};
 ghost use Rattle.judge.specs.Histories.{history};
 
-use crate::facts::{is_frozen, value_of};
+use crate::facts::{frozen_count, value_of};
 use crate::judge::Judge;
 use arena::{NodeNo, NodeWord, Plan, ScxNo, ScxWord, Word};
 
@@ -64,13 +64,8 @@ pub fn field(judge: &Judge, scx: u64) -> Word
 
 /// Whether the nodes before a place have been frozen for an SCX-record.
 pub fn are_frozen(judge: &Judge, scx: u64, place: u8) -> bool
-    requires { place ≤ 4 }
+    requires { place ≤ count (history judge.now) scx }
     ensures { IsTrue result → AreFrozen (history judge.now) scx place }
 {
-    for earlier in 0..place {
-        if !is_frozen(judge, scx, earlier) {
-            return false;
-        }
-    }
-    true
+    place <= frozen_count(judge, scx)
 }
