@@ -1,5 +1,5 @@
 -- How many flags are not set.
-use Rattle.std.proofs.Common.{◌≡◌, ◌≢◌, ℕ, zero, suc, ◌+◌, ◌<◌, ◌≤◌, Bool, true, false, List, [], ◌∷◌, length, get_or, refl, sym, ◌∙◌, ap, arith, get_or-set_other, get_or-set_same}
+use Rattle.std.proofs.Common.{◌≡◌, ◌≢◌, ℕ, zero, suc, ◌+◌, ◌<◌, ◌≤◌, Bool, true, false, List, [], ◌∷◌, length, get_or, replicate, refl, sym, ◌∙◌, ap, arith, get_or-set_other, get_or-set_same}
 use Rattle.std.proofs.lemmas.List.{get_or_read}
 use Rattle.std.specs.Prelude.{slice_set, slice_index_or}
 use Rattle.judge.specs.Graph.{has_flag, count_unset}
@@ -21,3 +21,22 @@ set_here flags v l = get_or-set_same flags v true false l
 
 pub set_there : (flags : List Bool) (v w : ℕ) → w ≢ v → has_flag (slice_set flags v true) w ≡ has_flag flags w
 set_there flags v w d = get_or-set_other flags v w true false d
+
+-- lists of one value
+
+abbrev pub zero_list : ℕ → List ℕ
+zero_list n = replicate n 0
+
+pub zeros : (n i : ℕ) → slice_index_or (zero_list n) i 0 ≡ 0
+zeros zero i = refl
+zeros (suc n) zero = refl
+zeros (suc n) (suc i) = zeros n i
+
+pub no_flags : (n i : ℕ) → has_flag (replicate n false) i ≡ false
+no_flags zero i = refl
+no_flags (suc n) zero = refl
+no_flags (suc n) (suc i) = no_flags n i
+
+pub all_unset : (n : ℕ) → count_unset (replicate n false) ≡ n
+all_unset zero = refl
+all_unset (suc n) = let more = all_unset n in omega (more, arith)

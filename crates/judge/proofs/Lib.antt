@@ -3,3 +3,11 @@ mod Chains
 mod Spreading
 mod Names
 mod Frozen
+mod Used
+mod Taken
+mod Entered
+mod Words
+mod Asked
+mod Making
+mod Winners
+mod Examples

@@ -115,7 +115,7 @@ module _ (lay : Layout) (r : Row) (h : History) (word : IsWord lay r.word) (u v 
   word_origin (Scx s (Seen j)) e i l = absurd l
   word_origin (Scx s Call) e i l = absurd l
 
-start_is : (lay : Layout) (mode : Mode) → Lawful lay (Start mode) → mode ≡ lay.mode
+pub start_is : (lay : Layout) (mode : Mode) → Lawful lay (Start mode) → mode ≡ lay.mode
 unfolding Lawful
 start_is lay mode l = l
 

@@ -9,7 +9,6 @@ use Rattle.arena.specs.History.{History}
 use Rattle.arena.specs.Fills.{IsNamedScx}
 use Rattle.arena.specs.Lawful.{IsFrozen}
 use Rattle.arena.specs.ScxRecords.{count}
-use Rattle.judge.specs.declared.freezing.Freezing.{Freezing}
 
 -- how many of the nodes of s, by the list of these numbers
 abbrev pub frozen_of : List ℕ → ℕ → ℕ
@@ -33,8 +32,8 @@ abbrev pub MayFreeze : List ℕ → Row → Type 0
 MayFreeze frozen r = freezes r ≡ true → (r.after < length frozen) × (frozen_of frozen r.after < 4)
 
 -- the numbers are those of the history
-pub record FreezingStands (lay : Layout) (h : History) (f : Freezing) : Type 0 where
-  pub size : length f.frozen.items ≡ all_scx lay
+pub record FreezingStands (lay : Layout) (h : History) (frozen : List ℕ) : Type 0 where
+  pub size : length frozen ≡ all_scx lay
   -- the first of its nodes, so many, were frozen for s
-  pub first : (s j : ℕ) → j < count h s → IsFrozen h s j ↔ (j < frozen_of f.frozen.items s)
-  pub none : (s : ℕ) → ¬ IsNamedScx h s → frozen_of f.frozen.items s ≡ 0
+  pub first : (s j : ℕ) → j < count h s → IsFrozen h s j ↔ (j < frozen_of frozen s)
+  pub none : (s : ℕ) → ¬ IsNamedScx h s → frozen_of frozen s ≡ 0

@@ -15,7 +15,7 @@ pub(crate) struct Freezing {
 impl Freezing {
     /// No node is frozen yet. The only error is want of memory.
     pub(crate) fn new(alloc: Global, layout: &Layout) -> Result<Freezing, NoMemory>
-        ensures { IfOk result (FreezingStands layout.now (Start layout.now.mode)) }
+        ensures { IfOk result (λ f. FreezingStands layout.now (Start layout.now.mode) f.frozen.items) }
     {
         Ok(Freezing {
             frozen: vec![in alloc; 0; layout.all_scx() as usize]?,

@@ -1,5 +1,5 @@
 //! A judge of runs, which goes from row to row. Each row costs a bounded time, over a run.
-use crate::entering::Entering;
+use crate::entering::{Entering, enters};
 use crate::freezing::Freezing;
 use crate::naming::Naming;
 use crate::past::Past;
@@ -163,8 +163,9 @@ impl Judge {
         ensures none { IfNone result ((s : ℕ) → IsWin (history self.now) row.now s → ⊥) }
         ensures unlogged { IfNone result (log self.now.layout (row.now ⊳ history self.now) ≡ log self.now.layout (history self.now)) }
     {
-        match (row.kind, row.word) {
-            (Kind::Update, Word::Node(node, NodeWord::Child(_))) if row.before != row.after => {
+        let _words = &self.words;
+        match row.word {
+            Word::Node(node, _) if enters(row) => {
                 Some(ScxNo(self.get(Word::Node(node, NodeWord::Info))))
             }
             _ => None,
@@ -218,8 +219,14 @@ impl Judge {
     }
 }
 
+ghost use Rattle.std.specs.Prelude.{◌≡◌, ◌<◌, length};
+ghost use Rattle.arena.specs.declared.step.Access.TheVariants.{Store};
+
 /// The step that leaves what a row has left in its word.
-fn left_by(row: &Row) -> Step {
+fn left_by(row: &Row) -> Step
+    ensures word { result.word ≡ row.now.word }
+    ensures access { result.access ≡ Store row.now.after }
+{
     Step {
         kind: row.kind,
         word: row.word,
@@ -228,7 +235,9 @@ fn left_by(row: &Row) -> Step {
 }
 
 /// Remembers of which SCX-record a pass has loaded a word.
-fn note_load(loaded: &mut [u64], row: &Row) {
+fn note_load(loaded: &mut [u64], row: &Row)
+    requires { row.now.pass.0 < length loaded.old }
+{
     if let Word::Scx(scx, _) = row.word {
         loaded[row.pass.0 as usize] = scx.0;
     }

@@ -12,11 +12,18 @@ returns c =
     let lay = c.args.layout.now in
     let some = some_open lay.mode in
     let inv = c.loop-node.invariant in
-    let nodes : c.from-nodes.result ≡ all_nodes lay = ? in
-    let scxs : c.from-scxs.result ≡ all_scx lay = ? in
+    let nodes : c.from-nodes.result ≡ all_nodes lay = c.from-nodes.ensures ∙ c.all_nodes.ensures.nodes in
+    let scxs : c.from-scxs.result ≡ all_scx lay = c.from-scxs.ensures ∙ c.all_scx.ensures.scx in
+    let done : c.loop-node.node ≡ opening_nodes lay.mode = omega (c.loop-node-test.false, c.loop-node.auto.node-end, c.opening-node-end.ensures, arith) in
     record {
-      naming = record { graph = inv.graph; size = inv.size; some_nodes = ?; few_nodes = ?; few_scxs = ? };
+      naming = record {
+        graph = inv.graph;
+        size = inv.size;
+        some_nodes = omega (nodes, some, arith);
+        few_nodes = omega (c.from-nodes.ensures, c.all_nodes.ensures.fits, arith);
+        few_scxs = omega (c.from-scxs.ensures, c.all_scx.ensures.fits, arith);
+      };
       nodes = nodes;
       scxs = scxs;
-      links = ?;
+      links = inv.links ∙ ap (opening_links c.from-nodes.result) done ∙ ap (λ n. opening_links n (opening_nodes lay.mode)) nodes;
     }

@@ -1,0 +1,7 @@
+use Rattle.std.proofs.Common.{sym}
+use Rattle.judge.specs.Histories.{history}
+use Rattle.judge.proofs.Words.{value_outside}
+use Rattle.judge.proofs.facts.value_of.Goals as goal
+
+pub returns-else-has : goal.returns-else-has
+returns-else-has c = rw (← c.judge.view_is) (sym (value_outside _ _ c.args.word c.judge.invariant.lawful (λ i. ?)))
