@@ -9,5 +9,6 @@ mod Entered
 mod Words
 mod Asked
 mod Making
+mod Judged
 mod Winners
 mod Examples

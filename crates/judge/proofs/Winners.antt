@@ -5,6 +5,8 @@ use Rattle.arena.specs.declared.layout.Layout.{Layout}
 use Rattle.arena.specs.declared.word.Side.{Side}
 use Rattle.arena.specs.declared.word.NodeWord.{NodeWord}
 use Rattle.arena.specs.declared.word.NodeWord.TheVariants.{Head, Key, Value, Child, Info, Marked}
+use Rattle.arena.specs.declared.number.ScxNo.{ScxNo}
+use Rattle.arena.specs.declared.word.ScxWord.{ScxWord}
 use Rattle.arena.specs.declared.word.Word.{Word}
 use Rattle.arena.specs.declared.word.Word.TheVariants.{Node, Scx}
 use Rattle.arena.specs.declared.step.Kind.{Kind}
@@ -40,8 +42,8 @@ field_update _ w e = absurd (cc)
 
 pub entering_row : (r : Row) → enters r ≡ true → (n : ℕ) × (side : Side) × IsEntering r n side
 entering_row r e =
-    let u = field_update r.kind r.word (and_left _ _ e) in
-    (u.1.0, u.1.1, record { kind = u.0; word = u.1.2; changed = λ same. let t : not (eqb r.before r.after) ≡ true = and_right _ _ e in let f : not (eqb r.before r.after) ≡ false = rw (eq-eqb r.before r.after same) refl in cc })
+    let u = field_update r.kind r.word (and_left (is_field_update r.kind r.word) (not (eqb r.before r.after)) e) in
+    (u.1.0, u.1.1, record { kind = u.0; word = u.1.2; changed = λ same. let t : not (eqb r.before r.after) ≡ true = and_right (is_field_update r.kind r.word) (not (eqb r.before r.after)) e in let f : not (eqb r.before r.after) ≡ false = rw (eq-eqb r.before r.after same) refl in cc })
 
 pub enters_if : (r : Row) (n : ℕ) (side : Side) → IsEntering r n side → enters r ≡ true
 enters_if r n side x = rw (x.kind, x.word, ne_eqb r.before r.after x.changed) refl
@@ -90,3 +92,21 @@ no_update lay h r e x l k = by (change lay h r (lawful_more lay h r l x))
 
 pub quiet_logs : (lay : Layout) (h : History) (r : Row) → Lawful lay h → IsLawful lay h r → enters r ≡ false → log lay (r ⊳ h) ≡ log lay h
 quiet_logs lay h r l x e = log_same lay h r (no_update lay h r e x l)
+
+-- a row on a word of an SCX-record makes none
+
+no_scx_update : (k : Kind) (w : Word) (s : ScxNo) (part : ScxWord) → w ≡ Scx s part → is_field_update k w ≡ false
+no_scx_update Update w s part e = rw e refl
+no_scx_update _ w s part e = refl
+
+pub scx_enters_not : (r : Row) (s : ScxNo) (part : ScxWord) → r.word ≡ Scx s part → enters r ≡ false
+scx_enters_not r s part e = rw (no_scx_update r.kind r.word s part e) refl
+
+-- the node of a word
+
+abbrev node_number : Word → ℕ
+node_number (Node n part) = n.0
+node_number (Scx s part) = 0
+
+pub node_is : (w : Word) (n m : ℕ) (side : Side) (part : NodeWord) → w ≡ child n side → w ≡ node m part → n ≡ m
+node_is w n m side part e f = ap node_number (sym e ∙ f)

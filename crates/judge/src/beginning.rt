@@ -128,6 +128,16 @@ fn is_unused(judge: &Judge, user: u64, node: u64) -> bool
     !was_in_field(judge, node) && !was_in_other_new(judge, user, node)
 }
 
+/// Whether a node is of the pass's own share, and no field and no other `new` has named it.
+fn is_fresh(judge: &Judge, pass: PassNo, user: u64, node: u64) -> bool
+    requires { pass.0 < judge.now.layout.passes }
+    ensures own { IsTrue result → IsOwnNode judge.now.layout pass.0 node }
+    ensures fields { IsTrue result → (n : ℕ) → (side : Side) → HasHeld (history judge.now) (child n side) node → ⊥ }
+    ensures others { IsTrue result → (u : ℕ) → u ≢ user → HasHeld (history judge.now) (scx u New) node → ⊥ }
+{
+    is_own_node(judge.layout(), pass, node) && is_unused(judge, user, node)
+}
+
 /// Whether an SCX-record of these nodes may begin.
 fn are_ready(judge: &Judge, scx: u64, count: u8) -> bool
     ensures inside { IsTrue result → (j : ℕ) → j < count → member (history judge.now) scx j < all_nodes judge.now.layout }
@@ -151,6 +161,5 @@ pub fn may_begin(judge: &Judge, pass: PassNo, scx: u64) -> bool
         && plan(judge, scx).is_valid()
         && are_ready(judge, scx, count(judge, scx))
         && shows_old(judge, scx)
-        && is_own_node(judge.layout(), pass, new)
-        && is_unused(judge, scx, new)
+        && is_fresh(judge, pass, scx, new)
 }

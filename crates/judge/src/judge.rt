@@ -1,4 +1,7 @@
-//! A judge of runs, which goes from row to row. Each row costs a bounded time, over a run.
+//! A judge of runs, which goes from row to row and judges each by the words and by what it remembers
+//! of the rows before: over a run, in the time of a few words for each row. Only an exchange that
+//! loses may cost more: where it is neither for the SCX-record that it finds nor for the one of which
+//! its pass has loaded a word last, all SCX-records are looked at.
 use crate::entering::{Entering, enters};
 use crate::freezing::Freezing;
 use crate::naming::Naming;
