@@ -27,6 +27,7 @@ module _ (lay : Layout) (h : History) (n : Naming) (lawful : Lawful lay h) (s : 
       node_shown lay h lawful m (rw (← s.nodes) (r.0)) (there (n.nodes + m) (all_nodes lay + m) (rw s.nodes refl) r.1)
 
   pub scx_asked : (u : ℕ) (b : Bool) → IsTrue b ↔ ((u < n.scxs) × IsReached (links_of n.graph) (2 * n.nodes + u)) → IsTrue b ↔ IsNamedScx h u
-  scx_asked u b p =
-      (λ t. scx_named lay h lawful u (there (2 * n.nodes + u) (2 * all_nodes lay + u) (rw s.nodes refl) (p.0 t).1),
-      λ q. let r = named_scx lay h lawful u q in p.1 (rw s.scxs r.0, back (2 * all_nodes lay + u) (2 * n.nodes + u) (rw s.nodes refl) r.1))
+  scx_asked u b p = (
+    λ t. scx_named lay h lawful u (there (2 * n.nodes + u) (2 * all_nodes lay + u) (rw s.nodes refl) (p.0 t).1),
+    λ q. let r = named_scx lay h lawful u q in p.1 (rw s.scxs r.0, back (2 * all_nodes lay + u) (2 * n.nodes + u) (rw s.nodes refl) r.1),
+  )

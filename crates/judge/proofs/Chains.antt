@@ -26,6 +26,7 @@ stands_split list i k l a = go (before_or i (length list))
     before_or m zero = inr (omega arith)
     before_or zero (suc n) = inl (omega arith)
     before_or (suc m) (suc n) = ⊎_elim (λ e. inl (omega (e, arith))) (λ e. inr (omega (e, arith))) (before_or m n)
+
     go : (i < length list) ⊎ (length list ≤ i) → StandsAt list i k ⊎ ((i ≡ length list) × (k ≡ l))
     go (inl e) = inl (stands_back list (l ∷ []) i k e a)
     go (inr e) =

@@ -22,7 +22,7 @@ use Rattle.arena.specs.ScxRecords.{count, count_of, plan, member, field, field_i
 use Rattle.arena.proofs.Lemmas.{or_split, or_right}
 use Rattle.histories.proofs.Lemmas.{Change, UpdateWins, nothing, fills_node, fills_scx, freezes, sets_frozen, marks, updates, commits, aborts, change, facts_before, facts, Facts, lawful_row, Logs, logs, same, wins, entry_of, log_wins, update_changes, update_holds, update_about, update_is_first, update_won, update_split, named_scx_inside, won_named, won_more}
 use Rattle.judge.specs.Graph.{has_flag, count_unset}
-use Rattle.judge.specs.Enters.{is_field_update, enters}
+use Rattle.judge.specs.Enters.{is_field_update, makes_entry}
 use Rattle.judge.specs.Entering.{plan_in, member_in, holder_in, last_after, finals_after, MayEnter, EnteringStands}
 use Rattle.judge.specs.declared.entering.Entering.{Entering}
 use Rattle.judge.proofs.Counts.{set_here, set_there, unset_less, no_flags, all_unset, zeros, zero_list}
@@ -31,28 +31,29 @@ use Rattle.judge.proofs.Frozen.{few}
 
 -- Which rows make an entry
 
-enters_not : (r : Row) (k : Kind) → r.kind ≡ k → is_field_update k r.word ≡ false → enters r ≡ false
+enters_not : (r : Row) (k : Kind) → r.kind ≡ k → is_field_update k r.word ≡ false → makes_entry r ≡ false
 enters_not r k e f = ap (λ (x : Kind). is_field_update x r.word && not (eqb r.before r.after)) e ∙ rw f refl
 
-enters_nothing : (r : Row) → r.after ≡ r.before → enters r ≡ false
+enters_nothing : (r : Row) → r.after ≡ r.before → makes_entry r ≡ false
 enters_nothing r e = go (is_field_update r.kind r.word)
   where
     go : (b : Bool) → b && not (eqb r.before r.after) ≡ false
     go false = refl
     go true = rw (eq-eqb r.before r.after (sym e)) refl
 
-enters_win : (lay : Layout) (h : History) (r : Row) (s : ℕ) → Facts lay h → UpdateWins h r s → enters r ≡ true
+enters_win : (lay : Layout) (h : History) (r : Row) (s : ℕ) → Facts lay h → UpdateWins h r s → makes_entry r ≡ true
 enters_win lay h r s f w = rw (w.kind, w.update.word, ne_eqb r.before r.after (update_changes f w)) refl
 
 abbrev Entries : Layout → History → Row → Type 0
-Entries lay h r = ((enters r ≡ false) × (log lay (r ⊳ h) ≡ log lay h) × ((s : ℕ) → HasWon (r ⊳ h) s → HasWon h s)) ⊎ ((s : ℕ) × UpdateWins h r s)
+Entries lay h r = ((makes_entry r ≡ false) × (log lay (r ⊳ h) ≡ log lay h) × ((s : ℕ) → HasWon (r ⊳ h) s → HasWon h s)) ⊎ ((s : ℕ) × UpdateWins h r s)
 
 entries_of : (lay : Layout) (h : History) (r : Row) → Lawful lay (r ⊳ h) → Entries lay h r
 entries_of lay h r l = by (change lay h r l) (logs lay h r l)
   where
-    quiet : enters r ≡ false → Logs lay h r → Entries lay h r
+    quiet : makes_entry r ≡ false → Logs lay h r → Entries lay h r
     quiet e (same a b) = inl (e, a, b)
     quiet e (wins u w a) = inr (u, w)
+
     by : Change lay h r → Logs lay h r → Entries lay h r
     by (nothing i e) g = quiet (enters_nothing r e) g
     by (fills_node m part x) g = quiet (enters_not r Fill x.kind refl) g
@@ -145,15 +146,15 @@ module _ (c : Contents) (h : History) (s : ℕ) (agrees : (j : ℕ) → j < 4 �
       let at = agrees k (omega (few, arith)) in
       let next = members_next h s n k in
       rw (at, next) (⊎_elim
-          (λ m.
-              let here : slice_index_or (slice_set (last_after c s k e places) (member h s k) e) n 0 ≡ e = rw m (get_or-set_same (last_after c s k e places) (member h s k) e 0 (let i = inside k (omega arith) in rw (last_long c s k e places) i)) in
-              let there : (has (members_from h s 0 k) n || eqb (member h s k) n) ≡ true = or_right (has (members_from h s 0 k) n) (eqb (member h s k) n) (eq-eqb (member h s k) n (sym m)) in
-              here ∙ sym (ap (λ b. cond b e (slice_index_or places n 0)) there))
-          (λ d.
-              let other = get_or-set_other (last_after c s k e places) (member h s k) n e 0 d in
-              let not_there : (has (members_from h s 0 k) n || eqb (member h s k) n) ≡ has (members_from h s 0 k) n = ap (λ b. has (members_from h s 0 k) n || b) (ne_eqb (member h s k) n (λ q. d (sym q))) ∙ or_false (has (members_from h s 0 k) n) in
-              other ∙ before ∙ sym (ap (λ b. cond b e (slice_index_or places n 0)) not_there))
-          (same_or n (member h s k)))
+      (λ m.
+      let here : slice_index_or (slice_set (last_after c s k e places) (member h s k) e) n 0 ≡ e = rw m (get_or-set_same (last_after c s k e places) (member h s k) e 0 (let i = inside k (omega arith) in rw (last_long c s k e places) i)) in
+      let there : (has (members_from h s 0 k) n || eqb (member h s k) n) ≡ true = or_right (has (members_from h s 0 k) n) (eqb (member h s k) n) (eq-eqb (member h s k) n (sym m)) in
+      here ∙ sym (ap (λ b. cond b e (slice_index_or places n 0)) there))
+      (λ d.
+      let other = get_or-set_other (last_after c s k e places) (member h s k) n e 0 d in
+      let not_there : (has (members_from h s 0 k) n || eqb (member h s k) n) ≡ has (members_from h s 0 k) n = ap (λ b. has (members_from h s 0 k) n || b) (ne_eqb (member h s k) n (λ q. d (sym q))) ∙ or_false (has (members_from h s 0 k) n) in
+      other ∙ before ∙ sym (ap (λ b. cond b e (slice_index_or places n 0)) not_there))
+      (same_or n (member h s k)))
 
   finals_is : (k : ℕ) (finals : List Bool) (n : ℕ) → k ≤ 4 → ((j : ℕ) → j < k → member h s j < length finals) → has_flag (finals_after c s k finals) n ≡ (has (finalized_from h s 0 k) n || has_flag finals n)
   finals_is zero finals n few inside = refl
@@ -221,13 +222,13 @@ module _ (lay : Layout) (h : History) (r : Row) (lawful : Lawful lay (r ⊳ h)) 
       fits = let all = old.counted in let small = scx_fit lay in omega (all, small, arith);
     }
 
-  pub may_enter : enters r ≡ true → MayEnter c e (holder_in c r.word)
+  pub may_enter : makes_entry r ≡ true → MayEnter c e (holder_in c r.word)
   may_enter t = ⊎_elim (λ q. absurd (let both : true ≡ false = sym t ∙ q.0 in cc)) (λ q. rw (is_holder q.0 q.1) (may_win q.0 q.1)) (entries_of lay h r lawful)
 
-  pub entering_more : new.entries ≡ cond (enters r) (e.entries + 1) e.entries → new.won.items ≡ cond (enters r) (slice_set e.won.items (holder_in c r.word) true) e.won.items → new.last.items ≡ cond (enters r) (last_after c (holder_in c r.word) (count_of (plan_in c (holder_in c r.word))) (e.entries + 1) e.last.items) e.last.items → new.finals.items ≡ cond (enters r) (finals_after c (holder_in c r.word) (count_of (plan_in c (holder_in c r.word))) e.finals.items) e.finals.items → EnteringStands lay (r ⊳ h) new
+  pub entering_more : new.entries ≡ cond (makes_entry r) (e.entries + 1) e.entries → new.won.items ≡ cond (makes_entry r) (slice_set e.won.items (holder_in c r.word) true) e.won.items → new.last.items ≡ cond (makes_entry r) (last_after c (holder_in c r.word) (count_of (plan_in c (holder_in c r.word))) (e.entries + 1) e.last.items) e.last.items → new.finals.items ≡ cond (makes_entry r) (finals_after c (holder_in c r.word) (count_of (plan_in c (holder_in c r.word))) e.finals.items) e.finals.items → EnteringStands lay (r ⊳ h) new
   entering_more a b d f = ⊎_elim quiet win (entries_of lay h r lawful)
     where
-      quiet : (enters r ≡ false) × (log lay (r ⊳ h) ≡ log lay h) × ((s : ℕ) → HasWon (r ⊳ h) s → HasWon h s) → EnteringStands lay (r ⊳ h) new
+      quiet : (makes_entry r ≡ false) × (log lay (r ⊳ h) ≡ log lay h) × ((s : ℕ) → HasWon (r ⊳ h) s → HasWon h s) → EnteringStands lay (r ⊳ h) new
       quiet q =
           let entries : new.entries ≡ e.entries = a ∙ ap (λ t. cond t (e.entries + 1) e.entries) q.0 in
           let won : new.won.items ≡ e.won.items = b ∙ ap (λ t. cond t (slice_set e.won.items (holder_in c r.word) true) e.won.items) q.0 in
@@ -243,6 +244,7 @@ module _ (lay : Layout) (h : History) (r : Row) (lawful : Lawful lay (r ⊳ h)) 
             last = λ n. rw (places, q.1) (old.last n);
             finals = λ n. rw (finals, q.1) (old.finals n);
           }
+
       win : (s : ℕ) × UpdateWins h r s → EnteringStands lay (r ⊳ h) new
       win (s, w) =
           let t = enters_win lay h r s known w in
@@ -273,6 +275,7 @@ module _ (lay : Layout) (h : History) (r : Row) (lawful : Lawful lay (r ⊳ h)) 
         where
           plus_one : (n : ℕ) → n + 1 ≡ suc n
           plus_one n = omega arith
+
           parts : (n : ℕ) (b : Bool) → e.entries + 1 ≡ suc (length (log lay h)) → slice_index_or e.last.items n 0 ≡ last (log lay h) n → cond b (e.entries + 1) (slice_index_or e.last.items n 0) ≡ cond b (suc (length (log lay h))) (last (log lay h) n)
           parts n true p q = p
           parts n false p q = q

@@ -82,9 +82,9 @@ module _ (lay : Layout) (h : History) (r : Row) (frozen : List ℕ) (n : Freezin
     size = n.size;
     first = λ s j l. ⊎_elim
         (λ e.
-            let free : ¬ IsNamedScx (r ⊳ h) s = λ q. unnamed (subst (λ (t : ℕ). IsNamedScx h t) e (keeps_named r h s infos q)) in
-            let zero_is = none_same s free in
-            (λ p. absurd (free (member (r ⊳ h) s j, p)), λ i. absurd (omega (i, zero_is, arith))))
+        let free : ¬ IsNamedScx (r ⊳ h) s = λ q. unnamed (subst (λ (t : ℕ). IsNamedScx h t) e (keeps_named r h s infos q)) in
+        let zero_is = none_same s free in
+        (λ p. absurd (free (member (r ⊳ h) s j, p)), λ i. absurd (omega (i, zero_is, arith))))
         (λ d. first_same s j (record { infos = infos; plan = others s d Plan; members = λ i. others s d (Member i) }) l)
         (same_or s u);
     none = none_same;
@@ -92,24 +92,25 @@ module _ (lay : Layout) (h : History) (r : Row) (frozen : List ℕ) (n : Freezin
     where
       infos : (m : ℕ) → value (r ⊳ h) (info m) ≡ value h (info m)
       infos m = value_apart r h (scx u part) (info m) word refl
+
       others : (s : ℕ) → s ≢ u → (a : ScxWord) → value (r ⊳ h) (scx s a) ≡ value h (scx s a)
       others s d a = value_apart r h (scx u part) (scx s a) word (scx_apart u s part a (λ e. d (sym e)))
 
   -- a word of a node, and no info
   at_node : (m : ℕ) (part : NodeWord) → r.word ≡ node m part → same_node_word part Info ≡ false → FreezingStands lay (r ⊳ h) frozen
   at_node m part word d = all_same (λ s. record {
-      infos = λ i. value_apart r h (node m part) (info i) word (node_word_apart m i part Info d);
-      plan = value_apart r h (node m part) (scx s Plan) word refl;
-      members = λ j. value_apart r h (node m part) (scx s (Member j)) word refl;
-    })
+    infos = λ i. value_apart r h (node m part) (info i) word (node_word_apart m i part Info d);
+    plan = value_apart r h (node m part) (scx s Plan) word refl;
+    members = λ j. value_apart r h (node m part) (scx s (Member j)) word refl;
+  })
 
   -- a word of an SCX-record that fills never change
   at_state : (u : ℕ) (part : ScxWord) → r.word ≡ scx u part → same_scx_word part Plan ≡ false → ((j : ℕ) → same_scx_word part (Member j) ≡ false) → FreezingStands lay (r ⊳ h) frozen
   at_state u part word d e = all_same (λ s. record {
-      infos = λ i. value_apart r h (scx u part) (info i) word refl;
-      plan = value_apart r h (scx u part) (scx s Plan) word (scx_word_apart u s part Plan d);
-      members = λ j. value_apart r h (scx u part) (scx s (Member j)) word (scx_word_apart u s part (Member j) (e j));
-    })
+    infos = λ i. value_apart r h (scx u part) (info i) word refl;
+    plan = value_apart r h (scx u part) (scx s Plan) word (scx_word_apart u s part Plan d);
+    members = λ j. value_apart r h (scx u part) (scx s (Member j)) word (scx_word_apart u s part (Member j) (e j));
+  })
 
   at_nothing : r.before ≡ value h r.word → r.after ≡ r.before → FreezingStands lay (r ⊳ h) frozen
   at_nothing b e = let same = value_quiet r h b e in all_same (λ s. record { infos = λ i. same (info i); plan = same (scx s Plan); members = λ j. same (scx s (Member j)) })
@@ -175,16 +176,18 @@ module _ (lay : Layout) (h : History) (r : Row) (frozen : List ℕ) (n : Freezin
 
     of_it : (i : ℕ) → i < count h s → IsFrozen (r ⊳ h) s i ↔ (i < frozen_of more s)
     of_it i l =
-        let old = n.first s i l in
-        (λ p. ⊎_elim (λ e. ⊎_elim (λ same. omega (same, here, arith)) (λ d. absurd (freeze_distinct known w j i w.freeze.within l (λ same. d (sym same)) e.1)) (same_or i j)) (λ q. let k = old.0 q in omega (k, number, here, arith)) (split_one s i p),
-        λ e. ⊎_elim (λ same. subst (λ (k : ℕ). IsFrozen (r ⊳ h) s k) (sym same) held_one) (λ d. old_one s i (old.1 (omega (e, here, number, d, arith)))) (same_or i j))
+        let old = n.first s i l in (
+          λ p. ⊎_elim (λ e. ⊎_elim (λ same. omega (same, here, arith)) (λ d. absurd (freeze_distinct known w j i w.freeze.within l (λ same. d (sym same)) e.1)) (same_or i j)) (λ q. let k = old.0 q in omega (k, number, here, arith)) (split_one s i p),
+          λ e. ⊎_elim (λ same. subst (λ (k : ℕ). IsFrozen (r ⊳ h) s k) (sym same) held_one) (λ d. old_one s i (old.1 (omega (e, here, number, d, arith)))) (same_or i j),
+        )
 
     of_other : (t i : ℕ) → t ≢ s → i < count h t → IsFrozen (r ⊳ h) t i ↔ (i < frozen_of more t)
     of_other t i d l =
         let old = n.first t i l in
-        let same = there t d in
-        (λ p. ⊎_elim (λ e. absurd (d e.0)) (λ q. let k = old.0 q in omega (k, same, arith)) (split_one t i p),
-        λ e. old_one t i (old.1 (omega (e, same, arith))))
+        let same = there t d in (
+          λ p. ⊎_elim (λ e. absurd (d e.0)) (λ q. let k = old.0 q in omega (k, same, arith)) (split_one t i p),
+          λ e. old_one t i (old.1 (omega (e, same, arith))),
+        )
 
     after_freeze : FreezingStands lay (r ⊳ h) more
     unfolding more

@@ -16,7 +16,7 @@ use Rattle.judge.specs.Graph.{links_of}
 use Rattle.judge.specs.Naming.{IsNaming, IsInside, NamingStands, word_links, named_links}
 use Rattle.judge.specs.Uses.{fields_after, users_after}
 use Rattle.judge.specs.Freezing.{frozen_after, FreezingStands}
-use Rattle.judge.specs.Enters.{enters}
+use Rattle.judge.specs.Enters.{makes_entry}
 use Rattle.judge.specs.Entering.{holder_in, plan_in, last_after, finals_after}
 use Rattle.judge.specs.Taking.{takes_node, takes_scx, one_more}
 use Rattle.judge.specs.StandsFor.{StandsFor}
@@ -37,10 +37,10 @@ pub record IsMade (lay : Layout) (r : Row) (old new : Inside) : Type 0 where
   pub fields : new.uses.in_field.items ≡ fields_after r.word r.after old.uses.in_field.items
   pub users : new.uses.users.items ≡ users_after r.word r.after old.uses.users.items
   pub frozen : new.freezing.frozen.items ≡ frozen_after r old.freezing.frozen.items
-  pub entries : new.entering.entries ≡ cond (enters r) (old.entering.entries + 1) old.entering.entries
-  pub won : new.entering.won.items ≡ cond (enters r) (slice_set old.entering.won.items (holder_in old.words r.word) true) old.entering.won.items
-  pub last : new.entering.last.items ≡ cond (enters r) (last_after old.words (holder_in old.words r.word) (count_of (plan_in old.words (holder_in old.words r.word))) (old.entering.entries + 1) old.entering.last.items) old.entering.last.items
-  pub finals : new.entering.finals.items ≡ cond (enters r) (finals_after old.words (holder_in old.words r.word) (count_of (plan_in old.words (holder_in old.words r.word))) old.entering.finals.items) old.entering.finals.items
+  pub entries : new.entering.entries ≡ cond (makes_entry r) (old.entering.entries + 1) old.entering.entries
+  pub won : new.entering.won.items ≡ cond (makes_entry r) (slice_set old.entering.won.items (holder_in old.words r.word) true) old.entering.won.items
+  pub last : new.entering.last.items ≡ cond (makes_entry r) (last_after old.words (holder_in old.words r.word) (count_of (plan_in old.words (holder_in old.words r.word))) (old.entering.entries + 1) old.entering.last.items) old.entering.last.items
+  pub finals : new.entering.finals.items ≡ cond (makes_entry r) (finals_after old.words (holder_in old.words r.word) (count_of (plan_in old.words (holder_in old.words r.word))) old.entering.finals.items) old.entering.finals.items
   pub taken_nodes : new.taking.nodes.items ≡ cond (takes_node lay r.pass.0 r.kind r.word old.taking.nodes.items) (one_more old.taking.nodes.items r.pass.0) old.taking.nodes.items
   pub taken_scx : new.taking.scx.items ≡ cond (takes_scx lay r.pass.0 r.kind r.word old.taking.scx.items) (one_more old.taking.scx.items r.pass.0) old.taking.scx.items
   pub taken_all : new.taking.all_nodes ≡ cond (takes_node lay r.pass.0 r.kind r.word old.taking.nodes.items) (old.taking.all_nodes + 1) old.taking.all_nodes

@@ -169,15 +169,15 @@ module _ (lay : Layout) (h : History) (lawful : Lawful lay h) where
       let named : IsNamed lay h a = subst (λ (w : ℕ). IsNamed lay h w) e (m.node (omega (e, k, arith))) in
       ⊎_elim
       (λ f. record {
-          node = λ i. rw f (by_field a side named p);
-          shown = λ j i g. absurd (omega (f, l, g, arith));
-          begun = λ s g. absurd (omega (f, l, g, arith));
-        })
+        node = λ i. rw f (by_field a side named p);
+        shown = λ j i g. absurd (omega (f, l, g, arith));
+        begun = λ s g. absurd (omega (f, l, g, arith));
+      })
       (λ f. record {
-          node = λ i. absurd (omega (f, i, arith));
-          shown = λ j i g. let z : j ≡ n = omega (f, g, arith) in rw z (inr (a, side, named, p));
-          begun = λ s g. absurd (omega (f, l, g, arith));
-        })
+        node = λ i. absurd (omega (f, i, arith));
+        shown = λ j i g. let z : j ≡ n = omega (f, g, arith) in rw z (inr (a, side, named, p));
+        begun = λ s g. absurd (omega (f, l, g, arith));
+      })
       d
   origin_means u v (of_info a s p l e) m = record {
     node = λ k. absurd (omega (k, e, arith));
@@ -249,16 +249,16 @@ field_link lay (Start mode) m side n l i p =
     inl (subst (λ (x : Mode). n < opening_nodes x) (start_is lay mode l) k)
 field_link lay (r ⊳ h) m side n l i p = ⊎_elim
     (λ e.
-        let inside : IsWord lay (child m side) = subst (λ (w : Word). IsWord lay w) e.0 (lawful_row lay h r l).word in
-        let t = test_link r.after (all_nodes lay) in
-        let more : r.after < all_nodes lay = omega (e.1, i, arith) in
-        let links : List (ℕ × ℕ) = (m, all_nodes lay + r.after) ∷ (m, r.after) ∷ [] in
-        let word : IsLink (word_links (all_nodes lay) (all_scx lay) (child m side) r.after) m r.after = t m r.after links more (inr (inl (refl, refl))) in
-        let shown : IsLink (word_links (all_nodes lay) (all_scx lay) (child m side) r.after) m (all_nodes lay + r.after) = t m (all_nodes lay + r.after) links more (inl (refl, refl)) in
-        let P : ℕ → Word → Type 0 = λ v w. IsLink (word_links (all_nodes lay) (all_scx lay) w r.after) m v in
-        let one = new_link lay r h m r.after (subst (P r.after) (sym e.0) word) in
-        let two = new_link lay r h m (all_nodes lay + r.after) (subst (P (all_nodes lay + r.after)) (sym e.0) shown) in
-        inr (inside, rw (← e.1) one, rw (← e.1) two))
+    let inside : IsWord lay (child m side) = subst (λ (w : Word). IsWord lay w) e.0 (lawful_row lay h r l).word in
+    let t = test_link r.after (all_nodes lay) in
+    let more : r.after < all_nodes lay = omega (e.1, i, arith) in
+    let links : List (ℕ × ℕ) = (m, all_nodes lay + r.after) ∷ (m, r.after) ∷ [] in
+    let word : IsLink (word_links (all_nodes lay) (all_scx lay) (child m side) r.after) m r.after = t m r.after links more (inr (inl (refl, refl))) in
+    let shown : IsLink (word_links (all_nodes lay) (all_scx lay) (child m side) r.after) m (all_nodes lay + r.after) = t m (all_nodes lay + r.after) links more (inl (refl, refl)) in
+    let P : ℕ → Word → Type 0 = λ v w. IsLink (word_links (all_nodes lay) (all_scx lay) w r.after) m v in
+    let one = new_link lay r h m r.after (subst (P r.after) (sym e.0) word) in
+    let two = new_link lay r h m (all_nodes lay + r.after) (subst (P (all_nodes lay + r.after)) (sym e.0) shown) in
+    inr (inside, rw (← e.1) one, rw (← e.1) two))
     (λ q. ⊎_elim (λ k. inl k) (λ k. inr (k.0, old_link lay r h m n k.1, old_link lay r h m (all_nodes lay + n) k.2)) (field_link lay h m side n (lawful_tail lay h r l) i q))
     (held_by_row r h (child m side) n p)
 
@@ -270,9 +270,9 @@ info_link lay (Start mode) m s l i p =
     rw at one
 info_link lay (r ⊳ h) m s l i p = ⊎_elim
     (λ e.
-        let word : IsLink (word_links (all_nodes lay) (all_scx lay) (info m) r.after) 0 (2 * all_nodes lay + r.after) = test_link r.after (all_scx lay) 0 (2 * all_nodes lay + r.after) ((0, 2 * all_nodes lay + r.after) ∷ []) (omega (e.1, i, arith)) (inl (refl, refl)) in
-        let P : Word → Type 0 = λ w. IsLink (word_links (all_nodes lay) (all_scx lay) w r.after) 0 (2 * all_nodes lay + r.after) in
-        rw (← e.1) (new_link lay r h 0 (2 * all_nodes lay + r.after) (subst P (sym e.0) word)))
+    let word : IsLink (word_links (all_nodes lay) (all_scx lay) (info m) r.after) 0 (2 * all_nodes lay + r.after) = test_link r.after (all_scx lay) 0 (2 * all_nodes lay + r.after) ((0, 2 * all_nodes lay + r.after) ∷ []) (omega (e.1, i, arith)) (inl (refl, refl)) in
+    let P : Word → Type 0 = λ w. IsLink (word_links (all_nodes lay) (all_scx lay) w r.after) 0 (2 * all_nodes lay + r.after) in
+    rw (← e.1) (new_link lay r h 0 (2 * all_nodes lay + r.after) (subst P (sym e.0) word)))
     (λ q. old_link lay r h 0 (2 * all_nodes lay + s) (info_link lay h m s (lawful_tail lay h r l) i q))
     (held_by_row r h (info m) s p)
 
@@ -302,11 +302,11 @@ scx_link lay (Start mode) s part n l names i p =
     inl (omega (z, o, arith))
 scx_link lay (r ⊳ h) s part n l names i p = ⊎_elim
     (λ e.
-        let from : ℕ = 2 * all_nodes lay + s in
-        let one : IsLink (scx_links (all_nodes lay) s r.after) (2 * all_nodes lay + s) r.after = test_link r.after (all_nodes lay) (2 * all_nodes lay + s) r.after ((2 * all_nodes lay + s, r.after) ∷ []) (omega (e.1, i, arith)) (inl (refl, refl)) in
-        let word : IsLink (word_links (all_nodes lay) (all_scx lay) (scx s part) r.after) (2 * all_nodes lay + s) r.after = rw (names_links (all_nodes lay) (all_scx lay) s r.after part names) one in
-        let P : Word → Type 0 = λ w. IsLink (word_links (all_nodes lay) (all_scx lay) w r.after) (2 * all_nodes lay + s) r.after in
-        inr (rw (← e.1) (new_link lay r h (2 * all_nodes lay + s) r.after (subst P (sym e.0) word))))
+    let from : ℕ = 2 * all_nodes lay + s in
+    let one : IsLink (scx_links (all_nodes lay) s r.after) (2 * all_nodes lay + s) r.after = test_link r.after (all_nodes lay) (2 * all_nodes lay + s) r.after ((2 * all_nodes lay + s, r.after) ∷ []) (omega (e.1, i, arith)) (inl (refl, refl)) in
+    let word : IsLink (word_links (all_nodes lay) (all_scx lay) (scx s part) r.after) (2 * all_nodes lay + s) r.after = rw (names_links (all_nodes lay) (all_scx lay) s r.after part names) one in
+    let P : Word → Type 0 = λ w. IsLink (word_links (all_nodes lay) (all_scx lay) w r.after) (2 * all_nodes lay + s) r.after in
+    inr (rw (← e.1) (new_link lay r h (2 * all_nodes lay + s) r.after (subst P (sym e.0) word))))
     (λ q. ⊎_elim (λ k. inl k) (λ k. inr (old_link lay r h (2 * all_nodes lay + s) n k)) (scx_link lay h s part n (lawful_tail lay h r l) names i q))
     (held_by_row r h (scx s part) n p)
 

@@ -198,6 +198,7 @@ module _ (reached : List Bool) (newest : List (Option ℕ)) (list : List Link) (
     where
       more : HasLink kept_list x (newest_from newest w)
       more = link_more list (l ∷ []) x (newest_from newest w) p
+
       go : (w ≡ u) ⊎ (w ≢ u) → HasLink kept_list x (newest_from kept_newest w)
       go (inr d) = subst (λ (o : Option ℕ). HasLink kept_list x o) (sym (newest_there newest u w (Some (length list)) d)) more
       go (inl e) =
@@ -220,7 +221,7 @@ module _ (reached : List Bool) (newest : List (Option ℕ)) (list : List Link) (
     closed = λ a b e p. ⊎_elim
         (λ same. absurd (let k : has_flag reached u ≡ true = rw (← same) e in cc))
         (λ d. ⊎_elim (λ k. inl k) (λ q. ⊎_elim (λ f. absurd (no_fresh a f)) (λ f. absurd (no_link list b f.1)) q) (s.closed a b e (chain_there a b d p)))
-        (same_or a u) ;
+        (same_or a u);
     rising = λ i k a. ⊎_elim (λ b. s.rising i k b) (λ e. rw (e.0, e.1, before) (s.ends u)) (stands_split list i k l a);
     ends = λ a. let longer = length-append list (l ∷ []) in ⊎_elim
         (λ e. subst (λ (o : Option ℕ). IfSome o (λ i. i < length kept_list)) (sym (ap (newest_from kept_newest) e ∙ newest_here newest u (Some (length list)) inside)) (omega (longer, arith)))

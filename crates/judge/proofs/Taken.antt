@@ -73,17 +73,19 @@ module _ (from size k m : ℕ) (P Q : ℕ → Type 0) (c : Counted from size k P
       go (inl e) = rw (eq-eqb m (from + k) e) record {
         fits = omega (e, high, arith);
         is = λ n a b.
-            let p = c.is n a b in
-            (λ x. ⊎_elim (λ s. omega (s, e, arith)) (λ y. let l = p.0 y in omega (l, arith)) (split n x),
-            λ l. ⊎_elim (λ s. subst Q (sym s) here) (λ d. old n (p.1 (omega (l, d, e, arith)))) (same_or n m));
+            let p = c.is n a b in (
+              λ x. ⊎_elim (λ s. omega (s, e, arith)) (λ y. let l = p.0 y in omega (l, arith)) (split n x),
+              λ l. ⊎_elim (λ s. subst Q (sym s) here) (λ d. old n (p.1 (omega (l, d, e, arith)))) (same_or n m),
+            );
       }
       go (inr d) = rw (ne_eqb m (from + k) d) record {
         fits = c.fits;
         is = λ n a b.
             let p = c.is n a b in
-            let most = at_most in
-            (λ x. ⊎_elim (λ s. omega (s, d, most, arith)) (λ y. p.0 y) (split n x),
-            λ l. old n (p.1 l));
+            let most = at_most in (
+              λ x. ⊎_elim (λ s. omega (s, d, most, arith)) (λ y. p.0 y) (split n x),
+              λ l. old n (p.1 l),
+            );
       }
 
 -- The lists
@@ -153,17 +155,20 @@ both_taken (r ⊳ h) n = by_row (both_taken h n) (is_fill_or r.kind) r.word refl
   where
     by_row : (has (taken_nodes h) n ≡ true) ↔ IsTakenNode h n → (r.kind ≡ Fill) ⊎ (is_fill r.kind ≡ false) → (w : Word) → r.word ≡ w → (has (taken_nodes (r ⊳ h)) n ≡ true) ↔ IsTakenNode (r ⊳ h) n
     by_row more (inr e) w d =
-        let same = other_list r h e in
-        (λ p. taken_node_more r h n (more.0 (sym (ap (λ ns. has ns n) same) ∙ p)),
-        λ t. ap (λ ns. has ns n) same ∙ more.1 (⊎_elim (λ f. absurd (let k : is_fill r.kind ≡ true = ap is_fill f.1 in cc)) (λ q. q) (taken_node_split r h n t)))
+        let same = other_list r h e in (
+          λ p. taken_node_more r h n (more.0 (sym (ap (λ ns. has ns n) same) ∙ p)),
+          λ t. ap (λ ns. has ns n) same ∙ more.1 (⊎_elim (λ f. absurd (let k : is_fill r.kind ≡ true = ap is_fill f.1 in cc)) (λ q. q) (taken_node_split r h n t)),
+        )
     by_row more (inl e) (Scx s part) d =
-        let same = fill_list r h e (Scx s part) d in
-        (λ p. taken_node_more r h n (more.0 (sym (ap (λ ns. has ns n) same) ∙ p)),
-        λ t. ap (λ ns. has ns n) same ∙ more.1 (⊎_elim (λ f. absurd (let k : is_node r.word ≡ true = ap is_node f.2 in let l : is_node r.word ≡ false = ap is_node d in cc)) (λ q. q) (taken_node_split r h n t)))
+        let same = fill_list r h e (Scx s part) d in (
+          λ p. taken_node_more r h n (more.0 (sym (ap (λ ns. has ns n) same) ∙ p)),
+          λ t. ap (λ ns. has ns n) same ∙ more.1 (⊎_elim (λ f. absurd (let k : is_node r.word ≡ true = ap is_node f.2 in let l : is_node r.word ≡ false = ap is_node d in cc)) (λ q. q) (taken_node_split r h n t)),
+        )
     by_row more (inl e) (Node m part) d =
-        let same = fill_list r h e (Node m part) d in
-        (λ p. ⊎_elim (λ q. fill_takes_node r h n part e (d ∙ ap (λ k. node k part) q)) (λ q. taken_node_more r h n (more.0 q)) (in_list m.0 n (taken_nodes h) (sym (ap (λ ns. has ns n) same) ∙ p)),
-        λ t. ap (λ ns. has ns n) same ∙ list_more m.0 n (taken_nodes h) (⊎_elim (λ f. inl (sym (same_number r.word (Node m part) d) ∙ same_number r.word (node n f.0) f.2)) (λ q. inr (more.1 q)) (taken_node_split r h n t)))
+        let same = fill_list r h e (Node m part) d in (
+          λ p. ⊎_elim (λ q. fill_takes_node r h n part e (d ∙ ap (λ k. node k part) q)) (λ q. taken_node_more r h n (more.0 q)) (in_list m.0 n (taken_nodes h) (sym (ap (λ ns. has ns n) same) ∙ p)),
+          λ t. ap (λ ns. has ns n) same ∙ list_more m.0 n (taken_nodes h) (⊎_elim (λ f. inl (sym (same_number r.word (Node m part) d) ∙ same_number r.word (node n f.0) f.2)) (λ q. inr (more.1 q)) (taken_node_split r h n t)),
+        )
 
 -- Which row takes what
 
@@ -213,12 +218,13 @@ module _ (lay : Layout) (h : History) (r : Row) (lawful : Lawful lay (r ⊳ h)) 
         own e =
             let c = r.pass.0 in
             let more = count_more (first_node lay c) lay.nodes (taken_by t.nodes.items c) m (IsTakenNode h) (IsTakenNode (r ⊳ h)) (nodes_counted c inside) x.is_open.own.from x.is_open.own.below
-                (λ n a b. x.is_open.in_order n (record { from = a; below = let z = x.is_open.own.below in omega (b, z, arith) }) b)
-                (λ n q. ⊎_elim (λ f. inl (one_node n f)) (λ y. inr y) (taken_node_split r h n q))
-                (fill_takes_node r h m part x.kind x.word)
-                (λ n q. taken_node_more r h n q) in
+            (λ n a b. x.is_open.in_order n (record { from = a; below = let z = x.is_open.own.below in omega (b, z, arith) }) b)
+            (λ n q. ⊎_elim (λ f. inl (one_node n f)) (λ y. inr y) (taken_node_split r h n q))
+            (fill_takes_node r h m part x.kind x.word)
+            (λ n q. taken_node_more r h n q) in
             let at = taken_here t.nodes.items c (eqb m (first_node lay c + taken_by t.nodes.items c)) (rw old.nodes_size inside) in
             subst Goal (sym e) (rw at more)
+
         other : d ≢ r.pass.0 → Goal d
         other e =
             let at = taken_there t.nodes.items r.pass.0 d (eqb m (first_node lay r.pass.0 + taken_by t.nodes.items r.pass.0)) e in
@@ -227,17 +233,17 @@ module _ (lay : Layout) (h : History) (r : Row) (lawful : Lawful lay (r ⊳ h)) 
     all_fill : cond (eqb m (first_node lay r.pass.0 + taken_by t.nodes.items r.pass.0)) (t.all_nodes + 1) t.all_nodes ≡ length (taken_nodes (r ⊳ h))
     all_fill = ⊎_elim
         (λ e.
-            let fresh : has (taken_nodes h) m ≡ false = not_true (has (taken_nodes h) m) (λ q. let z = (old.nodes r.pass.0 m inside x.is_open.own).0 ((both_taken h m).0 q) in omega (z, e, arith)) in
-            let list : taken_nodes (r ⊳ h) ≡ m ∷ taken_nodes h = fill_list r h x.kind (node m part) x.word ∙ rw fresh refl in
-            let z = old.all in let longer : t.all_nodes + 1 ≡ suc (length (taken_nodes h)) = omega (z, arith) in rw (eq-eqb m (first_node lay r.pass.0 + taken_by t.nodes.items r.pass.0) e, list) longer)
+        let fresh : has (taken_nodes h) m ≡ false = not_true (has (taken_nodes h) m) (λ q. let z = (old.nodes r.pass.0 m inside x.is_open.own).0 ((both_taken h m).0 q) in omega (z, e, arith)) in
+        let list : taken_nodes (r ⊳ h) ≡ m ∷ taken_nodes h = fill_list r h x.kind (node m part) x.word ∙ rw fresh refl in
+        let z = old.all in let longer : t.all_nodes + 1 ≡ suc (length (taken_nodes h)) = omega (z, arith) in rw (eq-eqb m (first_node lay r.pass.0 + taken_by t.nodes.items r.pass.0) e, list) longer)
         (λ d.
-            let known : has (taken_nodes h) m ≡ true = (both_taken h m).1 ((old.nodes r.pass.0 m inside x.is_open.own).1 (let most = at_most (first_node lay r.pass.0) lay.nodes (taken_by t.nodes.items r.pass.0) m (IsTakenNode h) (IsTakenNode (r ⊳ h)) (nodes_counted r.pass.0 inside) x.is_open.own.from x.is_open.own.below
-                (λ n a b. x.is_open.in_order n (record { from = a; below = let z = x.is_open.own.below in omega (b, z, arith) }) b)
-                (λ n q. ⊎_elim (λ f. inl (one_node n f)) (λ y. inr y) (taken_node_split r h n q))
-                (fill_takes_node r h m part x.kind x.word)
-                (λ n q. taken_node_more r h n q) in omega (most, d, arith))) in
-            let list : taken_nodes (r ⊳ h) ≡ taken_nodes h = fill_list r h x.kind (node m part) x.word ∙ rw known refl in
-            rw (ne_eqb m (first_node lay r.pass.0 + taken_by t.nodes.items r.pass.0) d, list) old.all)
+        let known : has (taken_nodes h) m ≡ true = (both_taken h m).1 ((old.nodes r.pass.0 m inside x.is_open.own).1 (let most = at_most (first_node lay r.pass.0) lay.nodes (taken_by t.nodes.items r.pass.0) m (IsTakenNode h) (IsTakenNode (r ⊳ h)) (nodes_counted r.pass.0 inside) x.is_open.own.from x.is_open.own.below
+        (λ n a b. x.is_open.in_order n (record { from = a; below = let z = x.is_open.own.below in omega (b, z, arith) }) b)
+        (λ n q. ⊎_elim (λ f. inl (one_node n f)) (λ y. inr y) (taken_node_split r h n q))
+        (fill_takes_node r h m part x.kind x.word)
+        (λ n q. taken_node_more r h n q) in omega (most, d, arith))) in
+        let list : taken_nodes (r ⊳ h) ≡ taken_nodes h = fill_list r h x.kind (node m part) x.word ∙ rw known refl in
+        rw (ne_eqb m (first_node lay r.pass.0 + taken_by t.nodes.items r.pass.0) d, list) old.all)
         (same_or m (first_node lay r.pass.0 + taken_by t.nodes.items r.pass.0))
       where
         not_true : (b : Bool) → (b ≡ true → ⊥) → b ≡ false
@@ -258,12 +264,13 @@ module _ (lay : Layout) (h : History) (r : Row) (lawful : Lawful lay (r ⊳ h)) 
         own e =
             let c = r.pass.0 in
             let more = count_more (first_scx lay c) lay.scx (taken_by t.scx.items c) u (IsTakenScx h) (IsTakenScx (r ⊳ h)) (scx_counted c inside) x.is_open.own.from x.is_open.own.below
-                (λ n a b. x.is_open.in_order n (record { from = a; below = let z = x.is_open.own.below in omega (b, z, arith) }) b)
-                (λ n q. ⊎_elim (λ f. inl (one_scx n f)) (λ y. inr y) (taken_scx_split r h n q))
-                (fill_takes_scx r h u part x.kind x.word)
-                (λ n q. taken_scx_more r h n q) in
+            (λ n a b. x.is_open.in_order n (record { from = a; below = let z = x.is_open.own.below in omega (b, z, arith) }) b)
+            (λ n q. ⊎_elim (λ f. inl (one_scx n f)) (λ y. inr y) (taken_scx_split r h n q))
+            (fill_takes_scx r h u part x.kind x.word)
+            (λ n q. taken_scx_more r h n q) in
             let at = taken_here t.scx.items c (eqb u (first_scx lay c + taken_by t.scx.items c)) (rw old.scx_size inside) in
             subst ScxGoal (sym e) (rw at more)
+
         other : d ≢ r.pass.0 → ScxGoal d
         other e =
             let at = taken_there t.scx.items r.pass.0 d (eqb u (first_scx lay r.pass.0 + taken_by t.scx.items r.pass.0)) e in
@@ -307,24 +314,30 @@ module _ (lay : Layout) (h : History) (r : Row) (lawful : Lawful lay (r ⊳ h)) 
   pieces (nothing i e) = (false, false, no_fill i)
   pieces (fills_node m part x) =
       let at : takes_node lay r.pass.0 r.kind r.word t.nodes.items ≡ eqb m (first_node lay r.pass.0 + taken_by t.nodes.items r.pass.0) = rw (x.kind, x.word) refl in
-      let not_scx : takes_scx lay r.pass.0 r.kind r.word t.scx.items ≡ false = rw (x.kind, x.word) refl in
-      (eqb m (first_node lay r.pass.0 + taken_by t.nodes.items r.pass.0), false, record {
+      let not_scx : takes_scx lay r.pass.0 r.kind r.word t.scx.items ≡ false = rw (x.kind, x.word) refl in (
+        eqb m (first_node lay r.pass.0 + taken_by t.nodes.items r.pass.0),
+        false,
+        record {
           nodes = at;
           scx_records = not_scx;
           nodes_after = nodes_fill m part x;
           scx_after = scx_same (λ s f. let k : is_node r.word ≡ false = ap is_node f.2 in let l : is_node r.word ≡ true = ap is_node x.word in cc);
           all = all_fill m part x;
-        })
+        },
+      )
   pieces (fills_scx u part x) =
       let at : takes_scx lay r.pass.0 r.kind r.word t.scx.items ≡ eqb u (first_scx lay r.pass.0 + taken_by t.scx.items r.pass.0) = rw (x.kind, x.word) refl in
-      let not_node : takes_node lay r.pass.0 r.kind r.word t.nodes.items ≡ false = rw (x.kind, x.word) refl in
-      (false, eqb u (first_scx lay r.pass.0 + taken_by t.scx.items r.pass.0), record {
+      let not_node : takes_node lay r.pass.0 r.kind r.word t.nodes.items ≡ false = rw (x.kind, x.word) refl in (
+        false,
+        eqb u (first_scx lay r.pass.0 + taken_by t.scx.items r.pass.0),
+        record {
           nodes = not_node;
           scx_records = at;
           nodes_after = nodes_same (λ s f. let k : is_node r.word ≡ true = ap is_node f.2 in let l : is_node r.word ≡ false = ap is_node x.word in cc);
           scx_after = scx_fill u part x;
           all = old.all ∙ ap length (sym (fill_list r h x.kind (scx u part) x.word));
-        })
+        },
+      )
   pieces (freezes s j w) = (false, false, no_fill (rw w.kind refl))
   pieces (sets_frozen s k x) = (false, false, no_fill (rw k refl))
   pieces (marks s j k x) = (false, false, no_fill (rw k refl))

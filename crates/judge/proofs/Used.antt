@@ -58,9 +58,9 @@ fields_long (Scx s part) v flags = refl
 user_keep : (users : List Users) (t v n s : ℕ) → n < length users → MayBe (users_of users n) s → MayBe (users_of (slice_set users v (with_user (users_of users v) t)) n) s
 user_keep users t v n s l p = ⊎_elim
     (λ same.
-        let more = may_keep (users_of users n) t s p in
-        let at : users_of (slice_set users v (with_user (users_of users v) t)) n ≡ with_user (users_of users n) t = ap (λ k. users_of (slice_set users k (with_user (users_of users k) t)) n) (sym same) ∙ get_or-set_same users n (with_user (users_of users n) t) Nobody l in
-        subst (λ (o : Users). MayBe o s) (sym at) more)
+    let more = may_keep (users_of users n) t s p in
+    let at : users_of (slice_set users v (with_user (users_of users v) t)) n ≡ with_user (users_of users n) t = ap (λ k. users_of (slice_set users k (with_user (users_of users k) t)) n) (sym same) ∙ get_or-set_same users n (with_user (users_of users n) t) Nobody l in
+    subst (λ (o : Users). MayBe o s) (sym at) more)
     (λ d. subst (λ (o : Users). MayBe o s) (sym (get_or-set_other users v n (with_user (users_of users v) t) Nobody d)) p)
     (same_or n v)
 
@@ -96,6 +96,7 @@ uses_more lay h r u new old f g = record {
   where
     field_now : (n m : ℕ) (side : Side) → n < all_nodes lay → r.word ≡ child m side → r.after ≡ n → slice_index_or (fields_after r.word r.after u.in_field.items) n false ≡ true
     field_now n m side l e d = rw (e, d) (set_here u.in_field.items n (rw old.fields_size l))
+
     user_now : (n s : ℕ) → n < all_nodes lay → r.word ≡ scx s New → r.after ≡ n → MayBe (users_of (users_after r.word r.after u.users.items) n) s
     user_now n s l e d =
         let size : n < length u.users.items = rw old.users_size l in

@@ -19,7 +19,7 @@ use Rattle.arena.specs.Log.{log, entry}
 use Rattle.arena.specs.ScxRecords.{member, field_index, side_of, plan}
 use Rattle.arena.proofs.Lemmas.{and_left, and_right}
 use Rattle.histories.proofs.Lemmas.{Change, UpdateWins, nothing, fills_node, fills_scx, freezes, sets_frozen, marks, updates, commits, aborts, change, facts, Facts, lawful_more, child_node, update_win, update_holds, log_same}
-use Rattle.judge.specs.Enters.{is_field_update, enters}
+use Rattle.judge.specs.Enters.{is_field_update, makes_entry}
 
 -- what a row is that makes an entry
 pub record IsEntering (r : Row) (n : ℕ) (side : Side) : Type 0 where
@@ -40,12 +40,12 @@ field_update Update (Node n Marked) e = absurd (cc)
 field_update Update (Scx s part) e = absurd (cc)
 field_update _ w e = absurd (cc)
 
-pub entering_row : (r : Row) → enters r ≡ true → (n : ℕ) × (side : Side) × IsEntering r n side
+pub entering_row : (r : Row) → makes_entry r ≡ true → (n : ℕ) × (side : Side) × IsEntering r n side
 entering_row r e =
     let u = field_update r.kind r.word (and_left (is_field_update r.kind r.word) (not (eqb r.before r.after)) e) in
     (u.1.0, u.1.1, record { kind = u.0; word = u.1.2; changed = λ same. let t : not (eqb r.before r.after) ≡ true = and_right (is_field_update r.kind r.word) (not (eqb r.before r.after)) e in let f : not (eqb r.before r.after) ≡ false = rw (eq-eqb r.before r.after same) refl in cc })
 
-pub enters_if : (r : Row) (n : ℕ) (side : Side) → IsEntering r n side → enters r ≡ true
+pub enters_if : (r : Row) (n : ℕ) (side : Side) → IsEntering r n side → makes_entry r ≡ true
 enters_if r n side x = rw (x.kind, x.word, ne_eqb r.before r.after x.changed) refl
 
 -- it wins for the SCX-record that the info of the field's node names
@@ -54,6 +54,7 @@ entering_wins lay h r n side l x e = by (change lay h r (lawful_more lay h r l x
   where
     f : Facts lay h
     f = facts lay h l
+
     by : Change lay h r → IsWin h r (value h (info n))
     by (nothing i same) = absurd (e.changed (sym same))
     by (fills_node m part w) = absurd (let k : Fill ≡ Update = sym w.kind ∙ e.kind in cc)
@@ -69,14 +70,14 @@ entering_wins lay h r n side l x e = by (change lay h r (lawful_more lay h r l x
         subst (λ (t : ℕ). IsWin h r t) (sym is) (update_win f w)
 
 -- no other row wins
-pub wins_enters : (h : History) (r : Row) (s : ℕ) → IsWin h r s → enters r ≡ true
+pub wins_enters : (h : History) (r : Row) (s : ℕ) → IsWin h r s → makes_entry r ≡ true
 wins_enters h r s w = enters_if r (member h s (field_index h s)) (side_of (plan h s)) record { kind = w.kind; word = w.update.word; changed = w.changed }
 
 pub entering_logs : (lay : Layout) (h : History) (r : Row) (n : ℕ) (side : Side) → IsEntering r n side → log lay (r ⊳ h) ≡ entry lay h (value h (info n)) n side r.after ∷ log lay h
 unfolding log
 entering_logs lay h r n side e = rw (e.kind, e.word, ne_eqb r.before r.after e.changed) refl
 
-no_update : (lay : Layout) (h : History) (r : Row) → enters r ≡ false → IsLawful lay h r → Lawful lay h → r.kind ≡ Update → r.after ≡ r.before
+no_update : (lay : Layout) (h : History) (r : Row) → makes_entry r ≡ false → IsLawful lay h r → Lawful lay h → r.kind ≡ Update → r.after ≡ r.before
 no_update lay h r e x l k = by (change lay h r (lawful_more lay h r l x))
   where
     by : Change lay h r → r.after ≡ r.before
@@ -90,7 +91,7 @@ no_update lay h r e x l k = by (change lay h r (lawful_more lay h r l x))
     by (aborts s j q w) = absurd (let z : Abort ≡ Update = sym q ∙ k in cc)
     by (updates s w) = absurd (let t = wins_enters h r s (update_win (facts lay h l) w) in let both : true ≡ false = sym t ∙ e in cc)
 
-pub quiet_logs : (lay : Layout) (h : History) (r : Row) → Lawful lay h → IsLawful lay h r → enters r ≡ false → log lay (r ⊳ h) ≡ log lay h
+pub quiet_logs : (lay : Layout) (h : History) (r : Row) → Lawful lay h → IsLawful lay h r → makes_entry r ≡ false → log lay (r ⊳ h) ≡ log lay h
 quiet_logs lay h r l x e = log_same lay h r (no_update lay h r e x l)
 
 -- a row on a word of an SCX-record makes none
@@ -99,7 +100,7 @@ no_scx_update : (k : Kind) (w : Word) (s : ScxNo) (part : ScxWord) → w ≡ Scx
 no_scx_update Update w s part e = rw e refl
 no_scx_update _ w s part e = refl
 
-pub scx_enters_not : (r : Row) (s : ScxNo) (part : ScxWord) → r.word ≡ Scx s part → enters r ≡ false
+pub scx_enters_not : (r : Row) (s : ScxNo) (part : ScxWord) → r.word ≡ Scx s part → makes_entry r ≡ false
 scx_enters_not r s part e = rw (no_scx_update r.kind r.word s part e) refl
 
 -- the node of a word

@@ -13,5 +13,5 @@ is_field_update Update (Node n (Child side)) = true
 is_field_update _ _ = false
 
 -- whether the row makes an entry: it is an update that changes its field
-abbrev pub enters : Row → Bool
-enters r = is_field_update r.kind r.word && not (eqb r.before r.after)
+abbrev pub makes_entry : Row → Bool
+makes_entry r = is_field_update r.kind r.word && not (eqb r.before r.after)

@@ -59,8 +59,8 @@ pub record IsFresh (fresh : List ℕ) (u : ℕ) : Type 0 where
   pub is : slice_index_or fresh index 0 ≡ u
 
 -- there is room for each place that may still be reached
-abbrev pub HasRoom : Graph → Type 0
-HasRoom g = vec_len g.fresh + count_unset g.reached.items ≤ vec_capacity g.fresh
+abbrev pub HasRoomLeft : Graph → Type 0
+HasRoomLeft g = vec_len g.fresh + count_unset g.reached.items ≤ vec_capacity g.fresh
 
 -- while links are followed: of the place `from` those from the one at `at` on are left, and all of
 -- the fresh places
@@ -90,7 +90,7 @@ pub record IsGraph (g : Graph) : Type 0 where
   pub sizes : length g.newest.items ≡ length g.reached.items
   pub spread : IsSpreading g.reached.items g.newest.items g.links.items [] (links_of g) 0 None
   pub none_fresh : g.fresh.items ≡ []
-  pub room : HasRoom g
+  pub room : HasRoomLeft g
 
 -- so many links may still be kept without a growth
 abbrev pub HasSpare : ℕ → Graph → Type 0

@@ -10,9 +10,9 @@ use Rattle.arena.specs.History.{History, Start, ◌⊳◌}
 use Rattle.judge.specs.Graph.{IsGraph, links_of}
 use Rattle.judge.specs.declared.naming.Naming.{Naming}
 
--- The places, where there are so many nodes: n itself for a node that is named, then one for each node
--- that a field of a named node holds, then one for each SCX-record that an info word names. Node 0 is
--- named from the start.
+-- The places, where there are so many nodes: n itself for a node that is named, then one for each
+-- node that a field of a named node has held, then one for each SCX-record that an info word has
+-- named. Node 0 is named from the start.
 
 -- the place of a node as one that such a field has held
 abbrev pub shown_place : ℕ → ℕ → ℕ

@@ -21,7 +21,7 @@ impl Entering {
     ghost use Rattle.arena.specs.Layout.{all_nodes, IsWord};
     ghost use Rattle.arena.specs.ScxRecords.{count_of, plan_finalizes};
     ghost use Rattle.judge.specs.Graph.{has_flag};
-    ghost use Rattle.judge.specs.Enters.{enters};
+    ghost use Rattle.judge.specs.Enters.{makes_entry};
     ghost use Rattle.judge.specs.Entering.{EnteringStands, MayEnter, last_after, finals_after, plan_in, holder_in};
 
     /// No entry yet. The only error is want of memory.
@@ -66,14 +66,14 @@ impl Entering {
     /// an entry, of the SCX-record that the info of the field's node names.
     pub(crate) fn note(&mut self, words: &PlainWords, row: &Row)
         requires word { IsWord words.now.layout row.now.word }
-        requires may { enters row.now ≡ true → MayEnter words.now self.old (holder_in words.now row.now.word) }
-        ensures entries { self.new.entries ≡ cond (enters row.now) (self.old.entries + 1) self.old.entries }
-        ensures won { self.new.won.items ≡ cond (enters row.now) (slice_set self.old.won.items (holder_in words.now row.now.word) true) self.old.won.items }
-        ensures last { let s = holder_in words.now row.now.word in self.new.last.items ≡ cond (enters row.now) (last_after words.now s (count_of (plan_in words.now s)) (self.old.entries + 1) self.old.last.items) self.old.last.items }
-        ensures finals { let s = holder_in words.now row.now.word in self.new.finals.items ≡ cond (enters row.now) (finals_after words.now s (count_of (plan_in words.now s)) self.old.finals.items) self.old.finals.items }
+        requires may { makes_entry row.now ≡ true → MayEnter words.now self.old (holder_in words.now row.now.word) }
+        ensures entries { self.new.entries ≡ cond (makes_entry row.now) (self.old.entries + 1) self.old.entries }
+        ensures won { self.new.won.items ≡ cond (makes_entry row.now) (slice_set self.old.won.items (holder_in words.now row.now.word) true) self.old.won.items }
+        ensures last { let s = holder_in words.now row.now.word in self.new.last.items ≡ cond (makes_entry row.now) (last_after words.now s (count_of (plan_in words.now s)) (self.old.entries + 1) self.old.last.items) self.old.last.items }
+        ensures finals { let s = holder_in words.now row.now.word in self.new.finals.items ≡ cond (makes_entry row.now) (finals_after words.now s (count_of (plan_in words.now s)) self.old.finals.items) self.old.finals.items }
     {
         if let Word::Node(node, _) = row.word {
-            if enters(row) {
+            if makes_entry(row) {
                 let scx = words.get(Word::Node(node, NodeWord::Info));
                 self.enter(words, ScxNo(scx));
             }
@@ -116,11 +116,11 @@ impl Entering {
 
 ghost use Rattle.std.specs.Prelude.{◌≡◌, ◌<◌};
 ghost use Rattle.arena.specs.ScxRecords.{plan_finalizes};
-ghost use Rattle.judge.specs.Enters.{enters};
+ghost use Rattle.judge.specs.Enters.{makes_entry};
 
 /// Whether a row makes an entry: it is an update that changes its field.
-pub(crate) fn enters(row: &Row) -> bool
-    ensures { result ≡ enters row.now }
+pub(crate) fn makes_entry(row: &Row) -> bool
+    ensures { result ≡ makes_entry row.now }
 {
     match (row.kind, row.word) {
         (Kind::Update, Word::Node(_, NodeWord::Child(_))) => row.before != row.after,

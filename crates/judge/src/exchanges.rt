@@ -61,8 +61,8 @@ fn is_freeze_for(judge: &Judge, row: &Row, scx: u64) -> bool
 }
 
 /// Whether a row freezes some node for some SCX-record. One that wins leaves it there. One that
-/// loses is mostly for that which it finds there, or for the one of which its pass has loaded a word
-/// last; only where it is for neither are all looked at.
+/// loses is mostly for that which it finds there, or for the one of which its pass has loaded a
+/// word last; only where it is for neither are all looked at.
 pub fn is_some_freeze(judge: &Judge, row: &Row) -> bool
     requires { row.now.pass.0 < judge.now.layout.passes }
     ensures { IsTrue result → (s j : ℕ) × IsFreeze judge.now.layout (history judge.now) row.now s j }

@@ -1,4 +1,5 @@
-//! Places, and which of them links lead to. A place is reached once, and its links are followed once.
+//! Places, and which of them links lead to. A place is reached once, and its links are followed
+//! once.
 use arena::NoMemory;
 use std::alloc::Global;
 use std::mem::replace;
@@ -33,7 +34,7 @@ pub(crate) struct Graph {
 
 impl Graph {
     ghost use Rattle.std.specs.Prelude.{◌≡◌, ◌↔◌, ℕ, ◌+◌, ◌<◌, IsTrue, IfOk, OnOk, true, false, cond, [], ◌∷◌, ◌++◌, slice_set, vec_len, length};
-    ghost use Rattle.judge.specs.Graph.{IsReached, Spreads, IsGraph, HasRoom, HasSpare, has_flag, count_unset, newest_from, links_of};
+    ghost use Rattle.judge.specs.Graph.{IsReached, Spreads, IsGraph, HasRoomLeft, HasSpare, has_flag, count_unset, newest_from, links_of};
 
     /// So many places, of which the first alone is reached. The only error is want of memory.
     pub(crate) fn new(alloc: Global, size: usize) -> Result<Graph, NoMemory>
@@ -138,11 +139,11 @@ impl Graph {
     /// A place is reached. Its links are still to be followed.
     fn reach(&mut self, at: usize)
         requires inside { at < length self.old.reached.items }
-        requires room { HasRoom self.old }
+        requires room { HasRoomLeft self.old }
         ensures reached { self.new.reached.items ≡ slice_set self.old.reached.items at true }
         ensures fresh { self.new.fresh.items ≡ cond (has_flag self.old.reached.items at) self.old.fresh.items (self.old.fresh.items ++ at ∷ []) }
         ensures count { vec_len self.new.fresh + count_unset self.new.reached.items ≡ vec_len self.old.fresh + count_unset self.old.reached.items }
-        ensures room { HasRoom self.new }
+        ensures room { HasRoomLeft self.new }
         ensures newest { self.new.newest ≡ self.old.newest }
         ensures links { self.new.links ≡ self.old.links }
         ensures all { self.new.all ≡ self.old.all }
@@ -157,7 +158,7 @@ impl Graph {
     fn spread(&mut self)
         requires sizes { length self.old.newest.items ≡ length self.old.reached.items }
         requires spreads { Spreads self.old 0 None }
-        requires room { HasRoom self.old }
+        requires room { HasRoomLeft self.old }
         ensures graph { IsGraph self.new }
         ensures size { length self.new.reached.items ≡ length self.old.reached.items }
         ensures links { self.new.links ≡ self.old.links }
@@ -172,9 +173,9 @@ impl Graph {
     fn follow(&mut self, from: usize)
         requires inside { from < length self.old.newest.items }
         requires spreads { Spreads self.old from (newest_from self.old.newest.items from) }
-        requires room { HasRoom self.old }
+        requires room { HasRoomLeft self.old }
         ensures spreads { Spreads self.new 0 None }
-        ensures room { HasRoom self.new }
+        ensures room { HasRoomLeft self.new }
         ensures count { vec_len self.new.fresh + count_unset self.new.reached.items ≡ vec_len self.old.fresh + count_unset self.old.reached.items }
         ensures size { length self.new.reached.items ≡ length self.old.reached.items }
         ensures newest { self.new.newest ≡ self.old.newest }

@@ -1,8 +1,8 @@
-//! A judge of runs, which goes from row to row and judges each by the words and by what it remembers
-//! of the rows before: over a run, in the time of a few words for each row. Only an exchange that
-//! loses may cost more: where it is neither for the SCX-record that it finds nor for the one of which
-//! its pass has loaded a word last, all SCX-records are looked at.
-use crate::entering::{Entering, enters};
+//! A judge of runs, which goes from row to row and judges each by the words and by what it
+//! remembers of the rows before. Over a run each row costs a bounded time, but for an exchange that
+//! loses: where it is neither for the SCX-record that it finds nor for the one of which its pass has
+//! loaded a word last, all SCX-records are looked at.
+use crate::entering::{Entering, makes_entry};
 use crate::freezing::Freezing;
 use crate::naming::Naming;
 use crate::past::Past;
@@ -156,8 +156,8 @@ impl Judge {
             && row.before == self.get(Word::Scx(scx, ScxWord::Seen(0)))
     }
 
-    /// The SCX-record whose update a lawful row is, if that wins: the one that the info of the field's
-    /// node names.
+    /// The SCX-record whose update a lawful row is, if that wins: the one that the info of the
+    /// field's node names.
     pub fn winner(&self, row: &Row) -> Option<ScxNo>
         requires { IsLawful self.now.layout (history self.now) row.now }
         ensures wins { IfSome result (λ s. IsWin (history self.now) row.now s.0) }
@@ -168,7 +168,7 @@ impl Judge {
     {
         let _words = &self.words;
         match row.word {
-            Word::Node(node, _) if enters(row) => {
+            Word::Node(node, _) if makes_entry(row) => {
                 Some(ScxNo(self.get(Word::Node(node, NodeWord::Info))))
             }
             _ => None,

@@ -1,4 +1,5 @@
-//! Which nodes and SCX-records have come to be named, and which nodes a field of a named node has held.
+//! Which nodes and SCX-records have come to be named, and which nodes a field of a named node has
+//! held.
 use crate::graph::Graph;
 use arena::{Layout, NoMemory, NodeWord, Row, ScxWord, Word};
 use std::alloc::Global;
@@ -29,11 +30,7 @@ impl Naming {
             graph.start(0, node);
             graph.start(0, nodes as usize + node);
         }
-        Ok(Naming {
-            nodes,
-            scxs,
-            graph,
-        })
+        Ok(Naming { nodes, scxs, graph })
     }
 
     /// Makes room for what one row names.

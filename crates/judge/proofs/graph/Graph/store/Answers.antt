@@ -3,7 +3,7 @@ use Rattle.std.specs.Prelude.{slice_set}
 use Rattle.std.specs.Vec.{vec_capacity}
 use Rattle.std.proofs.Math.ListN.{length-set}
 use Rattle.std.proofs.lemmas.List.{get_or_read}
-use Rattle.judge.specs.Graph.{links_of, HasRoom, count_unset}
+use Rattle.judge.specs.Graph.{links_of, HasRoomLeft, count_unset}
 use Rattle.judge.proofs.Spreading.{spread_keep}
 use Rattle.judge.proofs.graph.Graph.store.Goals as goal
 

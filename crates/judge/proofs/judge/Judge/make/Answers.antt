@@ -59,20 +59,20 @@ invariant_of-self-2 c =
     let lawful : IsLawful lay h row = rw (← c.self.view_is) at c.requires in
     let e = c.reserve.ensures in
     stands_at lay (row ∷ old.past) _ c.apply.ensures.after.layout c.push.ensures (stands_more lay h row old _ refl c.self.invariant lawful record {
-        naming = c.note.ensures.naming;
-        nodes = c.note.ensures.nodes ∙ e.nodes;
-        scxs = c.note.ensures.scxs ∙ e.scxs;
-        links = c.note.ensures.links ∙ rw (e.nodes, e.scxs, e.links) refl;
-        fields = c.note-2.ensures.fields;
-        users = c.note-2.ensures.users;
-        frozen = c.note-3.ensures;
-        entries = c.note-4.ensures.entries;
-        won = c.note-4.ensures.won;
-        last = c.note-4.ensures.last;
-        finals = c.note-4.ensures.finals;
-        taken_nodes = rw c.layout.ensures at c.note-5.ensures.nodes;
-        taken_scx = rw c.layout.ensures at c.note-5.ensures.scx;
-        taken_all = rw c.layout.ensures at c.note-5.ensures.all;
-        words = rw (c.left_by.ensures.word, c.left_by.ensures.access) at c.apply.ensures.after;
-        loaded = refl;
-      })
+      naming = c.note.ensures.naming;
+      nodes = c.note.ensures.nodes ∙ e.nodes;
+      scxs = c.note.ensures.scxs ∙ e.scxs;
+      links = c.note.ensures.links ∙ rw (e.nodes, e.scxs, e.links) refl;
+      fields = c.note-2.ensures.fields;
+      users = c.note-2.ensures.users;
+      frozen = c.note-3.ensures;
+      entries = c.note-4.ensures.entries;
+      won = c.note-4.ensures.won;
+      last = c.note-4.ensures.last;
+      finals = c.note-4.ensures.finals;
+      taken_nodes = rw c.layout.ensures at c.note-5.ensures.nodes;
+      taken_scx = rw c.layout.ensures at c.note-5.ensures.scx;
+      taken_all = rw c.layout.ensures at c.note-5.ensures.all;
+      words = rw (c.left_by.ensures.word, c.left_by.ensures.access) at c.apply.ensures.after;
+      loaded = refl;
+    })
