@@ -1,7 +1,7 @@
 //! A judge of runs, which goes from row to row and judges each by the words and by what it
 //! remembers of the rows before. Over a run each row costs a bounded time, but for an exchange that
-//! loses: where it is neither for the SCX-record that it finds nor for the one of which its pass has
-//! loaded a word last, all SCX-records are looked at.
+//! loses: where it is neither for the SCX-record that it finds nor for the one of which its pass
+//! has loaded a word last, all SCX-records are looked at.
 use crate::entering::{Entering, makes_entry};
 use crate::freezing::Freezing;
 use crate::naming::Naming;
