@@ -1,7 +1,7 @@
 -- What a graph of names says of a history.
 use Rattle.std.proofs.Common.{◌≡◌, ◌↔◌, ℕ, ◌+◌, ◌*◌, ◌<◌, Bool, IsTrue, List, refl, sym, subst}
 use Rattle.arena.specs.declared.layout.Layout.{Layout}
-use Rattle.arena.specs.Layout.{all_nodes, all_scx}
+use Rattle.arena.specs.Layout.{all_nodes}
 use Rattle.arena.specs.History.{History}
 use Rattle.arena.specs.Fills.{IsNamed, IsNamedScx, IsInField}
 use Rattle.arena.specs.Lawful.{Lawful}

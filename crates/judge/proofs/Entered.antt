@@ -1,5 +1,5 @@
 -- A lawful row, and what is remembered of the log.
-use Rattle.std.proofs.Common.{◌≡◌, ◌≢◌, ◌↔◌, ℕ, zero, suc, ◌+◌, ◌<◌, ◌≤◌, ◌^◌, ◌⊎◌, inl, inr, ⊎_elim, Bool, true, false, ◌||◌, cond, eqb, eqb-true, eq-eqb, ne_eqb, replicate, List, [], ◌∷◌, length, refl, sym, ◌∙◌, ap, subst, arith, get_or-set_other, get_or-set_same}
+use Rattle.std.proofs.Common.{◌≡◌, ℕ, zero, suc, ◌+◌, ◌<◌, ◌≤◌, ◌⊎◌, inl, inr, ⊎_elim, Bool, true, false, ◌||◌, cond, eqb, eq-eqb, ne_eqb, replicate, List, [], ◌∷◌, length, refl, sym, ◌∙◌, ap, subst, arith, get_or-set_other, get_or-set_same}
 use Rattle.std.proofs.Math.ListN.{length-set}
 use Rattle.std.proofs.Math.Nat.{mul-le-mul_left}
 use Rattle.std.proofs.lemmas.List.{length-replicate}
@@ -7,26 +7,25 @@ use Rattle.std.specs.Prelude.{◌&&◌, not, slice_set, slice_index_or}
 use Rattle.arena.specs.declared.layout.Layout.{Layout}
 use Rattle.arena.specs.declared.limits.Mode.{Mode}
 use Rattle.arena.specs.declared.word.ScxWord.TheVariants.{Plan, Member}
-use Rattle.arena.specs.declared.word.NodeWord.TheVariants.{Info}
 use Rattle.arena.specs.declared.word.Word.{Word}
 use Rattle.arena.specs.declared.step.Kind.{Kind}
-use Rattle.arena.specs.declared.step.Kind.TheVariants.{Fill, Freeze, SetFrozen, Mark, Update, Commit, Abort}
+use Rattle.arena.specs.declared.step.Kind.TheVariants.{Fill, Freeze, SetFrozen, Mark, Commit, Abort}
 use Rattle.arena.specs.declared.step.Row.{Row}
 use Rattle.arena.specs.Layout.{all_nodes, all_scx, IsWord}
-use Rattle.arena.specs.Words.{child, info, scx}
+use Rattle.arena.specs.Words.{info, scx}
 use Rattle.arena.specs.History.{History, Start, ◌⊳◌, value}
 use Rattle.arena.specs.Lawful.{Lawful, HasWon}
-use Rattle.arena.specs.Log.{log, last, is_final, has, members_from, finalized_from}
+use Rattle.arena.specs.Log.{log, last, has, members_from, finalized_from}
 use Rattle.arena.specs.PlainWords.{Contents, word_at}
-use Rattle.arena.specs.ScxRecords.{count, count_of, plan, member, field, field_index, side_of, scx_finalizes, plan_finalizes}
-use Rattle.arena.proofs.Lemmas.{or_split, or_right}
-use Rattle.histories.proofs.Lemmas.{Change, UpdateWins, nothing, fills_node, fills_scx, freezes, sets_frozen, marks, updates, commits, aborts, change, facts_before, facts, Facts, lawful_row, Logs, logs, same, wins, entry_of, log_wins, update_changes, update_holds, update_about, update_is_first, update_won, update_split, named_scx_inside, won_named, won_more}
-use Rattle.judge.specs.Graph.{has_flag, count_unset}
+use Rattle.arena.specs.ScxRecords.{count, count_of, plan, member, field_index, scx_finalizes, plan_finalizes}
+use Rattle.arena.proofs.Lemmas.{or_right}
+use Rattle.histories.proofs.Lemmas.{Change, UpdateWins, nothing, fills_node, fills_scx, freezes, sets_frozen, marks, updates, commits, aborts, change, facts_before, facts, Facts, lawful_row, Logs, logs, same, wins, log_wins, update_changes, update_holds, update_about, update_is_first, update_won, update_split, named_scx_inside, won_named, won_more}
+use Rattle.judge.specs.Graph.{has_flag}
 use Rattle.judge.specs.Enters.{is_field_update, makes_entry}
 use Rattle.judge.specs.Entering.{plan_in, member_in, holder_in, last_after, finals_after, MayEnter, EnteringStands}
 use Rattle.judge.specs.declared.entering.Entering.{Entering}
 use Rattle.judge.proofs.Counts.{set_here, set_there, unset_less, no_flags, all_unset, zeros, zero_list}
-use Rattle.judge.proofs.Spreading.{same_or, flag_inside}
+use Rattle.judge.proofs.Spreading.{same_or}
 use Rattle.judge.proofs.Frozen.{few}
 
 -- Which rows make an entry

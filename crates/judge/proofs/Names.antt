@@ -1,12 +1,11 @@
 -- What the links of a history lead to.
-use Rattle.std.proofs.Common.{◌≡◌, ◌≢◌, ℕ, zero, suc, ◌+◌, ◌*◌, ◌<◌, ◌≤◌, ◌⊎◌, inl, inr, ⊎_elim, Bool, true, false, cond, ltb, List, [], ◌∷◌, ◌++◌, refl, sym, ◌∙◌, ap, subst, arith}
+use Rattle.std.proofs.Common.{◌≡◌, ℕ, zero, suc, ◌+◌, ◌*◌, ◌<◌, ◌≤◌, ◌⊎◌, inl, inr, ⊎_elim, Bool, true, false, cond, ltb, List, [], ◌∷◌, ◌++◌, refl, sym, ◌∙◌, subst, arith}
 use Rattle.std.proofs.lemmas.Bool.{lt-ltb}
 use borrow.Author.Tests.{ltb-true}
 use Rattle.arena.specs.declared.layout.Layout.{Layout}
 use Rattle.arena.specs.declared.limits.Mode.{Mode}
 use Rattle.arena.specs.declared.limits.Mode.TheVariants.{Tree, Records}
 use Rattle.arena.specs.declared.word.Side.{Side}
-use Rattle.arena.specs.declared.word.NodeWord.{NodeWord}
 use Rattle.arena.specs.declared.word.NodeWord.TheVariants.{Head, Key, Value, Child, Info, Marked}
 use Rattle.arena.specs.declared.word.ScxWord.{ScxWord}
 use Rattle.arena.specs.declared.word.ScxWord.TheVariants.{State, AllFrozen, Plan, New, Old, Member, Seen, Call}
@@ -15,10 +14,10 @@ use Rattle.arena.specs.declared.word.Word.TheVariants.{Node, Scx}
 use Rattle.arena.specs.declared.step.Row.{Row}
 use Rattle.arena.specs.Layout.{all_nodes, all_scx, opening_nodes, opening, IsWord}
 use Rattle.arena.specs.Words.{same_word, info, child, scx}
-use Rattle.arena.specs.History.{History, Start, ◌⊳◌, value, HasHeld}
+use Rattle.arena.specs.History.{History, Start, ◌⊳◌, HasHeld}
 use Rattle.arena.specs.Fills.{IsNamed, opening_node, by_field, by_scx, IsNamedScx, IsInField, NamesNode}
 use Rattle.arena.specs.Lawful.{Lawful}
-use Rattle.arena.proofs.Lemmas.{word_same, value_at, value_other, held_at, held_now, held_more, held_back, held_split, held_start, opening_info}
+use Rattle.arena.proofs.Lemmas.{word_same, value_at, value_other, held_at, held_more, held_back, held_split, held_start, opening_info}
 use Rattle.histories.proofs.Lemmas.{lawful_tail, lawful_row, value_start, opening_field, some_open, named_scx_inside}
 use Rattle.judge.specs.Graph.{IsLink, IsReached, first, along}
 use Rattle.judge.proofs.Spreading.{same_or}

@@ -1,12 +1,12 @@
 -- A graph, while links are followed.
-use Rattle.std.proofs.Common.{◌≡◌, ◌≢◌, ℕ, zero, suc, ◌+◌, ◌<◌, ◌≤◌, ◌⊎◌, inl, inr, ⊎_elim, Bool, true, false, Option, Some, None, List, [], ◌∷◌, ◌++◌, length, get_or, eqb, eqb-true, eq-eqb, refl, sym, ◌∙◌, ap, subst, arith, length-append, get_or-set_other, get_or-set_same, cond, replicate}
+use Rattle.std.proofs.Common.{◌≡◌, ◌≢◌, ℕ, zero, suc, ◌<◌, ◌≤◌, ◌⊎◌, inl, inr, ⊎_elim, Bool, true, false, Option, Some, None, List, [], ◌∷◌, ◌++◌, length, get_or, refl, sym, ◌∙◌, ap, subst, arith, length-append, get_or-set_other, get_or-set_same, cond, replicate}
 use Rattle.std.proofs.Math.ListN.{length-set}
 use Rattle.std.proofs.lemmas.List.{get_or_append_left, get_or_at, set-get_or, length-replicate}
-use Rattle.std.specs.Prelude.{IfSome, slice_index_or, slice_set}
+use Rattle.std.specs.Prelude.{IfSome, slice_set}
 use Rattle.judge.specs.declared.graph.Link.{Link}
 use Rattle.judge.specs.Graph.{count_unset, IsLink, IsReached, first, along, has_flag, newest_from, StandsAt, HasLink, here, older, IsFresh, IsSpreading}
 use Rattle.judge.proofs.Counts.{set_here, set_there}
-use Rattle.judge.proofs.Chains.{stands_more, stands_last, stands_split, no_link, link_split, link_more, link_back, below_more}
+use Rattle.judge.proofs.Chains.{stands_last, stands_split, no_link, link_split, link_more, link_back, below_more}
 
 -- two numbers are the same, or not
 pub same_or : (m n : ℕ) → (m ≡ n) ⊎ (m ≢ n)

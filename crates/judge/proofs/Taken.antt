@@ -1,8 +1,7 @@
 -- A lawful row, and what is taken of the shares.
-use Rattle.std.proofs.Common.{◌≡◌, ◌≢◌, ◌↔◌, ℕ, zero, suc, ◌+◌, ◌*◌, ◌<◌, ◌≤◌, ◌⊎◌, inl, inr, ⊎_elim, Bool, true, false, ◌||◌, cond, eqb, eqb-true, eq-eqb, ne_eqb, List, [], ◌∷◌, length, refl, sym, ◌∙◌, ap, subst, arith, get_or-set_other, get_or-set_same}
+use Rattle.std.proofs.Common.{◌≡◌, ◌≢◌, ◌↔◌, ℕ, zero, suc, ◌+◌, ◌<◌, ◌≤◌, ◌⊎◌, inl, inr, ⊎_elim, Bool, true, false, cond, eqb, eqb-true, eq-eqb, ne_eqb, List, ◌∷◌, length, refl, sym, ◌∙◌, ap, subst, arith, get_or-set_other, get_or-set_same}
 use Rattle.std.proofs.Math.ListN.{length-set}
 use Rattle.std.proofs.lemmas.Bool.{or_left}
-use Rattle.std.specs.Prelude.{slice_set, slice_index_or}
 use Rattle.arena.specs.declared.layout.Layout.{Layout}
 use Rattle.arena.specs.declared.limits.Mode.{Mode}
 use Rattle.arena.specs.declared.word.NodeWord.{NodeWord}

@@ -1,5 +1,5 @@
 -- A row, and what fields and `new` have held.
-use Rattle.std.proofs.Common.{◌≡◌, ◌≢◌, ℕ, ◌+◌, ◌<◌, ◌⊎◌, inl, inr, ⊎_elim, Bool, true, false, cond, List, length, refl, sym, ◌∙◌, ap, subst, arith, get_or-set_other, get_or-set_same, eqb, eqb-true, eq-eqb, ne_eqb}
+use Rattle.std.proofs.Common.{◌≡◌, ℕ, ◌<◌, ⊎_elim, Bool, true, false, List, length, refl, sym, ◌∙◌, ap, subst, arith, get_or-set_other, get_or-set_same, eq-eqb, ne_eqb}
 use Rattle.std.proofs.Math.ListN.{length-set}
 use Rattle.std.specs.Prelude.{slice_set, slice_index_or}
 use Rattle.arena.specs.declared.layout.Layout.{Layout}
@@ -9,9 +9,9 @@ use Rattle.arena.specs.declared.word.ScxWord.TheVariants.{State, AllFrozen, Plan
 use Rattle.arena.specs.declared.word.Word.{Word}
 use Rattle.arena.specs.declared.word.Word.TheVariants.{Node, Scx}
 use Rattle.arena.specs.declared.step.Row.{Row}
-use Rattle.arena.specs.Layout.{all_nodes, opening_nodes, opening}
+use Rattle.arena.specs.Layout.{all_nodes, opening_nodes}
 use Rattle.arena.specs.Words.{child, scx}
-use Rattle.arena.specs.History.{History, Start, ◌⊳◌, HasHeld}
+use Rattle.arena.specs.History.{History, Start, ◌⊳◌}
 use Rattle.arena.proofs.Lemmas.{held_start, opening_scx}
 use Rattle.histories.proofs.Lemmas.{value_start, opening_field}
 use Rattle.judge.specs.declared.uses.Users.{Users}

@@ -1,5 +1,5 @@
 -- What words hold that are not of the table, and after one more row.
-use Rattle.std.proofs.Common.{◌≡◌, ◌≢◌, ℕ, ◌+◌, ◌<◌, ◌≤◌, ◌⊎◌, inl, inr, ⊎_elim, Bool, true, false, cond, eqb, ne_eqb, refl, sym, ◌∙◌, ap, subst, arith}
+use Rattle.std.proofs.Common.{◌≡◌, ◌≢◌, ℕ, ◌<◌, ◌≤◌, Bool, true, false, ne_eqb, refl, sym, ◌∙◌, ap, subst, arith}
 use Rattle.arena.specs.declared.layout.Layout.{Layout}
 use Rattle.arena.specs.declared.limits.Mode.{Mode}
 use Rattle.arena.specs.declared.limits.Mode.TheVariants.{Tree, Records}
@@ -9,7 +9,7 @@ use Rattle.arena.specs.declared.word.ScxWord.TheVariants.{State, AllFrozen, Plan
 use Rattle.arena.specs.declared.word.Word.{Word}
 use Rattle.arena.specs.declared.word.Word.TheVariants.{Node, Scx}
 use Rattle.arena.specs.declared.step.Row.{Row}
-use Rattle.arena.specs.Layout.{all_nodes, all_scx, opening_nodes, opening, tree_opening, records_opening, IsWord}
+use Rattle.arena.specs.Layout.{all_nodes, opening_nodes, opening, IsWord}
 use Rattle.arena.specs.Words.{same_word}
 use Rattle.arena.specs.History.{History, Start, ◌⊳◌, value}
 use Rattle.arena.specs.Lawful.{Lawful}

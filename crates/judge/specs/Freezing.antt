@@ -1,5 +1,5 @@
 -- How many nodes of each SCX-record were ever frozen for it.
-use Rattle.std.specs.Prelude.{◌≡◌, ◌≢◌, ◌↔◌, ℕ, ◌+◌, ◌<◌, cond, ◌&&◌, not, eqb, Bool, true, false, List, length, slice_index_or, slice_set}
+use Rattle.std.specs.Prelude.{◌≡◌, ◌↔◌, ℕ, ◌+◌, ◌<◌, cond, ◌&&◌, not, eqb, Bool, true, false, List, length, slice_index_or, slice_set}
 use Rattle.arena.specs.declared.layout.Layout.{Layout}
 use Rattle.arena.specs.declared.step.Row.{Row}
 use Rattle.arena.specs.declared.step.Kind.{Kind}

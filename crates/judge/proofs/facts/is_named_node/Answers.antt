@@ -1,4 +1,3 @@
-use Rattle.judge.specs.Histories.{history}
 use Rattle.judge.proofs.Asked.{node_asked}
 use Rattle.judge.proofs.facts.is_named_node.Goals as goal
 

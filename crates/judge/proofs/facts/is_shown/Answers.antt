@@ -1,4 +1,3 @@
-use Rattle.judge.specs.Histories.{history}
 use Rattle.judge.proofs.Asked.{shown_asked}
 use Rattle.judge.proofs.facts.is_shown.Goals as goal
 

@@ -1,5 +1,4 @@
 use Rattle.std.proofs.Common.{◌≡◌, true, sym}
-use Rattle.judge.specs.Histories.{history}
 use Rattle.judge.proofs.Words.{value_outside}
 use Rattle.judge.proofs.facts.value_of.Goals as goal
 

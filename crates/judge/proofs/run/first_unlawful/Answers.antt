@@ -1,6 +1,5 @@
-use Rattle.std.proofs.Common.{◌≡◌, ◌+◌, take, sym, ◌∙◌}
-use Rattle.arena.specs.History.{Start, ◌⊳◌}
-use Rattle.judge.specs.Histories.{history, history_after}
+use Rattle.std.proofs.Common.{sym, ◌∙◌}
+use Rattle.arena.specs.History.{Start}
 use Rattle.judge.proofs.Judged.{past_step, lawful_next}
 use Rattle.judge.proofs.run.first_unlawful.Goals as goal
 

@@ -1,7 +1,7 @@
 use Rattle.std.proofs.Common.{◌≡◌, replicate, false, refl, ◌∙◌, ap}
 use Rattle.arena.specs.Layout.{all_scx, all_nodes}
 use Rattle.judge.proofs.Counts.{zero_list}
-use Rattle.judge.proofs.Entered.{entering_start, entering_more, may_enter}
+use Rattle.judge.proofs.Entered.{entering_start}
 use Rattle.judge.proofs.entering.Entering.new.Goals as goal
 
 pub returns : goal.returns

@@ -1,9 +1,7 @@
-use Rattle.std.proofs.Common.{◌≡◌, ℕ}
+use Rattle.std.proofs.Common.{◌≡◌}
 use Rattle.std.proofs.lemmas.List.{length-replicate}
-use Rattle.arena.specs.Layout.{all_scx}
 use Rattle.judge.proofs.Counts.{zeros, zero_list}
-use Rattle.judge.proofs.Frozen.{frozen_start, frozen_more, may_freeze}
-use Rattle.judge.proofs.Names.{node_named}
+use Rattle.judge.proofs.Frozen.{frozen_start}
 use Rattle.judge.proofs.freezing.Freezing.new.Goals as goal
 
 pub returns : goal.returns

@@ -1,7 +1,6 @@
-use Rattle.std.proofs.Common.{◌≡◌, ◌↔◌, ℕ, ◌<◌, Option, Some, None, length, true, refl, sym, ◌∙◌, ap, subst}
+use Rattle.std.proofs.Common.{◌≡◌, ℕ, ◌<◌, Option, Some, length, true, refl, ◌∙◌, ap, subst}
 use Rattle.std.proofs.Math.ListN.{length-set}
-use Rattle.judge.specs.declared.graph.Link.{Link}
-use Rattle.judge.specs.Graph.{Spreads, IsSpreading, IsLink, IsReached, along, has_flag, StandsAt, HasLink, here, links_of}
+use Rattle.judge.specs.Graph.{Spreads, IsSpreading, IsLink, along, has_flag, StandsAt, here, links_of}
 use Rattle.judge.proofs.Counts.{set_here}
 use Rattle.judge.proofs.Chains.{fewer_left}
 use Rattle.judge.proofs.Spreading.{adds_none, spread_visit, spread_next, spread_done, spread_as}

@@ -1,7 +1,7 @@
-use Rattle.std.proofs.Common.{◌≡◌, ◌↔◌, true, [], sym, ◌∙◌}
+use Rattle.std.proofs.Common.{[], sym, ◌∙◌}
 use Rattle.judge.specs.Graph.{links_of}
 use Rattle.judge.proofs.Counts.{flag_read}
-use Rattle.judge.proofs.Spreading.{all_flagged, spread_reach, spread_known, spread_next, spread_pop, spread_done, spread_keep}
+use Rattle.judge.proofs.Spreading.{all_flagged}
 use Rattle.judge.proofs.graph.Graph.has.Goals as goal
 
 pub returns : goal.returns

@@ -1,8 +1,8 @@
-use Rattle.std.proofs.Common.{◌≡◌, ◌≤◌, ◌+◌, [], List, None, false, true, length, vec_len, replicate, rules, refl, arith}
+use Rattle.std.proofs.Common.{◌≡◌, [], None, false, true, replicate, rules, refl, arith}
 use Rattle.std.specs.Prelude.{slice_set}
 use Rattle.std.proofs.Math.ListN.{length-set}
 use Rattle.std.proofs.lemmas.List.{length-replicate}
-use Rattle.judge.specs.Graph.{count_unset, links_in}
+use Rattle.judge.specs.Graph.{links_in}
 use Rattle.judge.proofs.Spreading.{counted, spread_start}
 use Rattle.judge.proofs.graph.Graph.new.Goals as goal
 

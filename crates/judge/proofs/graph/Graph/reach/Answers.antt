@@ -1,5 +1,4 @@
-use Rattle.std.proofs.Common.{◌≡◌, ◌+◌, ◌∙◌, false, slice_set, true, arith}
-use Rattle.judge.specs.Graph.{has_flag, count_unset}
+use Rattle.std.proofs.Common.{◌∙◌, arith}
 use Rattle.judge.proofs.Counts.{flag_read, unset_less}
 use Rattle.judge.proofs.graph.Graph.reach.Goals as goal
 

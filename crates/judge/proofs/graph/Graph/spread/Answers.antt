@@ -1,4 +1,4 @@
-use Rattle.std.proofs.Common.{◌≡◌, ◌↔◌, ℕ, ◌<◌, [], ◌∷◌, ◌++◌, List, None, length, sym, ◌∙◌, subst, arith}
+use Rattle.std.proofs.Common.{ℕ, [], ◌∷◌, ◌++◌, List, None, subst, arith}
 use Rattle.judge.specs.Graph.{IsSpreading, links_of}
 use Rattle.judge.proofs.Spreading.{spread_pop, fresh_last}
 use Rattle.judge.proofs.graph.Graph.spread.Goals.{In-Some}

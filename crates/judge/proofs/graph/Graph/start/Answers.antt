@@ -1,4 +1,4 @@
-use Rattle.std.proofs.Common.{◌≡◌, ◌↔◌, ℕ, [], ◌∷◌, ◌++◌, List, cond, None, inl, inr, refl, ◌∙◌, ap}
+use Rattle.std.proofs.Common.{◌≡◌, ℕ, [], ◌∷◌, ◌++◌, List, cond, None, inl, inr, refl, ◌∙◌, ap}
 use Rattle.judge.specs.Graph.{along, has_flag, links_of, IsSpreading}
 use Rattle.judge.proofs.Spreading.{adds_one, reached_more, spread_visit, spread_as, flag_inside}
 use Rattle.judge.proofs.graph.Graph.start.Goals as goal

@@ -1,9 +1,8 @@
-use Rattle.std.proofs.Common.{◌≡◌, ◌↔◌, ◌<◌, ◌≤◌, ◌+◌, ◌∷◌, [], ◌++◌, length, vec_len, Some, None, refl, sym, ◌∙◌, ap, arith}
+use Rattle.std.proofs.Common.{◌≡◌, ◌<◌, ◌∷◌, [], ◌++◌, length, vec_len, Some, None, refl, sym, ◌∙◌, ap, arith}
 use Rattle.std.specs.Prelude.{slice_set}
-use Rattle.std.specs.Vec.{vec_capacity}
 use Rattle.std.proofs.Math.ListN.{length-set}
 use Rattle.std.proofs.lemmas.List.{get_or_read}
-use Rattle.judge.specs.Graph.{links_of, HasRoomLeft, count_unset}
+use Rattle.judge.specs.Graph.{links_of}
 use Rattle.judge.proofs.Spreading.{spread_keep}
 use Rattle.judge.proofs.graph.Graph.store.Goals as goal
 

@@ -1,8 +1,7 @@
-use Rattle.std.proofs.Common.{◌≡◌, ◌∷◌, refl, sym, ◌∙◌}
-use Rattle.arena.specs.History.{History, ◌⊳◌}
-use Rattle.arena.specs.Lawful.{IsLawful, Lawful}
+use Rattle.std.proofs.Common.{◌∷◌, refl, ◌∙◌}
+use Rattle.arena.specs.Lawful.{IsLawful}
 use Rattle.histories.proofs.Lemmas.{lawful_more}
-use Rattle.judge.specs.Histories.{history, history_of}
+use Rattle.judge.specs.Histories.{history_of}
 use Rattle.judge.proofs.Frozen.{may_freeze}
 use Rattle.judge.proofs.Entered.{may_enter}
 use Rattle.judge.proofs.Taken.{may_take}

@@ -1,8 +1,6 @@
-use Rattle.std.proofs.Common.{◌≡◌, ◌*◌, ◌+◌, ◌<◌, ◌≤◌, length, refl, sym, ◌∙◌, ap, arith}
-use Rattle.arena.specs.History.{Start}
+use Rattle.std.proofs.Common.{◌≡◌, ◌∙◌, ap, arith}
 use Rattle.arena.specs.Layout.{all_nodes, all_scx, opening_nodes}
 use Rattle.histories.proofs.Lemmas.{some_open}
-use Rattle.judge.specs.Graph.{links_of}
 use Rattle.judge.specs.Naming.{named_links, opening_links}
 use Rattle.judge.proofs.naming.Naming.new.Goals as goal
 

@@ -1,8 +1,7 @@
-use Rattle.std.proofs.Common.{◌≡◌, ℕ, refl}
+use Rattle.std.proofs.Common.{◌≡◌, refl}
 use Rattle.std.proofs.lemmas.List.{length-replicate}
-use Rattle.judge.specs.Taking.{taken_by}
 use Rattle.judge.proofs.Counts.{zeros, zero_list}
-use Rattle.judge.proofs.Taken.{taking_start, taking_more, may_take}
+use Rattle.judge.proofs.Taken.{taking_start}
 use Rattle.judge.proofs.taking.Taking.new.Goals as goal
 
 pub returns : goal.returns

@@ -1,12 +1,10 @@
-use Rattle.std.proofs.Common.{◌≡◌, ◌<◌, ◌≤◌, ◌+◌, replicate, length, ℕ, rules, refl, sym, ◌∙◌, arith, get_or-set_same}
-use Rattle.std.specs.Prelude.{slice_set}
+use Rattle.std.proofs.Common.{◌≡◌, ◌<◌, replicate, length, rules, ◌∙◌, arith, get_or-set_same}
 use Rattle.std.proofs.lemmas.List.{length-replicate}
 use Rattle.std.proofs.Math.ListN.{length-set}
-use Rattle.arena.specs.Layout.{all_nodes, opening_nodes}
+use Rattle.arena.specs.Layout.{all_nodes}
 use Rattle.histories.proofs.Lemmas.{some_open}
 use Rattle.judge.specs.declared.uses.Users.TheVariants.{Nobody, Several}
-use Rattle.judge.specs.Uses.{users_of}
-use Rattle.judge.proofs.Used.{uses_start, uses_more}
+use Rattle.judge.proofs.Used.{uses_start}
 use Rattle.judge.proofs.uses.Uses.new.Goals as goal
 
 pub returns : goal.returns
