@@ -43,13 +43,13 @@ impl Model for Judge {
 }
 
 impl Judge {
-    ghost use Rattle.std.specs.Prelude.{◌≡◌, ◌≢◌, ℕ, ◌+◌, ◌<◌, ◌≤◌, ◌∷◌, ◌↔◌, IsTrue, IfOk, IfSome, IfNone, OnOk, OnErr, length};
+    ghost use Rattle.std.specs.Prelude.{◌≡◌, ◌≢◌, ℕ, ◌+◌, ◌<◌, ◌≤◌, ◌∷◌, ◌↔◌, false, IsTrue, IfOk, IfSome, IfNone, OnOk, OnErr, length};
     ghost use Rattle.arena.specs.declared.word.Side.{Side};
     ghost use Rattle.arena.specs.Blame.{IsInProgress};
-    ghost use Rattle.arena.specs.Fills.{IsOwnNode, IsOwnScx, IsNamedScx, IsTakenNode, IsTakenScx};
-    ghost use Rattle.arena.specs.History.{Start, ◌⊳◌, value};
+    ghost use Rattle.arena.specs.Fills.{IsOwnNode, IsOwnScx, IsNamed, IsNamedScx, IsTakenNode, IsTakenScx};
+    ghost use Rattle.arena.specs.History.{Start, ◌⊳◌, value, HasHeld};
     ghost use Rattle.arena.specs.Lawful.{IsLawful, Lawful, IsWin};
-    ghost use Rattle.arena.specs.Layout.{IsWord, first_node, first_scx};
+    ghost use Rattle.arena.specs.Layout.{IsWord, all_nodes, first_node, first_scx};
     ghost use Rattle.arena.specs.Log.{log, entry, last, is_final};
     ghost use Rattle.arena.specs.PlainWords.{word_at};
     ghost use Rattle.arena.specs.Shape.{IsBegin};
@@ -135,6 +135,22 @@ impl Judge {
         ensures { IsTrue result ↔ IsNamedScx (history self.now) scx.0 }
     {
         facts::is_named_scx(self, scx.0)
+    }
+
+    /// Whether a node is named. Of one that is not of the table it says so, named or not.
+    pub fn is_named_node(&self, node: NodeNo) -> bool
+        ensures named { IsNamed self.now.layout (history self.now) node.0 → IsTrue result }
+        ensures inside { node.0 < all_nodes self.now.layout → IsTrue result → IsNamed self.now.layout (history self.now) node.0 }
+    {
+        node.0 >= u64::from(self.layout().all_nodes()) || facts::is_named_node(self, node.0)
+    }
+
+    /// Whether a field may hold a node, or may have held it: of one that is there from the start,
+    /// and of one that is not of the table, it says so, held or not.
+    pub fn is_in_field(&self, node: NodeNo) -> bool
+        ensures { result ≡ false → (m : ℕ) → (side : Side) → HasHeld (history self.now) (child m side) node.0 → ⊥ }
+    {
+        node.0 >= u64::from(self.layout().all_nodes()) || facts::was_in_field(self, node.0)
     }
 
     /// Whether an SCX-record has begun and is not finished.
