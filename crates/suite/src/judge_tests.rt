@@ -6,7 +6,7 @@ use arena::NodeWord::{Child, Head, Info, Key, Marked, Value};
 use arena::ScxWord::{AllFrozen, Call, Member, New, Old, Plan, Seen, State};
 use arena::Side::{Left, Right};
 use arena::{Kind, Layout, Limits, Mode, NodeNo, NodeWord, PassNo, Row, ScxNo, ScxWord, Word};
-use judge::first_unlawful;
+use judge::{Judge, first_unlawful};
 use std::alloc::{AllocError, Global};
 use std::process::Abort;
 use std::test::Fail;
@@ -215,6 +215,24 @@ fn a_run_of_cells_is_lawful(rt: HostRuntime) -> Result<(), Fail> {
     assert_eq!(rt; rows.len(), 94);
     let answer = first_unlawful(rt.alloc(), &layout, rows.as_slice())?;
     assert_eq!(rt; answer, None);
+    Ok(())
+}
+
+#[test]
+fn a_judge_remembers_a_run(rt: HostRuntime) -> Result<(), Fail> {
+    let layout = layout(Mode::Records, 2)?;
+    let mut judge = Judge::new(rt.alloc(), &layout)?;
+    let rows = whole_run(rt.alloc())?;
+    for row in rows.as_slice() {
+        assert!(rt; judge.is_lawful(row));
+        judge.make(row)?;
+    }
+    assert_eq!(rt; judge.get(s(12, State)), 1);
+    assert_eq!(rt; (judge.entries(), judge.taken()), (3, 4));
+    assert_eq!(rt; (judge.last(NodeNo(1)), judge.last(NodeNo(3)), judge.last(NodeNo(4))), (2, 3, 0));
+    assert!(rt; judge.is_final(NodeNo(2)) && !judge.is_final(NodeNo(1)));
+    assert!(rt; judge.is_named(ScxNo(12)) && !judge.is_named(ScxNo(2)));
+    assert!(rt; !judge.is_in_progress(ScxNo(12)));
     Ok(())
 }
 
