@@ -1,0 +1,18 @@
+//! Runs a script of the tree: a thread for each client makes the client's calls of one dictionary.
+#![tactic(auto)]
+
+mod answers;
+mod client;
+mod gate;
+mod gates;
+mod outcome;
+mod request;
+mod run;
+
+pub use gate::Gate;
+pub use gates::{Alternate, Hold, Open};
+pub use outcome::Outcome;
+pub use run::run;
+
+#[cfg(test)]
+mod tests;
