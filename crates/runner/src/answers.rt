@@ -1,12 +1,10 @@
 //! How far the clients of a run are.
+use crate::counts::CLIENTS;
 use arena::PassNo;
 use std::array::from_fn;
 use std::hint::spin_loop;
 use std::sync::atomic::{AtomicBool, AtomicU64, Ordering};
 use std::thread::yield_now;
-
-/// The most clients of a run.
-pub(crate) const CLIENTS: usize = 32;
 
 /// How often a call looks whether what it waits for has come.
 const MOST_LOOKS: u64 = 1_000_000_000;
@@ -37,9 +35,12 @@ impl Answers {
         }
     }
 
-    /// Waits until this call is answered. After too many looks it has waited in vain, and from then
-    /// on no call waits.
-    pub(crate) fn wait(&self, client: PassNo, call: u64) {
+    /// Waits until this call, if there is one, is answered. After too many looks it has waited in
+    /// vain, and from then on no call waits.
+    pub(crate) fn wait(&self, awaited: Option<(PassNo, u64)>) {
+        let Some((client, call)) = awaited else {
+            return;
+        };
         for look in 0..MOST_LOOKS {
             if self.has(client, call) || self.missed() {
                 return;

@@ -3,11 +3,13 @@
 
 mod answers;
 mod client;
+mod counts;
 mod gate;
 mod gates;
 mod outcome;
 mod request;
 mod run;
+mod thread;
 
 pub use gate::Gate;
 pub use gates::{Alternate, Hold, Open};

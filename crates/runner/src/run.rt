@@ -1,15 +1,23 @@
-//! The threads of a run.
-use crate::client::{Numbers, Worked, make_calls};
+//! A run of a script.
+ghost use Rattle.std.specs.Prelude.{◌≡◌, IfOk};
+ghost use Rattle.std.specs.List.{All};
+ghost use Rattle.arena.specs.Limits.{IsAccepted, IsLayoutOf};
+ghost use Rattle.arena.specs.declared.limits.Mode.TheVariants.{Tree};
+ghost use Rattle.script.specs.Commands.{mode_of};
+ghost use Rattle.forest.specs.Passes.{IsOf};
+ghost use Rattle.runner.specs.Calls.{HaveWorked};
+ghost use Rattle.runner.specs.Outcomes.{IsOutcome};
+
+use crate::client::{Numbers, make_calls};
 use crate::gate::Gate;
 use crate::outcome::Outcome;
+use crate::thread::{Works, join_all, start_all};
 use arena::NoMemory;
-use dict::Reply;
 use forest::{Forest, Pass};
 use script::{Call, Script};
 use std::alloc::Global;
-use std::snapshot::Snapshot;
 use std::sync::Wait;
-use std::thread::{Promise, PromisedHandle, Threads, scope, scope_env};
+use std::thread::{Threads, scope, scope_env};
 
 /// Runs a script of the tree with a thread for each client, which tells the gate of its calls. The
 /// only error is want of memory, also for a thread: the threads that were started have ended then.
@@ -18,29 +26,17 @@ pub fn run<R: Threads + Wait + Sync, G: Gate>(
     alloc: Global,
     script: &Script,
     gate: &G,
-) -> Result<Outcome, NoMemory> {
+) -> Result<Outcome, NoMemory>
+    requires accepted { IsAccepted script.now.limits }
+    requires tree { IsLayoutOf script.now.limits Tree script.now.layout }
+    ensures { IfOk result (λ o. IsOutcome script.now o.replies.items o.pairs.items) }
+{
     let Ok((forest, passes)) = Forest::<Numbers>::new(alloc, script.limits) else {
         return Err(NoMemory);
     };
-    let all = crowd(rt, alloc, &forest, script, gate, passes)?;
-    let (passes, replies) = part(alloc, all)?;
+    let (passes, replies) = crowd(rt, alloc, &forest, script.calls.as_slice(), gate, passes)?;
     let pairs = forest.close(passes).pairs(alloc)?;
     Ok(Outcome { replies, pairs })
-}
-
-/// A thread that makes the calls of a client.
-type Thread<'a> = PromisedHandle<Worked, Duty<'a>>;
-
-/// What the thread of a client owes.
-#[derive(Drop)]
-struct Duty<'a> {
-    forest: &'a Forest<Numbers>,
-    calls: &'a [Call],
-    pass: Snapshot<Pass<Numbers>>,
-}
-
-impl<'a> Promise<Worked> for Duty<'a> {
-    ghost kept_by = { λ _ _. Unit {0} };
 }
 
 /// Each client makes its calls in a thread of its own.
@@ -48,51 +44,25 @@ fn crowd<R: Threads + Wait + Sync, G: Gate>(
     rt: &R,
     alloc: Global,
     forest: &Forest<Numbers>,
-    script: &Script,
+    calls: &[Call],
     gate: &G,
     passes: Vec<Pass<Numbers>>,
-) -> Result<Vec<(Pass<Numbers>, Vec<Reply<u64, u64>>)>, NoMemory> {
-    let calls = script.calls.as_slice();
+) -> Works
+    requires passes { All (IsOf forest.now) passes.items }
+    requires tree { All (λ call. mode_of call.command ≡ Tree) calls.now }
+    ensures { IfOk result (λ r. HaveWorked forest.now calls.now passes.items r.0.items r.1.items) }
+{
     scope(
         scope_env(),
         rt,
-        move |scope| -> Result<Vec<(Pass<Numbers>, Vec<Reply<u64, u64>>)>, NoMemory> {
-            let mut threads = Vec::with_capacity(alloc, passes.len())?;
-            let mut refused = false;
-            for pass in passes {
-                let duty = Duty {
-                    forest,
-                    calls,
-                    pass: Snapshot::of(&pass),
-                };
-                let work = move || make_calls(alloc, forest, gate, calls, pass);
-                match scope.spawn_with(duty, work) {
-                    Ok(thread) => threads.push(thread)?,
-                    Err(_) => {
-                        refused = true;
-                        break;
-                    }
-                }
-            }
-            let mut all = Vec::with_capacity(alloc, threads.len())?;
-            for thread in threads {
-                all.push(thread.join(rt)?)?;
-            }
-            if refused { Err(NoMemory) } else { Ok(all) }
+        move |scope| -> Works
+            requires passes { All (IsOf forest.now) passes.items }
+            requires tree { All (λ call. mode_of call.command ≡ Tree) calls.now }
+            ensures { IfOk result (λ r. HaveWorked forest.entry.now calls.entry.now passes.items r.0.items r.1.items) }
+        {
+            let (threads, all) = start_all(alloc, scope, forest, calls, gate, passes)?;
+            let works = join_all(rt, alloc, threads);
+            if all { works } else { Err(NoMemory) }
         },
     )
-}
-
-/// The passes, and the replies.
-fn part(
-    alloc: Global,
-    all: Vec<(Pass<Numbers>, Vec<Reply<u64, u64>>)>,
-) -> Result<(Vec<Pass<Numbers>>, Vec<Vec<Reply<u64, u64>>>), NoMemory> {
-    let mut passes = Vec::new(alloc);
-    let mut replies = Vec::new(alloc);
-    for (pass, own) in all {
-        passes.push(pass)?;
-        replies.push(own)?;
-    }
-    Ok((passes, replies))
 }

@@ -1,8 +1,12 @@
 //! A gate at which the clients' calls take turns.
-use crate::answers::{Answers, CLIENTS};
+ghost use Rattle.std.specs.Prelude.{◌≡◌, ◌<◌, ℕ, slice_index};
+ghost use Rattle.runner.specs.Turns.{call_if, calls_of, in_turn};
+
+use crate::answers::Answers;
+use crate::counts::{CLIENTS, counts};
 use crate::gate::Gate;
 use arena::{Kind, PassNo};
-use script::{Call, Script};
+use script::Script;
 
 /// A call waits, before its first step, for the client before its own to have answered its call of
 /// the same number; client 0's waits for the last client's call of the number before. A client that
@@ -16,7 +20,10 @@ pub struct Alternate {
 
 impl Alternate {
     /// The gate of a script.
-    pub fn new(script: &Script) -> Alternate {
+    pub fn new(script: &Script) -> Alternate
+        ensures clients { result.clients ≡ script.now.layout.passes }
+        ensures counts { (c : ℕ) → c < CLIENTS → slice_index result.counts c ≡ calls_of script.now.calls.items c }
+    {
         Alternate {
             clients: script.layout.passes,
             counts: counts(&script.calls),
@@ -25,36 +32,34 @@ impl Alternate {
     }
 
     /// The call for which this one waits, if the other client has such a call.
-    fn awaited(&self, client: PassNo, call: u64) -> Option<(PassNo, u64)> {
-        let (before, number) = match client.0.checked_sub(1) {
-            Some(before) => (before, call),
-            None => (self.clients.checked_sub(1)?, call.checked_sub(1)?),
-        };
-        let count = *self.counts.get(before as usize)?;
-        if number < count {
-            Some((PassNo(before), number))
+    fn awaited(&self, client: PassNo, call: u64) -> Option<(PassNo, u64)>
+        ensures { result ≡ in_turn (slice_index self.now.counts) self.now.clients client.0 call }
+    {
+        if client.0 > 0 {
+            return self.call_if(client.0 - 1, call);
+        }
+        if self.clients > 0 && call > 0 {
+            return self.call_if(self.clients - 1, call - 1);
+        }
+        None
+    }
+
+    /// This call, if the client has it.
+    fn call_if(&self, client: u32, call: u64) -> Option<(PassNo, u64)>
+        ensures { result ≡ call_if (slice_index self.now.counts) client call }
+    {
+        let count = *self.counts.get(client as usize)?;
+        if call < count {
+            Some((PassNo(client), call))
         } else {
             None
         }
     }
 }
 
-/// How many calls each client has.
-fn counts(calls: &[Call]) -> [u64; CLIENTS] {
-    let mut counts = [0u64; CLIENTS];
-    for call in calls {
-        if let Some(count) = counts.get_mut(call.client.0 as usize) {
-            *count = count.saturating_add(1);
-        }
-    }
-    counts
-}
-
 impl Gate for Alternate {
     fn began(&self, client: PassNo, call: u64) {
-        if let Some((other, number)) = self.awaited(client, call) {
-            self.answers.wait(other, number);
-        }
+        self.answers.wait(self.awaited(client, call));
     }
 
     fn made(&self, _client: PassNo, _call: u64, _kind: Kind) {}
