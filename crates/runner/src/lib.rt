@@ -8,13 +8,13 @@ mod gate;
 mod gates;
 mod outcome;
 mod request;
-mod run;
+mod runs;
 mod thread;
 
 pub use gate::Gate;
 pub use gates::{Alternate, Hold, Open};
 pub use outcome::Outcome;
-pub use run::run;
+pub use runs::run;
 
 #[cfg(test)]
 mod tests;

@@ -1,6 +1,6 @@
 //! The rows of the outcome.
 use crate::gates::{Alternate, Hold, Open};
-use crate::run::run;
+use crate::runs::run;
 use arena::Mode;
 use dict::Reply;
 use script::{Metered, read_script};
