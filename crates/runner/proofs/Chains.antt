@@ -1,5 +1,5 @@
 -- The calls of a client, one behind the other.
-use Rattle.std.proofs.Common.{◌≡◌, ◌∙◌, ℕ, suc, ◌+◌, ◌<◌, Bool, true, false, cond, eqb, List, [], ◌∷◌, ◌++◌, take, length, get_or, Option, Some, refl, sym, ap, subst}
+use Rattle.std.proofs.Common.{◌≡◌, ◌∙◌, ℕ, suc, ◌+◌, ◌<◌, Bool, true, false, cond, eqb, List, [], ◌∷◌, ◌++◌, take, length, get_or, Option, Some, refl, sym, ap, subst, append-nil}
 use Rattle.std.proofs.lemmas.List.{take_more}
 use Rattle.arena.specs.declared.layout.Layout.{Layout}
 use Rattle.arena.specs.History.{Extends}
@@ -47,3 +47,17 @@ commands_append (x ∷ xs) ys c = ap (λ zs. cond (eqb x.client.0 c) (x.command 
 -- with the next call
 pub commands_more : (calls : List Call) (i : ℕ) (call : Call) (c : ℕ) → i < length calls → commands (take (i + 1) calls) c ≡ commands (take i calls) c ++ commands (get_or calls i call ∷ []) c
 commands_more calls i call c less = ap (λ xs. commands xs c) (take_more calls i call less) ∙ commands_append (take i calls) (get_or calls i call ∷ []) c
+
+commands_next : (calls : List Call) (i : ℕ) (call : Call) (c : ℕ) (b : Bool) → i < length calls → call ≡ get_or calls i call → eqb call.client.0 c ≡ b → commands (take (i + 1) calls) c ≡ commands (take i calls) c ++ cond b (call.command ∷ []) []
+commands_next calls i call c b less is same = commands_more calls i call c less
+    ∙ ap (λ (y : Call). commands (take i calls) c ++ commands (y ∷ []) c) (sym is)
+    ∙ ap (λ x. commands (take i calls) c ++ cond x (call.command ∷ []) []) same
+
+module _ (P : PassView → PassView → MapCall → Reply ℕ ℕ → Type 0) (calls : List Call) (i : ℕ) (call : Call) (c : ℕ) (less : i < length calls) (is : call ≡ get_or calls i call) (a b : PassView) (rs : List (Reply ℕ ℕ)) (h : HaveReplies P a (commands (take i calls) c) rs b) where
+  -- behind a call of the client
+  pub replies_next : eqb call.client.0 c ≡ true → (d : PassView) (made : MapCall) (reply : Reply ℕ ℕ) → map_call (Some call.command) ≡ Some made → P b d made reply → HaveReplies P a (commands (take (i + 1) calls) c) (rs ++ reply ∷ []) d
+  replies_next same d made reply map p = subst (λ cs. HaveReplies P a cs (rs ++ reply ∷ []) d) (sym (commands_next calls i call c true less is same)) (replies_more P a b d (commands (take i calls) c) rs call.command made reply h map p)
+
+  -- behind another's
+  pub replies_skip : eqb call.client.0 c ≡ false → HaveReplies P a (commands (take (i + 1) calls) c) rs b
+  replies_skip same = subst (λ cs. HaveReplies P a cs rs b) (sym (commands_next calls i call c false less is same ∙ append-nil (commands (take i calls) c))) h

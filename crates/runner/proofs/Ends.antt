@@ -54,10 +54,10 @@ module _ (script : Script) (f : Ground) (layout : IsLayoutOf script.limits Tree 
       let number : w.new.number ≡ c = w.worked.number ∙ ap (λ (p : PassView). p.number) old in
       let b = begun_at closed.rows news c w.new w.is closed.begun in
       let within : Extends whole (run_of w.new) = subst (λ (l : Layout). Extends (history_of l.mode closed.rows) (run_of w.new)) lay b.0 in
-      let replies = subst (λ (p : PassView). HaveReplies HasCalled p (commands script.calls.items p.number) own.items w.new) old w.worked.replies in
+      let replies = subst (λ (p : PassView). HaveReplies HasCalled p (commands script.calls.items p.number) own.items w.new) old w.worked.made in
       record {
         last = w.new;
-        replies = all_answered f.layout whole edits.0 tree edits.1 (new_pass f c) w.new (commands script.calls.items c) own.items refl within replies;
+        stand = all_answered f.layout whole edits.0 tree edits.1 (new_pass f c) w.new (commands script.calls.items c) own.items refl within replies;
         within = within;
         entries = subst (λ (l : Layout). entries_of c (log l (history_of l.mode closed.rows)) ≡ done_of w.new) lay (subst (λ n. entries_of n (log w.new.layout (history_of w.new.layout.mode closed.rows)) ≡ done_of w.new) number b.1);
       }
@@ -72,6 +72,6 @@ module _ (script : Script) (f : Ground) (layout : IsLayoutOf script.limits Tree 
     makes = edits.1;
     count = worked_count f script.calls.items olds news owns worked ∙ are_new.count ∙ layout.passes;
     clients = client;
-    pairs = one_spelling f.layout (value whole) _ _ spells (spells_log f.layout whole edits.0 tree edits.1 whole (ends_self whole));
+    last_map = one_spelling f.layout (value whole) _ _ spells (spells_log f.layout whole edits.0 tree edits.1 whole (ends_self whole));
     rising = spells.rising;
   }

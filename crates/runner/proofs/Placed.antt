@@ -56,7 +56,7 @@ module _ (lay : Layout) (run : History) (edits : ℕ → MapEdit) (tree : IsTree
       edit_is =
           let there : IsEntered (log lay (x.row ⊳ x.before)) x.entry.scx = subst (λ es. IsEntered es x.entry.scx) (sym logged) (inl refl) in
           let entered = stays_entered lay run (x.row ⊳ x.before) x.entry.scx tree.1.lawful (ends_trans run (run_of new) (x.row ⊳ x.before) within x.within) there in
-          let makes : Makes lay (run_of new) x.entry.scx edit = rw layout at x.makes in
+          let makes : Makes lay (run_of new) x.entry.scx edit = subst (λ l. Makes l (run_of new) x.entry.scx edit) layout x.makes in
           makes_one lay run x.entry.scx (edits x.entry.scx) edit tree.1.lawful (are x.entry.scx entered) (makes_since lay run (run_of new) x.entry.scx edit within makes)
 
       before_within : Extends (run_of new) x.before

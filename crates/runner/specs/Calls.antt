@@ -45,7 +45,7 @@ HaveReplies P old _ _ new = ⊥
 pub record HasWorked (forest : Ground) (calls : List Call) (old new : PassView) (replies : List (Reply ℕ ℕ)) : Type 0 where
   pub of_forest : IsOf forest new
   pub number : new.number ≡ old.number
-  pub replies : HaveReplies HasCalled old (commands calls old.number) replies new
+  pub made : HaveReplies HasCalled old (commands calls old.number) replies new
 
 -- each of these passes has worked, and has given back what stands at its place
 abbrev pub HaveWorked : Ground → List Call → List PassView → List PassView → List (Vec (Reply ℕ ℕ) Global) → Type 0

@@ -23,7 +23,7 @@ use Rattle.runner.specs.Histories.{IsAnswered, map_at}
 pub record IsClient (forest : Ground) (run : History) (edits : ℕ → MapEdit) (c : ℕ) (calls : List Command) (replies : List (Reply ℕ ℕ)) : Type 0 where
   -- what its pass knew at the end of its last call
   pub last : PassView
-  pub replies : HaveReplies (IsAnswered forest.layout run edits) (new_pass forest c) calls replies last
+  pub stand : HaveReplies (IsAnswered forest.layout run edits) (new_pass forest c) calls replies last
   pub within : Extends run (run_of last)
   -- its entries in the run are those of its changing calls, and no others
   pub entries : entries_of c (log forest.layout run) ≡ done_of last
@@ -40,5 +40,5 @@ pub record IsOutcome (script : Script) (replies : List (Vec (Reply ℕ ℕ) Glob
   pub makes : AreEdits edits forest.layout run
   pub count : length replies ≡ script.limits.passes
   pub clients : (c : ℕ) (own : Vec (Reply ℕ ℕ) Global) → slice_get replies c ≡ Some own → IsClient forest run edits c (commands script.calls.items c) own.items
-  pub pairs : map (word_pair (λ n. n) (λ n. n)) pairs ≡ map_at forest.layout edits run
+  pub last_map : map (word_pair (λ n. n) (λ n. n)) pairs ≡ map_at forest.layout edits run
   pub rising : IsRising (map (word_pair (λ n. n) (λ n. n)) pairs)

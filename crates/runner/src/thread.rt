@@ -75,7 +75,7 @@ pub(crate) fn start_all<'s, E, G: Gate>(
 
 /// Waits for all threads, and gathers what they give back.
 pub(crate) fn join_all<'s, R: Threads>(rt: &R, alloc: Global, threads: Vec<Thread<'s>>) -> Works
-    ensures { (f : Ground) (calls : List Call) → All (λ t. (t.promise.forest.now ≡ f) × (t.promise.calls.now ≡ calls)) threads.items → IfOk result (λ r. HaveWorked f calls (map (λ t. t.promise.pass.value) threads.items) r.0.items r.1.items) }
+    ensures { (f : Ground) (calls : List Call) → All (λ t. (t.promise.forest.now ≡ f) × (t.promise.calls.now ≡ calls)) threads.entry.items → IfOk result (λ r. HaveWorked f calls (map (λ t. t.promise.pass.value) threads.entry.items) r.0.items r.1.items) }
 {
     let mut works = Ok((Vec::new(alloc), Vec::new(alloc)));
     for thread in threads {

@@ -8,8 +8,8 @@ use Rattle.runner.proofs.thread.join_all.Given as goal
 
 abbrev pub invariant-loop-thread : goal.invariant-loop-thread
 invariant-loop-thread g l =
-    (goal.iterator-loop-thread).can_next l.thread-iterator
-    × (goal.iterator-loop-thread).is_finite l.thread-iterator
+    (goal.iterator-loop-thread g).can_next l.thread-iterator
+    × (goal.iterator-loop-thread g).is_finite l.thread-iterator
     × ((f : Ground) (calls : List Call) → All (λ t. (t.promise.forest.now ≡ f) × (t.promise.calls.now ≡ calls)) l.fn.threads.items
         → All (λ t. (t.promise.forest.now ≡ f) × (t.promise.calls.now ≡ calls)) l.thread-iterator.rest.items
             × ((done : List PassView) × (done ++ map (λ t. t.promise.pass.value) l.thread-iterator.rest.items ≡ map (λ t. t.promise.pass.value) l.fn.threads.items)
