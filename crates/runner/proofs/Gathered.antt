@@ -1,8 +1,8 @@
 -- What the threads of a run give back, one after the other.
-use Rattle.std.proofs.Common.{◌≡◌, ◌∙◌, ℕ, zero, suc, ◌<◌, List, [], ◌∷◌, ◌++◌, length, slice_get, Option, Some, None, arith, refl, sym, ap, subst}
+use Rattle.std.proofs.Common.{◌≡◌, ◌∙◌, ℕ, zero, suc, ◌<◌, List, [], ◌∷◌, ◌++◌, length, slice_get, Option, Some, None, arith, map, refl, sym, ap, subst, append_assoc, append-nil}
 use Rattle.std.specs.Prelude.{Vec}
 use Rattle.std.specs.List.{All}
-use Rattle.std.proofs.lemmas.List.Elements.{All-nil, All-cons}
+use Rattle.std.proofs.lemmas.List.Elements.{All-nil, All-cons, All-head, All-tail}
 use Rattle.std.specs.Global.{Global}
 use Rattle.dict.specs.declared.reply.Reply.{Reply}
 use Rattle.script.specs.declared.command.Call.{Call}
@@ -80,3 +80,36 @@ worked_back f calls olds news owns new h n less =
     some_at [] i less = absurd (omega (arith, less))
     some_at (x ∷ xs) zero less = (x, refl)
     some_at (x ∷ xs) (suc i) less = some_at xs i (omega (arith, less))
+
+-- Threads, one after the other
+
+-- what is left of a list behind its first
+module _ {T : Type 0} (rest more : List T) (t : T) (step : rest ≡ t ∷ more) where
+  pub first_too : (D : T → Type 0) → All D rest → D t
+  first_too D a = All-head D t more (subst (All D) step a)
+
+  pub rest_too : (D : T → Type 0) → All D rest → All D more
+  rest_too D a = All-tail D t more (subst (All D) step a)
+
+  -- one thread more is joined
+  pub joined : (pass : T → PassView) (done xs : List PassView) → done ++ map pass rest ≡ xs → (done ++ pass t ∷ []) ++ map pass more ≡ xs
+  joined pass done xs h = append_assoc done (pass t ∷ []) (map pass more) ∙ sym (ap (λ r. done ++ map pass r) step) ∙ h
+
+-- all are joined
+pub all_joined : {T : Type 0} (rest : List T) → length rest ≡ 0 → (pass : T → PassView) (done xs : List PassView) → done ++ map pass rest ≡ xs → done ≡ xs
+all_joined [] step pass done xs h = sym (append-nil done) ∙ h
+all_joined (t ∷ rest) step pass done xs h = absurd (omega (arith, step))
+
+map_more : {T : Type 0} (pass : T → PassView) (ts : List T) (t : T) → map pass (ts ++ t ∷ []) ≡ map pass ts ++ pass t ∷ []
+map_more pass [] t = refl
+map_more pass (x ∷ ts) t = ap (λ ps. pass x ∷ ps) (map_more pass ts t)
+
+-- one thread more is started
+pub started : {T : Type 0} (threads grown : List T) (t : T) (pass : T → PassView) (p : PassView) (rest more xs : List PassView) → grown ≡ threads ++ t ∷ [] → pass t ≡ p → rest ≡ p ∷ more → map pass threads ++ rest ≡ xs → map pass grown ++ more ≡ xs
+started threads grown t pass p rest more xs items is step h =
+    ap (λ ts. map pass ts ++ more) items
+    ∙ ap (λ ps. ps ++ more) (map_more pass threads t)
+    ∙ append_assoc (map pass threads) (pass t ∷ []) more
+    ∙ ap (λ q. map pass threads ++ q ∷ more) is
+    ∙ sym (ap (λ r. map pass threads ++ r) step)
+    ∙ h

@@ -2,7 +2,6 @@
 use crate::counts::CLIENTS;
 use arena::PassNo;
 use std::array::from_fn;
-use std::hint::spin_loop;
 use std::sync::atomic::{AtomicBool, AtomicU64, Ordering};
 use std::thread::yield_now;
 
@@ -47,8 +46,6 @@ impl Answers {
             }
             if look % LOOKS_AT_ONCE == LOOKS_AT_ONCE - 1 {
                 yield_now();
-            } else {
-                spin_loop();
             }
         }
         self.missed.store(true, Ordering::SeqCst);

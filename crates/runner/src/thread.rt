@@ -62,7 +62,11 @@ pub(crate) fn start_all<'s, E, G: Gate>(
             calls,
             pass: pass_then,
         };
-        let work = move || make_calls(alloc, forest, gate, calls, pass);
+        let work = move || -> Worked
+            requires pass { IsOf forest.now pass }
+            requires tree { All (λ call. mode_of call.command ≡ Tree) calls.now }
+            ensures { IfOk result (λ w. HasWorked forest.entry.now calls.entry.now pass w.0 w.1.items) }
+        { make_calls(alloc, forest, gate, calls, pass) };
         let Ok(thread) = scope.spawn_with(duty, work) else {
             return Ok((threads, false));
         };

@@ -121,19 +121,6 @@ fn a_gate_is_told_of_each_step(rt: HostRuntime) -> Result<(), Fail> {
     Ok(())
 }
 
-/// A call that waits for one which never comes is let go, and so are all calls behind it.
-#[test]
-fn a_gate_misses_what_never_comes(rt: HostRuntime) -> Result<(), Fail> {
-    let script = script_of(rt.alloc(), TWO)?;
-    let gate = Hold::new(&script);
-    gate.began(PassNo(1), 0);
-    assert!(rt; !gate.missed());
-    gate.began(PassNo(0), 0);
-    assert!(rt; gate.missed());
-    gate.began(PassNo(0), 0);
-    Ok(())
-}
-
 /// What is answered is waited for no more, and a client that has no such call is not waited for.
 #[test]
 fn what_is_answered_is_not_waited_for(rt: HostRuntime) -> Result<(), Fail> {
