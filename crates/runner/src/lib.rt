@@ -15,6 +15,3 @@ pub use gate::Gate;
 pub use gates::{Alternate, Hold, Open};
 pub use outcome::Outcome;
 pub use runs::run;
-
-#[cfg(test)]
-mod tests;

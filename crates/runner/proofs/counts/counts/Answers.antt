@@ -19,17 +19,17 @@ overflow_add-counts c =
 pub loop-call-preserved : goal.loop-call-preserved
 loop-call-preserved c = elim c.if-client-lt-CLIENTS.branch [
   | then-client-lt-CLIENTS w ↦ rw w.counts-is (
-    let long = c.loop-call.invariant.long in
-    let inside : c.call-item.result.client.0 < length c.loop-call.counts = rw long w.if-client-lt-CLIENTS.true in
-    record {
-      long = length-set c.loop-call.counts c.call-item.result.client.0 (get_or c.loop-call.counts c.call-item.result.client.0 0 + 1) ∙ long;
-      each = λ k less. counted c.args.calls.now c.loop-call.call-index c.call-item.result c.loop-call.counts c.loop-call-test.true c.call-item.is inside (λ j below. c.loop-call.invariant.each j (rw long at below)) k (rw long less);
-    })
+      let long = c.loop-call.invariant.long in
+      let inside : c.call-item.result.client.0 < length c.loop-call.counts = rw long w.if-client-lt-CLIENTS.true in
+      record {
+        long = length-set c.loop-call.counts c.call-item.result.client.0 (get_or c.loop-call.counts c.call-item.result.client.0 0 + 1) ∙ long;
+        each = λ k less. counted c.args.calls.now c.loop-call.call-index c.call-item.result c.loop-call.counts c.loop-call-test.true c.call-item.is inside (λ j below. c.loop-call.invariant.each j (rw long at below)) k (rw long less);
+      })
   | else-client-lt-CLIENTS w ↦ rw w.counts-is (
-    let long = c.loop-call.invariant.long in
-    let beyond : length c.loop-call.counts ≤ c.call-item.result.client.0 = rw long w.if-client-lt-CLIENTS.false in
-    record {
-      long = long;
-      each = λ k less. not_counted c.args.calls.now c.loop-call.call-index c.call-item.result c.loop-call.counts c.loop-call-test.true c.call-item.is beyond (λ j below. c.loop-call.invariant.each j (rw long at below)) k (rw long less);
-    })
+      let long = c.loop-call.invariant.long in
+      let beyond : length c.loop-call.counts ≤ c.call-item.result.client.0 = rw long w.if-client-lt-CLIENTS.false in
+      record {
+        long = long;
+        each = λ k less. not_counted c.args.calls.now c.loop-call.call-index c.call-item.result c.loop-call.counts c.loop-call-test.true c.call-item.is beyond (λ j below. c.loop-call.invariant.each j (rw long at below)) k (rw long less);
+      })
 ]

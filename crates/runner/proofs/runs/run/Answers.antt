@@ -10,9 +10,6 @@ use Rattle.runner.proofs.Gathered.{worked_of, worked_back}
 use Rattle.runner.proofs.Ends.{outcome_of}
 use Rattle.runner.proofs.runs.run.Goals as goal
 
-pub crowd-requires-clause-passes : goal.crowd-requires-clause-passes
-crowd-requires-clause-passes g c = new_are_of _ _ c.in-Ok.ensures.passes
-
 pub close-requires-clause-passes : goal.close-requires-clause-passes
 close-requires-clause-passes g c = worked_of _ _ _ _ _ c.in_ok-passes.ensures
 

@@ -11,22 +11,22 @@ loop-thread-preserved g c = (
   tt,
   tt,
   λ f calls all.
-    let inv = c.loop-thread.invariant.2 f calls all in
-    let rest = c.loop-thread.thread-iterator.rest.items in
-    let more = c.next.new.self.rest.items in
-    let step = c.in-Some.ensures.steps.0 in
-    let duty = first_too rest more c.in-Some.thread step (λ t. (t.promise.forest.now ≡ f) × (t.promise.calls.now ≡ calls)) inv.0 in
-    let old : PassView = c.in-Some.thread.promise.pass.value in
-    let kept : IfOk c.join.result (λ w. HasWorked f calls old w.0 w.1.items) =
-        subst (λ (k : Ground). IfOk c.join.result (λ w. HasWorked k calls old w.0 w.1.items)) duty.0
-        (subst (λ (xs : List Call). IfOk c.join.result (λ w. HasWorked c.in-Some.thread.promise.forest.now xs old w.0 w.1.items)) duty.1 c.join.ensures) in (
-      rest_too rest more c.in-Some.thread step (λ t. (t.promise.forest.now ≡ f) × (t.promise.calls.now ≡ calls)) inv.0,
-      (
-        inv.1.0 ++ old ∷ [],
-        joined rest more c.in-Some.thread step (λ t. t.promise.pass.value) inv.1.0 _ inv.1.1,
-        c.with_work-works.ensures f calls inv.1.0 old inv.1.2 kept,
+      let inv = c.loop-thread.invariant.2 f calls all in
+      let rest = c.loop-thread.thread-iterator.rest.items in
+      let more = c.next.new.self.rest.items in
+      let step = c.in-Some.ensures.steps.0 in
+      let duty = first_too rest more c.in-Some.thread step (λ t. (t.promise.forest.now ≡ f) × (t.promise.calls.now ≡ calls)) inv.0 in
+      let old : PassView = c.in-Some.thread.promise.pass.value in
+      let kept : IfOk c.join.result (λ w. HasWorked f calls old w.0 w.1.items) =
+      subst (λ (k : Ground). IfOk c.join.result (λ w. HasWorked k calls old w.0 w.1.items)) duty.0
+      (subst (λ (xs : List Call). IfOk c.join.result (λ w. HasWorked c.in-Some.thread.promise.forest.now xs old w.0 w.1.items)) duty.1 c.join.ensures) in (
+        rest_too rest more c.in-Some.thread step (λ t. (t.promise.forest.now ≡ f) × (t.promise.calls.now ≡ calls)) inv.0,
+        (
+          inv.1.0 ++ old ∷ [],
+          joined rest more c.in-Some.thread step (λ t. t.promise.pass.value) inv.1.0 _ inv.1.1,
+          c.with_work-works.ensures f calls inv.1.0 old inv.1.2 kept,
+        ),
       ),
-    ),
 )
 
 pub returns : goal.returns
