@@ -18,7 +18,10 @@ pub enum Request<'a> {
         schedule: &'a str,
     },
     /// To run the calls of a script on the tree, with a thread for each client and a gate.
-    Run { gate: &'a str, script: &'a str },
+    Run {
+        gate: &'a str,
+        script: &'a str,
+    },
 }
 
 /// The words that the program was given, of which the first is its own name.
@@ -48,14 +51,12 @@ fn request_of<'a, S: AsStr>(alloc: Global, words: &'a [S]) -> Result<Option<Requ
     let Some((name, given)) = matches.subcommand() else {
         return Ok(None);
     };
-    Ok(
-        match name {
-            "play" => play_of(given, Mode::Tree),
-            "records" => play_of(given, Mode::Records),
-            "run" => run_of(given),
-            _ => None,
-        },
-    )
+    Ok(match name {
+        "play" => play_of(given, Mode::Tree),
+        "records" => play_of(given, Mode::Records),
+        "run" => run_of(given),
+        _ => None,
+    })
 }
 
 fn play_of<'a>(given: &ArgMatches<'a>, mode: Mode) -> Option<Request<'a>> {
@@ -86,10 +87,12 @@ fn command<'a>(alloc: Global) -> Result<Command<'a>, Error> {
 
 /// A command that runs a script.
 fn running<'a>(alloc: Global, name: &'a str) -> Result<Command<'a>, Error> {
-    let gate = Arg::new(alloc, "gate")
-        .long("gate")
-        .action(ArgAction::Set);
-    Ok(Command::new(alloc, name).arg(file(alloc, "SCRIPT"))?.arg(gate)?)
+    let gate = Arg::new(alloc, "gate").long("gate").action(ArgAction::Set);
+    Ok(
+        Command::new(alloc, name)
+            .arg(file(alloc, "SCRIPT"))?
+            .arg(gate)?,
+    )
 }
 
 /// A command that plays a script by a schedule.

@@ -22,7 +22,13 @@ pub fn run_words<R: Files + AllocGlobal + Threads + Wait + Sync, O: Write, E: Wr
     ensures { result ≤ 4 }
 {
     match read_words(rt.alloc(), words) {
-        Ok(Request::Play { mode, script, schedule }) => play_files(rt, mode, script, schedule, out, err),
+        Ok(
+            Request::Play {
+                mode,
+                script,
+                schedule,
+            },
+        ) => play_files(rt, mode, script, schedule, out, err),
         Ok(Request::Run { gate, script }) => run_file(rt, gate, script, out, err),
         Err(fault) => fault.print(err),
     }

@@ -2,6 +2,7 @@
 ghost use Rattle.std.specs.Prelude.{◌≡◌, IfOk, map};
 ghost use Rattle.dict.specs.Words.{told_of, word_pair};
 ghost use Rattle.record.specs.MapRecord.{reply_told};
+ghost use Rattle.spelling.specs.OrderedMap.{pair};
 
 use dict::Reply;
 use record::Answer;
@@ -12,23 +13,21 @@ use std::alloc::{AllocError, Global};
 pub(crate) fn answer_of(alloc: Global, reply: &Reply<u64, u64>) -> Result<Answer, AllocError>
     ensures { IfOk result (λ a. reply_told a ≡ told_of (λ n. n) (λ n. n) reply.now) }
 {
-    Ok(
-        match reply {
-            Reply::Value(value) => Answer::Value(*value),
-            Reply::Pair(None) => Answer::Value(None),
-            Reply::Pair(Some((key, value))) => Answer::Pair(pair(*key, *value)),
-            Reply::Pairs(pairs) => Answer::Pairs(pairs_of(alloc, pairs)?),
-            Reply::Contended { node, scx } => Answer::Contended {
-                node: *node,
-                scx: *scx,
-            },
-            Reply::Full(full) => Answer::Full {
-                what: full.what,
-                left: full.left,
-            },
-            Reply::NoMemory => Answer::NoMemory,
-        },
-    )
+    match reply {
+        Reply::Value(value) => Ok(Answer::Value(*value)),
+        Reply::Pair(None) => Ok(Answer::Value(None)),
+        Reply::Pair(Some((key, value))) => Ok(Answer::Pair(pair(*key, *value))),
+        Reply::Pairs(pairs) => Ok(Answer::Pairs(pairs_of(alloc, pairs)?)),
+        Reply::Contended { node, scx } => Ok(Answer::Contended {
+            node: *node,
+            scx: *scx,
+        }),
+        Reply::Full(full) => Ok(Answer::Full {
+            what: full.what,
+            left: full.left,
+        }),
+        Reply::NoMemory => Ok(Answer::NoMemory),
+    }
 }
 
 fn pairs_of(alloc: Global, pairs: &[(u64, u64)]) -> Result<Vec<Pair>, AllocError>
@@ -42,7 +41,7 @@ fn pairs_of(alloc: Global, pairs: &[(u64, u64)]) -> Result<Vec<Pair>, AllocError
 }
 
 fn pair(key: u64, value: u64) -> Pair
-    ensures { (result.key ≡ key) × (result.value ≡ value) }
+    ensures { result ≡ pair key value }
 {
     Pair { key, value }
 }

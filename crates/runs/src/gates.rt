@@ -124,7 +124,10 @@ fn a_gate_is_told_of_each_step(rt: HostRuntime) -> Result<(), Fail> {
 /// What is answered is waited for no more, and a client that has no such call is not waited for.
 #[test]
 fn what_is_answered_is_not_waited_for(rt: HostRuntime) -> Result<(), Fail> {
-    let alone = script_of(rt.alloc(), "limits,2,20,20,3\n0,get,1,,\n0,get,1,,\nend,2,,,\n")?;
+    let alone = script_of(
+        rt.alloc(),
+        "limits,2,20,20,3\n0,get,1,,\n0,get,1,,\nend,2,,,\n",
+    )?;
     let hold = Hold::new(&alone);
     hold.began(PassNo(0), 0);
     assert!(rt; !hold.missed());
