@@ -1,7 +1,7 @@
 //! The words of the command line.
 use arena::Mode;
 use clap::error::ErrorKind;
-use clap::{Arg, ArgAction, Command, Error};
+use clap::{Arg, ArgAction, ArgMatches, Command, Error};
 use program::Fault;
 use std::alloc::Global;
 use std::convert::AsStr;
@@ -16,6 +16,11 @@ pub enum Request<'a> {
         mode: Mode,
         script: &'a str,
         schedule: &'a str,
+    },
+    /// To run the calls of a script on the tree, with a thread for each client and a gate.
+    Run {
+        gate: &'a str,
+        script: &'a str,
     },
 }
 
@@ -46,20 +51,27 @@ fn request_of<'a, S: AsStr>(alloc: Global, words: &'a [S]) -> Result<Option<Requ
     let Some((name, given)) = matches.subcommand() else {
         return Ok(None);
     };
-    let (script, schedule) = match (given.get_str("SCRIPT"), given.get_str("SCHEDULE")) {
-        (Some(script), Some(schedule)) => (script, schedule),
-        _ => return Ok(None),
-    };
-    let mode = match name {
-        "play" => Mode::Tree,
-        "records" => Mode::Records,
-        _ => return Ok(None),
-    };
-    Ok(Some(Request::Play {
+    Ok(match name {
+        "play" => play_of(given, Mode::Tree),
+        "records" => play_of(given, Mode::Records),
+        "run" => run_of(given),
+        _ => None,
+    })
+}
+
+fn play_of<'a>(given: &ArgMatches<'a>, mode: Mode) -> Option<Request<'a>> {
+    Some(Request::Play {
         mode,
-        script,
-        schedule,
-    }))
+        script: given.get_str("SCRIPT")?,
+        schedule: given.get_str("SCHEDULE")?,
+    })
+}
+
+fn run_of<'a>(given: &ArgMatches<'a>) -> Option<Request<'a>> {
+    Some(Request::Run {
+        gate: given.get_str("gate").unwrap_or("open"),
+        script: given.get_str("SCRIPT")?,
+    })
 }
 
 /// The commands and their arguments.
@@ -68,7 +80,18 @@ fn command<'a>(alloc: Global) -> Result<Command<'a>, Error> {
         Command::new(alloc, "regnubas")
             .subcommand_required(true)
             .subcommand(playing(alloc, "play")?)?
-            .subcommand(playing(alloc, "records")?)?,
+            .subcommand(playing(alloc, "records")?)?
+            .subcommand(running(alloc, "run")?)?,
+    )
+}
+
+/// A command that runs a script.
+fn running<'a>(alloc: Global, name: &'a str) -> Result<Command<'a>, Error> {
+    let gate = Arg::new(alloc, "gate").long("gate").action(ArgAction::Set);
+    Ok(
+        Command::new(alloc, name)
+            .arg(file(alloc, "SCRIPT"))?
+            .arg(gate)?,
     )
 }
 

@@ -3,15 +3,17 @@ ghost use Rattle.std.specs.Prelude.{◌≤◌};
 
 use crate::args::{Request, read_words};
 use arena::Mode;
-use program::{Fault, play_over};
+use program::{Fault, play_over, run_over};
 use std::fs;
 use std::io::Write;
 use std::rt::Files;
+use std::sync::Wait;
+use std::thread::Threads;
 use texts::Metered;
 
 /// Does what the words ask for, of which the first is the program's own name, and answers the exit
 /// status. The files are opened in the order of the words before any of them is read.
-pub fn run_words<R: Files + AllocGlobal, O: Write, E: Write>(
+pub fn run_words<R: Files + AllocGlobal + Threads + Wait + Sync, O: Write, E: Write>(
     rt: &R,
     words: &[String],
     out: &mut O,
@@ -19,18 +21,32 @@ pub fn run_words<R: Files + AllocGlobal, O: Write, E: Write>(
 ) -> u8
     ensures { result ≤ 4 }
 {
-    let opened = match read_words(rt.alloc(), words) {
+    match read_words(rt.alloc(), words) {
         Ok(
             Request::Play {
                 mode,
                 script,
                 schedule,
             },
-        ) => open_both(rt, mode, script, schedule),
-        Err(fault) => Err(fault),
-    };
-    match opened {
-        Ok((mode, mut script, mut schedule)) => {
+        ) => play_files(rt, mode, script, schedule, out, err),
+        Ok(Request::Run { gate, script }) => run_file(rt, gate, script, out, err),
+        Err(fault) => fault.print(err),
+    }
+}
+
+/// Plays the script in a file by the schedule in another.
+fn play_files<R: Files + AllocGlobal, O: Write, E: Write>(
+    rt: &R,
+    mode: Mode,
+    script: &str,
+    schedule: &str,
+    out: &mut O,
+    err: &mut E,
+) -> u8
+    ensures { result ≤ 4 }
+{
+    match open_both(rt, script, schedule) {
+        Ok((mut script, mut schedule)) => {
             play_over(
                 rt.alloc(),
                 mode,
@@ -44,11 +60,31 @@ pub fn run_words<R: Files + AllocGlobal, O: Write, E: Write>(
     }
 }
 
-fn open_both<R: Files>(
+fn open_both<R: Files>(rt: &R, first: &str, second: &str) -> Result<(R::File, R::File), Fault> {
+    Ok((fs::open(rt, first)?, fs::open(rt, second)?))
+}
+
+/// Runs the script in a file with threads, at the gate of this name.
+fn run_file<R: Files + AllocGlobal + Threads + Wait + Sync, O: Write, E: Write>(
     rt: &R,
-    mode: Mode,
-    first: &str,
-    second: &str,
-) -> Result<(Mode, R::File, R::File), Fault> {
-    Ok((mode, fs::open(rt, first)?, fs::open(rt, second)?))
+    gate: &str,
+    script: &str,
+    out: &mut O,
+    err: &mut E,
+) -> u8
+    ensures { result ≤ 4 }
+{
+    match fs::open(rt, script) {
+        Ok(mut script) => {
+            run_over(
+                rt,
+                rt.alloc(),
+                gate,
+                &mut script,
+                &mut Metered::new(out),
+                err,
+            )
+        }
+        Err(error) => Fault::from(error).print(err),
+    }
 }

@@ -1,6 +1,9 @@
 //! The words of the command line.
 use crate::ask::run_words;
+use std::rt::Files;
+use std::sync::Wait;
 use std::test::Fail;
+use std::thread::Threads;
 
 /// What a command wrote, and its status.
 #[derive(Drop)]
@@ -11,7 +14,10 @@ struct Ended {
 }
 
 /// What the program writes with these words after its name, which one space parts.
-fn asked(rt: &HostRuntime, words: &str) -> Result<Ended, Fail> {
+fn asked<R: Files + AllocGlobal + Threads + Wait + Sync>(
+    rt: &R,
+    words: &str,
+) -> Result<Ended, Fail> {
     let mut all = Vec::new(rt.alloc());
     all.push(String::from_str(rt.alloc(), "regnubas")?)?;
     for word in words.split_whitespace() {
@@ -32,7 +38,12 @@ fn words(rt: HostRuntime) -> Result<(), Fail> {
         ("play a", "usage\n", 2),
         ("play a b c", "usage\n", 2),
         ("play no.script no.schedule", "read failed\n", 4),
-        ("run a", "usage\n", 2),
+        ("run", "usage\n", 2),
+        ("run a b", "usage\n", 2),
+        ("run a --gate", "usage\n", 2),
+        ("run no.script", "read failed\n", 4),
+        ("run no.script --gate ajar", "read failed\n", 4),
+        ("run --gate hold no.script", "read failed\n", 4),
         ("audit a", "usage\n", 2),
         ("help", "usage\n", 2),
         ("--help", "usage\n", 2),

@@ -7,7 +7,7 @@ use Rattle.script.specs.declared.fault.ScheduleCause.{ScheduleCause}
 use Rattle.texts.specs.declared.fault.TextFault.{TextFault}
 use Rattle.texts.specs.declared.fault.TextFault.TheVariants as text
 use Rattle.program.specs.declared.fault.Fault.{Fault}
-use Rattle.program.specs.declared.fault.Fault.TheVariants.{Usage, BadScript, BadSchedule, NoMemory, Read, Write}
+use Rattle.program.specs.declared.fault.Fault.TheVariants.{Usage, BadGate, BadScript, BadSchedule, NoMemory, Read, Write}
 
 -- the exit status: 1 for a refused script or schedule, 2 for the words, 3
 -- for memory, 4 for a read or a write that failed
@@ -15,6 +15,7 @@ abbrev pub status_of : Fault → ℕ
 status_of (BadScript _ _) = 1
 status_of (BadSchedule _ _) = 1
 status_of Usage = 2
+status_of BadGate = 2
 status_of NoMemory = 3
 status_of Read = 4
 status_of Write = 4

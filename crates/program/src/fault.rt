@@ -16,6 +16,9 @@ pub enum Fault {
     /// No command, or words that do not fit it.
     #[error("usage")]
     Usage,
+    /// No gate of this name.
+    #[error("bad gate")]
+    BadGate,
     /// The script is refused: its first faulty row, counted from 1, and what is wrong with it.
     #[error("bad script: row {row}: {cause}")]
     BadScript { row: u64, cause: ScriptCause },
@@ -40,7 +43,7 @@ impl Fault {
     {
         match self {
             Fault::BadScript { row: _, cause: _ } | Fault::BadSchedule { row: _, cause: _ } => 1,
-            Fault::Usage => 2,
+            Fault::Usage | Fault::BadGate => 2,
             Fault::NoMemory => 3,
             Fault::Read | Fault::Write => 4,
         }

@@ -17,6 +17,7 @@ mod totals;
 mod word;
 mod write;
 
+pub use answer::answer_text;
 pub use fault::ReportFault;
 pub use read::read_record;
 pub use texts::WriteFault;

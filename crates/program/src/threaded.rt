@@ -1,0 +1,75 @@
+//! The command that runs a script with threads.
+ghost use Rattle.std.specs.Prelude.{◌≡◌, ◌≤◌, IfErr};
+ghost use Rattle.arena.specs.Limits.{IsAccepted, IsLayoutOf};
+ghost use Rattle.arena.specs.declared.limits.Mode.TheVariants.{Tree};
+ghost use Rattle.program.specs.Status.{status_of};
+
+use crate::fault::Fault;
+use crate::outcome::write_outcome;
+use arena::Mode;
+use runner::{Alternate, Gate, Hold, Open, run};
+use script::{Script, read_script};
+use std::alloc::Global;
+use std::io::{Read, Write};
+use std::sync::Wait;
+use std::thread::Threads;
+use texts::Metered;
+
+/// Runs a script of the tree with a thread for each client and the gate of this name, and prints
+/// the outcome to `out`; a fault goes to `err` as one line. Answers the exit status: 0, 1 where the
+/// script is refused, 2 for a gate of no such name, 3 for want of memory, 4 where a read or a write
+/// failed. A refused script leaves `out` as it was.
+pub fn run_over<R: Threads + Wait + Sync, S: Read, O: Write, E: Write>(
+    rt: &R,
+    alloc: Global,
+    gate: &str,
+    script: &mut S,
+    out: &mut Metered<O>,
+    err: &mut E,
+) -> u8
+    ensures refused { result ≡ 1 → out.new ≡ out.old }
+    ensures status { result ≤ 4 }
+{
+    match run_gated(rt, alloc, gate, script, out) {
+        Ok(()) => 0,
+        Err(fault) => fault.print(err),
+    }
+}
+
+/// Runs a script with the gate of this name.
+fn run_gated<R: Threads + Wait + Sync, S: Read, O: Write>(
+    rt: &R,
+    alloc: Global,
+    gate: &str,
+    script: &mut S,
+    out: &mut Metered<O>,
+) -> Result<(), Fault>
+    ensures { IfErr result (λ fault. status_of fault ≡ 1 → out.new ≡ out.old) }
+{
+    if gate != "open" && gate != "alternate" && gate != "hold" {
+        return Err(Fault::BadGate);
+    }
+    let script = read_script(alloc, Mode::Tree, &mut Metered::new(script))?;
+    match gate {
+        "alternate" => run_at(rt, alloc, &script, &Alternate::new(&script), out),
+        "hold" => run_at(rt, alloc, &script, &Hold::new(&script), out),
+        _ => run_at(rt, alloc, &script, &Open::new(&script), out),
+    }
+}
+
+/// Runs a script with this gate.
+fn run_at<R: Threads + Wait + Sync, G: Gate, O: Write>(
+    rt: &R,
+    alloc: Global,
+    script: &Script,
+    gate: &G,
+    out: &mut Metered<O>,
+) -> Result<(), Fault>
+    requires accepted { IsAccepted script.now.limits }
+    requires tree { IsLayoutOf script.now.limits Tree script.now.layout }
+    ensures { IfErr result (λ fault. status_of fault ≡ 1 → out.new ≡ out.old) }
+{
+    let outcome = run(rt, alloc, script, gate)?;
+    write_outcome(alloc, &outcome, gate.missed(), out)?;
+    Ok(())
+}

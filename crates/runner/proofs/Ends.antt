@@ -1,0 +1,85 @@
+-- What a run whose passes are all back leaves behind.
+use Rattle.std.proofs.Common.{◌≡◌, ◌∙◌, ℕ, zero, suc, List, [], ◌∷◌, length, map, slice_get, Some, refl, sym, ap, subst}
+use Rattle.std.specs.Prelude.{Vec}
+use Rattle.std.specs.Global.{Global}
+use Rattle.arena.specs.declared.limits.Mode.TheVariants.{Tree}
+use Rattle.arena.specs.declared.layout.Layout.{Layout}
+use Rattle.arena.specs.declared.step.Row.{Row}
+use Rattle.arena.specs.Limits.{IsLayoutOf}
+use Rattle.arena.specs.History.{History, value, Extends}
+use Rattle.arena.specs.Log.{log}
+use Rattle.arena.specs.Layout.{IsWord}
+use Rattle.arena.specs.Machines.{IsRun}
+use Rattle.arena.specs.PlainWords.{Contents}
+use Rattle.spelling.specs.Laws.{AreEdits}
+use Rattle.spelling.specs.OrderedMap.{MapEdit}
+use Rattle.spelling.specs.Runs.{IsTreeRun}
+use Rattle.spelling.specs.Spelled.{Spells}
+use Rattle.spelling.proofs.Lemmas.{log_edits, one_spelling, spells_log}
+use Rattle.arena.proofs.Lemmas.{ends_self}
+use Rattle.dict.specs.TypedMaps.{typed_run}
+use Rattle.dict.specs.Words.{word_pair}
+use Rattle.dict.specs.declared.reply.Reply.{Reply}
+use Rattle.script.specs.declared.script.Script.{Script}
+use Rattle.record.specs.Commands.{commands}
+use Rattle.forest.specs.Copies.{HoldsWordsOf}
+use Rattle.forest.specs.TableRule.{history_of}
+use Rattle.forest.specs.Passes.{Ground, PassView, AreNew, AreBegun, IsClosed, new_pass, run_of, done_of}
+use Rattle.forest.specs.Shares.{entries_of}
+use Rattle.runner.specs.Calls.{IsNumber, NumbersAllow, HasCalled, HaveReplies, HaveWorked}
+use Rattle.runner.specs.Histories.{map_at}
+use Rattle.runner.specs.Outcomes.{IsClient, IsOutcome}
+use Rattle.runner.proofs.Gathered.{WorkedAt, worked_at, worked_count, none_some, some_same}
+use Rattle.runner.proofs.Placed.{all_answered}
+
+-- what is said of each pass at the end, at its place
+begun_at : (rows : List Row) (ps : List PassView) (c : ℕ) (p : PassView) → slice_get ps c ≡ Some p → AreBegun ps rows → Extends (history_of p.layout.mode rows) (run_of p) × (entries_of p.number (log p.layout (history_of p.layout.mode rows)) ≡ done_of p)
+begun_at rows [] c p e x = absurd (none_some p e)
+begun_at rows (q ∷ ps) zero p e x = subst (λ (k : PassView). Extends (history_of k.layout.mode rows) (run_of k) × (entries_of k.number (log k.layout (history_of k.layout.mode rows)) ≡ done_of k)) (some_same q p e) (x.0, x.1)
+begun_at rows (q ∷ ps) (suc c) p e x = begun_at rows ps c p e x.4
+
+module _ (script : Script) (f : Ground) (layout : IsLayoutOf script.limits Tree f.layout) (olds news : List PassView) (owns : List (Vec (Reply ℕ ℕ) Global)) (are_new : AreNew f olds) (worked : HaveWorked f script.calls.items olds news owns) (words : Contents) (closed : IsClosed NumbersAllow f.layout news words) where
+  -- the run that the words are of
+  abbrev pub whole : History
+  whole = history_of f.layout.mode closed.rows
+
+  tree : IsTreeRun f.layout whole
+  tree = (layout.mode_is, typed_run IsNumber IsNumber f.layout whole closed.sound)
+
+  edits : (e : ℕ → MapEdit) × AreEdits e f.layout whole
+  edits = log_edits f.layout whole tree
+
+  client : (c : ℕ) (own : Vec (Reply ℕ ℕ) Global) → slice_get owns c ≡ Some own → IsClient f whole edits.0 c (commands script.calls.items c) own.items
+  client c own e =
+      let w : WorkedAt f script.calls.items olds news c own.items = worked_at f script.calls.items olds news owns worked c own e in
+      let old : w.old ≡ new_pass f c = are_new.each c w.old w.was in
+      let lay : w.new.layout ≡ f.layout = w.worked.of_forest.1 in
+      let number : w.new.number ≡ c = w.worked.number ∙ ap (λ (p : PassView). p.number) old in
+      let b = begun_at closed.rows news c w.new w.is closed.begun in
+      let within : Extends whole (run_of w.new) = subst (λ (l : Layout). Extends (history_of l.mode closed.rows) (run_of w.new)) lay b.0 in
+      let replies = subst (λ (p : PassView). HaveReplies HasCalled p (commands script.calls.items p.number) own.items w.new) old w.worked.made in
+      record {
+        last = w.new;
+        stand = all_answered f.layout whole edits.0 tree edits.1 (new_pass f c) w.new (commands script.calls.items c) own.items refl within replies;
+        within = within;
+        entries = subst (λ (l : Layout). entries_of c (log l (history_of l.mode closed.rows)) ≡ done_of w.new) lay (subst (λ n. entries_of n (log w.new.layout (history_of w.new.layout.mode closed.rows)) ≡ done_of w.new) number b.1);
+      }
+
+  pub outcome : (pairs : List (ℕ × ℕ)) → Spells f.layout (value whole) (map (word_pair (λ n. n) (λ n. n)) pairs) → IsOutcome script owns pairs
+  outcome pairs spells = record {
+    forest = f;
+    layout = layout;
+    run = whole;
+    lawful = closed.sound;
+    edits = edits.0;
+    makes = edits.1;
+    count = worked_count f script.calls.items olds news owns worked ∙ are_new.count ∙ layout.passes;
+    clients = client;
+    last_map = one_spelling f.layout (value whole) _ _ spells (spells_log f.layout whole edits.0 tree edits.1 whole (ends_self whole));
+    rising = spells.rising;
+  }
+
+  -- the same of the pairs that are read from the words
+  pub outcome_of : (pairs : List (ℕ × ℕ)) → words.layout ≡ f.layout → ((h : History) → words.layout.mode ≡ Tree → IsRun NumbersAllow words.layout h → HoldsWordsOf words h → Spells words.layout (value h) (map (word_pair (λ n. n) (λ n. n)) pairs)) → IsOutcome script owns pairs
+  outcome_of pairs same spells = outcome pairs (subst (λ (l : Layout). Spells l (value whole) (map (word_pair (λ n. n) (λ n. n)) pairs)) same
+      (spells whole (ap (λ (l : Layout). l.mode) same ∙ layout.mode_is) (subst (λ (l : Layout). IsRun NumbersAllow l whole) (sym same) closed.sound) (λ w is. closed.holds w (subst (λ (l : Layout). IsWord l w) same is))))

@@ -1,0 +1,54 @@
+-- The calls of a client, as its pass makes them one behind the other.
+use Rattle.std.specs.Prelude.{◌≡◌, ℕ, ◌<◌, ◌^◌, List, [], ◌∷◌, Some, Result, Vec, IfOk}
+use Rattle.std.specs.Global.{Global}
+use Rattle.arena.specs.declared.layout.Layout.{Layout}
+use Rattle.arena.specs.History.{History}
+use Rattle.arena.specs.Machines.{IsRun}
+use Rattle.spelling.specs.OrderedMap.{MapCall}
+use Rattle.dict.specs.Forms.{MayReply, form_of}
+use Rattle.dict.specs.Typed.{TypedAllows}
+use Rattle.dict.specs.Words.{IsWord, told_of}
+use Rattle.dict.specs.declared.reply.Reply.{Reply}
+use Rattle.script.specs.declared.command.Call.{Call}
+use Rattle.script.specs.declared.command.Command.{Command}
+use Rattle.record.specs.Commands.{commands}
+use Rattle.record.specs.MapRecord.{map_call}
+use Rattle.forest.specs.Dictionary.{IsToldOf, IsRefusalOf}
+use Rattle.forest.specs.Passes.{Ground, PassView, IsLaterView, IsOf, run_of}
+
+-- a word of a key or a value: each number of 64 bits is one, and stands for itself
+abbrev pub IsNumber : ℕ → Type 0
+IsNumber = IsWord (λ n. n < 2 ^ 64) (λ n. n)
+
+-- the shape of a dictionary of numbers: each SCX-record that begins makes an edit of numbers
+abbrev pub NumbersAllow : Layout → History → ℕ → Type 0
+NumbersAllow = TypedAllows IsNumber IsNumber
+
+-- The pass, which knew `old` as the call began and `new` at its end, has made the call and has this
+-- reply: what the reply tells is right, and so is what it refuses.
+pub record HasCalled (old new : PassView) (call : MapCall) (reply : Reply ℕ ℕ) : Type 0 where
+  pub later : IsLaterView old new
+  pub lawful : IsRun NumbersAllow new.layout (run_of new)
+  pub told : IsToldOf old new call (told_of (λ n. n) (λ n. n) reply)
+  pub refused : IsRefusalOf old new call reply
+  pub form : MayReply call (form_of reply)
+
+-- The pass has made the calls of these commands, one behind the other, and they have these replies;
+-- each call with its reply is as P says. The pass knew `old` as the first began, and `new` at the
+-- end of the last.
+abbrev pub HaveReplies : (PassView → PassView → MapCall → Reply ℕ ℕ → Type 0) → PassView → List Command → List (Reply ℕ ℕ) → PassView → Type 0
+HaveReplies P old [] [] new = new ≡ old
+HaveReplies P old (command ∷ more) (reply ∷ replies) new = (call : MapCall) × (then : PassView) × (map_call (Some command) ≡ Some call) × P old then call reply × HaveReplies P then more replies new
+HaveReplies P old _ _ new = ⊥
+
+-- a client's pass has made all calls of the client among these, and is of this forest still
+pub record HasWorked (forest : Ground) (calls : List Call) (old new : PassView) (replies : List (Reply ℕ ℕ)) : Type 0 where
+  pub of_forest : IsOf forest new
+  pub number : new.number ≡ old.number
+  pub made : HaveReplies HasCalled old (commands calls old.number) replies new
+
+-- each of these passes has worked, and has given back what stands at its place
+abbrev pub HaveWorked : Ground → List Call → List PassView → List PassView → List (Vec (Reply ℕ ℕ) Global) → Type 0
+HaveWorked forest calls [] [] [] = Unit {0}
+HaveWorked forest calls (old ∷ olds) (new ∷ news) (own ∷ replies) = HasWorked forest calls old new own.items × HaveWorked forest calls olds news replies
+HaveWorked forest calls _ _ _ = ⊥

@@ -1,0 +1,67 @@
+-- The one history in which all calls of a run stand.
+use Rattle.std.specs.Prelude.{◌≡◌, ℕ, List, ◌∷◌, Bool, true, false, Option, Some, None}
+use Rattle.arena.specs.declared.layout.Layout.{Layout}
+use Rattle.arena.specs.declared.step.Row.{Row}
+use Rattle.arena.specs.History.{History, ◌⊳◌, Extends}
+use Rattle.arena.specs.Log.{Entry, log}
+use Rattle.spelling.specs.declared.pair.Pair.{Pair}
+use Rattle.spelling.specs.OrderedMap.{MapCall, Edit, MapEdit, MapReply, reply, changes}
+use Rattle.spelling.specs.Runs.{map_of_log}
+use Rattle.dict.specs.Forms.{MayReply, form_of}
+use Rattle.dict.specs.Words.{told_of}
+use Rattle.dict.specs.declared.reply.Reply.{Reply}
+use Rattle.forest.specs.Dictionary.{IsRefusalOf}
+use Rattle.forest.specs.Passes.{PassView, IsLaterView, run_of, done_of, taken_of}
+
+-- The history is the log of the run. `edits` says which edit of the map each SCX-record with an
+-- entry has made, so that each moment of the run has a map, a version: what the edits of the entries
+-- up to then make of the empty map.
+abbrev pub map_at : Layout → (ℕ → MapEdit) → History → List Pair
+map_at lay edits moment = map_of_log edits (log lay moment)
+
+-- A changing call has exactly one entry, behind all that its pass knew as it began. The entry is of
+-- this pass and call and makes this call's own edit, and the reply is the map's just before it.
+pub record IsEnteredCall (lay : Layout) (edits : ℕ → MapEdit) (old new : PassView) (call : MapCall) (told : MapReply) : Type 0 where
+  -- the row that has put it there, which may be another pass's
+  pub row : Row
+  pub before : History
+  pub within : Extends (run_of new) (row ⊳ before)
+  pub since : Extends before (run_of old)
+  pub entry : Entry
+  pub logged : log lay (row ⊳ before) ≡ entry ∷ log lay before
+  -- it is the pass's only one between the call's begin and its end
+  pub done : done_of new ≡ entry ∷ done_of old
+  pub of_pass : entry.owner ≡ old.number
+  pub of_call : entry.call ≡ taken_of old
+  pub makes : call ≡ Edit (edits entry.scx)
+  pub gives : reply call (map_at lay edits before) ≡ told
+
+-- a reading call has no entry; its reply is that of the map at a moment from its begin to its end
+pub record IsReadCall (lay : Layout) (edits : ℕ → MapEdit) (old new : PassView) (call : MapCall) (told : MapReply) : Type 0 where
+  pub moment : History
+  pub within : Extends (run_of new) moment
+  pub since : Extends moment (run_of old)
+  pub gives : reply call (map_at lay edits moment) ≡ told
+  pub done : done_of new ≡ done_of old
+
+-- the call has changed the map, or has read it
+abbrev pub IsPlacedAs : Bool → Layout → (ℕ → MapEdit) → PassView → PassView → MapCall → MapReply → Type 0
+IsPlacedAs true lay edits old new call told = IsEnteredCall lay edits old new call told
+IsPlacedAs false lay edits old new call told = IsReadCall lay edits old new call told
+
+-- where a call stands that tells something of the map; a refused one stands nowhere
+abbrev pub IsPlaced : Layout → (ℕ → MapEdit) → PassView → PassView → MapCall → Option MapReply → Type 0
+IsPlaced lay edits old new call (Some told) = IsPlacedAs (changes call told) lay edits old new call told
+IsPlaced lay edits old new call None = done_of new ≡ done_of old
+
+-- The call, which began where its pass knew `old` and ended where it knew `new`, stands in the
+-- history of this run with this reply.
+pub record IsAnswered (lay : Layout) (run : History) (edits : ℕ → MapEdit) (old new : PassView) (call : MapCall) (reply : Reply ℕ ℕ) : Type 0 where
+  -- its begin and its end are moments of the run, the one not behind the other
+  pub within : Extends run (run_of new)
+  pub later : IsLaterView old new
+  -- what it tells is right there
+  pub told : IsPlaced lay edits old new call (told_of (λ n. n) (λ n. n) reply)
+  -- and so is why it tells nothing, as the calls of the forest say it
+  pub refused : IsRefusalOf old new call reply
+  pub form : MayReply call (form_of reply)

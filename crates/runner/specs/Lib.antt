@@ -1,0 +1,4 @@
+pub mod Calls
+pub mod Histories
+pub mod Outcomes
+pub mod Turns

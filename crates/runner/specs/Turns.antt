@@ -1,0 +1,26 @@
+-- Which call waits for which.
+use Rattle.std.specs.Prelude.{ℕ, zero, suc, Bool, true, false, cond, ltb, List, length, Option, Some, None}
+use Rattle.arena.specs.declared.number.PassNo.{PassNo}
+use Rattle.script.specs.declared.command.Call.{Call}
+use Rattle.record.specs.Commands.{commands}
+
+-- how many calls a client has
+abbrev pub calls_of : List Call → ℕ → ℕ
+calls_of calls c = length (commands calls c)
+
+-- call j of client c, if that client has one; `counts` says how many calls each has
+abbrev pub call_if : (ℕ → ℕ) → ℕ → ℕ → Option (PassNo × ℕ)
+call_if counts c j = cond (ltb j (counts c)) (Some (record { 0 = c }, j)) None
+
+-- Where so many clients take turns, call j of a client waits for call j of the client before it; the
+-- first client's waits for call j - 1 of the last client, and its first call for none.
+abbrev pub in_turn : (ℕ → ℕ) → ℕ → ℕ → ℕ → Option (PassNo × ℕ)
+in_turn counts clients (suc c) j = call_if counts c j
+in_turn counts (suc last) zero (suc j) = call_if counts last j
+in_turn counts clients c j = None
+
+-- where the first client is held, its first call waits for the first of client 1, and no other call
+-- waits
+abbrev pub held_back : Bool → ℕ → ℕ → Option (PassNo × ℕ)
+held_back true zero zero = Some (record { 0 = 1 }, 0)
+held_back holds c j = None

@@ -1,0 +1,98 @@
+//! The calls of one client.
+ghost use Rattle.std.specs.Prelude.{◌≡◌, true, false, IfOk};
+ghost use Rattle.std.specs.List.{All};
+ghost use Rattle.arena.specs.declared.limits.Mode.TheVariants.{Tree};
+ghost use Rattle.dict.specs.Words.{AsksForFew, map_call_of};
+ghost use Rattle.script.specs.Commands.{mode_of};
+ghost use Rattle.forest.specs.Opened.{IsSameOpen};
+ghost use Rattle.forest.specs.Passes.{IsOf};
+ghost use Rattle.runner.specs.Calls.{HasCalled, HasWorked};
+
+use crate::gate::Gate;
+use crate::request::request_of;
+use arena::{NoMemory, PassNo};
+use dict::{Dict, Reply, Request};
+use forest::{Forest, OpenCall, Pass, Stepped};
+use script::Call;
+use std::alloc::Global;
+
+/// A dictionary of numbers.
+pub(crate) type Numbers = Dict<u64, u64>;
+
+/// What a client's thread gives back: its pass, and the replies to its calls.
+pub(crate) type Worked = Result<(Pass<Numbers>, Vec<Reply<u64, u64>>), NoMemory>;
+
+/// Makes the calls of the pass's client among these, one after the other, and tells the gate of
+/// them. The only error is want of memory.
+pub(crate) fn make_calls<G: Gate>(
+    alloc: Global,
+    forest: &Forest<Numbers>,
+    gate: &G,
+    calls: &[Call],
+    pass: Pass<Numbers>,
+) -> Worked
+    requires pass { IsOf forest.now pass }
+    requires tree { All (λ call. mode_of call.command ≡ Tree) calls.now }
+    ensures { IfOk result (λ w. HasWorked forest.now calls.now pass w.0 w.1.items) }
+{
+    let client = pass.number();
+    let mut pass = pass;
+    let mut replies = Vec::new(alloc);
+    for call in calls {
+        if call.client == client {
+            let number = replies.len() as u64;
+            let request = request_of(&call.command);
+            let (back, reply) = make_call(alloc, forest, gate, number, pass, request);
+            pass = back;
+            replies.push(reply)?;
+        }
+    }
+    Ok((pass, replies))
+}
+
+/// Makes a whole call, one atomic step at a time.
+fn make_call<G: Gate>(
+    alloc: Global,
+    forest: &Forest<Numbers>,
+    gate: &G,
+    number: u64,
+    pass: Pass<Numbers>,
+    request: Request<u64, u64>,
+) -> (Pass<Numbers>, Reply<u64, u64>)
+    requires pass { IsOf forest.now pass }
+    requires few { AsksForFew request }
+    ensures { HasCalled pass result.0 (map_call_of (λ n. n) (λ n. n) request) result.1 }
+{
+    let client = pass.number();
+    gate.began(client, number);
+    let mut call = forest.open(alloc, pass, request);
+    make_steps(forest, gate, client, number, &mut call);
+    let ended = call.finish();
+    gate.answered(client, number);
+    ended
+}
+
+/// Makes the steps of a call.
+fn make_steps<G: Gate>(
+    forest: &Forest<Numbers>,
+    gate: &G,
+    client: PassNo,
+    number: u64,
+    call: &mut OpenCall<u64, u64>,
+)
+    requires forest { IsOf forest.now call.old.began }
+    requires goes { call.old.over ≡ false }
+    ensures over { call.new.over ≡ true }
+    ensures same { IsSameOpen call.old call.new }
+{
+    loop {
+        match call.step(forest) {
+            Stepped::More(kind) => gate.made(client, number, kind),
+            Stepped::Done(Some(kind)) => {
+                gate.made(client, number, kind);
+                return;
+            }
+            Stepped::Done(None) => return,
+        }
+    }
+}

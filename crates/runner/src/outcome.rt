@@ -1,0 +1,11 @@
+//! What a run leaves behind.
+use dict::Reply;
+
+/// What the clients of a script were answered, and what is left in the map.
+#[derive(Debug, Drop)]
+pub struct Outcome {
+    /// The replies of each client, by its number: one to each of its calls, in the script's order.
+    pub replies: Vec<Vec<Reply<u64, u64>>>,
+    /// The pairs of the map, by rising key.
+    pub pairs: Vec<(u64, u64)>,
+}
