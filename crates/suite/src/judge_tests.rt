@@ -229,7 +229,14 @@ fn a_judge_remembers_a_run(rt: HostRuntime) -> Result<(), Fail> {
     }
     assert_eq!(rt; judge.get(s(12, State)), 1);
     assert_eq!(rt; (judge.entries(), judge.taken()), (3, 4));
-    assert_eq!(rt; (judge.last(NodeNo(1)), judge.last(NodeNo(3)), judge.last(NodeNo(4))), (2, 3, 0));
+    assert_eq!(rt;
+        (
+            judge.last(NodeNo(1)),
+            judge.last(NodeNo(3)),
+            judge.last(NodeNo(4))
+        ),
+        (2, 3, 0)
+    );
     assert!(rt; judge.is_final(NodeNo(2)) && !judge.is_final(NodeNo(1)));
     assert!(rt; judge.is_named(ScxNo(12)) && !judge.is_named(ScxNo(2)));
     assert!(rt; !judge.is_in_progress(ScxNo(12)));
