@@ -7,7 +7,7 @@ use std::io::{ErrorKind, Write};
 use thiserror::Error;
 
 /// Why the program does not measure what was asked. Its text is the line that is printed.
-#[derive(Clone, Copy, Debug, PartialEq, Eq, Error)]
+#[derive(Clone, Copy, Debug, Error)]
 pub enum Fault {
     /// Words that do not fit the command line.
     #[error("usage: bench WORK|cells|tree|all [THREADS [CALLS [TIMES [KEYS]]]]")]

@@ -24,6 +24,3 @@ fn main(rt: HostRuntime) -> ExitCode {
         Err(fault) => ExitCode::from(fault.print(&mut rt.stderr())),
     }
 }
-
-#[cfg(test)]
-mod tests;
