@@ -22,6 +22,7 @@ mod StraightHelp
 mod StraightScx
 mod StraightVlx
 mod StraightWalk
+mod StraightLook
 mod StraightUpdate
 mod Versions
 mod DictCalls
