@@ -23,6 +23,7 @@ mod StraightHelp
 mod StraightScx
 mod StraightVlx
 mod StraightWalk
+mod StraightLook
 mod StraightUpdate
 mod Versions
 mod DictCalls

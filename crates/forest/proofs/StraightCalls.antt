@@ -76,6 +76,7 @@ module _ {K V : Type 0} (valid_key : K → Type 0) (key : K → ℕ) (valid_valu
       tree = λ h run. typed_run keys values c.layout h run;
       first = machine;
       with_run = inserting;
+      opens = λ m h s x. x.1.1;
       tells = λ m h got x. x.1.1;
       turns = λ old now h got s on x w. (subst (λ (e : Inserted). IsTypedCall keys values (insert_call e)) (sym on.edit) x.0, (insert_goes old now on x.1.0, w));
       stays = λ old now e. (ap insert_call e, refl);
@@ -123,6 +124,7 @@ module _ {K V : Type 0} (valid_key : K → Type 0) (key : K → ℕ) (valid_valu
       tree = λ h run. typed_run keys values c.layout h run;
       first = machine;
       with_run = deleting;
+      opens = λ m h s x. x.1.1;
       tells = λ m h got x. x.1.1;
       turns = λ old now h got s on x w. (subst (λ (e : Deleted). IsTypedCall keys values (delete_call e)) (sym on.edit) x.0, (delete_goes old now on x.1.0, w));
       stays = λ old now e. (ap delete_call e, refl);

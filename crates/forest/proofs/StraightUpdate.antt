@@ -1,17 +1,21 @@
 -- From place to place of an update, of whatever machine updates.
-use Rattle.std.proofs.Common.{◌≡◌, ℕ, ◌+◌, ◌^◌, ◌<◌, ◌≤◌, List, Option, None, Some, inl, refl, sym, arith, ◌∙◌}
+use Rattle.std.proofs.Common.{◌≡◌, ℕ, suc, ap, subst, ◌+◌, ◌^◌, ◌<◌, ◌≤◌, List, Option, None, Some, inl, refl, sym, arith, ◌∙◌}
 use Rattle.arena.specs.declared.layout.Layout.{Layout}
 use Rattle.arena.specs.declared.machine.Turn.{Turn}
 use Rattle.arena.specs.declared.machine.Turn.TheVariants.{Ask, Done}
-use Rattle.arena.specs.declared.step.Kind.TheVariants.{LoadSettled}
+use Rattle.arena.specs.declared.number.NodeNo.{NodeNo}
+use Rattle.arena.specs.declared.step.Kind.TheVariants.{LoadMarked, LoadSettled}
 use Rattle.arena.specs.declared.step.Step.{Step}
 use Rattle.arena.specs.declared.word.NodeWord.TheVariants.{Head}
 use Rattle.arena.specs.History.{History, Extends}
 use Rattle.arena.specs.Machines.{Call, IsRun, MatchTurn}
-use Rattle.arena.specs.Words.{node}
+use Rattle.arena.specs.Words.{marked, node}
 use Rattle.arena.proofs.Lemmas.{ends_self}
 use Rattle.prims.specs.Laws.Idle.{quiet_at_start}
-use Rattle.prims.specs.Llx.Known.{load}
+use Rattle.prims.specs.Llx.Known.{load, IsSnapshot}
+use Rattle.prims.specs.declared.llx.LlxAt.TheVariants.{Marked}
+use Rattle.prims.specs.declared.llx.LlxRun.{LlxRun}
+use Rattle.prims.specs.declared.snap.Snap.{Snap}
 use Rattle.spelling.specs.TreeShape.{TreeAllows}
 use Rattle.template.specs.FoundLeaf.{HasFound}
 use Rattle.template.specs.Walk.Known.{WalkIsTold, WalkWaits}
@@ -21,17 +25,20 @@ use Rattle.template.specs.declared.walk.Goal.TheVariants.{Key as ToKey}
 use Rattle.template.specs.declared.walk.WalkRun.{WalkRun}
 use Rattle.template.proofs.Lemmas.{own_since, walk_begins}
 use Rattle.updates.specs.Edits.{EditMeaning}
-use Rattle.updates.specs.Known.{Begins, IsUntouched, UpdateIsReady, UpdateWaits, UpdateTurn, Walks}
+use Rattle.updates.specs.Known.{Begins, CanLook, IsUntouched, Looks, UpdateIsReady, UpdateWaits, UpdateTurn, Walks}
 use Rattle.updates.specs.Laws.HandScx.{from}
 use Rattle.updates.specs.Laws.Kept.{idle_over}
-use Rattle.updates.specs.Steps.{IsSpending}
+use Rattle.updates.specs.Steps.{IsSpending, node_tries, scx_tries}
 use Rattle.updates.specs.Tries.{IsTry}
-use Rattle.updates.specs.declared.update.UpdateAt.TheVariants.{Start, Walk}
+use Rattle.updates.specs.declared.update.UpdateAt.TheVariants.{Start, Walk, Look}
+use Rattle.updates.specs.declared.edit.Look.TheVariants.{At}
 use Rattle.updates.specs.declared.update.UpdateRun.{UpdateRun}
 use Rattle.updates.specs.declared.update.Updated.{Updated}
 use Rattle.prims.specs.Laws.Idle.{IsQuietSince}
 use Rattle.forest.specs.declared.view.SeatedPass.{SeatedPass}
-use Rattle.forest.specs.StraightUpdate.{Updater, UpdaterBegins, UpdaterWaits, UpdaterStands}
+use Rattle.forest.specs.StraightLlx.{llx_at}
+use Rattle.forest.specs.StraightLook.{Looker, LookerWaits, LookerSnaps}
+use Rattle.forest.specs.StraightUpdate.{Updater, UpdaterBegins, UpdaterIsTold, UpdaterWaits, UpdaterStands}
 use Rattle.forest.specs.StraightWalk.{Walker, WalkerWaits, WalkerFinds}
 use Rattle.forest.specs.TableRule.{history_of}
 use Rattle.forest.specs.Traces.{HoldsForCall, Trace, goes_on}
@@ -102,6 +109,86 @@ module _ {M E : Type 0} (allows : Layout → History → ℕ → Type 0) (ready 
       turns (Ask s) spent z = record { known = x.so.known; is = x.so.is; sound = x.so.sound; so = (u.turns (walking m x.last) now _ (Some x.told) s record { edit = edit; called = called; spends = spent } x.so.so.0 z, goes_on (u.with_run (walking m x.last)) (u.stays (walking m x.last) now edit) x.so.so.1) }
       turns (Done a) spent z = record { known = x.so.known; is = x.so.is; sound = x.so.sound; so = record { old = walking m x.last; got = Some x.told; was = x.so.so.0; goes = record { edit = edit; called = called; spends = spent }; answers = z; course = x.so.so.1 } }
 
+  -- behind the step of which it was told it stands as its turn says
+  pub stands_behind : (ps : List SeatedPass) (old now : UpdateRun E) (v : ℕ) (turn : Turn Updated) → now.edit ≡ old.edit → now.call ≡ old.call → IsSpending e turn old.share now (node_tries old old.at) (scx_tries old old.at) → (x : UpdaterIsTold allows ready waits same e layout number u ps old v) → UpdateTurn e u.call (history_of u.call.layout.mode x.known) now turn → UpdaterStands allows ready waits same e layout number u ps now turn
+  stands_behind ps old now v (Ask s) edit called spent x z = record { known = x.known; is = x.is; sound = x.sound; so = (u.turns old now _ (Some v) s record { edit = edit; called = called; spends = spent } x.so.0 z, goes_on (u.with_run old) (u.stays old now edit) x.so.1) }
+  stands_behind ps old now v (Done a) edit called spent x z = record { known = x.known; is = x.is; sound = x.sound; so = record { old = old; got = Some v; was = x.so.0; goes = record { edit = edit; called = called; spends = spent }; answers = z; course = x.so.1 } }
+
+  -- the update with an LLX at a place
+  abbrev pub looking : UpdateRun E → Found → LlxRun → UpdateRun E
+  looking m f llx = record m { at = Look f llx }
+
+  -- a machine that updates looks at nodes
+  pub looker : UpdateRun E → Found → Looker allows ready waits same layout number
+  looker m f = record {
+    call = u.call;
+    is_layout = u.is_layout;
+    is_number = u.is_number;
+    first = u.first;
+    with_llx = λ llx. u.with_run (looking m f llx);
+    turns = λ llx now h v s node turn run x.
+        let y = u.tells (looking m f llx) h (Some v) x in
+        let l = y.3.1 in
+        u.turns (looking m f llx) (looking m f now) h (Some v) s record { edit = refl; called = refl; spends = (omega arith, omega arith) } x (
+          y.0,
+          y.1,
+          tt,
+          (
+            y.3.0,
+            record { run = l.run; looked = l.looked; rests = record { share = l.rests.share; over = l.rests.over }; room = l.room; named = l.named ∙ ap At (sym node); now = l.now; quiet = l.quiet; since = l.since },
+            turn (from (from u.call y.0) y.3.0) (u.tree h run) y.3.2,
+          ),
+        );
+    stays = λ llx now node. u.stays (looking m f llx) (looking m f now) refl;
+  }
+
+  -- an update that has asked for the mark of a node has begun to look at it
+  pub begins_look : (ps : List SeatedPass) (m : UpdateRun E) (f : Found) (node : NodeNo) (turn : Turn Updated) → m.at ≡ Look f (llx_at node Marked) → (s : Step) × (turn ≡ Ask s) → UpdaterStands allows ready waits same e layout number u ps m turn → LookerWaits allows ready waits same layout number (looker m f) ps (llx_at node Marked) (load LoadMarked (marked node.0))
+  unfolding looker
+  begins_look ps m f node turn at asks x = subst (λ t. UpdaterWaits allows ready waits same e layout number u ps here t) asked there
+    where
+      here : UpdateRun E
+      here = looking m f (llx_at node Marked)
+
+      is : m ≡ here
+      is i = record m { at = at i }
+
+      there : UpdaterWaits allows ready waits same e layout number u ps here asks.0
+      there = subst (λ n. UpdaterWaits allows ready waits same e layout number u ps n asks.0) is (rw asks.1 at x)
+
+      asked : asks.0 ≡ load LoadMarked (marked node.0)
+      asked = (u.opens here (history_of u.call.layout.mode there.known) asks.0 there.so.0).3.2.asked
+
+  -- with the snapshot it goes on as its turn says
+  pub looks_on : (ps : List SeatedPass) (m now : UpdateRun E) (f : Found) (node : NodeNo) (snap : Snap) (turn : Turn Updated) → now.edit ≡ m.edit → now.call ≡ m.call → IsSpending e turn m.share now (m.tries + 1) (m.tries + 1)
+      → ((b h : History) → IsRun TreeAllows u.call.layout h → IsTry u.call b → CanLook e m (from u.call b) h f → e.looks m.edit f m.snaps.items ≡ At snap.node → IsSnapshot u.call.layout h snap.node.0 snap → UpdateTurn e u.call h now turn)
+      → LookerSnaps allows ready waits same layout number (looker m f) ps node snap → UpdaterStands allows ready waits same e layout number u ps now turn
+  unfolding looker
+  looks_on ps m now f node snap turn edit called spent next x = stands_behind ps (looking m f x.last) now x.told turn edit called spent x.so (next y.0 h (u.tree h x.so.sound) y.1 can named snapped)
+    where
+      h : History
+      h = history_of u.call.layout.mode x.so.known
+
+      y : UpdateIsReady e (looking m f x.last) u.call h (Some x.told)
+      y = u.tells (looking m f x.last) h (Some x.told) x.so.so.0
+
+      l : Looks e (looking m f x.last) (from u.call y.0) h f x.last y.3.0
+      l = y.3.1
+
+      can : CanLook e m (from u.call y.0) h f
+      can = record { begins = record { run = l.run; small = l.looked.small; since = l.now; rests = record { share = l.rests.share; over = l.rests.over } }; quiet = l.quiet; looked = l.looked; room = l.room }
+
+      named : e.looks m.edit f m.snaps.items ≡ At snap.node
+      named = l.named ∙ ap At (x.is_node ∙ sym x.of_node)
+
+      snapped : IsSnapshot u.call.layout h snap.node.0 snap
+      snapped = subst (λ (n : NodeNo). IsSnapshot u.call.layout h n.0 snap) (sym x.of_node) (x.snaps (from (from u.call y.0) y.3.0) h (u.tree h x.so.sound) y.3.2)
+
+  -- where something is in the way, it waits for the state again
+  pub looks_again : (ps : List SeatedPass) (m : UpdateRun E) (f : Found) (llx : LlxRun) (s : Step) → LookerWaits allows ready waits same layout number (looker m f) ps llx s → UpdaterWaits allows ready waits same e layout number u ps (looking m f llx) s
+  unfolding looker
+  looks_again ps m f llx s x = x
+
   -- it stands at its start
   pub stands_at_start : (ps : List SeatedPass) (m : UpdateRun E) → UpdaterBegins allows ready waits same e layout number u ps m → m.at ≡ Start
   stands_at_start ps m x = (u.tells m _ None x.so.0).3
@@ -109,3 +196,13 @@ module _ {M E : Type 0} (allows : Layout → History → ℕ → Type 0) (ready 
 -- its steps are those of its walk, and those that are left behind it
 pub walk_steps : (now old walk left tries rest : ℕ) → now ≤ old + walk → left ≤ tries + rest → now + left ≤ old + (tries + (walk + rest))
 walk_steps now old walk left tries rest a b = omega (arith, a, b)
+
+-- an LLX takes at most seven steps
+pub look_steps : (now old left tries looks works bound : ℕ) → now ≤ old + 7 → left ≤ tries + (looks + works + 39) → old + suc (tries + (53 + looks + works + 39)) ≤ bound → now + left ≤ bound
+look_steps now old left tries looks works bound a b c = omega (arith, a, b, c)
+
+pub look_nearer : (left tries looks works : ℕ) → left ≤ tries + (looks + works + 39) → left < suc (tries + (53 + looks + works + 39))
+look_nearer left tries looks works b = omega (arith, b)
+
+pub both_steps : (now then bound : ℕ) → now ≤ then → then ≤ bound → now ≤ bound
+both_steps now then bound a b = omega (arith, a, b)

@@ -11,6 +11,7 @@ pub mod StraightWalk
 pub mod StraightGet
 pub mod StraightUpdate
 pub mod StraightCalls
+pub mod StraightLook
 pub mod Traces
 pub mod TableRule
 pub mod JoinedSeats

@@ -31,6 +31,8 @@ module _ {M E : Type 0} (allows : Layout → History → ℕ → Type 0) (ready 
     -- the machine with which it began, and that with its update as it stands
     pub first : M
     pub with_run : UpdateRun E → M
+    -- what the machine waits for, its update does
+    pub opens : (m : UpdateRun E) (h : History) (s : Step) → waits (with_run m) call h s → UpdateWaits e m call h s
     -- what the machine is told, its update is told
     pub tells : (m : UpdateRun E) (h : History) (got : Option ℕ) → ready (with_run m) call h got → UpdateIsReady e m call h got
     -- what its update then waits for, the machine does, where no more of the share is taken than may

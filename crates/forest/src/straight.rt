@@ -5,6 +5,7 @@
 pub(crate) mod calls;
 pub(crate) mod helping;
 pub(crate) mod llx;
+pub(crate) mod looking;
 pub(crate) mod placed;
 pub(crate) mod scx;
 pub(crate) mod updating;

@@ -28,7 +28,7 @@ fn load(kind: Kind, word: Word) -> Step
 
 /// Whether an SCX-record in this state leaves the node in place.
 #[inline(always)]
-fn leaves(state: u64, marked: bool) -> bool
+pub(crate) fn leaves(state: u64, marked: bool) -> bool
     ensures in_place { result ≡ true → (state ≡ 2) ⊎ ((state ≡ 1) × (marked ≡ false)) }
     ensures disturbs { result ≡ false → (state ≢ 2) × (state ≡ 1 → marked ≡ true) }
 {

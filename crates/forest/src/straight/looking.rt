@@ -1,0 +1,84 @@
+//! LLXs of nodes of the tree, of whatever machine looks at them.
+ghost use Rattle.std.specs.Prelude.{◌≡◌, ◌≤◌, ◌+◌, suc, IfOk, IfErr};
+ghost use Rattle.forest.specs.TableRule.{IsTableOf};
+ghost use Rattle.forest.specs.Traces.{seat_steps};
+ghost use Rattle.forest.specs.StraightLlx.{llx_at};
+ghost use Rattle.forest.specs.StraightLook.{Looker, LookerWaits, LookerIsTold, LookerSnaps};
+ghost use Rattle.prims.specs.Llx.Known.{load};
+ghost use Rattle.prims.specs.declared.llx.LlxAt.{LlxAt};
+ghost use Rattle.prims.specs.declared.llx.LlxRun.{LlxRun};
+
+use crate::straight::llx::leaves;
+use crate::straight::placed::step;
+use crate::view::SeatView;
+use crate::words::Words;
+use arena::{
+    Access, Kind, Layout, Machine, NodeNo, NodeWord, ScxNo, ScxWord, Shape, Side, Step, Word,
+};
+use atomic_table::Seat;
+use prims::Snap;
+
+/// Loads a word.
+#[inline(always)]
+fn read<S: Shape, M: Machine<S>>(
+    words: &Words<S>,
+    layout: &Layout,
+    seat: &mut Seat<u8, SeatView>,
+    number: u64,
+    kind: Kind,
+    word: Word,
+) -> u64
+    requires table { IsTableOf words.now.table.shared.table_id words.now.table.shared.key layout.now × (seat.old.table_id ≡ words.now.table.shared.table_id) }
+    requires waits { (k : Looker S.allows M.ready M.waits M.same layout.now number) × (m : LlxRun) × LookerWaits S.allows M.ready M.waits M.same layout.now number k seat.old.me.0.passes m (load kind word) }
+    ensures table { (seat.new.table_id ≡ seat.old.table_id) × (seat.new.me.1 ≡ seat.old.me.1) }
+    ensures one { seat_steps seat.new.me.0.passes ≡ suc (seat_steps seat.old.me.0.passes) }
+    ensures told { (k : Looker S.allows M.ready M.waits M.same layout.now number) (m : LlxRun) → LookerWaits S.allows M.ready M.waits M.same layout.now number k seat.old.me.0.passes m (load kind word) → LookerIsTold S.allows M.ready M.waits M.same layout.now number k seat.new.me.0.passes m result }
+{
+    let access = Access::Load;
+    step::<S, M>(words, layout, seat, number, Step { kind, word, access })
+}
+
+/// LLX of a node whose mark is asked for: the loads of a snapshot. Where something is in the way, it
+/// tells whether the node was marked, and by which SCX-record, whose state is asked for again.
+#[inline(always)]
+pub(crate) fn look<S: Shape, M: Machine<S>>(
+    words: &Words<S>,
+    layout: &Layout,
+    seat: &mut Seat<u8, SeatView>,
+    number: u64,
+    node: NodeNo,
+) -> Result<Snap, (bool, ScxNo)>
+    requires table { IsTableOf words.now.table.shared.table_id words.now.table.shared.key layout.now × (seat.old.table_id ≡ words.now.table.shared.table_id) }
+    requires waits { (k : Looker S.allows M.ready M.waits M.same layout.now number) × LookerWaits S.allows M.ready M.waits M.same layout.now number k seat.old.me.0.passes (llx_at node LlxAt.Marked) (load Kind.LoadMarked (Word.Node node NodeWord.Marked)) }
+    ensures table { (seat.new.table_id ≡ seat.old.table_id) × (seat.new.me.1 ≡ seat.old.me.1) }
+    ensures steps { seat_steps seat.new.me.0.passes ≤ seat_steps seat.old.me.0.passes + 7 }
+    ensures snaps { IfOk result (λ snap. (k : Looker S.allows M.ready M.waits M.same layout.now number) → LookerWaits S.allows M.ready M.waits M.same layout.now number k seat.old.me.0.passes (llx_at node LlxAt.Marked) (load Kind.LoadMarked (Word.Node node NodeWord.Marked)) → LookerSnaps S.allows M.ready M.waits M.same layout.now number k seat.new.me.0.passes node snap) }
+    ensures waits { IfErr result (λ t. (k : Looker S.allows M.ready M.waits M.same layout.now number) → LookerWaits S.allows M.ready M.waits M.same layout.now number k seat.old.me.0.passes (llx_at node LlxAt.Marked) (load Kind.LoadMarked (Word.Node node NodeWord.Marked)) → LookerWaits S.allows M.ready M.waits M.same layout.now number k seat.new.me.0.passes (llx_at node (LlxAt.StateAgain t.0 t.1)) (load Kind.LoadState (Word.Scx t.1 ScxWord.State))) }
+{
+    let mark = Word::Node(node, NodeWord::Marked);
+    let info = Word::Node(node, NodeWord::Info);
+    let found = read::<S, M>(words, layout, seat, number, Kind::LoadMarked, mark);
+    let marked = found != 0;
+    let named = read::<S, M>(words, layout, seat, number, Kind::LoadInfo, info);
+    let scx = ScxNo(named);
+    let finished = Word::Scx(scx, ScxWord::State);
+    let state = read::<S, M>(words, layout, seat, number, Kind::LoadState, finished);
+    let again = read::<S, M>(words, layout, seat, number, Kind::LoadMarked, mark);
+    if !leaves(state, again != 0) {
+        return Err((marked, scx));
+    }
+    let one = Word::Node(node, NodeWord::Child(Side::Left));
+    let left = read::<S, M>(words, layout, seat, number, Kind::LoadChild, one);
+    let other = Word::Node(node, NodeWord::Child(Side::Right));
+    let right = read::<S, M>(words, layout, seat, number, Kind::LoadChild, other);
+    let last = read::<S, M>(words, layout, seat, number, Kind::LoadInfo, info);
+    if last != scx.0 {
+        return Err((marked, scx));
+    }
+    Ok(Snap {
+        node,
+        scx,
+        left: NodeNo(left),
+        right: NodeNo(right),
+    })
+}
