@@ -12,7 +12,7 @@ use Rattle.record.specs.declared.record.Line.{Line}
 use Rattle.record.specs.Schedules.{IsRunOf}
 use Rattle.report.specs.Report.{report_text}
 use Rattle.program.specs.declared.fault.Fault.{Fault}
-use Rattle.program.specs.declared.fault.Fault.TheVariants.{Usage, BadScript, BadSchedule, NoMemory, Read, Write}
+use Rattle.program.specs.declared.fault.Fault.TheVariants.{Usage, BadGate, BadScript, BadSchedule, NoMemory, Read, Write}
 
 -- of what the two texts say there was a run, and behind the old bytes stands its report
 pub record HasPrinted (mode : Mode) (script_text schedule_text : List ℕ) (old new : Option (List ℕ)) : Type 0 where
@@ -31,6 +31,7 @@ IsDeserved mode script_text schedule_text (BadScript row cause) = IsScriptFault 
 IsDeserved mode script_text schedule_text (BadSchedule row cause) =
     (limits : Limits) × (layout : Layout) × (calls : List Call) × SayScript mode script_text limits layout calls × IsScheduleFault layout.passes schedule_text row cause
 IsDeserved mode script_text schedule_text Usage = ⊤
+IsDeserved mode script_text schedule_text BadGate = ⊤
 IsDeserved mode script_text schedule_text NoMemory = ⊤
 IsDeserved mode script_text schedule_text Read = ⊤
 IsDeserved mode script_text schedule_text Write = ⊤
