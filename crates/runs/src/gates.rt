@@ -1,4 +1,8 @@
 //! When calls wait for one another.
+ghost use Rattle.std.specs.Prelude.{IfOk};
+ghost use Rattle.arena.specs.Limits.{IsAccepted, IsLayoutOf};
+ghost use Rattle.arena.specs.declared.limits.Mode.TheVariants.{Tree};
+
 use arena::{Kind, Mode, PassNo};
 use runner::{Alternate, Gate, Hold, Open, run};
 use script::{Metered, Script, read_script};
@@ -13,9 +17,15 @@ const TWO: &str = "limits,2,20,20,3\n0,get,1,,\n1,get,2,,\nend,2,,,\n";
 /// How often a call looks for the other one.
 const MOST_LOOKS: u64 = 1_000_000_000;
 
-fn script_of(alloc: Global, text: &str) -> Result<Script, Fail> {
+fn script_of(alloc: Global, text: &str) -> Result<Script, Fail>
+    ensures accepted { IfOk result (λ script. IsAccepted script.limits) }
+    ensures layout { IfOk result (λ script. IsLayoutOf script.limits Tree script.layout) }
+{
     let mut from = text.as_bytes();
-    Ok(read_script(alloc, Mode::Tree, &mut Metered::new(&mut from)).map_err(|_| "bad script")?)
+    match read_script(alloc, Mode::Tree, &mut Metered::new(&mut from)) {
+        Ok(script) => Ok(script),
+        Err(_) => Err(Fail::from("bad script")),
+    }
 }
 
 /// The first call of each of two clients waits until the other's has begun.
