@@ -1,0 +1,3 @@
+mod NextCalls
+mod AfterLines
+mod Fitting
