@@ -1,8 +1,5 @@
-mod Steps
-mod Helds
-mod Mentions
-mod Flags
-mod Filled
-mod Judged
-mod Wins
-mod Examples
+mod Counts
+mod Chains
+mod Spreading
+mod Names
+mod Frozen

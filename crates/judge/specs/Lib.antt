@@ -1,3 +1,7 @@
-pub mod Tests
-pub mod Names
+pub mod Freezing
+pub mod Graph
 pub mod Histories
+pub mod Naming
+pub mod Pasts
+pub mod StandsFor
+pub mod Uses
