@@ -119,8 +119,8 @@ module _ (lay : Layout) (calls : List Call) (lines : List Line) where
       let y = x j c get in
       record { pass = y.pass; place = y.place; answered = y.answered; begun = y.begun; steps = y.steps; won = rw none y.won }
 
-  won_own : (number : ℕ) (row : StepRow) (e : Entry) (c : Client) (had : Option ℕ) → entry_of lay lines number row ≡ Some e → IsStepped number row e.client.0 c → IsClientAfter lay calls (Step (Made number row) ∷ lines) e.client.0 (record c { won = Some number; had = had })
-  won_own number row e c had is y = record {
+  won_own : (number : ℕ) (row : StepRow) (e : Entry) (c : Client) → entry_of lay lines number row ≡ Some e → IsStepped number row e.client.0 c → IsClientAfter lay calls (Step (Made number row) ∷ lines) e.client.0 (record c { won = Some number })
+  won_own number row e c is y = record {
     pass = y.pass;
     place = y.place;
     answered = y.answered;
@@ -140,8 +140,8 @@ module _ (lay : Layout) (calls : List Call) (lines : List Line) where
   }
 
   -- where it has, its client has won
-  pub won_clients : (number : ℕ) (row : StepRow) (e : Entry) (clients : List Client) (c : Client) (had : Option ℕ) → entry_of lay lines number row ≡ Some e → slice_get clients e.client.0 ≡ Some c → AreStepped number row clients → AreClientsAfter lay calls (Step (Made number row) ∷ lines) (set clients e.client.0 (record c { won = Some number; had = had }))
-  won_clients number row e clients c had is there x = with_one (λ j d. IsClientAfter lay calls (Step (Made number row) ∷ lines) j d) clients e.client.0 c _ there (won_own number row e c had is (x e.client.0 c there)) (λ j d n get. won_other number row e j d is (λ q. n (sym q)) (x j d get))
+  pub won_clients : (number : ℕ) (row : StepRow) (e : Entry) (clients : List Client) (c : Client) → entry_of lay lines number row ≡ Some e → slice_get clients e.client.0 ≡ Some c → AreStepped number row clients → AreClientsAfter lay calls (Step (Made number row) ∷ lines) (set clients e.client.0 (record c { won = Some number }))
+  won_clients number row e clients c is there x = with_one (λ j d. IsClientAfter lay calls (Step (Made number row) ∷ lines) j d) clients e.client.0 c _ there (won_own number row e c is (x e.client.0 c there)) (λ j d n get. won_other number row e j d is (λ q. n (sym q)) (x j d get))
 
   -- An entry and a reply
 
@@ -150,8 +150,8 @@ module _ (lay : Layout) (calls : List Call) (lines : List Line) where
       let y = x j c get in
       record { pass = y.pass; place = y.place; answered = y.answered; begun = y.begun; steps = y.steps; won = y.won }
 
-  ended_own : (r : Reply) (c : Client) (next had : Option ℕ) → ((left : List Command) → IsAt calls c.pass.0 left c.at → IsAt calls c.pass.0 (drop 1 left) next) → IsClientAfter lay calls lines r.client.0 c → IsClientAfter lay calls (ReplyLine r ∷ lines) r.client.0 (record c { at = next; answered = c.answered + 1; begun = None; steps = 0; won = None; had = had })
-  ended_own r c next had behind x = record {
+  ended_own : (r : Reply) (c : Client) (next : Option ℕ) → ((left : List Command) → IsAt calls c.pass.0 left c.at → IsAt calls c.pass.0 (drop 1 left) next) → IsClientAfter lay calls lines r.client.0 c → IsClientAfter lay calls (ReplyLine r ∷ lines) r.client.0 (record c { at = next; answered = c.answered + 1; begun = None; steps = 0; won = None })
+  ended_own r c next behind x = record {
     pass = x.pass;
     place = subst (λ (n : ℕ). IsAt calls r.client.0 (drop n (commands calls r.client.0)) next) (sym (add-one c.answered)) (next_place calls r.client.0 c.answered next (subst (λ (k : ℕ). IsAt calls k (drop 1 (drop c.answered (commands calls r.client.0))) next) x.pass (behind (drop c.answered (commands calls r.client.0)) (subst (λ (k : ℕ). IsAt calls k (drop c.answered (commands calls r.client.0)) c.at) (sym x.pass) x.place))));
     answered = rw (eq-eqb r.client.0 r.client.0 refl, x.answered) (add-one (answered lines r.client.0));
@@ -170,8 +170,8 @@ module _ (lay : Layout) (calls : List Call) (lines : List Line) where
     won = rw (ne_eqb r.client.0 j d) x.won;
   }
 
-  pub ended_clients : (r : Reply) (clients : List Client) (c : Client) (next had : Option ℕ) → slice_get clients r.client.0 ≡ Some c → ((left : List Command) → IsAt calls c.pass.0 left c.at → IsAt calls c.pass.0 (drop 1 left) next) → AreClientsAfter lay calls lines clients → AreClientsAfter lay calls (ReplyLine r ∷ lines) (set clients r.client.0 (record c { at = next; answered = c.answered + 1; begun = None; steps = 0; won = None; had = had }))
-  ended_clients r clients c next had there behind x = with_one (λ j d. IsClientAfter lay calls (ReplyLine r ∷ lines) j d) clients r.client.0 c _ there (ended_own r c next had behind (x r.client.0 c there)) (λ j d n get. ended_other r j d (λ q. n (sym q)) (x j d get))
+  pub ended_clients : (r : Reply) (clients : List Client) (c : Client) (next : Option ℕ) → slice_get clients r.client.0 ≡ Some c → ((left : List Command) → IsAt calls c.pass.0 left c.at → IsAt calls c.pass.0 (drop 1 left) next) → AreClientsAfter lay calls lines clients → AreClientsAfter lay calls (ReplyLine r ∷ lines) (set clients r.client.0 (record c { at = next; answered = c.answered + 1; begun = None; steps = 0; won = None }))
+  ended_clients r clients c next there behind x = with_one (λ j d. IsClientAfter lay calls (ReplyLine r ∷ lines) j d) clients r.client.0 c _ there (ended_own r c next behind (x r.client.0 c there)) (λ j d n get. ended_other r j d (λ q. n (sym q)) (x j d get))
 
 -- The start
 
@@ -181,7 +181,7 @@ got_more [] x (suc j) y e = absurd (let z : None ≡ Some y = e in cc)
 got_more (z ∷ xs) x zero y e = inl e
 got_more (z ∷ xs) x (suc j) y e = ⊎_elim (λ q. inl q) (λ q. inr (ap suc q.0, q.1)) (got_more xs x j y e)
 
-pub clients_more : (lay : Layout) (calls : List Call) (xs new : List Client) (n : ℕ) (c : Client) → length xs ≡ n → AreClientsAfter lay calls [] xs → IsAt calls n (commands (drop 0 calls) n) c.at → c ≡ record { pass = record { 0 = n }; at = c.at; answered = 0; begun = None; steps = 0; won = None; had = None } → new ≡ xs ++ c ∷ [] → (length new ≡ n + 1) × AreClientsAfter lay calls [] new
+pub clients_more : (lay : Layout) (calls : List Call) (xs new : List Client) (n : ℕ) (c : Client) → length xs ≡ n → AreClientsAfter lay calls [] xs → IsAt calls n (commands (drop 0 calls) n) c.at → c ≡ record { pass = record { 0 = n }; at = c.at; answered = 0; begun = None; steps = 0; won = None } → new ≡ xs ++ c ∷ [] → (length new ≡ n + 1) × AreClientsAfter lay calls [] new
 clients_more lay calls xs new n c many x at is pushed = (
   ap length pushed ∙ length_push xs c ∙ ap (λ (k : ℕ). k + 1) many,
   λ j d get. ⊎_elim (λ q. x j d q) (λ q. subst (λ (k : Client). IsClientAfter lay calls [] j k) (some_client c d q.1) (subst (λ (k : ℕ). IsClientAfter lay calls [] k c) (sym (q.0 ∙ many)) first)) (got_more xs c j d (subst (λ (l : List Client). slice_get l j ≡ Some d) pushed get)),

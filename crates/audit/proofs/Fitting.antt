@@ -67,10 +67,10 @@ owner_is : (lay : Layout) (s p : ℕ) → first_scx lay p ≤ s → s < first_sc
 owner_is lay s p from below = div-eq_of_lt-le lay.scx (omega arith) (omega arith)
 
 -- what a lawful step of a client's call asks
-pub step_fits : (run : Run) (number : ℕ) (row : StepRow) (client : Client) (command : Command) (most taken : ℕ) → IsAfter run (lines_of run) → client.pass ≡ row.pass → IsClientAfter (layout_of run) (calls_of run) (lines_of run) row.pass.0 client → next_command (calls_of run) (lines_of run) client.pass.0 ≡ Some command → suc run.turn ≡ number → row.call ≡ client.answered → client.steps < most → taken ≡ length (taken_nodes (seen run.judge)) → ((all : ℕ) → taken ≤ all → most ≤ most_steps command (tries_of run) all) → MayMake command row.kind → SaysItsCall row → IsLawful run.judge.layout (seen run.judge) row → IsStep (layout_of run) (tries_of run) (calls_of run) (lines_of run) number row
+pub step_fits : (run : Run) (number : ℕ) (row : StepRow) (client : Client) (command : Command) (most taken : ℕ) → IsAfter run (lines_of run) → client.pass ≡ row.pass → IsClientAfter (layout_of run) (calls_of run) (lines_of run) row.pass.0 client → next_command (calls_of run) (lines_of run) client.pass.0 ≡ Some command → suc run.turn ≡ number → row.call ≡ client.answered → client.steps < most → taken ≡ length (taken_nodes (seen run.steps.judge)) → ((all : ℕ) → taken ≤ all → most ≤ most_steps command (tries_of run) all) → MayMake command row.kind → SaysItsCall row → IsLawful run.steps.judge.layout (seen run.steps.judge) row → IsStep (layout_of run) (tries_of run) (calls_of run) (lines_of run) number row
 step_fits run number row client command most taken x pass y is turn call few taken_is most_is may says lawful = record {
   in_turn = sym turn ∙ ap suc x.turn;
-  lawful = subst (λ (h : History). IsLawful (layout_of run) h row) x.seen (subst (λ (l : Layout). IsLawful l (seen run.judge) row) x.layout lawful);
+  lawful = subst (λ (h : History). IsLawful (layout_of run) h row) x.seen (subst (λ (l : Layout). IsLawful l (seen run.steps.judge) row) x.layout lawful);
   call = call ∙ y.answered;
   command = command;
   is = ap (λ (p : PassNo). next_command (calls_of run) (lines_of run) p.0) (sym pass) ∙ is;
@@ -80,7 +80,7 @@ step_fits run number row client command most taken x pass y is turn call few tak
 }
 
 -- the entry of an update that changes its field
-pub entry_made : (run : Run) (number place : ℕ) (row : StepRow) (n : NodeNo) (side : Side) (s : ScxNo) (client : PassNo) (call : ℕ) → IsAfter run (lines_of run) → row.kind ≡ Update → (row.before ≡ row.after → ⊥) → row.word ≡ child n.0 side → s.0 ≡ value (seen run.judge) (info n.0) → call ≡ value (seen run.judge) (scx s.0 CallWord) → first_scx (layout_of run) client.0 ≤ s.0 → s.0 < first_scx (layout_of run) client.0 + (layout_of run).scx → place ≡ suc run.entries → entry_of (layout_of run) (lines_of run) number row ≡ Some record { place = place; step = number; scx = s; client = client; call = call }
+pub entry_made : (run : Run) (number place : ℕ) (row : StepRow) (n : NodeNo) (side : Side) (s : ScxNo) (client : PassNo) (call : ℕ) → IsAfter run (lines_of run) → row.kind ≡ Update → (row.before ≡ row.after → ⊥) → row.word ≡ child n.0 side → s.0 ≡ value (seen run.steps.judge) (info n.0) → call ≡ value (seen run.steps.judge) (scx s.0 CallWord) → first_scx (layout_of run) client.0 ≤ s.0 → s.0 < first_scx (layout_of run) client.0 + (layout_of run).scx → place ≡ suc run.entries → entry_of (layout_of run) (lines_of run) number row ≡ Some record { place = place; step = number; scx = s; client = client; call = call }
 entry_made run number place row n side s client call x kind differs word holds calls from below place_is = rw (kind, ne_eqb row.before row.after differs, word) (ap (λ (e : Entry). Some e) same)
   where
     lay : Layout
@@ -194,9 +194,9 @@ module _ (lay : Layout) (tries : ℕ) (calls : List Call) (judge : Judged) (clie
     clients = each;
   }
 
-  pub after_reply : (reply : Reply) (client changed : Client) (next had : Option ℕ) (fitting : Bool) → due ≡ None → IsReply lay tries calls lines reply → slice_get clients reply.client.0 ≡ Some client → ((left : List Command) → IsAt calls client.pass.0 left client.at → IsAt calls client.pass.0 (drop 1 left) next) → changed ≡ record client { at = next; answered = client.answered + 1; begun = None; steps = 0; won = None; had = had } → IsSoFar lay tries calls judge (set clients reply.client.0 changed) turn made newest due fitting false false (ReplyLine reply ∷ lines)
+  pub after_reply : (reply : Reply) (client changed : Client) (next : Option ℕ) (fitting : Bool) → due ≡ None → IsReply lay tries calls lines reply → slice_get clients reply.client.0 ≡ Some client → ((left : List Command) → IsAt calls client.pass.0 left client.at → IsAt calls client.pass.0 (drop 1 left) next) → changed ≡ record client { at = next; answered = client.answered + 1; begun = None; steps = 0; won = None } → IsSoFar lay tries calls judge (set clients reply.client.0 changed) turn made newest due fitting false false (ReplyLine reply ∷ lines)
   unfolding AreLines
-  after_reply reply client changed next had fitting owed is there behind change = record {
+  after_reply reply client changed next fitting owed is there behind change = record {
     layout = x.layout;
     seen = x.seen;
     in_order = (x.in_order, (x.owed ∙ owed, is));
@@ -208,7 +208,7 @@ module _ (lay : Layout) (tries : ℕ) (calls : List Call) (judge : Judged) (clie
     idle = refl;
     awaits = λ f w. w;
     all = length_set clients reply.client.0 _ ∙ x.all;
-    clients = rw change (ended_clients lay calls lines reply clients client next had there behind x.clients);
+    clients = rw change (ended_clients lay calls lines reply clients client next there behind x.clients);
   }
 
 -- what the answer may be goes by the newest line
@@ -255,7 +255,7 @@ reply_fits run reply client command x there own is last call begun end fits ente
     y = subst (λ (p : PassNo). IsClientAfter (layout_of run) (calls_of run) (lines_of run) p.0 client) own (x.clients client.pass.0 client there)
 
 -- each client behind a step and the entry that it asks for
-pub made_clients : (lay : Layout) (calls : List Call) (lines : List Line) (number : ℕ) (row : StepRow) (owed : Option Entry) (clients old new : List Client) (client changed : Client) → entry_of lay lines number row ≡ owed → AreClientsAfter lay calls lines clients → slice_get clients row.pass.0 ≡ Some client → changed ≡ record client { begun = Some (unwrap_or client.begun number); steps = client.steps + 1 } → old ≡ set clients row.pass.0 changed → ((e : Entry) → owed ≡ Some e → e.client.0 < length old) → (owed ≡ None → new ≡ old) → ((e : Entry) (c : Client) → owed ≡ Some e → slice_get old e.client.0 ≡ Some c → (had : Option ℕ) × (new ≡ set old e.client.0 (record c { won = Some number; had = had }))) → AreClientsAfter lay calls (Step (Made number row) ∷ lines) new
+pub made_clients : (lay : Layout) (calls : List Call) (lines : List Line) (number : ℕ) (row : StepRow) (owed : Option Entry) (clients old new : List Client) (client changed : Client) → entry_of lay lines number row ≡ owed → AreClientsAfter lay calls lines clients → slice_get clients row.pass.0 ≡ Some client → changed ≡ record client { begun = Some (unwrap_or client.begun number); steps = client.steps + 1 } → old ≡ set clients row.pass.0 changed → ((e : Entry) → owed ≡ Some e → e.client.0 < length old) → (owed ≡ None → new ≡ old) → ((e : Entry) (c : Client) → owed ≡ Some e → slice_get old e.client.0 ≡ Some c → new ≡ set old e.client.0 (record c { won = Some number })) → AreClientsAfter lay calls (Step (Made number row) ∷ lines) new
 made_clients lay calls lines number row owed clients old new client changed is x there change put within none some = go owed refl
   where
     stepped : AreStepped lay calls lines number row old
@@ -266,7 +266,7 @@ made_clients lay calls lines number row owed clients old new client changed is x
     go (Some entry) e =
         let c = get_there old entry.client.0 (within entry e) in
         let y = some entry c.0 e c.1 in
-        rw y.1 (won_clients lay calls lines number row entry old c.0 y.0 (is ∙ e) c.1 stepped)
+        rw y (won_clients lay calls lines number row entry old c.0 (is ∙ e) c.1 stepped)
 
 -- what holds of what there is
 pub if_there : {X : Type 0} (P : X → Type 0) (o : Option X) (x : X) → IfSome o P → o ≡ Some x → P x
@@ -306,13 +306,13 @@ win_is lay calls lines number row entry client command n side is y next wins wor
     says = entry_says lay lines number row entry n side is word
 
 -- a winning update with an entry that its client's call makes
-pub win_fits : (run : Run) (number : ℕ) (row : StepRow) (entry : Entry) (client : Client) (command : Command) → IsAfter run (lines_of run) → entry_of (layout_of run) (lines_of run) number row ≡ Some entry → IsClientAfter (layout_of run) (calls_of run) (lines_of run) entry.client.0 client → Some command ≡ next_command (calls_of run) (lines_of run) client.pass.0 → client.pass ≡ entry.client → IsWin (seen run.judge) row entry.scx.0 → ((n : ℕ) × (side : Side) × (row.word ≡ child n side) × (log run.judge.layout (row ⊳ seen run.judge) ≡ entered run.judge.layout (seen run.judge) entry.scx.0 n side row.after ∷ log run.judge.layout (seen run.judge))) → ((n : ℕ) (side : Side) → row.word ≡ child n side → entry.scx.0 ≡ value (seen run.judge) (info n)) → client.won ≡ None → entry.call ≡ client.answered → ((row.pass.0 ≡ entry.client.0 → ⊥) → IsSome client.begun)
-    → ((n : ℕ) (side : Side) → row.word ≡ child n side → IsEntryFor (layout_of run) client.pass.0 (seen run.judge) (start (layout_of run).mode (lines_of run) client.pass.0) (linked (calls_of run) (layout_of run).mode (lines_of run) client.pass.0) (entered (layout_of run) (seen run.judge) entry.scx.0 n side row.after) command) → IsWinOf (layout_of run) (calls_of run) (lines_of run) row entry
+pub win_fits : (run : Run) (number : ℕ) (row : StepRow) (entry : Entry) (client : Client) (command : Command) → IsAfter run (lines_of run) → entry_of (layout_of run) (lines_of run) number row ≡ Some entry → IsClientAfter (layout_of run) (calls_of run) (lines_of run) entry.client.0 client → Some command ≡ next_command (calls_of run) (lines_of run) client.pass.0 → client.pass ≡ entry.client → IsWin (seen run.steps.judge) row entry.scx.0 → ((n : ℕ) × (side : Side) × (row.word ≡ child n side) × (log run.steps.judge.layout (row ⊳ seen run.steps.judge) ≡ entered run.steps.judge.layout (seen run.steps.judge) entry.scx.0 n side row.after ∷ log run.steps.judge.layout (seen run.steps.judge))) → ((n : ℕ) (side : Side) → row.word ≡ child n side → entry.scx.0 ≡ value (seen run.steps.judge) (info n)) → client.won ≡ None → entry.call ≡ client.answered → ((row.pass.0 ≡ entry.client.0 → ⊥) → IsSome client.begun)
+    → ((n : ℕ) (side : Side) → row.word ≡ child n side → IsEntryFor (layout_of run) client.pass.0 (seen run.steps.judge) (start (layout_of run).mode (lines_of run) client.pass.0) (linked (calls_of run) (layout_of run).mode (lines_of run) client.pass.0) (entered (layout_of run) (seen run.steps.judge) entry.scx.0 n side row.after) command) → IsWinOf (layout_of run) (calls_of run) (lines_of run) row entry
 win_fits run number row entry client command x is y next own wins logged holds unwon call begun does =
     win_is lay (calls_of run) (lines_of run) number row entry client command n side is y
     (sym (subst (λ (p : PassNo). Some command ≡ next_command (calls_of run) (lines_of run) p.0) own next))
     (subst (λ (h : History). IsWin h row entry.scx.0) x.seen wins) logged.2
-    (subst (λ (h : History). log lay (row ⊳ h) ≡ entered lay h entry.scx.0 n side row.after ∷ log lay h) x.seen (subst (λ (l : Layout). log l (row ⊳ seen run.judge) ≡ entered l (seen run.judge) entry.scx.0 n side row.after ∷ log l (seen run.judge)) x.layout logged.3))
+    (subst (λ (h : History). log lay (row ⊳ h) ≡ entered lay h entry.scx.0 n side row.after ∷ log lay h) x.seen (subst (λ (l : Layout). log l (row ⊳ seen run.steps.judge) ≡ entered l (seen run.steps.judge) entry.scx.0 n side row.after ∷ log l (seen run.steps.judge)) x.layout logged.3))
     (subst (λ (h : History). entry.scx.0 ≡ value h (info n)) x.seen (holds n side logged.2)) unwon call begun
     (subst (λ (p : PassNo). IsEntryFor lay p.0 (history lay.mode (lines_of run)) (start lay.mode (lines_of run) p.0) (linked (calls_of run) lay.mode (lines_of run) p.0) (entered lay (history lay.mode (lines_of run)) entry.scx.0 n side row.after) command) own (subst (λ (h : History). IsEntryFor lay client.pass.0 h (start lay.mode (lines_of run) client.pass.0) (linked (calls_of run) lay.mode (lines_of run) client.pass.0) (entered lay h entry.scx.0 n side row.after) command) x.seen (does n side logged.2)))
   where
@@ -347,8 +347,8 @@ lawful_lines lay tries calls lines in_order settled lawful whole = record {
   whole = whole;
 }
 
-pub lawful_run : (run : Run) → IsAfter run (lines_of run) → run.at ≡ length run.record.now.lines.items → Lawful run.judge.layout (seen run.judge) → OwesNothing (layout_of run) (calls_of run) (lines_of run) → IsWhole (layout_of run).mode (layout_of run) (calls_of run) (lines_of run) → IsLawfulRun (layout_of run) (tries_of run) (calls_of run) (reverse (clients (reverse run.record.now.lines.items))) run.record.now.lines.items
-lawful_run run x all lawful settled whole = lawful_lines (layout_of run) (tries_of run) (calls_of run) run.record.now.lines.items (there (λ l. AreLines (layout_of run) (tries_of run) (calls_of run) l) x.in_order) (there (λ l. OwesNothing (layout_of run) (calls_of run) l) settled) (there (λ l. Lawful (layout_of run) (history (layout_of run).mode l)) (subst (λ (h : History). Lawful (layout_of run) h) x.seen (subst (λ (l : Layout). Lawful l (seen run.judge)) x.layout lawful))) (there (λ l. IsWhole (layout_of run).mode (layout_of run) (calls_of run) l) whole)
+pub lawful_run : (run : Run) → IsAfter run (lines_of run) → run.at ≡ length run.record.now.lines.items → Lawful run.steps.judge.layout (seen run.steps.judge) → OwesNothing (layout_of run) (calls_of run) (lines_of run) → IsWhole (layout_of run).mode (layout_of run) (calls_of run) (lines_of run) → IsLawfulRun (layout_of run) (tries_of run) (calls_of run) (reverse (clients (reverse run.record.now.lines.items))) run.record.now.lines.items
+lawful_run run x all lawful settled whole = lawful_lines (layout_of run) (tries_of run) (calls_of run) run.record.now.lines.items (there (λ l. AreLines (layout_of run) (tries_of run) (calls_of run) l) x.in_order) (there (λ l. OwesNothing (layout_of run) (calls_of run) l) settled) (there (λ l. Lawful (layout_of run) (history (layout_of run).mode l)) (subst (λ (h : History). Lawful (layout_of run) h) x.seen (subst (λ (l : Layout). Lawful l (seen run.steps.judge)) x.layout lawful))) (there (λ l. IsWhole (layout_of run).mode (layout_of run) (calls_of run) l) whole)
   where
     taken : take run.at run.record.now.lines.items ≡ run.record.now.lines.items
     taken = ap (λ (n : ℕ). take n run.record.now.lines.items) all ∙ take-length run.record.now.lines.items

@@ -73,4 +73,4 @@ pub record IsSoFar (lay : Layout) (tries : ℕ) (calls : List Call) (judge : Jud
 
 -- so it is of a run
 abbrev pub IsAfter : Run → List Line → Type 0
-IsAfter run lines = IsSoFar (layout_of run) (tries_of run) (calls_of run) run.judge run.clients.items run.turn run.entries run.last run.owed run.fits run.idle run.awaits lines
+IsAfter run lines = IsSoFar (layout_of run) (tries_of run) (calls_of run) run.steps.judge run.clients.items run.turn run.entries run.last run.owed run.fits run.idle run.awaits lines

@@ -1,3 +1,5 @@
 pub mod Pasts
 pub mod Calls
 pub mod After
+pub mod Edits
+pub mod Trees

@@ -22,15 +22,13 @@ pub(crate) struct Client {
     pub(crate) steps: u64,
     /// The turn since then in which an update of its own has won.
     pub(crate) won: Option<u64>,
-    /// The value that the key of an edit had just before that.
-    pub(crate) had: Option<u64>,
 }
 
 impl Client {
     /// A client that has made no turn.
     pub(crate) fn new(pass: PassNo, calls: &[Call]) -> Client
         ensures at { IsAt calls.now pass.0 (commands (drop 0 calls.now) pass.0) result.at }
-        ensures new { result ≡ record { pass = pass; at = result.at; answered = 0; begun = None; steps = 0; won = None; had = None } }
+        ensures new { result ≡ record { pass = pass; at = result.at; answered = 0; begun = None; steps = 0; won = None } }
     {
         Client {
             pass,
@@ -39,7 +37,6 @@ impl Client {
             begun: None,
             steps: 0,
             won: None,
-            had: None,
         }
     }
 
@@ -76,7 +73,7 @@ impl Client {
     pub(crate) fn ended(self, calls: &[Call]) -> Client
         requires { self.answered + 1 < 2 ^ 64 }
         ensures place { (left : List CommandOf) → IsAt calls.now self.pass.0 left self.at → IsAt calls.now self.pass.0 (drop 1 left) result.at }
-        ensures same { result ≡ record self { at = result.at; answered = self.answered + 1; begun = None; steps = 0; won = None; had = None } }
+        ensures same { result ≡ record self { at = result.at; answered = self.answered + 1; begun = None; steps = 0; won = None } }
     {
         Client {
             at: next_behind(calls, self.at, self.pass),
@@ -84,7 +81,6 @@ impl Client {
             begun: None,
             steps: 0,
             won: None,
-            had: None,
             ..self
         }
     }

@@ -3,6 +3,8 @@
 
 ghost use Rattle.std.specs.Prelude.{◌≡◌, ◌≢◌, ℕ, ◌+◌, ◌<◌, ◌≤◌, ◌∷◌, ◌↔◌, IsTrue, IfOk, IfSome, IfNone, OnOk, OnErr, length, []};
 
+ghost use Rattle.arena.specs.Fills.{IsOwnNode};
+
 use arena::{Layout, NoMemory, NodeNo, PassNo, PlainWords, Row, ScxNo, Word};
 use std::alloc::Global;
 use std::marker::Model;
@@ -165,4 +167,12 @@ impl Judge {
     {
         false
     }
+}
+
+/// Whether a node is of a pass's own share.
+pub(crate) fn is_own_node(_layout: &Layout, _pass: PassNo, _node: u64) -> bool
+    requires { _pass.0 < _layout.now.passes }
+    ensures { IsTrue result ↔ IsOwnNode _layout.now _pass.0 _node }
+{
+    false
 }

@@ -8,8 +8,12 @@ ghost use Rattle.record.specs.Steps.{SaysItsCall};
 use crate::client::Client;
 use crate::commands::{enters, may_answer_after_step, may_answer_at_once, may_make, most_steps};
 use crate::fault::{Refused, hold};
-use crate::judging::Judge;
-use arena::{Kind, NoMemory, NodeWord, PassNo, ScxNo, ScxWord, Word};
+use crate::edits::makes_edit;
+use crate::levels::do_levels_rise;
+use crate::steps::Steps;
+use crate::{cells, map};
+use arena::{Kind, Mode, NoMemory, NodeWord, PassNo, ScxNo, ScxWord, Word};
+use places::{Change, Places};
 use record::{Entry, Line, Record, Reply, Row};
 use script::{Call, Command, Script};
 use std::alloc::Global;
@@ -20,7 +24,10 @@ pub(crate) struct Run<'a> {
     pub(crate) record: &'a Record,
     /// How many lines there were.
     pub(crate) at: usize,
-    pub(crate) judge: Judge,
+    pub(crate) steps: Steps,
+    pub(crate) places: Places,
+    /// On the tree, by the numbers of SCX-records: the command whose edit one that has begun makes.
+    pub(crate) edits: Vec<Option<Command>>,
     pub(crate) clients: Vec<Client>,
     /// How many turns there were.
     pub(crate) turn: u64,
@@ -72,7 +79,9 @@ impl<'a> Run<'a> {
         Ok(Run {
             record,
             at: 0,
-            judge: Judge::new(alloc, &record.script.layout)?,
+            steps: Steps::new(alloc, &record.script.layout)?,
+            places: Places::new(alloc, record.script.calls.as_slice())?,
+            edits: vec![in alloc; None; record.script.layout.all_scx() as usize]?,
             clients: clients(alloc, &record.script)?,
             turn: 0,
             entries: 0,
@@ -100,7 +109,7 @@ impl<'a> Run<'a> {
         requires all { self.now.at ≡ length self.now.record.now.lines.items }
         ensures { OnOk result (IsLawfulRun (layout_of self.now) (tries_of self.now) (calls_of self.now) (reverse (clients (reverse self.now.record.now.lines.items))) self.now.record.now.lines.items) }
     {
-        self.judge.laws_hold();
+        self.steps.judge.laws_hold();
         self.settled()?;
         Ok(())
     }
@@ -174,13 +183,13 @@ impl<'a> Run<'a> {
             return Err(Refused::NotLawful);
         };
         let limits = &self.record.script.limits;
-        let most = most_steps(&command, limits, u64::from(self.judge.taken()));
+        let most = most_steps(&command, limits, u64::from(self.steps.judge.taken()));
         hold(self.turn.checked_add(1) == Some(number))?;
         hold(row.call == client.answered)?;
         hold(client.steps < most)?;
         hold(may_make(&command, row.kind))?;
         hold(says_its_call(row))?;
-        hold(self.judge.is_lawful(row))?;
+        hold(self.steps.judge.is_lawful(row))?;
         Ok(())
     }
 
@@ -207,6 +216,7 @@ impl<'a> Run<'a> {
         self.check_idle(number, pass)?;
         let client = self.client(pass)?;
         let awaits = self.next(&client).is_some();
+        self.steps.begin(&client, self.record.script.calls.as_slice());
         self.clients[pass.0 as usize] = client.turned(number);
         self.turn = number;
         self.last = Some(pass);
@@ -224,12 +234,13 @@ impl<'a> Run<'a> {
     {
         self.settled()?;
         self.check_step(number, row)?;
+        let edit = self.edit_begun(row)?;
         let owed = self.owed_by(number, row)?;
         let fits = match &owed {
             Some(entry) => self.check_win(row, entry).is_ok(),
             None => false,
         };
-        self.make(number, row, owed, fits)
+        self.make(number, row, edit, owed, fits)
     }
 
     /// The entry that a step of this turn asks for, if it is an update which changes its field: of the
@@ -245,8 +256,8 @@ impl<'a> Run<'a> {
         let Word::Node(node, NodeWord::Child(_)) = row.word else {
             return Ok(None);
         };
-        let scx = ScxNo(self.judge.get(Word::Node(node, NodeWord::Info)));
-        let call = self.judge.get(Word::Scx(scx, ScxWord::Call));
+        let scx = ScxNo(self.steps.judge.get(Word::Node(node, NodeWord::Info)));
+        let call = self.steps.judge.get(Word::Scx(scx, ScxWord::Call));
         match (
             self.record.script.layout.owner(scx),
             self.entries.checked_add(1),
@@ -265,14 +276,14 @@ impl<'a> Run<'a> {
     /// A step wins with this entry: the first one of its client's call that runs.
     fn check_win(&self, row: &arena::Row, entry: &Entry) -> Result<(), Refused>
         requires after { IsAfter self.now (lines_of self.now) }
-        requires lawful { IsLawful self.now.judge.layout (seen self.now.judge) row.now }
+        requires lawful { IsLawful self.now.steps.judge.layout (seen self.now.steps.judge) row.now }
         ensures { (number : ℕ) → entry_of (layout_of self.now) (lines_of self.now) number row.now ≡ Some entry.now → OnOk result (IsWinOf (layout_of self.now) (calls_of self.now) (lines_of self.now) row.now entry.now) }
     {
         let client = self.client(entry.client)?;
         let Some(command) = self.next(&client) else {
             return Err(Refused::NotLawful);
         };
-        hold(self.judge.winner(row) == Some(entry.scx))?;
+        hold(self.steps.judge.winner(row) == Some(entry.scx))?;
         hold(client.won.is_none())?;
         hold(entry.call == client.answered)?;
         hold(has_begun(&client, row.pass))?;
@@ -291,11 +302,42 @@ impl<'a> Run<'a> {
         requires after { IsAfter self.now (lines_of self.now) }
         requires client { slice_get self.now.clients.items client.now.pass.0 ≡ Some client.now }
         requires command { next_command (calls_of self.now) (lines_of self.now) client.now.pass.0 ≡ Some command.now }
-        requires wins { IsWin (seen self.now.judge) row.now scx.0 }
-        ensures { OnOk result ((n : ℕ) (side : Side) → row.now.word ≡ child n side → IsEntryFor (layout_of self.now) client.now.pass.0 (seen self.now.judge) (start (layout_of self.now).mode (lines_of self.now) client.now.pass.0) (linked (calls_of self.now) (layout_of self.now).mode (lines_of self.now) client.now.pass.0) (entered (layout_of self.now) (seen self.now.judge) scx.0 n side row.now.after) command.now) }
+        requires wins { IsWin (seen self.now.steps.judge) row.now scx.0 }
+        ensures { OnOk result ((n : ℕ) (side : Side) → row.now.word ≡ child n side → IsEntryFor (layout_of self.now) client.now.pass.0 (seen self.now.steps.judge) (start (layout_of self.now).mode (lines_of self.now) client.now.pass.0) (linked (calls_of self.now) (layout_of self.now).mode (lines_of self.now) client.now.pass.0) (entered (layout_of self.now) (seen self.now.steps.judge) scx.0 n side row.now.after) command.now) }
     {
         let _row = *row;
-        hold(false)
+        match command {
+            Command::Insert { key: _, value: _ } | Command::Delete { key: _ } => {
+                hold(self.edit_of(scx) == Some(*command))
+            }
+            _ => hold(cells::is_entry_for(&self.steps, client.pass, command, scx)),
+        }
+    }
+
+    /// On the tree: levels still rise behind a step, and if it begins an SCX-record that makes the edit
+    /// of its client's call, whose command this is.
+    fn edit_begun(&self, row: &arena::Row) -> Result<Option<Command>, Refused>
+        requires { IsAfter self.now (lines_of self.now) }
+    {
+        let judge = &self.steps.judge;
+        if self.record.script.layout.mode != Mode::Tree {
+            return Ok(None);
+        }
+        hold(do_levels_rise(judge, row))?;
+        if !judge.is_begin(row) {
+            return Ok(None);
+        }
+        let client = self.client(row.pass)?;
+        let Some(command) = self.next(&client) else {
+            return Err(Refused::NotLawful);
+        };
+        hold(makes_edit(judge, row.after, &command))?;
+        Ok(Some(command))
+    }
+
+    /// The command whose edit an SCX-record makes, on the tree.
+    fn edit_of(&self, scx: ScxNo) -> Option<Command> {
+        *self.edits.get(scx.0 as usize)?
     }
 
     /// Makes a lawful step, which asks for this entry.
@@ -303,6 +345,7 @@ impl<'a> Run<'a> {
         &mut self,
         number: u64,
         row: &arena::Row,
+        edit: Option<Command>,
         owed: Option<Entry>,
         fits: bool,
     ) -> Result<(), Refused>
@@ -318,7 +361,9 @@ impl<'a> Run<'a> {
     {
         let client = self.client(row.pass)?;
         hold(client.steps < u64::MAX)?;
-        self.judge.make(row)?;
+        self.steps.begin(&client, self.record.script.calls.as_slice());
+        self.steps.make(row)?;
+        note_edit(self.edits.as_mut_slice(), row.after, edit);
         self.clients[row.pass.0 as usize] = client.stepped(number);
         note_win(&mut self.clients, number, &owed);
         self.turn = number;
@@ -339,6 +384,10 @@ impl<'a> Run<'a> {
     {
         hold(self.owed == Some(*entry))?;
         hold(self.fits)?;
+        let client = self.client(entry.client)?;
+        if let Some(command) = self.next(&client) {
+            change(&mut self.places, entry.step, command)?;
+        }
         self.owed = None;
         self.fits = false;
         self.idle = false;
@@ -358,6 +407,9 @@ impl<'a> Run<'a> {
         let client = self.client(reply.client)?;
         self.check_reply(&client, reply)?;
         hold(client.answered < u64::MAX)?;
+        if let Some(command) = self.next(&client) {
+            self.steps.keep(client.pass, &command, &reply.answer);
+        }
         let after = client.ended(self.calls());
         self.clients[reply.client.0 as usize] = after;
         self.idle = false;
@@ -410,9 +462,41 @@ impl<'a> Run<'a> {
         ensures took { OnOk result (HasTakenFew (layout_of self.now) (tries_of self.now) reply.now.client.0 (history (layout_of self.now).mode (lines_of self.now)) (start (layout_of self.now).mode (lines_of self.now) reply.now.client.0) command.now) }
         ensures placed { OnOk result (IsPlaced (layout_of self.now) (calls_of self.now) (lines_of self.now) reply.now command.now) }
     {
-        let _command = *command;
-        hold(client.steps < reply.begin && false)
+        let limits = &self.record.script.limits;
+        hold(self.steps.has_taken_few(client.pass, command, limits))?;
+        match self.record.script.layout.mode {
+            Mode::Tree => hold(map::is_right(
+                &self.steps,
+                &self.places,
+                self.calls(),
+                client,
+                command,
+                reply,
+            )),
+            Mode::Records => hold(cells::is_right(&self.steps, client, command, reply)),
+        }
     }
+}
+
+/// An SCX-record has begun that makes the edit of this command, if there is one.
+fn note_edit(edits: &mut [Option<Command>], scx: u64, edit: Option<Command>) {
+    if edit.is_some()
+        && let Some(place) = edits.get_mut(scx as usize)
+    {
+        *place = edit;
+    }
+}
+
+/// The map is changed in a turn by an edit.
+fn change(places: &mut Places, turn: u64, command: Command) -> Result<(), Refused> {
+    let (key, value) = match command {
+        Command::Insert { key, value } => (key, Some(value)),
+        Command::Delete { key } => (key, None),
+        _ => return Ok(()),
+    };
+    places.reserve()?;
+    places.push(Change { turn, key, value });
+    Ok(())
 }
 
 /// The clients of a script, which have made no turn.
@@ -439,7 +523,7 @@ fn note_win(clients: &mut Vec<Client>, number: u64, owed: &Option<Entry>)
     requires there { IfSome owed.now (λ e. e.client.0 < length clients.old.items) }
     ensures same { length clients.new.items ≡ length clients.old.items }
     ensures none { owed.now ≡ None → clients.new.items ≡ clients.old.items }
-    ensures some { (e : EntryOf) → (c : ClientOf) → owed.now ≡ Some e → slice_get clients.old.items e.client.0 ≡ Some c → (had : Option ℕ) × (clients.new.items ≡ set clients.old.items e.client.0 (record c { won = Some number; had = had })) }
+    ensures some { (e : EntryOf) → (c : ClientOf) → owed.now ≡ Some e → slice_get clients.old.items e.client.0 ≡ Some c → clients.new.items ≡ set clients.old.items e.client.0 (record c { won = Some number }) }
 {
     if let Some(entry) = owed {
         let client = clients[entry.client.0 as usize];

@@ -1,5 +1,8 @@
-mod Counts
-mod Chains
-mod Spreading
-mod Names
-mod Frozen
+mod Steps
+mod Helds
+mod Mentions
+mod Flags
+mod Filled
+mod Judged
+mod Wins
+mod Examples

@@ -1,7 +1,3 @@
-pub mod Freezing
-pub mod Graph
+pub mod Tests
+pub mod Names
 pub mod Histories
-pub mod Naming
-pub mod Pasts
-pub mod StandsFor
-pub mod Uses

@@ -11,7 +11,7 @@ use Rattle.audit.proofs.run.Run.check_win.Goals as goal
 
 pub returns : goal.returns
 returns c = λ number is.
-    let judge = c.args.self.now.judge in
+    let judge = c.args.self.now.steps.judge in
     let row = c.args.row.now in
     let scx = c.args.entry.now.scx in
     let won : c.winner.result ≡ Some scx = search rules in
