@@ -42,7 +42,7 @@ use Rattle.record.specs.Steps.{IsStep, IsIdleTurn, SaysItsCall}
 use Rattle.record.specs.Turns.{history, turns, clients, entries, last_client, answered, begin, start, steps, won, entry_at, entry_of, entry_owed, is_update}
 use Rattle.audit.specs.Calls.{IsAt}
 use Rattle.audit.proofs.AfterLines.{idle_clients, log_clients, ended_clients, AreStepped, stepped_clients, unwon_clients, won_clients, get_there}
-use Rattle.audit.specs.Pasts.{Judged, history as seen}
+use Rattle.judge.specs.Histories.{Judged, history as seen}
 use Rattle.audit.specs.After.{IsAfter, IsSoFar, IsClientAfter, AreClientsAfter, lines_of, layout_of, tries_of, calls_of, is_idle, pass_number}
 use Rattle.audit.specs.declared.client.Client.{Client}
 use Rattle.audit.specs.declared.run.Run.{Run}

@@ -13,7 +13,7 @@ use Rattle.record.specs.Entries.{IsLog}
 use Rattle.record.specs.LawfulRun.{AreLines}
 use Rattle.record.specs.Replies.{IsReplyOwed}
 use Rattle.audit.specs.Calls.{IsAt}
-use Rattle.audit.specs.Pasts.{Judged, history as seen}
+use Rattle.judge.specs.Histories.{Judged, history as seen}
 use Rattle.audit.specs.declared.client.Client.{Client}
 use Rattle.audit.specs.declared.run.Run.{Run}
 

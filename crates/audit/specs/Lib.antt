@@ -1,4 +1,3 @@
-pub mod Pasts
 pub mod Calls
 pub mod After
 pub mod Edits

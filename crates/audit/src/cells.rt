@@ -1,6 +1,6 @@
 //! Calls of cells: what their entries do, and what their answers say.
 use crate::client::Client;
-use crate::judging::{Judge, is_own_node};
+use judge::{Judge, is_own_node};
 use crate::memory::{Look, Memory};
 use crate::steps::Steps;
 use arena::{MemberIndex, NodeNo, NodeWord, PassNo, Plan, ScxNo, ScxWord, Side, Word};

@@ -14,9 +14,9 @@ ghost use Rattle.spelling.specs.Runs.{IsTreeRun};
 ghost use Rattle.spelling.specs.TreeShape.{IsInsert, IsDelete, insert_plan, delete_plan, leaf_place as leaf_place_of, sibling_place as sibling_place_of};
 ghost use Rattle.spelling.specs.TreeWords.{class, is_leaf, level, rank, toward as toward_of};
 ghost use Rattle.audit.specs.Edits.{MayMakeFor};
-ghost use Rattle.audit.specs.Pasts.{history as seen};
+ghost use Rattle.judge.specs.Histories.{history as seen};
 
-use crate::judging::Judge;
+use judge::Judge;
 use arena::{Head, NodeNo, NodeWord, ScxNo, ScxWord, Side, Word};
 use script::Command;
 

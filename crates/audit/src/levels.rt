@@ -8,9 +8,9 @@ ghost use Rattle.arena.specs.declared.word.NodeWord.TheVariants.{Head as HeadWor
 ghost use Rattle.arena.specs.declared.word.Side.{Side as SideOf};
 ghost use Rattle.spelling.specs.FillOrder.{HasStoodInField, HasRisingLevels};
 ghost use Rattle.spelling.specs.TreeWords.{is_leaf, level};
-ghost use Rattle.audit.specs.Pasts.{history as seen};
+ghost use Rattle.judge.specs.Histories.{history as seen};
 
-use crate::judging::Judge;
+use judge::Judge;
 use arena::{Head, NodeNo, NodeWord, Row, Side, Word};
 
 /// Whether levels still rise behind a lawful row that is to be made: where it stores a node into a

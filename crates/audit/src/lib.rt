@@ -8,7 +8,6 @@ mod client;
 mod commands;
 mod edits;
 mod fault;
-mod judging;
 mod levels;
 mod map;
 mod memory;

@@ -67,7 +67,7 @@ impl<'a> Run<'a> {
     ghost use Rattle.record.specs.Linked.{linked};
     ghost use Rattle.record.specs.Replies.{IsFitting};
     ghost use Rattle.record.specs.Turns.{start};
-    ghost use Rattle.audit.specs.Pasts.{history as seen};
+    ghost use Rattle.judge.specs.Histories.{history as seen};
     ghost use Rattle.audit.specs.After.{layout_of, tries_of, calls_of, IsClientAfter};
 
     /// A run of no line of a record. The only error is want of memory.

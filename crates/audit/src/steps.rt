@@ -3,13 +3,13 @@
 ghost use Rattle.std.specs.Prelude.{◌≡◌, OnOk, IfOk};
 ghost use Rattle.arena.specs.History.{Start, ◌⊳◌};
 ghost use Rattle.arena.specs.Lawful.{IsLawful};
-ghost use Rattle.audit.specs.Pasts.{history as seen};
+ghost use Rattle.judge.specs.Histories.{history as seen};
 
 use crate::cells::same_cells;
 use crate::client::Client;
 use crate::commands::{most_nodes, most_scx};
 use crate::fault::Refused;
-use crate::judging::Judge;
+use judge::Judge;
 use crate::memory::{Look, Memory, Snapshot};
 
 use arena::{Kind, Layout, Limits, NodeNo, NodeWord, PassNo, Resource, Row, ScxNo, ScxWord, Word};

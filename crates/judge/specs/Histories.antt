@@ -1,8 +1,23 @@
--- The history that a list of rows makes, from the opening words of a layout.
-use Rattle.std.specs.Prelude.{List}
+-- What a judge has seen: the table's layout and the rows, and the history that they make.
+use Rattle.std.specs.Prelude.{List, [], ◌∷◌}
+use Rattle.arena.specs.declared.limits.Mode.{Mode}
 use Rattle.arena.specs.declared.layout.Layout.{Layout}
 use Rattle.arena.specs.declared.step.Row.{Row}
-use Rattle.arena.specs.History.{History, Start, rows_after}
+use Rattle.arena.specs.History.{History, Start, ◌⊳◌, rows_after}
+
+-- a table's layout, and the rows made so far, the newest first
+pub record Judged : Type 0 where
+  pub layout : Layout
+  pub rows : List Row
+
+-- the history of rows of which the newest is the first
+abbrev pub history_of : Mode → List Row → History
+history_of mode [] = Start mode
+history_of mode (r ∷ rows) = r ⊳ history_of mode rows
+
+-- the history that a judge has seen
+abbrev pub history : Judged → History
+history j = history_of j.layout.mode j.rows
 
 -- the history after these rows, the first of the list made first
 abbrev pub history_after : Layout → List Row → History

@@ -1,3 +1,10 @@
-pub mod Tests
-pub mod Names
+pub mod Entering
+pub mod Enters
+pub mod Freezing
+pub mod Graph
 pub mod Histories
+pub mod Naming
+pub mod Pasts
+pub mod StandsFor
+pub mod Taking
+pub mod Uses

@@ -1,20 +1,19 @@
 //! What the first freezing exchange that wins for an SCX-record asks.
 ghost use Rattle.std.specs.Prelude.{◌≡◌, ◌≢◌, ℕ, ◌<◌, ◌≤◌, ◌↔◌, IsTrue, false};
-ghost use Rattle.std.specs.List.{list_any};
 ghost use Rattle.arena.specs.Fills.{IsOwnNode, IsOwnScx};
 ghost use Rattle.arena.specs.History.{value, HasHeld};
-ghost use Rattle.arena.specs.Layout.{opening_nodes, all_nodes};
+ghost use Rattle.arena.specs.Layout.{all_nodes};
 ghost use Rattle.arena.specs.Lawful.{MayBegin};
 ghost use Rattle.arena.specs.ScxRecords.{member, seen, old, new, count, field, field_index};
 ghost use Rattle.arena.specs.Words.{state, info, marked, child, scx};
 ghost use Rattle.arena.specs.declared.word.Side.{Side};
 ghost use Rattle.arena.specs.declared.word.ScxWord.TheVariants.{New};
-ghost use Rattle.judge.specs.Histories.{history_after};
-ghost use Rattle.judge.specs.Tests.{in_field, in_other_new};
+ghost use Rattle.judge.specs.Histories.{history};
 
+use crate::facts::{value_of, was_in_field, was_in_other_new};
+use crate::judge::Judge;
 use crate::records::{count, field, member, of_node, of_scx, plan};
-use crate::words::value_of;
-use arena::{Layout, NodeWord, PassNo, Row, ScxWord, Word};
+use arena::{Layout, NodeWord, PassNo, ScxWord};
 
 /// Whether a node is of a pass's own share.
 pub fn is_own_node(layout: &Layout, pass: PassNo, node: u64) -> bool
@@ -35,11 +34,11 @@ pub fn is_own_scx(layout: &Layout, pass: PassNo, scx: u64) -> bool
 }
 
 /// Whether the first nodes of an SCX-record, as many as `count`, are nodes of the table.
-fn are_inside(layout: &Layout, rows: &[Row], scx: u64, count: u8) -> bool
-    ensures { IsTrue result → (j : ℕ) → j < count → member (history_after layout.now rows.now) scx j < all_nodes layout.now }
+fn are_inside(judge: &Judge, scx: u64, count: u8) -> bool
+    ensures { IsTrue result → (j : ℕ) → j < count → member (history judge.now) scx j < all_nodes judge.now.layout }
 {
     for place in 0..count {
-        if member(layout, rows, scx, place) >= u64::from(layout.all_nodes()) {
+        if member(judge, scx, place) >= u64::from(judge.layout().all_nodes()) {
             return false;
         }
     }
@@ -47,22 +46,22 @@ fn are_inside(layout: &Layout, rows: &[Row], scx: u64, count: u8) -> bool
 }
 
 /// Whether none of these nodes but that at the place is the one that stands there.
-fn is_alone(layout: &Layout, rows: &[Row], scx: u64, place: u8, count: u8) -> bool
-    ensures { IsTrue result → (k : ℕ) → k < count → place ≢ k → member (history_after layout.now rows.now) scx place ≢ member (history_after layout.now rows.now) scx k }
+fn is_alone(judge: &Judge, scx: u64, place: u8, count: u8) -> bool
+    ensures { IsTrue result → (k : ℕ) → k < count → place ≢ k → member (history judge.now) scx place ≢ member (history judge.now) scx k }
 {
     for other in 0..count {
-        if other != place && member(layout, rows, scx, place) == member(layout, rows, scx, other) {
+        if other != place && member(judge, scx, place) == member(judge, scx, other) {
             return false;
         }
     }
     true
 }
 
-fn are_distinct(layout: &Layout, rows: &[Row], scx: u64, count: u8) -> bool
-    ensures { IsTrue result → (j k : ℕ) → j < count → k < count → j ≢ k → member (history_after layout.now rows.now) scx j ≢ member (history_after layout.now rows.now) scx k }
+fn are_distinct(judge: &Judge, scx: u64, count: u8) -> bool
+    ensures { IsTrue result → (j k : ℕ) → j < count → k < count → j ≢ k → member (history judge.now) scx j ≢ member (history judge.now) scx k }
 {
     for place in 0..count {
-        if !is_alone(layout, rows, scx, place, count) {
+        if !is_alone(judge, scx, place, count) {
             return false;
         }
     }
@@ -70,12 +69,12 @@ fn are_distinct(layout: &Layout, rows: &[Row], scx: u64, count: u8) -> bool
 }
 
 /// Whether what these nodes were frozen for is finished.
-fn are_at_rest(layout: &Layout, rows: &[Row], scx: u64, count: u8) -> bool
-    ensures { IsTrue result → (j : ℕ) → j < count → value (history_after layout.now rows.now) (state (seen (history_after layout.now rows.now) scx j)) ≢ 0 }
+fn are_at_rest(judge: &Judge, scx: u64, count: u8) -> bool
+    ensures { IsTrue result → (j : ℕ) → j < count → value (history judge.now) (state (seen (history judge.now) scx j)) ≢ 0 }
 {
     for place in 0..count {
-        let seen = of_scx(layout, rows, scx, ScxWord::Seen(place));
-        if of_scx(layout, rows, seen, ScxWord::State) == 0 {
+        let seen = of_scx(judge, scx, ScxWord::Seen(place));
+        if of_scx(judge, seen, ScxWord::State) == 0 {
             return false;
         }
     }
@@ -83,27 +82,27 @@ fn are_at_rest(layout: &Layout, rows: &[Row], scx: u64, count: u8) -> bool
 }
 
 /// Whether the info word of the node at a place is as the SCX-record has seen it.
-pub fn is_as_seen(layout: &Layout, rows: &[Row], scx: u64, place: u8) -> bool
-    ensures { IsTrue result ↔ (value (history_after layout.now rows.now) (info (member (history_after layout.now rows.now) scx place)) ≡ seen (history_after layout.now rows.now) scx place) }
+pub fn is_as_seen(judge: &Judge, scx: u64, place: u8) -> bool
+    ensures { IsTrue result ↔ (value (history judge.now) (info (member (history judge.now) scx place)) ≡ seen (history judge.now) scx place) }
 {
-    let node = member(layout, rows, scx, place);
-    let seen = of_scx(layout, rows, scx, ScxWord::Seen(place));
-    of_node(layout, rows, node, NodeWord::Info) == seen
+    let node = member(judge, scx, place);
+    let seen = of_scx(judge, scx, ScxWord::Seen(place));
+    of_node(judge, node, NodeWord::Info) == seen
 }
 
-fn is_unmarked(layout: &Layout, rows: &[Row], scx: u64, place: u8) -> bool
-    ensures { IsTrue result ↔ (value (history_after layout.now rows.now) (marked (member (history_after layout.now rows.now) scx place)) ≡ 0) }
+fn is_unmarked(judge: &Judge, scx: u64, place: u8) -> bool
+    ensures { IsTrue result ↔ (value (history judge.now) (marked (member (history judge.now) scx place)) ≡ 0) }
 {
-    let node = member(layout, rows, scx, place);
-    of_node(layout, rows, node, NodeWord::Marked) == 0
+    let node = member(judge, scx, place);
+    of_node(judge, node, NodeWord::Marked) == 0
 }
 
 /// Whether those of these nodes whose info words are as seen are not marked.
-fn are_unmarked(layout: &Layout, rows: &[Row], scx: u64, count: u8) -> bool
-    ensures { IsTrue result → (j : ℕ) → j < count → value (history_after layout.now rows.now) (info (member (history_after layout.now rows.now) scx j)) ≡ seen (history_after layout.now rows.now) scx j → value (history_after layout.now rows.now) (marked (member (history_after layout.now rows.now) scx j)) ≡ 0 }
+fn are_unmarked(judge: &Judge, scx: u64, count: u8) -> bool
+    ensures { IsTrue result → (j : ℕ) → j < count → value (history judge.now) (info (member (history judge.now) scx j)) ≡ seen (history judge.now) scx j → value (history judge.now) (marked (member (history judge.now) scx j)) ≡ 0 }
 {
     for place in 0..count {
-        if is_as_seen(layout, rows, scx, place) && !is_unmarked(layout, rows, scx, place) {
+        if is_as_seen(judge, scx, place) && !is_unmarked(judge, scx, place) {
             return false;
         }
     }
@@ -111,74 +110,56 @@ fn are_unmarked(layout: &Layout, rows: &[Row], scx: u64, count: u8) -> bool
 }
 
 /// Whether the field shows `old` where its node's info word is as seen.
-fn shows_old(layout: &Layout, rows: &[Row], scx: u64) -> bool
-    ensures { IsTrue result → value (history_after layout.now rows.now) (info (member (history_after layout.now rows.now) scx (field_index (history_after layout.now rows.now) scx))) ≡ seen (history_after layout.now rows.now) scx (field_index (history_after layout.now rows.now) scx) → value (history_after layout.now rows.now) (field (history_after layout.now rows.now) scx) ≡ old (history_after layout.now rows.now) scx }
+fn shows_old(judge: &Judge, scx: u64) -> bool
+    ensures { IsTrue result → value (history judge.now) (info (member (history judge.now) scx (field_index (history judge.now) scx))) ≡ seen (history judge.now) scx (field_index (history judge.now) scx) → value (history judge.now) (field (history judge.now) scx) ≡ old (history judge.now) scx }
 {
-    let place = plan(layout, rows, scx).at().number();
-    let shown = value_of(layout, rows, field(layout, rows, scx));
-    !is_as_seen(layout, rows, scx, place) || shown == of_scx(layout, rows, scx, ScxWord::Old)
-}
-
-fn is_in_field(row: &Row, node: u64) -> bool
-    ensures { result ≡ in_field node row.now }
-{
-    matches!(row.word, Word::Node(_, NodeWord::Child(_))) && row.after == node
-}
-
-fn is_in_some_field(rows: &[Row], node: u64) -> bool
-    ensures { result ≡ list_any (in_field node) rows.now }
-{
-    rows.iter().any(|row| is_in_field(row, node))
-}
-
-fn is_in_other_new(row: &Row, scx: u64, node: u64) -> bool
-    ensures { result ≡ in_other_new scx node row.now }
-{
-    match row.word {
-        Word::Scx(other, ScxWord::New) => other.0 != scx && row.after == node,
-        _ => false,
-    }
-}
-
-fn is_in_some_other_new(rows: &[Row], scx: u64, node: u64) -> bool
-    ensures { result ≡ list_any (in_other_new scx node) rows.now }
-{
-    rows.iter().any(|row| is_in_other_new(row, scx, node))
+    let place = plan(judge, scx).at().number();
+    let shown = value_of(judge, field(judge, scx));
+    !is_as_seen(judge, scx, place) || shown == of_scx(judge, scx, ScxWord::Old)
 }
 
 /// Whether no field, and `new` of no other SCX-record, has named a node that was not there from the
 /// start.
-fn is_unused(layout: &Layout, rows: &[Row], user: u64, node: u64) -> bool
-    requires { opening_nodes layout.now.mode ≤ node }
-    ensures fields { IsTrue result → (n : ℕ) → (side : Side) → HasHeld (history_after layout.now rows.now) (child n side) node → ⊥ }
-    ensures others { IsTrue result → (u : ℕ) → u ≢ user → HasHeld (history_after layout.now rows.now) (scx u New) node → ⊥ }
+fn is_unused(judge: &Judge, user: u64, node: u64) -> bool
+    requires { node < all_nodes judge.now.layout }
+    ensures fields { IsTrue result → (n : ℕ) → (side : Side) → HasHeld (history judge.now) (child n side) node → ⊥ }
+    ensures others { IsTrue result → (u : ℕ) → u ≢ user → HasHeld (history judge.now) (scx u New) node → ⊥ }
 {
-    !is_in_some_field(rows, node) && !is_in_some_other_new(rows, user, node)
+    !was_in_field(judge, node) && !was_in_other_new(judge, user, node)
+}
+
+/// Whether a node is of the pass's own share, and no field and no other `new` has named it.
+fn is_fresh(judge: &Judge, pass: PassNo, user: u64, node: u64) -> bool
+    requires { pass.0 < judge.now.layout.passes }
+    ensures own { IsTrue result → IsOwnNode judge.now.layout pass.0 node }
+    ensures fields { IsTrue result → (n : ℕ) → (side : Side) → HasHeld (history judge.now) (child n side) node → ⊥ }
+    ensures others { IsTrue result → (u : ℕ) → u ≢ user → HasHeld (history judge.now) (scx u New) node → ⊥ }
+{
+    is_own_node(judge.layout(), pass, node) && is_unused(judge, user, node)
 }
 
 /// Whether an SCX-record of these nodes may begin.
-fn are_ready(layout: &Layout, rows: &[Row], scx: u64, count: u8) -> bool
-    ensures inside { IsTrue result → (j : ℕ) → j < count → member (history_after layout.now rows.now) scx j < all_nodes layout.now }
-    ensures distinct { IsTrue result → (j k : ℕ) → j < count → k < count → j ≢ k → member (history_after layout.now rows.now) scx j ≢ member (history_after layout.now rows.now) scx k }
-    ensures at_rest { IsTrue result → (j : ℕ) → j < count → value (history_after layout.now rows.now) (state (seen (history_after layout.now rows.now) scx j)) ≢ 0 }
-    ensures unmarked { IsTrue result → (j : ℕ) → j < count → value (history_after layout.now rows.now) (info (member (history_after layout.now rows.now) scx j)) ≡ seen (history_after layout.now rows.now) scx j → value (history_after layout.now rows.now) (marked (member (history_after layout.now rows.now) scx j)) ≡ 0 }
+fn are_ready(judge: &Judge, scx: u64, count: u8) -> bool
+    ensures inside { IsTrue result → (j : ℕ) → j < count → member (history judge.now) scx j < all_nodes judge.now.layout }
+    ensures distinct { IsTrue result → (j k : ℕ) → j < count → k < count → j ≢ k → member (history judge.now) scx j ≢ member (history judge.now) scx k }
+    ensures at_rest { IsTrue result → (j : ℕ) → j < count → value (history judge.now) (state (seen (history judge.now) scx j)) ≢ 0 }
+    ensures unmarked { IsTrue result → (j : ℕ) → j < count → value (history judge.now) (info (member (history judge.now) scx j)) ≡ seen (history judge.now) scx j → value (history judge.now) (marked (member (history judge.now) scx j)) ≡ 0 }
 {
-    are_inside(layout, rows, scx, count)
-        && are_distinct(layout, rows, scx, count)
-        && are_at_rest(layout, rows, scx, count)
-        && are_unmarked(layout, rows, scx, count)
+    are_inside(judge, scx, count)
+        && are_distinct(judge, scx, count)
+        && are_at_rest(judge, scx, count)
+        && are_unmarked(judge, scx, count)
 }
 
 /// Whether the first freezing exchange for an SCX-record may win, by a pass.
-pub fn may_begin(layout: &Layout, rows: &[Row], pass: PassNo, scx: u64) -> bool
-    requires { pass.0 < layout.now.passes }
-    ensures { IsTrue result → MayBegin layout.now (history_after layout.now rows.now) pass.0 scx }
+pub fn may_begin(judge: &Judge, pass: PassNo, scx: u64) -> bool
+    requires { pass.0 < judge.now.layout.passes }
+    ensures { IsTrue result → MayBegin judge.now.layout (history judge.now) pass.0 scx }
 {
-    let new = of_scx(layout, rows, scx, ScxWord::New);
-    is_own_scx(layout, pass, scx)
-        && plan(layout, rows, scx).is_valid()
-        && are_ready(layout, rows, scx, count(layout, rows, scx))
-        && shows_old(layout, rows, scx)
-        && is_own_node(layout, pass, new)
-        && is_unused(layout, rows, scx, new)
+    let new = of_scx(judge, scx, ScxWord::New);
+    is_own_scx(judge.layout(), pass, scx)
+        && plan(judge, scx).is_valid()
+        && are_ready(judge, scx, count(judge, scx))
+        && shows_old(judge, scx)
+        && is_fresh(judge, pass, scx, new)
 }

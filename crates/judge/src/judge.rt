@@ -1,102 +1,263 @@
-//! A plain and slow judge of runs: for each question it looks through all rows before.
-ghost use Rattle.std.specs.Prelude.{◌≡◌, ℕ, ◌<◌, IsTrue, IfOk, IfNone, IfSome, length, take};
-ghost use Rattle.arena.specs.History.{Start, rows_after};
-ghost use Rattle.arena.specs.Layout.{all_nodes};
-ghost use Rattle.arena.specs.Lawful.{Obeys, IsLawful, Lawful};
-ghost use Rattle.judge.specs.Names.{AreNamed};
-ghost use Rattle.judge.specs.Histories.{history_after};
-
-use crate::exchanges::{
-    is_some_abort, is_some_commit, is_some_freeze, is_some_mark, is_some_set_frozen, is_some_update,
+//! A judge of runs, which goes from row to row and judges each by the words and by what it
+//! remembers of the rows before. Over a run each row costs a bounded time, but for an exchange that
+//! loses: where it is neither for the SCX-record that it finds nor for the one of which its pass
+//! has loaded a word last, all SCX-records are looked at.
+use crate::entering::{Entering, makes_entry};
+use crate::freezing::Freezing;
+use crate::naming::Naming;
+use crate::past::Past;
+use crate::taking::Taking;
+use crate::uses::Uses;
+use crate::{facts, rows};
+use arena::{
+    Access, IN_PROGRESS, Kind, Layout, NoMemory, NodeNo, NodeWord, PassNo, PlainWords, Row, ScxNo,
+    ScxWord, Step, Word,
 };
-use crate::filling::may_fill;
-use crate::loads::{
-    is_load_of_all_frozen, is_load_of_field, is_load_of_info, is_load_of_marked,
-    is_load_of_settled, is_load_of_state,
-};
-use crate::naming::find_named;
-use crate::words::value_of;
-use arena::{Kind, Layout, Row};
-use std::alloc::{AllocError, Global};
+use std::alloc::Global;
+use std::marker::Model;
 
-/// Whether a row is a fill that its pass may make. It finds the flags of the nodes that are named.
-fn is_lawful_fill(layout: &Layout, rows: &[Row], flags: &mut [bool], row: &Row) -> bool
-    requires is_pass { row.now.pass.0 < layout.now.passes }
-    requires size { length flags.old ≡ all_nodes layout.now }
-    requires lawful { Lawful layout.now (history_after layout.now rows.now) }
-    requires named { AreNamed layout.now (history_after layout.now rows.now) flags.old }
-    ensures named { AreNamed layout.now (history_after layout.now rows.now) flags.new }
-    ensures fill { IsTrue result → Obeys layout.now (history_after layout.now rows.now) row.now Kind.Fill }
-{
-    find_named(layout, flags, rows) && may_fill(layout, rows, flags, row)
+/// The words as the rows so far have left them, and what is remembered of the rows.
+#[derive(Drop)]
+pub struct Judge {
+    pub(crate) words: PlainWords,
+    pub(crate) naming: Naming,
+    pub(crate) uses: Uses,
+    pub(crate) freezing: Freezing,
+    pub(crate) entering: Entering,
+    pub(crate) taking: Taking,
+    /// The SCX-record of which each pass has loaded a word last, which says where to look first.
+    pub(crate) loaded: Vec<u64>,
+    past: Past,
 }
 
-/// Whether a row does what its kind allows after the rows.
-fn obeys(layout: &Layout, rows: &[Row], flags: &mut [bool], row: &Row) -> bool
-    requires is_pass { row.now.pass.0 < layout.now.passes }
-    requires size { length flags.old ≡ all_nodes layout.now }
-    requires lawful { Lawful layout.now (history_after layout.now rows.now) }
-    requires named { AreNamed layout.now (history_after layout.now rows.now) flags.old }
-    ensures named { AreNamed layout.now (history_after layout.now rows.now) flags.new }
-    ensures obeys { IsTrue result → Obeys layout.now (history_after layout.now rows.now) row.now row.now.kind }
-{
-    match row.kind {
-        Kind::Fill => is_lawful_fill(layout, rows, flags, row),
-        Kind::LoadSettled => is_load_of_settled(row),
-        Kind::LoadInfo => is_load_of_info(row),
-        Kind::LoadState => is_load_of_state(row),
-        Kind::LoadMarked => is_load_of_marked(row),
-        Kind::LoadAllFrozen => is_load_of_all_frozen(row),
-        Kind::LoadChild => is_load_of_field(row),
-        Kind::Freeze => is_some_freeze(layout, rows, row),
-        Kind::SetFrozen => is_some_set_frozen(layout, rows, row),
-        Kind::Mark => is_some_mark(layout, rows, row),
-        Kind::Update => is_some_update(layout, rows, row),
-        Kind::Commit => is_some_commit(layout, rows, row),
-        Kind::Abort => is_some_abort(layout, rows, row),
+impl Model for Judge {
+    ghost use Rattle.judge.specs.Histories.{Judged, history_of};
+
+    ghost Value = { Judged };
+
+    ghost use Rattle.judge.specs.StandsFor.{StandsFor};
+
+    ghost view = { λ j. record { layout = j.words.layout; rows = j.past } };
+
+    ghost invariant = { λ j. StandsFor j.words.layout (history_of j.words.layout.mode j.past) j };
+}
+
+impl Judge {
+    ghost use Rattle.std.specs.Prelude.{◌≡◌, ◌≢◌, ℕ, ◌+◌, ◌<◌, ◌≤◌, ◌∷◌, ◌↔◌, false, IsTrue, IfOk, IfSome, IfNone, OnOk, OnErr, length};
+    ghost use Rattle.arena.specs.declared.word.Side.{Side};
+    ghost use Rattle.arena.specs.Blame.{IsInProgress};
+    ghost use Rattle.arena.specs.Fills.{IsOwnNode, IsOwnScx, IsNamed, IsNamedScx, IsTakenNode, IsTakenScx};
+    ghost use Rattle.arena.specs.History.{Start, ◌⊳◌, value, HasHeld};
+    ghost use Rattle.arena.specs.Lawful.{IsLawful, Lawful, IsWin};
+    ghost use Rattle.arena.specs.Layout.{IsWord, all_nodes, first_node, first_scx};
+    ghost use Rattle.arena.specs.Log.{log, entry, last, is_final};
+    ghost use Rattle.arena.specs.PlainWords.{word_at};
+    ghost use Rattle.arena.specs.Shape.{IsBegin};
+    ghost use Rattle.arena.specs.TakenNodes.{taken_nodes};
+    ghost use Rattle.arena.specs.Words.{child, info};
+    ghost use Rattle.judge.specs.Histories.{history};
+
+    /// The judge of no row. The only error is want of memory.
+    pub fn new(alloc: Global, layout: &Layout) -> Result<Judge, NoMemory>
+        ensures layout { IfOk result (λ j. j.layout ≡ layout.now) }
+        ensures start { IfOk result (λ j. history j ≡ Start layout.now.mode) }
+    {
+        Ok(Judge {
+            words: PlainWords::new(alloc, layout)?,
+            naming: Naming::new(alloc, layout)?,
+            uses: Uses::new(alloc, layout)?,
+            freezing: Freezing::new(alloc, layout)?,
+            entering: Entering::new(alloc, layout)?,
+            taking: Taking::new(alloc, layout)?,
+            loaded: vec![in alloc; 0; layout.passes as usize]?,
+            past: Past::new(),
+        })
     }
-}
 
-/// Whether a row is lawful after the rows.
-fn is_lawful(layout: &Layout, rows: &[Row], flags: &mut [bool], row: &Row) -> bool
-    requires size { length flags.old ≡ all_nodes layout.now }
-    requires lawful { Lawful layout.now (history_after layout.now rows.now) }
-    requires named { AreNamed layout.now (history_after layout.now rows.now) flags.old }
-    ensures named { AreNamed layout.now (history_after layout.now rows.now) flags.new }
-    ensures lawful { IsTrue result → IsLawful layout.now (history_after layout.now rows.now) row.now }
-{
-    row.pass.0 < layout.passes
-        && layout.has(row.word)
-        && row.before == value_of(layout, rows, row.word)
-        && obeys(layout, rows, flags, row)
-}
+    /// The table that the rows are of.
+    pub fn layout(&self) -> &Layout
+        ensures { result.now ≡ self.now.layout }
+    {
+        self.words.layout()
+    }
 
-/// The first row that is not lawful after those before it.
-fn first_of(layout: &Layout, flags: &mut [bool], rows: &[Row]) -> Option<usize>
-    requires size { length flags.old ≡ all_nodes layout.now }
-    requires named { AreNamed layout.now (Start layout.now.mode) flags.old }
-    ensures lawful { IfNone result (Lawful layout.now (history_after layout.now rows.now)) }
-    ensures inside { IfSome result (λ i. i < length rows.now) }
-    ensures before { IfSome result (λ i. Lawful layout.now (history_after layout.now (take i rows.now))) }
-{
-    for place in 0..rows.len() {
-        if !is_lawful(layout, &rows[..place], flags, &rows[place]) {
-            return Some(place);
+    /// The words as the rows have left them.
+    pub fn words(&self) -> &PlainWords
+        ensures layout { result.now.layout ≡ self.now.layout }
+        ensures words { (w : Word) → IsWord self.now.layout w → word_at result.now w ≡ value (history self.now) w }
+    {
+        &self.words
+    }
+
+    /// The rows so far are a lawful history.
+    pub fn laws_hold(&self)
+        ensures { Lawful self.now.layout (history self.now) }
+    {
+        let _words = &self.words;
+    }
+
+    /// What a word holds.
+    pub fn get(&self, word: Word) -> u64
+        ensures { result ≡ value (history self.now) word }
+    {
+        facts::value_of(self, word)
+    }
+
+    /// Whether a row is lawful after those before it. Where it says so, the row is.
+    pub fn is_lawful(&self, row: &Row) -> bool
+        ensures { IsTrue result → IsLawful self.now.layout (history self.now) row.now }
+    {
+        rows::is_lawful(self, row)
+    }
+
+    /// Takes in a lawful row. The only error is want of memory, and then it is not taken in.
+    pub fn make(&mut self, row: &Row) -> Result<(), NoMemory>
+        requires { IsLawful self.old.layout (history self.old) row.now }
+        ensures layout { self.new.layout ≡ self.old.layout }
+        ensures made { OnOk result (self.new.rows ≡ row.now ∷ self.old.rows) }
+        ensures history { OnOk result (history self.new ≡ row.now ⊳ history self.old) }
+        ensures refused { OnErr result (self.new ≡ self.old) }
+    {
+        self.naming.reserve()?;
+        self.naming.note(row);
+        self.uses.note(row);
+        self.freezing.note(row);
+        self.entering.note(&self.words, row);
+        self.taking.note(self.words.layout(), row);
+        note_load(&mut self.loaded, row);
+        self.words.apply(left_by(row));
+        self.past.push(*row);
+        Ok(())
+    }
+
+    /// Whether an info word names an SCX-record, or has named it: it has begun.
+    pub fn is_named(&self, scx: ScxNo) -> bool
+        ensures { IsTrue result ↔ IsNamedScx (history self.now) scx.0 }
+    {
+        facts::is_named_scx(self, scx.0)
+    }
+
+    /// Whether a node is named. Of one that is not of the table it says so, named or not.
+    pub fn is_named_node(&self, node: NodeNo) -> bool
+        ensures named { IsNamed self.now.layout (history self.now) node.0 → IsTrue result }
+        ensures inside { node.0 < all_nodes self.now.layout → IsTrue result → IsNamed self.now.layout (history self.now) node.0 }
+    {
+        node.0 >= u64::from(self.layout().all_nodes()) || facts::is_named_node(self, node.0)
+    }
+
+    /// Whether a field may hold a node, or may have held it: of one that is there from the start,
+    /// and of one that is not of the table, it says so, held or not.
+    pub fn is_in_field(&self, node: NodeNo) -> bool
+        ensures { result ≡ false → (m : ℕ) → (side : Side) → HasHeld (history self.now) (child m side) node.0 → ⊥ }
+    {
+        node.0 >= u64::from(self.layout().all_nodes()) || facts::was_in_field(self, node.0)
+    }
+
+    /// Whether an SCX-record has begun and is not finished.
+    pub fn is_in_progress(&self, scx: ScxNo) -> bool
+        ensures { IsTrue result ↔ IsInProgress (history self.now) scx.0 }
+    {
+        self.get(Word::Scx(scx, ScxWord::State)) == IN_PROGRESS && self.is_named(scx)
+    }
+
+    /// Whether a row begins the SCX-record that it stores.
+    pub fn is_begin(&self, row: &Row) -> bool
+        ensures { IsTrue result ↔ IsBegin (history self.now) row.now row.now.after }
+    {
+        let scx = ScxNo(row.after);
+        let node = NodeNo(self.get(Word::Scx(scx, ScxWord::Member(0))));
+        row.kind == Kind::Freeze
+            && row.before != row.after
+            && row.word == Word::Node(node, NodeWord::Info)
+            && row.before == self.get(Word::Scx(scx, ScxWord::Seen(0)))
+    }
+
+    /// The SCX-record whose update a lawful row is, if that wins: the one that the info of the
+    /// field's node names.
+    pub fn winner(&self, row: &Row) -> Option<ScxNo>
+        requires { IsLawful self.now.layout (history self.now) row.now }
+        ensures wins { IfSome result (λ s. IsWin (history self.now) row.now s.0) }
+        ensures holds { IfSome result (λ s. (n : ℕ) → (side : Side) → row.now.word ≡ child n side → s.0 ≡ value (history self.now) (info n)) }
+        ensures logged { IfSome result (λ s. (n : ℕ) × (side : Side) × (row.now.word ≡ child n side) × (log self.now.layout (row.now ⊳ history self.now) ≡ entry self.now.layout (history self.now) s.0 n side row.now.after ∷ log self.now.layout (history self.now))) }
+        ensures none { IfNone result ((s : ℕ) → IsWin (history self.now) row.now s → ⊥) }
+        ensures unlogged { IfNone result (log self.now.layout (row.now ⊳ history self.now) ≡ log self.now.layout (history self.now)) }
+    {
+        let _words = &self.words;
+        match row.word {
+            Word::Node(node, _) if makes_entry(row) => {
+                Some(ScxNo(self.get(Word::Node(node, NodeWord::Info))))
+            }
+            _ => None,
         }
     }
-    None
+
+    /// How many updates have won.
+    pub fn entries(&self) -> u64
+        ensures { result ≡ length (log self.now.layout (history self.now)) }
+    {
+        self.entering.entries
+    }
+
+    /// The place of the last entry over a node of the table, counted from 1; 0 where there is none.
+    pub fn last(&self, node: NodeNo) -> u64
+        ensures { result ≡ last (log self.now.layout (history self.now)) node.0 }
+    {
+        self.entering.last_of(node.0)
+    }
+
+    /// Whether an entry finalizes a node of the table.
+    pub fn is_final(&self, node: NodeNo) -> bool
+        ensures { result ≡ is_final (log self.now.layout (history self.now)) node.0 }
+    {
+        self.entering.is_final(node.0)
+    }
+
+    /// How many nodes are taken, of all shares.
+    pub fn taken(&self) -> u32
+        ensures { result ≡ length (taken_nodes (history self.now)) }
+    {
+        self.taking.all_nodes
+    }
+
+    /// How many nodes of its share a pass has taken: the first ones.
+    pub fn nodes_taken(&self, pass: PassNo) -> u32
+        requires { pass.0 < self.now.layout.passes }
+        ensures few { result ≤ self.now.layout.nodes }
+        ensures taken { (n : ℕ) → IsOwnNode self.now.layout pass.0 n → IsTakenNode (history self.now) n ↔ (n < first_node self.now.layout pass.0 + result) }
+    {
+        facts::nodes_taken(self, pass)
+    }
+
+    /// How many SCX-records of its share a pass has taken: the first ones.
+    pub fn scx_taken(&self, pass: PassNo) -> u32
+        requires { pass.0 < self.now.layout.passes }
+        ensures few { result ≤ self.now.layout.scx }
+        ensures taken { (s : ℕ) → IsOwnScx self.now.layout pass.0 s → IsTakenScx (history self.now) s ↔ (s < first_scx self.now.layout pass.0 + result) }
+    {
+        facts::scx_taken(self, pass)
+    }
 }
 
-/// The first row that is not lawful after those before it, counted from 0; none where the run is
-/// lawful. The only error is want of memory.
-pub fn first_unlawful(
-    alloc: Global,
-    layout: &Layout,
-    rows: &[Row],
-) -> Result<Option<usize>, AllocError>
-    ensures lawful { IfOk result (λ o. IfNone o (Lawful layout.now (rows_after (Start layout.now.mode) rows.now))) }
-    ensures before { IfOk result (λ o. IfSome o (λ i. (i < length rows.now) × Lawful layout.now (rows_after (Start layout.now.mode) (take i rows.now)))) }
+ghost use Rattle.std.specs.Prelude.{◌≡◌, ◌<◌, length};
+ghost use Rattle.arena.specs.declared.step.Access.TheVariants.{Store};
+
+/// The step that leaves what a row has left in its word.
+fn left_by(row: &Row) -> Step
+    ensures word { result.word ≡ row.now.word }
+    ensures access { result.access ≡ Store row.now.after }
 {
-    let mut flags = vec![in alloc; false; layout.all_nodes() as usize]?;
-    Ok(first_of(layout, flags.as_mut_slice(), rows))
+    Step {
+        kind: row.kind,
+        word: row.word,
+        access: Access::Store(row.after),
+    }
+}
+
+/// Remembers of which SCX-record a pass has loaded a word.
+fn note_load(loaded: &mut [u64], row: &Row)
+    requires { row.now.pass.0 < length loaded.old }
+{
+    if let Word::Scx(scx, _) = row.word {
+        loaded[row.pass.0 as usize] = scx.0;
+    }
 }

@@ -1,108 +1,137 @@
-//! Which nodes and SCX-records are named.
-ghost use Rattle.std.specs.Prelude.{◌≡◌, ℕ, ◌<◌, ◌↔◌, IsTrue, IsNone, IfSome, IfNone, length, slice_index_or, false};
-ghost use Rattle.std.specs.List.{list_any};
-ghost use Rattle.arena.specs.Fills.{IsNamed, IsNamedScx};
-ghost use Rattle.arena.specs.Layout.{all_nodes};
-ghost use Rattle.arena.specs.Lawful.{Lawful};
-ghost use Rattle.judge.specs.Names.{AreNamed, AreAll};
-ghost use Rattle.judge.specs.Histories.{history_after};
-ghost use Rattle.judge.specs.Tests.{names_scx, is_known, is_named_scx, is_naming, adds};
+//! Which nodes and SCX-records have come to be named, and which nodes a field of a named node has
+//! held.
+use crate::graph::Graph;
+use arena::{Layout, NoMemory, NodeWord, Row, ScxWord, Word};
+use std::alloc::Global;
 
-use arena::{Layout, NodeWord, Row, ScxWord, Word};
-
-fn names_scx(row: &Row, scx: u64) -> bool
-    ensures { result ≡ names_scx scx row.now }
-{
-    matches!(row.word, Word::Node(_, NodeWord::Info)) && row.after == scx
+/// What is named, as places of a graph: each node, each node as one in a field, each SCX-record.
+#[derive(Drop)]
+pub(crate) struct Naming {
+    pub(crate) nodes: u64,
+    pub(crate) scxs: u64,
+    pub(crate) graph: Graph,
 }
 
-fn is_left_in_info(rows: &[Row], scx: u64) -> bool
-    ensures { result ≡ list_any (names_scx scx) rows.now }
-{
-    rows.iter().any(|row| names_scx(row, scx))
-}
+impl Naming {
+    ghost use Rattle.std.specs.Prelude.{◌≡◌, ◌↔◌, ℕ, ◌+◌, ◌*◌, ◌<◌, IsTrue, IfOk, OnOk, cond, ltb, [], ◌∷◌, ◌++◌};
+    ghost use Rattle.arena.specs.History.{Start};
+    ghost use Rattle.judge.specs.Graph.{IsReached, HasSpare, links_of};
+    ghost use Rattle.judge.specs.Naming.{NamingStands, IsNaming, IsInside, word_links, scx_links, shown_place, begun_place};
 
-/// Whether an info word has named an SCX-record. At the start all name the dummy.
-fn is_seen(rows: &[Row], scx: u64) -> bool
-    ensures { result ≡ is_named_scx rows.now scx }
-{
-    scx == 0 || is_left_in_info(rows, scx)
-}
-
-/// Whether an info word has named an SCX-record.
-pub fn is_named_scx(layout: &Layout, rows: &[Row], scx: u64) -> bool
-    ensures { IsTrue result ↔ IsNamedScx (history_after layout.now rows.now) scx }
-{
-    let _layout = *layout;
-    is_seen(rows, scx)
-}
-
-fn has_flag(flags: &[bool], node: u64) -> bool
-    ensures { result ≡ slice_index_or flags.now node false }
-{
-    match flags.get(node as usize) {
-        Some(flag) => *flag,
-        None => false,
+    /// What is named at the start. The only error is want of memory.
+    pub(crate) fn new(alloc: Global, layout: &Layout) -> Result<Naming, NoMemory>
+        ensures { IfOk result (NamingStands layout.now (Start layout.now.mode)) }
+    {
+        let nodes = u64::from(layout.all_nodes());
+        let scxs = u64::from(layout.all_scx());
+        let mut graph = Graph::new(alloc, (2 * nodes + scxs) as usize)?;
+        graph.start(0, 2 * nodes as usize);
+        for node in 0..layout.opening() as usize {
+            graph.start(0, node);
+            graph.start(0, nodes as usize + node);
+        }
+        Ok(Naming { nodes, scxs, graph })
     }
-}
 
-/// Whether a node was there from the start, or has its flag.
-pub fn is_known(layout: &Layout, flags: &[bool], node: u64) -> bool
-    ensures { result ≡ is_known layout.now flags.now node }
-{
-    node < u64::from(layout.opening()) || has_flag(flags, node)
-}
-
-/// Whether a word is one of a record that is known to be named, and names nodes.
-fn is_naming(layout: &Layout, flags: &[bool], rows: &[Row], word: Word) -> bool
-    ensures { result ≡ is_naming layout.now flags.now rows.now word }
-{
-    match word {
-        Word::Node(node, NodeWord::Child(_)) => is_known(layout, flags, node.0),
-        Word::Node(_, _) => false,
-        Word::Scx(scx, ScxWord::New | ScxWord::Old | ScxWord::Member(_)) => is_seen(rows, scx.0),
-        Word::Scx(_, _) => false,
+    /// Makes room for what one row names.
+    pub(crate) fn reserve(&mut self) -> Result<(), NoMemory>
+        ensures spare { OnOk result (HasSpare 2 self.new.graph) }
+        ensures naming { IsNaming self.old → IsNaming self.new }
+        ensures nodes { self.new.nodes ≡ self.old.nodes }
+        ensures scxs { self.new.scxs ≡ self.old.scxs }
+        ensures links { links_of self.new.graph ≡ links_of self.old.graph }
+    {
+        self.graph.reserve()
     }
-}
 
-/// Whether a row names a node of the table that is not known to be named.
-fn adds(layout: &Layout, flags: &[bool], rows: &[Row], row: &Row) -> bool
-    ensures { result ≡ adds layout.now flags.now rows.now row.now }
-{
-    row.after < flags.len() as u64
-        && !is_known(layout, flags, row.after)
-        && is_naming(layout, flags, rows, row.word)
-}
+    /// Whether a node is named.
+    pub(crate) fn has_node(&self, node: u64) -> bool
+        requires naming { IsNaming self.now }
+        requires inside { node < self.now.nodes }
+        ensures { IsTrue result ↔ IsReached (links_of self.now.graph) node }
+    {
+        self.graph.has(node as usize)
+    }
 
-/// Some node that is named and not known to be.
-fn missing(layout: &Layout, flags: &[bool], rows: &[Row]) -> Option<u64>
-    requires { AreNamed layout.now (history_after layout.now rows.now) flags.now }
-    ensures within { IfSome result (λ n. n < length flags.now) }
-    ensures named { IfSome result (λ n. IsNamed layout.now (history_after layout.now rows.now) n) }
-    ensures none { IfNone result (list_any (adds layout.now flags.now rows.now) rows.now ≡ false) }
-{
-    for row in rows {
-        if adds(layout, flags, rows, row) {
-            return Some(row.after);
+    /// Whether a node was there from the start, or a field of a named node has held it.
+    pub(crate) fn has_shown(&self, node: u64) -> bool
+        requires { IsNaming self.now }
+        ensures { IsTrue result → (node < self.now.nodes) × IsReached (links_of self.now.graph) (shown_place self.now.nodes node) }
+    {
+        node < self.nodes && self.graph.has((self.nodes + node) as usize)
+    }
+
+    /// Whether an SCX-record is named.
+    pub(crate) fn has_scx(&self, scx: u64) -> bool
+        requires { IsNaming self.now }
+        ensures { IsTrue result ↔ ((scx < self.now.scxs) × IsReached (links_of self.now.graph) (begun_place self.now.nodes scx)) }
+    {
+        scx < self.scxs && self.graph.has((2 * self.nodes + scx) as usize)
+    }
+
+    /// Takes in a row.
+    pub(crate) fn note(&mut self, row: &Row)
+        requires naming { IsNaming self.old }
+        requires spare { HasSpare 2 self.old.graph }
+        requires inside { IsInside self.old row.now.word }
+        ensures naming { IsNaming self.new }
+        ensures nodes { self.new.nodes ≡ self.old.nodes }
+        ensures scxs { self.new.scxs ≡ self.old.scxs }
+        ensures links { links_of self.new.graph ≡ word_links self.old.nodes self.old.scxs row.now.word row.now.after ++ links_of self.old.graph }
+    {
+        match row.word {
+            Word::Node(node, NodeWord::Child(_)) => self.note_field(node.0, row.after),
+            Word::Node(_, NodeWord::Info) => self.note_info(row.after),
+            Word::Scx(scx, ScxWord::New | ScxWord::Old | ScxWord::Member(_)) => {
+                self.note_scx(scx.0, row.after)
+            }
+            _ => {}
         }
     }
-    None
-}
 
-/// Gives each node that is named its flag, and answers whether that was done: as many rounds as
-/// there are nodes always do.
-pub fn find_named(layout: &Layout, flags: &mut [bool], rows: &[Row]) -> bool
-    requires size { length flags.old ≡ all_nodes layout.now }
-    requires lawful { Lawful layout.now (history_after layout.now rows.now) }
-    requires named { AreNamed layout.now (history_after layout.now rows.now) flags.old }
-    ensures named { AreNamed layout.now (history_after layout.now rows.now) flags.new }
-    ensures all { IsTrue result → AreAll layout.now (history_after layout.now rows.now) flags.new }
-{
-    for _round in 0..layout.all_nodes() {
-        match missing(layout, flags, rows) {
-            Some(node) => flags[node as usize] = true,
-            None => return true,
+    /// A field of a node holds this.
+    fn note_field(&mut self, holder: u64, node: u64)
+        requires naming { IsNaming self.old }
+        requires spare { HasSpare 2 self.old.graph }
+        requires inside { holder < self.old.nodes }
+        ensures naming { IsNaming self.new }
+        ensures nodes { self.new.nodes ≡ self.old.nodes }
+        ensures scxs { self.new.scxs ≡ self.old.scxs }
+        ensures links { links_of self.new.graph ≡ cond (ltb node self.old.nodes) ((holder, shown_place self.old.nodes node) ∷ (holder, node) ∷ []) [] ++ links_of self.old.graph }
+    {
+        if node < self.nodes {
+            self.graph.link(holder as usize, node as usize);
+            self.graph
+                .link(holder as usize, (self.nodes + node) as usize);
         }
     }
-    false
+
+    /// An info word holds this.
+    fn note_info(&mut self, scx: u64)
+        requires { IsNaming self.old }
+        ensures naming { IsNaming self.new }
+        ensures nodes { self.new.nodes ≡ self.old.nodes }
+        ensures scxs { self.new.scxs ≡ self.old.scxs }
+        ensures links { links_of self.new.graph ≡ cond (ltb scx self.old.scxs) ((0, begun_place self.old.nodes scx) ∷ []) [] ++ links_of self.old.graph }
+    {
+        if scx < self.scxs {
+            self.graph.start(0, (2 * self.nodes + scx) as usize);
+        }
+    }
+
+    /// A word of an SCX-record that names nodes holds this.
+    fn note_scx(&mut self, scx: u64, node: u64)
+        requires naming { IsNaming self.old }
+        requires spare { HasSpare 1 self.old.graph }
+        requires inside { scx < self.old.scxs }
+        ensures naming { IsNaming self.new }
+        ensures nodes { self.new.nodes ≡ self.old.nodes }
+        ensures scxs { self.new.scxs ≡ self.old.scxs }
+        ensures links { links_of self.new.graph ≡ scx_links self.old.nodes scx node ++ links_of self.old.graph }
+    {
+        if node < self.nodes {
+            self.graph
+                .link((2 * self.nodes + scx) as usize, node as usize);
+        }
+    }
 }

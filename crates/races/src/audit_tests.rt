@@ -136,7 +136,8 @@ fn changed_rows_of_edits_are_named(rt: HostRuntime) -> Result<(), Fail> {
         ("log,1,47,s1,0,0,\n", "", 142),
         ("log,1,47,s1,0,0,", "log,1,47,s1,0,1,", 54),
         ("log,1,47,s1,0,0,", "log,2,47,s1,0,0,", 54),
-        ("fill,n3.value,0,50", "fill,n3.value,0,51", 54),
+        // its SCX-record begins without being an edit of the call
+        ("fill,n3.value,0,50", "fill,n3.value,0,51", 45),
         ("reply,0,0,1,48,47,none", "reply,0,0,1,48,46,none", 56),
         ("reply,0,0,1,48,47,none", "reply,0,0,1,48,47,some 50", 56),
     ];

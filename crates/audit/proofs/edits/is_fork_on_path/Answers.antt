@@ -5,7 +5,7 @@ use Rattle.arena.specs.Words.{child}
 use Rattle.spelling.specs.Paths.{Passed}
 use Rattle.spelling.specs.TreeWords.{is_leaf, toward}
 use Rattle.spelling.proofs.Lemmas.{walk_first, walk_next}
-use Rattle.audit.specs.Pasts.{history}
+use Rattle.judge.specs.Histories.{history}
 use Rattle.audit.proofs.edits.is_fork_on_path.Goals as goal
 
 is_not : (b : Bool) → not b ≡ true → b ≡ false

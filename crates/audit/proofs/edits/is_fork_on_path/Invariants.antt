@@ -1,6 +1,6 @@
 use Rattle.std.proofs.Common.{◌≡◌}
 use Rattle.spelling.specs.Paths.{Passed}
-use Rattle.audit.specs.Pasts.{history}
+use Rattle.judge.specs.Histories.{history}
 use Rattle.audit.proofs.edits.is_fork_on_path.Given as goal
 
 abbrev pub invariant-loop-node : goal.invariant-loop-node

@@ -5,7 +5,7 @@ use Rattle.arena.specs.History.{◌⊳◌, value}
 use Rattle.arena.specs.Lawful.{IsWin}
 use Rattle.arena.specs.Log.{log, entry}
 use Rattle.arena.specs.Words.{child, info}
-use Rattle.audit.specs.Pasts.{history}
+use Rattle.judge.specs.Histories.{history}
 use Rattle.audit.proofs.Fitting.{win_fits, if_there}
 use Rattle.audit.proofs.run.Run.check_win.Goals as goal
 

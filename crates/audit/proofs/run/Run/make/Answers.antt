@@ -1,7 +1,7 @@
 use Rattle.std.proofs.Common.{◌≡◌, Some, refl, ◌∙◌, ap, subst, rules}
 use Rattle.std.proofs.lemmas.List.{length-set}
 use Rattle.arena.specs.History.{◌⊳◌}
-use Rattle.audit.specs.Pasts.{Judged, history}
+use Rattle.judge.specs.Histories.{Judged, history}
 use Rattle.audit.proofs.Fitting.{after_step, made_clients, client_within}
 use Rattle.audit.specs.After.{layout_of, calls_of, lines_of}
 use Rattle.audit.proofs.run.Run.make.Goals as goal

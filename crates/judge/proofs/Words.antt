@@ -1,0 +1,69 @@
+-- What words hold that are not of the table, and after one more row.
+use Rattle.std.proofs.Common.{◌≡◌, ◌≢◌, ℕ, ◌<◌, ◌≤◌, Bool, true, false, ne_eqb, refl, sym, ◌∙◌, ap, subst, arith}
+use Rattle.arena.specs.declared.layout.Layout.{Layout}
+use Rattle.arena.specs.declared.limits.Mode.{Mode}
+use Rattle.arena.specs.declared.limits.Mode.TheVariants.{Tree, Records}
+use Rattle.arena.specs.declared.word.Side.TheVariants.{Left, Right}
+use Rattle.arena.specs.declared.word.NodeWord.TheVariants.{Head, Key, Value, Child, Info, Marked}
+use Rattle.arena.specs.declared.word.ScxWord.TheVariants.{State, AllFrozen, Plan, New, Old, Member, Seen, Call}
+use Rattle.arena.specs.declared.word.Word.{Word}
+use Rattle.arena.specs.declared.word.Word.TheVariants.{Node, Scx}
+use Rattle.arena.specs.declared.step.Row.{Row}
+use Rattle.arena.specs.Layout.{all_nodes, opening_nodes, opening, IsWord}
+use Rattle.arena.specs.Words.{same_word}
+use Rattle.arena.specs.History.{History, Start, ◌⊳◌, value}
+use Rattle.arena.specs.Lawful.{Lawful}
+use Rattle.arena.specs.PlainWords.{Contents, word_at, IsChanged}
+use Rattle.arena.proofs.Lemmas.{word_same, word_refl, value_at, value_other}
+use Rattle.histories.proofs.Lemmas.{lawful_row, lawful_tail, value_start}
+use Rattle.judge.proofs.Names.{start_is}
+
+-- a word that is not of the table is 0 at the start
+tree_outside : (all n k : ℕ) → 3 ≤ all → k < 3 → ¬ (n < all) → n ≢ k
+tree_outside all n k a l d e = d (omega (a, l, e, arith))
+
+opening_outside : (lay : Layout) (mode : Mode) (w : Word) → opening_nodes mode ≤ all_nodes lay → ¬ IsWord lay w → opening mode w ≡ 0
+opening_outside lay Tree (Node n Head) o d = rw (ne_eqb n.0 0 (tree_outside (all_nodes lay) n.0 0 o (omega arith) d), ne_eqb n.0 1 (tree_outside (all_nodes lay) n.0 1 o (omega arith) d), ne_eqb n.0 2 (tree_outside (all_nodes lay) n.0 2 o (omega arith) d)) refl
+opening_outside lay Tree (Node n (Child Left)) o d = rw (ne_eqb n.0 0 (tree_outside (all_nodes lay) n.0 0 o (omega arith) d)) refl
+opening_outside lay Tree (Node n (Child Right)) o d = rw (ne_eqb n.0 0 (tree_outside (all_nodes lay) n.0 0 o (omega arith) d)) refl
+opening_outside lay Tree (Node n Key) o d = refl
+opening_outside lay Tree (Node n Value) o d = refl
+opening_outside lay Tree (Node n Info) o d = refl
+opening_outside lay Tree (Node n Marked) o d = refl
+opening_outside lay Tree (Scx s State) o d = rw (ne_eqb s.0 0 (λ e. d (omega (e, arith), tt))) refl
+opening_outside lay Tree (Scx s AllFrozen) o d = refl
+opening_outside lay Tree (Scx s Plan) o d = refl
+opening_outside lay Tree (Scx s New) o d = refl
+opening_outside lay Tree (Scx s Old) o d = refl
+opening_outside lay Tree (Scx s (Member j)) o d = refl
+opening_outside lay Tree (Scx s (Seen j)) o d = refl
+opening_outside lay Tree (Scx s Call) o d = refl
+opening_outside lay Records (Node n part) o d = refl
+opening_outside lay Records (Scx s State) o d = rw (ne_eqb s.0 0 (λ e. d (omega (e, arith), tt))) refl
+opening_outside lay Records (Scx s AllFrozen) o d = refl
+opening_outside lay Records (Scx s Plan) o d = refl
+opening_outside lay Records (Scx s New) o d = refl
+opening_outside lay Records (Scx s Old) o d = refl
+opening_outside lay Records (Scx s (Member j)) o d = refl
+opening_outside lay Records (Scx s (Seen j)) o d = refl
+opening_outside lay Records (Scx s Call) o d = refl
+
+-- and after every lawful history
+pub value_outside : (lay : Layout) (h : History) (w : Word) → Lawful lay h → ¬ IsWord lay w → value h w ≡ 0
+value_outside lay (Start mode) w l d =
+    let m = start_is lay mode l in
+    let o : opening_nodes mode ≤ all_nodes lay = rw m (omega arith) in
+    value_start mode w ∙ opening_outside lay mode w o d
+value_outside lay (r ⊳ h) w l d = value_other r h w (apart (same_word r.word w) refl) ∙ value_outside lay h w (lawful_tail lay h r l) d
+  where
+    apart : (b : Bool) → same_word r.word w ≡ b → same_word r.word w ≡ false
+    apart false e = e
+    apart true e = absurd (d (subst (λ (x : Word). IsWord lay x) (word_same r.word w e) (lawful_row lay h r l).word))
+
+-- the words after a row
+pub words_more : (lay : Layout) (h : History) (r : Row) (old new : Contents) → old.layout ≡ lay → IsWord lay r.word → ((w : Word) → IsWord lay w → word_at old w ≡ value h w) → IsChanged old new r.word r.after → (w : Word) → IsWord lay w → word_at new w ≡ value (r ⊳ h) w
+words_more lay h r old new table inside holds changed w i = go (same_word r.word w) refl
+  where
+    go : (b : Bool) → same_word r.word w ≡ b → word_at new w ≡ value (r ⊳ h) w
+    go true e = let at = word_same r.word w e in ap (word_at new) (sym at) ∙ changed.changed ∙ sym (value_at r h w at)
+    go false e = changed.others w (rw table i) (λ q. let both : same_word r.word w ≡ true = ap (same_word r.word) q ∙ word_refl r.word in cc) ∙ holds w i ∙ sym (value_other r h w e)

@@ -1,0 +1,17 @@
+-- Which rows make an entry of the log.
+use Rattle.std.specs.Prelude.{Bool, true, false, ◌&&◌, not, eqb}
+use Rattle.arena.specs.declared.word.NodeWord.TheVariants.{Child}
+use Rattle.arena.specs.declared.word.Word.{Word}
+use Rattle.arena.specs.declared.word.Word.TheVariants.{Node}
+use Rattle.arena.specs.declared.step.Kind.{Kind}
+use Rattle.arena.specs.declared.step.Kind.TheVariants.{Update}
+use Rattle.arena.specs.declared.step.Row.{Row}
+
+-- whether a step of this kind on the word is an update of a field
+abbrev pub is_field_update : Kind → Word → Bool
+is_field_update Update (Node n (Child side)) = true
+is_field_update _ _ = false
+
+-- whether the row makes an entry: it is an update that changes its field
+abbrev pub makes_entry : Row → Bool
+makes_entry r = is_field_update r.kind r.word && not (eqb r.before r.after)
