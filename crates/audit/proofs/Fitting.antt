@@ -121,11 +121,11 @@ length_set xs i y = length-set xs i y
 -- The lines with one more
 
 module _ (lay : Layout) (tries : ℕ) (calls : List Call) (judge : Judged) (clients : List Client) (turn made : ℕ) (newest : Option PassNo) (due : Option Entry) (fits idle awaits : Bool) (lines : List Line) (x : IsSoFar lay tries calls judge clients turn made newest due fits idle awaits lines) where
-  pub after_idle : (number : ℕ) (pass : PassNo) (client changed : Client) (fitting owes : Bool) → OwesNothing lay calls lines → IsIdleTurn lay calls lines number pass.0 → slice_get clients pass.0 ≡ Some client → (owes ≡ false → IsReplyOwed calls (Step (Idle number pass) ∷ lines) → ⊥) → changed ≡ record client { begun = Some (unwrap_or client.begun number) } → IsSoFar lay tries calls judge (set clients pass.0 changed) number made (Some pass) due fitting true owes (Step (Idle number pass) ∷ lines)
+  pub after_idle : (number : ℕ) (pass : PassNo) (client changed : Client) (more : Judged) (fitting owes : Bool) → more ≡ judge → OwesNothing lay calls lines → IsIdleTurn lay calls lines number pass.0 → slice_get clients pass.0 ≡ Some client → (owes ≡ false → IsReplyOwed calls (Step (Idle number pass) ∷ lines) → ⊥) → changed ≡ record client { begun = Some (unwrap_or client.begun number) } → IsSoFar lay tries calls more (set clients pass.0 changed) number made (Some pass) due fitting true owes (Step (Idle number pass) ∷ lines)
   unfolding AreLines
-  after_idle number pass client changed fitting owes settled is there none change = record {
-    layout = x.layout;
-    seen = x.seen;
+  after_idle number pass client changed more fitting owes same settled is there none change = record {
+    layout = ap (λ (k : Judged). k.layout) same ∙ x.layout;
+    seen = ap (λ (k : Judged). seen k) same ∙ x.seen;
     in_order = (x.in_order, (settled, is));
     turn = is.in_turn;
     entries = x.entries;
@@ -194,11 +194,11 @@ module _ (lay : Layout) (tries : ℕ) (calls : List Call) (judge : Judged) (clie
     clients = each;
   }
 
-  pub after_reply : (reply : Reply) (client changed : Client) (next : Option ℕ) (fitting : Bool) → due ≡ None → IsReply lay tries calls lines reply → slice_get clients reply.client.0 ≡ Some client → ((left : List Command) → IsAt calls client.pass.0 left client.at → IsAt calls client.pass.0 (drop 1 left) next) → changed ≡ record client { at = next; answered = client.answered + 1; begun = None; steps = 0; won = None } → IsSoFar lay tries calls judge (set clients reply.client.0 changed) turn made newest due fitting false false (ReplyLine reply ∷ lines)
+  pub after_reply : (reply : Reply) (client changed : Client) (more : Judged) (next : Option ℕ) (fitting : Bool) → more ≡ judge → due ≡ None → IsReply lay tries calls lines reply → slice_get clients reply.client.0 ≡ Some client → ((left : List Command) → IsAt calls client.pass.0 left client.at → IsAt calls client.pass.0 (drop 1 left) next) → changed ≡ record client { at = next; answered = client.answered + 1; begun = None; steps = 0; won = None } → IsSoFar lay tries calls more (set clients reply.client.0 changed) turn made newest due fitting false false (ReplyLine reply ∷ lines)
   unfolding AreLines
-  after_reply reply client changed next fitting owed is there behind change = record {
-    layout = x.layout;
-    seen = x.seen;
+  after_reply reply client changed more next fitting same owed is there behind change = record {
+    layout = ap (λ (k : Judged). k.layout) same ∙ x.layout;
+    seen = ap (λ (k : Judged). seen k) same ∙ x.seen;
     in_order = (x.in_order, (x.owed ∙ owed, is));
     turn = x.turn;
     entries = x.entries;

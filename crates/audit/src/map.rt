@@ -41,6 +41,7 @@ fn is_placed(
         (Some(_), _, _) => false,
         (None, Command::Get { key } | Command::Delete { key }, Answer::Value(told)) => {
             reply.moment.is_some()
+                && reply.begin <= reply.end
                 && reply.moment == places.greatest(*key, *told, reply.begin, reply.end)
         }
         (None, _, _) => is_read_at(places, calls, command, reply),
@@ -186,20 +187,32 @@ fn is_full(
 
 /// Whether the map lacked a key after some turn of a call.
 fn lacked(places: &Places, key: u64, reply: &Reply) -> bool {
-    places
-        .greatest(key, None, reply.begin, reply.end)
-        .is_some()
+    reply.begin <= reply.end
+        && places
+            .greatest(key, None, reply.begin, reply.end)
+            .is_some()
 }
 
 /// Whether a key had a value after some turn of a call: one that some call gives it.
 fn had_some(places: &Places, calls: &[Call], key: u64, reply: &Reply) -> bool {
-    calls.iter().any(|call| match call.command {
+    for call in calls {
+        if had_from(places, call.command, key, reply) {
+            return true;
+        }
+    }
+    false
+}
+
+/// Whether a key had the value that a command gives it after some turn of a call.
+fn had_from(places: &Places, command: Command, key: u64, reply: &Reply) -> bool {
+    match command {
         Command::Insert { key: other, value } => {
             other == key
+                && reply.begin <= reply.end
                 && places
                     .greatest(key, Some(value), reply.begin, reply.end)
                     .is_some()
         }
         _ => false,
-    })
+    }
 }

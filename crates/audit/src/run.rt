@@ -407,9 +407,8 @@ impl<'a> Run<'a> {
         let client = self.client(reply.client)?;
         self.check_reply(&client, reply)?;
         hold(client.answered < u64::MAX)?;
-        if let Some(command) = self.next(&client) {
-            self.steps.keep(client.pass, &command, &reply.answer);
-        }
+        self.steps
+            .keep_behind(&client, self.record.script.calls.as_slice(), &reply.answer);
         let after = client.ended(self.calls());
         self.clients[reply.client.0 as usize] = after;
         self.idle = false;

@@ -160,8 +160,17 @@ impl Steps {
         self.put(row.pass, memory);
     }
 
-    /// Which snapshots a client keeps once its call is answered so.
-    pub(crate) fn keep(&mut self, pass: PassNo, command: &Command, answer: &Answer)
+    /// Which snapshots a client keeps once its next call is answered so.
+    pub(crate) fn keep_behind(&mut self, client: &Client, calls: &[Call], answer: &Answer)
+        ensures { self.new.judge ≡ self.old.judge }
+    {
+        if let Some(command) = client.command(calls) {
+            self.keep(client.pass, &command, answer);
+        }
+    }
+
+    /// The same, if this is its command.
+    fn keep(&mut self, pass: PassNo, command: &Command, answer: &Answer)
         ensures { self.new.judge ≡ self.old.judge }
     {
         match command {
