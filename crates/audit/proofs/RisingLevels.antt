@@ -15,6 +15,17 @@ use Rattle.spelling.specs.FillOrder.{HasStoodInField, HasRisingLevels}
 abbrev pub IsLeft : Row → History → Word → Type 0
 IsLeft r h w = value (r ⊳ h) w ≡ value h w
 
+-- the number of the record that a word is of
+abbrev holder : Word → ℕ
+holder (Node n part) = n.0
+holder (Scx s part) = s.0
+
+same_node : (m k : ℕ) → node m Head ≡ node k Head → m ≡ k
+same_node m k e = ap holder e
+
+same_holder : (m n : ℕ) (at side : Side) → child m at ≡ child n side → m ≡ n
+same_holder m n at side e = ap holder e
+
 -- what a word that was left has held it had held before
 held_before : (r : Row) (h : History) (w : Word) (v : ℕ) → IsLeft r h w → HasHeld (r ⊳ h) w v → HasHeld h w v
 unfolding HasHeld
@@ -49,10 +60,7 @@ rising_head r h m word free x n side stood fork = rw (fields n side, heads n the
       where
         go : (b : Bool) → same_word (node m Head) (node k Head) ≡ b → IsLeft r h (node k Head)
         go false e = value_apart r h (node m Head) (node k Head) word e
-        go true e = absurd (free (subst (λ (j : ℕ). HasStoodInField h j) (sym (node_in (word_same (node m Head) (node k Head) e))) y))
-
-        node_in : node m Head ≡ node k Head → m ≡ k
-        node_in e = cc
+        go true e = absurd (free (subst (λ (j : ℕ). HasStoodInField h j) (sym (same_node m k (word_same (node m Head) (node k Head) e))) y))
 
 -- and where a node is put into a field over which levels rise, as they do below it
 pub rising_field : (r : Row) (h : History) → (m : ℕ) (at : Side) → r.word ≡ child m at → m ≢ r.after → (HasStoodInField h m → is_leaf (value h) m ≡ false → level (value h) m < level (value h) r.after) → ((side : Side) → is_leaf (value h) r.after ≡ false → level (value h) r.after < level (value h) (value h (child r.after side))) → HasRisingLevels h → HasRisingLevels (r ⊳ h)
@@ -78,12 +86,9 @@ rising_field r h m at word apart over below x n side stood fork = go (same_word 
         from (inr (k, of, inl e)) = held k of (same_word r.word (child k of)) e
         from (inr (k, of, inr y)) = inl (inr (k, of, y))
 
-    same_node : child m at ≡ child n side → m ≡ n
-    same_node e = cc
-
     go : (b : Bool) → same_word r.word (child n side) ≡ b → level (value (r ⊳ h)) n < level (value (r ⊳ h)) (cond (same_word r.word (child n side)) r.after (value h (child n side)))
     go true e =
-        let here : m ≡ n = same_node (sym word ∙ word_same r.word (child n side) e) in
+        let here : m ≡ n = same_holder m n at side (sym word ∙ word_same r.word (child n side) e) in
         rw (e, heads n, heads r.after) (⊎_elim (λ y. subst (λ (k : ℕ). level (value h) k < level (value h) r.after) here (over (subst (λ (k : ℕ). HasStoodInField h k) (sym here) y) (subst (λ (k : ℕ). is_leaf (value h) k ≡ false) (sym here) fork_before))) (λ q. absurd (apart (here ∙ sym q))) came)
     go false e = rw (e, heads n, heads (value h (child n side))) (⊎_elim (λ y. x n side y fork_before) (λ q. subst (λ (k : ℕ). level (value h) k < level (value h) (value h (child k side))) q (below side (subst (λ (k : ℕ). is_leaf (value h) k ≡ false) (sym q) fork_before))) came)
 

@@ -1,9 +1,9 @@
 //! Calls of cells: what their entries do, and what their answers say.
 use crate::client::Client;
-use judge::{Judge, is_own_node};
 use crate::memory::{Look, Memory};
 use crate::steps::Steps;
 use arena::{MemberIndex, NodeNo, NodeWord, PassNo, Plan, ScxNo, ScxWord, Side, Word};
+use judge::{Judge, is_own_node};
 use record::{Answer, Reply};
 use script::{Cell, Command};
 

@@ -16,8 +16,8 @@ ghost use Rattle.spelling.specs.TreeWords.{class, is_leaf, level, rank, toward a
 ghost use Rattle.audit.specs.Edits.{MayMakeFor};
 ghost use Rattle.judge.specs.Histories.{history as seen};
 
-use judge::Judge;
 use arena::{Head, NodeNo, NodeWord, ScxNo, ScxWord, Side, Word};
+use judge::Judge;
 use script::Command;
 
 /// Whether an SCX-record is about to make the edit of a call: below a fork on the search path of
@@ -132,8 +132,8 @@ fn is_pair_leaf(judge: &Judge, node: u64, pair: (u64, u64)) -> bool
 fn is_leaf_copy(judge: &Judge, node: u64, leaf: u64) -> bool
     ensures { IsTrue result → IsLeafCopy (value (seen judge.now)) node leaf }
 {
-    let same_value =
-        node_word(judge, node, NodeWord::Value) == node_word(judge, leaf, NodeWord::Value);
+    let same_value = node_word(judge, node, NodeWord::Value)
+        == node_word(judge, leaf, NodeWord::Value);
     head(judge, node).leaf && are_alike(judge, node, leaf) && same_value
 }
 
@@ -299,7 +299,10 @@ fn is_copy(judge: &Judge, scx: u64, place: u8) -> bool
     ensures same_value { IsTrue result → is_leaf (value (seen judge.now)) (member_of (seen judge.now) scx place) ≡ true → value (seen judge.now) (node_of (new (seen judge.now) scx) ValueWord) ≡ value (seen judge.now) (node_of (member_of (seen judge.now) scx place) ValueWord) }
     ensures copied { IsTrue result → value (seen judge.now) (info (member_of (seen judge.now) scx place)) ≡ seen_at (seen judge.now) scx place → HasFieldsOf (value (seen judge.now)) (new (seen judge.now) scx) (member_of (seen judge.now) scx place) }
 {
-    let (new, sibling) = (scx_word(judge, scx, ScxWord::New), member(judge, scx, place));
+    let (new, sibling) = (
+        scx_word(judge, scx, ScxWord::New),
+        member(judge, scx, place),
+    );
     let head_of_sibling = node_word(judge, sibling, NodeWord::Head);
     node_word(judge, new, NodeWord::Head) == head_of_sibling
         && key_of(judge, new) == key_of(judge, sibling)

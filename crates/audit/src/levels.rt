@@ -10,8 +10,8 @@ ghost use Rattle.spelling.specs.FillOrder.{HasStoodInField, HasRisingLevels};
 ghost use Rattle.spelling.specs.TreeWords.{is_leaf, level};
 ghost use Rattle.judge.specs.Histories.{history as seen};
 
-use judge::Judge;
 use arena::{Head, NodeNo, NodeWord, Row, Side, Word};
+use judge::Judge;
 
 /// Whether levels still rise behind a lawful row that is to be made: where it stores a node into a
 /// field. The head of a node that a field has held is not filled any more.
@@ -66,5 +66,9 @@ fn rises(judge: &Judge, node: u64) -> bool
 fn child_level(judge: &Judge, node: u64, side: Side) -> u64
     ensures { result ≡ level (value (seen judge.now)) (value (seen judge.now) (child_of node side)) }
 {
-    head(judge, judge.get(Word::Node(NodeNo(node), NodeWord::Child(side)))).level
+    head(
+        judge,
+        judge.get(Word::Node(NodeNo(node), NodeWord::Child(side))),
+    )
+    .level
 }

@@ -76,13 +76,7 @@ fn is_read_at(places: &Places, calls: &[Call], command: &Command, reply: &Reply)
 
 /// Whether these pairs, by rising key, are what an ordered read tells of the map after a turn: the
 /// map has them, and no other of the keys that it looks for.
-fn tells_at(
-    places: &Places,
-    calls: &[Call],
-    command: &Command,
-    pairs: &[Pair],
-    turn: u64,
-) -> bool {
+fn tells_at(places: &Places, calls: &[Call], command: &Command, pairs: &[Pair], turn: u64) -> bool {
     let (low, high, most) = looked_for(command);
     if pairs.len() > most || !do_rise(pairs) {
         return false;
@@ -97,9 +91,7 @@ fn tells_at(
             && places
                 .greatest(pair.key, Some(pair.value), turn, turn)
                 .is_some()
-    }) && calls
-        .iter()
-        .all(|call| is_told(places, call.command, pairs, (low, last, turn)))
+    }) && calls.iter().all(|call| is_told(places, call.command, pairs, (low, last, turn)))
 }
 
 /// Whether the key that a command may change is one of these pairs, or none of those looked for, or
@@ -187,10 +179,7 @@ fn is_full(
 
 /// Whether the map lacked a key after some turn of a call.
 fn lacked(places: &Places, key: u64, reply: &Reply) -> bool {
-    reply.begin <= reply.end
-        && places
-            .greatest(key, None, reply.begin, reply.end)
-            .is_some()
+    reply.begin <= reply.end && places.greatest(key, None, reply.begin, reply.end).is_some()
 }
 
 /// Whether a key had a value after some turn of a call: one that some call gives it.

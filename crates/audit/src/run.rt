@@ -7,8 +7,8 @@ ghost use Rattle.record.specs.Steps.{SaysItsCall};
 
 use crate::client::Client;
 use crate::commands::{enters, may_answer_after_step, may_answer_at_once, may_make, most_steps};
-use crate::fault::{Refused, hold};
 use crate::edits::makes_edit;
+use crate::fault::{Refused, hold};
 use crate::levels::do_levels_rise;
 use crate::steps::Steps;
 use crate::{cells, map};
@@ -216,7 +216,8 @@ impl<'a> Run<'a> {
         self.check_idle(number, pass)?;
         let client = self.client(pass)?;
         let awaits = self.next(&client).is_some();
-        self.steps.begin(&client, self.record.script.calls.as_slice());
+        self.steps
+            .begin(&client, self.record.script.calls.as_slice());
         self.clients[pass.0 as usize] = client.turned(number);
         self.turn = number;
         self.last = Some(pass);
@@ -361,7 +362,8 @@ impl<'a> Run<'a> {
     {
         let client = self.client(row.pass)?;
         hold(client.steps < u64::MAX)?;
-        self.steps.begin(&client, self.record.script.calls.as_slice());
+        self.steps
+            .begin(&client, self.record.script.calls.as_slice());
         self.steps.make(row)?;
         note_edit(self.edits.as_mut_slice(), row.after, edit);
         self.clients[row.pass.0 as usize] = client.stepped(number);
@@ -407,8 +409,7 @@ impl<'a> Run<'a> {
         let client = self.client(reply.client)?;
         self.check_reply(&client, reply)?;
         hold(client.answered < u64::MAX)?;
-        self.steps
-            .keep_behind(&client, self.record.script.calls.as_slice(), &reply.answer);
+        self.steps.keep_behind(&client, self.record.script.calls.as_slice(), &reply.answer);
         let after = client.ended(self.calls());
         self.clients[reply.client.0 as usize] = after;
         self.idle = false;

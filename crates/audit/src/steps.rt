@@ -9,10 +9,9 @@ use crate::cells::same_cells;
 use crate::client::Client;
 use crate::commands::{most_nodes, most_scx};
 use crate::fault::Refused;
-use judge::Judge;
 use crate::memory::{Look, Memory, Snapshot};
-
 use arena::{Kind, Layout, Limits, NodeNo, NodeWord, PassNo, Resource, Row, ScxNo, ScxWord, Word};
+use judge::Judge;
 use record::Answer;
 use script::{Call, Command};
 use std::alloc::Global;
