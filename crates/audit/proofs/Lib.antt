@@ -1,0 +1,5 @@
+mod NextCalls
+mod AfterLines
+mod Fitting
+mod RisingLevels
+mod TreeLines
