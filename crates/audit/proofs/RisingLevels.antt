@@ -2,6 +2,10 @@
 use Rattle.std.proofs.Common.{◌≡◌, ◌≢◌, ℕ, ◌<◌, ◌⊎◌, inl, inr, ⊎_elim, Bool, true, false, eqb, cond, refl, sym, ◌∙◌, ap, subst}
 use Rattle.arena.specs.declared.word.Side.{Side}
 use Rattle.arena.specs.declared.word.NodeWord.TheVariants.{Head, Child}
+use Rattle.arena.specs.declared.word.NodeWord.{NodeWord}
+use Rattle.arena.specs.declared.word.ScxWord.{ScxWord}
+use Rattle.arena.specs.declared.number.NodeNo.{NodeNo}
+use Rattle.arena.specs.declared.number.ScxNo.{ScxNo}
 use Rattle.arena.specs.declared.word.Word.{Word}
 use Rattle.arena.specs.declared.word.Word.TheVariants.{Node, Scx}
 use Rattle.arena.specs.declared.step.Row.{Row}
@@ -106,3 +110,15 @@ rising_other r h head field x = rising_left r h (λ n. value_other r h (node n H
         go : (b : Bool) → same_word r.word w ≡ b → b ≡ false
         go false e = refl
         go true e = absurd (d (word_same r.word w e))
+
+abbrev part_of : Word → NodeWord
+part_of (Node n part) = part
+part_of (Scx s part) = Head
+
+-- so does one of another word of a node
+pub of_part : (r : Row) (h : History) (n : NodeNo) (part : NodeWord) → r.word ≡ Node n part → (part ≡ Head → ⊥) → ((side : Side) → part ≡ Child side → ⊥) → HasRisingLevels h → HasRisingLevels (r ⊳ h)
+of_part r h n part word head field x = rising_other r h (λ m e. head (ap part_of (sym word ∙ e))) (λ m side e. field side (ap part_of (sym word ∙ e))) x
+
+-- and of an SCX-record
+pub of_scx : (r : Row) (h : History) (s : ScxNo) (part : ScxWord) → r.word ≡ Scx s part → HasRisingLevels h → HasRisingLevels (r ⊳ h)
+of_scx r h s part word x = rising_other r h (λ m e. absurd (let z : Scx s part ≡ node m Head = sym word ∙ e in cc)) (λ m side e. absurd (let z : Scx s part ≡ child m side = sym word ∙ e in cc)) x

@@ -1,5 +1,5 @@
 //! Whether levels rise from each fork that a field has ever held to its children.
-ghost use Rattle.std.specs.Prelude.{◌≡◌, ◌<◌, ◌⊎◌, false, true, IsTrue};
+ghost use Rattle.std.specs.Prelude.{◌≡◌, ◌≢◌, ◌<◌, ◌⊎◌, false, true, IsTrue};
 ghost use Rattle.arena.specs.Heads.{head_of};
 ghost use Rattle.arena.specs.History.{◌⊳◌, value};
 ghost use Rattle.arena.specs.Lawful.{IsLawful};
@@ -23,12 +23,23 @@ pub(crate) fn do_levels_rise(judge: &Judge, row: &Row) -> bool
         return true;
     }
     match row.word {
-        Word::Node(node, NodeWord::Child(_)) => {
-            node.0 != row.after && rises_to(judge, node.0, row.after) && rises(judge, row.after)
-        }
+        Word::Node(node, NodeWord::Child(_)) => may_hold(judge, node.0, row.after),
         Word::Node(node, NodeWord::Head) => !stands(judge, node.0),
-        _ => true,
+        Word::Node(_, NodeWord::Key) => true,
+        Word::Node(_, NodeWord::Value) => true,
+        Word::Node(_, NodeWord::Info) => true,
+        Word::Node(_, NodeWord::Marked) => true,
+        Word::Scx(_, _) => true,
     }
+}
+
+/// Whether a node may be stored into a field of another: levels rise over it and below it.
+fn may_hold(judge: &Judge, node: u64, child: u64) -> bool
+    ensures apart { IsTrue result → node ≢ child }
+    ensures over { IsTrue result → HasStoodInField (seen judge.now) node → is_leaf (value (seen judge.now)) node ≡ false → level (value (seen judge.now)) node < level (value (seen judge.now)) child }
+    ensures below { IsTrue result → (side : SideOf) → is_leaf (value (seen judge.now)) child ≡ false → level (value (seen judge.now)) child < level (value (seen judge.now)) (value (seen judge.now) (child_of child side)) }
+{
+    node != child && rises_to(judge, node, child) && rises(judge, child)
 }
 
 /// Whether a node was there from the start, or a field may have held it.
