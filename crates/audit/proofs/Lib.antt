@@ -3,3 +3,4 @@ mod AfterLines
 mod Fitting
 mod RisingLevels
 mod TreeLines
+mod MapLines

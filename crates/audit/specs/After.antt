@@ -13,6 +13,7 @@ use Rattle.record.specs.Entries.{IsLog}
 use Rattle.record.specs.LawfulRun.{AreLines}
 use Rattle.record.specs.Replies.{IsReplyOwed}
 use Rattle.audit.specs.Calls.{IsAt}
+use Rattle.audit.specs.Trees.{IsMapSoFar}
 use Rattle.judge.specs.Histories.{Judged, history as seen}
 use Rattle.audit.specs.declared.client.Client.{Client}
 use Rattle.audit.specs.declared.run.Run.{Run}
@@ -74,3 +75,7 @@ pub record IsSoFar (lay : Layout) (tries : ℕ) (calls : List Call) (judge : Jud
 -- so it is of a run
 abbrev pub IsAfter : Run → List Line → Type 0
 IsAfter run lines = IsSoFar (layout_of run) (tries_of run) (calls_of run) run.steps.judge run.clients.items run.turn run.entries run.last run.owed run.fits run.idle run.awaits lines
+
+-- and what a run remembers of the map
+abbrev pub IsMapAfter : Run → List Line → Type 0
+IsMapAfter run lines = IsMapSoFar (layout_of run) (calls_of run) run.edits.items run.places lines

@@ -2,7 +2,12 @@
 ghost use Rattle.std.specs.Prelude.{◌≡◌, ℕ, ◌≤◌, ◌<◌, Some, None, Option, set, slice_get, length, [], IfOk, IsSome, IfSome, IsTrue};
 ghost use Rattle.record.specs.declared.record.Entry.{Entry as EntryOf};
 ghost use Rattle.audit.specs.declared.client.Client.{Client as ClientOf};
-ghost use Rattle.audit.specs.After.{lines_of, IsAfter, AreClientsAfter};
+ghost use Rattle.audit.specs.After.{lines_of, IsAfter, IsMapAfter, AreClientsAfter};
+ghost use Rattle.std.specs.Prelude.{◌∷◌, OnOk};
+ghost use Rattle.record.specs.MapRecord.{map_call};
+ghost use Rattle.places.specs.declared.places.Change.{Change as ChangeOf};
+ghost use Rattle.places.specs.Entries.{IsChangeBy};
+ghost use Rattle.places.specs.Places.{changes, Knows, HoldsOfKey};
 ghost use Rattle.record.specs.Steps.{SaysItsCall};
 
 use crate::client::Client;
@@ -63,6 +68,16 @@ impl<'a> Run<'a> {
     ghost use Rattle.arena.specs.Lawful.{IsWin};
     ghost use Rattle.arena.specs.Log.{entry as entered};
     ghost use Rattle.arena.specs.Words.{child};
+    ghost use Rattle.arena.specs.declared.limits.Mode.TheVariants.{Tree};
+    ghost use Rattle.arena.specs.History.{◌⊳◌};
+    ghost use Rattle.arena.specs.Shape.{IsBegin};
+    ghost use Rattle.script.specs.declared.command.Command.{Command as CommandOf};
+    ghost use Rattle.spelling.specs.FillOrder.{HasRisingLevels};
+    ghost use Rattle.record.specs.MapRecord.{map_call};
+    ghost use Rattle.places.specs.declared.places.Change.{Change as ChangeOf};
+    ghost use Rattle.places.specs.Entries.{IsChangeBy};
+    ghost use Rattle.places.specs.Places.{changes, Knows};
+    ghost use Rattle.audit.specs.Edits.{MayMakeFor};
     ghost use Rattle.record.specs.CommandRules.{IsEntryFor, IsRight, IsPlaced, HasTakenFew};
     ghost use Rattle.record.specs.Linked.{linked};
     ghost use Rattle.record.specs.Replies.{IsFitting};
@@ -73,6 +88,7 @@ impl<'a> Run<'a> {
     /// A run of no line of a record. The only error is want of memory.
     pub(crate) fn new(alloc: Global, record: &'a Record) -> Result<Run<'a>, Refused>
         ensures after { IfOk result (λ run. IsAfter run []) }
+        ensures map { IfOk result (λ run. IsMapAfter run []) }
         ensures at { IfOk result (λ run. run.at ≡ 0) }
         ensures record { IfOk result (λ run. run.record.now ≡ «record».now) }
     {
@@ -106,6 +122,7 @@ impl<'a> Run<'a> {
     /// The lines are those of a lawful run, if no other line has to stand behind the last one.
     pub(crate) fn finish(&self) -> Result<(), Refused>
         requires after { IsAfter self.now (lines_of self.now) }
+        requires map { IsMapAfter self.now (lines_of self.now) }
         requires all { self.now.at ≡ length self.now.record.now.lines.items }
         ensures { OnOk result (IsLawfulRun (layout_of self.now) (tries_of self.now) (calls_of self.now) (reverse (clients (reverse self.now.record.now.lines.items))) self.now.record.now.lines.items) }
     {
@@ -146,8 +163,10 @@ impl<'a> Run<'a> {
     /// One line more, if it fits those before it.
     pub(crate) fn line(&mut self) -> Result<(), Refused>
         requires after { IsAfter self.old (lines_of self.old) }
+        requires map { IsMapAfter self.old (lines_of self.old) }
         requires more { self.old.at < vec_len self.old.record.now.lines }
         ensures after { OnOk result (IsAfter self.new (lines_of self.new)) }
+        ensures map { OnOk result (IsMapAfter self.new (lines_of self.new)) }
         ensures at { OnOk result (self.new.at ≡ suc self.old.at) }
         ensures record { self.new.record ≡ self.old.record }
     {
@@ -159,8 +178,10 @@ impl<'a> Run<'a> {
     /// The line behind those so far, if it fits them.
     fn next_line(&mut self) -> Result<(), Refused>
         requires after { IsAfter self.old (lines_of self.old) }
+        requires map { IsMapAfter self.old (lines_of self.old) }
         requires more { self.old.at < vec_len self.old.record.now.lines }
         ensures after { (line : LineOf) → slice_get self.old.record.now.lines.items self.old.at ≡ Some line → OnOk result (IsAfter self.new (line ∷ lines_of self.old)) }
+        ensures map { (line : LineOf) → slice_get self.old.record.now.lines.items self.old.at ≡ Some line → OnOk result (IsMapAfter self.new (line ∷ lines_of self.old)) }
         ensures at { self.new.at ≡ self.old.at }
         ensures record { self.new.record ≡ self.old.record }
     {
@@ -207,8 +228,10 @@ impl<'a> Run<'a> {
 
     /// A turn without a step: of a client with no call left, or the whole of a call.
     fn idle(&mut self, number: u64, pass: PassNo) -> Result<(), Refused>
-        requires { IsAfter self.old (lines_of self.old) }
+        requires after { IsAfter self.old (lines_of self.old) }
+        requires map { IsMapAfter self.old (lines_of self.old) }
         ensures after { OnOk result (IsAfter self.new (Line.Step (Row.Idle number pass) ∷ lines_of self.old)) }
+        ensures map { OnOk result (IsMapAfter self.new (Line.Step (Row.Idle number pass) ∷ lines_of self.old)) }
         ensures at { self.new.at ≡ self.old.at }
         ensures record { self.new.record ≡ self.old.record }
     {
@@ -228,20 +251,31 @@ impl<'a> Run<'a> {
 
     /// A turn that makes a lawful step of a client's next call.
     fn step(&mut self, number: u64, row: &arena::Row) -> Result<(), Refused>
-        requires { IsAfter self.old (lines_of self.old) }
+        requires after { IsAfter self.old (lines_of self.old) }
+        requires map { IsMapAfter self.old (lines_of self.old) }
         ensures after { OnOk result (IsAfter self.new (Line.Step (Row.Step number row.now) ∷ lines_of self.old)) }
+        ensures map { OnOk result (IsMapAfter self.new (Line.Step (Row.Step number row.now) ∷ lines_of self.old)) }
         ensures at { self.new.at ≡ self.old.at }
         ensures record { self.new.record ≡ self.old.record }
     {
         self.settled()?;
         self.check_step(number, row)?;
-        let edit = self.edit_begun(row)?;
+        self.check_edit(row)?;
         let owed = self.owed_by(number, row)?;
-        let fits = match &owed {
+        let fits = self.fits_with(row, &owed);
+        self.make(number, row, owed, fits)
+    }
+
+    /// Whether a step wins with this entry, if there is one.
+    fn fits_with(&self, row: &arena::Row, owed: &Option<Entry>) -> bool
+        requires after { IsAfter self.now (lines_of self.now) }
+        requires lawful { IsLawful self.now.steps.judge.layout (seen self.now.steps.judge) row.now }
+        ensures { (number : ℕ) → (e : EntryOf) → IsTrue result → owed.now ≡ Some e → entry_of (layout_of self.now) (lines_of self.now) number row.now ≡ Some e → IsWinOf (layout_of self.now) (calls_of self.now) (lines_of self.now) row.now e }
+    {
+        match owed {
             Some(entry) => self.check_win(row, entry).is_ok(),
             None => false,
-        };
-        self.make(number, row, edit, owed, fits)
+        }
     }
 
     /// The entry that a step of this turn asks for, if it is an update which changes its field: of the
@@ -315,25 +349,54 @@ impl<'a> Run<'a> {
         }
     }
 
-    /// On the tree: levels still rise behind a step, and if it begins an SCX-record that makes the edit
-    /// of its client's call, whose command this is.
-    fn edit_begun(&self, row: &arena::Row) -> Result<Option<Command>, Refused>
-        requires { IsAfter self.now (lines_of self.now) }
+    /// On the tree: levels still rise behind a step, and the SCX-record that it begins, if it begins
+    /// one, makes the edit of its client's call.
+    fn check_edit(&self, row: &arena::Row) -> Result<(), Refused>
+        requires after { IsAfter self.now (lines_of self.now) }
+        requires map { IsMapAfter self.now (lines_of self.now) }
+        requires found { row.now.before ≡ value (seen self.now.steps.judge) row.now.word }
+        ensures rising { OnOk result ((layout_of self.now).mode ≡ Tree → HasRisingLevels (seen self.now.steps.judge) → HasRisingLevels (row.now ⊳ seen self.now.steps.judge)) }
+        ensures edit { OnOk result ((layout_of self.now).mode ≡ Tree → IsBegin (seen self.now.steps.judge) row.now row.now.after → (command : CommandOf) × (next_command (calls_of self.now) (lines_of self.now) row.now.pass.0 ≡ Some command) × MayMakeFor (layout_of self.now) (seen self.now.steps.judge) row.now.after command) }
     {
-        let judge = &self.steps.judge;
         if self.record.script.layout.mode != Mode::Tree {
-            return Ok(None);
+            return Ok(());
         }
-        hold(do_levels_rise(judge, row))?;
-        if !judge.is_begin(row) {
-            return Ok(None);
+        hold(do_levels_rise(&self.steps.judge, row))?;
+        if self.steps.judge.is_begin(row) {
+            self.check_begun(row)
+        } else {
+            Ok(())
         }
+    }
+
+    /// The SCX-record that a step begins makes the edit of its client's call.
+    fn check_begun(&self, row: &arena::Row) -> Result<(), Refused>
+        requires after { IsAfter self.now (lines_of self.now) }
+        requires map { IsMapAfter self.now (lines_of self.now) }
+        requires mode { (layout_of self.now).mode ≡ Tree }
+        ensures { OnOk result ((command : CommandOf) × (next_command (calls_of self.now) (lines_of self.now) row.now.pass.0 ≡ Some command) × MayMakeFor (layout_of self.now) (seen self.now.steps.judge) row.now.after command) }
+    {
         let client = self.client(row.pass)?;
         let Some(command) = self.next(&client) else {
             return Err(Refused::NotLawful);
         };
-        hold(makes_edit(judge, row.after, &command))?;
-        Ok(Some(command))
+        hold(makes_edit(&self.steps.judge, row.after, &command))?;
+        Ok(())
+    }
+
+    /// On the tree: the command of the client's call, if a step begins an SCX-record.
+    fn edit_begun(&self, row: &arena::Row) -> Option<Command>
+        requires { IsAfter self.now (lines_of self.now) }
+        ensures begins { IfSome result (λ command. IsBegin (seen self.now.steps.judge) row.now row.now.after) }
+        ensures next { IfSome result (λ command. next_command (calls_of self.now) (lines_of self.now) row.now.pass.0 ≡ Some command) }
+    {
+        if self.record.script.layout.mode != Mode::Tree || !self.steps.judge.is_begin(row) {
+            return None;
+        }
+        match self.client(row.pass) {
+            Ok(client) => self.next(&client),
+            Err(_) => None,
+        }
     }
 
     /// The command whose edit an SCX-record makes, on the tree.
@@ -346,22 +409,26 @@ impl<'a> Run<'a> {
         &mut self,
         number: u64,
         row: &arena::Row,
-        edit: Option<Command>,
         owed: Option<Entry>,
         fits: bool,
     ) -> Result<(), Refused>
         requires after { IsAfter self.old (lines_of self.old) }
+        requires map { IsMapAfter self.old (lines_of self.old) }
+        requires rising { (layout_of self.old).mode ≡ Tree → HasRisingLevels (seen self.old.steps.judge) → HasRisingLevels (row.now ⊳ seen self.old.steps.judge) }
+        requires edit { (layout_of self.old).mode ≡ Tree → IsBegin (seen self.old.steps.judge) row.now row.now.after → (command : CommandOf) × (next_command (calls_of self.old) (lines_of self.old) row.now.pass.0 ≡ Some command) × MayMakeFor (layout_of self.old) (seen self.old.steps.judge) row.now.after command }
         requires settled { OwesNothing (layout_of self.old) (calls_of self.old) (lines_of self.old) }
         requires step { IsStep (layout_of self.old) (tries_of self.old) (calls_of self.old) (lines_of self.old) number row.now }
         requires owed { entry_of (layout_of self.old) (lines_of self.old) number row.now ≡ owed }
         requires client { IfSome owed (λ e. e.client.0 < (layout_of self.old).passes) }
         requires fits { (e : EntryOf) → fits ≡ true → owed ≡ Some e → IsWinOf (layout_of self.old) (calls_of self.old) (lines_of self.old) row.now e }
         ensures after { OnOk result (IsAfter self.new (Line.Step (Row.Step number row.now) ∷ lines_of self.old)) }
+        ensures map { OnOk result (IsMapAfter self.new (Line.Step (Row.Step number row.now) ∷ lines_of self.old)) }
         ensures at { self.new.at ≡ self.old.at }
         ensures record { self.new.record ≡ self.old.record }
     {
         let client = self.client(row.pass)?;
         hold(client.steps < u64::MAX)?;
+        let edit = self.edit_begun(row);
         self.steps
             .begin(&client, self.record.script.calls.as_slice());
         self.steps.make(row)?;
@@ -379,17 +446,16 @@ impl<'a> Run<'a> {
 
     /// The entry that the step before it asks for.
     fn entry(&mut self, entry: &Entry) -> Result<(), Refused>
-        requires { IsAfter self.old (lines_of self.old) }
+        requires after { IsAfter self.old (lines_of self.old) }
+        requires map { IsMapAfter self.old (lines_of self.old) }
         ensures after { OnOk result (IsAfter self.new (Line.Log entry.now ∷ lines_of self.old)) }
+        ensures map { OnOk result (IsMapAfter self.new (Line.Log entry.now ∷ lines_of self.old)) }
         ensures at { self.new.at ≡ self.old.at }
         ensures record { self.new.record ≡ self.old.record }
     {
         hold(self.owed == Some(*entry))?;
         hold(self.fits)?;
-        let client = self.client(entry.client)?;
-        if let Some(command) = self.next(&client) {
-            change(&mut self.places, entry.step, command)?;
-        }
+        self.change(entry)?;
         self.owed = None;
         self.fits = false;
         self.idle = false;
@@ -398,10 +464,28 @@ impl<'a> Run<'a> {
         Ok(())
     }
 
+    /// The map is changed by the call of an entry.
+    fn change(&mut self, entry: &Entry) -> Result<(), Refused>
+        requires after { IsAfter self.old (lines_of self.old) }
+        requires map { IsMapAfter self.old (lines_of self.old) }
+        ensures rest { self.new ≡ record self.old { places = self.new.places } }
+        ensures keys { (key : ℕ) → Knows self.old.places key → Knows self.new.places key }
+        ensures change { OnOk result ((command : CommandOf) → (c : ChangeOf) → next_command (calls_of self.old) (lines_of self.old) entry.now.client.0 ≡ Some command → c.turn ≡ entry.now.step → IsChangeBy (map_call (Some command)) c → changes self.new.places ≡ c ∷ changes self.old.places) }
+    {
+        let client = self.client(entry.client)?;
+        let Some(command) = self.next(&client) else {
+            return Err(Refused::NotLawful);
+        };
+        change(&mut self.places, entry.step, command)?;
+        Ok(())
+    }
+
     /// The reply to the call whose last turn is the newest one.
     fn reply(&mut self, reply: &Reply) -> Result<(), Refused>
-        requires { IsAfter self.old (lines_of self.old) }
+        requires after { IsAfter self.old (lines_of self.old) }
+        requires map { IsMapAfter self.old (lines_of self.old) }
         ensures after { OnOk result (IsAfter self.new (Line.Reply reply.now ∷ lines_of self.old)) }
+        ensures map { OnOk result (IsMapAfter self.new (Line.Reply reply.now ∷ lines_of self.old)) }
         ensures at { self.new.at ≡ self.old.at }
         ensures record { self.new.record ≡ self.old.record }
     {
@@ -488,13 +572,32 @@ fn note_edit(edits: &mut [Option<Command>], scx: u64, edit: Option<Command>) {
 }
 
 /// The map is changed in a turn by an edit.
-fn change(places: &mut Places, turn: u64, command: Command) -> Result<(), Refused> {
-    let (key, value) = match command {
-        Command::Insert { key, value } => (key, Some(value)),
-        Command::Delete { key } => (key, None),
-        _ => return Ok(()),
-    };
+fn change(places: &mut Places, turn: u64, command: Command) -> Result<(), Refused>
+    requires { HoldsOfKey (Knows places.old) command }
+    ensures keys { (key : ℕ) → Knows places.old key → Knows places.new key }
+    ensures change { OnOk result ((c : ChangeOf) → c.turn ≡ turn → IsChangeBy (map_call (Some command)) c → changes places.new ≡ c ∷ changes places.old) }
+{
+    match command {
+        Command::Insert { key, value } => {
+            push(places, turn, (key, Some(value)))?;
+            Ok(())
+        }
+        Command::Delete { key } => {
+            push(places, turn, (key, None))?;
+            Ok(())
+        }
+        _ => Ok(()),
+    }
+}
+
+/// In a turn the key gets this value.
+fn push(places: &mut Places, turn: u64, to: (u64, Option<u64>)) -> Result<(), Refused>
+    requires { Knows places.old to.0 }
+    ensures keys { (key : ℕ) → Knows places.old key → Knows places.new key }
+    ensures change { OnOk result ((c : ChangeOf) → c.turn ≡ turn → c.key ≡ to.0 → c.value ≡ to.1 → changes places.new ≡ c ∷ changes places.old) }
+{
     places.reserve()?;
+    let (key, value) = to;
     places.push(Change { turn, key, value });
     Ok(())
 }
