@@ -334,6 +334,10 @@ one_step calls lines run new line made a b x = let same : made ≡ line = some_l
 pub line_more : (lines : List Line) (at : ℕ) (line : Line) → slice_get lines at ≡ Some line → reverse (take (at + 1) lines) ≡ line ∷ reverse (take at lines)
 line_more lines at line is = subst (λ (n : ℕ). reverse (take n lines) ≡ line ∷ reverse (take at lines)) (sym (add-one at)) (one_line_more lines at line (slice_get_within lines at line is) (sym (get_or_from_slice_get lines at line line is)))
 
+-- of a run whose record and count of lines have stayed
+pub line_counted : (old new : Run) (line : Line) → new.record ≡ old.record → new.at ≡ old.at → slice_get old.record.now.lines.items old.at ≡ Some line → reverse (take (new.at + 1) new.record.now.lines.items) ≡ line ∷ lines_of old
+line_counted old new line same at is = rw (same, at) (line_more old.record.now.lines.items old.at line is)
+
 -- the lines of a lawful run
 lawful_lines : (lay : Layout) (tries : ℕ) (calls : List Call) (lines : List Line) → AreLines lay tries calls (reverse lines) → OwesNothing lay calls (reverse lines) → Lawful lay (history lay.mode (reverse lines)) → IsWhole lay.mode lay calls (reverse lines) → IsLawfulRun lay tries calls (reverse (clients (reverse lines))) lines
 lawful_lines lay tries calls lines in_order settled lawful whole = record {
