@@ -69,7 +69,7 @@ impl<'a> Run<'a> {
     ghost use Rattle.arena.specs.Log.{entry as entered};
     ghost use Rattle.arena.specs.Words.{child};
     ghost use Rattle.arena.specs.declared.limits.Mode.TheVariants.{Tree};
-    ghost use Rattle.arena.specs.History.{◌⊳◌};
+    ghost use Rattle.arena.specs.History.{◌⊳◌, value};
     ghost use Rattle.arena.specs.Shape.{IsBegin};
     ghost use Rattle.script.specs.declared.command.Command.{Command as CommandOf};
     ghost use Rattle.spelling.specs.FillOrder.{HasRisingLevels};
