@@ -363,7 +363,8 @@ impl<'a> Run<'a> {
         }
         hold(do_levels_rise(&self.steps.judge, row))?;
         if self.steps.judge.is_begin(row) {
-            self.check_begun(row)
+            self.check_begun(row)?;
+            Ok(())
         } else {
             Ok(())
         }
