@@ -1,0 +1,6 @@
+mod NextCalls
+mod AfterLines
+mod Fitting
+mod RisingLevels
+mod TreeLines
+mod MapLines

@@ -1,0 +1,4 @@
+pub mod Calls
+pub mod After
+pub mod Edits
+pub mod Trees

@@ -1,0 +1,67 @@
+//! What is remembered of the steps of a client's call, for its answer.
+use arena::NodeNo;
+
+/// A snapshot that a client keeps of a cell.
+#[derive(Clone, Copy, Debug)]
+pub(crate) struct Snapshot {
+    /// How many steps there were up to it.
+    pub(crate) steps: u64,
+    /// The place of the last entry over the cell, or 0.
+    pub(crate) last: u64,
+}
+
+/// What a step of a client has found in the info of a node.
+#[derive(Clone, Copy, Debug)]
+pub(crate) struct Look {
+    /// How many steps there were with it.
+    pub(crate) steps: u64,
+    pub(crate) node: NodeNo,
+    pub(crate) found: u64,
+    /// The place of the last entry over the node, or 0.
+    pub(crate) last: u64,
+}
+
+/// What the steps so far say of a client's call.
+#[derive(Clone, Copy, Debug)]
+pub(crate) struct Memory {
+    /// How many steps there were before the first turn of its call.
+    pub(crate) begun: u64,
+    /// How many nodes of its share were left then, and how many SCX-records.
+    pub(crate) nodes: u32,
+    pub(crate) scx: u32,
+    /// Of each cell of a `vlx`: whether it was as its snapshot says then.
+    pub(crate) same: [bool; 4],
+    /// Its last load of an info word.
+    pub(crate) look: Option<Look>,
+    /// Its last freezing exchange.
+    pub(crate) freeze: Option<Look>,
+    /// The snapshots that it keeps, by the numbers of cells.
+    pub(crate) snapshots: [Option<Snapshot>; 9],
+}
+
+impl Memory {
+    /// That of a client that has made no turn.
+    pub(crate) fn new() -> Memory {
+        Memory {
+            begun: 0,
+            nodes: 0,
+            scx: 0,
+            same: [false; 4],
+            look: None,
+            freeze: None,
+            snapshots: [None; 9],
+        }
+    }
+
+    /// The snapshot that it keeps of a cell.
+    pub(crate) fn snapshot(&self, cell: NodeNo) -> Option<Snapshot> {
+        *self.snapshots.as_slice().get(cell.0 as usize)?
+    }
+
+    /// Keeps this snapshot of a cell, or none.
+    pub(crate) fn keep(&mut self, cell: NodeNo, snapshot: Option<Snapshot>) {
+        if let Some(kept) = self.snapshots.as_mut_slice().get_mut(cell.0 as usize) {
+            *kept = snapshot;
+        }
+    }
+}
