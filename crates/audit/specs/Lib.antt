@@ -2,3 +2,4 @@ pub mod Calls
 pub mod After
 pub mod Edits
 pub mod Trees
+pub mod Remembered

@@ -32,6 +32,19 @@ pub(crate) struct Steps {
 }
 
 impl Steps {
+    ghost use Rattle.std.specs.Prelude.{ℕ, ◌<◌, List, IsTrue, IsSome, IfSome, slice_get};
+    ghost use Rattle.arena.specs.Blame.{WasInTheWay};
+    ghost use Rattle.arena.specs.Fills.{IsOthersScx};
+    ghost use Rattle.arena.specs.History.{History};
+    ghost use Rattle.arena.specs.Layout.{all_nodes};
+    ghost use Rattle.arena.specs.Log.{log, is_final};
+    ghost use Rattle.record.specs.CommandRules.{HasTakenFew};
+    ghost use Rattle.record.specs.Shares.{HasTooFew, HasTooFewToTry};
+    ghost use Rattle.record.specs.Turns.{history, begin, start};
+    ghost use Rattle.audit.specs.Remembered.{IsMomentAt, AreStepsOf, AreRemembered};
+    ghost use Rattle.arena.specs.declared.layout.Layout.{Layout};
+    ghost use Rattle.script.specs.declared.command.Call.{Call};
+    ghost use Rattle.record.specs.declared.record.Line.{Line};
     /// No step yet. The only error is want of memory.
     pub(crate) fn new(alloc: Global, layout: &Layout) -> Result<Steps, Refused>
         ensures layout { IfOk result (λ s. s.judge.layout ≡ layout.now) }
@@ -47,7 +60,9 @@ impl Steps {
     }
 
     /// What is remembered of a client.
-    pub(crate) fn memory(&self, pass: PassNo) -> Memory {
+    pub(crate) fn memory(&self, pass: PassNo) -> Memory
+        ensures { IfSome (slice_get self.now.memories.items pass.0) (λ m. result ≡ m) }
+    {
         match self.memories.get(pass.0 as usize) {
             Some(memory) => *memory,
             None => Memory::new(),
@@ -120,7 +135,9 @@ impl Steps {
     }
 
     /// Whether a node was final after the first so many steps.
-    pub(crate) fn was_final(&self, node: NodeNo, after: u64) -> bool {
+    pub(crate) fn was_final(&self, node: NodeNo, after: u64) -> bool
+        ensures { (lay : Layout) (h g : History) → AreStepsOf lay h self.now → IsMomentAt h after g → node.0 < all_nodes lay → result ≡ is_final (log lay g) node.0 }
+    {
         match self.finals.get(node.0 as usize) {
             Some(final_at) => 0 < *final_at && *final_at <= after,
             None => false,
@@ -232,7 +249,9 @@ impl Steps {
     }
 
     /// Whether the call of a client has taken no more of its share than it may.
-    pub(crate) fn has_taken_few(&self, pass: PassNo, command: &Command, limits: &Limits) -> bool {
+    pub(crate) fn has_taken_few(&self, pass: PassNo, command: &Command, limits: &Limits) -> bool
+        ensures { (lay : Layout) (calls : List Call) (lines : List Line) → AreRemembered lay calls lines self.now → pass.0 < lay.passes → IsSome (begin lines pass.0) → IsTrue result → HasTakenFew lay limits.now.tries pass.0 (history lay.mode lines) (start lay.mode lines pass.0) command.now }
+    {
         let memory = self.memory(pass);
         memory.nodes.saturating_sub(self.nodes_left(pass)) <= most_nodes(command, limits)
             && memory.scx.saturating_sub(self.scx_left(pass)) <= most_scx(command, limits)
@@ -250,7 +269,9 @@ impl Steps {
     }
 
     /// Whether an SCX-record is another pass's.
-    pub(crate) fn is_others(&self, pass: PassNo, scx: ScxNo) -> bool {
+    pub(crate) fn is_others(&self, pass: PassNo, scx: ScxNo) -> bool
+        ensures { IsTrue result → IsOthersScx self.now.judge.layout pass.0 scx.0 }
+    {
         match self.judge.layout().owner(scx) {
             Some(owner) => owner != pass,
             None => false,
@@ -269,7 +290,10 @@ impl Steps {
 
     /// Whether an SCX-record of another pass, which covers a node, was in progress after a step behind
     /// the first so many.
-    pub(crate) fn was_in_the_way(&self, pass: PassNo, blamed: (NodeNo, ScxNo), after: u64) -> bool {
+    pub(crate) fn was_in_the_way(&self, pass: PassNo, blamed: (NodeNo, ScxNo), after: u64) -> bool
+        ensures others { IsTrue result → IsOthersScx self.now.judge.layout pass.0 blamed.1.0 }
+        ensures way { (lay : Layout) (h g : History) → AreStepsOf lay h self.now → IsMomentAt h after g → IsTrue result → WasInTheWay h g blamed.0.0 blamed.1.0 }
+    {
         let (node, scx) = blamed;
         after < self.last_in_progress(scx) && self.is_others(pass, scx) && self.covers(scx, node)
     }
@@ -288,7 +312,10 @@ impl Steps {
 
     /// Whether the share of a pass has just so many of the resource left, too few for an update that
     /// needs so many nodes.
-    pub(crate) fn has_too_few(&self, pass: PassNo, needed: u32, full: (Resource, u32)) -> bool {
+    pub(crate) fn has_too_few(&self, pass: PassNo, needed: u32, full: (Resource, u32)) -> bool
+        requires { pass.0 < self.now.judge.layout.passes }
+        ensures { IsTrue result → HasTooFew self.now.judge.layout pass.0 (seen self.now.judge) needed full.0 full.1 }
+    {
         is_too_few((self.nodes_left(pass), self.scx_left(pass)), needed, full)
     }
 
@@ -299,7 +326,10 @@ impl Steps {
         pass: PassNo,
         needed: u32,
         full: (Resource, u32),
-    ) -> bool {
+    ) -> bool
+        requires { pass.0 < self.now.judge.layout.passes }
+        ensures { (lay : Layout) (calls : List Call) (lines : List Line) → AreRemembered lay calls lines self.now → IsSome (begin lines pass.0) → IsTrue result → HasTooFewToTry lay pass.0 (history lay.mode lines) (start lay.mode lines pass.0) needed full.0 full.1 }
+    {
         let memory = self.memory(pass);
         self.has_too_few(pass, needed, full)
             && (is_too_few((memory.nodes, memory.scx), needed, full) || self.was_blocked(pass))
