@@ -13,6 +13,7 @@ use Rattle.record.specs.Entries.{IsLog}
 use Rattle.record.specs.LawfulRun.{AreLines}
 use Rattle.record.specs.Replies.{IsReplyOwed}
 use Rattle.audit.specs.Calls.{IsAt}
+use Rattle.audit.specs.Remembered.{AreRemembered}
 use Rattle.audit.specs.Trees.{IsMapSoFar}
 use Rattle.judge.specs.Histories.{Judged, history as seen}
 use Rattle.audit.specs.declared.client.Client.{Client}
@@ -79,3 +80,7 @@ IsAfter run lines = IsSoFar (layout_of run) (tries_of run) (calls_of run) run.st
 -- and what a run remembers of the map
 abbrev pub IsMapAfter : Run → List Line → Type 0
 IsMapAfter run lines = IsMapSoFar (layout_of run) (calls_of run) run.edits.items run.places lines
+
+-- and what it remembers of the steps
+abbrev pub AreRememberedAfter : Run → List Line → Type 0
+AreRememberedAfter run lines = AreRemembered (layout_of run) (calls_of run) lines run.steps

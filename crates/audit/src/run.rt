@@ -2,7 +2,7 @@
 ghost use Rattle.std.specs.Prelude.{◌≡◌, ℕ, ◌≤◌, ◌<◌, Some, None, Option, set, slice_get, length, [], IfOk, IsSome, IfSome, IsTrue};
 ghost use Rattle.record.specs.declared.record.Entry.{Entry as EntryOf};
 ghost use Rattle.audit.specs.declared.client.Client.{Client as ClientOf};
-ghost use Rattle.audit.specs.After.{lines_of, IsAfter, IsMapAfter, AreClientsAfter};
+ghost use Rattle.audit.specs.After.{lines_of, IsAfter, IsMapAfter, AreRememberedAfter, AreClientsAfter};
 ghost use Rattle.std.specs.Prelude.{◌∷◌, OnOk};
 ghost use Rattle.record.specs.MapRecord.{map_call};
 ghost use Rattle.places.specs.declared.places.Change.{Change as ChangeOf};
@@ -89,6 +89,7 @@ impl<'a> Run<'a> {
     pub(crate) fn new(alloc: Global, record: &'a Record) -> Result<Run<'a>, Refused>
         ensures after { IfOk result (λ run. IsAfter run []) }
         ensures map { IfOk result (λ run. IsMapAfter run []) }
+        ensures remembered { IfOk result (λ run. AreRememberedAfter run []) }
         ensures at { IfOk result (λ run. run.at ≡ 0) }
         ensures record { IfOk result (λ run. run.record.now ≡ «record».now) }
     {
@@ -164,9 +165,11 @@ impl<'a> Run<'a> {
     pub(crate) fn line(&mut self) -> Result<(), Refused>
         requires after { IsAfter self.old (lines_of self.old) }
         requires map { IsMapAfter self.old (lines_of self.old) }
+        requires remembered { AreRememberedAfter self.old (lines_of self.old) }
         requires more { self.old.at < vec_len self.old.record.now.lines }
         ensures after { OnOk result (IsAfter self.new (lines_of self.new)) }
         ensures map { OnOk result (IsMapAfter self.new (lines_of self.new)) }
+        ensures remembered { OnOk result (AreRememberedAfter self.new (lines_of self.new)) }
         ensures at { OnOk result (self.new.at ≡ suc self.old.at) }
         ensures record { self.new.record ≡ self.old.record }
     {
@@ -179,9 +182,11 @@ impl<'a> Run<'a> {
     fn next_line(&mut self) -> Result<(), Refused>
         requires after { IsAfter self.old (lines_of self.old) }
         requires map { IsMapAfter self.old (lines_of self.old) }
+        requires remembered { AreRememberedAfter self.old (lines_of self.old) }
         requires more { self.old.at < vec_len self.old.record.now.lines }
         ensures after { (line : LineOf) → slice_get self.old.record.now.lines.items self.old.at ≡ Some line → OnOk result (IsAfter self.new (line ∷ lines_of self.old)) }
         ensures map { (line : LineOf) → slice_get self.old.record.now.lines.items self.old.at ≡ Some line → OnOk result (IsMapAfter self.new (line ∷ lines_of self.old)) }
+        ensures remembered { (line : LineOf) → slice_get self.old.record.now.lines.items self.old.at ≡ Some line → OnOk result (AreRememberedAfter self.new (line ∷ lines_of self.old)) }
         ensures at { self.new.at ≡ self.old.at }
         ensures record { self.new.record ≡ self.old.record }
     {
@@ -230,8 +235,10 @@ impl<'a> Run<'a> {
     fn idle(&mut self, number: u64, pass: PassNo) -> Result<(), Refused>
         requires after { IsAfter self.old (lines_of self.old) }
         requires map { IsMapAfter self.old (lines_of self.old) }
+        requires remembered { AreRememberedAfter self.old (lines_of self.old) }
         ensures after { OnOk result (IsAfter self.new (Line.Step (Row.Idle number pass) ∷ lines_of self.old)) }
         ensures map { OnOk result (IsMapAfter self.new (Line.Step (Row.Idle number pass) ∷ lines_of self.old)) }
+        ensures remembered { OnOk result (AreRememberedAfter self.new (Line.Step (Row.Idle number pass) ∷ lines_of self.old)) }
         ensures at { self.new.at ≡ self.old.at }
         ensures record { self.new.record ≡ self.old.record }
     {
@@ -253,8 +260,10 @@ impl<'a> Run<'a> {
     fn step(&mut self, number: u64, row: &arena::Row) -> Result<(), Refused>
         requires after { IsAfter self.old (lines_of self.old) }
         requires map { IsMapAfter self.old (lines_of self.old) }
+        requires remembered { AreRememberedAfter self.old (lines_of self.old) }
         ensures after { OnOk result (IsAfter self.new (Line.Step (Row.Step number row.now) ∷ lines_of self.old)) }
         ensures map { OnOk result (IsMapAfter self.new (Line.Step (Row.Step number row.now) ∷ lines_of self.old)) }
+        ensures remembered { OnOk result (AreRememberedAfter self.new (Line.Step (Row.Step number row.now) ∷ lines_of self.old)) }
         ensures at { self.new.at ≡ self.old.at }
         ensures record { self.new.record ≡ self.old.record }
     {
@@ -269,6 +278,8 @@ impl<'a> Run<'a> {
     /// Whether a step wins with this entry, if there is one.
     fn fits_with(&self, row: &arena::Row, owed: &Option<Entry>) -> bool
         requires after { IsAfter self.now (lines_of self.now) }
+        requires map { IsMapAfter self.now (lines_of self.now) }
+        requires remembered { AreRememberedAfter self.now (lines_of self.now) }
         requires lawful { IsLawful self.now.steps.judge.layout (seen self.now.steps.judge) row.now }
         ensures { (number : ℕ) → (e : EntryOf) → IsTrue result → owed.now ≡ Some e → entry_of (layout_of self.now) (lines_of self.now) number row.now ≡ Some e → IsWinOf (layout_of self.now) (calls_of self.now) (lines_of self.now) row.now e }
     {
@@ -311,6 +322,8 @@ impl<'a> Run<'a> {
     /// A step wins with this entry: the first one of its client's call that runs.
     fn check_win(&self, row: &arena::Row, entry: &Entry) -> Result<(), Refused>
         requires after { IsAfter self.now (lines_of self.now) }
+        requires map { IsMapAfter self.now (lines_of self.now) }
+        requires remembered { AreRememberedAfter self.now (lines_of self.now) }
         requires lawful { IsLawful self.now.steps.judge.layout (seen self.now.steps.judge) row.now }
         ensures { (number : ℕ) → entry_of (layout_of self.now) (lines_of self.now) number row.now ≡ Some entry.now → OnOk result (IsWinOf (layout_of self.now) (calls_of self.now) (lines_of self.now) row.now entry.now) }
     {
@@ -335,6 +348,8 @@ impl<'a> Run<'a> {
         scx: ScxNo,
     ) -> Result<(), Refused>
         requires after { IsAfter self.now (lines_of self.now) }
+        requires map { IsMapAfter self.now (lines_of self.now) }
+        requires remembered { AreRememberedAfter self.now (lines_of self.now) }
         requires client { slice_get self.now.clients.items client.now.pass.0 ≡ Some client.now }
         requires command { next_command (calls_of self.now) (lines_of self.now) client.now.pass.0 ≡ Some command.now }
         requires wins { IsWin (seen self.now.steps.judge) row.now scx.0 }
@@ -415,6 +430,7 @@ impl<'a> Run<'a> {
     ) -> Result<(), Refused>
         requires after { IsAfter self.old (lines_of self.old) }
         requires map { IsMapAfter self.old (lines_of self.old) }
+        requires remembered { AreRememberedAfter self.old (lines_of self.old) }
         requires rising { (layout_of self.old).mode ≡ Tree → HasRisingLevels (seen self.old.steps.judge) → HasRisingLevels (row.now ⊳ seen self.old.steps.judge) }
         requires edit { (layout_of self.old).mode ≡ Tree → IsBegin (seen self.old.steps.judge) row.now row.now.after → (command : CommandOf) × (next_command (calls_of self.old) (lines_of self.old) row.now.pass.0 ≡ Some command) × MayMakeFor (layout_of self.old) (seen self.old.steps.judge) row.now.after command }
         requires settled { OwesNothing (layout_of self.old) (calls_of self.old) (lines_of self.old) }
@@ -424,6 +440,7 @@ impl<'a> Run<'a> {
         requires fits { (e : EntryOf) → fits ≡ true → owed ≡ Some e → IsWinOf (layout_of self.old) (calls_of self.old) (lines_of self.old) row.now e }
         ensures after { OnOk result (IsAfter self.new (Line.Step (Row.Step number row.now) ∷ lines_of self.old)) }
         ensures map { OnOk result (IsMapAfter self.new (Line.Step (Row.Step number row.now) ∷ lines_of self.old)) }
+        ensures remembered { OnOk result (AreRememberedAfter self.new (Line.Step (Row.Step number row.now) ∷ lines_of self.old)) }
         ensures at { self.new.at ≡ self.old.at }
         ensures record { self.new.record ≡ self.old.record }
     {
@@ -449,8 +466,10 @@ impl<'a> Run<'a> {
     fn entry(&mut self, entry: &Entry) -> Result<(), Refused>
         requires after { IsAfter self.old (lines_of self.old) }
         requires map { IsMapAfter self.old (lines_of self.old) }
+        requires remembered { AreRememberedAfter self.old (lines_of self.old) }
         ensures after { OnOk result (IsAfter self.new (Line.Log entry.now ∷ lines_of self.old)) }
         ensures map { OnOk result (IsMapAfter self.new (Line.Log entry.now ∷ lines_of self.old)) }
+        ensures remembered { OnOk result (AreRememberedAfter self.new (Line.Log entry.now ∷ lines_of self.old)) }
         ensures at { self.new.at ≡ self.old.at }
         ensures record { self.new.record ≡ self.old.record }
     {
@@ -485,8 +504,10 @@ impl<'a> Run<'a> {
     fn reply(&mut self, reply: &Reply) -> Result<(), Refused>
         requires after { IsAfter self.old (lines_of self.old) }
         requires map { IsMapAfter self.old (lines_of self.old) }
+        requires remembered { AreRememberedAfter self.old (lines_of self.old) }
         ensures after { OnOk result (IsAfter self.new (Line.Reply reply.now ∷ lines_of self.old)) }
         ensures map { OnOk result (IsMapAfter self.new (Line.Reply reply.now ∷ lines_of self.old)) }
+        ensures remembered { OnOk result (AreRememberedAfter self.new (Line.Reply reply.now ∷ lines_of self.old)) }
         ensures at { self.new.at ≡ self.old.at }
         ensures record { self.new.record ≡ self.old.record }
     {
@@ -505,6 +526,8 @@ impl<'a> Run<'a> {
     /// A reply is that to a client's next call.
     fn check_reply(&self, client: &Client, reply: &Reply) -> Result<(), Refused>
         requires after { IsAfter self.now (lines_of self.now) }
+        requires map { IsMapAfter self.now (lines_of self.now) }
+        requires remembered { AreRememberedAfter self.now (lines_of self.now) }
         requires owed { entry_owed (layout_of self.now) (lines_of self.now) ≡ None }
         requires client { slice_get self.now.clients.items client.now.pass.0 ≡ Some client.now }
         requires own { client.now.pass ≡ reply.now.client }
@@ -539,6 +562,8 @@ impl<'a> Run<'a> {
     /// The answer to a client's call is right, and the call took place where the reply says.
     fn check_answer(&self, client: &Client, command: &Command, reply: &Reply) -> Result<(), Refused>
         requires after { IsAfter self.now (lines_of self.now) }
+        requires map { IsMapAfter self.now (lines_of self.now) }
+        requires remembered { AreRememberedAfter self.now (lines_of self.now) }
         requires owed { entry_owed (layout_of self.now) (lines_of self.now) ≡ None }
         requires client { slice_get self.now.clients.items client.now.pass.0 ≡ Some client.now }
         requires own { client.now.pass ≡ reply.now.client }
