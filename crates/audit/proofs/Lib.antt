@@ -4,3 +4,4 @@ mod Fitting
 mod RisingLevels
 mod TreeLines
 mod MapLines
+mod FirstPairs
