@@ -358,9 +358,13 @@ impl<'a> Run<'a> {
         let _row = *row;
         match command {
             Command::Insert { key: _, value: _ } | Command::Delete { key: _ } => {
-                hold(self.edit_of(scx) == Some(*command))
+                hold(self.edit_of(scx) == Some(*command))?;
+                Ok(())
             }
-            _ => hold(cells::is_entry_for(&self.steps, client.pass, command, scx)),
+            _ => {
+                hold(cells::is_entry_for(&self.steps, client.pass, command, scx))?;
+                Ok(())
+            }
         }
     }
 
@@ -416,8 +420,13 @@ impl<'a> Run<'a> {
     }
 
     /// The command whose edit an SCX-record makes, on the tree.
-    fn edit_of(&self, scx: ScxNo) -> Option<Command> {
-        *self.edits.get(scx.0 as usize)?
+    fn edit_of(&self, scx: ScxNo) -> Option<Command>
+        ensures { IfSome result (λ command. slice_get self.now.edits.items scx.0 ≡ Some (Some command)) }
+    {
+        match self.edits.get(scx.0 as usize) {
+            Some(edit) => *edit,
+            None => None,
+        }
     }
 
     /// Makes a lawful step, which asks for this entry.
@@ -450,7 +459,7 @@ impl<'a> Run<'a> {
         self.steps
             .begin(&client, self.record.script.calls.as_slice());
         self.steps.make(row)?;
-        note_edit(self.edits.as_mut_slice(), row.after, edit);
+        note_edit(&mut self.edits, row.after, edit);
         self.clients[row.pass.0 as usize] = client.stepped(number);
         note_win(&mut self.clients, number, &owed);
         self.turn = number;
@@ -589,11 +598,12 @@ impl<'a> Run<'a> {
 }
 
 /// An SCX-record has begun that makes the edit of this command, if there is one.
-fn note_edit(edits: &mut [Option<Command>], scx: u64, edit: Option<Command>) {
-    if edit.is_some()
-        && let Some(place) = edits.get_mut(scx as usize)
-    {
-        *place = edit;
+fn note_edit(edits: &mut Vec<Option<Command>>, scx: u64, edit: Option<Command>)
+    ensures none { edit ≡ None → edits.new.items ≡ edits.old.items }
+    ensures some { IsSome edit → edits.new.items ≡ set edits.old.items scx edit }
+{
+    if edit.is_some() && (scx as usize) < edits.len() {
+        edits[scx as usize] = edit;
     }
 }
 
