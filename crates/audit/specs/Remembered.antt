@@ -76,16 +76,16 @@ pub record IsBegunWith (lay : Layout) (calls : List Call) (lines : List Line) (c
   pub nodes : HasNodesLeft lay c (start lay.mode lines c) memory.nodes
   pub scx : HasScxLeft lay c (start lay.mode lines c) memory.scx
   -- of each cell of a `vlx` that is said to be as its snapshot found it
-  pub same : (cells : _) → next_command calls lines c ≡ Some (Vlx cells) → (place n : ℕ) → slice_get (cells_of cells) place ≡ Some n → slice_get memory.same.items place ≡ Some true → IsAsSnapped lay (start lay.mode lines c) (linked calls lay.mode lines c) n
+  pub same : (cells : _) → next_command calls lines c ≡ Some (Vlx cells) → (place n : ℕ) → slice_get (cells_of cells) place ≡ Some n → slice_get memory.same place ≡ Some true → IsAsSnapped lay (start lay.mode lines c) (linked calls lay.mode lines c) n
 
 -- what is remembered of client c is what the lines say
 pub record IsMemoryOf (lay : Layout) (calls : List Call) (lines : List Line) (c : ℕ) (memory : Memory) : Type 0 where
   pub begins : IsSome (begin lines c) → IsBegunWith lay calls lines c memory
   pub looks : (look : Look) → memory.look ≡ Some look → IsLookOf lay (history lay.mode lines) c LoadInfo look
   pub freezes : (look : Look) → memory.freeze ≡ Some look → IsLookOf lay (history lay.mode lines) c Freeze look
-  pub snapshots : (n : ℕ) (kept : Option Snapshot) → slice_get memory.snapshots.items n ≡ Some kept → IsSnapshotOf lay (history lay.mode lines) n kept (linked calls lay.mode lines c n)
+  pub snapshots : (n : ℕ) (kept : Option Snapshot) → slice_get memory.snapshots n ≡ Some kept → IsSnapshotOf lay (history lay.mode lines) n kept (linked calls lay.mode lines c n)
 
 -- all that is remembered of the steps and of each client
-pub record AreRemembered (lay : Layout) (calls : List Call) (lines : List Line) (steps : Steps) : Type 0 where
-  pub steps : AreStepsOf lay (history lay.mode lines) steps
-  pub memories : (c : ℕ) (memory : Memory) → slice_get steps.memories.items c ≡ Some memory → IsMemoryOf lay calls lines c memory
+pub record AreRemembered (lay : Layout) (calls : List Call) (lines : List Line) (kept : Steps) : Type 0 where
+  pub steps : AreStepsOf lay (history lay.mode lines) kept
+  pub memories : (c : ℕ) (memory : Memory) → slice_get kept.memories.items c ≡ Some memory → IsMemoryOf lay calls lines c memory

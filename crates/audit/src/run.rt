@@ -360,7 +360,7 @@ impl<'a> Run<'a> {
             Command::Insert { key: _, value: _ } | Command::Delete { key: _ } => {
                 hold(self.edit_of(scx) == Some(*command))
             }
-            _ => hold(cells::is_entry_for(&self.steps, client.pass, command, scx)),
+            _ => hold(cells::is_entry_for(&self.steps, client, command, scx)),
         }
     }
 
