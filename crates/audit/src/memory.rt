@@ -1,4 +1,6 @@
 //! What is remembered of the steps of a client's call, for its answer.
+ghost use Rattle.std.specs.Prelude.{◌≡◌, ◌<◌, Some, None, IfSome, IfNone, slice_get};
+
 use arena::NodeNo;
 
 /// A snapshot that a client keeps of a cell.
@@ -54,7 +56,10 @@ impl Memory {
     }
 
     /// The snapshot that it keeps of a cell.
-    pub(crate) fn snapshot(&self, cell: NodeNo) -> Option<Snapshot> {
+    pub(crate) fn snapshot(&self, cell: NodeNo) -> Option<Snapshot>
+        ensures some { IfSome result (λ kept. slice_get self.now.snapshots cell.0 ≡ Some (Some kept)) }
+        ensures none { IfNone result (cell.0 < 9 → slice_get self.now.snapshots cell.0 ≡ Some None) }
+    {
         *self.snapshots.as_slice().get(cell.0 as usize)?
     }
 

@@ -52,6 +52,7 @@ pub(crate) struct Run<'a> {
 
 impl<'a> Run<'a> {
     ghost use Rattle.std.specs.Prelude.{◌≡◌, ◌≢◌, ℕ, suc, ◌+◌, ◌<◌, ◌∷◌, [], Some, None, true, IsTrue, IfOk, IfSome, OnOk, slice_get, vec_len};
+    ghost use Rattle.arena.specs.declared.step.Row.{Row as RowOf};
     ghost use Rattle.arena.specs.Lawful.{IsLawful};
     ghost use Rattle.record.specs.declared.record.Line.{Line};
     ghost use Rattle.record.specs.declared.record.Row.{Row};
@@ -335,34 +336,26 @@ impl<'a> Run<'a> {
         hold(client.won.is_none())?;
         hold(entry.call == client.answered)?;
         hold(has_begun(&client, row.pass))?;
-        self.check_entry(&client, &command, row, entry.scx)?;
+        self.check_entry(&client, &command, entry.scx)?;
         Ok(())
     }
 
     /// An entry of this SCX-record is one that the client's call makes.
-    fn check_entry(
-        &self,
-        client: &Client,
-        command: &Command,
-        row: &arena::Row,
-        scx: ScxNo,
-    ) -> Result<(), Refused>
+    fn check_entry(&self, client: &Client, command: &Command, scx: ScxNo) -> Result<(), Refused>
         requires after { IsAfter self.now (lines_of self.now) }
         requires map { IsMapAfter self.now (lines_of self.now) }
         requires remembered { AreRememberedAfter self.now (lines_of self.now) }
         requires client { slice_get self.now.clients.items client.now.pass.0 ≡ Some client.now }
         requires command { next_command (calls_of self.now) (lines_of self.now) client.now.pass.0 ≡ Some command.now }
-        requires wins { IsWin (seen self.now.steps.judge) row.now scx.0 }
-        ensures { OnOk result ((n : ℕ) (side : Side) → row.now.word ≡ child n side → IsEntryFor (layout_of self.now) client.now.pass.0 (seen self.now.steps.judge) (start (layout_of self.now).mode (lines_of self.now) client.now.pass.0) (linked (calls_of self.now) (layout_of self.now).mode (lines_of self.now) client.now.pass.0) (entered (layout_of self.now) (seen self.now.steps.judge) scx.0 n side row.now.after) command.now) }
+        ensures { OnOk result ((row : RowOf) (n : ℕ) (side : Side) → IsWin (seen self.now.steps.judge) row scx.0 → row.word ≡ child n side → IsEntryFor (layout_of self.now) client.now.pass.0 (seen self.now.steps.judge) (start (layout_of self.now).mode (lines_of self.now) client.now.pass.0) (linked (calls_of self.now) (layout_of self.now).mode (lines_of self.now) client.now.pass.0) (entered (layout_of self.now) (seen self.now.steps.judge) scx.0 n side row.after) command.now) }
     {
-        let _row = *row;
         match command {
             Command::Insert { key: _, value: _ } | Command::Delete { key: _ } => {
                 hold(self.edit_of(scx) == Some(*command))?;
                 Ok(())
             }
             _ => {
-                hold(cells::is_entry_for(&self.steps, client.pass, command, scx))?;
+                hold(cells::is_entry_for(&self.steps, client, command, scx))?;
                 Ok(())
             }
         }
