@@ -38,7 +38,7 @@ use Rattle.places.specs.declared.places.Places.{Places}
 use Rattle.places.specs.Places.{changes, Knows, HoldsOfKey}
 use Rattle.audit.specs.Edits.{MayMakeFor, HasBegunFor, AreEdits}
 use Rattle.audit.specs.Trees.{IsMapSoFar, IsTreeSoFar}
-use Rattle.audit.proofs.TreeLines.{tree_idle, tree_reply, tree_log, tree_step, edits_kept, edits_set, edit_allowed}
+use Rattle.audit.proofs.TreeLines.{tree_idle, tree_reply, tree_log, tree_step, edits_kept, edits_set, edit_allowed, edit_entry}
 
 -- what holds of the command of each call holds of each command of a client
 of_commands : (P : Command → Type 0) (calls : List Call) (c n : ℕ) (command : Command) → All (λ (call : Call). P call.command) calls → slice_get (commands calls c) n ≡ Some command → P command
@@ -184,6 +184,12 @@ module _ (lay : Layout) (tries : ℕ) (calls : List Call) (of_mode : AreOf lay.m
 
       tree : lay.mode ≡ Tree → IsTreeSoFar lay calls more (changes places) (Step (Made number row) ∷ lines)
       tree mode = tree_step lay tries calls mode (map_calls lay.mode calls mode of_mode) begun (changes places) lines (x.tree mode) number row more a lawful (allows mode) (there (λ k. HasRisingLevels (row ⊳ k)) (rising mode (here (λ k. HasRisingLevels k) (x.tree mode).rising))) (edits mode)
+
+  -- an entry of an SCX-record, whose edit is that of a client's call, is one that the call makes
+  pub map_entry : (h : History) → h ≡ history lay.mode lines → (c s : ℕ) (command : Command) → next_command calls lines c ≡ Some command → mode_of command ≡ Tree → slice_get begun s ≡ Some (Some command) → (start : History) (linked : ℕ → Option History) (e : Entered) → e.scx ≡ s → IsEntryFor lay c h start linked e command
+  map_entry h same c s command is mode known start linked e own =
+      let tree = sym (next_of_mode lay.mode calls lines c command of_mode is) ∙ mode in
+      edit_entry lay c h start linked e command (subst (λ (k : ℕ). HasBegunFor lay h k command) (sym own) (subst (λ (g : History). HasBegunFor lay g s command) (sym same) ((x.tree tree).edits s command known)))
 
   -- what is said of the whole run at its end
   pub map_whole : AreLines lay tries calls lines → IsWhole lay.mode lay calls lines
