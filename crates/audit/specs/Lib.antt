@@ -3,3 +3,4 @@ pub mod After
 pub mod Edits
 pub mod Trees
 pub mod Remembered
+pub mod Remembering

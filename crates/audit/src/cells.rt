@@ -1,4 +1,10 @@
 //! Calls of cells: what their entries do, and what their answers say.
+ghost use Rattle.std.specs.Prelude.{◌≡◌, ℕ, true, Option, Some, slice_get};
+ghost use Rattle.arena.specs.History.{History};
+ghost use Rattle.record.specs.Answers.{IsAsSnapped};
+ghost use Rattle.judge.specs.Histories.{history as seen};
+ghost use Rattle.audit.specs.Remembered.{AreSnapshotsOf};
+
 use crate::client::Client;
 use crate::memory::{Look, Memory};
 use crate::steps::Steps;
@@ -113,7 +119,9 @@ fn is_as_looked(judge: &Judge, memory: &Memory, cell: NodeNo) -> bool {
 }
 
 /// Of each of the cells of a `vlx`: whether it is as the client's snapshot says.
-pub(crate) fn same_cells(judge: &Judge, memory: &Memory, cells: &[Cell]) -> [bool; 4] {
+pub(crate) fn same_cells(judge: &Judge, memory: &Memory, cells: &[Cell]) -> [bool; 4]
+    ensures { (linked : ℕ → Option History) → AreSnapshotsOf judge.now.layout (seen judge.now) memory.now linked → (place n : ℕ) → slice_get cells.now place ≡ Some n → slice_get result place ≡ Some true → IsAsSnapped judge.now.layout (seen judge.now) linked n }
+{
     let mut same = [false; 4];
     for (cell, flag) in cells.iter().zip(same.iter_mut()) {
         *flag = is_as_snapped(judge, memory, cell.node());
