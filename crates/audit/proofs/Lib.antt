@@ -4,3 +4,6 @@ mod Fitting
 mod RisingLevels
 mod TreeLines
 mod MapLines
+mod RowMoments
+mod LeftShares
+mod Remembering
