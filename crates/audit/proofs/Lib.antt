@@ -5,3 +5,7 @@ mod RisingLevels
 mod TreeLines
 mod MapLines
 mod FirstPairs
+mod RowMoments
+mod LeftShares
+mod Remembering
+mod TurnMoments

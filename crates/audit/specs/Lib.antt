@@ -4,3 +4,5 @@ pub mod Edits
 pub mod Trees
 pub mod Remembered
 pub mod Asked
+pub mod CellCalls
+pub mod Remembering
