@@ -1,5 +1,4 @@
 //! Calls of cells: what their entries do, and what their answers say.
-<<<<<<< HEAD
 ghost use Rattle.std.specs.Prelude.{◌≡◌, ℕ, ◌<◌, ◌≤◌, ◌↔◌, [], ◌∷◌, List, length, slice_get, true, false, Option, Some, None, IsSome, IfSome, IfNone, IsTrue, Contains};
 ghost use Rattle.arena.specs.declared.layout.Layout.{Layout};
 ghost use Rattle.arena.specs.declared.step.Row.{Row as StepRow};
@@ -35,13 +34,6 @@ ghost use Rattle.judge.specs.Histories.{history as seen};
 ghost use Rattle.audit.specs.After.{IsClientAfter};
 ghost use Rattle.audit.specs.CellCalls.{AreSnapshotsOf, AreSameAt, IsCallSeen, IsLookAt, IsOverCells, IsFreshWith};
 ghost use Rattle.audit.specs.Remembered.{AreStepsOf, AreRemembered, IsLookOf};
-=======
-ghost use Rattle.std.specs.Prelude.{◌≡◌, ℕ, true, Option, Some, slice_get};
-ghost use Rattle.arena.specs.History.{History};
-ghost use Rattle.record.specs.Answers.{IsAsSnapped};
-ghost use Rattle.judge.specs.Histories.{history as seen};
-ghost use Rattle.audit.specs.Remembered.{AreSnapshotsOf};
->>>>>>> 724932a4632dd9501abfcba97cc835f3891b6c72
 
 use crate::client::Client;
 use crate::memory::{Look, Memory};
@@ -206,11 +198,7 @@ fn is_as_looked(judge: &Judge, memory: &Memory, cell: NodeNo) -> bool
 
 /// Of each of the cells of a `vlx`: whether it is as the client's snapshot says.
 pub(crate) fn same_cells(judge: &Judge, memory: &Memory, cells: &[Cell]) -> [bool; 4]
-<<<<<<< HEAD
     ensures { (linked : ℕ → Option History) → AreSnapshotsOf judge.now.layout (seen judge.now) memory.now linked → AreSameAt judge.now.layout (seen judge.now) linked cells.now result }
-=======
-    ensures { (linked : ℕ → Option History) → AreSnapshotsOf judge.now.layout (seen judge.now) memory.now linked → (place n : ℕ) → slice_get cells.now place ≡ Some n → slice_get result place ≡ Some true → IsAsSnapped judge.now.layout (seen judge.now) linked n }
->>>>>>> 724932a4632dd9501abfcba97cc835f3891b6c72
 {
     let mut same = [false; 4];
     for (cell, flag) in cells.iter().zip(same.iter_mut()) {
