@@ -9,3 +9,5 @@ mod RowMoments
 mod LeftShares
 mod Remembering
 mod TurnMoments
+mod WonEntries
+mod MapAnswers

@@ -1,6 +1,7 @@
 -- What is known of a call of the map whose answer is judged. Lines stand here with the newest first.
 use Rattle.std.specs.Prelude.{◌≡◌, ℕ, ◌-◌, ◌<◌, ◌≤◌, ◌⊎◌, Bool, true, false, List, [], ◌∷◌, length, Option, Some, None, IsSome}
 use Rattle.arena.specs.declared.layout.Layout.{Layout}
+use Rattle.arena.specs.declared.fault.Resource.{Resource}
 use Rattle.spelling.specs.declared.pair.Pair.{Pair}
 use Rattle.spelling.specs.OrderedMap.{MapCall, Edit, MapEdit, edit_key, get, reply}
 use Rattle.script.specs.declared.command.Call.{Call}
@@ -12,20 +13,24 @@ use Rattle.record.specs.declared.record.Reply.{Reply}
 use Rattle.record.specs.Answers.{HasItsEntry}
 use Rattle.record.specs.CommandRules.{enters}
 use Rattle.record.specs.Commands.{next_command}
+use Rattle.record.specs.Edits.{HadAtKey}
+use Rattle.record.specs.Rules.Insert.{nodes_for}
+use Rattle.record.specs.Shares.{HasTooFewToTry}
 use Rattle.record.specs.LawfulRun.{AreLines}
 use Rattle.record.specs.MapRecord.{map_at, map_call, reply_told}
 use Rattle.record.specs.Placed.{IsGreatestTurn}
 use Rattle.record.specs.Replies.{IsFitting}
 use Rattle.record.specs.SpelledMap.{AreSpelled}
-use Rattle.record.specs.Turns.{turns, answered, begin, won, entry_owed}
+use Rattle.record.specs.Turns.{history, turns, answered, begin, start, won, entry_owed}
 use Rattle.places.specs.declared.places.Change.{Change}
 use Rattle.places.specs.Entries.{AreEntries}
 use Rattle.places.specs.Ordered.{IsOrderedRead}
 use Rattle.audit.specs.declared.client.Client.{Client}
 
 -- The lines so far are lawful ones, in which the words spell the map, and the changes are those of
--- their entries. The reply is one to the client's next call, of this command: it names the call, its
--- first turn and its last, and an answer that the call may give behind the newest line.
+-- their entries. The reply is one to the client's next call, of this command, which is one of the
+-- map: it names the call, its first turn and its last, and an answer that the call may give behind
+-- the newest line.
 pub record IsAsked (lay : Layout) (tries : ℕ) (calls : List Call) (lines : List Line) (changed : List Change) (client : Client) (command : Command) (r : Reply) : Type 0 where
   pub in_order : AreLines lay tries calls lines
   pub owed : entry_owed lay lines ≡ None
@@ -34,6 +39,7 @@ pub record IsAsked (lay : Layout) (tries : ℕ) (calls : List Call) (lines : Lis
   pub pass : client.pass.0 ≡ r.client.0
   pub has_won : client.won ≡ won lay lines r.client.0
   pub next : next_command calls lines r.client.0 ≡ Some command
+  pub of_map : (call : MapCall) × (map_call (Some command) ≡ Some call)
   pub number : r.call ≡ answered lines r.client.0
   pub begun : begin lines r.client.0 ≡ Some r.begin
   pub end : r.end ≡ turns lines
@@ -44,6 +50,11 @@ pub record IsAsked (lay : Layout) (tries : ℕ) (calls : List Call) (lines : Lis
 -- after some turn from `first` to `last` the map had this at the key
 abbrev pub HadWithin : List Call → List Line → ℕ → Option ℕ → ℕ → ℕ → Type 0
 HadWithin calls lines key value first last = (m : ℕ) × (first ≤ m) × (m ≤ last) × (get key (map_at calls lines m) ≡ value)
+
+-- after some row behind the call's begin the map that the words spelled had this at the key, and the
+-- share has too little for an edit there, and not by the call's own doing
+abbrev pub IsTooFewFor : Layout → List Line → Reply → ℕ → Option ℕ → Resource → ℕ → Type 0
+IsTooFewFor lay lines r key old what left = HadAtKey lay (history lay.mode lines) (start lay.mode lines r.client.0) key old × HasTooFewToTry lay r.client.0 (history lay.mode lines) (start lay.mode lines r.client.0) (nodes_for old) what left
 
 -- the answer tells what the map had just before the turn at the key of the command, which is an edit
 pub record IsToldBefore (calls : List Call) (lines : List Line) (command : Command) (answer : Answer) (turn : ℕ) : Type 0 where

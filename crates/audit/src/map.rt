@@ -4,16 +4,17 @@ ghost use Rattle.arena.specs.declared.layout.Layout.{Layout};
 ghost use Rattle.spelling.specs.declared.pair.Pair.{Pair as PairOf};
 ghost use Rattle.spelling.specs.OrderedMap.{get, IsRising};
 ghost use Rattle.script.specs.declared.command.Call.{Call as CallOf};
+ghost use Rattle.script.specs.declared.command.Command.{Command as CommandOf};
 ghost use Rattle.record.specs.declared.record.Answer.TheVariants.{Full};
 ghost use Rattle.record.specs.declared.record.Line.{Line};
-ghost use Rattle.record.specs.CommandRules.{IsRight, IsPlaced};
+ghost use Rattle.record.specs.CommandRules.{IsRight, IsPlaced, MayAnswerAtOnce};
 ghost use Rattle.record.specs.Linked.{linked};
 ghost use Rattle.record.specs.MapRecord.{map_at, reply_told};
 ghost use Rattle.record.specs.Turns.{history, start, won};
 ghost use Rattle.places.specs.Entries.{AreEntries};
 ghost use Rattle.places.specs.Ordered.{looks_for, most_told, pairs_read, FallFrom};
 ghost use Rattle.places.specs.Places.{changes, HoldsOfKey};
-ghost use Rattle.audit.specs.Asked.{IsAsked, HadWithin, IsToldBefore, IsValueAt, IsReadAt, IsFoundIn, IsBehind, IsToldOf};
+ghost use Rattle.audit.specs.Asked.{IsAsked, HadWithin, IsToldBefore, IsValueAt, IsReadAt, IsTooFewFor, IsFoundIn, IsBehind, IsToldOf};
 ghost use Rattle.audit.specs.Remembered.{AreRemembered};
 ghost use Rattle.audit.specs.declared.client.Client.{Client as ClientOf};
 
@@ -307,23 +308,46 @@ fn is_full(
 {
     match command {
         Command::Insert { key, value: _ } => {
-            (lacked(places, *key, reply) && steps.has_too_few_to_try(client.pass, 3, full))
-                || (had_some(places, calls, *key, reply)
-                    && steps.has_too_few_to_try(client.pass, 1, full))
+            is_full_for_new(steps, places, client, *key, reply, full)
+                || is_full_for_old(steps, places, calls, client, *key, reply, full)
         }
         Command::Delete { key } => {
-            had_some(places, calls, *key, reply)
-                && steps.has_too_few_to_try(client.pass, 1, full)
+            is_full_for_old(steps, places, calls, client, *key, reply, full)
         }
         _ => false,
     }
 }
 
-/// Whether the map lacked a key after some turn of a call.
-fn lacked(places: &Places, key: u64, reply: &Reply) -> bool
-    ensures { (calls : List CallOf) (lines : List Line) → AreEntries calls lines (changes places.now) → IsTrue result → HadWithin calls lines key None reply.now.begin reply.now.end }
+/// Whether a key had no value after some turn of a call, and the share has too little for a new one.
+fn is_full_for_new(
+    steps: &Steps,
+    places: &Places,
+    client: &Client,
+    key: u64,
+    reply: &Reply,
+    full: (Resource, u32),
+) -> bool
+    requires { client.now.pass.0 < steps.now.judge.layout.passes }
+    ensures { (lay : Layout) (tries : ℕ) (calls : List CallOf) (lines : List Line) (command : CommandOf) → IsAsked lay tries calls lines (changes places.now) client.now command reply.now → AreRemembered lay calls lines steps.now → (MayAnswerAtOnce command reply.now.answer → ⊥) → IsTrue result → IsTooFewFor lay lines reply.now key None full.0 full.1 }
 {
-    had(places, key, None, reply)
+    had(places, key, None, reply) && steps.has_too_few_to_try(client.pass, 3, full)
+}
+
+/// Whether a key had a value after some turn of a call, and the share has too little for another one
+/// or none.
+fn is_full_for_old(
+    steps: &Steps,
+    places: &Places,
+    calls: &[Call],
+    client: &Client,
+    key: u64,
+    reply: &Reply,
+    full: (Resource, u32),
+) -> bool
+    requires { client.now.pass.0 < steps.now.judge.layout.passes }
+    ensures { (lay : Layout) (tries : ℕ) (lines : List Line) (command : CommandOf) → IsAsked lay tries calls.now lines (changes places.now) client.now command reply.now → AreRemembered lay calls.now lines steps.now → (MayAnswerAtOnce command reply.now.answer → ⊥) → IsTrue result → (v : ℕ) × IsTooFewFor lay lines reply.now key (Some v) full.0 full.1 }
+{
+    had_some(places, calls, key, reply) && steps.has_too_few_to_try(client.pass, 1, full)
 }
 
 /// Whether a key had a value after some turn of a call: one that some call gives it.
