@@ -234,9 +234,6 @@ module _ (lay : Layout) (tries : ℕ) (calls : List Call) (lines : List Line) (c
         placed = subst (λ (a : Answer). IsPlacedOnMap (reply_told a) calls lines (Edit (Delete key)) r) (sym answers) (is_change lay tries calls lines changed client (DeleteOf key) r x turn (Delete key) (Some old) has moment answers (had ∙ some));
       }
 
-  not_edit : {A : Type 0} (call : MapCall) (e : MapEdit) → ((d : MapEdit) → call ≡ Edit d → ⊥) → Some call ≡ Some (Edit e) → A
-  not_edit call e differs is = absurd (differs e (let z : call ≡ Edit e = cc in z))
-
   -- a call whose update has won
   pub change_answered : (command : Command) (turn : ℕ) → IsAsked lay tries calls lines changed client command r → client.won ≡ Some turn → r.moment ≡ Some turn → IsToldBefore calls lines command r.answer turn → IsAnswered lay calls lines r command
   change_answered (InsertOf key value) turn x has moment t = insert_answered key value turn t x (sym x.has_won ∙ has) moment
@@ -247,7 +244,7 @@ module _ (lay : Layout) (tries : ℕ) (calls : List Call) (lines : List Line) (c
   change_answered command turn x has moment t = absurd (let z : None ≡ Some (Edit t.edit) = t.is in cc)
 
   -- a get
-  pub get_answered : (key : ℕ) → IsAsked lay tries calls lines changed client (GetOf key) r → won lay lines r.client.0 ≡ None → IsValueAt calls lines key r → IsAnswered lay calls lines r (GetOf key)
+  get_answered : (key : ℕ) → IsAsked lay tries calls lines changed client (GetOf key) r → won lay lines r.client.0 ≡ None → IsValueAt calls lines key r → IsAnswered lay calls lines r (GetOf key)
   get_answered key x none v =
       let had = value_had lay tries calls lines changed client (GetOf key) r x key (λ e. e) v in
       let at = had.3 in
@@ -270,8 +267,10 @@ module _ (lay : Layout) (tries : ℕ) (calls : List Call) (lines : List Line) (c
         placed = subst (λ (a : Answer). IsPlacedOnMap (reply_told a) calls lines (Edit (Delete key)) r) (sym answers) (value_reading lay tries calls lines changed client (DeleteOf key) r x key (Edit (Delete key)) (λ m. refl) none v);
       }
 
-  pub delete_read : (key : ℕ) → IsAsked lay tries calls lines changed client (DeleteOf key) r → won lay lines r.client.0 ≡ None → IsValueAt calls lines key r → IsAnswered lay calls lines r (DeleteOf key)
-  delete_read key x none v = absent_answered key v.told v refl x none
+  -- either of them
+  pub value_answered : (command : Command) (key : ℕ) → (command ≡ GetOf key) ⊎ (command ≡ DeleteOf key) → IsAsked lay tries calls lines changed client command r → won lay lines r.client.0 ≡ None → IsValueAt calls lines key r → IsAnswered lay calls lines r command
+  value_answered command key (inl e) x none v = subst (λ k. IsAnswered lay calls lines r k) (sym e) (get_answered key (subst (λ k. IsAsked lay tries calls lines changed client k r) e x) none v)
+  value_answered command key (inr e) x none v = subst (λ k. IsAnswered lay calls lines r k) (sym e) (absent_answered key v.told v refl (subst (λ k. IsAsked lay tries calls lines changed client k r) e x) none)
 
   -- an ordered read
   pub read_answered : (command : Command) → IsAsked lay tries calls lines changed client command r → won lay lines r.client.0 ≡ None → IsReadAt calls lines command r → IsAnswered lay calls lines r command

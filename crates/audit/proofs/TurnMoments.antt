@@ -117,7 +117,7 @@ spelled_more : (lay : Layout) (now start : History) (r : StepRow) (m : List Pair
 spelled_more lay now start r m x = record { row = x.row; before = x.before; since = x.since; moment = x.moment; behind = x.behind; within = inr x.within; spelled = x.spelled }
 
 -- an entry of a later turn leaves the map after a turn
-map_before : (calls : List Call) (lines : List Line) (e : Entry) (m : ℕ) → m < e.step → map_at calls (Log e ∷ lines) m ≡ map_at calls lines m
+pub map_before : (calls : List Call) (lines : List Line) (e : Entry) (m : ℕ) → m < e.step → map_at calls (Log e ∷ lines) m ≡ map_at calls lines m
 map_before calls lines e m less = go (leb e.step m) refl
   where
     go : (b : Bool) → leb e.step m ≡ b → map_of calls (cond b (e ∷ entries_until m (written_log lines)) (entries_until m (written_log lines))) ≡ map_at calls lines m

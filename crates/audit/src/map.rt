@@ -76,10 +76,10 @@ fn had_before(places: &Places, command: &Command, answer: &Answer, turn: u64) ->
     let Answer::Value(told) = answer else {
         return false;
     };
+    let before = turn.saturating_sub(1);
     match command {
-        Command::Insert { key, value: _ } | Command::Delete { key } => {
-            has_at(places, *key, *told, turn.saturating_sub(1))
-        }
+        Command::Insert { key, value: _ } => has_at(places, *key, *told, before),
+        Command::Delete { key } => has_at(places, *key, *told, before),
         _ => false,
     }
 }
@@ -91,7 +91,8 @@ fn is_read(places: &Places, calls: &[Call], command: &Command, reply: &Reply) ->
     ensures placed { (lay : Layout) (tries : ℕ) (lines : List Line) (client : ClientOf) → IsAsked lay tries calls.now lines (changes places.now) client command.now reply.now → won lay lines reply.now.client.0 ≡ None → IsTrue result → IsPlaced lay calls.now lines reply.now command.now }
 {
     match command {
-        Command::Get { key } | Command::Delete { key } => is_read_of(places, *key, reply),
+        Command::Get { key } => is_read_of(places, *key, reply),
+        Command::Delete { key } => is_read_of(places, *key, reply),
         _ => is_read_at(places, calls, command, reply),
     }
 }
@@ -126,8 +127,8 @@ fn is_read_at(places: &Places, calls: &[Call], command: &Command, reply: &Reply)
         return false;
     }
     match (command, &reply.answer) {
-        (Command::Successor { key: _ }, Answer::Value(None)) => {
-            tells_at(places, calls, command, &[], turn)
+        (Command::Successor { key: _ }, Answer::Value(told)) => {
+            told.is_none() && tells_at(places, calls, command, &[], turn)
         }
         (Command::Successor { key: _ }, Answer::Pair(pair)) => {
             tells_at(places, calls, command, &[*pair], turn)
