@@ -11,3 +11,4 @@ mod Remembering
 mod TurnMoments
 mod WonEntries
 mod MapAnswers
+mod Refusals
