@@ -7,3 +7,4 @@ mod MapLines
 mod RowMoments
 mod LeftShares
 mod Remembering
+mod RunMemories
