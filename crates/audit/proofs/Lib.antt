@@ -7,3 +7,5 @@ mod MapLines
 mod RowMoments
 mod LeftShares
 mod Remembering
+mod Noted
+mod Unstarted
