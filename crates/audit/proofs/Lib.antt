@@ -8,3 +8,5 @@ mod RowMoments
 mod LeftShares
 mod Remembering
 mod RunMemories
+mod Noted
+mod Unstarted
