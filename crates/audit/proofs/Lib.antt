@@ -10,3 +10,4 @@ mod Remembering
 mod RunMemories
 mod Noted
 mod Unstarted
+mod FirstLines
