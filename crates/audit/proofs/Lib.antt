@@ -12,3 +12,7 @@ mod TurnMoments
 mod WonEntries
 mod MapAnswers
 mod Refusals
+mod RunMemories
+mod Noted
+mod Unstarted
+mod FirstLines
