@@ -88,7 +88,7 @@ no_snapshot lay h n (Some moment) x = absurd x
 
 module _ (lay : Layout) (h : History) (memory : Memory) (linked : ℕ → Option History) (x : AreSnapshotsOf lay h memory linked) where
   pub is_linked : (n : ℕ) (kept : Snapshot) → slice_get memory.snapshots n ≡ Some (Some kept) → IsSome (linked n)
-  is_linked n kept is = let y = kept_snapshot lay h n kept (linked n) (x n (Some kept) is) in rw y.1 tt
+  is_linked n kept is = let y = kept_snapshot lay h n kept (linked n) (x n (Some kept) is) in rw y.1 refl
 
   pub as_snapped : (n : ℕ) (kept : Snapshot) → slice_get memory.snapshots n ≡ Some (Some kept) → last (log lay h) n ≡ kept.last → is_final (log lay h) n ≡ false → IsAsSnapped lay h linked n
   as_snapped n kept is same not_final = let y = kept_snapshot lay h n kept (linked n) (x n (Some kept) is) in (y.0, y.1, record { same = same ∙ y.3; not_final = not_final })
