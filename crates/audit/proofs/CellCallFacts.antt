@@ -16,13 +16,15 @@ use Rattle.arena.specs.Log.{log, last, is_final}
 use Rattle.arena.specs.Words.{state}
 use Rattle.record.specs.Answers.{IsUnchanged, IsAsSnapped, IsInTheWay}
 use Rattle.record.specs.Snapshots.{IsLastLook, IsFirstUnlinked, AreLinked}
-use Rattle.audit.specs.CellCalls.{AreSnapshotsOf, IsCallSeen, IsLookAt, IsOwnLook, IsAsLooked}
-use Rattle.audit.specs.Remembered.{rows_of, IsMomentAt, IsLookOf, IsSnapshotOf}
+use Rattle.audit.specs.CellCalls.{IsCallSeen, IsLookAt, IsOwnLook, IsAsLooked}
+use Rattle.audit.specs.Remembered.{rows_of, IsMomentAt, IsLookOf, IsSnapshotOf, AreSnapshotsOf}
 use Rattle.audit.specs.declared.memory.Look.{Look}
 use Rattle.audit.specs.declared.memory.Memory.{Memory}
 use Rattle.audit.specs.declared.memory.Snapshot.{Snapshot}
 use Rattle.audit.proofs.CellLists.{at_place, each_contained}
-use Rattle.audit.proofs.CellMoments.{look_found, looked, whole_moment, kept_snapshot, no_snapshot, is_linked}
+use Rattle.arena.proofs.Lemmas.{ends_self}
+use Rattle.audit.proofs.RowMoments.{one_moment}
+use Rattle.audit.proofs.CellMoments.{look_found, looked, kept_snapshot, no_snapshot, is_linked}
 
 pub some_kept : (o : Option Snapshot) (P : Snapshot → Type 0) → is_some o ≡ true → IfSome o P → (kept : Snapshot) × P kept
 some_kept None P e x = absurd (false≢true e)
@@ -72,7 +74,7 @@ module _ (lay : Layout) (c : ℕ) (h start : History) (linked : ℕ → Option H
   pub just_looked : (n : ℕ) (look : Look) → IsOwnLook memory n look → look.steps ≡ rows_of h → IsLastLook c h start h n
   just_looked n look o all =
       let y = looked lay h start c memory.begun n look x.started (x.looks look o.is) o.behind o.at in
-      subst (λ (m : History). IsLastLook c h start m n) (whole_moment h y.moment y.at.within (y.at.many ∙ all)) y.is_last
+      subst (λ (m : History). IsLastLook c h start m n) (one_moment h y.moment h (rows_of h) (record { within = y.at.within; many = y.at.many ∙ all }) (record { within = ends_self h; many = refl })) y.is_last
 
   pub has_found : (kind : Kind) (look : Option Look) (n s : ℕ) → ((kept : Look) → look ≡ Some kept → IsLookOf lay h c kind kept) → IsLookAt look n s memory.begun → HasFound c h start kind n s
   has_found kind look n s looks l = look_found lay h start c memory.begun x.started kind l.kept (looks l.kept l.is) l.behind n s l.at l.it_found

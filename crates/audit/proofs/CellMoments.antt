@@ -12,36 +12,19 @@ use Rattle.arena.specs.Words.{info, state}
 use Rattle.arena.proofs.Lemmas.{ends_self, ends_trans}
 use Rattle.record.specs.Answers.{IsUnchanged, IsAsSnapped}
 use Rattle.record.specs.Snapshots.{IsLastLook}
-use Rattle.audit.specs.CellCalls.{AreSnapshotsOf, IsCallSeen, IsLookAt}
-use Rattle.audit.specs.Remembered.{rows_of, IsMomentAt, IsLookOf, IsSnapshotOf}
+use Rattle.audit.specs.CellCalls.{IsCallSeen, IsLookAt}
+use Rattle.audit.specs.Remembered.{rows_of, IsMomentAt, IsLookOf, IsSnapshotOf, AreSnapshotsOf}
+use Rattle.audit.proofs.RowMoments.{moment_before}
 use Rattle.audit.specs.declared.memory.Look.{Look}
 use Rattle.audit.specs.declared.memory.Memory.{Memory}
 use Rattle.audit.specs.declared.memory.Snapshot.{Snapshot}
-
-fewer_rows : (h g : History) → Extends h g → rows_of g ≤ rows_of h
-fewer_rows (Start mode) g e = rw e (omega arith)
-fewer_rows (r ⊳ h) g (inl e) = rw e (omega arith)
-fewer_rows (r ⊳ h) g (inr e) = let x = fewer_rows h g e in omega arith
-
--- of two moments the one with no more rows is a moment of the other
-pub earlier_moment : (h g k : History) → Extends h g → Extends h k → rows_of k ≤ rows_of g → Extends g k
-earlier_moment (Start mode) g k e f p = rw (e, f) refl
-earlier_moment (r ⊳ h) g k (inl e) f p = rw e f
-earlier_moment (r ⊳ h) g k (inr e) (inl f) p = absurd (let x = fewer_rows h g e in let y = ap rows_of f in omega arith)
-earlier_moment (r ⊳ h) g k (inr e) (inr f) p = earlier_moment h g k e f p
-
--- a moment with as many rows is the whole
-pub whole_moment : (h g : History) → Extends h g → rows_of g ≡ rows_of h → g ≡ h
-whole_moment (Start mode) g e p = e
-whole_moment (r ⊳ h) g (inl e) p = e
-whole_moment (r ⊳ h) g (inr e) p = absurd (let x = fewer_rows h g e in omega arith)
 
 -- Looks
 
 module _ (lay : Layout) (h start : History) (c begun : ℕ) (started : IsMomentAt h begun start) (kind : Kind) (look : Look) (x : IsLookOf lay h c kind look) (behind : begun < look.steps) where
   -- it was made since the moment
   look_since : Extends x.before start
-  look_since = earlier_moment h x.before start (ends_trans h (x.row ⊳ x.before) x.before x.newest.within (inr (ends_self x.before))) started.within (let many = x.many in let from = started.many in omega arith)
+  look_since = moment_before h x.before start (ends_trans h (x.row ⊳ x.before) x.before x.newest.within (inr (ends_self x.before))) started.within (let many = x.many in let from = started.many in omega arith)
 
   -- what it has found
   pub look_found : (n s : ℕ) → look.node.0 ≡ n → look.found ≡ s → HasFound c h start kind n s

@@ -4,6 +4,11 @@ mod Fitting
 mod RisingLevels
 mod TreeLines
 mod MapLines
-pub mod CellMoments
-pub mod CellLists
-pub mod CellCallFacts
+mod RowMoments
+mod LeftShares
+mod Remembering
+mod RunMemories
+mod CellMoments
+mod CellLists
+mod CellCallFacts
+mod CellEntries

@@ -13,15 +13,10 @@ use Rattle.record.specs.Answers.{IsAsSnapped, IsUnchanged}
 use Rattle.record.specs.Shares.{HasNodesLeft, HasScxLeft}
 use Rattle.record.specs.Snapshots.{IsLastLook}
 use Rattle.judge.specs.Histories.{history as seen}
-use Rattle.audit.specs.Remembered.{IsMomentAt, AreStepsOf, IsLookOf, IsSnapshotOf}
+use Rattle.audit.specs.Remembered.{IsMomentAt, AreStepsOf, IsLookOf, AreSnapshotsOf}
 use Rattle.audit.specs.declared.memory.Look.{Look}
 use Rattle.audit.specs.declared.memory.Memory.{Memory}
-use Rattle.audit.specs.declared.memory.Snapshot.{Snapshot}
 use Rattle.audit.specs.declared.steps.Steps.{Steps}
-
--- the snapshots that a memory keeps are those of these moments
-abbrev pub AreSnapshotsOf : Layout → History → Memory → (ℕ → Option History) → Type 0
-AreSnapshotsOf lay h memory linked = (n : ℕ) (kept : Option Snapshot) → slice_get memory.snapshots n ≡ Some kept → IsSnapshotOf lay h n kept (linked n)
 
 -- of each of the cells that is said to be the same: it is as its snapshot found it
 abbrev pub AreSameAt : Layout → History → (ℕ → Option History) → List ℕ → List Bool → Type 0

@@ -3,4 +3,5 @@ pub mod After
 pub mod Edits
 pub mod Trees
 pub mod Remembered
+pub mod Remembering
 pub mod CellCalls

@@ -72,6 +72,10 @@ IsSnapshotOf lay h n (Some kept) (Some moment) = IsMomentAt h kept.steps moment 
 IsSnapshotOf lay h n None None = Unit {0}
 IsSnapshotOf lay h n _ _ = ⊥
 
+-- the snapshots that are kept are those of these moments
+abbrev pub AreSnapshotsOf : Layout → History → Memory → (ℕ → Option History) → Type 0
+AreSnapshotsOf lay h memory linked = (n : ℕ) (kept : Option Snapshot) → slice_get memory.snapshots n ≡ Some kept → IsSnapshotOf lay h n kept (linked n)
+
 -- What is remembered of the begin of a call of client c: the history was `start` then, `linked` are
 -- the moments of the snapshots that the client keeps, and `next` is the call's command.
 pub record IsBegunWith (lay : Layout) (h start : History) (linked : ℕ → Option History) (next : Option Command) (c : ℕ) (memory : Memory) : Type 0 where
@@ -87,7 +91,7 @@ pub record IsKept (lay : Layout) (h start : History) (linked : ℕ → Option Hi
   pub begins : IsSome begin → IsBegunWith lay h start linked next c memory
   pub looks : (look : Look) → memory.look ≡ Some look → IsLookOf lay h c LoadInfo look
   pub freezes : (look : Look) → memory.freeze ≡ Some look → IsLookOf lay h c Freeze look
-  pub snapshots : (n : ℕ) (kept : Option Snapshot) → slice_get memory.snapshots n ≡ Some kept → IsSnapshotOf lay h n kept (linked n)
+  pub snapshots : AreSnapshotsOf lay h memory linked
 
 -- what is remembered of client c is what the lines say
 abbrev pub IsMemoryOf : Layout → List Call → List Line → ℕ → Memory → Type 0
@@ -97,3 +101,8 @@ IsMemoryOf lay calls lines c memory = IsKept lay (history lay.mode lines) (start
 pub record AreRemembered (lay : Layout) (calls : List Call) (lines : List Line) (all : Steps) : Type 0 where
   pub steps : AreStepsOf lay (history lay.mode lines) all
   pub memories : (c : ℕ) (memory : Memory) → slice_get all.memories.items c ≡ Some memory → IsMemoryOf lay calls lines c memory
+
+-- all that is remembered, where the call of client c has begun, or begins now
+pub record AreBegun (lay : Layout) (calls : List Call) (lines : List Line) (c : ℕ) (all : Steps) : Type 0 where
+  pub remembered : AreRemembered lay calls lines all
+  pub begun : (memory : Memory) → slice_get all.memories.items c ≡ Some memory → IsBegunWith lay (history lay.mode lines) (start lay.mode lines c) (linked calls lay.mode lines c) (next_command calls lines c) c memory

@@ -32,8 +32,8 @@ ghost use Rattle.record.specs.Snapshots.{AreLinked, IsBehindAll, IsFirstUnlinked
 ghost use Rattle.record.specs.Turns.{history, begin, start};
 ghost use Rattle.judge.specs.Histories.{history as seen};
 ghost use Rattle.audit.specs.After.{IsClientAfter};
-ghost use Rattle.audit.specs.CellCalls.{AreSnapshotsOf, AreSameAt, IsCallSeen, IsLookAt, IsOwnLook, IsAsLooked, IsOverCells, IsFreshWith};
-ghost use Rattle.audit.specs.Remembered.{AreStepsOf, AreRemembered, IsLookOf};
+ghost use Rattle.audit.specs.CellCalls.{AreSameAt, IsCallSeen, IsLookAt, IsOwnLook, IsAsLooked, IsOverCells, IsFreshWith};
+ghost use Rattle.audit.specs.Remembered.{AreStepsOf, AreRemembered, AreSnapshotsOf, IsLookOf};
 
 use crate::client::Client;
 use crate::memory::{Look, Memory};

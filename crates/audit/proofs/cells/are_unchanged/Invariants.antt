@@ -2,7 +2,7 @@ use Rattle.std.proofs.Common.{◌≡◌, ℕ, ◌<◌, get_or, Option}
 use Rattle.arena.specs.History.{History}
 use Rattle.record.specs.Answers.{IsAsSnapped}
 use Rattle.judge.specs.Histories.{history}
-use Rattle.audit.specs.CellCalls.{AreSnapshotsOf}
+use Rattle.audit.specs.Remembered.{AreSnapshotsOf}
 use Rattle.audit.proofs.cells.are_unchanged.Given as goal
 
 abbrev pub invariant-loop-cell : goal.invariant-loop-cell
