@@ -33,7 +33,7 @@ returns-then-are_linked-2 c = λ start linked steps x t.
     let p = c.args.pass.0 in
     let roomy : c.had_room.result ≡ true = search rules in
     let room = c.had_room.ensures lay p h start linked x roomy in
-    let all : AreLinked linked c.cells-cells.result.now = elim c.if-had_room.branch [ then-had_room w ↦ w.are_linked-then-had_room.ensures lay h linked x.snapshots (sym w.value-is ∙ c.if-are_linked-2.true) | else-had_room w ↦ absurd (false≢true (sym w.value-is ∙ c.if-are_linked-2.true)) ] in
+    let all : AreLinked linked c.cells-cells.result.now = elim c.if-had_room.branch [ then-had_room w ↦ w.are_linked-then-had_room.ensures lay h linked x.snapshots (sym w.value-is ∙ c.if-are_linked-2.true) | else-had_room w ↦ absurd (false≢true (sym w.if-had_room.false ∙ sym w.value-is ∙ c.if-are_linked-2.true)) ] in
     let come = c.has_come.ensures Freeze start linked steps x x.freezes t in
     subst (λ (a : Answer). ScxIsRight c.args.update.now lay p h start linked a) (sym c.in-Lost.is) (subst (λ (k : List ℕ). AreLinked linked k) c.cells-cells.ensures.cells all, room, subst (λ (k : List ℕ). IsInTheWay lay p h start Freeze k c.in-Lost.node.0 c.in-Lost.scx.0 (λ moment. linked c.in-Lost.node.0 ≡ Some moment)) c.cells-cells.ensures.cells come)
 

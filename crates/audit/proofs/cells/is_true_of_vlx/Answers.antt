@@ -30,7 +30,7 @@ returns-then-is_behind_all_like c = λ start linked steps x like t.
     let alike : AreSameAt lay start linked cells c.args.memory.now.same = subst (λ (k : List ℕ). AreSameAt lay start linked k c.args.memory.now.same) (sym c.as_slice-cells.ensures.cells) like in
     let linked_all : c.are_linked.result ≡ true = search rules in
     let all = c.are_linked.ensures lay h linked x.snapshots linked_all in
-    let behind : IsBehindAll (IsAsSnapped lay start linked) cells c.in-Changed.node.0 = elim c.if-are_linked.branch [ then-are_linked w ↦ w.is_behind_all_like.ensures lay start linked alike (sym w.value-is ∙ c.if-is_behind_all_like.true) | else-are_linked w ↦ absurd (false≢true (sym w.value-is ∙ c.if-is_behind_all_like.true)) ] in
+    let behind : IsBehindAll (IsAsSnapped lay start linked) cells c.in-Changed.node.0 = elim c.if-are_linked.branch [ then-are_linked w ↦ w.is_behind_all_like.ensures lay start linked alike (sym w.value-is ∙ c.if-is_behind_all_like.true) | else-are_linked w ↦ absurd (false≢true (sym w.if-are_linked.false ∙ sym w.value-is ∙ c.if-is_behind_all_like.true)) ] in
     let come = c.has_come.ensures LoadInfo start linked steps x x.looks t in
     let said : AreLinked linked cells × IsInTheWay lay p h start LoadInfo cells c.in-Changed.node.0 c.in-Changed.scx.0 (λ moment. linked c.in-Changed.node.0 ≡ Some moment) × IsBehindAll (IsAsSnapped lay start linked) cells c.in-Changed.node.0 = (all, come, behind) in
     subst (λ (a : Answer). VlxIsRight c.args.cells.now lay p h start linked a) (sym c.in-Changed.is) (subst (λ (k : List ℕ). AreLinked linked k × IsInTheWay lay p h start LoadInfo k c.in-Changed.node.0 c.in-Changed.scx.0 (λ moment. linked c.in-Changed.node.0 ≡ Some moment) × IsBehindAll (IsAsSnapped lay start linked) k c.in-Changed.node.0) c.as_slice-cells.ensures.cells said)
