@@ -12,3 +12,5 @@ mod CellMoments
 mod CellLists
 mod CellCallFacts
 mod CellEntries
+mod Noted
+mod Unstarted

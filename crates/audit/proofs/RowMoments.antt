@@ -28,27 +28,6 @@ moment_before (r ⊳ h) m g (inr e) (inl f) i =
     let y : rows_of g ≡ suc (rows_of h) = ap rows_of f in
     absurd (omega arith)
 
--- the moment with so many rows is one
-pub one_moment : (h m g : History) (rows : ℕ) → IsMomentAt h rows m → IsMomentAt h rows g → m ≡ g
-one_moment (Start mode) m g rows x y = x.within ∙ sym y.within
-one_moment (r ⊳ h) m g rows x y = go x.within y.within
-  where
-    go : Extends (r ⊳ h) m → Extends (r ⊳ h) g → m ≡ g
-    go (inl e) (inl f) = e ∙ sym f
-    go (inr e) (inr f) = one_moment h m g rows record { within = e; many = x.many } record { within = f; many = y.many }
-    go (inl e) (inr f) =
-        let i = rows_within h g f in
-        let z : rows_of m ≡ suc (rows_of h) = ap rows_of e in
-        let a = x.many in
-        let b = y.many in
-        absurd (omega arith)
-    go (inr e) (inl f) =
-        let i = rows_within h m e in
-        let z : rows_of g ≡ suc (rows_of h) = ap rows_of f in
-        let a = x.many in
-        let b = y.many in
-        absurd (omega arith)
-
 -- the last row of a moment, and what was before it
 pub record HasRow (m : History) : Type 0 where
   pub row : Row
@@ -67,7 +46,7 @@ running_is_real lay m s l x e =
     absurd (omega arith)
 
 module _ (lay : Layout) (h g : History) (s after last : ℕ) (l : Lawful lay h) (start : IsMomentAt h after g) (later : after < last) (running : WasRunningAt h last s) where
-  now : History
+  abbrev now : History
   now = running.0
 
   lawful : Lawful lay now
