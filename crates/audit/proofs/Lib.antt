@@ -9,3 +9,8 @@ mod LeftShares
 mod Remembering
 mod Noted
 mod Unstarted
+mod RunMemories
+mod CellMoments
+mod CellLists
+mod CellCallFacts
+mod CellEntries

@@ -4,3 +4,4 @@ pub mod Edits
 pub mod Trees
 pub mod Remembered
 pub mod Remembering
+pub mod CellCalls

@@ -52,6 +52,7 @@ pub(crate) struct Run<'a> {
 
 impl<'a> Run<'a> {
     ghost use Rattle.std.specs.Prelude.{◌≡◌, ◌≢◌, ℕ, suc, ◌+◌, ◌<◌, ◌∷◌, [], Some, None, true, IsTrue, IfOk, IfSome, OnOk, slice_get, vec_len};
+    ghost use Rattle.arena.specs.declared.step.Row.{Row as RowOf};
     ghost use Rattle.arena.specs.Lawful.{IsLawful};
     ghost use Rattle.record.specs.declared.record.Line.{Line};
     ghost use Rattle.record.specs.declared.record.Row.{Row};
@@ -335,32 +336,28 @@ impl<'a> Run<'a> {
         hold(client.won.is_none())?;
         hold(entry.call == client.answered)?;
         hold(has_begun(&client, row.pass))?;
-        self.check_entry(&client, &command, row, entry.scx)?;
+        self.check_entry(&client, &command, entry.scx)?;
         Ok(())
     }
 
     /// An entry of this SCX-record is one that the client's call makes.
-    fn check_entry(
-        &self,
-        client: &Client,
-        command: &Command,
-        row: &arena::Row,
-        scx: ScxNo,
-    ) -> Result<(), Refused>
+    fn check_entry(&self, client: &Client, command: &Command, scx: ScxNo) -> Result<(), Refused>
         requires after { IsAfter self.now (lines_of self.now) }
         requires map { IsMapAfter self.now (lines_of self.now) }
         requires remembered { AreRememberedAfter self.now (lines_of self.now) }
         requires client { slice_get self.now.clients.items client.now.pass.0 ≡ Some client.now }
         requires command { next_command (calls_of self.now) (lines_of self.now) client.now.pass.0 ≡ Some command.now }
-        requires wins { IsWin (seen self.now.steps.judge) row.now scx.0 }
-        ensures { OnOk result ((n : ℕ) (side : Side) → row.now.word ≡ child n side → IsEntryFor (layout_of self.now) client.now.pass.0 (seen self.now.steps.judge) (start (layout_of self.now).mode (lines_of self.now) client.now.pass.0) (linked (calls_of self.now) (layout_of self.now).mode (lines_of self.now) client.now.pass.0) (entered (layout_of self.now) (seen self.now.steps.judge) scx.0 n side row.now.after) command.now) }
+        ensures { OnOk result ((row : RowOf) (n : ℕ) (side : Side) → IsWin (seen self.now.steps.judge) row scx.0 → row.word ≡ child n side → IsEntryFor (layout_of self.now) client.now.pass.0 (seen self.now.steps.judge) (start (layout_of self.now).mode (lines_of self.now) client.now.pass.0) (linked (calls_of self.now) (layout_of self.now).mode (lines_of self.now) client.now.pass.0) (entered (layout_of self.now) (seen self.now.steps.judge) scx.0 n side row.after) command.now) }
     {
-        let _row = *row;
         match command {
             Command::Insert { key: _, value: _ } | Command::Delete { key: _ } => {
-                hold(self.edit_of(scx) == Some(*command))
+                hold(self.edit_of(scx) == Some(*command))?;
+                Ok(())
             }
-            _ => hold(cells::is_entry_for(&self.steps, client.pass, command, scx)),
+            _ => {
+                hold(cells::is_entry_for(&self.steps, client, command, scx))?;
+                Ok(())
+            }
         }
     }
 
@@ -416,8 +413,13 @@ impl<'a> Run<'a> {
     }
 
     /// The command whose edit an SCX-record makes, on the tree.
-    fn edit_of(&self, scx: ScxNo) -> Option<Command> {
-        *self.edits.get(scx.0 as usize)?
+    fn edit_of(&self, scx: ScxNo) -> Option<Command>
+        ensures { IfSome result (λ command. slice_get self.now.edits.items scx.0 ≡ Some (Some command)) }
+    {
+        match self.edits.get(scx.0 as usize) {
+            Some(edit) => *edit,
+            None => None,
+        }
     }
 
     /// Makes a lawful step, which asks for this entry.
@@ -450,7 +452,7 @@ impl<'a> Run<'a> {
         self.steps
             .begin(&client, self.record.script.calls.as_slice());
         self.steps.make(row)?;
-        note_edit(self.edits.as_mut_slice(), row.after, edit);
+        note_edit(&mut self.edits, row.after, edit);
         self.clients[row.pass.0 as usize] = client.stepped(number);
         note_win(&mut self.clients, number, &owed);
         self.turn = number;
@@ -589,11 +591,12 @@ impl<'a> Run<'a> {
 }
 
 /// An SCX-record has begun that makes the edit of this command, if there is one.
-fn note_edit(edits: &mut [Option<Command>], scx: u64, edit: Option<Command>) {
-    if edit.is_some()
-        && let Some(place) = edits.get_mut(scx as usize)
-    {
-        *place = edit;
+fn note_edit(edits: &mut Vec<Option<Command>>, scx: u64, edit: Option<Command>)
+    ensures none { edit ≡ None → edits.new.items ≡ edits.old.items }
+    ensures some { IsSome edit → edits.new.items ≡ set edits.old.items scx edit }
+{
+    if edit.is_some() && (scx as usize) < edits.len() {
+        edits[scx as usize] = edit;
     }
 }
 

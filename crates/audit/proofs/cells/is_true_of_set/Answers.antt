@@ -1,0 +1,4 @@
+use Rattle.audit.proofs.cells.is_true_of_set.Goals as goal
+
+pub returns-then-eq : goal.returns-then-eq
+returns-then-eq c = ?
