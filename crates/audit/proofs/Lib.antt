@@ -7,10 +7,10 @@ mod MapLines
 mod RowMoments
 mod LeftShares
 mod Remembering
+mod Noted
+mod Unstarted
 mod RunMemories
 mod CellMoments
 mod CellLists
 mod CellCallFacts
 mod CellEntries
-mod Noted
-mod Unstarted

@@ -110,39 +110,37 @@ final_as l lay k h a b xs ys s n rows e f g i z = subst (λ (q : List ℕ). IsFi
 pub noted_as : (l lay : Layout) (k h : History) (a b : ℕ) (row : Row) (old new : Memory) → l ≡ lay → k ≡ h → a ≡ b → IsNoted l k a row old new → IsNoted lay h b row old new
 noted_as l lay k h a b row old new e f g z = subst (λ (q : ℕ). IsNoted lay h q row old new) g (subst (λ (q : History). IsNoted lay q a row old new) f (subst (λ (q : Layout). IsNoted q k a row old new) e z))
 
+-- what is remembered of a client behind a step, by whether the step is its own
+abbrev KeptIf : Layout → List Call → List Line → ℕ → Row → Bool → ℕ → Memory → Type 0
+KeptIf lay calls lines number row b c m = IsKept lay (row ⊳ history lay.mode lines) (cond (b || is_some (begin lines c)) (start lay.mode lines c) (row ⊳ history lay.mode lines)) (linked calls lay.mode lines c) (cond b (Some (unwrap_or (begin lines c) number)) (begin lines c)) (next_command calls lines c) c m
+
 pub made_remembered : (lay : Layout) (calls : List Call) (lines : List Line) (number : ℕ) (row : Row) (old new : Steps) → AreBegun lay calls lines row.pass.0 old → IsLawful lay (history lay.mode lines) row → AreMore lay (history lay.mode lines) row old new → ((c : ℕ) → (c ≡ row.pass.0 → ⊥) → slice_get new.memories.items c ≡ slice_get old.memories.items c) → ((m : Memory) → slice_get new.memories.items row.pass.0 ≡ Some m → (before : Memory) × (slice_get old.memories.items row.pass.0 ≡ Some before) × IsNoted lay (row ⊳ history lay.mode lines) (suc (rows_of (history lay.mode lines))) row before m) → AreRemembered lay calls (Step (Made number row) ∷ lines) new
 made_remembered lay calls lines number row old new x lawful more others own = record {
-  steps = steps_more lay h row old new x.remembered.steps more;
+  steps = steps_more lay (history lay.mode lines) row old new x.remembered.steps more;
   memories = λ c m get. go c m get (ℕ_discrete row.pass.0 c);
 }
   where
-    abbrev h : History
-    h = history lay.mode lines
-
-    abbrev KeptIf : Bool → ℕ → Memory → Type 0
-    KeptIf b c m = IsKept lay (row ⊳ h) (cond (b || is_some (begin lines c)) (start lay.mode lines c) (row ⊳ h)) (linked calls lay.mode lines c) (cond b (Some (unwrap_or (begin lines c) number)) (begin lines c)) (next_command calls lines c) c m
-
     -- of a client whose call has begun the begin stays
-    if_begun : (c : ℕ) (m : Memory) (o : Option ℕ) → IsKept lay (row ⊳ h) (start lay.mode lines c) (linked calls lay.mode lines c) o (next_command calls lines c) c m → IsKept lay (row ⊳ h) (cond (is_some o) (start lay.mode lines c) (row ⊳ h)) (linked calls lay.mode lines c) o (next_command calls lines c) c m
+    if_begun : (c : ℕ) (m : Memory) (o : Option ℕ) → IsKept lay (row ⊳ history lay.mode lines) (start lay.mode lines c) (linked calls lay.mode lines c) o (next_command calls lines c) c m → IsKept lay (row ⊳ history lay.mode lines) (cond (is_some o) (start lay.mode lines c) (row ⊳ history lay.mode lines)) (linked calls lay.mode lines c) o (next_command calls lines c) c m
     if_begun c m (Some k) y = y
     if_begun c m None y = record { begins = λ some. absurd (let z : false ≡ true = some in cc); looks = y.looks; freezes = y.freezes; snapshots = y.snapshots }
 
-    other : (c : ℕ) (m : Memory) → (row.pass.0 ≡ c → ⊥) → slice_get new.memories.items c ≡ Some m → KeptIf false c m
+    other : (c : ℕ) (m : Memory) → (row.pass.0 ≡ c → ⊥) → slice_get new.memories.items c ≡ Some m → KeptIf lay calls lines number row false c m
     other c m d get =
         let there : slice_get old.memories.items c ≡ Some m = sym (others c (λ e. d (sym e))) ∙ get in
-        if_begun c m (begin lines c) (kept_more lay h row (start lay.mode lines c) (linked calls lay.mode lines c) (next_command calls lines c) c (begin lines c) m d (x.remembered.memories c m there))
+        if_begun c m (begin lines c) (kept_more lay (history lay.mode lines) row (start lay.mode lines c) (linked calls lay.mode lines c) (next_command calls lines c) c (begin lines c) m d (x.remembered.memories c m there))
 
-    mine : (c : ℕ) (m : Memory) → row.pass.0 ≡ c → slice_get new.memories.items c ≡ Some m → KeptIf true c m
-    mine c m e get = subst (λ (k : ℕ). slice_get new.memories.items k ≡ Some m → KeptIf true k m) e here get
+    mine : (c : ℕ) (m : Memory) → row.pass.0 ≡ c → slice_get new.memories.items c ≡ Some m → KeptIf lay calls lines number row true c m
+    mine c m e get = subst (λ (k : ℕ). slice_get new.memories.items k ≡ Some m → KeptIf lay calls lines number row true k m) e here get
       where
-        here : slice_get new.memories.items row.pass.0 ≡ Some m → KeptIf true row.pass.0 m
+        here : slice_get new.memories.items row.pass.0 ≡ Some m → KeptIf lay calls lines number row true row.pass.0 m
         here get =
             let z = own m get in
-            kept_own lay h row (start lay.mode lines row.pass.0) (linked calls lay.mode lines row.pass.0) (next_command calls lines row.pass.0) row.pass.0 (begin lines row.pass.0) (Some (unwrap_or (begin lines row.pass.0) number)) z.0 m lawful refl (x.begun z.0 z.1) (x.remembered.memories row.pass.0 z.0 z.1) z.2
+            kept_own lay (history lay.mode lines) row (start lay.mode lines row.pass.0) (linked calls lay.mode lines row.pass.0) (next_command calls lines row.pass.0) row.pass.0 (begin lines row.pass.0) (Some (unwrap_or (begin lines row.pass.0) number)) z.0 m lawful refl (x.begun z.0 z.1) (x.remembered.memories row.pass.0 z.0 z.1) z.2
 
     go : (c : ℕ) (m : Memory) → slice_get new.memories.items c ≡ Some m → Dec (row.pass.0 ≡ c) → IsMemoryOf lay calls (Step (Made number row) ∷ lines) c m
-    go c m get (yes e) = subst (λ (b : Bool). KeptIf b c m) (sym (eq-eqb row.pass.0 c e)) (mine c m e get)
-    go c m get (no d) = subst (λ (b : Bool). KeptIf b c m) (sym (ne_eqb row.pass.0 c d)) (other c m d get)
+    go c m get (yes e) = subst (λ (b : Bool). KeptIf lay calls lines number row b c m) (sym (eq-eqb row.pass.0 c e)) (mine c m e get)
+    go c m get (no d) = subst (λ (b : Bool). KeptIf lay calls lines number row b c m) (sym (ne_eqb row.pass.0 c d)) (other c m d get)
 
 -- One memory is put in the place of another
 
@@ -205,17 +203,17 @@ module _ (old new : Steps) (pass : ℕ) (memory : Memory) (same : new ≡ record
 
 -- A reply
 
--- where what is remembered of its client is right behind it
+-- what is remembered of a client behind a reply, by whether the reply is its own
+abbrev RepliedIf : Layout → List Call → List Line → Reply → Bool → ℕ → Memory → Type 0
+RepliedIf lay calls lines reply b c m = IsKept lay (history lay.mode lines) (cond b (history lay.mode lines) (start lay.mode lines c)) (λ n. cond b (linked_then (next_command calls lines c) reply.answer (history lay.mode lines) n (linked calls lay.mode lines c n)) (linked calls lay.mode lines c n)) (cond b None (begin lines c)) (slice_get (commands calls c) (cond b (suc (answered lines c)) (answered lines c))) c m
+
 pub replied : (lay : Layout) (calls : List Call) (lines : List Line) (reply : Reply) (c : ℕ) (m : Memory) → (c ≡ reply.client.0 → ⊥) → IsMemoryOf lay calls lines c m → IsMemoryOf lay calls (ReplyLine reply ∷ lines) c m
-replied lay calls lines reply c m d y = subst (λ (b : Bool). IsKept lay (history lay.mode lines) (cond b (history lay.mode lines) (start lay.mode lines c)) (λ n. cond b (linked_then (next_command calls lines c) reply.answer (history lay.mode lines) n (linked calls lay.mode lines c n)) (linked calls lay.mode lines c n)) (cond b None (begin lines c)) (slice_get (commands calls c) (cond b (suc (answered lines c)) (answered lines c))) c m) (sym (ne_eqb reply.client.0 c (λ e. d (sym e)))) y
+replied lay calls lines reply c m d y = subst (λ (b : Bool). RepliedIf lay calls lines reply b c m) (sym (ne_eqb reply.client.0 c (λ e. d (sym e)))) y
 
 pub replied_own : (lay : Layout) (calls : List Call) (lines : List Line) (reply : Reply) (before m : Memory) → IsMemoryOf lay calls lines reply.client.0 before → m ≡ record before { snapshots = m.snapshots } → AreSnapshotsOf lay (history lay.mode lines) m (λ n. linked_then (next_command calls lines reply.client.0) reply.answer (history lay.mode lines) n (linked calls lay.mode lines reply.client.0 n)) → IsMemoryOf lay calls (ReplyLine reply ∷ lines) reply.client.0 m
-replied_own lay calls lines reply before m y is kept = subst (λ (b : Bool). IsKept lay (history lay.mode lines) (cond b (history lay.mode lines) (start lay.mode lines c)) (λ n. cond b (linked_then (next_command calls lines c) reply.answer (history lay.mode lines) n (linked calls lay.mode lines c n)) (linked calls lay.mode lines c n)) (cond b None (begin lines c)) (slice_get (commands calls c) (cond b (suc (answered lines c)) (answered lines c))) c m) (sym (eq-eqb c c refl)) here
+replied_own lay calls lines reply before m y is kept = subst (λ (b : Bool). RepliedIf lay calls lines reply b reply.client.0 m) (sym (eq-eqb reply.client.0 reply.client.0 refl)) here
   where
-    abbrev c : ℕ
-    c = reply.client.0
-
-    here : IsKept lay (history lay.mode lines) (history lay.mode lines) (λ n. linked_then (next_command calls lines c) reply.answer (history lay.mode lines) n (linked calls lay.mode lines c n)) None (slice_get (commands calls c) (suc (answered lines c))) c m
+    here : RepliedIf lay calls lines reply true reply.client.0 m
     here = record {
       begins = λ some. absurd (let z : false ≡ true = some in cc);
       looks = λ look e. y.looks look (sym (ap (λ (k : Memory). k.look) is) ∙ e);
