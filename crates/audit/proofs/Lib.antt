@@ -16,3 +16,7 @@ mod RunMemories
 mod Noted
 mod Unstarted
 mod FirstLines
+mod CellMoments
+mod CellLists
+mod CellCallFacts
+mod CellEntries
