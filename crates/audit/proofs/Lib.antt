@@ -20,3 +20,4 @@ mod CellMoments
 mod CellLists
 mod CellCallFacts
 mod CellEntries
+mod Asking
