@@ -1,9 +1,9 @@
-use Rattle.std.proofs.Common.{◌≡◌, ℕ, true, is_none, Option, Some, None, IfSome, refl, sym, ◌∙◌, ap, subst}
+use Rattle.std.proofs.Common.{◌≡◌, ℕ, false, is_some, Option, Some, None, IfSome, refl, sym, ◌∙◌, ap, subst}
 use Rattle.audit.specs.declared.memory.Memory.{Memory}
 use Rattle.audit.proofs.Remembering.{begun_remembered}
 use Rattle.audit.proofs.steps.Steps.begin.Goals as goal
 
-none_is : (o : Option ℕ) → true ≡ is_none o → o ≡ None
+none_is : (o : Option ℕ) → is_some o ≡ false → o ≡ None
 none_is None e = refl
 none_is (Some k) e = cc
 
