@@ -22,8 +22,8 @@ use Rattle.audit.specs.declared.memory.Look.{Look}
 use Rattle.audit.specs.declared.memory.Memory.{Memory}
 use Rattle.audit.specs.declared.memory.Snapshot.{Snapshot}
 use Rattle.audit.proofs.CellLists.{at_place, each_contained}
-use Rattle.arena.proofs.Lemmas.{ends_self}
-use Rattle.audit.proofs.RowMoments.{one_moment}
+use Rattle.arena.proofs.Lemmas.{ends_self, same_moment}
+use Rattle.audit.proofs.RowMoments.{moment_before}
 use Rattle.audit.proofs.CellMoments.{look_found, looked, kept_snapshot, no_snapshot, is_linked}
 
 pub some_kept : (o : Option Snapshot) (P : Snapshot → Type 0) → is_some o ≡ true → IfSome o P → (kept : Snapshot) × P kept
@@ -74,7 +74,7 @@ module _ (lay : Layout) (c : ℕ) (h start : History) (linked : ℕ → Option H
   pub just_looked : (n : ℕ) (look : Look) → IsOwnLook memory n look → look.steps ≡ rows_of h → IsLastLook c h start h n
   just_looked n look o all =
       let y = looked lay h start c memory.begun n look x.started (x.looks look o.is) o.behind o.at in
-      subst (λ (m : History). IsLastLook c h start m n) (one_moment h y.moment h (rows_of h) (record { within = y.at.within; many = y.at.many ∙ all }) (record { within = ends_self h; many = refl })) y.is_last
+      subst (λ (m : History). IsLastLook c h start m n) (same_moment h y.moment y.at.within (moment_before h y.moment h y.at.within (ends_self h) (let many = y.at.many in omega arith))) y.is_last
 
   pub has_found : (kind : Kind) (look : Option Look) (n s : ℕ) → ((kept : Look) → look ≡ Some kept → IsLookOf lay h c kind kept) → IsLookAt look n s memory.begun → HasFound c h start kind n s
   has_found kind look n s looks l = look_found lay h start c memory.begun x.started kind l.kept (looks l.kept l.is) l.behind n s l.at l.it_found

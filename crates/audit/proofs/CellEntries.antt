@@ -92,3 +92,10 @@ module _ (lay : Layout) (calls : List Call) (lines : List Line) (all : Steps) (x
 
   pub same_seen : (c : ℕ) (memory : Memory) (cells : Cells) → slice_get all.memories.items c ≡ Some memory → IsSome (begin lines c) → next_command calls lines c ≡ Some (Vlx cells) → AreSameAt all.judge.layout (start lay.mode lines c) (linked calls lay.mode lines c) (cells_of cells) memory.same
   same_seen c memory cells is begun next = subst (λ (l : Layout). AreSameAt l (start lay.mode lines c) (linked calls lay.mode lines c) (cells_of cells) memory.same) (sym x.steps.layout) (((x.memories c memory is).begins begun).same cells next)
+
+  -- and back, of the lines
+  pub to_lines : (P : Layout → History → Type 0) → P all.judge.layout (seen all.judge) → P lay (history lay.mode lines)
+  to_lines P p = subst (λ (h : History). P lay h) x.steps.is_seen (subst (λ (l : Layout). P l (seen all.judge)) x.steps.layout p)
+
+  pub own_memory : (c : ℕ) (memory : Memory) → c < all.judge.layout.passes → IfSome (slice_get all.memories.items c) (λ m. memory ≡ m) → slice_get all.memories.items c ≡ Some memory
+  own_memory c memory p own = memory_is all.memories.items c memory (let many = x.steps.all_memories in let same = ap (λ (l : Layout). l.passes) x.steps.layout in omega arith) own
