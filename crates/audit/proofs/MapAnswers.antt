@@ -1,5 +1,5 @@
 -- What is found of a call of the map makes its answer right, and places it.
-use Rattle.std.proofs.Common.{◌≡◌, ℕ, suc, ◌-◌, ◌≤◌, ◌⊎◌, inl, inr, ⊎_elim, Bool, true, false, List, [], ◌∷◌, slice_get, Option, Some, None, IsSome, IfSome, refl, sym, ◌∙◌, ap, subst, arith}
+use Rattle.std.proofs.Common.{◌≡◌, ℕ, suc, ◌-◌, ◌≤◌, ◌⊎◌, inl, inr, ⊎_elim, Bool, true, false, List, [], ◌∷◌, slice_get, is_some, Option, Some, None, IsSome, refl, sym, ◌∙◌, ap, subst, arith}
 use Rattle.arena.specs.declared.layout.Layout.{Layout}
 use Rattle.arena.specs.declared.fault.Resource.{Resource}
 use Rattle.arena.specs.declared.number.NodeNo.{NodeNo}
@@ -95,6 +95,11 @@ no_memory_right lay c now start kept lines (InsertOf key value) call of_map fits
 no_memory_right lay c now start kept lines (DeleteOf key) call of_map fits = neither (either_fits lines (DeleteOf key) NoMemory fits)
 no_memory_right lay c now start kept lines (GetOf key) call of_map fits = neither (either_fits lines (GetOf key) NoMemory fits)
 no_memory_right lay c now start kept lines command call of_map fits = absurd (let z : None ≡ Some call = of_map in cc)
+
+-- what is not there
+pub none_by : (o : Option ℕ) → is_some o ≡ false → o ≡ None
+none_by None e = refl
+none_by (Some v) e = absurd (cc)
 
 -- Entries
 

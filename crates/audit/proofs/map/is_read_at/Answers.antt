@@ -4,11 +4,8 @@ use Rattle.record.specs.declared.record.Answer.TheVariants.{Value}
 use Rattle.record.specs.MapRecord.{map_call, map_at, reply_told}
 use Rattle.places.specs.Ordered.{IsOrderedRead, pairs_read}
 use Rattle.audit.proofs.FirstPairs.{none_above, one_above, some_between}
+use Rattle.audit.proofs.MapAnswers.{none_by}
 use Rattle.audit.proofs.map.is_read_at.Goals as goal
-
-none_by : (o : Option ℕ) → is_some o ≡ false → o ≡ None
-none_by None e = refl
-none_by (Some v) e = absurd (cc)
 
 pub returns-then-is_none : goal.returns-then-is_none
 returns-then-is_none c lines are falls less it =
