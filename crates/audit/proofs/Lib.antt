@@ -14,3 +14,4 @@ mod CellMoments
 mod CellLists
 mod CellCallFacts
 mod CellEntries
+mod FirstLines
