@@ -7,7 +7,11 @@ mod MapLines
 mod RowMoments
 mod LeftShares
 mod Remembering
-mod RunMemories
 mod Noted
 mod Unstarted
+mod RunMemories
+mod CellMoments
+mod CellLists
+mod CellCallFacts
+mod CellEntries
 mod FirstLines

@@ -5,22 +5,18 @@ use Rattle.arena.specs.declared.step.Kind.TheVariants.{LoadInfo, Freeze}
 use Rattle.arena.specs.declared.word.NodeWord.TheVariants.{Value}
 use Rattle.arena.specs.declared.word.Side.{Side}
 use Rattle.arena.specs.Fills.{IsOwnNode}
-use Rattle.arena.specs.History.{History, value}
+use Rattle.arena.specs.History.{History, value, Extends}
 use Rattle.arena.specs.Log.{has, members_from, finalized_from}
 use Rattle.arena.specs.ScxRecords.{count}
 use Rattle.arena.specs.Words.{node, child}
-use Rattle.record.specs.Answers.{IsAsSnapped}
+use Rattle.record.specs.Answers.{IsAsSnapped, IsUnchanged}
 use Rattle.record.specs.Shares.{HasNodesLeft, HasScxLeft}
+use Rattle.record.specs.Snapshots.{IsLastLook}
 use Rattle.judge.specs.Histories.{history as seen}
-use Rattle.audit.specs.Remembered.{IsMomentAt, AreStepsOf, IsLookOf, IsSnapshotOf}
+use Rattle.audit.specs.Remembered.{IsMomentAt, AreStepsOf, IsLookOf, AreSnapshotsOf}
 use Rattle.audit.specs.declared.memory.Look.{Look}
 use Rattle.audit.specs.declared.memory.Memory.{Memory}
-use Rattle.audit.specs.declared.memory.Snapshot.{Snapshot}
 use Rattle.audit.specs.declared.steps.Steps.{Steps}
-
--- the snapshots that a memory keeps are those of these moments
-abbrev pub AreSnapshotsOf : Layout → History → Memory → (ℕ → Option History) → Type 0
-AreSnapshotsOf lay h memory linked = (n : ℕ) (kept : Option Snapshot) → slice_get memory.snapshots n ≡ Some kept → IsSnapshotOf lay h n kept (linked n)
 
 -- of each of the cells that is said to be the same: it is as its snapshot found it
 abbrev pub AreSameAt : Layout → History → (ℕ → Option History) → List ℕ → List Bool → Type 0
@@ -42,6 +38,19 @@ pub record IsLookAt (look : Option Look) (node found after : ℕ) : Type 0 where
   pub behind : after < kept.steps
   pub at : kept.node.0 ≡ node
   pub it_found : kept.found ≡ found
+
+-- the look of the memory is this one, at this node since the call's begin
+pub record IsOwnLook (memory : Memory) (node : ℕ) (look : Look) : Type 0 where
+  pub is : memory.look ≡ Some look
+  pub behind : memory.begun < look.steps
+  pub at : look.node.0 ≡ node
+
+-- the cell is as the last look of the call's own LLX has found it
+pub record IsAsLooked (lay : Layout) (c : ℕ) (h start : History) (n : ℕ) : Type 0 where
+  pub moment : History
+  pub within : Extends h moment
+  pub look : IsLastLook c h start moment n
+  pub same : IsUnchanged lay h moment n
 
 -- SCX-record s covers just these cells, and finalizes those of them that are in the second list
 pub record IsOverCells (h : History) (s : ℕ) (cells removed : List ℕ) : Type 0 where

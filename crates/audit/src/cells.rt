@@ -9,7 +9,7 @@ ghost use Rattle.arena.specs.Blame.{HasFailed};
 ghost use Rattle.arena.specs.History.{History, value};
 ghost use Rattle.arena.specs.Lawful.{IsWin};
 ghost use Rattle.arena.specs.Layout.{all_nodes};
-ghost use Rattle.arena.specs.Log.{log, last, is_final, entry as entered};
+ghost use Rattle.arena.specs.Log.{log, last, has, is_final, entry as entered};
 ghost use Rattle.arena.specs.ScxRecords.{plan as plan_of, member as member_of, new as new_of, side_of, field_index, plan_finalizes};
 ghost use Rattle.arena.specs.Words.{node as node_of, child, scx as scx_of};
 ghost use Rattle.script.specs.declared.command.Call.{Call as CallOf};
@@ -32,8 +32,8 @@ ghost use Rattle.record.specs.Snapshots.{AreLinked, IsBehindAll, IsFirstUnlinked
 ghost use Rattle.record.specs.Turns.{history, begin, start};
 ghost use Rattle.judge.specs.Histories.{history as seen};
 ghost use Rattle.audit.specs.After.{IsClientAfter};
-ghost use Rattle.audit.specs.CellCalls.{AreSnapshotsOf, AreSameAt, IsCallSeen, IsLookAt, IsOverCells, IsFreshWith};
-ghost use Rattle.audit.specs.Remembered.{AreStepsOf, AreRemembered, IsLookOf};
+ghost use Rattle.audit.specs.CellCalls.{AreSameAt, IsCallSeen, IsLookAt, IsOwnLook, IsAsLooked, IsOverCells, IsFreshWith};
+ghost use Rattle.audit.specs.Remembered.{AreStepsOf, AreRemembered, AreSnapshotsOf, IsLookOf};
 
 use crate::client::Client;
 use crate::memory::{Look, Memory};
@@ -50,7 +50,7 @@ pub(crate) fn is_entry_for(steps: &Steps, client: &Client, command: &Command, sc
 {
     match command {
         Command::Scx(update) => is_scx_entry(steps, client, update, scx),
-        Command::Set { field, value } => is_set_entry(steps, client, (*field, *value), scx),
+        Command::Set { field, value } => is_set_entry(steps, client, field, *value, scx),
         _ => false,
     }
 }
@@ -62,18 +62,23 @@ fn is_scx_entry(steps: &Steps, client: &Client, update: &Update, scx: ScxNo) -> 
 {
     let (judge, memory) = (&steps.judge, steps.memory(client.pass));
     is_over(judge, scx, update.cells(), update.finalize())
-        && is_into(judge, scx, update.field())
+        && is_into(judge, scx, &update.field())
         && is_fresh(judge, client.pass, scx, update.value())
         && are_unchanged(judge, &memory, update.cells())
 }
 
 /// Whether it is one that a `set` of this field makes.
-fn is_set_entry(steps: &Steps, client: &Client, set: ((Cell, Side), u64), scx: ScxNo) -> bool
+fn is_set_entry(
+    steps: &Steps,
+    client: &Client,
+    field: &(Cell, Side),
+    value: u64,
+    scx: ScxNo,
+) -> bool
     requires { client.now.pass.0 < steps.now.judge.layout.passes }
-    ensures { (lay : Layout) (calls : List CallOf) (lines : List Line) → AreRemembered lay calls lines steps.now → client.now.begun ≡ begin lines client.now.pass.0 → (row : StepRow) (n : ℕ) (side : SideOf) → IsWin (seen steps.now.judge) row scx.0 → row.word ≡ child n side → IsTrue result → IsSetEntry set.0 set.1 lay client.now.pass.0 (seen steps.now.judge) (start lay.mode lines client.now.pass.0) (linked calls lay.mode lines client.now.pass.0) (entered lay (seen steps.now.judge) scx.0 n side row.after) }
+    ensures { (lay : Layout) (calls : List CallOf) (lines : List Line) → AreRemembered lay calls lines steps.now → client.now.begun ≡ begin lines client.now.pass.0 → (row : StepRow) (n : ℕ) (side : SideOf) → IsWin (seen steps.now.judge) row scx.0 → row.word ≡ child n side → IsTrue result → IsSetEntry field.now value lay client.now.pass.0 (seen steps.now.judge) (start lay.mode lines client.now.pass.0) (linked calls lay.mode lines client.now.pass.0) (entered lay (seen steps.now.judge) scx.0 n side row.after) }
 {
     let (judge, memory) = (&steps.judge, steps.memory(client.pass));
-    let (field, value) = set;
     let cell = Cells::one(field.0);
     is_over(judge, scx, cell.as_slice(), &[])
         && is_into(judge, scx, field)
@@ -104,7 +109,7 @@ fn plan(judge: &Judge, scx: ScxNo) -> Plan
 /// Whether an SCX-record covers just these cells in this order, and finalizes those of them that are
 /// in the second list.
 fn is_over(judge: &Judge, scx: ScxNo, cells: &[Cell], finalized: &[Cell]) -> bool
-    requires { (n : ℕ) → Contains finalized.now n → Contains cells.now n }
+    requires { (n : ℕ) → has finalized.now n ≡ true → has cells.now n ≡ true }
     ensures { IsTrue result → IsOverCells (seen judge.now) scx.0 cells.now finalized.now }
 {
     let plan = plan(judge, scx);
@@ -114,7 +119,7 @@ fn is_over(judge: &Judge, scx: ScxNo, cells: &[Cell], finalized: &[Cell]) -> boo
     for place in 0..plan.count() {
         let cell = cells[usize::from(place)];
         if scx_word(judge, scx, ScxWord::Member(place)) != cell.node().0
-            || finalizes(plan, place) != finalized.contains(&cell)
+            || finalizes(plan, place) != is_among(finalized, cell.node())
         {
             return false;
         }
@@ -133,9 +138,9 @@ fn finalizes(plan: Plan, place: u8) -> bool
 }
 
 /// Whether an SCX-record changes this field.
-fn is_into(judge: &Judge, scx: ScxNo, field: (Cell, Side)) -> bool
-    ensures node { IsTrue result → member_of (seen judge.now) scx.0 (field_index (seen judge.now) scx.0) ≡ field.0 }
-    ensures side { IsTrue result → side_of (plan_of (seen judge.now) scx.0) ≡ field.1 }
+fn is_into(judge: &Judge, scx: ScxNo, field: &(Cell, Side)) -> bool
+    ensures node { IsTrue result → member_of (seen judge.now) scx.0 (field_index (seen judge.now) scx.0) ≡ field.now.0 }
+    ensures side { IsTrue result → side_of (plan_of (seen judge.now) scx.0) ≡ field.now.1 }
 {
     let plan = plan(judge, scx);
     let node = scx_word(judge, scx, ScxWord::Member(plan.at().number()));
@@ -184,14 +189,22 @@ fn are_unchanged(judge: &Judge, memory: &Memory, cells: &[Cell]) -> bool
     true
 }
 
-/// Whether a cell is as the last look of the call's own LLX has found it.
-fn is_as_looked(judge: &Judge, memory: &Memory, cell: NodeNo) -> bool
-    ensures { (c : ℕ) (start : History) (linked : ℕ → Option History) → IsCallSeen judge.now.layout c (seen judge.now) start linked memory.now → IsTrue result → (moment : History) × IsLastLook c (seen judge.now) start moment cell.0 × IsUnchanged judge.now.layout (seen judge.now) moment cell.0 }
+/// The last look of the call's own LLX, if it was at this cell.
+fn own_look(memory: &Memory, cell: NodeNo) -> Option<Look>
+    ensures { IfSome result (λ look. IsOwnLook memory.now cell.0 look) }
 {
     match memory.look {
-        Some(look) => {
-            memory.begun < look.steps && look.node == cell && is_unchanged(judge, cell, look.last)
-        }
+        Some(look) if memory.begun < look.steps && look.node == cell => Some(look),
+        _ => None,
+    }
+}
+
+/// Whether a cell is as the last look of the call's own LLX has found it.
+fn is_as_looked(judge: &Judge, memory: &Memory, cell: NodeNo) -> bool
+    ensures { (c : ℕ) (start : History) (linked : ℕ → Option History) → IsCallSeen judge.now.layout c (seen judge.now) start linked memory.now → IsTrue result → IsAsLooked judge.now.layout c (seen judge.now) start cell.0 }
+{
+    match own_look(memory, cell) {
+        Some(look) => is_unchanged(judge, cell, look.last),
         None => false,
     }
 }
@@ -200,11 +213,22 @@ fn is_as_looked(judge: &Judge, memory: &Memory, cell: NodeNo) -> bool
 pub(crate) fn same_cells(judge: &Judge, memory: &Memory, cells: &[Cell]) -> [bool; 4]
     ensures { (linked : ℕ → Option History) → AreSnapshotsOf judge.now.layout (seen judge.now) memory.now linked → AreSameAt judge.now.layout (seen judge.now) linked cells.now result }
 {
-    let mut same = [false; 4];
-    for (cell, flag) in cells.iter().zip(same.iter_mut()) {
-        *flag = is_as_snapped(judge, memory, cell.node());
+    [
+        is_same(judge, memory, cells, 0),
+        is_same(judge, memory, cells, 1),
+        is_same(judge, memory, cells, 2),
+        is_same(judge, memory, cells, 3),
+    ]
+}
+
+/// Whether the cell at a place is, if there is one.
+fn is_same(judge: &Judge, memory: &Memory, cells: &[Cell], place: usize) -> bool
+    ensures { (linked : ℕ → Option History) → AreSnapshotsOf judge.now.layout (seen judge.now) memory.now linked → IsTrue result → (n : ℕ) → slice_get cells.now place ≡ Some n → IsAsSnapped judge.now.layout (seen judge.now) linked n }
+{
+    match cells.get(place) {
+        Some(cell) => is_as_snapped(judge, memory, cell.node()),
+        None => false,
     }
-    same
 }
 
 /// Whether the answer of a call of cells is right, and took place where the reply says.
@@ -242,9 +266,7 @@ fn is_true(steps: &Steps, pass: PassNo, command: &Command, answer: &Answer) -> b
         Command::Llx { cell } => is_true_of_llx(steps, pass, &memory, *cell, answer),
         Command::Scx(update) => is_true_of_scx(steps, pass, &memory, update, answer),
         Command::Vlx { cells } => is_true_of_vlx(steps, pass, &memory, cells, answer),
-        Command::Set { field, value } => {
-            is_true_of_set(steps, pass, &memory, (*field, *value), answer)
-        }
+        Command::Set { field, value: _ } => is_true_of_set(steps, pass, &memory, field.0, answer),
         _ => false,
     }
 }
@@ -342,14 +364,13 @@ fn is_true_of_set(
     steps: &Steps,
     pass: PassNo,
     memory: &Memory,
-    set: ((Cell, Side), u64),
+    cell: Cell,
     answer: &Answer,
 ) -> bool
     requires pass { pass.0 < steps.now.judge.layout.passes }
     requires cells { steps.now.judge.layout.mode ≡ Records }
-    ensures { (start : History) (linked : ℕ → Option History) → AreStepsOf steps.now.judge.layout (seen steps.now.judge) steps.now → IsCallSeen steps.now.judge.layout pass.0 (seen steps.now.judge) start linked memory.now → IsTrue result → SetIsRight set.0 set.1 steps.now.judge.layout pass.0 (seen steps.now.judge) start linked answer.now }
+    ensures { (start : History) (linked : ℕ → Option History) (side : SideOf) (x : ℕ) → AreStepsOf steps.now.judge.layout (seen steps.now.judge) steps.now → IsCallSeen steps.now.judge.layout pass.0 (seen steps.now.judge) start linked memory.now → IsTrue result → SetIsRight (cell, side) x steps.now.judge.layout pass.0 (seen steps.now.judge) start linked answer.now }
 {
-    let cell = set.0.0;
     match answer {
         Answer::Finalized => steps.judge.is_final(cell.node()),
         Answer::Fail { node, scx } => *node == cell.node() && has_failed(steps, pass, memory, cell, *scx),
@@ -371,13 +392,8 @@ fn has_just_looked(steps: &Steps, memory: &Memory, cell: NodeNo) -> bool
     ensures look { (c : ℕ) (start : History) (linked : ℕ → Option History) → AreStepsOf steps.now.judge.layout (seen steps.now.judge) steps.now → IsCallSeen steps.now.judge.layout c (seen steps.now.judge) start linked memory.now → IsTrue result → IsLastLook c (seen steps.now.judge) start (seen steps.now.judge) cell.0 }
     ensures not_final { IsTrue result → is_final (log steps.now.judge.layout (seen steps.now.judge)) cell.0 ≡ false }
 {
-    match memory.look {
-        Some(look) => {
-            memory.begun < look.steps
-                && look.node == cell
-                && look.steps == steps.count
-                && !steps.judge.is_final(cell)
-        }
+    match own_look(memory, cell) {
+        Some(look) => look.steps == steps.count && !steps.judge.is_final(cell),
         None => false,
     }
 }
@@ -390,11 +406,9 @@ fn has_lost(steps: &Steps, pass: PassNo, memory: &Memory, cell: Cell, scx: ScxNo
     ensures { (start : History) (linked : ℕ → Option History) → AreStepsOf steps.now.judge.layout (seen steps.now.judge) steps.now → IsCallSeen steps.now.judge.layout pass.0 (seen steps.now.judge) start linked memory.now → IsTrue result → IsInTheWay steps.now.judge.layout pass.0 (seen steps.now.judge) start Freeze (cell ∷ []) cell scx.0 (λ moment. IsLastLook pass.0 (seen steps.now.judge) start moment cell × (is_final (log steps.now.judge.layout moment) cell ≡ false)) }
 {
     let blamed = (cell.node(), scx);
-    match memory.look {
+    match own_look(memory, blamed.0) {
         Some(look) => {
-            memory.begun < look.steps
-                && look.node == blamed.0
-                && !steps.was_final(blamed.0, look.steps)
+            !steps.was_final(blamed.0, look.steps)
                 && has_found(memory.freeze, blamed, memory.begun)
                 && steps.was_in_the_way(pass, blamed, look.steps)
         }
@@ -425,7 +439,7 @@ fn has_come(
 }
 
 fn is_among(cells: &[Cell], node: NodeNo) -> bool
-    ensures { IsTrue result → Contains cells.now node.0 }
+    ensures { result ≡ has cells.now node.0 }
 {
     for cell in cells {
         if cell.node() == node {
@@ -447,8 +461,9 @@ fn first_unlinked(memory: &Memory, cells: &[Cell]) -> Option<NodeNo>
     ensures none { (lay : Layout) (h : History) (linked : ℕ → Option History) → AreSnapshotsOf lay h memory.now linked → IfNone result (AreLinked linked cells.now) }
 {
     for cell in cells {
-        if memory.snapshot(cell.node()).is_none() {
-            return Some(cell.node());
+        let node = cell.node();
+        if memory.snapshot(node).is_none() {
+            return Some(node);
         }
     }
     None

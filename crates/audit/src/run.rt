@@ -69,7 +69,7 @@ impl<'a> Run<'a> {
     ghost use Rattle.arena.specs.Lawful.{IsWin};
     ghost use Rattle.arena.specs.Log.{entry as entered};
     ghost use Rattle.arena.specs.Words.{child};
-    ghost use Rattle.arena.specs.declared.limits.Mode.TheVariants.{Tree};
+    ghost use Rattle.arena.specs.declared.limits.Mode.TheVariants.{Tree, Records};
     ghost use Rattle.arena.specs.History.{◌⊳◌, value};
     ghost use Rattle.arena.specs.Shape.{IsBegin};
     ghost use Rattle.script.specs.declared.command.Command.{Command as CommandOf};
@@ -569,6 +569,7 @@ impl<'a> Run<'a> {
         requires owed { entry_owed (layout_of self.now) (lines_of self.now) ≡ None }
         requires client { slice_get self.now.clients.items client.now.pass.0 ≡ Some client.now }
         requires own { client.now.pass ≡ reply.now.client }
+        requires begun { client.now.begun ≡ Some reply.now.begin }
         requires command { next_command (calls_of self.now) (lines_of self.now) client.now.pass.0 ≡ Some command.now }
         ensures right { OnOk result (IsRight (layout_of self.now) reply.now.client.0 (history (layout_of self.now).mode (lines_of self.now)) (start (layout_of self.now).mode (lines_of self.now) reply.now.client.0) (linked (calls_of self.now) (layout_of self.now).mode (lines_of self.now) reply.now.client.0) command.now reply.now.answer) }
         ensures took { OnOk result (HasTakenFew (layout_of self.now) (tries_of self.now) reply.now.client.0 (history (layout_of self.now).mode (lines_of self.now)) (start (layout_of self.now).mode (lines_of self.now) reply.now.client.0) command.now) }
@@ -585,8 +586,29 @@ impl<'a> Run<'a> {
                 command,
                 reply,
             )),
-            Mode::Records => hold(cells::is_right(&self.steps, client, command, reply)),
+            Mode::Records => self.check_cells_answer(client, command, reply),
         }
+    }
+
+    /// The same, for a call of cells.
+    fn check_cells_answer(
+        &self,
+        client: &Client,
+        command: &Command,
+        reply: &Reply,
+    ) -> Result<(), Refused>
+        requires after { IsAfter self.now (lines_of self.now) }
+        requires remembered { AreRememberedAfter self.now (lines_of self.now) }
+        requires mode { (layout_of self.now).mode ≡ Records }
+        requires client { slice_get self.now.clients.items client.now.pass.0 ≡ Some client.now }
+        requires own { client.now.pass ≡ reply.now.client }
+        requires begun { client.now.begun ≡ Some reply.now.begin }
+        requires command { next_command (calls_of self.now) (lines_of self.now) client.now.pass.0 ≡ Some command.now }
+        ensures right { OnOk result (IsRight (layout_of self.now) reply.now.client.0 (history (layout_of self.now).mode (lines_of self.now)) (start (layout_of self.now).mode (lines_of self.now) reply.now.client.0) (linked (calls_of self.now) (layout_of self.now).mode (lines_of self.now) reply.now.client.0) command.now reply.now.answer) }
+        ensures placed { OnOk result (IsPlaced (layout_of self.now) (calls_of self.now) (lines_of self.now) reply.now command.now) }
+    {
+        hold(cells::is_right(&self.steps, client, command, reply))?;
+        Ok(())
     }
 }
 

@@ -1,0 +1,2 @@
+use Rattle.std.proofs.Common.{refl}
+use Rattle.audit.proofs.steps.Steps.memory_begun.Goals as goal
