@@ -10,13 +10,16 @@ use Rattle.arena.specs.declared.number.ScxNo.{ScxNo}
 use Rattle.arena.specs.declared.step.Row.{Row}
 use Rattle.arena.specs.declared.word.Side.{Side}
 use Rattle.arena.specs.Blame.{IsInProgress}
-use Rattle.arena.specs.History.{History, ◌⊳◌}
+use Rattle.arena.specs.History.{History, ◌⊳◌, Extends}
 use Rattle.arena.specs.Lawful.{IsLawful}
 use Rattle.arena.specs.Log.{entry, log, is_final}
 use Rattle.arena.specs.Words.{child}
+use Rattle.arena.proofs.Lemmas.{ends_self}
+use Rattle.script.specs.declared.cells.Cells.{Cells}
 use Rattle.script.specs.declared.command.Call.{Call}
 use Rattle.script.specs.declared.command.Command.{Command}
-use Rattle.record.specs.declared.record.Answer.{Answer}
+use Rattle.script.specs.declared.command.Command.TheVariants.{Vlx}
+use Rattle.script.specs.Cells.{cells_of}
 use Rattle.record.specs.declared.record.Entry.{Entry}
 use Rattle.record.specs.declared.record.Reply.{Reply}
 use Rattle.record.specs.declared.record.Line.{Line}
@@ -25,6 +28,8 @@ use Rattle.record.specs.declared.record.Row.TheVariants.{Step as Made, Idle}
 use Rattle.record.specs.CommandRules.{linked_then}
 use Rattle.record.specs.Commands.{commands, next_command}
 use Rattle.record.specs.Linked.{linked}
+use Rattle.record.specs.Shares.{HasNodesLeft, HasScxLeft}
+use Rattle.judge.specs.Histories.{history as seen}
 use Rattle.record.specs.Turns.{history, begin, start, answered}
 use Rattle.record.proofs.Lemmas.{start_unbegun, start_kept}
 use Rattle.audit.specs.declared.client.Client.{Client}
@@ -32,6 +37,7 @@ use Rattle.audit.specs.declared.memory.Memory.{Memory}
 use Rattle.audit.specs.declared.steps.Steps.{Steps}
 use Rattle.audit.specs.After.{IsClientAfter}
 use Rattle.audit.specs.Calls.{command_at}
+use Rattle.audit.specs.CellCalls.{AreSameAt}
 use Rattle.audit.specs.Remembered.{rows_of, AreSnapshotsOf, IsBegunWith, IsKept, AreStepsOf, IsMemoryOf, AreRemembered, AreBegun}
 use Rattle.audit.specs.Remembering.{IsNoted, IsFinalBy}
 use Rattle.audit.proofs.AfterLines.{get_there}
@@ -41,6 +47,22 @@ use Rattle.audit.proofs.Noted.{set_other, set_own, IsNewFinal, AreMore, steps_mo
 -- a call that had begun, or begins now
 abbrev IsBegunOf : Layout → List Call → List Line → ℕ → Memory → Type 0
 IsBegunOf lay calls lines c memory = IsBegunWith lay (history lay.mode lines) (start lay.mode lines c) (linked calls lay.mode lines c) (next_command calls lines c) c memory
+
+-- a call that begins now
+pub begun_with : (lay : Layout) (calls : List Call) (lines : List Line) (c : ℕ) (all : Steps) (memory : Memory) → AreStepsOf lay (history lay.mode lines) all → begin lines c ≡ None → memory.begun ≡ all.count → HasNodesLeft all.judge.layout c (seen all.judge) memory.nodes → HasScxLeft all.judge.layout c (seen all.judge) memory.scx → ((cells : Cells) → next_command calls lines c ≡ Some (Vlx cells) → AreSameAt all.judge.layout (seen all.judge) (linked calls lay.mode lines c) (cells_of cells) memory.same) → IsBegunOf lay calls lines c memory
+begun_with lay calls lines c all memory x unbegun count nodes scx same = record {
+  begun = count ∙ x.count ∙ ap rows_of (sym moment);
+  within = subst (λ (k : History). Extends (history lay.mode lines) k) (sym moment) (ends_self (history lay.mode lines));
+  nodes = at (λ l k. HasNodesLeft l c k memory.nodes) nodes;
+  scx = at (λ l k. HasScxLeft l c k memory.scx) scx;
+  same = λ cells e. at (λ l k. AreSameAt l k (linked calls lay.mode lines c) (cells_of cells) memory.same) (same cells e);
+}
+  where
+    moment : start lay.mode lines c ≡ history lay.mode lines
+    moment = start_unbegun lay.mode lines c unbegun
+
+    at : (P : Layout → History → Type 0) → P all.judge.layout (seen all.judge) → P lay (start lay.mode lines c)
+    at P p = subst (λ (k : History). P lay k) (x.is_seen ∙ sym moment) (subst (λ (l : Layout). P l (seen all.judge)) x.layout p)
 
 module _ (lay : Layout) (calls : List Call) (lines : List Line) (all : Steps) where
   -- an entry changes nothing of it

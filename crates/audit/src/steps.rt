@@ -42,7 +42,10 @@ impl Steps {
     ghost use Rattle.arena.specs.History.{History};
     ghost use Rattle.arena.specs.Layout.{all_nodes};
     ghost use Rattle.arena.specs.Log.{log, is_final};
+    ghost use Rattle.script.specs.declared.cells.Cells.{Cells};
     ghost use Rattle.script.specs.declared.command.Call.{Call};
+    ghost use Rattle.script.specs.declared.command.Command.TheVariants.{Vlx};
+    ghost use Rattle.script.specs.Cells.{cells_of};
     ghost use Rattle.record.specs.declared.record.Line.{Line};
     ghost use Rattle.record.specs.declared.record.Line.TheVariants.{Step as Turn, Reply as ReplyLine};
     ghost use Rattle.record.specs.declared.record.Row.TheVariants.{Step as Made};
@@ -55,6 +58,7 @@ impl Steps {
     ghost use Rattle.record.specs.Turns.{history, begin, start};
     ghost use Rattle.audit.specs.declared.memory.Memory.{Memory};
     ghost use Rattle.audit.specs.After.{IsClientAfter};
+    ghost use Rattle.audit.specs.CellCalls.{AreSameAt};
     ghost use Rattle.audit.specs.Remembered.{IsMomentAt, WasRunningAt, AreStepsOf, IsSnapshotOf, AreSnapshotsOf, IsBegunWith, AreRemembered, AreBegun};
     ghost use Rattle.audit.specs.Remembering.{IsLookBy, IsMadeFinal, IsFinalBy, IsNoted};
 
@@ -100,14 +104,24 @@ impl Steps {
         ensures same { IfSome (slice_get self.now.memories.items client.now.pass.0) (λ m. result ≡ record m { begun = result.begun; nodes = result.nodes; scx = result.scx; same = result.same }) }
         ensures begun { (lay : Layout) (lines : List Line) → AreRemembered lay calls.now lines self.now → IsClientAfter lay calls.now lines client.now.pass.0 client.now → client.now.begun ≡ None → client.now.pass.0 < length self.now.memories.items → IsBegunWith lay (history lay.mode lines) (start lay.mode lines client.now.pass.0) (linked calls.now lay.mode lines client.now.pass.0) (next_command calls.now lines client.now.pass.0) client.now.pass.0 result }
     {
-        let mut memory = self.memory(client.pass);
-        if let Some(Command::Vlx { cells }) = client.command(calls) {
-            memory.same = same_cells(&self.judge, &memory, cells.as_slice());
+        let memory = self.memory(client.pass);
+        Memory {
+            begun: self.count,
+            nodes: self.nodes_left(client.pass),
+            scx: self.scx_left(client.pass),
+            same: self.same_of(&memory, client.command(calls)),
+            ..memory
         }
-        memory.begun = self.count;
-        memory.nodes = self.nodes_left(client.pass);
-        memory.scx = self.scx_left(client.pass);
-        memory
+    }
+
+    /// If this command is a `vlx`, of each of its cells: whether it is as the snapshot says.
+    fn same_of(&self, memory: &Memory, command: Option<Command>) -> [bool; 4]
+        ensures { (cells : Cells) (kept : ℕ → Option History) → command ≡ Some (Vlx cells) → AreSnapshotsOf self.now.judge.layout (seen self.now.judge) memory.now kept → AreSameAt self.now.judge.layout (seen self.now.judge) kept (cells_of cells) result }
+    {
+        match command {
+            Some(Command::Vlx { cells }) => same_cells(&self.judge, memory, cells.as_slice()),
+            _ => [false; 4],
+        }
     }
 
     fn put(&mut self, pass: PassNo, memory: Memory)
