@@ -41,7 +41,7 @@ use Rattle.audit.specs.Trees.{IsMapSoFar, IsTreeSoFar}
 use Rattle.audit.proofs.TreeLines.{tree_idle, tree_reply, tree_log, tree_step, edits_kept, edits_set, edit_allowed, edit_entry}
 
 -- what holds of the command of each call holds of each command of a client
-of_commands : (P : Command → Type 0) (calls : List Call) (c n : ℕ) (command : Command) → All (λ (call : Call). P call.command) calls → slice_get (commands calls c) n ≡ Some command → P command
+pub of_commands : (P : Command → Type 0) (calls : List Call) (c n : ℕ) (command : Command) → All (λ (call : Call). P call.command) calls → slice_get (commands calls c) n ≡ Some command → P command
 of_commands P [] c n command all e = absurd (let z : None ≡ Some command = e in cc)
 of_commands P (call ∷ calls) c n command all e = go (λ i d. of_commands P calls c i command rest d) (eqb call.client.0 c) n e
   where

@@ -3,5 +3,6 @@ pub mod After
 pub mod Edits
 pub mod Trees
 pub mod Remembered
-pub mod Remembering
+pub mod Asked
 pub mod CellCalls
+pub mod Remembering

@@ -82,6 +82,8 @@ impl<'a> Run<'a> {
     ghost use Rattle.record.specs.CommandRules.{IsEntryFor, IsRight, IsPlaced, HasTakenFew};
     ghost use Rattle.record.specs.Linked.{linked};
     ghost use Rattle.record.specs.Replies.{IsFitting};
+    ghost use Rattle.record.specs.CommandRules.{enters};
+    ghost use Rattle.std.specs.Prelude.{is_some};
     ghost use Rattle.record.specs.Turns.{start};
     ghost use Rattle.judge.specs.Histories.{history as seen};
     ghost use Rattle.audit.specs.After.{layout_of, tries_of, calls_of, IsClientAfter};
@@ -569,7 +571,11 @@ impl<'a> Run<'a> {
         requires owed { entry_owed (layout_of self.now) (lines_of self.now) ≡ None }
         requires client { slice_get self.now.clients.items client.now.pass.0 ≡ Some client.now }
         requires own { client.now.pass ≡ reply.now.client }
+        requires number { reply.now.call ≡ client.now.answered }
         requires begun { client.now.begun ≡ Some reply.now.begin }
+        requires end { reply.now.end ≡ self.now.turn }
+        requires fits { IsFitting (lines_of self.now) command.now reply.now.answer }
+        requires entry { enters command.now reply.now.answer ≡ is_some client.now.won }
         requires command { next_command (calls_of self.now) (lines_of self.now) client.now.pass.0 ≡ Some command.now }
         ensures right { OnOk result (IsRight (layout_of self.now) reply.now.client.0 (history (layout_of self.now).mode (lines_of self.now)) (start (layout_of self.now).mode (lines_of self.now) reply.now.client.0) (linked (calls_of self.now) (layout_of self.now).mode (lines_of self.now) reply.now.client.0) command.now reply.now.answer) }
         ensures took { OnOk result (HasTakenFew (layout_of self.now) (tries_of self.now) reply.now.client.0 (history (layout_of self.now).mode (lines_of self.now)) (start (layout_of self.now).mode (lines_of self.now) reply.now.client.0) command.now) }
@@ -578,16 +584,43 @@ impl<'a> Run<'a> {
         let limits = &self.record.script.limits;
         hold(self.steps.has_taken_few(client.pass, command, limits))?;
         match self.record.script.layout.mode {
-            Mode::Tree => hold(map::is_right(
-                &self.steps,
-                &self.places,
-                self.calls(),
-                client,
-                command,
-                reply,
-            )),
+            Mode::Tree => self.check_map_answer(client, command, reply),
             Mode::Records => self.check_cells_answer(client, command, reply),
         }
+    }
+
+    /// The same of a call of the map.
+    fn check_map_answer(
+        &self,
+        client: &Client,
+        command: &Command,
+        reply: &Reply,
+    ) -> Result<(), Refused>
+        requires after { IsAfter self.now (lines_of self.now) }
+        requires map { IsMapAfter self.now (lines_of self.now) }
+        requires remembered { AreRememberedAfter self.now (lines_of self.now) }
+        requires mode { (layout_of self.now).mode ≡ Tree }
+        requires owed { entry_owed (layout_of self.now) (lines_of self.now) ≡ None }
+        requires client { slice_get self.now.clients.items client.now.pass.0 ≡ Some client.now }
+        requires own { client.now.pass ≡ reply.now.client }
+        requires number { reply.now.call ≡ client.now.answered }
+        requires begun { client.now.begun ≡ Some reply.now.begin }
+        requires end { reply.now.end ≡ self.now.turn }
+        requires fits { IsFitting (lines_of self.now) command.now reply.now.answer }
+        requires entry { enters command.now reply.now.answer ≡ is_some client.now.won }
+        requires command { next_command (calls_of self.now) (lines_of self.now) client.now.pass.0 ≡ Some command.now }
+        ensures right { OnOk result (IsRight (layout_of self.now) reply.now.client.0 (history (layout_of self.now).mode (lines_of self.now)) (start (layout_of self.now).mode (lines_of self.now) reply.now.client.0) (linked (calls_of self.now) (layout_of self.now).mode (lines_of self.now) reply.now.client.0) command.now reply.now.answer) }
+        ensures placed { OnOk result (IsPlaced (layout_of self.now) (calls_of self.now) (lines_of self.now) reply.now command.now) }
+    {
+        hold(map::is_right(
+            &self.steps,
+            &self.places,
+            self.calls(),
+            client,
+            command,
+            reply,
+        ))?;
+        Ok(())
     }
 
     /// The same, for a call of cells.

@@ -1,4 +1,4 @@
-use Rattle.std.proofs.Common.{◌≡◌, ℕ, List, ◌∷◌, Some, None, eqb-true, ap, sym, subst, ◌∙◌, rules, arith}
+use Rattle.std.proofs.Common.{◌≡◌, ℕ, ◌∷◌, Some, None, eqb-true, ◌∙◌, rules}
 use Rattle.arena.specs.declared.word.Side.{Side}
 use Rattle.arena.specs.declared.number.ScxNo.{ScxNo}
 use Rattle.arena.specs.History.{◌⊳◌, value}

@@ -1,4 +1,4 @@
-use Rattle.std.proofs.Common.{◌≡◌, Some, None, false, List, ◌∷◌, sym, subst, rules}
+use Rattle.std.proofs.Common.{◌≡◌, Some, None, false, ◌∷◌, sym, subst, rules}
 use Rattle.record.specs.declared.record.Line.{Line}
 use Rattle.record.specs.declared.record.Line.TheVariants.{Log}
 use Rattle.audit.specs.declared.run.Run.{Run}

@@ -1,4 +1,3 @@
-use Rattle.std.proofs.Common.{◌≡◌}
 use Rattle.audit.proofs.Fitting.{lawful_run}
 use Rattle.audit.proofs.MapLines.{map_whole}
 use Rattle.audit.proofs.run.Run.finish.Goals as goal

@@ -1,5 +1,4 @@
-use Rattle.std.proofs.Common.{◌≡◌, ap, sym, ◌∙◌, subst, rules}
-use Rattle.audit.specs.After.{layout_of, tries_of, calls_of}
+use Rattle.std.proofs.Common.{rules}
 use Rattle.audit.proofs.FirstLines.{after_start}
 use Rattle.audit.proofs.MapLines.{map_start}
 use Rattle.audit.proofs.run.Run.new.Goals as goal
