@@ -4,7 +4,7 @@ use Rattle.std.specs.List.{filter}
 use Rattle.std.proofs.lemmas.Bool.{eq-eqb, ne_eqb, cases_order, cases_eq}
 use Rattle.std.proofs.lemmas.List.{get_or_default}
 use Rattle.spelling.specs.declared.pair.Pair.{Pair}
-use Rattle.spelling.specs.OrderedMap.{MapCall, Edit, Get, Successor, Range, MapReply, OneValue, OnePair, ManyPairs, AllAbove, IsRising, get, first_pair, successor, between, pair_or_none, insert, delete, Insert, Delete, reply}
+use Rattle.spelling.specs.OrderedMap.{MapCall, Edit, Get, Successor, Range, OneValue, OnePair, ManyPairs, AllAbove, IsRising, get, first_pair, successor, between, pair_or_none, reply}
 use Rattle.spelling.proofs.Lemmas.{get_above, insert_keeps, delete_keeps, edited_rises}
 use Rattle.script.specs.declared.command.Call.{Call}
 use Rattle.script.specs.declared.command.Command.{Command}

@@ -1,5 +1,5 @@
 -- The entry of the update that has won in a client's call.
-use Rattle.std.proofs.Common.{◌≡◌, ℕ, suc, ◌<◌, ◌≤◌, Bool, true, false, cond, ◌&&◌, eqb, List, [], ◌∷◌, ◌++◌, Option, Some, None, refl, sym, ◌∙◌, ap, arith}
+use Rattle.std.proofs.Common.{◌≡◌, ℕ, suc, ◌≤◌, Bool, true, false, cond, ◌&&◌, eqb, List, [], ◌∷◌, ◌++◌, Some, None, refl, sym, ◌∙◌, ap, arith}
 use Rattle.std.proofs.lemmas.Bool.{eqb-true, eqb-false, eq-eqb, ne_eqb}
 use Rattle.arena.specs.declared.layout.Layout.{Layout}
 use Rattle.arena.specs.declared.step.Row.{Row as StepRow}
@@ -9,7 +9,7 @@ use Rattle.record.specs.declared.record.Line.TheVariants.{Step, Log, Reply as Re
 use Rattle.record.specs.declared.record.Row.TheVariants.{Step as Made, Idle}
 use Rattle.record.specs.declared.record.Row.{Row}
 use Rattle.record.specs.declared.record.Entry.{Entry}
-use Rattle.record.specs.Turns.{turns, answered, won, entry_of, entry_owed}
+use Rattle.record.specs.Turns.{turns, answered, won, entry_owed}
 use Rattle.record.specs.MapRecord.{written_log, entries_until, entries_of_call, map_of, map_at}
 use Rattle.record.specs.LawfulRun.{AreLines}
 use Rattle.record.proofs.Lemmas.{entries_none, log_step, won_within}

@@ -1,4 +1,4 @@
-use Rattle.std.proofs.Common.{◌≡◌, ℕ, false, is_some, [], ◌∷◌, Option, Some, None, refl, sym, ◌∙◌, ap, subst, rules}
+use Rattle.std.proofs.Common.{◌≡◌, [], ◌∷◌, Some, None, sym, ◌∙◌, ap, subst, rules}
 use Rattle.spelling.specs.OrderedMap.{Successor, Range, reply}
 use Rattle.record.specs.declared.record.Answer.TheVariants.{Value}
 use Rattle.record.specs.MapRecord.{map_call, map_at, reply_told}

@@ -1,4 +1,3 @@
-use Rattle.std.proofs.Common.{◌≡◌, ℕ, false, is_some, Option, Some, None, refl}
 use Rattle.places.specs.Places.{changes}
 use Rattle.audit.proofs.MapAnswers.{none_by, refused_placed}
 use Rattle.audit.proofs.map.is_right.Goals as goal

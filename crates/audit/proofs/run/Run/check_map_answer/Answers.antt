@@ -1,4 +1,3 @@
-use Rattle.std.proofs.Common.{sym}
 use Rattle.audit.specs.After.{lines_of, layout_of, tries_of}
 use Rattle.audit.proofs.Asking.{is_pass, asked}
 use Rattle.audit.proofs.run.Run.check_map_answer.Goals as goal
