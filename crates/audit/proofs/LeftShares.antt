@@ -28,14 +28,14 @@ pub taken_few : (lay : Layout) (c : ℕ) (now start : History) (nodes_then nodes
 taken_few lay c now start nodes_then nodes scx_then scx most_nodes most_scx a b d e i j = record {
   lowest_node = (first_node lay c + lay.nodes) - nodes_then;
   nodes = λ n own not_yet is.
-    let from : n + nodes_then < first_node lay c + lay.nodes → ⊥ = λ k. not_yet (a.taken n own k) in
-    let to : first_node lay c + lay.nodes ≤ n + nodes → ⊥ = λ k. b.untaken n own k is in
-    let within = a.within in
-    (omega arith, omega arith);
+      let from : n + nodes_then < first_node lay c + lay.nodes → ⊥ = λ k. not_yet (a.taken n own k) in
+      let to : first_node lay c + lay.nodes ≤ n + nodes → ⊥ = λ k. b.untaken n own k is in
+      let within = a.within in
+      (omega arith, omega arith);
   lowest_scx = (first_scx lay c + lay.scx) - scx_then;
   scx_records = λ s own not_yet is.
-    let from : s + scx_then < first_scx lay c + lay.scx → ⊥ = λ k. not_yet (d.taken s own k) in
-    let to : first_scx lay c + lay.scx ≤ s + scx → ⊥ = λ k. e.untaken s own k is in
-    let within = d.within in
-    (omega arith, omega arith);
+      let from : s + scx_then < first_scx lay c + lay.scx → ⊥ = λ k. not_yet (d.taken s own k) in
+      let to : first_scx lay c + lay.scx ≤ s + scx → ⊥ = λ k. e.untaken s own k is in
+      let within = d.within in
+      (omega arith, omega arith);
 }

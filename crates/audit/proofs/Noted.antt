@@ -24,7 +24,7 @@ use Rattle.audit.specs.declared.memory.Memory.{Memory}
 use Rattle.audit.specs.declared.memory.Snapshot.{Snapshot}
 use Rattle.audit.specs.declared.steps.Steps.{Steps}
 use Rattle.audit.specs.Remembered.{rows_of, IsMomentAt, WasRunningAt, AreStepsOf, IsLookOf, IsSnapshotOf, IsBegunWith, IsKept}
-use Rattle.audit.specs.Remembering.{IsLookBy, noted, IsNoted, IsFinalBy, IsMadeFinal}
+use Rattle.audit.specs.Remembering.{IsLookBy, noted, IsNoted, IsFinalBy}
 use Rattle.audit.proofs.RowMoments.{rows_within}
 
 -- Lists with one place changed
@@ -57,23 +57,6 @@ has_push (x ∷ xs) y n = ap (λ (b : Bool). eqb x n || b) (has_push xs y n) ∙
     go false = refl
 
 -- Since when nodes are final
-
--- one more place was looked at
-pub final_step : (lay : Layout) (h : History) (s place rows n : ℕ) (first mid : Option ℕ) (after : ℕ) → ((before : ℕ) → mid ≡ Some before → IsFinalBy lay h s place rows first n before) → IsMadeFinal lay h s place rows mid n after → IsFinalBy lay h s (suc place) rows first n after
-final_step lay h s place rows n first mid after x (inl y) = go (x after y.0)
-  where
-    go : IsFinalBy lay h s place rows first n after → IsFinalBy lay h s (suc place) rows first n after
-    go (inr z) = inr z
-    go (inl z) = inl (z.0, λ none j i is. at none j i is (ℕ_discrete j place))
-      where
-        at : after ≡ 0 → (j : ℕ) → j < suc place → member h s j ≡ n → Dec (j ≡ place) → is_final (log lay h) n ≡ false
-        at none j i is (yes e) = y.1 none (subst (λ (k : ℕ). member h s k ≡ n) e is)
-        at none j i is (no d) = z.1 none j (omega arith) is
-final_step lay h s place rows n first mid after x (inr y) = go (x 0 y.0)
-  where
-    go : IsFinalBy lay h s place rows first n 0 → IsFinalBy lay h s (suc place) rows first n after
-    go (inl z) = inr (z.0, y.1, y.2)
-    go (inr z) = inr (z.0, y.1, y.2)
 
 -- what is remembered of a node is still right, or the row has made it final
 abbrev pub IsNewFinal : Layout → History → ℕ → ℕ → ℕ → ℕ → Type 0

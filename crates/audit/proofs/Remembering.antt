@@ -105,19 +105,20 @@ module _ (lay : Layout) (calls : List Call) (lines : List Line) (all : Steps) wh
 
 -- A step that is made
 
+-- it has added an entry of this SCX-record
+abbrev pub IsWonBy : Layout → History → Row → ScxNo → Type 0
+IsWonBy lay h row s = (n : ℕ) × (side : Side) × (row.word ≡ child n side) × (log lay (row ⊳ h) ≡ entry lay h s.0 n side row.after ∷ log lay h)
+
 -- which nodes it has made final, by what was noted
 module _ (lay : Layout) (h : History) (r : Row) (old new : Steps) (x : AreStepsOf lay h old) where
-  abbrev IsWon : ScxNo → Type 0
-  IsWon s = (n : ℕ) × (side : Side) × (r.word ≡ child n side) × (log lay (r ⊳ h) ≡ entry lay h s.0 n side r.after ∷ log lay h)
-
   abbrev AreWonNoted : Option ScxNo → Type 0
   AreWonNoted winner = (s : ScxNo) → winner ≡ Some s → (n rows : ℕ) → slice_get new.finals.items n ≡ Some rows → IsFinalBy lay (r ⊳ h) s.0 4 (suc (rows_of h)) (slice_get old.finals.items n) n rows
 
-  pub finals_made : (winner : Option ScxNo) → IfSome winner (λ s. IsWon s) → IfNone winner (log lay (r ⊳ h) ≡ log lay h) → (winner ≡ None → new.finals.items ≡ old.finals.items) → AreWonNoted winner → (n after : ℕ) → slice_get new.finals.items n ≡ Some after → (before : ℕ) × (slice_get old.finals.items n ≡ Some before) × IsNewFinal lay (r ⊳ h) (suc (rows_of h)) n before after
+  pub finals_made : (winner : Option ScxNo) → IfSome winner (λ s. IsWonBy lay h r s) → IfNone winner (log lay (r ⊳ h) ≡ log lay h) → (winner ≡ None → new.finals.items ≡ old.finals.items) → AreWonNoted winner → (n after : ℕ) → slice_get new.finals.items n ≡ Some after → (before : ℕ) × (slice_get old.finals.items n ≡ Some before) × IsNewFinal lay (r ⊳ h) (suc (rows_of h)) n before after
   finals_made None some none same noted = same_log_finals lay h r old new none x (same refl)
   finals_made (Some s) some none same noted = won_finals lay h r s.0 some.0 some.1 some.2 some.3 old new x (noted s refl)
 
-  pub finals_stay : (winner : Option ScxNo) → IfSome winner (λ s. IsWon s) → IfNone winner (log lay (r ⊳ h) ≡ log lay h) → (n : ℕ) → is_final (log lay h) n ≡ true → is_final (log lay (r ⊳ h)) n ≡ true
+  pub finals_stay : (winner : Option ScxNo) → IfSome winner (λ s. IsWonBy lay h r s) → IfNone winner (log lay (r ⊳ h) ≡ log lay h) → (n : ℕ) → is_final (log lay h) n ≡ true → is_final (log lay (r ⊳ h)) n ≡ true
   finals_stay None some none = same_log_stays lay h r none
   finals_stay (Some s) some none = won_stays lay h r s.0 some.0 some.1 some.2 some.3
 

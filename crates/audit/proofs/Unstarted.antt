@@ -37,8 +37,8 @@ unstarted lay calls all m scx nodes layout is count scx_is nodes_is until finals
     until = λ s rows get some. let z : rows ≡ 0 = of_replicate scx s 0 rows (ap (λ (xs : List ℕ). slice_get xs s) (sym until) ∙ get) in absurd (omega arith);
     all_finals = ap length finals ∙ length-replicate nodes 0 ∙ nodes_is;
     finals = λ n rows get g e.
-      let z : rows ≡ 0 = zero_at n rows get in
-      (λ f. absurd (let q : true ≡ false = sym f ∙ ap (λ (k : History). is_final (log lay k) n) e ∙ none_final lay n in cc), λ q. let i = q.0 in absurd (omega arith));
+        let z : rows ≡ 0 = zero_at n rows get in
+        (λ f. absurd (let q : true ≡ false = sym f ∙ ap (λ (k : History). is_final (log lay k) n) e ∙ none_final lay n in cc), λ q. let i = q.0 in absurd (omega arith));
     finals_within = λ n rows get. let z : rows ≡ 0 = zero_at n rows get in omega arith;
     all_memories = ap length memories ∙ length-replicate lay.passes m;
   };

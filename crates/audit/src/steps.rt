@@ -261,7 +261,10 @@ impl Steps {
         ensures snapshots { (lay : Layout) (h : History) (kept : ℕ → Option History) → AreStepsOf lay h self.now → AreSnapshotsOf lay h memory kept → AreSnapshotsOf lay h result (λ n. linked_then (Some command.now) answer.now h n (kept n)) }
     {
         match command {
-            Command::Llx { cell } => memory.with(cell.node(), self.snapshot_by(cell.node(), answer)),
+            Command::Llx { cell } => memory.with(
+                cell.node(),
+                self.snapshot_by(cell.node(), answer),
+            ),
             Command::Set { field, value: _ } => {
                 memory.with(field.0.node(), self.snapshot_by(field.0.node(), answer))
             }
@@ -399,7 +402,8 @@ impl Steps {
     {
         let memory = self.memory(pass);
         self.has_too_few(pass, needed, full)
-            && (is_too_few((memory.nodes, memory.scx), needed, full) || self.was_blocked(pass, memory.begun))
+            && (is_too_few((memory.nodes, memory.scx), needed, full)
+                || self.was_blocked(pass, memory.begun))
     }
 }
 

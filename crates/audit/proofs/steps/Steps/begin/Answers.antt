@@ -1,4 +1,4 @@
-use Rattle.std.proofs.Common.{◌≡◌, ℕ, false, is_some, Option, Some, None, IfSome, refl, sym, ◌∙◌, ap, subst}
+use Rattle.std.proofs.Common.{◌≡◌, ℕ, false, is_some, Option, Some, None, IfSome, refl, subst}
 use Rattle.audit.specs.declared.memory.Memory.{Memory}
 use Rattle.audit.proofs.Remembering.{begun_remembered}
 use Rattle.audit.proofs.steps.Steps.begin.Goals as goal

@@ -1,12 +1,10 @@
-use Rattle.std.proofs.Common.{◌≡◌, ◌<◌, ◌≤◌, length, ℕ, IfSome, Option, List, slice_get, Some, refl, sym, ◌∙◌, ap, subst, leb-true, arith}
+use Rattle.std.proofs.Common.{◌≡◌, ◌<◌, IfSome, Option, sym, ap, subst, leb-true, arith}
 use Rattle.arena.specs.History.{History}
 use Rattle.arena.specs.declared.layout.Layout.{Layout}
 use Rattle.record.specs.Shares.{HasNodesLeft, HasScxLeft}
 use Rattle.record.specs.Turns.{history}
-use Rattle.record.specs.CommandRules.{rules}
 use Rattle.judge.specs.Histories.{history as seen}
 use Rattle.audit.specs.declared.memory.Memory.{Memory}
-use Rattle.audit.specs.Remembered.{AreRemembered}
 use Rattle.audit.proofs.AfterLines.{get_there}
 use Rattle.audit.proofs.LeftShares.{taken_few}
 use Rattle.audit.proofs.steps.Steps.has_taken_few.Goals as goal

@@ -1,4 +1,4 @@
-use Rattle.std.proofs.Common.{◌≡◌, ℕ, List, ◌∷◌, set, Option, Some, None, IfSome, slice_get, refl, sym, ◌∙◌, ap, subst}
+use Rattle.std.proofs.Common.{◌≡◌, ℕ, set, Option, Some, IfSome, slice_get, sym, ◌∙◌, ap, subst}
 use Rattle.arena.specs.declared.number.PassNo.{PassNo}
 use Rattle.record.specs.declared.record.Answer.{Answer}
 use Rattle.record.specs.CommandRules.{linked_then}

@@ -1,4 +1,4 @@
-use Rattle.std.proofs.Common.{◌≡◌, ℕ, suc, ◌+◌, List, ◌∷◌, length, ⊎_elim, inl, inr, slice_get, Option, Some, None, IfSome, IfNone, refl, sym, ◌∙◌, ap, subst, add-one, arith}
+use Rattle.std.proofs.Common.{◌≡◌, ℕ, suc, ◌+◌, List, ◌∷◌, length, ⊎_elim, inl, inr, slice_get, Option, IfSome, IfNone, sym, ◌∙◌, ap, subst, add-one}
 use Rattle.arena.specs.declared.layout.Layout.{Layout}
 use Rattle.arena.specs.declared.number.ScxNo.{ScxNo}
 use Rattle.arena.specs.declared.step.Row.{Row}
@@ -13,12 +13,8 @@ use Rattle.judge.specs.Histories.{Judged, history as seen}
 use Rattle.audit.specs.declared.memory.Memory.{Memory}
 use Rattle.audit.specs.declared.steps.Steps.{Steps}
 use Rattle.audit.specs.Remembered.{rows_of}
-use Rattle.audit.proofs.Remembering.{finals_made, finals_stay, ended, final_as, noted_as, made_remembered}
+use Rattle.audit.proofs.Remembering.{IsWonBy, finals_made, finals_stay, ended, final_as, noted_as, made_remembered}
 use Rattle.audit.proofs.steps.Steps.make.Goals as goal
-
--- an entry was added for this SCX-record
-abbrev IsWonBy : Layout → History → Row → ScxNo → Type 0
-IsWonBy lay h row s = (n : ℕ) × (side : Side) × (row.word ≡ child n side) × (log lay (row ⊳ h) ≡ entry lay h s.0 n side row.after ∷ log lay h)
 
 pub returns-clause-remembered : goal.returns-clause-remembered
 returns-clause-remembered c lay calls lines number x =

@@ -1,4 +1,4 @@
-use Rattle.std.proofs.Common.{◌≡◌, ◌<◌, ℕ, Option, Some, IfSome, slice_get, refl, sym, ◌∙◌, ap, subst}
+use Rattle.std.proofs.Common.{◌≡◌, ◌<◌, ℕ, Option, IfSome, refl, sym, ◌∙◌, subst}
 use Rattle.arena.specs.declared.layout.Layout.{Layout}
 use Rattle.arena.specs.History.{History}
 use Rattle.record.specs.Linked.{linked}
@@ -17,7 +17,7 @@ returns-clause-begun c lay lines x client unbegun within =
     let inside : c.args.client.now.pass.0 < c.args.self.now.judge.layout.passes = subst (λ (l : Layout). c.args.client.now.pass.0 < l.passes) (sym x.steps.layout) (subst (λ (n : ℕ). c.args.client.now.pass.0 < n) x.steps.all_memories within) in
     let kept : ℕ → Option History = λ n. linked c.args.calls.now lay.mode lines c.args.client.now.pass.0 n in
     let snapshots : AreSnapshotsOf c.args.self.now.judge.layout (seen c.args.self.now.judge) c.memory-memory.result kept =
-      subst (λ (l : Layout). AreSnapshotsOf l (seen c.args.self.now.judge) c.memory-memory.result kept) (sym x.steps.layout)
-      (subst (λ (h : History). AreSnapshotsOf lay h c.memory-memory.result kept) (sym x.steps.is_seen)
-      (subst (λ (m : Memory). AreSnapshotsOf lay (history lay.mode lines) m kept) (sym same) (x.memories c.args.client.now.pass.0 there.0 there.1).snapshots)) in
+    subst (λ (l : Layout). AreSnapshotsOf l (seen c.args.self.now.judge) c.memory-memory.result kept) (sym x.steps.layout)
+    (subst (λ (h : History). AreSnapshotsOf lay h c.memory-memory.result kept) (sym x.steps.is_seen)
+    (subst (λ (m : Memory). AreSnapshotsOf lay (history lay.mode lines) m kept) (sym same) (x.memories c.args.client.now.pass.0 there.0 there.1).snapshots)) in
     begun_with lay c.args.calls.now lines c.args.client.now.pass.0 c.args.self.now _ x.steps (sym client.begun ∙ unbegun) refl (c.nodes_left.ensures inside) (c.scx_left.ensures inside) (λ cells e. c.same_of.ensures cells kept (c.command.ensures ∙ sym (next_is lay c.args.calls.now lines c.args.client.now client) ∙ e) snapshots)

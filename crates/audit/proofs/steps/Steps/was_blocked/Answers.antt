@@ -1,4 +1,4 @@
-use Rattle.std.proofs.Common.{◌≡◌, ◌<◌, refl, subst, arith}
+use Rattle.std.proofs.Common.{◌<◌, refl, subst, arith}
 use Rattle.arena.specs.Fills.{IsOthersScx}
 use Rattle.arena.specs.History.{History}
 use Rattle.arena.specs.declared.layout.Layout.{Layout}
