@@ -278,7 +278,9 @@ fn is_true_of_llx(steps: &Steps, pass: PassNo, memory: &Memory, cell: Cell, answ
     match answer {
         Answer::Snapshot { left, right } => is_snapshot(&steps.judge, cell.node(), (*left, *right)),
         Answer::Finalized => steps.judge.is_final(cell.node()),
-        Answer::Fail { node, scx } => *node == cell.node() && has_failed(steps, pass, memory, cell, *scx),
+        Answer::Fail { node, scx } => {
+            *node == cell.node() && has_failed(steps, pass, memory, cell, *scx)
+        }
         _ => false,
     }
 }
@@ -324,7 +326,13 @@ fn had_room(memory: &Memory) -> bool
     memory.nodes > 0 && memory.scx > 0
 }
 
-fn is_true_of_scx(steps: &Steps, pass: PassNo, memory: &Memory, update: &Update, answer: &Answer) -> bool
+fn is_true_of_scx(
+    steps: &Steps,
+    pass: PassNo,
+    memory: &Memory,
+    update: &Update,
+    answer: &Answer,
+) -> bool
     requires { pass.0 < steps.now.judge.layout.passes }
     ensures { (start : History) (linked : ℕ → Option History) → AreStepsOf steps.now.judge.layout (seen steps.now.judge) steps.now → IsCallSeen steps.now.judge.layout pass.0 (seen steps.now.judge) start linked memory.now → IsTrue result → ScxIsRight update.now steps.now.judge.layout pass.0 (seen steps.now.judge) start linked answer.now }
 {
@@ -344,7 +352,13 @@ fn is_true_of_scx(steps: &Steps, pass: PassNo, memory: &Memory, update: &Update,
     }
 }
 
-fn is_true_of_vlx(steps: &Steps, pass: PassNo, memory: &Memory, cells: &Cells, answer: &Answer) -> bool
+fn is_true_of_vlx(
+    steps: &Steps,
+    pass: PassNo,
+    memory: &Memory,
+    cells: &Cells,
+    answer: &Answer,
+) -> bool
     ensures { (start : History) (linked : ℕ → Option History) → AreStepsOf steps.now.judge.layout (seen steps.now.judge) steps.now → IsCallSeen steps.now.judge.layout pass.0 (seen steps.now.judge) start linked memory.now → AreSameAt steps.now.judge.layout start linked (cells_of cells.now) memory.now.same → IsTrue result → VlxIsRight cells.now steps.now.judge.layout pass.0 (seen steps.now.judge) start linked answer.now }
 {
     let cells = cells.as_slice();
@@ -360,20 +374,16 @@ fn is_true_of_vlx(steps: &Steps, pass: PassNo, memory: &Memory, cells: &Cells, a
     }
 }
 
-fn is_true_of_set(
-    steps: &Steps,
-    pass: PassNo,
-    memory: &Memory,
-    cell: Cell,
-    answer: &Answer,
-) -> bool
+fn is_true_of_set(steps: &Steps, pass: PassNo, memory: &Memory, cell: Cell, answer: &Answer) -> bool
     requires pass { pass.0 < steps.now.judge.layout.passes }
     requires cells { steps.now.judge.layout.mode ≡ Records }
     ensures { (start : History) (linked : ℕ → Option History) (side : SideOf) (x : ℕ) → AreStepsOf steps.now.judge.layout (seen steps.now.judge) steps.now → IsCallSeen steps.now.judge.layout pass.0 (seen steps.now.judge) start linked memory.now → IsTrue result → SetIsRight (cell, side) x steps.now.judge.layout pass.0 (seen steps.now.judge) start linked answer.now }
 {
     match answer {
         Answer::Finalized => steps.judge.is_final(cell.node()),
-        Answer::Fail { node, scx } => *node == cell.node() && has_failed(steps, pass, memory, cell, *scx),
+        Answer::Fail { node, scx } => {
+            *node == cell.node() && has_failed(steps, pass, memory, cell, *scx)
+        }
         Answer::Full { what, left } => {
             has_just_looked(steps, memory, cell.node())
                 && steps.has_too_few(pass, 1, (*what, *left))
