@@ -4,7 +4,7 @@ use Rattle.std.specs.List.{filter}
 use Rattle.std.proofs.lemmas.Bool.{eq-eqb, ne_eqb, cases_order, cases_eq}
 use Rattle.std.proofs.lemmas.List.{get_or_default}
 use Rattle.spelling.specs.declared.pair.Pair.{Pair}
-use Rattle.spelling.specs.OrderedMap.{MapCall, Edit, Get, Successor, Range, MapReply, OneValue, OnePair, ManyPairs, AllAbove, IsRising, get, first_pair, successor, between, pair_or_none, insert, delete, Insert, Delete, reply}
+use Rattle.spelling.specs.OrderedMap.{MapCall, Edit, Get, Successor, Range, OneValue, OnePair, ManyPairs, AllAbove, IsRising, get, first_pair, successor, between, pair_or_none, reply}
 use Rattle.spelling.proofs.Lemmas.{get_above, insert_keeps, delete_keeps, edited_rises}
 use Rattle.script.specs.declared.command.Call.{Call}
 use Rattle.script.specs.declared.command.Command.{Command}
@@ -97,8 +97,8 @@ module _ (looks : ℕ → Bool) (q : Pair) (qs : List Pair) (r : IsRising (q ∷
   -- a pair of the map that is not looked for
   passes_over : looks q.key ≡ false → (most : ℕ) (ps : List Pair) → IsRising ps → length ps ≤ most → All (IsFoundIn looks (q ∷ qs)) ps → AreTold looks most ps (q ∷ qs) → take most (filter (λ (p : Pair). looks p.key) qs) ≡ ps
   passes_over not most ps rp few found told = rest most ps rp few
-    (λ i d l. let f = found i d l in (f.0, sym (get_later (get_or ps i d).key q qs (λ e. let z : true ≡ false = sym f.0 ∙ ap looks e ∙ not in absurd (cc))) ∙ f.1))
-    (λ j s look. told j (some_later j q qs s) look)
+      (λ i d l. let f = found i d l in (f.0, sym (get_later (get_or ps i d).key q qs (λ e. let z : true ≡ false = sym f.0 ∙ ap looks e ∙ not in absurd (cc))) ∙ f.1))
+      (λ j s look. told j (some_later j q qs s) look)
 
   -- and the first that is
   takes : looks q.key ≡ true → (most : ℕ) (ps : List Pair) → IsRising ps → length ps ≤ most → All (IsFoundIn looks (q ∷ qs)) ps → AreTold looks most ps (q ∷ qs) → take most (q ∷ filter (λ (p : Pair). looks p.key) qs) ≡ ps

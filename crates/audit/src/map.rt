@@ -331,7 +331,7 @@ fn is_full_for_new(
     requires { client.now.pass.0 < steps.now.judge.layout.passes }
     ensures { (lay : Layout) (tries : ℕ) (calls : List CallOf) (lines : List Line) (command : CommandOf) → IsAsked lay tries calls lines (changes places.now) client.now command reply.now → AreRemembered lay calls lines steps.now → (MayAnswerAtOnce command reply.now.answer → ⊥) → IsTrue result → IsTooFewFor lay lines reply.now key None full.0 full.1 }
 {
-    had(places, key, None, reply) && steps.has_too_few_to_try(client.pass, 3, full)
+    steps.has_too_few_to_try(client.pass, 3, full) && had(places, key, None, reply)
 }
 
 /// Whether a key had a value after some turn of a call, and the share has too little for another one
@@ -348,7 +348,7 @@ fn is_full_for_old(
     requires { client.now.pass.0 < steps.now.judge.layout.passes }
     ensures { (lay : Layout) (tries : ℕ) (lines : List Line) (command : CommandOf) → IsAsked lay tries calls.now lines (changes places.now) client.now command reply.now → AreRemembered lay calls.now lines steps.now → (MayAnswerAtOnce command reply.now.answer → ⊥) → IsTrue result → (v : ℕ) × IsTooFewFor lay lines reply.now key (Some v) full.0 full.1 }
 {
-    had_some(places, calls, key, reply) && steps.has_too_few_to_try(client.pass, 1, full)
+    steps.has_too_few_to_try(client.pass, 1, full) && had_some(places, calls, key, reply)
 }
 
 /// Whether a key had a value after some turn of a call: one that some call gives it.
