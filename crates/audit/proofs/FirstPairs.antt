@@ -97,8 +97,8 @@ module _ (looks : ℕ → Bool) (q : Pair) (qs : List Pair) (r : IsRising (q ∷
   -- a pair of the map that is not looked for
   passes_over : looks q.key ≡ false → (most : ℕ) (ps : List Pair) → IsRising ps → length ps ≤ most → All (IsFoundIn looks (q ∷ qs)) ps → AreTold looks most ps (q ∷ qs) → take most (filter (λ (p : Pair). looks p.key) qs) ≡ ps
   passes_over not most ps rp few found told = rest most ps rp few
-    (λ i d l. let f = found i d l in (f.0, sym (get_later (get_or ps i d).key q qs (λ e. let z : true ≡ false = sym f.0 ∙ ap looks e ∙ not in absurd (cc))) ∙ f.1))
-    (λ j s look. told j (some_later j q qs s) look)
+      (λ i d l. let f = found i d l in (f.0, sym (get_later (get_or ps i d).key q qs (λ e. let z : true ≡ false = sym f.0 ∙ ap looks e ∙ not in absurd (cc))) ∙ f.1))
+      (λ j s look. told j (some_later j q qs s) look)
 
   -- and the first that is
   takes : looks q.key ≡ true → (most : ℕ) (ps : List Pair) → IsRising ps → length ps ≤ most → All (IsFoundIn looks (q ∷ qs)) ps → AreTold looks most ps (q ∷ qs) → take most (q ∷ filter (λ (p : Pair). looks p.key) qs) ≡ ps
