@@ -1,5 +1,5 @@
 -- What a run knows of a call of the map whose answer it judges.
-use Rattle.std.proofs.Common.{◌≡◌, ℕ, ◌<◌, Bool, true, false, is_some, length, slice_get, Option, Some, None, IsSome, refl, sym, ◌∙◌, ap, subst}
+use Rattle.std.proofs.Common.{◌≡◌, ℕ, ◌<◌, Bool, true, false, is_some, slice_get, Option, Some, None, IsSome, refl, sym, ◌∙◌, ap, subst}
 use Rattle.std.proofs.lemmas.Option.{slice_get_within}
 use Rattle.arena.specs.declared.limits.Mode.TheVariants.{Tree}
 use Rattle.arena.specs.declared.layout.Layout.{Layout}
@@ -28,9 +28,13 @@ module _ (run : Run) (client : Client) (command : Command) (r : Reply) (x : IsAf
   known : IsClientAfter (layout_of run) (calls_of run) (lines_of run) r.client.0 client
   known = subst (λ (p : PassNo). IsClientAfter (layout_of run) (calls_of run) (lines_of run) p.0 client) own (x.clients client.pass.0 client there)
 
-  -- the client is a pass of the judge's layout
+  -- the client is a pass
+  pub is_client : client.pass.0 < (layout_of run).passes
+  is_client = subst (λ (n : ℕ). client.pass.0 < n) x.all (slice_get_within run.clients.items client.pass.0 client there)
+
+  -- and one of the judge's layout
   pub is_pass : client.pass.0 < run.steps.judge.layout.passes
-  is_pass = subst (λ (l : Layout). client.pass.0 < l.passes) (sym x.layout) (subst (λ (n : ℕ). client.pass.0 < n) x.all (slice_get_within run.clients.items client.pass.0 client there))
+  is_pass = subst (λ (l : Layout). client.pass.0 < l.passes) (sym x.layout) is_client
 
   -- and its call has begun
   pub is_begun : client.begun ≡ Some r.begin → IsSome (begin (lines_of run) client.pass.0)

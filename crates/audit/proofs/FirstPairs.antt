@@ -4,7 +4,7 @@ use Rattle.std.specs.List.{filter}
 use Rattle.std.proofs.lemmas.Bool.{eq-eqb, ne_eqb, cases_order, cases_eq}
 use Rattle.std.proofs.lemmas.List.{get_or_default}
 use Rattle.spelling.specs.declared.pair.Pair.{Pair}
-use Rattle.spelling.specs.OrderedMap.{MapCall, Edit, Get, Successor, Range, MapReply, OneValue, OnePair, ManyPairs, AllAbove, IsRising, get, first_pair, successor, between, pair_or_none, insert, delete, Insert, Delete, reply}
+use Rattle.spelling.specs.OrderedMap.{MapCall, Edit, Get, Successor, Range, OneValue, OnePair, ManyPairs, AllAbove, IsRising, get, first_pair, successor, between, pair_or_none, reply}
 use Rattle.spelling.proofs.Lemmas.{get_above, insert_keeps, delete_keeps, edited_rises}
 use Rattle.script.specs.declared.command.Call.{Call}
 use Rattle.script.specs.declared.command.Command.{Command}
@@ -173,8 +173,8 @@ module _ (P : ℕ → Type 0) (calls : List Call) (all : All (λ (call : Call). 
   map_keys [] s = absurd (let z : false ≡ true = s in cc)
   map_keys (e ∷ es) s = changed (map_of calls es) (slice_get (commands calls e.client.0) e.call) (λ c is. of_commands (HoldsOfKey P) calls e.client.0 e.call c all is) s (map_keys es)
 
--- so pairs are the first that are found in such a map, if of each key that a call may change as much
--- is told
+-- so pairs are the first that are found in such a map, if of each key that a call may change as
+-- much is told
 pub first_pairs : (looks : ℕ → Bool) (most : ℕ) (ps : List Pair) (calls : List Call) (es : List Entry) → IsRising ps → length ps ≤ most → All (IsFoundIn looks (map_of calls es)) ps → All (λ (call : Call). HoldsOfKey (λ key. IsToldOf looks most ps key (get key (map_of calls es))) call.command) calls → take most (filter (λ (p : Pair). looks p.key) (map_of calls es)) ≡ ps
 first_pairs looks most ps calls es rising few found all = found_first looks (map_of calls es) (map_rises calls es) most ps rising few found (λ j s look. told j s look (map_keys (λ key. IsToldOf looks most ps key (get key (map_of calls es))) calls all j es s))
   where

@@ -1,24 +1,22 @@
 -- What is found of a call of the map makes its answer right, and places it.
-use Rattle.std.proofs.Common.{◌≡◌, ℕ, suc, ◌-◌, ◌≤◌, ◌⊎◌, inl, inr, ⊎_elim, Bool, true, false, List, [], ◌∷◌, slice_get, Option, Some, None, IsSome, IfSome, refl, sym, ◌∙◌, ap, subst, arith}
+use Rattle.std.proofs.Common.{◌≡◌, ℕ, suc, ◌-◌, ◌≤◌, ◌⊎◌, inl, inr, Bool, true, false, List, [], ◌∷◌, is_some, Option, Some, None, IsSome, refl, sym, ◌∙◌, ap, subst, arith}
 use Rattle.arena.specs.declared.layout.Layout.{Layout}
 use Rattle.arena.specs.declared.fault.Resource.{Resource}
 use Rattle.arena.specs.declared.number.NodeNo.{NodeNo}
 use Rattle.arena.specs.declared.number.ScxNo.{ScxNo}
-use Rattle.arena.specs.Blame.{WasInTheWay}
-use Rattle.arena.specs.Fills.{IsOthersScx}
 use Rattle.arena.specs.History.{History, ◌⊳◌}
 use Rattle.arena.proofs.Lemmas.{ends_trans}
 use Rattle.spelling.specs.OrderedMap.{MapCall, MapEdit, Edit, Insert, Delete, Get, Successor, Range, edit_key, MapReply, OneValue, get, reply}
 use Rattle.spelling.specs.Paths.{IsAnswerAt}
 use Rattle.script.specs.declared.command.Call.{Call}
 use Rattle.script.specs.declared.command.Command.{Command}
-use Rattle.script.specs.declared.command.Command.TheVariants.{Llx as LlxOf, Scx as ScxOf, Vlx as VlxOf, Set as SetOf, Insert as InsertOf, Delete as DeleteOf, Get as GetOf, Successor as SuccessorOf, Range as RangeOf}
+use Rattle.script.specs.declared.command.Command.TheVariants.{Insert as InsertOf, Delete as DeleteOf, Get as GetOf, Successor as SuccessorOf, Range as RangeOf}
 use Rattle.record.specs.declared.record.Line.{Line}
 use Rattle.record.specs.declared.record.Line.TheVariants.{Step, Log, Reply as ReplyLine}
 use Rattle.record.specs.declared.record.Row.TheVariants.{Step as Made, Idle}
 use Rattle.record.specs.declared.record.Reply.{Reply}
 use Rattle.record.specs.declared.record.Answer.{Answer}
-use Rattle.record.specs.declared.record.Answer.TheVariants.{Value, Pair as PairOf, Pairs, Contended, Full, NoMemory}
+use Rattle.record.specs.declared.record.Answer.TheVariants.{Value, Pair as PairOf, Pairs, Contended, NoMemory}
 use Rattle.record.specs.Answers.{HasItsEntry, WasBlockedBy}
 use Rattle.record.specs.CommandRules.{IsRight, IsPlaced, enters, MayAnswerAtOnce, MayAnswerAfterStep}
 use Rattle.record.specs.Edits.{HadAtKey}
@@ -95,6 +93,11 @@ no_memory_right lay c now start kept lines (InsertOf key value) call of_map fits
 no_memory_right lay c now start kept lines (DeleteOf key) call of_map fits = neither (either_fits lines (DeleteOf key) NoMemory fits)
 no_memory_right lay c now start kept lines (GetOf key) call of_map fits = neither (either_fits lines (GetOf key) NoMemory fits)
 no_memory_right lay c now start kept lines command call of_map fits = absurd (let z : None ≡ Some call = of_map in cc)
+
+-- what is not there
+pub none_by : (o : Option ℕ) → is_some o ≡ false → o ≡ None
+none_by None e = refl
+none_by (Some v) e = absurd (cc)
 
 -- Entries
 

@@ -1,5 +1,5 @@
 -- What is remembered of a call that is refused makes its answer right.
-use Rattle.std.proofs.Common.{◌≡◌, ℕ, ◌<◌, List, slice_get, Option, Some, None, IsSome, IfSome, is_some, false, refl, sym, ◌∙◌, ap, subst}
+use Rattle.std.proofs.Common.{◌≡◌, ℕ, ◌<◌, List, slice_get, Option, Some, IsSome, IfSome, refl, sym, ◌∙◌, ap, subst}
 use Rattle.arena.specs.declared.layout.Layout.{Layout}
 use Rattle.arena.specs.declared.fault.Resource.{Resource}
 use Rattle.arena.specs.declared.number.NodeNo.{NodeNo}
@@ -20,7 +20,7 @@ use Rattle.record.specs.Replies.{IsFitting}
 use Rattle.record.specs.Turns.{history, begin, start}
 use Rattle.places.specs.declared.places.Change.{Change}
 use Rattle.audit.specs.Asked.{IsAsked, IsTooFewFor}
-use Rattle.audit.specs.Remembered.{IsMomentAt, AreStepsOf, AreRemembered}
+use Rattle.audit.specs.Remembered.{IsMomentAt, AreRemembered}
 use Rattle.audit.specs.declared.client.Client.{Client}
 use Rattle.audit.specs.declared.memory.Memory.{Memory}
 use Rattle.audit.specs.declared.steps.Steps.{Steps}

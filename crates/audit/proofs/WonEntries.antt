@@ -1,5 +1,5 @@
 -- The entry of the update that has won in a client's call.
-use Rattle.std.proofs.Common.{◌≡◌, ℕ, suc, ◌<◌, ◌≤◌, Bool, true, false, cond, ◌&&◌, eqb, List, [], ◌∷◌, ◌++◌, Option, Some, None, refl, sym, ◌∙◌, ap, arith}
+use Rattle.std.proofs.Common.{◌≡◌, ℕ, suc, ◌≤◌, Bool, true, false, cond, ◌&&◌, eqb, List, [], ◌∷◌, ◌++◌, Some, None, refl, sym, ◌∙◌, ap, arith}
 use Rattle.std.proofs.lemmas.Bool.{eqb-true, eqb-false, eq-eqb, ne_eqb}
 use Rattle.arena.specs.declared.layout.Layout.{Layout}
 use Rattle.arena.specs.declared.step.Row.{Row as StepRow}
@@ -9,8 +9,8 @@ use Rattle.record.specs.declared.record.Line.TheVariants.{Step, Log, Reply as Re
 use Rattle.record.specs.declared.record.Row.TheVariants.{Step as Made, Idle}
 use Rattle.record.specs.declared.record.Row.{Row}
 use Rattle.record.specs.declared.record.Entry.{Entry}
-use Rattle.record.specs.Turns.{turns, answered, won, entry_of, entry_owed}
-use Rattle.record.specs.MapRecord.{written_log, entries_of_call, map_of, map_at}
+use Rattle.record.specs.Turns.{turns, answered, won, entry_owed}
+use Rattle.record.specs.MapRecord.{written_log, entries_until, entries_of_call, map_of, map_at}
 use Rattle.record.specs.LawfulRun.{AreLines}
 use Rattle.record.proofs.Lemmas.{entries_none, log_step, won_within}
 use Rattle.places.proofs.Lemmas.{map_now}
@@ -77,23 +77,33 @@ module _ (lay : Layout) (tries : ℕ) (calls : List Call) (c turn : ℕ) where
         before = map_before calls (Step (Made n row) ∷ lines) e (turns f.rest) (omega (step, within, in_turn, arith)) ∙ f.before;
       }
 
+  -- a line more that is no entry, and no reply to the client
+  passed : (line : Line) (lines : List Line) → answered (line ∷ lines) c ≡ answered lines c → written_log (line ∷ lines) ≡ written_log lines → IsEntered lay calls lines c turn → IsEntered lay calls (line ∷ lines) c turn
+  passed line lines same_call same_log f = record {
+    entry = f.entry;
+    newer = line ∷ f.newer;
+    row = f.row;
+    rest = f.rest;
+    is = ap (λ (l : List Line). line ∷ l) f.is;
+    client = f.client;
+    call = f.call ∙ sym same_call;
+    step = f.step;
+    in_turn = f.in_turn;
+    once = rw (same_call, same_log) f.once;
+    before = ap (λ es. map_of calls (entries_until (turns f.rest) es)) same_log ∙ f.before;
+  }
+
   -- where an update has won in a turn
   pub won_entered : (lines : List Line) → AreLines lay tries calls lines → entry_owed lay lines ≡ None → won lay lines c ≡ Some turn → IsEntered lay calls lines c turn
   unfolding AreLines
   won_entered [] a owed has = absurd (let e : None ≡ Some turn = has in cc)
-  won_entered (Step (Made n row) ∷ lines) a owed has =
-      let f = won_entered lines a.0 a.1.0.entry (rw owed at has) in
-      record { entry = f.entry; newer = Step (Made n row) ∷ f.newer; row = f.row; rest = f.rest; is = ap (λ (l : List Line). Step (Made n row) ∷ l) f.is; client = f.client; call = f.call; step = f.step; in_turn = f.in_turn; once = f.once; before = f.before }
-  won_entered (Step (Idle n client) ∷ lines) a owed has =
-      let f = won_entered lines a.0 a.1.0.entry has in
-      record { entry = f.entry; newer = Step (Idle n client) ∷ f.newer; row = f.row; rest = f.rest; is = ap (λ (l : List Line). Step (Idle n client) ∷ l) f.is; client = f.client; call = f.call; step = f.step; in_turn = f.in_turn; once = f.once; before = f.before }
+  won_entered (Step (Made n row) ∷ lines) a owed has = passed (Step (Made n row)) lines refl refl (won_entered lines a.0 a.1.0.entry (rw owed at has))
+  won_entered (Step (Idle n client) ∷ lines) a owed has = passed (Step (Idle n client)) lines refl refl (won_entered lines a.0 a.1.0.entry has)
   won_entered (ReplyLine r ∷ lines) a owed has = go (eqb r.client.0 c) refl (λ h. won_entered lines a.0 a.1.0 h)
     where
       go : (own : Bool) → eqb r.client.0 c ≡ own → (won lay lines c ≡ Some turn → IsEntered lay calls lines c turn) → IsEntered lay calls (ReplyLine r ∷ lines) c turn
       go true v older = absurd (let e : None ≡ Some turn = rw v at has in cc)
-      go false v older =
-          let f = older (rw v at has) in
-          record { entry = f.entry; newer = ReplyLine r ∷ f.newer; row = f.row; rest = f.rest; is = ap (λ (l : List Line). ReplyLine r ∷ l) f.is; client = f.client; call = rw v f.call; step = f.step; in_turn = f.in_turn; once = rw v f.once; before = f.before }
+      go false v older = passed (ReplyLine r) lines (rw v refl) refl (older (rw v at has))
   won_entered (Log e ∷ Step (Made n row) ∷ lines) a owed has = go (eqb e.client.0 c) refl (λ h. won_entered lines a.0.0 a.0.1.0.entry h)
     where
       go : (own : Bool) → eqb e.client.0 c ≡ own → (won lay lines c ≡ Some turn → IsEntered lay calls lines c turn) → IsEntered lay calls (Log e ∷ Step (Made n row) ∷ lines) c turn

@@ -1,4 +1,5 @@
--- What is known of a call of the map whose answer is judged. Lines stand here with the newest first.
+-- What is known of a call of the map whose answer is judged. Lines stand here with the newest
+-- first.
 use Rattle.std.specs.Prelude.{◌≡◌, ℕ, ◌-◌, ◌<◌, ◌≤◌, ◌⊎◌, Bool, true, false, List, [], ◌∷◌, length, Option, Some, None, IsSome}
 use Rattle.arena.specs.declared.layout.Layout.{Layout}
 use Rattle.arena.specs.declared.fault.Resource.{Resource}
@@ -51,12 +52,12 @@ pub record IsAsked (lay : Layout) (tries : ℕ) (calls : List Call) (lines : Lis
 abbrev pub HadWithin : List Call → List Line → ℕ → Option ℕ → ℕ → ℕ → Type 0
 HadWithin calls lines key value first last = (m : ℕ) × (first ≤ m) × (m ≤ last) × (get key (map_at calls lines m) ≡ value)
 
--- after some row behind the call's begin the map that the words spelled had this at the key, and the
--- share has too little for an edit there, and not by the call's own doing
+-- after some row behind the call's begin the map that the words spelled had this at the key, and
+-- the share has too little for an edit there, and not by the call's own doing
 abbrev pub IsTooFewFor : Layout → List Line → Reply → ℕ → Option ℕ → Resource → ℕ → Type 0
 IsTooFewFor lay lines r key old what left = HadAtKey lay (history lay.mode lines) (start lay.mode lines r.client.0) key old × HasTooFewToTry lay r.client.0 (history lay.mode lines) (start lay.mode lines r.client.0) (nodes_for old) what left
 
--- the answer tells what the map had just before the turn at the key of the command, which is an edit
+-- the answer tells what the map had just before the turn at the key of the command, an edit
 pub record IsToldBefore (calls : List Call) (lines : List Line) (command : Command) (answer : Answer) (turn : ℕ) : Type 0 where
   pub told : Option ℕ
   pub answers : answer ≡ Value told
@@ -64,7 +65,8 @@ pub record IsToldBefore (calls : List Call) (lines : List Line) (command : Comma
   pub is : map_call (Some command) ≡ Some (Edit edit)
   pub had : get (edit_key edit) (map_at calls lines (turn - 1)) ≡ told
 
--- the reply's moment is the greatest turn of the call after which the map had at the key what it tells
+-- the reply's moment is the greatest turn of the call after which the map had at the key what it
+-- tells
 pub record IsValueAt (calls : List Call) (lines : List Line) (key : ℕ) (r : Reply) : Type 0 where
   pub told : Option ℕ
   pub answers : r.answer ≡ Value told
@@ -72,8 +74,8 @@ pub record IsValueAt (calls : List Call) (lines : List Line) (key : ℕ) (r : Re
   pub moment : r.moment ≡ Some turn
   pub greatest : IsGreatestTurn (λ m. get key (map_at calls lines m) ≡ told) r.begin r.end turn
 
--- the command is an ordered read, and the reply's moment is the greatest turn of the call after which
--- the map replied what it tells
+-- the command is an ordered read, and the reply's moment is the greatest turn of the call after
+-- which the map replied what it tells
 pub record IsReadAt (calls : List Call) (lines : List Line) (command : Command) (r : Reply) : Type 0 where
   pub ordered : IsOrderedRead command
   pub call : MapCall

@@ -1,26 +1,23 @@
 //! Calls of cells: what their entries do, and what their answers say.
-ghost use Rattle.std.specs.Prelude.{◌≡◌, ℕ, ◌<◌, ◌≤◌, ◌↔◌, [], ◌∷◌, List, length, slice_get, true, false, Option, Some, None, IsSome, IfSome, IfNone, IsTrue, Contains};
+ghost use Rattle.std.specs.Prelude.{◌≡◌, ℕ, ◌<◌, [], ◌∷◌, List, slice_get, true, false, Option, Some, IsSome, IfSome, IfNone, IsTrue};
 ghost use Rattle.arena.specs.declared.layout.Layout.{Layout};
 ghost use Rattle.arena.specs.declared.step.Row.{Row as StepRow};
-ghost use Rattle.arena.specs.declared.step.Kind.TheVariants.{LoadInfo, Freeze};
+ghost use Rattle.arena.specs.declared.step.Kind.TheVariants.{Freeze};
 ghost use Rattle.arena.specs.declared.limits.Mode.TheVariants.{Records};
 ghost use Rattle.arena.specs.declared.word.Side.{Side as SideOf};
 ghost use Rattle.arena.specs.Blame.{HasFailed};
 ghost use Rattle.arena.specs.History.{History, value};
 ghost use Rattle.arena.specs.Lawful.{IsWin};
-ghost use Rattle.arena.specs.Layout.{all_nodes};
 ghost use Rattle.arena.specs.Log.{log, last, has, is_final, entry as entered};
 ghost use Rattle.arena.specs.ScxRecords.{plan as plan_of, member as member_of, new as new_of, side_of, field_index, plan_finalizes};
 ghost use Rattle.arena.specs.Words.{node as node_of, child, scx as scx_of};
 ghost use Rattle.script.specs.declared.command.Call.{Call as CallOf};
-ghost use Rattle.script.specs.Update.{update_cells, update_field, update_value, update_finalize};
-ghost use Rattle.script.specs.declared.command.Command.{Command as CommandOf};
 ghost use Rattle.record.specs.declared.record.Line.{Line};
 ghost use Rattle.record.specs.declared.record.Reply.{Reply as ReplyOf};
 ghost use Rattle.script.specs.Cells.{cells_of};
 ghost use Rattle.audit.specs.declared.memory.Look.{Look as LookOf};
 ghost use Rattle.arena.specs.declared.step.Kind.{Kind as KindOf};
-ghost use Rattle.record.specs.Answers.{AreUnchanged, HasRoom, IsAsSnapped, IsInTheWay, IsPlacedCell, IsSnapshotAt, IsUnchanged, moment_of as moment_in};
+ghost use Rattle.record.specs.Answers.{AreUnchanged, HasRoom, IsAsSnapped, IsInTheWay, IsPlacedCell, IsSnapshotAt, moment_of as moment_in};
 ghost use Rattle.record.specs.CommandRules.{IsEntryFor, IsRight, IsPlaced};
 ghost use Rattle.record.specs.Commands.{next_command};
 ghost use Rattle.record.specs.Linked.{linked};
@@ -278,7 +275,9 @@ fn is_true_of_llx(steps: &Steps, pass: PassNo, memory: &Memory, cell: Cell, answ
     match answer {
         Answer::Snapshot { left, right } => is_snapshot(&steps.judge, cell.node(), (*left, *right)),
         Answer::Finalized => steps.judge.is_final(cell.node()),
-        Answer::Fail { node, scx } => *node == cell.node() && has_failed(steps, pass, memory, cell, *scx),
+        Answer::Fail { node, scx } => {
+            *node == cell.node() && has_failed(steps, pass, memory, cell, *scx)
+        }
         _ => false,
     }
 }
@@ -324,7 +323,13 @@ fn had_room(memory: &Memory) -> bool
     memory.nodes > 0 && memory.scx > 0
 }
 
-fn is_true_of_scx(steps: &Steps, pass: PassNo, memory: &Memory, update: &Update, answer: &Answer) -> bool
+fn is_true_of_scx(
+    steps: &Steps,
+    pass: PassNo,
+    memory: &Memory,
+    update: &Update,
+    answer: &Answer,
+) -> bool
     requires { pass.0 < steps.now.judge.layout.passes }
     ensures { (start : History) (linked : ℕ → Option History) → AreStepsOf steps.now.judge.layout (seen steps.now.judge) steps.now → IsCallSeen steps.now.judge.layout pass.0 (seen steps.now.judge) start linked memory.now → IsTrue result → ScxIsRight update.now steps.now.judge.layout pass.0 (seen steps.now.judge) start linked answer.now }
 {
@@ -344,7 +349,13 @@ fn is_true_of_scx(steps: &Steps, pass: PassNo, memory: &Memory, update: &Update,
     }
 }
 
-fn is_true_of_vlx(steps: &Steps, pass: PassNo, memory: &Memory, cells: &Cells, answer: &Answer) -> bool
+fn is_true_of_vlx(
+    steps: &Steps,
+    pass: PassNo,
+    memory: &Memory,
+    cells: &Cells,
+    answer: &Answer,
+) -> bool
     ensures { (start : History) (linked : ℕ → Option History) → AreStepsOf steps.now.judge.layout (seen steps.now.judge) steps.now → IsCallSeen steps.now.judge.layout pass.0 (seen steps.now.judge) start linked memory.now → AreSameAt steps.now.judge.layout start linked (cells_of cells.now) memory.now.same → IsTrue result → VlxIsRight cells.now steps.now.judge.layout pass.0 (seen steps.now.judge) start linked answer.now }
 {
     let cells = cells.as_slice();
@@ -360,20 +371,16 @@ fn is_true_of_vlx(steps: &Steps, pass: PassNo, memory: &Memory, cells: &Cells, a
     }
 }
 
-fn is_true_of_set(
-    steps: &Steps,
-    pass: PassNo,
-    memory: &Memory,
-    cell: Cell,
-    answer: &Answer,
-) -> bool
+fn is_true_of_set(steps: &Steps, pass: PassNo, memory: &Memory, cell: Cell, answer: &Answer) -> bool
     requires pass { pass.0 < steps.now.judge.layout.passes }
     requires cells { steps.now.judge.layout.mode ≡ Records }
     ensures { (start : History) (linked : ℕ → Option History) (side : SideOf) (x : ℕ) → AreStepsOf steps.now.judge.layout (seen steps.now.judge) steps.now → IsCallSeen steps.now.judge.layout pass.0 (seen steps.now.judge) start linked memory.now → IsTrue result → SetIsRight (cell, side) x steps.now.judge.layout pass.0 (seen steps.now.judge) start linked answer.now }
 {
     match answer {
         Answer::Finalized => steps.judge.is_final(cell.node()),
-        Answer::Fail { node, scx } => *node == cell.node() && has_failed(steps, pass, memory, cell, *scx),
+        Answer::Fail { node, scx } => {
+            *node == cell.node() && has_failed(steps, pass, memory, cell, *scx)
+        }
         Answer::Full { what, left } => {
             has_just_looked(steps, memory, cell.node())
                 && steps.has_too_few(pass, 1, (*what, *left))

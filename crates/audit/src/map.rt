@@ -49,8 +49,8 @@ pub(crate) fn is_right(
 }
 
 /// Whether a call that tells of the map took place in the turn of its reply: with its entry, just
-/// before which the map gave its answer; or, without one, in the last of its turns, whoever made it,
-/// after which the map gave it.
+/// before which the map gave its answer; or, without one, in the last of its turns, whoever made
+/// it, after which the map gave it.
 fn is_placed(
     places: &Places,
     calls: &[Call],
@@ -151,7 +151,7 @@ fn tells_at(places: &Places, calls: &[Call], command: &Command, pairs: &[Pair], 
         && are_all(places, calls, command, pairs, turn)
 }
 
-/// Whether an ordered read looks for the keys of these pairs, and the map has the pairs after a turn.
+/// Whether an ordered read looks for the keys of these pairs, and the map has them after a turn.
 fn are_found(places: &Places, command: &Command, pairs: &[Pair], turn: u64) -> bool
     ensures { (calls : List CallOf) (lines : List Line) → AreEntries calls lines (changes places.now) → IsTrue result → All (λ p. IsFoundIn (looks_for command.now) (map_at calls lines turn) p) pairs.now }
 {
@@ -170,8 +170,8 @@ fn is_found(places: &Places, command: &Command, pair: Pair, turn: u64) -> bool
     looks_for(command, pair.key) && has_at(places, pair.key, Some(pair.value), turn)
 }
 
-/// Whether these pairs, by rising key, are all that an ordered read finds after a turn, as far as it
-/// looks.
+/// Whether these pairs, by rising key, are all that an ordered read finds after a turn, as far as
+/// it looks.
 fn are_all(places: &Places, calls: &[Call], command: &Command, pairs: &[Pair], turn: u64) -> bool
     ensures { (lines : List Line) → AreEntries calls.now lines (changes places.now) → IsRising pairs.now → IsTrue result → All (λ call. HoldsOfKey (λ key. IsToldOf (looks_for command.now) (most_told command.now) pairs.now key (get key (map_at calls.now lines turn))) call.command) calls.now }
 {
@@ -319,7 +319,8 @@ fn is_full(
     }
 }
 
-/// Whether a key had no value after some turn of a call, and the share has too little for a new one.
+/// Whether a key had no value after some turn of a call, and the share has too little for a new
+/// one.
 fn is_full_for_new(
     steps: &Steps,
     places: &Places,
@@ -331,11 +332,11 @@ fn is_full_for_new(
     requires { client.now.pass.0 < steps.now.judge.layout.passes }
     ensures { (lay : Layout) (tries : ℕ) (calls : List CallOf) (lines : List Line) (command : CommandOf) → IsAsked lay tries calls lines (changes places.now) client.now command reply.now → AreRemembered lay calls lines steps.now → (MayAnswerAtOnce command reply.now.answer → ⊥) → IsTrue result → IsTooFewFor lay lines reply.now key None full.0 full.1 }
 {
-    had(places, key, None, reply) && steps.has_too_few_to_try(client.pass, 3, full)
+    steps.has_too_few_to_try(client.pass, 3, full) && had(places, key, None, reply)
 }
 
-/// Whether a key had a value after some turn of a call, and the share has too little for another one
-/// or none.
+/// Whether a key had a value after some turn of a call, and the share has too little for another
+/// one or none.
 fn is_full_for_old(
     steps: &Steps,
     places: &Places,
@@ -348,7 +349,7 @@ fn is_full_for_old(
     requires { client.now.pass.0 < steps.now.judge.layout.passes }
     ensures { (lay : Layout) (tries : ℕ) (lines : List Line) (command : CommandOf) → IsAsked lay tries calls.now lines (changes places.now) client.now command reply.now → AreRemembered lay calls.now lines steps.now → (MayAnswerAtOnce command reply.now.answer → ⊥) → IsTrue result → (v : ℕ) × IsTooFewFor lay lines reply.now key (Some v) full.0 full.1 }
 {
-    had_some(places, calls, key, reply) && steps.has_too_few_to_try(client.pass, 1, full)
+    steps.has_too_few_to_try(client.pass, 1, full) && had_some(places, calls, key, reply)
 }
 
 /// Whether a key had a value after some turn of a call: one that some call gives it.

@@ -589,7 +589,7 @@ impl<'a> Run<'a> {
         }
     }
 
-    /// The same of a call of the map.
+    /// The same, for a call of the map.
     fn check_map_answer(
         &self,
         client: &Client,

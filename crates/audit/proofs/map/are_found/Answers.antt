@@ -1,4 +1,4 @@
-use Rattle.std.proofs.Common.{◌<◌, length, arith}
+use Rattle.std.proofs.Common.{arith}
 use Rattle.spelling.specs.declared.pair.Pair.{Pair}
 use Rattle.record.specs.MapRecord.{map_at}
 use Rattle.places.specs.Ordered.{looks_for}

@@ -1,4 +1,4 @@
-use Rattle.std.proofs.Common.{◌≡◌, ◌-◌, Some, ap, subst}
+use Rattle.std.proofs.Common.{◌≡◌, Some, ap, subst}
 use Rattle.spelling.specs.OrderedMap.{Insert, Delete, get}
 use Rattle.record.specs.MapRecord.{map_call, map_at}
 use Rattle.audit.proofs.map.had_before.Goals as goal

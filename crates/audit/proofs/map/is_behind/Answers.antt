@@ -1,4 +1,4 @@
-use Rattle.std.proofs.Common.{◌≡◌, ◌-◌, length, slice_get, Some, sym, ◌∙◌}
+use Rattle.std.proofs.Common.{◌≡◌, ◌-◌, length, slice_get, Some, sym}
 use Rattle.std.proofs.lemmas.Bool.{ltb-true}
 use Rattle.audit.proofs.FirstPairs.{below_last}
 use Rattle.audit.proofs.map.is_behind.Goals as goal

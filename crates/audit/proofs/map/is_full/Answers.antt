@@ -1,4 +1,4 @@
-use Rattle.std.proofs.Common.{None, Some}
+use Rattle.std.proofs.Common.{None}
 use Rattle.places.specs.Places.{changes}
 use Rattle.audit.proofs.Refusals.{right_full_insert, right_full_old_insert, right_full_delete}
 use Rattle.audit.proofs.map.is_full.Goals as goal

@@ -1,5 +1,4 @@
-use Rattle.std.proofs.Common.{◌≡◌, Some, None, sym, ◌∙◌, rules}
-use Rattle.record.specs.Turns.{won}
+use Rattle.std.proofs.Common.{◌≡◌, Some, sym, ◌∙◌, rules}
 use Rattle.places.specs.Places.{changes}
 use Rattle.audit.proofs.MapAnswers.{change_answered}
 use Rattle.audit.proofs.map.is_placed.Goals as goal

@@ -1,14 +1,11 @@
-use Rattle.std.proofs.Common.{◌≡◌, ℕ, false, is_some, [], ◌∷◌, Option, Some, None, refl, sym, ◌∙◌, ap, subst, rules}
+use Rattle.std.proofs.Common.{◌≡◌, [], ◌∷◌, Some, None, sym, ◌∙◌, ap, subst, rules}
 use Rattle.spelling.specs.OrderedMap.{Successor, Range, reply}
 use Rattle.record.specs.declared.record.Answer.TheVariants.{Value}
 use Rattle.record.specs.MapRecord.{map_call, map_at, reply_told}
 use Rattle.places.specs.Ordered.{IsOrderedRead, pairs_read}
 use Rattle.audit.proofs.FirstPairs.{none_above, one_above, some_between}
+use Rattle.audit.proofs.MapAnswers.{none_by}
 use Rattle.audit.proofs.map.is_read_at.Goals as goal
-
-none_by : (o : Option ℕ) → is_some o ≡ false → o ≡ None
-none_by None e = refl
-none_by (Some v) e = absurd (cc)
 
 pub returns-then-is_none : goal.returns-then-is_none
 returns-then-is_none c lines are falls less it =
