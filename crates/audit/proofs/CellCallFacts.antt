@@ -1,5 +1,5 @@
 -- What looks and snapshots say of a call of cells.
-use Rattle.std.proofs.Common.{◌≡◌, ◌≢◌, ℕ, zero, suc, ◌+◌, ◌-◌, ◌*◌, ◌<◌, ◌≤◌, Bool, true, false, not, List, [], ◌∷◌, length, get_or, slice_get, inl, inr, Option, Some, None, IsSome, IfSome, IfNone, is_some, refl, sym, ap, subst, ◌∙◌, arith}
+use Rattle.std.proofs.Common.{◌≡◌, ◌≢◌, ℕ, ◌+◌, ◌*◌, ◌<◌, ◌≤◌, Bool, true, false, not, List, [], ◌∷◌, length, get_or, slice_get, Option, Some, None, IsSome, IfSome, IfNone, is_some, refl, sym, ap, subst, ◌∙◌, arith}
 use Rattle.std.specs.List.{Contains}
 use Rattle.std.proofs.lemmas.Bool.{false≢true}
 use Rattle.arena.specs.declared.layout.Layout.{Layout}
@@ -11,13 +11,13 @@ use Rattle.arena.specs.Opening.{opening_nodes}
 use Rattle.arena.specs.Blame.{WasInTheWay, HasFailed}
 use Rattle.arena.specs.Fills.{IsOthersScx}
 use Rattle.arena.specs.Found.{HasFound}
-use Rattle.arena.specs.History.{History, Extends, value}
+use Rattle.arena.specs.History.{History, value}
 use Rattle.arena.specs.Log.{log, last, is_final}
 use Rattle.arena.specs.Words.{state}
-use Rattle.record.specs.Answers.{IsUnchanged, IsAsSnapped, IsInTheWay}
+use Rattle.record.specs.Answers.{IsInTheWay}
 use Rattle.record.specs.Snapshots.{IsLastLook, IsFirstUnlinked, AreLinked}
 use Rattle.audit.specs.CellCalls.{IsCallSeen, IsLookAt, IsOwnLook, IsAsLooked}
-use Rattle.audit.specs.Remembered.{rows_of, IsMomentAt, IsLookOf, IsSnapshotOf, AreSnapshotsOf}
+use Rattle.audit.specs.Remembered.{rows_of, IsMomentAt, IsLookOf, AreSnapshotsOf}
 use Rattle.audit.specs.declared.memory.Look.{Look}
 use Rattle.audit.specs.declared.memory.Memory.{Memory}
 use Rattle.audit.specs.declared.memory.Snapshot.{Snapshot}

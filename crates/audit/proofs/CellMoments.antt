@@ -1,19 +1,16 @@
 -- Moments of a history, told apart by how many rows they have, and what looks and snapshots say.
-use Rattle.std.proofs.Common.{◌≡◌, ◌≢◌, ℕ, zero, suc, ◌+◌, ◌<◌, ◌≤◌, Bool, true, false, List, [], ◌∷◌, length, get_or, slice_get, inl, inr, Option, Some, None, IsSome, refl, sym, ap, subst, ◌∙◌, arith}
+use Rattle.std.proofs.Common.{◌≡◌, ℕ, ◌<◌, false, slice_get, inr, Option, Some, None, IsSome, refl, sym, ap, subst, ◌∙◌, arith}
 use Rattle.arena.specs.declared.layout.Layout.{Layout}
 use Rattle.arena.specs.declared.step.Kind.{Kind}
-use Rattle.arena.specs.declared.step.Kind.TheVariants.{LoadInfo, Freeze}
-use Rattle.arena.specs.Blame.{WasInTheWay, HasFailed}
-use Rattle.arena.specs.Fills.{IsOthersScx}
+use Rattle.arena.specs.declared.step.Kind.TheVariants.{LoadInfo}
 use Rattle.arena.specs.Found.{IsLastStep, HasFound}
-use Rattle.arena.specs.History.{History, Start, ◌⊳◌, Extends, value}
+use Rattle.arena.specs.History.{History, ◌⊳◌, Extends, value}
 use Rattle.arena.specs.Log.{log, last, is_final}
-use Rattle.arena.specs.Words.{info, state}
+use Rattle.arena.specs.Words.{info}
 use Rattle.arena.proofs.Lemmas.{ends_self, ends_trans}
-use Rattle.record.specs.Answers.{IsUnchanged, IsAsSnapped}
+use Rattle.record.specs.Answers.{IsAsSnapped}
 use Rattle.record.specs.Snapshots.{IsLastLook}
-use Rattle.audit.specs.CellCalls.{IsCallSeen, IsLookAt}
-use Rattle.audit.specs.Remembered.{rows_of, IsMomentAt, IsLookOf, IsSnapshotOf, AreSnapshotsOf}
+use Rattle.audit.specs.Remembered.{IsMomentAt, IsLookOf, IsSnapshotOf, AreSnapshotsOf}
 use Rattle.audit.proofs.RowMoments.{moment_before}
 use Rattle.audit.specs.declared.memory.Look.{Look}
 use Rattle.audit.specs.declared.memory.Memory.{Memory}

@@ -1,5 +1,5 @@
 -- What is remembered of no line.
-use Rattle.std.proofs.Common.{◌≡◌, ℕ, true, false, List, [], length, Option, Some, None, refl, sym, ◌∙◌, ap, subst}
+use Rattle.std.proofs.Common.{◌≡◌, ℕ, true, false, List, [], length, None, refl}
 use Rattle.arena.specs.declared.layout.Layout.{Layout}
 use Rattle.arena.specs.History.{Start}
 use Rattle.script.specs.declared.command.Call.{Call}

@@ -1,12 +1,12 @@
 -- What an audit remembers of the lines so far. Lines stand here with the newest first.
-use Rattle.std.specs.Prelude.{◌≡◌, ℕ, Bool, true, false, List, [], ◌∷◌, length, reverse, take, slice_get, Option, Some, None, drop, All}
+use Rattle.std.specs.Prelude.{◌≡◌, ℕ, Bool, true, false, List, ◌∷◌, length, reverse, take, slice_get, Option, Some, None, drop}
 use Rattle.arena.specs.declared.layout.Layout.{Layout}
 use Rattle.arena.specs.declared.number.PassNo.{PassNo}
 use Rattle.script.specs.declared.command.Call.{Call}
 use Rattle.record.specs.declared.record.Line.{Line}
-use Rattle.record.specs.declared.record.Line.TheVariants.{Step, Log, Reply as ReplyLine}
+use Rattle.record.specs.declared.record.Line.TheVariants.{Step}
 use Rattle.record.specs.declared.record.Entry.{Entry}
-use Rattle.record.specs.declared.record.Row.TheVariants.{Step as Made, Idle}
+use Rattle.record.specs.declared.record.Row.TheVariants.{Idle}
 use Rattle.record.specs.Turns.{history, turns, entries, last_client, answered, begin, steps, won, entry_owed}
 use Rattle.record.specs.Commands.{commands}
 use Rattle.record.specs.Entries.{IsLog}

@@ -12,11 +12,9 @@ use Rattle.arena.specs.Words.{node, child}
 use Rattle.record.specs.Answers.{IsAsSnapped, IsUnchanged}
 use Rattle.record.specs.Shares.{HasNodesLeft, HasScxLeft}
 use Rattle.record.specs.Snapshots.{IsLastLook}
-use Rattle.judge.specs.Histories.{history as seen}
-use Rattle.audit.specs.Remembered.{IsMomentAt, AreStepsOf, IsLookOf, AreSnapshotsOf}
+use Rattle.audit.specs.Remembered.{IsMomentAt, IsLookOf, AreSnapshotsOf}
 use Rattle.audit.specs.declared.memory.Look.{Look}
 use Rattle.audit.specs.declared.memory.Memory.{Memory}
-use Rattle.audit.specs.declared.steps.Steps.{Steps}
 
 -- of each of the cells that is said to be the same: it is as its snapshot found it
 abbrev pub AreSameAt : Layout → History → (ℕ → Option History) → List ℕ → List Bool → Type 0

@@ -1,4 +1,4 @@
-use Rattle.std.proofs.Common.{◌≡◌, ℕ, ◌<◌, get_or, sym, subst, ◌∙◌, below_more, arith}
+use Rattle.std.proofs.Common.{◌≡◌, ℕ, get_or, sym, subst, ◌∙◌, below_more, arith}
 use Rattle.record.specs.Answers.{IsAsSnapped}
 use Rattle.judge.specs.Histories.{history}
 use Rattle.audit.proofs.CellLists.{each_contained, item_at}

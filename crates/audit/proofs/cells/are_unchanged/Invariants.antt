@@ -1,4 +1,4 @@
-use Rattle.std.proofs.Common.{◌≡◌, ℕ, ◌<◌, get_or, Option}
+use Rattle.std.proofs.Common.{ℕ, ◌<◌, get_or, Option}
 use Rattle.arena.specs.History.{History}
 use Rattle.record.specs.Answers.{IsAsSnapped}
 use Rattle.judge.specs.Histories.{history}

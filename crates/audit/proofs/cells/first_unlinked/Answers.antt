@@ -1,4 +1,4 @@
-use Rattle.std.proofs.Common.{◌≡◌, ℕ, get_or, slice_get, Some, None, sym, subst, ◌∙◌, below_more, arith, rules}
+use Rattle.std.proofs.Common.{◌≡◌, ℕ, get_or, slice_get, Some, sym, subst, ◌∙◌, below_more, arith}
 use Rattle.audit.specs.declared.memory.Snapshot.{Snapshot}
 use Rattle.audit.proofs.CellLists.{item_at}
 use Rattle.audit.proofs.CellCallFacts.{first_is, all_linked, some_kept, none_kept}

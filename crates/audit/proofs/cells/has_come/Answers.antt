@@ -1,4 +1,4 @@
-use Rattle.std.proofs.Common.{◌≡◌, ◌≢◌, ℕ, true, sym, ◌∙◌, rules}
+use Rattle.std.proofs.Common.{◌≡◌, true, rules}
 use Rattle.arena.specs.Log.{has}
 use Rattle.judge.specs.Histories.{history}
 use Rattle.audit.specs.CellCalls.{IsLookAt}

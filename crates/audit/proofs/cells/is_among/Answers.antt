@@ -1,4 +1,4 @@
-use Rattle.std.proofs.Common.{◌≡◌, get_or, sym, ◌∙◌, eqb-true, arith, rules}
+use Rattle.std.proofs.Common.{◌≡◌, get_or, sym, ◌∙◌, arith, rules}
 use Rattle.audit.proofs.CellLists.{has_at, has_none, item_at}
 use Rattle.audit.proofs.cells.is_among.Goals as goal
 

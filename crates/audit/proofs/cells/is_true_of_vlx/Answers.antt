@@ -6,7 +6,6 @@ use Rattle.record.specs.declared.record.Answer.{Answer}
 use Rattle.record.specs.Answers.{IsInTheWay, IsAsSnapped}
 use Rattle.record.specs.Rules.Vlx.{VlxIsRight}
 use Rattle.record.specs.Snapshots.{AreLinked, IsFirstUnlinked, IsBehindAll}
-use Rattle.script.specs.Cells.{cells_of}
 use Rattle.judge.specs.Histories.{history}
 use Rattle.audit.specs.CellCalls.{AreSameAt}
 use Rattle.audit.proofs.CellCallFacts.{if_some}

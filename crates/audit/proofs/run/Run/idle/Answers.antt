@@ -1,7 +1,6 @@
-use Rattle.std.proofs.Common.{◌≡◌, Some, sym, ap, subst, rules}
+use Rattle.std.proofs.Common.{ap}
 use Rattle.arena.specs.declared.number.PassNo.{PassNo}
 use Rattle.audit.specs.declared.steps.Steps.{Steps}
-use Rattle.audit.specs.Remembered.{AreBegun}
 use Rattle.audit.specs.After.{layout_of, calls_of, lines_of}
 use Rattle.audit.proofs.Fitting.{after_idle, idle_awaits}
 use Rattle.audit.proofs.MapLines.{map_idle}

@@ -1,7 +1,7 @@
-use Rattle.std.proofs.Common.{◌≡◌, ℕ, ◌+◌, ◌<◌, List, ◌∷◌, length, reverse, take, slice_get, vec_len, Some, sym, subst, arith}
+use Rattle.std.proofs.Common.{◌≡◌, ◌<◌, List, slice_get, vec_len, Some, sym, subst, arith}
 use Rattle.record.specs.declared.record.Line.{Line}
 use Rattle.audit.specs.declared.run.Run.{Run}
-use Rattle.audit.specs.After.{IsAfter, IsMapAfter, AreRememberedAfter, lines_of}
+use Rattle.audit.specs.After.{IsAfter, IsMapAfter, AreRememberedAfter}
 use Rattle.audit.proofs.AfterLines.{get_there}
 use Rattle.audit.proofs.Fitting.{line_counted}
 use Rattle.audit.proofs.run.Run.line.Goals as goal

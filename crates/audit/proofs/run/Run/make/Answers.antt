@@ -1,4 +1,4 @@
-use Rattle.std.proofs.Common.{◌≡◌, Some, refl, ◌∙◌, ap, subst, rules}
+use Rattle.std.proofs.Common.{refl, ◌∙◌, ap}
 use Rattle.std.proofs.lemmas.List.{length-set}
 use Rattle.arena.specs.History.{◌⊳◌}
 use Rattle.arena.specs.declared.number.PassNo.{PassNo}

@@ -1,7 +1,4 @@
-use Rattle.std.proofs.Common.{◌≡◌, ℕ, List, Some, None, sym, ◌∙◌, ap, subst, rules, arith}
-use Rattle.script.specs.declared.command.Call.{Call}
-use Rattle.script.specs.declared.command.Command.{Command}
-use Rattle.audit.specs.Calls.{IsAt}
+use Rattle.std.proofs.Common.{◌≡◌, ℕ, None, sym, ap, subst, rules}
 use Rattle.arena.specs.declared.number.PassNo.{PassNo}
 use Rattle.audit.specs.declared.steps.Steps.{Steps}
 use Rattle.audit.specs.After.{IsClientAfter, layout_of, calls_of, lines_of}
