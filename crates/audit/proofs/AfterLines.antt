@@ -1,5 +1,5 @@
 -- What is remembered of each client stays what the lines say.
-use Rattle.std.proofs.Common.{◌≡◌, ◌≢◌, ℕ, zero, suc, ◌+◌, ◌<◌, Bool, true, false, cond, eqb, eq-eqb, eqb-true, List, [], ◌∷◌, ◌++◌, ◌⊎◌, inl, inr, ⊎_elim, length, set, drop, slice_get, unwrap_or, Option, Some, None, refl, sym, ◌∙◌, ap, subst, add-one, arith}
+use Rattle.std.proofs.Common.{◌≡◌, ◌≢◌, ℕ, zero, suc, ◌+◌, ◌<◌, eq-eqb, List, [], ◌∷◌, ◌++◌, ◌⊎◌, inl, inr, ⊎_elim, length, set, drop, slice_get, unwrap_or, Option, Some, None, refl, sym, ◌∙◌, ap, subst, add-one, arith}
 use Rattle.std.proofs.lemmas.List.{length_push}
 use native.Mathlib.Decide.{ℕ_discrete}
 use Rattle.std.proofs.lemmas.Bool.{ne_eqb}
@@ -14,7 +14,7 @@ use Rattle.record.specs.declared.record.Row.TheVariants.{Step as Made, Idle}
 use Rattle.record.specs.declared.record.Entry.{Entry}
 use Rattle.record.specs.declared.record.Reply.{Reply}
 use Rattle.record.specs.Commands.{commands}
-use Rattle.record.specs.Turns.{answered, begin, steps, won, entry_of, is_entry_of}
+use Rattle.record.specs.Turns.{answered, begin, steps, won, entry_of}
 use Rattle.audit.specs.Calls.{IsAt}
 use Rattle.audit.specs.After.{IsClientAfter, AreClientsAfter}
 use Rattle.audit.specs.declared.client.Client.{Client}

@@ -1,5 +1,5 @@
 -- A line that fits those before it.
-use Rattle.std.proofs.Common.{◌≡◌, ◌≢◌, ℕ, suc, ◌+◌, ◌<◌, ◌≤◌, ◌⊎◌, Bool, true, false, cond, eqb, eqb-true, ◌&&◌, not, is_none, is_some, List, [], ◌∷◌, ◌++◌, length, get_or, take, drop, reverse, set, slice_get, unwrap_or, vec_len, Option, Some, None, IfSome, IsSome, refl, sym, ◌∙◌, ap, subst, add-one, arith}
+use Rattle.std.proofs.Common.{◌≡◌, ℕ, suc, ◌+◌, ◌<◌, ◌≤◌, Bool, true, false, cond, eqb, ◌&&◌, not, is_some, List, [], ◌∷◌, ◌++◌, length, get_or, take, drop, reverse, set, slice_get, unwrap_or, Option, Some, None, IfSome, IsSome, refl, sym, ◌∙◌, ap, subst, add-one, arith}
 use Rattle.std.proofs.lemmas.Bool.{ne_eqb}
 use Rattle.std.proofs.lemmas.List.{reverse-append, reverse-reverse, length-set}
 use Rattle.std.proofs.Math.Seq.{take-suc, take-length}
@@ -30,7 +30,7 @@ use Rattle.record.specs.declared.record.Line.TheVariants.{Step, Log, Reply as Re
 use Rattle.record.specs.declared.record.Row.TheVariants.{Step as Made, Idle}
 use Rattle.record.specs.declared.record.Entry.{Entry}
 use Rattle.record.specs.declared.record.Reply.{Reply}
-use Rattle.record.specs.Commands.{commands, next_command}
+use Rattle.record.specs.Commands.{next_command}
 use Rattle.record.specs.declared.record.Answer.{Answer}
 use Rattle.record.specs.CommandRules.{most_steps, MayMake, MayAnswerAtOnce, MayAnswerAfterStep, IsRight, IsPlaced, HasTakenFew, IsEntryFor, enters}
 use Rattle.record.specs.Answers.{HasItsEntry}
@@ -39,7 +39,7 @@ use Rattle.record.specs.Entries.{IsLog, IsWinOf}
 use Rattle.record.specs.LawfulRun.{AreLines, OwesNothing, IsLawfulRun, IsWhole}
 use Rattle.record.specs.Replies.{IsReply, IsReplyOwed, IsFitting}
 use Rattle.record.specs.Steps.{IsStep, IsIdleTurn, SaysItsCall}
-use Rattle.record.specs.Turns.{history, turns, clients, entries, last_client, answered, begin, start, steps, won, entry_at, entry_of, entry_owed, is_update}
+use Rattle.record.specs.Turns.{history, clients, entries, start, entry_at, entry_of, is_update}
 use Rattle.audit.specs.Calls.{IsAt}
 use Rattle.audit.proofs.AfterLines.{idle_clients, log_clients, ended_clients, AreStepped, stepped_clients, unwon_clients, won_clients, get_there}
 use Rattle.judge.specs.Histories.{Judged, history as seen}

@@ -1,5 +1,5 @@
 -- What is remembered of the tree stays what the lines say.
-use Rattle.std.proofs.Common.{◌≡◌, ◌≢◌, ℕ, zero, suc, ◌⊎◌, inl, inr, ⊎_elim, List, [], ◌∷◌, set, slice_get, Option, Some, None, refl, sym, ◌∙◌, ap, subst}
+use Rattle.std.proofs.Common.{◌≡◌, ℕ, zero, suc, ◌⊎◌, inl, inr, ⊎_elim, List, [], ◌∷◌, set, slice_get, Option, Some, refl, sym, ap, subst}
 use Rattle.arena.specs.declared.limits.Mode.TheVariants.{Tree}
 use Rattle.arena.specs.declared.layout.Layout.{Layout}
 use Rattle.arena.specs.declared.number.PassNo.{PassNo}
@@ -14,9 +14,9 @@ use Rattle.script.specs.declared.command.Call.{Call}
 use Rattle.script.specs.declared.command.Command.{Command}
 use Rattle.script.specs.declared.command.Command.TheVariants.{Llx, Scx, Vlx, Set, Insert as InsertOf, Delete as DeleteOf, Get, Successor, Range}
 use Rattle.spelling.specs.FillOrder.{HasRisingLevels}
-use Rattle.spelling.specs.OrderedMap.{MapEdit, Insert, Delete}
-use Rattle.spelling.specs.Runs.{IsTreeRun, Makes}
-use Rattle.spelling.specs.TreeShape.{MayEdit, TreeAllows}
+use Rattle.spelling.specs.OrderedMap.{Insert, Delete}
+use Rattle.spelling.specs.Runs.{IsTreeRun}
+use Rattle.spelling.specs.TreeShape.{TreeAllows}
 use Rattle.spelling.proofs.Lemmas.{makes_since}
 use Rattle.record.specs.declared.record.Line.{Line}
 use Rattle.record.specs.declared.record.Line.TheVariants.{Step, Log, Reply as ReplyLine}

@@ -1,18 +1,19 @@
 -- What an audit remembers of the lines so far. Lines stand here with the newest first.
-use Rattle.std.specs.Prelude.{◌≡◌, ℕ, Bool, true, false, List, [], ◌∷◌, length, reverse, take, slice_get, Option, Some, None, drop, All}
+use Rattle.std.specs.Prelude.{◌≡◌, ℕ, Bool, true, false, List, ◌∷◌, length, reverse, take, slice_get, Option, Some, None, drop}
 use Rattle.arena.specs.declared.layout.Layout.{Layout}
 use Rattle.arena.specs.declared.number.PassNo.{PassNo}
 use Rattle.script.specs.declared.command.Call.{Call}
 use Rattle.record.specs.declared.record.Line.{Line}
-use Rattle.record.specs.declared.record.Line.TheVariants.{Step, Log, Reply as ReplyLine}
+use Rattle.record.specs.declared.record.Line.TheVariants.{Step}
 use Rattle.record.specs.declared.record.Entry.{Entry}
-use Rattle.record.specs.declared.record.Row.TheVariants.{Step as Made, Idle}
+use Rattle.record.specs.declared.record.Row.TheVariants.{Idle}
 use Rattle.record.specs.Turns.{history, turns, entries, last_client, answered, begin, steps, won, entry_owed}
 use Rattle.record.specs.Commands.{commands}
 use Rattle.record.specs.Entries.{IsLog}
 use Rattle.record.specs.LawfulRun.{AreLines}
 use Rattle.record.specs.Replies.{IsReplyOwed}
 use Rattle.audit.specs.Calls.{IsAt}
+use Rattle.audit.specs.Remembered.{AreRemembered}
 use Rattle.audit.specs.Trees.{IsMapSoFar}
 use Rattle.judge.specs.Histories.{Judged, history as seen}
 use Rattle.audit.specs.declared.client.Client.{Client}
@@ -79,3 +80,7 @@ IsAfter run lines = IsSoFar (layout_of run) (tries_of run) (calls_of run) run.st
 -- and what a run remembers of the map
 abbrev pub IsMapAfter : Run → List Line → Type 0
 IsMapAfter run lines = IsMapSoFar (layout_of run) (calls_of run) run.edits.items run.places lines
+
+-- and what it remembers of the steps
+abbrev pub AreRememberedAfter : Run → List Line → Type 0
+AreRememberedAfter run lines = AreRemembered (layout_of run) (calls_of run) lines run.steps

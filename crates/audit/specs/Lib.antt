@@ -3,3 +3,6 @@ pub mod After
 pub mod Edits
 pub mod Trees
 pub mod Remembered
+pub mod Asked
+pub mod CellCalls
+pub mod Remembering

@@ -12,6 +12,8 @@ use Rattle.arena.specs.Layout.{all_nodes, all_scx}
 use Rattle.arena.specs.Log.{log, last, is_final}
 use Rattle.arena.specs.Words.{info}
 use Rattle.script.specs.declared.command.Call.{Call}
+use Rattle.script.specs.declared.cells.Cells.{Cells}
+use Rattle.script.specs.declared.command.Command.{Command}
 use Rattle.script.specs.declared.command.Command.TheVariants.{Vlx}
 use Rattle.script.specs.Cells.{cells_of}
 use Rattle.record.specs.declared.record.Line.{Line}
@@ -51,6 +53,7 @@ pub record AreStepsOf (lay : Layout) (h : History) (steps : Steps) : Type 0 wher
   pub all_finals : length steps.finals.items ≡ all_nodes lay
   -- of each node: since when it is final
   pub finals : (n rows : ℕ) → slice_get steps.finals.items n ≡ Some rows → (g : History) → Extends h g → (is_final (log lay g) n ≡ true) ↔ ((0 < rows) × (rows ≤ rows_of g))
+  pub finals_within : (n rows : ℕ) → slice_get steps.finals.items n ≡ Some rows → rows ≤ rows_of h
   pub all_memories : length steps.memories.items ≡ lay.passes
 
 -- the look is the last step of this kind that the pass c has made, with what it has found and the
@@ -69,23 +72,37 @@ IsSnapshotOf lay h n (Some kept) (Some moment) = IsMomentAt h kept.steps moment 
 IsSnapshotOf lay h n None None = Unit {0}
 IsSnapshotOf lay h n _ _ = ⊥
 
--- what is remembered of the begin of a call of client c
-pub record IsBegunWith (lay : Layout) (calls : List Call) (lines : List Line) (c : ℕ) (memory : Memory) : Type 0 where
-  pub begun : memory.begun ≡ rows_of (start lay.mode lines c)
-  pub within : Extends (history lay.mode lines) (start lay.mode lines c)
-  pub nodes : HasNodesLeft lay c (start lay.mode lines c) memory.nodes
-  pub scx : HasScxLeft lay c (start lay.mode lines c) memory.scx
+-- the snapshots that are kept are those of these moments
+abbrev pub AreSnapshotsOf : Layout → History → Memory → (ℕ → Option History) → Type 0
+AreSnapshotsOf lay h memory linked = (n : ℕ) (kept : Option Snapshot) → slice_get memory.snapshots n ≡ Some kept → IsSnapshotOf lay h n kept (linked n)
+
+-- What is remembered of the begin of a call of client c: the history was `start` then, `linked` are
+-- the moments of the snapshots that the client keeps, and `next` is the call's command.
+pub record IsBegunWith (lay : Layout) (h start : History) (linked : ℕ → Option History) (next : Option Command) (c : ℕ) (memory : Memory) : Type 0 where
+  pub begun : memory.begun ≡ rows_of start
+  pub within : Extends h start
+  pub nodes : HasNodesLeft lay c start memory.nodes
+  pub scx : HasScxLeft lay c start memory.scx
   -- of each cell of a `vlx` that is said to be as its snapshot found it
-  pub same : (cells : _) → next_command calls lines c ≡ Some (Vlx cells) → (place n : ℕ) → slice_get (cells_of cells) place ≡ Some n → slice_get memory.same.items place ≡ Some true → IsAsSnapped lay (start lay.mode lines c) (linked calls lay.mode lines c) n
+  pub same : (cells : Cells) → next ≡ Some (Vlx cells) → (place n : ℕ) → slice_get (cells_of cells) place ≡ Some n → slice_get memory.same place ≡ Some true → IsAsSnapped lay start linked n
+
+-- what is remembered of client c, whose call has begun in turn `begin`, if it has begun
+pub record IsKept (lay : Layout) (h start : History) (linked : ℕ → Option History) (begin : Option ℕ) (next : Option Command) (c : ℕ) (memory : Memory) : Type 0 where
+  pub begins : IsSome begin → IsBegunWith lay h start linked next c memory
+  pub looks : (look : Look) → memory.look ≡ Some look → IsLookOf lay h c LoadInfo look
+  pub freezes : (look : Look) → memory.freeze ≡ Some look → IsLookOf lay h c Freeze look
+  pub snapshots : AreSnapshotsOf lay h memory linked
 
 -- what is remembered of client c is what the lines say
-pub record IsMemoryOf (lay : Layout) (calls : List Call) (lines : List Line) (c : ℕ) (memory : Memory) : Type 0 where
-  pub begins : IsSome (begin lines c) → IsBegunWith lay calls lines c memory
-  pub looks : (look : Look) → memory.look ≡ Some look → IsLookOf lay (history lay.mode lines) c LoadInfo look
-  pub freezes : (look : Look) → memory.freeze ≡ Some look → IsLookOf lay (history lay.mode lines) c Freeze look
-  pub snapshots : (n : ℕ) (kept : Option Snapshot) → slice_get memory.snapshots.items n ≡ Some kept → IsSnapshotOf lay (history lay.mode lines) n kept (linked calls lay.mode lines c n)
+abbrev pub IsMemoryOf : Layout → List Call → List Line → ℕ → Memory → Type 0
+IsMemoryOf lay calls lines c memory = IsKept lay (history lay.mode lines) (start lay.mode lines c) (linked calls lay.mode lines c) (begin lines c) (next_command calls lines c) c memory
 
 -- all that is remembered of the steps and of each client
-pub record AreRemembered (lay : Layout) (calls : List Call) (lines : List Line) (steps : Steps) : Type 0 where
-  pub steps : AreStepsOf lay (history lay.mode lines) steps
-  pub memories : (c : ℕ) (memory : Memory) → slice_get steps.memories.items c ≡ Some memory → IsMemoryOf lay calls lines c memory
+pub record AreRemembered (lay : Layout) (calls : List Call) (lines : List Line) (all : Steps) : Type 0 where
+  pub steps : AreStepsOf lay (history lay.mode lines) all
+  pub memories : (c : ℕ) (memory : Memory) → slice_get all.memories.items c ≡ Some memory → IsMemoryOf lay calls lines c memory
+
+-- all that is remembered, where the call of client c has begun, or begins now
+pub record AreBegun (lay : Layout) (calls : List Call) (lines : List Line) (c : ℕ) (all : Steps) : Type 0 where
+  pub remembered : AreRemembered lay calls lines all
+  pub begun : (memory : Memory) → slice_get all.memories.items c ≡ Some memory → IsBegunWith lay (history lay.mode lines) (start lay.mode lines c) (linked calls lay.mode lines c) (next_command calls lines c) c memory

@@ -1,5 +1,5 @@
 -- What an audit of a record on the tree remembers of it. Lines stand here with the newest first.
-use Rattle.std.specs.Prelude.{◌≡◌, ℕ, List, Option, All}
+use Rattle.std.specs.Prelude.{◌≡◌, List, Option, All}
 use Rattle.arena.specs.declared.limits.Mode.TheVariants.{Tree}
 use Rattle.arena.specs.declared.layout.Layout.{Layout}
 use Rattle.arena.specs.Machines.{IsRun}

@@ -2,7 +2,7 @@
 ghost use Rattle.std.specs.Prelude.{◌≡◌, ℕ, ◌≤◌, ◌<◌, Some, None, Option, set, slice_get, length, [], IfOk, IsSome, IfSome, IsTrue};
 ghost use Rattle.record.specs.declared.record.Entry.{Entry as EntryOf};
 ghost use Rattle.audit.specs.declared.client.Client.{Client as ClientOf};
-ghost use Rattle.audit.specs.After.{lines_of, IsAfter, IsMapAfter, AreClientsAfter};
+ghost use Rattle.audit.specs.After.{lines_of, IsAfter, IsMapAfter, AreRememberedAfter, AreClientsAfter};
 ghost use Rattle.std.specs.Prelude.{◌∷◌, OnOk};
 ghost use Rattle.record.specs.MapRecord.{map_call};
 ghost use Rattle.places.specs.declared.places.Change.{Change as ChangeOf};
@@ -52,6 +52,7 @@ pub(crate) struct Run<'a> {
 
 impl<'a> Run<'a> {
     ghost use Rattle.std.specs.Prelude.{◌≡◌, ◌≢◌, ℕ, suc, ◌+◌, ◌<◌, ◌∷◌, [], Some, None, true, IsTrue, IfOk, IfSome, OnOk, slice_get, vec_len};
+    ghost use Rattle.arena.specs.declared.step.Row.{Row as RowOf};
     ghost use Rattle.arena.specs.Lawful.{IsLawful};
     ghost use Rattle.record.specs.declared.record.Line.{Line};
     ghost use Rattle.record.specs.declared.record.Row.{Row};
@@ -68,7 +69,7 @@ impl<'a> Run<'a> {
     ghost use Rattle.arena.specs.Lawful.{IsWin};
     ghost use Rattle.arena.specs.Log.{entry as entered};
     ghost use Rattle.arena.specs.Words.{child};
-    ghost use Rattle.arena.specs.declared.limits.Mode.TheVariants.{Tree};
+    ghost use Rattle.arena.specs.declared.limits.Mode.TheVariants.{Tree, Records};
     ghost use Rattle.arena.specs.History.{◌⊳◌, value};
     ghost use Rattle.arena.specs.Shape.{IsBegin};
     ghost use Rattle.script.specs.declared.command.Command.{Command as CommandOf};
@@ -81,6 +82,8 @@ impl<'a> Run<'a> {
     ghost use Rattle.record.specs.CommandRules.{IsEntryFor, IsRight, IsPlaced, HasTakenFew};
     ghost use Rattle.record.specs.Linked.{linked};
     ghost use Rattle.record.specs.Replies.{IsFitting};
+    ghost use Rattle.record.specs.CommandRules.{enters};
+    ghost use Rattle.std.specs.Prelude.{is_some};
     ghost use Rattle.record.specs.Turns.{start};
     ghost use Rattle.judge.specs.Histories.{history as seen};
     ghost use Rattle.audit.specs.After.{layout_of, tries_of, calls_of, IsClientAfter};
@@ -89,6 +92,7 @@ impl<'a> Run<'a> {
     pub(crate) fn new(alloc: Global, record: &'a Record) -> Result<Run<'a>, Refused>
         ensures after { IfOk result (λ run. IsAfter run []) }
         ensures map { IfOk result (λ run. IsMapAfter run []) }
+        ensures remembered { IfOk result (λ run. AreRememberedAfter run []) }
         ensures at { IfOk result (λ run. run.at ≡ 0) }
         ensures record { IfOk result (λ run. run.record.now ≡ «record».now) }
     {
@@ -164,9 +168,11 @@ impl<'a> Run<'a> {
     pub(crate) fn line(&mut self) -> Result<(), Refused>
         requires after { IsAfter self.old (lines_of self.old) }
         requires map { IsMapAfter self.old (lines_of self.old) }
+        requires remembered { AreRememberedAfter self.old (lines_of self.old) }
         requires more { self.old.at < vec_len self.old.record.now.lines }
         ensures after { OnOk result (IsAfter self.new (lines_of self.new)) }
         ensures map { OnOk result (IsMapAfter self.new (lines_of self.new)) }
+        ensures remembered { OnOk result (AreRememberedAfter self.new (lines_of self.new)) }
         ensures at { OnOk result (self.new.at ≡ suc self.old.at) }
         ensures record { self.new.record ≡ self.old.record }
     {
@@ -179,9 +185,11 @@ impl<'a> Run<'a> {
     fn next_line(&mut self) -> Result<(), Refused>
         requires after { IsAfter self.old (lines_of self.old) }
         requires map { IsMapAfter self.old (lines_of self.old) }
+        requires remembered { AreRememberedAfter self.old (lines_of self.old) }
         requires more { self.old.at < vec_len self.old.record.now.lines }
         ensures after { (line : LineOf) → slice_get self.old.record.now.lines.items self.old.at ≡ Some line → OnOk result (IsAfter self.new (line ∷ lines_of self.old)) }
         ensures map { (line : LineOf) → slice_get self.old.record.now.lines.items self.old.at ≡ Some line → OnOk result (IsMapAfter self.new (line ∷ lines_of self.old)) }
+        ensures remembered { (line : LineOf) → slice_get self.old.record.now.lines.items self.old.at ≡ Some line → OnOk result (AreRememberedAfter self.new (line ∷ lines_of self.old)) }
         ensures at { self.new.at ≡ self.old.at }
         ensures record { self.new.record ≡ self.old.record }
     {
@@ -230,8 +238,10 @@ impl<'a> Run<'a> {
     fn idle(&mut self, number: u64, pass: PassNo) -> Result<(), Refused>
         requires after { IsAfter self.old (lines_of self.old) }
         requires map { IsMapAfter self.old (lines_of self.old) }
+        requires remembered { AreRememberedAfter self.old (lines_of self.old) }
         ensures after { OnOk result (IsAfter self.new (Line.Step (Row.Idle number pass) ∷ lines_of self.old)) }
         ensures map { OnOk result (IsMapAfter self.new (Line.Step (Row.Idle number pass) ∷ lines_of self.old)) }
+        ensures remembered { OnOk result (AreRememberedAfter self.new (Line.Step (Row.Idle number pass) ∷ lines_of self.old)) }
         ensures at { self.new.at ≡ self.old.at }
         ensures record { self.new.record ≡ self.old.record }
     {
@@ -253,8 +263,10 @@ impl<'a> Run<'a> {
     fn step(&mut self, number: u64, row: &arena::Row) -> Result<(), Refused>
         requires after { IsAfter self.old (lines_of self.old) }
         requires map { IsMapAfter self.old (lines_of self.old) }
+        requires remembered { AreRememberedAfter self.old (lines_of self.old) }
         ensures after { OnOk result (IsAfter self.new (Line.Step (Row.Step number row.now) ∷ lines_of self.old)) }
         ensures map { OnOk result (IsMapAfter self.new (Line.Step (Row.Step number row.now) ∷ lines_of self.old)) }
+        ensures remembered { OnOk result (AreRememberedAfter self.new (Line.Step (Row.Step number row.now) ∷ lines_of self.old)) }
         ensures at { self.new.at ≡ self.old.at }
         ensures record { self.new.record ≡ self.old.record }
     {
@@ -269,6 +281,8 @@ impl<'a> Run<'a> {
     /// Whether a step wins with this entry, if there is one.
     fn fits_with(&self, row: &arena::Row, owed: &Option<Entry>) -> bool
         requires after { IsAfter self.now (lines_of self.now) }
+        requires map { IsMapAfter self.now (lines_of self.now) }
+        requires remembered { AreRememberedAfter self.now (lines_of self.now) }
         requires lawful { IsLawful self.now.steps.judge.layout (seen self.now.steps.judge) row.now }
         ensures { (number : ℕ) → (e : EntryOf) → IsTrue result → owed.now ≡ Some e → entry_of (layout_of self.now) (lines_of self.now) number row.now ≡ Some e → IsWinOf (layout_of self.now) (calls_of self.now) (lines_of self.now) row.now e }
     {
@@ -311,6 +325,8 @@ impl<'a> Run<'a> {
     /// A step wins with this entry: the first one of its client's call that runs.
     fn check_win(&self, row: &arena::Row, entry: &Entry) -> Result<(), Refused>
         requires after { IsAfter self.now (lines_of self.now) }
+        requires map { IsMapAfter self.now (lines_of self.now) }
+        requires remembered { AreRememberedAfter self.now (lines_of self.now) }
         requires lawful { IsLawful self.now.steps.judge.layout (seen self.now.steps.judge) row.now }
         ensures { (number : ℕ) → entry_of (layout_of self.now) (lines_of self.now) number row.now ≡ Some entry.now → OnOk result (IsWinOf (layout_of self.now) (calls_of self.now) (lines_of self.now) row.now entry.now) }
     {
@@ -322,30 +338,28 @@ impl<'a> Run<'a> {
         hold(client.won.is_none())?;
         hold(entry.call == client.answered)?;
         hold(has_begun(&client, row.pass))?;
-        self.check_entry(&client, &command, row, entry.scx)?;
+        self.check_entry(&client, &command, entry.scx)?;
         Ok(())
     }
 
     /// An entry of this SCX-record is one that the client's call makes.
-    fn check_entry(
-        &self,
-        client: &Client,
-        command: &Command,
-        row: &arena::Row,
-        scx: ScxNo,
-    ) -> Result<(), Refused>
+    fn check_entry(&self, client: &Client, command: &Command, scx: ScxNo) -> Result<(), Refused>
         requires after { IsAfter self.now (lines_of self.now) }
+        requires map { IsMapAfter self.now (lines_of self.now) }
+        requires remembered { AreRememberedAfter self.now (lines_of self.now) }
         requires client { slice_get self.now.clients.items client.now.pass.0 ≡ Some client.now }
         requires command { next_command (calls_of self.now) (lines_of self.now) client.now.pass.0 ≡ Some command.now }
-        requires wins { IsWin (seen self.now.steps.judge) row.now scx.0 }
-        ensures { OnOk result ((n : ℕ) (side : Side) → row.now.word ≡ child n side → IsEntryFor (layout_of self.now) client.now.pass.0 (seen self.now.steps.judge) (start (layout_of self.now).mode (lines_of self.now) client.now.pass.0) (linked (calls_of self.now) (layout_of self.now).mode (lines_of self.now) client.now.pass.0) (entered (layout_of self.now) (seen self.now.steps.judge) scx.0 n side row.now.after) command.now) }
+        ensures { OnOk result ((row : RowOf) (n : ℕ) (side : Side) → IsWin (seen self.now.steps.judge) row scx.0 → row.word ≡ child n side → IsEntryFor (layout_of self.now) client.now.pass.0 (seen self.now.steps.judge) (start (layout_of self.now).mode (lines_of self.now) client.now.pass.0) (linked (calls_of self.now) (layout_of self.now).mode (lines_of self.now) client.now.pass.0) (entered (layout_of self.now) (seen self.now.steps.judge) scx.0 n side row.after) command.now) }
     {
-        let _row = *row;
         match command {
             Command::Insert { key: _, value: _ } | Command::Delete { key: _ } => {
-                hold(self.edit_of(scx) == Some(*command))
+                hold(self.edit_of(scx) == Some(*command))?;
+                Ok(())
             }
-            _ => hold(cells::is_entry_for(&self.steps, client.pass, command, scx)),
+            _ => {
+                hold(cells::is_entry_for(&self.steps, client, command, scx))?;
+                Ok(())
+            }
         }
     }
 
@@ -401,8 +415,13 @@ impl<'a> Run<'a> {
     }
 
     /// The command whose edit an SCX-record makes, on the tree.
-    fn edit_of(&self, scx: ScxNo) -> Option<Command> {
-        *self.edits.get(scx.0 as usize)?
+    fn edit_of(&self, scx: ScxNo) -> Option<Command>
+        ensures { IfSome result (λ command. slice_get self.now.edits.items scx.0 ≡ Some (Some command)) }
+    {
+        match self.edits.get(scx.0 as usize) {
+            Some(edit) => *edit,
+            None => None,
+        }
     }
 
     /// Makes a lawful step, which asks for this entry.
@@ -415,6 +434,7 @@ impl<'a> Run<'a> {
     ) -> Result<(), Refused>
         requires after { IsAfter self.old (lines_of self.old) }
         requires map { IsMapAfter self.old (lines_of self.old) }
+        requires remembered { AreRememberedAfter self.old (lines_of self.old) }
         requires rising { (layout_of self.old).mode ≡ Tree → HasRisingLevels (seen self.old.steps.judge) → HasRisingLevels (row.now ⊳ seen self.old.steps.judge) }
         requires edit { (layout_of self.old).mode ≡ Tree → IsBegin (seen self.old.steps.judge) row.now row.now.after → (command : CommandOf) × (next_command (calls_of self.old) (lines_of self.old) row.now.pass.0 ≡ Some command) × MayMakeFor (layout_of self.old) (seen self.old.steps.judge) row.now.after command }
         requires settled { OwesNothing (layout_of self.old) (calls_of self.old) (lines_of self.old) }
@@ -424,6 +444,7 @@ impl<'a> Run<'a> {
         requires fits { (e : EntryOf) → fits ≡ true → owed ≡ Some e → IsWinOf (layout_of self.old) (calls_of self.old) (lines_of self.old) row.now e }
         ensures after { OnOk result (IsAfter self.new (Line.Step (Row.Step number row.now) ∷ lines_of self.old)) }
         ensures map { OnOk result (IsMapAfter self.new (Line.Step (Row.Step number row.now) ∷ lines_of self.old)) }
+        ensures remembered { OnOk result (AreRememberedAfter self.new (Line.Step (Row.Step number row.now) ∷ lines_of self.old)) }
         ensures at { self.new.at ≡ self.old.at }
         ensures record { self.new.record ≡ self.old.record }
     {
@@ -433,7 +454,7 @@ impl<'a> Run<'a> {
         self.steps
             .begin(&client, self.record.script.calls.as_slice());
         self.steps.make(row)?;
-        note_edit(self.edits.as_mut_slice(), row.after, edit);
+        note_edit(&mut self.edits, row.after, edit);
         self.clients[row.pass.0 as usize] = client.stepped(number);
         note_win(&mut self.clients, number, &owed);
         self.turn = number;
@@ -449,8 +470,10 @@ impl<'a> Run<'a> {
     fn entry(&mut self, entry: &Entry) -> Result<(), Refused>
         requires after { IsAfter self.old (lines_of self.old) }
         requires map { IsMapAfter self.old (lines_of self.old) }
+        requires remembered { AreRememberedAfter self.old (lines_of self.old) }
         ensures after { OnOk result (IsAfter self.new (Line.Log entry.now ∷ lines_of self.old)) }
         ensures map { OnOk result (IsMapAfter self.new (Line.Log entry.now ∷ lines_of self.old)) }
+        ensures remembered { OnOk result (AreRememberedAfter self.new (Line.Log entry.now ∷ lines_of self.old)) }
         ensures at { self.new.at ≡ self.old.at }
         ensures record { self.new.record ≡ self.old.record }
     {
@@ -485,8 +508,10 @@ impl<'a> Run<'a> {
     fn reply(&mut self, reply: &Reply) -> Result<(), Refused>
         requires after { IsAfter self.old (lines_of self.old) }
         requires map { IsMapAfter self.old (lines_of self.old) }
+        requires remembered { AreRememberedAfter self.old (lines_of self.old) }
         ensures after { OnOk result (IsAfter self.new (Line.Reply reply.now ∷ lines_of self.old)) }
         ensures map { OnOk result (IsMapAfter self.new (Line.Reply reply.now ∷ lines_of self.old)) }
+        ensures remembered { OnOk result (AreRememberedAfter self.new (Line.Reply reply.now ∷ lines_of self.old)) }
         ensures at { self.new.at ≡ self.old.at }
         ensures record { self.new.record ≡ self.old.record }
     {
@@ -505,6 +530,8 @@ impl<'a> Run<'a> {
     /// A reply is that to a client's next call.
     fn check_reply(&self, client: &Client, reply: &Reply) -> Result<(), Refused>
         requires after { IsAfter self.now (lines_of self.now) }
+        requires map { IsMapAfter self.now (lines_of self.now) }
+        requires remembered { AreRememberedAfter self.now (lines_of self.now) }
         requires owed { entry_owed (layout_of self.now) (lines_of self.now) ≡ None }
         requires client { slice_get self.now.clients.items client.now.pass.0 ≡ Some client.now }
         requires own { client.now.pass ≡ reply.now.client }
@@ -539,9 +566,16 @@ impl<'a> Run<'a> {
     /// The answer to a client's call is right, and the call took place where the reply says.
     fn check_answer(&self, client: &Client, command: &Command, reply: &Reply) -> Result<(), Refused>
         requires after { IsAfter self.now (lines_of self.now) }
+        requires map { IsMapAfter self.now (lines_of self.now) }
+        requires remembered { AreRememberedAfter self.now (lines_of self.now) }
         requires owed { entry_owed (layout_of self.now) (lines_of self.now) ≡ None }
         requires client { slice_get self.now.clients.items client.now.pass.0 ≡ Some client.now }
         requires own { client.now.pass ≡ reply.now.client }
+        requires number { reply.now.call ≡ client.now.answered }
+        requires begun { client.now.begun ≡ Some reply.now.begin }
+        requires end { reply.now.end ≡ self.now.turn }
+        requires fits { IsFitting (lines_of self.now) command.now reply.now.answer }
+        requires entry { enters command.now reply.now.answer ≡ is_some client.now.won }
         requires command { next_command (calls_of self.now) (lines_of self.now) client.now.pass.0 ≡ Some command.now }
         ensures right { OnOk result (IsRight (layout_of self.now) reply.now.client.0 (history (layout_of self.now).mode (lines_of self.now)) (start (layout_of self.now).mode (lines_of self.now) reply.now.client.0) (linked (calls_of self.now) (layout_of self.now).mode (lines_of self.now) reply.now.client.0) command.now reply.now.answer) }
         ensures took { OnOk result (HasTakenFew (layout_of self.now) (tries_of self.now) reply.now.client.0 (history (layout_of self.now).mode (lines_of self.now)) (start (layout_of self.now).mode (lines_of self.now) reply.now.client.0) command.now) }
@@ -550,25 +584,74 @@ impl<'a> Run<'a> {
         let limits = &self.record.script.limits;
         hold(self.steps.has_taken_few(client.pass, command, limits))?;
         match self.record.script.layout.mode {
-            Mode::Tree => hold(map::is_right(
-                &self.steps,
-                &self.places,
-                self.calls(),
-                client,
-                command,
-                reply,
-            )),
-            Mode::Records => hold(cells::is_right(&self.steps, client, command, reply)),
+            Mode::Tree => self.check_map_answer(client, command, reply),
+            Mode::Records => self.check_cells_answer(client, command, reply),
         }
+    }
+
+    /// The same, for a call of the map.
+    fn check_map_answer(
+        &self,
+        client: &Client,
+        command: &Command,
+        reply: &Reply,
+    ) -> Result<(), Refused>
+        requires after { IsAfter self.now (lines_of self.now) }
+        requires map { IsMapAfter self.now (lines_of self.now) }
+        requires remembered { AreRememberedAfter self.now (lines_of self.now) }
+        requires mode { (layout_of self.now).mode ≡ Tree }
+        requires owed { entry_owed (layout_of self.now) (lines_of self.now) ≡ None }
+        requires client { slice_get self.now.clients.items client.now.pass.0 ≡ Some client.now }
+        requires own { client.now.pass ≡ reply.now.client }
+        requires number { reply.now.call ≡ client.now.answered }
+        requires begun { client.now.begun ≡ Some reply.now.begin }
+        requires end { reply.now.end ≡ self.now.turn }
+        requires fits { IsFitting (lines_of self.now) command.now reply.now.answer }
+        requires entry { enters command.now reply.now.answer ≡ is_some client.now.won }
+        requires command { next_command (calls_of self.now) (lines_of self.now) client.now.pass.0 ≡ Some command.now }
+        ensures right { OnOk result (IsRight (layout_of self.now) reply.now.client.0 (history (layout_of self.now).mode (lines_of self.now)) (start (layout_of self.now).mode (lines_of self.now) reply.now.client.0) (linked (calls_of self.now) (layout_of self.now).mode (lines_of self.now) reply.now.client.0) command.now reply.now.answer) }
+        ensures placed { OnOk result (IsPlaced (layout_of self.now) (calls_of self.now) (lines_of self.now) reply.now command.now) }
+    {
+        hold(map::is_right(
+            &self.steps,
+            &self.places,
+            self.calls(),
+            client,
+            command,
+            reply,
+        ))?;
+        Ok(())
+    }
+
+    /// The same, for a call of cells.
+    fn check_cells_answer(
+        &self,
+        client: &Client,
+        command: &Command,
+        reply: &Reply,
+    ) -> Result<(), Refused>
+        requires after { IsAfter self.now (lines_of self.now) }
+        requires remembered { AreRememberedAfter self.now (lines_of self.now) }
+        requires mode { (layout_of self.now).mode ≡ Records }
+        requires client { slice_get self.now.clients.items client.now.pass.0 ≡ Some client.now }
+        requires own { client.now.pass ≡ reply.now.client }
+        requires begun { client.now.begun ≡ Some reply.now.begin }
+        requires command { next_command (calls_of self.now) (lines_of self.now) client.now.pass.0 ≡ Some command.now }
+        ensures right { OnOk result (IsRight (layout_of self.now) reply.now.client.0 (history (layout_of self.now).mode (lines_of self.now)) (start (layout_of self.now).mode (lines_of self.now) reply.now.client.0) (linked (calls_of self.now) (layout_of self.now).mode (lines_of self.now) reply.now.client.0) command.now reply.now.answer) }
+        ensures placed { OnOk result (IsPlaced (layout_of self.now) (calls_of self.now) (lines_of self.now) reply.now command.now) }
+    {
+        hold(cells::is_right(&self.steps, client, command, reply))?;
+        Ok(())
     }
 }
 
 /// An SCX-record has begun that makes the edit of this command, if there is one.
-fn note_edit(edits: &mut [Option<Command>], scx: u64, edit: Option<Command>) {
-    if edit.is_some()
-        && let Some(place) = edits.get_mut(scx as usize)
-    {
-        *place = edit;
+fn note_edit(edits: &mut Vec<Option<Command>>, scx: u64, edit: Option<Command>)
+    ensures none { edit ≡ None → edits.new.items ≡ edits.old.items }
+    ensures some { IsSome edit → edits.new.items ≡ set edits.old.items scx edit }
+{
+    if edit.is_some() && (scx as usize) < edits.len() {
+        edits[scx as usize] = edit;
     }
 }
 

@@ -1,4 +1,3 @@
-use Rattle.std.proofs.Common.{◌≡◌}
 use Rattle.spelling.specs.Paths.{Passed}
 use Rattle.judge.specs.Histories.{history}
 use Rattle.audit.proofs.edits.is_fork_on_path.Given as goal

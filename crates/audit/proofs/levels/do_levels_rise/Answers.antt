@@ -1,4 +1,4 @@
-use Rattle.std.proofs.Common.{◌≡◌, Bool, true, false, not, IsTrue, sym, ◌∙◌}
+use Rattle.std.proofs.Common.{◌≡◌, Bool, true, false, not, IsTrue, sym}
 use Rattle.arena.specs.declared.word.NodeWord.TheVariants.{Head, Key, Value, Child, Info, Marked}
 use Rattle.judge.specs.Histories.{history}
 use Rattle.audit.proofs.RisingLevels.{rising_quiet, rising_field, rising_head, of_part, of_scx}

@@ -1,6 +1,3 @@
-use Rattle.std.proofs.Common.{◌≡◌, Some}
-use Rattle.record.specs.MapRecord.{map_call}
-use Rattle.places.specs.Entries.{IsChangeBy}
 use Rattle.audit.proofs.run.change.Goals as goal
 
 pub returns-in_ok-push-in-Insert-clause-change : goal.returns-in_ok-push-in-Insert-clause-change

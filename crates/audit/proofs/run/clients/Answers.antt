@@ -1,4 +1,3 @@
-use Rattle.std.proofs.Common.{◌≡◌}
 use Rattle.audit.proofs.AfterLines.{clients_more}
 use Rattle.audit.proofs.run.clients.Goals as goal
 

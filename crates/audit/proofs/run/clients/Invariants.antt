@@ -1,4 +1,4 @@
-use Rattle.std.proofs.Common.{◌≡◌, ℕ, [], length}
+use Rattle.std.proofs.Common.{◌≡◌, [], length}
 use Rattle.audit.specs.After.{AreClientsAfter}
 use Rattle.audit.proofs.run.clients.Given as goal
 

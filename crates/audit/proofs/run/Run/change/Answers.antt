@@ -1,4 +1,4 @@
-use Rattle.std.proofs.Common.{◌≡◌, sym, Some}
+use Rattle.std.proofs.Common.{sym}
 use Rattle.record.specs.Turns.{answered}
 use Rattle.audit.specs.After.{lines_of, calls_of}
 use Rattle.audit.proofs.MapLines.{command_key}

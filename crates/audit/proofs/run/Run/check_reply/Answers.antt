@@ -1,5 +1,4 @@
-use Rattle.std.proofs.Common.{◌≡◌, Some, eqb-true, rules, arith}
-use Rattle.std.proofs.lemmas.Grind.{common_steps}
+use Rattle.std.proofs.Common.{◌≡◌, Some, eqb-true, rules}
 use Rattle.audit.proofs.Fitting.{reply_fits}
 use Rattle.audit.proofs.run.Run.check_reply.Goals as goal
 

@@ -1,8 +1,8 @@
-use Rattle.std.proofs.Common.{◌≡◌, ℕ, List, slice_get, sym, ◌∙◌, ap, refl}
+use Rattle.std.proofs.Common.{ℕ, List, slice_get, ◌∙◌, ap}
 use Rattle.script.specs.declared.command.Call.{Call}
-use Rattle.record.specs.Commands.{commands, next_command}
+use Rattle.record.specs.Commands.{commands}
 use Rattle.audit.specs.Calls.{command_at}
-use Rattle.audit.specs.After.{lines_of, calls_of}
+use Rattle.audit.specs.After.{calls_of}
 use Rattle.audit.proofs.NextCalls.{command_next}
 use Rattle.audit.proofs.run.Run.next.Goals as goal
 
