@@ -12,3 +12,4 @@ pub(crate) mod scx;
 pub(crate) mod updating;
 pub(crate) mod vlx;
 pub(crate) mod walk;
+pub(crate) mod working;
