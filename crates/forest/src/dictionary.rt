@@ -155,6 +155,7 @@ impl<K: WordKey, V: WordValue> Forest<Dict<K, V>> {
     }
 
     /// Makes a whole call. An ordered read takes memory.
+    #[inline(always)]
     fn ask(
         &self,
         alloc: Option<Global>,

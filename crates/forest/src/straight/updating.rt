@@ -51,13 +51,17 @@ fn looked_at(at: &UpdateAt, turn: &Turn<Updated>) -> Option<(Found, NodeNo)>
     ensures asks { IfSome result (λ _. (s : Step) × (turn.now ≡ Turn.Ask s)) }
 {
     match (at, turn) {
-        (UpdateAt::Look { found, llx }, Turn::Ask(_)) => {
-            if llx.at == LlxAt::Marked {
-                Some((*found, llx.node))
-            } else {
-                None
-            }
-        }
+        (
+            UpdateAt::Look {
+                found,
+                llx:
+                    LlxRun {
+                        node,
+                        at: LlxAt::Marked,
+                    },
+            },
+            Turn::Ask(_),
+        ) => Some((*found, *node)),
         _ => None,
     }
 }
@@ -105,13 +109,10 @@ fn changes_at(at: &UpdateAt, turn: &Turn<Updated>) -> Option<(Found, ScxRun)>
     ensures asks { IfSome result (λ _. (s : Step) × (turn.now ≡ Turn.Ask s)) }
 {
     match (at, turn) {
-        (UpdateAt::Scx { found, scx }, Turn::Ask(_)) => {
-            if scx.at == ScxAt::Plan {
-                Some((*found, *scx))
-            } else {
-                None
-            }
-        }
+        (UpdateAt::Scx { found, scx }, Turn::Ask(_)) => match scx.at {
+            ScxAt::Plan => Some((*found, *scx)),
+            _ => None,
+        },
         _ => None,
     }
 }
