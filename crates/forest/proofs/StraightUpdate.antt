@@ -321,11 +321,38 @@ module _ {M E : Type 0} (allows : Layout → History → ℕ → Type 0) (ready 
       can : CanFill e (filling m f nth part) (from u.call y.0) h f nth next
       can = fills_next e (filling m f nth part) (from u.call y.0) h f nth part y.3 next sound (subst (λ q. part_behind q part ≡ Some next) is_p behind)
 
+  -- what is known of fresh nodes does not depend on the place of the update
+  filled_anywhere : (m : UpdateRun E) (f : Found) (nth : Nth) (part : NodeWord) (c : Call) (h : History) → IsFilledUpTo e (filling m f nth part) c h f nth part → IsFilledUpTo e m c h f nth part
+  filled_anywhere m f nth part c h x = (
+    record {
+      works = record {
+        run = x.0.works.run;
+        since = x.0.works.since;
+        quiet = x.0.works.quiet;
+        looked = x.0.works.looked;
+        enough = x.0.works.enough;
+        need = x.0.works.need;
+        in_order = x.0.works.in_order;
+        some = x.0.works.some;
+        named = x.0.works.named;
+        inside = x.0.works.inside;
+        loaded = x.0.works.loaded;
+        before = x.0.works.before;
+      };
+      full = x.0.full;
+      hand = record { lowest = x.0.hand.lowest; highest = x.0.hand.highest };
+      done = x.0.done;
+      part_is = x.0.part_is;
+    },
+    x.1,
+    x.2,
+  )
+
   -- behind a node's last fill it goes on as its turn says
   pub fills_end : (ps : List SeatedPass) (m now : UpdateRun E) (f : Found) (nth : Nth) (part : NodeWord) (v : ℕ) (turn : Turn Updated) → now.edit ≡ m.edit → now.call ≡ m.call → IsSpending e turn m.share now m.tries (m.tries + 1)
-      → ((b h : History) → IsRun TreeAllows u.call.layout h → IsTry u.call b → IsFilledUpTo e (filling m f nth part) (from u.call b) h f nth part → UpdateTurn e u.call h now turn)
+      → ((b h : History) → IsRun TreeAllows u.call.layout h → IsTry u.call b → IsFilledUpTo e m (from u.call b) h f nth part → UpdateTurn e u.call h now turn)
       → UpdaterIsTold allows ready waits same e layout number u ps (filling m f nth part) v → UpdaterStands allows ready waits same e layout number u ps now turn
-  fills_end ps m now f nth part v turn edit called spent next x = stands_behind ps (filling m f nth part) now v turn edit called spent x (next y.0 h (u.tree h x.sound) y.1 y.3)
+  fills_end ps m now f nth part v turn edit called spent next x = stands_behind ps (filling m f nth part) now v turn edit called spent x (next y.0 h (u.tree h x.sound) y.1 (filled_anywhere m f nth part (from u.call y.0) h y.3))
     where
       h : History
       h = history_of u.call.layout.mode x.known

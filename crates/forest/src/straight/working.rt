@@ -128,7 +128,6 @@ fn fill_node<S: Shape, M: Machine<S>, E: Edit + Drop>(
         Piece::Leaf { value, .. } => {
             let part = NodeWord::Value;
             fill::<S, M>(words, layout, seat, number, node, part, value);
-            run.at = UpdateAt::Fill { found, nth, part };
             run.fill_on(found, nth, part)
         }
         Piece::Fork { left, right, .. } => {
@@ -136,7 +135,6 @@ fn fill_node<S: Shape, M: Machine<S>, E: Edit + Drop>(
             fill::<S, M>(words, layout, seat, number, node, part, left.0);
             let part = NodeWord::Child(Side::Right);
             fill::<S, M>(words, layout, seat, number, node, part, right.0);
-            run.at = UpdateAt::Fill { found, nth, part };
             run.fill_on(found, nth, part)
         }
     }
