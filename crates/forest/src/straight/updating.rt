@@ -46,8 +46,8 @@ pub(crate) fn begin<S: Shape, M: Machine<S>, E: Edit + Drop>(
 /// The node that an update begins to look at, if that is what it has asked for, and the leaf that
 /// it has found.
 #[inline(always)]
-fn looked_at(at: &UpdateAt, turn: &Turn<Updated>) -> Option<(Found, NodeNo)>
-    ensures at { IfSome result (λ t. at.now ≡ UpdateAt.Look t.0 (llx_at t.1 LlxAt.Marked)) }
+fn looked_at<'a>(at: &'a UpdateAt, turn: &Turn<Updated>) -> Option<(&'a Found, NodeNo)>
+    ensures at { IfSome result (λ t. at.now ≡ UpdateAt.Look t.0.now (llx_at t.1 LlxAt.Marked)) }
     ensures asks { IfSome result (λ _. (s : Step) × (turn.now ≡ Turn.Ask s)) }
 {
     match (at, turn) {
@@ -61,7 +61,7 @@ fn looked_at(at: &UpdateAt, turn: &Turn<Updated>) -> Option<(Found, NodeNo)>
                     },
             },
             Turn::Ask(_),
-        ) => Some((*found, *node)),
+        ) => Some((found, *node)),
         _ => None,
     }
 }
@@ -86,6 +86,7 @@ pub(crate) fn look_on<S: Shape, M: Machine<S>, E: Edit + Drop>(
         let Some((found, node)) = looked_at(&run.at, &turn) else {
             return turn;
         };
+        let found = *found;
         match look::<S, M>(words, layout, seat, number, node) {
             Ok(snap) => turn = run.looked(found, snap),
             Err((marked, scx)) => {
@@ -104,13 +105,13 @@ pub(crate) fn look_on<S: Shape, M: Machine<S>, E: Edit + Drop>(
 
 /// The SCX that an update begins, if that is what it has asked for, and the leaf that it has found.
 #[inline(always)]
-fn changes_at(at: &UpdateAt, turn: &Turn<Updated>) -> Option<(Found, ScxRun)>
-    ensures at { IfSome result (λ t. (at.now ≡ UpdateAt.Scx t.0 t.1) × (t.1.at ≡ ScxAt.Plan)) }
+fn changes_at<'a>(at: &'a UpdateAt, turn: &Turn<Updated>) -> Option<(&'a Found, &'a ScxRun)>
+    ensures at { IfSome result (λ t. (at.now ≡ UpdateAt.Scx t.0.now t.1.now) × (t.1.now.at ≡ ScxAt.Plan)) }
     ensures asks { IfSome result (λ _. (s : Step) × (turn.now ≡ Turn.Ask s)) }
 {
     match (at, turn) {
         (UpdateAt::Scx { found, scx }, Turn::Ask(_)) => match scx.at {
-            ScxAt::Plan => Some((*found, *scx)),
+            ScxAt::Plan => Some((found, scx)),
             _ => None,
         },
         _ => None,
@@ -145,10 +146,11 @@ fn change_on<S: Shape, M: Machine<S>, E: Edit + Drop>(
     };
     let snaps = &scx.update.snaps;
     match changing::call::<S, M, Tree, Snaps>(words, layout, seat, number, snaps, change) {
-        Ok(()) => Turn::Done(Updated::Done { found }),
+        Ok(()) => Turn::Done(Updated::Done { found: *found }),
         Err(help) => {
+            let found = *found;
             let at = ScxAt::Help { help };
-            let scx = ScxRun { at, ..scx };
+            let scx = ScxRun { at, ..*scx };
             run.at = UpdateAt::Scx { found, scx };
             Turn::Ask(Step {
                 kind: Kind::LoadAllFrozen,

@@ -16,20 +16,23 @@ use updates::{Edit, Nth, Piece, UpdateAt, UpdateRun, Updated};
 
 /// The load that an update has asked for, if it has.
 #[inline(always)]
-fn loads_at(at: &UpdateAt, turn: &Turn<Updated>) -> Option<(Found, Nth, NodeWord)>
-    ensures at { IfSome result (λ t. at.now ≡ UpdateAt.Load t.0 t.1 t.2) }
+fn loads_at<'a>(
+    at: &'a UpdateAt,
+    turn: &Turn<Updated>,
+) -> Option<(&'a Found, Nth, NodeWord)>
+    ensures at { IfSome result (λ t. at.now ≡ UpdateAt.Load t.0.now t.1 t.2) }
     ensures asks { IfSome result (λ _. (s : Step) × (turn.now ≡ Turn.Ask s)) }
 {
     match (at, turn) {
-        (UpdateAt::Load { found, nth, part }, Turn::Ask(_)) => Some((*found, *nth, *part)),
+        (UpdateAt::Load { found, nth, part }, Turn::Ask(_)) => Some((found, *nth, *part)),
         _ => None,
     }
 }
 
 /// The fresh node that an update begins to fill, if that is what it has asked for.
 #[inline(always)]
-fn fills_at(at: &UpdateAt, turn: &Turn<Updated>) -> Option<(Found, Nth)>
-    ensures at { IfSome result (λ t. at.now ≡ UpdateAt.Fill t.0 t.1 NodeWord.Head) }
+fn fills_at<'a>(at: &'a UpdateAt, turn: &Turn<Updated>) -> Option<(&'a Found, Nth)>
+    ensures at { IfSome result (λ t. at.now ≡ UpdateAt.Fill t.0.now t.1 NodeWord.Head) }
     ensures asks { IfSome result (λ _. (s : Step) × (turn.now ≡ Turn.Ask s)) }
 {
     match (at, turn) {
@@ -40,7 +43,7 @@ fn fills_at(at: &UpdateAt, turn: &Turn<Updated>) -> Option<(Found, Nth)>
                 part: NodeWord::Head,
             },
             Turn::Ask(_),
-        ) => Some((*found, *nth)),
+        ) => Some((found, *nth)),
         _ => None,
     }
 }
@@ -158,6 +161,7 @@ pub(crate) fn work_on<S: Shape, M: Machine<S>, E: Edit + Drop>(
 {
     loop {
         if let Some((found, nth, part)) = loads_at(&run.at, &turn) {
+            let found = *found;
             turn = load::<S, M, E>(
                 words, layout, seat, number, run, turn, found, nth, part,
             );
@@ -166,6 +170,7 @@ pub(crate) fn work_on<S: Shape, M: Machine<S>, E: Edit + Drop>(
         let Some((found, nth)) = fills_at(&run.at, &turn) else {
             return turn;
         };
+        let found = *found;
         turn = fill_node::<S, M, E>(words, layout, seat, number, run, turn, found, nth);
     }
 }
