@@ -86,7 +86,7 @@ fn complete_blocked<S: Shape>(
     layout: Layout,
     seat: &mut Seat<u8, SeatView>,
     number: u64,
-    run: PutRun,
+    mut run: PutRun,
 ) -> Scx
     requires table { IsTableOf words.now.table.shared.table_id words.now.table.shared.key layout × (seat.old.table_id ≡ words.now.table.shared.table_id) }
     requires waits { (c : Call) × (first : PutRun) × (c.layout ≡ layout) × (c.number ≡ number) × SeatPutWaits S.allows c seat.old.me.0.passes first run (all_frozen_load run.scx.scx) }
@@ -99,8 +99,7 @@ fn complete_blocked<S: Shape>(
         word: Word::Scx(run.scx.scx, ScxWord::AllFrozen),
         access: Access::Load,
     };
-    let (_, answer) = complete::<S, PutRun>(words, &layout, seat, number, run, Turn::Ask(step));
-    answer
+    complete::<S, PutRun>(words, &layout, seat, number, &mut run, Turn::Ask(step))
 }
 
 /// SCX of an update by this SCX-record, whose fresh cell gets the value.
