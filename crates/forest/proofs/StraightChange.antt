@@ -1,5 +1,5 @@
 -- From place to place of an SCX, of whatever machine makes one.
-use Rattle.std.proofs.Common.{◌≡◌, ℕ, suc, ◌<◌, List, Option, Some, refl, sym, ◌∙◌, inl, inr}
+use Rattle.std.proofs.Common.{◌≡◌, ℕ, suc, ◌<◌, List, Option, refl, ◌∙◌, inl, inr}
 use Rattle.std.specs.Prelude.{Result, Ok, Err, IfOk, IfErr}
 use Rattle.arena.specs.ScxRecords.{raw_count}
 use Rattle.arena.specs.declared.layout.Layout.{Layout}
@@ -10,7 +10,7 @@ use Rattle.arena.specs.declared.step.Step.{Step}
 use Rattle.arena.specs.declared.word.ScxWord.TheVariants.{Plan, New, Old, Member, Seen, Call as CallWord}
 use Rattle.arena.specs.MemberIndex.{member_index}
 use Rattle.arena.specs.History.{History}
-use Rattle.arena.specs.Machines.{Call, IsRun}
+use Rattle.arena.specs.Machines.{Call}
 use Rattle.help.specs.Help.Known.{settled_load}
 use Rattle.help.specs.declared.state.HelpAt.TheVariants.{Start as HelpStart, Plan as HelpPlan}
 use Rattle.help.specs.declared.state.HelpRun.{HelpRun}

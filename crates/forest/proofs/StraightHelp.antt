@@ -1,5 +1,5 @@
 -- From place to place of a HELP, of whatever machine helps.
-use Rattle.std.proofs.Common.{◌≡◌, ◌≢◌, ℕ, suc, ◌<◌, ◌≤◌, length, true, false, ◌⊎◌, List, Option, Some, refl, sym}
+use Rattle.std.proofs.Common.{◌≡◌, ◌≢◌, ℕ, suc, ◌<◌, ◌≤◌, length, true, false, ◌⊎◌, List, Option, refl, sym}
 use Rattle.std.specs.Prelude.{slice_set}
 use Rattle.arena.specs.ScxRecords.{raw_count, plan_finalizes, field_index_of, side_of}
 use Rattle.arena.specs.declared.layout.Layout.{Layout}
@@ -13,7 +13,7 @@ use Rattle.arena.specs.MemberIndex.{member_index}
 use Rattle.arena.specs.Words.{scx, info, marked, child, state}
 use Rattle.arena.specs.History.{History}
 use Rattle.arena.specs.Lawful.{Lawful}
-use Rattle.arena.specs.Machines.{Call, IsRun}
+use Rattle.arena.specs.Machines.{Call}
 use Rattle.help.specs.Help.Known.{node_at, reading, settled_load, HelpIsTold, HelpWaits}
 use Rattle.help.proofs.Lemmas.{to_all_frozen as edge_to_all_frozen, to_commit as edge_to_commit, to_freeze as edge_to_freeze, to_mark as edge_to_mark, to_member as edge_to_member, to_new as edge_to_new, to_next as edge_to_next, to_old as edge_to_old, to_seen as edge_to_seen, to_set_frozen as edge_to_set_frozen, to_update as edge_to_update}
 use Rattle.help.specs.declared.state.HelpRun.{HelpRun}

@@ -6,7 +6,7 @@ use Rattle.arena.specs.declared.number.ScxNo.{ScxNo}
 use Rattle.arena.specs.declared.step.Step.{Step}
 use Rattle.arena.specs.declared.word.ScxWord.TheVariants.{Plan}
 use Rattle.arena.specs.History.{History}
-use Rattle.arena.specs.Machines.{Call, IsRun}
+use Rattle.arena.specs.Machines.{Call}
 use Rattle.help.specs.declared.state.HelpAt.TheVariants.{Commit as HelpCommit}
 use Rattle.help.specs.declared.state.HelpRun.{HelpRun}
 use Rattle.prims.specs.Put.Known.{HasValue, put_step, PutIsReady, PutWaits}

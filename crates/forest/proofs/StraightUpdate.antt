@@ -1,5 +1,5 @@
 -- From place to place of an update, of whatever machine updates.
-use Rattle.std.proofs.Common.{◌≡◌, ℕ, suc, true, ap, subst, ◌+◌, ◌^◌, ◌<◌, ◌≤◌, List, Option, None, Some, inl, refl, sym, arith, ◌∙◌}
+use Rattle.std.proofs.Common.{◌≡◌, ℕ, suc, true, ap, subst, ◌+◌, ◌<◌, ◌≤◌, List, Option, None, Some, inl, refl, sym, arith, ◌∙◌}
 use Rattle.arena.specs.declared.layout.Layout.{Layout}
 use Rattle.arena.specs.declared.machine.Turn.{Turn}
 use Rattle.arena.specs.declared.machine.Turn.TheVariants.{Ask, Done}
@@ -25,15 +25,14 @@ use Rattle.updates.specs.declared.edit.Nth.{Nth}
 use Rattle.updates.specs.declared.edit.Nth.TheVariants.{First, Second, Third}
 use Rattle.updates.specs.declared.edit.Piece.{Piece}
 use Rattle.updates.specs.declared.edit.Piece.TheVariants.{Leaf, Fork}
-use Rattle.updates.specs.declared.update.UpdateAt.{UpdateAt}
 use Rattle.updates.specs.declared.update.Updated.TheVariants.{Done as IsDone}
 use Rattle.updates.specs.Pieces.{fills_behind, nth_node, part_behind, word_of, HasPlace}
 use Rattle.updates.specs.Sound.{FillsWell, IsAtFound}
 use Rattle.updates.proofs.Lemmas.{fills_next, fills_word, piece_is, scx_asks, scx_done}
 use Rattle.forest.specs.declared.straight.changing.Change.{Change}
 use Rattle.forest.specs.StraightChange.{Changer, ChangerWaits, ChangerIsTold, changing_at, scx_fill}
-use Rattle.arena.specs.History.{History, Extends, value}
-use Rattle.arena.specs.Machines.{Call, IsRun, MatchTurn}
+use Rattle.arena.specs.History.{History, value}
+use Rattle.arena.specs.Machines.{Call, IsRun}
 use Rattle.arena.specs.Words.{marked, node}
 use Rattle.arena.proofs.Lemmas.{ends_self}
 use Rattle.prims.specs.Laws.Idle.{quiet_at_start}
@@ -43,7 +42,7 @@ use Rattle.prims.specs.declared.llx.LlxRun.{LlxRun}
 use Rattle.prims.specs.declared.snap.Snap.{Snap}
 use Rattle.spelling.specs.TreeShape.{TreeAllows}
 use Rattle.template.specs.FoundLeaf.{HasFound}
-use Rattle.template.specs.Walk.Known.{WalkIsTold, WalkWaits}
+use Rattle.template.specs.Walk.Known.{WalkIsTold}
 use Rattle.template.specs.Walk.Places.{walk_from}
 use Rattle.template.specs.declared.walk.Found.{Found}
 use Rattle.template.specs.declared.walk.Goal.TheVariants.{Key as ToKey}
@@ -66,8 +65,7 @@ use Rattle.forest.specs.StraightLook.{Looker, LookerWaits, LookerSnaps}
 use Rattle.forest.specs.StraightUpdate.{Updater, UpdaterBegins, UpdaterIsTold, UpdaterWaits, UpdaterStands}
 use Rattle.forest.specs.StraightWalk.{Walker, WalkerWaits, WalkerFinds}
 use Rattle.forest.specs.TableRule.{history_of}
-use Rattle.forest.specs.Traces.{HoldsForCall, Trace, goes_on}
-use Rattle.forest.proofs.Advances.{turn_map}
+use Rattle.forest.specs.Traces.{goes_on}
 
 -- a fresh node that is needed has a place
 has_place : (need : Need) (nth : Nth) → IsNeeded need nth → HasPlace need nth

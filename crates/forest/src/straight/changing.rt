@@ -132,8 +132,24 @@ fn fill_all<S: Shape, M: Machine<S>, T: Shape, L: SnapList>(
         → ChangerIsTold T.allows S.allows M.ready M.waits M.same layout.now number k seat.new.me.0.passes (changing_at (L.list snaps.now) change ScxAt.Call) result }
 {
     let scx = change.scx;
-    fill::<S, M, T>(words, layout, seat, number, scx, ScxWord::Plan, change.plan.0);
-    fill::<S, M, T>(words, layout, seat, number, scx, ScxWord::New, change.fresh.0);
+    fill::<S, M, T>(
+        words,
+        layout,
+        seat,
+        number,
+        scx,
+        ScxWord::Plan,
+        change.plan.0,
+    );
+    fill::<S, M, T>(
+        words,
+        layout,
+        seat,
+        number,
+        scx,
+        ScxWord::New,
+        change.fresh.0,
+    );
     fill::<S, M, T>(words, layout, seat, number, scx, ScxWord::Old, change.old.0);
     fill_members::<S, M, T, L>(words, layout, seat, number, snaps, change);
     fill_seen::<S, M, T, L>(words, layout, seat, number, snaps, change);

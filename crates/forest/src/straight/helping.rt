@@ -178,7 +178,15 @@ pub(crate) fn call<S: Shape, M: Machine<S>, T: Shape>(
     }
     let all_frozen = Word::Scx(run.scx, ScxWord::AllFrozen);
     let flag = Access::Store(1);
-    act::<S, M, T>(words, layout, seat, number, Kind::SetFrozen, all_frozen, flag);
+    act::<S, M, T>(
+        words,
+        layout,
+        seat,
+        number,
+        Kind::SetFrozen,
+        all_frozen,
+        flag,
+    );
     mark_all::<S, M, T>(words, layout, seat, number, &run);
     let new = read::<S, M, T>(words, layout, seat, number, run.scx, ScxWord::New);
     let old = read::<S, M, T>(words, layout, seat, number, run.scx, ScxWord::Old);

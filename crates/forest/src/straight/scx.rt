@@ -13,7 +13,9 @@ use crate::straight::changing::{self, Change};
 use crate::straight::placed::step;
 use crate::view::SeatView;
 use crate::words::Words;
-use arena::{Access, Kind, Layout, NodeNo, NodeWord, Plan, ScxNo, ScxWord, Shape, Step, Turn, Word};
+use arena::{
+    Access, Kind, Layout, NodeNo, NodeWord, Plan, ScxNo, ScxWord, Shape, Step, Turn, Word,
+};
 use atomic_table::Seat;
 use prims::{PutAt, PutRun, Scx, ScxAt, ScxRun, Snap, Snaps, Update};
 

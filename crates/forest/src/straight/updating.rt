@@ -54,11 +54,10 @@ fn looked_at<'a>(at: &'a UpdateAt, turn: &Turn<Updated>) -> Option<(&'a Found, N
         (
             UpdateAt::Look {
                 found,
-                llx:
-                    LlxRun {
-                        node,
-                        at: LlxAt::Marked,
-                    },
+                llx: LlxRun {
+                    node,
+                    at: LlxAt::Marked,
+                },
             },
             Turn::Ask(_),
         ) => Some((found, *node)),

@@ -16,10 +16,7 @@ use updates::{Edit, Nth, Piece, UpdateAt, UpdateRun, Updated};
 
 /// The load that an update has asked for, if it has.
 #[inline(always)]
-fn loads_at<'a>(
-    at: &'a UpdateAt,
-    turn: &Turn<Updated>,
-) -> Option<(&'a Found, Nth, NodeWord)>
+fn loads_at<'a>(at: &'a UpdateAt, turn: &Turn<Updated>) -> Option<(&'a Found, Nth, NodeWord)>
     ensures at { IfSome result (λ t. at.now ≡ UpdateAt.Load t.0.now t.1 t.2) }
     ensures asks { IfSome result (λ _. (s : Step) × (turn.now ≡ Turn.Ask s)) }
 {
@@ -162,9 +159,7 @@ pub(crate) fn work_on<S: Shape, M: Machine<S>, E: Edit + Drop>(
     loop {
         if let Some((found, nth, part)) = loads_at(&run.at, &turn) {
             let found = *found;
-            turn = load::<S, M, E>(
-                words, layout, seat, number, run, turn, found, nth, part,
-            );
+            turn = load::<S, M, E>(words, layout, seat, number, run, turn, found, nth, part);
             continue;
         }
         let Some((found, nth)) = fills_at(&run.at, &turn) else {

@@ -12,5 +12,5 @@ returns-clause-commits g c = ok_more c.call.result _ _ (λ a f k x. let t = f (h
 
 pub returns-clause-blocked : goal.returns-clause-blocked
 returns-clause-blocked g c = err_more c.call.result _ _ _ (λ help f left k x.
-        subst (λ s. ChangerWaits g.T.Shape.allows g.S.Shape.allows g.M.Machine.ready g.M.Machine.waits g.M.Machine.same c.args.layout.now c.args.number k c.call.new.seat.me.0.passes (changing_at (g.L.SnapList.list c.args.snaps.now) c.args.change (Help help)) (all_frozen_load s)) (left.0 ∙ c.new-begun.ensures.scx) (help_waits g.T.Shape.allows g.S.Shape.allows g.M.Machine.ready g.M.Machine.waits g.M.Machine.same c.args.layout.now c.args.number k (g.L.SnapList.list c.args.snaps.now) c.args.change _ help _ (f (helper g.T.Shape.allows g.S.Shape.allows g.M.Machine.ready g.M.Machine.waits g.M.Machine.same c.args.layout.now c.args.number k (g.L.SnapList.list c.args.snaps.now) c.args.change) (to_help g.T.Shape.allows g.S.Shape.allows g.M.Machine.ready g.M.Machine.waits g.M.Machine.same c.args.layout.now c.args.number k (g.L.SnapList.list c.args.snaps.now) c.args.change _ c.new-begun.result c.fill_all.result c.new-begun.ensures.scx c.new-begun.ensures.start (c.fill_all.ensures.told k x)))))
+    subst (λ s. ChangerWaits g.T.Shape.allows g.S.Shape.allows g.M.Machine.ready g.M.Machine.waits g.M.Machine.same c.args.layout.now c.args.number k c.call.new.seat.me.0.passes (changing_at (g.L.SnapList.list c.args.snaps.now) c.args.change (Help help)) (all_frozen_load s)) (left.0 ∙ c.new-begun.ensures.scx) (help_waits g.T.Shape.allows g.S.Shape.allows g.M.Machine.ready g.M.Machine.waits g.M.Machine.same c.args.layout.now c.args.number k (g.L.SnapList.list c.args.snaps.now) c.args.change _ help _ (f (helper g.T.Shape.allows g.S.Shape.allows g.M.Machine.ready g.M.Machine.waits g.M.Machine.same c.args.layout.now c.args.number k (g.L.SnapList.list c.args.snaps.now) c.args.change) (to_help g.T.Shape.allows g.S.Shape.allows g.M.Machine.ready g.M.Machine.waits g.M.Machine.same c.args.layout.now c.args.number k (g.L.SnapList.list c.args.snaps.now) c.args.change _ c.new-begun.result c.fill_all.result c.new-begun.ensures.scx c.new-begun.ensures.start (c.fill_all.ensures.told k x)))))
     c.call.ensures.blocked c.call.ensures.left

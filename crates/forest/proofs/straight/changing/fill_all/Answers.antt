@@ -1,4 +1,3 @@
-use Rattle.std.proofs.Common.{arith}
 use Rattle.arena.specs.declared.number.MemberIndex.TheVariants.{First}
 use Rattle.arena.specs.declared.word.ScxWord.TheVariants.{Plan, New, Old, Member, Seen, Call as CallWord}
 use Rattle.prims.specs.Snap.{snap_at}

@@ -1,4 +1,4 @@
-use Rattle.std.proofs.Common.{◌≡◌, ℕ, true}
+use Rattle.std.proofs.Common.{◌≡◌, true}
 use Rattle.arena.specs.ScxRecords.{field_index_of, side_of}
 use Rattle.arena.specs.Words.{scx, child, state}
 use Rattle.arena.specs.declared.number.MemberIndex.TheVariants.{First}
