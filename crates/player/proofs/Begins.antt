@@ -92,11 +92,7 @@ llx_few tries (LlxCommand cell) n (Some put) f taken = absurd f
 llx_few tries (SetCommand field value) n None f taken = absurd f
 llx_few tries (ScxCommand update) n then f taken = absurd f
 llx_few tries (VlxCommand cells) n then f taken = absurd f
-llx_few tries (Map (InsertCommand key value)) n then f taken = absurd f
-llx_few tries (Map (DeleteCommand key)) n then f taken = absurd f
-llx_few tries (Map (GetCommand key)) n then f taken = absurd f
-llx_few tries (Map (SuccessorCommand key)) n then f taken = absurd f
-llx_few tries (Map (RangeCommand low high most)) n then f taken = absurd f
+llx_few tries (Map request) n then f taken = absurd f
 
 -- an LLX of a cell
 pub llx_starts : (v : ClientView) (began : Option ℕ) (c : Client) (m : LlxRun) (then : Option Put) (command : Command) → IsSound v → v.layout.mode ≡ Records → Rests v c → IsUnbegun v began → m.at ≡ Start → m.node.0 ≤ 8 → command_of v c ≡ Some command → IsLlxOf command m.node.0 then → Starts v c (Llx m) then

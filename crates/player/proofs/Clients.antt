@@ -50,11 +50,7 @@ scx_same (ScxOf update) number a b (Some put) x y = absurd y
 scx_same (SetOf field value) number a b (Some put) x y = absurd y
 scx_same (LlxOf cell) number a b then x y = absurd y
 scx_same (VlxOf cells) number a b then x y = absurd y
-scx_same (Map (InsertOf key value)) number a b then x y = absurd y
-scx_same (Map (DeleteOf key)) number a b then x y = absurd y
-scx_same (Map (GetOf key)) number a b then x y = absurd y
-scx_same (Map (SuccessorOf key)) number a b then x y = absurd y
-scx_same (Map (RangeOf low high most)) number a b then x y = absurd y
+scx_same (Map request) number a b then x y = absurd y
 
 is_kept : (left : Remaining) (old now : Run) → IsSameMachine old now → IsKept left old now
 is_kept left (Llx a) (Llx b) x = record { hand = refl; newest = λ p. p; run_of = λ command number then p. rw x p; begun = λ start begin p. p; snaps = refl; won = λ v c p. p; room = λ v c p. p; mode = λ lay e. e; holds = λ v c p. p; took = λ v c share p. p }

@@ -146,11 +146,7 @@ put_called (ScxOf update) number m (Some put) x = absurd x
 put_called (SetOf field y) number m (Some put) x = absurd x
 put_called (LlxOf cell) number m then x = absurd x
 put_called (VlxOf cells) number m then x = absurd x
-put_called (Map (InsertOf key value)) number m then x = absurd x
-put_called (Map (DeleteOf key)) number m then x = absurd x
-put_called (Map (GetOf key)) number m then x = absurd x
-put_called (Map (SuccessorOf key)) number m then x = absurd x
-put_called (Map (RangeOf low high most)) number m then x = absurd x
+put_called (Map request) number m then x = absurd x
 
 -- a machine that fills the word `call` stores there the number of the client's call
 pub run_says : (command : Command) (number : ℕ) (run : Run) (then : Option Put) (call : MachineCall) (h : History) (s : Step) (t v : ℕ) → IsMachineOf command number run then → RunWaits run call h s → s.kind ≡ FillKind → s.word ≡ scx_word t CallWord → word_after s.access v ≡ number

@@ -206,11 +206,7 @@ scx_outcome v c (ScxOf update) m (Some put) a start since is_pass x moments alon
 scx_outcome v c (SetOf field value) m (Some put) a start since is_pass x moments alone room done lost took y = absurd x
 scx_outcome v c (LlxOf cell) m then a start since is_pass x moments alone room done lost took y = absurd x
 scx_outcome v c (VlxOf cells) m then a start since is_pass x moments alone room done lost took y = absurd x
-scx_outcome v c (Map (InsertOf key value)) m then a start since is_pass x moments alone room done lost took y = absurd x
-scx_outcome v c (Map (DeleteOf key)) m then a start since is_pass x moments alone room done lost took y = absurd x
-scx_outcome v c (Map (GetOf key)) m then a start since is_pass x moments alone room done lost took y = absurd x
-scx_outcome v c (Map (SuccessorOf key)) m then a start since is_pass x moments alone room done lost took y = absurd x
-scx_outcome v c (Map (RangeOf low high most)) m then a start since is_pass x moments alone room done lost took y = absurd x
+scx_outcome v c (Map request) m then a start since is_pass x moments alone room done lost took y = absurd x
 
 -- a client whose SCX has ended drops its snapshots
 stands_scx : (v : ClientView) (c : Client) (m : PutRun) (linked : ℕ → Option History) → IsDropped m.scx.update.snaps v.linked linked → IsClientState v c (in_hand (held c) (Scx m)) → IsClientState (record v { linked = linked }) c (no_hand (held c))
@@ -343,11 +339,7 @@ vlx_outcome v c (VlxOf cells) m (Some put) a x moments alone won took is_pass y 
 vlx_outcome v c (LlxOf cell) m then a x moments alone won took is_pass y = absurd x
 vlx_outcome v c (ScxOf update) m then a x moments alone won took is_pass y = absurd x
 vlx_outcome v c (SetOf field value) m then a x moments alone won took is_pass y = absurd x
-vlx_outcome v c (Map (InsertOf key value)) m then a x moments alone won took is_pass y = absurd x
-vlx_outcome v c (Map (DeleteOf key)) m then a x moments alone won took is_pass y = absurd x
-vlx_outcome v c (Map (GetOf key)) m then a x moments alone won took is_pass y = absurd x
-vlx_outcome v c (Map (SuccessorOf key)) m then a x moments alone won took is_pass y = absurd x
-vlx_outcome v c (Map (RangeOf low high most)) m then a x moments alone won took is_pass y = absurd x
+vlx_outcome v c (Map request) m then a x moments alone won took is_pass y = absurd x
 
 -- what is said of the snapshots as before leaves a client at rest
 rests_as : (v : ClientView) (c : Client) (linked : ℕ → Option History) → IsDropped [] v.linked linked → IsClientState v c (no_hand (held c)) → IsClientState (record v { linked = linked }) c (no_hand (held c))
@@ -586,11 +578,7 @@ llx_outcome v c (LlxOf cell) m (Some put) a d x took y = absurd x
 llx_outcome v c (SetOf field value) m None a d x took y = absurd x
 llx_outcome v c (ScxOf update) m then a d x took y = absurd x
 llx_outcome v c (VlxOf cells) m then a d x took y = absurd x
-llx_outcome v c (Map (InsertOf key value)) m then a d x took y = absurd x
-llx_outcome v c (Map (DeleteOf key)) m then a d x took y = absurd x
-llx_outcome v c (Map (GetOf key)) m then a d x took y = absurd x
-llx_outcome v c (Map (SuccessorOf key)) m then a d x took y = absurd x
-llx_outcome v c (Map (RangeOf low high most)) m then a d x took y = absurd x
+llx_outcome v c (Map request) m then a d x took y = absurd x
 
 -- its call ends, where no SCX follows
 pub ends_llx : (v : ClientView) (old : Client) (kept : Kept) (m : LlxRun) (then : Option Put) (a : LlxAnswer) → IsSound v → Answered v old (Llx m) then (ended.Llx a) → kept.found ≡ set old.kept.found (node_of a) (found_of a) → ((then ≡ None) ⊎ ((snap : Snap) → a ≢ LlxSnapshot snap)) → Ends v old (record old { kept = kept }) (answer_of (ended.Llx a))

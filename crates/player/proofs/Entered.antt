@@ -155,11 +155,7 @@ module _ (v : ClientView) (c : Client) (row : Row) (m : PutRun) (start : History
       )
   does (LlxOf cell) p z = absurd p
   does (VlxOf cells) p z = absurd p
-  does (Map (InsertOf key value)) p z = absurd p
-  does (Map (DeleteOf key)) p z = absurd p
-  does (Map (GetOf key)) p z = absurd p
-  does (Map (SuccessorOf key)) p z = absurd p
-  does (Map (RangeOf low high most)) p z = absurd p
+  does (Map request) p z = absurd p
 
 -- an update that a row makes win has won behind it
 has_won : (row : Row) (before : History) (t : ℕ) → IsWin before row t → HasWon (row ⊳ before) t
@@ -237,11 +233,7 @@ module _ (v : ClientView) (c : Client) (sound : IsSound v) (row : Row) (s : ℕ)
       called (SetOf field y) (Some put) p = absurd p
       called (LlxOf cell) then p = absurd p
       called (VlxOf cells) then p = absurd p
-      called (Map (InsertOf key value)) then p = absurd p
-      called (Map (DeleteOf key)) then p = absurd p
-      called (Map (GetOf key)) then p = absurd p
-      called (Map (SuccessorOf key)) then p = absurd p
-      called (Map (RangeOf low high most)) then p = absurd p
+      called (Map request) then p = absurd p
 
       by_then : (then : Option Put) → IsScxOf x.command c.number m then → HaveMoments v c.pass.0 x.command m.scx.update.snaps → IsOfPut v c row m x.start x.is_pass → IsEntryFor v.layout c.pass.0 v.past v.start v.linked (update_entry c.pass.0 m.scx) x.command
       by_then None p z y = does v c row m x.start x.is_pass y x.command p z
@@ -252,11 +244,7 @@ module _ (v : ClientView) (c : Client) (sound : IsSound v) (row : Row) (s : ℕ)
           none_then (SetOf field y) put p = p
           none_then (LlxOf cell) put p = p
           none_then (VlxOf cells) put p = p
-          none_then (Map (InsertOf key value)) put p = p
-          none_then (Map (DeleteOf key)) put p = p
-          none_then (Map (GetOf key)) put p = p
-          none_then (Map (SuccessorOf key)) put p = p
-          none_then (Map (RangeOf low high most)) put p = p
+          none_then (Map request) put p = p
   from_run (Llx m) then x f g = absurd (no_hand_wins x.holds)
   from_run (Vlx m) then x f g = absurd (no_hand_wins x.holds)
   from_run (Edit m) then x f g = from_edit m then x (g m refl)

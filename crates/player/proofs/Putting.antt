@@ -127,11 +127,7 @@ can_put v old kept m put snap sound x e = go x.works.command x.works.is x.works.
     go (LlxOf cell) is f few = absurd f
     go (ScxOf update) is f few = absurd f
     go (VlxOf cells) is f few = absurd f
-    go (Map (InsertOf key value)) is f few = absurd f
-    go (Map (DeleteOf key)) is f few = absurd f
-    go (Map (GetOf key)) is f few = absurd f
-    go (Map (SuccessorOf key)) is f few = absurd f
-    go (Map (RangeOf low high most)) is f few = absurd f
+    go (Map request) is f few = absurd f
 
 -- what it answers then
 pub told_put : (v : ClientView) (old new : Client) (kept : Kept) (m : LlxRun) (put : Put) (snap : Snap) (answer : Option Answer) → (x : Answered v old (Llx m) (Some put) (ended.Llx (LlxSnapshot snap))) → Puts v (linked_now v x.works.command) (record old { kept = kept }) new answer → Told v old new answer
@@ -158,11 +154,7 @@ told_put v old new kept m put snap (Some answer) x p = go x.works.command x.work
     go (LlxOf cell) is f rests = absurd f
     go (ScxOf update) is f rests = absurd f
     go (VlxOf cells) is f rests = absurd f
-    go (Map (InsertOf key value)) is f rests = absurd f
-    go (Map (DeleteOf key)) is f rests = absurd f
-    go (Map (GetOf key)) is f rests = absurd f
-    go (Map (SuccessorOf key)) is f rests = absurd f
-    go (Map (RangeOf low high most)) is f rests = absurd f
+    go (Map request) is f rests = absurd f
 
 -- the same with what it has answered written out
 pub answered_put : (v : ClientView) (c : Client) (m : LlxRun) (next : Option Put) (put : Put) (a : LlxAnswer) (snap : Snap) → next ≡ Some put → a ≡ LlxSnapshot snap → Answered v c (Llx m) next (ended.Llx a) → Answered v c (Llx m) (Some put) (ended.Llx (LlxSnapshot snap))

@@ -237,11 +237,7 @@ module _ (v : ClientView) (c : Client) (r : Row) (number : ℕ) (start : History
       source_more (ScxOf update) n moment y = y
       source_more (VlxOf cells) n moment y = y
       source_more (LlxOf cell) n moment y = y
-      source_more (Map (InsertOf key value)) n moment y = y
-      source_more (Map (DeleteOf key)) n moment y = y
-      source_more (Map (GetOf key)) n moment y = y
-      source_more (Map (SuccessorOf key)) n moment y = y
-      source_more (Map (RangeOf low high most)) n moment y = y
+      source_more (Map request) n moment y = y
 
   -- an LLX has no snapshots yet, and those of a VLX are kept ones
   moments_by : (q : Run) (then : Option Put) (command : Command) → start ≡ v.start → ((m : PutRun) → q ≡ Scx m → r.pass.0 ≡ c.pass.0 → r.kind ≢ LoadInfo) → IsMachineOf command c.number q then → HaveMoments v c.pass.0 command (snaps_of q) → HaveMoments (after_row v r start steps won) c.pass.0 command (snaps_of q)

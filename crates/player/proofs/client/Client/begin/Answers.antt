@@ -1,4 +1,4 @@
-use Rattle.std.proofs.Common.{arith, ℕ, List, length, refl, sym, ◌∙◌, ap, Some, None}
+use Rattle.std.proofs.Common.{arith, ℕ, List, length, refl, ◌∙◌, ap, Some, None}
 use Rattle.script.specs.declared.command.Command.{Command}
 use Rattle.player.proofs.Snapshots.{kept_linked}
 use Rattle.script.specs.Commands.{mode_of}
