@@ -5,7 +5,7 @@ ghost use Rattle.spelling.specs.OrderedMap.{get};
 ghost use Rattle.places.specs.Ordered.{looks_for, most_told, reaches, is_unlike, IsNextBest};
 
 use script::Command;
-use spelling::Pair;
+use spelling::{Pair, Request};
 
 /// Whether a key of this value is not as these pairs tell, which the read has told.
 pub(crate) fn is_unlike(command: &Command, pairs: &[Pair], key: u64, value: Option<u64>) -> bool
@@ -21,8 +21,8 @@ fn looks_for(command: &Command, key: u64) -> bool
     ensures { result ≡ looks_for command.now key }
 {
     match command {
-        Command::Successor { key: above } => *above < key,
-        Command::Range(span) => span.low <= key && key <= span.high,
+        Command::Map(Request::Successor { key: above }) => *above < key,
+        Command::Map(Request::Range { low, high, most: _ }) => *low <= key && key <= *high,
         _ => false,
     }
 }
@@ -32,8 +32,8 @@ fn most_told(command: &Command) -> usize
     ensures { result ≡ most_told command.now }
 {
     match command {
-        Command::Successor { key: _ } => 1,
-        Command::Range(span) => span.most as usize,
+        Command::Map(Request::Successor { key: _ }) => 1,
+        Command::Map(Request::Range { most, .. }) => *most as usize,
         _ => 0,
     }
 }
