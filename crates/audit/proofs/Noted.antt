@@ -1,8 +1,7 @@
 -- What is remembered of the steps, behind one more.
-use Rattle.std.proofs.Common.{◌≡◌, ◌≢◌, ℕ, zero, suc, ◌+◌, ◌<◌, ◌≤◌, ◌↔◌, ◌⊎◌, inl, inr, ⊎_elim, Bool, true, false, ◌||◌, eqb, List, [], ◌∷◌, ◌++◌, length, set, slice_get, Option, Some, None, IsSome, IfSome, refl, sym, ◌∙◌, ap, subst, add-one, arith}
+use Rattle.std.proofs.Common.{◌≡◌, ◌≢◌, ℕ, zero, suc, ◌+◌, ◌<◌, ◌≤◌, ◌↔◌, ◌⊎◌, inl, inr, ⊎_elim, Bool, true, false, ◌||◌, eqb, List, [], ◌∷◌, ◌++◌, length, set, slice_get, Option, Some, None, refl, sym, ◌∙◌, ap, subst, add-one, arith}
 use native.Mathlib.Decide.{ℕ_discrete}
 use Rattle.arena.specs.declared.layout.Layout.{Layout}
-use Rattle.arena.specs.declared.number.ScxNo.{ScxNo}
 use Rattle.arena.specs.declared.step.Row.{Row}
 use Rattle.arena.specs.declared.step.Kind.{Kind}
 use Rattle.arena.specs.declared.step.Kind.TheVariants.{LoadInfo, Freeze}
@@ -10,11 +9,11 @@ use Rattle.arena.specs.declared.word.Side.{Side}
 use Rattle.arena.specs.declared.word.Word.{Word}
 use Rattle.arena.specs.declared.word.ScxWord.TheVariants.{Member}
 use Rattle.arena.specs.Blame.{IsInProgress}
-use Rattle.arena.specs.History.{History, Start, ◌⊳◌, Extends, value}
+use Rattle.arena.specs.History.{History, ◌⊳◌, Extends, value}
 use Rattle.arena.specs.Lawful.{IsLawful}
-use Rattle.arena.specs.Log.{Entry, entry, log, last, has, is_final, finalized_from}
-use Rattle.arena.specs.ScxRecords.{count, member, plan}
-use Rattle.arena.specs.Words.{info, child, scx}
+use Rattle.arena.specs.Log.{Entry, entry, log, has, is_final, finalized_from}
+use Rattle.arena.specs.ScxRecords.{count, plan}
+use Rattle.arena.specs.Words.{child, scx}
 use Rattle.arena.proofs.Lemmas.{ends_self, last_more, last_now, plan_counted, value_apart, or_split, or_right}
 use Rattle.histories.proofs.Lemmas.{is_removed_of}
 use Rattle.script.specs.declared.command.Command.{Command}
@@ -23,7 +22,7 @@ use Rattle.audit.specs.declared.memory.Look.{Look}
 use Rattle.audit.specs.declared.memory.Memory.{Memory}
 use Rattle.audit.specs.declared.memory.Snapshot.{Snapshot}
 use Rattle.audit.specs.declared.steps.Steps.{Steps}
-use Rattle.audit.specs.Remembered.{rows_of, IsMomentAt, WasRunningAt, AreStepsOf, IsLookOf, IsSnapshotOf, IsBegunWith, IsKept}
+use Rattle.audit.specs.Remembered.{rows_of, WasRunningAt, AreStepsOf, IsLookOf, IsSnapshotOf, IsBegunWith, IsKept}
 use Rattle.audit.specs.Remembering.{IsLookBy, noted, IsNoted, IsFinalBy}
 use Rattle.audit.proofs.RowMoments.{rows_within}
 

@@ -1,9 +1,9 @@
 -- Moments of a history, told by how many rows there were.
-use Rattle.std.proofs.Common.{◌≡◌, ◌≢◌, ℕ, zero, suc, ◌<◌, ◌≤◌, inl, inr, refl, sym, ◌∙◌, ap, subst, arith}
+use Rattle.std.proofs.Common.{◌≡◌, ◌≢◌, ℕ, suc, ◌<◌, ◌≤◌, inl, inr, refl, sym, ◌∙◌, ap, subst, arith}
 use Rattle.arena.specs.declared.layout.Layout.{Layout}
 use Rattle.arena.specs.declared.step.Row.{Row}
 use Rattle.arena.specs.declared.word.ScxWord.TheVariants.{Plan, Member}
-use Rattle.arena.specs.Words.{scx, state}
+use Rattle.arena.specs.Words.{state}
 use Rattle.arena.specs.Blame.{IsMember, IsInProgress, WasInTheWay}
 use Rattle.arena.specs.History.{History, Start, ◌⊳◌, Extends, value}
 use Rattle.arena.specs.Lawful.{Lawful}

@@ -30,7 +30,8 @@ right_of true b e = cc
 others_more : (old kept new : List (Option Snapshot)) (cells more : List ℕ) (cell : ℕ) → more ≡ cells ++ cell ∷ [] → new ≡ set kept cell None → ((n : ℕ) → has cells n ≡ false → slice_get kept n ≡ slice_get old n) → (n : ℕ) → has more n ≡ false → slice_get new n ≡ slice_get old n
 others_more old kept new cells more cell is put before n not =
     let none : has cells n || eqb cell n ≡ false = sym (has_push cells cell n) ∙ ap (λ (xs : List ℕ). has xs n) (sym is) ∙ not in
-    let other : n ≡ cell → ⊥ = λ e. let z : true ≡ false = sym (eq-eqb cell n (sym e)) ∙ right_of _ _ none in absurd cc in
+    let apart : eqb cell n ≡ false = right_of (has cells n) (eqb cell n) none in
+    let other : n ≡ cell → ⊥ = λ e. let z : true ≡ false = sym (eq-eqb cell n (sym e)) ∙ apart in cc in
     ap (λ (xs : List (Option Snapshot)). slice_get xs n) put ∙ set_other kept cell n None other ∙ before n (left_of _ _ none)
 
 pub loop-cell-preserved : goal.loop-cell-preserved

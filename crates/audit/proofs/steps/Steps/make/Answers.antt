@@ -1,13 +1,11 @@
-use Rattle.std.proofs.Common.{◌≡◌, ℕ, suc, ◌+◌, List, ◌∷◌, length, ⊎_elim, inl, inr, slice_get, Option, IfSome, IfNone, sym, ◌∙◌, ap, subst, add-one}
+use Rattle.std.proofs.Common.{◌≡◌, ℕ, suc, ◌+◌, List, length, ⊎_elim, inl, inr, slice_get, Option, IfSome, IfNone, sym, ◌∙◌, ap, subst, add-one}
 use Rattle.arena.specs.declared.layout.Layout.{Layout}
 use Rattle.arena.specs.declared.number.ScxNo.{ScxNo}
 use Rattle.arena.specs.declared.step.Row.{Row}
-use Rattle.arena.specs.declared.word.Side.{Side}
 use Rattle.arena.specs.Blame.{IsInProgress}
 use Rattle.arena.specs.History.{History, ◌⊳◌}
 use Rattle.arena.specs.Lawful.{IsLawful}
-use Rattle.arena.specs.Log.{entry, log}
-use Rattle.arena.specs.Words.{child}
+use Rattle.arena.specs.Log.{log}
 use Rattle.record.specs.Turns.{history}
 use Rattle.judge.specs.Histories.{Judged, history as seen}
 use Rattle.audit.specs.declared.memory.Memory.{Memory}
