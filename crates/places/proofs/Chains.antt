@@ -98,7 +98,7 @@ never_more : (key m : ℕ) (p : Place) (ps : List Place) (b : Bool) → eqb key 
 never_more key m p ps true same e rest = absurd (let y : Some (length ps) ≡ None = e in cc)
 never_more key m p ps false other e rest = rw other (same_branch (leb p.change.turn m) (value_at key m (changes_of ps))) ∙ rest e
 
-never : (key m : ℕ) (ps : List Place) → latest key ps ≡ None → value_at key m (changes_of ps) ≡ None
+pub never : (key m : ℕ) (ps : List Place) → latest key ps ≡ None → value_at key m (changes_of ps) ≡ None
 never key m [] e = refl
 never key m (p ∷ ps) e = never_more key m p ps (eqb key p.change.key) refl e (λ d. never key m ps d)
 
@@ -199,6 +199,10 @@ here_older key value first last until i place all linked x other late = record {
   none = λ m j to is. ⊎_elim (λ k. x.none m k to is) (λ k. let come : place.change.turn ≤ m = omega (j, k, late, arith) in other (omega (come, k, arith)) (sym (value_here key m place.change (changes_of x.older) x.key_is come) ∙ sym (x.agree m k) ∙ is)) (cases_lt_le until m);
 }
 
+-- where only one turn is looked at, it stays this one
+pub look_on : (key m turn : ℕ) (at : Option ℕ) (all : List Place) → m < turn → IsLookedFor key None m m (min m (turn - 1)) at all → IsLookedFor key None m m m at all
+look_on key m turn at all late x = let same : min m (turn - 1) ≡ m = omega (late, arith) in subst (λ (until : ℕ). IsLookedFor key None m m until at all) same x
+
 -- how many places may still be looked at
 abbrev pub places_left : Option ℕ → ℕ
 places_left None = 0
@@ -257,6 +261,10 @@ found_map key value first last m all calls lines a x = record {
   holds = value_is calls (written_log lines) (changes_of all) key m a ∙ x.holds;
   none_later = λ n i j e. x.none_later n i j (sym (value_is calls (written_log lines) (changes_of all) key n a) ∙ e);
 }
+
+-- what the change at a place has left to the key
+pub here_map : (key : ℕ) (value : Option ℕ) (first last until i : ℕ) (place : Place) (all : List Place) (calls : List Call) (lines : List Line) → AreEntries calls lines (changes_of all) → IsHere key value first last until i place all → place.change.turn ≤ until → place.change.value ≡ get key (map_at calls lines until)
+here_map key value first last until i place all calls lines a x come = sym (value_is calls (written_log lines) (changes_of all) key until a ∙ x.agree until (omega arith) ∙ value_here key until place.change (changes_of x.older) x.key_is come)
 
 pub nowhere_map : (key : ℕ) (value : Option ℕ) (first last : ℕ) (all : List Place) (calls : List Call) (lines : List Line) → AreEntries calls lines (changes_of all) → IsNowhere key value first last all → (n : ℕ) → first ≤ n → n ≤ last → get key (map_at calls lines n) ≢ value
 nowhere_map key value first last all calls lines a x n i j e = x n i j (sym (value_is calls (written_log lines) (changes_of all) key n a) ∙ e)
