@@ -1,6 +1,6 @@
 -- Looking for a turn in which a key has a value, from its newest change to its oldest.
 use Rattle.std.proofs.Common.{◌≡◌, ◌≢◌, ℕ, suc, ◌+◌, ◌-◌, ◌<◌, ◌≤◌, ◌⊎◌, inl, inr, ⊎_elim, Bool, true, false, cond, eqb, List, [], ◌∷◌, ◌++◌, length, length-append, map, reverse, get_or, Option, Some, None, refl, sym, ◌∙◌, ap, subst, arith, append_assoc}
-use Rattle.std.specs.Prelude.{leb, min, unwrap_or, is_none}
+use Rattle.std.specs.Prelude.{leb, min, unwrap_or, is_some, is_none}
 use Rattle.std.specs.Option.{option_eq}
 use Rattle.std.specs.Ordering.{nat_cmp}
 use Rattle.std.specs.BTreeMap.{is_at}
@@ -250,6 +250,15 @@ values_same (Some x) None e = absurd (let y : false ≡ true = e in cc)
 pub values_differ : (a b : Option ℕ) → option_eq eqb a b ≡ false → a ≢ b
 values_differ None b e same = absurd (let y : true ≡ false = rw (sym same) at e in cc)
 values_differ (Some x) b e same = absurd (let y : true ≡ false = sym (eq-eqb x x refl) ∙ (rw (sym same) at e) in cc)
+
+-- a value, whatever it is, or none
+pub some_value : (a : Option ℕ) → is_some a ≡ true → (v : ℕ) × (a ≡ Some v)
+some_value (Some v) e = (v, refl)
+some_value None e = absurd (let y : false ≡ true = e in cc)
+
+pub no_some : (a : Option ℕ) (v : ℕ) → is_some a ≡ false → a ≢ Some v
+no_some (Some w) v e = absurd (let y : true ≡ false = e in cc)
+no_some None v e = λ same. let y : None ≡ Some v = same in absurd (cc)
 
 -- In the words of a record
 
