@@ -81,7 +81,11 @@ pub(crate) fn behind(pairs: &[Pair], key: u64, value: u64) -> Option<&[Pair]>
     ensures { IfSome result (λ rest. (first : PairOf) × (first.key ≡ key) × (first.value ≡ value) × (pairs.now ≡ first ∷ rest.now)) }
 {
     let (first, rest) = pairs.split_first()?;
-    if first.key == key && first.value == value { Some(rest) } else { None }
+    if first.key == key && first.value == value {
+        Some(rest)
+    } else {
+        None
+    }
 }
 
 /// The value of the key in these pairs.

@@ -124,17 +124,17 @@ impl Places {
         ensures found { (calls : List Call) (lines : List Line) → AreEntries calls lines (changes self.now) → IsTrue result → (v : ℕ) × HadWithin calls lines key (Some v) first last }
         ensures none { (calls : List Call) (lines : List Line) → AreEntries calls lines (changes self.now) → result ≡ false → (v n : ℕ) → first ≤ n → n ≤ last → get key (map_at calls lines n) ≢ Some v }
     {
-        let mut until = last;
+        let mut turn = last;
         let mut at = self.newest_of(key);
         while let Some(i) = at {
             let place = self.list[i];
-            if place.change.turn <= until && place.change.value.is_some() {
+            if place.change.turn <= turn && place.change.value.is_some() {
                 return true;
             }
             if place.change.turn <= first {
                 return false;
             }
-            until = until.min(place.change.turn - 1);
+            turn = turn.min(place.change.turn - 1);
             at = place.before;
         }
         false
@@ -145,17 +145,17 @@ impl Places {
     pub fn tells(&self, command: &Command, pairs: &[Pair], turn: u64) -> bool
         ensures { (calls : List Call) (lines : List Line) → AreEntries calls lines (changes self.now) → IsTrue result → pairs_read command.now (map_at calls lines turn) ≡ pairs.now }
     {
-        let mut left = most_told(command);
+        let mut untold = most_told(command);
         let mut rest = pairs;
         for (key, _) in self.newest.range(bounds(command)) {
-            if left == 0 {
+            if untold == 0 {
                 return rest.is_empty();
             }
             if let Some(value) = self.value_after(*key, turn) {
                 let Some(others) = behind(rest, *key, value) else {
                     return false;
                 };
-                left -= 1;
+                untold -= 1;
                 rest = others;
             }
         }

@@ -11,4 +11,4 @@ use Rattle.places.proofs.places.Places.tells.Given as goal
 
 -- the pairs are told if those that are left are
 abbrev pub invariant-loop-key : goal.invariant-loop-key
-invariant-loop-key l = (calls : List Call) (lines : List Line) → AreEntries calls lines (changes l.self) → take l.left (held (λ j. get j (map_at calls lines l.turn)) l.key-iterator) ≡ l.rest → take (most_told l.command) (held (λ j. get j (map_at calls lines l.turn)) l.initial.key-iterator) ≡ l.pairs
+invariant-loop-key l = (calls : List Call) (lines : List Line) → AreEntries calls lines (changes l.self) → take l.untold (held (λ j. get j (map_at calls lines l.turn)) l.key-iterator) ≡ l.rest → take (most_told l.command) (held (λ j. get j (map_at calls lines l.turn)) l.initial.key-iterator) ≡ l.pairs
