@@ -22,48 +22,41 @@ use crate::steps::Steps;
 use arena::Resource;
 use places::Places;
 use record::{Answer, Reply};
-use script::{Call, Command};
+use script::Command;
 
 /// Whether a call of the map took place where its reply says, and told what the map gave there; or
 /// was refused, and took place nowhere.
 pub(crate) fn is_right(
     steps: &Steps,
     places: &Places,
-    calls: &[Call],
     client: &Client,
     command: &Command,
     reply: &Reply,
 ) -> bool
     requires { client.now.pass.0 < steps.now.judge.layout.passes }
-    ensures right { (lay : Layout) (tries : ℕ) (lines : List Line) → IsAsked lay tries calls.now lines (changes places.now) client.now command.now reply.now → AreRemembered lay calls.now lines steps.now → IsTrue result → IsRight lay reply.now.client.0 (history lay.mode lines) (start lay.mode lines reply.now.client.0) (linked calls.now lay.mode lines reply.now.client.0) command.now reply.now.answer }
-    ensures placed { (lay : Layout) (tries : ℕ) (lines : List Line) → IsAsked lay tries calls.now lines (changes places.now) client.now command.now reply.now → IsTrue result → IsPlaced lay calls.now lines reply.now command.now }
+    ensures right { (lay : Layout) (tries : ℕ) (calls : List CallOf) (lines : List Line) → IsAsked lay tries calls lines (changes places.now) client.now command.now reply.now → AreRemembered lay calls lines steps.now → IsTrue result → IsRight lay reply.now.client.0 (history lay.mode lines) (start lay.mode lines reply.now.client.0) (linked calls lay.mode lines reply.now.client.0) command.now reply.now.answer }
+    ensures placed { (lay : Layout) (tries : ℕ) (calls : List CallOf) (lines : List Line) → IsAsked lay tries calls lines (changes places.now) client.now command.now reply.now → IsTrue result → IsPlaced lay calls lines reply.now command.now }
 {
     match &reply.answer {
         Answer::Value(_) | Answer::Pair(_) | Answer::Pairs(_) => {
-            is_placed(places, calls, client, command, reply)
+            is_placed(places, client, command, reply)
         }
-        _ => reply.moment.is_none() && is_refused(steps, places, calls, client, command, reply),
+        _ => reply.moment.is_none() && is_refused(steps, places, client, command, reply),
     }
 }
 
 /// Whether a call that tells of the map took place in the turn of its reply: with its entry, just
 /// before which the map gave its answer; or, without one, in the last of its turns, whoever made
 /// it, after which the map gave it.
-fn is_placed(
-    places: &Places,
-    calls: &[Call],
-    client: &Client,
-    command: &Command,
-    reply: &Reply,
-) -> bool
-    ensures right { (lay : Layout) (tries : ℕ) (lines : List Line) → IsAsked lay tries calls.now lines (changes places.now) client.now command.now reply.now → IsTrue result → IsRight lay reply.now.client.0 (history lay.mode lines) (start lay.mode lines reply.now.client.0) (linked calls.now lay.mode lines reply.now.client.0) command.now reply.now.answer }
-    ensures placed { (lay : Layout) (tries : ℕ) (lines : List Line) → IsAsked lay tries calls.now lines (changes places.now) client.now command.now reply.now → IsTrue result → IsPlaced lay calls.now lines reply.now command.now }
+fn is_placed(places: &Places, client: &Client, command: &Command, reply: &Reply) -> bool
+    ensures right { (lay : Layout) (tries : ℕ) (calls : List CallOf) (lines : List Line) → IsAsked lay tries calls lines (changes places.now) client.now command.now reply.now → IsTrue result → IsRight lay reply.now.client.0 (history lay.mode lines) (start lay.mode lines reply.now.client.0) (linked calls lay.mode lines reply.now.client.0) command.now reply.now.answer }
+    ensures placed { (lay : Layout) (tries : ℕ) (calls : List CallOf) (lines : List Line) → IsAsked lay tries calls lines (changes places.now) client.now command.now reply.now → IsTrue result → IsPlaced lay calls lines reply.now command.now }
 {
     match client.won {
         Some(turn) => {
             reply.moment == Some(turn) && had_before(places, command, &reply.answer, turn)
         }
-        None => is_read(places, calls, command, reply),
+        None => is_read(places, command, reply),
     }
 }
 
@@ -84,14 +77,14 @@ fn had_before(places: &Places, command: &Command, answer: &Answer, turn: u64) ->
 
 /// Whether a call without an entry took place in the greatest of its turns after which the map gave
 /// its answer.
-fn is_read(places: &Places, calls: &[Call], command: &Command, reply: &Reply) -> bool
-    ensures right { (lay : Layout) (tries : ℕ) (lines : List Line) (client : ClientOf) → IsAsked lay tries calls.now lines (changes places.now) client command.now reply.now → won lay lines reply.now.client.0 ≡ None → IsTrue result → IsRight lay reply.now.client.0 (history lay.mode lines) (start lay.mode lines reply.now.client.0) (linked calls.now lay.mode lines reply.now.client.0) command.now reply.now.answer }
-    ensures placed { (lay : Layout) (tries : ℕ) (lines : List Line) (client : ClientOf) → IsAsked lay tries calls.now lines (changes places.now) client command.now reply.now → won lay lines reply.now.client.0 ≡ None → IsTrue result → IsPlaced lay calls.now lines reply.now command.now }
+fn is_read(places: &Places, command: &Command, reply: &Reply) -> bool
+    ensures right { (lay : Layout) (tries : ℕ) (calls : List CallOf) (lines : List Line) (client : ClientOf) → IsAsked lay tries calls lines (changes places.now) client command.now reply.now → won lay lines reply.now.client.0 ≡ None → IsTrue result → IsRight lay reply.now.client.0 (history lay.mode lines) (start lay.mode lines reply.now.client.0) (linked calls lay.mode lines reply.now.client.0) command.now reply.now.answer }
+    ensures placed { (lay : Layout) (tries : ℕ) (calls : List CallOf) (lines : List Line) (client : ClientOf) → IsAsked lay tries calls lines (changes places.now) client command.now reply.now → won lay lines reply.now.client.0 ≡ None → IsTrue result → IsPlaced lay calls lines reply.now command.now }
 {
     match command {
         Command::Get { key } => is_read_of(places, *key, reply),
         Command::Delete { key } => is_read_of(places, *key, reply),
-        _ => is_read_at(places, calls, command, reply),
+        _ => is_read_at(places, command, reply),
     }
 }
 
@@ -117,8 +110,8 @@ fn has_at(places: &Places, key: u64, value: Option<u64>, turn: u64) -> bool
 
 /// Whether an ordered read took place in the greatest of its turns after which the map gave its
 /// answer.
-fn is_read_at(places: &Places, calls: &[Call], command: &Command, reply: &Reply) -> bool
-    ensures { (lines : List Line) → AreEntries calls.now lines (changes places.now) → FallFrom (suc reply.now.end) (changes places.now) → reply.now.begin ≤ reply.now.end → IsTrue result → IsReadAt calls.now lines command.now reply.now }
+fn is_read_at(places: &Places, command: &Command, reply: &Reply) -> bool
+    ensures { (calls : List CallOf) (lines : List Line) → AreEntries calls lines (changes places.now) → FallFrom (suc reply.now.end) (changes places.now) → reply.now.begin ≤ reply.now.end → IsTrue result → IsReadAt calls lines command.now reply.now }
 {
     let turn = places.greatest_of(command, &reply.answer, reply.begin, reply.end);
     if reply.moment != Some(turn) {
@@ -142,13 +135,12 @@ fn is_read_at(places: &Places, calls: &[Call], command: &Command, reply: &Reply)
 fn is_refused(
     steps: &Steps,
     places: &Places,
-    calls: &[Call],
     client: &Client,
     command: &Command,
     reply: &Reply,
 ) -> bool
     requires { client.now.pass.0 < steps.now.judge.layout.passes }
-    ensures right { (lay : Layout) (tries : ℕ) (lines : List Line) → IsAsked lay tries calls.now lines (changes places.now) client.now command.now reply.now → AreRemembered lay calls.now lines steps.now → IsTrue result → IsRight lay reply.now.client.0 (history lay.mode lines) (start lay.mode lines reply.now.client.0) (linked calls.now lay.mode lines reply.now.client.0) command.now reply.now.answer }
+    ensures right { (lay : Layout) (tries : ℕ) (calls : List CallOf) (lines : List Line) → IsAsked lay tries calls lines (changes places.now) client.now command.now reply.now → AreRemembered lay calls lines steps.now → IsTrue result → IsRight lay reply.now.client.0 (history lay.mode lines) (start lay.mode lines reply.now.client.0) (linked calls lay.mode lines reply.now.client.0) command.now reply.now.answer }
     ensures tells_nothing { IsTrue result → reply_told reply.now.answer ≡ None }
 {
     match &reply.answer {
@@ -156,9 +148,14 @@ fn is_refused(
             let begun = steps.memory(client.pass).begun;
             steps.was_in_the_way(client.pass, (*node, *scx), begun)
         }
-        Answer::Full { what, left } => {
-            is_full(steps, places, calls, client, command, reply, (*what, *left))
-        }
+        Answer::Full { what, left } => is_full(
+            steps,
+            places,
+            client,
+            command,
+            reply,
+            (*what, *left),
+        ),
         Answer::NoMemory => true,
         _ => false,
     }
@@ -169,23 +166,20 @@ fn is_refused(
 fn is_full(
     steps: &Steps,
     places: &Places,
-    calls: &[Call],
     client: &Client,
     command: &Command,
     reply: &Reply,
     full: (Resource, u32),
 ) -> bool
     requires { client.now.pass.0 < steps.now.judge.layout.passes }
-    ensures { (lay : Layout) (tries : ℕ) (lines : List Line) → IsAsked lay tries calls.now lines (changes places.now) client.now command.now reply.now → AreRemembered lay calls.now lines steps.now → IsTrue result → IsRight lay reply.now.client.0 (history lay.mode lines) (start lay.mode lines reply.now.client.0) (linked calls.now lay.mode lines reply.now.client.0) command.now (Full full.0 full.1) }
+    ensures { (lay : Layout) (tries : ℕ) (calls : List CallOf) (lines : List Line) → IsAsked lay tries calls lines (changes places.now) client.now command.now reply.now → AreRemembered lay calls lines steps.now → IsTrue result → IsRight lay reply.now.client.0 (history lay.mode lines) (start lay.mode lines reply.now.client.0) (linked calls lay.mode lines reply.now.client.0) command.now (Full full.0 full.1) }
 {
     match command {
         Command::Insert { key, value: _ } => {
             is_full_for_new(steps, places, client, *key, reply, full)
-                || is_full_for_old(steps, places, calls, client, *key, reply, full)
+                || is_full_for_old(steps, places, client, *key, reply, full)
         }
-        Command::Delete { key } => {
-            is_full_for_old(steps, places, calls, client, *key, reply, full)
-        }
+        Command::Delete { key } => is_full_for_old(steps, places, client, *key, reply, full),
         _ => false,
     }
 }
@@ -211,14 +205,13 @@ fn is_full_for_new(
 fn is_full_for_old(
     steps: &Steps,
     places: &Places,
-    calls: &[Call],
     client: &Client,
     key: u64,
     reply: &Reply,
     full: (Resource, u32),
 ) -> bool
     requires { client.now.pass.0 < steps.now.judge.layout.passes }
-    ensures { (lay : Layout) (tries : ℕ) (lines : List Line) (command : CommandOf) → IsAsked lay tries calls.now lines (changes places.now) client.now command reply.now → AreRemembered lay calls.now lines steps.now → (MayAnswerAtOnce command reply.now.answer → ⊥) → IsTrue result → (v : ℕ) × IsTooFewFor lay lines reply.now key (Some v) full.0 full.1 }
+    ensures { (lay : Layout) (tries : ℕ) (calls : List CallOf) (lines : List Line) (command : CommandOf) → IsAsked lay tries calls lines (changes places.now) client.now command reply.now → AreRemembered lay calls lines steps.now → (MayAnswerAtOnce command reply.now.answer → ⊥) → IsTrue result → (v : ℕ) × IsTooFewFor lay lines reply.now key (Some v) full.0 full.1 }
 {
     steps.has_too_few_to_try(client.pass, 1, full) && had_some(places, key, reply)
 }
