@@ -1,5 +1,5 @@
 -- Replies to ordered reads, by the first pairs that they find in a map.
-use Rattle.std.proofs.Common.{◌≡◌, ℕ, Bool, true, false, cond, ◌&&◌, leb, ltb, List, [], ◌∷◌, take, Option, Some, None, refl, ◌∙◌, ap}
+use Rattle.std.proofs.Common.{◌≡◌, ℕ, Bool, true, false, cond, ◌&&◌, leb, ltb, List, [], ◌∷◌, take, Some, None, refl, ◌∙◌, ap}
 use Rattle.std.specs.List.{filter}
 use Rattle.spelling.specs.declared.pair.Pair.{Pair}
 use Rattle.spelling.specs.OrderedMap.{Successor, Range, OneValue, OnePair, ManyPairs, first_pair, successor, between, pair_or_none, reply}

@@ -1,5 +1,5 @@
 -- The pairs that an ordered read tells, found key by key.
-use Rattle.std.proofs.Common.{◌≡◌, ◌≢◌, ℕ, zero, suc, ◌<◌, inl, inr, ⊎_elim, Bool, true, false, cond, eqb, List, [], ◌∷◌, length, take, get_or, Option, Some, None, All, Less, refl, sym, ◌∙◌, ap, subst, arith}
+use Rattle.std.proofs.Common.{◌≡◌, ◌≢◌, ℕ, zero, suc, ◌<◌, ⊎_elim, Bool, true, false, cond, List, [], ◌∷◌, length, take, Option, Some, None, All, Less, refl, sym, ◌∙◌, ap, subst, arith}
 use Rattle.std.specs.Prelude.{unwrap_or}
 use Rattle.std.specs.List.{filter}
 use Rattle.std.specs.List.Sorted.{IsStrictlySortedBy}
@@ -20,7 +20,7 @@ use Rattle.places.specs.declared.places.Place.{Place}
 use Rattle.places.specs.Entries.{AreEntries}
 use Rattle.places.specs.Links.{latest}
 use Rattle.places.specs.Ordered.{looks_for, most_told, pairs_read}
-use Rattle.places.proofs.Values.{value_at, value_is, values}
+use Rattle.places.proofs.Values.{value_is, values}
 use Rattle.places.proofs.Chains.{changes_of, never, compares_not}
 use Rattle.places.proofs.Told.{filter_rises, get_filter, take_same}
 

@@ -1,4 +1,4 @@
-use Rattle.std.proofs.Common.{◌≡◌, ◌≢◌, ℕ, ◌<◌, ◌≤◌, get_or, Option, Some, None, true, false, rules, reverse, refl, sym, ◌∙◌, subst, arith}
+use Rattle.std.proofs.Common.{◌≡◌, ◌≢◌, ℕ, ◌≤◌, get_or, Option, Some, true, rules, reverse, refl, sym, ◌∙◌, subst, arith}
 use Rattle.std.specs.Prelude.{is_some}
 use Rattle.places.specs.declared.places.Place.{Place}
 use Rattle.places.proofs.Chains.{IsLookedFor, IsHere, look_here, look_within, look_fails, here_ends, here_older, here_nearer, here_map, nowhere_map, some_value, no_some}

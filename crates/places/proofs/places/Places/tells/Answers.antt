@@ -1,12 +1,8 @@
-use Rattle.std.proofs.Common.{◌≡◌, ℕ, ◌-◌, ◌<◌, length, List, [], ◌∷◌, take, Option, Some, None, refl, sym, ◌∙◌, ap, subst, reverse, rules, arith}
+use Rattle.std.proofs.Common.{◌≡◌, ℕ, ◌-◌, ◌<◌, length, [], sym, ◌∙◌, reverse, rules, arith}
 use Rattle.std.specs.List.{filter}
 use Rattle.spelling.specs.OrderedMap.{get}
-use Rattle.script.specs.declared.command.Call.{Call}
-use Rattle.record.specs.declared.record.Line.{Line}
 use Rattle.record.specs.MapRecord.{map_at}
-use Rattle.places.specs.Entries.{AreEntries}
 use Rattle.places.specs.Ordered.{looks_for}
-use Rattle.places.specs.Places.{changes}
 use Rattle.places.proofs.Tells.{held, told_after, told_so_many, told_all, told_more}
 use Rattle.places.proofs.places.Places.tells.Goals as goal
 

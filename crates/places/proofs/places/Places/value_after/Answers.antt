@@ -1,4 +1,4 @@
-use Rattle.std.proofs.Common.{◌≡◌, ◌≢◌, ℕ, ◌<◌, ◌≤◌, Option, Some, None, reverse, refl, sym, subst, arith}
+use Rattle.std.proofs.Common.{ℕ, ◌<◌, Option, Some, None, reverse, refl, sym, subst, arith}
 use Rattle.places.proofs.Chains.{IsLookedFor, IsHere, look_here, look_within, look_ends, here_older, here_nearer, look_on, here_map, found_map}
 use Rattle.places.proofs.places.Places.value_after.Goals.{In-Some, After-index-place}
 use Rattle.places.proofs.places.Places.value_after.Goals as goal
