@@ -1,5 +1,5 @@
 //! Calls of the map: where they took place, and what they told there.
-ghost use Rattle.std.specs.Prelude.{◌≡◌, ℕ, suc, ◌<◌, ◌≤◌, List, Some, None, IsTrue, IsSome, All, slice_get};
+ghost use Rattle.std.specs.Prelude.{◌≡◌, ℕ, suc, ◌<◌, ◌≤◌, List, Some, None, IsTrue};
 ghost use Rattle.arena.specs.declared.layout.Layout.{Layout};
 ghost use Rattle.spelling.specs.OrderedMap.{get};
 ghost use Rattle.script.specs.declared.command.Call.{Call as CallOf};

@@ -136,11 +136,7 @@ told_all zero [] empty = refl
 told_all (suc n) [] empty = refl
 told_all left (p ∷ rest) empty = absurd (omega (empty, arith))
 
--- a key without a value is passed over
-pub told_none : {X : Type 0} (value : ℕ → Option ℕ) (e : ℕ × X) (es : List (ℕ × X)) (left : ℕ) (rest : List Pair) → value e.0 ≡ None → take left (held value es) ≡ rest → take left (held value (e ∷ es)) ≡ rest
-told_none value e es left rest none told = rw none told
-
--- and one with a value is told
+-- a key with a value is told
 pub told_more : {X : Type 0} (value : ℕ → Option ℕ) (e : ℕ × X) (es : List (ℕ × X)) (v left less : ℕ) (rest others : List Pair) → value e.0 ≡ Some v → (first : Pair) × (first.key ≡ e.0) × (first.value ≡ v) × (rest ≡ first ∷ others) → suc less ≡ left → take less (held value es) ≡ others → take left (held value (e ∷ es)) ≡ rest
 told_more value e es v left less rest others is first less_is told = rw (is, sym less_is) (ap (λ (p : Pair). p ∷ take less (held value es)) same ∙ ap (λ ps. first.0 ∷ ps) told ∙ sym first.3)
   where
