@@ -2,7 +2,7 @@
 ghost use Rattle.std.specs.Prelude.{◌≡◌, ℕ, suc, ◌<◌, ◌≤◌, List, Some, None, IsTrue};
 ghost use Rattle.arena.specs.declared.layout.Layout.{Layout};
 ghost use Rattle.spelling.specs.OrderedMap.{get};
-ghost use Rattle.script.specs.declared.command.Call.{Call as CallOf};
+ghost use Rattle.script.specs.declared.call.Call.{Call as CallOf};
 ghost use Rattle.script.specs.declared.command.Command.{Command as CommandOf};
 ghost use Rattle.record.specs.declared.record.Answer.TheVariants.{Full};
 ghost use Rattle.record.specs.declared.record.Line.{Line};

@@ -52,14 +52,14 @@ returns-in-Successor-Pair c calls lines are falls less it =
 pub returns-in-Range-Pairs : goal.returns-in-Range-Pairs
 returns-in-Range-Pairs c calls lines are falls less it =
     let span = c.in-Range-Pairs.field-0-0 in
-    let call = Range span.low span.high span.most in
+    let call = Range low high most in
     let turn = c.greatest_of-turn.result in
     let m = map_at calls lines turn in
     let moment : c.args.reply.now.moment ≡ Some turn = search rules in
     let is : map_call (Some c.args.command.now) ≡ Some call = ap (λ k. map_call (Some k)) c.in-Range-Pairs.is-0 in
     let ordered : IsOrderedRead c.args.command.now = subst IsOrderedRead (sym c.in-Range-Pairs.is-0) tt in
     let pairs = subst (λ k. pairs_read k m ≡ c.in-Range-Pairs.pairs.items) c.in-Range-Pairs.is-0 (c.tells-in-Range-Pairs.ensures calls lines are it ∙ c.as_slice.ensures.value) in
-    let told : reply_told c.args.reply.now.answer ≡ Some (reply call m) = ap reply_told c.in-Range-Pairs.is-1 ∙ ap (λ t. Some t) (sym (some_between span.low span.high span.most m c.in-Range-Pairs.pairs.items pairs)) in
+    let told : reply_told c.args.reply.now.answer ≡ Some (reply call m) = ap reply_told c.in-Range-Pairs.is-1 ∙ ap (λ t. Some t) (sym (some_between low high most m c.in-Range-Pairs.pairs.items pairs)) in
     let within = c.greatest_of-turn.ensures.within less falls in
     record {
       ordered = ordered;
