@@ -33,8 +33,8 @@ module _ {M : Type 0} (inner allows : Layout → History → ℕ → Type 0) (re
     abbrev pub HelperIsTold : HelpRun → ℕ → Type 0
     HelperIsTold m v = Told allows waits same k.call ps k.first ready (k.with_help m) v
 
-    -- the last step of its HELP has told that `allfrozen` is set, and that those of the first p nodes
-    -- that are finalized are marked
+    -- the last step of its HELP has told that `allfrozen` is set, and that those of the first p
+    -- nodes that are finalized are marked
     pub record HelperMarks (m : HelpRun) (p : ℕ) : Type 0 where
       pub last : HelpRun
       pub is_scx : last.scx ≡ m.scx

@@ -39,7 +39,7 @@ fn finish<K: WordKey, V: WordValue>(
     }
 }
 
-/// Makes a whole call of a dictionary: the first walk of an edit in line; else the machine goes on.
+/// Makes a whole call of a dictionary: the first try of an edit in line; else the machine goes on.
 #[inline(always)]
 pub(crate) fn call<K: WordKey, V: WordValue>(
     words: &Words<Dict<K, V>>,

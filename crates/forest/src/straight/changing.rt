@@ -156,8 +156,8 @@ fn fill_all<S: Shape, M: Machine<S>, T: Shape, L: SnapList>(
     fill::<S, M, T>(words, layout, seat, number, scx, ScxWord::Call, change.call)
 }
 
-/// SCX that begins with the fill of its plan. Where a node cannot be frozen it tells the run of HELP,
-/// which waits to look whether all were frozen.
+/// SCX that begins with the fill of its plan. Where a node cannot be frozen it tells the run of
+/// HELP, which waits to look whether all were frozen.
 #[inline(always)]
 pub(crate) fn call<S: Shape, M: Machine<S>, T: Shape, L: SnapList>(
     words: &Words<S>,

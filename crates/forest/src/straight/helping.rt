@@ -152,8 +152,8 @@ fn mark_all<S: Shape, M: Machine<S>, T: Shape>(
     }
 }
 
-/// HELP of an SCX-record by a run that has not begun. Where a node cannot be frozen it tells the run,
-/// which waits to look whether all were frozen.
+/// HELP of an SCX-record by a run that has not begun. Where a node cannot be frozen it tells the
+/// run, which waits to look whether all were frozen.
 #[inline(always)]
 pub(crate) fn call<S: Shape, M: Machine<S>, T: Shape>(
     words: &Words<S>,
