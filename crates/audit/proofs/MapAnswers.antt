@@ -273,7 +273,7 @@ module _ (lay : Layout) (tries : ℕ) (calls : List Call) (lines : List Line) (c
       }
 
   -- either of them
-  pub value_answered : (command : Command) (key : ℕ) → (command ≡ GetOf key) ⊎ (command ≡ DeleteOf key) → IsAsked lay tries calls lines changed client command r → won lay lines r.client.0 ≡ None → IsValueAt calls lines key r → IsAnswered lay calls lines r command
+  pub value_answered : (command : Command) (key : ℕ) → (command ≡ Map (GetOf key)) ⊎ (command ≡ Map (DeleteOf key)) → IsAsked lay tries calls lines changed client command r → won lay lines r.client.0 ≡ None → IsValueAt calls lines key r → IsAnswered lay calls lines r command
   value_answered command key (inl e) x none v = subst (λ k. IsAnswered lay calls lines r k) (sym e) (get_answered key (subst (λ k. IsAsked lay tries calls lines changed client k r) e x) none v)
   value_answered command key (inr e) x none v = subst (λ k. IsAnswered lay calls lines r k) (sym e) (absent_answered key v.told v refl (subst (λ k. IsAsked lay tries calls lines changed client k r) e x) none)
 

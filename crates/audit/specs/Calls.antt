@@ -8,7 +8,7 @@ use Rattle.record.specs.Commands.{commands}
 -- stands among the calls; nowhere if none is to come
 abbrev pub IsAt : List Call → ℕ → List Command → Option ℕ → Type 0
 IsAt calls c left None = left ≡ []
-IsAt calls c left (Some at) = (command : Command) × (slice_get calls at ≡ Some (record { client = record { 0 = c }; command = command })) × (left ≡ command ∷ commands (drop (suc at) calls) c)
+IsAt calls c left (Some at) = (call : Call) × (slice_get calls at ≡ Some call) × (left ≡ call.command ∷ commands (drop (suc at) calls) c) × (call.client.0 ≡ c)
 
 -- the command of a call
 abbrev pub command_of_call : Option Call → Option Command

@@ -23,6 +23,7 @@ use arena::Resource;
 use places::Places;
 use record::{Answer, Reply};
 use script::Command;
+use spelling::Request;
 
 /// Whether a call of the map took place where its reply says, and told what the map gave there; or
 /// was refused, and took place nowhere.
@@ -69,8 +70,8 @@ fn had_before(places: &Places, command: &Command, answer: &Answer, turn: u64) ->
     };
     let before = turn.saturating_sub(1);
     match command {
-        Command::Insert { key, value: _ } => has_at(places, *key, *told, before),
-        Command::Delete { key } => has_at(places, *key, *told, before),
+        Command::Map(Request::Insert { key, value: _ }) => has_at(places, *key, *told, before),
+        Command::Map(Request::Delete { key }) => has_at(places, *key, *told, before),
         _ => false,
     }
 }
@@ -82,8 +83,8 @@ fn is_read(places: &Places, command: &Command, reply: &Reply) -> bool
     ensures placed { (lay : Layout) (tries : ℕ) (calls : List CallOf) (lines : List Line) (client : ClientOf) → IsAsked lay tries calls lines (changes places.now) client command.now reply.now → won lay lines reply.now.client.0 ≡ None → IsTrue result → IsPlaced lay calls lines reply.now command.now }
 {
     match command {
-        Command::Get { key } => is_read_of(places, *key, reply),
-        Command::Delete { key } => is_read_of(places, *key, reply),
+        Command::Map(Request::Get { key }) => is_read_of(places, *key, reply),
+        Command::Map(Request::Delete { key }) => is_read_of(places, *key, reply),
         _ => is_read_at(places, command, reply),
     }
 }
@@ -118,13 +119,13 @@ fn is_read_at(places: &Places, command: &Command, reply: &Reply) -> bool
         return false;
     }
     match (command, &reply.answer) {
-        (Command::Successor { key: _ }, Answer::Value(told)) => {
+        (Command::Map(Request::Successor { key: _ }), Answer::Value(told)) => {
             told.is_none() && places.tells(command, &[], turn)
         }
-        (Command::Successor { key: _ }, Answer::Pair(pair)) => {
+        (Command::Map(Request::Successor { key: _ }), Answer::Pair(pair)) => {
             places.tells(command, &[*pair], turn)
         }
-        (Command::Range(_), Answer::Pairs(pairs)) => {
+        (Command::Map(Request::Range { .. }), Answer::Pairs(pairs)) => {
             places.tells(command, pairs.as_slice(), turn)
         }
         _ => false,
@@ -175,11 +176,11 @@ fn is_full(
     ensures { (lay : Layout) (tries : ℕ) (calls : List CallOf) (lines : List Line) → IsAsked lay tries calls lines (changes places.now) client.now command.now reply.now → AreRemembered lay calls lines steps.now → IsTrue result → IsRight lay reply.now.client.0 (history lay.mode lines) (start lay.mode lines reply.now.client.0) (linked calls lay.mode lines reply.now.client.0) command.now (Full full.0 full.1) }
 {
     match command {
-        Command::Insert { key, value: _ } => {
+        Command::Map(Request::Insert { key, value: _ }) => {
             is_full_for_new(steps, places, client, *key, reply, full)
                 || is_full_for_old(steps, places, client, *key, reply, full)
         }
-        Command::Delete { key } => is_full_for_old(steps, places, client, *key, reply, full),
+        Command::Map(Request::Delete { key }) => is_full_for_old(steps, places, client, *key, reply, full),
         _ => false,
     }
 }

@@ -38,9 +38,9 @@ pub(crate) fn bounds(command: &Command) -> (Bound<u64>, Bound<u64>)
     ensures keys { (key : ℕ) → range_contains nat_cmp result.0 result.1 key ≡ looks_for command.now key }
 {
     match command {
-        Command::Successor { key } => (Bound::Excluded(*key), Bound::Unbounded),
-        Command::Range(span) if span.low <= span.high => {
-            (Bound::Included(span.low), Bound::Included(span.high))
+        Command::Map(Request::Successor { key }) => (Bound::Excluded(*key), Bound::Unbounded),
+        Command::Map(Request::Range { low, high, .. }) if *low <= *high => {
+            (Bound::Included(*low), Bound::Included(*high))
         }
         _ => (Bound::Included(0), Bound::Excluded(0)),
     }
