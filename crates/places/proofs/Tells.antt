@@ -118,27 +118,52 @@ told_held {X} command es m sorted rises unknown = ap (take (most_told command)) 
     agree j = get_filter (looks_for command) j (held (λ k. get k m) es) ∙ ap (λ v. cond (looks_for command j) v None) (same j) ∙ sym (get_filter (looks_for command) j m)
 
 -- so of the keys whose newest places are known
-pub told_after : (command : Command) (pairs : List Pair) (newest found : List (ℕ × Option ℕ)) (all : List Place) (calls : List Call) (lines : List Line) (turn : ℕ) → AreEntries calls lines (changes_of all) → IsStrictlySortedBy nat_cmp (keys_of newest) → ((key : ℕ) → unwrap_or (lookup (is_at (nat_cmp key)) newest) None ≡ latest key all) → found ≡ filter (λ e. looks_for command e.0) newest → take (most_told command) (held (λ j. get j (map_at calls lines turn)) found) ≡ pairs → pairs_read command (map_at calls lines turn) ≡ pairs
-told_after command pairs newest found all calls lines turn are sorted newest_are is told = sym (told_held command newest (map_at calls lines turn) sorted (values calls (written_log lines) (changes_of all) turn are).0 unknown) ∙ ap (λ es. take (most_told command) (held (λ j. get j (map_at calls lines turn)) es)) (sym is) ∙ told
+pub told_is : (command : Command) (newest found : List (ℕ × Option ℕ)) (all : List Place) (calls : List Call) (lines : List Line) (turn : ℕ) → AreEntries calls lines (changes_of all) → IsStrictlySortedBy nat_cmp (keys_of newest) → ((key : ℕ) → unwrap_or (lookup (is_at (nat_cmp key)) newest) None ≡ latest key all) → found ≡ filter (λ e. looks_for command e.0) newest → take (most_told command) (held (λ j. get j (map_at calls lines turn)) found) ≡ pairs_read command (map_at calls lines turn)
+told_is command newest found all calls lines turn are sorted newest_are is = ap (λ es. take (most_told command) (held (λ j. get j (map_at calls lines turn)) es)) is ∙ told_held command newest (map_at calls lines turn) sorted (values calls (written_log lines) (changes_of all) turn are).0 unknown
   where
     unknown : (j : ℕ) → lookup (is_at (nat_cmp j)) newest ≡ None → get j (map_at calls lines turn) ≡ None
     unknown j e = value_is calls (written_log lines) (changes_of all) j turn are ∙ never j turn all (sym (newest_are j) ∙ ap (λ o. unwrap_or o None) e)
 
 -- Key by key
 
--- no pair is left, and none may be told or no key is left
-pub told_so_many : (left : ℕ) (ps rest : List Pair) → left ≡ 0 → length rest ≡ 0 → take left ps ≡ rest
-told_so_many left ps [] none empty = rw none refl
-told_so_many left ps (p ∷ rest) none empty = absurd (omega (empty, arith))
+-- the pairs are those of all these keys if, and only if, the rest is that of the keys left
+abbrev pub IsToldBy : {X : Type 0} → (ℕ → Option ℕ) → List (ℕ × X) → ℕ → List Pair → List (ℕ × X) → ℕ → List Pair → Type 0
+IsToldBy value all most pairs es left rest = (take left (held value es) ≡ rest → take most (held value all) ≡ pairs) × (take most (held value all) ≡ pairs → take left (held value es) ≡ rest)
 
-pub told_all : (left : ℕ) (rest : List Pair) → length rest ≡ 0 → take left (let ps : List Pair = [] in ps) ≡ rest
-told_all zero [] empty = refl
-told_all (suc n) [] empty = refl
-told_all left (p ∷ rest) empty = absurd (omega (empty, arith))
+module _ {X : Type 0} (value : ℕ → Option ℕ) (all : List (ℕ × X)) (most : ℕ) (pairs : List Pair) where
+  -- a key with a value is told
+  pub told_more : (e : ℕ × X) (es : List (ℕ × X)) (v left less : ℕ) (rest others : List Pair) → value e.0 ≡ Some v → (first : Pair) × (first.key ≡ e.0) × (first.value ≡ v) × (rest ≡ first ∷ others) → suc less ≡ left → IsToldBy value all most pairs (e ∷ es) left rest → IsToldBy value all most pairs es less others
+  told_more e es v left less rest others is first less_is x = (λ told. x.0 (begins ∙ ap (λ ps. pair_of e.0 v ∷ ps) told ∙ sym ends), λ told. behind (sym begins ∙ x.1 told ∙ ends))
+    where
+      same : first.0 ≡ pair_of e.0 v
+      same = λ i. record { key = first.1 i; value = first.2 i }
 
--- a key with a value is told
-pub told_more : {X : Type 0} (value : ℕ → Option ℕ) (e : ℕ × X) (es : List (ℕ × X)) (v left less : ℕ) (rest others : List Pair) → value e.0 ≡ Some v → (first : Pair) × (first.key ≡ e.0) × (first.value ≡ v) × (rest ≡ first ∷ others) → suc less ≡ left → take less (held value es) ≡ others → take left (held value (e ∷ es)) ≡ rest
-told_more value e es v left less rest others is first less_is told = rw (is, sym less_is) (ap (λ (p : Pair). p ∷ take less (held value es)) same ∙ ap (λ ps. first.0 ∷ ps) told ∙ sym first.3)
-  where
-    same : pair_of e.0 v ≡ first.0
-    same = λ i. record { key = sym first.1 i; value = sym first.2 i }
+      begins : take left (held value (e ∷ es)) ≡ pair_of e.0 v ∷ take less (held value es)
+      begins = rw (is, sym less_is) refl
+
+      ends : rest ≡ pair_of e.0 v ∷ others
+      ends = first.3 ∙ ap (λ (p : Pair). p ∷ others) same
+
+      behind : pair_of e.0 v ∷ take less (held value es) ≡ pair_of e.0 v ∷ others → take less (held value es) ≡ others
+      behind q = cc
+
+  -- which no other pair may stand for
+  pub told_other : (e : ℕ × X) (es : List (ℕ × X)) (v left less : ℕ) (rest : List Pair) → value e.0 ≡ Some v → ((first : Pair) (others : List Pair) → first.key ≡ e.0 → first.value ≡ v → rest ≢ first ∷ others) → suc less ≡ left → IsToldBy value all most pairs (e ∷ es) left rest → take most (held value all) ≢ pairs
+  told_other e es v left less rest is other less_is x told = other (pair_of e.0 v) (take less (held value es)) refl refl (sym (x.1 told) ∙ begins)
+    where
+      begins : take left (held value (e ∷ es)) ≡ pair_of e.0 v ∷ take less (held value es)
+      begins = rw (is, sym less_is) refl
+
+  -- so many are told
+  pub so_many : (es : List (ℕ × X)) (left : ℕ) (rest : List Pair) → left ≡ 0 → IsToldBy value all most pairs es left rest → IsToldBy value all most pairs [] left rest
+  so_many es left rest none x = rw none (rw none at x)
+
+  -- and no pair may be left at the end
+  pub told_all : (left : ℕ) (rest : List Pair) → IsToldBy value all most pairs [] left rest → length rest ≡ 0 → take most (held value all) ≡ pairs
+  told_all zero [] x empty = x.0 refl
+  told_all (suc n) [] x empty = x.0 refl
+  told_all left (p ∷ rest) x empty = absurd (omega (empty, arith))
+
+  pub told_less : (left : ℕ) (rest : List Pair) → IsToldBy value all most pairs [] left rest → (length rest ≡ 0 → ⊥) → take most (held value all) ≢ pairs
+  told_less zero rest x some told = some (ap length (sym (x.1 told)))
+  told_less (suc n) rest x some told = some (ap length (sym (x.1 told)))

@@ -1,5 +1,5 @@
 //! Ordered reads: which keys they look for, and what they tell of the map.
-ghost use Rattle.std.specs.Prelude.{◌≡◌, ℕ, ◌+◌, ◌^◌, ◌<◌, ◌∷◌, IfSome, leb};
+ghost use Rattle.std.specs.Prelude.{◌≡◌, ◌≢◌, ℕ, ◌+◌, ◌^◌, ◌<◌, List, ◌∷◌, IfSome, IfNone, leb};
 ghost use Rattle.std.specs.List.{list_any};
 ghost use Rattle.std.specs.Ordering.{nat_cmp};
 ghost use Rattle.std.specs.Range.Bound.{IsForward};
@@ -78,7 +78,8 @@ fn go_as_far(pairs: &[Pair], key: u64) -> bool
 
 /// The pairs behind the first one, where that has this key and this value.
 pub(crate) fn behind(pairs: &[Pair], key: u64, value: u64) -> Option<&[Pair]>
-    ensures { IfSome result (λ rest. (first : PairOf) × (first.key ≡ key) × (first.value ≡ value) × (pairs.now ≡ first ∷ rest.now)) }
+    ensures some { IfSome result (λ rest. (first : PairOf) × (first.key ≡ key) × (first.value ≡ value) × (pairs.now ≡ first ∷ rest.now)) }
+    ensures none { IfNone result ((first : PairOf) (rest : List PairOf) → first.key ≡ key → first.value ≡ value → pairs.now ≢ first ∷ rest) }
 {
     let (first, rest) = pairs.split_first()?;
     if first.key == key && first.value == value {

@@ -143,7 +143,8 @@ impl Places {
     /// Whether these pairs are what an ordered read tells of the map after a turn. It goes over the
     /// keys between which the read looks alone, and no further than the read tells.
     pub fn tells(&self, command: &Command, pairs: &[Pair], turn: u64) -> bool
-        ensures { (calls : List Call) (lines : List Line) → AreEntries calls lines (changes self.now) → IsTrue result → pairs_read command.now (map_at calls lines turn) ≡ pairs.now }
+        ensures told { (calls : List Call) (lines : List Line) → AreEntries calls lines (changes self.now) → IsTrue result → pairs_read command.now (map_at calls lines turn) ≡ pairs.now }
+        ensures other { (calls : List Call) (lines : List Line) → AreEntries calls lines (changes self.now) → result ≡ false → pairs_read command.now (map_at calls lines turn) ≢ pairs.now }
     {
         let mut untold = most_told(command);
         let mut rest = pairs;

@@ -15,7 +15,7 @@ returns-then-is_none c calls lines are falls less it =
     let moment : c.args.reply.now.moment ≡ Some turn = search rules in
     let is : map_call (Some c.args.command.now) ≡ Some (Successor key) = ap (λ k. map_call (Some k)) c.in-Map-Successor-Value.is-0 in
     let ordered : IsOrderedRead c.args.command.now = subst IsOrderedRead (sym c.in-Map-Successor-Value.is-0) tt in
-    let pairs = subst (λ k. pairs_read k m ≡ []) c.in-Map-Successor-Value.is-0 (c.tells.ensures calls lines are it) in
+    let pairs = subst (λ k. pairs_read k m ≡ []) c.in-Map-Successor-Value.is-0 (c.tells.ensures.told calls lines are it) in
     let answers : c.args.reply.now.answer ≡ Value None = c.in-Map-Successor-Value.is-1 ∙ ap Value (none_by c.in-Map-Successor-Value.told c.if-is_none.ensures) in
     let told : reply_told c.args.reply.now.answer ≡ Some (reply (Successor key) m) = ap reply_told answers ∙ ap (λ t. Some t) (sym (none_above key m pairs)) in
     let within = c.greatest_of-turn.ensures.within less falls in
@@ -37,7 +37,7 @@ returns-in-Map-Successor-Pair c calls lines are falls less it =
     let moment : c.args.reply.now.moment ≡ Some turn = search rules in
     let is : map_call (Some c.args.command.now) ≡ Some (Successor key) = ap (λ k. map_call (Some k)) c.in-Map-Successor-Pair.is-0 in
     let ordered : IsOrderedRead c.args.command.now = subst IsOrderedRead (sym c.in-Map-Successor-Pair.is-0) tt in
-    let pairs = subst (λ k. pairs_read k m ≡ pair ∷ []) c.in-Map-Successor-Pair.is-0 (c.tells-in-Map-Successor-Pair.ensures calls lines are it) in
+    let pairs = subst (λ k. pairs_read k m ≡ pair ∷ []) c.in-Map-Successor-Pair.is-0 (c.tells-in-Map-Successor-Pair.ensures.told calls lines are it) in
     let told : reply_told c.args.reply.now.answer ≡ Some (reply (Successor key) m) = ap reply_told c.in-Map-Successor-Pair.is-1 ∙ ap (λ t. Some t) (sym (one_above key m pair pairs)) in
     let within = c.greatest_of-turn.ensures.within less falls in
     record {
@@ -58,7 +58,7 @@ returns-in-Map-Range-Pairs c calls lines are falls less it =
     let moment : c.args.reply.now.moment ≡ Some turn = search rules in
     let is : map_call (Some c.args.command.now) ≡ Some call = ap (λ k. map_call (Some k)) c.in-Map-Range-Pairs.is-0 in
     let ordered : IsOrderedRead c.args.command.now = subst IsOrderedRead (sym c.in-Map-Range-Pairs.is-0) tt in
-    let pairs = subst (λ k. pairs_read k m ≡ c.in-Map-Range-Pairs.pairs.items) c.in-Map-Range-Pairs.is-0 (c.tells-in-Map-Range-Pairs.ensures calls lines are it ∙ c.as_slice.ensures.value) in
+    let pairs = subst (λ k. pairs_read k m ≡ c.in-Map-Range-Pairs.pairs.items) c.in-Map-Range-Pairs.is-0 (c.tells-in-Map-Range-Pairs.ensures.told calls lines are it ∙ c.as_slice.ensures.value) in
     let told : reply_told c.args.reply.now.answer ≡ Some (reply call m) = ap reply_told c.in-Map-Range-Pairs.is-1 ∙ ap (λ t. Some t) (sym (some_between low high most m c.in-Map-Range-Pairs.pairs.items pairs)) in
     let within = c.greatest_of-turn.ensures.within less falls in
     record {

@@ -1,4 +1,4 @@
-use Rattle.std.proofs.Common.{◌≡◌, List, take}
+use Rattle.std.proofs.Common.{List}
 use Rattle.spelling.specs.OrderedMap.{get}
 use Rattle.script.specs.declared.call.Call.{Call}
 use Rattle.record.specs.declared.record.Line.{Line}
@@ -6,9 +6,8 @@ use Rattle.record.specs.MapRecord.{map_at}
 use Rattle.places.specs.Entries.{AreEntries}
 use Rattle.places.specs.Ordered.{most_told}
 use Rattle.places.specs.Places.{changes}
-use Rattle.places.proofs.Tells.{held}
+use Rattle.places.proofs.Tells.{IsToldBy}
 use Rattle.places.proofs.places.Places.tells.Given as goal
 
--- the pairs are told if those that are left are
 abbrev pub invariant-loop-key : goal.invariant-loop-key
-invariant-loop-key l = (calls : List Call) (lines : List Line) → AreEntries calls lines (changes l.self) → take l.untold (held (λ j. get j (map_at calls lines l.turn)) l.key-iterator) ≡ l.rest → take (most_told l.command) (held (λ j. get j (map_at calls lines l.turn)) l.initial.key-iterator) ≡ l.pairs
+invariant-loop-key l = (calls : List Call) (lines : List Line) → AreEntries calls lines (changes l.self) → IsToldBy (λ j. get j (map_at calls lines l.turn)) l.initial.key-iterator (most_told l.command) l.pairs l.key-iterator l.untold l.rest
