@@ -34,7 +34,7 @@ use Rattle.prims.specs.declared.llx.LlxAt.TheVariants.{Start}
 use Rattle.prims.specs.declared.vlx.VlxRun.{VlxRun}
 use Rattle.script.specs.declared.command.Command.{Command}
 use Rattle.script.specs.declared.command.Command.TheVariants.{Llx as LlxCommand, Vlx as VlxCommand, Scx as ScxCommand, Set as SetCommand, Map}
-use Rattle.spelling.specs.declared.request.Request.TheVariants.{Insert as InsertCommand, Delete as DeleteCommand, Get as GetCommand, Successor as SuccessorCommand, Range as RangeCommand}
+use Rattle.spelling.specs.declared.request.Request.TheVariants.{Get as GetCommand, Range as RangeCommand}
 use Rattle.player.specs.EditRuns.{EditIsReady, HasSpentOf, IsUnbegunEdit, call_of, edit_command, edit_left, edit_of, edit_steps, share_of}
 use Rattle.player.specs.declared.edit.EditRun.{EditRun}
 use Rattle.player.specs.declared.edit.EditRun.TheVariants.{Insert, Delete}

@@ -42,7 +42,6 @@ use Rattle.updates.specs.declared.update.UpdateAt.TheVariants.{Start, Walk, Look
 use Rattle.updates.specs.declared.update.UpdateRun.{UpdateRun}
 use Rattle.script.specs.declared.command.Command.{Command}
 use Rattle.script.specs.declared.command.Command.TheVariants.{Llx as LlxOf, Scx as ScxOf, Vlx as VlxOf, Set as SetOf, Map}
-use Rattle.spelling.specs.declared.request.Request.TheVariants.{Insert as InsertOf, Delete as DeleteOf, Get as GetOf, Successor as SuccessorOf, Range as RangeOf}
 use Rattle.player.specs.declared.client.Put.{Put}
 use Rattle.player.specs.EditRuns.{EditWaits, edit_of, call_of}
 use Rattle.player.specs.declared.edit.EditRun.{EditRun}
