@@ -18,10 +18,13 @@ pub(crate) fn may_make(command: &Command, kind: Kind) -> bool
     ensures { IsTrue result → MayMake command.now kind }
 {
     match command {
-        Command::Llx { cell: _ } | Command::Map(Request::Successor { key: _ }) => kind != Kind::Fill,
+        Command::Llx { cell: _ } | Command::Map(Request::Successor { key: _ }) => kind
+            != Kind::Fill,
         Command::Vlx { cells: _ } => kind == Kind::LoadInfo,
-        Command::Map(Request::Get { key: _ }) => kind == Kind::LoadSettled || kind == Kind::LoadChild,
-        Command::Map(Request::Range { low, high, most }) => kind != Kind::Fill && !takes_nothing(*low, *high, *most),
+        Command::Map(Request::Get { key: _ }) => kind == Kind::LoadSettled
+            || kind == Kind::LoadChild,
+        Command::Map(Request::Range { low, high, most }) => kind != Kind::Fill
+            && !takes_nothing(*low, *high, *most),
         _ => true,
     }
 }
@@ -48,7 +51,9 @@ pub(crate) fn most_steps(command: &Command, limits: &Limits, taken: u64) -> u64
         Command::Map(Request::Insert { key: _, value: _ }) => edit_steps(tries, levels, 178),
         Command::Map(Request::Delete { key: _ }) => edit_steps(tries, levels, 301),
         Command::Map(Request::Get { key: _ }) => levels.saturating_mul(3),
-        Command::Map(Request::Successor { key: _ }) => tries.saturating_mul(levels.saturating_mul(137)),
+        Command::Map(Request::Successor { key: _ }) => tries.saturating_mul(levels.saturating_mul(
+            137,
+        )),
         Command::Map(Request::Range { most, .. }) => range_steps(tries, levels, *most),
     }
 }
@@ -75,7 +80,9 @@ pub(crate) fn may_answer_at_once(command: &Command, answer: &Answer) -> bool
     match command {
         Command::Scx(_) => matches!(answer, Answer::Unlinked { .. } | Answer::Full { .. }),
         Command::Vlx { cells: _ } => matches!(answer, Answer::Unlinked { .. }),
-        Command::Map(Request::Range { low, high, most }) => is_range_at_once(*low, *high, *most, answer),
+        Command::Map(Request::Range { low, high, most }) => is_range_at_once(
+            *low, *high, *most, answer,
+        ),
         Command::Map(Request::Successor { key: _ }) => matches!(answer, Answer::NoMemory),
         _ => false,
     }
@@ -101,7 +108,8 @@ pub(crate) fn may_answer_after_step(command: &Command, answer: &Answer) -> bool
         Command::Scx(_) => matches!(answer, Answer::Done | Answer::Lost { .. }),
         Command::Vlx { cells: _ } => matches!(answer, Answer::Same | Answer::Changed { .. }),
         Command::Set { field: _, value: _ } => is_of_set(answer),
-        Command::Map(Request::Insert { key: _, value: _ }) | Command::Map(Request::Delete { key: _ }) => is_of_edit(answer),
+        Command::Map(Request::Insert { key: _, value: _ })
+        | Command::Map(Request::Delete { key: _ }) => is_of_edit(answer),
         Command::Map(Request::Get { key: _ }) => matches!(answer, Answer::Value(_)),
         Command::Map(Request::Successor { key: _ }) => is_of_successor(answer),
         Command::Map(Request::Range { .. }) => is_of_range(answer),

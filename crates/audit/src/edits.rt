@@ -28,7 +28,10 @@ pub(crate) fn makes_edit(judge: &Judge, scx: u64, command: &Command) -> bool
     ensures { IsTrue result → MayMakeFor judge.now.layout (seen judge.now) scx command.now }
 {
     let (key, is_edit) = match command {
-        Command::Map(Request::Insert { key, value }) => (*key, is_insert(judge, scx, (*key, *value))),
+        Command::Map(Request::Insert { key, value }) => (
+            *key,
+            is_insert(judge, scx, (*key, *value)),
+        ),
         Command::Map(Request::Delete { key }) => (*key, is_delete(judge, scx, *key)),
         _ => return false,
     };

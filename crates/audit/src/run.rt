@@ -353,7 +353,7 @@ impl<'a> Run<'a> {
         ensures { OnOk result ((row : RowOf) (n : ℕ) (side : Side) → IsWin (seen self.now.steps.judge) row scx.0 → row.word ≡ child n side → IsEntryFor (layout_of self.now) client.now.pass.0 (seen self.now.steps.judge) (start (layout_of self.now).mode (lines_of self.now) client.now.pass.0) (linked (calls_of self.now) (layout_of self.now).mode (lines_of self.now) client.now.pass.0) (entered (layout_of self.now) (seen self.now.steps.judge) scx.0 n side row.after) command.now) }
     {
         match command {
-            Command::Map(Request::Insert { key: _, value: _ }) | Command::Map(Request::Delete { key: _ }) => {
+            Command::Map(_) => {
                 hold(self.edit_of(scx) == Some(*command))?;
                 Ok(())
             }
@@ -655,12 +655,15 @@ fn change(places: &mut Places, turn: u64, command: Command) -> Result<(), Refuse
     ensures keys { (key : ℕ) → Knows places.old key → Knows places.new key }
     ensures change { OnOk result ((c : ChangeOf) → c.turn ≡ turn → IsChangeBy (map_call (Some command)) c → changes places.new ≡ c ∷ changes places.old) }
 {
-    match command {
-        Command::Map(Request::Insert { key, value }) => {
+    let Command::Map(request) = command else {
+        return Ok(());
+    };
+    match request {
+        Request::Insert { key, value } => {
             push(places, turn, (key, Some(value)))?;
             Ok(())
         }
-        Command::Map(Request::Delete { key }) => {
+        Request::Delete { key } => {
             push(places, turn, (key, None))?;
             Ok(())
         }
