@@ -33,9 +33,10 @@ use Rattle.record.specs.Shares.{HasTooFewToTry}
 use Rattle.record.specs.Turns.{history, turns, begin, start, won}
 use Rattle.record.proofs.Lemmas.{begin_within, entries_none}
 use Rattle.places.specs.declared.places.Change.{Change}
+use Rattle.places.specs.Entries.{HadWithin}
 use Rattle.places.specs.Ordered.{FallFrom}
 use Rattle.places.proofs.Lemmas.{falls, ordered_placed}
-use Rattle.audit.specs.Asked.{IsAsked, HadWithin, IsTooFewFor, IsToldBefore, IsValueAt, IsReadAt}
+use Rattle.audit.specs.Asked.{IsAsked, IsTooFewFor, IsToldBefore, IsValueAt, IsReadAt}
 use Rattle.audit.specs.declared.client.Client.{Client}
 use Rattle.audit.proofs.TurnMoments.{IsNotIdle, had_at_key}
 use Rattle.audit.proofs.WonEntries.{won_entered}

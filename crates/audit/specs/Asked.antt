@@ -1,9 +1,8 @@
 -- What is known of a call of the map whose answer is judged. Lines stand here with the newest
 -- first.
-use Rattle.std.specs.Prelude.{◌≡◌, ℕ, ◌-◌, ◌<◌, ◌≤◌, ◌⊎◌, Bool, true, false, List, [], ◌∷◌, length, Option, Some, None, IsSome}
+use Rattle.std.specs.Prelude.{◌≡◌, ℕ, ◌-◌, List, Option, Some, None}
 use Rattle.arena.specs.declared.layout.Layout.{Layout}
 use Rattle.arena.specs.declared.fault.Resource.{Resource}
-use Rattle.spelling.specs.declared.pair.Pair.{Pair}
 use Rattle.spelling.specs.OrderedMap.{MapCall, Edit, MapEdit, edit_key, get, reply}
 use Rattle.script.specs.declared.command.Call.{Call}
 use Rattle.script.specs.declared.command.Command.{Command}
@@ -48,10 +47,6 @@ pub record IsAsked (lay : Layout) (tries : ℕ) (calls : List Call) (lines : Lis
   -- an update of the call has won if the answer says so, and only then
   pub entry : HasItsEntry (enters command r.answer) (won lay lines r.client.0)
 
--- after some turn from `first` to `last` the map had this at the key
-abbrev pub HadWithin : List Call → List Line → ℕ → Option ℕ → ℕ → ℕ → Type 0
-HadWithin calls lines key value first last = (m : ℕ) × (first ≤ m) × (m ≤ last) × (get key (map_at calls lines m) ≡ value)
-
 -- after some row behind the call's begin the map that the words spelled had this at the key, and
 -- the share has too little for an edit there, and not by the call's own doing
 abbrev pub IsTooFewFor : Layout → List Line → Reply → ℕ → Option ℕ → Resource → ℕ → Type 0
@@ -83,23 +78,3 @@ pub record IsReadAt (calls : List Call) (lines : List Line) (command : Command) 
   pub turn : ℕ
   pub moment : r.moment ≡ Some turn
   pub greatest : IsGreatestTurn (λ m. reply_told r.answer ≡ Some (reply call (map_at calls lines m))) r.begin r.end turn
-
--- What an ordered read finds
-
--- it looks for the pair's key, and the map m has the pair
-abbrev pub IsFoundIn : (ℕ → Bool) → List Pair → Pair → Type 0
-IsFoundIn looks m p = (looks p.key ≡ true) × (get p.key m ≡ Some p.value)
-
--- all keys are below this one
-abbrev pub AreBelow : ℕ → List Pair → Type 0
-AreBelow key [] = Unit {0}
-AreBelow key (p ∷ ps) = (p.key < key) × AreBelow key ps
-
--- there are so many pairs, and the key is behind them all
-abbrev pub IsBehind : ℕ → List Pair → ℕ → Type 0
-IsBehind many ps key = (length ps ≡ many) × AreBelow key ps
-
--- of a key of this value: it is not looked for, or is behind so many pairs, or is the key of one of
--- them, or has no value
-abbrev pub IsToldOf : (ℕ → Bool) → ℕ → List Pair → ℕ → Option ℕ → Type 0
-IsToldOf looks many ps key value = (looks key ≡ false) ⊎ (IsBehind many ps key ⊎ (IsSome (get key ps) ⊎ (value ≡ None)))

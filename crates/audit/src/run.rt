@@ -612,14 +612,7 @@ impl<'a> Run<'a> {
         ensures right { OnOk result (IsRight (layout_of self.now) reply.now.client.0 (history (layout_of self.now).mode (lines_of self.now)) (start (layout_of self.now).mode (lines_of self.now) reply.now.client.0) (linked (calls_of self.now) (layout_of self.now).mode (lines_of self.now) reply.now.client.0) command.now reply.now.answer) }
         ensures placed { OnOk result (IsPlaced (layout_of self.now) (calls_of self.now) (lines_of self.now) reply.now command.now) }
     {
-        hold(map::is_right(
-            &self.steps,
-            &self.places,
-            self.calls(),
-            client,
-            command,
-            reply,
-        ))?;
+        hold(map::is_right(&self.steps, &self.places, client, command, reply))?;
         Ok(())
     }
 
