@@ -22,6 +22,10 @@ pub enum Request<'a> {
         gate: &'a str,
         script: &'a str,
     },
+    /// To audit a report.
+    Audit {
+        report: &'a str,
+    },
 }
 
 /// The words that the program was given, of which the first is its own name.
@@ -55,6 +59,7 @@ fn request_of<'a, S: AsStr>(alloc: Global, words: &'a [S]) -> Result<Option<Requ
         "play" => play_of(given, Mode::Tree),
         "records" => play_of(given, Mode::Records),
         "run" => run_of(given),
+        "audit" => audit_of(given),
         _ => None,
     })
 }
@@ -74,6 +79,12 @@ fn run_of<'a>(given: &ArgMatches<'a>) -> Option<Request<'a>> {
     })
 }
 
+fn audit_of<'a>(given: &ArgMatches<'a>) -> Option<Request<'a>> {
+    Some(Request::Audit {
+        report: given.get_str("REPORT")?,
+    })
+}
+
 /// The commands and their arguments.
 fn command<'a>(alloc: Global) -> Result<Command<'a>, Error> {
     Ok(
@@ -81,7 +92,8 @@ fn command<'a>(alloc: Global) -> Result<Command<'a>, Error> {
             .subcommand_required(true)
             .subcommand(playing(alloc, "play")?)?
             .subcommand(playing(alloc, "records")?)?
-            .subcommand(running(alloc, "run")?)?,
+            .subcommand(running(alloc, "run")?)?
+            .subcommand(Command::new(alloc, "audit").arg(file(alloc, "REPORT"))?)?,
     )
 }
 

@@ -3,7 +3,7 @@ ghost use Rattle.std.specs.Prelude.{◌≤◌};
 
 use crate::args::{Request, read_words};
 use arena::Mode;
-use program::{Fault, play_over, run_over};
+use program::{Fault, audit_over, play_over, run_over};
 use std::fs;
 use std::io::Write;
 use std::rt::Files;
@@ -30,6 +30,7 @@ pub fn run_words<R: Files + AllocGlobal + Threads + Wait + Sync, O: Write, E: Wr
             },
         ) => play_files(rt, mode, script, schedule, out, err),
         Ok(Request::Run { gate, script }) => run_file(rt, gate, script, out, err),
+        Ok(Request::Audit { report }) => audit_file(rt, report, out, err),
         Err(fault) => fault.print(err),
     }
 }
@@ -85,6 +86,21 @@ fn run_file<R: Files + AllocGlobal + Threads + Wait + Sync, O: Write, E: Write>(
                 err,
             )
         }
+        Err(error) => Fault::from(error).print(err),
+    }
+}
+
+/// Audits the report in a file.
+fn audit_file<R: Files + AllocGlobal, O: Write, E: Write>(
+    rt: &R,
+    report: &str,
+    out: &mut O,
+    err: &mut E,
+) -> u8
+    ensures { result ≤ 4 }
+{
+    match fs::open(rt, report) {
+        Ok(mut report) => audit_over(rt.alloc(), &mut report, &mut Metered::new(out), err),
         Err(error) => Fault::from(error).print(err),
     }
 }

@@ -1,4 +1,4 @@
-//! The program: plays a script by a schedule, and prints the report.
+//! The program: plays a script by a schedule, runs one with threads, or audits a report.
 #![tactic(auto)]
 
 mod args;

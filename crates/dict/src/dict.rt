@@ -35,6 +35,7 @@ impl<K: WordKey, V: WordValue> DictRun<K, V> {
     /// pairs of its reply, and what an ordered read keeps, grow with this allocator; other calls
     /// need none. What is said of its turns holds for some tries, and of a range for at most 64
     /// pairs.
+    #[inline(always)]
     pub fn new(
         alloc: Option<Global>,
         request: Request<K, V>,
@@ -59,6 +60,7 @@ impl<K: WordKey, V: WordValue> DictRun<K, V> {
     }
 
     /// Gives the share back.
+    #[inline(always)]
     pub fn into_share(self) -> Share
         ensures { result ≡ share_of self.run }
     {
@@ -67,6 +69,7 @@ impl<K: WordKey, V: WordValue> DictRun<K, V> {
 }
 
 /// The same call, in words.
+#[inline(always)]
 fn in_words<K: WordKey, V: WordValue>(request: Request<K, V>) -> Request<u64, u64>
     ensures call { map_call_of (λ k. k) (λ v. v) result ≡ map_call_of K.word_of V.word_of request }
     ensures typed { IsTypedCall (IsWord K.is_valid K.word_of) (IsWord V.is_valid V.word_of) (map_call_of K.word_of V.word_of request) }

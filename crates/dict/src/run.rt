@@ -30,6 +30,7 @@ pub enum MapRun {
 impl MapRun {
     /// A call that has not begun, with so many tries, in the caller's call of this number. What it
     /// keeps grows with this allocator.
+    #[inline(always)]
     pub fn new(
         alloc: Option<Global>,
         request: Request<u64, u64>,
@@ -98,6 +99,7 @@ impl MapRun {
     }
 
     /// Gives the share back.
+    #[inline(always)]
     pub fn into_share(self) -> Share
         ensures { result ≡ share_of self }
     {

@@ -20,6 +20,7 @@ pub mod Crowds
 mod Places
 mod StraightLlx
 mod StraightHelp
+mod StraightChange
 mod StraightScx
 mod StraightVlx
 mod StraightWalk

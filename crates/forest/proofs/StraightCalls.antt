@@ -1,11 +1,11 @@
 -- Whole calls of a dictionary whose updates are straight.
-use Rattle.std.proofs.Common.{◌≡◌, ℕ, ◌^◌, ◌<◌, List, Option, None, Some, refl, sym, subst, ap, ◌∙◌}
+use Rattle.std.proofs.Common.{◌≡◌, ℕ, ◌^◌, ◌<◌, List, Option, None, refl, sym, subst, ap, ◌∙◌}
 use Rattle.arena.specs.declared.layout.Layout.{Layout}
 use Rattle.arena.specs.declared.machine.Turn.{Turn}
 use Rattle.arena.specs.declared.machine.Turn.TheVariants.{Ask, Done}
 use Rattle.arena.specs.declared.step.Step.{Step}
 use Rattle.arena.specs.History.{History}
-use Rattle.arena.specs.Machines.{Call, IsRun}
+use Rattle.arena.specs.Machines.{Call}
 use Rattle.spelling.specs.OrderedMap.{MapCall, Edit, Insert as InsertEdit, Delete as DeleteEdit}
 use Rattle.tree.specs.Delete.Means.{delete_means}
 use Rattle.tree.specs.Insert.Means.{insert_means}

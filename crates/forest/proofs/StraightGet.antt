@@ -1,5 +1,5 @@
 -- A get of a dictionary whose walk is straight.
-use Rattle.std.proofs.Common.{◌≡◌, ℕ, List, ◌^◌, ◌<◌, Option, None, Some, IfSome, inl, refl, sym, ◌∙◌, ap}
+use Rattle.std.proofs.Common.{◌≡◌, ℕ, List, ◌^◌, ◌<◌, Option, None, Some, IfSome, inl, refl, ◌∙◌, ap}
 use Rattle.std.specs.Option.{option_map}
 use Rattle.arena.specs.declared.layout.Layout.{Layout}
 use Rattle.arena.specs.declared.limits.Mode.TheVariants.{Tree}
@@ -10,13 +10,11 @@ use Rattle.arena.specs.History.{History}
 use Rattle.arena.specs.Machines.{Call, IsRun}
 use Rattle.arena.specs.Share.{Remaining}
 use Rattle.arena.specs.Words.{node}
-use Rattle.arena.proofs.Lemmas.{ends_self}
 use Rattle.atomic_table.specs.declared.shared.Seat.{Seat}
 use Rattle.prims.specs.Llx.Known.{load}
 use Rattle.spelling.specs.OrderedMap.{OneValue}
-use Rattle.spelling.specs.Runs.{IsTreeRun}
 use Rattle.template.specs.FoundLeaf.{HasFound}
-use Rattle.template.specs.Walk.Known.{WalkIsTold, WalkWaits}
+use Rattle.template.specs.Walk.Known.{WalkIsTold}
 use Rattle.template.specs.Walk.Places.{root_trail, walk_at, walk_from}
 use Rattle.template.specs.declared.walk.Found.{Found}
 use Rattle.template.specs.declared.walk.Goal.TheVariants.{Key as ToKey}
@@ -39,7 +37,7 @@ use Rattle.forest.specs.Passes.{taken_of}
 use Rattle.forest.specs.PassInvariant.{pass_view, IsPass}
 use Rattle.forest.specs.StraightGet.{getting}
 use Rattle.forest.specs.StraightWalk.{Walker, WalkerWaits, WalkerFinds}
-use Rattle.forest.specs.Traces.{CallBegins, HoldsForCall, Trace, goes_on}
+use Rattle.forest.specs.Traces.{HoldsForCall, Trace}
 use Rattle.forest.proofs.DictCalls.{Answered, IsSameCall, dict_ended, dict_starts}
 use Rattle.forest.proofs.Entered.{HasEnded}
 use Rattle.forest.proofs.Passes.{call_of}

@@ -10,11 +10,10 @@ use Rattle.arena.specs.declared.word.Side.TheVariants.{Left, Right}
 use Rattle.arena.specs.History.{History}
 use Rattle.arena.specs.Machines.{Call, IsRun}
 use Rattle.arena.specs.Words.{info, marked, child, state}
-use Rattle.prims.specs.Llx.Known.{load, LlxIsReady, LlxWaits}
+use Rattle.prims.specs.Llx.Known.{load, LlxWaits}
 use Rattle.prims.specs.declared.llx.Llx.TheVariants.{Snapshot}
 use Rattle.prims.specs.declared.llx.LlxAt.{LlxAt}
 use Rattle.prims.specs.declared.llx.LlxAt.TheVariants.{Start, Marked, Info, State, MarkedAgain, Left as AtLeft, Right as AtRight, InfoAgain, StateAgain}
-use Rattle.prims.specs.declared.llx.LlxRun.{LlxRun}
 use Rattle.prims.proofs.Lemmas.{Knows, knows, turn_info, turn_state, turn_mark, turn_read, turn_right, turn_again, turn_compare}
 use Rattle.spelling.specs.TreeShape.{TreeAllows}
 use Rattle.forest.specs.declared.view.SeatedPass.{SeatedPass}

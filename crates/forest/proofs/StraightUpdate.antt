@@ -1,14 +1,38 @@
 -- From place to place of an update, of whatever machine updates.
-use Rattle.std.proofs.Common.{◌≡◌, ℕ, suc, ap, subst, ◌+◌, ◌^◌, ◌<◌, ◌≤◌, List, Option, None, Some, inl, refl, sym, arith, ◌∙◌}
+use Rattle.std.proofs.Common.{◌≡◌, ℕ, suc, true, ap, subst, ◌+◌, ◌<◌, ◌≤◌, List, Option, None, Some, inl, refl, sym, arith, ◌∙◌}
 use Rattle.arena.specs.declared.layout.Layout.{Layout}
 use Rattle.arena.specs.declared.machine.Turn.{Turn}
 use Rattle.arena.specs.declared.machine.Turn.TheVariants.{Ask, Done}
 use Rattle.arena.specs.declared.number.NodeNo.{NodeNo}
 use Rattle.arena.specs.declared.step.Kind.TheVariants.{LoadMarked, LoadSettled}
 use Rattle.arena.specs.declared.step.Step.{Step}
-use Rattle.arena.specs.declared.word.NodeWord.TheVariants.{Head}
-use Rattle.arena.specs.History.{History, Extends}
-use Rattle.arena.specs.Machines.{Call, IsRun, MatchTurn}
+use Rattle.arena.specs.declared.word.NodeWord.TheVariants.{Head, Key, Value, Child}
+use Rattle.arena.specs.declared.word.Side.TheVariants.{Right}
+use Rattle.arena.specs.declared.step.Access.TheVariants.{Load as AsLoad, Store}
+use Rattle.arena.specs.declared.step.Kind.TheVariants.{Fill as FillKind}
+use Rattle.arena.specs.declared.word.NodeWord.{NodeWord}
+use Rattle.arena.specs.declared.word.ScxWord.TheVariants.{Plan}
+use Rattle.arena.specs.declared.word.Word.TheVariants.{Node as NodeOf}
+use Rattle.help.specs.declared.state.HelpAt.TheVariants.{Commit as HelpCommit}
+use Rattle.help.specs.declared.state.HelpRun.{HelpRun}
+use Rattle.prims.specs.declared.scx.Scx.TheVariants.{Done as ScxDone}
+use Rattle.prims.specs.declared.scx.ScxAt.TheVariants.{Plan as AtPlan, Help}
+use Rattle.prims.specs.declared.scx.ScxRun.{ScxRun}
+use Rattle.prims.proofs.Lemmas.{done_at}
+use Rattle.updates.specs.declared.edit.Need.{Need}
+use Rattle.updates.specs.declared.edit.Need.TheVariants.{Nothing, One, Three}
+use Rattle.updates.specs.declared.edit.Nth.{Nth}
+use Rattle.updates.specs.declared.edit.Nth.TheVariants.{First, Second, Third}
+use Rattle.updates.specs.declared.edit.Piece.{Piece}
+use Rattle.updates.specs.declared.edit.Piece.TheVariants.{Leaf, Fork}
+use Rattle.updates.specs.declared.update.Updated.TheVariants.{Done as IsDone}
+use Rattle.updates.specs.Pieces.{fills_behind, nth_node, part_behind, word_of, HasPlace}
+use Rattle.updates.specs.Sound.{FillsWell, IsAtFound}
+use Rattle.updates.proofs.Lemmas.{fills_next, fills_word, piece_is, scx_asks, scx_done}
+use Rattle.forest.specs.declared.straight.changing.Change.{Change}
+use Rattle.forest.specs.StraightChange.{Changer, ChangerWaits, ChangerIsTold, changing_at, scx_fill}
+use Rattle.arena.specs.History.{History, value}
+use Rattle.arena.specs.Machines.{Call, IsRun}
 use Rattle.arena.specs.Words.{marked, node}
 use Rattle.arena.proofs.Lemmas.{ends_self}
 use Rattle.prims.specs.Laws.Idle.{quiet_at_start}
@@ -18,19 +42,19 @@ use Rattle.prims.specs.declared.llx.LlxRun.{LlxRun}
 use Rattle.prims.specs.declared.snap.Snap.{Snap}
 use Rattle.spelling.specs.TreeShape.{TreeAllows}
 use Rattle.template.specs.FoundLeaf.{HasFound}
-use Rattle.template.specs.Walk.Known.{WalkIsTold, WalkWaits}
+use Rattle.template.specs.Walk.Known.{WalkIsTold}
 use Rattle.template.specs.Walk.Places.{walk_from}
 use Rattle.template.specs.declared.walk.Found.{Found}
 use Rattle.template.specs.declared.walk.Goal.TheVariants.{Key as ToKey}
 use Rattle.template.specs.declared.walk.WalkRun.{WalkRun}
 use Rattle.template.proofs.Lemmas.{own_since, walk_begins}
 use Rattle.updates.specs.Edits.{EditMeaning}
-use Rattle.updates.specs.Known.{Begins, CanLook, IsUntouched, Looks, UpdateIsReady, UpdateWaits, UpdateTurn, Walks}
+use Rattle.updates.specs.Known.{Begins, CanFill, CanLook, IsFilledUpTo, IsNeeded, IsUntouched, Loads, Looks, UpdateAnswers, UpdateIsReady, UpdateIsToldAt, UpdateWaits, UpdateWaitsAt, UpdateTurn, Walks, copied, piece}
 use Rattle.updates.specs.Laws.HandScx.{from}
 use Rattle.updates.specs.Laws.Kept.{idle_over}
-use Rattle.updates.specs.Steps.{IsSpending, node_tries, scx_tries}
+use Rattle.updates.specs.Steps.{IsSpending, IsWanted, fills_left, node_tries, scx_tries, works_after}
 use Rattle.updates.specs.Tries.{IsTry}
-use Rattle.updates.specs.declared.update.UpdateAt.TheVariants.{Start, Walk, Look}
+use Rattle.updates.specs.declared.update.UpdateAt.TheVariants.{Start, Walk, Look, Load, Fill, Scx}
 use Rattle.updates.specs.declared.edit.Look.TheVariants.{At}
 use Rattle.updates.specs.declared.update.UpdateRun.{UpdateRun}
 use Rattle.updates.specs.declared.update.Updated.{Updated}
@@ -41,8 +65,17 @@ use Rattle.forest.specs.StraightLook.{Looker, LookerWaits, LookerSnaps}
 use Rattle.forest.specs.StraightUpdate.{Updater, UpdaterBegins, UpdaterIsTold, UpdaterWaits, UpdaterStands}
 use Rattle.forest.specs.StraightWalk.{Walker, WalkerWaits, WalkerFinds}
 use Rattle.forest.specs.TableRule.{history_of}
-use Rattle.forest.specs.Traces.{HoldsForCall, Trace, goes_on}
-use Rattle.forest.proofs.Advances.{turn_map}
+use Rattle.forest.specs.Traces.{goes_on}
+
+-- a fresh node that is needed has a place
+has_place : (need : Need) (nth : Nth) → IsNeeded need nth → HasPlace need nth
+has_place Nothing nth i = absurd i
+has_place One First i = tt
+has_place One Second i = absurd i
+has_place One Third i = absurd i
+has_place Three First i = tt
+has_place Three Second i = refl
+has_place Three Third i = refl
 
 module _ {M E : Type 0} (allows : Layout → History → ℕ → Type 0) (ready : M → Call → History → Option ℕ → Type 0) (waits : M → Call → History → Step → Type 0) (same : M → M → Type 0) (e : EditMeaning E) (layout : Layout) (number : ℕ) (u : Updater allows ready waits same e layout number) where
   -- the update with its walk at a place
@@ -193,6 +226,211 @@ module _ {M E : Type 0} (allows : Layout → History → ℕ → Type 0) (ready 
   pub stands_at_start : (ps : List SeatedPass) (m : UpdateRun E) → UpdaterBegins allows ready waits same e layout number u ps m → m.at ≡ Start
   stands_at_start ps m x = (u.tells m _ None x.so.0).3
 
+  -- Loads and fills
+
+  -- an update that has asked for a load waits for it
+  pub begins_load : (ps : List SeatedPass) (m : UpdateRun E) (f : Found) (nth : Nth) (part : NodeWord) (n : NodeNo) (turn : Turn Updated) → m.at ≡ Load f nth part → (s : Step) × (turn ≡ Ask s) → n ≡ e.copies m.edit f m.snaps.items → UpdaterStands allows ready waits same e layout number u ps m turn → UpdaterWaits allows ready waits same e layout number u ps m record { kind = LoadSettled; word = NodeOf n part; access = AsLoad }
+  begins_load ps m f nth part n turn at asks is x = subst (λ t. UpdaterWaits allows ready waits same e layout number u ps m t) asked there
+    where
+      there : UpdaterWaits allows ready waits same e layout number u ps m asks.0
+      there = rw asks.1 at x
+
+      w : UpdateWaits e m u.call (history_of u.call.layout.mode there.known) asks.0
+      w = u.opens m (history_of u.call.layout.mode there.known) asks.0 there.so.0
+
+      loads : UpdateWaitsAt e m (from u.call w.0) (history_of u.call.layout.mode there.known) asks.0 (Load f nth part)
+      loads = subst (λ a. UpdateWaitsAt e m (from u.call w.0) (history_of u.call.layout.mode there.known) asks.0 a) at w.3
+
+      asked : asks.0 ≡ record { kind = LoadSettled; word = NodeOf n part; access = AsLoad }
+      asked = loads.1 ∙ (λ i. record { kind = LoadSettled; word = NodeOf (sym is i) part; access = AsLoad })
+
+  -- what it wants is one of the words that it may want
+  pub wants_word : (ps : List SeatedPass) (m : UpdateRun E) (f : Found) (nth : Nth) (part : NodeWord) (turn : Turn Updated) → m.at ≡ Load f nth part → (s : Step) × (turn ≡ Ask s) → UpdaterStands allows ready waits same e layout number u ps m turn → IsWanted e m f nth part
+  wants_word ps m f nth part turn at asks x = (loads.0.wanted, has_place (e.needs m.edit f) nth loads.0.works.need)
+    where
+      there : UpdaterWaits allows ready waits same e layout number u ps m asks.0
+      there = rw asks.1 at x
+
+      w : UpdateWaits e m u.call (history_of u.call.layout.mode there.known) asks.0
+      w = u.opens m (history_of u.call.layout.mode there.known) asks.0 there.so.0
+
+      loads : UpdateWaitsAt e m (from u.call w.0) (history_of u.call.layout.mode there.known) asks.0 (Load f nth part)
+      loads = subst (λ a. UpdateWaitsAt e m (from u.call w.0) (history_of u.call.layout.mode there.known) asks.0 a) at w.3
+
+  -- with what the load has told it goes on as its turn says
+  pub loads_on : (ps : List SeatedPass) (m now : UpdateRun E) (f : Found) (nth : Nth) (part : NodeWord) (v : ℕ) (turn : Turn Updated) → m.at ≡ Load f nth part → now.edit ≡ m.edit → now.call ≡ m.call → IsSpending e turn m.share now m.tries (m.tries + 1)
+      → ((b h : History) → IsRun TreeAllows u.call.layout h → IsTry u.call b → Loads e m (from u.call b) h f nth part → value h (node (copied e m f) part) ≡ v → UpdateTurn e u.call h now turn)
+      → UpdaterIsTold allows ready waits same e layout number u ps m v → UpdaterStands allows ready waits same e layout number u ps now turn
+  loads_on ps m now f nth part v turn at edit called spent next x = stands_behind ps m now v turn edit called (subst (λ a. IsSpending e turn m.share now (node_tries m a) (scx_tries m a)) (sym at) spent) x (next y.0 h (u.tree h x.sound) y.1 told.0 told.1)
+    where
+      h : History
+      h = history_of u.call.layout.mode x.known
+
+      y : UpdateIsReady e m u.call h (Some v)
+      y = u.tells m h (Some v) x.so.0
+
+      told : UpdateIsToldAt e m (from u.call y.0) h v (Load f nth part)
+      told = subst (λ a. UpdateIsToldAt e m (from u.call y.0) h v a) at y.3
+
+  -- the update with a fill at a place
+  abbrev pub filling : UpdateRun E → Found → Nth → NodeWord → UpdateRun E
+  filling m f nth part = record m { at = Fill f nth part }
+
+  -- an update that has asked for the first fill of a node waits for it
+  pub begins_fill : (ps : List SeatedPass) (m : UpdateRun E) (f : Found) (nth : Nth) (p : Piece) (n : NodeNo) (v : ℕ) (turn : Turn Updated) → m.at ≡ Fill f nth Head → (s : Step) × (turn ≡ Ask s) → p ≡ e.pieces m.edit f m.snaps.items m.nodes m.loaded nth → n ≡ nth_node m.nodes nth → v ≡ word_of p Head → UpdaterStands allows ready waits same e layout number u ps m turn → UpdaterWaits allows ready waits same e layout number u ps (filling m f nth Head) record { kind = FillKind; word = NodeOf n Head; access = Store v }
+  begins_fill ps m f nth p n v turn at asks is_p is_n is_v x = subst (λ t. UpdaterWaits allows ready waits same e layout number u ps here t) asked there
+    where
+      here : UpdateRun E
+      here = filling m f nth Head
+
+      is : m ≡ here
+      is i = record m { at = at i }
+
+      there : UpdaterWaits allows ready waits same e layout number u ps here asks.0
+      there = subst (λ n. UpdaterWaits allows ready waits same e layout number u ps n asks.0) is (rw asks.1 at x)
+
+      w : UpdateWaits e here u.call (history_of u.call.layout.mode there.known) asks.0
+      w = u.opens here (history_of u.call.layout.mode there.known) asks.0 there.so.0
+
+      said : piece e here f (nth_node m.nodes nth).0 ≡ e.pieces m.edit f m.snaps.items m.nodes m.loaded nth
+      said = piece_is (λ i. e.pieces m.edit f m.snaps.items m.nodes m.loaded i) m.nodes (e.needs m.edit f) nth w.3.0.works.need w.3.0.works.in_order
+
+      asked : asks.0 ≡ record { kind = FillKind; word = NodeOf n Head; access = Store v }
+      asked = w.3.3 ∙ (λ i. record { kind = FillKind; word = NodeOf (sym is_n i) Head; access = Store ((ap (λ q. word_of q Head) said ∙ sym (is_v ∙ ap (λ q. word_of q Head) is_p)) i) })
+
+  -- behind a fill that is not a node's last it waits for the next
+  pub fills_on : (ps : List SeatedPass) (m : UpdateRun E) (f : Found) (nth : Nth) (part next : NodeWord) (told : ℕ) (p : Piece) (n : NodeNo) (v : ℕ) → FillsWell e → part_behind p part ≡ Some next → p ≡ e.pieces m.edit f m.snaps.items m.nodes m.loaded nth → n ≡ nth_node m.nodes nth → v ≡ word_of p next → UpdaterIsTold allows ready waits same e layout number u ps (filling m f nth part) told → UpdaterWaits allows ready waits same e layout number u ps (filling m f nth next) record { kind = FillKind; word = NodeOf n next; access = Store v }
+  fills_on ps m f nth part next told p n v sound behind is_p is_n is_v x = record {
+    known = x.known;
+    is = x.is;
+    sound = x.sound;
+    so = (
+      u.turns (filling m f nth part) (filling m f nth next) h (Some told) _ record { edit = refl; called = refl; spends = (omega arith, omega arith) } x.so.0 (y.0, y.1, tt, fills_word e (filling m f nth part) f nth next p n v (from u.call y.0) h can is_p is_n is_v),
+      goes_on (u.with_run (filling m f nth part)) (u.stays (filling m f nth part) (filling m f nth next) refl) x.so.1,
+    );
+  }
+    where
+      h : History
+      h = history_of u.call.layout.mode x.known
+
+      y : UpdateIsReady e (filling m f nth part) u.call h (Some told)
+      y = u.tells (filling m f nth part) h (Some told) x.so.0
+
+      can : CanFill e (filling m f nth part) (from u.call y.0) h f nth next
+      can = fills_next e (filling m f nth part) (from u.call y.0) h f nth part y.3 next sound (subst (λ q. part_behind q part ≡ Some next) is_p behind)
+
+  -- what is known of fresh nodes does not depend on the place of the update
+  filled_anywhere : (m : UpdateRun E) (f : Found) (nth : Nth) (part : NodeWord) (c : Call) (h : History) → IsFilledUpTo e (filling m f nth part) c h f nth part → IsFilledUpTo e m c h f nth part
+  filled_anywhere m f nth part c h x = (
+    record {
+      works = record {
+        run = x.0.works.run;
+        since = x.0.works.since;
+        quiet = x.0.works.quiet;
+        looked = x.0.works.looked;
+        enough = x.0.works.enough;
+        need = x.0.works.need;
+        in_order = x.0.works.in_order;
+        some = x.0.works.some;
+        named = x.0.works.named;
+        inside = x.0.works.inside;
+        loaded = x.0.works.loaded;
+        before = x.0.works.before;
+      };
+      full = x.0.full;
+      hand = record { lowest = x.0.hand.lowest; highest = x.0.hand.highest };
+      done = x.0.done;
+      part_is = x.0.part_is;
+    },
+    x.1,
+    x.2,
+  )
+
+  -- behind a node's last fill it goes on as its turn says
+  pub fills_end : (ps : List SeatedPass) (m now : UpdateRun E) (f : Found) (nth : Nth) (part : NodeWord) (v : ℕ) (turn : Turn Updated) → now.edit ≡ m.edit → now.call ≡ m.call → IsSpending e turn m.share now m.tries (m.tries + 1)
+      → ((b h : History) → IsRun TreeAllows u.call.layout h → IsTry u.call b → IsFilledUpTo e m (from u.call b) h f nth part → UpdateTurn e u.call h now turn)
+      → UpdaterIsTold allows ready waits same e layout number u ps (filling m f nth part) v → UpdaterStands allows ready waits same e layout number u ps now turn
+  fills_end ps m now f nth part v turn edit called spent next x = stands_behind ps (filling m f nth part) now v turn edit called spent x (next y.0 h (u.tree h x.sound) y.1 (filled_anywhere m f nth part (from u.call y.0) h y.3))
+    where
+      h : History
+      h = history_of u.call.layout.mode x.known
+
+      y : UpdateIsReady e (filling m f nth part) u.call h (Some v)
+      y = u.tells (filling m f nth part) h (Some v) x.so.0
+
+  -- Its SCX
+
+  -- the update with an SCX at a place
+  abbrev pub scxing : UpdateRun E → Found → ScxRun → UpdateRun E
+  scxing m f scx = record m { at = Scx f scx }
+
+  -- a machine that updates makes an SCX
+  pub changer : UpdateRun E → Found → Changer TreeAllows allows ready waits same layout number
+  changer m f = record {
+    call = u.call;
+    is_layout = u.is_layout;
+    is_number = u.is_number;
+    first = u.first;
+    with_scx = λ scx. u.with_run (scxing m f scx);
+    turns = λ old now h v s is_scx is_update is_call turn run x.
+        let y = u.tells (scxing m f old) h (Some v) x in
+        u.turns (scxing m f old) (scxing m f now) h (Some v) s record { edit = refl; called = refl; spends = (omega arith, omega arith) } x
+        (y.0, y.1, tt, scx_asks e (scxing m f old) old now f y.3.0 (from u.call y.0) h (Ask s) s y.3.1 is_scx is_update is_call refl (turn (from (from u.call y.0) y.3.0) (u.tree h run) y.3.2));
+    stays = λ old now is_scx is_update is_call. u.stays (scxing m f old) (scxing m f now) refl;
+  }
+
+  -- the change that its SCX makes
+  abbrev pub change_of : ScxRun → Change
+  change_of m = record { scx = m.scx; call = m.call; plan = m.update.plan; old = m.update.old; fresh = m.update.fresh }
+
+  -- an update that begins its SCX waits for the fill of its plan
+  pub begins_change : (ps : List SeatedPass) (m : UpdateRun E) (f : Found) (scx : ScxRun) (turn : Turn Updated) → m.at ≡ Scx f scx → scx.at ≡ AtPlan → (s : Step) × (turn ≡ Ask s) → UpdaterStands allows ready waits same e layout number u ps m turn → ChangerWaits TreeAllows allows ready waits same layout number (changer m f) ps (changing_at scx.update.snaps (change_of scx) AtPlan) (scx_fill scx.scx Plan scx.update.plan.0)
+  unfolding changer
+  begins_change ps m f scx turn at plan asks x = subst (λ t. UpdaterWaits allows ready waits same e layout number u ps here t) asked there
+    where
+      here : UpdateRun E
+      here = scxing m f (changing_at scx.update.snaps (change_of scx) AtPlan)
+
+      is : m ≡ here
+      is = (λ i. record m { at = at i }) ∙ (λ i. scxing m f (record scx { at = plan i }))
+
+      there : UpdaterWaits allows ready waits same e layout number u ps here asks.0
+      there = subst (λ n. UpdaterWaits allows ready waits same e layout number u ps n asks.0) is (rw asks.1 at x)
+
+      asked : asks.0 ≡ scx_fill scx.scx Plan scx.update.plan.0
+      asked = (u.opens here (history_of u.call.layout.mode there.known) asks.0 there.so.0).3.2.asked
+
+  -- once that is done it has answered
+  pub changed : (ps : List SeatedPass) (m : UpdateRun E) (f : Found) (snaps : List Snap) (change : Change) (help : HelpRun) (v : ℕ) → IsAtFound e → ChangerIsTold TreeAllows allows ready waits same layout number (changer m f) ps (changing_at snaps change (Help (record help { at = HelpCommit }))) v → UpdaterStands allows ready waits same e layout number u ps m (Done (IsDone f))
+  unfolding changer
+  changed ps m f snaps change help v sound x = record {
+    known = x.known;
+    is = x.is;
+    sound = x.sound;
+    so = record { old = here; got = Some v; was = x.so.0; goes = record { edit = refl; called = refl; spends = (omega arith, omega arith) }; answers = answers; course = x.so.1 };
+  }
+    where
+      scx : ScxRun
+      scx = changing_at snaps change (Help (record help { at = HelpCommit }))
+
+      here : UpdateRun E
+      here = scxing m f scx
+
+      h : History
+      h = history_of u.call.layout.mode x.known
+
+      y : UpdateIsReady e here u.call h (Some v)
+      y = u.tells here h (Some v) x.so.0
+
+      answers : UpdateAnswers e m u.call h (IsDone f)
+      answers = scx_done e sound here scx scx f u.call y.0 y.3.0 h (Done ScxDone) y.1 y.3.1 refl refl refl refl
+          (let k = y.3.2 in done_at (from (from u.call y.0) y.3.0) h scx (record help { at = HelpCommit }) (u.tree h x.sound).lawful k.2 k.1 true (record help { at = HelpCommit }) k.0 refl refl)
+
+  -- where a node could not be frozen, it waits to look whether all were
+  pub blocked : (ps : List SeatedPass) (m : UpdateRun E) (f : Found) (scx : ScxRun) (s : Step) → ChangerWaits TreeAllows allows ready waits same layout number (changer m f) ps scx s → UpdaterWaits allows ready waits same e layout number u ps (scxing m f scx) s
+  unfolding changer
+  blocked ps m f scx s x = x
+
 -- its steps are those of its walk, and those that are left behind it
 pub walk_steps : (now old walk left tries rest : ℕ) → now ≤ old + walk → left ≤ tries + rest → now + left ≤ old + (tries + (walk + rest))
 walk_steps now old walk left tries rest a b = omega (arith, a, b)
@@ -206,3 +444,27 @@ look_nearer left tries looks works b = omega (arith, b)
 
 pub both_steps : (now then bound : ℕ) → now ≤ then → then ≤ bound → now ≤ bound
 both_steps now then bound a b = omega (arith, a, b)
+
+-- the steps of a fresh node are those that were left for it
+pub node_steps : (now old left tries n after head last : ℕ) → now ≡ suc n + old → left ≤ tries + (last + 39) → head ≡ n + after → last ≡ 0 + after → now + left ≤ old + suc (tries + (head + 39))
+node_steps now old left tries n after head last a b c d = omega (arith, a, b, c, d)
+
+pub node_nearer : (left tries n after head last : ℕ) → left ≤ tries + (last + 39) → head ≡ n + after → last ≡ 0 + after → left < suc (tries + (head + 39))
+node_nearer left tries n after head last b c d = omega (arith, b, c, d)
+
+-- a load is one of the works that were left
+pub load_steps : (now old left tries works : ℕ) → now ≡ suc old → left ≤ tries + (works + 39) → now + left ≤ old + suc (tries + (works + 39))
+load_steps now old left tries works a b = omega (arith, a, b)
+
+pub load_nearer : (left tries works : ℕ) → left ≤ tries + (works + 39) → left < suc (tries + (works + 39))
+load_nearer left tries works b = omega (arith, b)
+
+pub head_next : (p : Piece) → part_behind p Head ≡ Some Key
+head_next (Leaf level class key v) = refl
+head_next (Fork level class key l r) = refl
+
+pub leaf_fewer : {E : Type 0} (e : EditMeaning E) (m : UpdateRun E) (f : Found) (nth : Nth) (p : Piece) (level class key v : ℕ) → p ≡ e.pieces m.edit f m.snaps.items m.nodes m.loaded nth → p ≡ Leaf level class key v → (fills_left e m f nth Head ≡ 2 + works_after e nth) × (fills_left e m f nth Value ≡ 0 + works_after e nth)
+leaf_fewer e m f nth p level class key v is_p is = (ap (λ q. fills_behind q Head + works_after e nth) (sym is_p ∙ is), ap (λ q. fills_behind q Value + works_after e nth) (sym is_p ∙ is))
+
+pub fork_fewer : {E : Type 0} (e : EditMeaning E) (m : UpdateRun E) (f : Found) (nth : Nth) (p : Piece) (level class key : ℕ) (l r : NodeNo) → p ≡ e.pieces m.edit f m.snaps.items m.nodes m.loaded nth → p ≡ Fork level class key l r → (fills_left e m f nth Head ≡ 3 + works_after e nth) × (fills_left e m f nth (Child Right) ≡ 0 + works_after e nth)
+fork_fewer e m f nth p level class key l r is_p is = (ap (λ q. fills_behind q Head + works_after e nth) (sym is_p ∙ is), ap (λ q. fills_behind q (Child Right) + works_after e nth) (sym is_p ∙ is))

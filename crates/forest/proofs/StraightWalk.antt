@@ -1,5 +1,5 @@
 -- From place to place of a walk, of whatever machine walks.
-use Rattle.std.proofs.Common.{◌≡◌, ◌≢◌, ℕ, suc, ◌+◌, ◌*◌, ◌-◌, ◌<◌, ◌≤◌, true, false, cond, ltb, List, length, Option, None, Some, refl, sym, subst, arith}
+use Rattle.std.proofs.Common.{◌≡◌, ◌≢◌, ℕ, ◌+◌, ◌<◌, ◌≤◌, true, false, cond, ltb, List, Option, None, Some, refl, subst, arith}
 use Rattle.arena.specs.declared.head.Head.{Head as HeadParts}
 use Rattle.arena.specs.declared.layout.Layout.{Layout}
 use Rattle.arena.specs.declared.step.Kind.TheVariants.{LoadSettled, LoadChild}
@@ -9,15 +9,13 @@ use Rattle.arena.specs.declared.word.Side.TheVariants.{Left, Right}
 use Rattle.arena.specs.declared.word.NodeWord.TheVariants.{Head as HeadWord, Key as KeyWord, Value as ValueWord, Child as ChildWord}
 use Rattle.arena.specs.Heads.{head_of}
 use Rattle.arena.specs.History.{History}
-use Rattle.arena.specs.Machines.{Call, IsRun}
-use Rattle.arena.specs.TakenNodes.{taken_nodes}
+use Rattle.arena.specs.Machines.{Call}
 use Rattle.arena.specs.Words.{node}
 use Rattle.prims.specs.Llx.Known.{load}
 use Rattle.template.specs.Walk.Known.{WalkIsTold, WalkWaits}
 use Rattle.template.specs.Walk.Laws.{walk_told}
-use Rattle.template.specs.Walk.Places.{walk_at, walk_from, trail_below, LoadsHead}
+use Rattle.template.specs.Walk.Places.{walk_at, trail_below, LoadsHead}
 use Rattle.template.specs.Walk.Steps.{walk_left, WalkFitsAt}
-use Rattle.template.specs.declared.walk.Goal.TheVariants.{Key as ToKey}
 use Rattle.template.specs.declared.walk.Trail.{Trail}
 use Rattle.template.specs.declared.walk.WalkAt.{WalkAt}
 use Rattle.template.specs.declared.walk.WalkAt.TheVariants.{Start, Root, Head, Key, Child, Value}

@@ -5,6 +5,7 @@ pub mod Copies
 pub mod Blames
 pub mod StraightLlx
 pub mod StraightHelp
+pub mod StraightChange
 pub mod StraightScx
 pub mod StraightVlx
 pub mod StraightWalk

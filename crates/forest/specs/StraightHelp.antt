@@ -1,51 +1,43 @@
--- Calls of HELP that stand at a place of its machine.
-use Rattle.std.specs.Prelude.{◌≡◌, ℕ, Bool, List, Option}
+-- Calls that stand at a place of a HELP, of whatever machine helps.
+use Rattle.std.specs.Prelude.{◌≡◌, ℕ, List, Option, Some}
 use Rattle.arena.specs.declared.layout.Layout.{Layout}
 use Rattle.arena.specs.declared.step.Step.{Step}
 use Rattle.arena.specs.History.{History}
-use Rattle.arena.specs.Machines.{Call}
-use Rattle.help.specs.Help.Known.{Marks, reading, HelpIsReady, HelpWaits, HelpAnswers}
+use Rattle.arena.specs.Lawful.{Lawful}
+use Rattle.arena.specs.Machines.{Call, IsRun}
+use Rattle.help.specs.Help.Known.{Marks, reading, HelpIsReady, HelpWaits}
 use Rattle.help.specs.declared.state.HelpRun.{HelpRun}
 use Rattle.forest.specs.declared.view.SeatedPass.{SeatedPass}
-use Rattle.forest.specs.Traces.{CallBegins, Waits, Told, Ends}
+use Rattle.forest.specs.Traces.{Waits, Told}
 
--- the two runs of HELP are of one SCX-record
-abbrev pub IsSameRecord : HelpRun → HelpRun → Type 0
-IsSameRecord old now = now.scx ≡ old.scx
+-- `inner` are the runs for which its HELP is said to wait and to be told
+module _ {M : Type 0} (inner allows : Layout → History → ℕ → Type 0) (ready : M → Call → History → Option ℕ → Type 0) (waits : M → Call → History → Step → Type 0) (same : M → M → Type 0) (layout : Layout) (number : ℕ) where
+  -- A call of a machine that helps, of this layout and number.
+  pub record Helper : Type 0 where
+    pub call : Call
+    pub is_layout : call.layout ≡ layout
+    pub is_number : call.number ≡ number
+    -- the machine with which it began, and that with its HELP at some place
+    pub first : M
+    pub with_help : HelpRun → M
+    -- what its HELP waits for once it is told something, the machine does
+    pub turns : (m now : HelpRun) (h : History) (v : ℕ) (s : Step) → now.scx ≡ m.scx → ((lay : Layout) (c : ℕ) → Lawful lay h → HelpIsReady inner lay c m h (Some v) → HelpWaits inner lay c now h s) → IsRun allows call.layout h → ready (with_help m) call h (Some v) → waits (with_help now) call h s
+    pub stays : (m now : HelpRun) → now.scx ≡ m.scx → same (with_help m) (with_help now)
 
--- a run of HELP may be called with this, in this call
-abbrev pub HelpCallIsReady : (Layout → History → ℕ → Type 0) → HelpRun → Call → History → Option ℕ → Type 0
-HelpCallIsReady allows m c = HelpIsReady allows c.layout c.pass m
+  module _ (k : Helper) (ps : List SeatedPass) where
+    -- its HELP waits for this step
+    abbrev pub HelperWaits : HelpRun → Step → Type 0
+    HelperWaits m step = Waits allows waits same k.call ps k.first (k.with_help m) step
 
--- a run of HELP waits for this step, in this call
-abbrev pub HelpCallWaits : (Layout → History → ℕ → Type 0) → HelpRun → Call → History → Step → Type 0
-HelpCallWaits allows m c = HelpWaits allows c.layout c.pass m
+    -- the step of its HELP has told v
+    abbrev pub HelperIsTold : HelpRun → ℕ → Type 0
+    HelperIsTold m v = Told allows waits same k.call ps k.first ready (k.with_help m) v
 
--- what an answer of HELP says, in this call
-abbrev pub HelpCallAnswers : HelpRun → Call → History → Bool → Type 0
-HelpCallAnswers m c = HelpAnswers c.layout c.pass m
-
--- `allfrozen` is set, and those of the first p nodes that are finalized are marked
-abbrev pub HelpCallMarks : HelpRun → Call → History → ℕ → Type 0
-HelpCallMarks m c h p = Marks h (reading m) p
-
-module _ (allows : Layout → History → ℕ → Type 0) (c : Call) (ps : List SeatedPass) (first : HelpRun) where
-  -- a call of HELP begins with the run `first`
-  abbrev pub SeatHelpBegins : Type 0
-  SeatHelpBegins = CallBegins allows (HelpCallIsReady allows) c ps first
-
-  -- the call waits for this step, with the run at its place
-  abbrev pub SeatHelpWaits : HelpRun → Step → Type 0
-  SeatHelpWaits = Waits allows (HelpCallWaits allows) IsSameRecord c ps first
-
-  -- the step of the place has told v
-  abbrev pub SeatHelpTold : HelpRun → ℕ → Type 0
-  SeatHelpTold = Told allows (HelpCallWaits allows) IsSameRecord c ps first (HelpCallIsReady allows)
-
-  -- the call has ended with this answer
-  abbrev pub SeatHelpEnds : HelpRun → Bool → Type 0
-  SeatHelpEnds = Ends allows (HelpCallWaits allows) IsSameRecord c ps first HelpCallAnswers
-
-  -- in the call, `allfrozen` is set, and those of the first p nodes that are finalized are marked
-  abbrev pub SeatHelpMarks : HelpRun → ℕ → Type 0
-  SeatHelpMarks = Ends allows (HelpCallWaits allows) IsSameRecord c ps first HelpCallMarks
+    -- the last step of its HELP has told that `allfrozen` is set, and that those of the first p
+    -- nodes that are finalized are marked
+    pub record HelperMarks (m : HelpRun) (p : ℕ) : Type 0 where
+      pub last : HelpRun
+      pub is_scx : last.scx ≡ m.scx
+      pub told : ℕ
+      pub marks : (lay : Layout) (c : ℕ) (h : History) → HelpIsReady inner lay c last h (Some told) → Marks h (reading m) p
+      pub so : HelperIsTold last told

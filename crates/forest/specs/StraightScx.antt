@@ -2,10 +2,6 @@
 use Rattle.std.specs.Prelude.{◌≡◌, ℕ, List}
 use Rattle.arena.specs.declared.layout.Layout.{Layout}
 use Rattle.arena.specs.declared.step.Step.{Step}
-use Rattle.arena.specs.declared.step.Access.TheVariants.{Store}
-use Rattle.arena.specs.declared.step.Kind.TheVariants.{Fill}
-use Rattle.arena.specs.declared.word.ScxWord.{ScxWord}
-use Rattle.arena.specs.Words.{scx}
 use Rattle.arena.specs.History.{History}
 use Rattle.arena.specs.Machines.{Call}
 use Rattle.prims.specs.Put.Known.{PutIsReady, PutWaits, PutAnswers}
@@ -36,10 +32,6 @@ fresh_put snaps put number = standing snaps put number ScxStart Start
 -- a run with its SCX at a place
 abbrev pub scx_at : PutRun → ScxAt → PutRun
 scx_at m at = record { value = m.value; scx = record { scx = m.scx.scx; call = m.scx.call; update = m.scx.update; at = at }; at = AtScx }
-
--- the fill of this word of the run's SCX-record with v
-abbrev pub fill_of : PutRun → ScxWord → ℕ → Step
-fill_of m part v = record { kind = Fill; word = scx m.scx.scx.0 part; access = Store v }
 
 module _ (allows : Layout → History → ℕ → Type 0) (c : Call) (ps : List SeatedPass) (first : PutRun) where
   -- a call of SCX with a fresh cell begins with the run `first`

@@ -155,6 +155,7 @@ impl<K: WordKey, V: WordValue> Forest<Dict<K, V>> {
     }
 
     /// Makes a whole call. An ordered read takes memory.
+    #[inline(always)]
     fn ask(
         &self,
         alloc: Option<Global>,
@@ -175,8 +176,8 @@ impl<K: WordKey, V: WordValue> Forest<Dict<K, V>> {
     {
         let number = pass.taken();
         let share = replace(&mut pass.share, Share::of(&self.layout, pass.number));
-        let run = DictRun::new(alloc, request, share, self.tries, number);
-        let (run, reply) = calls::call(&self.words, &self.layout, &mut pass.seat, number, run);
+        let mut run = DictRun::new(alloc, request, share, self.tries, number);
+        let reply = calls::call(&self.words, &self.layout, &mut pass.seat, number, &mut run);
         pass.share = run.into_share();
         pass.blamed.note_reply(&reply);
         reply

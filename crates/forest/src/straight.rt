@@ -3,6 +3,7 @@
 //! where something is in the way: it goes on from that place.
 
 pub(crate) mod calls;
+pub(crate) mod changing;
 pub(crate) mod helping;
 pub(crate) mod llx;
 pub(crate) mod looking;
@@ -11,3 +12,4 @@ pub(crate) mod scx;
 pub(crate) mod updating;
 pub(crate) mod vlx;
 pub(crate) mod walk;
+pub(crate) mod working;

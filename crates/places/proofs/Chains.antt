@@ -1,6 +1,6 @@
 -- Looking for a turn in which a key has a value, from its newest change to its oldest.
 use Rattle.std.proofs.Common.{◌≡◌, ◌≢◌, ℕ, suc, ◌+◌, ◌-◌, ◌<◌, ◌≤◌, ◌⊎◌, inl, inr, ⊎_elim, Bool, true, false, cond, eqb, List, [], ◌∷◌, ◌++◌, length, length-append, map, reverse, get_or, Option, Some, None, refl, sym, ◌∙◌, ap, subst, arith, append_assoc}
-use Rattle.std.specs.Prelude.{leb, min, unwrap_or, is_none}
+use Rattle.std.specs.Prelude.{leb, min, unwrap_or, is_some, is_none}
 use Rattle.std.specs.Option.{option_eq}
 use Rattle.std.specs.Ordering.{nat_cmp}
 use Rattle.std.specs.BTreeMap.{is_at}
@@ -98,7 +98,7 @@ never_more : (key m : ℕ) (p : Place) (ps : List Place) (b : Bool) → eqb key 
 never_more key m p ps true same e rest = absurd (let y : Some (length ps) ≡ None = e in cc)
 never_more key m p ps false other e rest = rw other (same_branch (leb p.change.turn m) (value_at key m (changes_of ps))) ∙ rest e
 
-never : (key m : ℕ) (ps : List Place) → latest key ps ≡ None → value_at key m (changes_of ps) ≡ None
+pub never : (key m : ℕ) (ps : List Place) → latest key ps ≡ None → value_at key m (changes_of ps) ≡ None
 never key m [] e = refl
 never key m (p ∷ ps) e = never_more key m p ps (eqb key p.change.key) refl e (λ d. never key m ps d)
 
@@ -199,6 +199,10 @@ here_older key value first last until i place all linked x other late = record {
   none = λ m j to is. ⊎_elim (λ k. x.none m k to is) (λ k. let come : place.change.turn ≤ m = omega (j, k, late, arith) in other (omega (come, k, arith)) (sym (value_here key m place.change (changes_of x.older) x.key_is come) ∙ sym (x.agree m k) ∙ is)) (cases_lt_le until m);
 }
 
+-- where only one turn is looked at, it stays this one
+pub look_on : (key m turn : ℕ) (at : Option ℕ) (all : List Place) → m < turn → IsLookedFor key None m m (min m (turn - 1)) at all → IsLookedFor key None m m m at all
+look_on key m turn at all late x = let same : min m (turn - 1) ≡ m = omega (late, arith) in subst (λ (until : ℕ). IsLookedFor key None m m until at all) same x
+
 -- how many places may still be looked at
 abbrev pub places_left : Option ℕ → ℕ
 places_left None = 0
@@ -247,6 +251,15 @@ pub values_differ : (a b : Option ℕ) → option_eq eqb a b ≡ false → a ≢
 values_differ None b e same = absurd (let y : true ≡ false = rw (sym same) at e in cc)
 values_differ (Some x) b e same = absurd (let y : true ≡ false = sym (eq-eqb x x refl) ∙ (rw (sym same) at e) in cc)
 
+-- a value, whatever it is, or none
+pub some_value : (a : Option ℕ) → is_some a ≡ true → (v : ℕ) × (a ≡ Some v)
+some_value (Some v) e = (v, refl)
+some_value None e = absurd (let y : false ≡ true = e in cc)
+
+pub no_some : (a : Option ℕ) (v : ℕ) → is_some a ≡ false → a ≢ Some v
+no_some (Some w) v e = absurd (let y : true ≡ false = e in cc)
+no_some None v e = λ same. let y : None ≡ Some v = same in absurd (cc)
+
 -- In the words of a record
 
 -- what is found of the changes is found of the map after each turn
@@ -257,6 +270,10 @@ found_map key value first last m all calls lines a x = record {
   holds = value_is calls (written_log lines) (changes_of all) key m a ∙ x.holds;
   none_later = λ n i j e. x.none_later n i j (sym (value_is calls (written_log lines) (changes_of all) key n a) ∙ e);
 }
+
+-- what the change at a place has left to the key
+pub here_map : (key : ℕ) (value : Option ℕ) (first last until i : ℕ) (place : Place) (all : List Place) (calls : List Call) (lines : List Line) → AreEntries calls lines (changes_of all) → IsHere key value first last until i place all → place.change.turn ≤ until → place.change.value ≡ get key (map_at calls lines until)
+here_map key value first last until i place all calls lines a x come = sym (value_is calls (written_log lines) (changes_of all) key until a ∙ x.agree until (omega arith) ∙ value_here key until place.change (changes_of x.older) x.key_is come)
 
 pub nowhere_map : (key : ℕ) (value : Option ℕ) (first last : ℕ) (all : List Place) (calls : List Call) (lines : List Line) → AreEntries calls lines (changes_of all) → IsNowhere key value first last all → (n : ℕ) → first ≤ n → n ≤ last → get key (map_at calls lines n) ≢ value
 nowhere_map key value first last all calls lines a x n i j e = x n i j (sym (value_is calls (written_log lines) (changes_of all) key n a) ∙ e)

@@ -4,6 +4,7 @@ mod Counts
 mod Told
 mod Weights
 mod OrderedReads
+mod Tells
 mod Falls
 mod Keys
 mod Turns

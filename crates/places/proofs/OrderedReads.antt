@@ -23,7 +23,7 @@ use Rattle.places.proofs.Weights.{key_bound, value_beyond, weight_at, IsWeighed,
 
 -- What a reply says and which pairs it tells
 
-successor_first : (k : ℕ) (m : List Pair) → successor k m ≡ first_pair (filter (λ (p : Pair). ltb k p.key) m)
+pub successor_first : (k : ℕ) (m : List Pair) → successor k m ≡ first_pair (filter (λ (p : Pair). ltb k p.key) m)
 successor_first k [] = refl
 successor_first k (p ∷ ps) = go (ltb k p.key) (successor_first k ps)
   where
@@ -31,7 +31,7 @@ successor_first k (p ∷ ps) = go (ltb k p.key) (successor_first k ps)
     go true more = refl
     go false more = more
 
-between_all : (low high : ℕ) (m : List Pair) → between low high m ≡ filter (λ (p : Pair). leb low p.key && leb p.key high) m
+pub between_all : (low high : ℕ) (m : List Pair) → between low high m ≡ filter (λ (p : Pair). leb low p.key && leb p.key high) m
 between_all low high [] = refl
 between_all low high (p ∷ ps) = go (leb low p.key && leb p.key high) (between_all low high ps)
   where

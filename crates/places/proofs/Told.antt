@@ -39,7 +39,7 @@ filter_above f k (p ∷ ps) a = go (f p.key) (filter_above f k ps a.1)
     go true more = (a.0, more)
     go false more = more
 
-filter_rises : (f : ℕ → Bool) (m : List Pair) → IsRising m → IsRising (filter (λ (p : Pair). f p.key) m)
+pub filter_rises : (f : ℕ → Bool) (m : List Pair) → IsRising m → IsRising (filter (λ (p : Pair). f p.key) m)
 filter_rises f [] r = tt
 filter_rises f (p ∷ ps) r = go (f p.key) (filter_rises f ps r.1)
   where
@@ -96,7 +96,7 @@ some_same : (a b : ℕ) → Some a ≡ Some b → a ≡ b
 some_same a b e = cc
 
 -- lists that agree on all keys which the first pairs of the one reach have the same first pairs
-take_same : (n : ℕ) (b c : List Pair) → IsRising b → IsRising c → ((j : ℕ) → reaches n (take n c) j ≡ true → get j b ≡ get j c) → take n b ≡ take n c
+pub take_same : (n : ℕ) (b c : List Pair) → IsRising b → IsRising c → ((j : ℕ) → reaches n (take n c) j ≡ true → get j b ≡ get j c) → take n b ≡ take n c
 take_same zero b c r s agree = refl
 take_same (suc n) b [] r s agree = ap (take (suc n)) (no_values b (λ j. agree j (let few : ltb 0 (suc n) ≡ true = lt-ltb 0 (suc n) (omega arith) in rw few refl)))
 take_same (suc n) [] (q ∷ qs) r s agree = absurd (let y : None ≡ Some q.value = agree q.key (reaches_more n q.key q (take n qs) ∙ or_left (leb q.key q.key) _ (le-leb q.key q.key (omega arith))) ∙ get_first q qs in cc)

@@ -1,11 +1,11 @@
 -- Which changes of the map the entries of a record's log are. Entries and changes stand here with
 -- the newest first.
-use Rattle.std.specs.Prelude.{◌≡◌, ℕ, List, [], ◌∷◌, Option, Some, None}
-use Rattle.spelling.specs.OrderedMap.{MapCall, Edit, MapEdit, Insert, Delete, edit_key}
+use Rattle.std.specs.Prelude.{◌≡◌, ℕ, ◌≤◌, List, [], ◌∷◌, Option, Some, None}
+use Rattle.spelling.specs.OrderedMap.{MapCall, Edit, MapEdit, Insert, Delete, edit_key, get}
 use Rattle.script.specs.declared.command.Call.{Call}
 use Rattle.record.specs.declared.record.Line.{Line}
 use Rattle.record.specs.declared.record.Entry.{Entry}
-use Rattle.record.specs.MapRecord.{map_call_of, written_log}
+use Rattle.record.specs.MapRecord.{map_call_of, written_log, map_at}
 use Rattle.places.specs.declared.places.Change.{Change}
 
 -- the value that an edit leaves to its key
@@ -31,3 +31,7 @@ AreChangesOf calls _ _ = ⊥
 -- the changes are those of the log that the lines have written
 abbrev pub AreEntries : List Call → List Line → List Change → Type 0
 AreEntries calls lines changes = AreChangesOf calls (written_log lines) changes
+
+-- after some turn from `first` to `last` the map had this at the key
+abbrev pub HadWithin : List Call → List Line → ℕ → Option ℕ → ℕ → ℕ → Type 0
+HadWithin calls lines key value first last = (m : ℕ) × (first ≤ m) × (m ≤ last) × (get key (map_at calls lines m) ≡ value)

@@ -1,11 +1,16 @@
 //! Ordered reads: which keys they look for, and what they tell of the map.
-ghost use Rattle.std.specs.Prelude.{◌≡◌, ◌+◌, ◌^◌, ◌<◌, leb};
+ghost use Rattle.std.specs.Prelude.{◌≡◌, ◌≢◌, ℕ, ◌+◌, ◌^◌, ◌<◌, List, ◌∷◌, IfSome, IfNone, leb};
 ghost use Rattle.std.specs.List.{list_any};
+ghost use Rattle.std.specs.Ordering.{nat_cmp};
+ghost use Rattle.std.specs.Range.Bound.{IsForward};
+ghost use Rattle.std.specs.BTreeMap.Range.{IsLeBy, IsLtBy, range_contains};
+ghost use Rattle.spelling.specs.declared.pair.Pair.{Pair as PairOf};
 ghost use Rattle.spelling.specs.OrderedMap.{get};
 ghost use Rattle.places.specs.Ordered.{looks_for, most_told, reaches, is_unlike, IsNextBest};
 
 use script::Command;
 use spelling::Pair;
+use std::ops::Bound;
 
 /// Whether a key of this value is not as these pairs tell, which the read has told.
 pub(crate) fn is_unlike(command: &Command, pairs: &[Pair], key: u64, value: Option<u64>) -> bool
@@ -27,8 +32,22 @@ fn looks_for(command: &Command, key: u64) -> bool
     }
 }
 
+/// Between which keys it looks.
+pub(crate) fn bounds(command: &Command) -> (Bound<u64>, Bound<u64>)
+    ensures forward { IsForward (IsLeBy nat_cmp) (IsLtBy nat_cmp) result.0 result.1 }
+    ensures keys { (key : ℕ) → range_contains nat_cmp result.0 result.1 key ≡ looks_for command.now key }
+{
+    match command {
+        Command::Successor { key } => (Bound::Excluded(*key), Bound::Unbounded),
+        Command::Range(span) if span.low <= span.high => {
+            (Bound::Included(span.low), Bound::Included(span.high))
+        }
+        _ => (Bound::Included(0), Bound::Excluded(0)),
+    }
+}
+
 /// How many pairs it tells at most.
-fn most_told(command: &Command) -> usize
+pub(crate) fn most_told(command: &Command) -> usize
     ensures { result ≡ most_told command.now }
 {
     match command {
@@ -55,6 +74,19 @@ fn go_as_far(pairs: &[Pair], key: u64) -> bool
         }
     }
     false
+}
+
+/// The pairs behind the first one, where that has this key and this value.
+pub(crate) fn behind(pairs: &[Pair], key: u64, value: u64) -> Option<&[Pair]>
+    ensures some { IfSome result (λ rest. (first : PairOf) × (first.key ≡ key) × (first.value ≡ value) × (pairs.now ≡ first ∷ rest.now)) }
+    ensures none { IfNone result ((first : PairOf) (rest : List PairOf) → first.key ≡ key → first.value ≡ value → pairs.now ≢ first ∷ rest) }
+{
+    let (first, rest) = pairs.split_first()?;
+    if first.key == key && first.value == value {
+        Some(rest)
+    } else {
+        None
+    }
 }
 
 /// The value of the key in these pairs.

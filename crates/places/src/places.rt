@@ -5,7 +5,7 @@ ghost use Rattle.std.specs.BTreeMap.{get as get_newest};
 ghost use Rattle.places.specs.Links.{latest, AreLinked};
 
 use crate::changed::changed_key;
-use crate::ordered::{is_unlike, next_best};
+use crate::ordered::{behind, bounds, is_unlike, most_told, next_best};
 use arena::NoMemory;
 use record::Answer;
 use script::{Call, Command};
@@ -38,7 +38,7 @@ pub struct Places {
 }
 
 impl Places {
-    ghost use Rattle.std.specs.Prelude.{◌≡◌, ◌≢◌, ℕ, suc, ◌+◌, ◌≤◌, List, [], ◌∷◌, ◌++◌, Some, map, reverse, IfOk, IfSome, IfNone, OnOk, All};
+    ghost use Rattle.std.specs.Prelude.{◌≡◌, ◌≢◌, ℕ, suc, ◌+◌, ◌≤◌, false, List, [], ◌∷◌, ◌++◌, Some, map, reverse, IfOk, IfSome, IfNone, IsTrue, OnOk, All};
     ghost use Rattle.script.specs.declared.command.Call.{Call};
     ghost use Rattle.record.specs.declared.record.Line.{Line};
     ghost use Rattle.record.specs.MapRecord.{map_at};
@@ -49,7 +49,7 @@ impl Places {
     ghost use Rattle.places.specs.Links.{newest_value};
     ghost use Rattle.places.specs.declared.places.Place.{Place};
     ghost use Rattle.places.specs.Places.{changes, room, Knows, HoldsOfKey};
-    ghost use Rattle.places.specs.Entries.{AreEntries};
+    ghost use Rattle.places.specs.Entries.{AreEntries, HadWithin};
 
     /// No changes yet; of the keys that these calls may change. The only error is want of memory.
     pub fn new(alloc: Global, calls: &[Call]) -> Result<Places, NoMemory>
@@ -115,6 +115,68 @@ impl Places {
             at = place.before;
         }
         if value.is_none() { Some(until) } else { None }
+    }
+
+    /// Whether the key had a value, whatever it was, after some turn from `first` to `last`. It goes
+    /// back over the changes of this key alone.
+    pub fn had_some(&self, key: u64, first: u64, last: u64) -> bool
+        requires { first ≤ last }
+        ensures found { (calls : List Call) (lines : List Line) → AreEntries calls lines (changes self.now) → IsTrue result → (v : ℕ) × HadWithin calls lines key (Some v) first last }
+        ensures none { (calls : List Call) (lines : List Line) → AreEntries calls lines (changes self.now) → result ≡ false → (v n : ℕ) → first ≤ n → n ≤ last → get key (map_at calls lines n) ≢ Some v }
+    {
+        let mut turn = last;
+        let mut at = self.newest_of(key);
+        while let Some(i) = at {
+            let place = self.list[i];
+            if place.change.turn <= turn && place.change.value.is_some() {
+                return true;
+            }
+            if place.change.turn <= first {
+                return false;
+            }
+            turn = turn.min(place.change.turn - 1);
+            at = place.before;
+        }
+        false
+    }
+
+    /// Whether these pairs are what an ordered read tells of the map after a turn. It goes over the
+    /// keys between which the read looks alone, and no further than the read tells.
+    pub fn tells(&self, command: &Command, pairs: &[Pair], turn: u64) -> bool
+        ensures told { (calls : List Call) (lines : List Line) → AreEntries calls lines (changes self.now) → IsTrue result → pairs_read command.now (map_at calls lines turn) ≡ pairs.now }
+        ensures other { (calls : List Call) (lines : List Line) → AreEntries calls lines (changes self.now) → result ≡ false → pairs_read command.now (map_at calls lines turn) ≢ pairs.now }
+    {
+        let mut untold = most_told(command);
+        let mut rest = pairs;
+        for (key, newest) in self.newest.range(bounds(command)) {
+            if untold == 0 {
+                return rest.is_empty();
+            }
+            if let Some(value) = self.value_from(*newest, turn) {
+                let Some(others) = behind(rest, *key, value) else {
+                    return false;
+                };
+                untold -= 1;
+                rest = others;
+            }
+        }
+        rest.is_empty()
+    }
+
+    /// The value after a turn of the key whose newest change stands here.
+    fn value_from(&self, newest: Option<usize>, turn: u64) -> Option<u64>
+        requires { (key : ℕ) × (newest ≡ latest key (reverse self.now.list.items)) }
+        ensures { (key : ℕ) (calls : List Call) (lines : List Line) → newest ≡ latest key (reverse self.now.list.items) → AreEntries calls lines (changes self.now) → result ≡ get key (map_at calls lines turn) }
+    {
+        let mut at = newest;
+        while let Some(i) = at {
+            let place = self.list[i];
+            if place.change.turn <= turn {
+                return place.change.value;
+            }
+            at = place.before;
+        }
+        None
     }
 
     /// The greatest turn from `first` to `last` after which the map replies to an ordered read what

@@ -296,6 +296,7 @@ impl<S: Shape> Machine<S> for LlxRun {
 
     ghost asks_first = { λ _. Unit {0} };
 
+    #[inline(always)]
     fn next(&mut self, got: Option<u64>) -> Turn<Llx> {
         let found = got.unwrap_or(0);
         let at = self.at;

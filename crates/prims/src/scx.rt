@@ -174,6 +174,7 @@ impl<S: Shape> Machine<S> for ScxRun {
 
     ghost asks_first = { λ _. Unit {0} };
 
+    #[inline(always)]
     fn next(&mut self, got: Option<u64>) -> Turn<Scx> {
         let at = self.at;
         match at {

@@ -12,7 +12,7 @@ use Rattle.record.specs.declared.record.Line.{Line}
 use Rattle.record.specs.Schedules.{IsRunOf}
 use Rattle.report.specs.Report.{report_text}
 use Rattle.program.specs.declared.fault.Fault.{Fault}
-use Rattle.program.specs.declared.fault.Fault.TheVariants.{Usage, BadGate, BadScript, BadSchedule, NoMemory, Read, Write}
+use Rattle.program.specs.declared.fault.Fault.TheVariants.{Usage, BadGate, BadScript, BadSchedule, NotLawful, NoMemory, Read, Write}
 
 -- of what the two texts say there was a run, and behind the old bytes stands its report
 pub record HasPrinted (mode : Mode) (script_text schedule_text : List ℕ) (old new : Option (List ℕ)) : Type 0 where
@@ -30,6 +30,7 @@ abbrev pub IsDeserved : Mode → List ℕ → List ℕ → Fault → Type 0
 IsDeserved mode script_text schedule_text (BadScript row cause) = IsScriptFault mode script_text row cause
 IsDeserved mode script_text schedule_text (BadSchedule row cause) =
     (limits : Limits) × (layout : Layout) × (calls : List Call) × SayScript mode script_text limits layout calls × IsScheduleFault layout.passes schedule_text row cause
+IsDeserved mode script_text schedule_text (NotLawful row) = ⊤
 IsDeserved mode script_text schedule_text Usage = ⊤
 IsDeserved mode script_text schedule_text BadGate = ⊤
 IsDeserved mode script_text schedule_text NoMemory = ⊤

@@ -6,14 +6,19 @@ use Rattle.script.specs.declared.fault.ScriptCause.{ScriptCause}
 use Rattle.script.specs.declared.fault.ScheduleCause.{ScheduleCause}
 use Rattle.texts.specs.declared.fault.TextFault.{TextFault}
 use Rattle.texts.specs.declared.fault.TextFault.TheVariants as text
+use Rattle.report.specs.declared.fault.ReportFault.{ReportFault}
+use Rattle.report.specs.declared.fault.ReportFault.TheVariants as report
+use Rattle.audit.specs.declared.fault.AuditFault.{AuditFault}
+use Rattle.audit.specs.declared.fault.AuditFault.TheVariants as audit
 use Rattle.program.specs.declared.fault.Fault.{Fault}
-use Rattle.program.specs.declared.fault.Fault.TheVariants.{Usage, BadGate, BadScript, BadSchedule, NoMemory, Read, Write}
+use Rattle.program.specs.declared.fault.Fault.TheVariants.{Usage, BadGate, BadScript, BadSchedule, NotLawful, NoMemory, Read, Write}
 
--- the exit status: 1 for a refused script or schedule, 2 for the words, 3
--- for memory, 4 for a read or a write that failed
+-- the exit status: 1 for a refused script, schedule or report, 2 for the words, 3 for memory, 4 for
+-- a read or a write that failed
 abbrev pub status_of : Fault → ℕ
 status_of (BadScript _ _) = 1
 status_of (BadSchedule _ _) = 1
+status_of (NotLawful _) = 1
 status_of Usage = 2
 status_of BadGate = 2
 status_of NoMemory = 3
@@ -36,3 +41,14 @@ fault_of_schedule (text.Bad row cause) = BadSchedule row cause
 abbrev pub fault_of_write : WriteFault → Fault
 fault_of_write write.NoMemory = NoMemory
 fault_of_write write.Write = Write
+
+-- the program's fault where a report was not read
+abbrev pub fault_of_report : ReportFault → Fault
+fault_of_report report.NoMemory = NoMemory
+fault_of_report report.Read = Read
+fault_of_report (report.NotLawful row) = NotLawful row
+
+-- the program's fault where a record was not found lawful
+abbrev pub fault_of_audit : AuditFault → Fault
+fault_of_audit audit.NoMemory = NoMemory
+fault_of_audit (audit.NotLawful row) = NotLawful row

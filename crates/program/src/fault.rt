@@ -1,10 +1,11 @@
 //! Why the program stops early.
 ghost use Rattle.std.specs.Prelude.{◌≡◌};
-ghost use Rattle.program.specs.Status.{fault_of_schedule, fault_of_script, fault_of_write, status_of};
+ghost use Rattle.program.specs.Status.{fault_of_audit, fault_of_report, fault_of_schedule, fault_of_script, fault_of_write, status_of};
 ghost use Rattle.program.specs.declared.fault.Fault.TheVariants as fault;
 
 use arena::NoMemory;
-use report::WriteFault;
+use audit::AuditFault;
+use report::{ReportFault, WriteFault};
 use script::{ScheduleCause, ScheduleFault, ScriptCause, ScriptFault};
 use std::io;
 use std::io::{ErrorKind, Write};
@@ -25,6 +26,9 @@ pub enum Fault {
     /// The schedule is refused: its first faulty row, counted from 1, and what is wrong with it.
     #[error("bad schedule: row {row}: {cause}")]
     BadSchedule { row: u64, cause: ScheduleCause },
+    /// The report is refused: its first row, counted from 1, that is not as the rows before it ask.
+    #[error("not lawful: row {row}")]
+    NotLawful { row: u64 },
     /// An allocation was refused.
     #[error("no memory")]
     NoMemory,
@@ -42,7 +46,9 @@ impl Fault {
         ensures { result ≡ status_of self }
     {
         match self {
-            Fault::BadScript { row: _, cause: _ } | Fault::BadSchedule { row: _, cause: _ } => 1,
+            Fault::BadScript { row: _, cause: _ }
+            | Fault::BadSchedule { row: _, cause: _ }
+            | Fault::NotLawful { row: _ } => 1,
             Fault::Usage | Fault::BadGate => 2,
             Fault::NoMemory => 3,
             Fault::Read | Fault::Write => 4,
@@ -79,6 +85,29 @@ impl From<ScheduleFault> for Fault {
             ScheduleFault::NoMemory => Fault::NoMemory,
             ScheduleFault::Read => Fault::Read,
             ScheduleFault::Bad { row, cause } => Fault::BadSchedule { row, cause },
+        }
+    }
+}
+
+impl From<ReportFault> for Fault {
+    ghost from_gives = { λ given made. made ≡ fault_of_report given };
+
+    fn from(fault: ReportFault) -> Fault {
+        match fault {
+            ReportFault::NoMemory => Fault::NoMemory,
+            ReportFault::Read => Fault::Read,
+            ReportFault::NotLawful { row } => Fault::NotLawful { row },
+        }
+    }
+}
+
+impl From<AuditFault> for Fault {
+    ghost from_gives = { λ given made. made ≡ fault_of_audit given };
+
+    fn from(fault: AuditFault) -> Fault {
+        match fault {
+            AuditFault::NoMemory => Fault::NoMemory,
+            AuditFault::NotLawful { row } => Fault::NotLawful { row },
         }
     }
 }

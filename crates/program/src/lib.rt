@@ -1,7 +1,8 @@
 //! What the program does, over any readers and writers: plays a script by a schedule, and prints
-//! the report; or runs one with threads, and prints the outcome.
+//! the report; runs one with threads, and prints the outcome; or audits a report.
 #![tactic(auto)]
 
+mod audited;
 mod fault;
 mod lines;
 mod orders;
@@ -10,6 +11,7 @@ mod play;
 mod reply;
 mod threaded;
 
+pub use audited::audit_over;
 pub use fault::Fault;
 pub use orders::run;
 pub use play::play_over;

@@ -2,7 +2,15 @@
 #![tactic(auto)]
 
 #[cfg(test)]
+mod audit_tests;
+#[cfg(test)]
 mod call;
+#[cfg(test)]
+mod cell_race_tests;
+#[cfg(test)]
+mod change;
+#[cfg(test)]
+mod changed_tests;
 #[cfg(test)]
 mod check;
 #[cfg(test)]

@@ -11,7 +11,17 @@ pub(crate) type Race = (&'static str, &'static str);
 
 /// The record of a script on the tree by a schedule.
 pub(crate) fn played(alloc: Global, script: &str, schedule: &str) -> Result<Record, Fault> {
-    let script = read_script(alloc, Mode::Tree, &mut Metered::new(script.as_bytes()))?;
+    played_in(alloc, Mode::Tree, script, schedule)
+}
+
+/// The record of a script of a mode by a schedule.
+pub(crate) fn played_in(
+    alloc: Global,
+    mode: Mode,
+    script: &str,
+    schedule: &str,
+) -> Result<Record, Fault> {
+    let script = read_script(alloc, mode, &mut Metered::new(script.as_bytes()))?;
     let schedule = read_schedule(alloc, &script, &mut Metered::new(schedule.as_bytes()))?;
     Ok(run(alloc, &script, &schedule)?)
 }

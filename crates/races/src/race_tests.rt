@@ -5,6 +5,7 @@ use crate::check::check;
 use crate::counts::Counts;
 use crate::race::played;
 use crate::random::Random;
+use audit::audit;
 use std::alloc::{AllocError, Global};
 use std::test::Fail;
 
@@ -13,7 +14,11 @@ const SEED: u64 = 20260723;
 const RACES: u64 = 400;
 
 /// A few calls of so many clients on few keys, under tight limits.
-fn random_script(alloc: Global, random: &mut Random, clients: u64) -> Result<String, AllocError>
+pub(crate) fn random_script(
+    alloc: Global,
+    random: &mut Random,
+    clients: u64,
+) -> Result<String, AllocError>
     requires { 0 < clients }
 {
     let nodes = random.among([2, 6, 9, 40]);
@@ -39,7 +44,11 @@ fn random_script(alloc: Global, random: &mut Random, clients: u64) -> Result<Str
 }
 
 /// Turns of these clients, long ones or short ones. After half of the schedules no call is left.
-fn random_schedule(alloc: Global, random: &mut Random, clients: u64) -> Result<String, AllocError>
+pub(crate) fn random_schedule(
+    alloc: Global,
+    random: &mut Random,
+    clients: u64,
+) -> Result<String, AllocError>
     requires some { 0 < clients }
     requires few { clients ≤ 4 }
 {
@@ -72,6 +81,11 @@ fn random_races_pass(rt: HostRuntime) -> Result<(), Fail> {
         let record = played(alloc, script.as_str(), schedule.as_str())?;
         assert_eq!(rt;
             check(alloc, &record),
+            Ok(()),
+            "race {race}:\n{script}{schedule}"
+        );
+        assert_eq!(rt;
+            audit(alloc, &record),
             Ok(()),
             "race {race}:\n{script}{schedule}"
         );

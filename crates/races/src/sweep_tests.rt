@@ -1,6 +1,7 @@
 //! Races in which a client stops after each of its steps in turn.
 use crate::check::check;
 use crate::race::played;
+use audit::audit;
 use std::alloc::{AllocError, Global};
 use std::process::Abort;
 use std::test::Fail;
@@ -102,6 +103,11 @@ fn sweep(rt: &impl Abort, alloc: Global, race: Race, then: Then) -> Result<(), F
         let record = played(alloc, race.script, schedule.as_str())?;
         assert_eq!(rt;
             check(alloc, &record),
+            Ok(()),
+            "{then:?} after {turns} turns of {race:?}"
+        );
+        assert_eq!(rt;
+            audit(alloc, &record),
             Ok(()),
             "{then:?} after {turns} turns of {race:?}"
         );

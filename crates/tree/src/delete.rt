@@ -19,6 +19,7 @@ impl Delete {
     /// A delete of that key with so many tries, in the caller's call of this number; it takes fresh
     /// nodes and SCX-records out of the share, at most one node and one SCX-record in a try. Where
     /// `nodes` are taken when it ends, it makes at most `tries * (3 * (2 + nodes) + 301)` steps.
+    #[inline(always)]
     pub fn run(self, share: Share, tries: u32, call: u64) -> DeleteRun
         ensures start { result.at ≡ UpdateAt.Start }
         ensures edit { result.edit ≡ self }

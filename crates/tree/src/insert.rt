@@ -20,6 +20,7 @@ impl Insert {
     /// An insert of that with so many tries, in the caller's call of this number; it takes fresh nodes
     /// and SCX-records out of the share, at most three nodes and one SCX-record in a try. Where
     /// `nodes` are taken when it ends, it makes at most `tries * (3 * (2 + nodes) + 178)` steps.
+    #[inline(always)]
     pub fn run(self, share: Share, tries: u32, call: u64) -> InsertRun
         ensures start { result.at ≡ UpdateAt.Start }
         ensures edit { result.edit ≡ self }

@@ -88,6 +88,7 @@ impl<E: Edit + Drop> UpdateRun<E> {
     ghost use Rattle.updates.specs.Pieces.{with_word, fills_behind};
 
     /// A run that has not begun, in the caller's call of this number.
+    #[inline(always)]
     pub fn new(edit: E, share: Share, tries: u32, call: u64) -> UpdateRun<E>
         ensures start { result.at ≡ UpdateAt.Start }
         ensures share { result.share ≡ share }
@@ -108,6 +109,7 @@ impl<E: Edit + Drop> UpdateRun<E> {
     }
 
     /// Gives the share back.
+    #[inline(always)]
     pub fn into_share(self) -> Share
         ensures { result ≡ self.share }
     {
@@ -170,6 +172,7 @@ impl<E: Edit + Drop> UpdateRun<E> {
     }
 
     /// What the share lacks of so many fresh nodes and an SCX-record.
+    #[inline(always)]
     fn lacks(&self, need: Need) -> Option<Full>
         ensures enough { need ≢ Need.Nothing → IfNone result (HasNodesFor need self.now.share) }
         ensures short { IfSome result (λ full. IsShort need self.now.share full.what full.left) }
@@ -187,6 +190,7 @@ impl<E: Edit + Drop> UpdateRun<E> {
     }
 
     /// Goes on behind the walk, if the share has what the edit needs.
+    #[inline(always)]
     pub fn test_share(&mut self, found: Found) -> Turn<Updated>
         ensures turn { (c : Call) (b h : History) → IsRun TreeAllows c.layout h → IsTry c b → IsUntouched c b self.old.share → Begins E.means self.old (from c b) h → IsQuietSince c.layout c.pass b h → HasFound (E.means.goal self.old.edit) (from c b) h found → UpdateTurn E.means c h self.new result }
         ensures same { (self.new.edit ≡ self.old.edit) × (self.new.call ≡ self.old.call) }
@@ -206,6 +210,7 @@ impl<E: Edit + Drop> UpdateRun<E> {
     }
 
     /// Looks at the next node that the edit names.
+    #[inline(always)]
     fn look(&mut self, found: Found) -> Turn<Updated>
         ensures turn { (c : Call) (b h : History) → IsRun TreeAllows c.layout h → IsTry c b → CanLook E.means self.old (from c b) h found → UpdateTurn E.means c h self.new result }
         ensures same { (self.new.edit ≡ self.old.edit) × (self.new.call ≡ self.old.call) }
@@ -221,6 +226,7 @@ impl<E: Edit + Drop> UpdateRun<E> {
     }
 
     /// Begins the LLX of a node.
+    #[inline(always)]
     fn begin_look(&mut self, found: Found, node: NodeNo) -> Turn<Updated>
         ensures turn { (c : Call) (b h : History) → IsRun TreeAllows c.layout h → IsTry c b → CanLook E.means self.old (from c b) h found → E.means.looks self.old.edit found self.old.snaps.items ≡ Look.At node → IsOpened c.layout h node.0 → UpdateTurn E.means c h self.new result }
         ensures same { (self.new.edit ≡ self.old.edit) × (self.new.call ≡ self.old.call) }
@@ -261,6 +267,7 @@ impl<E: Edit + Drop> UpdateRun<E> {
     }
 
     /// Keeps a snapshot, and goes on behind it.
+    #[inline(always)]
     pub fn looked(&mut self, found: Found, snap: Snap) -> Turn<Updated>
         ensures turn { (c : Call) (b h : History) → IsRun TreeAllows c.layout h → IsTry c b → CanLook E.means self.old (from c b) h found → E.means.looks self.old.edit found self.old.snaps.items ≡ Look.At snap.node → IsSnapshot c.layout h snap.node.0 snap → UpdateTurn E.means c h self.new result }
         ensures same { (self.new.edit ≡ self.old.edit) × (self.new.call ≡ self.old.call) }
@@ -273,6 +280,7 @@ impl<E: Edit + Drop> UpdateRun<E> {
     }
 
     /// Takes the fresh nodes, once all snapshots are there.
+    #[inline(always)]
     fn begin_work(&mut self, found: Found) -> Turn<Updated>
         ensures turn { (c : Call) (b h : History) → IsRun TreeAllows c.layout h → IsTry c b → CanLook E.means self.old (from c b) h found → E.means.looks self.old.edit found self.old.snaps.items ≡ Look.Enough → UpdateTurn E.means c h self.new result }
         ensures same { (self.new.edit ≡ self.old.edit) × (self.new.call ≡ self.old.call) }
@@ -293,6 +301,7 @@ impl<E: Edit + Drop> UpdateRun<E> {
     }
 
     /// Takes one fresh node.
+    #[inline(always)]
     fn begin_one(&mut self, found: Found) -> Turn<Updated>
         ensures turn { (c : Call) (b h : History) → IsRun TreeAllows c.layout h → IsTry c b → CanLook E.means self.old (from c b) h found → E.means.looks self.old.edit found self.old.snaps.items ≡ Look.Enough → E.means.needs self.old.edit found ≡ Need.One → self.old.loaded ≡ nothing_loaded → UpdateTurn E.means c h self.new result }
         ensures same { (self.new.edit ≡ self.old.edit) × (self.new.call ≡ self.old.call) }
@@ -310,6 +319,7 @@ impl<E: Edit + Drop> UpdateRun<E> {
     }
 
     /// Takes three.
+    #[inline(always)]
     fn begin_three(&mut self, found: Found) -> Turn<Updated>
         ensures turn { (c : Call) (b h : History) → IsRun TreeAllows c.layout h → IsTry c b → CanLook E.means self.old (from c b) h found → E.means.looks self.old.edit found self.old.snaps.items ≡ Look.Enough → E.means.needs self.old.edit found ≡ Need.Three → self.old.loaded ≡ nothing_loaded → UpdateTurn E.means c h self.new result }
         ensures same { (self.new.edit ≡ self.old.edit) × (self.new.call ≡ self.old.call) }
@@ -329,6 +339,7 @@ impl<E: Edit + Drop> UpdateRun<E> {
     }
 
     /// Takes a fresh node.
+    #[inline(always)]
     fn take(&mut self) -> NodeNo
         ensures spent { (self.old.share.nodes ≤ self.new.share.nodes + 1) × (self.new.share.scx ≡ self.old.share.scx) }
         ensures taken { 0 < self.old.share.nodes → (result.0 ≡ self.old.share.next_node) × (self.new.share ≡ less_a_node self.old.share) }
@@ -342,6 +353,7 @@ impl<E: Edit + Drop> UpdateRun<E> {
     }
 
     /// Loads the next word for the fresh node of this place, or begins to fill it.
+    #[inline(always)]
     fn load(&mut self, found: Found, nth: Nth) -> Turn<Updated>
         ensures turn { (c : Call) (b h : History) → IsRun TreeAllows c.layout h → IsTry c b → CanLoad E.means self.old (from c b) h found nth → UpdateTurn E.means c h self.new result }
         ensures same { (self.new.edit ≡ self.old.edit) × (self.new.call ≡ self.old.call) }
@@ -363,6 +375,7 @@ impl<E: Edit + Drop> UpdateRun<E> {
     }
 
     /// Goes on with what that load has told.
+    #[inline(always)]
     pub fn load_on(&mut self, found: Found, nth: Nth, part: NodeWord, told: u64) -> Turn<Updated>
         ensures turn { (c : Call) (b h : History) → IsRun TreeAllows c.layout h → IsTry c b → Loads E.means self.old (from c b) h found nth part → value h (node (copied E.means self.old found) part) ≡ told → UpdateTurn E.means c h self.new result }
         ensures same { (self.new.edit ≡ self.old.edit) × (self.new.call ≡ self.old.call) }
@@ -375,6 +388,7 @@ impl<E: Edit + Drop> UpdateRun<E> {
     }
 
     /// Fills a word of the fresh node of this place.
+    #[inline(always)]
     fn fill(&mut self, found: Found, nth: Nth, part: NodeWord) -> Turn<Updated>
         ensures turn { (c : Call) (b h : History) → IsRun TreeAllows c.layout h → IsTry c b → CanFill E.means self.old (from c b) h found nth part → UpdateTurn E.means c h self.new result }
         ensures same { (self.new.edit ≡ self.old.edit) × (self.new.call ≡ self.old.call) }
@@ -395,6 +409,7 @@ impl<E: Edit + Drop> UpdateRun<E> {
     }
 
     /// Goes on behind that fill: with the next word, the next node, or the SCX.
+    #[inline(always)]
     pub fn fill_on(&mut self, found: Found, nth: Nth, part: NodeWord) -> Turn<Updated>
         ensures turn { (c : Call) (b h : History) → IsRun TreeAllows c.layout h → IsTry c b → IsFilledUpTo E.means self.old (from c b) h found nth part → UpdateTurn E.means c h self.new result }
         ensures same { (self.new.edit ≡ self.old.edit) × (self.new.call ≡ self.old.call) }
@@ -418,6 +433,7 @@ impl<E: Edit + Drop> UpdateRun<E> {
 
     /// What its SCX is to do: it covers all that was looked at and finalizes all but the first, of
     /// which a field gets the last fresh node.
+    #[inline(always)]
     fn update(&self, found: &Found) -> Update
         ensures snaps { result.snaps ≡ self.now.snaps.items }
         ensures few { length self.now.snaps.items ≤ 4 }
@@ -438,6 +454,7 @@ impl<E: Edit + Drop> UpdateRun<E> {
     }
 
     /// Begins the SCX.
+    #[inline(always)]
     fn begin_scx(&mut self, found: Found) -> Turn<Updated>
         ensures turn { (c : Call) (b h : History) → IsRun TreeAllows c.layout h → IsTry c b → CanScx E.means self.old (from c b) h found → UpdateTurn E.means c h self.new result }
         ensures same { (self.new.edit ≡ self.old.edit) × (self.new.call ≡ self.old.call) }

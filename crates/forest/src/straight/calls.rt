@@ -24,92 +24,51 @@ fn finish<K: WordKey, V: WordValue>(
     layout: &Layout,
     seat: &mut Seat<u8, SeatView>,
     number: u64,
-    machine: DictRun<K, V>,
+    machine: &mut DictRun<K, V>,
     turn: Turn<Updated>,
-) -> (DictRun<K, V>, Reply<K, V>)
+) -> Reply<K, V>
     requires table { IsTableOf words.now.table.shared.table_id words.now.table.shared.key layout.now × (seat.old.table_id ≡ words.now.table.shared.table_id) }
-    requires stands { (c : Call) × (first : DictRun K V) × (c.layout ≡ layout.now) × (c.number ≡ number) × SeatUpdateStands K.is_valid K.word_of V.is_valid V.word_of c seat.old.me.0.passes first machine turn }
+    requires stands { (c : Call) × (first : DictRun K V) × (c.layout ≡ layout.now) × (c.number ≡ number) × SeatUpdateStands K.is_valid K.word_of V.is_valid V.word_of c seat.old.me.0.passes first machine.old turn }
     ensures table { (seat.new.table_id ≡ seat.old.table_id) × (seat.new.me.1 ≡ seat.old.me.1) }
-    ensures ends { (c : Call) (first : DictRun K V) → c.layout ≡ layout.now → c.number ≡ number → SeatUpdateStands K.is_valid K.word_of V.is_valid V.word_of c seat.old.me.0.passes first machine turn → SeatDictEnds K.is_valid K.word_of V.is_valid V.word_of c seat.new.me.0.passes first result.0 result.1 }
-    ensures steps { seat_steps seat.new.me.0.passes ≤ seat_steps seat.old.me.0.passes + weight turn (map_left machine.run (shared_nodes layout.now)) }
+    ensures ends { (c : Call) (first : DictRun K V) → c.layout ≡ layout.now → c.number ≡ number → SeatUpdateStands K.is_valid K.word_of V.is_valid V.word_of c seat.old.me.0.passes first machine.old turn → SeatDictEnds K.is_valid K.word_of V.is_valid V.word_of c seat.new.me.0.passes first machine.new result }
+    ensures steps { seat_steps seat.new.me.0.passes ≤ seat_steps seat.old.me.0.passes + weight turn (map_left machine.old.run (shared_nodes layout.now)) }
 {
     match turn {
         Turn::Ask(step) => complete(words, layout, seat, number, machine, Turn::Ask(step)),
-        Turn::Done(updated) => {
-            let reply = translated(machine.alloc, WordReply::of_update(updated));
-            (machine, reply)
-        }
+        Turn::Done(updated) => translated(machine.alloc, WordReply::of_update(updated)),
     }
 }
 
-/// Makes a whole call of a dictionary: the first walk of an edit in line; else the machine goes on.
+/// Makes a whole call of a dictionary: the first try of an edit in line; else the machine goes on.
 #[inline(always)]
 pub(crate) fn call<K: WordKey, V: WordValue>(
     words: &Words<Dict<K, V>>,
     layout: &Layout,
     seat: &mut Seat<u8, SeatView>,
     number: u64,
-    machine: DictRun<K, V>,
-) -> (DictRun<K, V>, Reply<K, V>)
+    machine: &mut DictRun<K, V>,
+) -> Reply<K, V>
     requires table { IsTableOf words.now.table.shared.table_id words.now.table.shared.key layout.now × (seat.old.table_id ≡ words.now.table.shared.table_id) }
-    requires begins { (c : Call) × (c.layout ≡ layout.now) × (c.number ≡ number) × SeatDictBegins K.is_valid K.word_of V.is_valid V.word_of c seat.old.me.0.passes machine }
+    requires begins { (c : Call) × (c.layout ≡ layout.now) × (c.number ≡ number) × SeatDictBegins K.is_valid K.word_of V.is_valid V.word_of c seat.old.me.0.passes machine.old }
     ensures table { (seat.new.table_id ≡ seat.old.table_id) × (seat.new.me.1 ≡ seat.old.me.1) }
-    ensures ends { (c : Call) → c.layout ≡ layout.now → c.number ≡ number → SeatDictBegins K.is_valid K.word_of V.is_valid V.word_of c seat.old.me.0.passes machine → SeatDictEnds K.is_valid K.word_of V.is_valid V.word_of c seat.new.me.0.passes machine result.0 result.1 }
-    ensures steps { seat_steps seat.new.me.0.passes ≤ seat_steps seat.old.me.0.passes + map_left machine.run (shared_nodes layout.now) }
+    ensures ends { (c : Call) → c.layout ≡ layout.now → c.number ≡ number → SeatDictBegins K.is_valid K.word_of V.is_valid V.word_of c seat.old.me.0.passes machine.old → SeatDictEnds K.is_valid K.word_of V.is_valid V.word_of c seat.new.me.0.passes machine.old machine.new result }
+    ensures steps { seat_steps seat.new.me.0.passes ≤ seat_steps seat.old.me.0.passes + map_left machine.old.run (shared_nodes layout.now) }
 {
-    let DictRun {
-        run,
-        tries,
-        alloc,
-        types,
-    } = machine;
-    match run {
-        MapRun::Insert(mut update) => {
+    match &mut machine.run {
+        MapRun::Insert(update) => {
             let key = update.edit.key;
             let turn = updating::begin::<Dict<K, V>, DictRun<K, V>, Insert>(
-                words,
-                layout,
-                seat,
-                number,
-                &mut update,
-                key,
+                words, layout, seat, number, update, key,
             );
-            let run = MapRun::Insert(update);
-            let machine = DictRun {
-                run,
-                tries,
-                alloc,
-                types,
-            };
             finish(words, layout, seat, number, machine, turn)
         }
-        MapRun::Delete(mut update) => {
+        MapRun::Delete(update) => {
             let key = update.edit.key;
             let turn = updating::begin::<Dict<K, V>, DictRun<K, V>, Delete>(
-                words,
-                layout,
-                seat,
-                number,
-                &mut update,
-                key,
+                words, layout, seat, number, update, key,
             );
-            let run = MapRun::Delete(update);
-            let machine = DictRun {
-                run,
-                tries,
-                alloc,
-                types,
-            };
             finish(words, layout, seat, number, machine, turn)
         }
-        run => {
-            let machine = DictRun {
-                run,
-                tries,
-                alloc,
-                types,
-            };
-            whole(words, layout, seat, number, machine)
-        }
+        _ => whole(words, layout, seat, number, machine),
     }
 }

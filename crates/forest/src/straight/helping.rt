@@ -1,61 +1,62 @@
-//! HELP with its steps in line.
-ghost use Rattle.std.specs.Prelude.{◌≡◌, ◌≢◌, ◌+◌, ◌≤◌, ◌<◌, ◌⊎◌, ℕ, suc, true, false, IfSome, IfNone};
+//! HELP, of whatever machine helps: its steps in line.
+ghost use Rattle.std.specs.Prelude.{◌≡◌, ◌≢◌, ◌+◌, ◌≤◌, ◌<◌, ◌⊎◌, ℕ, suc, true, false, IfSome, IfNone, IfOk, IfErr};
 ghost use Rattle.arena.specs.ScxRecords.{plan_finalizes};
 ghost use Rattle.arena.specs.MemberIndex.{member_index};
 ghost use Rattle.help.specs.Help.Steps.{help_left};
-ghost use Rattle.help.specs.Help.Known.{first_place};
-ghost use Rattle.arena.specs.Machines.{Call};
+ghost use Rattle.help.specs.Help.Known.{first_place, settled_load};
 ghost use Rattle.help.specs.declared.state.HelpRun.{HelpRun};
 ghost use Rattle.forest.specs.TableRule.{IsTableOf};
 ghost use Rattle.forest.specs.Traces.{seat_steps};
-ghost use Rattle.forest.specs.StraightHelp.{SeatHelpBegins, SeatHelpWaits, SeatHelpTold, SeatHelpMarks, SeatHelpEnds};
+ghost use Rattle.forest.specs.StraightHelp.{Helper, HelperWaits, HelperIsTold, HelperMarks};
 
-use crate::steps::{complete, step_of};
+use crate::straight::placed::step;
 use crate::view::SeatView;
 use crate::words::Words;
 use arena::{
-    Access, COMMITTED, Kind, Layout, MemberIndex, NodeNo, NodeWord, Plan, ScxNo, ScxWord, Shape,
-    Step, Turn, Word,
+    Access, COMMITTED, Kind, Layout, Machine, MemberIndex, NodeNo, NodeWord, Plan, ScxNo, ScxWord,
+    Shape, Step, Word,
 };
 use atomic_table::Seat;
 use help::{HelpAt, HelpRun};
 
 /// Makes the step that a HELP waits for.
 #[inline(always)]
-fn act<S: Shape>(
+fn act<S: Shape, M: Machine<S>, T: Shape>(
     words: &Words<S>,
     layout: &Layout,
     seat: &mut Seat<u8, SeatView>,
     number: u64,
-    run: &HelpRun,
-    at: HelpAt,
-    step: Step,
+    kind: Kind,
+    word: Word,
+    access: Access,
 ) -> u64
     requires table { IsTableOf words.now.table.shared.table_id words.now.table.shared.key layout.now × (seat.old.table_id ≡ words.now.table.shared.table_id) }
-    requires waits { (c : Call) × (first : HelpRun) × (c.layout ≡ layout.now) × (c.number ≡ number) × SeatHelpWaits S.allows c seat.old.me.0.passes first (record run.now { at = at }) step }
+    requires waits { (k : Helper T.allows S.allows M.ready M.waits M.same layout.now number) × (m : HelpRun) × HelperWaits T.allows S.allows M.ready M.waits M.same layout.now number k seat.old.me.0.passes m record { kind = kind; word = word; access = access } }
     ensures table { (seat.new.table_id ≡ seat.old.table_id) × (seat.new.me.1 ≡ seat.old.me.1) }
     ensures one { seat_steps seat.new.me.0.passes ≡ suc (seat_steps seat.old.me.0.passes) }
-    ensures told { (c : Call) (first : HelpRun) → c.layout ≡ layout.now → c.number ≡ number → SeatHelpWaits S.allows c seat.old.me.0.passes first (record run.now { at = at }) step → SeatHelpTold S.allows c seat.new.me.0.passes first (record run.now { at = at }) result }
+    ensures told { (k : Helper T.allows S.allows M.ready M.waits M.same layout.now number) (m : HelpRun) → HelperWaits T.allows S.allows M.ready M.waits M.same layout.now number k seat.old.me.0.passes m record { kind = kind; word = word; access = access } → HelperIsTold T.allows S.allows M.ready M.waits M.same layout.now number k seat.new.me.0.passes m result }
 {
-    let here = HelpRun {
-        scx: run.scx,
-        plan: run.plan,
-        members: run.members,
-        at,
-    };
-    step_of::<S, HelpRun>(words, layout, seat, number, &here, step)
+    step::<S, M>(words, layout, seat, number, Step { kind, word, access })
 }
 
+/// Loads a settled word of the SCX-record.
 #[inline(always)]
-fn settled(scx: ScxNo, part: ScxWord) -> Step
-    ensures { result ≡ record { kind = Kind.LoadSettled; word = Word.Scx scx part; access = Access.Load } }
+fn read<S: Shape, M: Machine<S>, T: Shape>(
+    words: &Words<S>,
+    layout: &Layout,
+    seat: &mut Seat<u8, SeatView>,
+    number: u64,
+    scx: ScxNo,
+    part: ScxWord,
+) -> u64
+    requires table { IsTableOf words.now.table.shared.table_id words.now.table.shared.key layout.now × (seat.old.table_id ≡ words.now.table.shared.table_id) }
+    requires waits { (k : Helper T.allows S.allows M.ready M.waits M.same layout.now number) × (m : HelpRun) × HelperWaits T.allows S.allows M.ready M.waits M.same layout.now number k seat.old.me.0.passes m (settled_load scx.0 part) }
+    ensures table { (seat.new.table_id ≡ seat.old.table_id) × (seat.new.me.1 ≡ seat.old.me.1) }
+    ensures one { seat_steps seat.new.me.0.passes ≡ suc (seat_steps seat.old.me.0.passes) }
+    ensures told { (k : Helper T.allows S.allows M.ready M.waits M.same layout.now number) (m : HelpRun) → HelperWaits T.allows S.allows M.ready M.waits M.same layout.now number k seat.old.me.0.passes m (settled_load scx.0 part) → HelperIsTold T.allows S.allows M.ready M.waits M.same layout.now number k seat.new.me.0.passes m result }
 {
-    let word = Word::Scx(scx, part);
-    Step {
-        kind: Kind::LoadSettled,
-        word,
-        access: Access::Load,
-    }
+    let (kind, word) = (Kind::LoadSettled, Word::Scx(scx, part));
+    act::<S, M, T>(words, layout, seat, number, kind, word, Access::Load)
 }
 
 /// Whether an info that a freezing exchange found so is frozen now.
@@ -69,7 +70,7 @@ fn is_frozen(found: u64, seen: u64, scx: ScxNo) -> bool
 
 /// Freezes the nodes of an SCX-record whose plan has been read.
 #[inline(always)]
-fn freeze_all<S: Shape>(
+fn freeze_all<S: Shape, M: Machine<S>, T: Shape>(
     words: &Words<S>,
     layout: &Layout,
     seat: &mut Seat<u8, SeatView>,
@@ -77,58 +78,31 @@ fn freeze_all<S: Shape>(
     run: &mut HelpRun,
 ) -> bool
     requires table { IsTableOf words.now.table.shared.table_id words.now.table.shared.key layout.now × (seat.old.table_id ≡ words.now.table.shared.table_id) }
-    requires waits { (c : Call) × (first : HelpRun) × (c.layout ≡ layout.now) × (c.number ≡ number) × SeatHelpWaits S.allows c seat.old.me.0.passes first (record run.old { at = HelpAt.Member MemberIndex.First }) record { kind = Kind.LoadSettled; word = Word.Scx run.old.scx (ScxWord.Member 0); access = Access.Load } }
+    requires waits { (k : Helper T.allows S.allows M.ready M.waits M.same layout.now number) × HelperWaits T.allows S.allows M.ready M.waits M.same layout.now number k seat.old.me.0.passes (record run.old { at = HelpAt.Member MemberIndex.First }) (settled_load run.old.scx.0 (ScxWord.Member 0)) }
     ensures table { (seat.new.table_id ≡ seat.old.table_id) × (seat.new.me.1 ≡ seat.old.me.1) }
     ensures steps { seat_steps seat.new.me.0.passes ≤ seat_steps seat.old.me.0.passes + 12 }
-    ensures left { result ≡ false → help_left run.new.at ≤ 2 }
+    ensures left { result ≡ false → help_left run.new.at ≤ 1 }
     ensures same { run.new.scx ≡ run.old.scx }
-    ensures frozen { result ≡ true → (c : Call) (first : HelpRun) → c.layout ≡ layout.now → c.number ≡ number
-        → SeatHelpWaits S.allows c seat.old.me.0.passes first (record run.old { at = HelpAt.Member MemberIndex.First }) record { kind = Kind.LoadSettled; word = Word.Scx run.old.scx (ScxWord.Member 0); access = Access.Load }
-        → SeatHelpWaits S.allows c seat.new.me.0.passes first (record run.new { at = HelpAt.SetFrozen }) record { kind = Kind.SetFrozen; word = Word.Scx run.new.scx ScxWord.AllFrozen; access = Access.Store 1 } }
-    ensures blocked { result ≡ false → (c : Call) (first : HelpRun) → c.layout ≡ layout.now → c.number ≡ number
-        → SeatHelpWaits S.allows c seat.old.me.0.passes first (record run.old { at = HelpAt.Member MemberIndex.First }) record { kind = Kind.LoadSettled; word = Word.Scx run.old.scx (ScxWord.Member 0); access = Access.Load }
-        → SeatHelpWaits S.allows c seat.new.me.0.passes first run.new record { kind = Kind.LoadAllFrozen; word = Word.Scx run.new.scx ScxWord.AllFrozen; access = Access.Load } }
+    ensures frozen { result ≡ true → (k : Helper T.allows S.allows M.ready M.waits M.same layout.now number)
+        → HelperWaits T.allows S.allows M.ready M.waits M.same layout.now number k seat.old.me.0.passes (record run.old { at = HelpAt.Member MemberIndex.First }) (settled_load run.old.scx.0 (ScxWord.Member 0))
+        → HelperWaits T.allows S.allows M.ready M.waits M.same layout.now number k seat.new.me.0.passes (record run.new { at = HelpAt.SetFrozen }) record { kind = Kind.SetFrozen; word = Word.Scx run.new.scx ScxWord.AllFrozen; access = Access.Store 1 } }
+    ensures blocked { result ≡ false → (k : Helper T.allows S.allows M.ready M.waits M.same layout.now number)
+        → HelperWaits T.allows S.allows M.ready M.waits M.same layout.now number k seat.old.me.0.passes (record run.old { at = HelpAt.Member MemberIndex.First }) (settled_load run.old.scx.0 (ScxWord.Member 0))
+        → HelperWaits T.allows S.allows M.ready M.waits M.same layout.now number k seat.new.me.0.passes run.new record { kind = Kind.LoadAllFrozen; word = Word.Scx run.new.scx ScxWord.AllFrozen; access = Access.Load } }
 {
     let mut j = MemberIndex::First;
     loop {
-        let asked = settled(run.scx, ScxWord::Member(j.number()));
-        let member = act(
-            words,
-            layout,
-            seat,
-            number,
-            &*run,
-            HelpAt::Member { j },
-            asked,
-        );
+        let part = ScxWord::Member(j.number());
+        let member = read::<S, M, T>(words, layout, seat, number, run.scx, part);
         run.members[j.index()] = NodeNo(member);
-        let asked = settled(run.scx, ScxWord::Seen(j.number()));
-        let seen = act(
-            words,
-            layout,
-            seat,
-            number,
-            &*run,
-            HelpAt::Seen { j },
-            asked,
-        );
-        let freeze = Step {
-            kind: Kind::Freeze,
-            word: Word::Node(run.members[j.index()], NodeWord::Info),
-            access: Access::Exchange {
-                expected: seen,
-                new: run.scx.0,
-            },
+        let part = ScxWord::Seen(j.number());
+        let seen = read::<S, M, T>(words, layout, seat, number, run.scx, part);
+        let info = Word::Node(run.members[j.index()], NodeWord::Info);
+        let freeze = Access::Exchange {
+            expected: seen,
+            new: run.scx.0,
         };
-        let found = act(
-            words,
-            layout,
-            seat,
-            number,
-            &*run,
-            HelpAt::Freeze { j, seen },
-            freeze,
-        );
+        let found = act::<S, M, T>(words, layout, seat, number, Kind::Freeze, info, freeze);
         if !is_frozen(found, seen, run.scx) {
             run.at = HelpAt::AllFrozen { j, found };
             return false;
@@ -151,7 +125,7 @@ fn removed_behind(plan: Plan, from: Option<MemberIndex>) -> Option<MemberIndex>
 
 /// Marks those nodes of an SCX-record whose flag is set that it finalizes.
 #[inline(always)]
-fn mark_all<S: Shape>(
+fn mark_all<S: Shape, M: Machine<S>, T: Shape>(
     words: &Words<S>,
     layout: &Layout,
     seat: &mut Seat<u8, SeatView>,
@@ -159,91 +133,69 @@ fn mark_all<S: Shape>(
     run: &HelpRun,
 )
     requires table { IsTableOf words.now.table.shared.table_id words.now.table.shared.key layout.now × (seat.old.table_id ≡ words.now.table.shared.table_id) }
-    requires marks { (c : Call) × (first : HelpRun) × (c.layout ≡ layout.now) × (c.number ≡ number) × SeatHelpMarks S.allows c seat.old.me.0.passes first run.now 0 }
+    requires marks { (k : Helper T.allows S.allows M.ready M.waits M.same layout.now number) × HelperMarks T.allows S.allows M.ready M.waits M.same layout.now number k seat.old.me.0.passes run.now 0 }
     ensures table { (seat.new.table_id ≡ seat.old.table_id) × (seat.new.me.1 ≡ seat.old.me.1) }
     ensures steps { seat_steps seat.new.me.0.passes ≤ seat_steps seat.old.me.0.passes + 4 }
-    ensures marked { (c : Call) (first : HelpRun) → c.layout ≡ layout.now → c.number ≡ number
-        → SeatHelpMarks S.allows c seat.old.me.0.passes first run.now 0
-        → SeatHelpWaits S.allows c seat.new.me.0.passes first (record run.now { at = HelpAt.New }) record { kind = Kind.LoadSettled; word = Word.Scx run.now.scx ScxWord.New; access = Access.Load } }
+    ensures marked { (k : Helper T.allows S.allows M.ready M.waits M.same layout.now number)
+        → HelperMarks T.allows S.allows M.ready M.waits M.same layout.now number k seat.old.me.0.passes run.now 0
+        → HelperWaits T.allows S.allows M.ready M.waits M.same layout.now number k seat.new.me.0.passes (record run.now { at = HelpAt.New }) (settled_load run.now.scx.0 ScxWord.New) }
 {
     let mut from = Some(MemberIndex::First);
     loop {
         let Some(j) = removed_behind(run.plan, from) else {
             return;
         };
-        let mark = Step {
-            kind: Kind::Mark,
-            word: Word::Node(run.members[j.index()], NodeWord::Marked),
-            access: Access::Store(1),
-        };
-        act(words, layout, seat, number, run, HelpAt::Mark { j }, mark);
+        let marked = Word::Node(run.members[j.index()], NodeWord::Marked);
+        let mark = Access::Store(1);
+        act::<S, M, T>(words, layout, seat, number, Kind::Mark, marked, mark);
         from = j.next();
     }
 }
 
-/// HELP of an SCX-record by a run that has not begun: its steps in line; where a node cannot be
-/// frozen, the machine goes on.
+/// HELP of an SCX-record by a run that has not begun. Where a node cannot be frozen it tells the
+/// run, which waits to look whether all were frozen.
 #[inline(always)]
-pub(crate) fn call<S: Shape>(
+pub(crate) fn call<S: Shape, M: Machine<S>, T: Shape>(
     words: &Words<S>,
     layout: &Layout,
     seat: &mut Seat<u8, SeatView>,
     number: u64,
     unbegun: HelpRun,
-) -> (HelpRun, bool)
+) -> Result<(), HelpRun>
     requires table { IsTableOf words.now.table.shared.table_id words.now.table.shared.key layout.now × (seat.old.table_id ≡ words.now.table.shared.table_id) }
-    requires start { unbegun.at ≡ HelpAt.Start }
-    requires begins { (c : Call) × (c.layout ≡ layout.now) × (c.number ≡ number) × SeatHelpBegins S.allows c seat.old.me.0.passes unbegun }
+    requires waits { (k : Helper T.allows S.allows M.ready M.waits M.same layout.now number) × HelperWaits T.allows S.allows M.ready M.waits M.same layout.now number k seat.old.me.0.passes (record unbegun { at = HelpAt.Plan }) (settled_load unbegun.scx.0 ScxWord.Plan) }
     ensures table { (seat.new.table_id ≡ seat.old.table_id) × (seat.new.me.1 ≡ seat.old.me.1) }
-    ensures steps { seat_steps seat.new.me.0.passes ≤ seat_steps seat.old.me.0.passes + 27 }
-    ensures ends { (c : Call) → c.layout ≡ layout.now → c.number ≡ number → SeatHelpBegins S.allows c seat.old.me.0.passes unbegun → SeatHelpEnds S.allows c seat.new.me.0.passes unbegun result.0 result.1 }
+    ensures steps { seat_steps seat.new.me.0.passes ≤ seat_steps seat.old.me.0.passes + 22 }
+    ensures left { IfErr result (λ run. (run.scx ≡ unbegun.scx) × (seat_steps seat.new.me.0.passes + suc (help_left run.at) ≤ seat_steps seat.old.me.0.passes + 22)) }
+    ensures commits { IfOk result (λ _. (k : Helper T.allows S.allows M.ready M.waits M.same layout.now number) → HelperWaits T.allows S.allows M.ready M.waits M.same layout.now number k seat.old.me.0.passes (record unbegun { at = HelpAt.Plan }) (settled_load unbegun.scx.0 ScxWord.Plan) → (run : HelpRun) × (v : ℕ) × HelperIsTold T.allows S.allows M.ready M.waits M.same layout.now number k seat.new.me.0.passes (record run { at = HelpAt.Commit }) v) }
+    ensures blocked { IfErr result (λ run. (k : Helper T.allows S.allows M.ready M.waits M.same layout.now number) → HelperWaits T.allows S.allows M.ready M.waits M.same layout.now number k seat.old.me.0.passes (record unbegun { at = HelpAt.Plan }) (settled_load unbegun.scx.0 ScxWord.Plan) → HelperWaits T.allows S.allows M.ready M.waits M.same layout.now number k seat.new.me.0.passes run record { kind = Kind.LoadAllFrozen; word = Word.Scx run.scx ScxWord.AllFrozen; access = Access.Load }) }
 {
     let mut run = unbegun;
-    let asked = settled(run.scx, ScxWord::Plan);
-    let plan = act(words, layout, seat, number, &run, HelpAt::Plan, asked);
+    let plan = read::<S, M, T>(words, layout, seat, number, run.scx, ScxWord::Plan);
     run.plan = Plan(plan);
-    if !freeze_all(words, layout, seat, number, &mut run) {
-        let turn = Turn::Ask(Step {
-            kind: Kind::LoadAllFrozen,
-            word: Word::Scx(run.scx, ScxWord::AllFrozen),
-            access: Access::Load,
-        });
-        // A copy, so that the layout above, which is not handed out of line, stays in registers.
-        let layout = *layout;
-        return complete::<S, HelpRun>(words, &layout, seat, number, run, turn);
+    if !freeze_all::<S, M, T>(words, layout, seat, number, &mut run) {
+        return Err(run);
     }
-    let flag = Step {
-        kind: Kind::SetFrozen,
-        word: Word::Scx(run.scx, ScxWord::AllFrozen),
-        access: Access::Store(1),
-    };
-    act(words, layout, seat, number, &run, HelpAt::SetFrozen, flag);
-    mark_all(words, layout, seat, number, &run);
-    let asked = settled(run.scx, ScxWord::New);
-    let new = act(words, layout, seat, number, &run, HelpAt::New, asked);
-    let asked = settled(run.scx, ScxWord::Old);
-    let old = act(
+    let all_frozen = Word::Scx(run.scx, ScxWord::AllFrozen);
+    let flag = Access::Store(1);
+    act::<S, M, T>(
         words,
         layout,
         seat,
         number,
-        &run,
-        HelpAt::Old { new },
-        asked,
+        Kind::SetFrozen,
+        all_frozen,
+        flag,
     );
+    mark_all::<S, M, T>(words, layout, seat, number, &run);
+    let new = read::<S, M, T>(words, layout, seat, number, run.scx, ScxWord::New);
+    let old = read::<S, M, T>(words, layout, seat, number, run.scx, ScxWord::Old);
     let node = run.members[run.plan.at().index()];
-    let update = Step {
-        kind: Kind::Update,
-        word: Word::Node(node, NodeWord::Child(run.plan.side())),
-        access: Access::Exchange { expected: old, new },
-    };
-    act(words, layout, seat, number, &run, HelpAt::Update, update);
-    let commit = Step {
-        kind: Kind::Commit,
-        word: Word::Scx(run.scx, ScxWord::State),
-        access: Access::Store(COMMITTED),
-    };
-    act(words, layout, seat, number, &run, HelpAt::Commit, commit);
-    run.at = HelpAt::Commit;
-    (run, true)
+    let field = Word::Node(node, NodeWord::Child(run.plan.side()));
+    let change = Access::Exchange { expected: old, new };
+    act::<S, M, T>(words, layout, seat, number, Kind::Update, field, change);
+    let state = Word::Scx(run.scx, ScxWord::State);
+    let commit = Access::Store(COMMITTED);
+    act::<S, M, T>(words, layout, seat, number, Kind::Commit, state, commit);
+    Ok(())
 }

@@ -55,7 +55,8 @@ fn hand_over<S: Shape>(
 {
     let at = LlxAt::StateAgain { marked, scx };
     let turn = Turn::Ask(load(Kind::LoadState, Word::Scx(scx, ScxWord::State)));
-    complete(words, layout, seat, number, LlxRun { node, at }, turn).1
+    let mut run = LlxRun { node, at };
+    complete(words, layout, seat, number, &mut run, turn)
 }
 
 /// LLX of a node: the loads of a snapshot; where something is in the way, the machine goes on.

@@ -1,4 +1,4 @@
-use Rattle.std.proofs.Common.{◌≡◌, not, eqb}
+use Rattle.std.proofs.Common.{not, eqb}
 use Rattle.arena.specs.declared.step.Kind.TheVariants.{LoadMarked}
 use Rattle.arena.specs.Words.{marked}
 use Rattle.prims.proofs.Lemmas.{not_zero, is_zero}

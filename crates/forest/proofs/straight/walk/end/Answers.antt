@@ -1,4 +1,3 @@
-use Rattle.std.proofs.Common.{sym}
 use Rattle.template.specs.Walk.Places.{walk_at}
 use Rattle.template.specs.declared.walk.WalkAt.TheVariants.{Value}
 use Rattle.forest.proofs.StraightWalk.{to_value, finds_other, finds_value}

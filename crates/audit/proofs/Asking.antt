@@ -1,0 +1,64 @@
+-- What a run knows of a call of the map whose answer it judges.
+use Rattle.std.proofs.Common.{◌≡◌, ℕ, ◌<◌, Bool, true, false, is_some, slice_get, Option, Some, None, IsSome, refl, sym, ◌∙◌, ap, subst}
+use Rattle.std.proofs.lemmas.Option.{slice_get_within}
+use Rattle.arena.specs.declared.limits.Mode.TheVariants.{Tree}
+use Rattle.arena.specs.declared.layout.Layout.{Layout}
+use Rattle.arena.specs.declared.number.PassNo.{PassNo}
+use Rattle.script.specs.declared.command.Command.{Command}
+use Rattle.record.specs.declared.record.Reply.{Reply}
+use Rattle.record.specs.Answers.{HasItsEntry}
+use Rattle.record.specs.CommandRules.{enters, HasTakenFew}
+use Rattle.record.specs.Commands.{next_command}
+use Rattle.record.specs.Replies.{IsFitting}
+use Rattle.record.specs.Turns.{history, answered, begin, start, entry_owed}
+use Rattle.places.specs.Places.{changes}
+use Rattle.audit.specs.After.{IsAfter, IsMapAfter, IsClientAfter, lines_of, layout_of, tries_of, calls_of}
+use Rattle.audit.specs.Asked.{IsAsked}
+use Rattle.audit.specs.declared.client.Client.{Client}
+use Rattle.audit.specs.declared.run.Run.{Run}
+use Rattle.audit.proofs.MapLines.{AreOf, map_calls}
+
+entry_if : (b : Bool) (has : Option ℕ) → b ≡ is_some has → HasItsEntry b has
+entry_if true (Some turn) e = tt
+entry_if false None e = tt
+entry_if true None e = absurd (cc)
+entry_if false (Some turn) e = absurd (cc)
+
+module _ (run : Run) (client : Client) (command : Command) (r : Reply) (x : IsAfter run (lines_of run)) (there : slice_get run.clients.items client.pass.0 ≡ Some client) (own : client.pass ≡ r.client) where
+  known : IsClientAfter (layout_of run) (calls_of run) (lines_of run) r.client.0 client
+  known = subst (λ (p : PassNo). IsClientAfter (layout_of run) (calls_of run) (lines_of run) p.0 client) own (x.clients client.pass.0 client there)
+
+  -- the client is a pass
+  pub is_client : client.pass.0 < (layout_of run).passes
+  is_client = subst (λ (n : ℕ). client.pass.0 < n) x.all (slice_get_within run.clients.items client.pass.0 client there)
+
+  -- and one of the judge's layout
+  pub is_pass : client.pass.0 < run.steps.judge.layout.passes
+  is_pass = subst (λ (l : Layout). client.pass.0 < l.passes) (sym x.layout) is_client
+
+  -- and its call has begun
+  pub is_begun : client.begun ≡ Some r.begin → IsSome (begin (lines_of run) client.pass.0)
+  is_begun begun = subst (λ (p : PassNo). IsSome (begin (lines_of run) p.0)) (sym own) (rw (sym known.begun ∙ begun) refl)
+
+  pub asked : IsMapAfter run (lines_of run) → (layout_of run).mode ≡ Tree → AreOf (layout_of run).mode (calls_of run) → entry_owed (layout_of run) (lines_of run) ≡ None → next_command (calls_of run) (lines_of run) client.pass.0 ≡ Some command → r.call ≡ client.answered → client.begun ≡ Some r.begin → r.end ≡ run.turn → IsFitting (lines_of run) command r.answer → enters command r.answer ≡ is_some client.won → IsAsked (layout_of run) (tries_of run) (calls_of run) (lines_of run) (changes run.places) client command r
+  asked map mode of_mode owed is number begun end fits entry =
+      let next : next_command (calls_of run) (lines_of run) r.client.0 ≡ Some command = subst (λ (p : PassNo). next_command (calls_of run) (lines_of run) p.0 ≡ Some command) own is in
+      record {
+        in_order = x.in_order;
+        owed = owed;
+        spelled = (map.tree mode).spelled;
+        entries = (map.tree mode).entries;
+        pass = ap (λ (p : PassNo). p.0) own;
+        has_won = known.won;
+        next = next;
+        of_map = map_calls (layout_of run).mode (calls_of run) mode of_mode r.client.0 (answered (lines_of run) r.client.0) command next;
+        number = number ∙ known.answered;
+        begun = sym known.begun ∙ begun;
+        end = end ∙ x.turn;
+        fits = fits;
+        entry = entry_if _ _ (entry ∙ ap (λ (t : Option ℕ). is_some t) known.won);
+      }
+
+  -- what is found of its share is of the reply's client
+  pub took_few : HasTakenFew (layout_of run) (tries_of run) client.pass.0 (history (layout_of run).mode (lines_of run)) (start (layout_of run).mode (lines_of run) client.pass.0) command → HasTakenFew (layout_of run) (tries_of run) r.client.0 (history (layout_of run).mode (lines_of run)) (start (layout_of run).mode (lines_of run) r.client.0) command
+  took_few few = subst (λ (p : PassNo). HasTakenFew (layout_of run) (tries_of run) p.0 (history (layout_of run).mode (lines_of run)) (start (layout_of run).mode (lines_of run) p.0) command) own few

@@ -1,0 +1,227 @@
+-- What is remembered of the map stays what the lines say.
+use Rattle.std.proofs.Common.{◌≡◌, ℕ, zero, suc, Bool, true, false, cond, eqb, List, [], ◌∷◌, Some, None, Option, IfSome, IsSome, slice_get, set, replicate, All, refl, sym, ◌∙◌, ap, subst, arith}
+use Rattle.std.proofs.lemmas.List.Elements.{All-tail}
+use Rattle.arena.specs.declared.limits.Mode.{Mode}
+use Rattle.arena.specs.declared.limits.Mode.TheVariants.{Tree, Records}
+use Rattle.arena.specs.declared.layout.Layout.{Layout}
+use Rattle.arena.specs.declared.number.PassNo.{PassNo}
+use Rattle.arena.specs.declared.step.Row.{Row as StepRow}
+use Rattle.arena.specs.History.{History, ◌⊳◌}
+use Rattle.arena.specs.Lawful.{Lawful, IsLawful}
+use Rattle.arena.specs.Log.{Entry as Entered}
+use Rattle.arena.specs.Machines.{IsRun}
+use Rattle.arena.specs.Shape.{Shaped, IsBegin}
+use Rattle.spelling.specs.FillOrder.{HasRisingLevels}
+use Rattle.spelling.specs.TreeShape.{TreeAllows}
+use Rattle.spelling.specs.OrderedMap.{MapCall, Edit, Get, Successor, Range, Insert, Delete}
+use Rattle.script.specs.declared.command.Call.{Call}
+use Rattle.script.specs.declared.command.Command.{Command}
+use Rattle.script.specs.declared.command.Command.TheVariants.{Llx as LlxOf, Scx as ScxOf, Vlx as VlxOf, Set as SetOf, Insert as InsertOf, Delete as DeleteOf, Get as GetOf, Successor as SuccessorOf, Range as RangeOf}
+use Rattle.script.specs.Commands.{mode_of}
+use Rattle.record.specs.declared.record.Line.{Line}
+use Rattle.record.specs.declared.record.Line.TheVariants.{Step, Log, Reply as ReplyLine}
+use Rattle.record.specs.declared.record.Row.TheVariants.{Step as Made, Idle}
+use Rattle.record.specs.declared.record.Entry.{Entry}
+use Rattle.record.specs.declared.record.Reply.{Reply}
+use Rattle.record.specs.CommandRules.{IsEntryFor}
+use Rattle.record.specs.Commands.{commands, next_command}
+use Rattle.record.specs.Entries.{IsLog}
+use Rattle.record.specs.LawfulRun.{AreLines, IsWhole}
+use Rattle.record.specs.MapRecord.{map_call}
+use Rattle.record.specs.SpelledMap.{AreSpelled}
+use Rattle.record.specs.Turns.{history, answered}
+use Rattle.record.proofs.Lemmas.{AreMapCalls, lawful_is_legal}
+use Rattle.places.specs.declared.places.Change.{Change}
+use Rattle.places.specs.Entries.{IsChangeBy, IsChangeOf}
+use Rattle.places.proofs.Lemmas.{are_spelled}
+use Rattle.places.specs.declared.places.Places.{Places}
+use Rattle.places.specs.Places.{changes, Knows, HoldsOfKey}
+use Rattle.audit.specs.Edits.{MayMakeFor, HasBegunFor, AreEdits}
+use Rattle.audit.specs.Trees.{IsMapSoFar, IsTreeSoFar}
+use Rattle.audit.proofs.TreeLines.{tree_idle, tree_reply, tree_log, tree_step, edits_kept, edits_set, edit_allowed, edit_entry}
+
+-- what holds of the command of each call holds of each command of a client
+pub of_commands : (P : Command → Type 0) (calls : List Call) (c n : ℕ) (command : Command) → All (λ (call : Call). P call.command) calls → slice_get (commands calls c) n ≡ Some command → P command
+of_commands P [] c n command all e = absurd (let z : None ≡ Some command = e in cc)
+of_commands P (call ∷ calls) c n command all e = go (λ i d. of_commands P calls c i command rest d) (eqb call.client.0 c) n e
+  where
+    first : P call.command
+    first = all 0 call (omega arith)
+
+    rest : All (λ (k : Call). P k.command) calls
+    rest = All-tail (λ (k : Call). P k.command) call calls all
+
+    go : ((i : ℕ) → slice_get (commands calls c) i ≡ Some command → P command) → (b : Bool) (n : ℕ) → slice_get (cond b (call.command ∷ commands calls c) (commands calls c)) n ≡ Some command → P command
+    go more false n d = more n d
+    go more true zero d = let same : call.command ≡ command = cc in subst P same first
+    go more true (suc n) d = more n d
+
+-- each call has a command of this mode
+abbrev pub AreOf : Mode → List Call → Type 0
+AreOf mode calls = All (λ (call : Call). mode_of call.command ≡ mode) calls
+
+-- all calls of a tree are of the map
+pub map_calls : (mode : Mode) (calls : List Call) → mode ≡ Tree → AreOf mode calls → AreMapCalls calls
+map_calls mode calls e all c j command is = go command (of_commands (λ k. mode_of k ≡ mode) calls c j command all is ∙ e)
+  where
+    go : (command : Command) → mode_of command ≡ Tree → (call : MapCall) × (map_call (Some command) ≡ Some call)
+    go (GetOf key) e = (Get key, refl)
+    go (SuccessorOf key) e = (Successor key, refl)
+    go (RangeOf span) e = (Range span.low span.high span.most, refl)
+    go (InsertOf key value) e = (Edit (Insert key value), refl)
+    go (DeleteOf key) e = (Edit (Delete key), refl)
+    go (LlxOf cell) e = cc
+    go (ScxOf update) e = cc
+    go (VlxOf cells) e = cc
+    go (SetOf field value) e = cc
+
+-- the key that a client's command may change is known
+pub command_key : (places : Places) (calls : List Call) (c n : ℕ) (command : Command) → All (λ (call : Call). HoldsOfKey (Knows places) call.command) calls → slice_get (commands calls c) n ≡ Some command → HoldsOfKey (Knows places) command
+command_key places calls c n command all is = of_commands (λ k. HoldsOfKey (Knows places) k) calls c n command all is
+
+if_some : (P Q : ℕ → Type 0) (o : Option ℕ) → ((n : ℕ) → P n → Q n) → IfSome o P → IfSome o Q
+if_some P Q None more x = tt
+if_some P Q (Some n) more x = more n x
+
+-- keys that were known are
+pub keys_kept : (before after : Places) (calls : List Call) → ((key : ℕ) → Knows before key → Knows after key) → All (λ (call : Call). HoldsOfKey (Knows before) call.command) calls → All (λ (call : Call). HoldsOfKey (Knows after) call.command) calls
+keys_kept before after calls kept all = λ i call less. if_some (Knows before) (Knows after) _ kept (all i call less)
+
+-- the next command of a client has the mode of all
+pub next_of_mode : (mode : Mode) (calls : List Call) (lines : List Line) (c : ℕ) (command : Command) → AreOf mode calls → next_command calls lines c ≡ Some command → mode_of command ≡ mode
+next_of_mode mode calls lines c command all is = of_commands (λ k. mode_of k ≡ mode) calls c (answered lines c) command all is
+
+-- Entries
+
+-- an entry of a call of the tree changes the map
+change_for : (lay : Layout) (c : ℕ) (before start : History) (linked : ℕ → Option History) (e : Entered) (turn : ℕ) (command : Command) → mode_of command ≡ Tree → IsEntryFor lay c before start linked e command → (change : Change) × (change.turn ≡ turn) × IsChangeBy (map_call (Some command)) change
+change_for lay c before start linked e turn (InsertOf key value) mode x = (record { turn = turn; key = key; value = Some value }, refl, (refl, refl))
+change_for lay c before start linked e turn (DeleteOf key) mode x = (record { turn = turn; key = key; value = None }, refl, (refl, refl))
+change_for lay c before start linked e turn (GetOf key) mode x = absurd x
+change_for lay c before start linked e turn (SuccessorOf key) mode x = absurd x
+change_for lay c before start linked e turn (RangeOf span) mode x = absurd x
+change_for lay c before start linked e turn (LlxOf cell) mode x = absurd x
+change_for lay c before start linked e turn (VlxOf cells) mode x = absurd x
+change_for lay c before start linked e turn (ScxOf update) mode x = absurd (let z : Records ≡ Tree = mode in cc)
+change_for lay c before start linked e turn (SetOf field value) mode x = absurd (let z : Records ≡ Tree = mode in cc)
+
+-- what a lawful entry says of the map: the command of its call, and the change
+record IsChanged (calls : List Call) (lines : List Line) (entry : Entry) : Type 0 where
+  command : Command
+  is : next_command calls lines entry.client.0 ≡ Some command
+  change : Change
+  turn : change.turn ≡ entry.step
+  by : IsChangeBy (map_call (Some command)) change
+  of : IsChangeOf calls entry change
+
+changed : (lay : Layout) (calls : List Call) (lines : List Line) (entry : Entry) → lay.mode ≡ Tree → AreOf lay.mode calls → IsLog lay calls lines entry → IsChanged calls lines entry
+changed lay calls [] entry mode all x = absurd x
+changed lay calls (Step (Idle n client) ∷ lines) entry mode all x = absurd x
+changed lay calls (Log d ∷ lines) entry mode all x = absurd x
+changed lay calls (ReplyLine d ∷ lines) entry mode all x = absurd x
+changed lay calls (Step (Made n row) ∷ lines) entry mode all x =
+    let w = x.1 in
+    let k = change_for lay entry.client.0 _ _ _ w.entered entry.step w.command (next_of_mode lay.mode calls lines entry.client.0 w.command all w.is ∙ mode) w.does in
+    record {
+      command = w.command;
+      is = w.is;
+      change = k.0;
+      turn = k.1;
+      by = k.2;
+      of = (k.1, subst (λ (o : Option Command). IsChangeBy (map_call o) k.0) (sym (ap (λ (n : ℕ). slice_get (commands calls entry.client.0) n) w.call ∙ w.is)) k.2);
+    }
+
+module _ (lay : Layout) (tries : ℕ) (calls : List Call) (of_mode : AreOf lay.mode calls) (begun : List (Option Command)) (places : Places) (lines : List Line) (x : IsMapSoFar lay calls begun places lines) where
+  pub map_idle : (number : ℕ) (pass : PassNo) → AreLines lay tries calls (Step (Idle number pass) ∷ lines) → IsMapSoFar lay calls begun places (Step (Idle number pass) ∷ lines)
+  map_idle number pass a = record { keys = x.keys; tree = λ mode. tree_idle lay tries calls mode (map_calls lay.mode calls mode of_mode) begun (changes places) lines (x.tree mode) number pass a }
+
+  pub map_reply : (reply : Reply) → AreLines lay tries calls (ReplyLine reply ∷ lines) → IsMapSoFar lay calls begun places (ReplyLine reply ∷ lines)
+  map_reply reply a = record { keys = x.keys; tree = λ mode. tree_reply lay tries calls mode (map_calls lay.mode calls mode of_mode) begun (changes places) lines (x.tree mode) reply a }
+
+  -- an entry, whose call changes the map
+  pub map_log : (after : Places) (entry : Entry) → AreLines lay tries calls (Log entry ∷ lines) → ((key : ℕ) → Knows places key → Knows after key) → ((command : Command) (c : Change) → next_command calls lines entry.client.0 ≡ Some command → c.turn ≡ entry.step → IsChangeBy (map_call (Some command)) c → changes after ≡ c ∷ changes places) → IsMapSoFar lay calls begun after (Log entry ∷ lines)
+  unfolding AreLines
+  map_log after entry a kept change = record { keys = keys_kept places after calls kept x.keys; tree = tree }
+    where
+      tree : lay.mode ≡ Tree → IsTreeSoFar lay calls begun (changes after) (Log entry ∷ lines)
+      tree mode =
+          let d = changed lay calls lines entry mode of_mode a.1 in
+          subst (λ (l : List Change). IsTreeSoFar lay calls begun l (Log entry ∷ lines)) (sym (change d.command d.change d.is d.turn d.by)) (tree_log lay tries calls mode (map_calls lay.mode calls mode of_mode) begun (changes places) lines (x.tree mode) entry d.change a d.of)
+
+  -- a step, with the edit of the SCX-record that it begins, if it begins one
+  pub map_step : (number : ℕ) (row : StepRow) (h : History) (more : List (Option Command)) (edit : Option Command) → h ≡ history lay.mode lines → AreLines lay tries calls (Step (Made number row) ∷ lines) → IsLawful lay (history lay.mode lines) row → (lay.mode ≡ Tree → HasRisingLevels h → HasRisingLevels (row ⊳ h)) → (lay.mode ≡ Tree → IsBegin h row row.after → (command : Command) × (next_command calls lines row.pass.0 ≡ Some command) × MayMakeFor lay h row.after command) → IfSome edit (λ k. IsBegin h row row.after) → IfSome edit (λ k. next_command calls lines row.pass.0 ≡ Some k) → (edit ≡ None → more ≡ begun) → (IsSome edit → more ≡ set begun row.after edit) → IsMapSoFar lay calls more places (Step (Made number row) ∷ lines)
+  map_step number row h more edit same a lawful rising may begins next none some = record { keys = x.keys; tree = tree }
+    where
+      now : History
+      now = history lay.mode lines
+
+      there : (P : History → Type 0) → P h → P now
+      there P y = subst P same y
+
+      here : (P : History → Type 0) → P now → P h
+      here P y = subst P (sym same) y
+
+      allows : lay.mode ≡ Tree → (s : ℕ) → IsBegin now row s → TreeAllows lay now s
+      allows mode s b =
+          let y = may mode (here (λ k. IsBegin k row row.after) (subst (λ (n : ℕ). IsBegin now row n) (sym b.stored) b)) in
+          subst (λ (n : ℕ). TreeAllows lay now n) b.stored (there (λ k. TreeAllows lay k row.after) (edit_allowed lay h row.after y.0 y.2))
+
+      edits : lay.mode ≡ Tree → AreEdits lay (row ⊳ now) more
+      edits mode = go edit refl begins next some
+        where
+          known : AreEdits lay now begun
+          known = (x.tree mode).edits
+
+          go : (o : Option Command) → edit ≡ o → IfSome o (λ k. IsBegin h row row.after) → IfSome o (λ k. next_command calls lines row.pass.0 ≡ Some k) → (IsSome o → more ≡ set begun row.after o) → AreEdits lay (row ⊳ now) more
+          go None e b n p = subst (λ (l : List (Option Command)). AreEdits lay (row ⊳ now) l) (sym (none e)) (edits_kept lay now row begun known)
+          go (Some k) e b n p =
+              let y = may mode b in
+              let own : y.0 ≡ k = some_same y.0 k (sym y.1 ∙ n) in
+              subst (λ (l : List (Option Command)). AreEdits lay (row ⊳ now) l) (sym (p refl)) (edits_set lay now row begun row.after k known (there (λ g. IsBegin g row row.after) b) (there (λ g. MayMakeFor lay g row.after k) (subst (λ (d : Command). MayMakeFor lay h row.after d) own y.2)))
+            where
+              some_same : (c d : Command) → Some c ≡ Some d → c ≡ d
+              some_same c d e = cc
+
+      tree : lay.mode ≡ Tree → IsTreeSoFar lay calls more (changes places) (Step (Made number row) ∷ lines)
+      tree mode = tree_step lay tries calls mode (map_calls lay.mode calls mode of_mode) begun (changes places) lines (x.tree mode) number row more a lawful (allows mode) (there (λ k. HasRisingLevels (row ⊳ k)) (rising mode (here (λ k. HasRisingLevels k) (x.tree mode).rising))) (edits mode)
+
+  -- an entry of an SCX-record, whose edit is that of a client's call, is one that the call makes
+  pub map_entry : (h : History) → h ≡ history lay.mode lines → (c s : ℕ) (command : Command) → next_command calls lines c ≡ Some command → mode_of command ≡ Tree → slice_get begun s ≡ Some (Some command) → (start : History) (linked : ℕ → Option History) (e : Entered) → e.scx ≡ s → IsEntryFor lay c h start linked e command
+  map_entry h same c s command is mode known start linked e own =
+      let tree = sym (next_of_mode lay.mode calls lines c command of_mode is) ∙ mode in
+      edit_entry lay c h start linked e command (subst (λ (k : ℕ). HasBegunFor lay h k command) (sym own) (subst (λ (g : History). HasBegunFor lay g s command) (sym same) ((x.tree tree).edits s command known)))
+
+  -- what is said of the whole run at its end
+  pub map_whole : AreLines lay tries calls lines → IsWhole lay.mode lay calls lines
+  map_whole a = go lay.mode refl
+    where
+      go : (mode : Mode) → lay.mode ≡ mode → IsWhole mode lay calls lines
+      go Tree e = ((x.tree e).spelled, lawful_is_legal lay tries calls lines (map_calls lay.mode calls e of_mode) a)
+      go Records e = tt
+
+-- The start
+
+never_begun : (n s : ℕ) (command : Command) → slice_get (replicate n None) s ≡ Some (Some command) → ⊥
+never_begun zero s command e = absurd (let z : None ≡ Some (Some command) = e in cc)
+never_begun (suc n) zero command e = let z : Some None ≡ Some (Some command) = e in absurd (cc)
+never_begun (suc n) (suc s) command e = never_begun n s command e
+
+-- of no line nothing is remembered
+pub map_start : (lay : Layout) (tries : ℕ) (calls : List Call) (begun : List (Option Command)) (places : Places) (n : ℕ) → AreOf lay.mode calls → begun ≡ replicate n None → All (λ (call : Call). HoldsOfKey (Knows places) call.command) calls → changes places ≡ [] → IsMapSoFar lay calls begun places []
+unfolding AreLines AreSpelled Lawful Shaped
+map_start lay tries calls begun places n of_mode none keys unchanged = record { keys = keys; tree = tree }
+  where
+    tree : lay.mode ≡ Tree → IsTreeSoFar lay calls begun (changes places) []
+    tree mode = rw unchanged record {
+      run = run;
+      rising = spelled.rising;
+      spelled = spelled;
+      edits = λ s command e. absurd (never_begun n s command (subst (λ (l : List (Option Command)). slice_get l s ≡ Some (Some command)) none e));
+      entries = tt;
+    }
+      where
+        run : IsRun TreeAllows lay (history lay.mode [])
+        run = record { lawful = refl; shaped = tt }
+
+        spelled : AreSpelled lay calls []
+        spelled = are_spelled lay tries calls mode (map_calls lay.mode calls mode of_mode) [] tt (mode, run) tt

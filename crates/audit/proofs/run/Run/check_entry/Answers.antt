@@ -1,0 +1,25 @@
+use Rattle.std.proofs.Common.{◌≡◌, Some, slice_get, inl, inr, ap, refl, rules, arith}
+use Rattle.std.proofs.lemmas.Option.{slice_get_within}
+use Rattle.arena.specs.declared.limits.Mode.TheVariants.{Tree}
+use Rattle.arena.specs.declared.layout.Layout.{Layout}
+use Rattle.script.specs.Commands.{mode_of}
+use Rattle.script.specs.declared.command.Command.{Command}
+use Rattle.audit.proofs.Fitting.{if_there}
+use Rattle.audit.proofs.MapLines.{map_entry}
+use Rattle.audit.proofs.run.Run.check_entry.Goals as goal
+
+pub is_entry_for-requires : goal.is_entry_for-requires
+is_entry_for-requires c =
+    let few = slice_get_within c.args.self.now.clients.items c.args.client.now.pass.0 c.args.client.now c.requires.client in
+    let all = c.requires.after.all in
+    let lay = ap (λ (l : Layout). l.passes) c.requires.after.layout in
+    omega (arith, few, all, lay)
+
+pub returns-in_ok-hold-in-Insert : goal.returns-in_ok-hold-in-Insert
+returns-in_ok-hold-in-Insert c = λ row n side wins word.
+    let run = c.args.self.now in
+    let command = c.args.command.now in
+    let same : c.edit_of.result ≡ Some command = search rules in
+    let known = if_there (λ (k : Command). slice_get run.edits.items c.args.scx.0 ≡ Some (Some k)) c.edit_of.result command c.edit_of.ensures same in
+    let mode : mode_of command ≡ Tree = elim c.in-Insert.is [ inl d ↦ ap mode_of d.2 | inr d ↦ ap mode_of d.1 ] in
+    map_entry _ run.record.now.script.limits.tries _ run.record.now.script.of_mode _ _ _ c.requires.map _ c.requires.after.seen c.args.client.now.pass.0 c.args.scx.0 command c.requires.command mode known _ _ _ refl

@@ -1,0 +1,80 @@
+-- What is known of a call of the map whose answer is judged. Lines stand here with the newest
+-- first.
+use Rattle.std.specs.Prelude.{◌≡◌, ℕ, ◌-◌, List, Option, Some, None}
+use Rattle.arena.specs.declared.layout.Layout.{Layout}
+use Rattle.arena.specs.declared.fault.Resource.{Resource}
+use Rattle.spelling.specs.OrderedMap.{MapCall, Edit, MapEdit, edit_key, get, reply}
+use Rattle.script.specs.declared.command.Call.{Call}
+use Rattle.script.specs.declared.command.Command.{Command}
+use Rattle.record.specs.declared.record.Line.{Line}
+use Rattle.record.specs.declared.record.Answer.{Answer}
+use Rattle.record.specs.declared.record.Answer.TheVariants.{Value}
+use Rattle.record.specs.declared.record.Reply.{Reply}
+use Rattle.record.specs.Answers.{HasItsEntry}
+use Rattle.record.specs.CommandRules.{enters}
+use Rattle.record.specs.Commands.{next_command}
+use Rattle.record.specs.Edits.{HadAtKey}
+use Rattle.record.specs.Rules.Insert.{nodes_for}
+use Rattle.record.specs.Shares.{HasTooFewToTry}
+use Rattle.record.specs.LawfulRun.{AreLines}
+use Rattle.record.specs.MapRecord.{map_at, map_call, reply_told}
+use Rattle.record.specs.Placed.{IsGreatestTurn}
+use Rattle.record.specs.Replies.{IsFitting}
+use Rattle.record.specs.SpelledMap.{AreSpelled}
+use Rattle.record.specs.Turns.{history, turns, answered, begin, start, won, entry_owed}
+use Rattle.places.specs.declared.places.Change.{Change}
+use Rattle.places.specs.Entries.{AreEntries}
+use Rattle.places.specs.Ordered.{IsOrderedRead}
+use Rattle.audit.specs.declared.client.Client.{Client}
+
+-- The lines so far are lawful ones, in which the words spell the map, and the changes are those of
+-- their entries. The reply is one to the client's next call, of this command, which is one of the
+-- map: it names the call, its first turn and its last, and an answer that the call may give behind
+-- the newest line.
+pub record IsAsked (lay : Layout) (tries : ℕ) (calls : List Call) (lines : List Line) (changed : List Change) (client : Client) (command : Command) (r : Reply) : Type 0 where
+  pub in_order : AreLines lay tries calls lines
+  pub owed : entry_owed lay lines ≡ None
+  pub spelled : AreSpelled lay calls lines
+  pub entries : AreEntries calls lines changed
+  pub pass : client.pass.0 ≡ r.client.0
+  pub has_won : client.won ≡ won lay lines r.client.0
+  pub next : next_command calls lines r.client.0 ≡ Some command
+  pub of_map : (call : MapCall) × (map_call (Some command) ≡ Some call)
+  pub number : r.call ≡ answered lines r.client.0
+  pub begun : begin lines r.client.0 ≡ Some r.begin
+  pub end : r.end ≡ turns lines
+  pub fits : IsFitting lines command r.answer
+  -- an update of the call has won if the answer says so, and only then
+  pub entry : HasItsEntry (enters command r.answer) (won lay lines r.client.0)
+
+-- after some row behind the call's begin the map that the words spelled had this at the key, and
+-- the share has too little for an edit there, and not by the call's own doing
+abbrev pub IsTooFewFor : Layout → List Line → Reply → ℕ → Option ℕ → Resource → ℕ → Type 0
+IsTooFewFor lay lines r key old what left = HadAtKey lay (history lay.mode lines) (start lay.mode lines r.client.0) key old × HasTooFewToTry lay r.client.0 (history lay.mode lines) (start lay.mode lines r.client.0) (nodes_for old) what left
+
+-- the answer tells what the map had just before the turn at the key of the command, an edit
+pub record IsToldBefore (calls : List Call) (lines : List Line) (command : Command) (answer : Answer) (turn : ℕ) : Type 0 where
+  pub told : Option ℕ
+  pub answers : answer ≡ Value told
+  pub edit : MapEdit
+  pub is : map_call (Some command) ≡ Some (Edit edit)
+  pub had : get (edit_key edit) (map_at calls lines (turn - 1)) ≡ told
+
+-- the reply's moment is the greatest turn of the call after which the map had at the key what it
+-- tells
+pub record IsValueAt (calls : List Call) (lines : List Line) (key : ℕ) (r : Reply) : Type 0 where
+  pub told : Option ℕ
+  pub answers : r.answer ≡ Value told
+  pub turn : ℕ
+  pub moment : r.moment ≡ Some turn
+  pub greatest : IsGreatestTurn (λ m. get key (map_at calls lines m) ≡ told) r.begin r.end turn
+
+-- the command is an ordered read, and the reply's moment is the greatest turn of the call after
+-- which the map replied what it tells
+pub record IsReadAt (calls : List Call) (lines : List Line) (command : Command) (r : Reply) : Type 0 where
+  pub ordered : IsOrderedRead command
+  pub call : MapCall
+  pub is : map_call (Some command) ≡ Some call
+  pub turn : ℕ
+  pub moment : r.moment ≡ Some turn
+  pub greatest : IsGreatestTurn (λ m. reply_told r.answer ≡ Some (reply call (map_at calls lines m))) r.begin r.end turn

@@ -1,0 +1,21 @@
+-- Where a client's calls stand in a script.
+use Rattle.std.specs.Prelude.{◌≡◌, ℕ, suc, List, [], ◌∷◌, drop, Option, Some, None, slice_get}
+use Rattle.script.specs.declared.command.Call.{Call}
+use Rattle.script.specs.declared.command.Command.{Command}
+use Rattle.record.specs.Commands.{commands}
+
+-- where the first of client c's commands that are still to come
+-- stands among the calls; nowhere if none is to come
+abbrev pub IsAt : List Call → ℕ → List Command → Option ℕ → Type 0
+IsAt calls c left None = left ≡ []
+IsAt calls c left (Some at) = (command : Command) × (slice_get calls at ≡ Some (record { client = record { 0 = c }; command = command })) × (left ≡ command ∷ commands (drop (suc at) calls) c)
+
+-- the command of a call
+abbrev pub command_of_call : Option Call → Option Command
+command_of_call None = None
+command_of_call (Some call) = Some call.command
+
+-- the command of the call that stands at a place
+abbrev pub command_at : List Call → Option ℕ → Option Command
+command_at calls None = None
+command_at calls (Some at) = command_of_call (slice_get calls at)

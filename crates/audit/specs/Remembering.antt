@@ -1,0 +1,40 @@
+-- What one step or one reply changes in what an audit remembers.
+use Rattle.std.specs.Prelude.{◌≡◌, ℕ, ◌<◌, ◌⊎◌, true, false, Option, Some}
+use Rattle.arena.specs.declared.layout.Layout.{Layout}
+use Rattle.arena.specs.declared.step.Kind.{Kind}
+use Rattle.arena.specs.declared.step.Kind.TheVariants.{LoadInfo, Freeze}
+use Rattle.arena.specs.declared.step.Row.{Row}
+use Rattle.arena.specs.History.{History}
+use Rattle.arena.specs.Log.{log, last, is_final}
+use Rattle.arena.specs.ScxRecords.{member}
+use Rattle.arena.specs.Words.{info}
+use Rattle.audit.specs.declared.memory.Look.{Look}
+use Rattle.audit.specs.declared.memory.Memory.{Memory}
+
+-- the look is what the row has found in an info word, as the last of so many rows of h
+pub record IsLookBy (lay : Layout) (h : History) (rows : ℕ) (row : Row) (look : Look) : Type 0 where
+  pub word : row.word ≡ info look.node.0
+  pub many : look.steps ≡ rows
+  pub found : look.found ≡ row.before
+  pub last_entry : look.last ≡ last (log lay h) look.node.0
+
+-- what is remembered of a client after a step of this kind that has found this in an info word
+abbrev pub noted : Kind → Option Look → Memory → Memory
+noted LoadInfo look memory = record memory { look = look }
+noted Freeze look memory = record memory { freeze = look }
+noted _ look memory = memory
+
+-- it was noted what the row has found, as the last of so many rows of h
+pub record IsNoted (lay : Layout) (h : History) (rows : ℕ) (row : Row) (old new : Memory) : Type 0 where
+  pub seen : Option Look
+  pub by : (look : Look) → seen ≡ Some look → IsLookBy lay h rows row look
+  pub is : new ≡ noted row.kind seen old
+
+-- what is remembered of since when node n is final, which was `before`, is so many rows after it was
+-- noted of the nodes of SCX-record s below this place
+abbrev pub IsFinalBy : Layout → History → ℕ → ℕ → ℕ → Option ℕ → ℕ → ℕ → Type 0
+IsFinalBy lay h s places rows before n after = ((before ≡ Some after) × (after ≡ 0 → (j : ℕ) → j < places → member h s j ≡ n → is_final (log lay h) n ≡ false)) ⊎ ((before ≡ Some 0) × (after ≡ rows) × (is_final (log lay h) n ≡ true))
+
+-- the same, of the node at this place alone
+abbrev pub IsMadeFinal : Layout → History → ℕ → ℕ → ℕ → Option ℕ → ℕ → ℕ → Type 0
+IsMadeFinal lay h s place rows before n after = ((before ≡ Some after) × (after ≡ 0 → member h s place ≡ n → is_final (log lay h) n ≡ false)) ⊎ ((before ≡ Some 0) × (after ≡ rows) × (is_final (log lay h) n ≡ true))

@@ -1,0 +1,190 @@
+//! What each command may do.
+ghost use Rattle.std.specs.Prelude.{◌≡◌, ℕ, ◌+◌, ◌*◌, ◌≤◌, ◌↔◌, IsTrue};
+ghost use Rattle.record.specs.CommandRules.{most_steps, MayMake, MayAnswerAtOnce, MayAnswerAfterStep, enters};
+ghost use Rattle.record.specs.CommandRules.{rules};
+ghost use Rattle.record.specs.Edits.{EditAfterStep};
+ghost use Rattle.record.specs.Rules.Llx.{LlxAfterStep};
+ghost use Rattle.record.specs.Rules.Range.{TakesNothing, RangeAtOnce, RangeAfterStep};
+ghost use Rattle.record.specs.Rules.Set.{SetAfterStep};
+ghost use Rattle.record.specs.Rules.Successor.{SuccessorAfterStep};
+
+use arena::{Kind, Limits};
+use record::Answer;
+use script::{Command, Span};
+
+/// Whether a call may make a step of a kind.
+pub(crate) fn may_make(command: &Command, kind: Kind) -> bool
+    ensures { IsTrue result → MayMake command.now kind }
+{
+    match command {
+        Command::Llx { cell: _ } | Command::Successor { key: _ } => kind != Kind::Fill,
+        Command::Vlx { cells: _ } => kind == Kind::LoadInfo,
+        Command::Get { key: _ } => kind == Kind::LoadSettled || kind == Kind::LoadChild,
+        Command::Range(span) => kind != Kind::Fill && !takes_nothing(span),
+        _ => true,
+    }
+}
+
+/// Whether a range takes no pair, whatever the map has.
+fn takes_nothing(span: &Span) -> bool
+    ensures { IsTrue result ↔ TakesNothing span.now.low span.now.high span.now.most }
+{
+    span.most == 0 || span.high < span.low
+}
+
+/// How many steps a call may make at most, while so many nodes are taken; or fewer, if that is no
+/// number of this type.
+pub(crate) fn most_steps(command: &Command, limits: &Limits, taken: u64) -> u64
+    ensures { (all : ℕ) → taken ≤ all → result ≤ most_steps command.now limits.now.tries all }
+{
+    let levels = taken.saturating_add(2);
+    let tries = u64::from(limits.tries);
+    match command {
+        Command::Llx { cell: _ } => 64,
+        Command::Scx(_) => 40,
+        Command::Vlx { cells } => cells.as_slice().len() as u64,
+        Command::Set { field: _, value: _ } => 104,
+        Command::Insert { key: _, value: _ } => edit_steps(tries, levels, 178),
+        Command::Delete { key: _ } => edit_steps(tries, levels, 301),
+        Command::Get { key: _ } => levels.saturating_mul(3),
+        Command::Successor { key: _ } => tries.saturating_mul(levels.saturating_mul(137)),
+        Command::Range(span) => range_steps(tries, levels, span.most),
+    }
+}
+
+/// How many steps an edit may make at most, in so many tries.
+fn edit_steps(tries: u64, levels: u64, others: u64) -> u64
+    ensures { (all : ℕ) → levels ≤ 2 + all → result ≤ tries * (3 * (2 + all) + others) }
+{
+    tries.saturating_mul(levels.saturating_mul(3).saturating_add(others))
+}
+
+/// How many steps a range may make at most that takes so many pairs.
+fn range_steps(tries: u64, levels: u64, most: u32) -> u64
+    ensures { (all : ℕ) → levels ≤ 2 + all → result ≤ tries * ((most + 2) * (67 * (2 + all))) }
+{
+    let leaves = u64::from(most) + 2;
+    tries.saturating_mul(leaves.saturating_mul(levels.saturating_mul(67)))
+}
+
+/// Whether a call may give an answer in place of a first step.
+pub(crate) fn may_answer_at_once(command: &Command, answer: &Answer) -> bool
+    ensures { IsTrue result → MayAnswerAtOnce command.now answer.now }
+{
+    match command {
+        Command::Scx(_) => matches!(answer, Answer::Unlinked { .. } | Answer::Full { .. }),
+        Command::Vlx { cells: _ } => matches!(answer, Answer::Unlinked { .. }),
+        Command::Range(span) => is_range_at_once(span, answer),
+        Command::Successor { key: _ } => matches!(answer, Answer::NoMemory),
+        _ => false,
+    }
+}
+
+/// Whether a range may give an answer in place of a first step.
+fn is_range_at_once(span: &Span, answer: &Answer) -> bool
+    ensures { IsTrue result → RangeAtOnce span.now.low span.now.high span.now.most answer.now }
+{
+    match answer {
+        Answer::Pairs(pairs) => takes_nothing(span) && pairs.is_empty(),
+        Answer::NoMemory => !takes_nothing(span),
+        _ => false,
+    }
+}
+
+/// Whether a call may give an answer after a step.
+pub(crate) fn may_answer_after_step(command: &Command, answer: &Answer) -> bool
+    ensures { IsTrue result → MayAnswerAfterStep command.now answer.now }
+{
+    match command {
+        Command::Llx { cell: _ } => is_of_llx(answer),
+        Command::Scx(_) => matches!(answer, Answer::Done | Answer::Lost { .. }),
+        Command::Vlx { cells: _ } => matches!(answer, Answer::Same | Answer::Changed { .. }),
+        Command::Set { field: _, value: _ } => is_of_set(answer),
+        Command::Insert { key: _, value: _ } | Command::Delete { key: _ } => is_of_edit(answer),
+        Command::Get { key: _ } => matches!(answer, Answer::Value(_)),
+        Command::Successor { key: _ } => is_of_successor(answer),
+        Command::Range(_) => is_of_range(answer),
+    }
+}
+
+fn is_of_llx(answer: &Answer) -> bool
+    ensures { IsTrue result → LlxAfterStep answer.now }
+{
+    match answer {
+        Answer::Snapshot { .. } | Answer::Finalized | Answer::Fail { .. } => true,
+        _ => false,
+    }
+}
+
+fn is_of_set(answer: &Answer) -> bool
+    ensures { IsTrue result → SetAfterStep answer.now }
+{
+    match answer {
+        Answer::Finalized | Answer::Fail { .. } | Answer::Full { .. } => true,
+        Answer::Done | Answer::Lost { .. } => true,
+        _ => false,
+    }
+}
+
+fn is_of_edit(answer: &Answer) -> bool
+    ensures { IsTrue result → EditAfterStep answer.now }
+{
+    match answer {
+        Answer::Value(_) | Answer::Contended { .. } | Answer::Full { .. } => true,
+        _ => false,
+    }
+}
+
+fn is_of_successor(answer: &Answer) -> bool
+    ensures { IsTrue result → SuccessorAfterStep answer.now }
+{
+    match answer {
+        Answer::Value(None) | Answer::Pair(_) => true,
+        Answer::Contended { .. } | Answer::NoMemory => true,
+        _ => false,
+    }
+}
+
+fn is_of_range(answer: &Answer) -> bool
+    ensures { IsTrue result → RangeAfterStep answer.now }
+{
+    match answer {
+        Answer::Pairs(_) | Answer::Contended { .. } | Answer::NoMemory => true,
+        _ => false,
+    }
+}
+
+/// Whether an answer says that an update of the call is in the log.
+pub(crate) fn enters(command: &Command, answer: &Answer) -> bool
+    ensures { result ≡ enters command.now answer.now }
+{
+    match command {
+        Command::Scx(_) | Command::Set { .. } => matches!(answer, Answer::Done),
+        Command::Insert { .. } => matches!(answer, Answer::Value(_)),
+        Command::Delete { .. } => matches!(answer, Answer::Value(Some(_))),
+        _ => false,
+    }
+}
+
+/// How many nodes of its client's share a call may take at most.
+pub(crate) fn most_nodes(command: &Command, limits: &Limits) -> u32
+    ensures { result ≤ (rules command.now).most_nodes limits.now.tries }
+{
+    match command {
+        Command::Scx(_) | Command::Set { .. } => 1,
+        Command::Insert { .. } => limits.tries.saturating_mul(3),
+        Command::Delete { .. } => limits.tries,
+        _ => 0,
+    }
+}
+
+/// How many SCX-records of it a call may take at most.
+pub(crate) fn most_scx(command: &Command, limits: &Limits) -> u32
+    ensures { result ≤ (rules command.now).most_scx limits.now.tries }
+{
+    match command {
+        Command::Scx(_) | Command::Set { .. } => 1,
+        Command::Insert { .. } | Command::Delete { .. } => limits.tries,
+        _ => 0,
+    }
+}

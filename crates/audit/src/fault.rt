@@ -1,0 +1,59 @@
+//! What an audit finds wrong.
+ghost use Rattle.std.specs.Prelude.{◌≡◌, true, OnOk};
+
+use arena::NoMemory;
+use std::alloc::AllocError;
+use thiserror::Error;
+
+/// Why a record is not found lawful.
+#[derive(Clone, Copy, Debug, PartialEq, Eq, Error)]
+pub enum AuditFault {
+    /// An allocation was refused. Nothing is known of the record.
+    #[error("no memory")]
+    NoMemory,
+    /// The first row of the record's report that is not as the rows before it ask, counted from 1.
+    #[error("not lawful: row {row}")]
+    NotLawful { row: u64 },
+}
+
+/// Why a line is refused.
+#[derive(Clone, Copy, Debug, PartialEq, Eq)]
+pub(crate) enum Refused {
+    /// An allocation was refused.
+    NoMemory,
+    /// The line does not fit those before it.
+    NotLawful,
+}
+
+impl Refused {
+    /// The fault of a record whose row of this number is refused.
+    pub(crate) fn at(self, row: u64) -> AuditFault {
+        match self {
+            Refused::NoMemory => AuditFault::NoMemory,
+            Refused::NotLawful => AuditFault::NotLawful { row },
+        }
+    }
+}
+
+/// Refuses a line of which this does not hold.
+pub(crate) fn hold(fits: bool) -> Result<(), Refused>
+    ensures { OnOk result (fits ≡ true) }
+{
+    if fits {
+        Ok(())
+    } else {
+        Err(Refused::NotLawful)
+    }
+}
+
+impl From<NoMemory> for Refused {
+    fn from(_error: NoMemory) -> Refused {
+        Refused::NoMemory
+    }
+}
+
+impl From<AllocError> for Refused {
+    fn from(_error: AllocError) -> Refused {
+        Refused::NoMemory
+    }
+}

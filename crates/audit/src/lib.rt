@@ -1,0 +1,20 @@
+//! Judges a record: whether it is one of a lawful run. It goes from line to line, and plays nothing
+//! again: a row is judged by what the rows before it have left, the map is kept up by the entries,
+//! and the tree is looked at where an SCX-record begins.
+#![tactic(auto)]
+
+mod cells;
+mod client;
+mod commands;
+mod edits;
+mod fault;
+mod levels;
+mod map;
+mod memory;
+mod place;
+mod run;
+mod steps;
+mod verdict;
+
+pub use fault::AuditFault;
+pub use verdict::audit;

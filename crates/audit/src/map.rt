@@ -1,0 +1,234 @@
+//! Calls of the map: where they took place, and what they told there.
+ghost use Rattle.std.specs.Prelude.{◌≡◌, ℕ, suc, ◌<◌, ◌≤◌, List, Some, None, IsTrue};
+ghost use Rattle.arena.specs.declared.layout.Layout.{Layout};
+ghost use Rattle.spelling.specs.OrderedMap.{get};
+ghost use Rattle.script.specs.declared.command.Call.{Call as CallOf};
+ghost use Rattle.script.specs.declared.command.Command.{Command as CommandOf};
+ghost use Rattle.record.specs.declared.record.Answer.TheVariants.{Full};
+ghost use Rattle.record.specs.declared.record.Line.{Line};
+ghost use Rattle.record.specs.CommandRules.{IsRight, IsPlaced, MayAnswerAtOnce};
+ghost use Rattle.record.specs.Linked.{linked};
+ghost use Rattle.record.specs.MapRecord.{map_at, reply_told};
+ghost use Rattle.record.specs.Turns.{history, start, won};
+ghost use Rattle.places.specs.Entries.{AreEntries, HadWithin};
+ghost use Rattle.places.specs.Ordered.{FallFrom};
+ghost use Rattle.places.specs.Places.{changes};
+ghost use Rattle.audit.specs.Asked.{IsAsked, IsToldBefore, IsValueAt, IsReadAt, IsTooFewFor};
+ghost use Rattle.audit.specs.Remembered.{AreRemembered};
+ghost use Rattle.audit.specs.declared.client.Client.{Client as ClientOf};
+
+use crate::client::Client;
+use crate::steps::Steps;
+use arena::Resource;
+use places::Places;
+use record::{Answer, Reply};
+use script::Command;
+
+/// Whether a call of the map took place where its reply says, and told what the map gave there; or
+/// was refused, and took place nowhere.
+pub(crate) fn is_right(
+    steps: &Steps,
+    places: &Places,
+    client: &Client,
+    command: &Command,
+    reply: &Reply,
+) -> bool
+    requires { client.now.pass.0 < steps.now.judge.layout.passes }
+    ensures right { (lay : Layout) (tries : ℕ) (calls : List CallOf) (lines : List Line) → IsAsked lay tries calls lines (changes places.now) client.now command.now reply.now → AreRemembered lay calls lines steps.now → IsTrue result → IsRight lay reply.now.client.0 (history lay.mode lines) (start lay.mode lines reply.now.client.0) (linked calls lay.mode lines reply.now.client.0) command.now reply.now.answer }
+    ensures placed { (lay : Layout) (tries : ℕ) (calls : List CallOf) (lines : List Line) → IsAsked lay tries calls lines (changes places.now) client.now command.now reply.now → IsTrue result → IsPlaced lay calls lines reply.now command.now }
+{
+    match &reply.answer {
+        Answer::Value(_) | Answer::Pair(_) | Answer::Pairs(_) => {
+            is_placed(places, client, command, reply)
+        }
+        _ => reply.moment.is_none() && is_refused(steps, places, client, command, reply),
+    }
+}
+
+/// Whether a call that tells of the map took place in the turn of its reply: with its entry, just
+/// before which the map gave its answer; or, without one, in the last of its turns, whoever made
+/// it, after which the map gave it.
+fn is_placed(places: &Places, client: &Client, command: &Command, reply: &Reply) -> bool
+    ensures right { (lay : Layout) (tries : ℕ) (calls : List CallOf) (lines : List Line) → IsAsked lay tries calls lines (changes places.now) client.now command.now reply.now → IsTrue result → IsRight lay reply.now.client.0 (history lay.mode lines) (start lay.mode lines reply.now.client.0) (linked calls lay.mode lines reply.now.client.0) command.now reply.now.answer }
+    ensures placed { (lay : Layout) (tries : ℕ) (calls : List CallOf) (lines : List Line) → IsAsked lay tries calls lines (changes places.now) client.now command.now reply.now → IsTrue result → IsPlaced lay calls lines reply.now command.now }
+{
+    match client.won {
+        Some(turn) => {
+            reply.moment == Some(turn) && had_before(places, command, &reply.answer, turn)
+        }
+        None => is_read(places, command, reply),
+    }
+}
+
+/// Whether the answer tells what the key of an edit had just before a turn.
+fn had_before(places: &Places, command: &Command, answer: &Answer, turn: u64) -> bool
+    ensures { (calls : List CallOf) (lines : List Line) → AreEntries calls lines (changes places.now) → IsTrue result → IsToldBefore calls lines command.now answer.now turn }
+{
+    let Answer::Value(told) = answer else {
+        return false;
+    };
+    let before = turn.saturating_sub(1);
+    match command {
+        Command::Insert { key, value: _ } => has_at(places, *key, *told, before),
+        Command::Delete { key } => has_at(places, *key, *told, before),
+        _ => false,
+    }
+}
+
+/// Whether a call without an entry took place in the greatest of its turns after which the map gave
+/// its answer.
+fn is_read(places: &Places, command: &Command, reply: &Reply) -> bool
+    ensures right { (lay : Layout) (tries : ℕ) (calls : List CallOf) (lines : List Line) (client : ClientOf) → IsAsked lay tries calls lines (changes places.now) client command.now reply.now → won lay lines reply.now.client.0 ≡ None → IsTrue result → IsRight lay reply.now.client.0 (history lay.mode lines) (start lay.mode lines reply.now.client.0) (linked calls lay.mode lines reply.now.client.0) command.now reply.now.answer }
+    ensures placed { (lay : Layout) (tries : ℕ) (calls : List CallOf) (lines : List Line) (client : ClientOf) → IsAsked lay tries calls lines (changes places.now) client command.now reply.now → won lay lines reply.now.client.0 ≡ None → IsTrue result → IsPlaced lay calls lines reply.now command.now }
+{
+    match command {
+        Command::Get { key } => is_read_of(places, *key, reply),
+        Command::Delete { key } => is_read_of(places, *key, reply),
+        _ => is_read_at(places, command, reply),
+    }
+}
+
+/// Whether a call that tells what its key had took place in the greatest of its turns after which
+/// the map had that.
+fn is_read_of(places: &Places, key: u64, reply: &Reply) -> bool
+    ensures { (calls : List CallOf) (lines : List Line) → AreEntries calls lines (changes places.now) → IsTrue result → IsValueAt calls lines key reply.now }
+{
+    let Answer::Value(told) = reply.answer else {
+        return false;
+    };
+    reply.moment.is_some()
+        && reply.begin <= reply.end
+        && reply.moment == places.greatest(key, told, reply.begin, reply.end)
+}
+
+/// Whether a key has this value after a turn.
+fn has_at(places: &Places, key: u64, value: Option<u64>, turn: u64) -> bool
+    ensures { (calls : List CallOf) (lines : List Line) → AreEntries calls lines (changes places.now) → IsTrue result → get key (map_at calls lines turn) ≡ value }
+{
+    places.greatest(key, value, turn, turn).is_some()
+}
+
+/// Whether an ordered read took place in the greatest of its turns after which the map gave its
+/// answer.
+fn is_read_at(places: &Places, command: &Command, reply: &Reply) -> bool
+    ensures { (calls : List CallOf) (lines : List Line) → AreEntries calls lines (changes places.now) → FallFrom (suc reply.now.end) (changes places.now) → reply.now.begin ≤ reply.now.end → IsTrue result → IsReadAt calls lines command.now reply.now }
+{
+    let turn = places.greatest_of(command, &reply.answer, reply.begin, reply.end);
+    if reply.moment != Some(turn) {
+        return false;
+    }
+    match (command, &reply.answer) {
+        (Command::Successor { key: _ }, Answer::Value(told)) => {
+            told.is_none() && places.tells(command, &[], turn)
+        }
+        (Command::Successor { key: _ }, Answer::Pair(pair)) => {
+            places.tells(command, &[*pair], turn)
+        }
+        (Command::Range(_), Answer::Pairs(pairs)) => {
+            places.tells(command, pairs.as_slice(), turn)
+        }
+        _ => false,
+    }
+}
+
+/// Whether a call was refused as it deserves.
+fn is_refused(
+    steps: &Steps,
+    places: &Places,
+    client: &Client,
+    command: &Command,
+    reply: &Reply,
+) -> bool
+    requires { client.now.pass.0 < steps.now.judge.layout.passes }
+    ensures right { (lay : Layout) (tries : ℕ) (calls : List CallOf) (lines : List Line) → IsAsked lay tries calls lines (changes places.now) client.now command.now reply.now → AreRemembered lay calls lines steps.now → IsTrue result → IsRight lay reply.now.client.0 (history lay.mode lines) (start lay.mode lines reply.now.client.0) (linked calls lay.mode lines reply.now.client.0) command.now reply.now.answer }
+    ensures tells_nothing { IsTrue result → reply_told reply.now.answer ≡ None }
+{
+    match &reply.answer {
+        Answer::Contended { node, scx } => {
+            let begun = steps.memory(client.pass).begun;
+            steps.was_in_the_way(client.pass, (*node, *scx), begun)
+        }
+        Answer::Full { what, left } => is_full(
+            steps,
+            places,
+            client,
+            command,
+            reply,
+            (*what, *left),
+        ),
+        Answer::NoMemory => true,
+        _ => false,
+    }
+}
+
+/// Whether the share of a client has too little for its edit, of three nodes where the key had no
+/// value after some turn of the call, or of one where it had one.
+fn is_full(
+    steps: &Steps,
+    places: &Places,
+    client: &Client,
+    command: &Command,
+    reply: &Reply,
+    full: (Resource, u32),
+) -> bool
+    requires { client.now.pass.0 < steps.now.judge.layout.passes }
+    ensures { (lay : Layout) (tries : ℕ) (calls : List CallOf) (lines : List Line) → IsAsked lay tries calls lines (changes places.now) client.now command.now reply.now → AreRemembered lay calls lines steps.now → IsTrue result → IsRight lay reply.now.client.0 (history lay.mode lines) (start lay.mode lines reply.now.client.0) (linked calls lay.mode lines reply.now.client.0) command.now (Full full.0 full.1) }
+{
+    match command {
+        Command::Insert { key, value: _ } => {
+            is_full_for_new(steps, places, client, *key, reply, full)
+                || is_full_for_old(steps, places, client, *key, reply, full)
+        }
+        Command::Delete { key } => is_full_for_old(steps, places, client, *key, reply, full),
+        _ => false,
+    }
+}
+
+/// Whether a key had no value after some turn of a call, and the share has too little for a new
+/// one.
+fn is_full_for_new(
+    steps: &Steps,
+    places: &Places,
+    client: &Client,
+    key: u64,
+    reply: &Reply,
+    full: (Resource, u32),
+) -> bool
+    requires { client.now.pass.0 < steps.now.judge.layout.passes }
+    ensures { (lay : Layout) (tries : ℕ) (calls : List CallOf) (lines : List Line) (command : CommandOf) → IsAsked lay tries calls lines (changes places.now) client.now command reply.now → AreRemembered lay calls lines steps.now → (MayAnswerAtOnce command reply.now.answer → ⊥) → IsTrue result → IsTooFewFor lay lines reply.now key None full.0 full.1 }
+{
+    steps.has_too_few_to_try(client.pass, 3, full) && had(places, key, None, reply)
+}
+
+/// Whether a key had a value after some turn of a call, and the share has too little for another
+/// one or none.
+fn is_full_for_old(
+    steps: &Steps,
+    places: &Places,
+    client: &Client,
+    key: u64,
+    reply: &Reply,
+    full: (Resource, u32),
+) -> bool
+    requires { client.now.pass.0 < steps.now.judge.layout.passes }
+    ensures { (lay : Layout) (tries : ℕ) (calls : List CallOf) (lines : List Line) (command : CommandOf) → IsAsked lay tries calls lines (changes places.now) client.now command reply.now → AreRemembered lay calls lines steps.now → (MayAnswerAtOnce command reply.now.answer → ⊥) → IsTrue result → (v : ℕ) × IsTooFewFor lay lines reply.now key (Some v) full.0 full.1 }
+{
+    steps.has_too_few_to_try(client.pass, 1, full) && had_some(places, key, reply)
+}
+
+/// Whether a key had a value, whatever it was, after some turn of a call.
+fn had_some(places: &Places, key: u64, reply: &Reply) -> bool
+    ensures { (calls : List CallOf) (lines : List Line) → AreEntries calls lines (changes places.now) → IsTrue result → (v : ℕ) × HadWithin calls lines key (Some v) reply.now.begin reply.now.end }
+{
+    reply.begin <= reply.end && places.had_some(key, reply.begin, reply.end)
+}
+
+/// Whether a key had this value, or none, after some turn of a call.
+fn had(places: &Places, key: u64, value: Option<u64>, reply: &Reply) -> bool
+    ensures { (calls : List CallOf) (lines : List Line) → AreEntries calls lines (changes places.now) → IsTrue result → HadWithin calls lines key value reply.now.begin reply.now.end }
+{
+    reply.begin <= reply.end
+        && places
+            .greatest(key, value, reply.begin, reply.end)
+            .is_some()
+}

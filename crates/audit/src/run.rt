@@ -1,0 +1,735 @@
+//! A run, judged line by line.
+ghost use Rattle.std.specs.Prelude.{◌≡◌, ℕ, ◌≤◌, ◌<◌, Some, None, Option, set, slice_get, length, [], IfOk, IsSome, IfSome, IsTrue};
+ghost use Rattle.record.specs.declared.record.Entry.{Entry as EntryOf};
+ghost use Rattle.audit.specs.declared.client.Client.{Client as ClientOf};
+ghost use Rattle.audit.specs.After.{lines_of, IsAfter, IsMapAfter, AreRememberedAfter, AreClientsAfter};
+ghost use Rattle.std.specs.Prelude.{◌∷◌, OnOk};
+ghost use Rattle.record.specs.MapRecord.{map_call};
+ghost use Rattle.places.specs.declared.places.Change.{Change as ChangeOf};
+ghost use Rattle.places.specs.Entries.{IsChangeBy};
+ghost use Rattle.places.specs.Places.{changes, Knows, HoldsOfKey};
+ghost use Rattle.record.specs.Steps.{SaysItsCall};
+
+use crate::client::Client;
+use crate::commands::{enters, may_answer_after_step, may_answer_at_once, may_make, most_steps};
+use crate::edits::makes_edit;
+use crate::fault::{Refused, hold};
+use crate::levels::do_levels_rise;
+use crate::steps::Steps;
+use crate::{cells, map};
+use arena::{Kind, Mode, NoMemory, NodeWord, PassNo, ScxNo, ScxWord, Word};
+use places::{Change, Places};
+use record::{Entry, Line, Record, Reply, Row};
+use script::{Call, Command, Script};
+use std::alloc::Global;
+
+/// What the lines so far say.
+#[derive(Drop)]
+pub(crate) struct Run<'a> {
+    pub(crate) record: &'a Record,
+    /// How many lines there were.
+    pub(crate) at: usize,
+    pub(crate) steps: Steps,
+    pub(crate) places: Places,
+    /// On the tree, by the numbers of SCX-records: the command whose edit one that has begun makes.
+    pub(crate) edits: Vec<Option<Command>>,
+    pub(crate) clients: Vec<Client>,
+    /// How many turns there were.
+    pub(crate) turn: u64,
+    /// How many entries there were.
+    pub(crate) entries: u64,
+    /// Who made the last turn.
+    pub(crate) last: Option<PassNo>,
+    /// The entry that has to stand behind the last line.
+    pub(crate) owed: Option<Entry>,
+    /// Whether that entry is one that its client's call makes.
+    pub(crate) fits: bool,
+    /// Whether the last line is an idle turn.
+    pub(crate) idle: bool,
+    /// Whether it is the whole of a call, whose reply has to stand behind it.
+    pub(crate) awaits: bool,
+}
+
+impl<'a> Run<'a> {
+    ghost use Rattle.std.specs.Prelude.{◌≡◌, ◌≢◌, ℕ, suc, ◌+◌, ◌<◌, ◌∷◌, [], Some, None, true, IsTrue, IfOk, IfSome, OnOk, slice_get, vec_len};
+    ghost use Rattle.arena.specs.declared.step.Row.{Row as RowOf};
+    ghost use Rattle.arena.specs.Lawful.{IsLawful};
+    ghost use Rattle.record.specs.declared.record.Line.{Line};
+    ghost use Rattle.record.specs.declared.record.Row.{Row};
+    ghost use Rattle.record.specs.declared.record.Line.{Line as LineOf};
+    ghost use Rattle.record.specs.Commands.{next_command};
+    ghost use Rattle.record.specs.Steps.{IsStep, IsIdleTurn};
+    ghost use Rattle.record.specs.Entries.{IsWinOf};
+    ghost use Rattle.record.specs.Replies.{IsReply};
+    ghost use Rattle.record.specs.LawfulRun.{OwesNothing, IsLawfulRun};
+    ghost use Rattle.std.specs.Prelude.{length, reverse};
+    ghost use Rattle.record.specs.Turns.{history, turns, clients, entry_of, entry_owed};
+    ghost use Rattle.std.specs.Prelude.{Option};
+    ghost use Rattle.arena.specs.declared.word.Side.{Side};
+    ghost use Rattle.arena.specs.Lawful.{IsWin};
+    ghost use Rattle.arena.specs.Log.{entry as entered};
+    ghost use Rattle.arena.specs.Words.{child};
+    ghost use Rattle.arena.specs.declared.limits.Mode.TheVariants.{Tree, Records};
+    ghost use Rattle.arena.specs.History.{◌⊳◌, value};
+    ghost use Rattle.arena.specs.Shape.{IsBegin};
+    ghost use Rattle.script.specs.declared.command.Command.{Command as CommandOf};
+    ghost use Rattle.spelling.specs.FillOrder.{HasRisingLevels};
+    ghost use Rattle.record.specs.MapRecord.{map_call};
+    ghost use Rattle.places.specs.declared.places.Change.{Change as ChangeOf};
+    ghost use Rattle.places.specs.Entries.{IsChangeBy};
+    ghost use Rattle.places.specs.Places.{changes, Knows};
+    ghost use Rattle.audit.specs.Edits.{MayMakeFor};
+    ghost use Rattle.record.specs.CommandRules.{IsEntryFor, IsRight, IsPlaced, HasTakenFew};
+    ghost use Rattle.record.specs.Linked.{linked};
+    ghost use Rattle.record.specs.Replies.{IsFitting};
+    ghost use Rattle.record.specs.CommandRules.{enters};
+    ghost use Rattle.std.specs.Prelude.{is_some};
+    ghost use Rattle.record.specs.Turns.{start};
+    ghost use Rattle.judge.specs.Histories.{history as seen};
+    ghost use Rattle.audit.specs.After.{layout_of, tries_of, calls_of, IsClientAfter};
+
+    /// A run of no line of a record. The only error is want of memory.
+    pub(crate) fn new(alloc: Global, record: &'a Record) -> Result<Run<'a>, Refused>
+        ensures after { IfOk result (λ run. IsAfter run []) }
+        ensures map { IfOk result (λ run. IsMapAfter run []) }
+        ensures remembered { IfOk result (λ run. AreRememberedAfter run []) }
+        ensures at { IfOk result (λ run. run.at ≡ 0) }
+        ensures record { IfOk result (λ run. run.record.now ≡ «record».now) }
+    {
+        Ok(Run {
+            record,
+            at: 0,
+            steps: Steps::new(alloc, &record.script.layout)?,
+            places: Places::new(alloc, record.script.calls.as_slice())?,
+            edits: vec![in alloc; None; record.script.layout.all_scx() as usize]?,
+            clients: clients(alloc, &record.script)?,
+            turn: 0,
+            entries: 0,
+            last: None,
+            owed: None,
+            fits: false,
+            idle: false,
+            awaits: false,
+        })
+    }
+
+    /// No other line has to stand behind the last one.
+    pub(crate) fn settled(&self) -> Result<(), Refused>
+        requires { IsAfter self.now (lines_of self.now) }
+        ensures { OnOk result (OwesNothing (layout_of self.now) (calls_of self.now) (lines_of self.now)) }
+    {
+        hold(self.owed.is_none())?;
+        hold(!self.awaits)?;
+        Ok(())
+    }
+
+    /// The lines are those of a lawful run, if no other line has to stand behind the last one.
+    pub(crate) fn finish(&self) -> Result<(), Refused>
+        requires after { IsAfter self.now (lines_of self.now) }
+        requires map { IsMapAfter self.now (lines_of self.now) }
+        requires all { self.now.at ≡ length self.now.record.now.lines.items }
+        ensures { OnOk result (IsLawfulRun (layout_of self.now) (tries_of self.now) (calls_of self.now) (reverse (clients (reverse self.now.record.now.lines.items))) self.now.record.now.lines.items) }
+    {
+        self.steps.judge.laws_hold();
+        self.settled()?;
+        Ok(())
+    }
+
+    fn calls(&self) -> &[Call]
+        ensures { result.now ≡ calls_of self.now }
+    {
+        self.record.script.calls.as_slice()
+    }
+
+    /// The command of the next call of a client, if it has one left.
+    fn next(&self, client: &Client) -> Option<Command>
+        requires after { IsAfter self.now (lines_of self.now) }
+        requires client { slice_get self.now.clients.items client.now.pass.0 ≡ Some client.now }
+        ensures { result ≡ next_command (calls_of self.now) (lines_of self.now) client.now.pass.0 }
+    {
+        client.command(self.calls())
+    }
+
+    /// The state of a client, if there is one of this number.
+    fn client(&self, pass: PassNo) -> Result<Client, Refused>
+        requires { IsAfter self.now (lines_of self.now) }
+        ensures here { IfOk result (λ c. slice_get self.now.clients.items pass.0 ≡ Some c) }
+        ensures there { IfOk result (λ c. slice_get self.now.clients.items c.pass.0 ≡ Some c) }
+        ensures pass { IfOk result (λ c. c.pass ≡ pass) }
+        ensures after { IfOk result (λ c. IsClientAfter (layout_of self.now) (calls_of self.now) (lines_of self.now) pass.0 c) }
+    {
+        match self.clients.get(pass.0 as usize) {
+            Some(client) => Ok(*client),
+            None => Err(Refused::NotLawful),
+        }
+    }
+
+    /// One line more, if it fits those before it.
+    pub(crate) fn line(&mut self) -> Result<(), Refused>
+        requires after { IsAfter self.old (lines_of self.old) }
+        requires map { IsMapAfter self.old (lines_of self.old) }
+        requires remembered { AreRememberedAfter self.old (lines_of self.old) }
+        requires more { self.old.at < vec_len self.old.record.now.lines }
+        ensures after { OnOk result (IsAfter self.new (lines_of self.new)) }
+        ensures map { OnOk result (IsMapAfter self.new (lines_of self.new)) }
+        ensures remembered { OnOk result (AreRememberedAfter self.new (lines_of self.new)) }
+        ensures at { OnOk result (self.new.at ≡ suc self.old.at) }
+        ensures record { self.new.record ≡ self.old.record }
+    {
+        self.next_line()?;
+        self.at += 1;
+        Ok(())
+    }
+
+    /// The line behind those so far, if it fits them.
+    fn next_line(&mut self) -> Result<(), Refused>
+        requires after { IsAfter self.old (lines_of self.old) }
+        requires map { IsMapAfter self.old (lines_of self.old) }
+        requires remembered { AreRememberedAfter self.old (lines_of self.old) }
+        requires more { self.old.at < vec_len self.old.record.now.lines }
+        ensures after { (line : LineOf) → slice_get self.old.record.now.lines.items self.old.at ≡ Some line → OnOk result (IsAfter self.new (line ∷ lines_of self.old)) }
+        ensures map { (line : LineOf) → slice_get self.old.record.now.lines.items self.old.at ≡ Some line → OnOk result (IsMapAfter self.new (line ∷ lines_of self.old)) }
+        ensures remembered { (line : LineOf) → slice_get self.old.record.now.lines.items self.old.at ≡ Some line → OnOk result (AreRememberedAfter self.new (line ∷ lines_of self.old)) }
+        ensures at { self.new.at ≡ self.old.at }
+        ensures record { self.new.record ≡ self.old.record }
+    {
+        let record = self.record;
+        match &record.lines[self.at] {
+            Line::Step(Row::Step { number, row }) => self.step(*number, row),
+            Line::Step(Row::Idle { number, client }) => self.idle(*number, *client),
+            Line::Log(entry) => self.entry(entry),
+            Line::Reply(reply) => self.reply(reply),
+        }
+    }
+
+    /// A turn fits the lines so far that makes this step.
+    fn check_step(&self, number: u64, row: &arena::Row) -> Result<(), Refused>
+        requires { IsAfter self.now (lines_of self.now) }
+        ensures { OnOk result (IsStep (layout_of self.now) (tries_of self.now) (calls_of self.now) (lines_of self.now) number row.now) }
+    {
+        let client = self.client(row.pass)?;
+        let Some(command) = self.next(&client) else {
+            return Err(Refused::NotLawful);
+        };
+        let limits = &self.record.script.limits;
+        let most = most_steps(&command, limits, u64::from(self.steps.judge.taken()));
+        hold(self.turn.checked_add(1) == Some(number))?;
+        hold(row.call == client.answered)?;
+        hold(client.steps < most)?;
+        hold(may_make(&command, row.kind))?;
+        hold(says_its_call(row))?;
+        hold(self.steps.judge.is_lawful(row))?;
+        Ok(())
+    }
+
+    /// A turn fits the lines so far that makes no step.
+    fn check_idle(&self, number: u64, pass: PassNo) -> Result<(), Refused>
+        requires { IsAfter self.now (lines_of self.now) }
+        ensures { OnOk result (IsIdleTurn (layout_of self.now) (calls_of self.now) (lines_of self.now) number pass.0) }
+    {
+        let client = self.client(pass)?;
+        hold(self.turn.checked_add(1) == Some(number))?;
+        hold(pass.0 < self.record.script.layout.passes)?;
+        hold(client.begun.is_none() || self.next(&client).is_none())?;
+        Ok(())
+    }
+
+    /// A turn without a step: of a client with no call left, or the whole of a call.
+    fn idle(&mut self, number: u64, pass: PassNo) -> Result<(), Refused>
+        requires after { IsAfter self.old (lines_of self.old) }
+        requires map { IsMapAfter self.old (lines_of self.old) }
+        requires remembered { AreRememberedAfter self.old (lines_of self.old) }
+        ensures after { OnOk result (IsAfter self.new (Line.Step (Row.Idle number pass) ∷ lines_of self.old)) }
+        ensures map { OnOk result (IsMapAfter self.new (Line.Step (Row.Idle number pass) ∷ lines_of self.old)) }
+        ensures remembered { OnOk result (AreRememberedAfter self.new (Line.Step (Row.Idle number pass) ∷ lines_of self.old)) }
+        ensures at { self.new.at ≡ self.old.at }
+        ensures record { self.new.record ≡ self.old.record }
+    {
+        self.settled()?;
+        self.check_idle(number, pass)?;
+        let client = self.client(pass)?;
+        let awaits = self.next(&client).is_some();
+        self.steps
+            .begin(&client, self.record.script.calls.as_slice());
+        self.clients[pass.0 as usize] = client.turned(number);
+        self.turn = number;
+        self.last = Some(pass);
+        self.idle = true;
+        self.awaits = awaits;
+        Ok(())
+    }
+
+    /// A turn that makes a lawful step of a client's next call.
+    fn step(&mut self, number: u64, row: &arena::Row) -> Result<(), Refused>
+        requires after { IsAfter self.old (lines_of self.old) }
+        requires map { IsMapAfter self.old (lines_of self.old) }
+        requires remembered { AreRememberedAfter self.old (lines_of self.old) }
+        ensures after { OnOk result (IsAfter self.new (Line.Step (Row.Step number row.now) ∷ lines_of self.old)) }
+        ensures map { OnOk result (IsMapAfter self.new (Line.Step (Row.Step number row.now) ∷ lines_of self.old)) }
+        ensures remembered { OnOk result (AreRememberedAfter self.new (Line.Step (Row.Step number row.now) ∷ lines_of self.old)) }
+        ensures at { self.new.at ≡ self.old.at }
+        ensures record { self.new.record ≡ self.old.record }
+    {
+        self.settled()?;
+        self.check_step(number, row)?;
+        self.check_edit(row)?;
+        let owed = self.owed_by(number, row)?;
+        let fits = self.fits_with(row, &owed);
+        self.make(number, row, owed, fits)
+    }
+
+    /// Whether a step wins with this entry, if there is one.
+    fn fits_with(&self, row: &arena::Row, owed: &Option<Entry>) -> bool
+        requires after { IsAfter self.now (lines_of self.now) }
+        requires map { IsMapAfter self.now (lines_of self.now) }
+        requires remembered { AreRememberedAfter self.now (lines_of self.now) }
+        requires lawful { IsLawful self.now.steps.judge.layout (seen self.now.steps.judge) row.now }
+        ensures { (number : ℕ) → (e : EntryOf) → IsTrue result → owed.now ≡ Some e → entry_of (layout_of self.now) (lines_of self.now) number row.now ≡ Some e → IsWinOf (layout_of self.now) (calls_of self.now) (lines_of self.now) row.now e }
+    {
+        match owed {
+            Some(entry) => self.check_win(row, entry).is_ok(),
+            None => false,
+        }
+    }
+
+    /// The entry that a step of this turn asks for, if it is an update which changes its field: of the
+    /// SCX-record that holds the field's node.
+    fn owed_by(&self, number: u64, row: &arena::Row) -> Result<Option<Entry>, Refused>
+        requires { IsAfter self.now (lines_of self.now) }
+        ensures owed { IfOk result (λ owed. entry_of (layout_of self.now) (lines_of self.now) number row.now ≡ owed) }
+        ensures client { IfOk result (λ owed. IfSome owed (λ e. e.client.0 < (layout_of self.now).passes)) }
+    {
+        if row.kind != Kind::Update || row.before == row.after {
+            return Ok(None);
+        }
+        let Word::Node(node, NodeWord::Child(_)) = row.word else {
+            return Ok(None);
+        };
+        let scx = ScxNo(self.steps.judge.get(Word::Node(node, NodeWord::Info)));
+        let call = self.steps.judge.get(Word::Scx(scx, ScxWord::Call));
+        match (
+            self.record.script.layout.owner(scx),
+            self.entries.checked_add(1),
+        ) {
+            (Some(client), Some(place)) => Ok(Some(Entry {
+                place,
+                step: number,
+                scx,
+                client,
+                call,
+            })),
+            _ => Err(Refused::NotLawful),
+        }
+    }
+
+    /// A step wins with this entry: the first one of its client's call that runs.
+    fn check_win(&self, row: &arena::Row, entry: &Entry) -> Result<(), Refused>
+        requires after { IsAfter self.now (lines_of self.now) }
+        requires map { IsMapAfter self.now (lines_of self.now) }
+        requires remembered { AreRememberedAfter self.now (lines_of self.now) }
+        requires lawful { IsLawful self.now.steps.judge.layout (seen self.now.steps.judge) row.now }
+        ensures { (number : ℕ) → entry_of (layout_of self.now) (lines_of self.now) number row.now ≡ Some entry.now → OnOk result (IsWinOf (layout_of self.now) (calls_of self.now) (lines_of self.now) row.now entry.now) }
+    {
+        let client = self.client(entry.client)?;
+        let Some(command) = self.next(&client) else {
+            return Err(Refused::NotLawful);
+        };
+        hold(self.steps.judge.winner(row) == Some(entry.scx))?;
+        hold(client.won.is_none())?;
+        hold(entry.call == client.answered)?;
+        hold(has_begun(&client, row.pass))?;
+        self.check_entry(&client, &command, entry.scx)?;
+        Ok(())
+    }
+
+    /// An entry of this SCX-record is one that the client's call makes.
+    fn check_entry(&self, client: &Client, command: &Command, scx: ScxNo) -> Result<(), Refused>
+        requires after { IsAfter self.now (lines_of self.now) }
+        requires map { IsMapAfter self.now (lines_of self.now) }
+        requires remembered { AreRememberedAfter self.now (lines_of self.now) }
+        requires client { slice_get self.now.clients.items client.now.pass.0 ≡ Some client.now }
+        requires command { next_command (calls_of self.now) (lines_of self.now) client.now.pass.0 ≡ Some command.now }
+        ensures { OnOk result ((row : RowOf) (n : ℕ) (side : Side) → IsWin (seen self.now.steps.judge) row scx.0 → row.word ≡ child n side → IsEntryFor (layout_of self.now) client.now.pass.0 (seen self.now.steps.judge) (start (layout_of self.now).mode (lines_of self.now) client.now.pass.0) (linked (calls_of self.now) (layout_of self.now).mode (lines_of self.now) client.now.pass.0) (entered (layout_of self.now) (seen self.now.steps.judge) scx.0 n side row.after) command.now) }
+    {
+        match command {
+            Command::Insert { key: _, value: _ } | Command::Delete { key: _ } => {
+                hold(self.edit_of(scx) == Some(*command))?;
+                Ok(())
+            }
+            _ => {
+                hold(cells::is_entry_for(&self.steps, client, command, scx))?;
+                Ok(())
+            }
+        }
+    }
+
+    /// On the tree: levels still rise behind a step, and the SCX-record that it begins, if it begins
+    /// one, makes the edit of its client's call.
+    fn check_edit(&self, row: &arena::Row) -> Result<(), Refused>
+        requires after { IsAfter self.now (lines_of self.now) }
+        requires map { IsMapAfter self.now (lines_of self.now) }
+        requires found { row.now.before ≡ value (seen self.now.steps.judge) row.now.word }
+        ensures rising { OnOk result ((layout_of self.now).mode ≡ Tree → HasRisingLevels (seen self.now.steps.judge) → HasRisingLevels (row.now ⊳ seen self.now.steps.judge)) }
+        ensures edit { OnOk result ((layout_of self.now).mode ≡ Tree → IsBegin (seen self.now.steps.judge) row.now row.now.after → (command : CommandOf) × (next_command (calls_of self.now) (lines_of self.now) row.now.pass.0 ≡ Some command) × MayMakeFor (layout_of self.now) (seen self.now.steps.judge) row.now.after command) }
+    {
+        if self.record.script.layout.mode != Mode::Tree {
+            return Ok(());
+        }
+        hold(do_levels_rise(&self.steps.judge, row))?;
+        if self.steps.judge.is_begin(row) {
+            self.check_begun(row)?;
+            Ok(())
+        } else {
+            Ok(())
+        }
+    }
+
+    /// The SCX-record that a step begins makes the edit of its client's call.
+    fn check_begun(&self, row: &arena::Row) -> Result<(), Refused>
+        requires after { IsAfter self.now (lines_of self.now) }
+        requires map { IsMapAfter self.now (lines_of self.now) }
+        requires mode { (layout_of self.now).mode ≡ Tree }
+        ensures { OnOk result ((command : CommandOf) × (next_command (calls_of self.now) (lines_of self.now) row.now.pass.0 ≡ Some command) × MayMakeFor (layout_of self.now) (seen self.now.steps.judge) row.now.after command) }
+    {
+        let client = self.client(row.pass)?;
+        let Some(command) = self.next(&client) else {
+            return Err(Refused::NotLawful);
+        };
+        hold(makes_edit(&self.steps.judge, row.after, &command))?;
+        Ok(())
+    }
+
+    /// On the tree: the command of the client's call, if a step begins an SCX-record.
+    fn edit_begun(&self, row: &arena::Row) -> Option<Command>
+        requires { IsAfter self.now (lines_of self.now) }
+        ensures begins { IfSome result (λ command. IsBegin (seen self.now.steps.judge) row.now row.now.after) }
+        ensures next { IfSome result (λ command. next_command (calls_of self.now) (lines_of self.now) row.now.pass.0 ≡ Some command) }
+    {
+        if self.record.script.layout.mode != Mode::Tree || !self.steps.judge.is_begin(row) {
+            return None;
+        }
+        match self.client(row.pass) {
+            Ok(client) => self.next(&client),
+            Err(_) => None,
+        }
+    }
+
+    /// The command whose edit an SCX-record makes, on the tree.
+    fn edit_of(&self, scx: ScxNo) -> Option<Command>
+        ensures { IfSome result (λ command. slice_get self.now.edits.items scx.0 ≡ Some (Some command)) }
+    {
+        match self.edits.get(scx.0 as usize) {
+            Some(edit) => *edit,
+            None => None,
+        }
+    }
+
+    /// Makes a lawful step, which asks for this entry.
+    fn make(
+        &mut self,
+        number: u64,
+        row: &arena::Row,
+        owed: Option<Entry>,
+        fits: bool,
+    ) -> Result<(), Refused>
+        requires after { IsAfter self.old (lines_of self.old) }
+        requires map { IsMapAfter self.old (lines_of self.old) }
+        requires remembered { AreRememberedAfter self.old (lines_of self.old) }
+        requires rising { (layout_of self.old).mode ≡ Tree → HasRisingLevels (seen self.old.steps.judge) → HasRisingLevels (row.now ⊳ seen self.old.steps.judge) }
+        requires edit { (layout_of self.old).mode ≡ Tree → IsBegin (seen self.old.steps.judge) row.now row.now.after → (command : CommandOf) × (next_command (calls_of self.old) (lines_of self.old) row.now.pass.0 ≡ Some command) × MayMakeFor (layout_of self.old) (seen self.old.steps.judge) row.now.after command }
+        requires settled { OwesNothing (layout_of self.old) (calls_of self.old) (lines_of self.old) }
+        requires step { IsStep (layout_of self.old) (tries_of self.old) (calls_of self.old) (lines_of self.old) number row.now }
+        requires owed { entry_of (layout_of self.old) (lines_of self.old) number row.now ≡ owed }
+        requires client { IfSome owed (λ e. e.client.0 < (layout_of self.old).passes) }
+        requires fits { (e : EntryOf) → fits ≡ true → owed ≡ Some e → IsWinOf (layout_of self.old) (calls_of self.old) (lines_of self.old) row.now e }
+        ensures after { OnOk result (IsAfter self.new (Line.Step (Row.Step number row.now) ∷ lines_of self.old)) }
+        ensures map { OnOk result (IsMapAfter self.new (Line.Step (Row.Step number row.now) ∷ lines_of self.old)) }
+        ensures remembered { OnOk result (AreRememberedAfter self.new (Line.Step (Row.Step number row.now) ∷ lines_of self.old)) }
+        ensures at { self.new.at ≡ self.old.at }
+        ensures record { self.new.record ≡ self.old.record }
+    {
+        let client = self.client(row.pass)?;
+        hold(client.steps < u64::MAX)?;
+        let edit = self.edit_begun(row);
+        self.steps
+            .begin(&client, self.record.script.calls.as_slice());
+        self.steps.make(row)?;
+        note_edit(&mut self.edits, row.after, edit);
+        self.clients[row.pass.0 as usize] = client.stepped(number);
+        note_win(&mut self.clients, number, &owed);
+        self.turn = number;
+        self.last = Some(row.pass);
+        self.owed = owed;
+        self.fits = fits;
+        self.idle = false;
+        self.awaits = false;
+        Ok(())
+    }
+
+    /// The entry that the step before it asks for.
+    fn entry(&mut self, entry: &Entry) -> Result<(), Refused>
+        requires after { IsAfter self.old (lines_of self.old) }
+        requires map { IsMapAfter self.old (lines_of self.old) }
+        requires remembered { AreRememberedAfter self.old (lines_of self.old) }
+        ensures after { OnOk result (IsAfter self.new (Line.Log entry.now ∷ lines_of self.old)) }
+        ensures map { OnOk result (IsMapAfter self.new (Line.Log entry.now ∷ lines_of self.old)) }
+        ensures remembered { OnOk result (AreRememberedAfter self.new (Line.Log entry.now ∷ lines_of self.old)) }
+        ensures at { self.new.at ≡ self.old.at }
+        ensures record { self.new.record ≡ self.old.record }
+    {
+        hold(self.owed == Some(*entry))?;
+        hold(self.fits)?;
+        self.change(entry)?;
+        self.owed = None;
+        self.fits = false;
+        self.idle = false;
+        self.awaits = false;
+        self.entries = entry.place;
+        Ok(())
+    }
+
+    /// The map is changed by the call of an entry.
+    fn change(&mut self, entry: &Entry) -> Result<(), Refused>
+        requires after { IsAfter self.old (lines_of self.old) }
+        requires map { IsMapAfter self.old (lines_of self.old) }
+        ensures rest { self.new ≡ record self.old { places = self.new.places } }
+        ensures keys { (key : ℕ) → Knows self.old.places key → Knows self.new.places key }
+        ensures change { OnOk result ((command : CommandOf) → (c : ChangeOf) → next_command (calls_of self.old) (lines_of self.old) entry.now.client.0 ≡ Some command → c.turn ≡ entry.now.step → IsChangeBy (map_call (Some command)) c → changes self.new.places ≡ c ∷ changes self.old.places) }
+    {
+        let client = self.client(entry.client)?;
+        let Some(command) = self.next(&client) else {
+            return Err(Refused::NotLawful);
+        };
+        change(&mut self.places, entry.step, command)?;
+        Ok(())
+    }
+
+    /// The reply to the call whose last turn is the newest one.
+    fn reply(&mut self, reply: &Reply) -> Result<(), Refused>
+        requires after { IsAfter self.old (lines_of self.old) }
+        requires map { IsMapAfter self.old (lines_of self.old) }
+        requires remembered { AreRememberedAfter self.old (lines_of self.old) }
+        ensures after { OnOk result (IsAfter self.new (Line.Reply reply.now ∷ lines_of self.old)) }
+        ensures map { OnOk result (IsMapAfter self.new (Line.Reply reply.now ∷ lines_of self.old)) }
+        ensures remembered { OnOk result (AreRememberedAfter self.new (Line.Reply reply.now ∷ lines_of self.old)) }
+        ensures at { self.new.at ≡ self.old.at }
+        ensures record { self.new.record ≡ self.old.record }
+    {
+        hold(self.owed.is_none())?;
+        let client = self.client(reply.client)?;
+        self.check_reply(&client, reply)?;
+        hold(client.answered < u64::MAX)?;
+        self.steps.keep_behind(&client, self.record.script.calls.as_slice(), &reply.answer);
+        let after = client.ended(self.calls());
+        self.clients[reply.client.0 as usize] = after;
+        self.idle = false;
+        self.awaits = false;
+        Ok(())
+    }
+
+    /// A reply is that to a client's next call.
+    fn check_reply(&self, client: &Client, reply: &Reply) -> Result<(), Refused>
+        requires after { IsAfter self.now (lines_of self.now) }
+        requires map { IsMapAfter self.now (lines_of self.now) }
+        requires remembered { AreRememberedAfter self.now (lines_of self.now) }
+        requires owed { entry_owed (layout_of self.now) (lines_of self.now) ≡ None }
+        requires client { slice_get self.now.clients.items client.now.pass.0 ≡ Some client.now }
+        requires own { client.now.pass ≡ reply.now.client }
+        ensures { OnOk result (IsReply (layout_of self.now) (tries_of self.now) (calls_of self.now) (lines_of self.now) reply.now) }
+    {
+        let Some(command) = self.next(client) else {
+            return Err(Refused::NotLawful);
+        };
+        hold(self.last == Some(reply.client))?;
+        hold(reply.call == client.answered)?;
+        hold(client.begun == Some(reply.begin))?;
+        hold(reply.end == self.turn)?;
+        hold(self.may_answer(&command, reply))?;
+        hold(enters(&command, &reply.answer) == client.won.is_some())?;
+        hold(is_within(reply))?;
+        self.check_answer(client, &command, reply)?;
+        Ok(())
+    }
+
+    /// Whether a call may give the answer of a reply behind the newest line.
+    fn may_answer(&self, command: &Command, reply: &Reply) -> bool
+        requires { IsAfter self.now (lines_of self.now) }
+        ensures { IsTrue result → IsFitting (lines_of self.now) command.now reply.now.answer }
+    {
+        if self.idle {
+            may_answer_at_once(command, &reply.answer)
+        } else {
+            may_answer_after_step(command, &reply.answer)
+        }
+    }
+
+    /// The answer to a client's call is right, and the call took place where the reply says.
+    fn check_answer(&self, client: &Client, command: &Command, reply: &Reply) -> Result<(), Refused>
+        requires after { IsAfter self.now (lines_of self.now) }
+        requires map { IsMapAfter self.now (lines_of self.now) }
+        requires remembered { AreRememberedAfter self.now (lines_of self.now) }
+        requires owed { entry_owed (layout_of self.now) (lines_of self.now) ≡ None }
+        requires client { slice_get self.now.clients.items client.now.pass.0 ≡ Some client.now }
+        requires own { client.now.pass ≡ reply.now.client }
+        requires number { reply.now.call ≡ client.now.answered }
+        requires begun { client.now.begun ≡ Some reply.now.begin }
+        requires end { reply.now.end ≡ self.now.turn }
+        requires fits { IsFitting (lines_of self.now) command.now reply.now.answer }
+        requires entry { enters command.now reply.now.answer ≡ is_some client.now.won }
+        requires command { next_command (calls_of self.now) (lines_of self.now) client.now.pass.0 ≡ Some command.now }
+        ensures right { OnOk result (IsRight (layout_of self.now) reply.now.client.0 (history (layout_of self.now).mode (lines_of self.now)) (start (layout_of self.now).mode (lines_of self.now) reply.now.client.0) (linked (calls_of self.now) (layout_of self.now).mode (lines_of self.now) reply.now.client.0) command.now reply.now.answer) }
+        ensures took { OnOk result (HasTakenFew (layout_of self.now) (tries_of self.now) reply.now.client.0 (history (layout_of self.now).mode (lines_of self.now)) (start (layout_of self.now).mode (lines_of self.now) reply.now.client.0) command.now) }
+        ensures placed { OnOk result (IsPlaced (layout_of self.now) (calls_of self.now) (lines_of self.now) reply.now command.now) }
+    {
+        let limits = &self.record.script.limits;
+        hold(self.steps.has_taken_few(client.pass, command, limits))?;
+        match self.record.script.layout.mode {
+            Mode::Tree => self.check_map_answer(client, command, reply),
+            Mode::Records => self.check_cells_answer(client, command, reply),
+        }
+    }
+
+    /// The same, for a call of the map.
+    fn check_map_answer(
+        &self,
+        client: &Client,
+        command: &Command,
+        reply: &Reply,
+    ) -> Result<(), Refused>
+        requires after { IsAfter self.now (lines_of self.now) }
+        requires map { IsMapAfter self.now (lines_of self.now) }
+        requires remembered { AreRememberedAfter self.now (lines_of self.now) }
+        requires mode { (layout_of self.now).mode ≡ Tree }
+        requires owed { entry_owed (layout_of self.now) (lines_of self.now) ≡ None }
+        requires client { slice_get self.now.clients.items client.now.pass.0 ≡ Some client.now }
+        requires own { client.now.pass ≡ reply.now.client }
+        requires number { reply.now.call ≡ client.now.answered }
+        requires begun { client.now.begun ≡ Some reply.now.begin }
+        requires end { reply.now.end ≡ self.now.turn }
+        requires fits { IsFitting (lines_of self.now) command.now reply.now.answer }
+        requires entry { enters command.now reply.now.answer ≡ is_some client.now.won }
+        requires command { next_command (calls_of self.now) (lines_of self.now) client.now.pass.0 ≡ Some command.now }
+        ensures right { OnOk result (IsRight (layout_of self.now) reply.now.client.0 (history (layout_of self.now).mode (lines_of self.now)) (start (layout_of self.now).mode (lines_of self.now) reply.now.client.0) (linked (calls_of self.now) (layout_of self.now).mode (lines_of self.now) reply.now.client.0) command.now reply.now.answer) }
+        ensures placed { OnOk result (IsPlaced (layout_of self.now) (calls_of self.now) (lines_of self.now) reply.now command.now) }
+    {
+        hold(map::is_right(&self.steps, &self.places, client, command, reply))?;
+        Ok(())
+    }
+
+    /// The same, for a call of cells.
+    fn check_cells_answer(
+        &self,
+        client: &Client,
+        command: &Command,
+        reply: &Reply,
+    ) -> Result<(), Refused>
+        requires after { IsAfter self.now (lines_of self.now) }
+        requires remembered { AreRememberedAfter self.now (lines_of self.now) }
+        requires mode { (layout_of self.now).mode ≡ Records }
+        requires client { slice_get self.now.clients.items client.now.pass.0 ≡ Some client.now }
+        requires own { client.now.pass ≡ reply.now.client }
+        requires begun { client.now.begun ≡ Some reply.now.begin }
+        requires command { next_command (calls_of self.now) (lines_of self.now) client.now.pass.0 ≡ Some command.now }
+        ensures right { OnOk result (IsRight (layout_of self.now) reply.now.client.0 (history (layout_of self.now).mode (lines_of self.now)) (start (layout_of self.now).mode (lines_of self.now) reply.now.client.0) (linked (calls_of self.now) (layout_of self.now).mode (lines_of self.now) reply.now.client.0) command.now reply.now.answer) }
+        ensures placed { OnOk result (IsPlaced (layout_of self.now) (calls_of self.now) (lines_of self.now) reply.now command.now) }
+    {
+        hold(cells::is_right(&self.steps, client, command, reply))?;
+        Ok(())
+    }
+}
+
+/// An SCX-record has begun that makes the edit of this command, if there is one.
+fn note_edit(edits: &mut Vec<Option<Command>>, scx: u64, edit: Option<Command>)
+    ensures none { edit ≡ None → edits.new.items ≡ edits.old.items }
+    ensures some { IsSome edit → edits.new.items ≡ set edits.old.items scx edit }
+{
+    if edit.is_some() && (scx as usize) < edits.len() {
+        edits[scx as usize] = edit;
+    }
+}
+
+/// The map is changed in a turn by an edit.
+fn change(places: &mut Places, turn: u64, command: Command) -> Result<(), Refused>
+    requires { HoldsOfKey (Knows places.old) command }
+    ensures keys { (key : ℕ) → Knows places.old key → Knows places.new key }
+    ensures change { OnOk result ((c : ChangeOf) → c.turn ≡ turn → IsChangeBy (map_call (Some command)) c → changes places.new ≡ c ∷ changes places.old) }
+{
+    match command {
+        Command::Insert { key, value } => {
+            push(places, turn, (key, Some(value)))?;
+            Ok(())
+        }
+        Command::Delete { key } => {
+            push(places, turn, (key, None))?;
+            Ok(())
+        }
+        _ => Ok(()),
+    }
+}
+
+/// In a turn the key gets this value.
+fn push(places: &mut Places, turn: u64, to: (u64, Option<u64>)) -> Result<(), Refused>
+    requires { Knows places.old to.0 }
+    ensures keys { (key : ℕ) → Knows places.old key → Knows places.new key }
+    ensures change { OnOk result ((c : ChangeOf) → c.turn ≡ turn → c.key ≡ to.0 → c.value ≡ to.1 → changes places.new ≡ c ∷ changes places.old) }
+{
+    places.reserve()?;
+    let (key, value) = to;
+    places.push(Change { turn, key, value });
+    Ok(())
+}
+
+/// The clients of a script, which have made no turn.
+fn clients(alloc: Global, script: &Script) -> Result<Vec<Client>, NoMemory>
+    ensures all { IfOk result (λ v. length v.items ≡ script.now.layout.passes) }
+    ensures clients { IfOk result (λ v. AreClientsAfter script.now.layout script.now.calls.items [] v.items) }
+{
+    let mut clients = Vec::new(alloc);
+    for number in 0..script.layout.passes {
+        clients.push(Client::new(PassNo(number), script.calls.as_slice()))?;
+    }
+    Ok(clients)
+}
+
+/// Whether the call of a client has begun, unless this is its own turn.
+fn has_begun(client: &Client, pass: PassNo) -> bool
+    ensures { IsTrue result → (pass.0 ≡ client.now.pass.0 → ⊥) → IsSome client.now.begun }
+{
+    pass == client.pass || client.begun.is_some()
+}
+
+/// An update of a client has won in this turn, if this entry is owed.
+fn note_win(clients: &mut Vec<Client>, number: u64, owed: &Option<Entry>)
+    requires there { IfSome owed.now (λ e. e.client.0 < length clients.old.items) }
+    ensures same { length clients.new.items ≡ length clients.old.items }
+    ensures none { owed.now ≡ None → clients.new.items ≡ clients.old.items }
+    ensures some { (e : EntryOf) → (c : ClientOf) → owed.now ≡ Some e → slice_get clients.old.items e.client.0 ≡ Some c → clients.new.items ≡ set clients.old.items e.client.0 (record c { won = Some number }) }
+{
+    if let Some(entry) = owed {
+        let client = clients[entry.client.0 as usize];
+        clients[entry.client.0 as usize] = Client {
+            won: Some(number),
+            ..client
+        };
+    }
+}
+
+/// Whether the moment of a reply, if there is one, is within the call.
+fn is_within(reply: &Reply) -> bool
+    ensures { IsTrue result → (m : ℕ) → reply.now.moment ≡ Some m → (reply.now.begin ≤ m) × (m ≤ reply.now.end) }
+{
+    match reply.moment {
+        Some(moment) => reply.begin <= moment && moment <= reply.end,
+        None => true,
+    }
+}
+
+/// Whether a row that fills the word `call` of an SCX-record stores there the number of its own call.
+fn says_its_call(row: &arena::Row) -> bool
+    ensures { IsTrue result → SaysItsCall row.now }
+{
+    match (row.kind, row.word) {
+        (Kind::Fill, Word::Scx(_, ScxWord::Call)) => row.after == row.call,
+        _ => true,
+    }
+}

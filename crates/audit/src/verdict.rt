@@ -1,0 +1,42 @@
+//! The audit of a record.
+ghost use Rattle.std.specs.Prelude.{OnOk, reverse};
+ghost use Rattle.record.specs.LawfulRun.{IsLawfulRun};
+ghost use Rattle.record.specs.Turns.{clients};
+
+use crate::fault::{AuditFault, Refused};
+use crate::run::Run;
+use record::Record;
+use script::Script;
+use std::alloc::Global;
+
+/// Says whether a record is one of a lawful run: each line fits those before it, and after the last
+/// nothing is owed. Otherwise the fault names the first row of the record's report that does not.
+/// Nothing is played again.
+pub fn audit(alloc: Global, record: &Record) -> Result<(), AuditFault>
+    ensures { OnOk result (IsLawfulRun «record».now.script.layout «record».now.script.limits.tries «record».now.script.calls.items (reverse (clients (reverse «record».now.lines.items))) «record».now.lines.items) }
+{
+    let before = rows_before(&record.script);
+    let mut run = match Run::new(alloc, record) {
+        Ok(run) => run,
+        Err(refused) => return Err(refused.at(before)),
+    };
+    for at in 0..record.lines.len() {
+        if let Err(refused) = run.line() {
+            return Err(refused.at(row_of(before, at)));
+        }
+    }
+    match run.finish() {
+        Ok(()) => Ok(()),
+        Err(refused) => Err(refused.at(row_of(before, record.lines.len()))),
+    }
+}
+
+/// How many rows of a report stand before the lines of the run: its head, the limits and the calls.
+fn rows_before(script: &Script) -> u64 {
+    (script.calls.len() as u64).saturating_add(2)
+}
+
+/// The row of a report in which the line stands that comes behind so many.
+fn row_of(before: u64, lines: usize) -> u64 {
+    before.saturating_add(lines as u64).saturating_add(1)
+}

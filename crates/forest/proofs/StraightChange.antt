@@ -1,0 +1,113 @@
+-- From place to place of an SCX, of whatever machine makes one.
+use Rattle.std.proofs.Common.{◌≡◌, ℕ, suc, ◌<◌, List, Option, refl, ◌∙◌, inl, inr}
+use Rattle.std.specs.Prelude.{Result, Ok, Err, IfOk, IfErr}
+use Rattle.arena.specs.ScxRecords.{raw_count}
+use Rattle.arena.specs.declared.layout.Layout.{Layout}
+use Rattle.arena.specs.declared.number.MemberIndex.{MemberIndex}
+use Rattle.arena.specs.declared.number.MemberIndex.TheVariants.{First}
+use Rattle.arena.specs.declared.machine.Turn.TheVariants.{Ask}
+use Rattle.arena.specs.declared.step.Step.{Step}
+use Rattle.arena.specs.declared.word.ScxWord.TheVariants.{Plan, New, Old, Member, Seen, Call as CallWord}
+use Rattle.arena.specs.MemberIndex.{member_index}
+use Rattle.arena.specs.History.{History}
+use Rattle.arena.specs.Machines.{Call}
+use Rattle.help.specs.Help.Known.{settled_load}
+use Rattle.help.specs.declared.state.HelpAt.TheVariants.{Start as HelpStart, Plan as HelpPlan}
+use Rattle.help.specs.declared.state.HelpRun.{HelpRun}
+use Rattle.prims.specs.Snap.{snap_at}
+use Rattle.prims.specs.Scx.Known.{job_of, FillMade, ScxTurn, ScxIsToldAt}
+use Rattle.prims.proofs.Lemmas.{turn_plan, turn_new, turn_old, turn_member, turn_seen, begin_help}
+use Rattle.prims.specs.declared.scx.ScxAt.{ScxAt}
+use Rattle.prims.specs.declared.scx.ScxAt.TheVariants.{Plan as AtPlan, New as AtNew, Old as AtOld, Member as AtMember, Seen as AtSeen, Call as AtCall, Help}
+use Rattle.prims.specs.declared.snap.Snap.{Snap}
+use Rattle.forest.specs.declared.straight.changing.Change.{Change}
+use Rattle.forest.specs.declared.view.SeatedPass.{SeatedPass}
+use Rattle.forest.specs.StraightChange.{Changer, ChangerWaits, ChangerIsTold, changing_at, scx_fill}
+use Rattle.forest.specs.StraightHelp.{Helper, HelperWaits, HelperIsTold}
+use Rattle.forest.specs.Traces.{goes_on}
+
+module _ {M : Type 0} (inner allows : Layout → History → ℕ → Type 0) (ready : M → Call → History → Option ℕ → Type 0) (waits : M → Call → History → Step → Type 0) (same : M → M → Type 0) (layout : Layout) (number : ℕ) (k : Changer inner allows ready waits same layout number) (snaps : List Snap) (change : Change) where
+  -- a machine that makes an SCX helps
+  pub helper : Helper inner allows ready waits same layout number
+  helper = record {
+    call = k.call;
+    is_layout = k.is_layout;
+    is_number = k.is_number;
+    first = k.first;
+    with_help = λ help. k.with_scx (changing_at snaps change (Help help));
+    turns = λ m now h v s is turn run x. k.turns (changing_at snaps change (Help m)) (changing_at snaps change (Help now)) h v s refl refl refl (λ d r t. (turn d.layout d.pass r.lawful t.0, is ∙ t.1, t.2)) run x;
+    stays = λ m now is. k.stays (changing_at snaps change (Help m)) (changing_at snaps change (Help now)) refl refl refl;
+  }
+
+  module _ (ps : List SeatedPass) where
+    -- it waits for this step at this place
+    abbrev At : ScxAt → Step → Type 0
+    At at step = ChangerWaits inner allows ready waits same layout number k ps (changing_at snaps change at) step
+
+    -- the step of this place has told v
+    abbrev Tells : ScxAt → ℕ → Type 0
+    Tells at v = ChangerIsTold inner allows ready waits same layout number k ps (changing_at snaps change at) v
+
+    -- one fill after another
+    fills : (A B : ScxAt) (v : ℕ) (step : Step) → ((d : Call) (h : History) → ScxIsToldAt inner d h (job_of (changing_at snaps change A)) A v → FillMade inner d h (job_of (changing_at snaps change A)) A) → ((d : Call) (h : History) → FillMade inner d h (job_of (changing_at snaps change A)) A → ScxTurn inner d h (changing_at snaps change B) (Ask step)) → Tells A v → At B step
+    fills A B v step made turn x = record {
+      known = x.known;
+      is = x.is;
+      sound = x.sound;
+      so = (
+        k.turns (changing_at snaps change A) (changing_at snaps change B) _ v step refl refl refl (λ d r t. turn d _ (made d _ t)) x.sound x.so.0,
+        goes_on (k.with_scx (changing_at snaps change A)) (k.stays (changing_at snaps change A) (changing_at snaps change B) refl refl refl) x.so.1,
+      );
+    }
+
+    pub to_new : (v : ℕ) → Tells AtPlan v → At AtNew (scx_fill change.scx New change.fresh.0)
+    to_new v = fills AtPlan AtNew v _ (λ d h x. x) (λ d h x. turn_plan inner d h (changing_at snaps change AtPlan) (changing_at snaps change AtNew) (Ask _) x record { stands = refl; asked = refl })
+
+    pub to_old : (v : ℕ) → Tells AtNew v → At AtOld (scx_fill change.scx Old change.old.0)
+    to_old v = fills AtNew AtOld v _ (λ d h x. x) (λ d h x. turn_new inner d h (changing_at snaps change AtNew) (changing_at snaps change AtOld) (Ask _) x record { stands = refl; asked = refl })
+
+    pub to_member : (v : ℕ) → Tells AtOld v → At (AtMember First) (scx_fill change.scx (Member 0) (snap_at snaps 0).node.0)
+    to_member v = fills AtOld (AtMember First) v _ (λ d h x. x) (λ d h x. turn_old inner d h (changing_at snaps change AtOld) (changing_at snaps change (AtMember First)) (Ask _) x record { stands = refl; asked = refl })
+
+    pub next_member : (j next : MemberIndex) (v : ℕ) → member_index next ≡ suc (member_index j) → member_index next < raw_count change.plan.0 → Tells (AtMember j) v → At (AtMember next) (scx_fill change.scx (Member (member_index next)) (snap_at snaps (member_index next)).node.0)
+    next_member j next v is within = fills (AtMember j) (AtMember next) v _ (λ d h x. x) (λ d h x. turn_member inner d h (changing_at snaps change (AtMember j)) j (changing_at snaps change (AtMember next)) (Ask _) x (inl record { next = next; is = is; within = within; fills = record { stands = refl; asked = refl } }))
+
+    pub to_seen : (j : MemberIndex) (v : ℕ) → ((member_index j < 3) × (suc (member_index j) < raw_count change.plan.0) → ⊥) → Tells (AtMember j) v → At (AtSeen First) (scx_fill change.scx (Seen 0) (snap_at snaps 0).scx.0)
+    to_seen j v none = fills (AtMember j) (AtSeen First) v _ (λ d h x. x) (λ d h x. turn_member inner d h (changing_at snaps change (AtMember j)) j (changing_at snaps change (AtSeen First)) (Ask _) x (inr record { none = none; fills = record { stands = refl; asked = refl } }))
+
+    pub next_seen : (j next : MemberIndex) (v : ℕ) → member_index next ≡ suc (member_index j) → member_index next < raw_count change.plan.0 → Tells (AtSeen j) v → At (AtSeen next) (scx_fill change.scx (Seen (member_index next)) (snap_at snaps (member_index next)).scx.0)
+    next_seen j next v is within = fills (AtSeen j) (AtSeen next) v _ (λ d h x. x) (λ d h x. turn_seen inner d h (changing_at snaps change (AtSeen j)) j (changing_at snaps change (AtSeen next)) (Ask _) x (inl record { next = next; is = is; within = within; fills = record { stands = refl; asked = refl } }))
+
+    pub to_call : (j : MemberIndex) (v : ℕ) → ((member_index j < 3) × (suc (member_index j) < raw_count change.plan.0) → ⊥) → Tells (AtSeen j) v → At AtCall (scx_fill change.scx CallWord change.call)
+    to_call j v none = fills (AtSeen j) AtCall v _ (λ d h x. x) (λ d h x. turn_seen inner d h (changing_at snaps change (AtSeen j)) j (changing_at snaps change AtCall) (Ask _) x (inr record { none = none; fills = record { stands = refl; asked = refl } }))
+
+    -- once all is filled, it helps its own SCX-record
+    pub to_help : (begun : HelpRun) (v : ℕ) → begun.scx ≡ change.scx → begun.at ≡ HelpStart → Tells AtCall v → HelperWaits inner allows ready waits same layout number helper ps (record begun { at = HelpPlan }) (settled_load begun.scx.0 Plan)
+    unfolding helper
+    to_help begun v is start x = record {
+      known = x.known;
+      is = x.is;
+      sound = x.sound;
+      so = (
+        k.turns (changing_at snaps change AtCall) (changing_at snaps change (Help (record begun { at = HelpPlan }))) _ v _ refl refl refl (λ d r t. let y = begin_help inner d _ (changing_at snaps change AtCall) begun r t is start in (record { known = y.ready.1; asked = refl }, is, y.filled)) x.sound x.so.0,
+        goes_on (k.with_scx (changing_at snaps change AtCall)) (k.stays (changing_at snaps change AtCall) (changing_at snaps change (Help (record begun { at = HelpPlan }))) refl refl refl) x.so.1,
+      );
+    }
+
+    -- what its HELP waits for or is told, it waits for or is told
+    pub help_waits : (help : HelpRun) (step : Step) → HelperWaits inner allows ready waits same layout number helper ps help step → At (Help help) step
+    unfolding helper
+    help_waits help step x = x
+
+    pub help_told : (help : HelpRun) (v : ℕ) → HelperIsTold inner allows ready waits same layout number helper ps help v → Tells (Help help) v
+    unfolding helper
+    help_told help v x = x
+
+-- what follows of a value, and of two facts on an error
+pub ok_more : {A E : Type 0} (r : Result A E) (P Q : A → Type 0) → ((a : A) → P a → Q a) → IfOk r P → IfOk r Q
+ok_more (Ok a) P Q f x = f a x
+ok_more (Err e) P Q f x = tt
+
+pub err_more : {A E : Type 0} (r : Result A E) (P Q R : E → Type 0) → ((e : E) → P e → Q e → R e) → IfErr r P → IfErr r Q → IfErr r R
+err_more (Ok a) P Q R f x y = tt
+err_more (Err e) P Q R f x y = f e x y

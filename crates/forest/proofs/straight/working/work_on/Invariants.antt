@@ -1,0 +1,17 @@
+use Rattle.std.proofs.Common.{◌≡◌, ◌+◌, ◌≤◌}
+use Rattle.forest.specs.StraightUpdate.{Updater, UpdaterStands}
+use Rattle.forest.specs.Traces.{seat_steps, shared_nodes, weight}
+use Rattle.updates.specs.Steps.{update_left}
+use Rattle.forest.proofs.straight.working.work_on.Given as goal
+
+abbrev pub invariant-loop-found : goal.invariant-loop-found
+invariant-loop-found g l = record {
+  here : (l.seat.table_id ≡ l.fn.seat.table_id) × (l.seat.me.1 ≡ l.fn.seat.me.1);
+  steps : seat_steps l.seat.me.0.passes + weight l.turn (update_left g.E.Edit.means l.run (shared_nodes l.layout)) ≤ seat_steps l.fn.seat.me.0.passes + weight l.fn.turn (update_left g.E.Edit.means l.fn.run (shared_nodes l.layout));
+  stands : (u : Updater {M = g.row.M.Denot} g.S.Shape.allows g.M.Machine.ready g.M.Machine.waits g.M.Machine.same g.E.Edit.means l.layout l.number)
+      → UpdaterStands g.S.Shape.allows g.M.Machine.ready g.M.Machine.waits g.M.Machine.same g.E.Edit.means l.layout l.number u l.fn.seat.me.0.passes l.fn.run l.fn.turn
+      → UpdaterStands g.S.Shape.allows g.M.Machine.ready g.M.Machine.waits g.M.Machine.same g.E.Edit.means l.layout l.number u l.seat.me.0.passes l.run l.turn;
+}
+
+abbrev pub decreases-loop-found : goal.decreases-loop-found
+decreases-loop-found g l = weight l.turn (update_left g.E.Edit.means l.run (shared_nodes l.layout))

@@ -1,0 +1,185 @@
+//! SCX with an SCX-record of the share, of whatever machine makes one: its steps in line.
+ghost use Rattle.std.specs.Prelude.{◌≡◌, ◌≤◌, ◌+◌, ℕ, suc, IfOk, IfErr};
+ghost use Rattle.forest.specs.TableRule.{IsTableOf};
+ghost use Rattle.forest.specs.Traces.{seat_steps};
+ghost use Rattle.forest.specs.StraightChange.{Changer, ChangerWaits, ChangerIsTold, changing_at, scx_fill, all_frozen_load};
+ghost use Rattle.help.specs.Help.Steps.{help_left};
+ghost use Rattle.help.specs.declared.state.HelpRun.{HelpRun};
+ghost use Rattle.prims.specs.Snap.{snap_at};
+ghost use Rattle.prims.specs.declared.scx.ScxRun.{ScxRun};
+ghost use Rattle.prims.specs.declared.scx.ScxAt.{ScxAt};
+ghost use Rattle.help.specs.declared.state.HelpAt.{HelpAt};
+
+use crate::straight::helping;
+use crate::straight::placed::step;
+use crate::view::SeatView;
+use crate::words::Words;
+use arena::{
+    Access, Kind, Layout, Machine, MemberIndex, NodeNo, Plan, ScxNo, ScxWord, Shape, Step, Word,
+};
+use atomic_table::Seat;
+use help::HelpRun;
+use prims::SnapList;
+
+/// What an SCX is to do, beside the snapshots, which stay where the caller has them.
+#[derive(Clone, Copy)]
+pub(crate) struct Change {
+    pub(crate) scx: ScxNo,
+    pub(crate) call: u64,
+    pub(crate) plan: Plan,
+    pub(crate) old: NodeNo,
+    pub(crate) fresh: NodeNo,
+}
+
+/// Fills a word of the SCX-record.
+#[inline(always)]
+fn fill<S: Shape, M: Machine<S>, T: Shape>(
+    words: &Words<S>,
+    layout: &Layout,
+    seat: &mut Seat<u8, SeatView>,
+    number: u64,
+    scx: ScxNo,
+    part: ScxWord,
+    value: u64,
+) -> u64
+    requires table { IsTableOf words.now.table.shared.table_id words.now.table.shared.key layout.now × (seat.old.table_id ≡ words.now.table.shared.table_id) }
+    requires waits { (k : Changer T.allows S.allows M.ready M.waits M.same layout.now number) × (m : ScxRun) × ChangerWaits T.allows S.allows M.ready M.waits M.same layout.now number k seat.old.me.0.passes m (scx_fill scx part value) }
+    ensures table { (seat.new.table_id ≡ seat.old.table_id) × (seat.new.me.1 ≡ seat.old.me.1) }
+    ensures one { seat_steps seat.new.me.0.passes ≡ suc (seat_steps seat.old.me.0.passes) }
+    ensures told { (k : Changer T.allows S.allows M.ready M.waits M.same layout.now number) (m : ScxRun) → ChangerWaits T.allows S.allows M.ready M.waits M.same layout.now number k seat.old.me.0.passes m (scx_fill scx part value) → ChangerIsTold T.allows S.allows M.ready M.waits M.same layout.now number k seat.new.me.0.passes m result }
+{
+    let (kind, word) = (Kind::Fill, Word::Scx(scx, part));
+    let access = Access::Store(value);
+    step::<S, M>(words, layout, seat, number, Step { kind, word, access })
+}
+
+/// Fills the nodes that the SCX-record covers.
+#[inline(always)]
+fn fill_members<S: Shape, M: Machine<S>, T: Shape, L: SnapList>(
+    words: &Words<S>,
+    layout: &Layout,
+    seat: &mut Seat<u8, SeatView>,
+    number: u64,
+    snaps: &L,
+    change: Change,
+)
+    requires table { IsTableOf words.now.table.shared.table_id words.now.table.shared.key layout.now × (seat.old.table_id ≡ words.now.table.shared.table_id) }
+    requires waits { (k : Changer T.allows S.allows M.ready M.waits M.same layout.now number) × ChangerWaits T.allows S.allows M.ready M.waits M.same layout.now number k seat.old.me.0.passes (changing_at (L.list snaps.now) change (ScxAt.Member MemberIndex.First)) (scx_fill change.scx (ScxWord.Member 0) (snap_at (L.list snaps.now) 0).node.0) }
+    ensures table { (seat.new.table_id ≡ seat.old.table_id) × (seat.new.me.1 ≡ seat.old.me.1) }
+    ensures steps { seat_steps seat.new.me.0.passes ≤ seat_steps seat.old.me.0.passes + 4 }
+    ensures waits { (k : Changer T.allows S.allows M.ready M.waits M.same layout.now number)
+        → ChangerWaits T.allows S.allows M.ready M.waits M.same layout.now number k seat.old.me.0.passes (changing_at (L.list snaps.now) change (ScxAt.Member MemberIndex.First)) (scx_fill change.scx (ScxWord.Member 0) (snap_at (L.list snaps.now) 0).node.0)
+        → ChangerWaits T.allows S.allows M.ready M.waits M.same layout.now number k seat.new.me.0.passes (changing_at (L.list snaps.now) change (ScxAt.Seen MemberIndex.First)) (scx_fill change.scx (ScxWord.Seen 0) (snap_at (L.list snaps.now) 0).scx.0) }
+{
+    let mut j = MemberIndex::First;
+    loop {
+        let part = ScxWord::Member(j.number());
+        let wanted = snaps.get(j.index()).node.0;
+        fill::<S, M, T>(words, layout, seat, number, change.scx, part, wanted);
+        match change.plan.member_behind(j) {
+            Some(next) => j = next,
+            None => return,
+        }
+    }
+}
+
+/// Fills what the infos of these nodes were.
+#[inline(always)]
+fn fill_seen<S: Shape, M: Machine<S>, T: Shape, L: SnapList>(
+    words: &Words<S>,
+    layout: &Layout,
+    seat: &mut Seat<u8, SeatView>,
+    number: u64,
+    snaps: &L,
+    change: Change,
+)
+    requires table { IsTableOf words.now.table.shared.table_id words.now.table.shared.key layout.now × (seat.old.table_id ≡ words.now.table.shared.table_id) }
+    requires waits { (k : Changer T.allows S.allows M.ready M.waits M.same layout.now number) × ChangerWaits T.allows S.allows M.ready M.waits M.same layout.now number k seat.old.me.0.passes (changing_at (L.list snaps.now) change (ScxAt.Seen MemberIndex.First)) (scx_fill change.scx (ScxWord.Seen 0) (snap_at (L.list snaps.now) 0).scx.0) }
+    ensures table { (seat.new.table_id ≡ seat.old.table_id) × (seat.new.me.1 ≡ seat.old.me.1) }
+    ensures steps { seat_steps seat.new.me.0.passes ≤ seat_steps seat.old.me.0.passes + 4 }
+    ensures waits { (k : Changer T.allows S.allows M.ready M.waits M.same layout.now number)
+        → ChangerWaits T.allows S.allows M.ready M.waits M.same layout.now number k seat.old.me.0.passes (changing_at (L.list snaps.now) change (ScxAt.Seen MemberIndex.First)) (scx_fill change.scx (ScxWord.Seen 0) (snap_at (L.list snaps.now) 0).scx.0)
+        → ChangerWaits T.allows S.allows M.ready M.waits M.same layout.now number k seat.new.me.0.passes (changing_at (L.list snaps.now) change ScxAt.Call) (scx_fill change.scx ScxWord.Call change.call) }
+{
+    let mut j = MemberIndex::First;
+    loop {
+        let part = ScxWord::Seen(j.number());
+        let wanted = snaps.get(j.index()).scx.0;
+        fill::<S, M, T>(words, layout, seat, number, change.scx, part, wanted);
+        match change.plan.member_behind(j) {
+            Some(next) => j = next,
+            None => return,
+        }
+    }
+}
+
+/// Fills the words of the SCX-record, from its plan on.
+#[inline(always)]
+fn fill_all<S: Shape, M: Machine<S>, T: Shape, L: SnapList>(
+    words: &Words<S>,
+    layout: &Layout,
+    seat: &mut Seat<u8, SeatView>,
+    number: u64,
+    snaps: &L,
+    change: Change,
+) -> u64
+    requires table { IsTableOf words.now.table.shared.table_id words.now.table.shared.key layout.now × (seat.old.table_id ≡ words.now.table.shared.table_id) }
+    requires waits { (k : Changer T.allows S.allows M.ready M.waits M.same layout.now number) × ChangerWaits T.allows S.allows M.ready M.waits M.same layout.now number k seat.old.me.0.passes (changing_at (L.list snaps.now) change ScxAt.Plan) (scx_fill change.scx ScxWord.Plan change.plan.0) }
+    ensures table { (seat.new.table_id ≡ seat.old.table_id) × (seat.new.me.1 ≡ seat.old.me.1) }
+    ensures steps { seat_steps seat.new.me.0.passes ≤ seat_steps seat.old.me.0.passes + 12 }
+    ensures told { (k : Changer T.allows S.allows M.ready M.waits M.same layout.now number)
+        → ChangerWaits T.allows S.allows M.ready M.waits M.same layout.now number k seat.old.me.0.passes (changing_at (L.list snaps.now) change ScxAt.Plan) (scx_fill change.scx ScxWord.Plan change.plan.0)
+        → ChangerIsTold T.allows S.allows M.ready M.waits M.same layout.now number k seat.new.me.0.passes (changing_at (L.list snaps.now) change ScxAt.Call) result }
+{
+    let scx = change.scx;
+    fill::<S, M, T>(
+        words,
+        layout,
+        seat,
+        number,
+        scx,
+        ScxWord::Plan,
+        change.plan.0,
+    );
+    fill::<S, M, T>(
+        words,
+        layout,
+        seat,
+        number,
+        scx,
+        ScxWord::New,
+        change.fresh.0,
+    );
+    fill::<S, M, T>(words, layout, seat, number, scx, ScxWord::Old, change.old.0);
+    fill_members::<S, M, T, L>(words, layout, seat, number, snaps, change);
+    fill_seen::<S, M, T, L>(words, layout, seat, number, snaps, change);
+    fill::<S, M, T>(words, layout, seat, number, scx, ScxWord::Call, change.call)
+}
+
+/// SCX that begins with the fill of its plan. Where a node cannot be frozen it tells the run of
+/// HELP, which waits to look whether all were frozen.
+#[inline(always)]
+pub(crate) fn call<S: Shape, M: Machine<S>, T: Shape, L: SnapList>(
+    words: &Words<S>,
+    layout: &Layout,
+    seat: &mut Seat<u8, SeatView>,
+    number: u64,
+    snaps: &L,
+    change: Change,
+) -> Result<(), HelpRun>
+    requires table { IsTableOf words.now.table.shared.table_id words.now.table.shared.key layout.now × (seat.old.table_id ≡ words.now.table.shared.table_id) }
+    requires waits { (k : Changer T.allows S.allows M.ready M.waits M.same layout.now number) × ChangerWaits T.allows S.allows M.ready M.waits M.same layout.now number k seat.old.me.0.passes (changing_at (L.list snaps.now) change ScxAt.Plan) (scx_fill change.scx ScxWord.Plan change.plan.0) }
+    ensures table { (seat.new.table_id ≡ seat.old.table_id) × (seat.new.me.1 ≡ seat.old.me.1) }
+    ensures steps { seat_steps seat.new.me.0.passes ≤ seat_steps seat.old.me.0.passes + 34 }
+    ensures left { IfErr result (λ help. seat_steps seat.new.me.0.passes + suc (help_left help.at) ≤ seat_steps seat.old.me.0.passes + 34) }
+    ensures commits { IfOk result (λ _. (k : Changer T.allows S.allows M.ready M.waits M.same layout.now number)
+        → ChangerWaits T.allows S.allows M.ready M.waits M.same layout.now number k seat.old.me.0.passes (changing_at (L.list snaps.now) change ScxAt.Plan) (scx_fill change.scx ScxWord.Plan change.plan.0)
+        → (help : HelpRun) × (v : ℕ) × ChangerIsTold T.allows S.allows M.ready M.waits M.same layout.now number k seat.new.me.0.passes (changing_at (L.list snaps.now) change (ScxAt.Help (record help { at = HelpAt.Commit }))) v) }
+    ensures blocked { IfErr result (λ help. (k : Changer T.allows S.allows M.ready M.waits M.same layout.now number)
+        → ChangerWaits T.allows S.allows M.ready M.waits M.same layout.now number k seat.old.me.0.passes (changing_at (L.list snaps.now) change ScxAt.Plan) (scx_fill change.scx ScxWord.Plan change.plan.0)
+        → ChangerWaits T.allows S.allows M.ready M.waits M.same layout.now number k seat.new.me.0.passes (changing_at (L.list snaps.now) change (ScxAt.Help help)) (all_frozen_load change.scx)) }
+{
+    fill_all::<S, M, T, L>(words, layout, seat, number, snaps, change);
+    let begun = HelpRun::new(change.scx);
+    helping::call::<S, M, T>(words, layout, seat, number, begun)
+}
