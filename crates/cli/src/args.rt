@@ -23,7 +23,9 @@ pub enum Request<'a> {
         script: &'a str,
     },
     /// To audit a report.
-    Audit { report: &'a str },
+    Audit {
+        report: &'a str,
+    },
 }
 
 /// The words that the program was given, of which the first is its own name.

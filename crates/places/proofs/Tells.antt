@@ -126,12 +126,22 @@ told_is command newest found all calls lines turn are sorted newest_are is = ap 
 
 -- Key by key
 
+-- the newest place of the next key
+pub newest_next : (get_newest : ℕ → Option (Option ℕ)) (all : List Place) (e : ℕ × Option ℕ) (es left : List (ℕ × Option ℕ)) → left ≡ e ∷ es → All (λ x. get_newest x.0 ≡ Some x.1) left → ((key : ℕ) → unwrap_or (get_newest key) None ≡ latest key all) → e.1 ≡ latest e.0 all
+newest_next get_newest all e es left is known are =
+    let first : get_newest e.0 ≡ Some e.1 = (rw is at known) 0 e (omega arith) in
+    sym (ap (λ o. unwrap_or o None) first) ∙ are e.0
+
 -- the pairs are those of all these keys if, and only if, the rest is that of the keys left
 abbrev pub IsToldBy : {X : Type 0} → (ℕ → Option ℕ) → List (ℕ × X) → ℕ → List Pair → List (ℕ × X) → ℕ → List Pair → Type 0
 IsToldBy value all most pairs es left rest = (take left (held value es) ≡ rest → take most (held value all) ≡ pairs) × (take most (held value all) ≡ pairs → take left (held value es) ≡ rest)
 
 module _ {X : Type 0} (value : ℕ → Option ℕ) (all : List (ℕ × X)) (most : ℕ) (pairs : List Pair) where
-  -- a key with a value is told
+  -- a key without a value is passed over
+  pub told_none : (e : ℕ × X) (es : List (ℕ × X)) (left : ℕ) (rest : List Pair) → value e.0 ≡ None → IsToldBy value all most pairs (e ∷ es) left rest → IsToldBy value all most pairs es left rest
+  told_none e es left rest none x = rw none at x
+
+  -- and one with a value is told
   pub told_more : (e : ℕ × X) (es : List (ℕ × X)) (v left less : ℕ) (rest others : List Pair) → value e.0 ≡ Some v → (first : Pair) × (first.key ≡ e.0) × (first.value ≡ v) × (rest ≡ first ∷ others) → suc less ≡ left → IsToldBy value all most pairs (e ∷ es) left rest → IsToldBy value all most pairs es less others
   told_more e es v left less rest others is first less_is x = (λ told. x.0 (begins ∙ ap (λ ps. pair_of e.0 v ∷ ps) told ∙ sym ends), λ told. behind (sym begins ∙ x.1 told ∙ ends))
     where

@@ -148,11 +148,11 @@ impl Places {
     {
         let mut untold = most_told(command);
         let mut rest = pairs;
-        for (key, _) in self.newest.range(bounds(command)) {
+        for (key, newest) in self.newest.range(bounds(command)) {
             if untold == 0 {
                 return rest.is_empty();
             }
-            if let Some(value) = self.value_after(*key, turn) {
+            if let Some(value) = self.value_from(*newest, turn) {
                 let Some(others) = behind(rest, *key, value) else {
                     return false;
                 };
@@ -163,11 +163,12 @@ impl Places {
         rest.is_empty()
     }
 
-    /// The value of the key after a turn.
-    fn value_after(&self, key: u64, turn: u64) -> Option<u64>
-        ensures { (calls : List Call) (lines : List Line) → AreEntries calls lines (changes self.now) → result ≡ get key (map_at calls lines turn) }
+    /// The value after a turn of the key whose newest change stands here.
+    fn value_from(&self, newest: Option<usize>, turn: u64) -> Option<u64>
+        requires { (key : ℕ) × (newest ≡ latest key (reverse self.now.list.items)) }
+        ensures { (key : ℕ) (calls : List Call) (lines : List Line) → newest ≡ latest key (reverse self.now.list.items) → AreEntries calls lines (changes self.now) → result ≡ get key (map_at calls lines turn) }
     {
-        let mut at = self.newest_of(key);
+        let mut at = newest;
         while let Some(i) = at {
             let place = self.list[i];
             if place.change.turn <= turn {

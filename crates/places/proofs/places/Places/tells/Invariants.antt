@@ -1,4 +1,6 @@
-use Rattle.std.proofs.Common.{List}
+use Rattle.std.proofs.Common.{◌≡◌, List, Some, All}
+use Rattle.std.specs.Ordering.{nat_cmp}
+use Rattle.std.specs.BTreeMap.{get as get_newest}
 use Rattle.spelling.specs.OrderedMap.{get}
 use Rattle.script.specs.declared.call.Call.{Call}
 use Rattle.record.specs.declared.record.Line.{Line}
@@ -10,4 +12,7 @@ use Rattle.places.proofs.Tells.{IsToldBy}
 use Rattle.places.proofs.places.Places.tells.Given as goal
 
 abbrev pub invariant-loop-key : goal.invariant-loop-key
-invariant-loop-key l = (calls : List Call) (lines : List Line) → AreEntries calls lines (changes l.self) → IsToldBy (λ j. get j (map_at calls lines l.turn)) l.initial.key-iterator (most_told l.command) l.pairs l.key-iterator l.untold l.rest
+invariant-loop-key l = record {
+  known : All (λ e. get_newest nat_cmp l.self.newest e.0 ≡ Some e.1) l.key-iterator;
+  told : (calls : List Call) (lines : List Line) → AreEntries calls lines (changes l.self) → IsToldBy (λ j. get j (map_at calls lines l.turn)) l.initial.key-iterator (most_told l.command) l.pairs l.key-iterator l.untold l.rest;
+}
