@@ -14,7 +14,7 @@ use Rattle.arena.specs.Lawful.{IsWin}
 use Rattle.arena.specs.Log.{entry}
 use Rattle.arena.specs.ScxRecords.{member, plan, new, field_index, side_of}
 use Rattle.arena.specs.Words.{node, child}
-use Rattle.script.specs.declared.command.Call.{Call}
+use Rattle.script.specs.declared.call.Call.{Call}
 use Rattle.script.specs.declared.command.Command.TheVariants.{Vlx}
 use Rattle.script.specs.declared.cells.Cells.{Cells}
 use Rattle.script.specs.Cells.{cells_of}

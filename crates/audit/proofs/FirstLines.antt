@@ -2,7 +2,7 @@
 use Rattle.std.proofs.Common.{◌≡◌, ℕ, true, false, List, [], length, None, refl}
 use Rattle.arena.specs.declared.layout.Layout.{Layout}
 use Rattle.arena.specs.History.{Start}
-use Rattle.script.specs.declared.command.Call.{Call}
+use Rattle.script.specs.declared.call.Call.{Call}
 use Rattle.record.specs.LawfulRun.{AreLines}
 use Rattle.judge.specs.Histories.{Judged, history as seen}
 use Rattle.audit.specs.After.{IsSoFar, AreClientsAfter}

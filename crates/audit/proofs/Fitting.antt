@@ -23,7 +23,7 @@ use Rattle.histories.proofs.Lemmas.{fields_are, finalized_since, lawful_since, o
 use Rattle.arena.specs.Log.{owner, log, entry as entered}
 use Rattle.arena.specs.TakenNodes.{taken_nodes}
 use Rattle.std.proofs.Math.Nat.{div-eq_of_lt-le}
-use Rattle.script.specs.declared.command.Call.{Call}
+use Rattle.script.specs.declared.call.Call.{Call}
 use Rattle.script.specs.declared.command.Command.{Command}
 use Rattle.record.specs.declared.record.Line.{Line}
 use Rattle.record.specs.declared.record.Line.TheVariants.{Step, Log, Reply as ReplyLine}

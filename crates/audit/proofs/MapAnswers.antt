@@ -8,9 +8,10 @@ use Rattle.arena.specs.History.{History, ◌⊳◌}
 use Rattle.arena.proofs.Lemmas.{ends_trans}
 use Rattle.spelling.specs.OrderedMap.{MapCall, MapEdit, Edit, Insert, Delete, Get, Successor, Range, edit_key, MapReply, OneValue, get, reply}
 use Rattle.spelling.specs.Paths.{IsAnswerAt}
-use Rattle.script.specs.declared.command.Call.{Call}
+use Rattle.script.specs.declared.call.Call.{Call}
 use Rattle.script.specs.declared.command.Command.{Command}
-use Rattle.script.specs.declared.command.Command.TheVariants.{Insert as InsertOf, Delete as DeleteOf, Get as GetOf, Successor as SuccessorOf, Range as RangeOf}
+use Rattle.spelling.specs.declared.request.Request.TheVariants.{Insert as InsertOf, Delete as DeleteOf, Get as GetOf, Successor as SuccessorOf, Range as RangeOf}
+use Rattle.script.specs.declared.command.Command.TheVariants.{Map}
 use Rattle.record.specs.declared.record.Line.{Line}
 use Rattle.record.specs.declared.record.Line.TheVariants.{Step, Log, Reply as ReplyLine}
 use Rattle.record.specs.declared.record.Row.TheVariants.{Step as Made, Idle}
@@ -79,20 +80,20 @@ range_right lay c low high most now start kept told answer e fits = absurd (let 
 
 -- a refusal that fits is right, if another client was in the way
 pub contended_right : (lay : Layout) (c : ℕ) (now start : History) (kept : ℕ → Option History) (lines : List Line) (command : Command) (call : MapCall) (node : NodeNo) (scx : ScxNo) → map_call (Some command) ≡ Some call → IsFitting lines command (Contended node scx) → WasBlockedBy lay c now start node.0 scx.0 → IsRight lay c now start kept command (Contended node scx)
-contended_right lay c now start kept lines (InsertOf key value) call node scx of_map fits way = way
-contended_right lay c now start kept lines (DeleteOf key) call node scx of_map fits way = way
-contended_right lay c now start kept lines (SuccessorOf key) call node scx of_map fits way = way
-contended_right lay c now start kept lines (RangeOf span) call node scx of_map fits way = way
-contended_right lay c now start kept lines (GetOf key) call node scx of_map fits way = neither (either_fits lines (GetOf key) (Contended node scx) fits)
+contended_right lay c now start kept lines (Map (InsertOf key value)) call node scx of_map fits way = way
+contended_right lay c now start kept lines (Map (DeleteOf key)) call node scx of_map fits way = way
+contended_right lay c now start kept lines (Map (SuccessorOf key)) call node scx of_map fits way = way
+contended_right lay c now start kept lines (Map (RangeOf low high most)) call node scx of_map fits way = way
+contended_right lay c now start kept lines (Map (GetOf key)) call node scx of_map fits way = neither (either_fits lines (Map (GetOf key)) (Contended node scx) fits)
 contended_right lay c now start kept lines command call node scx of_map fits way = absurd (let z : None ≡ Some call = of_map in cc)
 
 -- and one for want of memory is
 pub no_memory_right : (lay : Layout) (c : ℕ) (now start : History) (kept : ℕ → Option History) (lines : List Line) (command : Command) (call : MapCall) → map_call (Some command) ≡ Some call → IsFitting lines command NoMemory → IsRight lay c now start kept command NoMemory
-no_memory_right lay c now start kept lines (SuccessorOf key) call of_map fits = tt
-no_memory_right lay c now start kept lines (RangeOf span) call of_map fits = tt
-no_memory_right lay c now start kept lines (InsertOf key value) call of_map fits = neither (either_fits lines (InsertOf key value) NoMemory fits)
-no_memory_right lay c now start kept lines (DeleteOf key) call of_map fits = neither (either_fits lines (DeleteOf key) NoMemory fits)
-no_memory_right lay c now start kept lines (GetOf key) call of_map fits = neither (either_fits lines (GetOf key) NoMemory fits)
+no_memory_right lay c now start kept lines (Map (SuccessorOf key)) call of_map fits = tt
+no_memory_right lay c now start kept lines (Map (RangeOf low high most)) call of_map fits = tt
+no_memory_right lay c now start kept lines (Map (InsertOf key value)) call of_map fits = neither (either_fits lines (Map (InsertOf key value)) NoMemory fits)
+no_memory_right lay c now start kept lines (Map (DeleteOf key)) call of_map fits = neither (either_fits lines (Map (DeleteOf key)) NoMemory fits)
+no_memory_right lay c now start kept lines (Map (GetOf key)) call of_map fits = neither (either_fits lines (Map (GetOf key)) NoMemory fits)
 no_memory_right lay c now start kept lines command call of_map fits = absurd (let z : None ≡ Some call = of_map in cc)
 
 -- what is not there
@@ -121,11 +122,11 @@ unwon_by true has e x = absurd (cc)
 unwon_by false has e x = unwon has x
 
 refused_unwon : (command : Command) (call : MapCall) (answer : Answer) (has : Option ℕ) → map_call (Some command) ≡ Some call → reply_told answer ≡ None → HasItsEntry (enters command answer) has → has ≡ None
-refused_unwon (InsertOf key value) call answer has of_map none x = unwon_by (has_inserted answer) has (no_insert answer none) x
-refused_unwon (DeleteOf key) call answer has of_map none x = unwon_by (has_deleted answer) has (no_delete answer none) x
-refused_unwon (GetOf key) call answer has of_map none x = unwon has x
-refused_unwon (SuccessorOf key) call answer has of_map none x = unwon has x
-refused_unwon (RangeOf span) call answer has of_map none x = unwon has x
+refused_unwon (Map (InsertOf key value)) call answer has of_map none x = unwon_by (has_inserted answer) has (no_insert answer none) x
+refused_unwon (Map (DeleteOf key)) call answer has of_map none x = unwon_by (has_deleted answer) has (no_delete answer none) x
+refused_unwon (Map (GetOf key)) call answer has of_map none x = unwon has x
+refused_unwon (Map (SuccessorOf key)) call answer has of_map none x = unwon has x
+refused_unwon (Map (RangeOf low high most)) call answer has of_map none x = unwon has x
 refused_unwon command call answer has of_map none x = absurd (let z : None ≡ Some call = of_map in cc)
 
 some_edit : (e d : MapEdit) → Some (Edit e) ≡ Some (Edit d) → e ≡ d
@@ -203,11 +204,11 @@ refused_placed lay tries calls lines changed client command r x none nowhere = g
     there call = subst (λ (t : Option MapReply). IsPlacedOnMap t calls lines call r) (sym none) (is_refused lay tries calls lines changed client command r x none nowhere)
 
     go : (c : Command) → map_call (Some c) ≡ Some x.of_map.0 → IsPlaced lay calls lines r c
-    go (InsertOf key value) e = there (Edit (Insert key value))
-    go (DeleteOf key) e = there (Edit (Delete key))
-    go (GetOf key) e = there (Get key)
-    go (SuccessorOf key) e = there (Successor key)
-    go (RangeOf span) e = there (Range span.low span.high span.most)
+    go (Map (InsertOf key value)) e = there (Edit (Insert key value))
+    go (Map (DeleteOf key)) e = there (Edit (Delete key))
+    go (Map (GetOf key)) e = there (Get key)
+    go (Map (SuccessorOf key)) e = there (Successor key)
+    go (Map (RangeOf low high most)) e = there (Range low high most)
     go c e = absurd (let z : None ≡ Some x.of_map.0 = e in cc)
 
 -- an answer that is right, and where it is placed
@@ -216,16 +217,16 @@ pub record IsAnswered (lay : Layout) (calls : List Call) (lines : List Line) (r 
   pub placed : IsPlaced lay calls lines r command
 
 module _ (lay : Layout) (tries : ℕ) (calls : List Call) (lines : List Line) (changed : List Change) (client : Client) (r : Reply) where
-  insert_answered : (key value turn : ℕ) (t : IsToldBefore calls lines (InsertOf key value) r.answer turn) → IsAsked lay tries calls lines changed client (InsertOf key value) r → won lay lines r.client.0 ≡ Some turn → r.moment ≡ Some turn → IsAnswered lay calls lines r (InsertOf key value)
+  insert_answered : (key value turn : ℕ) (t : IsToldBefore calls lines (Map (InsertOf key value)) r.answer turn) → IsAsked lay tries calls lines changed client (Map (InsertOf key value)) r → won lay lines r.client.0 ≡ Some turn → r.moment ≡ Some turn → IsAnswered lay calls lines r (Map (InsertOf key value))
   insert_answered key value turn t x has moment =
       let same = some_edit (Insert key value) t.edit t.is in
       let had = subst (λ (e : MapEdit). get (edit_key e) (map_at calls lines (turn - 1)) ≡ t.told) (sym same) t.had in
       record {
         right = rw t.answers tt;
-        placed = subst (λ (a : Answer). IsPlacedOnMap (reply_told a) calls lines (Edit (Insert key value)) r) (sym t.answers) (is_change lay tries calls lines changed client (InsertOf key value) r x turn (Insert key value) t.told has moment t.answers had);
+        placed = subst (λ (a : Answer). IsPlacedOnMap (reply_told a) calls lines (Edit (Insert key value)) r) (sym t.answers) (is_change lay tries calls lines changed client (Map (InsertOf key value)) r x turn (Insert key value) t.told has moment t.answers had);
       }
 
-  delete_answered : (key turn : ℕ) (t : IsToldBefore calls lines (DeleteOf key) r.answer turn) (told : Option ℕ) → t.told ≡ told → IsAsked lay tries calls lines changed client (DeleteOf key) r → won lay lines r.client.0 ≡ Some turn → r.moment ≡ Some turn → IsAnswered lay calls lines r (DeleteOf key)
+  delete_answered : (key turn : ℕ) (t : IsToldBefore calls lines (Map (DeleteOf key)) r.answer turn) (told : Option ℕ) → t.told ≡ told → IsAsked lay tries calls lines changed client (Map (DeleteOf key)) r → won lay lines r.client.0 ≡ Some turn → r.moment ≡ Some turn → IsAnswered lay calls lines r (Map (DeleteOf key))
   delete_answered key turn t None none x has moment =
       let answers : r.answer ≡ Value None = t.answers ∙ ap Value none in
       absurd (let z : HasItsEntry false (Some turn) = rw (answers, has) at x.entry in z)
@@ -235,61 +236,61 @@ module _ (lay : Layout) (tries : ℕ) (calls : List Call) (lines : List Line) (c
       let had = subst (λ (e : MapEdit). get (edit_key e) (map_at calls lines (turn - 1)) ≡ t.told) (sym same) t.had in
       record {
         right = rw answers tt;
-        placed = subst (λ (a : Answer). IsPlacedOnMap (reply_told a) calls lines (Edit (Delete key)) r) (sym answers) (is_change lay tries calls lines changed client (DeleteOf key) r x turn (Delete key) (Some old) has moment answers (had ∙ some));
+        placed = subst (λ (a : Answer). IsPlacedOnMap (reply_told a) calls lines (Edit (Delete key)) r) (sym answers) (is_change lay tries calls lines changed client (Map (DeleteOf key)) r x turn (Delete key) (Some old) has moment answers (had ∙ some));
       }
 
   -- a call whose update has won
   pub change_answered : (command : Command) (turn : ℕ) → IsAsked lay tries calls lines changed client command r → client.won ≡ Some turn → r.moment ≡ Some turn → IsToldBefore calls lines command r.answer turn → IsAnswered lay calls lines r command
-  change_answered (InsertOf key value) turn x has moment t = insert_answered key value turn t x (sym x.has_won ∙ has) moment
-  change_answered (DeleteOf key) turn x has moment t = delete_answered key turn t t.told refl x (sym x.has_won ∙ has) moment
-  change_answered (GetOf key) turn x has moment t = absurd (let z : Some (Get key) ≡ Some (Edit t.edit) = t.is in cc)
-  change_answered (SuccessorOf key) turn x has moment t = absurd (let z : Some (Successor key) ≡ Some (Edit t.edit) = t.is in cc)
-  change_answered (RangeOf span) turn x has moment t = absurd (let z : Some (Range span.low span.high span.most) ≡ Some (Edit t.edit) = t.is in cc)
+  change_answered (Map (InsertOf key value)) turn x has moment t = insert_answered key value turn t x (sym x.has_won ∙ has) moment
+  change_answered (Map (DeleteOf key)) turn x has moment t = delete_answered key turn t t.told refl x (sym x.has_won ∙ has) moment
+  change_answered (Map (GetOf key)) turn x has moment t = absurd (let z : Some (Get key) ≡ Some (Edit t.edit) = t.is in cc)
+  change_answered (Map (SuccessorOf key)) turn x has moment t = absurd (let z : Some (Successor key) ≡ Some (Edit t.edit) = t.is in cc)
+  change_answered (Map (RangeOf low high most)) turn x has moment t = absurd (let z : Some (Range low high most) ≡ Some (Edit t.edit) = t.is in cc)
   change_answered command turn x has moment t = absurd (let z : None ≡ Some (Edit t.edit) = t.is in cc)
 
   -- a get
-  get_answered : (key : ℕ) → IsAsked lay tries calls lines changed client (GetOf key) r → won lay lines r.client.0 ≡ None → IsValueAt calls lines key r → IsAnswered lay calls lines r (GetOf key)
+  get_answered : (key : ℕ) → IsAsked lay tries calls lines changed client (Map (GetOf key)) r → won lay lines r.client.0 ≡ None → IsValueAt calls lines key r → IsAnswered lay calls lines r (Map (GetOf key))
   get_answered key x none v =
-      let had = value_had lay tries calls lines changed client (GetOf key) r x key (λ e. e) v in
+      let had = value_had lay tries calls lines changed client (Map (GetOf key)) r x key (λ e. e) v in
       let at = had.3 in
       let answer : IsAnswerAt lay (history lay.mode lines) (start lay.mode lines r.client.0) key v.told = record { moment = at.moment; within = at.within; since = ends_trans at.moment (had.0 ⊳ had.1) (start lay.mode lines r.client.0) at.since (inr had.2); map = at.map; spelled = at.spelled; gives = at.gives } in
       record {
         right = subst (λ (a : Answer). GetIsRight key lay r.client.0 (history lay.mode lines) (start lay.mode lines r.client.0) (linked calls lay.mode lines r.client.0) a) (sym v.answers) answer;
-        placed = subst (λ (a : Answer). IsPlacedOnMap (reply_told a) calls lines (Get key) r) (sym v.answers) (value_reading lay tries calls lines changed client (GetOf key) r x key (Get key) (λ m. refl) none v);
+        placed = subst (λ (a : Answer). IsPlacedOnMap (reply_told a) calls lines (Get key) r) (sym v.answers) (value_reading lay tries calls lines changed client (Map (GetOf key)) r x key (Get key) (λ m. refl) none v);
       }
 
   -- a delete that finds nothing
-  absent_answered : (key : ℕ) (told : Option ℕ) (v : IsValueAt calls lines key r) → v.told ≡ told → IsAsked lay tries calls lines changed client (DeleteOf key) r → won lay lines r.client.0 ≡ None → IsAnswered lay calls lines r (DeleteOf key)
+  absent_answered : (key : ℕ) (told : Option ℕ) (v : IsValueAt calls lines key r) → v.told ≡ told → IsAsked lay tries calls lines changed client (Map (DeleteOf key)) r → won lay lines r.client.0 ≡ None → IsAnswered lay calls lines r (Map (DeleteOf key))
   absent_answered key (Some old) v some x none =
       let answers : r.answer ≡ Value (Some old) = v.answers ∙ ap Value some in
       absurd (let z : HasItsEntry true None = rw (answers, none) at x.entry in z)
   absent_answered key None v nothing x none =
       let answers : r.answer ≡ Value None = v.answers ∙ ap Value nothing in
-      let had = value_had lay tries calls lines changed client (DeleteOf key) r x key (λ e. e) v in
+      let had = value_had lay tries calls lines changed client (Map (DeleteOf key)) r x key (λ e. e) v in
       record {
         right = subst (λ (a : Answer). DeleteIsRight key lay r.client.0 (history lay.mode lines) (start lay.mode lines r.client.0) (linked calls lay.mode lines r.client.0) a) (sym answers) (subst (λ (o : Option ℕ). HadAtKey lay (history lay.mode lines) (start lay.mode lines r.client.0) key o) nothing had);
-        placed = subst (λ (a : Answer). IsPlacedOnMap (reply_told a) calls lines (Edit (Delete key)) r) (sym answers) (value_reading lay tries calls lines changed client (DeleteOf key) r x key (Edit (Delete key)) (λ m. refl) none v);
+        placed = subst (λ (a : Answer). IsPlacedOnMap (reply_told a) calls lines (Edit (Delete key)) r) (sym answers) (value_reading lay tries calls lines changed client (Map (DeleteOf key)) r x key (Edit (Delete key)) (λ m. refl) none v);
       }
 
   -- either of them
-  pub value_answered : (command : Command) (key : ℕ) → (command ≡ GetOf key) ⊎ (command ≡ DeleteOf key) → IsAsked lay tries calls lines changed client command r → won lay lines r.client.0 ≡ None → IsValueAt calls lines key r → IsAnswered lay calls lines r command
+  pub value_answered : (command : Command) (key : ℕ) → (command ≡ Map (GetOf key)) ⊎ (command ≡ Map (DeleteOf key)) → IsAsked lay tries calls lines changed client command r → won lay lines r.client.0 ≡ None → IsValueAt calls lines key r → IsAnswered lay calls lines r command
   value_answered command key (inl e) x none v = subst (λ k. IsAnswered lay calls lines r k) (sym e) (get_answered key (subst (λ k. IsAsked lay tries calls lines changed client k r) e x) none v)
   value_answered command key (inr e) x none v = subst (λ k. IsAnswered lay calls lines r k) (sym e) (absent_answered key v.told v refl (subst (λ k. IsAsked lay tries calls lines changed client k r) e x) none)
 
   -- an ordered read
   pub read_answered : (command : Command) → IsAsked lay tries calls lines changed client command r → won lay lines r.client.0 ≡ None → IsReadAt calls lines command r → IsAnswered lay calls lines r command
-  read_answered (SuccessorOf key) x none a =
+  read_answered (Map (SuccessorOf key)) x none a =
       let same : Successor key ≡ a.call = (let z : Some (Successor key) ≡ Some a.call = a.is in cc) in
       let reading = subst (λ (m : MapCall). IsReading calls lines m r) (sym same) (ordered_placed lay tries calls lines r a.call a.turn x.in_order none x.number a.moment a.greatest) in
       record {
-        right = successor_right lay r.client.0 (history lay.mode lines) (start lay.mode lines r.client.0) (linked calls lay.mode lines r.client.0) (reply a.call (map_at calls lines a.turn)) r.answer a.greatest.holds (either_fits lines (SuccessorOf key) r.answer x.fits);
+        right = successor_right lay r.client.0 (history lay.mode lines) (start lay.mode lines r.client.0) (linked calls lay.mode lines r.client.0) (reply a.call (map_at calls lines a.turn)) r.answer a.greatest.holds (either_fits lines (Map (SuccessorOf key)) r.answer x.fits);
         placed = subst (λ (t : Option MapReply). IsPlacedOnMap t calls lines (Successor key) r) (sym a.greatest.holds) reading;
       }
-  read_answered (RangeOf span) x none a =
-      let same : Range span.low span.high span.most ≡ a.call = (let z : Some (Range span.low span.high span.most) ≡ Some a.call = a.is in cc) in
+  read_answered (Map (RangeOf low high most)) x none a =
+      let same : Range low high most ≡ a.call = (let z : Some (Range low high most) ≡ Some a.call = a.is in cc) in
       let reading = subst (λ (m : MapCall). IsReading calls lines m r) (sym same) (ordered_placed lay tries calls lines r a.call a.turn x.in_order none x.number a.moment a.greatest) in
       record {
-        right = range_right lay r.client.0 span.low span.high span.most (history lay.mode lines) (start lay.mode lines r.client.0) (linked calls lay.mode lines r.client.0) (reply a.call (map_at calls lines a.turn)) r.answer a.greatest.holds (either_fits lines (RangeOf span) r.answer x.fits);
-        placed = subst (λ (t : Option MapReply). IsPlacedOnMap t calls lines (Range span.low span.high span.most) r) (sym a.greatest.holds) reading;
+        right = range_right lay r.client.0 low high most (history lay.mode lines) (start lay.mode lines r.client.0) (linked calls lay.mode lines r.client.0) (reply a.call (map_at calls lines a.turn)) r.answer a.greatest.holds (either_fits lines (Map (RangeOf low high most)) r.answer x.fits);
+        placed = subst (λ (t : Option MapReply). IsPlacedOnMap t calls lines (Range low high most) r) (sym a.greatest.holds) reading;
       }
   read_answered command x none a = absurd a.ordered

@@ -14,9 +14,10 @@ use Rattle.arena.specs.Shape.{Shaped, IsBegin}
 use Rattle.spelling.specs.FillOrder.{HasRisingLevels}
 use Rattle.spelling.specs.TreeShape.{TreeAllows}
 use Rattle.spelling.specs.OrderedMap.{MapCall, Edit, Get, Successor, Range, Insert, Delete}
-use Rattle.script.specs.declared.command.Call.{Call}
+use Rattle.script.specs.declared.call.Call.{Call}
 use Rattle.script.specs.declared.command.Command.{Command}
-use Rattle.script.specs.declared.command.Command.TheVariants.{Llx as LlxOf, Scx as ScxOf, Vlx as VlxOf, Set as SetOf, Insert as InsertOf, Delete as DeleteOf, Get as GetOf, Successor as SuccessorOf, Range as RangeOf}
+use Rattle.spelling.specs.declared.request.Request.TheVariants.{Insert as InsertOf, Delete as DeleteOf, Get as GetOf, Successor as SuccessorOf, Range as RangeOf}
+use Rattle.script.specs.declared.command.Command.TheVariants.{Llx as LlxOf, Scx as ScxOf, Vlx as VlxOf, Set as SetOf, Map}
 use Rattle.script.specs.Commands.{mode_of}
 use Rattle.record.specs.declared.record.Line.{Line}
 use Rattle.record.specs.declared.record.Line.TheVariants.{Step, Log, Reply as ReplyLine}
@@ -65,11 +66,11 @@ pub map_calls : (mode : Mode) (calls : List Call) → mode ≡ Tree → AreOf mo
 map_calls mode calls e all c j command is = go command (of_commands (λ k. mode_of k ≡ mode) calls c j command all is ∙ e)
   where
     go : (command : Command) → mode_of command ≡ Tree → (call : MapCall) × (map_call (Some command) ≡ Some call)
-    go (GetOf key) e = (Get key, refl)
-    go (SuccessorOf key) e = (Successor key, refl)
-    go (RangeOf span) e = (Range span.low span.high span.most, refl)
-    go (InsertOf key value) e = (Edit (Insert key value), refl)
-    go (DeleteOf key) e = (Edit (Delete key), refl)
+    go (Map (GetOf key)) e = (Get key, refl)
+    go (Map (SuccessorOf key)) e = (Successor key, refl)
+    go (Map (RangeOf low high most)) e = (Range low high most, refl)
+    go (Map (InsertOf key value)) e = (Edit (Insert key value), refl)
+    go (Map (DeleteOf key)) e = (Edit (Delete key), refl)
     go (LlxOf cell) e = cc
     go (ScxOf update) e = cc
     go (VlxOf cells) e = cc
@@ -95,11 +96,11 @@ next_of_mode mode calls lines c command all is = of_commands (λ k. mode_of k �
 
 -- an entry of a call of the tree changes the map
 change_for : (lay : Layout) (c : ℕ) (before start : History) (linked : ℕ → Option History) (e : Entered) (turn : ℕ) (command : Command) → mode_of command ≡ Tree → IsEntryFor lay c before start linked e command → (change : Change) × (change.turn ≡ turn) × IsChangeBy (map_call (Some command)) change
-change_for lay c before start linked e turn (InsertOf key value) mode x = (record { turn = turn; key = key; value = Some value }, refl, (refl, refl))
-change_for lay c before start linked e turn (DeleteOf key) mode x = (record { turn = turn; key = key; value = None }, refl, (refl, refl))
-change_for lay c before start linked e turn (GetOf key) mode x = absurd x
-change_for lay c before start linked e turn (SuccessorOf key) mode x = absurd x
-change_for lay c before start linked e turn (RangeOf span) mode x = absurd x
+change_for lay c before start linked e turn (Map (InsertOf key value)) mode x = (record { turn = turn; key = key; value = Some value }, refl, (refl, refl))
+change_for lay c before start linked e turn (Map (DeleteOf key)) mode x = (record { turn = turn; key = key; value = None }, refl, (refl, refl))
+change_for lay c before start linked e turn (Map (GetOf key)) mode x = absurd x
+change_for lay c before start linked e turn (Map (SuccessorOf key)) mode x = absurd x
+change_for lay c before start linked e turn (Map (RangeOf low high most)) mode x = absurd x
 change_for lay c before start linked e turn (LlxOf cell) mode x = absurd x
 change_for lay c before start linked e turn (VlxOf cells) mode x = absurd x
 change_for lay c before start linked e turn (ScxOf update) mode x = absurd (let z : Records ≡ Tree = mode in cc)

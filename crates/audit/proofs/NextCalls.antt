@@ -2,7 +2,7 @@
 use Rattle.std.proofs.Common.{◌≡◌, ℕ, zero, suc, ◌<◌, ◌≤◌, List, [], ◌∷◌, length, drop, Option, Some, None, slice_get, get_or, drop-cons, refl, sym, ◌∙◌, ap, subst, eqb, cond, Bool, true, false, arith}
 use Rattle.std.proofs.lemmas.Bool.{eq-eqb}
 use Rattle.std.proofs.lemmas.Option.{slice_get_read, slice_get_within}
-use Rattle.script.specs.declared.command.Call.{Call}
+use Rattle.script.specs.declared.call.Call.{Call}
 use Rattle.script.specs.declared.command.Command.{Command}
 use Rattle.record.specs.Commands.{commands}
 use Rattle.audit.specs.Calls.{IsAt, command_of_call, command_at}
@@ -28,8 +28,8 @@ none_there (z ∷ xs) zero e = cc
 none_there (z ∷ xs) (suc n) e = none_there xs n e
 
 -- the next of a client's commands is that of the call where it stands
-pub next_at : (calls : List Call) (c number at : ℕ) → IsAt calls c (drop number (commands calls c)) (Some at) → (command : Command) × (slice_get calls at ≡ Some (record { client = record { 0 = c }; command = command })) × (slice_get (commands calls c) number ≡ Some command)
-next_at calls c number at x = (x.0, x.1, (first_left (commands calls c) number x.0 _ x.2).0)
+pub next_at : (calls : List Call) (c number at : ℕ) → IsAt calls c (drop number (commands calls c)) (Some at) → (call : Call) × (slice_get calls at ≡ Some call) × (slice_get (commands calls c) number ≡ Some call.command)
+next_at calls c number at x = (x.0, x.1, (first_left (commands calls c) number x.0.command _ x.2).0)
 
 -- where none of a client's commands is left, it has none of this number
 pub none_left : (calls : List Call) (c number : ℕ) → drop number (commands calls c) ≡ [] → slice_get (commands calls c) number ≡ None
@@ -37,21 +37,22 @@ none_left calls c number e = none_there (commands calls c) number e
 
 -- a place behind that of the next command is that of the one after it
 pub place_more : (calls : List Call) (c number at : ℕ) → IsAt calls c (drop number (commands calls c)) (Some at) → (next : Option ℕ) → IsAt calls c (commands (drop (suc at) calls) c) next → IsAt calls c (drop (suc number) (commands calls c)) next
-place_more calls c number at x next y = subst (λ (left : List Command). IsAt calls c left next) (sym (first_left (commands calls c) number x.0 _ x.2).1) y
+place_more calls c number at x next y = subst (λ (left : List Command). IsAt calls c left next) (sym (first_left (commands calls c) number x.0.command _ x.2).1) y
 
 -- a command that is still to come has a number below that of all calls
 pub number_small : (calls : List Call) (c number at : ℕ) → IsAt calls c (drop number (commands calls c)) (Some at) → number < length calls
 number_small calls c number at x =
     let few = commands_few calls c in
-    let below = (first_left (commands calls c) number x.0 _ x.2).2 in
+    let below = (first_left (commands calls c) number x.0.command _ x.2).2 in
     omega arith
 
 -- the call at this place is the next, if it is the client's
 pub call_at : (calls : List Call) (c at : ℕ) (call : Call) (left : List Command) → at < length calls → call ≡ get_or calls at call → call.client.0 ≡ c → left ≡ commands (drop at calls) c → IsAt calls c left (Some at)
 call_at calls c at call left below is same e = (
-  call.command,
-  slice_get_read calls (length calls) at call refl below is ∙ ap (λ (n : ℕ). Some (let x : Call = record { client = record { 0 = n }; command = call.command } in x)) same,
+  call,
+  slice_get_read calls (length calls) at call refl below is,
   e ∙ ap (λ (xs : List Call). commands xs c) (drop-cons calls at call below) ∙ ap (λ (x : Call). commands (x ∷ drop (suc at) calls) c) (sym is) ∙ ap (λ (b : Bool). cond b (call.command ∷ commands (drop (suc at) calls) c) (commands (drop (suc at) calls) c)) (eq-eqb call.client.0 c same),
+  same,
 )
 
 -- the command of the call where a client stands is its next one

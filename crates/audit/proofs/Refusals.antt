@@ -6,9 +6,10 @@ use Rattle.arena.specs.declared.number.NodeNo.{NodeNo}
 use Rattle.arena.specs.declared.number.ScxNo.{ScxNo}
 use Rattle.arena.specs.Blame.{WasInTheWay}
 use Rattle.arena.specs.Fills.{IsOthersScx}
-use Rattle.script.specs.declared.command.Call.{Call}
+use Rattle.script.specs.declared.call.Call.{Call}
 use Rattle.script.specs.declared.command.Command.{Command}
-use Rattle.script.specs.declared.command.Command.TheVariants.{Insert, Delete}
+use Rattle.spelling.specs.declared.request.Request.TheVariants.{Insert, Delete}
+use Rattle.script.specs.declared.command.Command.TheVariants.{Map}
 use Rattle.record.specs.declared.record.Line.{Line}
 use Rattle.record.specs.declared.record.Reply.{Reply}
 use Rattle.record.specs.declared.record.Answer.{Answer}
@@ -36,10 +37,10 @@ began_at lay calls lines all c memory kept is_pass some is =
     record { within = b.within; many = sym (ap (λ (m : Memory). m.begun) same ∙ b.begun) }
 
 -- no answer at once
-at_once_insert : (command : Command) (answer : Answer) (key value : ℕ) → command ≡ Insert key value → MayAnswerAtOnce command answer → ⊥
+at_once_insert : (command : Command) (answer : Answer) (key value : ℕ) → command ≡ Map (Insert key value) → MayAnswerAtOnce command answer → ⊥
 at_once_insert command answer key value is may = subst (λ (k : Command). MayAnswerAtOnce k answer) is may
 
-at_once_delete : (command : Command) (answer : Answer) (key : ℕ) → command ≡ Delete key → MayAnswerAtOnce command answer → ⊥
+at_once_delete : (command : Command) (answer : Answer) (key : ℕ) → command ≡ Map (Delete key) → MayAnswerAtOnce command answer → ⊥
 at_once_delete command answer key is may = subst (λ (k : Command). MayAnswerAtOnce k answer) is may
 
 module _ (lay : Layout) (tries : ℕ) (calls : List Call) (lines : List Line) (changed : List Change) (client : Client) (command : Command) (r : Reply) (x : IsAsked lay tries calls lines changed client command r) where
@@ -60,17 +61,17 @@ module _ (lay : Layout) (tries : ℕ) (calls : List Call) (lines : List Line) (c
   pub right_no_memory : r.answer ≡ NoMemory → RightIs command r.answer
   right_no_memory answers = subst (RightIs command) (sym answers) (no_memory_right lay r.client.0 (history lay.mode lines) (start lay.mode lines r.client.0) (linked calls lay.mode lines r.client.0) lines command x.of_map.0 x.of_map.1 (subst (IsFitting lines command) answers x.fits))
 
-  pub right_full_insert : (key value : ℕ) (old : Option ℕ) (what : Resource) (left : ℕ) → command ≡ Insert key value → ((MayAnswerAtOnce command r.answer → ⊥) → IsTooFewFor lay lines r key old what left) → RightIs command (Full what left)
+  pub right_full_insert : (key value : ℕ) (old : Option ℕ) (what : Resource) (left : ℕ) → command ≡ Map (Insert key value) → ((MayAnswerAtOnce command r.answer → ⊥) → IsTooFewFor lay lines r key old what left) → RightIs command (Full what left)
   right_full_insert key value old what left is few =
       let y = few (at_once_insert command r.answer key value is) in
       subst (λ (k : Command). RightIs k (Full what left)) (sym is) (old, y.0, y.1)
 
-  pub right_full_old_insert : (key value : ℕ) (what : Resource) (left : ℕ) → command ≡ Insert key value → ((MayAnswerAtOnce command r.answer → ⊥) → (v : ℕ) × IsTooFewFor lay lines r key (Some v) what left) → RightIs command (Full what left)
+  pub right_full_old_insert : (key value : ℕ) (what : Resource) (left : ℕ) → command ≡ Map (Insert key value) → ((MayAnswerAtOnce command r.answer → ⊥) → (v : ℕ) × IsTooFewFor lay lines r key (Some v) what left) → RightIs command (Full what left)
   right_full_old_insert key value what left is few =
       let y = few (at_once_insert command r.answer key value is) in
       subst (λ (k : Command). RightIs k (Full what left)) (sym is) (Some y.0, y.1.0, y.1.1)
 
-  pub right_full_delete : (key : ℕ) (what : Resource) (left : ℕ) → command ≡ Delete key → ((MayAnswerAtOnce command r.answer → ⊥) → (v : ℕ) × IsTooFewFor lay lines r key (Some v) what left) → RightIs command (Full what left)
+  pub right_full_delete : (key : ℕ) (what : Resource) (left : ℕ) → command ≡ Map (Delete key) → ((MayAnswerAtOnce command r.answer → ⊥) → (v : ℕ) × IsTooFewFor lay lines r key (Some v) what left) → RightIs command (Full what left)
   right_full_delete key what left is few =
       let y = few (at_once_delete command r.answer key is) in
       subst (λ (k : Command). RightIs k (Full what left)) (sym is) (y.0, y.1.0, y.1.1)

@@ -16,7 +16,7 @@ use Rattle.arena.specs.Log.{entry, log, is_final}
 use Rattle.arena.specs.Words.{child}
 use Rattle.arena.proofs.Lemmas.{ends_self}
 use Rattle.script.specs.declared.cells.Cells.{Cells}
-use Rattle.script.specs.declared.command.Call.{Call}
+use Rattle.script.specs.declared.call.Call.{Call}
 use Rattle.script.specs.declared.command.Command.{Command}
 use Rattle.script.specs.declared.command.Command.TheVariants.{Vlx}
 use Rattle.script.specs.Cells.{cells_of}

@@ -1,7 +1,7 @@
 -- What a run remembers of the steps, where it hands on its calls as a slice.
 use Rattle.std.proofs.Common.{◌≡◌, ℕ, List, ◌∷◌, refl, sym, subst}
 use Rattle.arena.specs.declared.layout.Layout.{Layout}
-use Rattle.script.specs.declared.command.Call.{Call}
+use Rattle.script.specs.declared.call.Call.{Call}
 use Rattle.record.specs.declared.record.Line.{Line}
 use Rattle.record.specs.declared.record.Line.TheVariants.{Reply as ReplyLine}
 use Rattle.record.specs.declared.record.Reply.{Reply}

@@ -10,9 +10,10 @@ use Rattle.arena.specs.Log.{Entry as Entered}
 use Rattle.arena.specs.Machines.{IsRun}
 use Rattle.arena.specs.Shape.{Shaped, IsBegin}
 use Rattle.arena.proofs.Lemmas.{ends_self}
-use Rattle.script.specs.declared.command.Call.{Call}
+use Rattle.script.specs.declared.call.Call.{Call}
 use Rattle.script.specs.declared.command.Command.{Command}
-use Rattle.script.specs.declared.command.Command.TheVariants.{Llx, Scx, Vlx, Set, Insert as InsertOf, Delete as DeleteOf, Get, Successor, Range}
+use Rattle.spelling.specs.declared.request.Request.TheVariants.{Insert as InsertOf, Delete as DeleteOf, Get, Successor, Range}
+use Rattle.script.specs.declared.command.Command.TheVariants.{Llx, Scx, Vlx, Set, Map}
 use Rattle.spelling.specs.FillOrder.{HasRisingLevels}
 use Rattle.spelling.specs.OrderedMap.{Insert, Delete}
 use Rattle.spelling.specs.Runs.{IsTreeRun}
@@ -38,51 +39,51 @@ use Rattle.audit.specs.Trees.{IsTreeSoFar}
 
 -- an SCX-record that begins with an edit has begun with it
 pub begun_now : (lay : Layout) (h : History) (r : StepRow) (s : ℕ) (command : Command) → IsBegin h r s → MayMakeFor lay h s command → HasBegunFor lay (r ⊳ h) s command
-begun_now lay h r s (InsertOf k v) b x = record { row = r; before = h; within = ends_self (r ⊳ h); begins = b; edit = x }
-begun_now lay h r s (DeleteOf k) b x = record { row = r; before = h; within = ends_self (r ⊳ h); begins = b; edit = x }
+begun_now lay h r s (Map (InsertOf k v)) b x = record { row = r; before = h; within = ends_self (r ⊳ h); begins = b; edit = x }
+begun_now lay h r s (Map (DeleteOf k)) b x = record { row = r; before = h; within = ends_self (r ⊳ h); begins = b; edit = x }
 begun_now lay h r s (Llx cell) b x = absurd x
 begun_now lay h r s (Scx update) b x = absurd x
 begun_now lay h r s (Vlx cells) b x = absurd x
 begun_now lay h r s (Set field v) b x = absurd x
-begun_now lay h r s (Get k) b x = absurd x
-begun_now lay h r s (Successor k) b x = absurd x
-begun_now lay h r s (Range span) b x = absurd x
+begun_now lay h r s (Map (Get k)) b x = absurd x
+begun_now lay h r s (Map (Successor k)) b x = absurd x
+begun_now lay h r s (Map (Range low high most)) b x = absurd x
 
 -- it has with one row more
 begun_since : (lay : Layout) (h : History) (r : StepRow) (s : ℕ) (command : Command) → HasBegunFor lay h s command → HasBegunFor lay (r ⊳ h) s command
-begun_since lay h r s (InsertOf k v) x = makes_since lay (r ⊳ h) h s (Insert k v) (inr (ends_self h)) x
-begun_since lay h r s (DeleteOf k) x = makes_since lay (r ⊳ h) h s (Delete k) (inr (ends_self h)) x
+begun_since lay h r s (Map (InsertOf k v)) x = makes_since lay (r ⊳ h) h s (Insert k v) (inr (ends_self h)) x
+begun_since lay h r s (Map (DeleteOf k)) x = makes_since lay (r ⊳ h) h s (Delete k) (inr (ends_self h)) x
 begun_since lay h r s (Llx cell) x = absurd x
 begun_since lay h r s (Scx update) x = absurd x
 begun_since lay h r s (Vlx cells) x = absurd x
 begun_since lay h r s (Set field v) x = absurd x
-begun_since lay h r s (Get k) x = absurd x
-begun_since lay h r s (Successor k) x = absurd x
-begun_since lay h r s (Range span) x = absurd x
+begun_since lay h r s (Map (Get k)) x = absurd x
+begun_since lay h r s (Map (Successor k)) x = absurd x
+begun_since lay h r s (Map (Range low high most)) x = absurd x
 
 -- the shape of the tree allows it
 pub edit_allowed : (lay : Layout) (h : History) (s : ℕ) (command : Command) → MayMakeFor lay h s command → TreeAllows lay h s
-edit_allowed lay h s (InsertOf k v) x = (Insert k v, x)
-edit_allowed lay h s (DeleteOf k) x = (Delete k, x)
+edit_allowed lay h s (Map (InsertOf k v)) x = (Insert k v, x)
+edit_allowed lay h s (Map (DeleteOf k)) x = (Delete k, x)
 edit_allowed lay h s (Llx cell) x = absurd x
 edit_allowed lay h s (Scx update) x = absurd x
 edit_allowed lay h s (Vlx cells) x = absurd x
 edit_allowed lay h s (Set field v) x = absurd x
-edit_allowed lay h s (Get k) x = absurd x
-edit_allowed lay h s (Successor k) x = absurd x
-edit_allowed lay h s (Range span) x = absurd x
+edit_allowed lay h s (Map (Get k)) x = absurd x
+edit_allowed lay h s (Map (Successor k)) x = absurd x
+edit_allowed lay h s (Map (Range low high most)) x = absurd x
 
 -- an entry of it is one that a call with this command makes
 pub edit_entry : (lay : Layout) (c : ℕ) (h start : History) (linked : ℕ → Option History) (e : Entered) (command : Command) → HasBegunFor lay h e.scx command → IsEntryFor lay c h start linked e command
-edit_entry lay c h start linked e (InsertOf k v) x = x
-edit_entry lay c h start linked e (DeleteOf k) x = x
+edit_entry lay c h start linked e (Map (InsertOf k v)) x = x
+edit_entry lay c h start linked e (Map (DeleteOf k)) x = x
 edit_entry lay c h start linked e (Llx cell) x = absurd x
 edit_entry lay c h start linked e (Scx update) x = absurd x
 edit_entry lay c h start linked e (Vlx cells) x = absurd x
 edit_entry lay c h start linked e (Set field v) x = absurd x
-edit_entry lay c h start linked e (Get k) x = absurd x
-edit_entry lay c h start linked e (Successor k) x = absurd x
-edit_entry lay c h start linked e (Range span) x = absurd x
+edit_entry lay c h start linked e (Map (Get k)) x = absurd x
+edit_entry lay c h start linked e (Map (Successor k)) x = absurd x
+edit_entry lay c h start linked e (Map (Range low high most)) x = absurd x
 
 -- what is remembered stays true with one row more
 pub edits_kept : (lay : Layout) (h : History) (r : StepRow) (begun : List (Option Command)) → AreEdits lay h begun → AreEdits lay (r ⊳ h) begun

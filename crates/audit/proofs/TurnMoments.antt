@@ -10,7 +10,7 @@ use Rattle.arena.proofs.Lemmas.{ends_self}
 use Rattle.spelling.specs.declared.pair.Pair.{Pair}
 use Rattle.spelling.specs.OrderedMap.{get}
 use Rattle.spelling.specs.Spelled.{Spells}
-use Rattle.script.specs.declared.command.Call.{Call}
+use Rattle.script.specs.declared.call.Call.{Call}
 use Rattle.script.specs.declared.command.Command.{Command}
 use Rattle.record.specs.declared.record.Line.{Line}
 use Rattle.record.specs.declared.record.Line.TheVariants.{Step, Log, Reply as ReplyLine}

@@ -1,6 +1,6 @@
 -- Where a client's calls stand in a script.
 use Rattle.std.specs.Prelude.{◌≡◌, ℕ, suc, List, [], ◌∷◌, drop, Option, Some, None, slice_get}
-use Rattle.script.specs.declared.command.Call.{Call}
+use Rattle.script.specs.declared.call.Call.{Call}
 use Rattle.script.specs.declared.command.Command.{Command}
 use Rattle.record.specs.Commands.{commands}
 
@@ -8,7 +8,7 @@ use Rattle.record.specs.Commands.{commands}
 -- stands among the calls; nowhere if none is to come
 abbrev pub IsAt : List Call → ℕ → List Command → Option ℕ → Type 0
 IsAt calls c left None = left ≡ []
-IsAt calls c left (Some at) = (command : Command) × (slice_get calls at ≡ Some (record { client = record { 0 = c }; command = command })) × (left ≡ command ∷ commands (drop (suc at) calls) c)
+IsAt calls c left (Some at) = (call : Call) × (slice_get calls at ≡ Some call) × (left ≡ call.command ∷ commands (drop (suc at) calls) c) × (call.client.0 ≡ c)
 
 -- the command of a call
 abbrev pub command_of_call : Option Call → Option Command

@@ -11,7 +11,7 @@ use Rattle.arena.specs.History.{History, Start, ◌⊳◌, Extends, value}
 use Rattle.arena.specs.Layout.{all_nodes, all_scx}
 use Rattle.arena.specs.Log.{log, last, is_final}
 use Rattle.arena.specs.Words.{info}
-use Rattle.script.specs.declared.command.Call.{Call}
+use Rattle.script.specs.declared.call.Call.{Call}
 use Rattle.script.specs.declared.cells.Cells.{Cells}
 use Rattle.script.specs.declared.command.Command.{Command}
 use Rattle.script.specs.declared.command.Command.TheVariants.{Vlx}

@@ -11,7 +11,7 @@ ghost use Rattle.arena.specs.Lawful.{IsWin};
 ghost use Rattle.arena.specs.Log.{log, last, has, is_final, entry as entered};
 ghost use Rattle.arena.specs.ScxRecords.{plan as plan_of, member as member_of, new as new_of, side_of, field_index, plan_finalizes};
 ghost use Rattle.arena.specs.Words.{node as node_of, child, scx as scx_of};
-ghost use Rattle.script.specs.declared.command.Call.{Call as CallOf};
+ghost use Rattle.script.specs.declared.call.Call.{Call as CallOf};
 ghost use Rattle.record.specs.declared.record.Line.{Line};
 ghost use Rattle.record.specs.declared.record.Reply.{Reply as ReplyOf};
 ghost use Rattle.script.specs.Cells.{cells_of};

@@ -10,26 +10,30 @@ ghost use Rattle.record.specs.Rules.Successor.{SuccessorAfterStep};
 
 use arena::{Kind, Limits};
 use record::Answer;
-use script::{Command, Span};
+use script::Command;
+use spelling::Request;
 
 /// Whether a call may make a step of a kind.
 pub(crate) fn may_make(command: &Command, kind: Kind) -> bool
     ensures { IsTrue result → MayMake command.now kind }
 {
     match command {
-        Command::Llx { cell: _ } | Command::Successor { key: _ } => kind != Kind::Fill,
+        Command::Llx { cell: _ } | Command::Map(Request::Successor { key: _ }) => kind
+            != Kind::Fill,
         Command::Vlx { cells: _ } => kind == Kind::LoadInfo,
-        Command::Get { key: _ } => kind == Kind::LoadSettled || kind == Kind::LoadChild,
-        Command::Range(span) => kind != Kind::Fill && !takes_nothing(span),
+        Command::Map(Request::Get { key: _ }) => kind == Kind::LoadSettled
+            || kind == Kind::LoadChild,
+        Command::Map(Request::Range { low, high, most }) => kind != Kind::Fill
+            && !takes_nothing(*low, *high, *most),
         _ => true,
     }
 }
 
 /// Whether a range takes no pair, whatever the map has.
-fn takes_nothing(span: &Span) -> bool
-    ensures { IsTrue result ↔ TakesNothing span.now.low span.now.high span.now.most }
+fn takes_nothing(low: u64, high: u64, most: u32) -> bool
+    ensures { IsTrue result ↔ TakesNothing low high most }
 {
-    span.most == 0 || span.high < span.low
+    most == 0 || high < low
 }
 
 /// How many steps a call may make at most, while so many nodes are taken; or fewer, if that is no
@@ -44,11 +48,13 @@ pub(crate) fn most_steps(command: &Command, limits: &Limits, taken: u64) -> u64
         Command::Scx(_) => 40,
         Command::Vlx { cells } => cells.as_slice().len() as u64,
         Command::Set { field: _, value: _ } => 104,
-        Command::Insert { key: _, value: _ } => edit_steps(tries, levels, 178),
-        Command::Delete { key: _ } => edit_steps(tries, levels, 301),
-        Command::Get { key: _ } => levels.saturating_mul(3),
-        Command::Successor { key: _ } => tries.saturating_mul(levels.saturating_mul(137)),
-        Command::Range(span) => range_steps(tries, levels, span.most),
+        Command::Map(Request::Insert { key: _, value: _ }) => edit_steps(tries, levels, 178),
+        Command::Map(Request::Delete { key: _ }) => edit_steps(tries, levels, 301),
+        Command::Map(Request::Get { key: _ }) => levels.saturating_mul(3),
+        Command::Map(Request::Successor { key: _ }) => tries.saturating_mul(levels.saturating_mul(
+            137,
+        )),
+        Command::Map(Request::Range { most, .. }) => range_steps(tries, levels, *most),
     }
 }
 
@@ -74,19 +80,21 @@ pub(crate) fn may_answer_at_once(command: &Command, answer: &Answer) -> bool
     match command {
         Command::Scx(_) => matches!(answer, Answer::Unlinked { .. } | Answer::Full { .. }),
         Command::Vlx { cells: _ } => matches!(answer, Answer::Unlinked { .. }),
-        Command::Range(span) => is_range_at_once(span, answer),
-        Command::Successor { key: _ } => matches!(answer, Answer::NoMemory),
+        Command::Map(Request::Range { low, high, most }) => is_range_at_once(
+            *low, *high, *most, answer,
+        ),
+        Command::Map(Request::Successor { key: _ }) => matches!(answer, Answer::NoMemory),
         _ => false,
     }
 }
 
 /// Whether a range may give an answer in place of a first step.
-fn is_range_at_once(span: &Span, answer: &Answer) -> bool
-    ensures { IsTrue result → RangeAtOnce span.now.low span.now.high span.now.most answer.now }
+fn is_range_at_once(low: u64, high: u64, most: u32, answer: &Answer) -> bool
+    ensures { IsTrue result → RangeAtOnce low high most answer.now }
 {
     match answer {
-        Answer::Pairs(pairs) => takes_nothing(span) && pairs.is_empty(),
-        Answer::NoMemory => !takes_nothing(span),
+        Answer::Pairs(pairs) => takes_nothing(low, high, most) && pairs.is_empty(),
+        Answer::NoMemory => !takes_nothing(low, high, most),
         _ => false,
     }
 }
@@ -100,10 +108,11 @@ pub(crate) fn may_answer_after_step(command: &Command, answer: &Answer) -> bool
         Command::Scx(_) => matches!(answer, Answer::Done | Answer::Lost { .. }),
         Command::Vlx { cells: _ } => matches!(answer, Answer::Same | Answer::Changed { .. }),
         Command::Set { field: _, value: _ } => is_of_set(answer),
-        Command::Insert { key: _, value: _ } | Command::Delete { key: _ } => is_of_edit(answer),
-        Command::Get { key: _ } => matches!(answer, Answer::Value(_)),
-        Command::Successor { key: _ } => is_of_successor(answer),
-        Command::Range(_) => is_of_range(answer),
+        Command::Map(Request::Insert { key: _, value: _ })
+        | Command::Map(Request::Delete { key: _ }) => is_of_edit(answer),
+        Command::Map(Request::Get { key: _ }) => matches!(answer, Answer::Value(_)),
+        Command::Map(Request::Successor { key: _ }) => is_of_successor(answer),
+        Command::Map(Request::Range { .. }) => is_of_range(answer),
     }
 }
 
@@ -160,8 +169,8 @@ pub(crate) fn enters(command: &Command, answer: &Answer) -> bool
 {
     match command {
         Command::Scx(_) | Command::Set { .. } => matches!(answer, Answer::Done),
-        Command::Insert { .. } => matches!(answer, Answer::Value(_)),
-        Command::Delete { .. } => matches!(answer, Answer::Value(Some(_))),
+        Command::Map(Request::Insert { .. }) => matches!(answer, Answer::Value(_)),
+        Command::Map(Request::Delete { .. }) => matches!(answer, Answer::Value(Some(_))),
         _ => false,
     }
 }
@@ -172,8 +181,8 @@ pub(crate) fn most_nodes(command: &Command, limits: &Limits) -> u32
 {
     match command {
         Command::Scx(_) | Command::Set { .. } => 1,
-        Command::Insert { .. } => limits.tries.saturating_mul(3),
-        Command::Delete { .. } => limits.tries,
+        Command::Map(Request::Insert { .. }) => limits.tries.saturating_mul(3),
+        Command::Map(Request::Delete { .. }) => limits.tries,
         _ => 0,
     }
 }
@@ -184,7 +193,7 @@ pub(crate) fn most_scx(command: &Command, limits: &Limits) -> u32
 {
     match command {
         Command::Scx(_) | Command::Set { .. } => 1,
-        Command::Insert { .. } | Command::Delete { .. } => limits.tries,
+        Command::Map(Request::Insert { .. }) | Command::Map(Request::Delete { .. }) => limits.tries,
         _ => 0,
     }
 }

@@ -19,6 +19,7 @@ ghost use Rattle.judge.specs.Histories.{history as seen};
 use arena::{Head, NodeNo, NodeWord, ScxNo, ScxWord, Side, Word};
 use judge::Judge;
 use script::Command;
+use spelling::Request;
 
 /// Whether an SCX-record is about to make the edit of a call: below a fork on the search path of
 /// the call's key.
@@ -27,8 +28,11 @@ pub(crate) fn makes_edit(judge: &Judge, scx: u64, command: &Command) -> bool
     ensures { IsTrue result → MayMakeFor judge.now.layout (seen judge.now) scx command.now }
 {
     let (key, is_edit) = match command {
-        Command::Insert { key, value } => (*key, is_insert(judge, scx, (*key, *value))),
-        Command::Delete { key } => (*key, is_delete(judge, scx, *key)),
+        Command::Map(Request::Insert { key, value }) => (
+            *key,
+            is_insert(judge, scx, (*key, *value)),
+        ),
+        Command::Map(Request::Delete { key }) => (*key, is_delete(judge, scx, *key)),
         _ => return false,
     };
     is_edit && is_fork_on_path(judge, key, member(judge, scx, 0))

@@ -2,8 +2,9 @@
 ghost use Rattle.std.specs.Prelude.{◌≡◌, ℕ, suc, ◌<◌, ◌≤◌, List, Some, None, IsTrue};
 ghost use Rattle.arena.specs.declared.layout.Layout.{Layout};
 ghost use Rattle.spelling.specs.OrderedMap.{get};
-ghost use Rattle.script.specs.declared.command.Call.{Call as CallOf};
+ghost use Rattle.script.specs.declared.call.Call.{Call as CallOf};
 ghost use Rattle.script.specs.declared.command.Command.{Command as CommandOf};
+ghost use Rattle.script.specs.declared.command.Command.TheVariants.{Map as MapCommand};
 ghost use Rattle.record.specs.declared.record.Answer.TheVariants.{Full};
 ghost use Rattle.record.specs.declared.record.Line.{Line};
 ghost use Rattle.record.specs.CommandRules.{IsRight, IsPlaced, MayAnswerAtOnce};
@@ -23,6 +24,7 @@ use arena::Resource;
 use places::Places;
 use record::{Answer, Reply};
 use script::Command;
+use spelling::Request;
 
 /// Whether a call of the map took place where its reply says, and told what the map gave there; or
 /// was refused, and took place nowhere.
@@ -37,54 +39,57 @@ pub(crate) fn is_right(
     ensures right { (lay : Layout) (tries : ℕ) (calls : List CallOf) (lines : List Line) → IsAsked lay tries calls lines (changes places.now) client.now command.now reply.now → AreRemembered lay calls lines steps.now → IsTrue result → IsRight lay reply.now.client.0 (history lay.mode lines) (start lay.mode lines reply.now.client.0) (linked calls lay.mode lines reply.now.client.0) command.now reply.now.answer }
     ensures placed { (lay : Layout) (tries : ℕ) (calls : List CallOf) (lines : List Line) → IsAsked lay tries calls lines (changes places.now) client.now command.now reply.now → IsTrue result → IsPlaced lay calls lines reply.now command.now }
 {
+    let Command::Map(request) = command else {
+        return false;
+    };
     match &reply.answer {
         Answer::Value(_) | Answer::Pair(_) | Answer::Pairs(_) => {
-            is_placed(places, client, command, reply)
+            is_placed(places, client, request, reply)
         }
-        _ => reply.moment.is_none() && is_refused(steps, places, client, command, reply),
+        _ => reply.moment.is_none() && is_refused(steps, places, client, request, reply),
     }
 }
 
 /// Whether a call that tells of the map took place in the turn of its reply: with its entry, just
 /// before which the map gave its answer; or, without one, in the last of its turns, whoever made
 /// it, after which the map gave it.
-fn is_placed(places: &Places, client: &Client, command: &Command, reply: &Reply) -> bool
-    ensures right { (lay : Layout) (tries : ℕ) (calls : List CallOf) (lines : List Line) → IsAsked lay tries calls lines (changes places.now) client.now command.now reply.now → IsTrue result → IsRight lay reply.now.client.0 (history lay.mode lines) (start lay.mode lines reply.now.client.0) (linked calls lay.mode lines reply.now.client.0) command.now reply.now.answer }
-    ensures placed { (lay : Layout) (tries : ℕ) (calls : List CallOf) (lines : List Line) → IsAsked lay tries calls lines (changes places.now) client.now command.now reply.now → IsTrue result → IsPlaced lay calls lines reply.now command.now }
+fn is_placed(places: &Places, client: &Client, request: &Request<u64, u64>, reply: &Reply) -> bool
+    ensures right { (lay : Layout) (tries : ℕ) (calls : List CallOf) (lines : List Line) → IsAsked lay tries calls lines (changes places.now) client.now (MapCommand request.now) reply.now → IsTrue result → IsRight lay reply.now.client.0 (history lay.mode lines) (start lay.mode lines reply.now.client.0) (linked calls lay.mode lines reply.now.client.0) (MapCommand request.now) reply.now.answer }
+    ensures placed { (lay : Layout) (tries : ℕ) (calls : List CallOf) (lines : List Line) → IsAsked lay tries calls lines (changes places.now) client.now (MapCommand request.now) reply.now → IsTrue result → IsPlaced lay calls lines reply.now (MapCommand request.now) }
 {
     match client.won {
         Some(turn) => {
-            reply.moment == Some(turn) && had_before(places, command, &reply.answer, turn)
+            reply.moment == Some(turn) && had_before(places, request, &reply.answer, turn)
         }
-        None => is_read(places, command, reply),
+        None => is_read(places, request, reply),
     }
 }
 
 /// Whether the answer tells what the key of an edit had just before a turn.
-fn had_before(places: &Places, command: &Command, answer: &Answer, turn: u64) -> bool
-    ensures { (calls : List CallOf) (lines : List Line) → AreEntries calls lines (changes places.now) → IsTrue result → IsToldBefore calls lines command.now answer.now turn }
+fn had_before(places: &Places, request: &Request<u64, u64>, answer: &Answer, turn: u64) -> bool
+    ensures { (calls : List CallOf) (lines : List Line) → AreEntries calls lines (changes places.now) → IsTrue result → IsToldBefore calls lines (MapCommand request.now) answer.now turn }
 {
     let Answer::Value(told) = answer else {
         return false;
     };
     let before = turn.saturating_sub(1);
-    match command {
-        Command::Insert { key, value: _ } => has_at(places, *key, *told, before),
-        Command::Delete { key } => has_at(places, *key, *told, before),
+    match request {
+        Request::Insert { key, value: _ } => has_at(places, *key, *told, before),
+        Request::Delete { key } => has_at(places, *key, *told, before),
         _ => false,
     }
 }
 
 /// Whether a call without an entry took place in the greatest of its turns after which the map gave
 /// its answer.
-fn is_read(places: &Places, command: &Command, reply: &Reply) -> bool
-    ensures right { (lay : Layout) (tries : ℕ) (calls : List CallOf) (lines : List Line) (client : ClientOf) → IsAsked lay tries calls lines (changes places.now) client command.now reply.now → won lay lines reply.now.client.0 ≡ None → IsTrue result → IsRight lay reply.now.client.0 (history lay.mode lines) (start lay.mode lines reply.now.client.0) (linked calls lay.mode lines reply.now.client.0) command.now reply.now.answer }
-    ensures placed { (lay : Layout) (tries : ℕ) (calls : List CallOf) (lines : List Line) (client : ClientOf) → IsAsked lay tries calls lines (changes places.now) client command.now reply.now → won lay lines reply.now.client.0 ≡ None → IsTrue result → IsPlaced lay calls lines reply.now command.now }
+fn is_read(places: &Places, request: &Request<u64, u64>, reply: &Reply) -> bool
+    ensures right { (lay : Layout) (tries : ℕ) (calls : List CallOf) (lines : List Line) (client : ClientOf) → IsAsked lay tries calls lines (changes places.now) client (MapCommand request.now) reply.now → won lay lines reply.now.client.0 ≡ None → IsTrue result → IsRight lay reply.now.client.0 (history lay.mode lines) (start lay.mode lines reply.now.client.0) (linked calls lay.mode lines reply.now.client.0) (MapCommand request.now) reply.now.answer }
+    ensures placed { (lay : Layout) (tries : ℕ) (calls : List CallOf) (lines : List Line) (client : ClientOf) → IsAsked lay tries calls lines (changes places.now) client (MapCommand request.now) reply.now → won lay lines reply.now.client.0 ≡ None → IsTrue result → IsPlaced lay calls lines reply.now (MapCommand request.now) }
 {
-    match command {
-        Command::Get { key } => is_read_of(places, *key, reply),
-        Command::Delete { key } => is_read_of(places, *key, reply),
-        _ => is_read_at(places, command, reply),
+    match request {
+        Request::Get { key } => is_read_of(places, *key, reply),
+        Request::Delete { key } => is_read_of(places, *key, reply),
+        _ => is_read_at(places, request, reply),
     }
 }
 
@@ -110,22 +115,23 @@ fn has_at(places: &Places, key: u64, value: Option<u64>, turn: u64) -> bool
 
 /// Whether an ordered read took place in the greatest of its turns after which the map gave its
 /// answer.
-fn is_read_at(places: &Places, command: &Command, reply: &Reply) -> bool
-    ensures { (calls : List CallOf) (lines : List Line) → AreEntries calls lines (changes places.now) → FallFrom (suc reply.now.end) (changes places.now) → reply.now.begin ≤ reply.now.end → IsTrue result → IsReadAt calls lines command.now reply.now }
+fn is_read_at(places: &Places, request: &Request<u64, u64>, reply: &Reply) -> bool
+    ensures { (calls : List CallOf) (lines : List Line) → AreEntries calls lines (changes places.now) → FallFrom (suc reply.now.end) (changes places.now) → reply.now.begin ≤ reply.now.end → IsTrue result → IsReadAt calls lines (MapCommand request.now) reply.now }
 {
-    let turn = places.greatest_of(command, &reply.answer, reply.begin, reply.end);
+    let command = Command::Map(*request);
+    let turn = places.greatest_of(&command, &reply.answer, reply.begin, reply.end);
     if reply.moment != Some(turn) {
         return false;
     }
-    match (command, &reply.answer) {
-        (Command::Successor { key: _ }, Answer::Value(told)) => {
-            told.is_none() && places.tells(command, &[], turn)
+    match (request, &reply.answer) {
+        (Request::Successor { key: _ }, Answer::Value(told)) => {
+            told.is_none() && places.tells(&command, &[], turn)
         }
-        (Command::Successor { key: _ }, Answer::Pair(pair)) => {
-            places.tells(command, &[*pair], turn)
+        (Request::Successor { key: _ }, Answer::Pair(pair)) => {
+            places.tells(&command, &[*pair], turn)
         }
-        (Command::Range(_), Answer::Pairs(pairs)) => {
-            places.tells(command, pairs.as_slice(), turn)
+        (Request::Range { .. }, Answer::Pairs(pairs)) => {
+            places.tells(&command, pairs.as_slice(), turn)
         }
         _ => false,
     }
@@ -136,11 +142,11 @@ fn is_refused(
     steps: &Steps,
     places: &Places,
     client: &Client,
-    command: &Command,
+    request: &Request<u64, u64>,
     reply: &Reply,
 ) -> bool
     requires { client.now.pass.0 < steps.now.judge.layout.passes }
-    ensures right { (lay : Layout) (tries : ℕ) (calls : List CallOf) (lines : List Line) → IsAsked lay tries calls lines (changes places.now) client.now command.now reply.now → AreRemembered lay calls lines steps.now → IsTrue result → IsRight lay reply.now.client.0 (history lay.mode lines) (start lay.mode lines reply.now.client.0) (linked calls lay.mode lines reply.now.client.0) command.now reply.now.answer }
+    ensures right { (lay : Layout) (tries : ℕ) (calls : List CallOf) (lines : List Line) → IsAsked lay tries calls lines (changes places.now) client.now (MapCommand request.now) reply.now → AreRemembered lay calls lines steps.now → IsTrue result → IsRight lay reply.now.client.0 (history lay.mode lines) (start lay.mode lines reply.now.client.0) (linked calls lay.mode lines reply.now.client.0) (MapCommand request.now) reply.now.answer }
     ensures tells_nothing { IsTrue result → reply_told reply.now.answer ≡ None }
 {
     match &reply.answer {
@@ -152,7 +158,7 @@ fn is_refused(
             steps,
             places,
             client,
-            command,
+            request,
             reply,
             (*what, *left),
         ),
@@ -167,19 +173,19 @@ fn is_full(
     steps: &Steps,
     places: &Places,
     client: &Client,
-    command: &Command,
+    request: &Request<u64, u64>,
     reply: &Reply,
     full: (Resource, u32),
 ) -> bool
     requires { client.now.pass.0 < steps.now.judge.layout.passes }
-    ensures { (lay : Layout) (tries : ℕ) (calls : List CallOf) (lines : List Line) → IsAsked lay tries calls lines (changes places.now) client.now command.now reply.now → AreRemembered lay calls lines steps.now → IsTrue result → IsRight lay reply.now.client.0 (history lay.mode lines) (start lay.mode lines reply.now.client.0) (linked calls lay.mode lines reply.now.client.0) command.now (Full full.0 full.1) }
+    ensures { (lay : Layout) (tries : ℕ) (calls : List CallOf) (lines : List Line) → IsAsked lay tries calls lines (changes places.now) client.now (MapCommand request.now) reply.now → AreRemembered lay calls lines steps.now → IsTrue result → IsRight lay reply.now.client.0 (history lay.mode lines) (start lay.mode lines reply.now.client.0) (linked calls lay.mode lines reply.now.client.0) (MapCommand request.now) (Full full.0 full.1) }
 {
-    match command {
-        Command::Insert { key, value: _ } => {
+    match request {
+        Request::Insert { key, value: _ } => {
             is_full_for_new(steps, places, client, *key, reply, full)
                 || is_full_for_old(steps, places, client, *key, reply, full)
         }
-        Command::Delete { key } => is_full_for_old(steps, places, client, *key, reply, full),
+        Request::Delete { key } => is_full_for_old(steps, places, client, *key, reply, full),
         _ => false,
     }
 }

@@ -21,6 +21,7 @@ use arena::{Kind, Mode, NoMemory, NodeWord, PassNo, ScxNo, ScxWord, Word};
 use places::{Change, Places};
 use record::{Entry, Line, Record, Reply, Row};
 use script::{Call, Command, Script};
+use spelling::Request;
 use std::alloc::Global;
 
 /// What the lines so far say.
@@ -352,7 +353,7 @@ impl<'a> Run<'a> {
         ensures { OnOk result ((row : RowOf) (n : ℕ) (side : Side) → IsWin (seen self.now.steps.judge) row scx.0 → row.word ≡ child n side → IsEntryFor (layout_of self.now) client.now.pass.0 (seen self.now.steps.judge) (start (layout_of self.now).mode (lines_of self.now) client.now.pass.0) (linked (calls_of self.now) (layout_of self.now).mode (lines_of self.now) client.now.pass.0) (entered (layout_of self.now) (seen self.now.steps.judge) scx.0 n side row.after) command.now) }
     {
         match command {
-            Command::Insert { key: _, value: _ } | Command::Delete { key: _ } => {
+            Command::Map(_) => {
                 hold(self.edit_of(scx) == Some(*command))?;
                 Ok(())
             }
@@ -654,12 +655,15 @@ fn change(places: &mut Places, turn: u64, command: Command) -> Result<(), Refuse
     ensures keys { (key : ℕ) → Knows places.old key → Knows places.new key }
     ensures change { OnOk result ((c : ChangeOf) → c.turn ≡ turn → IsChangeBy (map_call (Some command)) c → changes places.new ≡ c ∷ changes places.old) }
 {
-    match command {
-        Command::Insert { key, value } => {
+    let Command::Map(request) = command else {
+        return Ok(());
+    };
+    match request {
+        Request::Insert { key, value } => {
             push(places, turn, (key, Some(value)))?;
             Ok(())
         }
-        Command::Delete { key } => {
+        Request::Delete { key } => {
             push(places, turn, (key, None))?;
             Ok(())
         }

@@ -43,7 +43,7 @@ impl Steps {
     ghost use Rattle.arena.specs.Layout.{all_nodes};
     ghost use Rattle.arena.specs.Log.{log, is_final};
     ghost use Rattle.script.specs.declared.cells.Cells.{Cells};
-    ghost use Rattle.script.specs.declared.command.Call.{Call};
+    ghost use Rattle.script.specs.declared.call.Call.{Call};
     ghost use Rattle.script.specs.declared.command.Command.TheVariants.{Vlx};
     ghost use Rattle.script.specs.Cells.{cells_of};
     ghost use Rattle.record.specs.declared.record.Line.{Line};

@@ -1,11 +1,11 @@
 -- Typed keys, values, calls and replies in words. `word` stands for the word of a key or of a
 -- value, `valid` for whether it is one of its type.
-use Rattle.std.specs.Prelude.{◌≡◌, ℕ, ◌≤◌, map, All, IfSome, Option, Some, None}
+use Rattle.std.specs.Prelude.{◌≡◌, ℕ, map, All, IfSome, Option, Some, None}
 use Rattle.std.specs.Option.{option_map}
 use Rattle.spelling.specs.declared.pair.Pair.{Pair}
-use Rattle.spelling.specs.OrderedMap.{MapCall, Edit, Insert, Delete, Get, Successor, Range, MapReply, OneValue, ManyPairs, pair, pair_or_none}
-use Rattle.dict.specs.declared.request.Request.{Request}
-use Rattle.dict.specs.declared.request.Request.TheVariants.{Insert as InsertOf, Delete as DeleteOf, Get as GetOf, Successor as SuccessorOf, Range as RangeOf}
+use Rattle.spelling.specs.OrderedMap.{MapReply, OneValue, ManyPairs, pair, pair_or_none}
+use Rattle.spelling.specs.declared.request.Request.{Request}
+use Rattle.spelling.specs.declared.request.Request.TheVariants.{Insert as InsertOf, Delete as DeleteOf, Get as GetOf, Successor as SuccessorOf, Range as RangeOf}
 use Rattle.dict.specs.declared.reply.Reply.{Reply}
 use Rattle.dict.specs.declared.reply.Reply.TheVariants.{Value, Pair as PairOf, Pairs}
 
@@ -25,14 +25,6 @@ IsValidPair valid_key valid_value p = valid_key p.0 × valid_value p.1
 abbrev pub word_pair : {K V : Type 0} → (K → ℕ) → (V → ℕ) → K × V → Pair
 word_pair key value p = pair (key p.0) (value p.1)
 
--- a call of a dictionary as a call of the map of words
-abbrev pub map_call_of : {K V : Type 0} → (K → ℕ) → (V → ℕ) → Request K V → MapCall
-map_call_of key value (InsertOf k v) = Edit (Insert (key k) (value v))
-map_call_of key value (DeleteOf k) = Edit (Delete (key k))
-map_call_of key value (GetOf k) = Get (key k)
-map_call_of key value (SuccessorOf k) = Successor (key k)
-map_call_of key value (RangeOf low high most) = Range (key low) (key high) most
-
 -- the keys and the value of a request are those of their types
 abbrev pub IsValidRequest : {K V : Type 0} → (K → Type 0) → (V → Type 0) → Request K V → Type 0
 IsValidRequest valid_key valid_value (InsertOf k v) = valid_key k × valid_value v
@@ -40,11 +32,6 @@ IsValidRequest valid_key valid_value (DeleteOf k) = valid_key k
 IsValidRequest valid_key valid_value (GetOf k) = valid_key k
 IsValidRequest valid_key valid_value (SuccessorOf k) = valid_key k
 IsValidRequest valid_key valid_value (RangeOf low high most) = valid_key low × valid_key high
-
--- it asks for at most 64 pairs
-abbrev pub AsksForFew : {K V : Type 0} → Request K V → Type 0
-AsksForFew (RangeOf low high most) = most ≤ 64
-AsksForFew _ = Unit {0}
 
 -- what a reply tells of the map of words; a refusal tells nothing
 abbrev pub told_of : {K V : Type 0} → (K → ℕ) → (V → ℕ) → Reply K V → Option MapReply

@@ -5,16 +5,17 @@ ghost use Rattle.dict.specs.Known.{AsksFirst, IsUnbegun};
 ghost use Rattle.dict.specs.Says.{KeepsLists};
 ghost use Rattle.dict.specs.Steps.{map_left, most_steps, MapFits};
 ghost use Rattle.dict.specs.Typed.{IsTypedCall};
-ghost use Rattle.dict.specs.Words.{IsWord, map_call_of};
+ghost use Rattle.dict.specs.Words.{IsWord};
+ghost use Rattle.spelling.specs.Requests.{as_map_call};
 
 use crate::key::WordKey;
 use crate::reply::Reply;
-use crate::request::Request;
 use crate::run::MapRun;
 use crate::shape::Dict;
 use crate::translation::translated;
 use crate::value::WordValue;
 use arena::{Machine, Share, Turn};
+use spelling::Request;
 use std::alloc::Global;
 use std::marker::PhantomData;
 
@@ -43,8 +44,8 @@ impl<K: WordKey, V: WordValue> DictRun<K, V> {
         tries: u32,
         call: u64,
     ) -> DictRun<K, V>
-        requires memory { KeepsLists (map_call_of K.word_of V.word_of request) → IsSome alloc }
-        ensures call { call_in result.run ≡ map_call_of K.word_of V.word_of request }
+        requires memory { KeepsLists (as_map_call K.word_of V.word_of request) → IsSome alloc }
+        ensures call { call_in result.run ≡ as_map_call K.word_of V.word_of request }
         ensures typed { IsTypedCall (IsWord K.is_valid K.word_of) (IsWord V.is_valid V.word_of) (call_in result.run) }
         ensures share { share_of result.run ≡ share }
         ensures tries { result.tries ≡ tries }
@@ -71,8 +72,8 @@ impl<K: WordKey, V: WordValue> DictRun<K, V> {
 /// The same call, in words.
 #[inline(always)]
 fn in_words<K: WordKey, V: WordValue>(request: Request<K, V>) -> Request<u64, u64>
-    ensures call { map_call_of (λ k. k) (λ v. v) result ≡ map_call_of K.word_of V.word_of request }
-    ensures typed { IsTypedCall (IsWord K.is_valid K.word_of) (IsWord V.is_valid V.word_of) (map_call_of K.word_of V.word_of request) }
+    ensures call { as_map_call (λ k. k) (λ v. v) result ≡ as_map_call K.word_of V.word_of request }
+    ensures typed { IsTypedCall (IsWord K.is_valid K.word_of) (IsWord V.is_valid V.word_of) (as_map_call K.word_of V.word_of request) }
 {
     match request {
         Request::Insert { key, value } => {

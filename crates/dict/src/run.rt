@@ -7,12 +7,12 @@ ghost use Rattle.dict.specs.Calls.{call_in, share_of};
 ghost use Rattle.dict.specs.Known.{AsksFirst, IsUnbegun, MapIsReady, MapWaits, MapAnswers};
 ghost use Rattle.dict.specs.Says.{KeepsLists};
 ghost use Rattle.dict.specs.Steps.{map_left, most_steps, MapFits, IsNearer};
-ghost use Rattle.dict.specs.Words.{map_call_of};
+ghost use Rattle.spelling.specs.Requests.{as_map_call};
 
-use crate::request::Request;
 use crate::told::WordReply;
 use arena::{Machine, Share, Turn};
 use order::{RangeRun, SuccessorRun};
+use spelling::Request;
 use std::alloc::Global;
 use tree::{Delete, DeleteRun, GetRun, Insert, InsertRun, Tree};
 
@@ -38,8 +38,8 @@ impl MapRun {
         tries: u32,
         call: u64,
     ) -> MapRun
-        requires memory { KeepsLists (map_call_of (λ k. k) (λ v. v) request) → IsSome alloc }
-        ensures call { call_in result ≡ map_call_of (λ k. k) (λ v. v) request }
+        requires memory { KeepsLists (as_map_call (λ k. k) (λ v. v) request) → IsSome alloc }
+        ensures call { call_in result ≡ as_map_call (λ k. k) (λ v. v) request }
         ensures share { share_of result ≡ share }
         ensures fresh { 0 < tries → IsUnbegun result tries call }
         ensures steps { (nodes : ℕ) → 0 < tries → map_left result nodes ≤ most_steps (call_in result) tries nodes }

@@ -20,10 +20,11 @@ use Rattle.dict.specs.Known.{IsUnbegun}
 use Rattle.dict.specs.Says.{Tells}
 use Rattle.dict.specs.Typed.{IsTypedCall, TypedAllows}
 use Rattle.dict.specs.TypedMaps.{typed_run}
-use Rattle.dict.specs.Words.{IsWord, AsksForFew, map_call_of, told_of}
+use Rattle.dict.specs.Words.{IsWord, told_of}
+use Rattle.spelling.specs.Requests.{AsksForFew, as_map_call}
 use Rattle.dict.specs.declared.dict.DictRun.{DictRun}
-use Rattle.dict.specs.declared.request.Request.{Request}
-use Rattle.dict.specs.declared.request.Request.TheVariants as requests
+use Rattle.spelling.specs.declared.request.Request.{Request}
+use Rattle.spelling.specs.declared.request.Request.TheVariants as requests
 use Rattle.dict.specs.declared.reply.Reply.{Reply}
 use Rattle.dict.specs.declared.reply.Reply.TheVariants as replies
 use Rattle.forest.specs.declared.view.SeatView.{SeatView}
@@ -64,7 +65,7 @@ module _ (lay : Layout) (c : ℕ) (h start : History) (a b : Remaining) (e : Ext
   share_scx = let n = scx_go in let t = y.to_scx in let u = x.to_scx in omega (arith, n, t, u)
 
 -- a range that asks for few pairs is such a call
-pub few_of : {K V : Type 0} (key : K → ℕ) (value_word : V → ℕ) (request : Request K V) (call : MapCall) → call ≡ map_call_of key value_word request → AsksForFew request → IsFewCall call
+pub few_of : {K V : Type 0} (key : K → ℕ) (value_word : V → ℕ) (request : Request K V) (call : MapCall) → call ≡ as_map_call key value_word request → AsksForFew request → IsFewCall call
 few_of key value_word (requests.Insert k v) call e few = subst IsFewCall (sym e) tt
 few_of key value_word (requests.Delete k) call e few = subst IsFewCall (sym e) tt
 few_of key value_word (requests.Get k) call e few = subst IsFewCall (sym e) tt
@@ -100,7 +101,7 @@ module _ {K V : Type 0} (valid_key : K → Type 0) (key : K → ℕ) (valid_valu
       rests = record { share = x.rest.share; over = all_over p.layout _ p.number.0 p.share p.share.next_node p.share.next_scx x.rest.share x.rest.over }
 
   -- so may the machine of a request
-  pub request_starts : {T : Type 0} (p : Inside T) (x : IsPass allows Tree p) (m : DictRun K V) (request : Request K V) (tries number : ℕ) → taken_of (pass_view p) ≡ number → call_in m.run ≡ map_call_of key value_word request → IsTypedCall keys values (call_in m.run) → m.tries ≡ tries → IsUnbegun m.run tries number → AsksForFew request → share_of m.run ≡ p.share → CallBegins allows (DictIsReady keys values) (call_of p x (taken_of (pass_view p))) p.seat.me.0.passes m
+  pub request_starts : {T : Type 0} (p : Inside T) (x : IsPass allows Tree p) (m : DictRun K V) (request : Request K V) (tries number : ℕ) → taken_of (pass_view p) ≡ number → call_in m.run ≡ as_map_call key value_word request → IsTypedCall keys values (call_in m.run) → m.tries ≡ tries → IsUnbegun m.run tries number → AsksForFew request → share_of m.run ≡ p.share → CallBegins allows (DictIsReady keys values) (call_of p x (taken_of (pass_view p))) p.seat.me.0.passes m
   request_starts p x m request tries number named call typed same fresh few share = dict_starts p x m typed (rw (same, named) fresh) (few_of key value_word request (call_in m.run) call few) share
 
   module _ {T : Type 0} (p : Inside T) (x : IsPass allows Tree p) (s : Seat ℕ SeatView) (m : DictRun K V) (reply : Reply K V) where

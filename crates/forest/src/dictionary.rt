@@ -9,7 +9,8 @@ ghost use Rattle.dict.specs.Forms.{MayReply, form_of};
 ghost use Rattle.dict.specs.Says.{KeepsLists};
 ghost use Rattle.dict.specs.Steps.{most_steps};
 ghost use Rattle.dict.specs.Typed.{TypedAllows};
-ghost use Rattle.dict.specs.Words.{AsksForFew, IsValidPair, IsValidReply, IsWord, map_call_of, told_of};
+ghost use Rattle.dict.specs.Words.{IsValidPair, IsValidReply, IsWord, told_of};
+ghost use Rattle.spelling.specs.Requests.{AsksForFew, as_map_call};
 ghost use Rattle.forest.specs.Dictionary.{IsReading, IsUpdateForm, update_reply, IsToldOf, IsRefusalOf, HasSpentAtMost, UpdateSays, SuccessorSays, RangeSays, blamed_by_reply, blamed_by_update, blamed_by_read};
 ghost use Rattle.forest.specs.Passes.{HasGoneOn, IsOf, AreNew, taken_of};
 ghost use Rattle.forest.specs.Traces.{shared_nodes};
@@ -163,15 +164,15 @@ impl<K: WordKey, V: WordValue> Forest<Dict<K, V>> {
         request: Request<K, V>,
     ) -> Reply<K, V>
         requires pass { IsOf self.now pass.old }
-        requires memory { KeepsLists (map_call_of K.word_of V.word_of request) → IsSome alloc }
+        requires memory { KeepsLists (as_map_call K.word_of V.word_of request) → IsSome alloc }
         requires few { AsksForFew request }
         ensures pass { IsOf self.now pass.new }
         ensures tree { pass.new.layout.mode ≡ Tree }
-        ensures goes_on { HasGoneOn (TypedAllows (IsWord K.is_valid K.word_of) (IsWord V.is_valid V.word_of)) pass.old pass.new (taken_of pass.old) (most_steps (map_call_of K.word_of V.word_of request) self.now.tries (shared_nodes self.now.layout)) (blamed_by_reply result pass.old.blamed) }
-        ensures spends { HasSpentAtMost pass.old pass.new (map_call_of K.word_of V.word_of request) self.now.tries }
-        ensures told { IsToldOf pass.old pass.new (map_call_of K.word_of V.word_of request) (told_of K.word_of V.word_of result) }
-        ensures refused { IsRefusalOf pass.old pass.new (map_call_of K.word_of V.word_of request) result }
-        ensures form { MayReply (map_call_of K.word_of V.word_of request) (form_of result) }
+        ensures goes_on { HasGoneOn (TypedAllows (IsWord K.is_valid K.word_of) (IsWord V.is_valid V.word_of)) pass.old pass.new (taken_of pass.old) (most_steps (as_map_call K.word_of V.word_of request) self.now.tries (shared_nodes self.now.layout)) (blamed_by_reply result pass.old.blamed) }
+        ensures spends { HasSpentAtMost pass.old pass.new (as_map_call K.word_of V.word_of request) self.now.tries }
+        ensures told { IsToldOf pass.old pass.new (as_map_call K.word_of V.word_of request) (told_of K.word_of V.word_of result) }
+        ensures refused { IsRefusalOf pass.old pass.new (as_map_call K.word_of V.word_of request) result }
+        ensures form { MayReply (as_map_call K.word_of V.word_of request) (form_of result) }
         ensures valid { IsValidReply K.is_valid V.is_valid result }
     {
         let number = pass.taken();

@@ -4,7 +4,8 @@ ghost use Rattle.arena.specs.Machines.{IsRun};
 ghost use Rattle.dict.specs.Forms.{MayReply, form_of};
 ghost use Rattle.dict.specs.Steps.{most_steps};
 ghost use Rattle.dict.specs.Typed.{TypedAllows};
-ghost use Rattle.dict.specs.Words.{AsksForFew, IsValidReply, IsWord, map_call_of, told_of};
+ghost use Rattle.dict.specs.Words.{IsValidReply, IsWord, told_of};
+ghost use Rattle.spelling.specs.Requests.{AsksForFew, as_map_call};
 ghost use Rattle.forest.specs.Dictionary.{IsToldOf, IsRefusalOf, HasSpentAtMost, blamed_by_reply};
 ghost use Rattle.forest.specs.Opened.{HasStepped, IsSameOpen, pass_now};
 ghost use Rattle.forest.specs.Passes.{Ground, HasGoneOn, IsOf, run_of, steps_of, taken_of};
@@ -71,7 +72,7 @@ impl<K: WordKey, V: WordValue> Forest<Dict<K, V>> {
         requires few { AsksForFew request }
         ensures began { result.began ≡ pass }
         ensures known { result.known ≡ pass.known }
-        ensures call { result.call ≡ map_call_of K.word_of V.word_of request }
+        ensures call { result.call ≡ as_map_call K.word_of V.word_of request }
         ensures tries { result.tries ≡ self.now.tries }
         ensures none { (result.made ≡ 0) × (result.over ≡ false) }
         ensures left { result.left ≤ most_steps result.call result.tries (shared_nodes self.now.layout) }

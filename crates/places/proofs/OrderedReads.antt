@@ -4,9 +4,10 @@ use Rattle.std.specs.List.{filter}
 use Rattle.std.proofs.lemmas.Bool.{cases_lt}
 use Rattle.spelling.specs.declared.pair.Pair.{Pair}
 use Rattle.spelling.specs.OrderedMap.{MapCall, Successor, Range, MapReply, ManyPairs, pair_or_none, first_pair, successor, between, range, reply, get, IsRising}
-use Rattle.script.specs.declared.command.Call.{Call}
+use Rattle.script.specs.declared.call.Call.{Call}
 use Rattle.script.specs.declared.command.Command.{Command}
-use Rattle.script.specs.declared.command.Command.TheVariants.{Llx, Scx, Vlx, Set, Insert as InsertOf, Delete as DeleteOf, Get as GetOf, Successor as SuccessorOf, Range as RangeOf}
+use Rattle.script.specs.declared.command.Command.TheVariants.{Llx, Scx, Vlx, Set, Map}
+use Rattle.spelling.specs.declared.request.Request.TheVariants.{Insert as InsertOf, Delete as DeleteOf, Get as GetOf, Successor as SuccessorOf, Range as RangeOf}
 use Rattle.record.specs.declared.record.Line.{Line}
 use Rattle.record.specs.declared.record.Answer.{Answer}
 use Rattle.record.specs.declared.record.Answer.TheVariants.{Snapshot, Finalized, Fail, Done, Lost, Same, Changed, Unlinked, Value, Pair as PairOf, Pairs, Contended, Full, NoMemory}
@@ -49,37 +50,37 @@ first_taken (p ∷ ps) = refl
 
 -- the reply to an ordered read tells just its pairs
 pub reply_tells : (command : Command) (call : MapCall) (m : List Pair) → IsOrderedRead command → map_call (Some command) ≡ Some call → pairs_in (Some (reply call m)) ≡ pairs_read command m
-reply_tells (SuccessorOf k) call m ordered is =
+reply_tells (Map (SuccessorOf k)) call m ordered is =
     let same : Successor k ≡ call = cc in
     ap (λ (c : MapCall). pairs_in (Some (reply c m))) (sym same) ∙ ap (λ (o : Option Pair). pairs_in (Some (pair_or_none o))) (successor_first k m) ∙ one_pair (filter (λ (p : Pair). ltb k p.key) m)
-reply_tells (RangeOf span) call m ordered is =
-    let same : Range span.low span.high span.most ≡ call = cc in
-    ap (λ (c : MapCall). pairs_in (Some (reply c m))) (sym same) ∙ ap (take span.most) (between_all span.low span.high m)
+reply_tells (Map (RangeOf low high most)) call m ordered is =
+    let same : Range low high most ≡ call = cc in
+    ap (λ (c : MapCall). pairs_in (Some (reply c m))) (sym same) ∙ ap (take most) (between_all low high m)
 reply_tells (Llx cell) call m ordered is = absurd ordered
 reply_tells (Scx update) call m ordered is = absurd ordered
 reply_tells (Vlx cells) call m ordered is = absurd ordered
 reply_tells (Set field value) call m ordered is = absurd ordered
-reply_tells (InsertOf key value) call m ordered is = absurd ordered
-reply_tells (DeleteOf key) call m ordered is = absurd ordered
-reply_tells (GetOf key) call m ordered is = absurd ordered
+reply_tells (Map (InsertOf key value)) call m ordered is = absurd ordered
+reply_tells (Map (DeleteOf key)) call m ordered is = absurd ordered
+reply_tells (Map (GetOf key)) call m ordered is = absurd ordered
 
 -- and maps of which it tells the same pairs have the same reply
 pub same_reply : (command : Command) (call : MapCall) (m n : List Pair) → IsOrderedRead command → map_call (Some command) ≡ Some call → pairs_read command m ≡ pairs_read command n → reply call m ≡ reply call n
-same_reply (SuccessorOf k) call m n ordered is same =
+same_reply (Map (SuccessorOf k)) call m n ordered is same =
     let this : Successor k ≡ call = cc in
     let first : successor k m ≡ successor k n = successor_first k m ∙ first_taken (filter (λ (p : Pair). ltb k p.key) m) ∙ ap first_pair same ∙ sym (first_taken (filter (λ (p : Pair). ltb k p.key) n)) ∙ sym (successor_first k n) in
     subst (λ (c : MapCall). reply c m ≡ reply c n) this (ap pair_or_none first)
-same_reply (RangeOf span) call m n ordered is same =
-    let this : Range span.low span.high span.most ≡ call = cc in
-    let all : range span.low span.high span.most m ≡ range span.low span.high span.most n = ap (take span.most) (between_all span.low span.high m) ∙ same ∙ sym (ap (take span.most) (between_all span.low span.high n)) in
+same_reply (Map (RangeOf low high most)) call m n ordered is same =
+    let this : Range low high most ≡ call = cc in
+    let all : range low high most m ≡ range low high most n = ap (take most) (between_all low high m) ∙ same ∙ sym (ap (take most) (between_all low high n)) in
     subst (λ (c : MapCall). reply c m ≡ reply c n) this (ap ManyPairs all)
 same_reply (Llx cell) call m n ordered is same = absurd ordered
 same_reply (Scx update) call m n ordered is same = absurd ordered
 same_reply (Vlx cells) call m n ordered is same = absurd ordered
 same_reply (Set field value) call m n ordered is same = absurd ordered
-same_reply (InsertOf key value) call m n ordered is same = absurd ordered
-same_reply (DeleteOf key) call m n ordered is same = absurd ordered
-same_reply (GetOf key) call m n ordered is same = absurd ordered
+same_reply (Map (InsertOf key value)) call m n ordered is same = absurd ordered
+same_reply (Map (DeleteOf key)) call m n ordered is same = absurd ordered
+same_reply (Map (GetOf key)) call m n ordered is same = absurd ordered
 
 -- what is the greatest turn by the pairs is that by the reply
 pub greatest_reply : (command : Command) (call : MapCall) (told : Option MapReply) (calls : List Call) (lines : List Line) (n first last m : ℕ) → IsOrderedRead command → map_call (Some command) ≡ Some call → told ≡ Some (reply call (map_at calls lines n)) → IsGreatestTurn (λ j. pairs_read command (map_at calls lines j) ≡ pairs_in told) first last m → IsGreatestTurn (λ j. told ≡ Some (reply call (map_at calls lines j))) first last m

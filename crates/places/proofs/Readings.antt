@@ -9,8 +9,9 @@ use Rattle.spelling.specs.declared.pair.Pair.{Pair}
 use Rattle.spelling.specs.OrderedMap.{MapCall, Edit, Delete, OneValue, ManyPairs, Get, Range, get, between, reply}
 use Rattle.spelling.specs.Paths.{IsAnswerAt}
 use Rattle.record.specs.Rules.Range.{TakesNothing}
-use Rattle.script.specs.declared.command.Call.{Call}
-use Rattle.script.specs.declared.command.Command.TheVariants.{Delete as DeleteOf, Get as GetOf}
+use Rattle.script.specs.declared.call.Call.{Call}
+use Rattle.script.specs.declared.command.Command.TheVariants.{Map}
+use Rattle.spelling.specs.declared.request.Request.TheVariants.{Delete as DeleteOf, Get as GetOf}
 use Rattle.record.specs.declared.record.Line.{Line}
 use Rattle.record.specs.declared.record.Reply.{Reply}
 use Rattle.record.specs.declared.record.Answer.TheVariants.{Value}
@@ -53,25 +54,25 @@ reading_placed lay tries calls lines r call key answer says a unwon number end t
 -- A get
 
 -- a get makes no update
-get_reads : (key : ℕ) (kind : Kind) → MayMake (GetOf key) kind → is_update kind ≡ false
+get_reads : (key : ℕ) (kind : Kind) → MayMake (Map (GetOf key)) kind → is_update kind ≡ false
 get_reads key kind x = ⊎_elim (λ e. ap is_update e) (λ e. ap is_update e) x
 
 -- some turn of a get that has answered is one after which the map gives its answer
-pub get_turn : (lay : Layout) (tries : ℕ) (calls : List Call) (lines : List Line) (c key : ℕ) (answer : Option ℕ) (first : ℕ) → AreLines lay tries calls lines → AreSpelled lay calls lines → entry_owed lay lines ≡ None → next_command calls lines c ≡ Some (GetOf key) → begin lines c ≡ Some first → IsAnswerAt lay (history lay.mode lines) (start lay.mode lines c) key answer → IsAnsweredIn calls lines key answer first
-get_turn lay tries calls lines c key answer first a x owed is e at = answer_turn lay tries calls c (GetOf key) lines key answer first (get_reads key) a x owed is e at
+pub get_turn : (lay : Layout) (tries : ℕ) (calls : List Call) (lines : List Line) (c key : ℕ) (answer : Option ℕ) (first : ℕ) → AreLines lay tries calls lines → AreSpelled lay calls lines → entry_owed lay lines ≡ None → next_command calls lines c ≡ Some (Map (GetOf key)) → begin lines c ≡ Some first → IsAnswerAt lay (history lay.mode lines) (start lay.mode lines c) key answer → IsAnsweredIn calls lines key answer first
+get_turn lay tries calls lines c key answer first a x owed is e at = answer_turn lay tries calls c (Map (GetOf key)) lines key answer first (get_reads key) a x owed is e at
 
 -- so a get that stands there is a reading
-pub get_placed : (lay : Layout) (tries : ℕ) (calls : List Call) (lines : List Line) (r : Reply) (key : ℕ) (answer : Option ℕ) → AreLines lay tries calls lines → AreSpelled lay calls lines → entry_owed lay lines ≡ None → next_command calls lines r.client.0 ≡ Some (GetOf key) → won lay lines r.client.0 ≡ None → r.call ≡ answered lines r.client.0 → begin lines r.client.0 ≡ Some r.begin → r.end ≡ turns lines → r.answer ≡ Value answer → IsAnswerAt lay (history lay.mode lines) (start lay.mode lines r.client.0) key answer → IsFoundFor calls lines key answer r.begin r.end r.moment → IsReading calls lines (Get key) r
+pub get_placed : (lay : Layout) (tries : ℕ) (calls : List Call) (lines : List Line) (r : Reply) (key : ℕ) (answer : Option ℕ) → AreLines lay tries calls lines → AreSpelled lay calls lines → entry_owed lay lines ≡ None → next_command calls lines r.client.0 ≡ Some (Map (GetOf key)) → won lay lines r.client.0 ≡ None → r.call ≡ answered lines r.client.0 → begin lines r.client.0 ≡ Some r.begin → r.end ≡ turns lines → r.answer ≡ Value answer → IsAnswerAt lay (history lay.mode lines) (start lay.mode lines r.client.0) key answer → IsFoundFor calls lines key answer r.begin r.end r.moment → IsReading calls lines (Get key) r
 get_placed lay tries calls lines r key answer a x owed is unwon number e end told at found = reading_placed lay tries calls lines r (Get key) key answer (λ m. refl) a unwon number end told (get_turn lay tries calls lines r.client.0 key answer r.begin a x owed is e at) found
 
 -- A delete of a key that the map lacks
 
 -- some turn of one that has told none is one after which the map lacks the key
-pub absent_turn : (lay : Layout) (tries : ℕ) (calls : List Call) (lines : List Line) (c key : ℕ) (first : ℕ) → AreLines lay tries calls lines → AreSpelled lay calls lines → entry_owed lay lines ≡ None → next_command calls lines c ≡ Some (DeleteOf key) → begin lines c ≡ Some first → HadAtKey lay (history lay.mode lines) (start lay.mode lines c) key None → IsAnsweredIn calls lines key None first
-absent_turn lay tries calls lines c key first a x owed is e had = had_turn lay tries calls c (DeleteOf key) lines key None first a x owed is e had
+pub absent_turn : (lay : Layout) (tries : ℕ) (calls : List Call) (lines : List Line) (c key : ℕ) (first : ℕ) → AreLines lay tries calls lines → AreSpelled lay calls lines → entry_owed lay lines ≡ None → next_command calls lines c ≡ Some (Map (DeleteOf key)) → begin lines c ≡ Some first → HadAtKey lay (history lay.mode lines) (start lay.mode lines c) key None → IsAnsweredIn calls lines key None first
+absent_turn lay tries calls lines c key first a x owed is e had = had_turn lay tries calls c (Map (DeleteOf key)) lines key None first a x owed is e had
 
 -- so one that stands there is a reading too
-pub absent_placed : (lay : Layout) (tries : ℕ) (calls : List Call) (lines : List Line) (r : Reply) (key : ℕ) → AreLines lay tries calls lines → AreSpelled lay calls lines → entry_owed lay lines ≡ None → next_command calls lines r.client.0 ≡ Some (DeleteOf key) → won lay lines r.client.0 ≡ None → r.call ≡ answered lines r.client.0 → begin lines r.client.0 ≡ Some r.begin → r.end ≡ turns lines → r.answer ≡ Value None → HadAtKey lay (history lay.mode lines) (start lay.mode lines r.client.0) key None → IsFoundFor calls lines key None r.begin r.end r.moment → IsReading calls lines (Edit (Delete key)) r
+pub absent_placed : (lay : Layout) (tries : ℕ) (calls : List Call) (lines : List Line) (r : Reply) (key : ℕ) → AreLines lay tries calls lines → AreSpelled lay calls lines → entry_owed lay lines ≡ None → next_command calls lines r.client.0 ≡ Some (Map (DeleteOf key)) → won lay lines r.client.0 ≡ None → r.call ≡ answered lines r.client.0 → begin lines r.client.0 ≡ Some r.begin → r.end ≡ turns lines → r.answer ≡ Value None → HadAtKey lay (history lay.mode lines) (start lay.mode lines r.client.0) key None → IsFoundFor calls lines key None r.begin r.end r.moment → IsReading calls lines (Edit (Delete key)) r
 absent_placed lay tries calls lines r key a x owed is unwon number e end told had found = reading_placed lay tries calls lines r (Edit (Delete key)) key None (λ m. refl) a unwon number end told (absent_turn lay tries calls lines r.client.0 key r.begin a x owed is e had) found
 
 -- An ordered read

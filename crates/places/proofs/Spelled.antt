@@ -16,9 +16,10 @@ use Rattle.spelling.specs.FillOrder.{AreFilledInOrder}
 use Rattle.spelling.specs.Runs.{IsTreeRun, Makes}
 use Rattle.spelling.specs.Spelled.{Spells}
 use Rattle.spelling.proofs.Lemmas.{makes_since, opening_spells, quiet_spells, rising_levels, run_since, win_makes}
-use Rattle.script.specs.declared.command.Call.{Call}
+use Rattle.script.specs.declared.call.Call.{Call}
 use Rattle.script.specs.declared.command.Command.{Command}
-use Rattle.script.specs.declared.command.Command.TheVariants.{Llx, Scx, Vlx, Set, Insert as InsertOf, Delete as DeleteOf, Get as GetOf, Successor as SuccessorOf, Range as RangeOf}
+use Rattle.script.specs.declared.command.Command.TheVariants.{Llx, Scx, Vlx, Set, Map}
+use Rattle.spelling.specs.declared.request.Request.TheVariants.{Insert as InsertOf, Delete as DeleteOf, Get as GetOf, Successor as SuccessorOf, Range as RangeOf}
 use Rattle.record.specs.declared.record.Line.{Line}
 use Rattle.record.specs.declared.record.Line.TheVariants.{Step, Log, Reply as ReplyLine}
 use Rattle.record.specs.declared.record.Row.TheVariants.{Step as Made, Idle}
@@ -66,11 +67,11 @@ module _ (lay : Layout) (tries : ℕ) (calls : List Call) (mode : lay.mode ≡ T
       other command is none = let y = all e.client.0 _ command is in let d : None ≡ Some y.0 = sym none ∙ y.1 in cc
 
       go : (command : Command) → next_command calls lines e.client.0 ≡ Some command → IsEntryFor lay e.client.0 (history lay.mode lines) (start lay.mode lines e.client.0) (linked calls lay.mode lines e.client.0) x.entered command → Spells lay (value (row ⊳ history lay.mode lines)) (after_maybe (map_call_of calls e.client.0 e.call) ps)
-      go (InsertOf key v) is does = rw (call_is (InsertOf key v) is) (edits (Insert key v) does)
-      go (DeleteOf key) is does = rw (call_is (DeleteOf key) is) (edits (Delete key) does)
-      go (GetOf key) is does = absurd does
-      go (SuccessorOf key) is does = absurd does
-      go (RangeOf span) is does = absurd does
+      go (Map (InsertOf key v)) is does = rw (call_is (Map (InsertOf key v)) is) (edits (Insert key v) does)
+      go (Map (DeleteOf key)) is does = rw (call_is (Map (DeleteOf key)) is) (edits (Delete key) does)
+      go (Map (GetOf key)) is does = absurd does
+      go (Map (SuccessorOf key)) is does = absurd does
+      go (Map (RangeOf low high most)) is does = absurd does
       go (Llx cell) is does = absurd (other (Llx cell) is refl)
       go (Scx update) is does = absurd (other (Scx update) is refl)
       go (Vlx cells) is does = absurd (other (Vlx cells) is refl)

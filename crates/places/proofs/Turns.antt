@@ -13,7 +13,7 @@ use Rattle.spelling.specs.OrderedMap.{MapCall, MapReply, get, reply}
 use Rattle.spelling.specs.Spelled.{Spells}
 use Rattle.spelling.specs.Paths.{IsAnswerAt}
 use Rattle.spelling.proofs.Lemmas.{one_spelling}
-use Rattle.script.specs.declared.command.Call.{Call}
+use Rattle.script.specs.declared.call.Call.{Call}
 use Rattle.script.specs.declared.command.Command.{Command}
 use Rattle.record.specs.declared.record.Line.{Line}
 use Rattle.record.specs.declared.record.Line.TheVariants.{Step, Log, Reply as ReplyLine}

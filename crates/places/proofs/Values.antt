@@ -5,7 +5,7 @@ use Rattle.std.proofs.lemmas.Bool.{eqb-true, eqb-false}
 use Rattle.spelling.specs.declared.pair.Pair.{Pair}
 use Rattle.spelling.specs.OrderedMap.{MapCall, Edit, Get, Successor, Range, MapEdit, Insert, Delete, edit_key, edited, get, IsRising}
 use Rattle.spelling.proofs.Lemmas.{inserted, insert_keeps, deleted, delete_keeps, edited_rises}
-use Rattle.script.specs.declared.command.Call.{Call}
+use Rattle.script.specs.declared.call.Call.{Call}
 use Rattle.record.specs.declared.record.Entry.{Entry}
 use Rattle.record.specs.MapRecord.{map_call_of, after_maybe, entries_until, map_of}
 use Rattle.places.specs.declared.places.Change.{Change}

@@ -2,7 +2,7 @@
 -- the newest first.
 use Rattle.std.specs.Prelude.{◌≡◌, ℕ, ◌≤◌, List, [], ◌∷◌, Option, Some, None}
 use Rattle.spelling.specs.OrderedMap.{MapCall, Edit, MapEdit, Insert, Delete, edit_key, get}
-use Rattle.script.specs.declared.command.Call.{Call}
+use Rattle.script.specs.declared.call.Call.{Call}
 use Rattle.record.specs.declared.record.Line.{Line}
 use Rattle.record.specs.declared.record.Entry.{Entry}
 use Rattle.record.specs.MapRecord.{map_call_of, written_log, map_at}

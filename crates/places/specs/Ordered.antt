@@ -5,25 +5,26 @@ use Rattle.std.specs.List.{filter, list_any}
 use Rattle.spelling.specs.declared.pair.Pair.{Pair}
 use Rattle.spelling.specs.OrderedMap.{get, MapReply, OnePair, ManyPairs}
 use Rattle.script.specs.declared.command.Command.{Command}
-use Rattle.script.specs.declared.command.Command.TheVariants.{Successor, Range}
+use Rattle.script.specs.declared.command.Command.TheVariants.{Map}
+use Rattle.spelling.specs.declared.request.Request.TheVariants.{Successor, Range}
 use Rattle.places.specs.declared.places.Change.{Change}
 
 -- it is one
 abbrev pub IsOrderedRead : Command → Type 0
-IsOrderedRead (Successor key) = Unit {0}
-IsOrderedRead (Range span) = Unit {0}
+IsOrderedRead (Map (Successor key)) = Unit {0}
+IsOrderedRead (Map (Range low high most)) = Unit {0}
 IsOrderedRead _ = ⊥
 
 -- whether it looks for this key
 abbrev pub looks_for : Command → ℕ → Bool
-looks_for (Successor above) key = ltb above key
-looks_for (Range span) key = leb span.low key && leb key span.high
+looks_for (Map (Successor above)) key = ltb above key
+looks_for (Map (Range low high most)) key = leb low key && leb key high
 looks_for _ key = false
 
 -- how many pairs it tells at most
 abbrev pub most_told : Command → ℕ
-most_told (Successor above) = 1
-most_told (Range span) = span.most
+most_told (Map (Successor above)) = 1
+most_told (Map (Range low high most)) = most
 most_told _ = 0
 
 -- the pairs that it tells of the map m: the first of those that it looks for

@@ -3,14 +3,15 @@ ghost use Rattle.std.specs.Prelude.{◌≡◌};
 ghost use Rattle.places.specs.Changed.{changed_key};
 
 use script::Command;
+use spelling::Request;
 
 /// The key whose value a command may change, if it may change one.
 pub(crate) fn changed_key(command: Command) -> Option<u64>
     ensures { result ≡ changed_key command }
 {
     match command {
-        Command::Insert { key, value: _ } => Some(key),
-        Command::Delete { key } => Some(key),
+        Command::Map(Request::Insert { key, value: _ }) => Some(key),
+        Command::Map(Request::Delete { key }) => Some(key),
         _ => None,
     }
 }

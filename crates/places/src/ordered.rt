@@ -9,7 +9,7 @@ ghost use Rattle.spelling.specs.OrderedMap.{get};
 ghost use Rattle.places.specs.Ordered.{looks_for, most_told, reaches, is_unlike, IsNextBest};
 
 use script::Command;
-use spelling::Pair;
+use spelling::{Pair, Request};
 use std::ops::Bound;
 
 /// Whether a key of this value is not as these pairs tell, which the read has told.
@@ -26,8 +26,8 @@ fn looks_for(command: &Command, key: u64) -> bool
     ensures { result ≡ looks_for command.now key }
 {
     match command {
-        Command::Successor { key: above } => *above < key,
-        Command::Range(span) => span.low <= key && key <= span.high,
+        Command::Map(Request::Successor { key: above }) => *above < key,
+        Command::Map(Request::Range { low, high, most: _ }) => *low <= key && key <= *high,
         _ => false,
     }
 }
@@ -38,9 +38,9 @@ pub(crate) fn bounds(command: &Command) -> (Bound<u64>, Bound<u64>)
     ensures keys { (key : ℕ) → range_contains nat_cmp result.0 result.1 key ≡ looks_for command.now key }
 {
     match command {
-        Command::Successor { key } => (Bound::Excluded(*key), Bound::Unbounded),
-        Command::Range(span) if span.low <= span.high => {
-            (Bound::Included(span.low), Bound::Included(span.high))
+        Command::Map(Request::Successor { key }) => (Bound::Excluded(*key), Bound::Unbounded),
+        Command::Map(Request::Range { low, high, .. }) if *low <= *high => {
+            (Bound::Included(*low), Bound::Included(*high))
         }
         _ => (Bound::Included(0), Bound::Excluded(0)),
     }
@@ -51,8 +51,8 @@ pub(crate) fn most_told(command: &Command) -> usize
     ensures { result ≡ most_told command.now }
 {
     match command {
-        Command::Successor { key: _ } => 1,
-        Command::Range(span) => span.most as usize,
+        Command::Map(Request::Successor { key: _ }) => 1,
+        Command::Map(Request::Range { most, .. }) => *most as usize,
         _ => 0,
     }
 }

@@ -39,7 +39,7 @@ pub struct Places {
 
 impl Places {
     ghost use Rattle.std.specs.Prelude.{◌≡◌, ◌≢◌, ℕ, suc, ◌+◌, ◌≤◌, false, List, [], ◌∷◌, ◌++◌, Some, map, reverse, IfOk, IfSome, IfNone, IsTrue, OnOk, All};
-    ghost use Rattle.script.specs.declared.command.Call.{Call};
+    ghost use Rattle.script.specs.declared.call.Call.{Call};
     ghost use Rattle.record.specs.declared.record.Line.{Line};
     ghost use Rattle.record.specs.MapRecord.{map_at};
     ghost use Rattle.record.specs.Placed.{IsGreatestTurn};

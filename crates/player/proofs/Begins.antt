@@ -33,7 +33,8 @@ use Rattle.prims.specs.declared.llx.LlxRun.{LlxRun}
 use Rattle.prims.specs.declared.llx.LlxAt.TheVariants.{Start}
 use Rattle.prims.specs.declared.vlx.VlxRun.{VlxRun}
 use Rattle.script.specs.declared.command.Command.{Command}
-use Rattle.script.specs.declared.command.Command.TheVariants.{Llx as LlxCommand, Vlx as VlxCommand, Scx as ScxCommand, Set as SetCommand, Insert as InsertCommand, Delete as DeleteCommand, Get as GetCommand, Successor as SuccessorCommand, Range as RangeCommand}
+use Rattle.script.specs.declared.command.Command.TheVariants.{Llx as LlxCommand, Vlx as VlxCommand, Scx as ScxCommand, Set as SetCommand, Map}
+use Rattle.spelling.specs.declared.request.Request.TheVariants.{Get as GetCommand, Range as RangeCommand}
 use Rattle.player.specs.EditRuns.{EditIsReady, HasSpentOf, IsUnbegunEdit, call_of, edit_command, edit_left, edit_of, edit_steps, share_of}
 use Rattle.player.specs.declared.edit.EditRun.{EditRun}
 use Rattle.player.specs.declared.edit.EditRun.TheVariants.{Insert, Delete}
@@ -59,7 +60,7 @@ use Rattle.prims.specs.Scx.Known.{nodes_of}
 use Rattle.player.specs.ClientView.{ClientView, no_hand, held, IsSound, Rests, Refuses, Starts, IsLlxOf, IsUnbegun, command_of, machine_call, GoesOn, IsSameCall, CanPut, Puts, BeginsOrRefuses, IsNextAction}
 use Rattle.player.specs.declared.client.NextAction.{NextAction}
 use Rattle.player.specs.declared.client.NextAction.TheVariants.{Finished, Answers, Asks}
-use Rattle.script.specs.declared.command.Call.{Call}
+use Rattle.script.specs.declared.call.Call.{Call}
 use Rattle.std.proofs.lemmas.Option.{slice_get_read, slice_get_within, get_or_from_slice_get}
 use Rattle.player.proofs.Commands.{next_at}
 use Rattle.prims.specs.Laws.Idle.{quiet_at_start}
@@ -68,7 +69,6 @@ use Rattle.order.specs.declared.range.RangeRun.{RangeRun}
 use Rattle.order.specs.declared.range.RangeAt.TheVariants.{Start as RangeStart}
 use Rattle.order.specs.declared.successor.SuccessorRun.{SuccessorRun}
 use Rattle.order.specs.declared.successor.SuccessorAt.TheVariants.{Start as NextStart}
-use Rattle.script.specs.declared.command.Span.{Span}
 use Rattle.spelling.specs.declared.pair.Pair.{Pair as PairOf}
 use Rattle.std.specs.Global.{Global}
 use Rattle.record.specs.declared.record.Answer.TheVariants.{Pairs}
@@ -92,11 +92,7 @@ llx_few tries (LlxCommand cell) n (Some put) f taken = absurd f
 llx_few tries (SetCommand field value) n None f taken = absurd f
 llx_few tries (ScxCommand update) n then f taken = absurd f
 llx_few tries (VlxCommand cells) n then f taken = absurd f
-llx_few tries (InsertCommand key value) n then f taken = absurd f
-llx_few tries (DeleteCommand key) n then f taken = absurd f
-llx_few tries (GetCommand key) n then f taken = absurd f
-llx_few tries (SuccessorCommand key) n then f taken = absurd f
-llx_few tries (RangeCommand span) n then f taken = absurd f
+llx_few tries (Map request) n then f taken = absurd f
 
 -- an LLX of a cell
 pub llx_starts : (v : ClientView) (began : Option ℕ) (c : Client) (m : LlxRun) (then : Option Put) (command : Command) → IsSound v → v.layout.mode ≡ Records → Rests v c → IsUnbegun v began → m.at ≡ Start → m.node.0 ≤ 8 → command_of v c ≡ Some command → IsLlxOf command m.node.0 then → Starts v c (Llx m) then
@@ -121,9 +117,9 @@ vlx_starts v began c m cells sound mode r u start some nodes l is left = record 
 }
 
 -- a get from its start
-pub get_starts : (v : ClientView) (began : Option ℕ) (c : Client) (m : GetRun) (key : ℕ) → IsSound v → v.layout.mode ≡ Tree → (r : Rests v c) → IsUnbegun v began → m.key ≡ key → m.walk.at ≡ WalkStart → GetIsReady m (machine_call v c r.stands.is_pass v.past) v.past None → command_of v c ≡ Some (GetCommand key) → Starts v c (Get m) None
+pub get_starts : (v : ClientView) (began : Option ℕ) (c : Client) (m : GetRun) (key : ℕ) → IsSound v → v.layout.mode ≡ Tree → (r : Rests v c) → IsUnbegun v began → m.key ≡ key → m.walk.at ≡ WalkStart → GetIsReady m (machine_call v c r.stands.is_pass v.past) v.past None → command_of v c ≡ Some (Map (GetCommand key)) → Starts v c (Get m) None
 get_starts v began c m key sound mode r u at start ready is = record {
-  works = record { mode = mode; stands = r.stands; holds = r.holds; newest = tt; command = GetCommand key; is = is; run_of = at; is_pass = r.stands.is_pass; start = v.past; since = ends_self v.past; begun = sym u.start; moments = λ j p. absurd (omega arith); alone = λ j p. absurd (omega arith); room = tt; opening = held c; took = taken_none v c.pass.0 (no_hand (held c)) u.start; won = u.won; late = λ turn e. none_late v.won turn c.begin u.won e };
+  works = record { mode = mode; stands = r.stands; holds = r.holds; newest = tt; command = Map (GetCommand key); is = is; run_of = at; is_pass = r.stands.is_pass; start = v.past; since = ends_self v.past; begun = sym u.start; moments = λ j p. absurd (omega arith); alone = λ j p. absurd (omega arith); room = tt; opening = held c; took = taken_none v c.pass.0 (no_hand (held c)) u.start; won = u.won; late = λ turn e. none_late v.won turn c.begin u.won e };
   none = r.none;
   spent = tt;
   ready = ready;
@@ -159,10 +155,10 @@ read_starts v began c m command sound mode r u of ready tries left is = record {
 }
 
 -- a range that takes nothing answers so at once
-pub range_refuses : (v : ClientView) (began : Option ℕ) (c : Client) (span : Span) (found : Vec PairOf Global) → Rests v c → IsUnbegun v began → command_of v c ≡ Some (RangeCommand span) → TakesNothing span.low span.high span.most → found.items ≡ [] → Refuses v c (Pairs found)
-range_refuses v began c span found r u is nothing none = record {
+pub range_refuses : (v : ClientView) (began : Option ℕ) (c : Client) (low high most : ℕ) (found : Vec PairOf Global) → Rests v c → IsUnbegun v began → command_of v c ≡ Some (Map (RangeCommand low high most)) → TakesNothing low high most → found.items ≡ [] → Refuses v c (Pairs found)
+range_refuses v began c low high most found r u is nothing none = record {
   rests = r;
-  command = RangeCommand span;
+  command = Map (RangeCommand low high most);
   is = is;
   refusal = (nothing, none);
   right = tt;
@@ -333,8 +329,8 @@ some_call a b e = cc
 pub next_is : (v : ClientView) (c : Client) (calls : List Call) (at : ℕ) (call : Call) → Rests v c → calls ≡ v.calls → c.next ≡ Some at → slice_get calls at ≡ Some call → command_of v c ≡ Some call.command
 next_is v c calls at call r e is get =
     let x = next_at v.calls c.pass.0 c.number at (rw is at r.stands.place) in
-    let y : Some call ≡ Some (record { client = record { 0 = c.pass.0 }; command = x.0 }) = sym get ∙ ap (λ (l : List Call). slice_get l at) e ∙ x.1 in
-    rw (sym r.stands.number) (x.2 ∙ ap (λ (k : Command). Some k) (sym (ap (λ (k : Call). k.command) (some_call call _ y))))
+    let y : Some call ≡ Some x.0 = sym get ∙ ap (λ (l : List Call). slice_get l at) e ∙ x.1 in
+    rw (sym r.stands.number) (x.3 ∙ ap (λ (k : Command). Some k) (sym (ap (λ (k : Call). k.command) (some_call call _ y))))
 
 -- a call of a script whose calls are of its mode
 pub mode_there : (mode : Mode) (calls : List Call) (at : ℕ) (call : Call) → All (λ (k : Call). mode_of k.command ≡ mode) calls → slice_get calls at ≡ Some call → mode ≡ mode_of call.command

@@ -7,7 +7,7 @@ use Rattle.arena.specs.declared.step.Step.{Step}
 use Rattle.arena.specs.Share.{Remaining}
 use Rattle.arena.specs.History.{History}
 use Rattle.script.specs.declared.command.Command.{Command}
-use Rattle.script.specs.declared.command.Command.TheVariants.{Llx as LlxOf, Scx as ScxOf, Vlx as VlxOf, Set as SetOf, Insert as InsertOf, Delete as DeleteOf, Get as GetOf, Successor as SuccessorOf, Range as RangeOf}
+use Rattle.script.specs.declared.command.Command.TheVariants.{Llx as LlxOf, Scx as ScxOf, Vlx as VlxOf, Set as SetOf, Map}
 use Rattle.prims.specs.declared.put.PutRun.{PutRun}
 use Rattle.prims.specs.declared.llx.LlxRun.{LlxRun}
 use Rattle.prims.specs.declared.llx.Llx.{Llx as LlxAnswer}
@@ -49,11 +49,7 @@ scx_same (ScxOf update) number a b (Some put) x y = absurd y
 scx_same (SetOf field value) number a b (Some put) x y = absurd y
 scx_same (LlxOf cell) number a b then x y = absurd y
 scx_same (VlxOf cells) number a b then x y = absurd y
-scx_same (InsertOf key value) number a b then x y = absurd y
-scx_same (DeleteOf key) number a b then x y = absurd y
-scx_same (GetOf key) number a b then x y = absurd y
-scx_same (SuccessorOf key) number a b then x y = absurd y
-scx_same (RangeOf span) number a b then x y = absurd y
+scx_same (Map request) number a b then x y = absurd y
 
 is_kept : (left : Remaining) (old now : Run) → IsSameMachine old now → IsKept left old now
 is_kept left (Llx a) (Llx b) x = record { hand = refl; newest = λ p. p; run_of = λ command number then p. rw x p; begun = λ start begin p. p; snaps = refl; won = λ v c p. p; room = λ v c p. p; mode = λ lay e. e; holds = λ v c p. p; took = λ v c share p. p }

@@ -12,9 +12,10 @@ use Rattle.histories.proofs.Lemmas.{UpdateWins, lawful_row, one_scx_owner}
 use Rattle.spelling.specs.OrderedMap.{MapEdit, MapReply, OneValue, Edit, Insert, Delete, edit_key}
 use Rattle.spelling.specs.Spelled.{Spells}
 use Rattle.updates.specs.Laws.Entered.{none_yet}
-use Rattle.script.specs.declared.command.Call.{Call}
+use Rattle.script.specs.declared.call.Call.{Call}
 use Rattle.script.specs.declared.command.Command.{Command}
-use Rattle.script.specs.declared.command.Command.TheVariants.{Insert as InsertOf, Delete as DeleteOf}
+use Rattle.script.specs.declared.command.Command.TheVariants.{Map}
+use Rattle.spelling.specs.declared.request.Request.TheVariants.{Insert as InsertOf, Delete as DeleteOf}
 use Rattle.record.specs.declared.record.Line.{Line}
 use Rattle.record.specs.declared.record.Line.TheVariants.{Step, Log, Reply as ReplyLine}
 use Rattle.record.specs.declared.record.Row.{Row as Turn}
@@ -219,24 +220,24 @@ module _ (lay : Layout) (tries : ℕ) (calls : List Call) (lines : List Line) (c
       }
 
   -- one that finds nothing at the key reads
-  absent : (key : ℕ) → IsEditReply lay tries calls lines changes r c (DeleteOf key) → r.answer ≡ Value None → IsReading calls lines (Edit (Delete key)) r
+  absent : (key : ℕ) → IsEditReply lay tries calls lines changes r c (Map (DeleteOf key)) → r.answer ≡ Value None → IsReading calls lines (Edit (Delete key)) r
   absent key x is =
       let found = (rw is at x.moment) x.entries in
       let had : HadAtKey lay (history lay.mode lines) (start lay.mode lines c) key None = rw is at x.right in
       let none = unwon_none (won lay lines c) (rw is at x.entry) in
       absent_placed lay tries calls lines r key x.lines_are x.spells x.owed (rw x.client x.next) (rw x.client none) (rw x.client x.number) (rw x.client x.began) x.ended is (rw x.client had) record { found = found.0; none = found.1 }
 
-  insert_placed : (key put : ℕ) (answer : Answer) → IsEditReply lay tries calls lines changes r c (InsertOf key put) → r.answer ≡ answer → IsPlacedOnMap (reply_told answer) calls lines (Edit (Insert key put)) r
+  insert_placed : (key put : ℕ) (answer : Answer) → IsEditReply lay tries calls lines changes r c (Map (InsertOf key put)) → r.answer ≡ answer → IsPlacedOnMap (reply_told answer) calls lines (Edit (Insert key put)) r
   insert_placed key put (Value old) x is = told (Insert key put) old x is (rw is at x.tells) (rw is at x.moment)
-  insert_placed key put (Full what left) x is = refused (InsertOf key put) x (rw is at x.entry) (rw is at x.moment)
-  insert_placed key put (Contended node scx) x is = refused (InsertOf key put) x (rw is at x.entry) (rw is at x.moment)
+  insert_placed key put (Full what left) x is = refused (Map (InsertOf key put)) x (rw is at x.entry) (rw is at x.moment)
+  insert_placed key put (Contended node scx) x is = refused (Map (InsertOf key put)) x (rw is at x.entry) (rw is at x.moment)
   insert_placed key put answer x is = absurd (rw is at x.right)
 
-  delete_placed : (key : ℕ) (answer : Answer) → IsEditReply lay tries calls lines changes r c (DeleteOf key) → r.answer ≡ answer → IsPlacedOnMap (reply_told answer) calls lines (Edit (Delete key)) r
+  delete_placed : (key : ℕ) (answer : Answer) → IsEditReply lay tries calls lines changes r c (Map (DeleteOf key)) → r.answer ≡ answer → IsPlacedOnMap (reply_told answer) calls lines (Edit (Delete key)) r
   delete_placed key (Value (Some old)) x is = told (Delete key) (Some old) x is (rw is at x.tells) (rw is at x.moment)
   delete_placed key (Value None) x is = absent key x is
-  delete_placed key (Full what left) x is = refused (DeleteOf key) x (rw is at x.entry) (rw is at x.moment)
-  delete_placed key (Contended node scx) x is = refused (DeleteOf key) x (rw is at x.entry) (rw is at x.moment)
+  delete_placed key (Full what left) x is = refused (Map (DeleteOf key)) x (rw is at x.entry) (rw is at x.moment)
+  delete_placed key (Contended node scx) x is = refused (Map (DeleteOf key)) x (rw is at x.entry) (rw is at x.moment)
   delete_placed key answer x is = absurd (rw is at x.right)
 
   pub edit_placed : (e : MapEdit) → IsEditReply lay tries calls lines changes r c (edit_command e) → IsPlacedOnMap (reply_told r.answer) calls lines (Edit e) r

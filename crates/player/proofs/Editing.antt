@@ -41,7 +41,7 @@ use Rattle.updates.specs.declared.update.UpdateAt.{UpdateAt}
 use Rattle.updates.specs.declared.update.UpdateAt.TheVariants.{Start, Walk, Look, Load, Fill, Scx}
 use Rattle.updates.specs.declared.update.UpdateRun.{UpdateRun}
 use Rattle.script.specs.declared.command.Command.{Command}
-use Rattle.script.specs.declared.command.Command.TheVariants.{Llx as LlxOf, Scx as ScxOf, Vlx as VlxOf, Set as SetOf, Insert as InsertOf, Delete as DeleteOf, Get as GetOf, Successor as SuccessorOf, Range as RangeOf}
+use Rattle.script.specs.declared.command.Command.TheVariants.{Llx as LlxOf, Scx as ScxOf, Vlx as VlxOf, Set as SetOf, Map}
 use Rattle.player.specs.declared.client.Put.{Put}
 use Rattle.player.specs.EditRuns.{EditWaits, edit_of, call_of}
 use Rattle.player.specs.declared.edit.EditRun.{EditRun}
@@ -145,11 +145,7 @@ put_called (ScxOf update) number m (Some put) x = absurd x
 put_called (SetOf field y) number m (Some put) x = absurd x
 put_called (LlxOf cell) number m then x = absurd x
 put_called (VlxOf cells) number m then x = absurd x
-put_called (InsertOf key value) number m then x = absurd x
-put_called (DeleteOf key) number m then x = absurd x
-put_called (GetOf key) number m then x = absurd x
-put_called (SuccessorOf key) number m then x = absurd x
-put_called (RangeOf span) number m then x = absurd x
+put_called (Map request) number m then x = absurd x
 
 -- a machine that fills the word `call` stores there the number of the client's call
 pub run_says : (command : Command) (number : ℕ) (run : Run) (then : Option Put) (call : MachineCall) (h : History) (s : Step) (t v : ℕ) → IsMachineOf command number run then → RunWaits run call h s → s.kind ≡ FillKind → s.word ≡ scx_word t CallWord → word_after s.access v ≡ number

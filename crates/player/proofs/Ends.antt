@@ -32,7 +32,8 @@ use Rattle.prims.specs.declared.llx.Llx.TheVariants.{Snapshot as LlxSnapshot, Fi
 use Rattle.prims.specs.declared.scx.Scx.TheVariants.{Done as ScxDone, Lost as ScxLost}
 use Rattle.prims.specs.declared.vlx.Vlx.TheVariants.{Same as VlxSame, Changed as VlxChanged}
 use Rattle.script.specs.declared.command.Command.{Command}
-use Rattle.script.specs.declared.command.Command.TheVariants.{Llx as LlxOf, Scx as ScxOf, Vlx as VlxOf, Set as SetOf, Insert as InsertOf, Delete as DeleteOf, Get as GetOf, Successor as SuccessorOf, Range as RangeOf}
+use Rattle.script.specs.declared.command.Command.TheVariants.{Llx as LlxOf, Scx as ScxOf, Vlx as VlxOf, Set as SetOf, Map}
+use Rattle.spelling.specs.declared.request.Request.TheVariants.{Insert as InsertOf, Delete as DeleteOf, Get as GetOf, Successor as SuccessorOf, Range as RangeOf}
 use Rattle.script.specs.Cells.{cells_of}
 use Rattle.script.specs.Update.{update_cells}
 use Rattle.player.specs.declared.run.Run.{Run}
@@ -205,11 +206,7 @@ scx_outcome v c (ScxOf update) m (Some put) a start since is_pass x moments alon
 scx_outcome v c (SetOf field value) m (Some put) a start since is_pass x moments alone room done lost took y = absurd x
 scx_outcome v c (LlxOf cell) m then a start since is_pass x moments alone room done lost took y = absurd x
 scx_outcome v c (VlxOf cells) m then a start since is_pass x moments alone room done lost took y = absurd x
-scx_outcome v c (InsertOf key value) m then a start since is_pass x moments alone room done lost took y = absurd x
-scx_outcome v c (DeleteOf key) m then a start since is_pass x moments alone room done lost took y = absurd x
-scx_outcome v c (GetOf key) m then a start since is_pass x moments alone room done lost took y = absurd x
-scx_outcome v c (SuccessorOf key) m then a start since is_pass x moments alone room done lost took y = absurd x
-scx_outcome v c (RangeOf span) m then a start since is_pass x moments alone room done lost took y = absurd x
+scx_outcome v c (Map request) m then a start since is_pass x moments alone room done lost took y = absurd x
 
 -- a client whose SCX has ended drops its snapshots
 stands_scx : (v : ClientView) (c : Client) (m : PutRun) (linked : ℕ → Option History) → IsDropped m.scx.update.snaps v.linked linked → IsClientState v c (in_hand (held c) (Scx m)) → IsClientState (record v { linked = linked }) c (no_hand (held c))
@@ -342,11 +339,7 @@ vlx_outcome v c (VlxOf cells) m (Some put) a x moments alone won took is_pass y 
 vlx_outcome v c (LlxOf cell) m then a x moments alone won took is_pass y = absurd x
 vlx_outcome v c (ScxOf update) m then a x moments alone won took is_pass y = absurd x
 vlx_outcome v c (SetOf field value) m then a x moments alone won took is_pass y = absurd x
-vlx_outcome v c (InsertOf key value) m then a x moments alone won took is_pass y = absurd x
-vlx_outcome v c (DeleteOf key) m then a x moments alone won took is_pass y = absurd x
-vlx_outcome v c (GetOf key) m then a x moments alone won took is_pass y = absurd x
-vlx_outcome v c (SuccessorOf key) m then a x moments alone won took is_pass y = absurd x
-vlx_outcome v c (RangeOf span) m then a x moments alone won took is_pass y = absurd x
+vlx_outcome v c (Map request) m then a x moments alone won took is_pass y = absurd x
 
 -- what is said of the snapshots as before leaves a client at rest
 rests_as : (v : ClientView) (c : Client) (linked : ℕ → Option History) → IsDropped [] v.linked linked → IsClientState v c (no_hand (held c)) → IsClientState (record v { linked = linked }) c (no_hand (held c))
@@ -409,16 +402,16 @@ ends_as v c command answer is stands holds none o late = record {
 
 -- its answer stood at a moment of the call, and it leaves the snapshots
 get_outcome : (v : ClientView) (c : Client) (m : GetRun) (command : Command) (then : Option Put) (a : Option ℕ) → IsGetOf command m.key then → IsAnswerAt v.layout v.past v.start m.key a → v.won ≡ None → HasTakenAtMost v.layout c.pass.0 v.past v.start 0 0 → IsOutcome v c.pass.0 [] command (Value a)
-get_outcome v c m (GetOf key) None a of x won took = record { answers = tt; right = rw (sym of) x; entry = entered_none v.won won; tells = tt; took = took; drops = record { gone = λ n z. absurd (among_none n z); others = λ n z. refl } }
-get_outcome v c m (GetOf key) (Some put) a of x won took = absurd of
-get_outcome v c m (SuccessorOf key) then a of x won took = absurd of
-get_outcome v c m (RangeOf span) then a of x won took = absurd of
+get_outcome v c m (Map (GetOf key)) None a of x won took = record { answers = tt; right = rw (sym of) x; entry = entered_none v.won won; tells = tt; took = took; drops = record { gone = λ n z. absurd (among_none n z); others = λ n z. refl } }
+get_outcome v c m (Map (GetOf key)) (Some put) a of x won took = absurd of
+get_outcome v c m (Map (SuccessorOf key)) then a of x won took = absurd of
+get_outcome v c m (Map (RangeOf low high most)) then a of x won took = absurd of
 get_outcome v c m (LlxOf cell) then a of x won took = absurd of
 get_outcome v c m (ScxOf update) then a of x won took = absurd of
 get_outcome v c m (VlxOf cells) then a of x won took = absurd of
 get_outcome v c m (SetOf field value) then a of x won took = absurd of
-get_outcome v c m (InsertOf key value) then a of x won took = absurd of
-get_outcome v c m (DeleteOf key) then a of x won took = absurd of
+get_outcome v c m (Map (InsertOf key value)) then a of x won took = absurd of
+get_outcome v c m (Map (DeleteOf key)) then a of x won took = absurd of
 
 ends_get : (v : ClientView) (c : Client) (run : Run) (then : Option Put) (a : Option ℕ) → IsSound v → Answered v c run then (ended.Get a) → Ends v c c (answer_of (ended.Get a))
 ends_get v c (Get m) then a sound x =
@@ -436,15 +429,15 @@ ends_get v c (Read m) then a sound x = absurd x.answers
 
 -- what it tells the map has replied, and it leaves the snapshots
 read_outcome : (v : ClientView) (c : Client) (command : Command) (a : Answer) → IsReadEnd v c.pass.0 command a → IsOrderedRead command → v.won ≡ None → HasTakenAtMost v.layout c.pass.0 v.past v.start 0 0 → IsOutcome v c.pass.0 [] command a
-read_outcome v c (SuccessorOf key) a x is won took = record { answers = x.answers; right = x.right; entry = entered_none v.won won; tells = x.tells; took = took; drops = record { gone = λ n z. absurd (among_none n z); others = λ n z. refl } }
-read_outcome v c (RangeOf span) a x is won took = record { answers = x.answers; right = x.right; entry = entered_none v.won won; tells = x.tells; took = took; drops = record { gone = λ n z. absurd (among_none n z); others = λ n z. refl } }
+read_outcome v c (Map (SuccessorOf key)) a x is won took = record { answers = x.answers; right = x.right; entry = entered_none v.won won; tells = x.tells; took = took; drops = record { gone = λ n z. absurd (among_none n z); others = λ n z. refl } }
+read_outcome v c (Map (RangeOf low high most)) a x is won took = record { answers = x.answers; right = x.right; entry = entered_none v.won won; tells = x.tells; took = took; drops = record { gone = λ n z. absurd (among_none n z); others = λ n z. refl } }
 read_outcome v c (LlxOf cell) a x is won took = absurd is
 read_outcome v c (ScxOf update) a x is won took = absurd is
 read_outcome v c (VlxOf cells) a x is won took = absurd is
 read_outcome v c (SetOf field value) a x is won took = absurd is
-read_outcome v c (InsertOf key value) a x is won took = absurd is
-read_outcome v c (DeleteOf key) a x is won took = absurd is
-read_outcome v c (GetOf key) a x is won took = absurd is
+read_outcome v c (Map (InsertOf key value)) a x is won took = absurd is
+read_outcome v c (Map (DeleteOf key)) a x is won took = absurd is
+read_outcome v c (Map (GetOf key)) a x is won took = absurd is
 
 ends_read : (v : ClientView) (c : Client) (run : Run) (then : Option Put) (a : Answer) → IsSound v → Answered v c run then (ended.Read a) → Ends v c c (answer_of (ended.Read a))
 ends_read v c (Read m) then a sound x =
@@ -585,11 +578,7 @@ llx_outcome v c (LlxOf cell) m (Some put) a d x took y = absurd x
 llx_outcome v c (SetOf field value) m None a d x took y = absurd x
 llx_outcome v c (ScxOf update) m then a d x took y = absurd x
 llx_outcome v c (VlxOf cells) m then a d x took y = absurd x
-llx_outcome v c (InsertOf key value) m then a d x took y = absurd x
-llx_outcome v c (DeleteOf key) m then a d x took y = absurd x
-llx_outcome v c (GetOf key) m then a d x took y = absurd x
-llx_outcome v c (SuccessorOf key) m then a d x took y = absurd x
-llx_outcome v c (RangeOf span) m then a d x took y = absurd x
+llx_outcome v c (Map request) m then a d x took y = absurd x
 
 -- its call ends, where no SCX follows
 pub ends_llx : (v : ClientView) (old : Client) (kept : Kept) (m : LlxRun) (then : Option Put) (a : LlxAnswer) → IsSound v → Answered v old (Llx m) then (ended.Llx a) → kept.found ≡ set old.kept.found (node_of a) (found_of a) → ((then ≡ None) ⊎ ((snap : Snap) → a ≢ LlxSnapshot snap)) → Ends v old (record old { kept = kept }) (answer_of (ended.Llx a))

@@ -27,7 +27,7 @@ use Rattle.prims.proofs.Lemmas.{moment_more, put_full, put_entry, put_entry_then
 use Rattle.script.specs.Part.{is_subsequence}
 use Rattle.script.specs.Update.{update_cells, update_finalize, update_field, update_value}
 use Rattle.script.specs.declared.command.Command.{Command}
-use Rattle.script.specs.declared.command.Command.TheVariants.{Llx as LlxOf, Scx as ScxOf, Vlx as VlxOf, Set as SetOf, Insert as InsertOf, Delete as DeleteOf, Get as GetOf, Successor as SuccessorOf, Range as RangeOf}
+use Rattle.script.specs.declared.command.Command.TheVariants.{Llx as LlxOf, Scx as ScxOf, Vlx as VlxOf, Set as SetOf, Map}
 use Rattle.player.specs.declared.run.Run.{Run}
 use Rattle.player.specs.declared.run.Run.TheVariants.{Llx, Scx, Vlx, Edit, Get, Read}
 use Rattle.player.specs.declared.client.Client.{Client}
@@ -154,11 +154,7 @@ module _ (v : ClientView) (c : Client) (row : Row) (m : PutRun) (start : History
       )
   does (LlxOf cell) p z = absurd p
   does (VlxOf cells) p z = absurd p
-  does (InsertOf key value) p z = absurd p
-  does (DeleteOf key) p z = absurd p
-  does (GetOf key) p z = absurd p
-  does (SuccessorOf key) p z = absurd p
-  does (RangeOf span) p z = absurd p
+  does (Map request) p z = absurd p
 
 -- an update that a row makes win has won behind it
 has_won : (row : Row) (before : History) (t : ℕ) → IsWin before row t → HasWon (row ⊳ before) t
@@ -236,11 +232,7 @@ module _ (v : ClientView) (c : Client) (sound : IsSound v) (row : Row) (s : ℕ)
       called (SetOf field y) (Some put) p = absurd p
       called (LlxOf cell) then p = absurd p
       called (VlxOf cells) then p = absurd p
-      called (InsertOf key value) then p = absurd p
-      called (DeleteOf key) then p = absurd p
-      called (GetOf key) then p = absurd p
-      called (SuccessorOf key) then p = absurd p
-      called (RangeOf span) then p = absurd p
+      called (Map request) then p = absurd p
 
       by_then : (then : Option Put) → IsScxOf x.command c.number m then → HaveMoments v c.pass.0 x.command m.scx.update.snaps → IsOfPut v c row m x.start x.is_pass → IsEntryFor v.layout c.pass.0 v.past v.start v.linked (update_entry c.pass.0 m.scx) x.command
       by_then None p z y = does v c row m x.start x.is_pass y x.command p z
@@ -251,11 +243,7 @@ module _ (v : ClientView) (c : Client) (sound : IsSound v) (row : Row) (s : ℕ)
           none_then (SetOf field y) put p = p
           none_then (LlxOf cell) put p = p
           none_then (VlxOf cells) put p = p
-          none_then (InsertOf key value) put p = p
-          none_then (DeleteOf key) put p = p
-          none_then (GetOf key) put p = p
-          none_then (SuccessorOf key) put p = p
-          none_then (RangeOf span) put p = p
+          none_then (Map request) put p = p
   from_run (Llx m) then x f g = absurd (no_hand_wins x.holds)
   from_run (Vlx m) then x f g = absurd (no_hand_wins x.holds)
   from_run (Edit m) then x f g = from_edit m then x (g m refl)

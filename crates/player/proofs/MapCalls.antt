@@ -8,12 +8,13 @@ use Rattle.arena.specs.declared.step.Row.{Row}
 use Rattle.arena.specs.History.{History, ◌⊳◌}
 use Rattle.arena.specs.Machines.{IsRun}
 use Rattle.histories.proofs.Lemmas.{lawful_tail, shaped_tail}
-use Rattle.spelling.specs.OrderedMap.{MapCall, Edit, Get, Successor, Range, Insert, Delete}
+use Rattle.spelling.specs.OrderedMap.{MapCall}
+use Rattle.spelling.specs.Requests.{map_request}
 use Rattle.spelling.specs.Runs.{IsTreeRun}
-use Rattle.script.specs.declared.command.Call.{Call}
+use Rattle.script.specs.declared.call.Call.{Call}
 use Rattle.script.specs.declared.command.Command.{Command}
-use Rattle.script.specs.declared.command.Command.TheVariants.{Llx as LlxOf, Scx as ScxOf, Vlx as VlxOf, Set as SetOf, Insert as InsertOf, Delete as DeleteOf, Get as GetOf, Successor as SuccessorOf, Range as RangeOf}
-use Rattle.script.specs.Commands.{mode_of}
+use Rattle.script.specs.declared.command.Command.TheVariants.{Llx as LlxOf, Scx as ScxOf, Vlx as VlxOf, Set as SetOf, Map}
+use Rattle.script.specs.Commands.{AsksForFewPairs, mode_of}
 use Rattle.record.specs.Commands.{commands}
 use Rattle.record.specs.MapRecord.{map_call}
 use Rattle.record.proofs.Lemmas.{AreMapCalls}
@@ -40,6 +41,16 @@ command_mode mode (call ∷ calls) c n command all e = go (λ i d. command_mode 
     go more true zero d = let same : call.command ≡ command = cc in rw (sym same) first
     go more true (suc n) d = more n d
 
+-- each command of a client asks for few pairs, as its call does
+pub command_few : (calls : List Call) (c n : ℕ) (command : Command) → slice_get (commands calls c) n ≡ Some command → AsksForFewPairs command
+command_few [] c n command e = cc
+command_few (call ∷ calls) c n command e = go (λ i d. command_few calls c i command d) (eqb call.client.0 c) n e
+  where
+    go : ((i : ℕ) → slice_get (commands calls c) i ≡ Some command → AsksForFewPairs command) → (b : Bool) (n : ℕ) → slice_get (cond b (call.command ∷ commands calls c) (commands calls c)) n ≡ Some command → AsksForFewPairs command
+    go more false n d = more n d
+    go more true zero d = let same : call.command ≡ command = cc in rw (sym same) call.few
+    go more true (suc n) d = more n d
+
 -- a run without its newest row
 pub run_before : (allows : Layout → History → ℕ → Type 0) (lay : Layout) (h : History) (r : Row) → IsRun allows lay (r ⊳ h) → IsRun allows lay h
 run_before allows lay h r run = record { lawful = lawful_tail lay h r run.lawful; shaped = shaped_tail allows lay h r run.shaped }
@@ -53,11 +64,7 @@ pub map_calls : (mode : Mode) (calls : List Call) → mode ≡ Tree → AreOf mo
 map_calls mode calls e all c j command is = go command (command_mode mode calls c j command all is ∙ e)
   where
     go : (command : Command) → mode_of command ≡ Tree → (call : MapCall) × (map_call (Some command) ≡ Some call)
-    go (GetOf key) e = (Get key, refl)
-    go (SuccessorOf key) e = (Successor key, refl)
-    go (RangeOf span) e = (Range span.low span.high span.most, refl)
-    go (InsertOf key value) e = (Edit (Insert key value), refl)
-    go (DeleteOf key) e = (Edit (Delete key), refl)
+    go (Map request) e = (map_request request, refl)
     go (LlxOf cell) e = cc
     go (ScxOf update) e = cc
     go (VlxOf cells) e = cc

@@ -31,7 +31,7 @@ use Rattle.player.proofs.Commands.{none_left, next_at, place_more, number_small}
 use Rattle.arena.specs.declared.limits.Mode.TheVariants.{Tree}
 use Rattle.player.specs.Allowed.{PlayedAllows}
 use Rattle.spelling.specs.FillOrder.{AreFilledInOrder, IsFillInOrder}
-use Rattle.script.specs.declared.command.Call.{Call}
+use Rattle.script.specs.declared.call.Call.{Call}
 use Rattle.record.specs.declared.record.Line.{Line}
 use Rattle.record.specs.declared.record.Line.TheVariants.{Step, Log, Reply as ReplyLine}
 use Rattle.record.specs.declared.record.Row.TheVariants.{Step as Made, Idle}
@@ -39,7 +39,8 @@ use Rattle.record.specs.declared.record.Reply.{Reply}
 use Rattle.record.specs.declared.record.Entry.{Entry}
 use Rattle.record.specs.declared.record.Answer.{Answer}
 use Rattle.record.specs.declared.record.Answer.TheVariants.{Snapshot, Finalized, Fail, Done, Lost, Same, Changed, Unlinked, Full, Value, Pair, Pairs, Contended, NoMemory}
-use Rattle.script.specs.declared.command.Command.TheVariants.{Llx as LlxOf, Scx as ScxOf, Vlx as VlxOf, Set as SetOf, Insert as InsertOf, Delete as DeleteOf, Get as GetOf, Successor as SuccessorOf, Range as RangeOf}
+use Rattle.script.specs.declared.command.Command.TheVariants.{Llx as LlxOf, Scx as ScxOf, Vlx as VlxOf, Set as SetOf, Map}
+use Rattle.spelling.specs.declared.request.Request.TheVariants.{Insert as InsertOf, Delete as DeleteOf, Get as GetOf, Successor as SuccessorOf, Range as RangeOf}
 use Rattle.player.specs.declared.client.Client.{Client}
 use Rattle.player.specs.Lines.{newest}
 use Rattle.record.specs.Turns.{history, turns, entries, answered, begin, start, steps, won, last_client, entry_of, entry_owed, entry_at}
@@ -301,9 +302,9 @@ replied lay tries calls words clients lines changes old new answer said reply co
         go (Some at) q =
             let place = rw q at o.rests.stands.place in
             let there = next_at calls old.pass.0 old.number at place in
-            let same : there.0 ≡ command = some_command there.0 command (sym there.2 ∙ ap (λ (k : ℕ). slice_get (commands calls old.pass.0) k) o.rests.stands.number ∙ o.is) in
+            let same : there.0.command ≡ command = some_command there.0.command command (sym there.3 ∙ ap (λ (k : ℕ). slice_get (commands calls old.pass.0) k) o.rests.stands.number ∙ o.is) in
             moment_same calls lines changes command answer old.begin number said (won lay lines old.pass.0) reply.moment o.done o.entry wins
-            (subst (λ (k : Command). IsMomentBy calls lines changes k answer old.begin number said reply.moment) same (e.moment (record { client = record { 0 = old.pass.0 }; command = there.0 }) at q there.1))
+            (subst (λ (k : Command). IsMomentBy calls lines changes k answer old.begin number said reply.moment) same (e.moment there.0 at q there.1))
 
     of_tree : mode_of command ≡ Tree → lay.mode ≡ Tree
     of_tree tree = sym (command_mode lay.mode calls old.pass.0 _ command x.so_far.of_mode o.is) ∙ tree
@@ -356,37 +357,37 @@ is_refusal v (VlxOf cells) (Changed node scx) x = absurd x
 is_refusal v (VlxOf cells) (Full what left) x = absurd x
 is_refusal v (LlxOf cell) answer x = absurd x
 is_refusal v (SetOf field value) answer x = absurd x
-is_refusal v (InsertOf key value) answer x = absurd x
-is_refusal v (DeleteOf key) answer x = absurd x
-is_refusal v (GetOf key) answer x = absurd x
-is_refusal v (SuccessorOf key) (Value value) x = absurd x
-is_refusal v (SuccessorOf key) (Pair found) x = absurd x
-is_refusal v (SuccessorOf key) (Pairs found) x = absurd x
-is_refusal v (SuccessorOf key) (Snapshot left right) x = absurd x
-is_refusal v (SuccessorOf key) Finalized x = absurd x
-is_refusal v (SuccessorOf key) (Fail node scx) x = absurd x
-is_refusal v (SuccessorOf key) Done x = absurd x
-is_refusal v (SuccessorOf key) (Lost node scx) x = absurd x
-is_refusal v (SuccessorOf key) Same x = absurd x
-is_refusal v (SuccessorOf key) (Changed node scx) x = absurd x
-is_refusal v (SuccessorOf key) (Unlinked node) x = absurd x
-is_refusal v (SuccessorOf key) (Full what left) x = absurd x
-is_refusal v (SuccessorOf key) (Contended node scx) x = absurd x
-is_refusal v (SuccessorOf key) NoMemory x = record { leaves = λ n. refl; not_done = λ e. cc; none = refl }
-is_refusal v (RangeOf span) (Value value) x = absurd x
-is_refusal v (RangeOf span) (Pair found) x = absurd x
-is_refusal v (RangeOf span) (Pairs found) x = record { leaves = λ n. refl; not_done = λ e. cc; none = refl }
-is_refusal v (RangeOf span) (Snapshot left right) x = absurd x
-is_refusal v (RangeOf span) Finalized x = absurd x
-is_refusal v (RangeOf span) (Fail node scx) x = absurd x
-is_refusal v (RangeOf span) Done x = absurd x
-is_refusal v (RangeOf span) (Lost node scx) x = absurd x
-is_refusal v (RangeOf span) Same x = absurd x
-is_refusal v (RangeOf span) (Changed node scx) x = absurd x
-is_refusal v (RangeOf span) (Unlinked node) x = absurd x
-is_refusal v (RangeOf span) (Full what left) x = absurd x
-is_refusal v (RangeOf span) (Contended node scx) x = absurd x
-is_refusal v (RangeOf span) NoMemory x = record { leaves = λ n. refl; not_done = λ e. cc; none = refl }
+is_refusal v (Map (InsertOf key value)) answer x = absurd x
+is_refusal v (Map (DeleteOf key)) answer x = absurd x
+is_refusal v (Map (GetOf key)) answer x = absurd x
+is_refusal v (Map (SuccessorOf key)) (Value value) x = absurd x
+is_refusal v (Map (SuccessorOf key)) (Pair found) x = absurd x
+is_refusal v (Map (SuccessorOf key)) (Pairs found) x = absurd x
+is_refusal v (Map (SuccessorOf key)) (Snapshot left right) x = absurd x
+is_refusal v (Map (SuccessorOf key)) Finalized x = absurd x
+is_refusal v (Map (SuccessorOf key)) (Fail node scx) x = absurd x
+is_refusal v (Map (SuccessorOf key)) Done x = absurd x
+is_refusal v (Map (SuccessorOf key)) (Lost node scx) x = absurd x
+is_refusal v (Map (SuccessorOf key)) Same x = absurd x
+is_refusal v (Map (SuccessorOf key)) (Changed node scx) x = absurd x
+is_refusal v (Map (SuccessorOf key)) (Unlinked node) x = absurd x
+is_refusal v (Map (SuccessorOf key)) (Full what left) x = absurd x
+is_refusal v (Map (SuccessorOf key)) (Contended node scx) x = absurd x
+is_refusal v (Map (SuccessorOf key)) NoMemory x = record { leaves = λ n. refl; not_done = λ e. cc; none = refl }
+is_refusal v (Map (RangeOf low high most)) (Value value) x = absurd x
+is_refusal v (Map (RangeOf low high most)) (Pair found) x = absurd x
+is_refusal v (Map (RangeOf low high most)) (Pairs found) x = record { leaves = λ n. refl; not_done = λ e. cc; none = refl }
+is_refusal v (Map (RangeOf low high most)) (Snapshot left right) x = absurd x
+is_refusal v (Map (RangeOf low high most)) Finalized x = absurd x
+is_refusal v (Map (RangeOf low high most)) (Fail node scx) x = absurd x
+is_refusal v (Map (RangeOf low high most)) Done x = absurd x
+is_refusal v (Map (RangeOf low high most)) (Lost node scx) x = absurd x
+is_refusal v (Map (RangeOf low high most)) Same x = absurd x
+is_refusal v (Map (RangeOf low high most)) (Changed node scx) x = absurd x
+is_refusal v (Map (RangeOf low high most)) (Unlinked node) x = absurd x
+is_refusal v (Map (RangeOf low high most)) (Full what left) x = absurd x
+is_refusal v (Map (RangeOf low high most)) (Contended node scx) x = absurd x
+is_refusal v (Map (RangeOf low high most)) NoMemory x = record { leaves = λ n. refl; not_done = λ e. cc; none = refl }
 is_refusal v (ScxOf update) (Contended node scx) x = absurd x
 is_refusal v (VlxOf cells) (Contended node scx) x = absurd x
 is_refusal v (ScxOf update) (Pair found) x = absurd x
@@ -400,41 +401,41 @@ is_refusal v (VlxOf cells) (Value value) x = absurd x
 
 -- it tells nothing of an edit
 refuses_tells : (v : ClientView) (c : ℕ) (command : Command) (answer : Answer) → MayAnswerAtOnce command answer → Tells v c command answer
-refuses_tells v c (InsertOf key value) answer x = absurd x
-refuses_tells v c (DeleteOf key) answer x = absurd x
+refuses_tells v c (Map (InsertOf key value)) answer x = absurd x
+refuses_tells v c (Map (DeleteOf key)) answer x = absurd x
 refuses_tells v c (LlxOf cell) answer x = tt
 refuses_tells v c (ScxOf update) answer x = tt
 refuses_tells v c (VlxOf cells) answer x = tt
 refuses_tells v c (SetOf field value) answer x = tt
-refuses_tells v c (GetOf key) answer x = tt
-refuses_tells v c (SuccessorOf key) (Value value) x = absurd x
-refuses_tells v c (SuccessorOf key) (Pair found) x = absurd x
-refuses_tells v c (SuccessorOf key) (Pairs found) x = absurd x
-refuses_tells v c (SuccessorOf key) (Snapshot left right) x = absurd x
-refuses_tells v c (SuccessorOf key) Finalized x = absurd x
-refuses_tells v c (SuccessorOf key) (Fail node scx) x = absurd x
-refuses_tells v c (SuccessorOf key) Done x = absurd x
-refuses_tells v c (SuccessorOf key) (Lost node scx) x = absurd x
-refuses_tells v c (SuccessorOf key) Same x = absurd x
-refuses_tells v c (SuccessorOf key) (Changed node scx) x = absurd x
-refuses_tells v c (SuccessorOf key) (Unlinked node) x = absurd x
-refuses_tells v c (SuccessorOf key) (Full what left) x = absurd x
-refuses_tells v c (SuccessorOf key) (Contended node scx) x = absurd x
-refuses_tells v c (SuccessorOf key) NoMemory x = tt
-refuses_tells v c (RangeOf span) (Value value) x = absurd x
-refuses_tells v c (RangeOf span) (Pair found) x = absurd x
-refuses_tells v c (RangeOf span) (Pairs found) x = inr (λ m. nothing_taken span.low span.high span.most m x.0 ∙ ap ManyPairs (sym x.1))
-refuses_tells v c (RangeOf span) (Snapshot left right) x = absurd x
-refuses_tells v c (RangeOf span) Finalized x = absurd x
-refuses_tells v c (RangeOf span) (Fail node scx) x = absurd x
-refuses_tells v c (RangeOf span) Done x = absurd x
-refuses_tells v c (RangeOf span) (Lost node scx) x = absurd x
-refuses_tells v c (RangeOf span) Same x = absurd x
-refuses_tells v c (RangeOf span) (Changed node scx) x = absurd x
-refuses_tells v c (RangeOf span) (Unlinked node) x = absurd x
-refuses_tells v c (RangeOf span) (Full what left) x = absurd x
-refuses_tells v c (RangeOf span) (Contended node scx) x = absurd x
-refuses_tells v c (RangeOf span) NoMemory x = tt
+refuses_tells v c (Map (GetOf key)) answer x = tt
+refuses_tells v c (Map (SuccessorOf key)) (Value value) x = absurd x
+refuses_tells v c (Map (SuccessorOf key)) (Pair found) x = absurd x
+refuses_tells v c (Map (SuccessorOf key)) (Pairs found) x = absurd x
+refuses_tells v c (Map (SuccessorOf key)) (Snapshot left right) x = absurd x
+refuses_tells v c (Map (SuccessorOf key)) Finalized x = absurd x
+refuses_tells v c (Map (SuccessorOf key)) (Fail node scx) x = absurd x
+refuses_tells v c (Map (SuccessorOf key)) Done x = absurd x
+refuses_tells v c (Map (SuccessorOf key)) (Lost node scx) x = absurd x
+refuses_tells v c (Map (SuccessorOf key)) Same x = absurd x
+refuses_tells v c (Map (SuccessorOf key)) (Changed node scx) x = absurd x
+refuses_tells v c (Map (SuccessorOf key)) (Unlinked node) x = absurd x
+refuses_tells v c (Map (SuccessorOf key)) (Full what left) x = absurd x
+refuses_tells v c (Map (SuccessorOf key)) (Contended node scx) x = absurd x
+refuses_tells v c (Map (SuccessorOf key)) NoMemory x = tt
+refuses_tells v c (Map (RangeOf low high most)) (Value value) x = absurd x
+refuses_tells v c (Map (RangeOf low high most)) (Pair found) x = absurd x
+refuses_tells v c (Map (RangeOf low high most)) (Pairs found) x = inr (λ m. nothing_taken low high most m x.0 ∙ ap ManyPairs (sym x.1))
+refuses_tells v c (Map (RangeOf low high most)) (Snapshot left right) x = absurd x
+refuses_tells v c (Map (RangeOf low high most)) Finalized x = absurd x
+refuses_tells v c (Map (RangeOf low high most)) (Fail node scx) x = absurd x
+refuses_tells v c (Map (RangeOf low high most)) Done x = absurd x
+refuses_tells v c (Map (RangeOf low high most)) (Lost node scx) x = absurd x
+refuses_tells v c (Map (RangeOf low high most)) Same x = absurd x
+refuses_tells v c (Map (RangeOf low high most)) (Changed node scx) x = absurd x
+refuses_tells v c (Map (RangeOf low high most)) (Unlinked node) x = absurd x
+refuses_tells v c (Map (RangeOf low high most)) (Full what left) x = absurd x
+refuses_tells v c (Map (RangeOf low high most)) (Contended node scx) x = absurd x
+refuses_tells v c (Map (RangeOf low high most)) NoMemory x = tt
 
 pub refused_turn : (lay : Layout) (tries : ℕ) (calls : List Call) (words : Contents) (clients : List Client) (lines : List Line) (c new : Client) (number : ℕ) (pass : PassNo) (answer : Answer) (changes : List Change) (said : Option ℕ) (reply : Reply) → (lay.mode ≡ Tree → AreEntries calls lines changes) → length calls ≤ 65536 → OwesNothing lay calls lines → IsTurnOf lay tries calls words clients lines c → Refuses (client_view lay tries calls lines c.pass.0) c answer → begin lines c.pass.0 ≡ None → c.begin ≡ number → number ≡ suc (turns lines) → pass ≡ c.pass → IsEnd calls (Step (Idle number pass) ∷ lines) changes c new number answer said reply → AreBetweenTurns lay tries calls words (set clients c.pass.0 new) (ReplyLine reply ∷ Step (Idle number pass) ∷ lines)
 refused_turn lay tries calls words clients lines c new number pass answer changes said reply entries few settled x r unbegun begins n is e =

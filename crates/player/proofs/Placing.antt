@@ -1,14 +1,15 @@
 -- Where the moment of an answer lies.
 use Rattle.std.proofs.Common.{◌≡◌, ℕ, suc, ◌≤◌, Bool, true, false, List, Option, Some, None, refl, sym, ◌∙◌, subst, arith}
 use Rattle.script.specs.declared.command.Command.{Command}
-use Rattle.script.specs.declared.command.Command.TheVariants.{Llx, Scx, Vlx, Set, Insert, Delete, Get, Successor, Range}
+use Rattle.script.specs.declared.command.Command.TheVariants.{Llx, Scx, Vlx, Set, Map}
+use Rattle.spelling.specs.declared.request.Request.TheVariants.{Insert, Delete, Get, Successor, Range}
 use Rattle.record.specs.declared.record.Answer.{Answer}
 use Rattle.record.specs.declared.record.Answer.TheVariants.{Snapshot, Finalized, Fail, Done, Lost, Same, Changed, Unlinked, Full, Value, Pair, Pairs, Contended, NoMemory}
 use Rattle.record.specs.Answers.{HasItsEntry}
 use Rattle.record.specs.CommandRules.{MayAnswerAfterStep, enters}
 use Rattle.record.proofs.Lemmas.{some_turn}
 use Rattle.record.specs.declared.record.Line.{Line}
-use Rattle.script.specs.declared.command.Call.{Call}
+use Rattle.script.specs.declared.call.Call.{Call}
 use Rattle.script.specs.Commands.{mode_of}
 use Rattle.arena.specs.declared.limits.Mode.TheVariants.{Tree}
 use Rattle.places.specs.declared.places.Change.{Change}
@@ -22,11 +23,11 @@ done_enters (Scx update) x = refl
 done_enters (Set field value) x = refl
 done_enters (Llx cell) x = absurd x
 done_enters (Vlx cells) x = absurd x
-done_enters (Insert key value) x = absurd x
-done_enters (Delete key) x = absurd x
-done_enters (Get key) x = absurd x
-done_enters (Successor key) x = absurd x
-done_enters (Range span) x = absurd x
+done_enters (Map (Insert key value)) x = absurd x
+done_enters (Map (Delete key)) x = absurd x
+done_enters (Map (Get key)) x = absurd x
+done_enters (Map (Successor key)) x = absurd x
+done_enters (Map (Range low high most)) x = absurd x
 
 same_won : (b : Bool) (said won : Option ℕ) → b ≡ true → HasItsEntry b won → ((turn : ℕ) → won ≡ Some turn → said ≡ Some turn) → said ≡ won
 same_won true said (Some turn) e x f = f turn refl
@@ -35,12 +36,12 @@ same_won false said won e x f = cc
 
 -- the moment of an answer is that of the lines
 value_same : (calls : List Call) (lines : List Line) (changes : List Change) (command : Command) (told : Option ℕ) (first last : ℕ) (said won moment : Option ℕ) → HasItsEntry (enters command (Value told)) won → ((turn : ℕ) → won ≡ Some turn → said ≡ Some turn) → IsValueMoment calls lines changes command told first last said moment → IsValueMoment calls lines changes command told first last won moment
-value_same calls lines changes (Insert key value) told first last said won moment entry f x = x ∙ same_won true said won refl entry f
-value_same calls lines changes (Delete key) (Some old) first last said won moment entry f x = x ∙ same_won true said won refl entry f
-value_same calls lines changes (Delete key) None first last said won moment entry f x = x
-value_same calls lines changes (Get key) told first last said won moment entry f x = x
-value_same calls lines changes (Successor key) told first last said won moment entry f x = x
-value_same calls lines changes (Range span) told first last said won moment entry f x = x
+value_same calls lines changes (Map (Insert key value)) told first last said won moment entry f x = x ∙ same_won true said won refl entry f
+value_same calls lines changes (Map (Delete key)) (Some old) first last said won moment entry f x = x ∙ same_won true said won refl entry f
+value_same calls lines changes (Map (Delete key)) None first last said won moment entry f x = x
+value_same calls lines changes (Map (Get key)) told first last said won moment entry f x = x
+value_same calls lines changes (Map (Successor key)) told first last said won moment entry f x = x
+value_same calls lines changes (Map (Range low high most)) told first last said won moment entry f x = x
 value_same calls lines changes (Llx cell) told first last said won moment entry f x = x
 value_same calls lines changes (Scx update) told first last said won moment entry f x = x
 value_same calls lines changes (Vlx cells) told first last said won moment entry f x = x
@@ -83,23 +84,23 @@ module _ (calls : List Call) (lines : List Line) (changes : List Change) (first 
       (subst (λ (n : ℕ). first ≤ n) same y.0, subst (λ (n : ℕ). n ≤ last) same y.1)
 
   pairs_within : (command : Command) (answer : Answer) → (mode_of command ≡ Tree → FallFrom (suc last) changes) → IsPairsMoment calls lines changes command answer first last moment → (first ≤ m) × (m ≤ last)
-  pairs_within (Successor key) answer falls x = ordered_within (Successor key) answer (falls refl) x
-  pairs_within (Range span) answer falls x = ordered_within (Range span) answer (falls refl) x
-  pairs_within (Insert key value) answer falls x = nowhere x
-  pairs_within (Delete key) answer falls x = nowhere x
-  pairs_within (Get key) answer falls x = nowhere x
+  pairs_within (Map (Successor key)) answer falls x = ordered_within (Map (Successor key)) answer (falls refl) x
+  pairs_within (Map (Range low high most)) answer falls x = ordered_within (Map (Range low high most)) answer (falls refl) x
+  pairs_within (Map (Insert key value)) answer falls x = nowhere x
+  pairs_within (Map (Delete key)) answer falls x = nowhere x
+  pairs_within (Map (Get key)) answer falls x = nowhere x
   pairs_within (Llx cell) answer falls x = nowhere x
   pairs_within (Scx update) answer falls x = nowhere x
   pairs_within (Vlx cells) answer falls x = nowhere x
   pairs_within (Set field value) answer falls x = nowhere x
 
   value_within : (command : Command) (told : Option ℕ) → (mode_of command ≡ Tree → AreEntries calls lines changes) → (mode_of command ≡ Tree → FallFrom (suc last) changes) → IsValueMoment calls lines changes command told first last won moment → (first ≤ m) × (m ≤ last)
-  value_within (Insert key value) told entries falls x = between m (sym x ∙ is)
-  value_within (Delete key) (Some old) entries falls x = between m (sym x ∙ is)
-  value_within (Delete key) None entries falls x = read_within key None (entries refl) x
-  value_within (Get key) told entries falls x = read_within key told (entries refl) x
-  value_within (Successor key) told entries falls x = ordered_within (Successor key) (Value told) (falls refl) x
-  value_within (Range span) told entries falls x = nowhere x
+  value_within (Map (Insert key value)) told entries falls x = between m (sym x ∙ is)
+  value_within (Map (Delete key)) (Some old) entries falls x = between m (sym x ∙ is)
+  value_within (Map (Delete key)) None entries falls x = read_within key None (entries refl) x
+  value_within (Map (Get key)) told entries falls x = read_within key told (entries refl) x
+  value_within (Map (Successor key)) told entries falls x = ordered_within (Map (Successor key)) (Value told) (falls refl) x
+  value_within (Map (Range low high most)) told entries falls x = nowhere x
   value_within (Llx cell) told entries falls x = nowhere x
   value_within (Scx update) told entries falls x = nowhere x
   value_within (Vlx cells) told entries falls x = nowhere x

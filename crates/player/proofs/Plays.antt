@@ -7,7 +7,7 @@ use Rattle.arena.specs.History.{value}
 use Rattle.arena.specs.Lawful.{Lawful}
 use Rattle.arena.specs.Shape.{Shaped}
 use Rattle.histories.proofs.Lemmas.{fields_are, finalized_since, lawful_since, once}
-use Rattle.script.specs.declared.command.Call.{Call}
+use Rattle.script.specs.declared.call.Call.{Call}
 use Rattle.script.specs.Commands.{mode_of}
 use Rattle.player.proofs.Readings.{whole}
 use Rattle.player.specs.declared.client.Client.{Client}

@@ -28,7 +28,7 @@ use Rattle.prims.specs.declared.llx.Llx.TheVariants.{Snapshot as LlxSnapshot}
 use Rattle.prims.specs.declared.scx.ScxAt.TheVariants.{Start as ScxStart}
 use Rattle.prims.specs.declared.put.PutAt.TheVariants.{Start as PutStart}
 use Rattle.script.specs.declared.command.Command.{Command}
-use Rattle.script.specs.declared.command.Command.TheVariants.{Llx as LlxOf, Scx as ScxOf, Vlx as VlxOf, Set as SetOf, Insert as InsertOf, Delete as DeleteOf, Get as GetOf, Successor as SuccessorOf, Range as RangeOf}
+use Rattle.script.specs.declared.command.Command.TheVariants.{Llx as LlxOf, Scx as ScxOf, Vlx as VlxOf, Set as SetOf, Map}
 use Rattle.player.specs.declared.run.Run.TheVariants.{Llx, Scx}
 use Rattle.player.specs.declared.run.Ended.TheVariants as ended
 use Rattle.player.specs.declared.client.Client.{Client}
@@ -126,11 +126,7 @@ can_put v old kept m put snap sound x e = go x.works.command x.works.is x.works.
     go (LlxOf cell) is f few = absurd f
     go (ScxOf update) is f few = absurd f
     go (VlxOf cells) is f few = absurd f
-    go (InsertOf key value) is f few = absurd f
-    go (DeleteOf key) is f few = absurd f
-    go (GetOf key) is f few = absurd f
-    go (SuccessorOf key) is f few = absurd f
-    go (RangeOf span) is f few = absurd f
+    go (Map request) is f few = absurd f
 
 -- what it answers then
 pub told_put : (v : ClientView) (old new : Client) (kept : Kept) (m : LlxRun) (put : Put) (snap : Snap) (answer : Option Answer) → (x : Answered v old (Llx m) (Some put) (ended.Llx (LlxSnapshot snap))) → Puts v (linked_now v x.works.command) (record old { kept = kept }) new answer → Told v old new answer
@@ -157,11 +153,7 @@ told_put v old new kept m put snap (Some answer) x p = go x.works.command x.work
     go (LlxOf cell) is f rests = absurd f
     go (ScxOf update) is f rests = absurd f
     go (VlxOf cells) is f rests = absurd f
-    go (InsertOf key value) is f rests = absurd f
-    go (DeleteOf key) is f rests = absurd f
-    go (GetOf key) is f rests = absurd f
-    go (SuccessorOf key) is f rests = absurd f
-    go (RangeOf span) is f rests = absurd f
+    go (Map request) is f rests = absurd f
 
 -- the same with what it has answered written out
 pub answered_put : (v : ClientView) (c : Client) (m : LlxRun) (next : Option Put) (put : Put) (a : LlxAnswer) (snap : Snap) → next ≡ Some put → a ≡ LlxSnapshot snap → Answered v c (Llx m) next (ended.Llx a) → Answered v c (Llx m) (Some put) (ended.Llx (LlxSnapshot snap))

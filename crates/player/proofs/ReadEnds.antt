@@ -11,7 +11,7 @@ use Rattle.order.specs.declared.range.RangeRun.{RangeRun}
 use Rattle.order.specs.declared.successor.SuccessorRun.{SuccessorRun}
 use Rattle.script.specs.declared.command.Command.{Command}
 use Rattle.script.specs.declared.command.Command.TheVariants as commands
-use Rattle.script.specs.declared.command.Span.{Span}
+use Rattle.spelling.specs.declared.request.Request.TheVariants as requests
 use Rattle.record.specs.declared.record.Answer.{Answer}
 use Rattle.record.specs.declared.record.Answer.TheVariants.{Snapshot, Finalized, Fail, Done, Lost, Same, Changed, Unlinked, Full, Value, Pair, Pairs, Contended, NoMemory}
 use Rattle.record.specs.CommandRules.{MayAnswerAfterStep, IsRight}
@@ -47,7 +47,7 @@ module _ (v : ClientView) (c : Client) (is_pass : c.pass.0 < v.layout.passes) wh
   next_told : (m : SuccessorRun) (key : ℕ) (told : MapReply) → m.key ≡ key → IsReplyAt (machine_call v c is_pass v.start) v.past (NextOf m.key) told → HasToldMap v (NextOf key) (Some told)
   next_told m key told of x = inl (subst (λ (k : ℕ). HasReplied v.layout v.past v.start (NextOf k) told) of (replied (machine_call v c is_pass v.start) v.past (NextOf m.key) told x))
 
-  successor_ends : (m : SuccessorRun) (key : ℕ) (a : Answer) → m.key ≡ key → ReadAnswers (Successor m) (machine_call v c is_pass v.start) v.past a → IsReadEnd v c.pass.0 (commands.Successor key) a
+  successor_ends : (m : SuccessorRun) (key : ℕ) (a : Answer) → m.key ≡ key → ReadAnswers (Successor m) (machine_call v c is_pass v.start) v.past a → IsReadEnd v c.pass.0 (commands.Map (requests.Successor key)) a
   successor_ends m key (Value None) of x = record { answers = tt; right = tt; tells = next_told m key (OneValue None) of x.1 }
   successor_ends m key (Pair found) of x = record { answers = tt; right = tt; tells = next_told m key (OnePair found) of x.1 }
   successor_ends m key (Contended node scx) of x = let y = x.1.0 in record { answers = tt; right = (y.others, y.in_the_way); tells = tt }
@@ -68,38 +68,38 @@ module _ (v : ClientView) (c : Client) (is_pass : c.pass.0 < v.layout.passes) wh
   many_told : (m : RangeRun) (low high most : ℕ) (told : List PairOf) → m.low ≡ low → m.high ≡ high → m.most ≡ most → RangeReplies m (machine_call v c is_pass v.start) v.past told → HasToldMap v (PairsOf low high most) (Some (ManyPairs told))
   many_told m low high most told is_low is_high is_most x = rw (sym is_low, sym is_high, sym is_most) (⊎_elim (λ y. inl (replied (machine_call v c is_pass v.start) v.past (PairsOf m.low m.high m.most) (ManyPairs told) y)) (λ y. inr (λ map. ap ManyPairs (y.1 map))) x)
 
-  range_ends : (m : RangeRun) (span : Span) (a : Answer) → (m.low ≡ span.low) × (m.high ≡ span.high) × (m.most ≡ span.most) → ReadAnswers (Range m) (machine_call v c is_pass v.start) v.past a → IsReadEnd v c.pass.0 (commands.Range span) a
-  range_ends m span (Pairs found) of x = record { answers = tt; right = tt; tells = many_told m span.low span.high span.most found.items of.0 of.1 of.2 x.1 }
-  range_ends m span (Contended node scx) of x = let y = x.1.0 in record { answers = tt; right = (y.others, y.in_the_way); tells = tt }
-  range_ends m span NoMemory of x = record { answers = tt; right = tt; tells = tt }
-  range_ends m span (Value told) of x = absurd x
-  range_ends m span (Pair found) of x = absurd x
-  range_ends m span (Snapshot left right) of x = absurd x
-  range_ends m span Finalized of x = absurd x
-  range_ends m span (Fail node scx) of x = absurd x
-  range_ends m span Done of x = absurd x
-  range_ends m span (Lost node scx) of x = absurd x
-  range_ends m span Same of x = absurd x
-  range_ends m span (Changed node scx) of x = absurd x
-  range_ends m span (Unlinked node) of x = absurd x
-  range_ends m span (Full what left) of x = absurd x
+  range_ends : (m : RangeRun) (low high most : ℕ) (a : Answer) → (m.low ≡ low) × (m.high ≡ high) × (m.most ≡ most) → ReadAnswers (Range m) (machine_call v c is_pass v.start) v.past a → IsReadEnd v c.pass.0 (commands.Map (requests.Range low high most)) a
+  range_ends m low high most (Pairs found) of x = record { answers = tt; right = tt; tells = many_told m low high most found.items of.0 of.1 of.2 x.1 }
+  range_ends m low high most (Contended node scx) of x = let y = x.1.0 in record { answers = tt; right = (y.others, y.in_the_way); tells = tt }
+  range_ends m low high most NoMemory of x = record { answers = tt; right = tt; tells = tt }
+  range_ends m low high most (Value told) of x = absurd x
+  range_ends m low high most (Pair found) of x = absurd x
+  range_ends m low high most (Snapshot left right) of x = absurd x
+  range_ends m low high most Finalized of x = absurd x
+  range_ends m low high most (Fail node scx) of x = absurd x
+  range_ends m low high most Done of x = absurd x
+  range_ends m low high most (Lost node scx) of x = absurd x
+  range_ends m low high most Same of x = absurd x
+  range_ends m low high most (Changed node scx) of x = absurd x
+  range_ends m low high most (Unlinked node) of x = absurd x
+  range_ends m low high most (Full what left) of x = absurd x
 
   pub read_ends : (m : ReadRun) (command : Command) (a : Answer) → IsReadBy m command → ReadAnswers m (machine_call v c is_pass v.start) v.past a → IsReadEnd v c.pass.0 command a
-  read_ends (Successor m) (commands.Successor key) a of x = successor_ends m key a of x
-  read_ends (Range m) (commands.Range span) a of x = range_ends m span a of x
+  read_ends (Successor m) (commands.Map (requests.Successor key)) a of x = successor_ends m key a of x
+  read_ends (Range m) (commands.Map (requests.Range low high most)) a of x = range_ends m low high most a of x
   read_ends (Successor m) (commands.Llx cell) a of x = absurd of
   read_ends (Successor m) (commands.Scx update) a of x = absurd of
   read_ends (Successor m) (commands.Vlx cells) a of x = absurd of
   read_ends (Successor m) (commands.Set field value) a of x = absurd of
-  read_ends (Successor m) (commands.Insert key value) a of x = absurd of
-  read_ends (Successor m) (commands.Delete key) a of x = absurd of
-  read_ends (Successor m) (commands.Get key) a of x = absurd of
-  read_ends (Successor m) (commands.Range span) a of x = absurd of
+  read_ends (Successor m) (commands.Map (requests.Insert key value)) a of x = absurd of
+  read_ends (Successor m) (commands.Map (requests.Delete key)) a of x = absurd of
+  read_ends (Successor m) (commands.Map (requests.Get key)) a of x = absurd of
+  read_ends (Successor m) (commands.Map (requests.Range low high most)) a of x = absurd of
   read_ends (Range m) (commands.Llx cell) a of x = absurd of
   read_ends (Range m) (commands.Scx update) a of x = absurd of
   read_ends (Range m) (commands.Vlx cells) a of x = absurd of
   read_ends (Range m) (commands.Set field value) a of x = absurd of
-  read_ends (Range m) (commands.Insert key value) a of x = absurd of
-  read_ends (Range m) (commands.Delete key) a of x = absurd of
-  read_ends (Range m) (commands.Get key) a of x = absurd of
-  read_ends (Range m) (commands.Successor key) a of x = absurd of
+  read_ends (Range m) (commands.Map (requests.Insert key value)) a of x = absurd of
+  read_ends (Range m) (commands.Map (requests.Delete key)) a of x = absurd of
+  read_ends (Range m) (commands.Map (requests.Get key)) a of x = absurd of
+  read_ends (Range m) (commands.Map (requests.Successor key)) a of x = absurd of

@@ -12,6 +12,7 @@ use Rattle.order.specs.Range.Laws.{range_fills_not, range_keeps, range_lawful, r
 use Rattle.order.specs.Successor.Laws.{successor_fills_not, successor_keeps, successor_lawful, successor_made}
 use Rattle.script.specs.declared.command.Command.{Command}
 use Rattle.script.specs.declared.command.Command.TheVariants as commands
+use Rattle.spelling.specs.declared.request.Request.TheVariants as requests
 use Rattle.places.specs.Ordered.{IsOrderedRead}
 use Rattle.record.specs.CommandRules.{MayMake}
 use Rattle.player.specs.ReadRuns.{IsReadBy, IsSameRead, ReadIsReady, ReadWaits}
@@ -40,47 +41,47 @@ read_in_order m c h s w = record { head = λ n fill. absurd (read_fills_not m c 
 
 -- it serves its command all the way
 pub same_read : (old now : ReadRun) (command : Command) → IsSameRead old now → IsReadBy old command → IsReadBy now command
-same_read (Successor a) (Successor b) (commands.Successor key) x y = x ∙ y
-same_read (Range a) (Range b) (commands.Range span) x y = (x.0 ∙ y.0, x.1 ∙ y.1, x.2 ∙ y.2)
+same_read (Successor a) (Successor b) (commands.Map (requests.Successor key)) x y = x ∙ y
+same_read (Range a) (Range b) (commands.Map (requests.Range low high most)) x y = (x.0 ∙ y.0, x.1 ∙ y.1, x.2 ∙ y.2)
 same_read (Successor a) (Range b) command x y = absurd x
 same_read (Range a) (Successor b) command x y = absurd x
 same_read (Successor a) (Successor b) (commands.Llx cell) x y = absurd y
 same_read (Successor a) (Successor b) (commands.Scx update) x y = absurd y
 same_read (Successor a) (Successor b) (commands.Vlx cells) x y = absurd y
 same_read (Successor a) (Successor b) (commands.Set field value) x y = absurd y
-same_read (Successor a) (Successor b) (commands.Insert key value) x y = absurd y
-same_read (Successor a) (Successor b) (commands.Delete key) x y = absurd y
-same_read (Successor a) (Successor b) (commands.Get key) x y = absurd y
-same_read (Successor a) (Successor b) (commands.Range span) x y = absurd y
+same_read (Successor a) (Successor b) (commands.Map (requests.Insert key value)) x y = absurd y
+same_read (Successor a) (Successor b) (commands.Map (requests.Delete key)) x y = absurd y
+same_read (Successor a) (Successor b) (commands.Map (requests.Get key)) x y = absurd y
+same_read (Successor a) (Successor b) (commands.Map (requests.Range low high most)) x y = absurd y
 same_read (Range a) (Range b) (commands.Llx cell) x y = absurd y
 same_read (Range a) (Range b) (commands.Scx update) x y = absurd y
 same_read (Range a) (Range b) (commands.Vlx cells) x y = absurd y
 same_read (Range a) (Range b) (commands.Set field value) x y = absurd y
-same_read (Range a) (Range b) (commands.Insert key value) x y = absurd y
-same_read (Range a) (Range b) (commands.Delete key) x y = absurd y
-same_read (Range a) (Range b) (commands.Get key) x y = absurd y
-same_read (Range a) (Range b) (commands.Successor key) x y = absurd y
+same_read (Range a) (Range b) (commands.Map (requests.Insert key value)) x y = absurd y
+same_read (Range a) (Range b) (commands.Map (requests.Delete key)) x y = absurd y
+same_read (Range a) (Range b) (commands.Map (requests.Get key)) x y = absurd y
+same_read (Range a) (Range b) (commands.Map (requests.Successor key)) x y = absurd y
 
 -- and makes only the steps that this may
 pub read_may_make : (m : ReadRun) (command : Command) (c : Call) (h : History) (s : Step) → IsReadBy m command → ReadWaits m c h s → MayMake command s.kind
-read_may_make (Successor m) (commands.Successor key) c h s of w = successor_fills_not m c h s w
-read_may_make (Range m) (commands.Range span) c h s of w = (range_fills_not m c h s w.0, rw (sym of.0, sym of.1, sym of.2) w.1)
+read_may_make (Successor m) (commands.Map (requests.Successor key)) c h s of w = successor_fills_not m c h s w
+read_may_make (Range m) (commands.Map (requests.Range low high most)) c h s of w = (range_fills_not m c h s w.0, rw (sym of.0, sym of.1, sym of.2) w.1)
 read_may_make (Successor m) (commands.Llx cell) c h s of w = absurd of
 read_may_make (Successor m) (commands.Scx update) c h s of w = absurd of
 read_may_make (Successor m) (commands.Vlx cells) c h s of w = absurd of
 read_may_make (Successor m) (commands.Set field value) c h s of w = absurd of
-read_may_make (Successor m) (commands.Insert key value) c h s of w = absurd of
-read_may_make (Successor m) (commands.Delete key) c h s of w = absurd of
-read_may_make (Successor m) (commands.Get key) c h s of w = absurd of
-read_may_make (Successor m) (commands.Range span) c h s of w = absurd of
+read_may_make (Successor m) (commands.Map (requests.Insert key value)) c h s of w = absurd of
+read_may_make (Successor m) (commands.Map (requests.Delete key)) c h s of w = absurd of
+read_may_make (Successor m) (commands.Map (requests.Get key)) c h s of w = absurd of
+read_may_make (Successor m) (commands.Map (requests.Range low high most)) c h s of w = absurd of
 read_may_make (Range m) (commands.Llx cell) c h s of w = absurd of
 read_may_make (Range m) (commands.Scx update) c h s of w = absurd of
 read_may_make (Range m) (commands.Vlx cells) c h s of w = absurd of
 read_may_make (Range m) (commands.Set field value) c h s of w = absurd of
-read_may_make (Range m) (commands.Insert key value) c h s of w = absurd of
-read_may_make (Range m) (commands.Delete key) c h s of w = absurd of
-read_may_make (Range m) (commands.Get key) c h s of w = absurd of
-read_may_make (Range m) (commands.Successor key) c h s of w = absurd of
+read_may_make (Range m) (commands.Map (requests.Insert key value)) c h s of w = absurd of
+read_may_make (Range m) (commands.Map (requests.Delete key)) c h s of w = absurd of
+read_may_make (Range m) (commands.Map (requests.Get key)) c h s of w = absurd of
+read_may_make (Range m) (commands.Map (requests.Successor key)) c h s of w = absurd of
 
 -- a command that it serves is one
 pub read_is_ordered : (m : ReadRun) (command : Command) → IsReadBy m command → IsOrderedRead command
@@ -88,17 +89,17 @@ read_is_ordered (Successor m) (commands.Llx cell) of = absurd of
 read_is_ordered (Successor m) (commands.Scx update) of = absurd of
 read_is_ordered (Successor m) (commands.Vlx cells) of = absurd of
 read_is_ordered (Successor m) (commands.Set field value) of = absurd of
-read_is_ordered (Successor m) (commands.Insert key value) of = absurd of
-read_is_ordered (Successor m) (commands.Delete key) of = absurd of
-read_is_ordered (Successor m) (commands.Get key) of = absurd of
-read_is_ordered (Successor m) (commands.Successor key) of = tt
-read_is_ordered (Successor m) (commands.Range span) of = absurd of
+read_is_ordered (Successor m) (commands.Map (requests.Insert key value)) of = absurd of
+read_is_ordered (Successor m) (commands.Map (requests.Delete key)) of = absurd of
+read_is_ordered (Successor m) (commands.Map (requests.Get key)) of = absurd of
+read_is_ordered (Successor m) (commands.Map (requests.Successor key)) of = tt
+read_is_ordered (Successor m) (commands.Map (requests.Range low high most)) of = absurd of
 read_is_ordered (Range m) (commands.Llx cell) of = absurd of
 read_is_ordered (Range m) (commands.Scx update) of = absurd of
 read_is_ordered (Range m) (commands.Vlx cells) of = absurd of
 read_is_ordered (Range m) (commands.Set field value) of = absurd of
-read_is_ordered (Range m) (commands.Insert key value) of = absurd of
-read_is_ordered (Range m) (commands.Delete key) of = absurd of
-read_is_ordered (Range m) (commands.Get key) of = absurd of
-read_is_ordered (Range m) (commands.Successor key) of = absurd of
-read_is_ordered (Range m) (commands.Range span) of = tt
+read_is_ordered (Range m) (commands.Map (requests.Insert key value)) of = absurd of
+read_is_ordered (Range m) (commands.Map (requests.Delete key)) of = absurd of
+read_is_ordered (Range m) (commands.Map (requests.Get key)) of = absurd of
+read_is_ordered (Range m) (commands.Map (requests.Successor key)) of = absurd of
+read_is_ordered (Range m) (commands.Map (requests.Range low high most)) of = tt

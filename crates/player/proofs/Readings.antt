@@ -10,9 +10,10 @@ use Rattle.arena.specs.History.{value}
 use Rattle.arena.specs.Words.{node}
 use Rattle.spelling.specs.OrderedMap.{MapCall, Get, Successor, Range, Insert as PutEdit, Delete as TakeEdit, MapReply, OneValue, OnePair, ManyPairs, reply as answer_on}
 use Rattle.spelling.specs.Paths.{IsAnswerAt}
-use Rattle.script.specs.declared.command.Call.{Call}
+use Rattle.script.specs.declared.call.Call.{Call}
 use Rattle.script.specs.declared.command.Command.{Command}
-use Rattle.script.specs.declared.command.Command.TheVariants.{Llx as LlxOf, Scx as ScxOf, Vlx as VlxOf, Set as SetOf, Insert as InsertOf, Delete as DeleteOf, Get as GetOf, Successor as SuccessorOf, Range as RangeOf}
+use Rattle.script.specs.declared.command.Command.TheVariants.{Llx as LlxOf, Scx as ScxOf, Vlx as VlxOf, Set as SetOf, Map}
+use Rattle.spelling.specs.declared.request.Request.TheVariants.{Insert as InsertOf, Delete as DeleteOf, Get as GetOf, Successor as SuccessorOf, Range as RangeOf}
 use Rattle.record.specs.declared.record.Line.{Line}
 use Rattle.record.specs.declared.record.Reply.{Reply}
 use Rattle.record.specs.declared.record.Answer.{Answer}
@@ -24,7 +25,6 @@ use Rattle.record.specs.Answers.{moment_of, HasItsEntry}
 use Rattle.places.specs.declared.places.Change.{Change}
 use Rattle.places.specs.Entries.{AreEntries}
 use Rattle.places.specs.Ordered.{FallFrom, IsOrderedRead}
-use Rattle.script.specs.declared.command.Span.{Span}
 use Rattle.player.specs.Moments.{IsMomentBy, IsOrderedMoment, IsPairsMoment}
 use Rattle.player.specs.ClientView.{client_view, HasToldMap, Tells}
 use Rattle.record.specs.CommandRules.{IsRight, IsPlaced, enters}
@@ -60,8 +60,8 @@ spelled_so_far : (lay : Layout) (tries : ℕ) (calls : List Call) (words : Conte
 spelled_so_far lay tries calls words lines x mode = are_spelled lay tries calls mode (map_calls lay.mode calls mode x.of_mode) lines x.in_order (tree_run lay (history lay.mode lines) mode x.sound) (x.filled mode)
 
 -- a get took place in a turn that was found for it
-get_reads : (lay : Layout) (tries : ℕ) (calls : List Call) (words : Contents) (lines : List Line) (changes : List Change) (reply : Reply) (key : ℕ) → IsLawfulSoFar lay tries calls words lines → lay.mode ≡ Tree → AreEntries calls lines changes → entry_owed lay lines ≡ None → reply.call ≡ answered lines reply.client.0 → IsRight lay reply.client.0 (history lay.mode lines) (start lay.mode lines reply.client.0) (linked calls lay.mode lines reply.client.0) (GetOf key) reply.answer → HasItsEntry (enters (GetOf key) reply.answer) (won lay lines reply.client.0) → next_command calls lines reply.client.0 ≡ Some (GetOf key) → begin lines reply.client.0 ≡ Some reply.begin → reply.end ≡ turns lines
-    → IsMomentBy calls lines changes (GetOf key) reply.answer reply.begin reply.end (won lay lines reply.client.0) reply.moment → IsPlacedOnMap (reply_told reply.answer) calls lines (Get key) reply
+get_reads : (lay : Layout) (tries : ℕ) (calls : List Call) (words : Contents) (lines : List Line) (changes : List Change) (reply : Reply) (key : ℕ) → IsLawfulSoFar lay tries calls words lines → lay.mode ≡ Tree → AreEntries calls lines changes → entry_owed lay lines ≡ None → reply.call ≡ answered lines reply.client.0 → IsRight lay reply.client.0 (history lay.mode lines) (start lay.mode lines reply.client.0) (linked calls lay.mode lines reply.client.0) (Map (GetOf key)) reply.answer → HasItsEntry (enters (Map (GetOf key)) reply.answer) (won lay lines reply.client.0) → next_command calls lines reply.client.0 ≡ Some (Map (GetOf key)) → begin lines reply.client.0 ≡ Some reply.begin → reply.end ≡ turns lines
+    → IsMomentBy calls lines changes (Map (GetOf key)) reply.answer reply.begin reply.end (won lay lines reply.client.0) reply.moment → IsPlacedOnMap (reply_told reply.answer) calls lines (Get key) reply
 get_reads lay tries calls words lines changes reply key x mode entries owed called right entry is begin end moment = go reply.answer refl
   where
     spelled : AreSpelled lay calls lines
@@ -108,12 +108,12 @@ module _ (lay : Layout) (tries : ℕ) (calls : List Call) (words : Contents) (li
     moment = nowhere;
   }
 
-  successor_reads : (key : ℕ) → next_command calls lines reply.client.0 ≡ Some (SuccessorOf key) → IsRight lay reply.client.0 (history lay.mode lines) (start lay.mode lines reply.client.0) (linked calls lay.mode lines reply.client.0) (SuccessorOf key) reply.answer → Tells (client_view lay tries calls lines reply.client.0) reply.client.0 (SuccessorOf key) reply.answer → IsMomentBy calls lines changes (SuccessorOf key) reply.answer reply.begin reply.end (won lay lines reply.client.0) reply.moment → IsPlacedOnMap (reply_told reply.answer) calls lines (Successor key) reply
+  successor_reads : (key : ℕ) → next_command calls lines reply.client.0 ≡ Some (Map (SuccessorOf key)) → IsRight lay reply.client.0 (history lay.mode lines) (start lay.mode lines reply.client.0) (linked calls lay.mode lines reply.client.0) (Map (SuccessorOf key)) reply.answer → Tells (client_view lay tries calls lines reply.client.0) reply.client.0 (Map (SuccessorOf key)) reply.answer → IsMomentBy calls lines changes (Map (SuccessorOf key)) reply.answer reply.begin reply.end (won lay lines reply.client.0) reply.moment → IsPlacedOnMap (reply_told reply.answer) calls lines (Successor key) reply
   successor_reads key is right tells moment = go reply.answer refl
     where
       go : (answer : Answer) → reply.answer ≡ answer → IsPlacedOnMap (reply_told answer) calls lines (Successor key) reply
-      go (Value None) e = told_reads (SuccessorOf key) (Successor key) (Value None) (OneValue None) tt refl is e refl (rw e at tells) (rw e at moment)
-      go (Pair found) e = told_reads (SuccessorOf key) (Successor key) (Pair found) (OnePair found) tt refl is e refl (rw e at tells) (rw e at moment)
+      go (Value None) e = told_reads (Map (SuccessorOf key)) (Successor key) (Value None) (OneValue None) tt refl is e refl (rw e at tells) (rw e at moment)
+      go (Pair found) e = told_reads (Map (SuccessorOf key)) (Successor key) (Pair found) (OnePair found) tt refl is e refl (rw e at tells) (rw e at moment)
       go (Contended n scx) e = refused_reads (rw e at moment)
       go NoMemory e = refused_reads (rw e at moment)
       go (Value (Some told)) e = absurd (rw e at right)
@@ -128,11 +128,11 @@ module _ (lay : Layout) (tries : ℕ) (calls : List Call) (words : Contents) (li
       go (Unlinked n) e = absurd (rw e at right)
       go (Full what left) e = absurd (rw e at right)
 
-  range_reads : (span : Span) → next_command calls lines reply.client.0 ≡ Some (RangeOf span) → IsRight lay reply.client.0 (history lay.mode lines) (start lay.mode lines reply.client.0) (linked calls lay.mode lines reply.client.0) (RangeOf span) reply.answer → Tells (client_view lay tries calls lines reply.client.0) reply.client.0 (RangeOf span) reply.answer → IsMomentBy calls lines changes (RangeOf span) reply.answer reply.begin reply.end (won lay lines reply.client.0) reply.moment → IsPlacedOnMap (reply_told reply.answer) calls lines (Range span.low span.high span.most) reply
-  range_reads span is right tells moment = go reply.answer refl
+  range_reads : (low high most : ℕ) → next_command calls lines reply.client.0 ≡ Some (Map (RangeOf low high most)) → IsRight lay reply.client.0 (history lay.mode lines) (start lay.mode lines reply.client.0) (linked calls lay.mode lines reply.client.0) (Map (RangeOf low high most)) reply.answer → Tells (client_view lay tries calls lines reply.client.0) reply.client.0 (Map (RangeOf low high most)) reply.answer → IsMomentBy calls lines changes (Map (RangeOf low high most)) reply.answer reply.begin reply.end (won lay lines reply.client.0) reply.moment → IsPlacedOnMap (reply_told reply.answer) calls lines (Range low high most) reply
+  range_reads low high most is right tells moment = go reply.answer refl
     where
-      go : (answer : Answer) → reply.answer ≡ answer → IsPlacedOnMap (reply_told answer) calls lines (Range span.low span.high span.most) reply
-      go (Pairs found) e = told_reads (RangeOf span) (Range span.low span.high span.most) (Pairs found) (ManyPairs found.items) tt refl is e refl (rw e at tells) (rw e at moment)
+      go : (answer : Answer) → reply.answer ≡ answer → IsPlacedOnMap (reply_told answer) calls lines (Range low high most) reply
+      go (Pairs found) e = told_reads (Map (RangeOf low high most)) (Range low high most) (Pairs found) (ManyPairs found.items) tt refl is e refl (rw e at tells) (rw e at moment)
       go (Contended n scx) e = refused_reads (rw e at moment)
       go NoMemory e = refused_reads (rw e at moment)
       go (Value told) e = absurd (rw e at right)
@@ -176,17 +176,17 @@ placed lay tries calls words lines changes reply c (LlxOf cell) x entries owed o
 placed lay tries calls words lines changes reply c (ScxOf update) x entries owed own called right tells entry is begin end moment = cell_moment calls lines changes (ScxOf update) reply.answer reply.begin reply.end (won lay lines c) reply.moment (λ a e. rw e at right) (λ a e. e) moment ∙ ap (λ (k : ℕ). moment_of reply.answer reply.begin reply.end (won lay lines k)) (sym own)
 placed lay tries calls words lines changes reply c (VlxOf cells) x entries owed own called right tells entry is begin end moment = cell_moment calls lines changes (VlxOf cells) reply.answer reply.begin reply.end (won lay lines c) reply.moment (λ a e. rw e at right) (λ a e. e) moment ∙ ap (λ (k : ℕ). moment_of reply.answer reply.begin reply.end (won lay lines k)) (sym own)
 placed lay tries calls words lines changes reply c (SetOf field value) x entries owed own called right tells entry is begin end moment = cell_moment calls lines changes (SetOf field value) reply.answer reply.begin reply.end (won lay lines c) reply.moment (λ a e. rw e at right) (λ a e. e) moment ∙ ap (λ (k : ℕ). moment_of reply.answer reply.begin reply.end (won lay lines k)) (sym own)
-placed lay tries calls words lines changes reply c (InsertOf key value) x entries owed own called right tells entry is begin end moment = edit_placed lay tries calls lines changes reply c (PutEdit key value) (edit_reply lay tries calls words lines changes reply c (InsertOf key value) x (sym (command_mode lay.mode calls c _ (InsertOf key value) x.of_mode is)) entries owed own called right tells entry is begin end moment)
-placed lay tries calls words lines changes reply c (DeleteOf key) x entries owed own called right tells entry is begin end moment = edit_placed lay tries calls lines changes reply c (TakeEdit key) (edit_reply lay tries calls words lines changes reply c (DeleteOf key) x (sym (command_mode lay.mode calls c _ (DeleteOf key) x.of_mode is)) entries owed own called right tells entry is begin end moment)
-placed lay tries calls words lines changes reply c (GetOf key) x entries owed own called right tells entry is begin end moment =
-    let mode = sym (command_mode lay.mode calls c _ (GetOf key) x.of_mode is) in
+placed lay tries calls words lines changes reply c (Map (InsertOf key value)) x entries owed own called right tells entry is begin end moment = edit_placed lay tries calls lines changes reply c (PutEdit key value) (edit_reply lay tries calls words lines changes reply c (Map (InsertOf key value)) x (sym (command_mode lay.mode calls c _ (Map (InsertOf key value)) x.of_mode is)) entries owed own called right tells entry is begin end moment)
+placed lay tries calls words lines changes reply c (Map (DeleteOf key)) x entries owed own called right tells entry is begin end moment = edit_placed lay tries calls lines changes reply c (TakeEdit key) (edit_reply lay tries calls words lines changes reply c (Map (DeleteOf key)) x (sym (command_mode lay.mode calls c _ (Map (DeleteOf key)) x.of_mode is)) entries owed own called right tells entry is begin end moment)
+placed lay tries calls words lines changes reply c (Map (GetOf key)) x entries owed own called right tells entry is begin end moment =
+    let mode = sym (command_mode lay.mode calls c _ (Map (GetOf key)) x.of_mode is) in
     get_reads lay tries calls words lines changes reply key x mode (entries mode) owed (rw own called) (rw own right) (rw own entry) (rw own is) (rw own begin) end (rw own moment)
-placed lay tries calls words lines changes reply c (SuccessorOf key) x entries owed own called right tells entry is begin end moment =
-    let mode = sym (command_mode lay.mode calls c _ (SuccessorOf key) x.of_mode is) in
+placed lay tries calls words lines changes reply c (Map (SuccessorOf key)) x entries owed own called right tells entry is begin end moment =
+    let mode = sym (command_mode lay.mode calls c _ (Map (SuccessorOf key)) x.of_mode is) in
     successor_reads lay tries calls words lines changes reply x mode (entries mode) owed (rw own called) (unwon_none (won lay lines reply.client.0) (rw own entry)) (rw own begin) end key (rw own is) (rw own right) (rw own tells) (rw own moment)
-placed lay tries calls words lines changes reply c (RangeOf span) x entries owed own called right tells entry is begin end moment =
-    let mode = sym (command_mode lay.mode calls c _ (RangeOf span) x.of_mode is) in
-    range_reads lay tries calls words lines changes reply x mode (entries mode) owed (rw own called) (unwon_none (won lay lines reply.client.0) (rw own entry)) (rw own begin) end span (rw own is) (rw own right) (rw own tells) (rw own moment)
+placed lay tries calls words lines changes reply c (Map (RangeOf low high most)) x entries owed own called right tells entry is begin end moment =
+    let mode = sym (command_mode lay.mode calls c _ (Map (RangeOf low high most)) x.of_mode is) in
+    range_reads lay tries calls words lines changes reply x mode (entries mode) owed (rw own called) (unwon_none (won lay lines reply.client.0) (rw own entry)) (rw own begin) end low high most (rw own is) (rw own right) (rw own tells) (rw own moment)
 
 -- what is said of a whole run by its mode
 pub whole : (lay : Layout) (tries : ℕ) (calls : List Call) (words : Contents) (lines : List Line) → IsLawfulSoFar lay tries calls words lines → IsWhole lay.mode lay calls lines

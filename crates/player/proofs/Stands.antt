@@ -4,7 +4,7 @@ use Rattle.std.proofs.lemmas.Option.{slice_get_read}
 use Rattle.arena.specs.declared.layout.Layout.{Layout}
 use Rattle.arena.specs.declared.number.PassNo.{PassNo}
 use Rattle.arena.specs.declared.step.Step.{Step as Ask}
-use Rattle.script.specs.declared.command.Call.{Call}
+use Rattle.script.specs.declared.call.Call.{Call}
 use Rattle.script.specs.declared.command.Command.{Command}
 use Rattle.record.specs.declared.record.Line.{Line}
 use Rattle.record.specs.declared.record.Line.TheVariants.{Step, Reply as ReplyLine}
@@ -127,7 +127,7 @@ module _ (p : Player) (i number : ℕ) (old new : Client) (played : IsBetweenTur
     where
       at : (next : Option ℕ) → old.next ≡ next → IsAt calls old.pass.0 (drop old.number (commands calls old.pass.0)) old.next → is_some next ≡ is_some (next_command calls lines i)
       at None e x = rw (own_number, is_i) at (ap is_some (sym (none_left calls old.pass.0 old.number (rw e at x))))
-      at (Some n) e x = rw (own_number, is_i) at (ap is_some (sym (next_at calls old.pass.0 old.number n (rw e at x)).2))
+      at (Some n) e x = rw (own_number, is_i) at (ap is_some (sym (next_at calls old.pass.0 old.number n (rw e at x)).3))
 
       go : IsClient v (begin lines i) old → is_some old.next ≡ is_some (next_command calls lines i)
       go (inl x) = at old.next refl x.0.stands.place

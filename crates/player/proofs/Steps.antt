@@ -34,8 +34,9 @@ use Rattle.places.specs.Changed.{changed_key}
 use Rattle.places.specs.Places.{changes, Knows, HoldsOfKey}
 use Rattle.places.specs.Entries.{AreEntries, IsChangeBy, value_left}
 use Rattle.record.specs.MapRecord.{map_call}
-use Rattle.script.specs.declared.command.Command.TheVariants.{Llx as LlxOf, Scx as ScxOf, Vlx as VlxOf, Set as SetOf, Insert as InsertOf, Delete as DeleteOf, Get as GetOf, Successor as SuccessorOf, Range as RangeOf}
-use Rattle.script.specs.declared.command.Call.{Call}
+use Rattle.script.specs.declared.command.Command.TheVariants.{Llx as LlxOf, Scx as ScxOf, Vlx as VlxOf, Set as SetOf, Map}
+use Rattle.spelling.specs.declared.request.Request.TheVariants.{Insert as InsertOf, Delete as DeleteOf, Get as GetOf, Successor as SuccessorOf, Range as RangeOf}
+use Rattle.script.specs.declared.call.Call.{Call}
 use Rattle.script.specs.declared.command.Command.{Command}
 use Rattle.record.specs.declared.record.Line.{Line}
 use Rattle.record.specs.declared.record.Line.TheVariants.{Step, Log, Reply as ReplyLine}
@@ -217,18 +218,18 @@ module _ (p : Player) (i number : ℕ) (step : Ask) (a : IsAsked p i number step
           absurd (let z : None ≡ Some (edit_command e) = sym none ∙ here in cc)
       stands e is_edit here (Some at) q =
           let y = next_at calls c.pass.0 c.number at (rw q at place) in
-          let z : slice_get (commands calls entry.client.0) (answered lines entry.client.0) ≡ Some y.0 = own ∙ y.2 in
-          let same : y.0 ≡ edit_command e = let d : Some y.0 ≡ Some (edit_command e) = sym z ∙ here in cc in
-          record { client = c; there = there; at = at; next = q; call = record { client = record { 0 = c.pass.0 }; command = y.0 }; here = y.1; edit = e; command = same; edits = ap (λ (j : ℕ). map_call (slice_get (commands calls entry.client.0) j)) w.call ∙ ap map_call here ∙ is_edit }
+          let z : slice_get (commands calls entry.client.0) (answered lines entry.client.0) ≡ Some y.0.command = own ∙ y.3 in
+          let same : y.0.command ≡ edit_command e = let d : Some y.0.command ≡ Some (edit_command e) = sym z ∙ here in cc in
+          record { client = c; there = there; at = at; next = q; call = y.0; here = y.1; edit = e; command = same; edits = ap (λ (j : ℕ). map_call (slice_get (commands calls entry.client.0) j)) w.call ∙ ap map_call here ∙ is_edit }
 
       by_command : (command : Command) → slice_get (commands calls entry.client.0) (answered lines entry.client.0) ≡ Some command → IsEntryFor lay entry.client.0 (history lay.mode lines) (start lay.mode lines entry.client.0) (linked calls lay.mode lines entry.client.0) w.entered command → IsAtEdit calls p.clients.items entry
-      by_command (InsertOf key put) here does = stands (PutEdit key put) refl here c.next refl
-      by_command (DeleteOf key) here does = stands (TakeEdit key) refl here c.next refl
+      by_command (Map (InsertOf key put)) here does = stands (PutEdit key put) refl here c.next refl
+      by_command (Map (DeleteOf key)) here does = stands (TakeEdit key) refl here c.next refl
       by_command (LlxOf cell) here does = absurd does
       by_command (VlxOf cells) here does = absurd does
-      by_command (GetOf key) here does = absurd does
-      by_command (SuccessorOf key) here does = absurd does
-      by_command (RangeOf span) here does = absurd does
+      by_command (Map (GetOf key)) here does = absurd does
+      by_command (Map (SuccessorOf key)) here does = absurd does
+      by_command (Map (RangeOf low high most)) here does = absurd does
       by_command (ScxOf update) here does = absurd (let z : Records ≡ Tree = command_mode lay.mode calls entry.client.0 _ (ScxOf update) a.turn.so_far.of_mode here ∙ tree in cc)
       by_command (SetOf field put) here does = absurd (let z : Records ≡ Tree = command_mode lay.mode calls entry.client.0 _ (SetOf field put) a.turn.so_far.of_mode here ∙ tree in cc)
 

@@ -9,9 +9,11 @@ use Rattle.arena.specs.Lawful.{Lawful}
 use Rattle.arena.specs.declared.layout.Layout.{Layout}
 use Rattle.arena.specs.declared.limits.Limits.{Limits}
 use Rattle.arena.specs.declared.step.Kind.{Kind}
-use Rattle.script.specs.declared.command.Call.{Call}
+use Rattle.script.specs.Commands.{AsksForFewPairs}
+use Rattle.script.specs.declared.call.Call.{Call}
 use Rattle.script.specs.declared.command.Command.{Command}
-use Rattle.script.specs.declared.command.Command.TheVariants.{Llx, Scx, Vlx, Set, Insert, Delete, Get, Successor, Range}
+use Rattle.script.specs.declared.command.Command.TheVariants.{Llx, Scx, Vlx, Set, Map}
+use Rattle.spelling.specs.declared.request.Request.TheVariants.{Insert, Delete, Get, Successor, Range}
 use Rattle.record.specs.declared.record.Line.{Line}
 use Rattle.record.specs.declared.record.Line.TheVariants.{Step, Log, Reply}
 use Rattle.record.specs.declared.record.Reply.{Reply as ReplyOf}
@@ -27,6 +29,7 @@ use Rattle.record.specs.CommandRules.{most_steps}
 use Rattle.record.specs.LawfulRun.{OwesNothing, AreLines}
 use Rattle.record.specs.Replies.{IsReply}
 use Rattle.player.specs.BetweenTurns.{IsBetweenTurns, IsSameScript, IsTurnMore, HasSameClients, HasSamePlaces}
+use Rattle.player.proofs.MapCalls.{command_few}
 use Rattle.player.proofs.Steps.{between_at, same_tries, wins_at, places_at, places_roomy}
 use Rattle.record.specs.OneClient.{HasCall, AwaitsSteps, AreMadeWhile}
 use Rattle.player.specs.TurnsMore.{AreTurnsWhile, most_of_all, to_go}
@@ -160,19 +163,18 @@ moves lay tries calls c older row (Log entry ∷ Step row' ∷ behind) x settled
 moves lay tries calls c older row (Reply reply ∷ Step row' ∷ behind) x settled quiet own has = absurd cc
 
 -- no call may make more steps than these
-most_few : (lay : Layout) (tries : ℕ) (command : Command) (taken : ℕ) → taken ≤ lay.passes * lay.nodes → most_steps command tries taken ≤ most_of_all lay tries
-most_few lay tries (Llx cell) taken i = omega arith
-most_few lay tries (Scx update) taken i = omega arith
-most_few lay tries (Vlx cells) taken i = let few = cells.few in grind (arith, length-take)
-most_few lay tries (Set field value) taken i = omega arith
-most_few lay tries (Insert key value) taken i = let more : tries * (3 * (2 + taken) + 178) ≤ tries * (4422 * (2 + lay.passes * lay.nodes) + 301) = mul-le-mul_left tries (omega (arith, i)) in omega (arith, more)
-most_few lay tries (Delete key) taken i = let more : tries * (3 * (2 + taken) + 301) ≤ tries * (4422 * (2 + lay.passes * lay.nodes) + 301) = mul-le-mul_left tries (omega (arith, i)) in omega (arith, more)
-most_few lay tries (Get key) taken i = omega (arith, i)
-most_few lay tries (Successor key) taken i = let more : tries * (137 * (2 + taken)) ≤ tries * (4422 * (2 + lay.passes * lay.nodes) + 301) = mul-le-mul_left tries (omega (arith, i)) in omega (arith, more)
-most_few lay tries (Range span) taken i =
-    let few : span.most ≤ 64 = span.few in
-    let deep : (span.most + 2) * (67 * (2 + taken)) ≤ 66 * (67 * (2 + lay.passes * lay.nodes)) = mul-le-mul (omega (arith, few)) (omega (arith, i)) in
-    let more : tries * ((span.most + 2) * (67 * (2 + taken))) ≤ tries * (4422 * (2 + lay.passes * lay.nodes) + 301) = mul-le-mul_left tries (omega (arith, deep)) in
+most_few : (lay : Layout) (tries : ℕ) (command : Command) (taken : ℕ) → AsksForFewPairs command → taken ≤ lay.passes * lay.nodes → most_steps command tries taken ≤ most_of_all lay tries
+most_few lay tries (Llx cell) taken few i = omega arith
+most_few lay tries (Scx update) taken few i = omega arith
+most_few lay tries (Vlx cells) taken small i = let few = cells.few in grind (arith, length-take)
+most_few lay tries (Set field value) taken few i = omega arith
+most_few lay tries (Map (Insert key value)) taken few i = let more : tries * (3 * (2 + taken) + 178) ≤ tries * (4422 * (2 + lay.passes * lay.nodes) + 301) = mul-le-mul_left tries (omega (arith, i)) in omega (arith, more)
+most_few lay tries (Map (Delete key)) taken few i = let more : tries * (3 * (2 + taken) + 301) ≤ tries * (4422 * (2 + lay.passes * lay.nodes) + 301) = mul-le-mul_left tries (omega (arith, i)) in omega (arith, more)
+most_few lay tries (Map (Get key)) taken few i = omega (arith, i)
+most_few lay tries (Map (Successor key)) taken few i = let more : tries * (137 * (2 + taken)) ≤ tries * (4422 * (2 + lay.passes * lay.nodes) + 301) = mul-le-mul_left tries (omega (arith, i)) in omega (arith, more)
+most_few lay tries (Map (Range low high most)) taken few i =
+    let deep : (most + 2) * (67 * (2 + taken)) ≤ 66 * (67 * (2 + lay.passes * lay.nodes)) = mul-le-mul (omega (arith, few)) (omega (arith, i)) in
+    let more : tries * ((most + 2) * (67 * (2 + taken))) ≤ tries * (4422 * (2 + lay.passes * lay.nodes) + 301) = mul-le-mul_left tries (omega (arith, deep)) in
     omega (arith, more)
 
 -- so the client of a lawful run has made few since its last reply
@@ -185,7 +187,7 @@ steps_few lay tries calls (Step (Made number row) ∷ lines) c l x = go (eqb row
     before = lawful_tail lay (history lay.mode lines) row l
 
     go : (b : Bool) → eqb row.pass.0 c ≡ b → steps lines c ≤ most_of_all lay tries → cond b (suc (steps lines c)) (steps lines c) ≤ most_of_all lay tries
-    go true e many = let few = x.1.1.few in let most = most_few lay tries x.1.1.command (length (taken_nodes (history lay.mode lines))) (taken_few lay (history lay.mode lines) before) in rw (sym (eqb-true row.pass.0 c e)) (omega arith)
+    go true e many = let few = x.1.1.few in let most = most_few lay tries x.1.1.command (length (taken_nodes (history lay.mode lines))) (command_few calls row.pass.0 _ x.1.1.command x.1.1.is) (taken_few lay (history lay.mode lines) before) in rw (sym (eqb-true row.pass.0 c e)) (omega arith)
     go false e many = many
 steps_few lay tries calls (Step (Idle number client) ∷ lines) c l x = steps_few lay tries calls lines c l x.0
 steps_few lay tries calls (Log entry ∷ lines) c l x = steps_few lay tries calls lines c l x.0

@@ -22,7 +22,8 @@ use Rattle.prims.specs.Snaps.{IsAmong}
 use Rattle.prims.specs.Snap.{snap_at}
 use Rattle.prims.specs.declared.snap.Snap.{Snap}
 use Rattle.script.specs.declared.command.Command.{Command}
-use Rattle.script.specs.declared.command.Command.TheVariants.{Llx as LlxOf, Scx as ScxOf, Vlx as VlxOf, Set as SetOf, Insert as InsertOf, Delete as DeleteOf, Get as GetOf, Successor as SuccessorOf, Range as RangeOf}
+use Rattle.script.specs.declared.command.Command.TheVariants.{Llx as LlxOf, Scx as ScxOf, Vlx as VlxOf, Set as SetOf, Map}
+use Rattle.spelling.specs.declared.request.Request.TheVariants.{Insert as InsertOf, Delete as DeleteOf, Get as GetOf, Successor as SuccessorOf, Range as RangeOf}
 use Rattle.player.specs.declared.run.Run.{Run}
 use Rattle.player.specs.declared.run.Run.TheVariants.{Llx, Scx, Vlx, Edit, Get, Read}
 use Rattle.player.specs.declared.client.Client.{Client}
@@ -236,11 +237,7 @@ module _ (v : ClientView) (c : Client) (r : Row) (number : ℕ) (start : History
       source_more (ScxOf update) n moment y = y
       source_more (VlxOf cells) n moment y = y
       source_more (LlxOf cell) n moment y = y
-      source_more (InsertOf key value) n moment y = y
-      source_more (DeleteOf key) n moment y = y
-      source_more (GetOf key) n moment y = y
-      source_more (SuccessorOf key) n moment y = y
-      source_more (RangeOf span) n moment y = y
+      source_more (Map request) n moment y = y
 
   -- an LLX has no snapshots yet, and those of a VLX are kept ones
   moments_by : (q : Run) (then : Option Put) (command : Command) → start ≡ v.start → ((m : PutRun) → q ≡ Scx m → r.pass.0 ≡ c.pass.0 → r.kind ≢ LoadInfo) → IsMachineOf command c.number q then → HaveMoments v c.pass.0 command (snaps_of q) → HaveMoments (after_row v r start steps won) c.pass.0 command (snaps_of q)
@@ -250,12 +247,12 @@ module _ (v : ClientView) (c : Client) (r : Row) (number : ℕ) (start : History
   moments_by (Edit m) then command since looks of x = λ i p. absurd (omega arith)
   moments_by (Get m) then command since looks of x = λ i p. absurd (omega arith)
   moments_by (Read m) then command since looks of x = λ i p. absurd (omega arith)
-  moments_by (Vlx m) then (InsertOf key value) since looks of x = absurd of
-  moments_by (Vlx m) then (DeleteOf key) since looks of x = absurd of
+  moments_by (Vlx m) then (Map (InsertOf key value)) since looks of x = absurd of
+  moments_by (Vlx m) then (Map (DeleteOf key)) since looks of x = absurd of
   moments_by (Vlx m) then (LlxOf cell) since looks of x = absurd of
-  moments_by (Vlx m) then (GetOf key) since looks of x = absurd of
-  moments_by (Vlx m) then (SuccessorOf key) since looks of x = absurd of
-  moments_by (Vlx m) then (RangeOf span) since looks of x = absurd of
+  moments_by (Vlx m) then (Map (GetOf key)) since looks of x = absurd of
+  moments_by (Vlx m) then (Map (SuccessorOf key)) since looks of x = absurd of
+  moments_by (Vlx m) then (Map (RangeOf low high most)) since looks of x = absurd of
   moments_by (Vlx m) then (ScxOf update) since looks of x = absurd of
   moments_by (Vlx m) then (SetOf field x) since looks of y = absurd of
 

@@ -20,7 +20,7 @@ use Rattle.arena.proofs.Lemmas.{value_apart, node_word_apart}
 use Rattle.histories.specs.Descriptor.{descriptor}
 use Rattle.histories.specs.Progress.{IsStarted}
 use Rattle.histories.proofs.Lemmas.{Change, Facts, IsFlagged, IsOwned, UpdateWins, aborts, change, child_node, commits, facts, facts_before, fills_node, fills_scx, freezes, lawful_tail, marks, named_scx_inside, nothing, one_scx_owner, sets_frozen, some_is_real, update_changes, update_flagged, update_holds, updates}
-use Rattle.script.specs.declared.command.Call.{Call as CallOf}
+use Rattle.script.specs.declared.call.Call.{Call as CallOf}
 use Rattle.record.specs.declared.record.Line.{Line}
 use Rattle.record.specs.declared.record.Line.TheVariants.{Step}
 use Rattle.record.specs.declared.record.Row.TheVariants.{Step as Made}

@@ -6,7 +6,7 @@ use Rattle.arena.specs.Layout.{IsWord}
 use Rattle.arena.specs.PlainWords.{Contents, word_at}
 use Rattle.arena.specs.History.{value}
 use Rattle.arena.specs.Machines.{IsRun}
-use Rattle.script.specs.declared.command.Call.{Call}
+use Rattle.script.specs.declared.call.Call.{Call}
 use Rattle.script.specs.declared.script.Script.{Script}
 use Rattle.script.specs.Commands.{mode_of}
 use Rattle.arena.specs.declared.step.Step.{Step as Ask}

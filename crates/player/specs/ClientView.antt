@@ -24,9 +24,10 @@ use Rattle.places.specs.Replied.{HasReplied}
 use Rattle.spelling.specs.OrderedMap.{MapCall, Successor, Range, MapReply, get, reply, edit_key}
 use Rattle.spelling.specs.Spelled.{Spells}
 use Rattle.spelling.specs.declared.pair.Pair.{Pair}
-use Rattle.script.specs.declared.command.Call.{Call}
+use Rattle.script.specs.declared.call.Call.{Call}
 use Rattle.script.specs.declared.command.Command.{Command}
-use Rattle.script.specs.declared.command.Command.TheVariants.{Llx as LlxOf, Scx as ScxOf, Vlx as VlxOf, Set as SetOf, Insert as InsertOf, Delete as DeleteOf, Get as GetOf, Successor as SuccessorOf, Range as RangeOf}
+use Rattle.script.specs.declared.command.Command.TheVariants.{Llx as LlxOf, Scx as ScxOf, Vlx as VlxOf, Set as SetOf, Map}
+use Rattle.spelling.specs.declared.request.Request.TheVariants.{Insert as InsertOf, Delete as DeleteOf, Get as GetOf, Successor as SuccessorOf, Range as RangeOf}
 use Rattle.record.specs.declared.record.Line.{Line}
 use Rattle.record.specs.declared.record.Answer.{Answer}
 use Rattle.script.specs.Cells.{cells_of}
@@ -139,7 +140,7 @@ IsVlxOf _ snaps _ = ⊥
 
 -- a machine over this key serves a `get` of it
 abbrev pub IsGetOf : Command → ℕ → Option Put → Type 0
-IsGetOf (GetOf key) k None = k ≡ key
+IsGetOf (Map (GetOf key)) k None = k ≡ key
 IsGetOf _ k then = ⊥
 
 -- an ordered read, with nothing behind it, is the one that the command is
@@ -402,10 +403,10 @@ HasToldMap v call (Some told) = HasReplied v.layout v.past v.start call told ⊎
 -- what an edit tells is what its own row has found, and a delete of an absent key has none; what an
 -- ordered read tells the map has replied
 abbrev pub Tells : ClientView → ℕ → Command → Answer → Type 0
-Tells v c (InsertOf key value) (Value old) = HasEdited v c key old
-Tells v c (DeleteOf key) (Value (Some old)) = HasEdited v c key (Some old)
-Tells v c (SuccessorOf key) answer = HasToldMap v (Successor key) (reply_told answer)
-Tells v c (RangeOf span) answer = HasToldMap v (Range span.low span.high span.most) (reply_told answer)
+Tells v c (Map (InsertOf key value)) (Value old) = HasEdited v c key old
+Tells v c (Map (DeleteOf key)) (Value (Some old)) = HasEdited v c key (Some old)
+Tells v c (Map (SuccessorOf key)) answer = HasToldMap v (Successor key) (reply_told answer)
+Tells v c (Map (RangeOf low high most)) answer = HasToldMap v (Range low high most) (reply_told answer)
 Tells v c command answer = Unit {0}
 
 -- the client's call is answered, and the answer is right

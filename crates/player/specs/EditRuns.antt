@@ -6,7 +6,8 @@ use Rattle.arena.specs.History.{History}
 use Rattle.arena.specs.Machines.{Call}
 use Rattle.arena.specs.Share.{Remaining}
 use Rattle.script.specs.declared.command.Command.{Command}
-use Rattle.script.specs.declared.command.Command.TheVariants.{Insert as InsertOf, Delete as DeleteOf}
+use Rattle.script.specs.declared.command.Command.TheVariants.{Map}
+use Rattle.spelling.specs.declared.request.Request.TheVariants.{Insert as InsertOf, Delete as DeleteOf}
 use Rattle.spelling.specs.OrderedMap.{MapEdit, Insert as PutEdit, Delete as TakeEdit}
 use Rattle.tree.specs.Delete.Means.{delete_means}
 use Rattle.tree.specs.Insert.Means.{insert_means}
@@ -31,8 +32,8 @@ edit_of (Delete m) = TakeEdit m.edit.key
 
 -- the command that is the edit
 abbrev pub edit_command : MapEdit → Command
-edit_command (PutEdit key value) = InsertOf key value
-edit_command (TakeEdit key) = DeleteOf key
+edit_command (PutEdit key value) = Map (InsertOf key value)
+edit_command (TakeEdit key) = Map (DeleteOf key)
 
 -- what is left of the share that the machine has
 abbrev pub share_of : EditRun → Remaining

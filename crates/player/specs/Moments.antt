@@ -1,9 +1,10 @@
 -- Where a call took place, by what it has answered.
 use Rattle.std.specs.Prelude.{◌≡◌, ◌≢◌, ℕ, suc, ◌≤◌, List, Option, Some, None, IfSome, IfNone}
 use Rattle.spelling.specs.OrderedMap.{MapCall, get, reply}
-use Rattle.script.specs.declared.command.Call.{Call}
+use Rattle.script.specs.declared.call.Call.{Call}
 use Rattle.script.specs.declared.command.Command.{Command}
-use Rattle.script.specs.declared.command.Command.TheVariants.{Insert, Delete, Get, Successor, Range}
+use Rattle.script.specs.declared.command.Command.TheVariants.{Map}
+use Rattle.spelling.specs.declared.request.Request.TheVariants.{Insert, Delete, Get, Successor, Range}
 use Rattle.record.specs.declared.record.Line.{Line}
 use Rattle.record.specs.declared.record.Answer.{Answer}
 use Rattle.record.specs.declared.record.Answer.TheVariants.{Value, Pair, Pairs}
@@ -29,18 +30,18 @@ pub record IsOrderedMoment (calls : List Call) (lines : List Line) (changes : Li
 
 -- the moment of a call that tells pairs
 abbrev pub IsPairsMoment : List Call → List Line → List Change → Command → Answer → ℕ → ℕ → Option ℕ → Type 0
-IsPairsMoment calls lines changes (Successor key) answer first last moment = IsOrderedMoment calls lines changes (Successor key) answer first last moment
-IsPairsMoment calls lines changes (Range span) answer first last moment = IsOrderedMoment calls lines changes (Range span) answer first last moment
+IsPairsMoment calls lines changes (Map (Successor key)) answer first last moment = IsOrderedMoment calls lines changes (Map (Successor key)) answer first last moment
+IsPairsMoment calls lines changes (Map (Range low high most)) answer first last moment = IsOrderedMoment calls lines changes (Map (Range low high most)) answer first last moment
 IsPairsMoment calls lines changes command answer first last moment = moment ≡ None
 
 -- the moment of a call that tells a value: of an edit the turn of its entry; a get reads, and so
 -- does a delete of an absent key, and a successor that tells none
 abbrev pub IsValueMoment : List Call → List Line → List Change → Command → Option ℕ → ℕ → ℕ → Option ℕ → Option ℕ → Type 0
-IsValueMoment calls lines changes (Insert key value) told first last won moment = moment ≡ won
-IsValueMoment calls lines changes (Delete key) (Some old) first last won moment = moment ≡ won
-IsValueMoment calls lines changes (Delete key) None first last won moment = IsReadMoment calls lines changes key None first last moment
-IsValueMoment calls lines changes (Get key) told first last won moment = IsReadMoment calls lines changes key told first last moment
-IsValueMoment calls lines changes (Successor key) told first last won moment = IsOrderedMoment calls lines changes (Successor key) (Value told) first last moment
+IsValueMoment calls lines changes (Map (Insert key value)) told first last won moment = moment ≡ won
+IsValueMoment calls lines changes (Map (Delete key)) (Some old) first last won moment = moment ≡ won
+IsValueMoment calls lines changes (Map (Delete key)) None first last won moment = IsReadMoment calls lines changes key None first last moment
+IsValueMoment calls lines changes (Map (Get key)) told first last won moment = IsReadMoment calls lines changes key told first last moment
+IsValueMoment calls lines changes (Map (Successor key)) told first last won moment = IsOrderedMoment calls lines changes (Map (Successor key)) (Value told) first last moment
 IsValueMoment calls lines changes command told first last won moment = moment ≡ None
 
 -- the moment of a call with this answer; of one that tells no value, that of a call of cells

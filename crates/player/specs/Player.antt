@@ -1,6 +1,6 @@
 -- What callers know of a player.
 use Rattle.std.specs.Prelude.{ℕ, List}
-use Rattle.script.specs.declared.command.Call.{Call}
+use Rattle.script.specs.declared.call.Call.{Call}
 use Rattle.record.specs.declared.record.Line.{Line}
 use Rattle.player.specs.Lines.{newest}
 use Rattle.player.specs.declared.player.Player.{Player}

@@ -10,7 +10,8 @@ use Rattle.order.specs.Successor.Known.{SuccessorIsReady, SuccessorWaits, Succes
 use Rattle.order.specs.Successor.Steps.{successor_left}
 use Rattle.order.specs.declared.refused.Refused.TheVariants as refused
 use Rattle.script.specs.declared.command.Command.{Command}
-use Rattle.script.specs.declared.command.Command.TheVariants.{Successor as SuccessorOf, Range as RangeOf}
+use Rattle.script.specs.declared.command.Command.TheVariants.{Map}
+use Rattle.spelling.specs.declared.request.Request.TheVariants.{Successor as SuccessorOf, Range as RangeOf}
 use Rattle.record.specs.declared.record.Answer.{Answer}
 use Rattle.record.specs.declared.record.Answer.TheVariants.{Value, Pair, Pairs, Contended, NoMemory}
 use Rattle.record.specs.Rules.Range.{TakesNothing}
@@ -19,8 +20,8 @@ use Rattle.player.specs.declared.read.ReadRun.TheVariants.{Successor, Range}
 
 -- the machine serves this command
 abbrev pub IsReadBy : ReadRun → Command → Type 0
-IsReadBy (Successor m) (SuccessorOf key) = m.key ≡ key
-IsReadBy (Range m) (RangeOf span) = (m.low ≡ span.low) × (m.high ≡ span.high) × (m.most ≡ span.most)
+IsReadBy (Successor m) (Map (SuccessorOf key)) = m.key ≡ key
+IsReadBy (Range m) (Map (RangeOf low high most)) = (m.low ≡ low) × (m.high ≡ high) × (m.most ≡ most)
 IsReadBy m command = ⊥
 
 -- the two serve the same

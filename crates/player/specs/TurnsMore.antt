@@ -1,7 +1,7 @@
 -- Turns of one client that a player has made one after another.
 use Rattle.std.specs.Prelude.{◌≡◌, ℕ, suc, ◌+◌, ◌-◌, ◌*◌, List, ◌++◌, length, replicate}
 use Rattle.arena.specs.declared.layout.Layout.{Layout}
-use Rattle.script.specs.declared.command.Call.{Call}
+use Rattle.script.specs.declared.call.Call.{Call}
 use Rattle.record.specs.declared.record.Line.{Line}
 use Rattle.player.specs.declared.player.Player.{Player}
 use Rattle.player.specs.Player.{lines_of}

@@ -12,7 +12,8 @@ use order::{RangeRun, SuccessorRun};
 use places::Places;
 use prims::{Llx, LlxRun, PutRun, ScxRun, Snap, Snaps, Update, VlxRun};
 use record::{Answer, Reply};
-use script::{Call, Cell, Command, Span};
+use script::{Call, Cell, Command};
+use spelling::Request;
 use std::alloc::Global;
 use tree::{Delete, GetRun, Insert};
 
@@ -62,9 +63,11 @@ pub(crate) struct Client {
 
 impl Client {
     ghost use Rattle.std.specs.Prelude.{◌≡◌, ◌≢◌, ◌<◌, ◌≤◌, ◌+◌, ◌-◌, Option, Some, None, IsSome, IfSome, is_some, IfOk, OnOk, IfErr, List, [], length, map, slice_get, MatchOption, All};
-    ghost use Rattle.script.specs.Commands.{mode_of};
+    ghost use Rattle.script.specs.Commands.{mode_of, AsksForFewPairs};
     ghost use Rattle.arena.specs.declared.limits.Mode.TheVariants.{Records};
-    ghost use Rattle.script.specs.declared.command.Command.TheVariants.{Scx as ScxCommand, Range as RangeCommand};
+    ghost use Rattle.script.specs.declared.command.Command.TheVariants.{Scx as ScxCommand, Map as MapCommand};
+    ghost use Rattle.spelling.specs.declared.request.Request.TheVariants.{Range as RangeOf};
+    ghost use Rattle.spelling.specs.Requests.{AsksForFew};
     ghost use Rattle.arena.specs.History.{History};
     ghost use Rattle.prims.specs.declared.snap.Snap.{Snap};
     ghost use Rattle.player.specs.declared.run.Run.{Run};
@@ -75,7 +78,7 @@ impl Client {
     ghost use Rattle.player.specs.declared.client.Running.{Running};
     ghost use Rattle.arena.specs.declared.limits.Mode.TheVariants.{Tree};
     ghost use Rattle.player.specs.EditRuns.{made_by, edit_command};
-    ghost use Rattle.script.specs.declared.command.Call.{Call as ScriptCall};
+    ghost use Rattle.script.specs.declared.call.Call.{Call as ScriptCall};
     ghost use Rattle.arena.specs.Share.{IsFull, after_taking};
     ghost use Rattle.record.specs.declared.record.Line.{Line};
     ghost use Rattle.places.specs.Places.{changes};
@@ -157,6 +160,7 @@ impl Client {
 
     /// Begins a call, which answers at once or asks for a step.
     fn begin(&mut self, command: Command, turn: u64) -> Option<Answer>
+        requires { AsksForFewPairs command }
         ensures { (v : ClientView) (began : Option ℕ) → IsSound v → 0 < v.tries → v.layout.mode ≡ mode_of command → Rests v self.old → IsUnbegun v began → command_of v self.old ≡ Some command → BeginsOrRefuses v turn self.old self.new result }
     {
         self.begin = turn;
@@ -175,16 +179,26 @@ impl Client {
                 Ok(snaps) => self.run(Run::Vlx(VlxRun::new(Snaps::new(&snaps))), None),
                 Err(node) => Some(Answer::Unlinked { node }),
             },
-            Command::Insert { key, value } => {
+            Command::Map(request) => self.begin_request(request),
+        }
+    }
+
+    /// Begins a call of the map.
+    fn begin_request(&mut self, request: Request<u64, u64>) -> Option<Answer>
+        requires { AsksForFew request }
+        ensures { (v : ClientView) (began : Option ℕ) → IsSound v → 0 < v.tries → v.layout.mode ≡ Tree → Rests v self.old → IsUnbegun v began → command_of v self.old ≡ Some (MapCommand request) → BeginsOrRefuses v self.old.begin self.old self.new result }
+    {
+        match request {
+            Request::Insert { key, value } => {
                 self.begin_edit(Edit::Insert(Insert { key, value }))
             }
-            Command::Delete { key } => self.begin_edit(Edit::Delete(Delete { key })),
-            Command::Get { key } => self.run(Run::Get(GetRun::new(key)), None),
-            Command::Successor { key } => {
+            Request::Delete { key } => self.begin_edit(Edit::Delete(Delete { key })),
+            Request::Get { key } => self.run(Run::Get(GetRun::new(key)), None),
+            Request::Successor { key } => {
                 let run = SuccessorRun::new(self.alloc, key, self.tries);
                 self.run(Run::Read(ReadRun::Successor(run)), None)
             }
-            Command::Range(span) => self.begin_range(&span),
+            Request::Range { low, high, most } => self.begin_range(low, high, most),
         }
     }
 
@@ -198,14 +212,14 @@ impl Client {
     }
 
     /// Begins a range; one that takes nothing answers at once.
-    fn begin_range(&mut self, span: &Span) -> Option<Answer>
-        ensures { (v : ClientView) (began : Option ℕ) → IsSound v → 0 < v.tries → v.layout.mode ≡ Tree → Rests v self.old → IsUnbegun v began → command_of v self.old ≡ Some (RangeCommand span.now) → BeginsOrRefuses v self.old.begin self.old self.new result }
+    fn begin_range(&mut self, low: u64, high: u64, most: u32) -> Option<Answer>
+        requires { most ≤ 64 }
+        ensures { (v : ClientView) (began : Option ℕ) → IsSound v → 0 < v.tries → v.layout.mode ≡ Tree → Rests v self.old → IsUnbegun v began → command_of v self.old ≡ Some (MapCommand (RangeOf low high most)) → BeginsOrRefuses v self.old.begin self.old self.new result }
     {
-        if span.most == 0 || span.high < span.low {
+        if most == 0 || high < low {
             return Some(Answer::Pairs(Vec::new(self.alloc)));
         }
-        let most = span.most as usize;
-        let run = RangeRun::new(self.alloc, span.low, span.high, most, self.tries);
+        let run = RangeRun::new(self.alloc, low, high, most as usize, self.tries);
         self.run(Run::Read(ReadRun::Range(run)), None)
     }
 
@@ -413,10 +427,12 @@ impl Client {
     {
         let command = self.call(calls)?.command;
         match command {
-            Command::Successor { key: _ } => {
+            Command::Map(Request::Successor { .. }) => {
                 Some(places.greatest_of(&command, answer, self.begin, turn))
             }
-            Command::Range(_) => Some(places.greatest_of(&command, answer, self.begin, turn)),
+            Command::Map(Request::Range { .. }) => {
+                Some(places.greatest_of(&command, answer, self.begin, turn))
+            }
             _ => None,
         }
     }
@@ -435,13 +451,13 @@ impl Client {
     {
         let command = self.call(calls)?.command;
         match command {
-            Command::Insert { key: _, value: _ } => won,
-            Command::Delete { key } => match value {
+            Command::Map(Request::Insert { .. }) => won,
+            Command::Map(Request::Delete { key }) => match value {
                 Some(_) => won,
                 None => places.greatest(key, None, self.begin, turn),
             },
-            Command::Get { key } => places.greatest(key, value, self.begin, turn),
-            Command::Successor { key: _ } => {
+            Command::Map(Request::Get { key }) => places.greatest(key, value, self.begin, turn),
+            Command::Map(Request::Successor { .. }) => {
                 let answer = Answer::Value(value);
                 Some(places.greatest_of(&command, &answer, self.begin, turn))
             }

@@ -14,6 +14,7 @@ use arena::{Kind, NoMemory, NodeNo, NodeWord, PassNo, PlainWords, ScxNo, ScxWord
 use places::{Change, Places};
 use record::{Answer, Entry, Line, Record, Row};
 use script::{Command, Script};
+use spelling::Request;
 use std::alloc::Global;
 
 /// Plays a script's calls, one turn of a client at a time.
@@ -305,8 +306,8 @@ fn edited(command: Command) -> Option<(u64, Option<u64>)>
     ensures key { IfSome result (λ r. changed_key command ≡ Some r.0) }
 {
     match command {
-        Command::Insert { key, value } => Some((key, Some(value))),
-        Command::Delete { key } => Some((key, None)),
+        Command::Map(Request::Insert { key, value }) => Some((key, Some(value))),
+        Command::Map(Request::Delete { key }) => Some((key, None)),
         _ => None,
     }
 }

@@ -5,7 +5,7 @@ use Rattle.arena.specs.declared.limits.Limits.{Limits}
 use Rattle.arena.specs.declared.limits.Mode.{Mode}
 use Rattle.script.specs.Grammars.{IsScheduleFault, SayScript}
 use Rattle.texts.specs.Texts.{IfBad}
-use Rattle.script.specs.declared.command.Call.{Call}
+use Rattle.script.specs.declared.call.Call.{Call}
 use Rattle.script.specs.declared.fault.ScheduleCause.{ScheduleCause}
 use Rattle.texts.specs.declared.fault.TextFault.{TextFault}
 use Rattle.texts.specs.declared.fault.TextFault.TheVariants.{NoMemory, Read, Bad}

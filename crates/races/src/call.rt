@@ -2,19 +2,13 @@
 use crate::plain_map::PlainMap;
 use arena::PassNo;
 use record::Answer;
-use script::{Command, Script, Span};
-use spelling::Pair;
+use script::{Command, Script};
+use spelling::{Pair, Request};
 use std::alloc::AllocError;
 
 /// What a call on the tree does.
 #[derive(Clone, Copy, Debug, PartialEq, Eq)]
-pub(crate) enum MapCall {
-    Insert { key: u64, value: u64 },
-    Delete { key: u64 },
-    Get { key: u64 },
-    Successor { key: u64 },
-    Range(Span),
-}
+pub(crate) struct MapCall(pub(crate) Request<u64, u64>);
 
 impl MapCall {
     /// The call of this number of a client, if the script has it.
@@ -33,56 +27,52 @@ impl MapCall {
 
     fn of_command(command: Command) -> Option<MapCall> {
         match command {
-            Command::Insert { key, value } => Some(MapCall::Insert { key, value }),
-            Command::Delete { key } => Some(MapCall::Delete { key }),
-            Command::Get { key } => Some(MapCall::Get { key }),
-            Command::Successor { key } => Some(MapCall::Successor { key }),
-            Command::Range(span) => Some(MapCall::Range(span)),
+            Command::Map(request) => Some(MapCall(request)),
             _ => None,
         }
     }
 
     /// Makes the call on a map, and tells what it answers.
     pub(crate) fn make(self, map: &mut PlainMap) -> Result<Answer, AllocError> {
-        Ok(match self {
-            MapCall::Insert { key, value } => Answer::Value(map.insert(key, value)?),
-            MapCall::Delete { key } => Answer::Value(map.delete(key)),
-            MapCall::Get { key } => Answer::Value(map.get(key)),
-            MapCall::Successor { key } => pair_or_none(map.successor(key)),
-            MapCall::Range(span) => Answer::Pairs(map.range(span)?),
+        Ok(match self.0 {
+            Request::Insert { key, value } => Answer::Value(map.insert(key, value)?),
+            Request::Delete { key } => Answer::Value(map.delete(key)),
+            Request::Get { key } => Answer::Value(map.get(key)),
+            Request::Successor { key } => pair_or_none(map.successor(key)),
+            Request::Range { low, high, most } => Answer::Pairs(map.range((low, high), most)?),
         })
     }
 
     /// Whether the call has changed the map, by an update, if it answers this: a delete that found
     /// none has only looked.
     pub(crate) fn enters(self, answer: &Answer) -> bool {
-        match self {
-            MapCall::Insert { .. } => true,
-            MapCall::Delete { .. } => *answer != Answer::Value(None),
+        match self.0 {
+            Request::Insert { .. } => true,
+            Request::Delete { .. } => *answer != Answer::Value(None),
             _ => false,
         }
     }
 
     /// Whether the call may change the map.
     pub(crate) fn may_change(self) -> bool {
-        match self {
-            MapCall::Insert { .. } | MapCall::Delete { .. } => true,
+        match self.0 {
+            Request::Insert { .. } | Request::Delete { .. } => true,
             _ => false,
         }
     }
 
     /// Whether the call takes no pair, whatever the map has. It then makes no step.
     pub(crate) fn takes_nothing(self) -> bool {
-        match self {
-            MapCall::Range(span) => span.most == 0 || span.low > span.high,
+        match self.0 {
+            Request::Range { low, high, most } => most == 0 || low > high,
             _ => false,
         }
     }
 
     /// Whether the call may be refused so.
     pub(crate) fn may_be_refused(self, answer: &Answer) -> bool {
-        match (self, answer) {
-            (MapCall::Get { .. }, _) => false,
+        match (self.0, answer) {
+            (Request::Get { .. }, _) => false,
             (_, Answer::Contended { .. }) => true,
             (_, Answer::Full { .. }) => self.may_change(),
             (_, Answer::NoMemory) => !self.may_change(),

@@ -7,6 +7,7 @@ use crate::race::{Race, played};
 use crate::wrong::Wrong;
 use arena::{Kind, Resource};
 use record::Answer;
+use spelling::Request;
 use std::alloc::Global;
 use std::test::Fail;
 
@@ -190,13 +191,13 @@ fn change_and_look(alloc: Global, looked: u64, told: &Answer) -> Result<(), Wron
     past.put(Place {
         moment: looked,
         looks: true,
-        call: MapCall::Get { key: 5 },
+        call: MapCall(Request::Get { key: 5 }),
         told: Some(told),
     })?;
     past.put(Place {
         moment: 7,
         looks: false,
-        call: MapCall::Insert { key: 5, value: 50 },
+        call: MapCall(Request::Insert { key: 5, value: 50 }),
         told: None,
     })?;
     past.in_order()

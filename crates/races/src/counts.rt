@@ -2,6 +2,7 @@
 use crate::call::MapCall;
 use arena::{NodeNo, NodeWord, Word};
 use record::{Answer, Line, Record, Reply, Row};
+use spelling::Request;
 
 /// How many calls told something, how many told that there is none, and how many were refused and
 /// why.
@@ -56,9 +57,9 @@ impl Counts {
 
     fn count_reply(&mut self, record: &Record, reply: &Reply) {
         match MapCall::of(&record.script, reply.client, reply.call) {
-            Some(MapCall::Delete { .. }) => self.deletes.count(&reply.answer),
-            Some(MapCall::Successor { .. }) => self.successors.count(&reply.answer),
-            Some(MapCall::Range(_)) => self.count_range(record, reply),
+            Some(MapCall(Request::Delete { .. })) => self.deletes.count(&reply.answer),
+            Some(MapCall(Request::Successor { .. })) => self.successors.count(&reply.answer),
+            Some(MapCall(Request::Range { .. })) => self.count_range(record, reply),
             _ => self.others.count(&reply.answer),
         }
     }

@@ -1,5 +1,4 @@
 //! A map as a plain list.
-use script::Span;
 use spelling::Pair;
 use std::alloc::{AllocError, Global};
 
@@ -34,12 +33,12 @@ impl PlainMap {
         self.pairs.iter().find(|pair| pair.key > key).copied()
     }
 
-    /// The first pairs of those with keys of the span.
-    pub(crate) fn range(&self, span: Span) -> Result<Vec<Pair>, AllocError> {
+    /// The first pairs of those with keys between these, at most so many.
+    pub(crate) fn range(&self, keys: (u64, u64), most: u32) -> Result<Vec<Pair>, AllocError> {
         let mut taken = Vec::new(self.alloc);
         for pair in self.pairs.iter() {
-            let inside = span.low <= pair.key && pair.key <= span.high;
-            if inside && taken.len() < span.most as usize {
+            let inside = keys.0 <= pair.key && pair.key <= keys.1;
+            if inside && taken.len() < most as usize {
                 taken.push(*pair)?;
             }
         }

@@ -2,7 +2,7 @@
 use Rattle.std.proofs.Common.{◌≡◌, ℕ, suc, ◌≤◌, Bool, true, false, cond, ◌||◌, eqb, is_some, unwrap_or, List, [], ◌∷◌, Option, Some, None, refl, sym, ◌∙◌, arith}
 use Rattle.arena.specs.declared.limits.Mode.{Mode}
 use Rattle.arena.specs.declared.layout.Layout.{Layout}
-use Rattle.script.specs.declared.command.Call.{Call}
+use Rattle.script.specs.declared.call.Call.{Call}
 use Rattle.record.specs.declared.record.Line.{Line}
 use Rattle.record.specs.declared.record.Line.TheVariants.{Step, Log, Reply as ReplyLine}
 use Rattle.record.specs.declared.record.Row.{Row}

@@ -4,9 +4,10 @@ use Rattle.arena.specs.declared.layout.Layout.{Layout}
 use Rattle.arena.specs.declared.step.Kind.{Kind}
 use Rattle.arena.specs.History.{History, value}
 use Rattle.arena.specs.Log.{Entry as Entered}
-use Rattle.script.specs.declared.command.Call.{Call}
+use Rattle.script.specs.declared.call.Call.{Call}
 use Rattle.script.specs.declared.command.Command.{Command}
-use Rattle.script.specs.declared.command.Command.TheVariants.{Llx, Scx, Vlx, Set, Insert, Delete, Get, Successor, Range}
+use Rattle.script.specs.declared.command.Command.TheVariants.{Llx, Scx, Vlx, Set, Map}
+use Rattle.spelling.specs.declared.request.Request.TheVariants.{Insert, Delete, Get, Successor, Range}
 use Rattle.record.specs.declared.record.Line.{Line}
 use Rattle.record.specs.declared.record.Reply.{Reply}
 use Rattle.record.specs.declared.record.Answer.{Answer}
@@ -29,11 +30,11 @@ rules (Llx cell) = llx_rules cell
 rules (Scx update) = scx_rules update
 rules (Vlx cells) = vlx_rules cells
 rules (Set field value) = set_rules field value
-rules (Insert key value) = insert_rules key value
-rules (Delete key) = delete_rules key
-rules (Get key) = get_rules key
-rules (Successor key) = successor_rules key
-rules (Range span) = range_rules span.low span.high span.most
+rules (Map (Insert key value)) = insert_rules key value
+rules (Map (Delete key)) = delete_rules key
+rules (Map (Get key)) = get_rules key
+rules (Map (Successor key)) = successor_rules key
+rules (Map (Range low high most)) = range_rules low high most
 
 -- how many steps a call may make, where it may try so often, while so many nodes are taken, by any
 -- client; those of cells make no more where nodes are taken

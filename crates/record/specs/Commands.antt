@@ -1,6 +1,6 @@
 -- What clients are to do.
 use Rattle.std.specs.Prelude.{ℕ, cond, eqb, List, [], ◌∷◌, Option, slice_get}
-use Rattle.script.specs.declared.command.Call.{Call}
+use Rattle.script.specs.declared.call.Call.{Call}
 use Rattle.script.specs.declared.command.Command.{Command}
 use Rattle.record.specs.declared.record.Line.{Line}
 use Rattle.record.specs.Turns.{answered}

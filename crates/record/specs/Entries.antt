@@ -5,7 +5,7 @@ use Rattle.arena.specs.declared.step.Row.{Row as StepRow}
 use Rattle.arena.specs.History.{◌⊳◌}
 use Rattle.arena.specs.Lawful.{IsWin}
 use Rattle.arena.specs.Log.{Entry as Entered, log}
-use Rattle.script.specs.declared.command.Call.{Call}
+use Rattle.script.specs.declared.call.Call.{Call}
 use Rattle.script.specs.declared.command.Command.{Command}
 use Rattle.record.specs.declared.record.Line.{Line}
 use Rattle.record.specs.declared.record.Line.TheVariants.{Step}

@@ -2,7 +2,7 @@
 use Rattle.std.specs.Prelude.{ℕ, cond, eqb, List, [], ◌∷◌, Option, None}
 use Rattle.arena.specs.declared.limits.Mode.{Mode}
 use Rattle.arena.specs.History.{History}
-use Rattle.script.specs.declared.command.Call.{Call}
+use Rattle.script.specs.declared.call.Call.{Call}
 use Rattle.record.specs.declared.record.Line.{Line}
 use Rattle.record.specs.declared.record.Line.TheVariants.{Step, Log, Reply as ReplyLine}
 use Rattle.record.specs.Turns.{history}

@@ -2,10 +2,11 @@
 -- stand here with the newest first.
 use Rattle.std.specs.Prelude.{ℕ, suc, Bool, cond, ◌&&◌, eqb, leb, List, [], ◌∷◌, Option, Some, None, slice_get}
 use Rattle.spelling.specs.declared.pair.Pair.{Pair}
-use Rattle.spelling.specs.OrderedMap.{MapCall, Edit, Insert, Delete, Get, Successor, Range, MapReply, OneValue, OnePair, ManyPairs, after}
-use Rattle.script.specs.declared.command.Call.{Call}
+use Rattle.spelling.specs.OrderedMap.{MapCall, MapReply, OneValue, OnePair, ManyPairs, after}
+use Rattle.spelling.specs.Requests.{map_request}
+use Rattle.script.specs.declared.call.Call.{Call}
 use Rattle.script.specs.declared.command.Command.{Command}
-use Rattle.script.specs.declared.command.Command.TheVariants.{Insert as InsertOf, Delete as DeleteOf, Get as GetOf, Successor as SuccessorOf, Range as RangeOf}
+use Rattle.script.specs.declared.command.Command.TheVariants.{Map}
 use Rattle.record.specs.declared.record.Line.{Line}
 use Rattle.record.specs.declared.record.Line.TheVariants.{Step, Log, Reply as ReplyLine}
 use Rattle.record.specs.declared.record.Entry.{Entry}
@@ -15,11 +16,7 @@ use Rattle.record.specs.Commands.{commands}
 
 -- a command as a call of the map, if it is one
 abbrev pub map_call : Option Command → Option MapCall
-map_call (Some (InsertOf key value)) = Some (Edit (Insert key value))
-map_call (Some (DeleteOf key)) = Some (Edit (Delete key))
-map_call (Some (GetOf key)) = Some (Get key)
-map_call (Some (SuccessorOf key)) = Some (Successor key)
-map_call (Some (RangeOf span)) = Some (Range span.low span.high span.most)
+map_call (Some (Map request)) = Some (map_request request)
 map_call _ = None
 
 -- call j of client c, in the script, as a call of the map

@@ -1,7 +1,7 @@
 -- Where a call of the map stands in the record, and what its reply says there.
 use Rattle.std.specs.Prelude.{◌≡◌, ℕ, ◌<◌, ◌≤◌, List, ◌∷◌, ◌++◌, Bool, true, false, Option, Some, None}
 use Rattle.spelling.specs.OrderedMap.{MapCall, MapReply, reply, changes}
-use Rattle.script.specs.declared.command.Call.{Call}
+use Rattle.script.specs.declared.call.Call.{Call}
 use Rattle.record.specs.declared.record.Line.{Line}
 use Rattle.record.specs.declared.record.Line.TheVariants.{Log}
 use Rattle.record.specs.declared.record.Entry.{Entry}

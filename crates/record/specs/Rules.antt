@@ -13,7 +13,7 @@ use Rattle.arena.specs.declared.layout.Layout.{Layout}
 use Rattle.arena.specs.declared.step.Kind.{Kind}
 use Rattle.arena.specs.History.{History}
 use Rattle.arena.specs.Log.{Entry as Entered}
-use Rattle.script.specs.declared.command.Call.{Call}
+use Rattle.script.specs.declared.call.Call.{Call}
 use Rattle.record.specs.declared.record.Line.{Line}
 use Rattle.record.specs.declared.record.Reply.{Reply}
 use Rattle.record.specs.declared.record.Answer.{Answer}

@@ -1,7 +1,7 @@
 -- What a schedule means: which turns its orders ask for, one order after
 -- another. Lines stand here with the newest first.
 use Rattle.std.specs.Prelude.{◌≡◌, ℕ, suc, ◌+◌, ◌<◌, ◌⊎◌, List, [], ◌∷◌, ◌++◌, reverse}
-use Rattle.script.specs.declared.command.Call.{Call}
+use Rattle.script.specs.declared.call.Call.{Call}
 use Rattle.script.specs.declared.schedule.Order.{Order}
 use Rattle.script.specs.declared.schedule.Order.TheVariants.{Step, Call as CallOf, Until, Finish}
 use Rattle.script.specs.declared.schedule.Schedule.{Schedule}

@@ -4,7 +4,7 @@ use Rattle.arena.specs.declared.layout.Layout.{Layout}
 use Rattle.arena.specs.History.{value}
 use Rattle.spelling.specs.Spelled.{Spells}
 pub use Rattle.spelling.specs.FillOrder.{HasStoodInField, HasRisingLevels}
-use Rattle.script.specs.declared.command.Call.{Call}
+use Rattle.script.specs.declared.call.Call.{Call}
 use Rattle.record.specs.declared.record.Line.{Line}
 use Rattle.record.specs.Turns.{history, entry_owed}
 use Rattle.record.specs.MapRecord.{written_log, map_of}

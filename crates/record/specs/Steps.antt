@@ -7,7 +7,7 @@ use Rattle.arena.specs.declared.word.ScxWord.TheVariants.{Call as CallWord}
 use Rattle.arena.specs.Words.{scx}
 use Rattle.arena.specs.Lawful.{IsLawful}
 use Rattle.arena.specs.TakenNodes.{taken_nodes}
-use Rattle.script.specs.declared.command.Call.{Call}
+use Rattle.script.specs.declared.call.Call.{Call}
 use Rattle.script.specs.declared.command.Command.{Command}
 use Rattle.record.specs.declared.record.Line.{Line}
 use Rattle.record.specs.declared.record.Row.TheVariants.{Step as Made, Idle}

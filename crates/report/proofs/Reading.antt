@@ -5,7 +5,7 @@ use Rattle.csv.specs.Records.{field_at}
 use Rattle.texts.specs.Fields.{field_of}
 use Rattle.texts.specs.declared.rows.Rows.{Rows}
 use Rattle.texts.specs.Texts.{AreRows, IsRow}
-use Rattle.script.specs.declared.command.Call.{Call}
+use Rattle.script.specs.declared.call.Call.{Call}
 use Rattle.script.specs.declared.script.Script.{Script}
 use Rattle.script.specs.Rows.{limits_row}
 use Rattle.record.specs.declared.record.Line.{Line}

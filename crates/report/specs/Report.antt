@@ -6,7 +6,7 @@ use Rattle.arena.specs.declared.limits.Mode.TheVariants.{Tree, Records}
 use Rattle.script.specs.Kinds.{kind_text}
 use Rattle.script.specs.Commands.{command_row}
 use Rattle.script.specs.Rows.{limits_row}
-use Rattle.script.specs.declared.command.Call.{Call}
+use Rattle.script.specs.declared.call.Call.{Call}
 use Rattle.script.specs.declared.script.Script.{Script}
 use Rattle.record.specs.declared.record.Line.{Line}
 use Rattle.record.specs.declared.record.Line.TheVariants.{Step, Log, Reply}

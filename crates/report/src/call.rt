@@ -1,7 +1,7 @@
 //! Calls as rows.
 ghost use Rattle.std.specs.Prelude.{◌≡◌, ◌+◌, ◌^◌, ◌<◌, List, [], ◌∷◌, ◌++◌, length, reverse, IfOk, OnOk, codes, decimal, string_bytes};
 ghost use Rattle.std.specs.Io.KnownBytes.{Appends};
-ghost use Rattle.script.specs.declared.command.Call.{Call};
+ghost use Rattle.script.specs.declared.call.Call.{Call};
 ghost use Rattle.report.specs.Counts.{HasCounted};
 ghost use Rattle.script.specs.Commands.{command_row};
 ghost use Rattle.report.specs.Report.{call_rows};

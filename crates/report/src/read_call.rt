@@ -1,7 +1,7 @@
 //! The calls of a report's script, as rows say them.
 ghost use Rattle.std.specs.Prelude.{◌≡◌, ◌≢◌, ◌≤◌, ◌<◌, ◌^◌, ◌-◌, List, [], ◌∷◌, ◌++◌, ℕ, All, IfOk, IfSome, codes, decimal, length, map, vec_len};
 ghost use Rattle.script.specs.Commands.{command_row, mode_of, texts};
-ghost use Rattle.script.specs.declared.command.Call.{Call};
+ghost use Rattle.script.specs.declared.call.Call.{Call};
 ghost use Rattle.report.specs.Counts.{HasCounted};
 ghost use Rattle.texts.specs.Reads.{IsAtRow, last_row};
 ghost use Rattle.report.specs.Report.{reported_call_row, call_rows};

@@ -6,7 +6,7 @@ use Rattle.arena.specs.History.{Extends}
 use Rattle.arena.proofs.Lemmas.{ends_self, ends_trans}
 use Rattle.spelling.specs.OrderedMap.{MapCall}
 use Rattle.dict.specs.declared.reply.Reply.{Reply}
-use Rattle.script.specs.declared.command.Call.{Call}
+use Rattle.script.specs.declared.call.Call.{Call}
 use Rattle.script.specs.declared.command.Command.{Command}
 use Rattle.record.specs.Commands.{commands}
 use Rattle.record.specs.MapRecord.{map_call}

@@ -9,7 +9,7 @@ use Rattle.dict.specs.Forms.{MayReply, form_of}
 use Rattle.dict.specs.Typed.{TypedAllows}
 use Rattle.dict.specs.Words.{IsWord, told_of}
 use Rattle.dict.specs.declared.reply.Reply.{Reply}
-use Rattle.script.specs.declared.command.Call.{Call}
+use Rattle.script.specs.declared.call.Call.{Call}
 use Rattle.script.specs.declared.command.Command.{Command}
 use Rattle.record.specs.Commands.{commands}
 use Rattle.record.specs.MapRecord.{map_call}

@@ -1,7 +1,7 @@
 -- Which call waits for which.
 use Rattle.std.specs.Prelude.{ℕ, zero, suc, Bool, true, false, cond, ltb, List, length, Option, Some, None}
 use Rattle.arena.specs.declared.number.PassNo.{PassNo}
-use Rattle.script.specs.declared.command.Call.{Call}
+use Rattle.script.specs.declared.call.Call.{Call}
 use Rattle.record.specs.Commands.{commands}
 
 -- how many calls a client has

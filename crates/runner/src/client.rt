@@ -2,7 +2,7 @@
 ghost use Rattle.std.specs.Prelude.{◌≡◌, true, false, IfOk};
 ghost use Rattle.std.specs.List.{All};
 ghost use Rattle.arena.specs.declared.limits.Mode.TheVariants.{Tree};
-ghost use Rattle.dict.specs.Words.{AsksForFew, map_call_of};
+ghost use Rattle.spelling.specs.Requests.{AsksForFew, map_request};
 ghost use Rattle.script.specs.Commands.{mode_of};
 ghost use Rattle.forest.specs.Opened.{IsSameOpen};
 ghost use Rattle.forest.specs.Passes.{IsOf};
@@ -41,7 +41,7 @@ pub(crate) fn make_calls<G: Gate>(
     for call in calls {
         if call.client == client {
             let number = replies.len() as u64;
-            let request = request_of(&call.command);
+            let request = request_of(call);
             let (back, reply) = make_call(alloc, forest, gate, number, pass, request);
             pass = back;
             replies.push(reply)?;
@@ -61,7 +61,7 @@ fn make_call<G: Gate>(
 ) -> (Pass<Numbers>, Reply<u64, u64>)
     requires pass { IsOf forest.now pass }
     requires few { AsksForFew request }
-    ensures { HasCalled pass result.0 (map_call_of (λ n. n) (λ n. n) request) result.1 }
+    ensures { HasCalled pass result.0 (map_request request) result.1 }
 {
     let client = pass.number();
     gate.began(client, number);

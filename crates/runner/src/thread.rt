@@ -3,7 +3,7 @@ ghost use Rattle.std.specs.Prelude.{◌≡◌, IsTrue, IfOk, List, [], ◌∷◌
 ghost use Rattle.std.specs.List.{All};
 ghost use Rattle.arena.specs.declared.limits.Mode.TheVariants.{Tree};
 ghost use Rattle.script.specs.Commands.{mode_of};
-ghost use Rattle.script.specs.declared.command.Call.{Call};
+ghost use Rattle.script.specs.declared.call.Call.{Call};
 ghost use Rattle.forest.specs.Passes.{Ground, IsOf, PassView};
 ghost use Rattle.runner.specs.Calls.{HasWorked, HaveWorked};
 

@@ -1,6 +1,6 @@
 -- The mode of a script's calls.
 use Rattle.std.proofs.Common.{◌≡◌, All}
-use Rattle.script.specs.declared.command.Call.{Call}
+use Rattle.script.specs.declared.call.Call.{Call}
 use Rattle.script.specs.declared.script.Script.{Script}
 use Rattle.script.specs.Commands.{mode_of}
 

@@ -1,14 +1,19 @@
 -- Commands as fields of a row.
 use Rattle.std.specs.Prelude.{ℕ, ◌≢◌, ◌≡◌, ◌≤◌, ◌<◌, ◌^◌, Option, Some, None, List, [], ◌∷◌, ◌++◌, All, codes, decimal, length, map}
+use Rattle.std.proofs.Common.{refl}
+use Rattle.std.proofs.Math.Bridge.{le_prop}
 use denote.Ref.{Bor}
 use Rattle.arena.specs.declared.limits.Mode.{Mode}
 use Rattle.arena.specs.declared.limits.Mode.TheVariants.{Records, Tree}
 use Rattle.arena.specs.declared.word.Side.{Side}
 use Rattle.arena.specs.declared.word.Side.TheVariants.{Left, Right}
+use Rattle.spelling.specs.Requests.{AsksForFew}
 use Rattle.script.specs.Cells.{cells_of}
 use Rattle.script.specs.Update.{update_cells, update_finalize, update_field, update_value}
+use Rattle.spelling.specs.declared.request.Request.{Request}
 use Rattle.script.specs.declared.command.Command.{Command}
-use Rattle.script.specs.declared.command.Command.TheVariants.{Llx, Scx, Vlx, Set, Insert, Delete, Get, Successor, Range}
+use Rattle.script.specs.declared.command.Command.TheVariants.{Llx, Scx, Vlx, Set, Map}
+use Rattle.spelling.specs.declared.request.Request.TheVariants.{Insert, Delete, Get, Successor, Range}
 
 -- the word for a side
 abbrev pub side_text : Side → List ℕ
@@ -29,26 +34,36 @@ numbers_text (n ∷ ns) = decimal n ++ spaced ns
 abbrev pub change_text : ℕ × Side → ℕ → List ℕ
 change_text field value = decimal field.0 ++ (codes " " ++ (side_text field.1 ++ (codes " " ++ decimal value)))
 
+-- the name of a call of the map and its arguments, as a script has them
+abbrev pub request_row : Request ℕ ℕ → List (List ℕ)
+request_row (Insert key value) = codes "insert" ∷ decimal key ∷ decimal value ∷ [] ∷ []
+request_row (Delete key) = codes "delete" ∷ decimal key ∷ [] ∷ [] ∷ []
+request_row (Get key) = codes "get" ∷ decimal key ∷ [] ∷ [] ∷ []
+request_row (Successor key) = codes "successor" ∷ decimal key ∷ [] ∷ [] ∷ []
+request_row (Range low high most) = codes "range" ∷ decimal low ∷ decimal high ∷ decimal most ∷ []
+
 -- a command's name and its arguments, as a script has them
 abbrev pub command_row : Command → List (List ℕ)
 command_row (Llx cell) = codes "llx" ∷ decimal cell ∷ [] ∷ [] ∷ []
 command_row (Scx update) = codes "scx" ∷ numbers_text (update_cells update) ∷ numbers_text (update_finalize update) ∷ change_text (update_field update) (update_value update) ∷ []
 command_row (Vlx cells) = codes "vlx" ∷ numbers_text (cells_of cells) ∷ [] ∷ [] ∷ []
 command_row (Set field value) = codes "set" ∷ decimal field.0 ∷ side_text field.1 ∷ decimal value ∷ []
-command_row (Insert key value) = codes "insert" ∷ decimal key ∷ decimal value ∷ [] ∷ []
-command_row (Delete key) = codes "delete" ∷ decimal key ∷ [] ∷ [] ∷ []
-command_row (Get key) = codes "get" ∷ decimal key ∷ [] ∷ [] ∷ []
-command_row (Successor key) = codes "successor" ∷ decimal key ∷ [] ∷ [] ∷ []
-command_row (Range span) = codes "range" ∷ decimal span.low ∷ decimal span.high ∷ decimal span.most ∷ []
+command_row (Map request) = request_row request
 
 -- the mode whose scripts have the command
 abbrev pub mode_of : Command → Mode
-mode_of (Insert key value) = Tree
-mode_of (Delete key) = Tree
-mode_of (Get key) = Tree
-mode_of (Successor key) = Tree
-mode_of (Range span) = Tree
+mode_of (Map request) = Tree
 mode_of _ = Records
+
+-- a range on the map asks for at most 64 pairs
+abbrev pub AsksForFewPairs : Command → Type 0
+AsksForFewPairs (Map request) = AsksForFew request
+AsksForFewPairs _ = Unit {0}
+
+-- which is so in one way at most
+pub few_prop : (command : Command) → IsProp (AsksForFewPairs command)
+few_prop (Map (Range low high most)) = le_prop
+few_prop _ = λ a b. refl
 
 -- the texts behind references
 abbrev pub texts : List (Bor (List ℕ)) → List (List ℕ)
@@ -63,19 +78,24 @@ IsCell node = (1 ≤ node) × (node ≤ 8)
 abbrev pub AreCells : List ℕ → Type 0
 AreCells nodes = (1 ≤ length nodes) × All IsCell nodes
 
--- the command is one that there is: its nodes are cells, its keys and value fit a word; an `Update`
--- itself says that those finalized are a part of its cells, and that its field belongs to one, a
--- `Span` that it takes at most 64 pairs
+-- the call of the map is one that there is: its keys and its value fit a word, and it asks for at
+-- most 64 pairs
+abbrev pub IsRequest : Request ℕ ℕ → Type 0
+IsRequest (Insert key value) = (key < 2 ^ 64) × (value < 2 ^ 64)
+IsRequest (Delete key) = key < 2 ^ 64
+IsRequest (Get key) = key < 2 ^ 64
+IsRequest (Successor key) = key < 2 ^ 64
+IsRequest (Range low high most) = (low < 2 ^ 64) × (high < 2 ^ 64) × (most ≤ 64)
+
+-- the command is one that there is: its nodes are cells, its value fits a word, and so do the keys
+-- of a call of the map; an `Update` itself says that those finalized are a part of its cells, and
+-- that its field belongs to one
 abbrev pub IsCommand : Command → Type 0
 IsCommand (Llx cell) = IsCell cell
 IsCommand (Scx update) = AreCells (update_cells update) × (update_value update < 2 ^ 64)
 IsCommand (Vlx cells) = AreCells (cells_of cells)
 IsCommand (Set field value) = IsCell field.0 × (value < 2 ^ 64)
-IsCommand (Insert key value) = (key < 2 ^ 64) × (value < 2 ^ 64)
-IsCommand (Delete key) = key < 2 ^ 64
-IsCommand (Get key) = key < 2 ^ 64
-IsCommand (Successor key) = key < 2 ^ 64
-IsCommand (Range span) = (span.low < 2 ^ 64) × (span.high < 2 ^ 64)
+IsCommand (Map request) = IsRequest request
 
 -- what is found is the command that has this row, or nothing where no command has it
 abbrev pub IsCommandOf : List (List ℕ) → Option Command → Type 0

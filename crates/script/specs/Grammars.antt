@@ -4,7 +4,7 @@ use Rattle.arena.specs.Limits.{IsAccepted, IsLayoutOf}
 use Rattle.arena.specs.declared.layout.Layout.{Layout}
 use Rattle.arena.specs.declared.limits.Limits.{Limits}
 use Rattle.arena.specs.declared.limits.Mode.{Mode}
-use Rattle.script.specs.declared.command.Call.{Call}
+use Rattle.script.specs.declared.call.Call.{Call}
 use Rattle.script.specs.declared.fault.ScheduleCause.{ScheduleCause}
 use Rattle.script.specs.declared.fault.ScheduleCause.TheVariants as schedule
 use Rattle.script.specs.declared.fault.ScriptCause.{ScriptCause}

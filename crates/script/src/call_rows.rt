@@ -1,13 +1,13 @@
 //! The rows of a script that are calls.
 ghost use Rattle.std.specs.Prelude.{◌≡◌, ◌<◌, length, refl, IfOk, IfErr};
 ghost use Rattle.csv.specs.Records.{fields_of};
-ghost use Rattle.script.specs.declared.command.Call.{Call};
+ghost use Rattle.script.specs.declared.call.Call.{Call};
 ghost use Rattle.script.specs.Calls.{call_row, IsNoCall};
 ghost use Rattle.script.specs.Grammars.{call_grammar};
 ghost use Rattle.script.specs.Commands.{mode_of, IsCommand};
 
+use crate::call::Call;
 use crate::client::client_of;
-use crate::command::Call;
 use crate::command_rows::command_of;
 use crate::fault::ScriptCause;
 use arena::Layout;

@@ -1,10 +1,11 @@
-//! Calls of a script.
+//! Commands of a script.
 ghost use Rattle.std.specs.Prelude.{◌≡◌, ◌≢◌, ◌≤◌, ◌↔◌, IsTrue, IsSome, IfSome, AllPairs, Contains, length};
 ghost use Rattle.script.specs.Part.{is_subsequence};
 ghost use Rattle.script.specs.Cells.{cells_of, maybe_cells_of};
 
 use crate::cells::{Cell, Cells};
-use arena::{PassNo, Side};
+use arena::Side;
+use spelling::Request;
 
 /// What a call does.
 #[derive(Clone, Copy, Debug, PartialEq, Eq)]
@@ -17,26 +18,8 @@ pub enum Command {
     Vlx { cells: Cells },
     /// LLX of a cell, then SCX of it alone.
     Set { field: (Cell, Side), value: u64 },
-    /// Gives a key of the map a value, in tree mode.
-    Insert { key: u64, value: u64 },
-    /// Takes a key out of the map, in tree mode.
-    Delete { key: u64 },
-    /// Looks up a key of the map, in tree mode.
-    Get { key: u64 },
-    /// Looks for the pair of the map with the least key above this one, in tree mode.
-    Successor { key: u64 },
-    /// Takes the first pairs of the map between two keys, in tree mode.
-    Range(Span),
-}
-
-/// Which pairs a range takes: the first by key of those with keys from `low` to `high`.
-#[derive(Clone, Copy, Debug, PartialEq, Eq)]
-pub struct Span {
-    pub low: u64,
-    pub high: u64,
-    /// How many pairs at most.
-    pub most: u32,
-    ghost few: { most ≤ 64 },
+    /// A call of the map, in tree mode.
+    Map(Request<u64, u64>),
 }
 
 /// What an SCX changes: a field of one of its cells gets a fresh cell with this value, and some of
@@ -131,13 +114,4 @@ fn is_subsequence(part: &[Cell], whole: &[Cell]) -> bool
         }
     }
     found == part.len()
-}
-
-/// A call and the client that makes it.
-#[derive(Clone, Copy, Debug, PartialEq, Eq)]
-pub struct Call {
-    /// The client that makes it.
-    pub client: PassNo,
-    /// What it does.
-    pub command: Command,
 }

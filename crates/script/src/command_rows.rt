@@ -4,13 +4,14 @@ ghost use Rattle.arena.specs.declared.word.Side.{Side};
 ghost use Rattle.script.specs.declared.cells.Cells.{Cells};
 ghost use Rattle.script.specs.Calls.{IsNoCommand};
 ghost use Rattle.script.specs.Cells.{cells_of, maybe_cells_of};
-ghost use Rattle.script.specs.Commands.{command_row, mode_of, change_text, numbers_text, side_text, texts, AreCells, IsCell, IsCommand, IsCommandOf};
+ghost use Rattle.script.specs.Commands.{command_row, request_row, mode_of, change_text, numbers_text, side_text, texts, AreCells, AsksForFewPairs, IsCell, IsCommand, IsCommandOf};
 
 use crate::cells::{Cell, Cells};
-use crate::command::{Command, Span, Update};
+use crate::command::{Command, Update};
 use crate::fault::ScriptCause;
 use arena::{Mode, Side};
 use itoa::Buffer;
+use spelling::Request;
 use std::alloc::{AllocError, Global};
 use texts::{number_of, small_number_of};
 
@@ -19,6 +20,7 @@ use texts::{number_of, small_number_of};
 /// arguments.
 pub fn command_of(mode: Mode, name: &str, arguments: [&str; 3]) -> Result<Command, ScriptCause>
     ensures command { IfOk result (λ command. (mode_of command ≡ mode) × IsCommand command × (name.now ∷ texts arguments.entry ≡ command_row command)) }
+    ensures few { IfOk result AsksForFewPairs }
     ensures cause { IfErr result (IsNoCommand mode name.now (texts arguments.entry)) }
 {
     let command = match (mode, name) {
@@ -86,10 +88,10 @@ fn insert_of(arguments: [&str; 3]) -> Option<Command>
     let [key, value, ""] = arguments else {
         return None;
     };
-    Some(Command::Insert {
+    Some(Command::Map(Request::Insert {
         key: number_of(key)?,
         value: number_of(value)?,
-    })
+    }))
 }
 
 fn delete_of(arguments: [&str; 3]) -> Option<Command>
@@ -98,9 +100,9 @@ fn delete_of(arguments: [&str; 3]) -> Option<Command>
     let [key, "", ""] = arguments else {
         return None;
     };
-    Some(Command::Delete {
+    Some(Command::Map(Request::Delete {
         key: number_of(key)?,
-    })
+    }))
 }
 
 fn get_of(arguments: [&str; 3]) -> Option<Command>
@@ -109,9 +111,9 @@ fn get_of(arguments: [&str; 3]) -> Option<Command>
     let [key, "", ""] = arguments else {
         return None;
     };
-    Some(Command::Get {
+    Some(Command::Map(Request::Get {
         key: number_of(key)?,
-    })
+    }))
 }
 
 fn successor_of(arguments: [&str; 3]) -> Option<Command>
@@ -120,16 +122,16 @@ fn successor_of(arguments: [&str; 3]) -> Option<Command>
     let [key, "", ""] = arguments else {
         return None;
     };
-    Some(Command::Successor {
+    Some(Command::Map(Request::Successor {
         key: number_of(key)?,
-    })
+    }))
 }
 
 fn range_of(arguments: [&str; 3]) -> Option<Command>
     ensures { IsCommandOf (codes "range" ∷ texts arguments.entry) result }
 {
     let [low, high, most] = arguments;
-    Some(Command::Range(Span {
+    Some(Command::Map(Request::Range {
         low: number_of(low)?,
         high: number_of(high)?,
         most: most_of(most)?,
@@ -242,31 +244,40 @@ impl CommandText {
                 b: format!(in alloc; "{}", side_name(field.1))?,
                 c: format!(in alloc; "{value}")?,
             }),
-            Command::Insert { key, value } => Ok(CommandText {
+            Command::Map(request) => CommandText::of_request(alloc, request),
+        }
+    }
+
+    /// The text of a call of the map. The only error is want of memory.
+    fn of_request(alloc: Global, request: &Request<u64, u64>) -> Result<CommandText, AllocError>
+        ensures { IfOk result (λ t. t.name.now ∷ string_bytes t.a ∷ string_bytes t.b ∷ string_bytes t.c ∷ [] ≡ request_row request.now) }
+    {
+        match request {
+            Request::Insert { key, value } => Ok(CommandText {
                 name: "insert",
                 a: format!(in alloc; "{key}")?,
                 b: format!(in alloc; "{value}")?,
                 c: String::new(alloc),
             }),
-            Command::Delete { key } => Ok(CommandText {
+            Request::Delete { key } => Ok(CommandText {
                 name: "delete",
                 a: format!(in alloc; "{key}")?,
                 b: String::new(alloc),
                 c: String::new(alloc),
             }),
-            Command::Get { key } => Ok(CommandText {
+            Request::Get { key } => Ok(CommandText {
                 name: "get",
                 a: format!(in alloc; "{key}")?,
                 b: String::new(alloc),
                 c: String::new(alloc),
             }),
-            Command::Successor { key } => Ok(CommandText {
+            Request::Successor { key } => Ok(CommandText {
                 name: "successor",
                 a: format!(in alloc; "{key}")?,
                 b: String::new(alloc),
                 c: String::new(alloc),
             }),
-            Command::Range(Span { low, high, most }) => Ok(CommandText {
+            Request::Range { low, high, most } => Ok(CommandText {
                 name: "range",
                 a: format!(in alloc; "{low}")?,
                 b: format!(in alloc; "{high}")?,

@@ -1,6 +1,7 @@
 //! Scripts of calls and schedules of turns, as csv rows say them.
 #![tactic(auto)]
 
+mod call;
 mod call_rows;
 mod cells;
 mod client;
@@ -11,8 +12,9 @@ mod kind;
 mod schedule;
 mod script;
 
+pub use call::Call;
 pub use cells::{Cell, Cells};
-pub use command::{Call, Command, Span, Update};
+pub use command::{Command, Update};
 pub use command_rows::{CommandText, command_of};
 pub use fault::{ScheduleCause, ScheduleFault, ScriptCause, ScriptFault};
 pub use kind::{kind_name, kind_of};

@@ -8,8 +8,8 @@ ghost use Rattle.script.specs.Commands.{mode_of};
 ghost use Rattle.csv.specs.Records.{fields_of};
 ghost use Rattle.script.specs.Rows.{limits_row};
 
+use crate::call::Call;
 use crate::call_rows::CallRows;
-use crate::command::Call;
 use crate::fault::{ScriptCause, ScriptFault};
 use arena::{Layout, Limits, Mode, NoMemory};
 use csv::StringRecord;

@@ -1,4 +1,5 @@
 pub mod OrderedMap
+pub mod Requests
 pub mod TreeWords
 pub mod Spelled
 pub mod Paths

@@ -1,9 +1,10 @@
 use crate::table::case_of;
 use arena::{Kind, Limits, Mode, PassNo, Side};
 use script::{
-    Call, Cell, Cells, Command, Order, Schedule, ScheduleCause, ScheduleFault, Script, ScriptCause,
-    ScriptFault, Span, Update, kind_name, kind_of, read_schedule, read_script,
+    Cell, Cells, Command, Order, Schedule, ScheduleCause, ScheduleFault, Script, ScriptCause,
+    ScriptFault, Update, kind_name, kind_of, read_schedule, read_script,
 };
+use spelling::Request;
 use std::alloc::{AllocError, Global};
 use std::io::{Read, Write};
 use std::test::Fail;
@@ -72,8 +73,8 @@ fn a_script_is_read(rt: HostRuntime) -> Result<(), Fail> {
     ];
     assert_eq!(rt; script.calls.len(), calls.len());
     for (call, (client, command)) in script.calls.iter().zip(calls) {
-        let client = PassNo(client);
-        assert_eq!(rt; *call, Call { client, command });
+        assert_eq!(rt; call.client, PassNo(client));
+        assert_eq!(rt; call.command, command);
     }
     Ok(())
 }
@@ -234,7 +235,7 @@ fn the_mode_decides_which_commands_there_are(rt: HostRuntime) -> Result<(), Fail
     let text = b"limits,1,1,1,1\n0,get,1,,\nend,1,,,\n".as_slice();
     assert_eq!(rt; script(rt.alloc(), text).err(), Some(fault));
     let tree = read_script(rt.alloc(), Mode::Tree, &mut Metered::new(text))?;
-    let get = Command::Get { key: 1 };
+    let get = Command::Map(Request::Get { key: 1 });
     assert!(rt; tree.calls.as_slice().iter().all(|call| call.command == get));
     assert_eq!(rt; tree.calls.len(), 1);
     Ok(())
@@ -251,40 +252,27 @@ const TREE_SCRIPT: &str = "limits,2,10,10,3\n0,insert,5,50,\n1,get,5,,\n\
 fn a_script_on_the_tree_is_read(rt: HostRuntime) -> Result<(), Fail> {
     let mut text = Metered::new(TREE_SCRIPT.as_bytes());
     let script = read_script(rt.alloc(), Mode::Tree, &mut text)?;
-    let insert = |key, value| Command::Insert { key, value };
-    let delete = |key| Command::Delete { key };
-    let successor = |key| Command::Successor { key };
-    let range = |low, high| {
-        let most = 3;
-        Command::Range(Span { low, high, most })
-    };
-    let all = Span {
-        low: 0,
-        high: u64::MAX,
-        most: 64,
-    };
-    let none = Span {
-        low: 9,
-        high: 1,
-        most: 0,
-    };
+    let insert = |key, value| Request::Insert { key, value };
+    let delete = |key| Request::Delete { key };
+    let successor = |key| Request::Successor { key };
+    let range = |low, high, most| Request::Range { low, high, most };
     let calls = [
         (0, insert(5, 50)),
-        (1, Command::Get { key: 5 }),
+        (1, Request::Get { key: 5 }),
         (1, insert(u64::MAX, 0)),
         (0, insert(0, u64::MAX)),
         (1, delete(5)),
         (0, delete(u64::MAX)),
         (0, successor(0)),
         (1, successor(u64::MAX)),
-        (0, range(1, 9)),
-        (1, Command::Range(none)),
-        (0, Command::Range(all)),
+        (0, range(1, 9, 3)),
+        (1, range(9, 1, 0)),
+        (0, range(0, u64::MAX, 64)),
     ];
     assert_eq!(rt; script.calls.len(), calls.len());
-    for (call, (client, command)) in script.calls.iter().zip(calls) {
-        let client = PassNo(client);
-        assert_eq!(rt; *call, Call { client, command });
+    for (call, (client, request)) in script.calls.iter().zip(calls) {
+        assert_eq!(rt; call.client, PassNo(client));
+        assert_eq!(rt; call.command, Command::Map(request));
     }
     Ok(())
 }

@@ -1,13 +1,14 @@
-use Rattle.std.proofs.Common.{None}
+use Rattle.std.proofs.Common.{None, ap}
+use Rattle.script.specs.declared.command.Command.TheVariants.{Map as MapCommand}
 use Rattle.places.specs.Places.{changes}
 use Rattle.audit.proofs.Refusals.{right_full_insert, right_full_old_insert, right_full_delete}
 use Rattle.audit.proofs.map.is_full.Goals as goal
 
 pub returns-then-is_full_for_new : goal.returns-then-is_full_for_new
-returns-then-is_full_for_new c lay tries calls lines x kept it = right_full_insert lay tries calls lines (changes c.args.places.now) c.args.client.now c.args.command.now c.args.reply.now x c.in-Insert.key c.in-Insert.value None c.args.full.0 c.args.full.1 c.in-Insert.is (λ never. c.is_full_for_new.ensures lay tries calls lines c.args.command.now x kept never it)
+returns-then-is_full_for_new c lay tries calls lines x kept it = right_full_insert lay tries calls lines (changes c.args.places.now) c.args.client.now (MapCommand c.args.request.now) c.args.reply.now x c.in-Insert.key c.in-Insert.value None c.args.full.0 c.args.full.1 (ap MapCommand c.in-Insert.is) (λ never. c.is_full_for_new.ensures lay tries calls lines (MapCommand c.args.request.now) x kept never it)
 
 pub returns-else-is_full_for_new : goal.returns-else-is_full_for_new
-returns-else-is_full_for_new c lay tries calls lines x kept it = right_full_old_insert lay tries calls lines (changes c.args.places.now) c.args.client.now c.args.command.now c.args.reply.now x c.in-Insert.key c.in-Insert.value c.args.full.0 c.args.full.1 c.in-Insert.is (λ never. c.is_full_for_old.ensures lay tries calls lines c.args.command.now x kept never it)
+returns-else-is_full_for_new c lay tries calls lines x kept it = right_full_old_insert lay tries calls lines (changes c.args.places.now) c.args.client.now (MapCommand c.args.request.now) c.args.reply.now x c.in-Insert.key c.in-Insert.value c.args.full.0 c.args.full.1 (ap MapCommand c.in-Insert.is) (λ never. c.is_full_for_old.ensures lay tries calls lines (MapCommand c.args.request.now) x kept never it)
 
 pub returns-in-Delete : goal.returns-in-Delete
-returns-in-Delete c lay tries calls lines x kept it = right_full_delete lay tries calls lines (changes c.args.places.now) c.args.client.now c.args.command.now c.args.reply.now x c.in-Delete.key c.args.full.0 c.args.full.1 c.in-Delete.is (λ never. c.is_full_for_old-in-Delete.ensures lay tries calls lines c.args.command.now x kept never it)
+returns-in-Delete c lay tries calls lines x kept it = right_full_delete lay tries calls lines (changes c.args.places.now) c.args.client.now (MapCommand c.args.request.now) c.args.reply.now x c.in-Delete.key c.args.full.0 c.args.full.1 (ap MapCommand c.in-Delete.is) (λ never. c.is_full_for_old-in-Delete.ensures lay tries calls lines (MapCommand c.args.request.now) x kept never it)

@@ -1,22 +1,23 @@
-use Rattle.std.proofs.Common.{inl, inr}
+use Rattle.std.proofs.Common.{inl, inr, ap}
+use Rattle.script.specs.declared.command.Command.TheVariants.{Map as MapCommand}
 use Rattle.places.specs.Places.{changes}
 use Rattle.audit.proofs.MapAnswers.{some_turns, changes_fall, value_answered, read_answered}
 use Rattle.audit.proofs.map.is_read.Goals as goal
 
 pub returns-in_default : goal.returns-in_default
 returns-in_default c = record {
-  right = λ lay tries calls lines client x none it. (read_answered lay tries calls lines (changes c.args.places.now) client c.args.reply.now c.args.command.now x none (c.is_read_at.ensures calls lines x.entries (changes_fall lay tries calls lines (changes c.args.places.now) client c.args.command.now c.args.reply.now x) (some_turns lay tries calls lines (changes c.args.places.now) client c.args.command.now c.args.reply.now x) it)).right;
-  placed = λ lay tries calls lines client x none it. (read_answered lay tries calls lines (changes c.args.places.now) client c.args.reply.now c.args.command.now x none (c.is_read_at.ensures calls lines x.entries (changes_fall lay tries calls lines (changes c.args.places.now) client c.args.command.now c.args.reply.now x) (some_turns lay tries calls lines (changes c.args.places.now) client c.args.command.now c.args.reply.now x) it)).placed;
+  right = λ lay tries calls lines client x none it. (read_answered lay tries calls lines (changes c.args.places.now) client c.args.reply.now (MapCommand c.args.request.now) x none (c.is_read_at.ensures calls lines x.entries (changes_fall lay tries calls lines (changes c.args.places.now) client (MapCommand c.args.request.now) c.args.reply.now x) (some_turns lay tries calls lines (changes c.args.places.now) client (MapCommand c.args.request.now) c.args.reply.now x) it)).right;
+  placed = λ lay tries calls lines client x none it. (read_answered lay tries calls lines (changes c.args.places.now) client c.args.reply.now (MapCommand c.args.request.now) x none (c.is_read_at.ensures calls lines x.entries (changes_fall lay tries calls lines (changes c.args.places.now) client (MapCommand c.args.request.now) c.args.reply.now x) (some_turns lay tries calls lines (changes c.args.places.now) client (MapCommand c.args.request.now) c.args.reply.now x) it)).placed;
 }
 
 pub returns-in-Get-clause-right : goal.returns-in-Get-clause-right
-returns-in-Get-clause-right c lay tries calls lines client x none it = (value_answered lay tries calls lines (changes c.args.places.now) client c.args.reply.now c.args.command.now c.in-Get.key (inl c.in-Get.is) x none (c.is_read_of.ensures calls lines x.entries it)).right
+returns-in-Get-clause-right c lay tries calls lines client x none it = (value_answered lay tries calls lines (changes c.args.places.now) client c.args.reply.now (MapCommand c.args.request.now) c.in-Get.key (inl (ap MapCommand c.in-Get.is)) x none (c.is_read_of.ensures calls lines x.entries it)).right
 
 pub returns-in-Get-clause-placed : goal.returns-in-Get-clause-placed
-returns-in-Get-clause-placed c lay tries calls lines client x none it = (value_answered lay tries calls lines (changes c.args.places.now) client c.args.reply.now c.args.command.now c.in-Get.key (inl c.in-Get.is) x none (c.is_read_of.ensures calls lines x.entries it)).placed
+returns-in-Get-clause-placed c lay tries calls lines client x none it = (value_answered lay tries calls lines (changes c.args.places.now) client c.args.reply.now (MapCommand c.args.request.now) c.in-Get.key (inl (ap MapCommand c.in-Get.is)) x none (c.is_read_of.ensures calls lines x.entries it)).placed
 
 pub returns-in-Delete-clause-right : goal.returns-in-Delete-clause-right
-returns-in-Delete-clause-right c lay tries calls lines client x none it = (value_answered lay tries calls lines (changes c.args.places.now) client c.args.reply.now c.args.command.now c.in-Delete.key (inr c.in-Delete.is) x none (c.is_read_of-in-Delete.ensures calls lines x.entries it)).right
+returns-in-Delete-clause-right c lay tries calls lines client x none it = (value_answered lay tries calls lines (changes c.args.places.now) client c.args.reply.now (MapCommand c.args.request.now) c.in-Delete.key (inr (ap MapCommand c.in-Delete.is)) x none (c.is_read_of-in-Delete.ensures calls lines x.entries it)).right
 
 pub returns-in-Delete-clause-placed : goal.returns-in-Delete-clause-placed
-returns-in-Delete-clause-placed c lay tries calls lines client x none it = (value_answered lay tries calls lines (changes c.args.places.now) client c.args.reply.now c.args.command.now c.in-Delete.key (inr c.in-Delete.is) x none (c.is_read_of-in-Delete.ensures calls lines x.entries it)).placed
+returns-in-Delete-clause-placed c lay tries calls lines client x none it = (value_answered lay tries calls lines (changes c.args.places.now) client c.args.reply.now (MapCommand c.args.request.now) c.in-Delete.key (inr (ap MapCommand c.in-Delete.is)) x none (c.is_read_of-in-Delete.ensures calls lines x.entries it)).placed

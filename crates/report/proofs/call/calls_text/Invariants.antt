@@ -1,6 +1,6 @@
 use Rattle.std.proofs.Common.{◌≡◌, ◌+◌, ◌^◌, ◌<◌, List, [], ◌++◌, Some, length, reverse, take}
 use Rattle.std.specs.Io.KnownBytes.{Appends}
-use Rattle.script.specs.declared.command.Call.{Call}
+use Rattle.script.specs.declared.call.Call.{Call}
 use Rattle.report.specs.Counts.{HasCounted}
 use Rattle.report.specs.Report.{call_rows}
 use Rattle.texts.specs.Pages.{IsReady, page_row, page_text, rows_text}

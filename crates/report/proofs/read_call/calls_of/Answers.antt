@@ -3,7 +3,7 @@ use Rattle.std.proofs.lemmas.List.{append-nil, length-reverse, reverse-append}
 use Rattle.std.proofs.lemmas.List.Elements.{All-nil, All-push}
 use Rattle.std.specs.Result.{is_ok}
 use Rattle.script.specs.Commands.{mode_of}
-use Rattle.script.specs.declared.command.Call.{Call}
+use Rattle.script.specs.declared.call.Call.{Call}
 use Rattle.report.specs.Counts.{HasCounted}
 use Rattle.texts.specs.Reads.{IsAtRow, last_row}
 use Rattle.report.specs.Report.{call_rows}

@@ -1,5 +1,5 @@
 use Rattle.std.proofs.Common.{◌≡◌, ◌+◌, List, [], length}
-use Rattle.script.specs.declared.command.Call.{Call}
+use Rattle.script.specs.declared.call.Call.{Call}
 use Rattle.report.specs.Counts.{HasCounted}
 use Rattle.report.specs.Report.{call_rows}
 use Rattle.texts.specs.Pages.{rows_text}

@@ -1,4 +1,4 @@
-use Rattle.std.proofs.Common.{◌≡◌, Some, slice_get, inl, inr, ap, refl, rules, arith}
+use Rattle.std.proofs.Common.{◌≡◌, Some, slice_get, ap, refl, rules, arith}
 use Rattle.std.proofs.lemmas.Option.{slice_get_within}
 use Rattle.arena.specs.declared.limits.Mode.TheVariants.{Tree}
 use Rattle.arena.specs.declared.layout.Layout.{Layout}
@@ -15,11 +15,11 @@ is_entry_for-requires c =
     let lay = ap (λ (l : Layout). l.passes) c.requires.after.layout in
     omega (arith, few, all, lay)
 
-pub returns-in_ok-hold-in-Insert : goal.returns-in_ok-hold-in-Insert
-returns-in_ok-hold-in-Insert c = λ row n side wins word.
+pub returns-in_ok-hold-in-Map : goal.returns-in_ok-hold-in-Map
+returns-in_ok-hold-in-Map c = λ row n side wins word.
     let run = c.args.self.now in
     let command = c.args.command.now in
     let same : c.edit_of.result ≡ Some command = search rules in
     let known = if_there (λ (k : Command). slice_get run.edits.items c.args.scx.0 ≡ Some (Some k)) c.edit_of.result command c.edit_of.ensures same in
-    let mode : mode_of command ≡ Tree = elim c.in-Insert.is [ inl d ↦ ap mode_of d.2 | inr d ↦ ap mode_of d.1 ] in
+    let mode : mode_of command ≡ Tree = ap mode_of c.in-Map.is in
     map_entry _ run.record.now.script.limits.tries _ run.record.now.script.of_mode _ _ _ c.requires.map _ c.requires.after.seen c.args.client.now.pass.0 c.args.scx.0 command c.requires.command mode known _ _ _ refl

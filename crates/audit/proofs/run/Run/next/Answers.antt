@@ -1,5 +1,5 @@
 use Rattle.std.proofs.Common.{ℕ, List, slice_get, ◌∙◌, ap}
-use Rattle.script.specs.declared.command.Call.{Call}
+use Rattle.script.specs.declared.call.Call.{Call}
 use Rattle.record.specs.Commands.{commands}
 use Rattle.audit.specs.Calls.{command_at}
 use Rattle.audit.specs.After.{calls_of}

@@ -3,7 +3,8 @@ use Rattle.dict.specs.Calls.{call_in}
 use Rattle.dict.specs.Forms.{MayReply, form_of}
 use Rattle.dict.specs.Steps.{map_left, most_steps}
 use Rattle.dict.specs.Typed.{TypedAllows}
-use Rattle.dict.specs.Words.{IsWord, map_call_of}
+use Rattle.dict.specs.Words.{IsWord}
+use Rattle.spelling.specs.Requests.{as_map_call}
 use Rattle.forest.specs.Passes.{Ground, taken_of}
 use Rattle.forest.specs.PassInvariant.{pass_view}
 use Rattle.forest.specs.Traces.{shared_nodes}
@@ -33,7 +34,7 @@ ended g c =
     (request_starts g.K.WordKey.is_valid g.K.WordKey.word_of g.V.WordValue.is_valid g.V.WordValue.word_of c.pass.inside c.pass.invariant c.new-run.result c.args.request c.self.inside.tries c.taken-number.result named made.call made.typed made.tries (made.fresh c.self.invariant.3) c.requires.few (made.share ∙ c.replace-share.ensures.value)))
 
 -- it is of the call that was asked for
-same_call : (g : Over) (c : goal.After-note_reply g) → call_in c.call-reply.new.machine.run ≡ map_call_of g.K.WordKey.word_of g.V.WordValue.word_of c.args.request
+same_call : (g : Over) (c : goal.After-note_reply g) → call_in c.call-reply.new.machine.run ≡ as_map_call g.K.WordKey.word_of g.V.WordValue.word_of c.args.request
 same_call g c = (ended g c).1.0 ∙ c.new-run.ensures.call
 
 same_tries : (g : Over) (c : goal.After-note_reply g) → c.call-reply.new.machine.tries ≡ c.self.inside.tries
@@ -52,7 +53,7 @@ layout_is g c = ap (λ (f : Ground). f.layout) (sym c.self.view_is)
 
 pub returns-clause-goes_on : goal.returns-clause-goes_on
 returns-clause-goes_on g c =
-    rw (← c.pass.view_is, c.into_share-pass-inside.ensures, c.note_reply.ensures, tries_are g c, layout_is g c) (dict_goes_on g.K.WordKey.is_valid g.K.WordKey.word_of g.V.WordValue.is_valid g.V.WordValue.word_of c.pass.inside c.pass.invariant c.call-reply.new.seat c.call-reply.new.machine c.call-reply.result (ended g c).0 (map_left c.new-run.result.run (shared_nodes c.self.inside.layout)) (most_steps (map_call_of g.K.WordKey.word_of g.V.WordValue.word_of c.args.request) c.self.inside.tries (shared_nodes c.self.inside.layout)) c.call-reply.ensures.table.0 c.call-reply.ensures.steps (subst (λ k. map_left c.new-run.result.run (shared_nodes c.self.inside.layout) ≤ most_steps k c.self.inside.tries (shared_nodes c.self.inside.layout)) c.new-run.ensures.call (c.new-run.ensures.steps (shared_nodes c.self.inside.layout) c.self.invariant.3)))
+    rw (← c.pass.view_is, c.into_share-pass-inside.ensures, c.note_reply.ensures, tries_are g c, layout_is g c) (dict_goes_on g.K.WordKey.is_valid g.K.WordKey.word_of g.V.WordValue.is_valid g.V.WordValue.word_of c.pass.inside c.pass.invariant c.call-reply.new.seat c.call-reply.new.machine c.call-reply.result (ended g c).0 (map_left c.new-run.result.run (shared_nodes c.self.inside.layout)) (most_steps (as_map_call g.K.WordKey.word_of g.V.WordValue.word_of c.args.request) c.self.inside.tries (shared_nodes c.self.inside.layout)) c.call-reply.ensures.table.0 c.call-reply.ensures.steps (subst (λ k. map_left c.new-run.result.run (shared_nodes c.self.inside.layout) ≤ most_steps k c.self.inside.tries (shared_nodes c.self.inside.layout)) c.new-run.ensures.call (c.new-run.ensures.steps (shared_nodes c.self.inside.layout) c.self.invariant.3)))
 
 pub returns-clause-spends : goal.returns-clause-spends
 returns-clause-spends g c =

@@ -5,7 +5,7 @@ use Rattle.player.specs.Lines.{newest}
 use Rattle.record.specs.Turns.{clients}
 use Rattle.player.specs.ClientView.{client_view}
 use Rattle.player.specs.BetweenTurns.{IsEnd}
-use Rattle.script.specs.declared.command.Call.{Call}
+use Rattle.script.specs.declared.call.Call.{Call}
 use Rattle.arena.specs.declared.number.PassNo.{PassNo}
 use Rattle.arena.specs.declared.layout.Layout.{Layout}
 use Rattle.places.specs.Places.{changes}

@@ -1,6 +1,6 @@
 use Rattle.std.proofs.Common.{[], ◌≡◌, suc, List, ◌∷◌, Some, set, slice_get, reverse, refl, sym, ◌∙◌, ap, subst, arith}
 use Rattle.arena.specs.declared.number.PassNo.{PassNo}
-use Rattle.script.specs.declared.command.Call.{Call}
+use Rattle.script.specs.declared.call.Call.{Call}
 use Rattle.script.proofs.Lemmas.{calls_are_of_mode}
 use Rattle.record.specs.declared.record.Line.{Line}
 use Rattle.record.specs.declared.record.Line.TheVariants.{Step, Reply}

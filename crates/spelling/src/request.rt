@@ -1,4 +1,4 @@
-//! Calls of a typed dictionary.
+//! Calls of a dictionary.
 
 /// A call of a dictionary.
 #[derive(Clone, Copy, Debug, PartialEq, Eq)]
