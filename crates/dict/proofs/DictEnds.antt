@@ -21,10 +21,11 @@ use Rattle.dict.specs.Translated.{TellsTyped, SaysSame, IsTranslated, HasFormOf}
 use Rattle.dict.specs.Typed.{AreTyped, IsTypedValue, IsTypedReply, TypedAllows}
 use Rattle.dict.specs.TypedMaps.{typed_map, typed_run, typed_since}
 use Rattle.dict.specs.WordReplies.{told_in}
-use Rattle.dict.specs.Words.{IsWord, IsValidReply, told_of}
+use Rattle.dict.specs.Words.{IsWord, IsValidReply}
+use Rattle.spelling.specs.Replies.{told_of}
 use Rattle.dict.specs.declared.dict.DictRun.{DictRun}
-use Rattle.dict.specs.declared.reply.Reply.{Reply}
-use Rattle.dict.specs.declared.reply.Reply.TheVariants as replies
+use Rattle.spelling.specs.declared.reply.Reply.{Reply}
+use Rattle.spelling.specs.declared.reply.Reply.TheVariants as replies
 use Rattle.dict.specs.declared.told.WordReply.{WordReply}
 use Rattle.dict.specs.declared.told.WordReply.TheVariants as words
 

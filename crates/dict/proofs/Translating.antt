@@ -6,7 +6,8 @@ use Rattle.std.proofs.lemmas.List.Elements.{All-push, All-nil}
 use Rattle.spelling.specs.declared.pair.Pair.{Pair}
 use Rattle.dict.specs.Translated.{ArePairsOf, IsPairOf}
 use Rattle.dict.specs.Typed.{AreTyped}
-use Rattle.dict.specs.Words.{IsWord, IsValidPair, word_pair}
+use Rattle.dict.specs.Words.{IsWord, IsValidPair}
+use Rattle.spelling.specs.Replies.{word_pair}
 
 -- the parts of a list of typed words are typed
 typed_first : (keys values : ℕ → Type 0) (ps qs : List Pair) → AreTyped keys values (ps ++ qs) → AreTyped keys values ps

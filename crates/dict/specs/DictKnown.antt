@@ -13,10 +13,11 @@ use Rattle.dict.specs.Forms.{MayReply, form_of}
 use Rattle.dict.specs.Known.{MapIsReady, MapWaits}
 use Rattle.dict.specs.Says.{HasLost, HasRunOut, KeepsLists, Tells}
 use Rattle.dict.specs.Typed.{IsTypedCall}
-use Rattle.dict.specs.Words.{IsValidReply, told_of}
+use Rattle.dict.specs.Words.{IsValidReply}
+use Rattle.spelling.specs.Replies.{told_of}
 use Rattle.dict.specs.declared.dict.DictRun.{DictRun}
-use Rattle.dict.specs.declared.reply.Reply.{Reply}
-use Rattle.dict.specs.declared.reply.Reply.TheVariants.{Contended, Full, NoMemory}
+use Rattle.spelling.specs.declared.reply.Reply.{Reply}
+use Rattle.spelling.specs.declared.reply.Reply.TheVariants.{Contended, Full, NoMemory}
 
 -- it may be called with this: its edit, if it makes one, is of such words
 abbrev pub DictIsReady : {K V : Type 0} → (ℕ → Type 0) → (ℕ → Type 0) → DictRun K V → Call → History → Option ℕ → Type 0

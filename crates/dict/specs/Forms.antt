@@ -1,7 +1,7 @@
 -- Which form of a reply a call may give.
 use Rattle.spelling.specs.OrderedMap.{MapCall, Edit, Get, Successor, Range}
-use Rattle.dict.specs.declared.reply.Reply.{Reply}
-use Rattle.dict.specs.declared.reply.Reply.TheVariants as replies
+use Rattle.spelling.specs.declared.reply.Reply.{Reply}
+use Rattle.spelling.specs.declared.reply.Reply.TheVariants as replies
 use Rattle.dict.specs.declared.told.WordReply.{WordReply}
 use Rattle.dict.specs.declared.told.WordReply.TheVariants as words
 

@@ -5,10 +5,11 @@ use Rattle.spelling.specs.OrderedMap.{MapReply}
 use Rattle.spelling.specs.declared.pair.Pair.{Pair}
 use Rattle.dict.specs.Forms.{Pairs, NoMemory, word_form, form_of}
 use Rattle.dict.specs.Typed.{AreTyped, IsTypedReply}
-use Rattle.dict.specs.Words.{IsWord, IsPairWord, IsValidPair, word_pair, told_of}
+use Rattle.dict.specs.Words.{IsWord, IsPairWord, IsValidPair}
+use Rattle.spelling.specs.Replies.{word_pair, told_of}
 use Rattle.dict.specs.WordReplies.{told_in}
-use Rattle.dict.specs.declared.reply.Reply.{Reply}
-use Rattle.dict.specs.declared.reply.Reply.TheVariants as replies
+use Rattle.spelling.specs.declared.reply.Reply.{Reply}
+use Rattle.spelling.specs.declared.reply.Reply.TheVariants as replies
 use Rattle.dict.specs.declared.told.WordReply.{WordReply}
 use Rattle.dict.specs.declared.told.WordReply.TheVariants as words
 

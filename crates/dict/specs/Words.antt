@@ -1,13 +1,11 @@
 -- Typed keys, values, calls and replies in words. `word` stands for the word of a key or of a
 -- value, `valid` for whether it is one of its type.
-use Rattle.std.specs.Prelude.{◌≡◌, ℕ, map, All, IfSome, Option, Some, None}
-use Rattle.std.specs.Option.{option_map}
+use Rattle.std.specs.Prelude.{◌≡◌, ℕ, All, IfSome}
 use Rattle.spelling.specs.declared.pair.Pair.{Pair}
-use Rattle.spelling.specs.OrderedMap.{MapReply, OneValue, ManyPairs, pair, pair_or_none}
 use Rattle.spelling.specs.declared.request.Request.{Request}
 use Rattle.spelling.specs.declared.request.Request.TheVariants.{Insert as InsertOf, Delete as DeleteOf, Get as GetOf, Successor as SuccessorOf, Range as RangeOf}
-use Rattle.dict.specs.declared.reply.Reply.{Reply}
-use Rattle.dict.specs.declared.reply.Reply.TheVariants.{Value, Pair as PairOf, Pairs}
+use Rattle.spelling.specs.declared.reply.Reply.{Reply}
+use Rattle.spelling.specs.declared.reply.Reply.TheVariants.{Value, Pair as PairOf, Pairs}
 
 -- a word of a key or a value
 abbrev pub IsWord : {T : Type 0} → (T → Type 0) → (T → ℕ) → ℕ → Type 0
@@ -21,10 +19,6 @@ IsPairWord valid_key key valid_value value p = IsWord valid_key key p.key × IsW
 abbrev pub IsValidPair : {K V : Type 0} → (K → Type 0) → (V → Type 0) → K × V → Type 0
 IsValidPair valid_key valid_value p = valid_key p.0 × valid_value p.1
 
--- the pair of the words of a key and a value
-abbrev pub word_pair : {K V : Type 0} → (K → ℕ) → (V → ℕ) → K × V → Pair
-word_pair key value p = pair (key p.0) (value p.1)
-
 -- the keys and the value of a request are those of their types
 abbrev pub IsValidRequest : {K V : Type 0} → (K → Type 0) → (V → Type 0) → Request K V → Type 0
 IsValidRequest valid_key valid_value (InsertOf k v) = valid_key k × valid_value v
@@ -32,13 +26,6 @@ IsValidRequest valid_key valid_value (DeleteOf k) = valid_key k
 IsValidRequest valid_key valid_value (GetOf k) = valid_key k
 IsValidRequest valid_key valid_value (SuccessorOf k) = valid_key k
 IsValidRequest valid_key valid_value (RangeOf low high most) = valid_key low × valid_key high
-
--- what a reply tells of the map of words; a refusal tells nothing
-abbrev pub told_of : {K V : Type 0} → (K → ℕ) → (V → ℕ) → Reply K V → Option MapReply
-told_of key value (Value v) = Some (OneValue (option_map value v))
-told_of key value (PairOf p) = Some (pair_or_none (option_map (word_pair key value) p))
-told_of key value (Pairs ps) = Some (ManyPairs (map (word_pair key value) ps.items))
-told_of key value _ = None
 
 -- the keys and the values of a reply are those of their types
 abbrev pub IsValidReply : {K V : Type 0} → (K → Type 0) → (V → Type 0) → Reply K V → Type 0

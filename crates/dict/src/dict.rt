@@ -9,13 +9,12 @@ ghost use Rattle.dict.specs.Words.{IsWord};
 ghost use Rattle.spelling.specs.Requests.{as_map_call};
 
 use crate::key::WordKey;
-use crate::reply::Reply;
 use crate::run::MapRun;
 use crate::shape::Dict;
 use crate::translation::translated;
 use crate::value::WordValue;
 use arena::{Machine, Share, Turn};
-use spelling::Request;
+use spelling::{Reply, Request};
 use std::alloc::Global;
 use std::marker::PhantomData;
 

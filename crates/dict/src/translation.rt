@@ -5,11 +5,10 @@ ghost use Rattle.dict.specs.Words.{IsWord, IsValidReply};
 ghost use Rattle.dict.specs.Translated.{ArePairsOf, HasFormOf, IsPairOf, IsTranslated};
 
 use crate::key::WordKey;
-use crate::reply::Reply;
 use crate::told::WordReply;
 use crate::value::WordValue;
 use arena::NoMemory;
-use spelling::Pair;
+use spelling::{Pair, Reply};
 use std::alloc::Global;
 
 /// The value of a word, if it is one's.

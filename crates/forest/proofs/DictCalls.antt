@@ -20,13 +20,14 @@ use Rattle.dict.specs.Known.{IsUnbegun}
 use Rattle.dict.specs.Says.{Tells}
 use Rattle.dict.specs.Typed.{IsTypedCall, TypedAllows}
 use Rattle.dict.specs.TypedMaps.{typed_run}
-use Rattle.dict.specs.Words.{IsWord, told_of}
+use Rattle.dict.specs.Words.{IsWord}
+use Rattle.spelling.specs.Replies.{told_of}
 use Rattle.spelling.specs.Requests.{AsksForFew, as_map_call}
 use Rattle.dict.specs.declared.dict.DictRun.{DictRun}
 use Rattle.spelling.specs.declared.request.Request.{Request}
 use Rattle.spelling.specs.declared.request.Request.TheVariants as requests
-use Rattle.dict.specs.declared.reply.Reply.{Reply}
-use Rattle.dict.specs.declared.reply.Reply.TheVariants as replies
+use Rattle.spelling.specs.declared.reply.Reply.{Reply}
+use Rattle.spelling.specs.declared.reply.Reply.TheVariants as replies
 use Rattle.forest.specs.declared.view.SeatView.{SeatView}
 use Rattle.forest.specs.declared.pass.Pass.TheInside.{Inside}
 use Rattle.forest.specs.Dictionary.{IsToldOf, IsRefusalOf, HasSpentAtMost, blamed_by_reply}

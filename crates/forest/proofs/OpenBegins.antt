@@ -10,7 +10,7 @@ use Rattle.dict.specs.Steps.{map_left, most_steps}
 use Rattle.dict.specs.Typed.{TypedAllows}
 use Rattle.dict.specs.Words.{IsWord}
 use Rattle.dict.specs.declared.dict.DictRun.{DictRun}
-use Rattle.dict.specs.declared.reply.Reply.{Reply}
+use Rattle.spelling.specs.declared.reply.Reply.{Reply}
 use Rattle.dict.specs.declared.shape.Dict.{Dict}
 use Rattle.forest.specs.declared.open.OpenCall.TheInside.{Inside}
 use Rattle.forest.specs.declared.pass.Pass.TheInside as pass

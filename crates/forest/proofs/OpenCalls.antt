@@ -7,9 +7,10 @@ use Rattle.arena.specs.Share.{Remaining}
 use Rattle.dict.specs.Calls.{call_in, share_of}
 use Rattle.dict.specs.Steps.{most_steps}
 use Rattle.dict.specs.Typed.{TypedAllows}
-use Rattle.dict.specs.Words.{IsWord, told_of}
+use Rattle.dict.specs.Words.{IsWord}
+use Rattle.spelling.specs.Replies.{told_of}
 use Rattle.dict.specs.DictKnown.{DictWaits, DictAnswers}
-use Rattle.dict.specs.declared.reply.Reply.{Reply}
+use Rattle.spelling.specs.declared.reply.Reply.{Reply}
 use Rattle.dict.specs.declared.shape.Dict.{Dict}
 use Rattle.forest.specs.declared.open.OpenCall.TheInside.{Inside}
 use Rattle.forest.specs.declared.pass.Pass.TheInside as pass

@@ -22,7 +22,7 @@ use Rattle.dict.specs.declared.dict.DictRun.{DictRun}
 use Rattle.dict.specs.declared.run.MapRun.TheVariants.{Insert, Delete}
 use Rattle.dict.specs.Translated.{IsTranslated, HasFormOf}
 use Rattle.dict.specs.WordReplies.{update_reply}
-use Rattle.dict.specs.declared.reply.Reply.{Reply}
+use Rattle.spelling.specs.declared.reply.Reply.{Reply}
 use Rattle.dict.specs.declared.told.WordReply.{WordReply}
 use Rattle.dict.proofs.Lemmas.{insert_ends, delete_ends, edit_spends, dict_ends}
 use Rattle.forest.specs.declared.view.SeatedPass.{SeatedPass}

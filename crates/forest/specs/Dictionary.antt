@@ -18,9 +18,9 @@ use Rattle.dict.specs.Calls.{need, most_nodes, most_scx}
 use Rattle.dict.specs.Says.{HasTooLittle, KeepsLists}
 use Rattle.dict.specs.Forms.{Form}
 use Rattle.dict.specs.Forms as form
-use Rattle.dict.specs.Words.{word_pair}
-use Rattle.dict.specs.declared.reply.Reply.{Reply}
-use Rattle.dict.specs.declared.reply.Reply.TheVariants.{Value, Contended, Full, NoMemory}
+use Rattle.spelling.specs.Replies.{word_pair}
+use Rattle.spelling.specs.declared.reply.Reply.{Reply}
+use Rattle.spelling.specs.declared.reply.Reply.TheVariants.{Value, Contended, Full, NoMemory}
 use Rattle.forest.specs.declared.fault.OrderFault.{OrderFault}
 use Rattle.forest.specs.declared.fault.OrderFault.TheVariants as reads
 use Rattle.forest.specs.declared.fault.UpdateFault.{UpdateFault}

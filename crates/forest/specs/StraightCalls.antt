@@ -13,7 +13,7 @@ use Rattle.dict.specs.Typed.{TypedAllows}
 use Rattle.dict.specs.WordReplies.{update_reply}
 use Rattle.dict.specs.Words.{IsWord}
 use Rattle.dict.specs.declared.dict.DictRun.{DictRun}
-use Rattle.dict.specs.declared.reply.Reply.{Reply}
+use Rattle.spelling.specs.declared.reply.Reply.{Reply}
 use Rattle.updates.specs.declared.update.Updated.{Updated}
 use Rattle.forest.specs.declared.view.SeatedPass.{SeatedPass}
 use Rattle.forest.specs.Traces.{CallBegins, HoldsForCall, Trace, Waits, Ends}

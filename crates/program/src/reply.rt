@@ -1,6 +1,6 @@
 //! Replies of a dictionary as answers of a report.
 ghost use Rattle.std.specs.Prelude.{◌≡◌, IfOk, map};
-ghost use Rattle.dict.specs.Words.{told_of, word_pair};
+ghost use Rattle.spelling.specs.Replies.{told_of, word_pair};
 ghost use Rattle.record.specs.MapRecord.{reply_told};
 ghost use Rattle.spelling.specs.OrderedMap.{pair};
 

@@ -18,8 +18,8 @@ use Rattle.spelling.specs.Spelled.{Spells}
 use Rattle.spelling.proofs.Lemmas.{log_edits, one_spelling, spells_log}
 use Rattle.arena.proofs.Lemmas.{ends_self}
 use Rattle.dict.specs.TypedMaps.{typed_run}
-use Rattle.dict.specs.Words.{word_pair}
-use Rattle.dict.specs.declared.reply.Reply.{Reply}
+use Rattle.spelling.specs.Replies.{word_pair}
+use Rattle.spelling.specs.declared.reply.Reply.{Reply}
 use Rattle.script.specs.declared.script.Script.{Script}
 use Rattle.record.specs.Commands.{commands}
 use Rattle.forest.specs.Copies.{HoldsWordsOf}

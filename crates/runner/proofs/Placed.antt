@@ -12,9 +12,9 @@ use Rattle.spelling.specs.Laws.{AreEdits}
 use Rattle.spelling.specs.OrderedMap.{MapCall, Edit, MapEdit, MapReply, OneValue, reply, changes}
 use Rattle.spelling.specs.Runs.{IsTreeRun, Makes}
 use Rattle.spelling.proofs.Lemmas.{makes_one, makes_since, one_spelling, spells_log}
-use Rattle.dict.specs.Words.{told_of}
-use Rattle.dict.specs.declared.reply.Reply.{Reply}
-use Rattle.dict.specs.declared.reply.Reply.TheVariants as replies
+use Rattle.spelling.specs.Replies.{told_of}
+use Rattle.spelling.specs.declared.reply.Reply.{Reply}
+use Rattle.spelling.specs.declared.reply.Reply.TheVariants as replies
 use Rattle.script.specs.declared.command.Command.{Command}
 use Rattle.forest.specs.Dictionary.{IsVersion, IsChange, IsChangeOrReading, IsReading, IsRefusalOf, IsToldOf}
 use Rattle.forest.specs.Passes.{PassView, IsLaterView, run_of, done_of}

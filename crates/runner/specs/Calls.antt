@@ -7,8 +7,9 @@ use Rattle.arena.specs.Machines.{IsRun}
 use Rattle.spelling.specs.OrderedMap.{MapCall}
 use Rattle.dict.specs.Forms.{MayReply, form_of}
 use Rattle.dict.specs.Typed.{TypedAllows}
-use Rattle.dict.specs.Words.{IsWord, told_of}
-use Rattle.dict.specs.declared.reply.Reply.{Reply}
+use Rattle.dict.specs.Words.{IsWord}
+use Rattle.spelling.specs.Replies.{told_of}
+use Rattle.spelling.specs.declared.reply.Reply.{Reply}
 use Rattle.script.specs.declared.call.Call.{Call}
 use Rattle.script.specs.declared.command.Command.{Command}
 use Rattle.record.specs.Commands.{commands}

@@ -8,8 +8,8 @@ use Rattle.spelling.specs.declared.pair.Pair.{Pair}
 use Rattle.spelling.specs.OrderedMap.{MapCall, Edit, MapEdit, MapReply, reply, changes}
 use Rattle.spelling.specs.Runs.{map_of_log}
 use Rattle.dict.specs.Forms.{MayReply, form_of}
-use Rattle.dict.specs.Words.{told_of}
-use Rattle.dict.specs.declared.reply.Reply.{Reply}
+use Rattle.spelling.specs.Replies.{told_of}
+use Rattle.spelling.specs.declared.reply.Reply.{Reply}
 use Rattle.forest.specs.Dictionary.{IsRefusalOf}
 use Rattle.forest.specs.Passes.{PassView, IsLaterView, run_of, done_of, taken_of}
 

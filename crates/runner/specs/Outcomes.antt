@@ -8,8 +8,8 @@ use Rattle.arena.specs.Log.{log}
 use Rattle.arena.specs.Machines.{IsRun}
 use Rattle.spelling.specs.Laws.{AreEdits}
 use Rattle.spelling.specs.OrderedMap.{MapEdit, IsRising}
-use Rattle.dict.specs.Words.{word_pair}
-use Rattle.dict.specs.declared.reply.Reply.{Reply}
+use Rattle.spelling.specs.Replies.{word_pair}
+use Rattle.spelling.specs.declared.reply.Reply.{Reply}
 use Rattle.script.specs.declared.command.Command.{Command}
 use Rattle.script.specs.declared.script.Script.{Script}
 use Rattle.record.specs.Commands.{commands}

@@ -1,5 +1,6 @@
 pub mod OrderedMap
 pub mod Requests
+pub mod Replies
 pub mod TreeWords
 pub mod Spelled
 pub mod Paths

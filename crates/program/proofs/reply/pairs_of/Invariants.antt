@@ -1,5 +1,5 @@
 use Rattle.std.proofs.Common.{◌≡◌, map, take}
-use Rattle.dict.specs.Words.{word_pair}
+use Rattle.spelling.specs.Replies.{word_pair}
 use Rattle.program.proofs.reply.pairs_of.Given as goal
 
 abbrev pub invariant-loop-key : goal.invariant-loop-key

@@ -1,8 +1,8 @@
-//! What a call of a typed dictionary replies.
+//! Replies of a dictionary.
 use arena::{Full, NodeNo, ScxNo};
 
 /// What a call of a dictionary replies.
-#[derive(Debug, Drop)]
+#[derive(Debug, Drop, PartialEq, Eq)]
 pub enum Reply<K, V> {
     /// To an insert, a delete and a get: the value that the key had, if it had one.
     Value(Option<V>),
