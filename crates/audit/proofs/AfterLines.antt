@@ -12,7 +12,7 @@ use Rattle.record.specs.declared.record.Line.{Line}
 use Rattle.record.specs.declared.record.Line.TheVariants.{Step, Log, Reply as ReplyLine}
 use Rattle.record.specs.declared.record.Row.TheVariants.{Step as Made, Idle}
 use Rattle.record.specs.declared.record.Entry.{Entry}
-use Rattle.record.specs.declared.record.Reply.{Reply}
+use Rattle.record.specs.declared.record.Finished.{Finished}
 use Rattle.record.specs.Commands.{commands}
 use Rattle.record.specs.Turns.{answered, begin, steps, won, entry_of}
 use Rattle.audit.specs.Calls.{IsAt}
@@ -150,7 +150,7 @@ module _ (lay : Layout) (calls : List Call) (lines : List Line) where
       let y = x j c get in
       record { pass = y.pass; place = y.place; answered = y.answered; begun = y.begun; steps = y.steps; won = y.won }
 
-  ended_own : (r : Reply) (c : Client) (next : Option ℕ) → ((left : List Command) → IsAt calls c.pass.0 left c.at → IsAt calls c.pass.0 (drop 1 left) next) → IsClientAfter lay calls lines r.client.0 c → IsClientAfter lay calls (ReplyLine r ∷ lines) r.client.0 (record c { at = next; answered = c.answered + 1; begun = None; steps = 0; won = None })
+  ended_own : (r : Finished) (c : Client) (next : Option ℕ) → ((left : List Command) → IsAt calls c.pass.0 left c.at → IsAt calls c.pass.0 (drop 1 left) next) → IsClientAfter lay calls lines r.client.0 c → IsClientAfter lay calls (ReplyLine r ∷ lines) r.client.0 (record c { at = next; answered = c.answered + 1; begun = None; steps = 0; won = None })
   ended_own r c next behind x = record {
     pass = x.pass;
     place = subst (λ (n : ℕ). IsAt calls r.client.0 (drop n (commands calls r.client.0)) next) (sym (add-one c.answered)) (next_place calls r.client.0 c.answered next (subst (λ (k : ℕ). IsAt calls k (drop 1 (drop c.answered (commands calls r.client.0))) next) x.pass (behind (drop c.answered (commands calls r.client.0)) (subst (λ (k : ℕ). IsAt calls k (drop c.answered (commands calls r.client.0)) c.at) (sym x.pass) x.place))));
@@ -160,7 +160,7 @@ module _ (lay : Layout) (calls : List Call) (lines : List Line) where
     won = rw (eq-eqb r.client.0 r.client.0 refl) refl;
   }
 
-  ended_other : (r : Reply) (j : ℕ) (c : Client) → (r.client.0 ≡ j → ⊥) → IsClientAfter lay calls lines j c → IsClientAfter lay calls (ReplyLine r ∷ lines) j c
+  ended_other : (r : Finished) (j : ℕ) (c : Client) → (r.client.0 ≡ j → ⊥) → IsClientAfter lay calls lines j c → IsClientAfter lay calls (ReplyLine r ∷ lines) j c
   ended_other r j c d x = record {
     pass = x.pass;
     place = x.place;
@@ -170,7 +170,7 @@ module _ (lay : Layout) (calls : List Call) (lines : List Line) where
     won = rw (ne_eqb r.client.0 j d) x.won;
   }
 
-  pub ended_clients : (r : Reply) (clients : List Client) (c : Client) (next : Option ℕ) → slice_get clients r.client.0 ≡ Some c → ((left : List Command) → IsAt calls c.pass.0 left c.at → IsAt calls c.pass.0 (drop 1 left) next) → AreClientsAfter lay calls lines clients → AreClientsAfter lay calls (ReplyLine r ∷ lines) (set clients r.client.0 (record c { at = next; answered = c.answered + 1; begun = None; steps = 0; won = None }))
+  pub ended_clients : (r : Finished) (clients : List Client) (c : Client) (next : Option ℕ) → slice_get clients r.client.0 ≡ Some c → ((left : List Command) → IsAt calls c.pass.0 left c.at → IsAt calls c.pass.0 (drop 1 left) next) → AreClientsAfter lay calls lines clients → AreClientsAfter lay calls (ReplyLine r ∷ lines) (set clients r.client.0 (record c { at = next; answered = c.answered + 1; begun = None; steps = 0; won = None }))
   ended_clients r clients c next there behind x = with_one (λ j d. IsClientAfter lay calls (ReplyLine r ∷ lines) j d) clients r.client.0 c _ there (ended_own r c next behind (x r.client.0 c there)) (λ j d n get. ended_other r j d (λ q. n (sym q)) (x j d get))
 
 -- The start

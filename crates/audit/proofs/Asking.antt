@@ -5,7 +5,7 @@ use Rattle.arena.specs.declared.limits.Mode.TheVariants.{Tree}
 use Rattle.arena.specs.declared.layout.Layout.{Layout}
 use Rattle.arena.specs.declared.number.PassNo.{PassNo}
 use Rattle.script.specs.declared.command.Command.{Command}
-use Rattle.record.specs.declared.record.Reply.{Reply}
+use Rattle.record.specs.declared.record.Finished.{Finished}
 use Rattle.record.specs.Answers.{HasItsEntry}
 use Rattle.record.specs.CommandRules.{enters, HasTakenFew}
 use Rattle.record.specs.Commands.{next_command}
@@ -24,7 +24,7 @@ entry_if false None e = tt
 entry_if true None e = absurd (cc)
 entry_if false (Some turn) e = absurd (cc)
 
-module _ (run : Run) (client : Client) (command : Command) (r : Reply) (x : IsAfter run (lines_of run)) (there : slice_get run.clients.items client.pass.0 ≡ Some client) (own : client.pass ≡ r.client) where
+module _ (run : Run) (client : Client) (command : Command) (r : Finished) (x : IsAfter run (lines_of run)) (there : slice_get run.clients.items client.pass.0 ≡ Some client) (own : client.pass ≡ r.client) where
   known : IsClientAfter (layout_of run) (calls_of run) (lines_of run) r.client.0 client
   known = subst (λ (p : PassNo). IsClientAfter (layout_of run) (calls_of run) (lines_of run) p.0 client) own (x.clients client.pass.0 client there)
 

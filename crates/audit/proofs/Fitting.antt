@@ -29,7 +29,7 @@ use Rattle.record.specs.declared.record.Line.{Line}
 use Rattle.record.specs.declared.record.Line.TheVariants.{Step, Log, Reply as ReplyLine}
 use Rattle.record.specs.declared.record.Row.TheVariants.{Step as Made, Idle}
 use Rattle.record.specs.declared.record.Entry.{Entry}
-use Rattle.record.specs.declared.record.Reply.{Reply}
+use Rattle.record.specs.declared.record.Finished.{Finished}
 use Rattle.record.specs.Commands.{next_command}
 use Rattle.record.specs.declared.record.Answer.{Answer}
 use Rattle.record.specs.CommandRules.{most_steps, MayMake, MayAnswerAtOnce, MayAnswerAfterStep, IsRight, IsPlaced, HasTakenFew, IsEntryFor, enters}
@@ -194,7 +194,7 @@ module _ (lay : Layout) (tries : ℕ) (calls : List Call) (judge : Judged) (clie
     clients = each;
   }
 
-  pub after_reply : (reply : Reply) (client changed : Client) (more : Judged) (next : Option ℕ) (fitting : Bool) → more ≡ judge → due ≡ None → IsReply lay tries calls lines reply → slice_get clients reply.client.0 ≡ Some client → ((left : List Command) → IsAt calls client.pass.0 left client.at → IsAt calls client.pass.0 (drop 1 left) next) → changed ≡ record client { at = next; answered = client.answered + 1; begun = None; steps = 0; won = None } → IsSoFar lay tries calls more (set clients reply.client.0 changed) turn made newest due fitting false false (ReplyLine reply ∷ lines)
+  pub after_reply : (reply : Finished) (client changed : Client) (more : Judged) (next : Option ℕ) (fitting : Bool) → more ≡ judge → due ≡ None → IsReply lay tries calls lines reply → slice_get clients reply.client.0 ≡ Some client → ((left : List Command) → IsAt calls client.pass.0 left client.at → IsAt calls client.pass.0 (drop 1 left) next) → changed ≡ record client { at = next; answered = client.answered + 1; begun = None; steps = 0; won = None } → IsSoFar lay tries calls more (set clients reply.client.0 changed) turn made newest due fitting false false (ReplyLine reply ∷ lines)
   unfolding AreLines
   after_reply reply client changed more next fitting same owed is there behind change = record {
     layout = ap (λ (k : Judged). k.layout) same ∙ x.layout;
@@ -234,7 +234,7 @@ entry_there true None e = absurd (let z : true ≡ false = e in cc)
 entry_there false (Some n) e = absurd (let z : false ≡ true = e in cc)
 
 -- what a reply asks
-pub reply_fits : (run : Run) (reply : Reply) (client : Client) (command : Command) → IsAfter run (lines_of run) → slice_get run.clients.items client.pass.0 ≡ Some client → client.pass ≡ reply.client → Some command ≡ next_command (calls_of run) (lines_of run) client.pass.0 → run.last ≡ Some reply.client → reply.call ≡ client.answered → client.begun ≡ Some reply.begin → reply.end ≡ run.turn → IsFitting (lines_of run) command reply.answer → enters command reply.answer ≡ is_some client.won → ((m : ℕ) → reply.moment ≡ Some m → (reply.begin ≤ m) × (m ≤ reply.end))
+pub reply_fits : (run : Run) (reply : Finished) (client : Client) (command : Command) → IsAfter run (lines_of run) → slice_get run.clients.items client.pass.0 ≡ Some client → client.pass ≡ reply.client → Some command ≡ next_command (calls_of run) (lines_of run) client.pass.0 → run.last ≡ Some reply.client → reply.call ≡ client.answered → client.begun ≡ Some reply.begin → reply.end ≡ run.turn → IsFitting (lines_of run) command reply.answer → enters command reply.answer ≡ is_some client.won → ((m : ℕ) → reply.moment ≡ Some m → (reply.begin ≤ m) × (m ≤ reply.end))
     → IsRight (layout_of run) reply.client.0 (history (layout_of run).mode (lines_of run)) (start (layout_of run).mode (lines_of run) reply.client.0) (linked (calls_of run) (layout_of run).mode (lines_of run) reply.client.0) command reply.answer → HasTakenFew (layout_of run) (tries_of run) reply.client.0 (history (layout_of run).mode (lines_of run)) (start (layout_of run).mode (lines_of run) reply.client.0) command → IsPlaced (layout_of run) (calls_of run) (lines_of run) reply command → IsReply (layout_of run) (tries_of run) (calls_of run) (lines_of run) reply
 reply_fits run reply client command x there own is last call begun end fits enters within right took placed = record {
   client = sym x.last ∙ ap pass_number last;

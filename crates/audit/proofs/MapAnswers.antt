@@ -15,7 +15,7 @@ use Rattle.script.specs.declared.command.Command.TheVariants.{Map}
 use Rattle.record.specs.declared.record.Line.{Line}
 use Rattle.record.specs.declared.record.Line.TheVariants.{Step, Log, Reply as ReplyLine}
 use Rattle.record.specs.declared.record.Row.TheVariants.{Step as Made, Idle}
-use Rattle.record.specs.declared.record.Reply.{Reply}
+use Rattle.record.specs.declared.record.Finished.{Finished}
 use Rattle.record.specs.declared.record.Answer.{Answer}
 use Rattle.record.specs.declared.record.Answer.TheVariants.{Value, Pair as PairOf, Pairs, Contended, NoMemory}
 use Rattle.record.specs.Answers.{HasItsEntry, WasBlockedBy}
@@ -132,7 +132,7 @@ refused_unwon command call answer has of_map none x = absurd (let z : None ≡ S
 some_edit : (e d : MapEdit) → Some (Edit e) ≡ Some (Edit d) → e ≡ d
 some_edit e d q = cc
 
-module _ (lay : Layout) (tries : ℕ) (calls : List Call) (lines : List Line) (changed : List Change) (client : Client) (command : Command) (r : Reply) (x : IsAsked lay tries calls lines changed client command r) where
+module _ (lay : Layout) (tries : ℕ) (calls : List Call) (lines : List Line) (changed : List Change) (client : Client) (command : Command) (r : Finished) (x : IsAsked lay tries calls lines changed client command r) where
   -- the call has turns
   pub some_turns : r.begin ≤ r.end
   some_turns = let w = begin_within lay tries calls lines r.client.0 r.begin x.in_order x.begun in let e = x.end in omega (w, e, arith)
@@ -197,7 +197,7 @@ module _ (lay : Layout) (tries : ℕ) (calls : List Call) (lines : List Line) (c
 -- By commands
 
 -- a refusal that has no moment is placed
-pub refused_placed : (lay : Layout) (tries : ℕ) (calls : List Call) (lines : List Line) (changed : List Change) (client : Client) (command : Command) (r : Reply) → IsAsked lay tries calls lines changed client command r → reply_told r.answer ≡ None → r.moment ≡ None → IsPlaced lay calls lines r command
+pub refused_placed : (lay : Layout) (tries : ℕ) (calls : List Call) (lines : List Line) (changed : List Change) (client : Client) (command : Command) (r : Finished) → IsAsked lay tries calls lines changed client command r → reply_told r.answer ≡ None → r.moment ≡ None → IsPlaced lay calls lines r command
 refused_placed lay tries calls lines changed client command r x none nowhere = go command x.of_map.1
   where
     there : (call : MapCall) → IsPlacedOnMap (reply_told r.answer) calls lines call r
@@ -212,11 +212,11 @@ refused_placed lay tries calls lines changed client command r x none nowhere = g
     go c e = absurd (let z : None ≡ Some x.of_map.0 = e in cc)
 
 -- an answer that is right, and where it is placed
-pub record IsAnswered (lay : Layout) (calls : List Call) (lines : List Line) (r : Reply) (command : Command) : Type 0 where
+pub record IsAnswered (lay : Layout) (calls : List Call) (lines : List Line) (r : Finished) (command : Command) : Type 0 where
   pub right : IsRight lay r.client.0 (history lay.mode lines) (start lay.mode lines r.client.0) (linked calls lay.mode lines r.client.0) command r.answer
   pub placed : IsPlaced lay calls lines r command
 
-module _ (lay : Layout) (tries : ℕ) (calls : List Call) (lines : List Line) (changed : List Change) (client : Client) (r : Reply) where
+module _ (lay : Layout) (tries : ℕ) (calls : List Call) (lines : List Line) (changed : List Change) (client : Client) (r : Finished) where
   insert_answered : (key value turn : ℕ) (t : IsToldBefore calls lines (Map (InsertOf key value)) r.answer turn) → IsAsked lay tries calls lines changed client (Map (InsertOf key value)) r → won lay lines r.client.0 ≡ Some turn → r.moment ≡ Some turn → IsAnswered lay calls lines r (Map (InsertOf key value))
   insert_answered key value turn t x has moment =
       let same = some_edit (Insert key value) t.edit t.is in

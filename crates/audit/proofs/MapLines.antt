@@ -23,7 +23,7 @@ use Rattle.record.specs.declared.record.Line.{Line}
 use Rattle.record.specs.declared.record.Line.TheVariants.{Step, Log, Reply as ReplyLine}
 use Rattle.record.specs.declared.record.Row.TheVariants.{Step as Made, Idle}
 use Rattle.record.specs.declared.record.Entry.{Entry}
-use Rattle.record.specs.declared.record.Reply.{Reply}
+use Rattle.record.specs.declared.record.Finished.{Finished}
 use Rattle.record.specs.CommandRules.{IsEntryFor}
 use Rattle.record.specs.Commands.{commands, next_command}
 use Rattle.record.specs.Entries.{IsLog}
@@ -136,7 +136,7 @@ module _ (lay : Layout) (tries : ℕ) (calls : List Call) (of_mode : AreOf lay.m
   pub map_idle : (number : ℕ) (pass : PassNo) → AreLines lay tries calls (Step (Idle number pass) ∷ lines) → IsMapSoFar lay calls begun places (Step (Idle number pass) ∷ lines)
   map_idle number pass a = record { keys = x.keys; tree = λ mode. tree_idle lay tries calls mode (map_calls lay.mode calls mode of_mode) begun (changes places) lines (x.tree mode) number pass a }
 
-  pub map_reply : (reply : Reply) → AreLines lay tries calls (ReplyLine reply ∷ lines) → IsMapSoFar lay calls begun places (ReplyLine reply ∷ lines)
+  pub map_reply : (reply : Finished) → AreLines lay tries calls (ReplyLine reply ∷ lines) → IsMapSoFar lay calls begun places (ReplyLine reply ∷ lines)
   map_reply reply a = record { keys = x.keys; tree = λ mode. tree_reply lay tries calls mode (map_calls lay.mode calls mode of_mode) begun (changes places) lines (x.tree mode) reply a }
 
   -- an entry, whose call changes the map

@@ -11,7 +11,7 @@ use Rattle.script.specs.declared.command.Command.{Command}
 use Rattle.spelling.specs.declared.request.Request.TheVariants.{Insert, Delete}
 use Rattle.script.specs.declared.command.Command.TheVariants.{Map}
 use Rattle.record.specs.declared.record.Line.{Line}
-use Rattle.record.specs.declared.record.Reply.{Reply}
+use Rattle.record.specs.declared.record.Finished.{Finished}
 use Rattle.record.specs.declared.record.Answer.{Answer}
 use Rattle.record.specs.declared.record.Answer.TheVariants.{Contended, Full, NoMemory}
 use Rattle.record.specs.Answers.{WasBlockedBy}
@@ -43,7 +43,7 @@ at_once_insert command answer key value is may = subst (λ (k : Command). MayAns
 at_once_delete : (command : Command) (answer : Answer) (key : ℕ) → command ≡ Map (Delete key) → MayAnswerAtOnce command answer → ⊥
 at_once_delete command answer key is may = subst (λ (k : Command). MayAnswerAtOnce k answer) is may
 
-module _ (lay : Layout) (tries : ℕ) (calls : List Call) (lines : List Line) (changed : List Change) (client : Client) (command : Command) (r : Reply) (x : IsAsked lay tries calls lines changed client command r) where
+module _ (lay : Layout) (tries : ℕ) (calls : List Call) (lines : List Line) (changed : List Change) (client : Client) (command : Command) (r : Finished) (x : IsAsked lay tries calls lines changed client command r) where
   abbrev RightIs : Command → Answer → Type 0
   RightIs k answer = IsRight lay r.client.0 (history lay.mode lines) (start lay.mode lines r.client.0) (linked calls lay.mode lines r.client.0) k answer
 

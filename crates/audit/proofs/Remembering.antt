@@ -21,7 +21,7 @@ use Rattle.script.specs.declared.command.Command.{Command}
 use Rattle.script.specs.declared.command.Command.TheVariants.{Vlx}
 use Rattle.script.specs.Cells.{cells_of}
 use Rattle.record.specs.declared.record.Entry.{Entry}
-use Rattle.record.specs.declared.record.Reply.{Reply}
+use Rattle.record.specs.declared.record.Finished.{Finished}
 use Rattle.record.specs.declared.record.Line.{Line}
 use Rattle.record.specs.declared.record.Line.TheVariants.{Step, Log, Reply as ReplyLine}
 use Rattle.record.specs.declared.record.Row.TheVariants.{Step as Made, Idle}
@@ -227,13 +227,13 @@ module _ (old new : Steps) (pass : ℕ) (memory : Memory) (same : new ≡ record
 -- A reply
 
 -- what is remembered of a client behind a reply, by whether the reply is its own
-abbrev RepliedIf : Layout → List Call → List Line → Reply → Bool → ℕ → Memory → Type 0
+abbrev RepliedIf : Layout → List Call → List Line → Finished → Bool → ℕ → Memory → Type 0
 RepliedIf lay calls lines reply b c m = IsKept lay (history lay.mode lines) (cond b (history lay.mode lines) (start lay.mode lines c)) (λ n. cond b (linked_then (next_command calls lines c) reply.answer (history lay.mode lines) n (linked calls lay.mode lines c n)) (linked calls lay.mode lines c n)) (cond b None (begin lines c)) (slice_get (commands calls c) (cond b (suc (answered lines c)) (answered lines c))) c m
 
-pub replied : (lay : Layout) (calls : List Call) (lines : List Line) (reply : Reply) (c : ℕ) (m : Memory) → (c ≡ reply.client.0 → ⊥) → IsMemoryOf lay calls lines c m → IsMemoryOf lay calls (ReplyLine reply ∷ lines) c m
+pub replied : (lay : Layout) (calls : List Call) (lines : List Line) (reply : Finished) (c : ℕ) (m : Memory) → (c ≡ reply.client.0 → ⊥) → IsMemoryOf lay calls lines c m → IsMemoryOf lay calls (ReplyLine reply ∷ lines) c m
 replied lay calls lines reply c m d y = subst (λ (b : Bool). RepliedIf lay calls lines reply b c m) (sym (ne_eqb reply.client.0 c (λ e. d (sym e)))) y
 
-pub replied_own : (lay : Layout) (calls : List Call) (lines : List Line) (reply : Reply) (before m : Memory) → IsMemoryOf lay calls lines reply.client.0 before → m ≡ record before { snapshots = m.snapshots } → AreSnapshotsOf lay (history lay.mode lines) m (λ n. linked_then (next_command calls lines reply.client.0) reply.answer (history lay.mode lines) n (linked calls lay.mode lines reply.client.0 n)) → IsMemoryOf lay calls (ReplyLine reply ∷ lines) reply.client.0 m
+pub replied_own : (lay : Layout) (calls : List Call) (lines : List Line) (reply : Finished) (before m : Memory) → IsMemoryOf lay calls lines reply.client.0 before → m ≡ record before { snapshots = m.snapshots } → AreSnapshotsOf lay (history lay.mode lines) m (λ n. linked_then (next_command calls lines reply.client.0) reply.answer (history lay.mode lines) n (linked calls lay.mode lines reply.client.0 n)) → IsMemoryOf lay calls (ReplyLine reply ∷ lines) reply.client.0 m
 replied_own lay calls lines reply before m y is kept = subst (λ (b : Bool). RepliedIf lay calls lines reply b reply.client.0 m) (sym (eq-eqb reply.client.0 reply.client.0 refl)) here
   where
     here : RepliedIf lay calls lines reply true reply.client.0 m
@@ -248,7 +248,7 @@ replied_own lay calls lines reply before m y is kept = subst (λ (b : Bool). Rep
 pub next_is : (lay : Layout) (calls : List Call) (lines : List Line) (client : Client) → IsClientAfter lay calls lines client.pass.0 client → next_command calls lines client.pass.0 ≡ command_at calls client.at
 next_is lay calls lines client x = ap (λ (n : ℕ). slice_get (commands calls client.pass.0) n) (sym x.answered) ∙ sym (command_next calls client.pass.0 client.answered client.at x.place)
 
-module _ (lay : Layout) (calls : List Call) (lines : List Line) (reply : Reply) (all : Steps) (x : AreRemembered lay calls lines all) where
+module _ (lay : Layout) (calls : List Call) (lines : List Line) (reply : Finished) (all : Steps) (x : AreRemembered lay calls lines all) where
   -- a client with no command keeps what it kept
   pub reply_to_none : next_command calls lines reply.client.0 ≡ None → AreRemembered lay calls (ReplyLine reply ∷ lines) all
   reply_to_none none = record {

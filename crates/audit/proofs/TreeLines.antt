@@ -23,7 +23,7 @@ use Rattle.record.specs.declared.record.Line.{Line}
 use Rattle.record.specs.declared.record.Line.TheVariants.{Step, Log, Reply as ReplyLine}
 use Rattle.record.specs.declared.record.Row.TheVariants.{Step as Made, Idle}
 use Rattle.record.specs.declared.record.Entry.{Entry}
-use Rattle.record.specs.declared.record.Reply.{Reply}
+use Rattle.record.specs.declared.record.Finished.{Finished}
 use Rattle.record.specs.CommandRules.{IsEntryFor}
 use Rattle.record.specs.LawfulRun.{AreLines}
 use Rattle.record.specs.SpelledMap.{AreSpelled}
@@ -119,7 +119,7 @@ module _ (lay : Layout) (tries : ℕ) (calls : List Call) (mode : lay.mode ≡ T
   pub tree_idle : (number : ℕ) (pass : PassNo) → AreLines lay tries calls (Step (Idle number pass) ∷ lines) → IsTreeSoFar lay calls begun changed (Step (Idle number pass) ∷ lines)
   tree_idle number pass a = record { run = x.run; rising = x.rising; spelled = spelled_more (Step (Idle number pass)) a (mode, x.run) x.rising; edits = x.edits; entries = x.entries }
 
-  pub tree_reply : (reply : Reply) → AreLines lay tries calls (ReplyLine reply ∷ lines) → IsTreeSoFar lay calls begun changed (ReplyLine reply ∷ lines)
+  pub tree_reply : (reply : Finished) → AreLines lay tries calls (ReplyLine reply ∷ lines) → IsTreeSoFar lay calls begun changed (ReplyLine reply ∷ lines)
   tree_reply reply a = record { run = x.run; rising = x.rising; spelled = spelled_more (ReplyLine reply) a (mode, x.run) x.rising; edits = x.edits; entries = x.entries }
 
   pub tree_log : (entry : Entry) (change : Change) → AreLines lay tries calls (Log entry ∷ lines) → IsChangeOf calls entry change → IsTreeSoFar lay calls begun (change ∷ changed) (Log entry ∷ lines)

@@ -17,7 +17,7 @@ use Rattle.record.specs.declared.record.Line.TheVariants.{Step, Log, Reply as Re
 use Rattle.record.specs.declared.record.Row.{Row}
 use Rattle.record.specs.declared.record.Row.TheVariants.{Step as Made, Idle}
 use Rattle.record.specs.declared.record.Entry.{Entry}
-use Rattle.record.specs.declared.record.Reply.{Reply}
+use Rattle.record.specs.declared.record.Finished.{Finished}
 use Rattle.record.specs.Turns.{client_of, number_of, history, turns, last_client, begin, start, entry_owed}
 use Rattle.record.specs.Commands.{next_command}
 use Rattle.record.specs.Edits.{HadAtKey}
@@ -179,7 +179,7 @@ module _ (lay : Layout) (tries : ℕ) (calls : List Call) (c : ℕ) (command : C
       subst (λ (k : History). HasSpelled lay k (start lay.mode (Step row ∷ lines) c) (map_at calls lines m)) (sym now) (subst (λ (k : History). HasSpelled lay (history lay.mode lines) k (map_at calls lines m)) (sym (start_stays lay.mode lines row c first e)) there)
 
   -- another client's reply
-  reply_spelled : (lines : List Line) (reply : Reply) → (reply.client.0 ≢ c → HaveSpelled lines) → HaveSpelled (ReplyLine reply ∷ lines)
+  reply_spelled : (lines : List Line) (reply : Finished) → (reply.client.0 ≢ c → HaveSpelled lines) → HaveSpelled (ReplyLine reply ∷ lines)
   reply_spelled lines reply before first m is e from to = go (eqb reply.client.0 c) refl
     where
       go : (own : Bool) → eqb reply.client.0 c ≡ own → HasSpelled lay (history lay.mode lines) (start lay.mode (ReplyLine reply ∷ lines) c) (map_at calls lines m)

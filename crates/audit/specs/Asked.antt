@@ -9,7 +9,7 @@ use Rattle.script.specs.declared.command.Command.{Command}
 use Rattle.record.specs.declared.record.Line.{Line}
 use Rattle.record.specs.declared.record.Answer.{Answer}
 use Rattle.record.specs.declared.record.Answer.TheVariants.{Value}
-use Rattle.record.specs.declared.record.Reply.{Reply}
+use Rattle.record.specs.declared.record.Finished.{Finished}
 use Rattle.record.specs.Answers.{HasItsEntry}
 use Rattle.record.specs.CommandRules.{enters}
 use Rattle.record.specs.Commands.{next_command}
@@ -31,7 +31,7 @@ use Rattle.audit.specs.declared.client.Client.{Client}
 -- their entries. The reply is one to the client's next call, of this command, which is one of the
 -- map: it names the call, its first turn and its last, and an answer that the call may give behind
 -- the newest line.
-pub record IsAsked (lay : Layout) (tries : ℕ) (calls : List Call) (lines : List Line) (changed : List Change) (client : Client) (command : Command) (r : Reply) : Type 0 where
+pub record IsAsked (lay : Layout) (tries : ℕ) (calls : List Call) (lines : List Line) (changed : List Change) (client : Client) (command : Command) (r : Finished) : Type 0 where
   pub in_order : AreLines lay tries calls lines
   pub owed : entry_owed lay lines ≡ None
   pub spelled : AreSpelled lay calls lines
@@ -49,7 +49,7 @@ pub record IsAsked (lay : Layout) (tries : ℕ) (calls : List Call) (lines : Lis
 
 -- after some row behind the call's begin the map that the words spelled had this at the key, and
 -- the share has too little for an edit there, and not by the call's own doing
-abbrev pub IsTooFewFor : Layout → List Line → Reply → ℕ → Option ℕ → Resource → ℕ → Type 0
+abbrev pub IsTooFewFor : Layout → List Line → Finished → ℕ → Option ℕ → Resource → ℕ → Type 0
 IsTooFewFor lay lines r key old what left = HadAtKey lay (history lay.mode lines) (start lay.mode lines r.client.0) key old × HasTooFewToTry lay r.client.0 (history lay.mode lines) (start lay.mode lines r.client.0) (nodes_for old) what left
 
 -- the answer tells what the map had just before the turn at the key of the command, an edit
@@ -62,7 +62,7 @@ pub record IsToldBefore (calls : List Call) (lines : List Line) (command : Comma
 
 -- the reply's moment is the greatest turn of the call after which the map had at the key what it
 -- tells
-pub record IsValueAt (calls : List Call) (lines : List Line) (key : ℕ) (r : Reply) : Type 0 where
+pub record IsValueAt (calls : List Call) (lines : List Line) (key : ℕ) (r : Finished) : Type 0 where
   pub told : Option ℕ
   pub answers : r.answer ≡ Value told
   pub turn : ℕ
@@ -71,7 +71,7 @@ pub record IsValueAt (calls : List Call) (lines : List Line) (key : ℕ) (r : Re
 
 -- the command is an ordered read, and the reply's moment is the greatest turn of the call after
 -- which the map replied what it tells
-pub record IsReadAt (calls : List Call) (lines : List Line) (command : Command) (r : Reply) : Type 0 where
+pub record IsReadAt (calls : List Call) (lines : List Line) (command : Command) (r : Finished) : Type 0 where
   pub ordered : IsOrderedRead command
   pub call : MapCall
   pub is : map_call (Some command) ≡ Some call

@@ -13,7 +13,7 @@ ghost use Rattle.arena.specs.ScxRecords.{plan as plan_of, member as member_of, n
 ghost use Rattle.arena.specs.Words.{node as node_of, child, scx as scx_of};
 ghost use Rattle.script.specs.declared.call.Call.{Call as CallOf};
 ghost use Rattle.record.specs.declared.record.Line.{Line};
-ghost use Rattle.record.specs.declared.record.Reply.{Reply as ReplyOf};
+ghost use Rattle.record.specs.declared.record.Finished.{Finished};
 ghost use Rattle.script.specs.Cells.{cells_of};
 ghost use Rattle.audit.specs.declared.memory.Look.{Look as LookOf};
 ghost use Rattle.arena.specs.declared.step.Kind.{Kind as KindOf};
@@ -37,7 +37,7 @@ use crate::memory::{Look, Memory};
 use crate::steps::Steps;
 use arena::{MemberIndex, NodeNo, NodeWord, PassNo, Plan, ScxNo, ScxWord, Side, Word};
 use judge::{Judge, is_own_node};
-use record::{Answer, Reply};
+use record::{Answer, Finished};
 use script::{Cell, Cells, Command, Update};
 
 /// Whether an entry of this SCX-record is one that the client's call of cells makes.
@@ -229,7 +229,7 @@ fn is_same(judge: &Judge, memory: &Memory, cells: &[Cell], place: usize) -> bool
 }
 
 /// Whether the answer of a call of cells is right, and took place where the reply says.
-pub(crate) fn is_right(steps: &Steps, client: &Client, command: &Command, reply: &Reply) -> bool
+pub(crate) fn is_right(steps: &Steps, client: &Client, command: &Command, reply: &Finished) -> bool
     requires pass { client.now.pass.0 < steps.now.judge.layout.passes }
     requires cells { steps.now.judge.layout.mode ≡ Records }
     ensures right { (lay : Layout) (calls : List CallOf) (lines : List Line) → AreRemembered lay calls lines steps.now → IsSome (begin lines client.now.pass.0) → next_command calls lines client.now.pass.0 ≡ Some command.now → IsTrue result → IsRight lay client.now.pass.0 (history lay.mode lines) (start lay.mode lines client.now.pass.0) (linked calls lay.mode lines client.now.pass.0) command.now reply.now.answer }
@@ -240,7 +240,7 @@ pub(crate) fn is_right(steps: &Steps, client: &Client, command: &Command, reply:
 
 /// Where an answered call of cells took place: an LLX that told something in its last turn, a VLX
 /// that found its cells as they were in its first, an SCX that is done in the turn of its entry.
-fn moment_of(client: &Client, reply: &Reply) -> Option<u64>
+fn moment_of(client: &Client, reply: &Finished) -> Option<u64>
     ensures { result ≡ moment_in reply.now.answer reply.now.begin reply.now.end client.now.won }
 {
     match &reply.answer {
@@ -256,7 +256,7 @@ fn is_true(steps: &Steps, pass: PassNo, command: &Command, answer: &Answer) -> b
     requires pass { pass.0 < steps.now.judge.layout.passes }
     requires cells { steps.now.judge.layout.mode ≡ Records }
     ensures right { (lay : Layout) (calls : List CallOf) (lines : List Line) → AreRemembered lay calls lines steps.now → IsSome (begin lines pass.0) → next_command calls lines pass.0 ≡ Some command.now → IsTrue result → IsRight lay pass.0 (history lay.mode lines) (start lay.mode lines pass.0) (linked calls lay.mode lines pass.0) command.now answer.now }
-    ensures placed { (lay : Layout) (calls : List CallOf) (lines : List Line) (reply : ReplyOf) → IsTrue result → IsPlacedCell lay lines reply → IsPlaced lay calls lines reply command.now }
+    ensures placed { (lay : Layout) (calls : List CallOf) (lines : List Line) (reply : Finished) → IsTrue result → IsPlacedCell lay lines reply → IsPlaced lay calls lines reply command.now }
 {
     let memory = steps.memory(pass);
     match command {

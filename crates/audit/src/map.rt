@@ -22,7 +22,7 @@ use crate::client::Client;
 use crate::steps::Steps;
 use arena::Resource;
 use places::Places;
-use record::{Answer, Reply};
+use record::{Answer, Finished};
 use script::Command;
 use spelling::Request;
 
@@ -33,7 +33,7 @@ pub(crate) fn is_right(
     places: &Places,
     client: &Client,
     command: &Command,
-    reply: &Reply,
+    reply: &Finished,
 ) -> bool
     requires { client.now.pass.0 < steps.now.judge.layout.passes }
     ensures right { (lay : Layout) (tries : ℕ) (calls : List CallOf) (lines : List Line) → IsAsked lay tries calls lines (changes places.now) client.now command.now reply.now → AreRemembered lay calls lines steps.now → IsTrue result → IsRight lay reply.now.client.0 (history lay.mode lines) (start lay.mode lines reply.now.client.0) (linked calls lay.mode lines reply.now.client.0) command.now reply.now.answer }
@@ -53,7 +53,12 @@ pub(crate) fn is_right(
 /// Whether a call that tells of the map took place in the turn of its reply: with its entry, just
 /// before which the map gave its answer; or, without one, in the last of its turns, whoever made
 /// it, after which the map gave it.
-fn is_placed(places: &Places, client: &Client, request: &Request<u64, u64>, reply: &Reply) -> bool
+fn is_placed(
+    places: &Places,
+    client: &Client,
+    request: &Request<u64, u64>,
+    reply: &Finished,
+) -> bool
     ensures right { (lay : Layout) (tries : ℕ) (calls : List CallOf) (lines : List Line) → IsAsked lay tries calls lines (changes places.now) client.now (MapCommand request.now) reply.now → IsTrue result → IsRight lay reply.now.client.0 (history lay.mode lines) (start lay.mode lines reply.now.client.0) (linked calls lay.mode lines reply.now.client.0) (MapCommand request.now) reply.now.answer }
     ensures placed { (lay : Layout) (tries : ℕ) (calls : List CallOf) (lines : List Line) → IsAsked lay tries calls lines (changes places.now) client.now (MapCommand request.now) reply.now → IsTrue result → IsPlaced lay calls lines reply.now (MapCommand request.now) }
 {
@@ -82,7 +87,7 @@ fn had_before(places: &Places, request: &Request<u64, u64>, answer: &Answer, tur
 
 /// Whether a call without an entry took place in the greatest of its turns after which the map gave
 /// its answer.
-fn is_read(places: &Places, request: &Request<u64, u64>, reply: &Reply) -> bool
+fn is_read(places: &Places, request: &Request<u64, u64>, reply: &Finished) -> bool
     ensures right { (lay : Layout) (tries : ℕ) (calls : List CallOf) (lines : List Line) (client : ClientOf) → IsAsked lay tries calls lines (changes places.now) client (MapCommand request.now) reply.now → won lay lines reply.now.client.0 ≡ None → IsTrue result → IsRight lay reply.now.client.0 (history lay.mode lines) (start lay.mode lines reply.now.client.0) (linked calls lay.mode lines reply.now.client.0) (MapCommand request.now) reply.now.answer }
     ensures placed { (lay : Layout) (tries : ℕ) (calls : List CallOf) (lines : List Line) (client : ClientOf) → IsAsked lay tries calls lines (changes places.now) client (MapCommand request.now) reply.now → won lay lines reply.now.client.0 ≡ None → IsTrue result → IsPlaced lay calls lines reply.now (MapCommand request.now) }
 {
@@ -95,7 +100,7 @@ fn is_read(places: &Places, request: &Request<u64, u64>, reply: &Reply) -> bool
 
 /// Whether a call that tells what its key had took place in the greatest of its turns after which
 /// the map had that.
-fn is_read_of(places: &Places, key: u64, reply: &Reply) -> bool
+fn is_read_of(places: &Places, key: u64, reply: &Finished) -> bool
     ensures { (calls : List CallOf) (lines : List Line) → AreEntries calls lines (changes places.now) → IsTrue result → IsValueAt calls lines key reply.now }
 {
     let Answer::Value(told) = reply.answer else {
@@ -115,7 +120,7 @@ fn has_at(places: &Places, key: u64, value: Option<u64>, turn: u64) -> bool
 
 /// Whether an ordered read took place in the greatest of its turns after which the map gave its
 /// answer.
-fn is_read_at(places: &Places, request: &Request<u64, u64>, reply: &Reply) -> bool
+fn is_read_at(places: &Places, request: &Request<u64, u64>, reply: &Finished) -> bool
     ensures { (calls : List CallOf) (lines : List Line) → AreEntries calls lines (changes places.now) → FallFrom (suc reply.now.end) (changes places.now) → reply.now.begin ≤ reply.now.end → IsTrue result → IsReadAt calls lines (MapCommand request.now) reply.now }
 {
     let command = Command::Map(*request);
@@ -143,7 +148,7 @@ fn is_refused(
     places: &Places,
     client: &Client,
     request: &Request<u64, u64>,
-    reply: &Reply,
+    reply: &Finished,
 ) -> bool
     requires { client.now.pass.0 < steps.now.judge.layout.passes }
     ensures right { (lay : Layout) (tries : ℕ) (calls : List CallOf) (lines : List Line) → IsAsked lay tries calls lines (changes places.now) client.now (MapCommand request.now) reply.now → AreRemembered lay calls lines steps.now → IsTrue result → IsRight lay reply.now.client.0 (history lay.mode lines) (start lay.mode lines reply.now.client.0) (linked calls lay.mode lines reply.now.client.0) (MapCommand request.now) reply.now.answer }
@@ -174,7 +179,7 @@ fn is_full(
     places: &Places,
     client: &Client,
     request: &Request<u64, u64>,
-    reply: &Reply,
+    reply: &Finished,
     full: (Resource, u32),
 ) -> bool
     requires { client.now.pass.0 < steps.now.judge.layout.passes }
@@ -197,7 +202,7 @@ fn is_full_for_new(
     places: &Places,
     client: &Client,
     key: u64,
-    reply: &Reply,
+    reply: &Finished,
     full: (Resource, u32),
 ) -> bool
     requires { client.now.pass.0 < steps.now.judge.layout.passes }
@@ -213,7 +218,7 @@ fn is_full_for_old(
     places: &Places,
     client: &Client,
     key: u64,
-    reply: &Reply,
+    reply: &Finished,
     full: (Resource, u32),
 ) -> bool
     requires { client.now.pass.0 < steps.now.judge.layout.passes }
@@ -223,14 +228,14 @@ fn is_full_for_old(
 }
 
 /// Whether a key had a value, whatever it was, after some turn of a call.
-fn had_some(places: &Places, key: u64, reply: &Reply) -> bool
+fn had_some(places: &Places, key: u64, reply: &Finished) -> bool
     ensures { (calls : List CallOf) (lines : List Line) → AreEntries calls lines (changes places.now) → IsTrue result → (v : ℕ) × HadWithin calls lines key (Some v) reply.now.begin reply.now.end }
 {
     reply.begin <= reply.end && places.had_some(key, reply.begin, reply.end)
 }
 
 /// Whether a key had this value, or none, after some turn of a call.
-fn had(places: &Places, key: u64, value: Option<u64>, reply: &Reply) -> bool
+fn had(places: &Places, key: u64, value: Option<u64>, reply: &Finished) -> bool
     ensures { (calls : List CallOf) (lines : List Line) → AreEntries calls lines (changes places.now) → IsTrue result → HadWithin calls lines key value reply.now.begin reply.now.end }
 {
     reply.begin <= reply.end

@@ -19,7 +19,7 @@ use crate::steps::Steps;
 use crate::{cells, map};
 use arena::{Kind, Mode, NoMemory, NodeWord, PassNo, ScxNo, ScxWord, Word};
 use places::{Change, Places};
-use record::{Entry, Line, Record, Reply, Row};
+use record::{Entry, Finished, Line, Record, Row};
 use script::{Call, Command, Script};
 use spelling::Request;
 use std::alloc::Global;
@@ -506,7 +506,7 @@ impl<'a> Run<'a> {
     }
 
     /// The reply to the call whose last turn is the newest one.
-    fn reply(&mut self, reply: &Reply) -> Result<(), Refused>
+    fn reply(&mut self, reply: &Finished) -> Result<(), Refused>
         requires after { IsAfter self.old (lines_of self.old) }
         requires map { IsMapAfter self.old (lines_of self.old) }
         requires remembered { AreRememberedAfter self.old (lines_of self.old) }
@@ -529,7 +529,7 @@ impl<'a> Run<'a> {
     }
 
     /// A reply is that to a client's next call.
-    fn check_reply(&self, client: &Client, reply: &Reply) -> Result<(), Refused>
+    fn check_reply(&self, client: &Client, reply: &Finished) -> Result<(), Refused>
         requires after { IsAfter self.now (lines_of self.now) }
         requires map { IsMapAfter self.now (lines_of self.now) }
         requires remembered { AreRememberedAfter self.now (lines_of self.now) }
@@ -553,7 +553,7 @@ impl<'a> Run<'a> {
     }
 
     /// Whether a call may give the answer of a reply behind the newest line.
-    fn may_answer(&self, command: &Command, reply: &Reply) -> bool
+    fn may_answer(&self, command: &Command, reply: &Finished) -> bool
         requires { IsAfter self.now (lines_of self.now) }
         ensures { IsTrue result → IsFitting (lines_of self.now) command.now reply.now.answer }
     {
@@ -565,7 +565,12 @@ impl<'a> Run<'a> {
     }
 
     /// The answer to a client's call is right, and the call took place where the reply says.
-    fn check_answer(&self, client: &Client, command: &Command, reply: &Reply) -> Result<(), Refused>
+    fn check_answer(
+        &self,
+        client: &Client,
+        command: &Command,
+        reply: &Finished,
+    ) -> Result<(), Refused>
         requires after { IsAfter self.now (lines_of self.now) }
         requires map { IsMapAfter self.now (lines_of self.now) }
         requires remembered { AreRememberedAfter self.now (lines_of self.now) }
@@ -595,7 +600,7 @@ impl<'a> Run<'a> {
         &self,
         client: &Client,
         command: &Command,
-        reply: &Reply,
+        reply: &Finished,
     ) -> Result<(), Refused>
         requires after { IsAfter self.now (lines_of self.now) }
         requires map { IsMapAfter self.now (lines_of self.now) }
@@ -622,7 +627,7 @@ impl<'a> Run<'a> {
         &self,
         client: &Client,
         command: &Command,
-        reply: &Reply,
+        reply: &Finished,
     ) -> Result<(), Refused>
         requires after { IsAfter self.now (lines_of self.now) }
         requires remembered { AreRememberedAfter self.now (lines_of self.now) }
@@ -719,7 +724,7 @@ fn note_win(clients: &mut Vec<Client>, number: u64, owed: &Option<Entry>)
 }
 
 /// Whether the moment of a reply, if there is one, is within the call.
-fn is_within(reply: &Reply) -> bool
+fn is_within(reply: &Finished) -> bool
     ensures { IsTrue result → (m : ℕ) → reply.now.moment ≡ Some m → (reply.now.begin ≤ m) × (m ≤ reply.now.end) }
 {
     match reply.moment {

@@ -49,7 +49,7 @@ impl Steps {
     ghost use Rattle.record.specs.declared.record.Line.{Line};
     ghost use Rattle.record.specs.declared.record.Line.TheVariants.{Step as Turn, Reply as ReplyLine};
     ghost use Rattle.record.specs.declared.record.Row.TheVariants.{Step as Made};
-    ghost use Rattle.record.specs.declared.record.Reply.{Reply};
+    ghost use Rattle.record.specs.declared.record.Finished.{Finished};
     ghost use Rattle.record.specs.CommandRules.{HasTakenFew, linked_then};
     ghost use Rattle.record.specs.Commands.{next_command};
     ghost use Rattle.record.specs.Linked.{linked};
@@ -247,7 +247,7 @@ impl Steps {
     /// Which snapshots a client keeps once its next call is answered so.
     pub(crate) fn keep_behind(&mut self, client: &Client, calls: &[Call], answer: &Answer)
         ensures same { self.new ≡ record self.old { memories = self.new.memories } }
-        ensures remembered { (lay : Layout) (lines : List Line) (reply : Reply) → AreRemembered lay calls.now lines self.old → IsClientAfter lay calls.now lines client.now.pass.0 client.now → reply.client ≡ client.now.pass → reply.answer ≡ answer.now → AreRemembered lay calls.now (ReplyLine reply ∷ lines) self.new }
+        ensures remembered { (lay : Layout) (lines : List Line) (reply : Finished) → AreRemembered lay calls.now lines self.old → IsClientAfter lay calls.now lines client.now.pass.0 client.now → reply.client ≡ client.now.pass → reply.answer ≡ answer.now → AreRemembered lay calls.now (ReplyLine reply ∷ lines) self.new }
     {
         if let Some(command) = client.command(calls) {
             let memory = self.memory_behind(self.memory(client.pass), &command, answer);

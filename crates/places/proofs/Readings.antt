@@ -13,7 +13,7 @@ use Rattle.script.specs.declared.call.Call.{Call}
 use Rattle.script.specs.declared.command.Command.TheVariants.{Map}
 use Rattle.spelling.specs.declared.request.Request.TheVariants.{Delete as DeleteOf, Get as GetOf}
 use Rattle.record.specs.declared.record.Line.{Line}
-use Rattle.record.specs.declared.record.Reply.{Reply}
+use Rattle.record.specs.declared.record.Finished.{Finished}
 use Rattle.record.specs.declared.record.Answer.TheVariants.{Value}
 use Rattle.record.specs.Turns.{history, turns, answered, begin, start, won, entry_owed, is_update}
 use Rattle.record.specs.Commands.{next_command}
@@ -33,7 +33,7 @@ pub record IsFoundFor (calls : List Call) (lines : List Line) (key : ℕ) (answe
 
 -- a call that tells the value of its key, and that the map has had so after a turn of its own, is a
 -- reading where it stands as was found for it
-reading_placed : (lay : Layout) (tries : ℕ) (calls : List Call) (lines : List Line) (r : Reply) (call : MapCall) (key : ℕ) (answer : Option ℕ) → ((m : List Pair) → reply call m ≡ OneValue (get key m)) → AreLines lay tries calls lines → won lay lines r.client.0 ≡ None → r.call ≡ answered lines r.client.0 → r.end ≡ turns lines → r.answer ≡ Value answer → IsAnsweredIn calls lines key answer r.begin → IsFoundFor calls lines key answer r.begin r.end r.moment → IsReading calls lines call r
+reading_placed : (lay : Layout) (tries : ℕ) (calls : List Call) (lines : List Line) (r : Finished) (call : MapCall) (key : ℕ) (answer : Option ℕ) → ((m : List Pair) → reply call m ≡ OneValue (get key m)) → AreLines lay tries calls lines → won lay lines r.client.0 ≡ None → r.call ≡ answered lines r.client.0 → r.end ≡ turns lines → r.answer ≡ Value answer → IsAnsweredIn calls lines key answer r.begin → IsFoundFor calls lines key answer r.begin r.end r.moment → IsReading calls lines call r
 reading_placed lay tries calls lines r call key answer says a unwon number end told some found = go r.moment refl found
   where
     tells : (n : ℕ) → get key (map_at calls lines n) ≡ answer → reply_told r.answer ≡ Some (reply call (map_at calls lines n))
@@ -62,7 +62,7 @@ pub get_turn : (lay : Layout) (tries : ℕ) (calls : List Call) (lines : List Li
 get_turn lay tries calls lines c key answer first a x owed is e at = answer_turn lay tries calls c (Map (GetOf key)) lines key answer first (get_reads key) a x owed is e at
 
 -- so a get that stands there is a reading
-pub get_placed : (lay : Layout) (tries : ℕ) (calls : List Call) (lines : List Line) (r : Reply) (key : ℕ) (answer : Option ℕ) → AreLines lay tries calls lines → AreSpelled lay calls lines → entry_owed lay lines ≡ None → next_command calls lines r.client.0 ≡ Some (Map (GetOf key)) → won lay lines r.client.0 ≡ None → r.call ≡ answered lines r.client.0 → begin lines r.client.0 ≡ Some r.begin → r.end ≡ turns lines → r.answer ≡ Value answer → IsAnswerAt lay (history lay.mode lines) (start lay.mode lines r.client.0) key answer → IsFoundFor calls lines key answer r.begin r.end r.moment → IsReading calls lines (Get key) r
+pub get_placed : (lay : Layout) (tries : ℕ) (calls : List Call) (lines : List Line) (r : Finished) (key : ℕ) (answer : Option ℕ) → AreLines lay tries calls lines → AreSpelled lay calls lines → entry_owed lay lines ≡ None → next_command calls lines r.client.0 ≡ Some (Map (GetOf key)) → won lay lines r.client.0 ≡ None → r.call ≡ answered lines r.client.0 → begin lines r.client.0 ≡ Some r.begin → r.end ≡ turns lines → r.answer ≡ Value answer → IsAnswerAt lay (history lay.mode lines) (start lay.mode lines r.client.0) key answer → IsFoundFor calls lines key answer r.begin r.end r.moment → IsReading calls lines (Get key) r
 get_placed lay tries calls lines r key answer a x owed is unwon number e end told at found = reading_placed lay tries calls lines r (Get key) key answer (λ m. refl) a unwon number end told (get_turn lay tries calls lines r.client.0 key answer r.begin a x owed is e at) found
 
 -- A delete of a key that the map lacks
@@ -72,13 +72,13 @@ pub absent_turn : (lay : Layout) (tries : ℕ) (calls : List Call) (lines : List
 absent_turn lay tries calls lines c key first a x owed is e had = had_turn lay tries calls c (Map (DeleteOf key)) lines key None first a x owed is e had
 
 -- so one that stands there is a reading too
-pub absent_placed : (lay : Layout) (tries : ℕ) (calls : List Call) (lines : List Line) (r : Reply) (key : ℕ) → AreLines lay tries calls lines → AreSpelled lay calls lines → entry_owed lay lines ≡ None → next_command calls lines r.client.0 ≡ Some (Map (DeleteOf key)) → won lay lines r.client.0 ≡ None → r.call ≡ answered lines r.client.0 → begin lines r.client.0 ≡ Some r.begin → r.end ≡ turns lines → r.answer ≡ Value None → HadAtKey lay (history lay.mode lines) (start lay.mode lines r.client.0) key None → IsFoundFor calls lines key None r.begin r.end r.moment → IsReading calls lines (Edit (Delete key)) r
+pub absent_placed : (lay : Layout) (tries : ℕ) (calls : List Call) (lines : List Line) (r : Finished) (key : ℕ) → AreLines lay tries calls lines → AreSpelled lay calls lines → entry_owed lay lines ≡ None → next_command calls lines r.client.0 ≡ Some (Map (DeleteOf key)) → won lay lines r.client.0 ≡ None → r.call ≡ answered lines r.client.0 → begin lines r.client.0 ≡ Some r.begin → r.end ≡ turns lines → r.answer ≡ Value None → HadAtKey lay (history lay.mode lines) (start lay.mode lines r.client.0) key None → IsFoundFor calls lines key None r.begin r.end r.moment → IsReading calls lines (Edit (Delete key)) r
 absent_placed lay tries calls lines r key a x owed is unwon number e end told had found = reading_placed lay tries calls lines r (Edit (Delete key)) key None (λ m. refl) a unwon number end told (absent_turn lay tries calls lines r.client.0 key r.begin a x owed is e had) found
 
 -- An ordered read
 
 -- a call that stands at the greatest turn after which the map replies what it has told is a reading
-pub ordered_placed : (lay : Layout) (tries : ℕ) (calls : List Call) (lines : List Line) (r : Reply) (call : MapCall) (turn : ℕ) → AreLines lay tries calls lines → won lay lines r.client.0 ≡ None → r.call ≡ answered lines r.client.0 → r.moment ≡ Some turn → IsGreatestTurn (λ m. reply_told r.answer ≡ Some (reply call (map_at calls lines m))) r.begin r.end turn → IsReading calls lines call r
+pub ordered_placed : (lay : Layout) (tries : ℕ) (calls : List Call) (lines : List Line) (r : Finished) (call : MapCall) (turn : ℕ) → AreLines lay tries calls lines → won lay lines r.client.0 ≡ None → r.call ≡ answered lines r.client.0 → r.moment ≡ Some turn → IsGreatestTurn (λ m. reply_told r.answer ≡ Some (reply call (map_at calls lines m))) r.begin r.end turn → IsReading calls lines call r
 ordered_placed lay tries calls lines r call turn a unwon number moment greatest = record {
   none = subst (λ (n : ℕ). entries_of_call r.client.0 n (written_log lines) ≡ 0) (sym number) (entries_none lay tries calls lines a r.client.0 unwon);
   turn = turn;

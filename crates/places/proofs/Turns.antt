@@ -20,7 +20,7 @@ use Rattle.record.specs.declared.record.Line.TheVariants.{Step, Log, Reply as Re
 use Rattle.record.specs.declared.record.Row.{Row}
 use Rattle.record.specs.declared.record.Row.TheVariants.{Step as Made, Idle}
 use Rattle.record.specs.declared.record.Entry.{Entry}
-use Rattle.record.specs.declared.record.Reply.{Reply}
+use Rattle.record.specs.declared.record.Finished.{Finished}
 use Rattle.record.specs.Turns.{client_of, history, turns, begin, start, entry_at, entry_of, entry_owed, entries, is_update}
 use Rattle.record.specs.Commands.{next_command}
 use Rattle.record.specs.CommandRules.{MayMake}
@@ -159,7 +159,7 @@ module _ (lay : Layout) (tries : ℕ) (calls : List Call) (c : ℕ) (command : C
           let same : x.command ≡ command = (let both : Some x.command ≡ Some command = sym there ∙ is in cc) in
           reads row.kind (subst (λ (k : Command). MayMake k row.kind) same x.may)
 
-  reply_back : (lines : List Line) (reply : Reply) (h : History) (ps : List Pair) (first : ℕ) → AreMoments lines → next_command calls (ReplyLine reply ∷ lines) c ≡ Some command → begin (ReplyLine reply ∷ lines) c ≡ Some first → Extends (history lay.mode lines) h → IsMomentSince (start lay.mode (ReplyLine reply ∷ lines) c) h → Spells lay (value h) ps → IsAfterTurn calls (ReplyLine reply ∷ lines) first ps
+  reply_back : (lines : List Line) (reply : Finished) (h : History) (ps : List Pair) (first : ℕ) → AreMoments lines → next_command calls (ReplyLine reply ∷ lines) c ≡ Some command → begin (ReplyLine reply ∷ lines) c ≡ Some first → Extends (history lay.mode lines) h → IsMomentSince (start lay.mode (ReplyLine reply ∷ lines) c) h → Spells lay (value h) ps → IsAfterTurn calls (ReplyLine reply ∷ lines) first ps
   reply_back lines reply h ps first moments is e within since s = go (eqb reply.client.0 c) refl
     where
       go : (own : Bool) → eqb reply.client.0 c ≡ own → IsAfterTurn calls (ReplyLine reply ∷ lines) first ps

@@ -21,7 +21,7 @@ use Rattle.record.specs.declared.record.Line.TheVariants.{Step, Log, Reply as Re
 use Rattle.record.specs.declared.record.Row.{Row as Turn}
 use Rattle.record.specs.declared.record.Row.TheVariants.{Step as Made, Idle}
 use Rattle.record.specs.declared.record.Entry.{Entry}
-use Rattle.record.specs.declared.record.Reply.{Reply}
+use Rattle.record.specs.declared.record.Finished.{Finished}
 use Rattle.record.specs.declared.record.Answer.{Answer}
 use Rattle.record.specs.declared.record.Answer.TheVariants.{Full, Value, Contended}
 use Rattle.record.specs.Answers.{HasItsEntry}
@@ -182,7 +182,7 @@ unwon_none None x = refl
 unwon_none (Some k) x = absurd x
 
 -- what is known of a reply that an edit has given
-pub record IsEditReply (lay : Layout) (tries : ℕ) (calls : List Call) (lines : List Line) (changes : List Change) (r : Reply) (c : ℕ) (command : Command) : Type 0 where
+pub record IsEditReply (lay : Layout) (tries : ℕ) (calls : List Call) (lines : List Line) (changes : List Change) (r : Finished) (c : ℕ) (command : Command) : Type 0 where
   pub mode : lay.mode ≡ Tree
   pub all : AreOf lay.mode calls
   pub run : IsRun PlayedAllows lay (history lay.mode lines)
@@ -200,7 +200,7 @@ pub record IsEditReply (lay : Layout) (tries : ℕ) (calls : List Call) (lines :
   pub entry : HasItsEntry (enters command r.answer) (won lay lines c)
   pub moment : IsMomentBy calls lines changes command r.answer r.begin r.end (won lay lines c) r.moment
 
-module _ (lay : Layout) (tries : ℕ) (calls : List Call) (lines : List Line) (changes : List Change) (r : Reply) (c : ℕ) where
+module _ (lay : Layout) (tries : ℕ) (calls : List Call) (lines : List Line) (changes : List Change) (r : Finished) (c : ℕ) where
   refused : (command : Command) → IsEditReply lay tries calls lines changes r c command → HasItsEntry false (won lay lines c) → r.moment ≡ None → IsRefused lines r
   refused command x y none = record { none = rw (x.client, x.number) (entries_none lay tries calls lines x.lines_are c (unwon_none (won lay lines c) y)); moment = none }
 

@@ -35,7 +35,7 @@ use Rattle.script.specs.declared.call.Call.{Call}
 use Rattle.record.specs.declared.record.Line.{Line}
 use Rattle.record.specs.declared.record.Line.TheVariants.{Step, Log, Reply as ReplyLine}
 use Rattle.record.specs.declared.record.Row.TheVariants.{Step as Made, Idle}
-use Rattle.record.specs.declared.record.Reply.{Reply}
+use Rattle.record.specs.declared.record.Finished.{Finished}
 use Rattle.record.specs.declared.record.Entry.{Entry}
 use Rattle.record.specs.declared.record.Answer.{Answer}
 use Rattle.record.specs.declared.record.Answer.TheVariants.{Snapshot, Finalized, Fail, Done, Lost, Same, Changed, Unlinked, Full, Value, Pair, Pairs, Contended, NoMemory}
@@ -86,10 +86,10 @@ pub others_log : (lay : Layout) (tries : ℕ) (calls : List Call) (clients : Lis
 others_log lay tries calls clients lines i entry x = x
 
 -- a reply of another client leaves the snapshots
-linked_other : (calls : List Call) (mode : Mode) (lines : List Line) (reply : Reply) (c n : ℕ) → reply.client.0 ≢ c → linked calls mode (ReplyLine reply ∷ lines) c n ≡ linked calls mode lines c n
+linked_other : (calls : List Call) (mode : Mode) (lines : List Line) (reply : Finished) (c n : ℕ) → reply.client.0 ≢ c → linked calls mode (ReplyLine reply ∷ lines) c n ≡ linked calls mode lines c n
 linked_other calls mode lines reply c n d = rw (ne_eqb reply.client.0 c d) refl
 
-others_reply : (lay : Layout) (tries : ℕ) (calls : List Call) (clients : List Client) (lines : List Line) (i : ℕ) (reply : Reply) → reply.client.0 ≡ i → AreOthers lay tries calls clients lines i → AreOthers lay tries calls clients (ReplyLine reply ∷ lines) i
+others_reply : (lay : Layout) (tries : ℕ) (calls : List Call) (clients : List Client) (lines : List Line) (i : ℕ) (reply : Finished) → reply.client.0 ≡ i → AreOthers lay tries calls clients lines i → AreOthers lay tries calls clients (ReplyLine reply ∷ lines) i
 others_reply lay tries calls clients lines i reply is x j c d get =
     let y = x j c d get in
     let other : reply.client.0 ≢ j = λ e. d (sym e ∙ is) in
@@ -227,7 +227,7 @@ pub record IsOver (lay : Layout) (tries : ℕ) (calls : List Call) (lines : List
   pub late : (turn : ℕ) → won lay lines i ≡ Some turn → c.begin ≤ turn
 
 -- what the lines say to the client once its reply is written down
-view_replied : (lay : Layout) (tries : ℕ) (calls : List Call) (lines : List Line) (reply : Reply) (command : Command) (c : ℕ) → reply.client.0 ≡ c → next_command calls lines c ≡ Some command → (let v : ClientView = record { layout = lay; tries = tries; calls = calls; past = history lay.mode lines; answered = suc (answered lines c); start = history lay.mode lines; steps = 0; won = None; linked = linked_by (client_view lay tries calls lines c) command reply.answer } in v) ≡ client_view lay tries calls (ReplyLine reply ∷ lines) c
+view_replied : (lay : Layout) (tries : ℕ) (calls : List Call) (lines : List Line) (reply : Finished) (command : Command) (c : ℕ) → reply.client.0 ≡ c → next_command calls lines c ≡ Some command → (let v : ClientView = record { layout = lay; tries = tries; calls = calls; past = history lay.mode lines; answered = suc (answered lines c); start = history lay.mode lines; steps = 0; won = None; linked = linked_by (client_view lay tries calls lines c) command reply.answer } in v) ≡ client_view lay tries calls (ReplyLine reply ∷ lines) c
 view_replied lay tries calls lines reply command c is next = λ i. record {
   layout = lay;
   tries = tries;
@@ -250,7 +250,7 @@ some_command : (a b : Command) → Some a ≡ Some b → a ≡ b
 some_command a b e = cc
 
 -- the reply to a call that has ended
-pub replied : (lay : Layout) (tries : ℕ) (calls : List Call) (words : Contents) (clients : List Client) (lines : List Line) (changes : List Change) (old new : Client) (answer : Answer) (said : Option ℕ) (reply : Reply) (command : Command) (number : ℕ) → (lay.mode ≡ Tree → AreEntries calls lines changes) → length calls ≤ 65536 → IsTurnOf lay tries calls words clients lines old → IsOver lay tries calls lines old.pass.0 old command answer → ((turn : ℕ) → won lay lines old.pass.0 ≡ Some turn → said ≡ Some turn) → number ≡ turns lines → IsEnd calls lines changes old new number answer said reply → AreBetweenTurns lay tries calls words (set clients old.pass.0 new) (ReplyLine reply ∷ lines)
+pub replied : (lay : Layout) (tries : ℕ) (calls : List Call) (words : Contents) (clients : List Client) (lines : List Line) (changes : List Change) (old new : Client) (answer : Answer) (said : Option ℕ) (reply : Finished) (command : Command) (number : ℕ) → (lay.mode ≡ Tree → AreEntries calls lines changes) → length calls ≤ 65536 → IsTurnOf lay tries calls words clients lines old → IsOver lay tries calls lines old.pass.0 old command answer → ((turn : ℕ) → won lay lines old.pass.0 ≡ Some turn → said ≡ Some turn) → number ≡ turns lines → IsEnd calls lines changes old new number answer said reply → AreBetweenTurns lay tries calls words (set clients old.pass.0 new) (ReplyLine reply ∷ lines)
 replied lay tries calls words clients lines changes old new answer said reply command number entries few x o wins n e =
     turn_ends lay tries calls words (set clients old.pass.0 new) (ReplyLine reply ∷ lines) new
     record { entry = refl; reply = λ y. y }
@@ -437,7 +437,7 @@ refuses_tells v c (Map (RangeOf low high most)) (Full what left) x = absurd x
 refuses_tells v c (Map (RangeOf low high most)) (Contended node scx) x = absurd x
 refuses_tells v c (Map (RangeOf low high most)) NoMemory x = tt
 
-pub refused_turn : (lay : Layout) (tries : ℕ) (calls : List Call) (words : Contents) (clients : List Client) (lines : List Line) (c new : Client) (number : ℕ) (pass : PassNo) (answer : Answer) (changes : List Change) (said : Option ℕ) (reply : Reply) → (lay.mode ≡ Tree → AreEntries calls lines changes) → length calls ≤ 65536 → OwesNothing lay calls lines → IsTurnOf lay tries calls words clients lines c → Refuses (client_view lay tries calls lines c.pass.0) c answer → begin lines c.pass.0 ≡ None → c.begin ≡ number → number ≡ suc (turns lines) → pass ≡ c.pass → IsEnd calls (Step (Idle number pass) ∷ lines) changes c new number answer said reply → AreBetweenTurns lay tries calls words (set clients c.pass.0 new) (ReplyLine reply ∷ Step (Idle number pass) ∷ lines)
+pub refused_turn : (lay : Layout) (tries : ℕ) (calls : List Call) (words : Contents) (clients : List Client) (lines : List Line) (c new : Client) (number : ℕ) (pass : PassNo) (answer : Answer) (changes : List Change) (said : Option ℕ) (reply : Finished) → (lay.mode ≡ Tree → AreEntries calls lines changes) → length calls ≤ 65536 → OwesNothing lay calls lines → IsTurnOf lay tries calls words clients lines c → Refuses (client_view lay tries calls lines c.pass.0) c answer → begin lines c.pass.0 ≡ None → c.begin ≡ number → number ≡ suc (turns lines) → pass ≡ c.pass → IsEnd calls (Step (Idle number pass) ∷ lines) changes c new number answer said reply → AreBetweenTurns lay tries calls words (set clients c.pass.0 new) (ReplyLine reply ∷ Step (Idle number pass) ∷ lines)
 refused_turn lay tries calls words clients lines c new number pass answer changes said reply entries few settled x r unbegun begins n is e =
     replied lay tries calls words clients (Step (Idle number pass) ∷ lines) changes c new answer said reply r.command number entries few
     record {
@@ -481,7 +481,7 @@ refused_turn lay tries calls words clients lines c new number pass answer change
 pub wins_idle : (lay : Layout) (lines : List Line) (number : ℕ) (pass : PassNo) (wins : List (Option ℕ)) → AreWins lay lines wins → AreWins lay (Step (Idle number pass) ∷ lines) wins
 wins_idle lay lines number pass wins x c turn e = x c turn e
 
-pub wins_reply : (lay : Layout) (lines : List Line) (reply : Reply) (wins : List (Option ℕ)) → AreWins lay lines wins → AreWins lay (ReplyLine reply ∷ lines) wins
+pub wins_reply : (lay : Layout) (lines : List Line) (reply : Finished) (wins : List (Option ℕ)) → AreWins lay lines wins → AreWins lay (ReplyLine reply ∷ lines) wins
 wins_reply lay lines reply wins x c turn e = go (eqb reply.client.0 c) e
   where
     go : (b : Bool) → cond b None (won lay lines c) ≡ Some turn → slice_get wins c ≡ Some (Some turn)

@@ -15,7 +15,7 @@ use Rattle.script.specs.declared.command.Command.{Command}
 use Rattle.script.specs.declared.command.Command.TheVariants.{Llx as LlxOf, Scx as ScxOf, Vlx as VlxOf, Set as SetOf, Map}
 use Rattle.spelling.specs.declared.request.Request.TheVariants.{Insert as InsertOf, Delete as DeleteOf, Get as GetOf, Successor as SuccessorOf, Range as RangeOf}
 use Rattle.record.specs.declared.record.Line.{Line}
-use Rattle.record.specs.declared.record.Reply.{Reply}
+use Rattle.record.specs.declared.record.Finished.{Finished}
 use Rattle.record.specs.declared.record.Answer.{Answer}
 use Rattle.record.specs.declared.record.Answer.TheVariants.{Snapshot, Finalized, Fail, Done, Lost, Same, Changed, Unlinked, Full, Value, Pair, Pairs, Contended, NoMemory}
 use Rattle.record.specs.Turns.{history, turns, answered, begin, start, won, entry_owed}
@@ -60,7 +60,7 @@ spelled_so_far : (lay : Layout) (tries : ℕ) (calls : List Call) (words : Conte
 spelled_so_far lay tries calls words lines x mode = are_spelled lay tries calls mode (map_calls lay.mode calls mode x.of_mode) lines x.in_order (tree_run lay (history lay.mode lines) mode x.sound) (x.filled mode)
 
 -- a get took place in a turn that was found for it
-get_reads : (lay : Layout) (tries : ℕ) (calls : List Call) (words : Contents) (lines : List Line) (changes : List Change) (reply : Reply) (key : ℕ) → IsLawfulSoFar lay tries calls words lines → lay.mode ≡ Tree → AreEntries calls lines changes → entry_owed lay lines ≡ None → reply.call ≡ answered lines reply.client.0 → IsRight lay reply.client.0 (history lay.mode lines) (start lay.mode lines reply.client.0) (linked calls lay.mode lines reply.client.0) (Map (GetOf key)) reply.answer → HasItsEntry (enters (Map (GetOf key)) reply.answer) (won lay lines reply.client.0) → next_command calls lines reply.client.0 ≡ Some (Map (GetOf key)) → begin lines reply.client.0 ≡ Some reply.begin → reply.end ≡ turns lines
+get_reads : (lay : Layout) (tries : ℕ) (calls : List Call) (words : Contents) (lines : List Line) (changes : List Change) (reply : Finished) (key : ℕ) → IsLawfulSoFar lay tries calls words lines → lay.mode ≡ Tree → AreEntries calls lines changes → entry_owed lay lines ≡ None → reply.call ≡ answered lines reply.client.0 → IsRight lay reply.client.0 (history lay.mode lines) (start lay.mode lines reply.client.0) (linked calls lay.mode lines reply.client.0) (Map (GetOf key)) reply.answer → HasItsEntry (enters (Map (GetOf key)) reply.answer) (won lay lines reply.client.0) → next_command calls lines reply.client.0 ≡ Some (Map (GetOf key)) → begin lines reply.client.0 ≡ Some reply.begin → reply.end ≡ turns lines
     → IsMomentBy calls lines changes (Map (GetOf key)) reply.answer reply.begin reply.end (won lay lines reply.client.0) reply.moment → IsPlacedOnMap (reply_told reply.answer) calls lines (Get key) reply
 get_reads lay tries calls words lines changes reply key x mode entries owed called right entry is begin end moment = go reply.answer refl
   where
@@ -90,7 +90,7 @@ get_reads lay tries calls words lines changes reply key x mode entries owed call
     go NoMemory e = absurd (rw e at right)
 
 -- an ordered read took place in a turn that was found for it
-module _ (lay : Layout) (tries : ℕ) (calls : List Call) (words : Contents) (lines : List Line) (changes : List Change) (reply : Reply) (x : IsLawfulSoFar lay tries calls words lines) (mode : lay.mode ≡ Tree) (entries : AreEntries calls lines changes) (owed : entry_owed lay lines ≡ None) (called : reply.call ≡ answered lines reply.client.0) (unwon : won lay lines reply.client.0 ≡ None) (begins : begin lines reply.client.0 ≡ Some reply.begin) (ends : reply.end ≡ turns lines) where
+module _ (lay : Layout) (tries : ℕ) (calls : List Call) (words : Contents) (lines : List Line) (changes : List Change) (reply : Finished) (x : IsLawfulSoFar lay tries calls words lines) (mode : lay.mode ≡ Tree) (entries : AreEntries calls lines changes) (owed : entry_owed lay lines ≡ None) (called : reply.call ≡ answered lines reply.client.0) (unwon : won lay lines reply.client.0 ≡ None) (begins : begin lines reply.client.0 ≡ Some reply.begin) (ends : reply.end ≡ turns lines) where
   told_reads : (command : Command) (call : MapCall) (answer : Answer) (told : MapReply) → IsOrderedRead command → map_call (Some command) ≡ Some call → next_command calls lines reply.client.0 ≡ Some command → reply.answer ≡ answer → reply_told answer ≡ Some told → HasToldMap (client_view lay tries calls lines reply.client.0) call (Some told) → IsOrderedMoment calls lines changes command answer reply.begin reply.end reply.moment → IsReading calls lines call reply
   told_reads command call answer told ordered is_call is e says tells moment =
       ordered_placed lay tries calls lines reply call moment.turn x.in_order unwon called moment.is (subst (λ (a : Answer). IsGreatestTurn (λ m. reply_told a ≡ Some (answer_on call (map_at calls lines m))) reply.begin reply.end moment.turn) (sym e) (moment.greatest call some.0 entries fall ordered is_call some.1 (subst (λ (n : ℕ). some.0 ≤ n) (sym ends) some.2) (says ∙ ap (λ (t : MapReply). Some t) (sym some.3))))
@@ -148,7 +148,7 @@ module _ (lay : Layout) (tries : ℕ) (calls : List Call) (words : Contents) (li
       go (Full what left) e = absurd (rw e at right)
 
 -- what is known of an edit's reply
-edit_reply : (lay : Layout) (tries : ℕ) (calls : List Call) (words : Contents) (lines : List Line) (changes : List Change) (reply : Reply) (c : ℕ) (command : Command) (x : IsLawfulSoFar lay tries calls words lines) → lay.mode ≡ Tree → (lay.mode ≡ Tree → AreEntries calls lines changes) → entry_owed lay lines ≡ None → reply.client.0 ≡ c → reply.call ≡ answered lines c → IsRight lay c (history lay.mode lines) (start lay.mode lines c) (linked calls lay.mode lines c) command reply.answer → Tells (client_view lay tries calls lines c) c command reply.answer → HasItsEntry (enters command reply.answer) (won lay lines c) → next_command calls lines c ≡ Some command → begin lines c ≡ Some reply.begin → reply.end ≡ turns lines
+edit_reply : (lay : Layout) (tries : ℕ) (calls : List Call) (words : Contents) (lines : List Line) (changes : List Change) (reply : Finished) (c : ℕ) (command : Command) (x : IsLawfulSoFar lay tries calls words lines) → lay.mode ≡ Tree → (lay.mode ≡ Tree → AreEntries calls lines changes) → entry_owed lay lines ≡ None → reply.client.0 ≡ c → reply.call ≡ answered lines c → IsRight lay c (history lay.mode lines) (start lay.mode lines c) (linked calls lay.mode lines c) command reply.answer → Tells (client_view lay tries calls lines c) c command reply.answer → HasItsEntry (enters command reply.answer) (won lay lines c) → next_command calls lines c ≡ Some command → begin lines c ≡ Some reply.begin → reply.end ≡ turns lines
     → IsMomentBy calls lines changes command reply.answer reply.begin reply.end (won lay lines c) reply.moment → IsEditReply lay tries calls lines changes reply c command
 edit_reply lay tries calls words lines changes reply c command x mode entries owed own called right tells entry is begin end moment = record {
   mode = mode;
@@ -170,7 +170,7 @@ edit_reply lay tries calls words lines changes reply c command x mode entries ow
 }
 
 -- where the call of a reply took place
-pub placed : (lay : Layout) (tries : ℕ) (calls : List Call) (words : Contents) (lines : List Line) (changes : List Change) (reply : Reply) (c : ℕ) (command : Command) → IsLawfulSoFar lay tries calls words lines → (lay.mode ≡ Tree → AreEntries calls lines changes) → entry_owed lay lines ≡ None → reply.client.0 ≡ c → reply.call ≡ answered lines c → IsRight lay c (history lay.mode lines) (start lay.mode lines c) (linked calls lay.mode lines c) command reply.answer → Tells (client_view lay tries calls lines c) c command reply.answer → HasItsEntry (enters command reply.answer) (won lay lines c) → next_command calls lines c ≡ Some command → begin lines c ≡ Some reply.begin → reply.end ≡ turns lines
+pub placed : (lay : Layout) (tries : ℕ) (calls : List Call) (words : Contents) (lines : List Line) (changes : List Change) (reply : Finished) (c : ℕ) (command : Command) → IsLawfulSoFar lay tries calls words lines → (lay.mode ≡ Tree → AreEntries calls lines changes) → entry_owed lay lines ≡ None → reply.client.0 ≡ c → reply.call ≡ answered lines c → IsRight lay c (history lay.mode lines) (start lay.mode lines c) (linked calls lay.mode lines c) command reply.answer → Tells (client_view lay tries calls lines c) c command reply.answer → HasItsEntry (enters command reply.answer) (won lay lines c) → next_command calls lines c ≡ Some command → begin lines c ≡ Some reply.begin → reply.end ≡ turns lines
     → IsMomentBy calls lines changes command reply.answer reply.begin reply.end (won lay lines c) reply.moment → IsPlaced lay calls lines reply command
 placed lay tries calls words lines changes reply c (LlxOf cell) x entries owed own called right tells entry is begin end moment = cell_moment calls lines changes (LlxOf cell) reply.answer reply.begin reply.end (won lay lines c) reply.moment (λ a e. rw e at right) (λ a e. e) moment ∙ ap (λ (k : ℕ). moment_of reply.answer reply.begin reply.end (won lay lines k)) (sym own)
 placed lay tries calls words lines changes reply c (ScxOf update) x entries owed own called right tells entry is begin end moment = cell_moment calls lines changes (ScxOf update) reply.answer reply.begin reply.end (won lay lines c) reply.moment (λ a e. rw e at right) (λ a e. e) moment ∙ ap (λ (k : ℕ). moment_of reply.answer reply.begin reply.end (won lay lines k)) (sym own)

@@ -9,7 +9,7 @@ use Rattle.script.specs.declared.command.Command.{Command}
 use Rattle.record.specs.declared.record.Line.{Line}
 use Rattle.record.specs.declared.record.Line.TheVariants.{Step, Reply as ReplyLine}
 use Rattle.record.specs.declared.record.Row.TheVariants.{Idle}
-use Rattle.record.specs.declared.record.Reply.{Reply}
+use Rattle.record.specs.declared.record.Finished.{Finished as FinishedCall}
 use Rattle.record.specs.declared.record.Answer.{Answer}
 use Rattle.player.specs.declared.client.Client.{Client}
 use Rattle.player.specs.declared.client.NextAction.TheVariants.{Finished, Answers, Asks}
@@ -106,7 +106,7 @@ module _ (p : Player) (i number : ℕ) (old new : Client) (played : IsBetweenTur
       (ap (λ (k : Client). k.next) s.0 ∙ s.1) n (ap (λ (k : ℕ). let x : PassNo = record { 0 = k } in x) (is ∙ sym (new_i same)))
 
   -- its call is refused
-  pub stood_refused : (pass : PassNo) (answer : Answer) (changed : List Change) (said : Option ℕ) (reply : Reply) (end : Client) → pass.0 ≡ i → number ≡ suc (turns lines) → IsNextAction v number old new (Answers answer) → changed ≡ changes p.places → IsEnd calls (Step (Idle number pass) ∷ lines) changed new end number answer said reply → AreBetweenTurns lay tries calls p.words (set (set p.clients.items i new) new.pass.0 end) (ReplyLine reply ∷ Step (Idle number pass) ∷ lines)
+  pub stood_refused : (pass : PassNo) (answer : Answer) (changed : List Change) (said : Option ℕ) (reply : FinishedCall) (end : Client) → pass.0 ≡ i → number ≡ suc (turns lines) → IsNextAction v number old new (Answers answer) → changed ≡ changes p.places → IsEnd calls (Step (Idle number pass) ∷ lines) changed new end number answer said reply → AreBetweenTurns lay tries calls p.words (set (set p.clients.items i new) new.pass.0 end) (ReplyLine reply ∷ Step (Idle number pass) ∷ lines)
   stood_refused pass answer changed said reply end is n s same e =
       refused_turn lay tries calls p.words (set p.clients.items i new) lines new end number pass answer changed said reply (λ tree. rw same (played.places.entries tree)) (few_calls p) played.between.settled (own_turn s.0.pass)
       (subst (λ (k : ℕ). Refuses (client_view lay tries calls lines k) new answer) (sym (new_i s.0.pass)) s.2)

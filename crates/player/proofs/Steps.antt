@@ -41,7 +41,7 @@ use Rattle.script.specs.declared.command.Command.{Command}
 use Rattle.record.specs.declared.record.Line.{Line}
 use Rattle.record.specs.declared.record.Line.TheVariants.{Step, Log, Reply as ReplyLine}
 use Rattle.record.specs.declared.record.Row.TheVariants.{Step as Made}
-use Rattle.record.specs.declared.record.Reply.{Reply}
+use Rattle.record.specs.declared.record.Finished.{Finished}
 use Rattle.record.specs.declared.record.Entry.{Entry}
 use Rattle.record.specs.declared.record.Answer.{Answer}
 use Rattle.player.specs.declared.client.Client.{Client}
@@ -304,7 +304,7 @@ heard_on lay tries calls words all lines c new q found number x g =
     (turn_changed lay tries calls words all lines c new g.same.pass x.turn)
 
 -- its call ends, and the reply is written down
-pub heard_end : (lay : Layout) (tries : ℕ) (calls : List Call) (words : Contents) (all : List Client) (lines : List Line) (changes : List Change) (c mid new : Client) (q : Running) (found number : ℕ) (answer : Answer) (said : Option ℕ) (reply : Reply) → (lay.mode ≡ Tree → AreEntries calls lines changes) → length calls ≤ 65536 → IsHeard lay tries calls words all lines c q found number → Ends (client_view lay tries calls lines c.pass.0) c mid answer → ((turn : ℕ) → won lay lines c.pass.0 ≡ Some turn → said ≡ Some turn) → IsEnd calls lines changes mid new number answer said reply → AreBetweenTurns lay tries calls words (set (set all c.pass.0 mid) c.pass.0 new) (ReplyLine reply ∷ lines)
+pub heard_end : (lay : Layout) (tries : ℕ) (calls : List Call) (words : Contents) (all : List Client) (lines : List Line) (changes : List Change) (c mid new : Client) (q : Running) (found number : ℕ) (answer : Answer) (said : Option ℕ) (reply : Finished) → (lay.mode ≡ Tree → AreEntries calls lines changes) → length calls ≤ 65536 → IsHeard lay tries calls words all lines c q found number → Ends (client_view lay tries calls lines c.pass.0) c mid answer → ((turn : ℕ) → won lay lines c.pass.0 ≡ Some turn → said ≡ Some turn) → IsEnd calls lines changes mid new number answer said reply → AreBetweenTurns lay tries calls words (set (set all c.pass.0 mid) c.pass.0 new) (ReplyLine reply ∷ lines)
 heard_end lay tries calls words all lines changes c mid new q found number answer said reply entries few x g wins e =
     subst (λ (k : ℕ). AreBetweenTurns lay tries calls words (set (set all c.pass.0 mid) k new) (ReplyLine reply ∷ lines)) pass0
     (replied lay tries calls words (set all c.pass.0 mid) lines changes mid new answer said reply g.command number entries few

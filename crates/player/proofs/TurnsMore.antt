@@ -16,7 +16,7 @@ use Rattle.script.specs.declared.command.Command.TheVariants.{Llx, Scx, Vlx, Set
 use Rattle.spelling.specs.declared.request.Request.TheVariants.{Insert, Delete, Get, Successor, Range}
 use Rattle.record.specs.declared.record.Line.{Line}
 use Rattle.record.specs.declared.record.Line.TheVariants.{Step, Log, Reply}
-use Rattle.record.specs.declared.record.Reply.{Reply as ReplyOf}
+use Rattle.record.specs.declared.record.Finished.{Finished}
 use Rattle.record.specs.declared.record.Row.{Row}
 use Rattle.record.specs.declared.record.Row.TheVariants.{Step as Made, Idle}
 use Rattle.player.specs.declared.player.Player.{Player}
@@ -131,13 +131,13 @@ some_same : (a b : ℕ) → Some a ≡ Some b → a ≡ b
 some_same a b e = cc
 
 -- a reply is one to the client that made the newest turn
-reply_moves : (lay : Layout) (tries : ℕ) (calls : List Call) (c : ℕ) (older lines : List Line) (reply : ReplyOf) → IsReply lay tries calls lines reply → last_client lines ≡ Some c → answered lines c ≡ answered older c → Moves c older (Reply reply ∷ lines)
+reply_moves : (lay : Layout) (tries : ℕ) (calls : List Call) (c : ℕ) (older lines : List Line) (reply : Finished) → IsReply lay tries calls lines reply → last_client lines ≡ Some c → answered lines c ≡ answered older c → Moves c older (Reply reply ∷ lines)
 reply_moves lay tries calls c older lines reply x last same =
     let own : reply.client.0 ≡ c = some_same reply.client.0 c (sym x.client ∙ last) in
     inr (rw (eq-eqb reply.client.0 c own) (ap suc same), rw (eq-eqb reply.client.0 c own) refl)
 
 -- no second reply stands behind one
-one_reply : (lay : Layout) (tries : ℕ) (calls : List Call) (lines : List Line) (reply reply' : ReplyOf) → IsReply lay tries calls lines reply' → ¬ IsReply lay tries calls (Reply reply' ∷ lines) reply
+one_reply : (lay : Layout) (tries : ℕ) (calls : List Call) (lines : List Line) (reply reply' : Finished) → IsReply lay tries calls lines reply' → ¬ IsReply lay tries calls (Reply reply' ∷ lines) reply
 one_reply lay tries calls lines reply reply' x y =
     let own : reply'.client.0 ≡ reply.client.0 = some_same reply'.client.0 reply.client.0 (sym x.client ∙ y.client) in
     let none : None ≡ Some reply.begin = rw (eq-eqb reply'.client.0 reply.client.0 own) at y.begin in

@@ -15,7 +15,7 @@ use Rattle.record.specs.declared.record.Line.{Line}
 use Rattle.record.specs.declared.record.Line.TheVariants.{Step, Reply as ReplyLine}
 use Rattle.record.specs.declared.record.Row.{Row as Turn}
 use Rattle.record.specs.declared.record.Row.TheVariants.{Step as Made}
-use Rattle.record.specs.declared.record.Reply.{Reply}
+use Rattle.record.specs.declared.record.Finished.{Finished}
 use Rattle.record.specs.declared.record.Answer.{Answer}
 use Rattle.player.specs.declared.client.Running.{Running}
 use Rattle.player.specs.Allowed.{PlayedAllows}
@@ -118,7 +118,7 @@ pub record IsAtEdit (calls : List Call) (clients : List Client) (e : Entry) : Ty
   pub edits : map_call_of calls e.client.0 e.call ≡ Some (Edit edit)
 
 -- the reply ends the client's call in this turn; `won` is the turn of its last update that has won
-pub record IsEnd (calls : List Call) (lines : List Line) (changes : List Change) (old new : Client) (turn : ℕ) (answer : Answer) (won : Option ℕ) (reply : Reply) : Type 0 where
+pub record IsEnd (calls : List Call) (lines : List Line) (changes : List Change) (old new : Client) (turn : ℕ) (answer : Answer) (won : Option ℕ) (reply : Finished) : Type 0 where
   pub client : reply.client ≡ old.pass
   pub call : reply.call ≡ old.number
   pub begin : reply.begin ≡ old.begin
@@ -130,7 +130,7 @@ pub record IsEnd (calls : List Call) (lines : List Line) (changes : List Change)
 -- the lines have one reply more, to the call of this client, which stands at its next call then
 pub record IsReplied (old new : Player) (turn : ℕ) (answer : Answer) (c : Client) : Type 0 where
   pub client : Client
-  pub reply : Reply
+  pub reply : Finished
   pub won : Option ℕ
   pub wins : slice_get old.wins.items c.pass.0 ≡ Some won
   pub end : IsEnd old.script.calls.items (newest old.lines) (changes old.places) c client turn answer won reply

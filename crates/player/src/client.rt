@@ -11,7 +11,7 @@ use arrayvec::ArrayVec;
 use order::{RangeRun, SuccessorRun};
 use places::Places;
 use prims::{Llx, LlxRun, PutRun, ScxRun, Snap, Snaps, Update, VlxRun};
-use record::{Answer, Reply};
+use record::{Answer, Finished};
 use script::{Call, Cell, Command};
 use spelling::Request;
 use std::alloc::Global;
@@ -355,7 +355,7 @@ impl Client {
         turn: u64,
         answer: Answer,
         moment: Option<u64>,
-    ) -> Reply
+    ) -> Finished
         ensures client { result.client ≡ self.old.pass }
         ensures call { result.call ≡ self.old.number }
         ensures begin { result.begin ≡ self.old.begin }
@@ -364,7 +364,7 @@ impl Client {
         ensures moment { result.moment ≡ moment }
         ensures next { IsAtNextCall calls.now self.old self.new }
     {
-        let reply = Reply {
+        let reply = Finished {
             client: self.pass,
             call: self.number,
             begin: self.begin,

@@ -11,4 +11,4 @@ mod read;
 mod run;
 
 pub use player::{Player, play};
-pub use record::{Answer, Entry, Line, Record, Reply, Row};
+pub use record::{Answer, Entry, Finished, Line, Record, Row};

@@ -3,7 +3,7 @@ ghost use Rattle.std.specs.Prelude.{◌≡◌, ℕ, ◌+◌, ◌<◌, ◌≤◌,
 ghost use Rattle.record.specs.Turns.{turns as turns_in, entries as entries_in};
 
 use arena::NoMemory;
-use record::{Entry, Line, Reply, Row};
+use record::{Entry, Finished, Line, Row};
 use std::alloc::Global;
 
 /// The lines so far, and how many of them are turns and entries of the log.
@@ -74,7 +74,7 @@ impl Lines {
         self.entries += 1;
     }
 
-    pub(crate) fn push_reply(&mut self, reply: Reply)
+    pub(crate) fn push_reply(&mut self, reply: Finished)
         requires { 1 ≤ room self.old }
         ensures { newest self.new ≡ Line.Reply reply ∷ newest self.old }
     {

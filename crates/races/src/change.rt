@@ -3,7 +3,7 @@ ghost use Rattle.std.specs.Prelude.{◌<◌};
 
 use crate::random::Random;
 use arena::{Kind, NodeNo, NodeWord, PassNo, Resource, ScxNo, ScxWord, Side, Word};
-use record::{Answer, Entry, Line, Record, Reply, Row};
+use record::{Answer, Entry, Finished, Line, Record, Row};
 use spelling::Pair;
 use std::alloc::{AllocError, Global};
 use std::test::Fail;
@@ -17,8 +17,8 @@ pub(crate) fn copied(alloc: Global, line: &Line) -> Result<Line, AllocError> {
     })
 }
 
-fn copied_reply(alloc: Global, reply: &Reply) -> Result<Reply, AllocError> {
-    Ok(Reply {
+fn copied_reply(alloc: Global, reply: &Finished) -> Result<Finished, AllocError> {
+    Ok(Finished {
         client: reply.client,
         call: reply.call,
         begin: reply.begin,
@@ -191,7 +191,11 @@ fn other_entry(random: &mut Random, entry: Entry) -> Entry {
     entry
 }
 
-fn other_reply(alloc: Global, random: &mut Random, reply: &Reply) -> Result<Reply, AllocError> {
+fn other_reply(
+    alloc: Global,
+    random: &mut Random,
+    reply: &Finished,
+) -> Result<Finished, AllocError> {
     let mut other = copied_reply(alloc, reply)?;
     match random.below(9) {
         0 => other.client = PassNo(other_small(random, reply.client.0)),

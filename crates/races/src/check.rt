@@ -5,7 +5,7 @@ use crate::past::{Past, Place};
 use crate::replay::Replay;
 use crate::wrong::Wrong;
 use arena::{PassNo, ScxNo, ScxWord};
-use record::{Entry, Line, Record, Reply, Row};
+use record::{Entry, Finished, Line, Record, Row};
 use script::Script;
 use std::alloc::Global;
 
@@ -197,7 +197,7 @@ impl<'a> Seen<'a> {
     }
 
     /// The reply is of the call that its client has made, and says how that went.
-    fn reply(&mut self, reply: &'a Reply) -> Result<(), Wrong> {
+    fn reply(&mut self, reply: &'a Finished) -> Result<(), Wrong> {
         self.has_entry()?;
         let wrong = Wrong::Reply(self.turn);
         let call = MapCall::of(self.script, reply.client, reply.call).ok_or(wrong)?;
@@ -214,7 +214,7 @@ impl<'a> Seen<'a> {
 
     fn answer(
         &mut self,
-        reply: &'a Reply,
+        reply: &'a Finished,
         call: MapCall,
         entered: Option<u64>,
     ) -> Result<(), Wrong> {
@@ -232,7 +232,7 @@ impl<'a> Seen<'a> {
     /// answer; or, if it has only looked, in the last of its turns after which the map gives it.
     fn took_place(
         &mut self,
-        reply: &'a Reply,
+        reply: &'a Finished,
         call: MapCall,
         entered: Option<u64>,
     ) -> Result<(), Wrong> {
@@ -255,7 +255,7 @@ impl<'a> Seen<'a> {
     }
 
     /// The turn of a call's entry, just before which the map gave its answer.
-    fn changed(&self, reply: &Reply, call: MapCall, turn: u64) -> Result<u64, Wrong> {
+    fn changed(&self, reply: &Finished, call: MapCall, turn: u64) -> Result<u64, Wrong> {
         if self
             .past
             .tells(turn.saturating_sub(1), call, &reply.answer)?
@@ -266,7 +266,7 @@ impl<'a> Seen<'a> {
     }
 
     /// The last turn within a call after which the map gives its answer.
-    fn looked(&self, reply: &Reply, call: MapCall) -> Result<u64, Wrong> {
+    fn looked(&self, reply: &Finished, call: MapCall) -> Result<u64, Wrong> {
         let turns = (reply.begin, reply.end);
         let last = self.past.last_telling(call, &reply.answer, turns)?;
         last.ok_or(Wrong::Answer(reply.end))
@@ -294,7 +294,7 @@ impl<'a> Seen<'a> {
 }
 
 /// A refused call has no entry and took place nowhere.
-fn refused(reply: &Reply, entered: Option<u64>) -> Result<(), Wrong> {
+fn refused(reply: &Finished, entered: Option<u64>) -> Result<(), Wrong> {
     if entered.is_some() {
         return Err(Wrong::Entry(reply.end));
     }

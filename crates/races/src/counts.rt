@@ -1,7 +1,7 @@
 //! How often answers occur in records.
 use crate::call::MapCall;
 use arena::{NodeNo, NodeWord, Word};
-use record::{Answer, Line, Record, Reply, Row};
+use record::{Answer, Finished, Line, Record, Row};
 use spelling::Request;
 
 /// How many calls told something, how many told that there is none, and how many were refused and
@@ -55,7 +55,7 @@ impl Counts {
         }
     }
 
-    fn count_reply(&mut self, record: &Record, reply: &Reply) {
+    fn count_reply(&mut self, record: &Record, reply: &Finished) {
         match MapCall::of(&record.script, reply.client, reply.call) {
             Some(MapCall(Request::Delete { .. })) => self.deletes.count(&reply.answer),
             Some(MapCall(Request::Successor { .. })) => self.successors.count(&reply.answer),
@@ -64,7 +64,7 @@ impl Counts {
         }
     }
 
-    fn count_range(&mut self, record: &Record, reply: &Reply) {
+    fn count_range(&mut self, record: &Record, reply: &Finished) {
         self.ranges.count(&reply.answer);
         let tries = tries(record, reply);
         if tries == 0 {
@@ -99,7 +99,7 @@ fn tells_two(answer: &Answer) -> bool {
 }
 
 /// Whether an update came between the call's begin and its moment.
-fn is_overtaken(record: &Record, reply: &Reply) -> bool {
+fn is_overtaken(record: &Record, reply: &Finished) -> bool {
     let Some(moment) = reply.moment else {
         return false;
     };
@@ -110,7 +110,7 @@ fn is_overtaken(record: &Record, reply: &Reply) -> bool {
 }
 
 /// How many tries a range has made: each begins with a load of the root's head.
-fn tries(record: &Record, reply: &Reply) -> u64 {
+fn tries(record: &Record, reply: &Finished) -> u64 {
     let mut tries = 0;
     for line in record.lines.iter() {
         if begins_try(line, reply) {
@@ -120,7 +120,7 @@ fn tries(record: &Record, reply: &Reply) -> u64 {
     tries
 }
 
-fn begins_try(line: &Line, reply: &Reply) -> bool {
+fn begins_try(line: &Line, reply: &Finished) -> bool {
     match line {
         Line::Step(Row::Step { number: _, row }) => {
             let word = Word::Node(NodeNo(0), NodeWord::Head);

@@ -3,7 +3,7 @@ use crate::check::check;
 use crate::race::{Race, played};
 use crate::wrong::Wrong;
 use arena::{Kind, NodeNo, NodeWord, PassNo, Resource, ScxNo, Word};
-use record::{Answer, Line, Record, Reply, Row};
+use record::{Answer, Finished, Line, Record, Row};
 use spelling::Pair;
 use std::alloc::{AllocError, Global};
 use std::process::Abort;
@@ -51,7 +51,7 @@ impl Edit {
         }
     }
 
-    fn reply(self, alloc: Global, reply: &Reply) -> Result<Reply, Fail> {
+    fn reply(self, alloc: Global, reply: &Finished) -> Result<Finished, Fail> {
         let mut said = copied(alloc, reply)?;
         let told = (reply.client.0, reply.call);
         match self {
@@ -94,14 +94,14 @@ pub(crate) fn all(alloc: Global, pairs: &[(u64, u64)]) -> Result<Answer, AllocEr
 }
 
 /// A copy of a reply that tells of the map.
-fn copied(alloc: Global, reply: &Reply) -> Result<Reply, Fail> {
+fn copied(alloc: Global, reply: &Finished) -> Result<Finished, Fail> {
     let answer = match &reply.answer {
         Answer::Value(value) => Answer::Value(*value),
         Answer::Pair(pair) => Answer::Pair(*pair),
         Answer::Pairs(pairs) => Answer::Pairs(pairs.as_slice().to_vec(alloc)?),
         _ => return Err("another answer".into()),
     };
-    Ok(Reply {
+    Ok(Finished {
         client: reply.client,
         call: reply.call,
         begin: reply.begin,
@@ -140,8 +140,8 @@ pub(crate) fn told(
     turns: (u64, u64),
     moment: Option<u64>,
     answer: Answer,
-) -> Reply {
-    Reply {
+) -> Finished {
+    Finished {
         client: PassNo(call.0),
         call: call.1,
         begin: turns.0,
@@ -156,7 +156,7 @@ pub(crate) fn passes(
     rt: &impl Abort,
     alloc: Global,
     race: Race,
-    replies: &[Reply],
+    replies: &[Finished],
 ) -> Result<(), Fail> {
     let record = played(alloc, race.0, race.1)?;
     let mut left = replies.iter();

@@ -3,7 +3,7 @@ use crate::edit::{Edit, all, are_found, passes, told};
 use crate::race::Race;
 use crate::wrong::Wrong;
 use arena::Resource;
-use record::{Answer, Reply};
+use record::{Answer, Finished};
 use spelling::Pair;
 use std::test::Fail;
 
@@ -61,7 +61,7 @@ const NOTHING: (u32, u64) = (1, 2);
 
 const TWO: (u32, u64) = (1, 3);
 
-fn value(call: u64, turns: (u64, u64), moment: u64, value: Option<u64>) -> Reply {
+fn value(call: u64, turns: (u64, u64), moment: u64, value: Option<u64>) -> Finished {
     told((0, call), turns, Some(moment), Answer::Value(value))
 }
 

@@ -17,7 +17,7 @@ use Rattle.record.specs.declared.record.Line.{Line}
 use Rattle.record.specs.declared.record.Line.TheVariants.{Step, Log, Reply as ReplyLine}
 use Rattle.record.specs.declared.record.Row.TheVariants.{Step as Made, Idle}
 use Rattle.record.specs.declared.record.Entry.{Entry}
-use Rattle.record.specs.declared.record.Reply.{Reply}
+use Rattle.record.specs.declared.record.Finished.{Finished}
 use Rattle.record.specs.declared.record.Answer.{Answer}
 use Rattle.record.specs.Turns.{history, turns, answered, won, entry_at, entry_of, is_entry_of, is_update, entries}
 use Rattle.record.specs.MapRecord.{map_call, map_call_of, reply_told, written_log, entries_of_call}
@@ -37,7 +37,7 @@ AreMapCalls calls = (c j : ℕ) (command : Command) → slice_get (commands call
 -- Rules of replies
 
 -- a call of the map took place where its command's rules say
-rule_of : (command : Command) (call : MapCall) (lay : Layout) (calls : List Call) (lines : List Line) (r : Reply) → map_call (Some command) ≡ Some call → IsPlaced lay calls lines r command → IsPlacedOnMap (reply_told r.answer) calls lines call r
+rule_of : (command : Command) (call : MapCall) (lay : Layout) (calls : List Call) (lines : List Line) (r : Finished) → map_call (Some command) ≡ Some call → IsPlaced lay calls lines r command → IsPlacedOnMap (reply_told r.answer) calls lines call r
 rule_of (Map (InsertOf key value)) call lay calls lines r e x = let i : Edit (Insert key value) ≡ call = cc in subst (λ m. IsPlacedOnMap (reply_told r.answer) calls lines m r) i x
 rule_of (Map (DeleteOf key)) call lay calls lines r e x = let i : Edit (Delete key) ≡ call = cc in subst (λ m. IsPlacedOnMap (reply_told r.answer) calls lines m r) i x
 rule_of (Map (GetOf key)) call lay calls lines r e x = let i : Get key ≡ call = cc in subst (λ m. IsPlacedOnMap (reply_told r.answer) calls lines m r) i x
@@ -244,7 +244,7 @@ orderly_entry lay tries calls (Log d ∷ lines) e maps a x k = absurd x
 orderly_entry lay tries calls (ReplyLine r ∷ lines) e maps a x k = absurd x
 orderly_entry lay tries calls [] e maps a x k = absurd x
 
-orderly_reply : (lay : Layout) (tries : ℕ) (calls : List Call) (lines : List Line) (r : Reply) → AreMapCalls calls → AreLines lay tries calls lines → IsReply lay tries calls lines r → IsOrderlyReply calls lines r
+orderly_reply : (lay : Layout) (tries : ℕ) (calls : List Call) (lines : List Line) (r : Finished) → AreMapCalls calls → AreLines lay tries calls lines → IsReply lay tries calls lines r → IsOrderlyReply calls lines r
 orderly_reply lay tries calls lines r maps a x =
     let m = maps r.client.0 (answered lines r.client.0) x.command x.is in
     let q = x.call in

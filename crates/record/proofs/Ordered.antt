@@ -9,7 +9,7 @@ use Rattle.script.specs.declared.call.Call.{Call}
 use Rattle.record.specs.declared.record.Line.{Line}
 use Rattle.record.specs.declared.record.Line.TheVariants.{Step, Log, Reply as ReplyLine}
 use Rattle.record.specs.declared.record.Entry.{Entry}
-use Rattle.record.specs.declared.record.Reply.{Reply}
+use Rattle.record.specs.declared.record.Finished.{Finished}
 use Rattle.record.specs.declared.record.Answer.{Answer}
 use Rattle.record.specs.MapRecord.{map_call_of, reply_told, after_maybe, written_log, entries_until, map_of, map_at, is_of_call, entries_of_call}
 use Rattle.record.specs.Placed.{IsChange, IsReading, IsRefused, IsChangeOrReading, IsPlacedOnMap}
@@ -62,7 +62,7 @@ onto es [] = es
 onto es (Change e ∷ xs) = onto (e ∷ es) xs
 onto es (Read m r ∷ xs) = onto es xs
 
-onto_read : (m : ℕ) (r : Reply) (es : List Entry) (xs : List Event) → onto es (with_event (Read m r) xs) ≡ onto es xs
+onto_read : (m : ℕ) (r : Finished) (es : List Entry) (xs : List Event) → onto es (with_event (Read m r) xs) ≡ onto es xs
 onto_read m r es [] = refl
 onto_read m r es (Change e ∷ xs) = go (ltb (2 * m + 1) (2 * e.step)) (onto_read m r (e ∷ es) xs)
   where
@@ -90,7 +90,7 @@ until_later m es (Read n q ∷ xs) a = until_later m es xs a.1
 
 -- Replies at their places, by the entries before
 
-pub record IsReadAt (calls : List Call) (answers : ℕ → ℕ → Option Answer) (r : Reply) (m : List Pair) : Type 0 where
+pub record IsReadAt (calls : List Call) (answers : ℕ → ℕ → Option Answer) (r : Finished) (m : List Pair) : Type 0 where
   pub silent : after_maybe (map_call_of calls r.client.0 r.call) m ≡ m
   pub replies : IsReplyOn m (map_call_of calls r.client.0 r.call) (answers r.client.0 r.call)
   pub answered : answers r.client.0 r.call ≡ Some r.answer
@@ -110,7 +110,7 @@ right_change calls answers e es [] u r a = (r, tt)
 right_change calls answers e es (Change d ∷ xs) u r a = rw (le-ltb (2 * e.step) (2 * d.step) u.0) (a.0, right_change calls answers e (d ∷ es) xs u.1 r a.1)
 right_change calls answers e es (Read n q ∷ xs) u r a = rw (le-ltb (2 * e.step) (2 * n + 1) u.0) (a.0, right_change calls answers e es xs u.1 r a.1)
 
-right_read : (calls : List Call) (answers : ℕ → ℕ → Option Answer) (m : ℕ) (r : Reply) (es : List Entry) (xs : List Event) → IsSorted xs → entries_until m es ≡ es → IsReadAt calls answers r (map_of calls (entries_until m (onto es xs))) → AreRight calls answers es xs → AreRight calls answers es (with_event (Read m r) xs)
+right_read : (calls : List Call) (answers : ℕ → ℕ → Option Answer) (m : ℕ) (r : Finished) (es : List Entry) (xs : List Event) → IsSorted xs → entries_until m es ≡ es → IsReadAt calls answers r (map_of calls (entries_until m (onto es xs))) → AreRight calls answers es xs → AreRight calls answers es (with_event (Read m r) xs)
 right_read calls answers m r es [] s u x a = (subst (λ ds. IsReadAt calls answers r (map_of calls ds)) u x, tt)
 right_read calls answers m r es (Change e ∷ xs) s u x a = go (ltb (2 * m + 1) (2 * e.step)) refl (λ v. right_read calls answers m r (e ∷ es) xs s.1 v x a.1)
   where
@@ -135,13 +135,13 @@ right_read calls answers m r es (Read n q ∷ xs) s u x a = go (ltb (2 * m + 1) 
 
 -- One answer more
 
-abbrev with_answer : (ℕ → ℕ → Option Answer) → Reply → ℕ → ℕ → Option Answer
+abbrev with_answer : (ℕ → ℕ → Option Answer) → Finished → ℕ → ℕ → Option Answer
 with_answer answers r c j = cond (eqb r.client.0 c && eqb r.call j) (Some r.answer) (answers c j)
 
 none_left : {A : Type 0} (n : ℕ) → suc n ≡ 0 → A
 none_left n e = absurd (omega (e, arith))
 
-right_other : (calls : List Call) (answers : ℕ → ℕ → Option Answer) (r : Reply) (es : List Entry) (xs : List Event) → times r.client.0 r.call xs ≡ 0 → AreRight calls answers es xs → AreRight calls (with_answer answers r) es xs
+right_other : (calls : List Call) (answers : ℕ → ℕ → Option Answer) (r : Finished) (es : List Entry) (xs : List Event) → times r.client.0 r.call xs ≡ 0 → AreRight calls answers es xs → AreRight calls (with_answer answers r) es xs
 right_other calls answers r es [] t a = tt
 right_other calls answers r es (Change e ∷ xs) t a = go (eqb r.client.0 e.client.0 && eqb r.call e.call) t (λ u. right_other calls answers r (e ∷ es) xs u a.1)
   where
@@ -173,7 +173,7 @@ behind_onto c j es (Read m q ∷ xs) t = go (eqb c q.client.0 && eqb j q.call) t
     go false u rest = rest u
 
 -- a call that is not answered is no reading
-unread : {A : Type 0} (calls : List Call) (answers : ℕ → ℕ → Option Answer) (c j : ℕ) (q : Reply) (m : List Pair) → (eqb c q.client.0 && eqb j q.call) ≡ true → answers c j ≡ None → IsReadAt calls answers q m → A
+unread : {A : Type 0} (calls : List Call) (answers : ℕ → ℕ → Option Answer) (c j : ℕ) (q : Finished) (m : List Pair) → (eqb c q.client.0 && eqb j q.call) ≡ true → answers c j ≡ None → IsReadAt calls answers q m → A
 unread calls answers c j q m e n x =
     let p = and_parts (eqb c q.client.0) (eqb j q.call) e in
     let i : c ≡ q.client.0 = eqb-true c q.client.0 p.0 in
@@ -181,7 +181,7 @@ unread calls answers c j q m e n x =
     let y : None ≡ Some q.answer = sym n ∙ ap (λ d. answers d j) i ∙ ap (λ d. answers q.client.0 d) k ∙ x.answered in
     absurd (cc)
 
-right_own : (calls : List Call) (answers : ℕ → ℕ → Option Answer) (r : Reply) (es : List Entry) (xs : List Event) → answers r.client.0 r.call ≡ None → times r.client.0 r.call xs ≡ 1 → IsReplyOn (map_of calls (behind r.client.0 r.call (onto es xs))) (map_call_of calls r.client.0 r.call) (Some r.answer) → AreRight calls answers es xs → AreRight calls (with_answer answers r) es xs
+right_own : (calls : List Call) (answers : ℕ → ℕ → Option Answer) (r : Finished) (es : List Entry) (xs : List Event) → answers r.client.0 r.call ≡ None → times r.client.0 r.call xs ≡ 1 → IsReplyOn (map_of calls (behind r.client.0 r.call (onto es xs))) (map_call_of calls r.client.0 r.call) (Some r.answer) → AreRight calls answers es xs → AreRight calls (with_answer answers r) es xs
 right_own calls answers r es [] n t x a = tt
 right_own calls answers r es (Change e ∷ xs) n t x a = go (eqb r.client.0 e.client.0 && eqb r.call e.call) refl t (λ u. right_own calls answers r (e ∷ es) xs n u x a.1)
   where
@@ -262,7 +262,7 @@ unanswered_place answers c x (y ∷ ys) = go (ltb (event_place x) (event_place y
     go false false false i k rest = rw (i, k) (rest ∙ rw i refl)
 
 -- an answer more leaves no more unanswered
-fewer : (answers : ℕ → ℕ → Option Answer) (r : Reply) (c : ℕ) (xs : List Event) → unanswered (with_answer answers r) c xs ≤ unanswered answers c xs
+fewer : (answers : ℕ → ℕ → Option Answer) (r : Finished) (c : ℕ) (xs : List Event) → unanswered (with_answer answers r) c xs ≤ unanswered answers c xs
 fewer answers r c [] = omega arith
 fewer answers r c (x ∷ xs) = go (eqb c (event_client x)) (eqb r.client.0 c && eqb r.call (event_call x)) (answers c (event_call x)) (fewer answers r c xs)
   where
@@ -323,7 +323,7 @@ pub record IsOrderlyEntry (calls : List Call) (lines : List Line) (e : Entry) : 
   pub newest : AllUpTo (2 * e.step) (events calls lines)
 
 -- a reply is to a call of the map that is not answered, which took place where the rules say
-pub record IsOrderlyReply (calls : List Call) (lines : List Line) (r : Reply) : Type 0 where
+pub record IsOrderlyReply (calls : List Call) (lines : List Line) (r : Finished) : Type 0 where
   pub call : MapCall
   pub is : map_call_of calls r.client.0 r.call ≡ Some call
   pub pending : answer_to lines r.client.0 r.call ≡ None
@@ -381,7 +381,7 @@ behind_entry c j e (Log d ∷ newer) older i k n = go (eqb c d.client.0 && eqb j
     go false u rest = rest u
 
 -- an answered call stands there as often as it has to, and its answer is known
-answer_keeps : (calls : List Call) (lines : List Line) (r : Reply) (xs : List Event) → IsKept calls lines xs → AreRight calls (answer_to (ReplyLine r ∷ lines)) [] xs → times r.client.0 r.call xs ≡ times_due (reply_told r.answer) → IsKept calls (ReplyLine r ∷ lines) xs
+answer_keeps : (calls : List Call) (lines : List Line) (r : Finished) (xs : List Event) → IsKept calls lines xs → AreRight calls (answer_to (ReplyLine r ∷ lines)) [] xs → times r.client.0 r.call xs ≡ times_due (reply_told r.answer) → IsKept calls (ReplyLine r ∷ lines) xs
 answer_keeps calls lines r xs k a t = record {
   right = a;
   sorted = k.sorted;
@@ -423,7 +423,7 @@ entry_keeps calls lines e o k = record {
     few_more c true i false u = u
     few_more c false i d u = u
 
-change_keeps : (calls : List Call) (lines : List Line) (r : Reply) (o : IsOrderlyReply calls lines r) (a : MapReply) → reply_told r.answer ≡ Some a → IsChange calls lines o.call r → IsKept calls lines (events calls lines) → IsKept calls (ReplyLine r ∷ lines) (events calls lines)
+change_keeps : (calls : List Call) (lines : List Line) (r : Finished) (o : IsOrderlyReply calls lines r) (a : MapReply) → reply_told r.answer ≡ Some a → IsChange calls lines o.call r → IsKept calls lines (events calls lines) → IsKept calls (ReplyLine r ∷ lines) (events calls lines)
 change_keeps calls lines r o a t x k =
     answer_keeps calls lines r xs k (right_own calls (answer_to lines) r [] xs o.pending once at_entry k.right) (rw t once)
   where
@@ -441,7 +441,7 @@ change_keeps calls lines r o a t x k =
     at_entry : IsReplyOn (map_of calls (behind r.client.0 r.call (onto [] xs))) (map_call_of calls r.client.0 r.call) (Some r.answer)
     at_entry = subst (λ es. IsReplyOn (map_of calls es) (map_call_of calls r.client.0 r.call) (Some r.answer)) (sym before) (rw o.is x.replies)
 
-reading_keeps : (calls : List Call) (lines : List Line) (r : Reply) (o : IsOrderlyReply calls lines r) (a : MapReply) → reply_told r.answer ≡ Some a → changes o.call a ≡ false → (x : IsReading calls lines o.call r) → IsKept calls lines (events calls lines) → IsKept calls (ReplyLine r ∷ lines) (with_event (Read x.turn r) (events calls lines))
+reading_keeps : (calls : List Call) (lines : List Line) (r : Finished) (o : IsOrderlyReply calls lines r) (a : MapReply) → reply_told r.answer ≡ Some a → changes o.call a ≡ false → (x : IsReading calls lines o.call r) → IsKept calls lines (events calls lines) → IsKept calls (ReplyLine r ∷ lines) (with_event (Read x.turn r) (events calls lines))
 reading_keeps calls lines r o a t f x k = record {
   right = right_read calls (answer_to (ReplyLine r ∷ lines)) x.turn r [] xs k.sorted refl read_now (right_other calls (answer_to lines) r [] xs absent k.right);
   sorted = sorted_place (Read x.turn r) xs k.sorted;
@@ -491,7 +491,7 @@ reading_keeps calls lines r o a t f x k = record {
         rw (m, same_call) (fewer_now c)
     few_more c false i = fewer_now c
 
-refusal_keeps : (calls : List Call) (lines : List Line) (r : Reply) (o : IsOrderlyReply calls lines r) → reply_told r.answer ≡ None → IsRefused lines r → IsKept calls lines (events calls lines) → IsKept calls (ReplyLine r ∷ lines) (events calls lines)
+refusal_keeps : (calls : List Call) (lines : List Line) (r : Finished) (o : IsOrderlyReply calls lines r) → reply_told r.answer ≡ None → IsRefused lines r → IsKept calls lines (events calls lines) → IsKept calls (ReplyLine r ∷ lines) (events calls lines)
 refusal_keeps calls lines r o t x k =
     answer_keeps calls lines r xs k (right_other calls (answer_to lines) r [] xs absent k.right) (rw t absent)
   where
@@ -501,7 +501,7 @@ refusal_keeps calls lines r o t x k =
     absent : times r.client.0 r.call xs ≡ 0
     absent = stands_as_entered calls lines r.client.0 r.call 0 xs k o.pending x.none
 
-reply_keeps : (calls : List Call) (lines : List Line) (r : Reply) → IsOrderlyReply calls lines r → IsKept calls lines (events calls lines) → IsKept calls (ReplyLine r ∷ lines) (events calls (ReplyLine r ∷ lines))
+reply_keeps : (calls : List Call) (lines : List Line) (r : Finished) → IsOrderlyReply calls lines r → IsKept calls lines (events calls lines) → IsKept calls (ReplyLine r ∷ lines) (events calls (ReplyLine r ∷ lines))
 reply_keeps calls lines r o k = go (reply_told r.answer) refl o.rule
   where
     tell : (a : MapReply) → reply_told r.answer ≡ Some a → (b : Bool) → changes o.call a ≡ b → IsChangeOrReading b calls lines o.call r → IsKept calls (ReplyLine r ∷ lines) (events calls (ReplyLine r ∷ lines))

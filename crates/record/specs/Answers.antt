@@ -10,7 +10,7 @@ use Rattle.arena.specs.Blame.{WasInTheWay}
 use Rattle.arena.specs.Found.{HasFound}
 use Rattle.arena.specs.Log.{log, fields, last, is_final}
 use Rattle.record.specs.declared.record.Line.{Line}
-use Rattle.record.specs.declared.record.Reply.{Reply}
+use Rattle.record.specs.declared.record.Finished.{Finished}
 use Rattle.record.specs.declared.record.Answer.{Answer}
 use Rattle.record.specs.Turns.{won}
 use Rattle.record.specs.declared.record.Answer.TheVariants.{Snapshot, Finalized, Done, Same}
@@ -26,7 +26,7 @@ moment_of Done first last won = won
 moment_of _ first last won = None
 
 -- a call of cells took place where its answer says
-abbrev pub IsPlacedCell : Layout → List Line → Reply → Type 0
+abbrev pub IsPlacedCell : Layout → List Line → Finished → Type 0
 IsPlacedCell lay lines reply = reply.moment ≡ moment_of reply.answer reply.begin reply.end (won lay lines reply.client.0)
 
 -- the snapshot is right: left and right are the node's

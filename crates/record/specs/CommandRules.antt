@@ -9,7 +9,7 @@ use Rattle.script.specs.declared.command.Command.{Command}
 use Rattle.script.specs.declared.command.Command.TheVariants.{Llx, Scx, Vlx, Set, Map}
 use Rattle.spelling.specs.declared.request.Request.TheVariants.{Insert, Delete, Get, Successor, Range}
 use Rattle.record.specs.declared.record.Line.{Line}
-use Rattle.record.specs.declared.record.Reply.{Reply}
+use Rattle.record.specs.declared.record.Finished.{Finished}
 use Rattle.record.specs.declared.record.Answer.{Answer}
 use Rattle.record.specs.Turns.{start}
 use Rattle.record.specs.Rules.{Rules}
@@ -73,7 +73,7 @@ abbrev pub IsRight : Layout → ℕ → History → History → (ℕ → Option 
 IsRight lay c now start linked command = (rules command).IsRight lay c now start linked
 
 -- the call of the reply took place where the reply says, with the lines before the reply
-abbrev pub IsPlaced : Layout → List Call → List Line → Reply → Command → Type 0
+abbrev pub IsPlaced : Layout → List Call → List Line → Finished → Command → Type 0
 IsPlaced lay calls lines reply command = (rules command).IsPlaced lay calls lines reply
 
 -- the entry is one that a call of client c with this command makes

@@ -7,7 +7,7 @@ use Rattle.script.specs.declared.call.Call.{Call}
 use Rattle.record.specs.declared.record.Line.{Line}
 use Rattle.record.specs.declared.record.Line.TheVariants.{Step, Log, Reply as ReplyLine}
 use Rattle.record.specs.declared.record.Entry.{Entry}
-use Rattle.record.specs.declared.record.Reply.{Reply}
+use Rattle.record.specs.declared.record.Finished.{Finished}
 use Rattle.record.specs.declared.record.Answer.{Answer}
 use Rattle.record.specs.MapRecord.{map_call_of, reply_told, after_maybe}
 
@@ -16,7 +16,7 @@ use Rattle.record.specs.MapRecord.{map_call_of, reply_told, after_maybe}
 
 pub data Event : Type 0 where
   Change : Entry → Event
-  Read : ℕ → Reply → Event
+  Read : ℕ → Finished → Event
 
 -- whose call it is
 abbrev pub event_client : Event → ℕ
@@ -44,7 +44,7 @@ has_read (Some call) (Some told) = not (changes call told)
 has_read _ _ = false
 
 -- the events, with this one if it is a reading and has a moment
-abbrev pub with_reading : Bool → Option ℕ → Reply → List Event → List Event
+abbrev pub with_reading : Bool → Option ℕ → Finished → List Event → List Event
 with_reading true (Some m) r xs = with_event (Read m r) xs
 with_reading _ _ r xs = xs
 

@@ -5,7 +5,7 @@ use Rattle.script.specs.declared.call.Call.{Call}
 use Rattle.record.specs.declared.record.Line.{Line}
 use Rattle.record.specs.declared.record.Line.TheVariants.{Log}
 use Rattle.record.specs.declared.record.Entry.{Entry}
-use Rattle.record.specs.declared.record.Reply.{Reply}
+use Rattle.record.specs.declared.record.Finished.{Finished}
 use Rattle.record.specs.MapRecord.{reply_told, written_log, entries_of_call, map_of, map_at}
 
 -- m is the greatest turn from `first` to `last` of which P holds
@@ -17,7 +17,7 @@ pub record IsGreatestTurn (P : ℕ → Type 0) (first last m : ℕ) : Type 0 whe
 
 -- A changing call has one entry. Its moment is the entry's turn, and it tells what the map just
 -- before that entry replies.
-pub record IsChange (calls : List Call) (lines : List Line) (call : MapCall) (r : Reply) : Type 0 where
+pub record IsChange (calls : List Call) (lines : List Line) (call : MapCall) (r : Finished) : Type 0 where
   pub entry : Entry
   pub newer : List Line
   pub older : List Line
@@ -30,23 +30,23 @@ pub record IsChange (calls : List Call) (lines : List Line) (call : MapCall) (r 
 
 -- A reading call has no entry. Its moment is the greatest turn from its first to its last, whoever
 -- made it, after which the map gives its reply.
-pub record IsReading (calls : List Call) (lines : List Line) (call : MapCall) (r : Reply) : Type 0 where
+pub record IsReading (calls : List Call) (lines : List Line) (call : MapCall) (r : Finished) : Type 0 where
   pub none : entries_of_call r.client.0 r.call (written_log lines) ≡ 0
   pub turn : ℕ
   pub moment : r.moment ≡ Some turn
   pub greatest : IsGreatestTurn (λ m. reply_told r.answer ≡ Some (reply call (map_at calls lines m))) r.begin r.end turn
 
 -- A refused call has no entry and no moment.
-pub record IsRefused (lines : List Line) (r : Reply) : Type 0 where
+pub record IsRefused (lines : List Line) (r : Finished) : Type 0 where
   pub none : entries_of_call r.client.0 r.call (written_log lines) ≡ 0
   pub moment : r.moment ≡ None
 
 -- A call that tells something has changed the map, or read it.
-abbrev pub IsChangeOrReading : Bool → List Call → List Line → MapCall → Reply → Type 0
+abbrev pub IsChangeOrReading : Bool → List Call → List Line → MapCall → Finished → Type 0
 IsChangeOrReading true calls lines call r = IsChange calls lines call r
 IsChangeOrReading false calls lines call r = IsReading calls lines call r
 
 -- where a call of the map took place, by what it tells
-abbrev pub IsPlacedOnMap : Option MapReply → List Call → List Line → MapCall → Reply → Type 0
+abbrev pub IsPlacedOnMap : Option MapReply → List Call → List Line → MapCall → Finished → Type 0
 IsPlacedOnMap (Some told) calls lines call r = IsChangeOrReading (changes call told) calls lines call r
 IsPlacedOnMap None calls lines call r = IsRefused lines r

@@ -6,7 +6,7 @@ use Rattle.script.specs.declared.command.Command.{Command}
 use Rattle.record.specs.declared.record.Line.{Line}
 use Rattle.record.specs.declared.record.Line.TheVariants.{Step}
 use Rattle.record.specs.declared.record.Row.TheVariants.{Idle}
-use Rattle.record.specs.declared.record.Reply.{Reply}
+use Rattle.record.specs.declared.record.Finished.{Finished}
 use Rattle.record.specs.declared.record.Answer.{Answer}
 use Rattle.record.specs.Turns.{history, turns, last_client, answered, begin, start, won}
 use Rattle.record.specs.Answers.{HasItsEntry}
@@ -27,7 +27,7 @@ IsFitting lines command answer = MayAnswerAfterStep command answer
 
 -- the reply to the next call of the client that made the newest turn, which is the call's last; a
 -- call may try so often
-pub record IsReply (lay : Layout) (tries : ℕ) (calls : List Call) (lines : List Line) (reply : Reply) : Type 0 where
+pub record IsReply (lay : Layout) (tries : ℕ) (calls : List Call) (lines : List Line) (reply : Finished) : Type 0 where
   pub client : last_client lines ≡ Some reply.client.0
   pub call : reply.call ≡ answered lines reply.client.0
   pub begin : begin lines reply.client.0 ≡ Some reply.begin

@@ -15,7 +15,7 @@ use Rattle.arena.specs.History.{History}
 use Rattle.arena.specs.Log.{Entry as Entered}
 use Rattle.script.specs.declared.call.Call.{Call}
 use Rattle.record.specs.declared.record.Line.{Line}
-use Rattle.record.specs.declared.record.Reply.{Reply}
+use Rattle.record.specs.declared.record.Finished.{Finished}
 use Rattle.record.specs.declared.record.Answer.{Answer}
 
 -- what is said of one command, and of no other
@@ -44,4 +44,4 @@ pub record Rules : Type 1 where
   -- the entry's, with the snapshots that the client keeps
   pub IsEntryFor : Layout → ℕ → History → History → (ℕ → Option History) → Entered → Type 0
   -- where the call of a reply took place, with the lines before the reply
-  pub IsPlaced : Layout → List Call → List Line → Reply → Type 0
+  pub IsPlaced : Layout → List Call → List Line → Finished → Type 0

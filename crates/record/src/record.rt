@@ -18,7 +18,7 @@ pub enum Line {
     /// The update that the turn before it has won.
     Log(Entry),
     /// The answer to the call whose last turn stands before it.
-    Reply(Reply),
+    Reply(Finished),
 }
 
 /// A turn of a client. Turns are numbered from 1.
@@ -66,7 +66,7 @@ pub struct Entry {
 
 /// A finished call.
 #[derive(Debug, Drop, PartialEq, Eq)]
-pub struct Reply {
+pub struct Finished {
     pub client: PassNo,
     /// The number of the call among the client's own, counted from 0.
     pub call: u64,

@@ -7,7 +7,7 @@ use Rattle.report.specs.Report.{calls_by}
 use Rattle.record.specs.declared.record.Line.{Line}
 use Rattle.record.specs.declared.record.Line.TheVariants.{Step, Log, Reply}
 use Rattle.record.specs.declared.record.Row.TheVariants.{Step as Made, Idle}
-use Rattle.record.specs.declared.record.Reply.{Reply as ReplyLine}
+use Rattle.record.specs.declared.record.Finished.{Finished}
 use Rattle.record.specs.Turns.{answered}
 use Rattle.report.specs.Numbered.{AreNumbered, IsOfNextCall}
 use Rattle.report.specs.Counts.{HasCounted, HasCountedReplies, calls_counted}
@@ -52,7 +52,7 @@ answered_bound client (Reply reply ∷ lines) = go (eqb reply.client.0 client) (
   go false bound = omega (arith, bound)
 
 -- the counts after one more reply
-pub counted_reply : (old new : Counts) (passes : ℕ) (lines : List Line) (reply : ReplyLine) → HasCountedReplies old passes lines → length lines < 2 ^ 64 - 1
+pub counted_reply : (old new : Counts) (passes : ℕ) (lines : List Line) (reply : Finished) → HasCountedReplies old passes lines → length lines < 2 ^ 64 - 1
     → (reply.client.0 < passes → calls_counted new reply.client.0 ≡ min (calls_counted old reply.client.0 + 1) (2 ^ 64 - 1))
     → ((other : ℕ) → other < passes → other ≢ reply.client.0 → calls_counted new other ≡ calls_counted old other)
     → HasCountedReplies new passes (Reply reply ∷ lines)
@@ -67,7 +67,7 @@ numbered_more passes counts lines (Log entry) counted next numbered = numbered
 numbered_more passes counts lines (Reply reply) counted next numbered = numbered
 
 -- nor does another line count
-pub counted_other : (counts : Counts) (passes : ℕ) (lines : List Line) (line : Line) → ((r : ReplyLine) → line ≢ Reply r) → HasCountedReplies counts passes lines → HasCountedReplies counts passes (line ∷ lines)
+pub counted_other : (counts : Counts) (passes : ℕ) (lines : List Line) (line : Line) → ((r : Finished) → line ≢ Reply r) → HasCountedReplies counts passes lines → HasCountedReplies counts passes (line ∷ lines)
 counted_other counts passes lines (Step row) other counted = counted
 counted_other counts passes lines (Log entry) other counted = counted
 counted_other counts passes lines (Reply r) other counted = absurd (other r refl)

@@ -9,7 +9,7 @@ ghost use Rattle.texts.specs.Pages.{IsReady, line_of, page_row, page_text, rows_
 use crate::answer::answer_text;
 use crate::word::word_text;
 use arena::PassNo;
-use record::{Entry, Line, Reply, Row};
+use record::{Entry, Finished, Line, Row};
 use script::kind_name;
 use std::alloc::{AllocError, Global};
 use texts::Page;
@@ -93,7 +93,7 @@ fn log_line(alloc: Global, page: &mut Page, entry: &Entry) -> Result<(), AllocEr
     page.end_line()
 }
 
-fn reply_line(alloc: Global, page: &mut Page, reply: &Reply) -> Result<(), AllocError>
+fn reply_line(alloc: Global, page: &mut Page, reply: &Finished) -> Result<(), AllocError>
     requires ready { IsReady page.old }
     requires row { page_row page.old ≡ [] }
     ensures ready { OnOk result (IsReady page.new) }

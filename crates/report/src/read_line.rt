@@ -16,7 +16,7 @@ use crate::fault::{NotLawful, RowFault};
 use crate::name::{client_of, scx_of};
 use crate::rows::{next_row, row_fields};
 use crate::word::word_of;
-use record::{Answer, Entry, Line, Reply, Row};
+use record::{Answer, Entry, Finished, Line, Row};
 use script::kind_of;
 use std::alloc::{AllocError, Global};
 use std::io::Read;
@@ -141,7 +141,7 @@ fn reply_of(fields: [&str; 7], answer: Answer) -> Option<Line>
     let ["reply", client, call, begin, end, moment, _] = fields else {
         return None;
     };
-    let reply = Reply {
+    let reply = Finished {
         client: client_of(client)?,
         call: number_of(call)?,
         begin: number_of(begin)?,

@@ -1,5 +1,5 @@
 use arena::{Kind, Mode, NodeNo, NodeWord, PassNo, Resource, ScxNo, ScxWord, Side, Word};
-use record::{Answer, Entry, Line, Record, Reply, Row};
+use record::{Answer, Entry, Finished, Line, Record, Row};
 use report::{WriteFault, read_record, write_record};
 use script::read_script;
 use spelling::Pair;
@@ -107,7 +107,7 @@ fn step(number: u64, kind: Kind, word: Word, found: u64) -> Line {
 
 /// A reply to call 3 of client 1.
 fn reply(answer: Answer, moment: Option<u64>) -> Line {
-    Line::Reply(Reply {
+    Line::Reply(Finished {
         client: PassNo(1),
         call: 3,
         begin: 30,
@@ -121,7 +121,7 @@ fn untouched(alloc: Global) -> Result<Record, Fail> {
     let word = |part| Word::Node(NodeNo(8), part);
     let dummy = Word::Scx(ScxNo(0), ScxWord::State);
     let nothing = NodeNo(0);
-    let reply = Reply {
+    let reply = Finished {
         client: PassNo(0),
         call: 0,
         begin: 1,
