@@ -1,5 +1,5 @@
 -- What the answers of the machines inside say of the call, in words.
-use Rattle.std.proofs.Common.{◌≡◌, ◌≢◌, ℕ, ◌^◌, ◌<◌, ◌≤◌, ◌+◌, ◌*◌, inl, inr, ⊎_elim, Option, Some, None, Result, Ok, Err, Vec, refl, sym, ◌∙◌, ap, subst, arith}
+use Rattle.std.proofs.Common.{◌≡◌, ◌≢◌, ℕ, ◌^◌, ◌<◌, ◌≤◌, ◌+◌, ◌*◌, ◌⊎◌, inl, inr, ⊎_elim, Option, Some, None, Result, Ok, Err, Vec, refl, sym, ◌∙◌, ap, subst, arith}
 use Rattle.std.specs.Global.{Global}
 use Rattle.arena.specs.History.{History}
 use Rattle.arena.specs.Machines.{Call}
@@ -28,7 +28,7 @@ use Rattle.updates.specs.declared.edit.Need.TheVariants.{Nothing, One}
 use Rattle.updates.specs.declared.update.UpdateRun.{UpdateRun}
 use Rattle.updates.specs.declared.update.Updated.{Updated}
 use Rattle.updates.specs.declared.update.Updated.TheVariants.{Done, Contended, Full}
-use Rattle.dict.specs.Calls.{call_in, insert_nodes, delete_nodes, HasSpent}
+use Rattle.dict.specs.Calls.{call_in, insert_nodes, delete_nodes, AsksForPairs, HasSpent}
 use Rattle.dict.specs.Known.{Rests, HasSpentSo}
 use Rattle.dict.specs.Says.{WordSays, HasRead}
 use Rattle.dict.specs.WordReplies.{update_reply, successor_reply, range_reply}
@@ -58,6 +58,11 @@ delete_some : (old : Option ℕ) → delete_need old ≢ Nothing → 0 < many_no
 delete_some None d = absurd (d refl)
 delete_some (Some v) d = omega arith
 
+-- a range without pairs or without keys takes none
+takes_none : (low high most : ℕ) → (most ≡ 0) ⊎ (high < low) → ¬ AsksForPairs (RangeOf low high most)
+takes_none low high most (inl none) asks = let some = asks.0 in omega (arith, none, some)
+takes_none low high most (inr apart) asks = let some = asks.1 in omega (arith, apart, some)
+
 module _ (c : Call) (h : History) where
   -- an insert that is done has changed the map
   pub insert_says : (m : UpdateRun Inserted) (a : Updated) → IsTreeRun c.layout h → m.edit.key < 2 ^ 64 → m.call ≡ c.number → UpdateSays insert_means m c h a → WordSays c h (Edit (PutEdit m.edit.key m.edit.value)) m.share m.tries (update_reply a)
@@ -75,7 +80,7 @@ module _ (c : Call) (h : History) where
   -- a delete that is done has changed it, or has found no value
   delete_done : (m : UpdateRun Deleted) (found : Found) (old : Option ℕ) → found.value ≡ old → IsTreeRun c.layout h → m.edit.key < 2 ^ 64 → m.call ≡ c.number → UpdateSays delete_means m c h (Done found) → WordSays c h (Edit (TakeEdit m.edit.key)) m.share m.tries (words.Value old)
   delete_done m found None e run small number (inl x) =
-      let y : HasRead c h (Edit (TakeEdit m.edit.key)) (OneValue found.value) = let z = leaf_read c h m.edit.key found small run x.has_found x.none in record { moment = z.moment; within = z.within; since = z.since; map = z.map; spelled = z.spelled; gives = z.gives; none = z.none } in
+      let y : HasRead c h (Edit (TakeEdit m.edit.key)) (OneValue found.value) = let z = leaf_read c h m.edit.key found small run x.has_found x.none in record { moment = z.moment; within = z.within; since = z.since; own = λ _. z.own tt; map = z.map; spelled = z.spelled; gives = z.gives; none = z.none } in
       (rw e at y, tt)
   delete_done m found (Some old) e run small number (inl x) = absurd (let none : One ≡ Nothing = subst (λ o. delete_need o ≡ Nothing) e x.needless in cc)
   delete_done m found None e run small number (inr x) = absurd (x.1.needed (subst (λ o. delete_need o ≡ Nothing) (sym e) refl))
@@ -106,7 +111,7 @@ module _ (c : Call) (h : History) where
 
   -- and a range, or it tells what every map replies
   pub range_says : (m : RangeRun) (share : Remaining) (a : Result (Vec Pair Global) Refused) → Rests c h share → RangeAnswers m c h a → WordSays c h (RangeOf m.low m.high m.most) share m.tries (range_reply a)
-  range_says m share (Ok found) x y = (⊎_elim (λ z. reply_read c h (RangeOf m.low m.high m.most) (ManyPairs found.items) z none) (λ z. always_read c h (RangeOf m.low m.high m.most) (ManyPairs found.items) x.run x.since (λ map. ap ManyPairs (z.1 map)) none) y.1, tt)
+  range_says m share (Ok found) x y = (⊎_elim (λ z. reply_read c h (RangeOf m.low m.high m.most) (ManyPairs found.items) z none) (λ z. always_read c h (RangeOf m.low m.high m.most) (ManyPairs found.items) x.run x.since (takes_none m.low m.high m.most z.0) (λ map. ap ManyPairs (z.1 map)) none) y.1, tt)
     where
       none : HasEnteredNone c.layout c.pass h c.start
       none = none_entered c h share x

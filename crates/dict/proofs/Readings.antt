@@ -24,14 +24,18 @@ use Rattle.updates.specs.Laws.Entered.{none_quiet}
 use Rattle.updates.specs.Pieces.{many_nodes}
 use Rattle.updates.specs.Tries.{HasEnteredNone}
 use Rattle.updates.specs.declared.edit.Need.{Need}
-use Rattle.dict.specs.Calls.{need}
+use Rattle.dict.specs.Calls.{need, AsksForPairs}
 use Rattle.dict.specs.Known.{Rests}
-use Rattle.dict.specs.Says.{HasRead, HasTooLittle, HasRunOut}
+use Rattle.dict.specs.Says.{HasMadeRow, HasRead, HasTooLittle, HasRunOut}
 
 module _ (c : Call) (h : History) where
   -- a pass at rest has entered nothing
   pub none_entered : (share : Remaining) → Rests c h share → HasEnteredNone c.layout c.pass h c.start
   none_entered share x = none_quiet c.layout c.pass h c.start x.run.1.lawful x.quiet
+
+  -- a moment from an own one on is not before the call's first own row
+  behind_own : (moment first : History) → IsOwnMoment c first → Extends moment first → HasMadeRow c.pass c.start moment
+  behind_own moment first own since = record { row = own.row; before = own.before; within = subst (Extends moment) own.is since; since = own.since; of_pass = own.own }
 
   -- what was the answer at a moment behind an own one was read in the call
   pub answer_read : (first : History) (key : ℕ) (answer : Option ℕ) → IsOwnMoment c first → IsAnswerAt c.layout h first key answer → HasEnteredNone c.layout c.pass h c.start → HasRead c h (Get key) (OneValue answer)
@@ -39,6 +43,7 @@ module _ (c : Call) (h : History) where
     moment = x.moment;
     within = x.within;
     since = ends_trans x.moment first c.start x.since (own_since c first own);
+    own = λ _. behind_own x.moment first own x.since;
     map = x.map;
     spelled = x.spelled;
     gives = ap OneValue x.gives;
@@ -51,17 +56,18 @@ module _ (c : Call) (h : History) where
     moment = x.moment;
     within = x.within;
     since = own_since c x.moment x.own;
+    own = λ _. behind_own x.moment x.moment x.own (ends_self x.moment);
     map = x.map;
     spelled = x.spelled;
     gives = x.gives;
     none = none;
   }
 
-  -- and what every map replies
-  pub always_read : (call : MapCall) (told : MapReply) → IsTreeRun c.layout h → Extends h c.start → ((map : List Pair) → reply call map ≡ told) → HasEnteredNone c.layout c.pass h c.start → HasRead c h call told
-  always_read call told run since gives none =
+  -- and what every map replies, of a range that takes no pair
+  pub always_read : (call : MapCall) (told : MapReply) → IsTreeRun c.layout h → Extends h c.start → ¬ AsksForPairs call → ((map : List Pair) → reply call map ≡ told) → HasEnteredNone c.layout c.pass h c.start → HasRead c h call told
+  always_read call told run since asks_not gives none =
       let map : (ps : List Pair) × Spells c.layout (value h) ps = run_spells c.layout h run in
-      record { moment = h; within = ends_self h; since = since; map = map.0; spelled = map.1; gives = gives map.0; none = none }
+      record { moment = h; within = ends_self h; since = since; own = λ asks. absurd (asks_not asks); map = map.0; spelled = map.1; gives = gives map.0; none = none }
 
   -- the leaf that was found tells what the map had at a moment of the call
   pub leaf_read : (key : ℕ) (f : Found) → key < 2 ^ 64 → IsTreeRun c.layout h → HasFoundLeaf c h key f → HasEnteredNone c.layout c.pass h c.start → HasRead c h (Get key) (OneValue f.value)
@@ -89,6 +95,7 @@ module _ (c : Call) (h : History) where
         moment = x.moment;
         within = x.within;
         since = x.since;
+        own = x.own tt;
         map = x.map;
         spelled = x.spelled;
         some = rw (sym e) some;

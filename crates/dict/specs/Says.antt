@@ -3,7 +3,8 @@ use Rattle.std.specs.Prelude.{◌≡◌, ℕ, ◌<◌, ◌≤◌, Bool, true, fa
 use Rattle.arena.specs.declared.fault.Full.{Full as FullOf}
 use Rattle.arena.specs.declared.fault.Resource.{Resource}
 use Rattle.arena.specs.declared.fault.Resource.TheVariants.{Nodes, Scx as ScxRecords}
-use Rattle.arena.specs.History.{History, value, Extends}
+use Rattle.arena.specs.declared.step.Row.{Row}
+use Rattle.arena.specs.History.{History, ◌⊳◌, value, Extends}
 use Rattle.arena.specs.Machines.{Call}
 use Rattle.arena.specs.Share.{Remaining}
 use Rattle.spelling.specs.OrderedMap.{MapEdit, MapCall, Edit, Successor, Range, MapReply, OneValue, reply, changes}
@@ -12,7 +13,7 @@ use Rattle.spelling.specs.declared.pair.Pair.{Pair}
 use Rattle.template.specs.Blame.{IsContended}
 use Rattle.updates.specs.Known.{HasMade, IsUntouched}
 use Rattle.updates.specs.Tries.{HasEnteredNone}
-use Rattle.dict.specs.Calls.{need}
+use Rattle.dict.specs.Calls.{need, AsksForPairs}
 use Rattle.dict.specs.declared.told.WordReply.{WordReply}
 use Rattle.dict.specs.declared.told.WordReply.TheVariants as words
 use Rattle.dict.specs.WordReplies.{told_in}
@@ -25,12 +26,22 @@ pub record HasChanged (c : Call) (h : History) (call : MapCall) (told : MapReply
   pub tells : told ≡ OneValue old
   pub made : HasMade edit c h c.number old
 
+-- by this moment the pass has made a row of its own behind the start
+pub record HasMadeRow (pass : ℕ) (start moment : History) : Type 0 where
+  pub row : Row
+  pub before : History
+  pub within : Extends moment (row ⊳ before)
+  pub since : Extends before start
+  pub of_pass : row.pass.0 ≡ pass
+
 -- A reading: at a moment of the call the words spell a map that replies this, and the pass has
--- entered nothing since the call began.
+-- entered nothing since the call began. The moment is not before the call's first own row; a range
+-- that takes no pair needs none.
 pub record HasRead (c : Call) (h : History) (call : MapCall) (told : MapReply) : Type 0 where
   pub moment : History
   pub within : Extends h moment
   pub since : Extends moment c.start
+  pub own : AsksForPairs call → HasMadeRow c.pass c.start moment
   pub map : List Pair
   pub spelled : Spells c.layout (value moment) map
   pub gives : reply call map ≡ told
@@ -57,13 +68,14 @@ abbrev pub HasTooLittle : ℕ → Remaining → Resource → ℕ → Type 0
 HasTooLittle many left Nodes k = (left.nodes < many) × (k ≡ left.nodes)
 HasTooLittle many left ScxRecords k = (many ≤ left.nodes) × (left.scx ≡ 0) × (k ≡ 0)
 
--- The share has too little left for the next try: the map of a moment of the call needs some nodes,
--- of which there are not enough, or no SCX-record is left. Nothing of it was taken since the call
--- began, or a try was lost to another pass. The pass has entered nothing.
+-- The share has too little left for the next try: the map of a moment of the call, from its first
+-- own row on, needs some nodes, of which there are not enough, or no SCX-record is left. Nothing of
+-- it was taken since the call began, or a try was lost to another pass. The pass has entered nothing.
 pub record HasRunOut (c : Call) (h : History) (call : MapCall) (share : Remaining) (full : FullOf) : Type 0 where
   pub moment : History
   pub within : Extends h moment
   pub since : Extends moment c.start
+  pub own : HasMadeRow c.pass c.start moment
   pub map : List Pair
   pub spelled : Spells c.layout (value moment) map
   pub some : 0 < need call map

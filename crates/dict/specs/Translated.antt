@@ -13,10 +13,11 @@ use Rattle.spelling.specs.declared.reply.Reply.TheVariants as replies
 use Rattle.dict.specs.declared.told.WordReply.{WordReply}
 use Rattle.dict.specs.declared.told.WordReply.TheVariants as words
 
--- The pair has a key and a value of their types; and if these words are of such ones, they are its
--- own.
+-- The pair has a key and a value of their types, and these are its words; and if these words are of
+-- such ones, there is the pair.
 pub record IsPairOf {K V : Type 0} (valid_key : K → Type 0) (key : K → ℕ) (valid_value : V → Type 0) (value : V → ℕ) (words : Option Pair) (pair : Option (K × V)) : Type 0 where
   pub valid : IfSome pair (IsValidPair valid_key valid_value)
+  pub own : IfSome pair (λ p. words ≡ Some (word_pair key value p))
   pub words_are : IfSome words (IsPairWord valid_key key valid_value value) → option_map (word_pair key value) pair ≡ words
 
 -- So it is with all of these pairs.

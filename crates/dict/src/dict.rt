@@ -48,6 +48,7 @@ impl<K: WordKey, V: WordValue> DictRun<K, V> {
         ensures typed { IsTypedCall (IsWord K.is_valid K.word_of) (IsWord V.is_valid V.word_of) (call_in result.run) }
         ensures share { share_of result.run ≡ share }
         ensures tries { result.tries ≡ tries }
+        ensures alloc { result.alloc ≡ alloc }
         ensures fresh { 0 < tries → IsUnbegun result.run tries call }
         ensures steps { (nodes : ℕ) → 0 < tries → map_left result.run nodes ≤ most_steps (call_in result.run) tries nodes }
     {

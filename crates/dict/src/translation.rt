@@ -16,6 +16,7 @@ use std::alloc::Global;
 pub fn value_of<V: WordValue>(word: Option<u64>) -> Option<V>
     ensures valid { IfSome result (λ v. V.is_valid v) }
     ensures word { IfSome word (IsWord V.is_valid V.word_of) → option_map V.word_of result ≡ word }
+    ensures own { IfSome result (λ v. word ≡ Option.Some (V.word_of v)) }
 {
     match word {
         Some(word) => V::from_word(word),

@@ -175,17 +175,17 @@ module _ {K V : Type 0} (valid_key : K → Type 0) (key : K → ℕ) (valid_valu
             end_scx = rest.share.to_scx ∙ sym x.rest.share.to_scx;
           }
 
+      -- what it had of its share as the call began
+      rests : RestsWith (call_of p x called) (run_of (pass_view p)) p.share
+      rests = record { share = x.rest.share; over = all_over p.layout _ p.number.0 p.share p.share.next_node p.share.next_scx x.rest.share x.rest.over }
+
       -- what it tells
       pub dict_tells : IsToldOf (pass_view p) now (call_in m.run) (told_of key value_word reply)
       dict_tells = go (told_of key value_word reply) y.answers.tells
         where
           go : (told : Option MapReply) → Tells (call_of p x called) (run_of now) (call_in m.run) told → IsToldOf (pass_view p) now (call_in m.run) told
           go None z = tt
-          go (Some told) z = told_says (pass_view p) x.is_pass called refl s.table_id (share_of m.run) (known_of s.me.0.passes) (blamed_by_reply reply p.blamed) tree y.since (call_in m.run) told z
-
-      -- what it had of its share as the call began
-      rests : RestsWith (call_of p x called) (run_of (pass_view p)) p.share
-      rests = record { share = x.rest.share; over = all_over p.layout _ p.number.0 p.share p.share.next_node p.share.next_scx x.rest.share x.rest.over }
+          go (Some told) z = told_says (pass_view p) x.is_pass called refl s.table_id (share_of m.run) (known_of s.me.0.passes) (blamed_by_reply reply p.blamed) tree y.since (call_in m.run) told rests y.answers.rests z
 
       -- why it tells nothing
       pub dict_refuses : IsRefusalOf (pass_view p) now (call_in m.run) reply

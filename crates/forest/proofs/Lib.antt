@@ -26,6 +26,7 @@ mod StraightVlx
 mod StraightWalk
 mod StraightLook
 mod StraightUpdate
+mod Took
 mod Versions
 mod DictCalls
 mod OpenCalls

@@ -21,6 +21,7 @@ use Rattle.dict.specs.Says.{HasToldBy, HasTold, HasLost, HasRunOut}
 use Rattle.forest.specs.Dictionary.{IsVersion, IsChange, IsChangeOrReading, IsContendedCall, IsFullCall}
 use Rattle.forest.specs.Passes.{PassView, run_of, done_of, taken_of}
 use Rattle.forest.proofs.Entered.{none_entered, one_entered}
+use Rattle.forest.proofs.Took.{made_row, took_from, took_below, took_some}
 
 -- what the words spell at a moment of the run is a version
 pub version_at : (p : PassView) → IsTreeRun p.layout (run_of p) → (moment : History) → Extends (run_of p) moment → (m : List Pair) → Spells p.layout (value moment) m → IsVersion p moment m
@@ -39,8 +40,8 @@ module _ (was : PassView) (is_pass : was.number < was.layout.passes) (number : �
     none_more none = none_entered was.layout was.number (run_of then) (run_of was) run.1.lawful since none
 
     -- an edit that is made
-    change_says : (edit : MapEdit) (told : Option ℕ) → HasMade edit call_by (run_of then) number told → IsChange was then edit told
-    change_says edit told y =
+    change_says : (edit : MapEdit) (told : Option ℕ) → RestsWith call_by (run_of was) was.share → RestsWith call_by (run_of then) left → HasMade edit call_by (run_of then) number told → IsChange was then edit told
+    change_says edit told first rests y =
         let before : History = y.before in
         let within : Extends (run_of then) before = ends_trans (run_of then) (y.row ⊳ before) before y.within (inr (ends_self before)) in
         let m = run_spells was.layout before (run_since was.layout (run_of then) before run within) in
@@ -49,33 +50,38 @@ module _ (was : PassView) (is_pass : was.number < was.layout.passes) (number : �
           before = before;
           within = y.within;
           since = y.since;
+          own = made_row call_by (run_of then) run.1.lawful y was.share first;
           entry = y.entry;
           logged = y.logged;
           done = one_entered call_by (run_of then) run.1.lawful y;
           of_pass = y.owner;
           of_call = y.call ∙ same;
           makes = subst (λ (u : ℕ). Makes was.layout (run_of then) u edit) (sym y.of_scx) (makes_since was.layout (run_of then) before y.scx edit within y.edits.makes);
+          was_left = rw y.of_scx (took_from call_by (run_of then) run.1.lawful y was.share first);
+          is_taken = rw y.of_scx (took_below call_by (run_of then) run.1.lawful y was.share first left rests);
+          took = took_some call_by (run_of then) run.1.lawful y was.share first left rests;
           map = m.0;
           was = version_at then run before within m.0 m.1;
           tells = y.told m.0 m.1;
           is = version_at then run (y.row ⊳ before) y.within (edited edit m.0) (y.edits.changes m.0 m.1);
         }
 
-    told_by : (b : Bool) (call : MapCall) (told : MapReply) → HasToldBy b call_by (run_of then) call told → IsChangeOrReading b was then call told
-    told_by true call told y = (y.edit, y.old, y.is_edit, y.tells, change_says y.edit y.old y.made)
-    told_by false call told y = record {
+    told_by : (b : Bool) (call : MapCall) (told : MapReply) → RestsWith call_by (run_of was) was.share → RestsWith call_by (run_of then) left → HasToldBy b call_by (run_of then) call told → IsChangeOrReading b was then call told
+    told_by true call told first rests y = (y.edit, y.old, y.is_edit, y.tells, change_says y.edit y.old first rests y.made)
+    told_by false call told first rests y = record {
       moment = y.moment;
       within = y.within;
       since = y.since;
+      own = y.own;
       map = y.map;
       version = version_at then run y.moment y.within y.map y.spelled;
       gives = y.gives;
       done = none_more y.none;
     }
 
-    -- what is told
-    pub told_says : (call : MapCall) (told : MapReply) → HasTold call_by (run_of then) call told → IsChangeOrReading (changes call told) was then call told
-    told_says call told y = told_by (changes call told) call told y
+    -- what is told, with what its share had as the call began, and has now
+    pub told_says : (call : MapCall) (told : MapReply) → RestsWith call_by (run_of was) was.share → RestsWith call_by (run_of then) left → HasTold call_by (run_of then) call told → IsChangeOrReading (changes call told) was then call told
+    told_says call told first rests y = told_by (changes call told) call told first rests y
 
     -- refusals
     pub lost_says : (tries n s : ℕ) → HasLost call_by (run_of then) tries n s → IsContendedCall was then n s
@@ -87,6 +93,7 @@ module _ (was : PassView) (is_pass : was.number < was.layout.passes) (number : �
       moment = y.moment;
       within = y.within;
       since = y.since;
+      own = y.own;
       map = y.map;
       version = version_at then run y.moment y.within y.map y.spelled;
       some = y.some;

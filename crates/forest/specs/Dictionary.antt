@@ -14,8 +14,8 @@ use Rattle.spelling.specs.OrderedMap.{MapCall, Edit, Successor, Range, MapReply,
 use Rattle.spelling.specs.Runs.{Makes, map_of_log}
 use Rattle.spelling.specs.Spelled.{Spells}
 use Rattle.template.specs.Blame.{IsOverOrNew}
-use Rattle.dict.specs.Calls.{need, most_nodes, most_scx}
-use Rattle.dict.specs.Says.{HasTooLittle, KeepsLists}
+use Rattle.dict.specs.Calls.{need, most_nodes, most_scx, AsksForPairs}
+use Rattle.dict.specs.Says.{HasMadeRow, HasTooLittle, KeepsLists}
 use Rattle.dict.specs.Forms.{Form}
 use Rattle.dict.specs.Forms as form
 use Rattle.spelling.specs.Replies.{word_pair}
@@ -47,6 +47,8 @@ pub record IsChange (old new : PassView) (edit : MapEdit) (told : Option ℕ) : 
   pub before : History
   pub within : Extends (run_of new) (row ⊳ before)
   pub since : Extends before (run_of old)
+  -- it is behind the call's first own row too
+  pub own : HasMadeRow old.number (run_of old) before
   pub entry : Entry
   pub logged : log new.layout (row ⊳ before) ≡ entry ∷ log new.layout before
   -- it is the pass's only entry behind what the pass had seen
@@ -55,6 +57,10 @@ pub record IsChange (old new : PassView) (edit : MapEdit) (told : Option ℕ) : 
   pub of_pass : entry.owner ≡ old.number
   pub of_call : entry.call ≡ taken_of old
   pub makes : Makes new.layout (run_of new) entry.scx edit
+  -- its SCX-record was left in the share, and is no more: the call has taken one at least
+  pub was_left : old.share.next_scx ≤ entry.scx
+  pub is_taken : entry.scx < new.share.next_scx
+  pub took : new.share.scx < old.share.scx
   -- the maps just before it and just after it
   pub map : List PairOf
   pub was : IsVersion new before map
@@ -62,11 +68,13 @@ pub record IsChange (old new : PassView) (edit : MapEdit) (told : Option ℕ) : 
   pub is : IsVersion new (row ⊳ before) (edited edit map)
 
 -- The call has read the map: at a moment from what was known before to what is known now it gave
--- this reply. The pass has no entry more.
+-- this reply. The moment is not before the call's first own row; a range that takes no pair makes
+-- none, and tells what every map replies. The pass has no entry more.
 pub record IsReading (old new : PassView) (call : MapCall) (told : MapReply) : Type 0 where
   pub moment : History
   pub within : Extends (run_of new) moment
   pub since : Extends moment (run_of old)
+  pub own : AsksForPairs call → HasMadeRow old.number (run_of old) moment
   pub map : List PairOf
   pub version : IsVersion new moment map
   pub gives : reply call map ≡ told
@@ -93,14 +101,15 @@ pub record IsContendedCall (old new : PassView) (n s : ℕ) : Type 0 where
   pub over_or_new : IsOverOrNew (run_of new) (run_of old) n s
   pub done : done_of new ≡ done_of old
 
--- The share has too little left for the next try: at a moment from what was known before to what is
--- known now the call needed some nodes, of which there are not enough, or no SCX-record is left.
--- The call has taken nothing of the share, or a try was lost to another pass, which was in the way.
--- The pass has no entry more.
+-- The share has too little left for the next try: at a moment from the call's first own row on the
+-- call needed some nodes, of which there are not enough, or no SCX-record is left. The call has taken
+-- nothing of the share, or a try was lost to another pass, which was in the way. The pass has no
+-- entry more.
 pub record IsFullCall (old new : PassView) (call : MapCall) (full : FullOf) : Type 0 where
   pub moment : History
   pub within : Extends (run_of new) moment
   pub since : Extends moment (run_of old)
+  pub own : HasMadeRow old.number (run_of old) moment
   pub map : List PairOf
   pub version : IsVersion new moment map
   pub some : 0 < need call map

@@ -145,6 +145,7 @@ impl<S: Shape> Forest<S> {
         requires passes { All (IsOf self) passes.items }
         requires all { AreAllBack self.layout passes.items }
         ensures layout { result.layout ≡ self.layout }
+        ensures mode { result.layout.mode ≡ S.mode }
         ensures closed { IsClosed S.allows self.layout passes.items result }
     {
         let Forest {

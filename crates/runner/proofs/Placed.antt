@@ -43,6 +43,7 @@ module _ (lay : Layout) (run : History) (edits : ℕ → MapEdit) (tree : IsTree
       moment = x.moment;
       within = x.within;
       since = x.since;
+      own = x.own;
       gives = ap (reply call) (sym (version_is x.moment x.map x.within x.version)) ∙ x.gives;
       done = x.done;
     }
@@ -68,6 +69,7 @@ module _ (lay : Layout) (run : History) (edits : ℕ → MapEdit) (tree : IsTree
         before = x.before;
         within = x.within;
         since = x.since;
+        own = x.own;
         entry = x.entry;
         logged = logged;
         done = x.done;

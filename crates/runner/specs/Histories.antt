@@ -7,7 +7,9 @@ use Rattle.arena.specs.Log.{Entry, log}
 use Rattle.spelling.specs.declared.pair.Pair.{Pair}
 use Rattle.spelling.specs.OrderedMap.{MapCall, Edit, MapEdit, MapReply, reply, changes}
 use Rattle.spelling.specs.Runs.{map_of_log}
+use Rattle.dict.specs.Calls.{AsksForPairs}
 use Rattle.dict.specs.Forms.{MayReply, form_of}
+use Rattle.dict.specs.Says.{HasMadeRow}
 use Rattle.spelling.specs.Replies.{told_of}
 use Rattle.spelling.specs.declared.reply.Reply.{Reply}
 use Rattle.forest.specs.Dictionary.{IsRefusalOf}
@@ -27,6 +29,8 @@ pub record IsEnteredCall (lay : Layout) (edits : ℕ → MapEdit) (old new : Pas
   pub before : History
   pub within : Extends (run_of new) (row ⊳ before)
   pub since : Extends before (run_of old)
+  -- it is behind the call's first own row
+  pub own : HasMadeRow old.number (run_of old) before
   pub entry : Entry
   pub logged : log lay (row ⊳ before) ≡ entry ∷ log lay before
   -- it is the pass's only one between the call's begin and its end
@@ -36,11 +40,13 @@ pub record IsEnteredCall (lay : Layout) (edits : ℕ → MapEdit) (old new : Pas
   pub makes : call ≡ Edit (edits entry.scx)
   pub gives : reply call (map_at lay edits before) ≡ told
 
--- a reading call has no entry; its reply is that of the map at a moment from its begin to its end
+-- A reading call has no entry; its reply is that of the map at a moment from its first own row to its
+-- end. A range that takes no pair makes no row, and replies what every map does.
 pub record IsReadCall (lay : Layout) (edits : ℕ → MapEdit) (old new : PassView) (call : MapCall) (told : MapReply) : Type 0 where
   pub moment : History
   pub within : Extends (run_of new) moment
   pub since : Extends moment (run_of old)
+  pub own : AsksForPairs call → HasMadeRow old.number (run_of old) moment
   pub gives : reply call (map_at lay edits moment) ≡ told
   pub done : done_of new ≡ done_of old
 
