@@ -62,6 +62,7 @@ use Rattle.updates.specs.declared.update.UpdateAt.TheVariants.{Start, Walk, Look
 use Rattle.updates.specs.declared.edit.Look.TheVariants.{At}
 use Rattle.prims.specs.declared.update.Update.{Update}
 use Rattle.arena.specs.declared.number.ScxNo.{ScxNo}
+use Rattle.arena.specs.declared.plan.Plan.{Plan as PlanOf}
 use Rattle.updates.specs.declared.update.UpdateRun.{UpdateRun}
 use Rattle.updates.specs.declared.update.Updated.{Updated}
 use Rattle.prims.specs.Laws.Idle.{IsQuietSince}
@@ -72,6 +73,10 @@ use Rattle.forest.specs.StraightUpdate.{Updater, UpdaterBegins, UpdaterIsTold, U
 use Rattle.forest.specs.StraightWalk.{Walker, WalkerWaits, WalkerFinds}
 use Rattle.forest.specs.TableRule.{history_of}
 use Rattle.forest.specs.Traces.{goes_on, weight}
+
+-- an update is what its parts are
+pub update_is : (u : Update) (snaps : List Snap) (plan : PlanOf) (old fresh : NodeNo) → snaps ≡ u.snaps → plan ≡ u.plan → old ≡ u.old → fresh ≡ u.fresh → u ≡ record { snaps = snaps; plan = plan; old = old; fresh = fresh }
+update_is u snaps plan old fresh is_snaps is_plan is_old is_fresh i = record { snaps = sym is_snaps i; plan = sym is_plan i; old = sym is_old i; fresh = sym is_fresh i }
 
 -- a fresh node that is needed has a place
 has_place : (need : Need) (nth : Nth) → IsNeeded need nth → HasPlace need nth
@@ -212,9 +217,9 @@ module _ {M E : Type 0} (allows : Layout → History → ℕ → Type 0) (ready 
       snapped = subst (λ (n : NodeNo). IsSnapshot u.call.layout h n.0 snap) (sym x.of_node) (x.snaps (from (from u.call y.0) y.3.0) h (u.tree h x.so.sound) y.3.2)
 
   -- where something is in the way, it waits for the state again
-  pub looks_again : (ps : List SeatedPass) (m : UpdateRun E) (f : Found) (llx : LlxRun) (s : Step) → LookerWaits allows ready waits same layout number (looker m f) ps llx s → UpdaterWaits allows ready waits same e layout number u ps (looking m f llx) s
+  pub looks_again : (ps : List SeatedPass) (m : UpdateRun E) (f copy : Found) (llx : LlxRun) (s : Step) → copy ≡ f → LookerWaits allows ready waits same layout number (looker m f) ps llx s → UpdaterWaits allows ready waits same e layout number u ps (looking m copy llx) s
   unfolding looker
-  looks_again ps m f llx s x = x
+  looks_again ps m f copy llx s is x = subst (λ (g : Found). UpdaterWaits allows ready waits same e layout number u ps (looking m g llx) s) (sym is) x
 
   -- it stands at its start
   pub stands_at_start : (ps : List SeatedPass) (m : UpdateRun E) → UpdaterBegins allows ready waits same e layout number u ps m → m.at ≡ Start
@@ -357,9 +362,13 @@ module _ {M E : Type 0} (allows : Layout → History → ℕ → Type 0) (ready 
   }
 
   -- an update whose try makes its SCX waits for the fill of its plan
-  pub begins_change : (ps : List SeatedPass) (m : UpdateRun E) (f : Found) (scx : ScxNo) (x : Update) → x ≡ update_of e m f → UpdaterTries allows ready waits same e layout number u ps m f (ChangeNext scx) → ChangerWaits TreeAllows allows ready waits same layout number (changer m f) ps (changing_at x.snaps record { scx = scx; call = m.call; plan = x.plan; old = x.old; fresh = x.fresh } AtPlan) (scx_fill scx Plan x.plan.0)
+  pub begins_change : (ps : List SeatedPass) (m : UpdateRun E) (f : Found) (scx : ScxNo) (snaps : List Snap) (plan : PlanOf) (old fresh : NodeNo) → snaps ≡ m.snaps.items → plan ≡ (update_of e m f).plan → old ≡ (update_of e m f).old → fresh ≡ (update_of e m f).fresh
+      → UpdaterTries allows ready waits same e layout number u ps m f (ChangeNext scx) → ChangerWaits TreeAllows allows ready waits same layout number (changer m f) ps (changing_at snaps record { scx = scx; call = m.call; plan = plan; old = old; fresh = fresh } AtPlan) (scx_fill scx Plan plan.0)
   unfolding changer
-  begins_change ps m f scx x is y = subst (λ (w : Update). UpdaterWaits allows ready waits same e layout number u ps (scxing m f record { scx = scx; call = m.call; update = w; at = AtPlan }) (scx_fill scx Plan w.plan.0)) (sym is) y
+  begins_change ps m f scx snaps plan old fresh is_snaps is_plan is_old is_fresh y = subst (λ (w : Update). UpdaterWaits allows ready waits same e layout number u ps (scxing m f record { scx = scx; call = m.call; update = w; at = AtPlan }) (scx_fill scx Plan w.plan.0)) is y
+    where
+      is : update_of e m f ≡ record { snaps = snaps; plan = plan; old = old; fresh = fresh }
+      is = update_is (update_of e m f) snaps plan old fresh is_snaps is_plan is_old is_fresh
 
   -- once that is done it has answered
   pub changed : (ps : List SeatedPass) (m : UpdateRun E) (f : Found) (snaps : List Snap) (change : Change) (help : HelpRun) (v : ℕ) → IsAtFound e → ChangerIsTold TreeAllows allows ready waits same layout number (changer m f) ps (changing_at snaps change (Help (record help { at = HelpCommit }))) v → UpdaterStands allows ready waits same e layout number u ps m (Done (IsDone f))
@@ -388,9 +397,9 @@ module _ {M E : Type 0} (allows : Layout → History → ℕ → Type 0) (ready 
           (let k = y.3.2 in done_at (from (from u.call y.0) y.3.0) h scx (record help { at = HelpCommit }) (u.tree h x.sound).lawful k.2 k.1 true (record help { at = HelpCommit }) k.0 refl refl)
 
   -- where a node could not be frozen, it waits to look whether all were
-  pub blocked : (ps : List SeatedPass) (m : UpdateRun E) (f : Found) (scx : ScxRun) (s : Step) → ChangerWaits TreeAllows allows ready waits same layout number (changer m f) ps scx s → UpdaterWaits allows ready waits same e layout number u ps (scxing m f scx) s
+  pub blocked : (ps : List SeatedPass) (m : UpdateRun E) (f copy : Found) (scx run : ScxRun) (s : Step) → copy ≡ f → run ≡ scx → ChangerWaits TreeAllows allows ready waits same layout number (changer m f) ps scx s → UpdaterWaits allows ready waits same e layout number u ps (scxing m copy run) s
   unfolding changer
-  blocked ps m f scx s x = x
+  blocked ps m f copy scx run s is is_run x = subst (λ (g : Found). UpdaterWaits allows ready waits same e layout number u ps (scxing m g run) s) (sym is) (subst (λ (r : ScxRun). UpdaterWaits allows ready waits same e layout number u ps (scxing m f r) s) (sym is_run) x)
 
 -- its steps are those of its walk, and those that are left behind it
 pub walk_steps : (now old walk left tries rest : ℕ) → now ≤ old + walk → left ≤ tries + rest → now + left ≤ old + (tries + (walk + rest))

@@ -5,12 +5,12 @@ ghost use Rattle.updates.specs.Steps.{try_left, works_behind, works_left, update
 
 use crate::edit::{Edit, Loaded, Look, Need, Nodes, Nth};
 use arena::{
-    Access, Full, Kind, Machine, MemberIndex, NodeNo, NodeWord, Plan, Resource, ScxNo, ScxWord,
-    Share, Step, Turn, Word,
+    Access, Full, Head, Kind, Machine, MemberIndex, NodeNo, NodeWord, Plan, Resource, ScxNo,
+    ScxWord, Share, Step, Turn, Word,
 };
 use arrayvec::ArrayVec;
-use prims::{Llx, LlxAt, LlxRun, Scx, ScxAt, ScxRun, Snap, Snaps, Update};
-use template::{Found, Tree, WalkRun};
+use prims::{Llx, LlxAt, LlxRun, Scx, ScxAt, ScxRun, Snap, SnapList, Snaps, Update};
+use template::{Found, Trail, Tree, WalkRun};
 
 /// What an update answers.
 #[derive(Clone, Copy, Debug, PartialEq, Eq)]
@@ -90,6 +90,33 @@ pub struct UpdateRun<E> {
     pub call: u64,
     /// Where the run stands.
     pub at: UpdateAt,
+}
+
+/// The same leaf, made anew from its parts. Copied as a whole it would take the bytes between them
+/// along, and a walk would have to write those at each fork.
+#[inline(always)]
+pub fn anew(found: &Found) -> Found
+    ensures { result ≡ found.now }
+{
+    Found {
+        trail: Trail {
+            grand: found.trail.grand,
+            grand_side: found.trail.grand_side,
+            parent: found.trail.parent,
+            side: found.trail.side,
+            node: found.trail.node,
+        },
+        head: Head {
+            level: found.head.level,
+            leaf: found.head.leaf,
+            class: found.head.class,
+        },
+        key: found.key,
+        value: match found.value {
+            Some(value) => Some(value),
+            None => None,
+        },
+    }
 }
 
 impl<E: Edit + Drop> UpdateRun<E> {
@@ -216,7 +243,8 @@ impl<E: Edit + Drop> UpdateRun<E> {
     {
         let need = self.edit.need(found);
         if need == Need::Nothing {
-            return Err(Turn::Done(Updated::Done { found: *found }));
+            let found = anew(found);
+            return Err(Turn::Done(Updated::Done { found }));
         }
         if let Some(full) = self.lacks(need) {
             return Err(Turn::Done(Updated::Full(full)));
@@ -449,22 +477,43 @@ impl<E: Edit + Drop> UpdateRun<E> {
         }
     }
 
-    /// What its SCX is to do: it covers all that was looked at and finalizes all but the first, of
-    /// which a field gets the last fresh node.
+    /// The plan of its SCX, which covers all that was looked at and finalizes all but the first.
     #[inline(always)]
-    pub fn update(&self, found: &Found) -> Update
-        ensures few { length self.now.snaps.items ≤ 4 }
-        ensures update { result ≡ update_of E.means self.now found.now }
+    pub fn plan(&self, found: &Found) -> Plan
+        ensures { result ≡ (update_of E.means self.now found.now).plan }
     {
-        let side = self.edit.side(found);
         let many = self.snaps.len();
         let removed = [false, 1 < many, 2 < many, 3 < many];
-        let snaps = Snaps::new(self.snaps.as_slice());
+        let side = self.edit.side(found);
+        Plan::new(many, removed, MemberIndex::First, side)
+    }
+
+    /// What the field of its SCX holds until then, which is one of the first node.
+    #[inline(always)]
+    pub fn old(&self, found: &Found) -> NodeNo
+        ensures { result ≡ (update_of E.means self.now found.now).old }
+    {
+        let snaps = self.snaps.as_slice();
+        SnapList::get(&snaps, 0).child(self.edit.side(found))
+    }
+
+    /// What that field gets: the last fresh node.
+    #[inline(always)]
+    pub fn fresh(&self, found: &Found) -> NodeNo
+        ensures { result ≡ (update_of E.means self.now found.now).fresh }
+    {
+        self.nodes.last(self.edit.need(found))
+    }
+
+    /// What its SCX is to do.
+    pub fn update(&self, found: &Found) -> Update
+        ensures { result ≡ update_of E.means self.now found.now }
+    {
         Update {
-            snaps,
-            plan: Plan::new(many, removed, MemberIndex::First, side),
-            old: snaps.at(MemberIndex::First).child(side),
-            fresh: self.nodes.last(self.edit.need(found)),
+            snaps: Snaps::new(self.snaps.as_slice()),
+            plan: self.plan(found),
+            old: self.old(found),
+            fresh: self.fresh(found),
         }
     }
 

@@ -16,9 +16,9 @@ use crate::view::SeatView;
 use crate::words::Words;
 use arena::{Access, Kind, Layout, Machine, NodeNo, ScxNo, ScxWord, Shape, Step, Turn, Word};
 use atomic_table::Seat;
-use prims::{LlxAt, LlxRun, ScxAt, ScxRun, Snaps};
+use prims::{LlxAt, LlxRun, ScxAt, ScxRun, Snap};
 use template::{Found, Tree};
-use updates::{Edit, Next, UpdateAt, UpdateRun, Updated};
+use updates::{Edit, Next, UpdateAt, UpdateRun, Updated, anew};
 
 /// Begins an update that walks to this key: its first try, as long as nothing is in its way. Where
 /// something is, the run stands at that place, and the turn is the one that it is to go on with; on
@@ -122,7 +122,8 @@ fn look_at<S: Shape, M: Machine<S>, E: Edit + Drop>(
         Err((marked, scx)) => {
             let at = LlxAt::StateAgain { marked, scx };
             let llx = LlxRun { node, at };
-            run.at = UpdateAt::Look { found: *found, llx };
+            let found = anew(found);
+            run.at = UpdateAt::Look { found, llx };
             Err(Turn::Ask(Step {
                 kind: Kind::LoadState,
                 word: Word::Scx(scx, ScxWord::State),
@@ -149,19 +150,22 @@ fn change<S: Shape, M: Machine<S>, E: Edit + Drop>(
     ensures stands { (u : Updater S.allows M.ready M.waits M.same E.means layout.now number) → UpdaterTries S.allows M.ready M.waits M.same E.means layout.now number u seat.old.me.0.passes run.old found.now (Next.Change scx) → UpdaterStands S.allows M.ready M.waits M.same E.means layout.now number u seat.new.me.0.passes run.new result }
     ensures steps { seat_steps seat.new.me.0.passes + weight result (update_left E.means run.new (shared_nodes layout.now)) ≤ seat_steps seat.old.me.0.passes + suc (update_left E.means (placed E.means run.old found.now (Next.Change scx)) (shared_nodes layout.now)) }
 {
-    let update = run.update(found);
     let call = run.call;
     let change = Change {
         scx,
         call,
-        plan: update.plan,
-        old: update.old,
-        fresh: update.fresh,
+        plan: run.plan(found),
+        old: run.old(found),
+        fresh: run.fresh(found),
     };
-    let snaps = &update.snaps;
-    match changing::call::<S, M, Tree, Snaps>(words, layout, seat, number, snaps, change) {
-        Ok(()) => Turn::Done(Updated::Done { found: *found }),
+    let snaps = run.snaps.as_slice();
+    match changing::call::<S, M, Tree, &[Snap]>(words, layout, seat, number, &snaps, change) {
+        Ok(()) => {
+            let found = anew(found);
+            Turn::Done(Updated::Done { found })
+        }
         Err(help) => {
+            let update = run.update(found);
             let at = ScxAt::Help { help };
             let scx_run = ScxRun {
                 scx,
@@ -170,7 +174,7 @@ fn change<S: Shape, M: Machine<S>, E: Edit + Drop>(
                 at,
             };
             run.at = UpdateAt::Scx {
-                found: *found,
+                found: anew(found),
                 scx: scx_run,
             };
             Turn::Ask(Step {

@@ -21,5 +21,5 @@ pub returns-in-Ok-clause-nearer : goal.returns-in-Ok-clause-nearer
 returns-in-Ok-clause-nearer g c = look_nearer _ _ _ _ (weighs (turn_of g.E.Edit.means c.looked.new.self c.args.found.now c.looked.result) _ _ (c.looked.ensures.nearer (shared_nodes c.args.layout.now)))
 
 pub returns-in-Err-clause-goes_on : goal.returns-in-Err-clause-goes_on
-returns-in-Err-clause-goes_on g c = λ u x. looks_again g.S.Shape.allows g.M.Machine.ready g.M.Machine.waits g.M.Machine.same g.E.Edit.means c.args.layout.now c.args.number u _ c.args.run.now c.args.found.now (llx_at c.args.node (StateAgain c.in-Err.marked c.in-Err.scx)) _
+returns-in-Err-clause-goes_on g c = λ u x. looks_again g.S.Shape.allows g.M.Machine.ready g.M.Machine.waits g.M.Machine.same g.E.Edit.means c.args.layout.now c.args.number u _ c.args.run.now c.args.found.now c.anew-found.result (llx_at c.args.node (StateAgain c.in-Err.marked c.in-Err.scx)) _ c.anew-found.ensures
     (c.in-Err.ensures.waits (looker g.S.Shape.allows g.M.Machine.ready g.M.Machine.waits g.M.Machine.same g.E.Edit.means c.args.layout.now c.args.number u c.args.run.now c.args.found.now) (begins_look g.S.Shape.allows g.M.Machine.ready g.M.Machine.waits g.M.Machine.same g.E.Edit.means c.args.layout.now c.args.number u _ c.args.run.now c.args.found.now c.args.node x))
