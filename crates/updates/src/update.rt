@@ -179,6 +179,8 @@ impl<E: Edit + Drop> UpdateRun<E> {
     }
 
     /// Ends a try that is lost to this SCX-record over this node, and begins the next if there is one.
+    #[cold]
+    #[inline(never)]
     fn lost(&mut self, node: NodeNo, scx: ScxNo) -> Turn<Updated>
         ensures turn { (c : Call) (h : History) → IsRun TreeAllows c.layout h → Begins E.means self.old c h → IsTry c h → IsContended c h node.0 scx.0 → UpdateTurn E.means c h self.new result }
         ensures same { IsSameCall self.old self.new }
