@@ -5,12 +5,12 @@ ghost use Rattle.updates.specs.Steps.{try_left, works_behind, works_left, update
 
 use crate::edit::{Edit, Loaded, Look, Need, Nodes, Nth};
 use arena::{
-    Access, Full, Head, Kind, Machine, MemberIndex, NodeNo, NodeWord, Plan, Resource, ScxNo,
-    ScxWord, Share, Step, Turn, Word,
+    Access, Full, Kind, Machine, MemberIndex, NodeNo, NodeWord, Plan, Resource, ScxNo, ScxWord,
+    Share, Step, Turn, Word,
 };
 use arrayvec::ArrayVec;
 use prims::{Llx, LlxAt, LlxRun, Scx, ScxAt, ScxRun, Snap, SnapList, Snaps, Update};
-use template::{Found, Trail, Tree, WalkRun};
+use template::{Found, Tree, WalkRun};
 
 /// What an update answers.
 #[derive(Clone, Copy, Debug, PartialEq, Eq)]
@@ -90,33 +90,6 @@ pub struct UpdateRun<E> {
     pub call: u64,
     /// Where the run stands.
     pub at: UpdateAt,
-}
-
-/// The same leaf, made anew from its parts. Copied as a whole it would take the bytes between them
-/// along, and a walk would have to write those at each fork.
-#[inline(always)]
-pub fn anew(found: &Found) -> Found
-    ensures { result ≡ found.now }
-{
-    Found {
-        trail: Trail {
-            grand: found.trail.grand,
-            grand_side: found.trail.grand_side,
-            parent: found.trail.parent,
-            side: found.trail.side,
-            node: found.trail.node,
-        },
-        head: Head {
-            level: found.head.level,
-            leaf: found.head.leaf,
-            class: found.head.class,
-        },
-        key: found.key,
-        value: match found.value {
-            Some(value) => Some(value),
-            None => None,
-        },
-    }
 }
 
 impl<E: Edit + Drop> UpdateRun<E> {
@@ -245,8 +218,7 @@ impl<E: Edit + Drop> UpdateRun<E> {
     {
         let need = self.edit.need(found);
         if need == Need::Nothing {
-            let found = anew(found);
-            return Err(Turn::Done(Updated::Done { found }));
+            return Err(Turn::Done(Updated::Done { found: *found }));
         }
         if let Some(full) = self.lacks(need) {
             return Err(Turn::Done(Updated::Full(full)));

@@ -22,7 +22,7 @@ use atomic_table::Seat;
 use help::HelpRun;
 use prims::{LlxAt, LlxRun, ScxAt, ScxRun, Snap};
 use template::{Found, Tree};
-use updates::{Edit, Next, UpdateAt, UpdateRun, Updated, anew};
+use updates::{Edit, Next, UpdateAt, UpdateRun, Updated};
 
 /// Begins an update that walks to this key: its first try, as long as nothing is in its way. Where
 /// something is, the run stands at that place, and the turn is the one that it is to go on with; on
@@ -142,8 +142,7 @@ fn stand_looking<E: Edit + Drop>(
 {
     let at = LlxAt::StateAgain { marked, scx };
     let llx = LlxRun { node, at };
-    let found = anew(found);
-    run.at = UpdateAt::Look { found, llx };
+    run.at = UpdateAt::Look { found: *found, llx };
     Turn::Ask(Step {
         kind: Kind::LoadState,
         word: Word::Scx(scx, ScxWord::State),
@@ -177,10 +176,7 @@ fn change<S: Shape, M: Machine<S>, E: Edit + Drop>(
     };
     let snaps = run.snaps.as_slice();
     match changing::call::<S, M, Tree, &[Snap]>(words, layout, seat, number, &snaps, change) {
-        Ok(()) => {
-            let found = anew(found);
-            Turn::Done(Updated::Done { found })
-        }
+        Ok(()) => Turn::Done(Updated::Done { found: *found }),
         Err(help) => stand_changing(run, found, scx, help),
     }
 }
@@ -204,9 +200,8 @@ fn stand_changing<E: Edit + Drop>(
         update,
         at,
     };
-    let found = anew(found);
     run.at = UpdateAt::Scx {
-        found,
+        found: *found,
         scx: scx_run,
     };
     Turn::Ask(Step {
