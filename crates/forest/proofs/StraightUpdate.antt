@@ -1,5 +1,6 @@
 -- From place to place of an update, of whatever machine updates.
 use Rattle.std.proofs.Common.{◌≡◌, ℕ, suc, true, ap, subst, ◌+◌, ◌<◌, ◌≤◌, List, Option, None, Some, inl, refl, sym, arith, ◌∙◌}
+use Rattle.std.specs.Prelude.{Result, Ok, Err, IfOk}
 use Rattle.arena.specs.declared.layout.Layout.{Layout}
 use Rattle.arena.specs.declared.machine.Turn.{Turn}
 use Rattle.arena.specs.declared.machine.Turn.TheVariants.{Ask, Done}
@@ -52,20 +53,30 @@ use Rattle.updates.specs.Edits.{EditMeaning}
 use Rattle.updates.specs.Known.{Begins, CanFill, CanLook, IsFilledUpTo, IsNeeded, IsUntouched, Loads, Looks, UpdateAnswers, UpdateIsReady, UpdateIsToldAt, UpdateWaits, UpdateWaitsAt, UpdateTurn, Walks, copied, piece}
 use Rattle.updates.specs.Laws.HandScx.{from}
 use Rattle.updates.specs.Laws.Kept.{idle_over}
-use Rattle.updates.specs.Steps.{IsSpending, IsWanted, fills_left, node_tries, scx_tries, works_after}
+use Rattle.updates.specs.Steps.{IsSpending, IsWanted, fills_left, node_tries, scx_tries, update_left, works_after}
 use Rattle.updates.specs.Tries.{IsTry}
-use Rattle.updates.specs.declared.update.UpdateAt.TheVariants.{Start, Walk, Look, Load, Fill, Scx}
+use Rattle.updates.specs.Next.{placed, next_step, stands, turn_of, update_of}
+use Rattle.updates.specs.declared.update.Next.{Next}
+use Rattle.updates.specs.declared.update.Next.TheVariants.{Look as LookNext, Load as LoadNext, Fill as FillNext, Change as ChangeNext}
+use Rattle.updates.specs.declared.update.UpdateAt.TheVariants.{Start, Walk, Look, Fill, Scx}
 use Rattle.updates.specs.declared.edit.Look.TheVariants.{At}
+use Rattle.prims.specs.declared.update.Update.{Update}
+use Rattle.arena.specs.declared.number.ScxNo.{ScxNo}
+use Rattle.arena.specs.declared.plan.Plan.{Plan as PlanOf}
 use Rattle.updates.specs.declared.update.UpdateRun.{UpdateRun}
 use Rattle.updates.specs.declared.update.Updated.{Updated}
 use Rattle.prims.specs.Laws.Idle.{IsQuietSince}
 use Rattle.forest.specs.declared.view.SeatedPass.{SeatedPass}
 use Rattle.forest.specs.StraightLlx.{llx_at}
 use Rattle.forest.specs.StraightLook.{Looker, LookerWaits, LookerSnaps}
-use Rattle.forest.specs.StraightUpdate.{Updater, UpdaterBegins, UpdaterIsTold, UpdaterWaits, UpdaterStands}
+use Rattle.forest.specs.StraightUpdate.{Updater, UpdaterBegins, UpdaterIsTold, UpdaterTries, UpdaterWaits, UpdaterStands}
 use Rattle.forest.specs.StraightWalk.{Walker, WalkerWaits, WalkerFinds}
 use Rattle.forest.specs.TableRule.{history_of}
-use Rattle.forest.specs.Traces.{goes_on}
+use Rattle.forest.specs.Traces.{goes_on, weight}
+
+-- an update is what its parts are
+pub update_is : (u : Update) (snaps : List Snap) (plan : PlanOf) (old fresh : NodeNo) → snaps ≡ u.snaps → plan ≡ u.plan → old ≡ u.old → fresh ≡ u.fresh → u ≡ record { snaps = snaps; plan = plan; old = old; fresh = fresh }
+update_is u snaps plan old fresh is_snaps is_plan is_old is_fresh i = record { snaps = sym is_snaps i; plan = sym is_plan i; old = sym is_old i; fresh = sym is_fresh i }
 
 -- a fresh node that is needed has a place
 has_place : (need : Need) (nth : Nth) → IsNeeded need nth → HasPlace need nth
@@ -175,22 +186,10 @@ module _ {M E : Type 0} (allows : Layout → History → ℕ → Type 0) (ready 
     stays = λ llx now node. u.stays (looking m f llx) (looking m f now) refl;
   }
 
-  -- an update that has asked for the mark of a node has begun to look at it
-  pub begins_look : (ps : List SeatedPass) (m : UpdateRun E) (f : Found) (node : NodeNo) (turn : Turn Updated) → m.at ≡ Look f (llx_at node Marked) → (s : Step) × (turn ≡ Ask s) → UpdaterStands allows ready waits same e layout number u ps m turn → LookerWaits allows ready waits same layout number (looker m f) ps (llx_at node Marked) (load LoadMarked (marked node.0))
+  -- an update whose try looks at a node has begun to look at it
+  pub begins_look : (ps : List SeatedPass) (m : UpdateRun E) (f : Found) (node : NodeNo) → UpdaterTries allows ready waits same e layout number u ps m f (LookNext node) → LookerWaits allows ready waits same layout number (looker m f) ps (llx_at node Marked) (load LoadMarked (marked node.0))
   unfolding looker
-  begins_look ps m f node turn at asks x = subst (λ t. UpdaterWaits allows ready waits same e layout number u ps here t) asked there
-    where
-      here : UpdateRun E
-      here = looking m f (llx_at node Marked)
-
-      is : m ≡ here
-      is i = record m { at = at i }
-
-      there : UpdaterWaits allows ready waits same e layout number u ps here asks.0
-      there = subst (λ n. UpdaterWaits allows ready waits same e layout number u ps n asks.0) is (rw asks.1 at x)
-
-      asked : asks.0 ≡ load LoadMarked (marked node.0)
-      asked = (u.opens here (history_of u.call.layout.mode there.known) asks.0 there.so.0).3.2.asked
+  begins_look ps m f node x = x
 
   -- with the snapshot it goes on as its turn says
   pub looks_on : (ps : List SeatedPass) (m now : UpdateRun E) (f : Found) (node : NodeNo) (snap : Snap) (turn : Turn Updated) → now.edit ≡ m.edit → now.call ≡ m.call → IsSpending e turn m.share now (m.tries + 1) (m.tries + 1)
@@ -218,9 +217,9 @@ module _ {M E : Type 0} (allows : Layout → History → ℕ → Type 0) (ready 
       snapped = subst (λ (n : NodeNo). IsSnapshot u.call.layout h n.0 snap) (sym x.of_node) (x.snaps (from (from u.call y.0) y.3.0) h (u.tree h x.so.sound) y.3.2)
 
   -- where something is in the way, it waits for the state again
-  pub looks_again : (ps : List SeatedPass) (m : UpdateRun E) (f : Found) (llx : LlxRun) (s : Step) → LookerWaits allows ready waits same layout number (looker m f) ps llx s → UpdaterWaits allows ready waits same e layout number u ps (looking m f llx) s
+  pub looks_again : (ps : List SeatedPass) (m now : UpdateRun E) (f : Found) (llx : LlxRun) (turn : Turn Updated) (s : Step) → now ≡ looking m f llx → turn ≡ Ask s → LookerWaits allows ready waits same layout number (looker m f) ps llx s → UpdaterStands allows ready waits same e layout number u ps now turn
   unfolding looker
-  looks_again ps m f llx s x = x
+  looks_again ps m now f llx turn s is asks x = rw (is, asks) x
 
   -- it stands at its start
   pub stands_at_start : (ps : List SeatedPass) (m : UpdateRun E) → UpdaterBegins allows ready waits same e layout number u ps m → m.at ≡ Start
@@ -228,75 +227,58 @@ module _ {M E : Type 0} (allows : Layout → History → ℕ → Type 0) (ready 
 
   -- Loads and fills
 
-  -- an update that has asked for a load waits for it
-  pub begins_load : (ps : List SeatedPass) (m : UpdateRun E) (f : Found) (nth : Nth) (part : NodeWord) (n : NodeNo) (turn : Turn Updated) → m.at ≡ Load f nth part → (s : Step) × (turn ≡ Ask s) → n ≡ e.copies m.edit f m.snaps.items → UpdaterStands allows ready waits same e layout number u ps m turn → UpdaterWaits allows ready waits same e layout number u ps m record { kind = LoadSettled; word = NodeOf n part; access = AsLoad }
-  begins_load ps m f nth part n turn at asks is x = subst (λ t. UpdaterWaits allows ready waits same e layout number u ps m t) asked there
-    where
-      there : UpdaterWaits allows ready waits same e layout number u ps m asks.0
-      there = rw asks.1 at x
-
-      w : UpdateWaits e m u.call (history_of u.call.layout.mode there.known) asks.0
-      w = u.opens m (history_of u.call.layout.mode there.known) asks.0 there.so.0
-
-      loads : UpdateWaitsAt e m (from u.call w.0) (history_of u.call.layout.mode there.known) asks.0 (Load f nth part)
-      loads = subst (λ a. UpdateWaitsAt e m (from u.call w.0) (history_of u.call.layout.mode there.known) asks.0 a) at w.3
-
-      asked : asks.0 ≡ record { kind = LoadSettled; word = NodeOf n part; access = AsLoad }
-      asked = loads.1 ∙ (λ i. record { kind = LoadSettled; word = NodeOf (sym is i) part; access = AsLoad })
-
   -- what it wants is one of the words that it may want
-  pub wants_word : (ps : List SeatedPass) (m : UpdateRun E) (f : Found) (nth : Nth) (part : NodeWord) (turn : Turn Updated) → m.at ≡ Load f nth part → (s : Step) × (turn ≡ Ask s) → UpdaterStands allows ready waits same e layout number u ps m turn → IsWanted e m f nth part
-  wants_word ps m f nth part turn at asks x = (loads.0.wanted, has_place (e.needs m.edit f) nth loads.0.works.need)
+  pub wants_word : (ps : List SeatedPass) (m : UpdateRun E) (f : Found) (nth : Nth) (part : NodeWord) → UpdaterTries allows ready waits same e layout number u ps m f (LoadNext nth part) → IsWanted e m f nth part
+  wants_word ps m f nth part x = (loads.wanted, has_place (e.needs m.edit f) nth loads.works.need)
     where
-      there : UpdaterWaits allows ready waits same e layout number u ps m asks.0
-      there = rw asks.1 at x
+      loads : Loads e (placed e m f (LoadNext nth part)) (from u.call (u.opens (placed e m f (LoadNext nth part)) (history_of u.call.layout.mode x.known) (next_step e m f (LoadNext nth part)) x.so.0).0) (history_of u.call.layout.mode x.known) f nth part
+      loads = (u.opens (placed e m f (LoadNext nth part)) (history_of u.call.layout.mode x.known) (next_step e m f (LoadNext nth part)) x.so.0).3.0
 
-      w : UpdateWaits e m u.call (history_of u.call.layout.mode there.known) asks.0
-      w = u.opens m (history_of u.call.layout.mode there.known) asks.0 there.so.0
-
-      loads : UpdateWaitsAt e m (from u.call w.0) (history_of u.call.layout.mode there.known) asks.0 (Load f nth part)
-      loads = subst (λ a. UpdateWaitsAt e m (from u.call w.0) (history_of u.call.layout.mode there.known) asks.0 a) at w.3
+  -- what is known of loads does not depend on the place of the update
+  loads_anywhere : (m : UpdateRun E) (f : Found) (nth : Nth) (part : NodeWord) (c : Call) (h : History) → Loads e (placed e m f (LoadNext nth part)) c h f nth part → Loads e m c h f nth part
+  loads_anywhere m f nth part c h x = record {
+    works = record {
+      run = x.works.run;
+      since = x.works.since;
+      quiet = x.works.quiet;
+      looked = x.works.looked;
+      enough = x.works.enough;
+      need = x.works.need;
+      in_order = x.works.in_order;
+      some = x.works.some;
+      named = x.works.named;
+      inside = x.works.inside;
+      loaded = x.works.loaded;
+      before = x.works.before;
+    };
+    full = x.full;
+    hand = record { lowest = x.hand.lowest; highest = x.hand.highest };
+    wanted = x.wanted;
+    settled = x.settled;
+  }
 
   -- with what the load has told it goes on as its turn says
-  pub loads_on : (ps : List SeatedPass) (m now : UpdateRun E) (f : Found) (nth : Nth) (part : NodeWord) (v : ℕ) (turn : Turn Updated) → m.at ≡ Load f nth part → now.edit ≡ m.edit → now.call ≡ m.call → IsSpending e turn m.share now m.tries (m.tries + 1)
+  pub loads_on : (ps : List SeatedPass) (m now : UpdateRun E) (f : Found) (nth : Nth) (part : NodeWord) (v : ℕ) (turn : Turn Updated) → now.edit ≡ m.edit → now.call ≡ m.call → IsSpending e turn m.share now m.tries (m.tries + 1)
       → ((b h : History) → IsRun TreeAllows u.call.layout h → IsTry u.call b → Loads e m (from u.call b) h f nth part → value h (node (copied e m f) part) ≡ v → UpdateTurn e u.call h now turn)
-      → UpdaterIsTold allows ready waits same e layout number u ps m v → UpdaterStands allows ready waits same e layout number u ps now turn
-  loads_on ps m now f nth part v turn at edit called spent next x = stands_behind ps m now v turn edit called (subst (λ a. IsSpending e turn m.share now (node_tries m a) (scx_tries m a)) (sym at) spent) x (next y.0 h (u.tree h x.sound) y.1 told.0 told.1)
+      → UpdaterIsTold allows ready waits same e layout number u ps (placed e m f (LoadNext nth part)) v → UpdaterStands allows ready waits same e layout number u ps now turn
+  loads_on ps m now f nth part v turn edit called spent next x = stands_behind ps (placed e m f (LoadNext nth part)) now v turn edit called spent x (next y.0 h (u.tree h x.sound) y.1 (loads_anywhere m f nth part (from u.call y.0) h y.3.0) y.3.1)
     where
       h : History
       h = history_of u.call.layout.mode x.known
 
-      y : UpdateIsReady e m u.call h (Some v)
-      y = u.tells m h (Some v) x.so.0
-
-      told : UpdateIsToldAt e m (from u.call y.0) h v (Load f nth part)
-      told = subst (λ a. UpdateIsToldAt e m (from u.call y.0) h v a) at y.3
+      y : UpdateIsReady e (placed e m f (LoadNext nth part)) u.call h (Some v)
+      y = u.tells (placed e m f (LoadNext nth part)) h (Some v) x.so.0
 
   -- the update with a fill at a place
   abbrev pub filling : UpdateRun E → Found → Nth → NodeWord → UpdateRun E
   filling m f nth part = record m { at = Fill f nth part }
 
-  -- an update that has asked for the first fill of a node waits for it
-  pub begins_fill : (ps : List SeatedPass) (m : UpdateRun E) (f : Found) (nth : Nth) (p : Piece) (n : NodeNo) (v : ℕ) (turn : Turn Updated) → m.at ≡ Fill f nth Head → (s : Step) × (turn ≡ Ask s) → p ≡ e.pieces m.edit f m.snaps.items m.nodes m.loaded nth → n ≡ nth_node m.nodes nth → v ≡ word_of p Head → UpdaterStands allows ready waits same e layout number u ps m turn → UpdaterWaits allows ready waits same e layout number u ps (filling m f nth Head) record { kind = FillKind; word = NodeOf n Head; access = Store v }
-  begins_fill ps m f nth p n v turn at asks is_p is_n is_v x = subst (λ t. UpdaterWaits allows ready waits same e layout number u ps here t) asked there
+  -- an update whose try fills a node waits for the first fill
+  pub begins_fill : (ps : List SeatedPass) (m : UpdateRun E) (f : Found) (nth : Nth) (p : Piece) (n : NodeNo) (v : ℕ) → p ≡ e.pieces m.edit f m.snaps.items m.nodes m.loaded nth → n ≡ nth_node m.nodes nth → v ≡ word_of p Head → UpdaterTries allows ready waits same e layout number u ps m f (FillNext nth) → UpdaterWaits allows ready waits same e layout number u ps (filling m f nth Head) record { kind = FillKind; word = NodeOf n Head; access = Store v }
+  begins_fill ps m f nth p n v is_p is_n is_v x = subst (λ s. UpdaterWaits allows ready waits same e layout number u ps (filling m f nth Head) s) asked x
     where
-      here : UpdateRun E
-      here = filling m f nth Head
-
-      is : m ≡ here
-      is i = record m { at = at i }
-
-      there : UpdaterWaits allows ready waits same e layout number u ps here asks.0
-      there = subst (λ n. UpdaterWaits allows ready waits same e layout number u ps n asks.0) is (rw asks.1 at x)
-
-      w : UpdateWaits e here u.call (history_of u.call.layout.mode there.known) asks.0
-      w = u.opens here (history_of u.call.layout.mode there.known) asks.0 there.so.0
-
-      said : piece e here f (nth_node m.nodes nth).0 ≡ e.pieces m.edit f m.snaps.items m.nodes m.loaded nth
-      said = piece_is (λ i. e.pieces m.edit f m.snaps.items m.nodes m.loaded i) m.nodes (e.needs m.edit f) nth w.3.0.works.need w.3.0.works.in_order
-
-      asked : asks.0 ≡ record { kind = FillKind; word = NodeOf n Head; access = Store v }
-      asked = w.3.3 ∙ (λ i. record { kind = FillKind; word = NodeOf (sym is_n i) Head; access = Store ((ap (λ q. word_of q Head) said ∙ sym (is_v ∙ ap (λ q. word_of q Head) is_p)) i) })
+      asked : next_step e m f (FillNext nth) ≡ record { kind = FillKind; word = NodeOf n Head; access = Store v }
+      asked i = record { kind = FillKind; word = NodeOf (sym is_n i) Head; access = Store (sym (is_v ∙ ap (λ q. word_of q Head) is_p) i) }
 
   -- behind a fill that is not a node's last it waits for the next
   pub fills_on : (ps : List SeatedPass) (m : UpdateRun E) (f : Found) (nth : Nth) (part next : NodeWord) (told : ℕ) (p : Piece) (n : NodeNo) (v : ℕ) → FillsWell e → part_behind p part ≡ Some next → p ≡ e.pieces m.edit f m.snaps.items m.nodes m.loaded nth → n ≡ nth_node m.nodes nth → v ≡ word_of p next → UpdaterIsTold allows ready waits same e layout number u ps (filling m f nth part) told → UpdaterWaits allows ready waits same e layout number u ps (filling m f nth next) record { kind = FillKind; word = NodeOf n next; access = Store v }
@@ -379,26 +361,14 @@ module _ {M E : Type 0} (allows : Layout → History → ℕ → Type 0) (ready 
     stays = λ old now is_scx is_update is_call. u.stays (scxing m f old) (scxing m f now) refl;
   }
 
-  -- the change that its SCX makes
-  abbrev pub change_of : ScxRun → Change
-  change_of m = record { scx = m.scx; call = m.call; plan = m.update.plan; old = m.update.old; fresh = m.update.fresh }
-
-  -- an update that begins its SCX waits for the fill of its plan
-  pub begins_change : (ps : List SeatedPass) (m : UpdateRun E) (f : Found) (scx : ScxRun) (turn : Turn Updated) → m.at ≡ Scx f scx → scx.at ≡ AtPlan → (s : Step) × (turn ≡ Ask s) → UpdaterStands allows ready waits same e layout number u ps m turn → ChangerWaits TreeAllows allows ready waits same layout number (changer m f) ps (changing_at scx.update.snaps (change_of scx) AtPlan) (scx_fill scx.scx Plan scx.update.plan.0)
+  -- an update whose try makes its SCX waits for the fill of its plan
+  pub begins_change : (ps : List SeatedPass) (m : UpdateRun E) (f : Found) (scx : ScxNo) (snaps : List Snap) (plan : PlanOf) (old fresh : NodeNo) → snaps ≡ m.snaps.items → plan ≡ (update_of e m f).plan → old ≡ (update_of e m f).old → fresh ≡ (update_of e m f).fresh
+      → UpdaterTries allows ready waits same e layout number u ps m f (ChangeNext scx) → ChangerWaits TreeAllows allows ready waits same layout number (changer m f) ps (changing_at snaps record { scx = scx; call = m.call; plan = plan; old = old; fresh = fresh } AtPlan) (scx_fill scx Plan plan.0)
   unfolding changer
-  begins_change ps m f scx turn at plan asks x = subst (λ t. UpdaterWaits allows ready waits same e layout number u ps here t) asked there
+  begins_change ps m f scx snaps plan old fresh is_snaps is_plan is_old is_fresh y = subst (λ (w : Update). UpdaterWaits allows ready waits same e layout number u ps (scxing m f record { scx = scx; call = m.call; update = w; at = AtPlan }) (scx_fill scx Plan w.plan.0)) is y
     where
-      here : UpdateRun E
-      here = scxing m f (changing_at scx.update.snaps (change_of scx) AtPlan)
-
-      is : m ≡ here
-      is = (λ i. record m { at = at i }) ∙ (λ i. scxing m f (record scx { at = plan i }))
-
-      there : UpdaterWaits allows ready waits same e layout number u ps here asks.0
-      there = subst (λ n. UpdaterWaits allows ready waits same e layout number u ps n asks.0) is (rw asks.1 at x)
-
-      asked : asks.0 ≡ scx_fill scx.scx Plan scx.update.plan.0
-      asked = (u.opens here (history_of u.call.layout.mode there.known) asks.0 there.so.0).3.2.asked
+      is : update_of e m f ≡ record { snaps = snaps; plan = plan; old = old; fresh = fresh }
+      is = update_is (update_of e m f) snaps plan old fresh is_snaps is_plan is_old is_fresh
 
   -- once that is done it has answered
   pub changed : (ps : List SeatedPass) (m : UpdateRun E) (f : Found) (snaps : List Snap) (change : Change) (help : HelpRun) (v : ℕ) → IsAtFound e → ChangerIsTold TreeAllows allows ready waits same layout number (changer m f) ps (changing_at snaps change (Help (record help { at = HelpCommit }))) v → UpdaterStands allows ready waits same e layout number u ps m (Done (IsDone f))
@@ -427,17 +397,17 @@ module _ {M E : Type 0} (allows : Layout → History → ℕ → Type 0) (ready 
           (let k = y.3.2 in done_at (from (from u.call y.0) y.3.0) h scx (record help { at = HelpCommit }) (u.tree h x.sound).lawful k.2 k.1 true (record help { at = HelpCommit }) k.0 refl refl)
 
   -- where a node could not be frozen, it waits to look whether all were
-  pub blocked : (ps : List SeatedPass) (m : UpdateRun E) (f : Found) (scx : ScxRun) (s : Step) → ChangerWaits TreeAllows allows ready waits same layout number (changer m f) ps scx s → UpdaterWaits allows ready waits same e layout number u ps (scxing m f scx) s
+  pub blocked : (ps : List SeatedPass) (m now : UpdateRun E) (f : Found) (scx : ScxRun) (turn : Turn Updated) (s : Step) → now ≡ scxing m f scx → turn ≡ Ask s → ChangerWaits TreeAllows allows ready waits same layout number (changer m f) ps scx s → UpdaterStands allows ready waits same e layout number u ps now turn
   unfolding changer
-  blocked ps m f scx s x = x
+  blocked ps m now f scx turn s is asks x = rw (is, asks) x
 
 -- its steps are those of its walk, and those that are left behind it
 pub walk_steps : (now old walk left tries rest : ℕ) → now ≤ old + walk → left ≤ tries + rest → now + left ≤ old + (tries + (walk + rest))
 walk_steps now old walk left tries rest a b = omega (arith, a, b)
 
 -- an LLX takes at most seven steps
-pub look_steps : (now old left tries looks works bound : ℕ) → now ≤ old + 7 → left ≤ tries + (looks + works + 39) → old + suc (tries + (53 + looks + works + 39)) ≤ bound → now + left ≤ bound
-look_steps now old left tries looks works bound a b c = omega (arith, a, b, c)
+pub look_steps : (now old left tries looks works : ℕ) → now ≤ old + 7 → left ≤ tries + (looks + works + 39) → now + left ≤ old + suc (tries + (53 + looks + works + 39))
+look_steps now old left tries looks works a b = omega (arith, a, b)
 
 pub look_nearer : (left tries looks works : ℕ) → left ≤ tries + (looks + works + 39) → left < suc (tries + (53 + looks + works + 39))
 look_nearer left tries looks works b = omega (arith, b)
@@ -446,25 +416,48 @@ pub both_steps : (now then bound : ℕ) → now ≤ then → then ≤ bound → 
 both_steps now then bound a b = omega (arith, a, b)
 
 -- the steps of a fresh node are those that were left for it
-pub node_steps : (now old left tries n after head last : ℕ) → now ≡ suc n + old → left ≤ tries + (last + 39) → head ≡ n + after → last ≡ 0 + after → now + left ≤ old + suc (tries + (head + 39))
-node_steps now old left tries n after head last a b c d = omega (arith, a, b, c, d)
+pub node_steps : (now old left tries n after head : ℕ) → now ≡ suc n + old → left ≤ tries + (after + 39) → head ≡ n + after → now + left ≤ old + suc (tries + (head + 39))
+node_steps now old left tries n after head a b c = omega (arith, a, b, c)
 
-pub node_nearer : (left tries n after head last : ℕ) → left ≤ tries + (last + 39) → head ≡ n + after → last ≡ 0 + after → left < suc (tries + (head + 39))
-node_nearer left tries n after head last b c d = omega (arith, b, c, d)
+pub node_nearer : (left tries n after head : ℕ) → left ≤ tries + (after + 39) → head ≡ n + after → left < suc (tries + (head + 39))
+node_nearer left tries n after head b c = omega (arith, b, c)
 
 -- a load is one of the works that were left
-pub load_steps : (now old left tries works : ℕ) → now ≡ suc old → left ≤ tries + (works + 39) → now + left ≤ old + suc (tries + (works + 39))
+pub load_steps : (now old left tries works : ℕ) → now ≡ suc old → left < tries + (works + 39) → now + suc left ≤ old + suc (tries + (works + 39))
 load_steps now old left tries works a b = omega (arith, a, b)
 
-pub load_nearer : (left tries works : ℕ) → left ≤ tries + (works + 39) → left < suc (tries + (works + 39))
+pub load_nearer : (left tries works : ℕ) → left < tries + (works + 39) → suc left < suc (tries + (works + 39))
 load_nearer left tries works b = omega (arith, b)
 
 pub head_next : (p : Piece) → part_behind p Head ≡ Some Key
 head_next (Leaf level class key v) = refl
 head_next (Fork level class key l r) = refl
 
-pub leaf_fewer : {E : Type 0} (e : EditMeaning E) (m : UpdateRun E) (f : Found) (nth : Nth) (p : Piece) (level class key v : ℕ) → p ≡ e.pieces m.edit f m.snaps.items m.nodes m.loaded nth → p ≡ Leaf level class key v → (fills_left e m f nth Head ≡ 2 + works_after e nth) × (fills_left e m f nth Value ≡ 0 + works_after e nth)
-leaf_fewer e m f nth p level class key v is_p is = (ap (λ q. fills_behind q Head + works_after e nth) (sym is_p ∙ is), ap (λ q. fills_behind q Value + works_after e nth) (sym is_p ∙ is))
+module _ {E : Type 0} (e : EditMeaning E) (m : UpdateRun E) (f : Found) (nth : Nth) (p : Piece) (said : p ≡ e.pieces m.edit f m.snaps.items m.nodes m.loaded nth) where
+  -- a leaf has two words behind its head, a fork three
+  pub leaf_fewer : (level class key v : ℕ) → p ≡ Leaf level class key v → fills_left e m f nth Head ≡ 2 + works_after e nth
+  leaf_fewer level class key v is = ap (λ q. fills_behind q Head + works_after e nth) (sym said ∙ is)
 
-pub fork_fewer : {E : Type 0} (e : EditMeaning E) (m : UpdateRun E) (f : Found) (nth : Nth) (p : Piece) (level class key : ℕ) (l r : NodeNo) → p ≡ e.pieces m.edit f m.snaps.items m.nodes m.loaded nth → p ≡ Fork level class key l r → (fills_left e m f nth Head ≡ 3 + works_after e nth) × (fills_left e m f nth (Child Right) ≡ 0 + works_after e nth)
-fork_fewer e m f nth p level class key l r is_p is = (ap (λ q. fills_behind q Head + works_after e nth) (sym is_p ∙ is), ap (λ q. fills_behind q (Child Right) + works_after e nth) (sym is_p ∙ is))
+  pub fork_fewer : (level class key : ℕ) (l r : NodeNo) → p ≡ Fork level class key l r → fills_left e m f nth Head ≡ 3 + works_after e nth
+  fork_fewer level class key l r is = ap (λ q. fills_behind q Head + works_after e nth) (sym said ∙ is)
+
+  -- and none behind its last
+  pub leaf_ends : (level class key v : ℕ) → p ≡ Leaf level class key v → part_behind (e.pieces m.edit f m.snaps.items m.nodes m.loaded nth) Value ≡ None
+  leaf_ends level class key v is = ap (λ q. part_behind q Value) (sym said ∙ is)
+
+  pub fork_ends : (level class key : ℕ) (l r : NodeNo) → p ≡ Fork level class key l r → part_behind (e.pieces m.edit f m.snaps.items m.nodes m.loaded nth) (Child Right) ≡ None
+  fork_ends level class key l r is = ap (λ q. part_behind q (Child Right)) (sym said ∙ is)
+
+module _ {E : Type 0} (e : EditMeaning E) (m : UpdateRun E) (f : Found) (next same : Next) (is : next ≡ same) (nodes : ℕ) where
+  -- what is left of it is left of its equal
+  pub steps_as : (now old : ℕ) → now ≤ old + suc (update_left e (placed e m f same) nodes) → now ≤ old + suc (update_left e (placed e m f next) nodes)
+  steps_as now old i = subst (λ (n : Next). now ≤ old + suc (update_left e (placed e m f n) nodes)) (sym is) i
+
+  -- fewer steps are left behind what goes on
+  pub fewer_behind : (now : UpdateRun E) (more : Result Next (Turn Updated)) → weight (turn_of e now f more) (update_left e (stands e now f more) nodes) < suc (update_left e (placed e m f same) nodes) → IfOk more (λ n. update_left e (placed e now f n) nodes < update_left e (placed e m f next) nodes)
+  fewer_behind now (Ok n) i = subst (λ (k : Next). update_left e (placed e now f n) nodes < update_left e (placed e m f k) nodes) (sym is) (omega (arith, i))
+  fewer_behind now (Err turn) i = tt
+
+-- what is left where a run stands, and asks for a step
+pub left_at : {E : Type 0} (e : EditMeaning E) (m now : UpdateRun E) (turn : Turn Updated) (s : Step) (nodes : ℕ) → now ≡ m → turn ≡ Ask s → weight turn (update_left e now nodes) ≡ suc (update_left e m nodes)
+left_at e m now turn s nodes is asks = rw (is, asks) refl

@@ -1,5 +1,5 @@
 -- Calls that stand at a place of an update, of whatever machine updates.
-use Rattle.std.specs.Prelude.{◌≡◌, ℕ, List, Option, None}
+use Rattle.std.specs.Prelude.{◌≡◌, ℕ, List, Option, None, Result}
 use Rattle.arena.specs.declared.layout.Layout.{Layout}
 use Rattle.arena.specs.declared.machine.Turn.{Turn}
 use Rattle.arena.specs.declared.step.Step.{Step}
@@ -8,7 +8,10 @@ use Rattle.arena.specs.Machines.{Call, IsRun, MatchTurn}
 use Rattle.spelling.specs.TreeShape.{TreeAllows}
 use Rattle.updates.specs.Edits.{EditMeaning}
 use Rattle.updates.specs.Known.{UpdateIsReady, UpdateWaits, UpdateAnswers}
+use Rattle.template.specs.declared.walk.Found.{Found}
+use Rattle.updates.specs.Next.{placed, next_step, stands, turn_of}
 use Rattle.updates.specs.Steps.{Spends, node_tries, scx_tries}
+use Rattle.updates.specs.declared.update.Next.{Next}
 use Rattle.updates.specs.declared.update.UpdateRun.{UpdateRun}
 use Rattle.updates.specs.declared.update.Updated.{Updated}
 use Rattle.forest.specs.declared.view.SeatedPass.{SeatedPass}
@@ -68,3 +71,11 @@ module _ {M E : Type 0} (allows : Layout → History → ℕ → Type 0) (ready 
     -- its update waits for the step of this turn, or has answered as the turn says
     abbrev pub UpdaterStands : UpdateRun E → Turn Updated → Type 0
     UpdaterStands m turn = MatchTurn turn (UpdaterWaits m) (UpdaterEnds m)
+
+    -- its update waits for the first step of what its try does next
+    abbrev pub UpdaterTries : UpdateRun E → Found → Next → Type 0
+    UpdaterTries m f next = UpdaterWaits (placed e m f next) (next_step e m f next)
+
+    -- so it does, or it stands as the turn says that came in place of that
+    abbrev pub UpdaterGoesOn : UpdateRun E → Found → Result Next (Turn Updated) → Type 0
+    UpdaterGoesOn m f next = UpdaterStands (stands e m f next) (turn_of e m f next)

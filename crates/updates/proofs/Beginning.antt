@@ -1,6 +1,8 @@
 -- What an update's SCX is to do, and what the update waits for as that begins.
 use Rattle.std.proofs.Common.{◌≡◌, ℕ, zero, suc, ◌+◌, ◌-◌, ◌/◌, ◌%◌, ◌^◌, ◌<◌, ◌≤◌, List, [], ◌∷◌, false, length, get_or, None, refl, sym, ◌∙◌, ap, subst, arith}
 use Rattle.std.proofs.lemmas.Bool.{le-ltb}
+use Rattle.std.proofs.lemmas.List.{length-take-le}
+use Rattle.std.specs.Prelude.{take}
 use Rattle.arena.specs.declared.machine.Turn.{Turn}
 use Rattle.arena.specs.declared.machine.Turn.TheVariants.{Ask}
 use Rattle.arena.specs.declared.number.NodeNo.{NodeNo}
@@ -33,8 +35,8 @@ use Rattle.updates.specs.declared.edit.Look.{Look}
 use Rattle.updates.specs.declared.edit.Look.TheVariants.{Enough}
 use Rattle.updates.specs.declared.update.UpdateAt.TheVariants.{Scx}
 use Rattle.updates.specs.declared.update.UpdateRun.{UpdateRun}
-use Rattle.updates.specs.Edits.{EditMeaning}
-use Rattle.updates.specs.Known.{AreUsable, CoversLeaf, CanScx, IsUpdateFor, TryWaits, piece, top}
+use Rattle.updates.specs.Edits.{EditBounds, EditMeaning}
+use Rattle.updates.specs.Known.{AreSeen, AreUsable, CoversLeaf, CanScx, IsUpdateFor, TryWaits, piece, top}
 use Rattle.updates.specs.Laws.Entered.{none_quiet}
 use Rattle.updates.specs.Laws.HandScx.{from, hand_ready, hand_share}
 use Rattle.updates.specs.Laws.Kept.{snapped_usable}
@@ -159,3 +161,14 @@ module _ {E : Type 0} (e : EditMeaning E) (m : UpdateRun E) (run after : ScxRun)
   scx_begins share turn step less asked w =
       subst (λ (s : Remaining). TryWaits e (record m { share = s; at = Scx f after }) c h step) (sym (less ∙ (λ i. record m.share { next_scx = plus_one m.share.next_scx i; scx = m.share.scx - 1 })))
       (first_waits turn step asked (w scx_ready))
+
+-- an edit looks at few nodes
+pub few_snaps : {E : Type 0} (e : EditMeaning E) (ed : E) (f : Found) (snaps : List Snap) → EditBounds e → AreSeen e ed f snaps → length snaps ≤ 4
+few_snaps e ed f [] bounds seen = omega arith
+few_snaps e ed f (s ∷ snaps) bounds seen = go
+  where
+    last : length (take (length snaps) (s ∷ snaps)) < e.most_looks
+    last = bounds.few_looks ed f (take (length snaps) (s ∷ snaps)) _ (seen (length snaps) (omega arith))
+
+    go : suc (length snaps) ≤ 4
+    go = let i = last in let j = bounds.small in let k = length-take-le (length snaps) (s ∷ snaps) (omega arith) in omega (arith, i, j, k)

@@ -10,3 +10,4 @@ mod Beginning
 mod Stepping
 mod Blaming
 pub mod Lemmas
+mod GoingOn

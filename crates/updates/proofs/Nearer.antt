@@ -16,9 +16,7 @@ use Rattle.updates.specs.declared.edit.Piece.{Piece}
 use Rattle.updates.specs.declared.edit.Piece.TheVariants.{Leaf, Fork}
 use Rattle.updates.specs.Edits.{EditMeaning}
 use Rattle.updates.specs.Pieces.{nth_behind, part_behind, fills_behind, HasPlace}
-use Rattle.arena.specs.Share.{Remaining}
-use Rattle.updates.specs.Steps.{works_after, IsSpending}
-use Rattle.updates.specs.declared.update.UpdateRun.{UpdateRun}
+use Rattle.updates.specs.Steps.{works_after}
 use Rattle.updates.specs.declared.update.Updated.{Updated}
 
 -- what is below a number is below a greater one
@@ -26,10 +24,8 @@ pub below : (turn : Turn Updated) (x a b : ℕ) → MatchTurn turn (λ _. x < a)
 below (Ask s) x a b i j = omega (arith, i, j)
 below (Done u) x a b i j = tt
 
--- what is taken before a turn counts for one try more
-pub spends_before : {E : Type 0} (e : EditMeaning E) (turn : Turn Updated) (old mid : Remaining) (m : UpdateRun E) (nodes scx : ℕ) → old.nodes ≤ mid.nodes + e.most_nodes → mid.scx ≡ old.scx → IsSpending e turn mid m nodes scx → IsSpending e turn old m (nodes + 1) scx
-spends_before e (Ask s) old mid m nodes scx i same x = (omega (arith, i, x.0), omega (arith, same, x.1))
-spends_before e (Done u) old mid m nodes scx i same x = (omega (arith, i, x.0), omega (arith, same, x.1))
+pub less_than : (x a b : ℕ) → x < a → a ≤ b → x < b
+less_than x a b i j = omega (arith, i, j)
 
 no_more : (n : ℕ) → n ≤ n
 no_more n = omega arith
@@ -51,7 +47,7 @@ from_walk t left rest = omega arith
 pub from_share : (t looks seen works : ℕ) → t + (64 * (looks - seen) + works + 39) ≤ t + (64 * looks + works + 39)
 from_share t looks seen works = omega arith
 
-pub to_look : (t looks seen works : ℕ) → seen < looks → t + (64 + 64 * (looks - 1 - seen) + works + 39) ≤ t + (64 * (looks - seen) + works + 39)
+pub to_look : (t looks seen works : ℕ) → seen < looks → t + (53 + 64 * (looks - 1 - seen) + works + 39) < t + (64 * (looks - seen) + works + 39)
 to_look t looks seen works i = omega (arith, i)
 
 pub to_works : (t looks works : ℕ) → t + (works + 39) ≤ t + (looks + works + 39)
@@ -77,20 +73,26 @@ from_work t works most rest i = omega (arith, i)
 pub to_load : (t works rest : ℕ) → 0 < works → t + (works + rest - 1 + 39) < t + (works + rest + 39)
 to_load t works rest i = omega (arith, i)
 
-pub to_fill : (t fills works rest : ℕ) → fills < works → t + (fills + rest + 1 + 39) ≤ t + (works + rest + 39)
+pub to_fill : (t fills works rest : ℕ) → fills < works → t + (fills + rest + 39) < t + (works + rest + 39)
 to_fill t fills works rest i = omega (arith, i)
 
 pub from_load : (t now works rest : ℕ) → now < works → t + (now + rest + 39) ≤ t + (works + rest - 1 + 39)
 from_load t now works rest i = omega (arith, i)
 
-pub to_next_fill : (t now fills rest : ℕ) → now < fills → t + (now + rest + 1 + 39) ≤ t + (fills + rest + 39)
+pub to_next_fill : (t now fills rest : ℕ) → now < fills → t + (now + rest + 39) < t + (fills + rest + 39)
 to_next_fill t now fills rest i = omega (arith, i)
 
-pub to_next_node : (t works most after fills : ℕ) → works ≤ most → t + (works + after + 39) ≤ t + (fills + (most + after) + 39)
-to_next_node t works most after fills i = omega (arith, i)
+pub to_next_node : (t works most after : ℕ) → works ≤ most → t + (works + after + 39) ≤ t + (most + after + 39)
+to_next_node t works most after i = omega (arith, i)
 
 pub to_scx : (t rest : ℕ) → t + 39 ≤ t + (rest + 39)
 to_scx t rest = omega arith
+
+pub past_fills : (t fills rest : ℕ) → t + (rest + 39) ≤ t + (fills + rest + 39)
+past_fills t fills rest = omega arith
+
+pub scx_left_now : (t : ℕ) → t + 33 < t + 39
+scx_left_now t = omega arith
 
 pub less_scx : (t left now : ℕ) → now < left → t + now < t + left
 less_scx t left now i = omega (arith, i)

@@ -1,35 +1,33 @@
 -- What an update waits for after each of its turns.
-use Rattle.std.proofs.Common.{◌≡◌, ◌≢◌, ℕ, suc, ◌<◌, ◌⊎◌, inl, inr, Option, Some, None, ⊎_elim, sym, ◌∙◌, ap, subst, arith}
+use Rattle.std.proofs.Common.{◌≡◌, ◌≢◌, ℕ, suc, ◌<◌, ◌⊎◌, inl, inr, refl, Option, Some, None, ⊎_elim, sym, ◌∙◌, ap, subst, arith}
 use Rattle.arena.specs.declared.machine.Turn.{Turn}
 use Rattle.arena.specs.declared.machine.Turn.TheVariants.{Ask, Done}
 use Rattle.arena.specs.declared.number.NodeNo.{NodeNo}
 use Rattle.arena.specs.declared.number.ScxNo.{ScxNo}
 use Rattle.arena.specs.declared.step.Step.{Step}
 use Rattle.arena.specs.declared.step.Access.TheVariants.{Store}
-use Rattle.arena.specs.declared.step.Kind.TheVariants.{Fill as FillKind}
+use Rattle.arena.specs.declared.step.Kind.TheVariants.{Fill as FillKind, LoadMarked}
 use Rattle.arena.specs.declared.word.NodeWord.{NodeWord}
 use Rattle.arena.specs.declared.word.Word.TheVariants.{Node as NodeOf}
 use Rattle.arena.specs.History.{History, ◌⊳◌, value, Extends}
 use Rattle.arena.specs.Fills.{IsOwnNode, IsOwnScx}
 use Rattle.arena.specs.Lawful.{Lawful}
-use Rattle.arena.specs.Machines.{Call, MatchTurn}
+use Rattle.arena.specs.Machines.{Call, IsRun, MatchTurn}
 use Rattle.arena.specs.Share.{Remaining}
-use Rattle.arena.specs.Words.{state}
+use Rattle.arena.specs.Words.{marked, state}
 use Rattle.arena.proofs.Lemmas.{ends_self, ends_trans}
 use Rattle.histories.proofs.Lemmas.{finished_taken}
 use Rattle.prims.specs.Laws.Idle.{IsQuietSince, quiet_at_start}
-use Rattle.prims.specs.Llx.Known.{IsOpened, LlxIsReady, LlxKnows, LlxWaits, LlxAnswers}
+use Rattle.prims.specs.Llx.Known.{IsOpened, load}
 use Rattle.prims.specs.Moments.{AreFinished}
 use Rattle.prims.specs.Scx.Known.{Job, IsDone, IsLost, ScxWaits, ScxAnswers}
 use Rattle.prims.specs.Shares.{IsShare}
-use Rattle.prims.specs.declared.llx.Llx.{Llx}
-use Rattle.prims.specs.declared.llx.LlxRun.{LlxRun}
-use Rattle.prims.specs.declared.llx.LlxAt.TheVariants.{Start as LlxStart}
+use Rattle.prims.specs.declared.llx.LlxAt.TheVariants.{Start as LlxStart, Marked as AtMarked}
 use Rattle.prims.specs.declared.scx.Scx.{Scx as ScxAnswer}
 use Rattle.prims.specs.declared.scx.Scx.TheVariants.{Done as ScxDone, Lost}
 use Rattle.prims.specs.declared.scx.ScxRun.{ScxRun}
 use Rattle.prims.specs.declared.update.Update.{Update}
-use Rattle.prims.proofs.Lemmas.{over_ends}
+use Rattle.prims.proofs.Lemmas.{over_ends, turn_first}
 use Rattle.spelling.specs.TreeShape.{TreeAllows}
 use Rattle.template.proofs.Lemmas.{contended_later, contended_wider, own_since, walk_ready_run}
 use Rattle.template.specs.FoundLeaf.{path_key, HasFound}
@@ -111,32 +109,27 @@ module _ {E : Type 0} (e : EditMeaning E) where
   pub walk_found : (m : UpdateRun E) (walk after : WalkRun) (c : Call) (h : History) (turn : Turn Found) (f : Found) → Walks e m c h walk.goal → after.goal ≡ walk.goal → turn ≡ Done f → MatchTurn turn (WalkWaits after c h) (WalkAnswers after c h) → HasFound (e.goal m.edit) c h f
   walk_found m walk after c h turn f x same done w = subst (λ goal. HasFound goal c h f) (same ∙ x.same) (rw done at w)
 
-  -- its LLX may begin
-  pub look_ready : (m : UpdateRun E) (llx : LlxRun) (f : Found) (n : NodeNo) (c : Call) (h : History) → CanLook e m c h f → IsOpened c.layout h n.0 → llx.node ≡ n → llx.at ≡ LlxStart → LlxIsReady TreeAllows llx (from c h) h None
-  look_ready m llx f n c h x opened is at = record {
-    opened = subst (λ k. IsOpened c.layout h k.0) (sym is) opened;
-    since = ends_self h;
-    quiet = quiet_at_start c.layout c.pass h (idle_rests c h m.share x.begins.run.1.lawful x.begins.rests);
-    known = subst (LlxKnows (from c h) h llx.node.0) (sym at) tt;
-    told = at;
-  }
-
-  -- and asks for its first step
-  pub looks_at : (m : UpdateRun E) (llx after : LlxRun) (f : Found) (n : NodeNo) (c : Call) (h : History) (turn : Turn Llx) (step : Step) → CanLook e m c h f → e.looks m.edit f m.snaps.items ≡ At n → IsOpened c.layout h n.0 → llx.node ≡ n → llx.at ≡ LlxStart → after.node ≡ llx.node → turn ≡ Ask step
-      → (LlxIsReady TreeAllows llx (from c h) h None → MatchTurn turn (LlxWaits TreeAllows after (from c h) h) (LlxAnswers after (from c h) h)) → TryWaits e (record m { at = Look f after }) c h step
-  looks_at m llx after f n c h turn step x named opened is at same asked w = (
+  -- its LLX may begin, and asks for the mark of its node
+  pub looks_at : (m : UpdateRun E) (f : Found) (n : NodeNo) (c : Call) (h : History) → IsRun TreeAllows c.layout h → CanLook e m c h f → e.looks m.edit f m.snaps.items ≡ At n → IsOpened c.layout h n.0 → TryWaits e (record m { at = Look f (record { node = n; at = AtMarked }) }) c h (load LoadMarked (marked n.0))
+  looks_at m f n c h run x named opened = (
     h,
     record {
       run = x.begins.run;
       looked = x.looked;
       rests = x.begins.rests;
       room = x.room;
-      named = named ∙ ap At (sym (same ∙ is));
+      named = named;
       now = x.begins.since;
       quiet = x.quiet;
       since = x.begins.since;
     },
-    rw asked at w (look_ready m llx f n c h x opened is at),
+    turn_first TreeAllows (from c h) h run (record { node = n; at = LlxStart }) (record { node = n; at = AtMarked }) (Ask (load LoadMarked (marked n.0))) record {
+      opened = opened;
+      since = ends_self h;
+      quiet = quiet_at_start c.layout c.pass h (idle_rests c h m.share x.begins.run.1.lawful x.begins.rests);
+      known = tt;
+      told = refl;
+    } record { stands = refl; asked = refl },
   )
 
   pub fills_word : (m : UpdateRun E) (f : Found) (nth : Nth) (part : NodeWord) (p : Piece) (n : NodeNo) (v : ℕ) (c : Call) (h : History) → CanFill e m c h f nth part → p ≡ e.pieces m.edit f m.snaps.items m.nodes m.loaded nth → n ≡ nth_node m.nodes nth → v ≡ word_of p part → TryWaits e (record m { at = Fill f nth part }) c h record { kind = FillKind; word = NodeOf n part; access = Store v }

@@ -4,5 +4,6 @@ pub mod Steps
 pub mod Tries
 pub mod Undisturbed
 pub mod Known
+pub mod Next
 pub mod Sound
 pub mod Laws

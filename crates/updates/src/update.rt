@@ -5,11 +5,11 @@ ghost use Rattle.updates.specs.Steps.{try_left, works_behind, works_left, update
 
 use crate::edit::{Edit, Loaded, Look, Need, Nodes, Nth};
 use arena::{
-    Access, Full, Kind, Machine, MemberIndex, NodeNo, NodeWord, Plan, Resource, ScxNo, Share, Step,
-    Turn, Word,
+    Access, Full, Kind, Machine, MemberIndex, NodeNo, NodeWord, Plan, Resource, ScxNo, ScxWord,
+    Share, Step, Turn, Word,
 };
 use arrayvec::ArrayVec;
-use prims::{Llx, LlxRun, Scx, ScxRun, Snap, Snaps, Update};
+use prims::{Llx, LlxAt, LlxRun, Scx, ScxAt, ScxRun, Snap, SnapList, Snaps, Update};
 use template::{Found, Tree, WalkRun};
 
 /// What an update answers.
@@ -21,6 +21,19 @@ pub enum Updated {
     Contended { node: NodeNo, scx: ScxNo },
     /// The share has too little left for the next try.
     Full(Full),
+}
+
+/// What a try does next, once its leaf is found.
+#[derive(Clone, Copy, Debug, PartialEq, Eq)]
+pub enum Next {
+    /// It looks at this node.
+    Look(NodeNo),
+    /// It loads a settled word for the fresh node of this place.
+    Load { nth: Nth, part: NodeWord },
+    /// It fills the fresh node of this place, from its head on.
+    Fill(Nth),
+    /// It makes its SCX, with this SCX-record.
+    Change(ScxNo),
 }
 
 /// The step that an update has asked for.
@@ -120,7 +133,7 @@ impl<E: Edit + Drop> UpdateRun<E> {
     fn begin_walk(&mut self) -> Turn<Updated>
         ensures turn { (c : Call) (h : History) → IsRun TreeAllows c.layout h → Begins E.means self.old c h → IsTry c h → IsUntouched c h self.old.share → UpdateTurn E.means c h self.new result }
         ensures begins { (c : Call) (h : History) → Begins E.means self.old c h → MatchTurn result (λ _. Unit {0}) (λ _. ⊥) }
-        ensures same { (self.new.edit ≡ self.old.edit) × (self.new.call ≡ self.old.call) }
+        ensures same { IsSameCall self.old self.new }
         ensures nearer { (nodes : ℕ) → IsNearer E.means self.new nodes result (self.old.tries * try_left E.means nodes + try_left E.means nodes) }
         ensures spends { IsSpending E.means result self.old.share self.new (self.old.tries + 1) (self.old.tries + 1) }
         ensures tries { self.new.tries ≡ self.old.tries }
@@ -139,9 +152,11 @@ impl<E: Edit + Drop> UpdateRun<E> {
     }
 
     /// Ends a try that is lost to this SCX-record over this node, and begins the next if there is one.
+    #[cold]
+    #[inline(never)]
     fn lost(&mut self, node: NodeNo, scx: ScxNo) -> Turn<Updated>
         ensures turn { (c : Call) (h : History) → IsRun TreeAllows c.layout h → Begins E.means self.old c h → IsTry c h → IsContended c h node.0 scx.0 → UpdateTurn E.means c h self.new result }
-        ensures same { (self.new.edit ≡ self.old.edit) × (self.new.call ≡ self.old.call) }
+        ensures same { IsSameCall self.old self.new }
         ensures gives_up { (c : Call) (h : History) → Begins E.means self.old c h → MatchTurn result (λ _. Unit {0}) (λ _. self.old.tries ≡ 0) }
         ensures nearer { (nodes : ℕ) → IsNearer E.means self.new nodes result (self.old.tries * try_left E.means nodes) }
         ensures spends { IsSpending E.means result self.old.share self.new self.old.tries self.old.tries }
@@ -157,7 +172,7 @@ impl<E: Edit + Drop> UpdateRun<E> {
     /// Goes on with what the last step of the walk found.
     fn walk_on(&mut self, mut walk: WalkRun, got: Option<u64>) -> Turn<Updated>
         ensures turn { (c : Call) (b h : History) → IsRun TreeAllows c.layout h → IsTry c b → IsUntouched c b self.old.share → Walks E.means self.old (from c b) h walk.goal → WalkIsReady walk (from c b) h got → UpdateTurn E.means c h self.new result }
-        ensures same { (self.new.edit ≡ self.old.edit) × (self.new.call ≡ self.old.call) }
+        ensures same { IsSameCall self.old self.new }
         ensures nearer { (nodes : ℕ) → WalkFits walk got nodes → IsNearer E.means self.new nodes result (self.old.tries * try_left E.means nodes + (walk_left walk.at nodes + (64 * E.means.most_looks + works_behind E.means First + 39))) }
         ensures spends { IsSpending E.means result self.old.share self.new (self.old.tries + 1) (self.old.tries + 1) }
         ensures tries { (self.old.tries ≤ self.new.tries + 1) × (self.new.tries ≤ self.old.tries) }
@@ -167,7 +182,10 @@ impl<E: Edit + Drop> UpdateRun<E> {
                 self.at = UpdateAt::Walk { walk };
                 Turn::Ask(step)
             }
-            Turn::Done(found) => self.test_share(found),
+            Turn::Done(found) => {
+                let next = self.test_share(&found);
+                self.go_on(found, next)
+            }
         }
     }
 
@@ -189,68 +207,46 @@ impl<E: Edit + Drop> UpdateRun<E> {
         None
     }
 
-    /// Goes on behind the walk, if the share has what the edit needs.
+    /// What the try does behind its walk, if the share has what the edit needs.
     #[inline(always)]
-    pub fn test_share(&mut self, found: Found) -> Turn<Updated>
-        ensures turn { (c : Call) (b h : History) → IsRun TreeAllows c.layout h → IsTry c b → IsUntouched c b self.old.share → Begins E.means self.old (from c b) h → IsQuietSince c.layout c.pass b h → HasFound (E.means.goal self.old.edit) (from c b) h found → UpdateTurn E.means c h self.new result }
-        ensures same { (self.new.edit ≡ self.old.edit) × (self.new.call ≡ self.old.call) }
-        ensures nearer { (nodes : ℕ) → IsNearer E.means self.new nodes result (self.old.tries * try_left E.means nodes + (64 * E.means.most_looks + works_behind E.means First + 39)) }
-        ensures spends { IsSpending E.means result self.old.share self.new (self.old.tries + 1) (self.old.tries + 1) }
+    pub fn test_share(&mut self, found: &Found) -> Result<Next, Turn<Updated>>
+        ensures turn { (c : Call) (b h : History) → IsRun TreeAllows c.layout h → IsTry c b → IsUntouched c b self.old.share → Begins E.means self.old (from c b) h → IsQuietSince c.layout c.pass b h → HasFound (E.means.goal self.old.edit) (from c b) h found.now → GoesOn E.means c h self.new found.now result }
+        ensures same { IsSameCall self.old (stands E.means self.new found.now result) }
+        ensures nearer { (nodes : ℕ) → ComesNearer E.means self.new found.now result nodes (self.old.tries * try_left E.means nodes + (64 * E.means.most_looks + works_behind E.means First + 39)) }
+        ensures spends { HasSpent E.means self.old.share self.new found.now result (self.old.tries + 1) (self.old.tries + 1) }
         ensures tries { (self.old.tries ≤ self.new.tries + 1) × (self.new.tries ≤ self.old.tries) }
     {
-        let need = self.edit.need(&found);
+        let need = self.edit.need(found);
         if need == Need::Nothing {
-            return Turn::Done(Updated::Done { found });
+            return Err(Turn::Done(Updated::Done { found: *found }));
         }
         if let Some(full) = self.lacks(need) {
-            return Turn::Done(Updated::Full(full));
+            return Err(Turn::Done(Updated::Full(full)));
         }
         self.snaps.clear();
         self.look(found)
     }
 
-    /// Looks at the next node that the edit names.
+    /// The next node that the edit names to be looked at, or what is done behind the last.
     #[inline(always)]
-    fn look(&mut self, found: Found) -> Turn<Updated>
-        ensures turn { (c : Call) (b h : History) → IsRun TreeAllows c.layout h → IsTry c b → CanLook E.means self.old (from c b) h found → UpdateTurn E.means c h self.new result }
-        ensures same { (self.new.edit ≡ self.old.edit) × (self.new.call ≡ self.old.call) }
-        ensures nearer { (nodes : ℕ) → IsNearer E.means self.new nodes result (self.old.tries * try_left E.means nodes + (64 * (E.means.most_looks - length self.old.snaps.items) + works_behind E.means First + 39)) }
-        ensures spends { IsSpending E.means result self.old.share self.new (self.old.tries + 1) (self.old.tries + 1) }
+    fn look(&mut self, found: &Found) -> Result<Next, Turn<Updated>>
+        ensures turn { (c : Call) (b h : History) → IsRun TreeAllows c.layout h → IsTry c b → CanLook E.means self.old (from c b) h found.now → GoesOn E.means c h self.new found.now result }
+        ensures same { IsSameCall self.old (stands E.means self.new found.now result) }
+        ensures nearer { (nodes : ℕ) → ComesNearer E.means self.new found.now result nodes (self.old.tries * try_left E.means nodes + (64 * (E.means.most_looks - length self.old.snaps.items) + works_behind E.means First + 39)) }
+        ensures spends { HasSpent E.means self.old.share self.new found.now result (self.old.tries + 1) (self.old.tries + 1) }
         ensures tries { (self.old.tries ≤ self.new.tries + 1) × (self.new.tries ≤ self.old.tries) }
     {
-        match self.edit.look(&found, self.snaps.as_slice()) {
-            Look::At(node) => self.begin_look(found, node),
-            Look::Differs { node, scx } => self.lost(node, scx),
-            Look::Enough => self.begin_work(found),
-        }
-    }
-
-    /// Begins the LLX of a node.
-    #[inline(always)]
-    fn begin_look(&mut self, found: Found, node: NodeNo) -> Turn<Updated>
-        ensures turn { (c : Call) (b h : History) → IsRun TreeAllows c.layout h → IsTry c b → CanLook E.means self.old (from c b) h found → E.means.looks self.old.edit found self.old.snaps.items ≡ Look.At node → IsOpened c.layout h node.0 → UpdateTurn E.means c h self.new result }
-        ensures same { (self.new.edit ≡ self.old.edit) × (self.new.call ≡ self.old.call) }
-        ensures nearer { (nodes : ℕ) → IsNearer E.means self.new nodes result (self.old.tries * try_left E.means nodes + (64 + 64 * (E.means.most_looks - 1 - length self.old.snaps.items) + works_behind E.means First + 39)) }
-        ensures spends { IsSpending E.means result self.old.share self.new (self.old.tries + 1) (self.old.tries + 1) }
-        ensures tries { self.new.tries ≡ self.old.tries }
-    {
-        let mut llx = LlxRun::new(node);
-        match Machine::<Tree>::next(&mut llx, None) {
-            Turn::Ask(step) => {
-                self.at = UpdateAt::Look { found, llx };
-                Turn::Ask(step)
-            }
-            Turn::Done(_) => Turn::Done(Updated::Contended {
-                node,
-                scx: ScxNo(0),
-            }),
+        match self.edit.look(found, self.snaps.as_slice()) {
+            Look::At(node) => Ok(Next::Look(node)),
+            Look::Differs { node, scx } => Err(self.lost(node, scx)),
+            Look::Enough => Ok(self.begin_work(found)),
         }
     }
 
     /// Goes on with what the last step of an LLX found.
     fn look_on(&mut self, found: Found, mut llx: LlxRun, got: Option<u64>) -> Turn<Updated>
         ensures turn { (c : Call) (b begin h : History) → IsRun TreeAllows c.layout h → IsTry c b → Looks E.means self.old (from c b) h found llx begin → LlxIsReady TreeAllows llx (from (from c b) begin) h got → UpdateTurn E.means c h self.new result }
-        ensures same { (self.new.edit ≡ self.old.edit) × (self.new.call ≡ self.old.call) }
+        ensures same { IsSameCall self.old self.new }
         ensures nearer { (nodes : ℕ) → IsNearer E.means self.new nodes result (self.old.tries * try_left E.means nodes + (llx_left llx.at + 64 * (E.means.most_looks - 1 - length self.old.snaps.items) + works_behind E.means First + 39)) }
         ensures spends { IsSpending E.means result self.old.share self.new (self.old.tries + 1) (self.old.tries + 1) }
         ensures tries { (self.old.tries ≤ self.new.tries + 1) × (self.new.tries ≤ self.old.tries) }
@@ -260,19 +256,22 @@ impl<E: Edit + Drop> UpdateRun<E> {
                 self.at = UpdateAt::Look { found, llx };
                 Turn::Ask(step)
             }
-            Turn::Done(Llx::Snapshot(snap)) => self.looked(found, snap),
+            Turn::Done(Llx::Snapshot(snap)) => {
+                let next = self.looked(&found, snap);
+                self.go_on(found, next)
+            }
             Turn::Done(Llx::Finalized { node, scx }) => self.lost(node, scx),
             Turn::Done(Llx::Fail { node, scx }) => self.lost(node, scx),
         }
     }
 
-    /// Keeps a snapshot, and goes on behind it.
+    /// Keeps a snapshot, and tells what is done behind it.
     #[inline(always)]
-    pub fn looked(&mut self, found: Found, snap: Snap) -> Turn<Updated>
-        ensures turn { (c : Call) (b h : History) → IsRun TreeAllows c.layout h → IsTry c b → CanLook E.means self.old (from c b) h found → E.means.looks self.old.edit found self.old.snaps.items ≡ Look.At snap.node → IsSnapshot c.layout h snap.node.0 snap → UpdateTurn E.means c h self.new result }
-        ensures same { (self.new.edit ≡ self.old.edit) × (self.new.call ≡ self.old.call) }
-        ensures nearer { (nodes : ℕ) → IsNearer E.means self.new nodes result (self.old.tries * try_left E.means nodes + (64 * (E.means.most_looks - 1 - length self.old.snaps.items) + works_behind E.means First + 39)) }
-        ensures spends { IsSpending E.means result self.old.share self.new (self.old.tries + 1) (self.old.tries + 1) }
+    pub fn looked(&mut self, found: &Found, snap: Snap) -> Result<Next, Turn<Updated>>
+        ensures turn { (c : Call) (b h : History) → IsRun TreeAllows c.layout h → IsTry c b → CanLook E.means self.old (from c b) h found.now → E.means.looks self.old.edit found.now self.old.snaps.items ≡ Look.At snap.node → IsSnapshot c.layout h snap.node.0 snap → GoesOn E.means c h self.new found.now result }
+        ensures same { IsSameCall self.old (stands E.means self.new found.now result) }
+        ensures nearer { (nodes : ℕ) → ComesNearer E.means self.new found.now result nodes (self.old.tries * try_left E.means nodes + (64 * (E.means.most_looks - 1 - length self.old.snaps.items) + works_behind E.means First + 39)) }
+        ensures spends { HasSpent E.means self.old.share self.new found.now result (self.old.tries + 1) (self.old.tries + 1) }
         ensures tries { (self.old.tries ≤ self.new.tries + 1) × (self.new.tries ≤ self.old.tries) }
     {
         let _fits = self.snaps.try_push(snap);
@@ -281,11 +280,11 @@ impl<E: Edit + Drop> UpdateRun<E> {
 
     /// Takes the fresh nodes, once all snapshots are there.
     #[inline(always)]
-    fn begin_work(&mut self, found: Found) -> Turn<Updated>
-        ensures turn { (c : Call) (b h : History) → IsRun TreeAllows c.layout h → IsTry c b → CanLook E.means self.old (from c b) h found → E.means.looks self.old.edit found self.old.snaps.items ≡ Look.Enough → UpdateTurn E.means c h self.new result }
-        ensures same { (self.new.edit ≡ self.old.edit) × (self.new.call ≡ self.old.call) }
-        ensures nearer { (nodes : ℕ) → IsNearer E.means self.new nodes result (self.old.tries * try_left E.means nodes + (works_behind E.means First + 39)) }
-        ensures spends { IsSpending E.means result self.old.share self.new (self.old.tries + 1) (self.old.tries + 1) }
+    fn begin_work(&mut self, found: &Found) -> Next
+        ensures turn { (c : Call) (b h : History) → IsRun TreeAllows c.layout h → IsTry c b → CanLook E.means self.old (from c b) h found.now → E.means.looks self.old.edit found.now self.old.snaps.items ≡ Look.Enough → GoesOn E.means c h self.new found.now (Ok result) }
+        ensures same { IsSameCall self.old (placed E.means self.new found.now result) }
+        ensures nearer { (nodes : ℕ) → ComesNearer E.means self.new found.now (Ok result) nodes (self.old.tries * try_left E.means nodes + (works_behind E.means First + 39)) }
+        ensures spends { HasSpent E.means self.old.share self.new found.now (Ok result) (self.old.tries + 1) (self.old.tries + 1) }
         ensures tries { self.new.tries ≡ self.old.tries }
     {
         self.loaded = Loaded {
@@ -293,7 +292,7 @@ impl<E: Edit + Drop> UpdateRun<E> {
             key: None,
             value: None,
         };
-        if self.edit.need(&found) == Need::Three {
+        if self.edit.need(found) == Need::Three {
             self.begin_three(found)
         } else {
             self.begin_one(found)
@@ -302,11 +301,11 @@ impl<E: Edit + Drop> UpdateRun<E> {
 
     /// Takes one fresh node.
     #[inline(always)]
-    fn begin_one(&mut self, found: Found) -> Turn<Updated>
-        ensures turn { (c : Call) (b h : History) → IsRun TreeAllows c.layout h → IsTry c b → CanLook E.means self.old (from c b) h found → E.means.looks self.old.edit found self.old.snaps.items ≡ Look.Enough → E.means.needs self.old.edit found ≡ Need.One → self.old.loaded ≡ nothing_loaded → UpdateTurn E.means c h self.new result }
-        ensures same { (self.new.edit ≡ self.old.edit) × (self.new.call ≡ self.old.call) }
-        ensures nearer { (nodes : ℕ) → IsNearer E.means self.new nodes result (self.old.tries * try_left E.means nodes + (works_behind E.means First + 39)) }
-        ensures spends { IsSpending E.means result self.old.share self.new (self.old.tries + 1) (self.old.tries + 1) }
+    fn begin_one(&mut self, found: &Found) -> Next
+        ensures turn { (c : Call) (b h : History) → IsRun TreeAllows c.layout h → IsTry c b → CanLook E.means self.old (from c b) h found.now → E.means.looks self.old.edit found.now self.old.snaps.items ≡ Look.Enough → E.means.needs self.old.edit found.now ≡ Need.One → self.old.loaded ≡ nothing_loaded → GoesOn E.means c h self.new found.now (Ok result) }
+        ensures same { IsSameCall self.old (placed E.means self.new found.now result) }
+        ensures nearer { (nodes : ℕ) → ComesNearer E.means self.new found.now (Ok result) nodes (self.old.tries * try_left E.means nodes + (works_behind E.means First + 39)) }
+        ensures spends { HasSpent E.means self.old.share self.new found.now (Ok result) (self.old.tries + 1) (self.old.tries + 1) }
         ensures tries { self.new.tries ≡ self.old.tries }
     {
         let first = self.take();
@@ -320,11 +319,11 @@ impl<E: Edit + Drop> UpdateRun<E> {
 
     /// Takes three.
     #[inline(always)]
-    fn begin_three(&mut self, found: Found) -> Turn<Updated>
-        ensures turn { (c : Call) (b h : History) → IsRun TreeAllows c.layout h → IsTry c b → CanLook E.means self.old (from c b) h found → E.means.looks self.old.edit found self.old.snaps.items ≡ Look.Enough → E.means.needs self.old.edit found ≡ Need.Three → self.old.loaded ≡ nothing_loaded → UpdateTurn E.means c h self.new result }
-        ensures same { (self.new.edit ≡ self.old.edit) × (self.new.call ≡ self.old.call) }
-        ensures nearer { (nodes : ℕ) → IsNearer E.means self.new nodes result (self.old.tries * try_left E.means nodes + (works_behind E.means First + 39)) }
-        ensures spends { E.means.needs self.old.edit found ≡ Need.Three → IsSpending E.means result self.old.share self.new (self.old.tries + 1) (self.old.tries + 1) }
+    fn begin_three(&mut self, found: &Found) -> Next
+        ensures turn { (c : Call) (b h : History) → IsRun TreeAllows c.layout h → IsTry c b → CanLook E.means self.old (from c b) h found.now → E.means.looks self.old.edit found.now self.old.snaps.items ≡ Look.Enough → E.means.needs self.old.edit found.now ≡ Need.Three → self.old.loaded ≡ nothing_loaded → GoesOn E.means c h self.new found.now (Ok result) }
+        ensures same { IsSameCall self.old (placed E.means self.new found.now result) }
+        ensures nearer { (nodes : ℕ) → ComesNearer E.means self.new found.now (Ok result) nodes (self.old.tries * try_left E.means nodes + (works_behind E.means First + 39)) }
+        ensures spends { E.means.needs self.old.edit found.now ≡ Need.Three → HasSpent E.means self.old.share self.new found.now (Ok result) (self.old.tries + 1) (self.old.tries + 1) }
         ensures tries { self.new.tries ≡ self.old.tries }
     {
         let first = self.take();
@@ -352,35 +351,30 @@ impl<E: Edit + Drop> UpdateRun<E> {
         }
     }
 
-    /// Loads the next word for the fresh node of this place, or begins to fill it.
+    /// The next word to be loaded for the fresh node of this place, if there is one, before its fills.
     #[inline(always)]
-    fn load(&mut self, found: Found, nth: Nth) -> Turn<Updated>
-        ensures turn { (c : Call) (b h : History) → IsRun TreeAllows c.layout h → IsTry c b → CanLoad E.means self.old (from c b) h found nth → UpdateTurn E.means c h self.new result }
-        ensures same { (self.new.edit ≡ self.old.edit) × (self.new.call ≡ self.old.call) }
-        ensures nearer { (nodes : ℕ) → HasPlace (E.means.needs self.old.edit found) nth → IsNearer E.means self.new nodes result (self.old.tries * try_left E.means nodes + (works_left E.means self.old found nth + 39)) }
-        ensures spends { IsSpending E.means result self.old.share self.new self.old.tries (self.old.tries + 1) }
-        ensures tries { self.new.tries ≡ self.old.tries }
+    fn load(&self, found: &Found, nth: Nth) -> Next
+        ensures turn { (c : Call) (b h : History) → IsRun TreeAllows c.layout h → IsTry c b → CanLoad E.means self.now (from c b) h found.now nth → GoesOn E.means c h self.now found.now (Ok result) }
+        ensures same { IsSameCall self.now (placed E.means self.now found.now result) }
+        ensures nearer { (nodes : ℕ) → HasPlace (E.means.needs self.now.edit found.now) nth → ComesNearer E.means self.now found.now (Ok result) nodes (self.now.tries * try_left E.means nodes + (works_left E.means self.now found.now nth + 39)) }
+        ensures spends { HasSpent E.means self.now.share self.now found.now (Ok result) self.now.tries (self.now.tries + 1) }
     {
-        let snaps = self.snaps.as_slice();
-        let Some(part) = self.edit.load(&found, snaps, &self.loaded, nth) else {
-            return self.fill(found, nth, NodeWord::Head);
-        };
-        let node = self.edit.copied(&found, snaps);
-        self.at = UpdateAt::Load { found, nth, part };
-        Turn::Ask(Step {
-            kind: Kind::LoadSettled,
-            word: Word::Node(node, part),
-            access: Access::Load,
-        })
+        match self
+            .edit
+            .load(found, self.snaps.as_slice(), &self.loaded, nth)
+        {
+            Some(part) => Next::Load { nth, part },
+            None => Next::Fill(nth),
+        }
     }
 
-    /// Goes on with what that load has told.
+    /// Keeps what that load has told, and tells what is done behind it.
     #[inline(always)]
-    pub fn load_on(&mut self, found: Found, nth: Nth, part: NodeWord, told: u64) -> Turn<Updated>
-        ensures turn { (c : Call) (b h : History) → IsRun TreeAllows c.layout h → IsTry c b → Loads E.means self.old (from c b) h found nth part → value h (node (copied E.means self.old found) part) ≡ told → UpdateTurn E.means c h self.new result }
-        ensures same { (self.new.edit ≡ self.old.edit) × (self.new.call ≡ self.old.call) }
-        ensures nearer { (nodes : ℕ) → IsWanted E.means self.old found nth part → IsNearer E.means self.new nodes result (self.old.tries * try_left E.means nodes + (works_left E.means self.old found nth - 1 + 39)) }
-        ensures spends { IsSpending E.means result self.old.share self.new self.old.tries (self.old.tries + 1) }
+    pub fn loaded(&mut self, found: &Found, nth: Nth, part: NodeWord, told: u64) -> Next
+        ensures turn { (c : Call) (b h : History) → IsRun TreeAllows c.layout h → IsTry c b → Loads E.means self.old (from c b) h found.now nth part → value h (node (copied E.means self.old found.now) part) ≡ told → GoesOn E.means c h self.new found.now (Ok result) }
+        ensures same { IsSameCall self.old (placed E.means self.new found.now result) }
+        ensures nearer { (nodes : ℕ) → IsWanted E.means self.old found.now nth part → ComesNearer E.means self.new found.now (Ok result) nodes (self.old.tries * try_left E.means nodes + (works_left E.means self.old found.now nth - 1 + 39)) }
+        ensures spends { HasSpent E.means self.old.share self.new found.now (Ok result) self.old.tries (self.old.tries + 1) }
         ensures tries { self.new.tries ≡ self.old.tries }
     {
         self.loaded = self.loaded.with(part, told);
@@ -390,11 +384,8 @@ impl<E: Edit + Drop> UpdateRun<E> {
     /// Fills a word of the fresh node of this place.
     #[inline(always)]
     fn fill(&mut self, found: Found, nth: Nth, part: NodeWord) -> Turn<Updated>
-        ensures turn { (c : Call) (b h : History) → IsRun TreeAllows c.layout h → IsTry c b → CanFill E.means self.old (from c b) h found nth part → UpdateTurn E.means c h self.new result }
-        ensures same { (self.new.edit ≡ self.old.edit) × (self.new.call ≡ self.old.call) }
-        ensures nearer { (nodes : ℕ) → IsNearer E.means self.new nodes result (self.old.tries * try_left E.means nodes + (fills_left E.means self.old found nth part + 1 + 39)) }
-        ensures spends { IsSpending E.means result self.old.share self.new self.old.tries (self.old.tries + 1) }
-        ensures tries { self.new.tries ≡ self.old.tries }
+        ensures place { self.new ≡ record self.old { at = UpdateAt.Fill found nth part } }
+        ensures asks { result ≡ Turn.Ask (fills E.means self.old found nth part) }
     {
         let snaps = self.snaps.as_slice();
         let piece = self
@@ -408,11 +399,10 @@ impl<E: Edit + Drop> UpdateRun<E> {
         })
     }
 
-    /// Goes on behind that fill: with the next word, the next node, or the SCX.
-    #[inline(always)]
-    pub fn fill_on(&mut self, found: Found, nth: Nth, part: NodeWord) -> Turn<Updated>
+    /// Goes on behind that fill: with the next word, or with what is done behind the last.
+    fn fill_on(&mut self, found: Found, nth: Nth, part: NodeWord) -> Turn<Updated>
         ensures turn { (c : Call) (b h : History) → IsRun TreeAllows c.layout h → IsTry c b → IsFilledUpTo E.means self.old (from c b) h found nth part → UpdateTurn E.means c h self.new result }
-        ensures same { (self.new.edit ≡ self.old.edit) × (self.new.call ≡ self.old.call) }
+        ensures same { IsSameCall self.old self.new }
         ensures nearer { (nodes : ℕ) → IsNearer E.means self.new nodes result (self.old.tries * try_left E.means nodes + (fills_left E.means self.old found nth part + 39)) }
         ensures spends { IsSpending E.means result self.old.share self.new self.old.tries (self.old.tries + 1) }
         ensures tries { self.new.tries ≡ self.old.tries }
@@ -424,66 +414,162 @@ impl<E: Edit + Drop> UpdateRun<E> {
         if let Some(next) = piece.behind(part) {
             return self.fill(found, nth, next);
         }
-        let need = self.edit.need(&found);
-        match need.behind(nth) {
-            Some(after) => self.load(found, after),
-            None => self.begin_scx(found),
+        let next = self.filled(&found, nth);
+        self.go_on(found, next)
+    }
+
+    /// What is done once the fresh node of this place is filled: with the next node, or the SCX.
+    #[inline(always)]
+    pub fn filled(&mut self, found: &Found, nth: Nth) -> Result<Next, Turn<Updated>>
+        ensures turn { (c : Call) (b h : History) (part : NodeWord) → IsRun TreeAllows c.layout h → IsTry c b → IsFilledUpTo E.means self.old (from c b) h found.now nth part → part_behind (E.means.pieces self.old.edit found.now self.old.snaps.items self.old.nodes self.old.loaded nth) part ≡ None → GoesOn E.means c h self.new found.now result }
+        ensures same { IsSameCall self.old (stands E.means self.new found.now result) }
+        ensures nearer { (nodes : ℕ) → ComesNearer E.means self.new found.now result nodes (self.old.tries * try_left E.means nodes + (works_after E.means nth + 39)) }
+        ensures spends { HasSpent E.means self.old.share self.new found.now result self.old.tries (self.old.tries + 1) }
+        ensures tries { self.new.tries ≡ self.old.tries }
+    {
+        match self.edit.need(found).behind(nth) {
+            Some(after) => Ok(self.load(found, after)),
+            None => self.take_scx(found),
         }
     }
 
-    /// What its SCX is to do: it covers all that was looked at and finalizes all but the first, of
-    /// which a field gets the last fresh node.
+    /// Takes an SCX-record.
     #[inline(always)]
-    fn update(&self, found: &Found) -> Update
-        ensures snaps { result.snaps ≡ self.now.snaps.items }
-        ensures few { length self.now.snaps.items ≤ 4 }
-        ensures plan { result.plan.0 ≡ plan_over (length self.now.snaps.items) (E.means.side self.now.edit found.now) }
-        ensures old { result.old ≡ child_of (snap_at self.now.snaps.items 0) (E.means.side self.now.edit found.now) }
-        ensures fresh { result.fresh.0 ≡ top_of (E.means.needs self.now.edit found.now) self.now.nodes }
+    fn take_scx(&mut self, found: &Found) -> Result<Next, Turn<Updated>>
+        ensures turn { (c : Call) (b h : History) → IsRun TreeAllows c.layout h → IsTry c b → CanScx E.means self.old (from c b) h found.now → GoesOn E.means c h self.new found.now result }
+        ensures same { IsSameCall self.old (stands E.means self.new found.now result) }
+        ensures nearer { (nodes : ℕ) → ComesNearer E.means self.new found.now result nodes (self.old.tries * try_left E.means nodes + 39) }
+        ensures spends { HasSpent E.means self.old.share self.new found.now result self.old.tries (self.old.tries + 1) }
+        ensures tries { self.new.tries ≡ self.old.tries }
     {
-        let side = self.edit.side(found);
+        match self.share.scx() {
+            Some(scx) => Ok(Next::Change(scx)),
+            None => {
+                let what = Resource::Scx;
+                Err(Turn::Done(Updated::Full(Full { what, left: 0 })))
+            }
+        }
+    }
+
+    /// The plan of its SCX, which covers all that was looked at and finalizes all but the first.
+    #[inline(always)]
+    pub fn plan(&self, found: &Found) -> Plan
+        ensures { result ≡ (update_of E.means self.now found.now).plan }
+    {
         let many = self.snaps.len();
         let removed = [false, 1 < many, 2 < many, 3 < many];
-        let snaps = Snaps::new(self.snaps.as_slice());
+        let side = self.edit.side(found);
+        Plan::new(many, removed, MemberIndex::First, side)
+    }
+
+    /// What the field of its SCX holds until then, which is one of the first node.
+    #[inline(always)]
+    pub fn old(&self, found: &Found) -> NodeNo
+        ensures { result ≡ (update_of E.means self.now found.now).old }
+    {
+        let snaps = self.snaps.as_slice();
+        SnapList::get(&snaps, 0).child(self.edit.side(found))
+    }
+
+    /// What that field gets: the last fresh node.
+    #[inline(always)]
+    pub fn fresh(&self, found: &Found) -> NodeNo
+        ensures { result ≡ (update_of E.means self.now found.now).fresh }
+    {
+        self.nodes.last(self.edit.need(found))
+    }
+
+    /// What its SCX is to do.
+    pub fn update(&self, found: &Found) -> Update
+        ensures { result ≡ update_of E.means self.now found.now }
+    {
         Update {
-            snaps,
-            plan: Plan::new(many, removed, MemberIndex::First, side),
-            old: snaps.at(MemberIndex::First).child(side),
-            fresh: self.nodes.last(self.edit.need(found)),
+            snaps: Snaps::new(self.snaps.as_slice()),
+            plan: self.plan(found),
+            old: self.old(found),
+            fresh: self.fresh(found),
         }
+    }
+
+    /// Begins what the try does next.
+    fn begin(&mut self, found: Found, next: Next) -> Turn<Updated>
+        ensures place { self.new ≡ placed E.means self.old found next }
+        ensures asks { result ≡ Turn.Ask (next_step E.means self.old found next) }
+    {
+        match next {
+            Next::Look(node) => self.begin_look(found, node),
+            Next::Load { nth, part } => self.begin_load(found, nth, part),
+            Next::Fill(nth) => self.fill(found, nth, NodeWord::Head),
+            Next::Change(scx) => self.begin_scx(found, scx),
+        }
+    }
+
+    /// Begins the LLX of a node.
+    fn begin_look(&mut self, found: Found, node: NodeNo) -> Turn<Updated>
+        ensures place { self.new ≡ placed E.means self.old found (Next.Look node) }
+        ensures asks { result ≡ Turn.Ask (next_step E.means self.old found (Next.Look node)) }
+    {
+        let at = LlxAt::Marked;
+        let llx = LlxRun { node, at };
+        self.at = UpdateAt::Look { found, llx };
+        Turn::Ask(Step {
+            kind: Kind::LoadMarked,
+            word: Word::Node(node, NodeWord::Marked),
+            access: Access::Load,
+        })
+    }
+
+    /// Begins the load of a settled word.
+    fn begin_load(&mut self, found: Found, nth: Nth, part: NodeWord) -> Turn<Updated>
+        ensures place { self.new ≡ placed E.means self.old found (Next.Load nth part) }
+        ensures asks { result ≡ Turn.Ask (next_step E.means self.old found (Next.Load nth part)) }
+    {
+        let node = self.edit.copied(&found, self.snaps.as_slice());
+        self.at = UpdateAt::Load { found, nth, part };
+        Turn::Ask(Step {
+            kind: Kind::LoadSettled,
+            word: Word::Node(node, part),
+            access: Access::Load,
+        })
     }
 
     /// Begins the SCX.
-    #[inline(always)]
-    fn begin_scx(&mut self, found: Found) -> Turn<Updated>
-        ensures turn { (c : Call) (b h : History) → IsRun TreeAllows c.layout h → IsTry c b → CanScx E.means self.old (from c b) h found → UpdateTurn E.means c h self.new result }
-        ensures same { (self.new.edit ≡ self.old.edit) × (self.new.call ≡ self.old.call) }
-        ensures nearer { (nodes : ℕ) → IsNearer E.means self.new nodes result (self.old.tries * try_left E.means nodes + 39) }
-        ensures spends { IsSpending E.means result self.old.share self.new self.old.tries (self.old.tries + 1) }
-        ensures tries { self.new.tries ≡ self.old.tries }
+    fn begin_scx(&mut self, found: Found, scx: ScxNo) -> Turn<Updated>
+        ensures place { self.new ≡ placed E.means self.old found (Next.Change scx) }
+        ensures asks { result ≡ Turn.Ask (next_step E.means self.old found (Next.Change scx)) }
     {
         let update = self.update(&found);
-        let Some(scx) = self.share.scx() else {
-            let what = Resource::Scx;
-            return Turn::Done(Updated::Full(Full { what, left: 0 }));
+        let plan = update.plan;
+        let (call, at) = (self.call, ScxAt::Plan);
+        let run = ScxRun {
+            scx,
+            call,
+            update,
+            at,
         };
-        let mut run = ScxRun::new(update, scx, self.call);
-        match Machine::<Tree>::next(&mut run, None) {
-            Turn::Ask(step) => {
-                self.at = UpdateAt::Scx { found, scx: run };
-                Turn::Ask(step)
-            }
-            Turn::Done(_) => {
-                let node = NodeNo(0);
-                Turn::Done(Updated::Contended { node, scx })
-            }
+        self.at = UpdateAt::Scx { found, scx: run };
+        Turn::Ask(Step {
+            kind: Kind::Fill,
+            word: Word::Scx(scx, ScxWord::Plan),
+            access: Access::Store(plan.0),
+        })
+    }
+
+    /// Begins what the try does next, or else stands as this turn says.
+    fn go_on(&mut self, found: Found, next: Result<Next, Turn<Updated>>) -> Turn<Updated>
+        ensures place { self.new ≡ stands E.means self.old found next }
+        ensures turn { result ≡ turn_of E.means self.old found next }
+    {
+        match next {
+            Ok(next) => self.begin(found, next),
+            Err(turn) => turn,
         }
     }
 
     /// Goes on with what the last step of the SCX found.
     fn scx_on(&mut self, found: Found, mut scx: ScxRun, got: Option<u64>) -> Turn<Updated>
         ensures turn { (c : Call) (b begin h : History) → IsRun TreeAllows c.layout h → IsTry c b → Scxs E.means self.old (from c b) h found scx begin → ScxIsReady TreeAllows scx (from (from c b) begin) h got → UpdateTurn E.means c h self.new result }
-        ensures same { (self.new.edit ≡ self.old.edit) × (self.new.call ≡ self.old.call) }
+        ensures same { IsSameCall self.old self.new }
         ensures nearer { (nodes : ℕ) → IsNearer E.means self.new nodes result (self.old.tries * try_left E.means nodes + scx_left scx.at) }
         ensures spends { IsSpending E.means result self.old.share self.new self.old.tries self.old.tries }
         ensures tries { (self.old.tries ≤ self.new.tries + 1) × (self.new.tries ≤ self.old.tries) }
@@ -502,7 +588,7 @@ impl<E: Edit + Drop> UpdateRun<E> {
     pub fn step(&mut self, got: Option<u64>) -> Turn<Updated>
         ensures turn { (c : Call) (h : History) → IsRun TreeAllows c.layout h → UpdateIsReady E.means self.old c h got → UpdateTurn E.means c h self.new result }
         ensures begins { got ≡ None → (c : Call) (h : History) → UpdateIsReady E.means self.old c h None → MatchTurn result (λ _. Unit {0}) (λ _. ⊥) }
-        ensures same { (self.new.edit ≡ self.old.edit) × (self.new.call ≡ self.old.call) }
+        ensures same { IsSameCall self.old self.new }
         ensures nearer { (nodes : ℕ) → UpdateFits E.means self.old got nodes → IsNearer E.means self.new nodes result (update_left E.means self.old nodes) }
         ensures spends { IsSpending E.means result self.old.share self.new (node_tries self.old self.old.at) (scx_tries self.old self.old.at) }
         ensures tries { (self.old.tries ≤ self.new.tries + 1) × (self.new.tries ≤ self.old.tries) }
@@ -512,19 +598,19 @@ impl<E: Edit + Drop> UpdateRun<E> {
             UpdateAt::Walk { walk } => self.walk_on(walk, got),
             UpdateAt::Look { found, llx } => self.look_on(found, llx, got),
             UpdateAt::Load { found, nth, part } => {
-                self.load_on(found, nth, part, got.unwrap_or(0))
+                let next = self.loaded(&found, nth, part, got.unwrap_or(0));
+                self.begin(found, next)
             }
             UpdateAt::Fill { found, nth, part } => self.fill_on(found, nth, part),
             UpdateAt::Scx { found, scx } => self.scx_on(found, scx, got),
         }
     }
 
-    ghost use Rattle.std.specs.Prelude.{◌≢◌, IfNone, IfSome, None};
+    ghost use Rattle.std.specs.Prelude.{◌≢◌, IfNone, IfSome, None, Ok};
     ghost use Rattle.template.specs.FoundLeaf.{HasFound};
     ghost use Rattle.template.specs.Walk.Known.{WalkIsReady};
-    ghost use Rattle.prims.specs.Snap.{child_of, snap_at};
     ghost use Rattle.updates.specs.Known.{HasNodesFor, IsShort, Walks, IsFilledUpTo, CanScx, UpdateIsReady};
-    ghost use Rattle.updates.specs.Pieces.{HasPlace, plan_over, top_of};
+    ghost use Rattle.updates.specs.Pieces.{HasPlace, part_behind};
     ghost use Rattle.updates.specs.Steps.{IsWanted, UpdateFits, fills_left};
     ghost use Rattle.updates.specs.Pieces.{less_a_node};
     ghost use Rattle.arena.specs.History.{History, value};
@@ -535,7 +621,8 @@ impl<E: Edit + Drop> UpdateRun<E> {
     ghost use Rattle.updates.specs.Known.{Begins, IsUntouched, CanLook, Looks, nothing_loaded, CanLoad, CanFill, Loads, Scxs, UpdateTurn, copied};
     ghost use Rattle.arena.specs.Words.{node};
     ghost use Rattle.updates.specs.Laws.HandScx.{from};
-    ghost use Rattle.updates.specs.Steps.{IsSpending, node_tries, scx_tries};
+    ghost use Rattle.updates.specs.Steps.{IsSpending, node_tries, scx_tries, works_after};
+    ghost use Rattle.updates.specs.Next.{IsSameCall, placed, next_step, stands, turn_of, fills, update_of, GoesOn, ComesNearer, HasSpent};
     ghost use Rattle.template.specs.Blame.{IsContended};
     ghost use Rattle.updates.specs.Tries.{IsTry};
     ghost use Rattle.prims.specs.Laws.Idle.{IsQuietSince};

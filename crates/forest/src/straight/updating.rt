@@ -1,25 +1,32 @@
-//! Updates, of whatever machine updates.
-ghost use Rattle.std.specs.Prelude.{◌≡◌, ◌≤◌, ◌+◌, IfSome};
+//! Updates, of whatever machine updates: the first try in line.
+ghost use Rattle.std.specs.Prelude.{◌≡◌, ◌≤◌, ◌<◌, ◌+◌, suc, IfOk};
 ghost use Rattle.forest.specs.TableRule.{IsTableOf};
 ghost use Rattle.forest.specs.Traces.{seat_steps, shared_nodes, weight};
-ghost use Rattle.forest.specs.StraightLlx.{llx_at};
-ghost use Rattle.forest.specs.StraightUpdate.{Updater, UpdaterBegins, UpdaterStands};
+ghost use Rattle.forest.specs.StraightUpdate.{Updater, UpdaterBegins, UpdaterStands, UpdaterTries, UpdaterGoesOn};
 ghost use Rattle.template.specs.declared.walk.Goal.{Goal};
+ghost use Rattle.forest.specs.StraightLlx.{llx_at};
+ghost use Rattle.forest.specs.StraightChange.{all_frozen_load};
+ghost use Rattle.prims.specs.Llx.Known.{load};
+ghost use Rattle.updates.specs.Next.{placed, stands, turn_of, update_of};
 ghost use Rattle.updates.specs.Steps.{update_left};
+ghost use Rattle.updates.specs.declared.update.Next.{Next};
 
 use crate::straight::changing::{self, Change};
 use crate::straight::looking::look;
 use crate::straight::walk;
-use crate::straight::working::work_on;
+use crate::straight::working::{fill_node, load};
 use crate::view::SeatView;
 use crate::words::Words;
-use arena::{Access, Kind, Layout, Machine, NodeNo, ScxWord, Shape, Step, Turn, Word};
+use arena::{Access, Kind, Layout, Machine, NodeNo, ScxNo, ScxWord, Shape, Step, Turn, Word};
 use atomic_table::Seat;
-use prims::{LlxAt, LlxRun, ScxAt, ScxRun, Snaps};
+use help::HelpRun;
+use prims::{LlxAt, LlxRun, ScxAt, ScxRun, Snap};
 use template::{Found, Tree};
-use updates::{Edit, UpdateAt, UpdateRun, Updated};
+use updates::{Edit, Next, UpdateAt, UpdateRun, Updated};
 
-/// Begins an update that walks to this key: its first try, as long as nothing is in its way.
+/// Begins an update that walks to this key: its first try, as long as nothing is in its way. Where
+/// something is, the run stands at that place, and the turn is the one that it is to go on with; on
+/// the way there it stands nowhere.
 #[inline(always)]
 pub(crate) fn begin<S: Shape, M: Machine<S>, E: Edit + Drop>(
     words: &Words<S>,
@@ -37,125 +44,169 @@ pub(crate) fn begin<S: Shape, M: Machine<S>, E: Edit + Drop>(
     ensures steps { seat_steps seat.new.me.0.passes + weight result (update_left E.means run.new (shared_nodes layout.now)) ≤ seat_steps seat.old.me.0.passes + update_left E.means run.old (shared_nodes layout.now) }
 {
     let found = walk::call::<S, M>(words, layout, seat, number, key);
-    let turn = run.test_share(found);
-    let turn = look_on::<S, M, E>(words, layout, seat, number, run, turn);
-    let turn = work_on::<S, M, E>(words, layout, seat, number, run, turn);
-    change_on::<S, M, E>(words, layout, seat, number, run, turn)
-}
-
-/// The node that an update begins to look at, if that is what it has asked for, and the leaf that
-/// it has found.
-#[inline(always)]
-fn looked_at<'a>(at: &'a UpdateAt, turn: &Turn<Updated>) -> Option<(&'a Found, NodeNo)>
-    ensures at { IfSome result (λ t. at.now ≡ UpdateAt.Look t.0.now (llx_at t.1 LlxAt.Marked)) }
-    ensures asks { IfSome result (λ _. (s : Step) × (turn.now ≡ Turn.Ask s)) }
-{
-    match (at, turn) {
-        (
-            UpdateAt::Look {
-                found,
-                llx: LlxRun {
-                    node,
-                    at: LlxAt::Marked,
-                },
-            },
-            Turn::Ask(_),
-        ) => Some((found, *node)),
-        _ => None,
+    match run.test_share(&found) {
+        Ok(next) => try_on::<S, M, E>(words, layout, seat, number, run, &found, next),
+        Err(turn) => turn,
     }
 }
 
-/// Makes the LLXs for which an update asks, as long as nothing is in their way.
+/// Makes what a try does next and all behind it, as long as nothing is in its way.
 #[inline(always)]
-pub(crate) fn look_on<S: Shape, M: Machine<S>, E: Edit + Drop>(
+fn try_on<S: Shape, M: Machine<S>, E: Edit + Drop>(
     words: &Words<S>,
     layout: &Layout,
     seat: &mut Seat<u8, SeatView>,
     number: u64,
     run: &mut UpdateRun<E>,
-    mut turn: Turn<Updated>,
+    found: &Found,
+    mut next: Next,
 ) -> Turn<Updated>
     requires table { IsTableOf words.now.table.shared.table_id words.now.table.shared.key layout.now × (seat.old.table_id ≡ words.now.table.shared.table_id) }
-    requires stands { (u : Updater S.allows M.ready M.waits M.same E.means layout.now number) × UpdaterStands S.allows M.ready M.waits M.same E.means layout.now number u seat.old.me.0.passes run.old turn }
+    requires tries { (u : Updater S.allows M.ready M.waits M.same E.means layout.now number) × UpdaterTries S.allows M.ready M.waits M.same E.means layout.now number u seat.old.me.0.passes run.old found.now next }
     ensures table { (seat.new.table_id ≡ seat.old.table_id) × (seat.new.me.1 ≡ seat.old.me.1) }
-    ensures stands { (u : Updater S.allows M.ready M.waits M.same E.means layout.now number) → UpdaterStands S.allows M.ready M.waits M.same E.means layout.now number u seat.old.me.0.passes run.old turn → UpdaterStands S.allows M.ready M.waits M.same E.means layout.now number u seat.new.me.0.passes run.new result }
-    ensures steps { seat_steps seat.new.me.0.passes + weight result (update_left E.means run.new (shared_nodes layout.now)) ≤ seat_steps seat.old.me.0.passes + weight turn (update_left E.means run.old (shared_nodes layout.now)) }
+    ensures stands { (u : Updater S.allows M.ready M.waits M.same E.means layout.now number) → UpdaterTries S.allows M.ready M.waits M.same E.means layout.now number u seat.old.me.0.passes run.old found.now next → UpdaterStands S.allows M.ready M.waits M.same E.means layout.now number u seat.new.me.0.passes run.new result }
+    ensures steps { seat_steps seat.new.me.0.passes + weight result (update_left E.means run.new (shared_nodes layout.now)) ≤ seat_steps seat.old.me.0.passes + suc (update_left E.means (placed E.means run.old found.now next) (shared_nodes layout.now)) }
 {
     loop {
-        let Some((found, node)) = looked_at(&run.at, &turn) else {
-            return turn;
-        };
-        let found = *found;
-        match look::<S, M>(words, layout, seat, number, node) {
-            Ok(snap) => turn = run.looked(found, snap),
-            Err((marked, scx)) => {
-                let at = LlxAt::StateAgain { marked, scx };
-                let llx = LlxRun { node, at };
-                run.at = UpdateAt::Look { found, llx };
-                return Turn::Ask(Step {
-                    kind: Kind::LoadState,
-                    word: Word::Scx(scx, ScxWord::State),
-                    access: Access::Load,
-                });
-            }
+        match go_on::<S, M, E>(words, layout, seat, number, run, found, next) {
+            Ok(more) => next = more,
+            Err(turn) => return turn,
         }
     }
 }
 
-/// The SCX that an update begins, if that is what it has asked for, and the leaf that it has found.
+/// Makes what a try does next, and tells what it does behind that.
 #[inline(always)]
-fn changes_at<'a>(at: &'a UpdateAt, turn: &Turn<Updated>) -> Option<(&'a Found, &'a ScxRun)>
-    ensures at { IfSome result (λ t. (at.now ≡ UpdateAt.Scx t.0.now t.1.now) × (t.1.now.at ≡ ScxAt.Plan)) }
-    ensures asks { IfSome result (λ _. (s : Step) × (turn.now ≡ Turn.Ask s)) }
-{
-    match (at, turn) {
-        (UpdateAt::Scx { found, scx }, Turn::Ask(_)) => match scx.at {
-            ScxAt::Plan => Some((found, scx)),
-            _ => None,
-        },
-        _ => None,
-    }
-}
-
-/// Makes the SCX that an update begins, as long as nothing is in its way.
-#[inline(always)]
-fn change_on<S: Shape, M: Machine<S>, E: Edit + Drop>(
+fn go_on<S: Shape, M: Machine<S>, E: Edit + Drop>(
     words: &Words<S>,
     layout: &Layout,
     seat: &mut Seat<u8, SeatView>,
     number: u64,
     run: &mut UpdateRun<E>,
-    turn: Turn<Updated>,
+    found: &Found,
+    next: Next,
+) -> Result<Next, Turn<Updated>>
+    requires table { IsTableOf words.now.table.shared.table_id words.now.table.shared.key layout.now × (seat.old.table_id ≡ words.now.table.shared.table_id) }
+    requires tries { (u : Updater S.allows M.ready M.waits M.same E.means layout.now number) × UpdaterTries S.allows M.ready M.waits M.same E.means layout.now number u seat.old.me.0.passes run.old found.now next }
+    ensures table { (seat.new.table_id ≡ seat.old.table_id) × (seat.new.me.1 ≡ seat.old.me.1) }
+    ensures goes_on { (u : Updater S.allows M.ready M.waits M.same E.means layout.now number) → UpdaterTries S.allows M.ready M.waits M.same E.means layout.now number u seat.old.me.0.passes run.old found.now next → UpdaterGoesOn S.allows M.ready M.waits M.same E.means layout.now number u seat.new.me.0.passes run.new found.now result }
+    ensures steps { seat_steps seat.new.me.0.passes + weight (turn_of E.means run.new found.now result) (update_left E.means (stands E.means run.new found.now result) (shared_nodes layout.now)) ≤ seat_steps seat.old.me.0.passes + suc (update_left E.means (placed E.means run.old found.now next) (shared_nodes layout.now)) }
+    ensures nearer { IfOk result (λ more. update_left E.means (placed E.means run.new found.now more) (shared_nodes layout.now) < update_left E.means (placed E.means run.old found.now next) (shared_nodes layout.now)) }
+{
+    match next {
+        Next::Look(node) => look_at::<S, M, E>(words, layout, seat, number, run, found, node),
+        Next::Load { nth, part } => {
+            Ok(load::<S, M, E>(words, layout, seat, number, run, found, nth, part))
+        }
+        Next::Fill(nth) => fill_node::<S, M, E>(words, layout, seat, number, run, found, nth),
+        Next::Change(scx) => Err(change::<S, M, E>(words, layout, seat, number, run, found, scx)),
+    }
+}
+
+/// Looks at a node.
+#[inline(always)]
+fn look_at<S: Shape, M: Machine<S>, E: Edit + Drop>(
+    words: &Words<S>,
+    layout: &Layout,
+    seat: &mut Seat<u8, SeatView>,
+    number: u64,
+    run: &mut UpdateRun<E>,
+    found: &Found,
+    node: NodeNo,
+) -> Result<Next, Turn<Updated>>
+    requires table { IsTableOf words.now.table.shared.table_id words.now.table.shared.key layout.now × (seat.old.table_id ≡ words.now.table.shared.table_id) }
+    requires tries { (u : Updater S.allows M.ready M.waits M.same E.means layout.now number) × UpdaterTries S.allows M.ready M.waits M.same E.means layout.now number u seat.old.me.0.passes run.old found.now (Next.Look node) }
+    ensures table { (seat.new.table_id ≡ seat.old.table_id) × (seat.new.me.1 ≡ seat.old.me.1) }
+    ensures goes_on { (u : Updater S.allows M.ready M.waits M.same E.means layout.now number) → UpdaterTries S.allows M.ready M.waits M.same E.means layout.now number u seat.old.me.0.passes run.old found.now (Next.Look node) → UpdaterGoesOn S.allows M.ready M.waits M.same E.means layout.now number u seat.new.me.0.passes run.new found.now result }
+    ensures steps { seat_steps seat.new.me.0.passes + weight (turn_of E.means run.new found.now result) (update_left E.means (stands E.means run.new found.now result) (shared_nodes layout.now)) ≤ seat_steps seat.old.me.0.passes + suc (update_left E.means (placed E.means run.old found.now (Next.Look node)) (shared_nodes layout.now)) }
+    ensures nearer { weight (turn_of E.means run.new found.now result) (update_left E.means (stands E.means run.new found.now result) (shared_nodes layout.now)) < suc (update_left E.means (placed E.means run.old found.now (Next.Look node)) (shared_nodes layout.now)) }
+{
+    match look::<S, M>(words, layout, seat, number, node) {
+        Ok(snap) => run.looked(found, snap),
+        Err((marked, scx)) => Err(stand_looking(run, found, node, marked, scx)),
+    }
+}
+
+/// Has a run stand where an LLX looks again at the state of an SCX-record that is in its way.
+#[cold]
+#[inline(never)]
+fn stand_looking<E: Edit + Drop>(
+    run: &mut UpdateRun<E>,
+    found: &Found,
+    node: NodeNo,
+    marked: bool,
+    scx: ScxNo,
+) -> Turn<Updated>
+    ensures place { run.new ≡ record run.old { at = UpdateAt.Look found.now (llx_at node (LlxAt.StateAgain marked scx)) } }
+    ensures asks { result ≡ Turn.Ask (load Kind.LoadState (Word.Scx scx ScxWord.State)) }
+{
+    let at = LlxAt::StateAgain { marked, scx };
+    let llx = LlxRun { node, at };
+    run.at = UpdateAt::Look { found: *found, llx };
+    Turn::Ask(Step {
+        kind: Kind::LoadState,
+        word: Word::Scx(scx, ScxWord::State),
+        access: Access::Load,
+    })
+}
+
+/// Makes the SCX.
+#[inline(always)]
+fn change<S: Shape, M: Machine<S>, E: Edit + Drop>(
+    words: &Words<S>,
+    layout: &Layout,
+    seat: &mut Seat<u8, SeatView>,
+    number: u64,
+    run: &mut UpdateRun<E>,
+    found: &Found,
+    scx: ScxNo,
 ) -> Turn<Updated>
     requires table { IsTableOf words.now.table.shared.table_id words.now.table.shared.key layout.now × (seat.old.table_id ≡ words.now.table.shared.table_id) }
-    requires stands { (u : Updater S.allows M.ready M.waits M.same E.means layout.now number) × UpdaterStands S.allows M.ready M.waits M.same E.means layout.now number u seat.old.me.0.passes run.old turn }
+    requires tries { (u : Updater S.allows M.ready M.waits M.same E.means layout.now number) × UpdaterTries S.allows M.ready M.waits M.same E.means layout.now number u seat.old.me.0.passes run.old found.now (Next.Change scx) }
     ensures table { (seat.new.table_id ≡ seat.old.table_id) × (seat.new.me.1 ≡ seat.old.me.1) }
-    ensures stands { (u : Updater S.allows M.ready M.waits M.same E.means layout.now number) → UpdaterStands S.allows M.ready M.waits M.same E.means layout.now number u seat.old.me.0.passes run.old turn → UpdaterStands S.allows M.ready M.waits M.same E.means layout.now number u seat.new.me.0.passes run.new result }
-    ensures steps { seat_steps seat.new.me.0.passes + weight result (update_left E.means run.new (shared_nodes layout.now)) ≤ seat_steps seat.old.me.0.passes + weight turn (update_left E.means run.old (shared_nodes layout.now)) }
+    ensures stands { (u : Updater S.allows M.ready M.waits M.same E.means layout.now number) → UpdaterTries S.allows M.ready M.waits M.same E.means layout.now number u seat.old.me.0.passes run.old found.now (Next.Change scx) → UpdaterStands S.allows M.ready M.waits M.same E.means layout.now number u seat.new.me.0.passes run.new result }
+    ensures steps { seat_steps seat.new.me.0.passes + weight result (update_left E.means run.new (shared_nodes layout.now)) ≤ seat_steps seat.old.me.0.passes + suc (update_left E.means (placed E.means run.old found.now (Next.Change scx)) (shared_nodes layout.now)) }
 {
-    let Some((found, scx)) = changes_at(&run.at, &turn) else {
-        return turn;
-    };
     let change = Change {
-        scx: scx.scx,
-        call: scx.call,
-        plan: scx.update.plan,
-        old: scx.update.old,
-        fresh: scx.update.fresh,
+        scx,
+        call: run.call,
+        plan: run.plan(found),
+        old: run.old(found),
+        fresh: run.fresh(found),
     };
-    let snaps = &scx.update.snaps;
-    match changing::call::<S, M, Tree, Snaps>(words, layout, seat, number, snaps, change) {
+    let snaps = run.snaps.as_slice();
+    match changing::call::<S, M, Tree, &[Snap]>(words, layout, seat, number, &snaps, change) {
         Ok(()) => Turn::Done(Updated::Done { found: *found }),
-        Err(help) => {
-            let found = *found;
-            let at = ScxAt::Help { help };
-            let scx = ScxRun { at, ..*scx };
-            run.at = UpdateAt::Scx { found, scx };
-            Turn::Ask(Step {
-                kind: Kind::LoadAllFrozen,
-                word: Word::Scx(change.scx, ScxWord::AllFrozen),
-                access: Access::Load,
-            })
-        }
+        Err(help) => stand_changing(run, found, scx, help),
     }
+}
+
+/// Has a run stand where an SCX that could not freeze a node looks whether all were frozen.
+#[cold]
+#[inline(never)]
+fn stand_changing<E: Edit + Drop>(
+    run: &mut UpdateRun<E>,
+    found: &Found,
+    scx: ScxNo,
+    help: HelpRun,
+) -> Turn<Updated>
+    ensures place { run.new ≡ record run.old { at = UpdateAt.Scx found.now record { scx = scx; call = run.old.call; update = update_of E.means run.old found.now; at = ScxAt.Help help } } }
+    ensures asks { result ≡ Turn.Ask (all_frozen_load scx) }
+{
+    let (call, update, at) = (run.call, run.update(found), ScxAt::Help { help });
+    let scx_run = ScxRun {
+        scx,
+        call,
+        update,
+        at,
+    };
+    run.at = UpdateAt::Scx {
+        found: *found,
+        scx: scx_run,
+    };
+    Turn::Ask(Step {
+        kind: Kind::LoadAllFrozen,
+        word: Word::Scx(scx, ScxWord::AllFrozen),
+        access: Access::Load,
+    })
 }

@@ -1,22 +1,22 @@
+use Rattle.std.proofs.Common.{◌≡◌}
+use Rattle.arena.specs.declared.machine.Turn.TheVariants.{Ask}
 use Rattle.forest.specs.Traces.{shared_nodes}
-use Rattle.forest.proofs.Advances.{weighs}
-use Rattle.forest.proofs.StraightUpdate.{begins_load, wants_word, loads_on, load_steps, load_nearer}
+use Rattle.forest.specs.StraightUpdate.{Updater, UpdaterTries, UpdaterWaits}
+use Rattle.updates.specs.Next.{placed, next_step}
+use Rattle.updates.specs.declared.update.Next.TheVariants.{Load}
+use Rattle.forest.proofs.StraightUpdate.{wants_word, loads_on, load_steps, load_nearer}
 use Rattle.forest.proofs.straight.working.load.Goals as goal
 
 pub step-told-requires-clause-waits : goal.step-told-requires-clause-waits
-step-told-requires-clause-waits g c = let r = c.requires.stands in let u = r.0 in let x = r.1 in
-    (u.call, u.first, u.with_run c.args.run.now, u.is_layout, u.is_number, begins_load g.S.Shape.allows g.M.Machine.ready g.M.Machine.waits g.M.Machine.same g.E.Edit.means c.args.layout.now c.args.number u _ c.args.run.now c.args.found c.args.nth c.args.part c.copied-node.result c.args.turn c.requires.at c.requires.asks (rw (← c.as_slice.ensures.value) c.copied-node.ensures) x)
+step-told-requires-clause-waits g c = let r = c.requires.tries in let u = r.0 in
+    (u.call, u.first, u.with_run (placed g.E.Edit.means c.args.run.now c.args.found.now (Load c.args.nth c.args.part)), u.is_layout, u.is_number, rw (c.copied-node.ensures, c.as_slice.ensures.value) r.1)
 
-pub returns-clause-stands : goal.returns-clause-stands
-returns-clause-stands g c = λ u x. loads_on g.S.Shape.allows g.M.Machine.ready g.M.Machine.waits g.M.Machine.same g.E.Edit.means c.args.layout.now c.args.number u _ c.args.run.now c.load_on.new.self c.args.found c.args.nth c.args.part c.step-told.result c.load_on.result c.requires.at c.load_on.ensures.same.0 c.load_on.ensures.same.1 c.load_on.ensures.spends (λ b h. c.load_on.ensures.turn u.call b h)
-    (c.step-told.ensures.told u.call u.first (u.with_run c.args.run.now) u.is_layout u.is_number (begins_load g.S.Shape.allows g.M.Machine.ready g.M.Machine.waits g.M.Machine.same g.E.Edit.means c.args.layout.now c.args.number u _ c.args.run.now c.args.found c.args.nth c.args.part c.copied-node.result c.args.turn c.requires.at c.requires.asks (rw (← c.as_slice.ensures.value) c.copied-node.ensures) x))
+pub returns-clause-goes_on : goal.returns-clause-goes_on
+returns-clause-goes_on g c = λ u x. loads_on g.S.Shape.allows g.M.Machine.ready g.M.Machine.waits g.M.Machine.same g.E.Edit.means c.args.layout.now c.args.number u _ c.args.run.now (placed g.E.Edit.means c.loaded.new.self c.args.found.now c.loaded.result) c.args.found.now c.args.nth c.args.part c.step-told.result (Ask (next_step g.E.Edit.means c.loaded.new.self c.args.found.now c.loaded.result)) c.loaded.ensures.same.0 c.loaded.ensures.same.1 c.loaded.ensures.spends (λ b h. c.loaded.ensures.turn u.call b h)
+    (c.step-told.ensures.told u.call u.first (u.with_run (placed g.E.Edit.means c.args.run.now c.args.found.now (Load c.args.nth c.args.part))) u.is_layout u.is_number (rw (c.copied-node.ensures, c.as_slice.ensures.value) x))
 
 pub returns-clause-steps : goal.returns-clause-steps
-returns-clause-steps g c = let r = c.requires.stands in
-    let fewer = weighs c.load_on.result _ _ (c.load_on.ensures.nearer (shared_nodes c.args.layout.now) (wants_word g.S.Shape.allows g.M.Machine.ready g.M.Machine.waits g.M.Machine.same g.E.Edit.means c.args.layout.now c.args.number r.0 _ c.args.run.now c.args.found c.args.nth c.args.part c.args.turn c.requires.at c.requires.asks r.1)) in
-    rw (c.requires.asks.1, c.requires.at) (load_steps _ _ _ _ _ c.step-told.ensures.one fewer)
+returns-clause-steps g c = let r = c.requires.tries in load_steps _ _ _ _ _ c.step-told.ensures.one (c.loaded.ensures.nearer (shared_nodes c.args.layout.now) (wants_word g.S.Shape.allows g.M.Machine.ready g.M.Machine.waits g.M.Machine.same g.E.Edit.means c.args.layout.now c.args.number r.0 _ c.args.run.now c.args.found.now c.args.nth c.args.part r.1))
 
 pub returns-clause-nearer : goal.returns-clause-nearer
-returns-clause-nearer g c = let r = c.requires.stands in
-    let fewer = weighs c.load_on.result _ _ (c.load_on.ensures.nearer (shared_nodes c.args.layout.now) (wants_word g.S.Shape.allows g.M.Machine.ready g.M.Machine.waits g.M.Machine.same g.E.Edit.means c.args.layout.now c.args.number r.0 _ c.args.run.now c.args.found c.args.nth c.args.part c.args.turn c.requires.at c.requires.asks r.1)) in
-    rw (c.requires.asks.1, c.requires.at) (load_nearer _ _ _ fewer)
+returns-clause-nearer g c = let r = c.requires.tries in load_nearer _ _ _ (c.loaded.ensures.nearer (shared_nodes c.args.layout.now) (wants_word g.S.Shape.allows g.M.Machine.ready g.M.Machine.waits g.M.Machine.same g.E.Edit.means c.args.layout.now c.args.number r.0 _ c.args.run.now c.args.found.now c.args.nth c.args.part r.1))

@@ -1,27 +1,28 @@
 use Rattle.std.proofs.Common.{sym, ◌∙◌}
 use Rattle.updates.specs.Laws.HandScx.{from}
-use Rattle.updates.proofs.Filling.{fills_next, loads_next, scx_next}
-use Rattle.updates.proofs.Nearer.{below, to_next_fill, to_next_node, to_scx, fewer_fills, after_next, place_behind}
+use Rattle.updates.proofs.Filling.{fills_next}
+use Rattle.updates.proofs.GoingOn.{goes_on, comes_nearer, has_spent, same_call, fill_goes_on, fill_nearer, fill_spends}
+use Rattle.updates.proofs.Nearer.{to_next_fill, fewer_fills, past_fills}
 use Rattle.updates.proofs.update.UpdateRun.fill_on.Goals as goal
 
 pub returns-in-Some-clause-nearer : goal.returns-in-Some-clause-nearer
-returns-in-Some-clause-nearer g c nodes = below c.fill.result _ _ _ (c.fill.ensures.nearer nodes) (to_next_fill _ _ _ _ (fewer_fills _ c.args.part c.in-Some.next (rw (sym c.as_slice-snaps.ensures.value, sym c.piece-piece.ensures) (sym c.behind.ensures ∙ c.in-Some.is))))
+returns-in-Some-clause-nearer g c nodes = fill_nearer g.E.Edit.means c.args.self.now c.fill.new.self c.args.found c.args.nth c.in-Some.next c.fill.result c.fill.ensures.place c.fill.ensures.asks nodes _ (to_next_fill _ _ _ _ (fewer_fills _ c.args.part c.in-Some.next (rw (sym c.as_slice-snaps.ensures.value, sym c.piece-piece.ensures) (sym c.behind.ensures ∙ c.in-Some.is))))
 
-pub returns-in-Some-behind-clause-nearer : goal.returns-in-Some-behind-clause-nearer
-returns-in-Some-behind-clause-nearer g c nodes = rw (after_next g.E.Edit.means c.need-need.result c.args.nth c.in-Some-behind.after (sym c.behind-2.ensures ∙ c.in-Some-behind.is)) (below c.load.result _ _ _ (c.load.ensures.nearer nodes (rw (sym c.need-need.ensures) (place_behind c.need-need.result c.args.nth c.in-Some-behind.after (sym c.behind-2.ensures ∙ c.in-Some-behind.is)))) (to_next_node _ _ _ _ _ (g.met.E.Edit.laws.bounds.few_works _ _ _ _ _)))
-
-pub returns-in-None-clause-nearer : goal.returns-in-None-clause-nearer
-returns-in-None-clause-nearer g c nodes = below c.begin_scx.result _ _ _ (c.begin_scx.ensures.nearer nodes) (to_scx _ _)
+pub returns-in-Some-clause-spends : goal.returns-in-Some-clause-spends
+returns-in-Some-clause-spends g c = fill_spends g.E.Edit.means c.args.self.now c.fill.new.self c.args.found c.args.nth c.in-Some.next c.fill.result c.fill.ensures.place c.fill.ensures.asks
 
 pub returns-in-Some-clause-turn : goal.returns-in-Some-clause-turn
-returns-in-Some-clause-turn g c d b h run try x = c.fill.ensures.turn d b h run try (fills_next g.E.Edit.means c.args.self.now (from d b) h c.args.found c.args.nth c.args.part x c.in-Some.next g.met.E.Edit.laws.fills (rw (sym c.as_slice-snaps.ensures.value, sym c.piece-piece.ensures) (sym c.behind.ensures ∙ c.in-Some.is)))
+returns-in-Some-clause-turn g c d b h run try x = fill_goes_on g.E.Edit.means c.args.self.now c.fill.new.self c.args.found c.args.nth c.in-Some.next c.fill.result c.fill.ensures.place c.fill.ensures.asks d b h try
+    (fills_next g.E.Edit.means c.args.self.now (from d b) h c.args.found c.args.nth c.args.part x c.in-Some.next g.met.E.Edit.laws.fills (rw (sym c.as_slice-snaps.ensures.value, sym c.piece-piece.ensures) (sym c.behind.ensures ∙ c.in-Some.is)))
 
-pub returns-in-Some-behind-clause-turn : goal.returns-in-Some-behind-clause-turn
-returns-in-Some-behind-clause-turn g c d b h run try x = c.load.ensures.turn d b h run try (loads_next g.E.Edit.means c.args.self.now (from d b) h c.args.found c.args.nth c.args.part x c.in-Some-behind.after
-    (rw (sym c.as_slice-snaps.ensures.value, sym c.piece-piece.ensures) (sym c.behind.ensures ∙ c.in_default.is))
-    (rw (sym c.need-need.ensures) (sym c.behind-2.ensures ∙ c.in-Some-behind.is)))
+pub returns-clause-nearer : goal.returns-clause-nearer
+returns-clause-nearer g c nodes = comes_nearer g.E.Edit.means c.filled-next.new.self c.go_on.new.self c.args.found c.filled-next.result c.go_on.result c.go_on.ensures.place c.go_on.ensures.turn nodes _ _ (c.filled-next.ensures.nearer nodes) (past_fills _ _ _)
 
-pub returns-in-None-clause-turn : goal.returns-in-None-clause-turn
-returns-in-None-clause-turn g c d b h run try x = c.begin_scx.ensures.turn d b h run try (scx_next g.E.Edit.means c.args.self.now (from d b) h c.args.found c.args.nth c.args.part x
-    (rw (sym c.as_slice-snaps.ensures.value, sym c.piece-piece.ensures) (sym c.behind.ensures ∙ c.in_default.is))
-    (rw (sym c.need-need.ensures) (sym c.behind-2.ensures ∙ c.in-None.is)))
+pub returns-clause-spends : goal.returns-clause-spends
+returns-clause-spends g c = has_spent g.E.Edit.means c.filled-next.new.self c.go_on.new.self c.args.found c.filled-next.result c.go_on.result c.go_on.ensures.place c.go_on.ensures.turn c.args.self.now.share _ _ c.filled-next.ensures.spends
+
+pub returns-clause-turn : goal.returns-clause-turn
+returns-clause-turn g c d b h run try x = goes_on g.E.Edit.means c.filled-next.new.self c.go_on.new.self c.args.found c.filled-next.result c.go_on.result c.go_on.ensures.place c.go_on.ensures.turn d h (c.filled-next.ensures.turn d b h c.args.part run try x (rw (sym c.as_slice-snaps.ensures.value, sym c.piece-piece.ensures) (sym c.behind.ensures ∙ c.in_default.is)))
+
+pub returns-clause-same : goal.returns-clause-same
+returns-clause-same g c = same_call g.E.Edit.means c.filled-next.new.self c.go_on.new.self c.args.found c.filled-next.result c.go_on.result c.go_on.ensures.place c.go_on.ensures.turn c.args.self.now c.filled-next.ensures.same

@@ -1,17 +1,20 @@
-use Rattle.std.proofs.Common.{sym, ◌∙◌}
+use Rattle.std.proofs.Common.{refl, sym, ◌∙◌}
 use Rattle.updates.specs.Laws.HandScx.{from}
-use Rattle.updates.proofs.Nearer.{below, to_fill, to_load, some_left}
+use Rattle.updates.proofs.Nearer.{to_fill, to_load, some_left}
 use Rattle.updates.proofs.Loading.{loads_word, fills_head}
+use Rattle.updates.proofs.Turns.{fills_word}
 use Rattle.updates.proofs.update.UpdateRun.load.Goals as goal
 
-pub returns-in_default-clause-nearer : goal.returns-in_default-clause-nearer
-returns-in_default-clause-nearer g c nodes place = below c.fill.result _ _ _ (c.fill.ensures.nearer nodes) (to_fill _ _ _ _ (g.met.E.Edit.laws.bounds.fill_works _ _ _ _ _ place (rw (sym c.as_slice-snaps.ensures.value) (sym c.load.ensures ∙ c.in_default.is)) _))
+pub returns-in-None-clause-nearer : goal.returns-in-None-clause-nearer
+returns-in-None-clause-nearer g c nodes place = to_fill _ _ _ _ (g.met.E.Edit.laws.bounds.fill_works _ _ _ _ _ place (rw (sym c.as_slice.ensures.value) (sym c.load.ensures ∙ c.in-None.is)) _)
 
-pub returns-clause-nearer : goal.returns-clause-nearer
-returns-clause-nearer g c nodes place = to_load _ _ _ (some_left _ _ (g.met.E.Edit.laws.bounds.load_works _ _ _ _ _ c.in-Some.part (rw (sym c.as_slice-snaps.ensures.value) (sym c.load.ensures ∙ c.in-Some.is)) 0))
+pub returns-in-Some-clause-nearer : goal.returns-in-Some-clause-nearer
+returns-in-Some-clause-nearer g c nodes place = to_load _ _ _ (some_left _ _ (g.met.E.Edit.laws.bounds.load_works _ _ _ _ _ c.in-Some.part (rw (sym c.as_slice.ensures.value) (sym c.load.ensures ∙ c.in-Some.is)) 0))
 
-pub returns-in_default-clause-turn : goal.returns-in_default-clause-turn
-returns-in_default-clause-turn g c d b h run try x = c.fill.ensures.turn d b h run try (fills_head g.E.Edit.means c.args.self.now (from d b) h c.args.found c.args.nth x (rw (sym c.as_slice-snaps.ensures.value) (sym c.load.ensures ∙ c.in_default.is)))
+pub returns-in-None-clause-turn : goal.returns-in-None-clause-turn
+returns-in-None-clause-turn g c d b h run try x =
+    let can = fills_head g.E.Edit.means c.args.self.now (from d b) h c.args.found.now c.args.nth x (rw (sym c.as_slice.ensures.value) (sym c.load.ensures ∙ c.in-None.is)) in
+    (b, try, tt, fills_word g.E.Edit.means c.args.self.now c.args.found.now c.args.nth _ _ _ _ (from d b) h can refl refl refl)
 
-pub returns-clause-turn : goal.returns-clause-turn
-returns-clause-turn g c d b h run try x = (b, try, tt, loads_word g.E.Edit.means c.args.self.now (from d b) h c.args.found c.args.nth c.in-Some.part c.copied-node.result g.met.E.Edit.laws.loads x (rw (sym c.as_slice-snaps.ensures.value) (sym c.load.ensures ∙ c.in-Some.is)) (rw (sym c.as_slice-snaps.ensures.value) c.copied-node.ensures))
+pub returns-in-Some-clause-turn : goal.returns-in-Some-clause-turn
+returns-in-Some-clause-turn g c d b h run try x = (b, try, tt, loads_word g.E.Edit.means c.args.self.now (from d b) h c.args.found.now c.args.nth c.in-Some.part _ g.met.E.Edit.laws.loads x (rw (sym c.as_slice.ensures.value) (sym c.load.ensures ∙ c.in-Some.is)) refl)
