@@ -217,9 +217,9 @@ module _ {M E : Type 0} (allows : Layout → History → ℕ → Type 0) (ready 
       snapped = subst (λ (n : NodeNo). IsSnapshot u.call.layout h n.0 snap) (sym x.of_node) (x.snaps (from (from u.call y.0) y.3.0) h (u.tree h x.so.sound) y.3.2)
 
   -- where something is in the way, it waits for the state again
-  pub looks_again : (ps : List SeatedPass) (m now : UpdateRun E) (f : Found) (llx : LlxRun) (turn : Turn Updated) (s : Step) → now ≡ looking m f llx → turn ≡ Ask s → LookerWaits allows ready waits same layout number (looker m f) ps llx s → UpdaterStands allows ready waits same e layout number u ps now turn
+  pub looks_again : (ps : List SeatedPass) (m : UpdateRun E) (f copy : Found) (llx : LlxRun) (s : Step) → copy ≡ f → LookerWaits allows ready waits same layout number (looker m f) ps llx s → UpdaterWaits allows ready waits same e layout number u ps (looking m copy llx) s
   unfolding looker
-  looks_again ps m now f llx turn s is asks x = rw (is, asks) x
+  looks_again ps m f copy llx s is x = subst (λ (g : Found). UpdaterWaits allows ready waits same e layout number u ps (looking m g llx) s) (sym is) x
 
   -- it stands at its start
   pub stands_at_start : (ps : List SeatedPass) (m : UpdateRun E) → UpdaterBegins allows ready waits same e layout number u ps m → m.at ≡ Start
@@ -397,9 +397,9 @@ module _ {M E : Type 0} (allows : Layout → History → ℕ → Type 0) (ready 
           (let k = y.3.2 in done_at (from (from u.call y.0) y.3.0) h scx (record help { at = HelpCommit }) (u.tree h x.sound).lawful k.2 k.1 true (record help { at = HelpCommit }) k.0 refl refl)
 
   -- where a node could not be frozen, it waits to look whether all were
-  pub blocked : (ps : List SeatedPass) (m now : UpdateRun E) (f : Found) (scx : ScxRun) (turn : Turn Updated) (s : Step) → now ≡ scxing m f scx → turn ≡ Ask s → ChangerWaits TreeAllows allows ready waits same layout number (changer m f) ps scx s → UpdaterStands allows ready waits same e layout number u ps now turn
+  pub blocked : (ps : List SeatedPass) (m : UpdateRun E) (f copy : Found) (scx run : ScxRun) (s : Step) → copy ≡ f → run ≡ scx → ChangerWaits TreeAllows allows ready waits same layout number (changer m f) ps scx s → UpdaterWaits allows ready waits same e layout number u ps (scxing m copy run) s
   unfolding changer
-  blocked ps m now f scx turn s is asks x = rw (is, asks) x
+  blocked ps m f copy scx run s is is_run x = subst (λ (g : Found). UpdaterWaits allows ready waits same e layout number u ps (scxing m g run) s) (sym is) (subst (λ (r : ScxRun). UpdaterWaits allows ready waits same e layout number u ps (scxing m f r) s) (sym is_run) x)
 
 -- its steps are those of its walk, and those that are left behind it
 pub walk_steps : (now old walk left tries rest : ℕ) → now ≤ old + walk → left ≤ tries + rest → now + left ≤ old + (tries + (walk + rest))
@@ -457,7 +457,3 @@ module _ {E : Type 0} (e : EditMeaning E) (m : UpdateRun E) (f : Found) (next sa
   pub fewer_behind : (now : UpdateRun E) (more : Result Next (Turn Updated)) → weight (turn_of e now f more) (update_left e (stands e now f more) nodes) < suc (update_left e (placed e m f same) nodes) → IfOk more (λ n. update_left e (placed e now f n) nodes < update_left e (placed e m f next) nodes)
   fewer_behind now (Ok n) i = subst (λ (k : Next). update_left e (placed e now f n) nodes < update_left e (placed e m f k) nodes) (sym is) (omega (arith, i))
   fewer_behind now (Err turn) i = tt
-
--- what is left where a run stands, and asks for a step
-pub left_at : {E : Type 0} (e : EditMeaning E) (m now : UpdateRun E) (turn : Turn Updated) (s : Step) (nodes : ℕ) → now ≡ m → turn ≡ Ask s → weight turn (update_left e now nodes) ≡ suc (update_left e m nodes)
-left_at e m now turn s nodes is asks = rw (is, asks) refl

@@ -5,12 +5,12 @@ ghost use Rattle.updates.specs.Steps.{try_left, works_behind, works_left, update
 
 use crate::edit::{Edit, Loaded, Look, Need, Nodes, Nth};
 use arena::{
-    Access, Full, Kind, Machine, MemberIndex, NodeNo, NodeWord, Plan, Resource, ScxNo, ScxWord,
-    Share, Step, Turn, Word,
+    Access, Full, Head, Kind, Machine, MemberIndex, NodeNo, NodeWord, Plan, Resource, ScxNo,
+    ScxWord, Share, Step, Turn, Word,
 };
 use arrayvec::ArrayVec;
 use prims::{Llx, LlxAt, LlxRun, Scx, ScxAt, ScxRun, Snap, SnapList, Snaps, Update};
-use template::{Found, Tree, WalkRun};
+use template::{Found, Trail, Tree, WalkRun};
 
 /// What an update answers.
 #[derive(Clone, Copy, Debug, PartialEq, Eq)]
@@ -92,6 +92,33 @@ pub struct UpdateRun<E> {
     pub at: UpdateAt,
 }
 
+/// The same leaf, made anew from its parts. Copied as a whole it would take the bytes between them
+/// along, and a walk would have to write those at each fork.
+#[inline(always)]
+pub fn anew(found: &Found) -> Found
+    ensures { result ≡ found.now }
+{
+    Found {
+        trail: Trail {
+            grand: found.trail.grand,
+            grand_side: found.trail.grand_side,
+            parent: found.trail.parent,
+            side: found.trail.side,
+            node: found.trail.node,
+        },
+        head: Head {
+            level: found.head.level,
+            leaf: found.head.leaf,
+            class: found.head.class,
+        },
+        key: found.key,
+        value: match found.value {
+            Some(value) => Some(value),
+            None => None,
+        },
+    }
+}
+
 impl<E: Edit + Drop> UpdateRun<E> {
     ghost use Rattle.std.specs.Prelude.{◌≡◌, ℕ, ◌≤◌, ◌*◌, ◌+◌, ◌-◌, length};
     ghost use Rattle.updates.specs.declared.edit.Nth.TheVariants.{First, Second, Third};
@@ -152,8 +179,6 @@ impl<E: Edit + Drop> UpdateRun<E> {
     }
 
     /// Ends a try that is lost to this SCX-record over this node, and begins the next if there is one.
-    #[cold]
-    #[inline(never)]
     fn lost(&mut self, node: NodeNo, scx: ScxNo) -> Turn<Updated>
         ensures turn { (c : Call) (h : History) → IsRun TreeAllows c.layout h → Begins E.means self.old c h → IsTry c h → IsContended c h node.0 scx.0 → UpdateTurn E.means c h self.new result }
         ensures same { IsSameCall self.old self.new }
@@ -218,7 +243,8 @@ impl<E: Edit + Drop> UpdateRun<E> {
     {
         let need = self.edit.need(found);
         if need == Need::Nothing {
-            return Err(Turn::Done(Updated::Done { found: *found }));
+            let found = anew(found);
+            return Err(Turn::Done(Updated::Done { found }));
         }
         if let Some(full) = self.lacks(need) {
             return Err(Turn::Done(Updated::Full(full)));

@@ -4,10 +4,7 @@ ghost use Rattle.forest.specs.TableRule.{IsTableOf};
 ghost use Rattle.forest.specs.Traces.{seat_steps, shared_nodes, weight};
 ghost use Rattle.forest.specs.StraightUpdate.{Updater, UpdaterBegins, UpdaterStands, UpdaterTries, UpdaterGoesOn};
 ghost use Rattle.template.specs.declared.walk.Goal.{Goal};
-ghost use Rattle.forest.specs.StraightLlx.{llx_at};
-ghost use Rattle.forest.specs.StraightChange.{all_frozen_load};
-ghost use Rattle.prims.specs.Llx.Known.{load};
-ghost use Rattle.updates.specs.Next.{placed, stands, turn_of, update_of};
+ghost use Rattle.updates.specs.Next.{placed, stands, turn_of};
 ghost use Rattle.updates.specs.Steps.{update_left};
 ghost use Rattle.updates.specs.declared.update.Next.{Next};
 
@@ -19,10 +16,9 @@ use crate::view::SeatView;
 use crate::words::Words;
 use arena::{Access, Kind, Layout, Machine, NodeNo, ScxNo, ScxWord, Shape, Step, Turn, Word};
 use atomic_table::Seat;
-use help::HelpRun;
 use prims::{LlxAt, LlxRun, ScxAt, ScxRun, Snap};
 use template::{Found, Tree};
-use updates::{Edit, Next, UpdateAt, UpdateRun, Updated};
+use updates::{Edit, Next, UpdateAt, UpdateRun, Updated, anew};
 
 /// Begins an update that walks to this key: its first try, as long as nothing is in its way. Where
 /// something is, the run stands at that place, and the turn is the one that it is to go on with; on
@@ -123,31 +119,18 @@ fn look_at<S: Shape, M: Machine<S>, E: Edit + Drop>(
 {
     match look::<S, M>(words, layout, seat, number, node) {
         Ok(snap) => run.looked(found, snap),
-        Err((marked, scx)) => Err(stand_looking(run, found, node, marked, scx)),
+        Err((marked, scx)) => {
+            let at = LlxAt::StateAgain { marked, scx };
+            let llx = LlxRun { node, at };
+            let found = anew(found);
+            run.at = UpdateAt::Look { found, llx };
+            Err(Turn::Ask(Step {
+                kind: Kind::LoadState,
+                word: Word::Scx(scx, ScxWord::State),
+                access: Access::Load,
+            }))
+        }
     }
-}
-
-/// Has a run stand where an LLX looks again at the state of an SCX-record that is in its way.
-#[cold]
-#[inline(never)]
-fn stand_looking<E: Edit + Drop>(
-    run: &mut UpdateRun<E>,
-    found: &Found,
-    node: NodeNo,
-    marked: bool,
-    scx: ScxNo,
-) -> Turn<Updated>
-    ensures place { run.new ≡ record run.old { at = UpdateAt.Look found.now (llx_at node (LlxAt.StateAgain marked scx)) } }
-    ensures asks { result ≡ Turn.Ask (load Kind.LoadState (Word.Scx scx ScxWord.State)) }
-{
-    let at = LlxAt::StateAgain { marked, scx };
-    let llx = LlxRun { node, at };
-    run.at = UpdateAt::Look { found: *found, llx };
-    Turn::Ask(Step {
-        kind: Kind::LoadState,
-        word: Word::Scx(scx, ScxWord::State),
-        access: Access::Load,
-    })
 }
 
 /// Makes the SCX.
@@ -167,46 +150,38 @@ fn change<S: Shape, M: Machine<S>, E: Edit + Drop>(
     ensures stands { (u : Updater S.allows M.ready M.waits M.same E.means layout.now number) → UpdaterTries S.allows M.ready M.waits M.same E.means layout.now number u seat.old.me.0.passes run.old found.now (Next.Change scx) → UpdaterStands S.allows M.ready M.waits M.same E.means layout.now number u seat.new.me.0.passes run.new result }
     ensures steps { seat_steps seat.new.me.0.passes + weight result (update_left E.means run.new (shared_nodes layout.now)) ≤ seat_steps seat.old.me.0.passes + suc (update_left E.means (placed E.means run.old found.now (Next.Change scx)) (shared_nodes layout.now)) }
 {
+    let call = run.call;
     let change = Change {
         scx,
-        call: run.call,
+        call,
         plan: run.plan(found),
         old: run.old(found),
         fresh: run.fresh(found),
     };
     let snaps = run.snaps.as_slice();
     match changing::call::<S, M, Tree, &[Snap]>(words, layout, seat, number, &snaps, change) {
-        Ok(()) => Turn::Done(Updated::Done { found: *found }),
-        Err(help) => stand_changing(run, found, scx, help),
+        Ok(()) => {
+            let found = anew(found);
+            Turn::Done(Updated::Done { found })
+        }
+        Err(help) => {
+            let update = run.update(found);
+            let at = ScxAt::Help { help };
+            let scx_run = ScxRun {
+                scx,
+                call,
+                update,
+                at,
+            };
+            run.at = UpdateAt::Scx {
+                found: anew(found),
+                scx: scx_run,
+            };
+            Turn::Ask(Step {
+                kind: Kind::LoadAllFrozen,
+                word: Word::Scx(scx, ScxWord::AllFrozen),
+                access: Access::Load,
+            })
+        }
     }
-}
-
-/// Has a run stand where an SCX that could not freeze a node looks whether all were frozen.
-#[cold]
-#[inline(never)]
-fn stand_changing<E: Edit + Drop>(
-    run: &mut UpdateRun<E>,
-    found: &Found,
-    scx: ScxNo,
-    help: HelpRun,
-) -> Turn<Updated>
-    ensures place { run.new ≡ record run.old { at = UpdateAt.Scx found.now record { scx = scx; call = run.old.call; update = update_of E.means run.old found.now; at = ScxAt.Help help } } }
-    ensures asks { result ≡ Turn.Ask (all_frozen_load scx) }
-{
-    let (call, update, at) = (run.call, run.update(found), ScxAt::Help { help });
-    let scx_run = ScxRun {
-        scx,
-        call,
-        update,
-        at,
-    };
-    run.at = UpdateAt::Scx {
-        found: *found,
-        scx: scx_run,
-    };
-    Turn::Ask(Step {
-        kind: Kind::LoadAllFrozen,
-        word: Word::Scx(scx, ScxWord::AllFrozen),
-        access: Access::Load,
-    })
 }

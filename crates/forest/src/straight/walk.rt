@@ -126,33 +126,6 @@ fn pass<S: Shape, M: Machine<S>>(
     Ok(side_of(wanted, key))
 }
 
-/// The same leaf, made anew from its parts. Copied as a whole it would take the bytes between them
-/// along, and the walk would have to write those at each fork.
-#[inline(always)]
-fn anew(found: &Found) -> Found
-    ensures { result ≡ found.now }
-{
-    Found {
-        trail: Trail {
-            grand: found.trail.grand,
-            grand_side: found.trail.grand_side,
-            parent: found.trail.parent,
-            side: found.trail.side,
-            node: found.trail.node,
-        },
-        head: Head {
-            level: found.head.level,
-            leaf: found.head.leaf,
-            class: found.head.class,
-        },
-        key: found.key,
-        value: match found.value {
-            Some(value) => Some(value),
-            None => None,
-        },
-    }
-}
-
 /// The walk from the root to the leaf where a key stands, or would stand.
 #[inline(always)]
 pub(crate) fn call<S: Shape, M: Machine<S>>(
@@ -184,7 +157,7 @@ pub(crate) fn call<S: Shape, M: Machine<S>>(
         let head = Head::of(read::<S, M>(words, &layout, seat, number, kind, node, part));
         let side = match pass::<S, M>(words, &layout, seat, number, wanted, trail, at, head) {
             Ok(side) => side,
-            Err(found) => return anew(&found),
+            Err(found) => return found,
         };
         let (kind, part) = (Kind::LoadChild, NodeWord::Child(side));
         let child = read::<S, M>(words, &layout, seat, number, kind, node, part);

@@ -1,10 +1,13 @@
-use Rattle.std.proofs.Common.{◌≡◌, ◌∙◌, arith}
+use Rattle.std.proofs.Common.{◌≡◌, ◌∙◌, subst, sym}
+use Rattle.arena.specs.declared.machine.Turn.TheVariants.{Done}
 use Rattle.prims.specs.declared.scx.ScxAt.TheVariants.{Help}
 use Rattle.prims.specs.declared.scx.ScxRun.{ScxRun}
 use Rattle.prims.specs.declared.update.Update.{Update}
+use Rattle.template.specs.declared.walk.Found.{Found}
 use Rattle.updates.specs.Next.{update_of}
-use Rattle.forest.specs.Traces.{shared_nodes}
-use Rattle.forest.proofs.StraightUpdate.{changer, begins_change, changed, blocked, left_at, scxing, update_is}
+use Rattle.updates.specs.declared.update.Updated.TheVariants.{Done as IsDone}
+use Rattle.forest.specs.StraightUpdate.{UpdaterStands}
+use Rattle.forest.proofs.StraightUpdate.{changer, begins_change, changed, blocked, update_is}
 use Rattle.forest.proofs.straight.updating.change.Goals as goal
 
 pub call-requires-clause-waits : goal.call-requires-clause-waits
@@ -12,25 +15,19 @@ call-requires-clause-waits g c = let r = c.requires.tries in let u = r.0 in (cha
 
 pub returns-in-Ok-clause-stands : goal.returns-in-Ok-clause-stands
 returns-in-Ok-clause-stands g c = λ u x. let t = c.in-Ok.ensures.commits (changer g.S.Shape.allows g.M.Machine.ready g.M.Machine.waits g.M.Machine.same g.E.Edit.means c.args.layout.now c.args.number u c.args.run.now c.args.found.now) (begins_change g.S.Shape.allows g.M.Machine.ready g.M.Machine.waits g.M.Machine.same g.E.Edit.means c.args.layout.now c.args.number u _ c.args.run.now c.args.found.now c.args.scx c.as_slice-snaps.result.now c.plan.result c.old.result c.fresh.result c.as_slice-snaps.ensures.value c.plan.ensures c.old.ensures c.fresh.ensures x) in
-    changed g.S.Shape.allows g.M.Machine.ready g.M.Machine.waits g.M.Machine.same g.E.Edit.means c.args.layout.now c.args.number u _ c.args.run.now c.args.found.now _ _ t.0 t.1 g.met.E.Edit.laws.at_found t.2
+    subst (λ (f : Found). UpdaterStands g.S.Shape.allows g.M.Machine.ready g.M.Machine.waits g.M.Machine.same g.E.Edit.means c.args.layout.now c.args.number u c.call.new.seat.me.0.passes c.args.run.now (Done (IsDone f))) (sym c.anew-found.ensures) (changed g.S.Shape.allows g.M.Machine.ready g.M.Machine.waits g.M.Machine.same g.E.Edit.means c.args.layout.now c.args.number u _ c.args.run.now c.args.found.now _ _ t.0 t.1 g.met.E.Edit.laws.at_found t.2)
 
 pub returns-in-Err-clause-stands : goal.returns-in-Err-clause-stands
-returns-in-Err-clause-stands g c = λ u x. blocked g.S.Shape.allows g.M.Machine.ready g.M.Machine.waits g.M.Machine.same g.E.Edit.means c.args.layout.now c.args.number u _ c.args.run.now c.stand_changing.new.run c.args.found.now (with_update parts) c.stand_changing.result _ (c.stand_changing.ensures.place ∙ same) c.stand_changing.ensures.asks (c.in-Err.ensures.blocked (changer g.S.Shape.allows g.M.Machine.ready g.M.Machine.waits g.M.Machine.same g.E.Edit.means c.args.layout.now c.args.number u c.args.run.now c.args.found.now) (begins_change g.S.Shape.allows g.M.Machine.ready g.M.Machine.waits g.M.Machine.same g.E.Edit.means c.args.layout.now c.args.number u _ c.args.run.now c.args.found.now c.args.scx c.as_slice-snaps.result.now c.plan.result c.old.result c.fresh.result c.as_slice-snaps.ensures.value c.plan.ensures c.old.ensures c.fresh.ensures x))
+returns-in-Err-clause-stands g c = λ u x. blocked g.S.Shape.allows g.M.Machine.ready g.M.Machine.waits g.M.Machine.same g.E.Edit.means c.args.layout.now c.args.number u _ c.args.run.now c.args.found.now c.anew.result _ _ _ c.anew.ensures same (c.in-Err.ensures.blocked (changer g.S.Shape.allows g.M.Machine.ready g.M.Machine.waits g.M.Machine.same g.E.Edit.means c.args.layout.now c.args.number u c.args.run.now c.args.found.now) (begins_change g.S.Shape.allows g.M.Machine.ready g.M.Machine.waits g.M.Machine.same g.E.Edit.means c.args.layout.now c.args.number u _ c.args.run.now c.args.found.now c.args.scx c.as_slice-snaps.result.now c.plan.result c.old.result c.fresh.result c.as_slice-snaps.ensures.value c.plan.ensures c.old.ensures c.fresh.ensures x))
   where
     parts : Update
     parts = record { snaps = c.as_slice-snaps.result.now; plan = c.plan.result; old = c.old.result; fresh = c.fresh.result }
 
+    is : c.update-update.result ≡ parts
+    is = c.update-update.ensures ∙ update_is (update_of g.E.Edit.means c.args.run.now c.args.found.now) parts.snaps parts.plan parts.old parts.fresh c.as_slice-snaps.ensures.value c.plan.ensures c.old.ensures c.fresh.ensures
+
     with_update : Update → ScxRun
     with_update up = record { scx = c.args.scx; call = c.args.run.now.call; update = up; at = Help c.in-Err.help }
 
-    is : update_of g.E.Edit.means c.args.run.now c.args.found.now ≡ parts
-    is = update_is (update_of g.E.Edit.means c.args.run.now c.args.found.now) parts.snaps parts.plan parts.old parts.fresh c.as_slice-snaps.ensures.value c.plan.ensures c.old.ensures c.fresh.ensures
-
-    same : scxing g.S.Shape.allows g.M.Machine.ready g.M.Machine.waits g.M.Machine.same g.E.Edit.means c.args.layout.now c.args.number (c.requires.tries.0) c.args.run.now c.args.found.now (with_update (update_of g.E.Edit.means c.args.run.now c.args.found.now)) ≡ scxing g.S.Shape.allows g.M.Machine.ready g.M.Machine.waits g.M.Machine.same g.E.Edit.means c.args.layout.now c.args.number (c.requires.tries.0) c.args.run.now c.args.found.now (with_update parts)
-    same i = scxing g.S.Shape.allows g.M.Machine.ready g.M.Machine.waits g.M.Machine.same g.E.Edit.means c.args.layout.now c.args.number (c.requires.tries.0) c.args.run.now c.args.found.now (with_update (is i))
-
-pub returns-in-Err-clause-steps : goal.returns-in-Err-clause-steps
-returns-in-Err-clause-steps g c =
-    let left = left_at g.E.Edit.means _ c.stand_changing.new.run c.stand_changing.result _ (shared_nodes c.args.layout.now) c.stand_changing.ensures.place c.stand_changing.ensures.asks in
-    let steps = c.in-Err.ensures.left in
-    omega (arith, left, steps)
+    same : with_update c.update-update.result ≡ with_update parts
+    same i = with_update (is i)

@@ -1,10 +1,9 @@
-use Rattle.std.proofs.Common.{arith}
 use Rattle.forest.specs.Traces.{shared_nodes}
 use Rattle.prims.specs.declared.llx.LlxAt.TheVariants.{StateAgain}
 use Rattle.forest.specs.StraightLlx.{llx_at}
 use Rattle.updates.specs.Next.{stands, turn_of}
 use Rattle.forest.proofs.Advances.{weighs}
-use Rattle.forest.proofs.StraightUpdate.{looker, begins_look, looks_on, looks_again, left_at, look_steps, look_nearer}
+use Rattle.forest.proofs.StraightUpdate.{looker, begins_look, looks_on, looks_again, look_steps, look_nearer}
 use Rattle.forest.proofs.straight.updating.look_at.Goals as goal
 
 pub look-requires-clause-waits : goal.look-requires-clause-waits
@@ -22,11 +21,5 @@ pub returns-in-Ok-clause-nearer : goal.returns-in-Ok-clause-nearer
 returns-in-Ok-clause-nearer g c = look_nearer _ _ _ _ (weighs (turn_of g.E.Edit.means c.looked.new.self c.args.found.now c.looked.result) _ _ (c.looked.ensures.nearer (shared_nodes c.args.layout.now)))
 
 pub returns-in-Err-clause-goes_on : goal.returns-in-Err-clause-goes_on
-returns-in-Err-clause-goes_on g c = λ u x. looks_again g.S.Shape.allows g.M.Machine.ready g.M.Machine.waits g.M.Machine.same g.E.Edit.means c.args.layout.now c.args.number u _ c.args.run.now c.stand_looking.new.run c.args.found.now (llx_at c.args.node (StateAgain c.in-Err.marked c.in-Err.scx)) c.stand_looking.result _ c.stand_looking.ensures.place c.stand_looking.ensures.asks
+returns-in-Err-clause-goes_on g c = λ u x. looks_again g.S.Shape.allows g.M.Machine.ready g.M.Machine.waits g.M.Machine.same g.E.Edit.means c.args.layout.now c.args.number u _ c.args.run.now c.args.found.now c.anew-found.result (llx_at c.args.node (StateAgain c.in-Err.marked c.in-Err.scx)) _ c.anew-found.ensures
     (c.in-Err.ensures.waits (looker g.S.Shape.allows g.M.Machine.ready g.M.Machine.waits g.M.Machine.same g.E.Edit.means c.args.layout.now c.args.number u c.args.run.now c.args.found.now) (begins_look g.S.Shape.allows g.M.Machine.ready g.M.Machine.waits g.M.Machine.same g.E.Edit.means c.args.layout.now c.args.number u _ c.args.run.now c.args.found.now c.args.node x))
-
-pub returns-in-Err-clause-steps : goal.returns-in-Err-clause-steps
-returns-in-Err-clause-steps g c = let left = left_at g.E.Edit.means _ c.stand_looking.new.run c.stand_looking.result _ (shared_nodes c.args.layout.now) c.stand_looking.ensures.place c.stand_looking.ensures.asks in let steps = c.look.ensures.steps in omega (arith, left, steps)
-
-pub returns-in-Err-clause-nearer : goal.returns-in-Err-clause-nearer
-returns-in-Err-clause-nearer g c = let left = left_at g.E.Edit.means _ c.stand_looking.new.run c.stand_looking.result _ (shared_nodes c.args.layout.now) c.stand_looking.ensures.place c.stand_looking.ensures.asks in omega (arith, left)

@@ -47,7 +47,7 @@ returns-in-Err-clause-steps g c =
     omega (arith, few, one, last, old)
 
 pub returns-in-Err-clause-finds : goal.returns-in-Err-clause-finds
-returns-in-Err-clause-finds g c = λ w x. rw c.anew.ensures (c.in-Err.ensures.finds w c.read.result (sym c.of-head.ensures) (told g (goal.at.returns-in-Err-clause-finds g c).After-read w x))
+returns-in-Err-clause-finds g c = λ w x. c.in-Err.ensures.finds w c.read.result (sym c.of-head.ensures) (told g (goal.at.returns-in-Err-clause-finds g c).After-read w x)
 
 pub read-child-requires-clause-waits : goal.read-child-requires-clause-waits
 read-child-requires-clause-waits g c = let r = c.requires.waits in (

@@ -1,4 +1,6 @@
-use Rattle.std.proofs.Common.{◌≡◌, ◌≢◌, refl, rules, inl}
+use Rattle.std.proofs.Common.{◌≡◌, ◌≢◌, refl, rules, inl, subst, sym}
+use Rattle.template.specs.declared.walk.Found.{Found}
+use Rattle.updates.specs.Known.{HasNothingToMake}
 use Rattle.updates.specs.declared.edit.Need.TheVariants.{Nothing}
 use Rattle.updates.proofs.Looking.{may_look}
 use Rattle.updates.specs.Laws.HandScx.{from}
@@ -20,11 +22,11 @@ pub returns-then-eq-clause-turn : goal.returns-then-eq-clause-turn
 returns-then-eq-clause-turn g c d b h run try first x quiet found =
     let none : c.need-need.result ≡ Nothing = search rules in (
       at_rest g.E.Edit.means c.args.self.now d b h x,
-      inl record {
+      inl (subst (λ (f : Found). HasNothingToMake g.E.Edit.means c.args.self.now.edit d h f) (sym c.anew-found.ensures) record {
         has_found = found_wider d b try.since h _ c.args.found.now found;
         needless = rw c.need-need.ensures at none;
         none = nothing_entered g.E.Edit.means c.args.self.now d b h try x quiet;
-      },
+      }),
     )
 
 pub returns-in-Some-clause-turn : goal.returns-in-Some-clause-turn
