@@ -1,5 +1,5 @@
 -- The best turn is the greatest after which an ordered read tells what it has told.
-use Rattle.std.proofs.Common.{◌≡◌, ◌≢◌, ℕ, suc, ◌≤◌, inl, inr, Bool, true, false, cond, ltb, leb, ◌&&◌, List, [], ◌∷◌, take, Option, Some, refl, sym, ◌∙◌, ap, subst, arith}
+use Rattle.std.proofs.Common.{◌≡◌, ℕ, suc, ◌≤◌, inl, inr, Bool, true, false, cond, ltb, leb, ◌&&◌, List, [], ◌∷◌, take, Option, Some, refl, sym, ◌∙◌, ap, subst, arith}
 use Rattle.std.specs.List.{filter}
 use Rattle.std.proofs.lemmas.Bool.{cases_lt}
 use Rattle.spelling.specs.declared.pair.Pair.{Pair}
@@ -9,9 +9,7 @@ use Rattle.script.specs.declared.command.Command.{Command}
 use Rattle.script.specs.declared.command.Command.TheVariants.{Llx, Scx, Vlx, Set, Map}
 use Rattle.spelling.specs.declared.request.Request.TheVariants.{Insert as InsertOf, Delete as DeleteOf, Get as GetOf, Successor as SuccessorOf, Range as RangeOf}
 use Rattle.record.specs.declared.record.Line.{Line}
-use Rattle.record.specs.declared.record.Answer.{Answer}
-use Rattle.record.specs.declared.record.Answer.TheVariants.{Snapshot, Finalized, Fail, Done, Lost, Same, Changed, Unlinked, Value, Pair as PairOf, Pairs, Contended, Full, NoMemory}
-use Rattle.record.specs.MapRecord.{map_call, map_at, written_log, reply_told}
+use Rattle.record.specs.MapRecord.{map_call, map_at, written_log}
 use Rattle.record.specs.Placed.{IsGreatestTurn}
 use Rattle.places.specs.declared.places.Place.{Place}
 use Rattle.places.specs.Entries.{AreEntries}
@@ -125,27 +123,10 @@ module _ (command : Command) (pairs : List Pair) (all : List Place) (calls : Lis
       lightest : weight_at (is_unlike command pairs) (key_bound (changes_of all)) (changes_of all) best ≡ 0
       lightest = let l = weighed_all (is_unlike command pairs) (key_bound (changes_of all)) first last all best more rest x falls n from to in let w = weightless n told in omega (l, w, arith)
 
--- In the words of an answer
+-- In the words of a reply
 
--- what is found of the pairs that an answer tells is found of its reply
-pub found_reply : (command : Command) (call : MapCall) (answer : Answer) (pairs : List Pair) (calls : List Call) (lines : List Line) (n first last m : ℕ) → IsOrderedRead command → map_call (Some command) ≡ Some call → pairs_in (reply_told answer) ≡ pairs → reply_told answer ≡ Some (reply call (map_at calls lines n)) → (pairs_read command (map_at calls lines n) ≡ pairs → IsGreatestTurn (λ j. pairs_read command (map_at calls lines j) ≡ pairs) first last m) → IsGreatestTurn (λ j. reply_told answer ≡ Some (reply call (map_at calls lines j))) first last m
-found_reply command call answer pairs calls lines n first last m ordered is tells says found =
-    let told = sym (reply_tells command call (map_at calls lines n) ordered is) ∙ ap pairs_in (sym says) ∙ tells in
-    greatest_reply command call (reply_told answer) calls lines n first last m ordered is says (subst (λ ps. IsGreatestTurn (λ j. pairs_read command (map_at calls lines j) ≡ ps) first last m) (sym tells) (found told))
-
--- an answer that tells no pairs
-pub no_pairs : (answer : Answer) → ((p : Pair) → answer ≢ PairOf p) → ((ps : _) → answer ≢ Pairs ps) → pairs_in (reply_told answer) ≡ []
-no_pairs (PairOf p) one many = absurd (one p refl)
-no_pairs (Pairs ps) one many = absurd (many ps refl)
-no_pairs (Value v) one many = refl
-no_pairs (Snapshot left right) one many = refl
-no_pairs Finalized one many = refl
-no_pairs (Fail node scx) one many = refl
-no_pairs Done one many = refl
-no_pairs (Lost node scx) one many = refl
-no_pairs Same one many = refl
-no_pairs (Changed node scx) one many = refl
-no_pairs (Unlinked node) one many = refl
-no_pairs (Contended node scx) one many = refl
-no_pairs (Full what left) one many = refl
-no_pairs NoMemory one many = refl
+-- what is found of the pairs that a reply tells is found of the reply
+pub found_reply : (command : Command) (call : MapCall) (told : Option MapReply) (pairs : List Pair) (calls : List Call) (lines : List Line) (n first last m : ℕ) → IsOrderedRead command → map_call (Some command) ≡ Some call → pairs_in told ≡ pairs → told ≡ Some (reply call (map_at calls lines n)) → (pairs_read command (map_at calls lines n) ≡ pairs → IsGreatestTurn (λ j. pairs_read command (map_at calls lines j) ≡ pairs) first last m) → IsGreatestTurn (λ j. told ≡ Some (reply call (map_at calls lines j))) first last m
+found_reply command call told pairs calls lines n first last m ordered is tells says found =
+    let read = sym (reply_tells command call (map_at calls lines n) ordered is) ∙ ap pairs_in (sym says) ∙ tells in
+    greatest_reply command call told calls lines n first last m ordered is says (subst (λ ps. IsGreatestTurn (λ j. pairs_read command (map_at calls lines j) ≡ ps) first last m) (sym tells) (found read))

@@ -1,6 +1,6 @@
 -- A call that has answered and changed nothing took place in a turn of its own that `greatest`
 -- finds.
-use Rattle.std.proofs.Common.{◌≡◌, ◌≢◌, ℕ, zero, suc, ◌<◌, ◌≤◌, inl, inr, ⊎_elim, false, leb, List, [], ◌∷◌, take, arith, Option, Some, None, IfSome, refl, sym, ap, subst}
+use Rattle.std.proofs.Common.{◌≡◌, ◌≢◌, ℕ, zero, suc, ◌<◌, ◌≤◌, inl, inr, ⊎_elim, false, leb, List, [], ◌∷◌, take, arith, Option, Some, None, IfSome, refl, sym, ◌∙◌, ap, subst}
 use Rattle.std.specs.Prelude.{IfNone}
 use Rattle.std.proofs.lemmas.Bool.{cases_lt, lt-leb, and_right}
 use Rattle.arena.specs.declared.layout.Layout.{Layout}
@@ -12,9 +12,10 @@ use Rattle.record.specs.Rules.Range.{TakesNothing}
 use Rattle.script.specs.declared.call.Call.{Call}
 use Rattle.script.specs.declared.command.Command.TheVariants.{Map}
 use Rattle.spelling.specs.declared.request.Request.TheVariants.{Delete as DeleteOf, Get as GetOf}
+use Rattle.spelling.specs.declared.reply.Reply.TheVariants.{Value}
 use Rattle.record.specs.declared.record.Line.{Line}
 use Rattle.record.specs.declared.record.Finished.{Finished}
-use Rattle.record.specs.declared.record.Answer.TheVariants.{Value}
+use Rattle.record.specs.declared.record.Answer.TheVariants.{Map as MapAnswer}
 use Rattle.record.specs.Turns.{history, turns, answered, begin, start, won, entry_owed, is_update}
 use Rattle.record.specs.Commands.{next_command}
 use Rattle.record.specs.CommandRules.{MayMake}
@@ -23,7 +24,7 @@ use Rattle.record.specs.MapRecord.{reply_told, map_at, written_log, entries_of_c
 use Rattle.record.specs.Placed.{IsGreatestTurn, IsReading}
 use Rattle.record.specs.SpelledMap.{AreSpelled}
 use Rattle.record.specs.LawfulRun.{AreLines}
-use Rattle.record.proofs.Lemmas.{entries_none}
+use Rattle.record.proofs.Lemmas.{entries_none, value_told}
 use Rattle.places.proofs.Turns.{IsAnsweredIn, answer_turn, had_turn}
 
 -- what is found for the call
@@ -33,14 +34,21 @@ pub record IsFoundFor (calls : List Call) (lines : List Line) (key : ℕ) (answe
 
 -- a call that tells the value of its key, and that the map has had so after a turn of its own, is a
 -- reading where it stands as was found for it
-reading_placed : (lay : Layout) (tries : ℕ) (calls : List Call) (lines : List Line) (r : Finished) (call : MapCall) (key : ℕ) (answer : Option ℕ) → ((m : List Pair) → reply call m ≡ OneValue (get key m)) → AreLines lay tries calls lines → won lay lines r.client.0 ≡ None → r.call ≡ answered lines r.client.0 → r.end ≡ turns lines → r.answer ≡ Value answer → IsAnsweredIn calls lines key answer r.begin → IsFoundFor calls lines key answer r.begin r.end r.moment → IsReading calls lines call r
+reading_placed : (lay : Layout) (tries : ℕ) (calls : List Call) (lines : List Line) (r : Finished) (call : MapCall) (key : ℕ) (answer : Option ℕ) → ((m : List Pair) → reply call m ≡ OneValue (get key m)) → AreLines lay tries calls lines → won lay lines r.client.0 ≡ None → r.call ≡ answered lines r.client.0 → r.end ≡ turns lines → r.answer ≡ MapAnswer (Value answer) → IsAnsweredIn calls lines key answer r.begin → IsFoundFor calls lines key answer r.begin r.end r.moment → IsReading calls lines call r
 reading_placed lay tries calls lines r call key answer says a unwon number end told some found = go r.moment refl found
   where
+    says_so : reply_told r.answer ≡ Some (OneValue answer)
+    says_so = ap reply_told told ∙ value_told answer
+
     tells : (n : ℕ) → get key (map_at calls lines n) ≡ answer → reply_told r.answer ≡ Some (reply call (map_at calls lines n))
-    tells n d = rw (told, says (map_at calls lines n), d) refl
+    tells n d =
+        let same : Some (OneValue answer) ≡ Some (reply call (map_at calls lines n)) = rw (says (map_at calls lines n), d) refl in
+        says_so ∙ same
 
     gives : (n : ℕ) → reply_told r.answer ≡ Some (reply call (map_at calls lines n)) → get key (map_at calls lines n) ≡ answer
-    gives n d = let y : Some (OneValue answer) ≡ Some (OneValue (get key (map_at calls lines n))) = rw (told, says (map_at calls lines n)) at d in cc
+    gives n d =
+        let y : Some (OneValue answer) ≡ Some (OneValue (get key (map_at calls lines n))) = rw (says (map_at calls lines n)) at (sym says_so ∙ d) in
+        cc
 
     go : (moment : Option ℕ) → r.moment ≡ moment → IsFoundFor calls lines key answer r.begin r.end moment → IsReading calls lines call r
     go None same y = absurd (y.none some.0 some.1 (subst (λ (n : ℕ). some.0 ≤ n) (sym end) some.2) some.3)
@@ -62,7 +70,7 @@ pub get_turn : (lay : Layout) (tries : ℕ) (calls : List Call) (lines : List Li
 get_turn lay tries calls lines c key answer first a x owed is e at = answer_turn lay tries calls c (Map (GetOf key)) lines key answer first (get_reads key) a x owed is e at
 
 -- so a get that stands there is a reading
-pub get_placed : (lay : Layout) (tries : ℕ) (calls : List Call) (lines : List Line) (r : Finished) (key : ℕ) (answer : Option ℕ) → AreLines lay tries calls lines → AreSpelled lay calls lines → entry_owed lay lines ≡ None → next_command calls lines r.client.0 ≡ Some (Map (GetOf key)) → won lay lines r.client.0 ≡ None → r.call ≡ answered lines r.client.0 → begin lines r.client.0 ≡ Some r.begin → r.end ≡ turns lines → r.answer ≡ Value answer → IsAnswerAt lay (history lay.mode lines) (start lay.mode lines r.client.0) key answer → IsFoundFor calls lines key answer r.begin r.end r.moment → IsReading calls lines (Get key) r
+pub get_placed : (lay : Layout) (tries : ℕ) (calls : List Call) (lines : List Line) (r : Finished) (key : ℕ) (answer : Option ℕ) → AreLines lay tries calls lines → AreSpelled lay calls lines → entry_owed lay lines ≡ None → next_command calls lines r.client.0 ≡ Some (Map (GetOf key)) → won lay lines r.client.0 ≡ None → r.call ≡ answered lines r.client.0 → begin lines r.client.0 ≡ Some r.begin → r.end ≡ turns lines → r.answer ≡ MapAnswer (Value answer) → IsAnswerAt lay (history lay.mode lines) (start lay.mode lines r.client.0) key answer → IsFoundFor calls lines key answer r.begin r.end r.moment → IsReading calls lines (Get key) r
 get_placed lay tries calls lines r key answer a x owed is unwon number e end told at found = reading_placed lay tries calls lines r (Get key) key answer (λ m. refl) a unwon number end told (get_turn lay tries calls lines r.client.0 key answer r.begin a x owed is e at) found
 
 -- A delete of a key that the map lacks
@@ -72,7 +80,7 @@ pub absent_turn : (lay : Layout) (tries : ℕ) (calls : List Call) (lines : List
 absent_turn lay tries calls lines c key first a x owed is e had = had_turn lay tries calls c (Map (DeleteOf key)) lines key None first a x owed is e had
 
 -- so one that stands there is a reading too
-pub absent_placed : (lay : Layout) (tries : ℕ) (calls : List Call) (lines : List Line) (r : Finished) (key : ℕ) → AreLines lay tries calls lines → AreSpelled lay calls lines → entry_owed lay lines ≡ None → next_command calls lines r.client.0 ≡ Some (Map (DeleteOf key)) → won lay lines r.client.0 ≡ None → r.call ≡ answered lines r.client.0 → begin lines r.client.0 ≡ Some r.begin → r.end ≡ turns lines → r.answer ≡ Value None → HadAtKey lay (history lay.mode lines) (start lay.mode lines r.client.0) key None → IsFoundFor calls lines key None r.begin r.end r.moment → IsReading calls lines (Edit (Delete key)) r
+pub absent_placed : (lay : Layout) (tries : ℕ) (calls : List Call) (lines : List Line) (r : Finished) (key : ℕ) → AreLines lay tries calls lines → AreSpelled lay calls lines → entry_owed lay lines ≡ None → next_command calls lines r.client.0 ≡ Some (Map (DeleteOf key)) → won lay lines r.client.0 ≡ None → r.call ≡ answered lines r.client.0 → begin lines r.client.0 ≡ Some r.begin → r.end ≡ turns lines → r.answer ≡ MapAnswer (Value None) → HadAtKey lay (history lay.mode lines) (start lay.mode lines r.client.0) key None → IsFoundFor calls lines key None r.begin r.end r.moment → IsReading calls lines (Edit (Delete key)) r
 absent_placed lay tries calls lines r key a x owed is unwon number e end told had found = reading_placed lay tries calls lines r (Edit (Delete key)) key None (λ m. refl) a unwon number end told (absent_turn lay tries calls lines r.client.0 key r.begin a x owed is e had) found
 
 -- An ordered read

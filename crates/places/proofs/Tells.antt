@@ -8,14 +8,16 @@ use Rattle.std.specs.Ordering.{nat_cmp}
 use Rattle.std.specs.BTreeMap.{is_at}
 use Rattle.std.proofs.lemmas.Bool.{eq-eqb, ne_eqb, cases_eq}
 use Rattle.std.proofs.lemmas.Grind.{common_steps}
+use Rattle.std.proofs.lemmas.List.{length-map}
 use Rattle.std.proofs.lemmas.Map.Keys.{sorted_tail}
 use Rattle.std.proofs.lemmas.Map.Views.{All-after_first}
 use Rattle.spelling.specs.declared.pair.Pair.{Pair}
 use Rattle.spelling.specs.OrderedMap.{get, AllAbove, IsRising}
+use Rattle.spelling.specs.Replies.{word_pair}
 use Rattle.script.specs.declared.call.Call.{Call}
 use Rattle.script.specs.declared.command.Command.{Command}
 use Rattle.record.specs.declared.record.Line.{Line}
-use Rattle.record.specs.MapRecord.{written_log, map_at}
+use Rattle.record.specs.MapRecord.{written_log, map_at, number_pairs}
 use Rattle.places.specs.declared.places.Place.{Place}
 use Rattle.places.specs.Entries.{AreEntries}
 use Rattle.places.specs.Links.{latest}
@@ -169,11 +171,11 @@ module _ {X : Type 0} (value : ℕ → Option ℕ) (all : List (ℕ × X)) (most
   so_many es left rest none x = rw none (rw none at x)
 
   -- and no pair may be left at the end
-  pub told_all : (left : ℕ) (rest : List Pair) → IsToldBy value all most pairs [] left rest → length rest ≡ 0 → take most (held value all) ≡ pairs
+  pub told_all : (left : ℕ) (rest : List (ℕ × ℕ)) → IsToldBy value all most pairs [] left (number_pairs rest) → length rest ≡ 0 → take most (held value all) ≡ pairs
   told_all zero [] x empty = x.0 refl
   told_all (suc n) [] x empty = x.0 refl
   told_all left (p ∷ rest) x empty = absurd (omega (empty, arith))
 
-  pub told_less : (left : ℕ) (rest : List Pair) → IsToldBy value all most pairs [] left rest → (length rest ≡ 0 → ⊥) → take most (held value all) ≢ pairs
-  told_less zero rest x some told = some (ap length (sym (x.1 told)))
-  told_less (suc n) rest x some told = some (ap length (sym (x.1 told)))
+  pub told_less : (left : ℕ) (rest : List (ℕ × ℕ)) → IsToldBy value all most pairs [] left (number_pairs rest) → (length rest ≡ 0 → ⊥) → take most (held value all) ≢ pairs
+  told_less zero rest x some told = some (sym (length-map rest (word_pair (λ n. n) (λ n. n))) ∙ ap length (sym (x.1 told)))
+  told_less (suc n) rest x some told = some (sym (length-map rest (word_pair (λ n. n) (λ n. n))) ∙ ap length (sym (x.1 told)))

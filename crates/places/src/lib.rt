@@ -6,4 +6,5 @@ mod changed;
 mod ordered;
 mod places;
 
+pub use ordered::pairs_told;
 pub use places::{Change, Places};

@@ -6,15 +6,34 @@ ghost use Rattle.std.specs.Range.Bound.{IsForward};
 ghost use Rattle.std.specs.BTreeMap.Range.{IsLeBy, IsLtBy, range_contains};
 ghost use Rattle.spelling.specs.declared.pair.Pair.{Pair as PairOf};
 ghost use Rattle.spelling.specs.OrderedMap.{get};
-ghost use Rattle.places.specs.Ordered.{looks_for, most_told, reaches, is_unlike, IsNextBest};
+ghost use Rattle.spelling.specs.Replies.{number_reply};
+ghost use Rattle.record.specs.MapRecord.{number_pairs};
+ghost use Rattle.places.specs.Ordered.{looks_for, most_told, pairs_in, reaches, is_unlike, IsNextBest};
 
 use script::Command;
-use spelling::{Pair, Request};
+use spelling::{Reply, Request};
 use std::ops::Bound;
+use std::slice;
+
+/// The pairs that a reply tells.
+pub fn pairs_told(reply: &Reply<u64, u64>) -> &[(u64, u64)]
+    ensures { number_pairs result.now ≡ pairs_in (number_reply reply.now) }
+{
+    match reply {
+        Reply::Pair(Some(pair)) => slice::from_ref(pair),
+        Reply::Pairs(pairs) => pairs.as_slice(),
+        _ => &[],
+    }
+}
 
 /// Whether a key of this value is not as these pairs tell, which the read has told.
-pub(crate) fn is_unlike(command: &Command, pairs: &[Pair], key: u64, value: Option<u64>) -> bool
-    ensures { result ≡ is_unlike command.now pairs.now key value }
+pub(crate) fn is_unlike(
+    command: &Command,
+    pairs: &[(u64, u64)],
+    key: u64,
+    value: Option<u64>,
+) -> bool
+    ensures { result ≡ is_unlike command.now (number_pairs pairs.now) key value }
 {
     looks_for(command, key)
         && reaches(most_told(command), pairs, key)
@@ -58,18 +77,18 @@ pub(crate) fn most_told(command: &Command) -> usize
 }
 
 /// Whether these pairs, of at most so many, tell what the key has.
-fn reaches(most: usize, pairs: &[Pair], key: u64) -> bool
-    ensures { result ≡ reaches most pairs.now key }
+fn reaches(most: usize, pairs: &[(u64, u64)], key: u64) -> bool
+    ensures { result ≡ reaches most (number_pairs pairs.now) key }
 {
     pairs.len() < most || go_as_far(pairs, key)
 }
 
 /// Whether one of these pairs has this key, or a key above it.
-fn go_as_far(pairs: &[Pair], key: u64) -> bool
-    ensures { result ≡ list_any (λ p. leb key p.key) pairs.now }
+fn go_as_far(pairs: &[(u64, u64)], key: u64) -> bool
+    ensures { result ≡ list_any (λ p. leb key p.key) (number_pairs pairs.now) }
 {
     for pair in pairs {
-        if key <= pair.key {
+        if key <= pair.0 {
             return true;
         }
     }
@@ -77,12 +96,12 @@ fn go_as_far(pairs: &[Pair], key: u64) -> bool
 }
 
 /// The pairs behind the first one, where that has this key and this value.
-pub(crate) fn behind(pairs: &[Pair], key: u64, value: u64) -> Option<&[Pair]>
-    ensures some { IfSome result (λ rest. (first : PairOf) × (first.key ≡ key) × (first.value ≡ value) × (pairs.now ≡ first ∷ rest.now)) }
-    ensures none { IfNone result ((first : PairOf) (rest : List PairOf) → first.key ≡ key → first.value ≡ value → pairs.now ≢ first ∷ rest) }
+pub(crate) fn behind(pairs: &[(u64, u64)], key: u64, value: u64) -> Option<&[(u64, u64)]>
+    ensures some { IfSome result (λ rest. (first : PairOf) × (first.key ≡ key) × (first.value ≡ value) × (number_pairs pairs.now ≡ first ∷ number_pairs rest.now)) }
+    ensures none { IfNone result ((first : PairOf) (rest : List PairOf) → first.key ≡ key → first.value ≡ value → number_pairs pairs.now ≢ first ∷ rest) }
 {
     let (first, rest) = pairs.split_first()?;
-    if first.key == key && first.value == value {
+    if first.0 == key && first.1 == value {
         Some(rest)
     } else {
         None
@@ -90,12 +109,12 @@ pub(crate) fn behind(pairs: &[Pair], key: u64, value: u64) -> Option<&[Pair]>
 }
 
 /// The value of the key in these pairs.
-fn value_in(pairs: &[Pair], key: u64) -> Option<u64>
-    ensures { result ≡ get key pairs.now }
+fn value_in(pairs: &[(u64, u64)], key: u64) -> Option<u64>
+    ensures { result ≡ get key (number_pairs pairs.now) }
 {
     for pair in pairs {
-        if key == pair.key {
-            return Some(pair.value);
+        if key == pair.0 {
+            return Some(pair.1);
         }
     }
     None

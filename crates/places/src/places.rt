@@ -5,11 +5,10 @@ ghost use Rattle.std.specs.BTreeMap.{get as get_newest};
 ghost use Rattle.places.specs.Links.{latest, AreLinked};
 
 use crate::changed::changed_key;
-use crate::ordered::{behind, bounds, is_unlike, most_told, next_best};
+use crate::ordered::{behind, bounds, is_unlike, most_told, next_best, pairs_told};
 use arena::NoMemory;
-use record::Answer;
 use script::{Call, Command};
-use spelling::Pair;
+use spelling::Reply;
 use std::alloc::Global;
 use std::collections::BTreeMap;
 
@@ -43,8 +42,9 @@ impl Places {
     ghost use Rattle.record.specs.declared.record.Line.{Line};
     ghost use Rattle.record.specs.MapRecord.{map_at};
     ghost use Rattle.record.specs.Placed.{IsGreatestTurn};
-    ghost use Rattle.spelling.specs.OrderedMap.{MapCall, get, reply};
-    ghost use Rattle.record.specs.MapRecord.{map_call, reply_told};
+    ghost use Rattle.spelling.specs.OrderedMap.{MapCall, get, reply as replies_on};
+    ghost use Rattle.record.specs.MapRecord.{map_call, number_pairs};
+    ghost use Rattle.spelling.specs.Replies.{number_reply};
     ghost use Rattle.places.specs.Ordered.{IsOrderedRead, FallFrom, pairs_read};
     ghost use Rattle.places.specs.Links.{newest_value};
     ghost use Rattle.places.specs.declared.places.Place.{Place};
@@ -142,9 +142,9 @@ impl Places {
 
     /// Whether these pairs are what an ordered read tells of the map after a turn. It goes over the
     /// keys between which the read looks alone, and no further than the read tells.
-    pub fn tells(&self, command: &Command, pairs: &[Pair], turn: u64) -> bool
-        ensures told { (calls : List Call) (lines : List Line) → AreEntries calls lines (changes self.now) → IsTrue result → pairs_read command.now (map_at calls lines turn) ≡ pairs.now }
-        ensures other { (calls : List Call) (lines : List Line) → AreEntries calls lines (changes self.now) → result ≡ false → pairs_read command.now (map_at calls lines turn) ≢ pairs.now }
+    pub fn tells(&self, command: &Command, pairs: &[(u64, u64)], turn: u64) -> bool
+        ensures told { (calls : List Call) (lines : List Line) → AreEntries calls lines (changes self.now) → IsTrue result → pairs_read command.now (map_at calls lines turn) ≡ number_pairs pairs.now }
+        ensures other { (calls : List Call) (lines : List Line) → AreEntries calls lines (changes self.now) → result ≡ false → pairs_read command.now (map_at calls lines turn) ≢ number_pairs pairs.now }
     {
         let mut untold = most_told(command);
         let mut rest = pairs;
@@ -180,23 +180,25 @@ impl Places {
     }
 
     /// The greatest turn from `first` to `last` after which the map replies to an ordered read what
-    /// this answer tells, if there is one.
-    pub fn greatest_of(&self, command: &Command, answer: &Answer, first: u64, last: u64) -> u64
+    /// this reply tells, if there is one.
+    pub fn greatest_of(
+        &self,
+        command: &Command,
+        reply: &Reply<u64, u64>,
+        first: u64,
+        last: u64,
+    ) -> u64
         ensures within { first ≤ last → FallFrom (suc last) (changes self.now) → (first ≤ result) × (result ≤ last) }
-        ensures greatest { (calls : List Call) (lines : List Line) (call : MapCall) (n : ℕ) → AreEntries calls lines (changes self.now) → FallFrom (suc last) (changes self.now) → IsOrderedRead command.now → map_call (Some command.now) ≡ Some call → first ≤ n → n ≤ last → reply_told answer.now ≡ Some (reply call (map_at calls lines n)) → IsGreatestTurn (λ m. reply_told answer.now ≡ Some (reply call (map_at calls lines m))) first last result }
+        ensures greatest { (calls : List Call) (lines : List Line) (call : MapCall) (n : ℕ) → AreEntries calls lines (changes self.now) → FallFrom (suc last) (changes self.now) → IsOrderedRead command.now → map_call (Some command.now) ≡ Some call → first ≤ n → n ≤ last → number_reply reply.now ≡ Some (replies_on call (map_at calls lines n)) → IsGreatestTurn (λ m. number_reply reply.now ≡ Some (replies_on call (map_at calls lines m))) first last result }
     {
-        match answer {
-            Answer::Pair(pair) => self.greatest_told(command, &[*pair], first, last),
-            Answer::Pairs(pairs) => self.greatest_told(command, pairs.as_slice(), first, last),
-            _ => self.greatest_told(command, &[], first, last),
-        }
+        self.greatest_told(command, pairs_told(reply), first, last)
     }
 
     /// The same by the pairs that are told: the best turn, after which the fewest keys are not as
     /// told, and of these the greatest. It goes back from change to change.
-    fn greatest_told(&self, command: &Command, pairs: &[Pair], first: u64, last: u64) -> u64
+    fn greatest_told(&self, command: &Command, pairs: &[(u64, u64)], first: u64, last: u64) -> u64
         ensures within { first ≤ last → FallFrom (suc last) (changes self.now) → (first ≤ result) × (result ≤ last) }
-        ensures greatest { (calls : List Call) (lines : List Line) (n : ℕ) → AreEntries calls lines (changes self.now) → FallFrom (suc last) (changes self.now) → first ≤ n → n ≤ last → pairs_read command.now (map_at calls lines n) ≡ pairs.now → IsGreatestTurn (λ m. pairs_read command.now (map_at calls lines m) ≡ pairs.now) first last result }
+        ensures greatest { (calls : List Call) (lines : List Line) (n : ℕ) → AreEntries calls lines (changes self.now) → FallFrom (suc last) (changes self.now) → first ≤ n → n ≤ last → pairs_read command.now (map_at calls lines n) ≡ number_pairs pairs.now → IsGreatestTurn (λ m. pairs_read command.now (map_at calls lines m) ≡ number_pairs pairs.now) first last result }
     {
         let mut best = last;
         let mut more = 0;

@@ -1,4 +1,5 @@
 mod Begun
+mod Told
 mod Ordered
 mod Legality
 pub mod Lemmas

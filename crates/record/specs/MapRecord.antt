@@ -1,9 +1,10 @@
 -- What the lines of a record say of the map: its calls, the log, the map after each turn. Lines
 -- stand here with the newest first.
-use Rattle.std.specs.Prelude.{ℕ, suc, Bool, cond, ◌&&◌, eqb, leb, List, [], ◌∷◌, Option, Some, None, slice_get}
+use Rattle.std.specs.Prelude.{ℕ, suc, Bool, cond, ◌&&◌, eqb, leb, List, [], ◌∷◌, map, Option, Some, None, slice_get}
 use Rattle.spelling.specs.declared.pair.Pair.{Pair}
-use Rattle.spelling.specs.OrderedMap.{MapCall, MapReply, OneValue, OnePair, ManyPairs, after}
+use Rattle.spelling.specs.OrderedMap.{MapCall, MapReply, after}
 use Rattle.spelling.specs.Requests.{map_request}
+use Rattle.spelling.specs.Replies.{word_pair, number_reply}
 use Rattle.script.specs.declared.call.Call.{Call}
 use Rattle.script.specs.declared.command.Command.{Command}
 use Rattle.script.specs.declared.command.Command.TheVariants.{Map}
@@ -11,7 +12,7 @@ use Rattle.record.specs.declared.record.Line.{Line}
 use Rattle.record.specs.declared.record.Line.TheVariants.{Step, Log, Reply as ReplyLine}
 use Rattle.record.specs.declared.record.Entry.{Entry}
 use Rattle.record.specs.declared.record.Answer.{Answer}
-use Rattle.record.specs.declared.record.Answer.TheVariants.{Value, Pair as PairOf, Pairs}
+use Rattle.record.specs.declared.record.Answer.TheVariants.{Map as MapAnswer}
 use Rattle.record.specs.Commands.{commands}
 
 -- a command as a call of the map, if it is one
@@ -23,11 +24,13 @@ map_call _ = None
 abbrev pub map_call_of : List Call → ℕ → ℕ → Option MapCall
 map_call_of calls c j = map_call (slice_get (commands calls c) j)
 
--- what an answer tells of the map; a refusal tells nothing
+-- pairs of numbers as pairs of the map
+abbrev pub number_pairs : List (ℕ × ℕ) → List Pair
+number_pairs = map (word_pair (λ n. n) (λ n. n))
+
+-- what an answer tells of the map; a refusal tells nothing, nor does an answer of cells
 abbrev pub reply_told : Answer → Option MapReply
-reply_told (Value v) = Some (OneValue v)
-reply_told (PairOf p) = Some (OnePair p)
-reply_told (Pairs ps) = Some (ManyPairs ps.items)
+reply_told (MapAnswer reply) = number_reply reply
 reply_told _ = None
 
 -- the entries that were written down, the newest first

@@ -1,7 +1,7 @@
 //! What a run leaves behind.
 use arena::{Kind, NodeNo, PassNo, Resource, ScxNo};
 use script::Script;
-use spelling::Pair;
+use spelling::Reply;
 
 /// The script, and the lines of a run in order.
 #[derive(Debug, Drop)]
@@ -103,21 +103,17 @@ pub enum Answer {
     Changed { node: NodeNo, scx: ScxNo },
     /// `scx`, `vlx`: the client keeps no snapshot of this cell, the first such.
     Unlinked { node: NodeNo },
-    /// `get`: the value of its key in the map, if the key has one, at the reply's moment. `insert`,
-    /// `delete`: the value that its key had, if it had one, just before the reply's moment. A
-    /// `delete` that tells none has changed nothing. `successor`: none, for no key of the map is
-    /// above its own.
-    Value(Option<u64>),
-    /// `successor`: the pair of the map with the least key above its own, at the reply's moment.
-    Pair(Pair),
-    /// `range`: the first pairs of the map between its keys, by rising key, at the reply's moment.
-    Pairs(Vec<Pair>),
-    /// `insert`, `delete`, `successor`, `range`: all its tries were lost, and `scx` was in progress
-    /// over the node `node` of the tree within the call. An edit was not made and never will be.
-    Contended { node: NodeNo, scx: ScxNo },
-    /// `scx`, `set`, `insert`, `delete`: `left` of the resource are left in the client's share, too
-    /// few for the call.
+    /// A call of the map, by what it replies. `get`: `Value`, the value of its key in the map, if
+    /// the key has one, at the reply's moment. `insert`, `delete`: `Value`, the value that its key
+    /// had, if it had one, just before the reply's moment; a `delete` that tells none has changed
+    /// nothing. `successor`: `Pair`, the pair of the map with the least key above its own, if there
+    /// is one, at the reply's moment. `range`: `Pairs`, the first pairs of the map between its
+    /// keys, by rising key, at the reply's moment. All but `get`: `Contended`, all its tries were
+    /// lost, and `scx` was in progress over the node `node` of the tree within the call; an edit
+    /// was not made and never will be. `insert`, `delete`: `Full`, so many of the resource are left
+    /// in the client's share, too few for the call. `successor`, `range`: `NoMemory`, an allocation
+    /// was refused.
+    Map(Reply<u64, u64>),
+    /// `scx`, `set`: `left` of the resource are left in the client's share, too few for the call.
     Full { what: Resource, left: u32 },
-    /// `successor`, `range`: an allocation was refused.
-    NoMemory,
 }

@@ -4,8 +4,9 @@ use Rattle.arena.specs.declared.layout.Layout.{Layout}
 use Rattle.arena.specs.History.{History}
 use Rattle.spelling.specs.OrderedMap.{Edit, Delete}
 use Rattle.spelling.specs.Runs.{Makes}
+use Rattle.spelling.specs.declared.reply.Reply.TheVariants.{Value, Contended, Full}
 use Rattle.record.specs.declared.record.Answer.{Answer}
-use Rattle.record.specs.declared.record.Answer.TheVariants.{Value, Contended, Full}
+use Rattle.record.specs.declared.record.Answer.TheVariants.{Map}
 use Rattle.record.specs.Answers.{WasBlockedBy}
 use Rattle.record.specs.Edits.{EditAfterStep, HadAtKey}
 use Rattle.record.specs.MapRecord.{reply_told}
@@ -15,19 +16,19 @@ use Rattle.record.specs.Shares.{HasTooFewToTry}
 
 -- one that tells a value has an entry, and no other: where the map lacks the key it is a reading
 abbrev pub has_deleted : Answer → Bool
-has_deleted (Value (Some old)) = true
+has_deleted (Map (Value (Some old))) = true
 has_deleted _ = false
 
 -- what its answers say
 abbrev pub DeleteIsRight : ℕ → Layout → ℕ → History → History → (ℕ → Option History) → Answer → Type 0
 -- of one that tells a value, its entry and where it took place say all
-DeleteIsRight key lay c now start linked (Value (Some old)) = Unit {0}
+DeleteIsRight key lay c now start linked (Map (Value (Some old))) = Unit {0}
 -- after some row behind the call's begin the map lacked the key
-DeleteIsRight key lay c now start linked (Value None) = HadAtKey lay now start key None
-DeleteIsRight key lay c now start linked (Contended node scx) = WasBlockedBy lay c now start node.0 scx.0
+DeleteIsRight key lay c now start linked (Map (Value None)) = HadAtKey lay now start key None
+DeleteIsRight key lay c now start linked (Map (Contended node scx)) = WasBlockedBy lay c now start node.0 scx.0
 -- after some row behind the call's begin the map had the key, and the share has too little for the
 -- copy of its leaf's sibling, and not by the call's own doing
-DeleteIsRight key lay c now start linked (Full what left) = (old : ℕ) × HadAtKey lay now start key (Some old) × HasTooFewToTry lay c now start 1 what left
+DeleteIsRight key lay c now start linked (Map (Full full)) = (old : ℕ) × HadAtKey lay now start key (Some old) × HasTooFewToTry lay c now start 1 full.what full.left
 DeleteIsRight key lay c now start linked _ = ⊥
 
 -- in each of its tries: at most three steps for each level that the tree may have, two more than

@@ -4,8 +4,9 @@ use Rattle.arena.specs.declared.layout.Layout.{Layout}
 use Rattle.arena.specs.History.{History}
 use Rattle.spelling.specs.OrderedMap.{Edit, Insert}
 use Rattle.spelling.specs.Runs.{Makes}
+use Rattle.spelling.specs.declared.reply.Reply.TheVariants.{Value, Contended, Full}
 use Rattle.record.specs.declared.record.Answer.{Answer}
-use Rattle.record.specs.declared.record.Answer.TheVariants.{Value, Contended, Full}
+use Rattle.record.specs.declared.record.Answer.TheVariants.{Map}
 use Rattle.record.specs.Answers.{WasBlockedBy}
 use Rattle.record.specs.Edits.{EditAfterStep, HadAtKey}
 use Rattle.record.specs.MapRecord.{reply_told}
@@ -15,7 +16,7 @@ use Rattle.record.specs.Shares.{HasTooFewToTry}
 
 -- one that tells a value has an entry, and no other
 abbrev pub has_inserted : Answer → Bool
-has_inserted (Value old) = true
+has_inserted (Map (Value old)) = true
 has_inserted _ = false
 
 -- how many nodes it needs where the map has this at the key: for a present key a leaf, for a new
@@ -27,10 +28,10 @@ nodes_for None = 3
 -- what its answers say
 abbrev pub InsertIsRight : ℕ → Layout → ℕ → History → History → (ℕ → Option History) → Answer → Type 0
 -- of one that tells a value, its entry and where it took place say all
-InsertIsRight key lay c now start linked (Value old) = Unit {0}
-InsertIsRight key lay c now start linked (Contended node scx) = WasBlockedBy lay c now start node.0 scx.0
+InsertIsRight key lay c now start linked (Map (Value old)) = Unit {0}
+InsertIsRight key lay c now start linked (Map (Contended node scx)) = WasBlockedBy lay c now start node.0 scx.0
 -- the share has too little for what the map had at the key, and not by the call's own doing
-InsertIsRight key lay c now start linked (Full what left) = (old : Option ℕ) × HadAtKey lay now start key old × HasTooFewToTry lay c now start (nodes_for old) what left
+InsertIsRight key lay c now start linked (Map (Full full)) = (old : Option ℕ) × HadAtKey lay now start key old × HasTooFewToTry lay c now start (nodes_for old) full.what full.left
 InsertIsRight key lay c now start linked _ = ⊥
 
 -- in each of its tries: at most three steps for each level that the tree may have, two more than

@@ -4,8 +4,9 @@ use Rattle.arena.specs.declared.layout.Layout.{Layout}
 use Rattle.arena.specs.declared.step.Kind.TheVariants.{Fill}
 use Rattle.arena.specs.History.{History}
 use Rattle.spelling.specs.OrderedMap.{Range}
+use Rattle.spelling.specs.declared.reply.Reply.TheVariants.{Pairs, Contended, NoMemory}
 use Rattle.record.specs.declared.record.Answer.{Answer}
-use Rattle.record.specs.declared.record.Answer.TheVariants.{Pairs, Contended, NoMemory}
+use Rattle.record.specs.declared.record.Answer.TheVariants.{Map}
 use Rattle.record.specs.Answers.{WasBlockedBy}
 use Rattle.record.specs.MapRecord.{reply_told}
 use Rattle.record.specs.Placed.{IsPlacedOnMap}
@@ -17,23 +18,23 @@ TakesNothing low high most = (most ≡ 0) ⊎ (high < low)
 
 -- one that takes nothing answers so at once; any other may be refused memory before its first step
 abbrev pub RangeAtOnce : ℕ → ℕ → ℕ → Answer → Type 0
-RangeAtOnce low high most (Pairs found) = TakesNothing low high most × (found.items ≡ [])
-RangeAtOnce low high most NoMemory = ¬ TakesNothing low high most
+RangeAtOnce low high most (Map (Pairs found)) = TakesNothing low high most × (found.items ≡ [])
+RangeAtOnce low high most (Map NoMemory) = ¬ TakesNothing low high most
 RangeAtOnce low high most _ = ⊥
 
 -- it tells pairs, or is refused
 abbrev pub RangeAfterStep : Answer → Type 0
-RangeAfterStep (Pairs found) = Unit {0}
-RangeAfterStep (Contended node scx) = Unit {0}
-RangeAfterStep NoMemory = Unit {0}
+RangeAfterStep (Map (Pairs found)) = Unit {0}
+RangeAfterStep (Map (Contended node scx)) = Unit {0}
+RangeAfterStep (Map NoMemory) = Unit {0}
 RangeAfterStep _ = ⊥
 
 -- what its answers say
 abbrev pub RangeIsRight : Layout → ℕ → History → History → (ℕ → Option History) → Answer → Type 0
 -- of one that tells pairs, where it took place says all
-RangeIsRight lay c now start linked (Pairs found) = Unit {0}
-RangeIsRight lay c now start linked (Contended node scx) = WasBlockedBy lay c now start node.0 scx.0
-RangeIsRight lay c now start linked NoMemory = Unit {0}
+RangeIsRight lay c now start linked (Map (Pairs found)) = Unit {0}
+RangeIsRight lay c now start linked (Map (Contended node scx)) = WasBlockedBy lay c now start node.0 scx.0
+RangeIsRight lay c now start linked (Map NoMemory) = Unit {0}
 RangeIsRight lay c now start linked _ = ⊥
 
 -- in each of its tries, for each pair that it may take and for two more: at most 67 steps for each

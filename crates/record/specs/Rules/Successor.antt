@@ -1,11 +1,12 @@
 -- The rules of `successor`.
-use Rattle.std.specs.Prelude.{◌≢◌, ℕ, false, ◌+◌, ◌*◌, Option, None}
+use Rattle.std.specs.Prelude.{◌≢◌, ℕ, false, ◌+◌, ◌*◌, Option}
 use Rattle.arena.specs.declared.layout.Layout.{Layout}
 use Rattle.arena.specs.declared.step.Kind.TheVariants.{Fill}
 use Rattle.arena.specs.History.{History}
 use Rattle.spelling.specs.OrderedMap.{Successor}
+use Rattle.spelling.specs.declared.reply.Reply.TheVariants.{Pair, Contended, NoMemory}
 use Rattle.record.specs.declared.record.Answer.{Answer}
-use Rattle.record.specs.declared.record.Answer.TheVariants.{Value, Pair, Contended, NoMemory}
+use Rattle.record.specs.declared.record.Answer.TheVariants.{Map}
 use Rattle.record.specs.Answers.{WasBlockedBy}
 use Rattle.record.specs.MapRecord.{reply_told}
 use Rattle.record.specs.Placed.{IsPlacedOnMap}
@@ -13,24 +14,22 @@ use Rattle.record.specs.Rules.{Rules}
 
 -- it may be refused memory before its first step
 abbrev pub SuccessorAtOnce : Answer → Type 0
-SuccessorAtOnce NoMemory = Unit {0}
+SuccessorAtOnce (Map NoMemory) = Unit {0}
 SuccessorAtOnce _ = ⊥
 
 -- it tells a pair, or none, or is refused
 abbrev pub SuccessorAfterStep : Answer → Type 0
-SuccessorAfterStep (Value None) = Unit {0}
-SuccessorAfterStep (Pair found) = Unit {0}
-SuccessorAfterStep (Contended node scx) = Unit {0}
-SuccessorAfterStep NoMemory = Unit {0}
+SuccessorAfterStep (Map (Pair found)) = Unit {0}
+SuccessorAfterStep (Map (Contended node scx)) = Unit {0}
+SuccessorAfterStep (Map NoMemory) = Unit {0}
 SuccessorAfterStep _ = ⊥
 
 -- what its answers say
 abbrev pub SuccessorIsRight : Layout → ℕ → History → History → (ℕ → Option History) → Answer → Type 0
 -- of one that tells a pair, or none, where it took place says all
-SuccessorIsRight lay c now start linked (Value None) = Unit {0}
-SuccessorIsRight lay c now start linked (Pair found) = Unit {0}
-SuccessorIsRight lay c now start linked (Contended node scx) = WasBlockedBy lay c now start node.0 scx.0
-SuccessorIsRight lay c now start linked NoMemory = Unit {0}
+SuccessorIsRight lay c now start linked (Map (Pair found)) = Unit {0}
+SuccessorIsRight lay c now start linked (Map (Contended node scx)) = WasBlockedBy lay c now start node.0 scx.0
+SuccessorIsRight lay c now start linked (Map NoMemory) = Unit {0}
 SuccessorIsRight lay c now start linked _ = ⊥
 
 -- in each of its tries: at most 137 steps for each level that the tree may have, two more than
