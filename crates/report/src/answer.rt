@@ -1,6 +1,6 @@
 //! Answers as text.
 ghost use Rattle.std.specs.Prelude.{◌≡◌, ◌++◌, IfOk, IfSome, codes, decimal, string_bytes};
-ghost use Rattle.report.specs.Answers.{answer_text};
+ghost use Rattle.report.specs.Answers.{answer_text, rest_text};
 
 use crate::name::{blame_of, node_of};
 use crate::reply::{full_text, pairs_of, reply_text, telling_reply_of};
@@ -36,12 +36,21 @@ pub fn answer_text(alloc: Global, answer: &Answer) -> Result<String, AllocError>
 pub fn answer_of(alloc: Global, text: &str) -> Result<Option<Answer>, AllocError>
     ensures { IfOk result (λ o. IfSome o (λ answer. text.now ≡ answer_text answer)) }
 {
-    let pairs = match text.split_once(' ') {
-        Some(("pairs", told)) => pairs_of(alloc, Some(told))?,
-        None if text == "pairs" => pairs_of(alloc, None)?,
-        _ => return Ok(plain_answer_of(text)),
-    };
-    Ok(pairs.map(Answer::Map))
+    match text.split_once(' ') {
+        Some(("pairs", told)) => pairs_answer_of(alloc, Some(told)),
+        None if text == "pairs" => pairs_answer_of(alloc, None),
+        _ => Ok(plain_answer_of(text)),
+    }
+}
+
+/// The answer of the pairs that are told behind its name.
+fn pairs_answer_of(alloc: Global, told: Option<&str>) -> Result<Option<Answer>, AllocError>
+    ensures { IfOk result (λ o. IfSome o (λ answer. codes "pairs" ++ rest_text told.entry ≡ answer_text answer)) }
+{
+    match pairs_of(alloc, told)? {
+        Some(reply) => Ok(Some(Answer::Map(reply))),
+        None => Ok(None),
+    }
 }
 
 /// The answer that a text spells which does not tell many pairs.

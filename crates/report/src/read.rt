@@ -56,7 +56,12 @@ fn record_of<R: Read>(alloc: Global, from: &mut Metered<R>) -> Result<Record, Ro
 {
     let mut rows = Rows::new(alloc, from);
     let script = script_of(alloc, &mut rows)?;
-    let lines = lines_of(alloc, &mut rows, script.calls.as_slice(), script.layout.passes)?;
+    let lines = lines_of(
+        alloc,
+        &mut rows,
+        script.calls.as_slice(),
+        script.layout.passes,
+    )?;
     end_of(&mut rows, lines.as_slice())?;
     Ok(Record { script, lines })
 }
