@@ -20,7 +20,6 @@ mod totals;
 mod word;
 mod write;
 
-pub use answer::answer_text;
 pub use fault::ReportFault;
 pub use read::read_record;
 pub use reply::reply_text;
