@@ -42,7 +42,7 @@ use Rattle.player.specs.declared.run.Run.TheVariants.{Llx, Vlx, Edit, Get, Read}
 use Rattle.player.specs.declared.client.Client.{Client}
 use Rattle.player.specs.declared.client.Put.{Put}
 use Rattle.record.specs.declared.record.Answer.{Answer}
-use Rattle.record.specs.declared.record.Answer.TheVariants.{Unlinked}
+use Rattle.record.specs.declared.record.Answer.TheVariants.{Unlinked, Map as MapAnswer}
 use Rattle.record.specs.CommandRules.{most_steps}
 use Rattle.arena.specs.Share.{Remaining}
 use Rattle.arena.specs.Fills.{IsOwnScx, IsTakenScx}
@@ -69,9 +69,8 @@ use Rattle.order.specs.declared.range.RangeRun.{RangeRun}
 use Rattle.order.specs.declared.range.RangeAt.TheVariants.{Start as RangeStart}
 use Rattle.order.specs.declared.successor.SuccessorRun.{SuccessorRun}
 use Rattle.order.specs.declared.successor.SuccessorAt.TheVariants.{Start as NextStart}
-use Rattle.spelling.specs.declared.pair.Pair.{Pair as PairOf}
 use Rattle.std.specs.Global.{Global}
-use Rattle.record.specs.declared.record.Answer.TheVariants.{Pairs}
+use Rattle.spelling.specs.declared.reply.Reply.TheVariants.{Pairs}
 use Rattle.record.specs.Rules.Range.{TakesNothing}
 use Rattle.player.specs.ReadRuns.{HasReadTries, IsReadBy, ReadIsReady, read_left}
 use Rattle.player.specs.declared.read.ReadRun.{ReadRun}
@@ -155,7 +154,7 @@ read_starts v began c m command sound mode r u of ready tries left is = record {
 }
 
 -- a range that takes nothing answers so at once
-pub range_refuses : (v : ClientView) (began : Option ℕ) (c : Client) (low high most : ℕ) (found : Vec PairOf Global) → Rests v c → IsUnbegun v began → command_of v c ≡ Some (Map (RangeCommand low high most)) → TakesNothing low high most → found.items ≡ [] → Refuses v c (Pairs found)
+pub range_refuses : (v : ClientView) (began : Option ℕ) (c : Client) (low high most : ℕ) (found : Vec (ℕ × ℕ) Global) → Rests v c → IsUnbegun v began → command_of v c ≡ Some (Map (RangeCommand low high most)) → TakesNothing low high most → found.items ≡ [] → Refuses v c (MapAnswer (Pairs found))
 range_refuses v began c low high most found r u is nothing none = record {
   rests = r;
   command = Map (RangeCommand low high most);

@@ -29,8 +29,9 @@ use Rattle.record.specs.CommandRules.{MayAnswerAfterStep, enters, IsRight}
 use Rattle.record.specs.Edits.{HadAtKey}
 use Rattle.record.specs.Rules.Insert.{nodes_for}
 use Rattle.record.specs.Shares.{HasTooFew, HasTooFewToTry, WasBlocked}
+use Rattle.spelling.specs.declared.reply.Reply.TheVariants.{Value}
 use Rattle.record.specs.declared.record.Answer.{Answer}
-use Rattle.record.specs.declared.record.Answer.TheVariants.{Value}
+use Rattle.record.specs.declared.record.Answer.TheVariants.{Map as MapAnswer}
 use Rattle.script.specs.declared.command.Command.{Command}
 use Rattle.player.specs.declared.client.Client.{Client}
 use Rattle.player.specs.declared.edit.EditRun.{EditRun}
@@ -122,7 +123,7 @@ module _ (v : ClientView) (c : Client) (is_pass : c.pass.0 < v.layout.passes) (m
   done : (m : UpdateRun Deleted) (found : Found) → m.edit.key < 2 ^ 64 → UpdateSays delete_means m call v.past (Done found) → IsRightEnd v c.pass.0 (edit_command (TakeEdit m.edit.key)) (answer_of (ended.Edit (Done found)))
   done m found small says = go found.value refl says
     where
-      go : (old : Option ℕ) → found.value ≡ old → UpdateSays delete_means m call v.past (Done found) → IsRightEnd v c.pass.0 (edit_command (TakeEdit m.edit.key)) (Value old)
+      go : (old : Option ℕ) → found.value ≡ old → UpdateSays delete_means m call v.past (Done found) → IsRightEnd v c.pass.0 (edit_command (TakeEdit m.edit.key)) (MapAnswer (Value old))
       go None e (inl x) = record { answers = tt; right = subst (HadAtKey v.layout v.past v.start m.edit.key) e (had_at_key m.edit.key found small x.has_found); entry = entered_none v.won (unwon x.none); tells = tt }
       go (Some old) e (inl x) = absurd (let none : One ≡ Nothing = subst (λ o. delete_need o ≡ Nothing) e x.needless in cc)
       go None e (inr x) = absurd (x.1.needed (subst (λ o. delete_need o ≡ Nothing) (sym e) refl))

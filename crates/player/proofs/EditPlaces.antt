@@ -22,8 +22,9 @@ use Rattle.record.specs.declared.record.Row.{Row as Turn}
 use Rattle.record.specs.declared.record.Row.TheVariants.{Step as Made, Idle}
 use Rattle.record.specs.declared.record.Entry.{Entry}
 use Rattle.record.specs.declared.record.Finished.{Finished}
+use Rattle.spelling.specs.declared.reply.Reply.TheVariants.{Full, Value, Contended}
 use Rattle.record.specs.declared.record.Answer.{Answer}
-use Rattle.record.specs.declared.record.Answer.TheVariants.{Full, Value, Contended}
+use Rattle.record.specs.declared.record.Answer.TheVariants.{Map as MapAnswer}
 use Rattle.record.specs.Answers.{HasItsEntry}
 use Rattle.record.specs.CommandRules.{enters, IsRight}
 use Rattle.record.specs.LawfulRun.{AreLines}
@@ -39,7 +40,7 @@ use Rattle.places.specs.declared.places.Change.{Change}
 use Rattle.player.specs.EditRuns.{edit_command}
 use Rattle.player.specs.Moments.{IsMomentBy}
 use Rattle.player.specs.ClientView.{client_view, Tells, HasEdited}
-use Rattle.record.proofs.Lemmas.{entries_none}
+use Rattle.record.proofs.Lemmas.{entries_none, value_told}
 use Rattle.places.specs.Entries.{AreEntries}
 use Rattle.places.proofs.Lemmas.{absent_placed, spelled}
 use Rattle.player.proofs.MapCalls.{AreOf, map_calls, run_before, tree_run}
@@ -204,7 +205,7 @@ module _ (lay : Layout) (tries : ℕ) (calls : List Call) (lines : List Line) (c
   refused : (command : Command) → IsEditReply lay tries calls lines changes r c command → HasItsEntry false (won lay lines c) → r.moment ≡ None → IsRefused lines r
   refused command x y none = record { none = rw (x.client, x.number) (entries_none lay tries calls lines x.lines_are c (unwon_none (won lay lines c) y)); moment = none }
 
-  told : (e : MapEdit) (old : Option ℕ) → IsEditReply lay tries calls lines changes r c (edit_command e) → r.answer ≡ Value old → HasEdited (client_view lay tries calls lines c) c (edit_key e) old → r.moment ≡ won lay lines c → IsChange calls lines (Edit e) r
+  told : (e : MapEdit) (old : Option ℕ) → IsEditReply lay tries calls lines changes r c (edit_command e) → r.answer ≡ MapAnswer (Value old) → HasEdited (client_view lay tries calls lines c) c (edit_key e) old → r.moment ≡ won lay lines c → IsChange calls lines (Edit e) r
   told e old x is y at =
       let f = find_win lay tries calls c x.mode x.all y.row y.before y.scx y.win.wins y.win.own lines x.run x.lines_are x.owed y.win.within y.win.since in
       record {
@@ -216,11 +217,11 @@ module _ (lay : Layout) (tries : ℕ) (calls : List Call) (lines : List Line) (c
         number = f.call ∙ sym x.number;
         once = rw (x.client, x.number) f.once;
         moment = at ∙ f.won_is;
-        replies = rw is (ap (λ (o : Option ℕ). let t : MapReply = OneValue o in Some t) (sym (y.told (map_of calls (written_log f.rest)) (subst (λ (h : History). Spells lay (value h) (map_of calls (written_log f.rest))) f.before_is f.spells))));
+        replies = ap reply_told is ∙ value_told old ∙ (ap (λ (o : Option ℕ). let t : MapReply = OneValue o in Some t) (sym (y.told (map_of calls (written_log f.rest)) (subst (λ (h : History). Spells lay (value h) (map_of calls (written_log f.rest))) f.before_is f.spells))));
       }
 
   -- one that finds nothing at the key reads
-  absent : (key : ℕ) → IsEditReply lay tries calls lines changes r c (Map (DeleteOf key)) → r.answer ≡ Value None → IsReading calls lines (Edit (Delete key)) r
+  absent : (key : ℕ) → IsEditReply lay tries calls lines changes r c (Map (DeleteOf key)) → r.answer ≡ MapAnswer (Value None) → IsReading calls lines (Edit (Delete key)) r
   absent key x is =
       let found = (rw is at x.moment) x.entries in
       let had : HadAtKey lay (history lay.mode lines) (start lay.mode lines c) key None = rw is at x.right in
@@ -228,16 +229,16 @@ module _ (lay : Layout) (tries : ℕ) (calls : List Call) (lines : List Line) (c
       absent_placed lay tries calls lines r key x.lines_are x.spells x.owed (rw x.client x.next) (rw x.client none) (rw x.client x.number) (rw x.client x.began) x.ended is (rw x.client had) record { found = found.0; none = found.1 }
 
   insert_placed : (key put : ℕ) (answer : Answer) → IsEditReply lay tries calls lines changes r c (Map (InsertOf key put)) → r.answer ≡ answer → IsPlacedOnMap (reply_told answer) calls lines (Edit (Insert key put)) r
-  insert_placed key put (Value old) x is = told (Insert key put) old x is (rw is at x.tells) (rw is at x.moment)
-  insert_placed key put (Full what left) x is = refused (Map (InsertOf key put)) x (rw is at x.entry) (rw is at x.moment)
-  insert_placed key put (Contended node scx) x is = refused (Map (InsertOf key put)) x (rw is at x.entry) (rw is at x.moment)
+  insert_placed key put (MapAnswer (Value old)) x is = told (Insert key put) old x is (rw is at x.tells) (rw is at x.moment)
+  insert_placed key put (MapAnswer (Full full)) x is = refused (Map (InsertOf key put)) x (rw is at x.entry) (rw is at x.moment)
+  insert_placed key put (MapAnswer (Contended node scx)) x is = refused (Map (InsertOf key put)) x (rw is at x.entry) (rw is at x.moment)
   insert_placed key put answer x is = absurd (rw is at x.right)
 
   delete_placed : (key : ℕ) (answer : Answer) → IsEditReply lay tries calls lines changes r c (Map (DeleteOf key)) → r.answer ≡ answer → IsPlacedOnMap (reply_told answer) calls lines (Edit (Delete key)) r
-  delete_placed key (Value (Some old)) x is = told (Delete key) (Some old) x is (rw is at x.tells) (rw is at x.moment)
-  delete_placed key (Value None) x is = absent key x is
-  delete_placed key (Full what left) x is = refused (Map (DeleteOf key)) x (rw is at x.entry) (rw is at x.moment)
-  delete_placed key (Contended node scx) x is = refused (Map (DeleteOf key)) x (rw is at x.entry) (rw is at x.moment)
+  delete_placed key (MapAnswer (Value (Some old))) x is = told (Delete key) (Some old) x is (rw is at x.tells) (rw is at x.moment)
+  delete_placed key (MapAnswer (Value None)) x is = absent key x is
+  delete_placed key (MapAnswer (Full full)) x is = refused (Map (DeleteOf key)) x (rw is at x.entry) (rw is at x.moment)
+  delete_placed key (MapAnswer (Contended node scx)) x is = refused (Map (DeleteOf key)) x (rw is at x.entry) (rw is at x.moment)
   delete_placed key answer x is = absurd (rw is at x.right)
 
   pub edit_placed : (e : MapEdit) → IsEditReply lay tries calls lines changes r c (edit_command e) → IsPlacedOnMap (reply_told r.answer) calls lines (Edit e) r

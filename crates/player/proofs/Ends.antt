@@ -44,8 +44,10 @@ use Rattle.player.specs.declared.client.Client.{Client}
 use Rattle.player.specs.declared.client.Put.{Put}
 use Rattle.player.specs.declared.kept.Kept.{Kept}
 use Rattle.player.specs.declared.kept.Found.{Found}
+use Rattle.spelling.specs.declared.reply.Reply.{Reply}
+use Rattle.spelling.specs.declared.reply.Reply.TheVariants.{Value}
 use Rattle.record.specs.declared.record.Answer.{Answer}
-use Rattle.record.specs.declared.record.Answer.TheVariants.{Value}
+use Rattle.record.specs.declared.record.Answer.TheVariants.{Map as MapAnswer}
 use Rattle.player.specs.KeptSnaps.{IsUnspent, kept_of, node_of, found_of, parts, snap_of}
 use Rattle.record.specs.CommandRules.{MayAnswerAfterStep, HasTakenFew, enters, IsRight}
 use Rattle.record.specs.Shares.{HasTakenAtMost}
@@ -401,7 +403,7 @@ ends_as v c command answer is stands holds none o late = record {
 -- The end of a get
 
 -- its answer stood at a moment of the call, and it leaves the snapshots
-get_outcome : (v : ClientView) (c : Client) (m : GetRun) (command : Command) (then : Option Put) (a : Option ℕ) → IsGetOf command m.key then → IsAnswerAt v.layout v.past v.start m.key a → v.won ≡ None → HasTakenAtMost v.layout c.pass.0 v.past v.start 0 0 → IsOutcome v c.pass.0 [] command (Value a)
+get_outcome : (v : ClientView) (c : Client) (m : GetRun) (command : Command) (then : Option Put) (a : Option ℕ) → IsGetOf command m.key then → IsAnswerAt v.layout v.past v.start m.key a → v.won ≡ None → HasTakenAtMost v.layout c.pass.0 v.past v.start 0 0 → IsOutcome v c.pass.0 [] command (MapAnswer (Value a))
 get_outcome v c m (Map (GetOf key)) None a of x won took = record { answers = tt; right = rw (sym of) x; entry = entered_none v.won won; tells = tt; took = took; drops = record { gone = λ n z. absurd (among_none n z); others = λ n z. refl } }
 get_outcome v c m (Map (GetOf key)) (Some put) a of x won took = absurd of
 get_outcome v c m (Map (SuccessorOf key)) then a of x won took = absurd of
@@ -418,7 +420,7 @@ ends_get v c (Get m) then a sound x =
     let call = machine_call v c x.works.is_pass x.works.start in
     let at = subst (λ (k : History). IsAnswerAt v.layout v.past k m.key a) x.works.begun (get_says m call v.past a x.answers) in
     let o = get_outcome v c m x.works.command then a x.works.run_of at x.works.won (taken_nothing v c.pass.0 (held c) 0 0 x.works.holds.share x.works.took) in
-    ends_as v c x.works.command (Value a) x.works.is x.works.stands x.works.holds x.none o x.works.late
+    ends_as v c x.works.command (MapAnswer (Value a)) x.works.is x.works.stands x.works.holds x.none o x.works.late
 ends_get v c (Llx m) then a sound x = absurd x.answers
 ends_get v c (Scx m) then a sound x = absurd x.answers
 ends_get v c (Vlx m) then a sound x = absurd x.answers
@@ -439,12 +441,12 @@ read_outcome v c (Map (InsertOf key value)) a x is won took = absurd is
 read_outcome v c (Map (DeleteOf key)) a x is won took = absurd is
 read_outcome v c (Map (GetOf key)) a x is won took = absurd is
 
-ends_read : (v : ClientView) (c : Client) (run : Run) (then : Option Put) (a : Answer) → IsSound v → Answered v c run then (ended.Read a) → Ends v c c (answer_of (ended.Read a))
+ends_read : (v : ClientView) (c : Client) (run : Run) (then : Option Put) (a : Reply ℕ ℕ) → IsSound v → Answered v c run then (ended.Read a) → Ends v c c (answer_of (ended.Read a))
 ends_read v c (Read m) then a sound x =
     let answers = subst (λ (k : History). ReadAnswers m (machine_call v c x.works.is_pass k) v.past a) x.works.begun x.answers in
     let end = read_ends v c x.works.is_pass m x.works.command a x.works.run_of.0 answers in
-    let o = read_outcome v c x.works.command a end (read_is_ordered m x.works.command x.works.run_of.0) x.works.won (taken_nothing v c.pass.0 (held c) 0 0 x.works.holds.share x.works.took) in
-    ends_as v c x.works.command a x.works.is x.works.stands x.works.holds x.none o x.works.late
+    let o = read_outcome v c x.works.command (MapAnswer a) end (read_is_ordered m x.works.command x.works.run_of.0) x.works.won (taken_nothing v c.pass.0 (held c) 0 0 x.works.holds.share x.works.took) in
+    ends_as v c x.works.command (MapAnswer a) x.works.is x.works.stands x.works.holds x.none o x.works.late
 ends_read v c (Llx m) then a sound x = absurd x.answers
 ends_read v c (Scx m) then a sound x = absurd x.answers
 ends_read v c (Vlx m) then a sound x = absurd x.answers

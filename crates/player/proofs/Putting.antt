@@ -35,7 +35,7 @@ use Rattle.player.specs.declared.client.Client.{Client}
 use Rattle.player.specs.declared.client.Put.{Put}
 use Rattle.player.specs.declared.kept.Kept.{Kept}
 use Rattle.record.specs.declared.record.Answer.{Answer}
-use Rattle.record.specs.declared.record.Answer.TheVariants.{Snapshot, Finalized, Fail, Done, Lost, Same, Changed, Unlinked, Full, Value, Contended, Pair, Pairs, NoMemory}
+use Rattle.record.specs.declared.record.Answer.TheVariants.{Snapshot, Finalized, Fail, Done, Lost, Same, Changed, Unlinked, Full, Map as MapAnswer}
 use Rattle.arena.specs.declared.fault.Resource.{Resource}
 use Rattle.player.specs.KeptSnaps.{IsUnspent, kept_of, node_of, found_of}
 use Rattle.record.specs.Commands.{commands}
@@ -71,11 +71,7 @@ full_answer lay h c left (Lost node scx) share full = absurd full
 full_answer lay h c left Same share full = absurd full
 full_answer lay h c left (Changed node scx) share full = absurd full
 full_answer lay h c left (Unlinked node) share full = absurd full
-full_answer lay h c left (Value value) share full = absurd full
-full_answer lay h c left (Contended node scx) share full = absurd full
-full_answer lay h c left (Pair found) share full = absurd full
-full_answer lay h c left (Pairs found) share full = absurd full
-full_answer lay h c left NoMemory share full = absurd full
+full_answer lay h c left (MapAnswer reply) share full = absurd full
 
 -- The SCX of a set
 

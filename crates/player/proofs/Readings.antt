@@ -2,13 +2,14 @@
 -- entry; a get in the turn that was found for it. All replies of a run on the tree are those of one
 -- map.
 use Rattle.std.proofs.Common.{◌≡◌, ℕ, suc, ◌≤◌, ⊎_elim, List, Option, Some, None, refl, sym, ◌∙◌, ap, subst, arith}
+use Rattle.std.specs.Option.{option_map}
 use Rattle.arena.specs.declared.limits.Mode.{Mode}
 use Rattle.arena.specs.declared.limits.Mode.TheVariants.{Records, Tree}
 use Rattle.arena.specs.declared.layout.Layout.{Layout}
 use Rattle.arena.specs.PlainWords.{Contents}
 use Rattle.arena.specs.History.{value}
 use Rattle.arena.specs.Words.{node}
-use Rattle.spelling.specs.OrderedMap.{MapCall, Get, Successor, Range, Insert as PutEdit, Delete as TakeEdit, MapReply, OneValue, OnePair, ManyPairs, reply as answer_on}
+use Rattle.spelling.specs.OrderedMap.{MapCall, Get, Successor, Range, Insert as PutEdit, Delete as TakeEdit, MapReply, ManyPairs, pair_or_none, reply as answer_on}
 use Rattle.spelling.specs.Paths.{IsAnswerAt}
 use Rattle.script.specs.declared.call.Call.{Call}
 use Rattle.script.specs.declared.command.Command.{Command}
@@ -16,8 +17,11 @@ use Rattle.script.specs.declared.command.Command.TheVariants.{Llx as LlxOf, Scx 
 use Rattle.spelling.specs.declared.request.Request.TheVariants.{Insert as InsertOf, Delete as DeleteOf, Get as GetOf, Successor as SuccessorOf, Range as RangeOf}
 use Rattle.record.specs.declared.record.Line.{Line}
 use Rattle.record.specs.declared.record.Finished.{Finished}
+use Rattle.spelling.specs.declared.reply.Reply.{Reply}
+use Rattle.spelling.specs.declared.reply.Reply.TheVariants.{Value, Pair, Pairs, Contended, Full as FullReply, NoMemory}
+use Rattle.spelling.specs.Replies.{word_pair, number_reply}
 use Rattle.record.specs.declared.record.Answer.{Answer}
-use Rattle.record.specs.declared.record.Answer.TheVariants.{Snapshot, Finalized, Fail, Done, Lost, Same, Changed, Unlinked, Full, Value, Pair, Pairs, Contended, NoMemory}
+use Rattle.record.specs.declared.record.Answer.TheVariants.{Snapshot, Finalized, Fail, Done, Lost, Same, Changed, Unlinked, Full, Map as MapAnswer}
 use Rattle.record.specs.Turns.{history, turns, answered, begin, start, won, entry_owed}
 use Rattle.record.specs.Commands.{next_command}
 use Rattle.record.specs.Linked.{linked}
@@ -25,10 +29,10 @@ use Rattle.record.specs.Answers.{moment_of, HasItsEntry}
 use Rattle.places.specs.declared.places.Change.{Change}
 use Rattle.places.specs.Entries.{AreEntries}
 use Rattle.places.specs.Ordered.{FallFrom, IsOrderedRead}
-use Rattle.player.specs.Moments.{IsMomentBy, IsOrderedMoment, IsPairsMoment}
+use Rattle.player.specs.Moments.{IsMomentBy, IsOrderedMoment}
 use Rattle.player.specs.ClientView.{client_view, HasToldMap, Tells}
 use Rattle.record.specs.CommandRules.{IsRight, IsPlaced, enters}
-use Rattle.record.specs.MapRecord.{map_at, map_call, reply_told, written_log, entries_of_call}
+use Rattle.record.specs.MapRecord.{map_at, map_call, number_pairs, reply_told, written_log, entries_of_call}
 use Rattle.record.specs.Placed.{IsGreatestTurn, IsReading, IsRefused, IsPlacedOnMap}
 use Rattle.record.specs.LawfulRun.{IsWhole}
 use Rattle.record.specs.SpelledMap.{AreSpelled}
@@ -38,22 +42,18 @@ use Rattle.places.proofs.Lemmas.{IsRepliedIn, are_spelled, falls, get_placed, or
 use Rattle.player.proofs.MapCalls.{command_mode, map_calls, tree_run}
 use Rattle.player.proofs.EditPlaces.{IsEditReply, edit_placed, unwon_none}
 
--- a call of cells tells no value, and its moment is that of its answer
-cell_moment : (calls : List Call) (lines : List Line) (changes : List Change) (command : Command) (answer : Answer) (first last : ℕ) (won moment : Option ℕ) → ((a : Option ℕ) → answer ≡ Value a → ⊥) → ((a : Answer) → IsPairsMoment calls lines changes command a first last moment → moment ≡ None) → IsMomentBy calls lines changes command answer first last won moment → moment ≡ moment_of answer first last won
-cell_moment calls lines changes command (Value a) first last won moment d none x = absurd (d a refl)
-cell_moment calls lines changes command (Snapshot left right) first last won moment d none x = x
-cell_moment calls lines changes command Finalized first last won moment d none x = x
-cell_moment calls lines changes command (Fail node scx) first last won moment d none x = x
-cell_moment calls lines changes command Done first last won moment d none x = x
-cell_moment calls lines changes command (Lost node scx) first last won moment d none x = x
-cell_moment calls lines changes command Same first last won moment d none x = x
-cell_moment calls lines changes command (Changed node scx) first last won moment d none x = x
-cell_moment calls lines changes command (Unlinked node) first last won moment d none x = x
-cell_moment calls lines changes command (Full what left) first last won moment d none x = x
-cell_moment calls lines changes command (Contended node scx) first last won moment d none x = x
-cell_moment calls lines changes command (Pair found) first last won moment d none x = none (Pair found) x
-cell_moment calls lines changes command (Pairs found) first last won moment d none x = none (Pairs found) x
-cell_moment calls lines changes command NoMemory first last won moment d none x = x
+-- a call of cells replies nothing of the map, and its moment is that of its answer
+cell_moment : (calls : List Call) (lines : List Line) (changes : List Change) (command : Command) (answer : Answer) (first last : ℕ) (won moment : Option ℕ) → ((reply : Reply ℕ ℕ) → answer ≡ MapAnswer reply → ⊥) → IsMomentBy calls lines changes command answer first last won moment → moment ≡ moment_of answer first last won
+cell_moment calls lines changes command (MapAnswer reply) first last won moment d x = absurd (d reply refl)
+cell_moment calls lines changes command (Snapshot left right) first last won moment d x = x
+cell_moment calls lines changes command Finalized first last won moment d x = x
+cell_moment calls lines changes command (Fail node scx) first last won moment d x = x
+cell_moment calls lines changes command Done first last won moment d x = x
+cell_moment calls lines changes command (Lost node scx) first last won moment d x = x
+cell_moment calls lines changes command Same first last won moment d x = x
+cell_moment calls lines changes command (Changed node scx) first last won moment d x = x
+cell_moment calls lines changes command (Unlinked node) first last won moment d x = x
+cell_moment calls lines changes command (Full what left) first last won moment d x = x
 
 -- the words spell the map after each turn of a run on the tree
 spelled_so_far : (lay : Layout) (tries : ℕ) (calls : List Call) (words : Contents) (lines : List Line) → IsLawfulSoFar lay tries calls words lines → lay.mode ≡ Tree → AreSpelled lay calls lines
@@ -67,14 +67,14 @@ get_reads lay tries calls words lines changes reply key x mode entries owed call
     spelled : AreSpelled lay calls lines
     spelled = spelled_so_far lay tries calls words lines x mode
 
-    told : (a : Option ℕ) → reply.answer ≡ Value a → IsReading calls lines (Get key) reply
+    told : (a : Option ℕ) → reply.answer ≡ MapAnswer (Value a) → IsReading calls lines (Get key) reply
     told a e =
         let found = (rw e at moment) entries in
         let at : IsAnswerAt lay (history lay.mode lines) (start lay.mode lines reply.client.0) key a = rw e at right in
         get_placed lay tries calls lines reply key a x.in_order spelled owed is (unwon_none (won lay lines reply.client.0) entry) called begin end e at record { found = found.0; none = found.1 }
 
     go : (answer : Answer) → reply.answer ≡ answer → IsPlacedOnMap (reply_told answer) calls lines (Get key) reply
-    go (Value a) e = told a e
+    go (MapAnswer (Value a)) e = told a e
     go (Snapshot left right') e = absurd (rw e at right)
     go Finalized e = absurd (rw e at right)
     go (Fail node scx) e = absurd (rw e at right)
@@ -84,15 +84,16 @@ get_reads lay tries calls words lines changes reply key x mode entries owed call
     go (Changed node scx) e = absurd (rw e at right)
     go (Unlinked node) e = absurd (rw e at right)
     go (Full what left) e = absurd (rw e at right)
-    go (Contended node scx) e = absurd (rw e at right)
-    go (Pair found) e = absurd (rw e at right)
-    go (Pairs found) e = absurd (rw e at right)
-    go NoMemory e = absurd (rw e at right)
+    go (MapAnswer (Contended node scx)) e = absurd (rw e at right)
+    go (MapAnswer (Pair found)) e = absurd (rw e at right)
+    go (MapAnswer (Pairs found)) e = absurd (rw e at right)
+    go (MapAnswer (FullReply full)) e = absurd (rw e at right)
+    go (MapAnswer NoMemory) e = absurd (rw e at right)
 
 -- an ordered read took place in a turn that was found for it
 module _ (lay : Layout) (tries : ℕ) (calls : List Call) (words : Contents) (lines : List Line) (changes : List Change) (reply : Finished) (x : IsLawfulSoFar lay tries calls words lines) (mode : lay.mode ≡ Tree) (entries : AreEntries calls lines changes) (owed : entry_owed lay lines ≡ None) (called : reply.call ≡ answered lines reply.client.0) (unwon : won lay lines reply.client.0 ≡ None) (begins : begin lines reply.client.0 ≡ Some reply.begin) (ends : reply.end ≡ turns lines) where
-  told_reads : (command : Command) (call : MapCall) (answer : Answer) (told : MapReply) → IsOrderedRead command → map_call (Some command) ≡ Some call → next_command calls lines reply.client.0 ≡ Some command → reply.answer ≡ answer → reply_told answer ≡ Some told → HasToldMap (client_view lay tries calls lines reply.client.0) call (Some told) → IsOrderedMoment calls lines changes command answer reply.begin reply.end reply.moment → IsReading calls lines call reply
-  told_reads command call answer told ordered is_call is e says tells moment =
+  told_reads : (command : Command) (call : MapCall) (given : Reply ℕ ℕ) (told : MapReply) → IsOrderedRead command → map_call (Some command) ≡ Some call → next_command calls lines reply.client.0 ≡ Some command → reply.answer ≡ MapAnswer given → number_reply given ≡ Some told → HasToldMap (client_view lay tries calls lines reply.client.0) call (Some told) → IsOrderedMoment calls lines changes command given reply.begin reply.end reply.moment → IsReading calls lines call reply
+  told_reads command call given told ordered is_call is e says tells moment =
       ordered_placed lay tries calls lines reply call moment.turn x.in_order unwon called moment.is (subst (λ (a : Answer). IsGreatestTurn (λ m. reply_told a ≡ Some (answer_on call (map_at calls lines m))) reply.begin reply.end moment.turn) (sym e) (moment.greatest call some.0 entries fall ordered is_call some.1 (subst (λ (n : ℕ). some.0 ≤ n) (sym ends) some.2) (says ∙ ap (λ (t : MapReply). Some t) (sym some.3))))
     where
       some : IsRepliedIn calls lines call told reply.begin
@@ -112,12 +113,12 @@ module _ (lay : Layout) (tries : ℕ) (calls : List Call) (words : Contents) (li
   successor_reads key is right tells moment = go reply.answer refl
     where
       go : (answer : Answer) → reply.answer ≡ answer → IsPlacedOnMap (reply_told answer) calls lines (Successor key) reply
-      go (Value None) e = told_reads (Map (SuccessorOf key)) (Successor key) (Value None) (OneValue None) tt refl is e refl (rw e at tells) (rw e at moment)
-      go (Pair found) e = told_reads (Map (SuccessorOf key)) (Successor key) (Pair found) (OnePair found) tt refl is e refl (rw e at tells) (rw e at moment)
-      go (Contended n scx) e = refused_reads (rw e at moment)
-      go NoMemory e = refused_reads (rw e at moment)
-      go (Value (Some told)) e = absurd (rw e at right)
-      go (Pairs found) e = absurd (rw e at right)
+      go (MapAnswer (Pair found)) e = told_reads (Map (SuccessorOf key)) (Successor key) (Pair found) (pair_or_none (option_map (word_pair (λ n. n) (λ n. n)) found)) tt refl is e refl (rw e at tells) (rw e at moment)
+      go (MapAnswer (Contended n scx)) e = refused_reads (rw e at moment)
+      go (MapAnswer NoMemory) e = refused_reads (rw e at moment)
+      go (MapAnswer (Value told)) e = absurd (rw e at right)
+      go (MapAnswer (Pairs found)) e = absurd (rw e at right)
+      go (MapAnswer (FullReply full)) e = absurd (rw e at right)
       go (Snapshot a b) e = absurd (rw e at right)
       go Finalized e = absurd (rw e at right)
       go (Fail node scx) e = absurd (rw e at right)
@@ -132,11 +133,12 @@ module _ (lay : Layout) (tries : ℕ) (calls : List Call) (words : Contents) (li
   range_reads low high most is right tells moment = go reply.answer refl
     where
       go : (answer : Answer) → reply.answer ≡ answer → IsPlacedOnMap (reply_told answer) calls lines (Range low high most) reply
-      go (Pairs found) e = told_reads (Map (RangeOf low high most)) (Range low high most) (Pairs found) (ManyPairs found.items) tt refl is e refl (rw e at tells) (rw e at moment)
-      go (Contended n scx) e = refused_reads (rw e at moment)
-      go NoMemory e = refused_reads (rw e at moment)
-      go (Value told) e = absurd (rw e at right)
-      go (Pair found) e = absurd (rw e at right)
+      go (MapAnswer (Pairs found)) e = told_reads (Map (RangeOf low high most)) (Range low high most) (Pairs found) (ManyPairs (number_pairs found.items)) tt refl is e refl (rw e at tells) (rw e at moment)
+      go (MapAnswer (Contended n scx)) e = refused_reads (rw e at moment)
+      go (MapAnswer NoMemory) e = refused_reads (rw e at moment)
+      go (MapAnswer (Value told)) e = absurd (rw e at right)
+      go (MapAnswer (Pair found)) e = absurd (rw e at right)
+      go (MapAnswer (FullReply full)) e = absurd (rw e at right)
       go (Snapshot a b) e = absurd (rw e at right)
       go Finalized e = absurd (rw e at right)
       go (Fail node scx) e = absurd (rw e at right)
@@ -172,10 +174,10 @@ edit_reply lay tries calls words lines changes reply c command x mode entries ow
 -- where the call of a reply took place
 pub placed : (lay : Layout) (tries : ℕ) (calls : List Call) (words : Contents) (lines : List Line) (changes : List Change) (reply : Finished) (c : ℕ) (command : Command) → IsLawfulSoFar lay tries calls words lines → (lay.mode ≡ Tree → AreEntries calls lines changes) → entry_owed lay lines ≡ None → reply.client.0 ≡ c → reply.call ≡ answered lines c → IsRight lay c (history lay.mode lines) (start lay.mode lines c) (linked calls lay.mode lines c) command reply.answer → Tells (client_view lay tries calls lines c) c command reply.answer → HasItsEntry (enters command reply.answer) (won lay lines c) → next_command calls lines c ≡ Some command → begin lines c ≡ Some reply.begin → reply.end ≡ turns lines
     → IsMomentBy calls lines changes command reply.answer reply.begin reply.end (won lay lines c) reply.moment → IsPlaced lay calls lines reply command
-placed lay tries calls words lines changes reply c (LlxOf cell) x entries owed own called right tells entry is begin end moment = cell_moment calls lines changes (LlxOf cell) reply.answer reply.begin reply.end (won lay lines c) reply.moment (λ a e. rw e at right) (λ a e. e) moment ∙ ap (λ (k : ℕ). moment_of reply.answer reply.begin reply.end (won lay lines k)) (sym own)
-placed lay tries calls words lines changes reply c (ScxOf update) x entries owed own called right tells entry is begin end moment = cell_moment calls lines changes (ScxOf update) reply.answer reply.begin reply.end (won lay lines c) reply.moment (λ a e. rw e at right) (λ a e. e) moment ∙ ap (λ (k : ℕ). moment_of reply.answer reply.begin reply.end (won lay lines k)) (sym own)
-placed lay tries calls words lines changes reply c (VlxOf cells) x entries owed own called right tells entry is begin end moment = cell_moment calls lines changes (VlxOf cells) reply.answer reply.begin reply.end (won lay lines c) reply.moment (λ a e. rw e at right) (λ a e. e) moment ∙ ap (λ (k : ℕ). moment_of reply.answer reply.begin reply.end (won lay lines k)) (sym own)
-placed lay tries calls words lines changes reply c (SetOf field value) x entries owed own called right tells entry is begin end moment = cell_moment calls lines changes (SetOf field value) reply.answer reply.begin reply.end (won lay lines c) reply.moment (λ a e. rw e at right) (λ a e. e) moment ∙ ap (λ (k : ℕ). moment_of reply.answer reply.begin reply.end (won lay lines k)) (sym own)
+placed lay tries calls words lines changes reply c (LlxOf cell) x entries owed own called right tells entry is begin end moment = cell_moment calls lines changes (LlxOf cell) reply.answer reply.begin reply.end (won lay lines c) reply.moment (λ a e. rw e at right) moment ∙ ap (λ (k : ℕ). moment_of reply.answer reply.begin reply.end (won lay lines k)) (sym own)
+placed lay tries calls words lines changes reply c (ScxOf update) x entries owed own called right tells entry is begin end moment = cell_moment calls lines changes (ScxOf update) reply.answer reply.begin reply.end (won lay lines c) reply.moment (λ a e. rw e at right) moment ∙ ap (λ (k : ℕ). moment_of reply.answer reply.begin reply.end (won lay lines k)) (sym own)
+placed lay tries calls words lines changes reply c (VlxOf cells) x entries owed own called right tells entry is begin end moment = cell_moment calls lines changes (VlxOf cells) reply.answer reply.begin reply.end (won lay lines c) reply.moment (λ a e. rw e at right) moment ∙ ap (λ (k : ℕ). moment_of reply.answer reply.begin reply.end (won lay lines k)) (sym own)
+placed lay tries calls words lines changes reply c (SetOf field value) x entries owed own called right tells entry is begin end moment = cell_moment calls lines changes (SetOf field value) reply.answer reply.begin reply.end (won lay lines c) reply.moment (λ a e. rw e at right) moment ∙ ap (λ (k : ℕ). moment_of reply.answer reply.begin reply.end (won lay lines k)) (sym own)
 placed lay tries calls words lines changes reply c (Map (InsertOf key value)) x entries owed own called right tells entry is begin end moment = edit_placed lay tries calls lines changes reply c (PutEdit key value) (edit_reply lay tries calls words lines changes reply c (Map (InsertOf key value)) x (sym (command_mode lay.mode calls c _ (Map (InsertOf key value)) x.of_mode is)) entries owed own called right tells entry is begin end moment)
 placed lay tries calls words lines changes reply c (Map (DeleteOf key)) x entries owed own called right tells entry is begin end moment = edit_placed lay tries calls lines changes reply c (TakeEdit key) (edit_reply lay tries calls words lines changes reply c (Map (DeleteOf key)) x (sym (command_mode lay.mode calls c _ (Map (DeleteOf key)) x.of_mode is)) entries owed own called right tells entry is begin end moment)
 placed lay tries calls words lines changes reply c (Map (GetOf key)) x entries owed own called right tells entry is begin end moment =

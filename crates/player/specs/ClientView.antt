@@ -29,10 +29,11 @@ use Rattle.script.specs.declared.command.Command.{Command}
 use Rattle.script.specs.declared.command.Command.TheVariants.{Llx as LlxOf, Scx as ScxOf, Vlx as VlxOf, Set as SetOf, Map}
 use Rattle.spelling.specs.declared.request.Request.TheVariants.{Insert as InsertOf, Delete as DeleteOf, Get as GetOf, Successor as SuccessorOf, Range as RangeOf}
 use Rattle.record.specs.declared.record.Line.{Line}
+use Rattle.spelling.specs.declared.reply.Reply.TheVariants.{Value}
 use Rattle.record.specs.declared.record.Answer.{Answer}
 use Rattle.script.specs.Cells.{cells_of}
 use Rattle.script.specs.Update.{update_cells, update_finalize, update_field, update_value}
-use Rattle.record.specs.declared.record.Answer.TheVariants.{Full, Value}
+use Rattle.record.specs.declared.record.Answer.TheVariants.{Full, Map as MapAnswer}
 use Rattle.player.specs.EditRuns.{IsUnbegunEdit, edit_of, call_of, edit_command}
 use Rattle.player.specs.ReadRuns.{HasReadTries, IsReadBy}
 use Rattle.player.specs.declared.edit.EditRun.{EditRun}
@@ -403,8 +404,8 @@ HasToldMap v call (Some told) = HasReplied v.layout v.past v.start call told ⊎
 -- what an edit tells is what its own row has found, and a delete of an absent key has none; what an
 -- ordered read tells the map has replied
 abbrev pub Tells : ClientView → ℕ → Command → Answer → Type 0
-Tells v c (Map (InsertOf key value)) (Value old) = HasEdited v c key old
-Tells v c (Map (DeleteOf key)) (Value (Some old)) = HasEdited v c key (Some old)
+Tells v c (Map (InsertOf key value)) (MapAnswer (Value old)) = HasEdited v c key old
+Tells v c (Map (DeleteOf key)) (MapAnswer (Value (Some old))) = HasEdited v c key (Some old)
 Tells v c (Map (SuccessorOf key)) answer = HasToldMap v (Successor key) (reply_told answer)
 Tells v c (Map (RangeOf low high most)) answer = HasToldMap v (Range low high most) (reply_told answer)
 Tells v c command answer = Unit {0}

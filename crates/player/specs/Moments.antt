@@ -1,15 +1,18 @@
 -- Where a call took place, by what it has answered.
 use Rattle.std.specs.Prelude.{◌≡◌, ◌≢◌, ℕ, suc, ◌≤◌, List, Option, Some, None, IfSome, IfNone}
-use Rattle.spelling.specs.OrderedMap.{MapCall, get, reply}
+use Rattle.spelling.specs.OrderedMap.{MapCall, get, reply as replies_on}
 use Rattle.script.specs.declared.call.Call.{Call}
 use Rattle.script.specs.declared.command.Command.{Command}
 use Rattle.script.specs.declared.command.Command.TheVariants.{Map}
 use Rattle.spelling.specs.declared.request.Request.TheVariants.{Insert, Delete, Get, Successor, Range}
+use Rattle.spelling.specs.Replies.{number_reply}
+use Rattle.spelling.specs.declared.reply.Reply.{Reply}
+use Rattle.spelling.specs.declared.reply.Reply.TheVariants.{Value, Pair, Pairs}
 use Rattle.record.specs.declared.record.Line.{Line}
 use Rattle.record.specs.declared.record.Answer.{Answer}
-use Rattle.record.specs.declared.record.Answer.TheVariants.{Value, Pair, Pairs}
+use Rattle.record.specs.declared.record.Answer.TheVariants.{Map as MapAnswer}
 use Rattle.record.specs.Answers.{moment_of}
-use Rattle.record.specs.MapRecord.{map_at, map_call, reply_told}
+use Rattle.record.specs.MapRecord.{map_at, map_call}
 use Rattle.record.specs.Placed.{IsGreatestTurn}
 use Rattle.places.specs.declared.places.Change.{Change}
 use Rattle.places.specs.Entries.{AreEntries}
@@ -21,32 +24,36 @@ abbrev pub IsReadMoment : List Call → List Line → List Change → ℕ → Op
 IsReadMoment calls lines changes key told first last moment = AreEntries calls lines changes → IfSome moment (λ m. IsGreatestTurn (λ n. get key (map_at calls lines n) ≡ told) first last m) × IfNone moment ((n : ℕ) → first ≤ n → n ≤ last → get key (map_at calls lines n) ≢ told)
 
 -- the moment of an ordered read: the greatest of its turns after which the map replies what this
--- answer tells, if there is one
-pub record IsOrderedMoment (calls : List Call) (lines : List Line) (changes : List Change) (command : Command) (answer : Answer) (first last : ℕ) (moment : Option ℕ) : Type 0 where
+-- reply tells, if there is one
+pub record IsOrderedMoment (calls : List Call) (lines : List Line) (changes : List Change) (command : Command) (reply : Reply ℕ ℕ) (first last : ℕ) (moment : Option ℕ) : Type 0 where
   pub turn : ℕ
   pub is : moment ≡ Some turn
   pub within : first ≤ last → FallFrom (suc last) changes → (first ≤ turn) × (turn ≤ last)
-  pub greatest : (call : MapCall) (n : ℕ) → AreEntries calls lines changes → FallFrom (suc last) changes → IsOrderedRead command → map_call (Some command) ≡ Some call → first ≤ n → n ≤ last → reply_told answer ≡ Some (reply call (map_at calls lines n)) → IsGreatestTurn (λ m. reply_told answer ≡ Some (reply call (map_at calls lines m))) first last turn
+  pub greatest : (call : MapCall) (n : ℕ) → AreEntries calls lines changes → FallFrom (suc last) changes → IsOrderedRead command → map_call (Some command) ≡ Some call → first ≤ n → n ≤ last → number_reply reply ≡ Some (replies_on call (map_at calls lines n)) → IsGreatestTurn (λ m. number_reply reply ≡ Some (replies_on call (map_at calls lines m))) first last turn
 
--- the moment of a call that tells pairs
-abbrev pub IsPairsMoment : List Call → List Line → List Change → Command → Answer → ℕ → ℕ → Option ℕ → Type 0
-IsPairsMoment calls lines changes (Map (Successor key)) answer first last moment = IsOrderedMoment calls lines changes (Map (Successor key)) answer first last moment
-IsPairsMoment calls lines changes (Map (Range low high most)) answer first last moment = IsOrderedMoment calls lines changes (Map (Range low high most)) answer first last moment
-IsPairsMoment calls lines changes command answer first last moment = moment ≡ None
+-- the moment of a call that tells a pair, or none, or pairs
+abbrev pub IsPairsMoment : List Call → List Line → List Change → Command → Reply ℕ ℕ → ℕ → ℕ → Option ℕ → Type 0
+IsPairsMoment calls lines changes (Map (Successor key)) reply first last moment = IsOrderedMoment calls lines changes (Map (Successor key)) reply first last moment
+IsPairsMoment calls lines changes (Map (Range low high most)) reply first last moment = IsOrderedMoment calls lines changes (Map (Range low high most)) reply first last moment
+IsPairsMoment calls lines changes command reply first last moment = moment ≡ None
 
 -- the moment of a call that tells a value: of an edit the turn of its entry; a get reads, and so
--- does a delete of an absent key, and a successor that tells none
+-- does a delete of an absent key
 abbrev pub IsValueMoment : List Call → List Line → List Change → Command → Option ℕ → ℕ → ℕ → Option ℕ → Option ℕ → Type 0
 IsValueMoment calls lines changes (Map (Insert key value)) told first last won moment = moment ≡ won
 IsValueMoment calls lines changes (Map (Delete key)) (Some old) first last won moment = moment ≡ won
 IsValueMoment calls lines changes (Map (Delete key)) None first last won moment = IsReadMoment calls lines changes key None first last moment
 IsValueMoment calls lines changes (Map (Get key)) told first last won moment = IsReadMoment calls lines changes key told first last moment
-IsValueMoment calls lines changes (Map (Successor key)) told first last won moment = IsOrderedMoment calls lines changes (Map (Successor key)) (Value told) first last moment
 IsValueMoment calls lines changes command told first last won moment = moment ≡ None
 
--- the moment of a call with this answer; of one that tells no value, that of a call of cells
+-- the moment of a call of the map with this reply; a refused one has none
+abbrev pub IsReplyMoment : List Call → List Line → List Change → Command → Reply ℕ ℕ → ℕ → ℕ → Option ℕ → Option ℕ → Type 0
+IsReplyMoment calls lines changes command (Value told) first last won moment = IsValueMoment calls lines changes command told first last won moment
+IsReplyMoment calls lines changes command (Pair found) first last won moment = IsPairsMoment calls lines changes command (Pair found) first last moment
+IsReplyMoment calls lines changes command (Pairs found) first last won moment = IsPairsMoment calls lines changes command (Pairs found) first last moment
+IsReplyMoment calls lines changes command reply first last won moment = moment ≡ None
+
+-- the moment of a call with this answer
 abbrev pub IsMomentBy : List Call → List Line → List Change → Command → Answer → ℕ → ℕ → Option ℕ → Option ℕ → Type 0
-IsMomentBy calls lines changes command (Value told) first last won moment = IsValueMoment calls lines changes command told first last won moment
-IsMomentBy calls lines changes command (Pair found) first last won moment = IsPairsMoment calls lines changes command (Pair found) first last moment
-IsMomentBy calls lines changes command (Pairs found) first last won moment = IsPairsMoment calls lines changes command (Pairs found) first last moment
+IsMomentBy calls lines changes command (MapAnswer reply) first last won moment = IsReplyMoment calls lines changes command reply first last won moment
 IsMomentBy calls lines changes command answer first last won moment = moment ≡ moment_of answer first last won

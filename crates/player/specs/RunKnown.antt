@@ -16,8 +16,9 @@ use Rattle.updates.specs.declared.update.Updated.TheVariants.{Done as UpdateDone
 use Rattle.prims.specs.declared.llx.Llx.TheVariants.{Snapshot as LlxSnapshot, Finalized as LlxFinalized, Fail as LlxFail}
 use Rattle.prims.specs.declared.scx.Scx.TheVariants.{Done as ScxDone, Lost as ScxLost}
 use Rattle.prims.specs.declared.vlx.Vlx.TheVariants.{Same as VlxSame, Changed as VlxChanged}
+use Rattle.spelling.specs.declared.reply.Reply.TheVariants.{Value, Contended, Full}
 use Rattle.record.specs.declared.record.Answer.{Answer}
-use Rattle.record.specs.declared.record.Answer.TheVariants.{Snapshot, Finalized, Fail, Done, Lost, Same, Changed, Full, Value, Contended}
+use Rattle.record.specs.declared.record.Answer.TheVariants.{Snapshot, Finalized, Fail, Done, Lost, Same, Changed, Map}
 use Rattle.player.specs.EditRuns.{EditIsReady, EditWaits, EditAnswers, edit_of, call_of, share_of}
 use Rattle.player.specs.ReadRuns.{ReadIsReady, ReadWaits, ReadAnswers, IsSameRead}
 use Rattle.player.specs.declared.run.Run.{Run}
@@ -62,11 +63,11 @@ answer_of (ended.Scx ScxDone) = Done
 answer_of (ended.Scx (ScxLost node scx)) = Lost node scx
 answer_of (ended.Vlx VlxSame) = Same
 answer_of (ended.Vlx (VlxChanged node scx)) = Changed node scx
-answer_of (ended.Edit (UpdateDone found)) = Value found.value
-answer_of (ended.Edit (UpdateContended node scx)) = Contended node scx
-answer_of (ended.Edit (UpdateFull full)) = Full full.what full.left
-answer_of (ended.Get value) = Value value
-answer_of (ended.Read answer) = answer
+answer_of (ended.Edit (UpdateDone found)) = Map (Value found.value)
+answer_of (ended.Edit (UpdateContended node scx)) = Map (Contended node scx)
+answer_of (ended.Edit (UpdateFull full)) = Map (Full full)
+answer_of (ended.Get value) = Map (Value value)
+answer_of (ended.Read reply) = Map reply
 
 -- the two are machines of one kind, and of one call
 abbrev pub IsSameMachine : Run → Run → Type 0

@@ -13,7 +13,7 @@ use places::Places;
 use prims::{Llx, LlxRun, PutRun, ScxRun, Snap, Snaps, Update, VlxRun};
 use record::{Answer, Finished};
 use script::{Call, Cell, Command};
-use spelling::Request;
+use spelling::{Reply, Request};
 use std::alloc::Global;
 use tree::{Delete, GetRun, Insert};
 
@@ -82,7 +82,7 @@ impl Client {
     ghost use Rattle.arena.specs.Share.{IsFull, after_taking};
     ghost use Rattle.record.specs.declared.record.Line.{Line};
     ghost use Rattle.places.specs.Places.{changes};
-    ghost use Rattle.player.specs.Moments.{IsMomentBy, IsPairsMoment, IsValueMoment};
+    ghost use Rattle.player.specs.Moments.{IsMomentBy, IsPairsMoment, IsReplyMoment, IsValueMoment};
     ghost use Rattle.player.specs.RunKnown.{share_behind};
     ghost use Rattle.player.specs.ClientView.{ClientView, client_view, IsSound, IsAtNextCall, Rests, command_of, Starts, Hears, Answered, Told, CanPut, Puts, held, BeginsOrRefuses, IsNextAction, IsUnbegun, IsClient};
 
@@ -217,7 +217,7 @@ impl Client {
         ensures { (v : ClientView) (began : Option ℕ) → IsSound v → 0 < v.tries → v.layout.mode ≡ Tree → Rests v self.old → IsUnbegun v began → command_of v self.old ≡ Some (MapCommand (RangeOf low high most)) → BeginsOrRefuses v self.old.begin self.old self.new result }
     {
         if most == 0 || high < low {
-            return Some(Answer::Pairs(Vec::new(self.alloc)));
+            return Some(Answer::Map(Reply::Pairs(Vec::new(self.alloc))));
         }
         let run = RangeRun::new(self.alloc, low, high, most as usize, self.tries);
         self.run(Run::Read(ReadRun::Range(run)), None)
@@ -407,37 +407,55 @@ impl Client {
             Answer::Same => Some(self.begin),
             Answer::Snapshot { left: _, right: _ } => Some(turn),
             Answer::Finalized => Some(turn),
-            Answer::Value(value) => self.value_moment(calls, turn, *value, won, places),
-            Answer::Pair(_) => self.pairs_moment(calls, turn, answer, places),
-            Answer::Pairs(_) => self.pairs_moment(calls, turn, answer, places),
+            Answer::Map(reply) => self.reply_moment(calls, turn, reply, won, places),
             _ => None,
         }
     }
 
-    /// The turn at which an answer stands that tells pairs.
+    /// The turn at which a reply of the map stands; a refusal stands nowhere.
+    fn reply_moment(
+        &self,
+        calls: &[Call],
+        turn: u64,
+        reply: &Reply<u64, u64>,
+        won: Option<u64>,
+        places: &Places,
+    ) -> Option<u64>
+        requires { self.now.begin ≤ turn }
+        ensures { (call : ScriptCall) (at : ℕ) (lines : List Line) → self.now.next ≡ Some at → slice_get calls.now at ≡ Some call → IsReplyMoment calls.now lines (changes places.now) call.command reply.now self.now.begin turn won result }
+    {
+        match reply {
+            Reply::Value(value) => self.value_moment(calls, turn, *value, won, places),
+            Reply::Pair(_) => self.pairs_moment(calls, turn, reply, places),
+            Reply::Pairs(_) => self.pairs_moment(calls, turn, reply, places),
+            Reply::Contended { .. } | Reply::Full(_) | Reply::NoMemory => None,
+        }
+    }
+
+    /// The turn at which a reply stands that tells a pair, or none, or pairs.
     fn pairs_moment(
         &self,
         calls: &[Call],
         turn: u64,
-        answer: &Answer,
+        reply: &Reply<u64, u64>,
         places: &Places,
     ) -> Option<u64>
         requires { self.now.begin ≤ turn }
-        ensures { (call : ScriptCall) (at : ℕ) (lines : List Line) → self.now.next ≡ Some at → slice_get calls.now at ≡ Some call → IsPairsMoment calls.now lines (changes places.now) call.command answer.now self.now.begin turn result }
+        ensures { (call : ScriptCall) (at : ℕ) (lines : List Line) → self.now.next ≡ Some at → slice_get calls.now at ≡ Some call → IsPairsMoment calls.now lines (changes places.now) call.command reply.now self.now.begin turn result }
     {
         let command = self.call(calls)?.command;
         match command {
             Command::Map(Request::Successor { .. }) => {
-                Some(places.greatest_of(&command, answer, self.begin, turn))
+                Some(places.greatest_of(&command, reply, self.begin, turn))
             }
             Command::Map(Request::Range { .. }) => {
-                Some(places.greatest_of(&command, answer, self.begin, turn))
+                Some(places.greatest_of(&command, reply, self.begin, turn))
             }
             _ => None,
         }
     }
 
-    /// The turn at which an answer stands that tells a value.
+    /// The turn at which a reply stands that tells a value.
     fn value_moment(
         &self,
         calls: &[Call],
@@ -457,10 +475,6 @@ impl Client {
                 None => places.greatest(key, None, self.begin, turn),
             },
             Command::Map(Request::Get { key }) => places.greatest(key, value, self.begin, turn),
-            Command::Map(Request::Successor { .. }) => {
-                let answer = Answer::Value(value);
-                Some(places.greatest_of(&command, &answer, self.begin, turn))
-            }
             _ => None,
         }
     }

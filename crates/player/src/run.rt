@@ -9,9 +9,10 @@ ghost use Rattle.player.specs.RunSteps.{run_left, HasSpentSome, HasSpentRest};
 
 use crate::edit::EditRun;
 use crate::read::ReadRun;
-use arena::{Full, Machine, Share, Turn};
+use arena::{Machine, Share, Turn};
 use prims::{Cells, Llx, LlxRun, PutRun, Scx, Snaps, Vlx, VlxRun};
 use record::Answer;
+use spelling::Reply;
 use tree::{GetRun, Tree};
 use updates::Updated;
 
@@ -35,8 +36,8 @@ pub(crate) enum Ended {
     Vlx(Vlx),
     Edit(Updated),
     Get(Option<u64>),
-    /// An ordered read, in the words of the record.
-    Read(Answer),
+    /// An ordered read, in the words of the dictionary.
+    Read(Reply<u64, u64>),
 }
 
 impl Ended {
@@ -58,11 +59,13 @@ impl Ended {
             Ended::Scx(Scx::Lost { node, scx }) => Answer::Lost { node, scx },
             Ended::Vlx(Vlx::Same) => Answer::Same,
             Ended::Vlx(Vlx::Changed { node, scx }) => Answer::Changed { node, scx },
-            Ended::Edit(Updated::Done { found }) => Answer::Value(found.value),
-            Ended::Edit(Updated::Contended { node, scx }) => Answer::Contended { node, scx },
-            Ended::Edit(Updated::Full(Full { what, left })) => Answer::Full { what, left },
-            Ended::Get(value) => Answer::Value(value),
-            Ended::Read(answer) => answer,
+            Ended::Edit(Updated::Done { found }) => Answer::Map(Reply::Value(found.value)),
+            Ended::Edit(Updated::Contended { node, scx }) => {
+                Answer::Map(Reply::Contended { node, scx })
+            }
+            Ended::Edit(Updated::Full(full)) => Answer::Map(Reply::Full(full)),
+            Ended::Get(value) => Answer::Map(Reply::Value(value)),
+            Ended::Read(reply) => Answer::Map(reply),
         }
     }
 }
@@ -103,7 +106,7 @@ impl Run {
             },
             Run::Read(run) => match run.next(got) {
                 Turn::Ask(step) => Turn::Ask(step),
-                Turn::Done(answer) => Turn::Done(Ended::Read(answer)),
+                Turn::Done(reply) => Turn::Done(Ended::Read(reply)),
             },
         }
     }
