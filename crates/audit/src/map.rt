@@ -69,9 +69,7 @@ fn is_placed(
     ensures placed { (lay : Layout) (tries : ℕ) (calls : List CallOf) (lines : List Line) → IsAsked lay tries calls lines (changes places.now) client.now (MapCommand request.now) reply.now → IsTrue result → IsPlaced lay calls lines reply.now (MapCommand request.now) }
 {
     match client.won {
-        Some(turn) => {
-            reply.moment == Some(turn) && had_before(places, request, told, turn)
-        }
+        Some(turn) => { reply.moment == Some(turn) && had_before(places, request, told, turn) }
         None => is_read(places, request, told, reply),
     }
 }

@@ -136,22 +136,10 @@ fn other_answers_of_ranges_are_found(rt: HostRuntime) -> Result<(), Fail> {
 #[test]
 fn other_answers_of_successors_are_found(rt: HostRuntime) -> Result<(), Fail> {
     let edits = [
-        (
-            Edit::Pair(SUCCESSOR, Some((6, 60))),
-            Wrong::Moment(388),
-        ),
-        (
-            Edit::Pair(SUCCESSOR, Some((6, 70))),
-            Wrong::Answer(388),
-        ),
-        (
-            Edit::Pair(SUCCESSOR, Some((9, 91))),
-            Wrong::Answer(388),
-        ),
-        (
-            Edit::Pair(SUCCESSOR, Some((5, 51))),
-            Wrong::Answer(388),
-        ),
+        (Edit::Pair(SUCCESSOR, Some((6, 60))), Wrong::Moment(388)),
+        (Edit::Pair(SUCCESSOR, Some((6, 70))), Wrong::Answer(388)),
+        (Edit::Pair(SUCCESSOR, Some((9, 91))), Wrong::Answer(388)),
+        (Edit::Pair(SUCCESSOR, Some((5, 51))), Wrong::Answer(388)),
         (Edit::Pair(SUCCESSOR, None), Wrong::Answer(388)),
         (Edit::Value(SUCCESSOR, None), Wrong::Answer(388)),
         (Edit::Pairs(SUCCESSOR, &[(7, 70)]), Wrong::Answer(388)),
