@@ -1,8 +1,11 @@
 -- Replies to ordered reads, by the first pairs that they find in a map.
-use Rattle.std.proofs.Common.{◌≡◌, ℕ, ◌&&◌, leb, ltb, List, [], ◌∷◌, take, None, refl, ◌∙◌, ap}
+use Rattle.std.proofs.Common.{◌≡◌, ℕ, ◌&&◌, leb, ltb, List, [], ◌∷◌, take, Option, Some, None, refl, sym, ◌∙◌, ap}
 use Rattle.std.specs.List.{filter}
 use Rattle.spelling.specs.declared.pair.Pair.{Pair}
-use Rattle.spelling.specs.OrderedMap.{Successor, Range, OneValue, OnePair, ManyPairs, first_pair, pair_or_none, reply}
+use Rattle.spelling.specs.OrderedMap.{Successor, Range, MapReply, OneValue, OnePair, ManyPairs, first_pair, pair, pair_or_none, reply}
+use Rattle.spelling.specs.Replies.{number_reply}
+use Rattle.spelling.specs.declared.reply.Reply.TheVariants.{Pair as PairOf}
+use Rattle.places.specs.Ordered.{pairs_in}
 use Rattle.places.proofs.Lemmas.{successor_first, between_all}
 
 none_first : (fs : List Pair) → take 1 fs ≡ [] → pair_or_none (first_pair fs) ≡ OneValue None
@@ -14,12 +17,17 @@ one_first [] p e = absurd (cc)
 one_first (f ∷ fs) p e = let same : f ≡ p = cc in ap OnePair same
 
 -- no pair is found above the key
-pub none_above : (k : ℕ) (m : List Pair) → take 1 (filter (λ (p : Pair). ltb k p.key) m) ≡ [] → reply (Successor k) m ≡ OneValue None
+none_above : (k : ℕ) (m : List Pair) → take 1 (filter (λ (p : Pair). ltb k p.key) m) ≡ [] → reply (Successor k) m ≡ OneValue None
 none_above k m e = ap pair_or_none (successor_first k m) ∙ none_first (filter (λ (p : Pair). ltb k p.key) m) e
 
 -- this is the first pair above the key
-pub one_above : (k : ℕ) (m : List Pair) (p : Pair) → take 1 (filter (λ (q : Pair). ltb k q.key) m) ≡ p ∷ [] → reply (Successor k) m ≡ OnePair p
+one_above : (k : ℕ) (m : List Pair) (p : Pair) → take 1 (filter (λ (q : Pair). ltb k q.key) m) ≡ p ∷ [] → reply (Successor k) m ≡ OnePair p
 one_above k m p e = ap pair_or_none (successor_first k m) ∙ one_first (filter (λ (q : Pair). ltb k q.key) m) p e
+
+-- what is told is the first pair above the key, or that there is none
+pub successor_told : (k : ℕ) (m : List Pair) (found : Option (ℕ × ℕ)) → take 1 (filter (λ (p : Pair). ltb k p.key) m) ≡ pairs_in (number_reply (PairOf found)) → number_reply (PairOf found) ≡ Some (reply (Successor k) m)
+successor_told k m None e = ap (λ (t : MapReply). Some t) (sym (none_above k m e))
+successor_told k m (Some p) e = ap (λ (t : MapReply). Some t) (sym (one_above k m (pair p.0 p.1) e))
 
 -- these are the first pairs with keys from `low` to `high`
 pub some_between : (low high most : ℕ) (m ps : List Pair) → take most (filter (λ (p : Pair). leb low p.key && leb p.key high) m) ≡ ps → reply (Range low high most) m ≡ ManyPairs ps

@@ -10,6 +10,7 @@ use Rattle.spelling.specs.OrderedMap.{MapCall, MapEdit, Edit, Insert, Delete, Ge
 use Rattle.spelling.specs.Paths.{IsAnswerAt}
 use Rattle.script.specs.declared.call.Call.{Call}
 use Rattle.script.specs.declared.command.Command.{Command}
+use Rattle.spelling.specs.declared.reply.Reply.TheVariants.{Value, Pair as PairOf, Pairs, Contended, NoMemory}
 use Rattle.spelling.specs.declared.request.Request.TheVariants.{Insert as InsertOf, Delete as DeleteOf, Get as GetOf, Successor as SuccessorOf, Range as RangeOf}
 use Rattle.script.specs.declared.command.Command.TheVariants.{Map}
 use Rattle.record.specs.declared.record.Line.{Line}
@@ -17,7 +18,7 @@ use Rattle.record.specs.declared.record.Line.TheVariants.{Step, Log, Reply as Re
 use Rattle.record.specs.declared.record.Row.TheVariants.{Step as Made, Idle}
 use Rattle.record.specs.declared.record.Finished.{Finished}
 use Rattle.record.specs.declared.record.Answer.{Answer}
-use Rattle.record.specs.declared.record.Answer.TheVariants.{Value, Pair as PairOf, Pairs, Contended, NoMemory}
+use Rattle.record.specs.declared.record.Answer.TheVariants.{Map as MapAnswer}
 use Rattle.record.specs.Answers.{HasItsEntry, WasBlockedBy}
 use Rattle.record.specs.CommandRules.{IsRight, IsPlaced, enters, MayAnswerAtOnce, MayAnswerAfterStep}
 use Rattle.record.specs.Edits.{HadAtKey}
@@ -32,7 +33,7 @@ use Rattle.record.specs.Rules.Range.{RangeAtOnce, RangeAfterStep, RangeIsRight}
 use Rattle.record.specs.Rules.Successor.{SuccessorAtOnce, SuccessorAfterStep, SuccessorIsRight}
 use Rattle.record.specs.Shares.{HasTooFewToTry}
 use Rattle.record.specs.Turns.{history, turns, begin, start, won}
-use Rattle.record.proofs.Lemmas.{begin_within, entries_none}
+use Rattle.record.proofs.Lemmas.{begin_within, entries_none, value_told}
 use Rattle.places.specs.declared.places.Change.{Change}
 use Rattle.places.specs.Entries.{HadWithin}
 use Rattle.places.specs.Ordered.{FallFrom}
@@ -66,34 +67,33 @@ neither (inr e) = absurd e
 
 -- an answer that tells something of an ordered read is right
 successor_right : (lay : Layout) (c : ℕ) (now start : History) (kept : ℕ → Option History) (told : MapReply) (answer : Answer) → reply_told answer ≡ Some told → SuccessorAtOnce answer ⊎ SuccessorAfterStep answer → SuccessorIsRight lay c now start kept answer
-successor_right lay c now start kept told (Value None) e fits = tt
-successor_right lay c now start kept told (Value (Some v)) e fits = neither fits
-successor_right lay c now start kept told (PairOf p) e fits = tt
-successor_right lay c now start kept told (Pairs ps) e fits = neither fits
+successor_right lay c now start kept told (MapAnswer (PairOf p)) e fits = tt
+successor_right lay c now start kept told (MapAnswer (Value v)) e fits = neither fits
+successor_right lay c now start kept told (MapAnswer (Pairs ps)) e fits = neither fits
 successor_right lay c now start kept told answer e fits = absurd (let z : None ≡ Some told = e in cc)
 
 range_right : (lay : Layout) (c low high most : ℕ) (now start : History) (kept : ℕ → Option History) (told : MapReply) (answer : Answer) → reply_told answer ≡ Some told → RangeAtOnce low high most answer ⊎ RangeAfterStep answer → RangeIsRight lay c now start kept answer
-range_right lay c low high most now start kept told (Pairs ps) e fits = tt
-range_right lay c low high most now start kept told (Value v) e fits = neither fits
-range_right lay c low high most now start kept told (PairOf p) e fits = neither fits
+range_right lay c low high most now start kept told (MapAnswer (Pairs ps)) e fits = tt
+range_right lay c low high most now start kept told (MapAnswer (Value v)) e fits = neither fits
+range_right lay c low high most now start kept told (MapAnswer (PairOf p)) e fits = neither fits
 range_right lay c low high most now start kept told answer e fits = absurd (let z : None ≡ Some told = e in cc)
 
 -- a refusal that fits is right, if another client was in the way
-pub contended_right : (lay : Layout) (c : ℕ) (now start : History) (kept : ℕ → Option History) (lines : List Line) (command : Command) (call : MapCall) (node : NodeNo) (scx : ScxNo) → map_call (Some command) ≡ Some call → IsFitting lines command (Contended node scx) → WasBlockedBy lay c now start node.0 scx.0 → IsRight lay c now start kept command (Contended node scx)
+pub contended_right : (lay : Layout) (c : ℕ) (now start : History) (kept : ℕ → Option History) (lines : List Line) (command : Command) (call : MapCall) (node : NodeNo) (scx : ScxNo) → map_call (Some command) ≡ Some call → IsFitting lines command (MapAnswer (Contended node scx)) → WasBlockedBy lay c now start node.0 scx.0 → IsRight lay c now start kept command (MapAnswer (Contended node scx))
 contended_right lay c now start kept lines (Map (InsertOf key value)) call node scx of_map fits way = way
 contended_right lay c now start kept lines (Map (DeleteOf key)) call node scx of_map fits way = way
 contended_right lay c now start kept lines (Map (SuccessorOf key)) call node scx of_map fits way = way
 contended_right lay c now start kept lines (Map (RangeOf low high most)) call node scx of_map fits way = way
-contended_right lay c now start kept lines (Map (GetOf key)) call node scx of_map fits way = neither (either_fits lines (Map (GetOf key)) (Contended node scx) fits)
+contended_right lay c now start kept lines (Map (GetOf key)) call node scx of_map fits way = neither (either_fits lines (Map (GetOf key)) (MapAnswer (Contended node scx)) fits)
 contended_right lay c now start kept lines command call node scx of_map fits way = absurd (let z : None ≡ Some call = of_map in cc)
 
 -- and one for want of memory is
-pub no_memory_right : (lay : Layout) (c : ℕ) (now start : History) (kept : ℕ → Option History) (lines : List Line) (command : Command) (call : MapCall) → map_call (Some command) ≡ Some call → IsFitting lines command NoMemory → IsRight lay c now start kept command NoMemory
+pub no_memory_right : (lay : Layout) (c : ℕ) (now start : History) (kept : ℕ → Option History) (lines : List Line) (command : Command) (call : MapCall) → map_call (Some command) ≡ Some call → IsFitting lines command (MapAnswer NoMemory) → IsRight lay c now start kept command (MapAnswer NoMemory)
 no_memory_right lay c now start kept lines (Map (SuccessorOf key)) call of_map fits = tt
 no_memory_right lay c now start kept lines (Map (RangeOf low high most)) call of_map fits = tt
-no_memory_right lay c now start kept lines (Map (InsertOf key value)) call of_map fits = neither (either_fits lines (Map (InsertOf key value)) NoMemory fits)
-no_memory_right lay c now start kept lines (Map (DeleteOf key)) call of_map fits = neither (either_fits lines (Map (DeleteOf key)) NoMemory fits)
-no_memory_right lay c now start kept lines (Map (GetOf key)) call of_map fits = neither (either_fits lines (Map (GetOf key)) NoMemory fits)
+no_memory_right lay c now start kept lines (Map (InsertOf key value)) call of_map fits = neither (either_fits lines (Map (InsertOf key value)) (MapAnswer NoMemory) fits)
+no_memory_right lay c now start kept lines (Map (DeleteOf key)) call of_map fits = neither (either_fits lines (Map (DeleteOf key)) (MapAnswer NoMemory) fits)
+no_memory_right lay c now start kept lines (Map (GetOf key)) call of_map fits = neither (either_fits lines (Map (GetOf key)) (MapAnswer NoMemory) fits)
 no_memory_right lay c now start kept lines command call of_map fits = absurd (let z : None ≡ Some call = of_map in cc)
 
 -- what is not there
@@ -110,11 +110,11 @@ unwon (Some k) x = absurd x
 
 -- a refusal says of no update that it has won
 no_insert : (answer : Answer) → reply_told answer ≡ None → has_inserted answer ≡ false
-no_insert (Value v) e = absurd (let z : Some (OneValue v) ≡ None = e in cc)
+no_insert (MapAnswer (Value v)) e = absurd (let z : Some (OneValue v) ≡ None = sym (value_told v) ∙ e in cc)
 no_insert answer e = refl
 
 no_delete : (answer : Answer) → reply_told answer ≡ None → has_deleted answer ≡ false
-no_delete (Value v) e = absurd (let z : Some (OneValue v) ≡ None = e in cc)
+no_delete (MapAnswer (Value v)) e = absurd (let z : Some (OneValue v) ≡ None = sym (value_told v) ∙ e in cc)
 no_delete answer e = refl
 
 unwon_by : (b : Bool) (has : Option ℕ) → b ≡ false → HasItsEntry b has → has ≡ None
@@ -128,6 +128,10 @@ refused_unwon (Map (GetOf key)) call answer has of_map none x = unwon has x
 refused_unwon (Map (SuccessorOf key)) call answer has of_map none x = unwon has x
 refused_unwon (Map (RangeOf low high most)) call answer has of_map none x = unwon has x
 refused_unwon command call answer has of_map none x = absurd (let z : None ≡ Some call = of_map in cc)
+
+-- the answer that tells this of a key
+abbrev of_value : Option ℕ → Answer
+of_value v = MapAnswer (Value v)
 
 some_edit : (e d : MapEdit) → Some (Edit e) ≡ Some (Edit d) → e ≡ d
 some_edit e d q = cc
@@ -160,7 +164,7 @@ module _ (lay : Layout) (tries : ℕ) (calls : List Call) (lines : List Line) (c
 
   -- Changes
 
-  is_change : (turn : ℕ) (e : MapEdit) (told : Option ℕ) → won lay lines r.client.0 ≡ Some turn → r.moment ≡ Some turn → r.answer ≡ Value told → get (edit_key e) (map_at calls lines (turn - 1)) ≡ told → IsChange calls lines (Edit e) r
+  is_change : (turn : ℕ) (e : MapEdit) (told : Option ℕ) → won lay lines r.client.0 ≡ Some turn → r.moment ≡ Some turn → r.answer ≡ MapAnswer (Value told) → get (edit_key e) (map_at calls lines (turn - 1)) ≡ told → IsChange calls lines (Edit e) r
   is_change turn e told has moment answers had =
       let f = won_entered lay tries calls r.client.0 turn lines x.in_order x.owed has in
       let turn_is = f.in_turn in
@@ -175,7 +179,7 @@ module _ (lay : Layout) (tries : ℕ) (calls : List Call) (lines : List Line) (c
         number = f.call ∙ sym x.number;
         once = subst (λ (n : ℕ). entries_of_call r.client.0 n (written_log lines) ≡ 1) (sym x.number) f.once;
         moment = moment ∙ ap (λ (n : ℕ). Some n) (sym f.step);
-        replies = ap reply_told answers ∙ ap (λ (o : Option ℕ). let t : MapReply = OneValue o in Some t) (sym had ∙ ap (get (edit_key e)) before);
+        replies = ap reply_told answers ∙ value_told told ∙ ap (λ (o : Option ℕ). let t : MapReply = OneValue o in Some t) (sym had ∙ ap (get (edit_key e)) before);
       }
 
   -- Readings
@@ -184,8 +188,8 @@ module _ (lay : Layout) (tries : ℕ) (calls : List Call) (lines : List Line) (c
   greatest_value key call says v = record {
     from = v.greatest.from;
     to = v.greatest.to;
-    holds = ap reply_told v.answers ∙ rw (says (map_at calls lines v.turn), v.greatest.holds) refl;
-    none_later = λ n i j d. v.greatest.none_later n i j (let y : Some (OneValue v.told) ≡ Some (OneValue (get key (map_at calls lines n))) = sym (ap reply_told v.answers) ∙ d ∙ rw (says (map_at calls lines n)) refl in cc);
+    holds = ap reply_told v.answers ∙ value_told v.told ∙ rw (says (map_at calls lines v.turn), v.greatest.holds) refl;
+    none_later = λ n i j d. v.greatest.none_later n i j (let y : Some (OneValue v.told) ≡ Some (OneValue (get key (map_at calls lines n))) = sym (ap reply_told v.answers ∙ value_told v.told) ∙ d ∙ rw (says (map_at calls lines n)) refl in cc);
   }
 
   value_reading : (key : ℕ) (call : MapCall) → ((m : List _) → reply call m ≡ OneValue (get key m)) → won lay lines r.client.0 ≡ None → IsValueAt calls lines key r → IsReading calls lines call r
@@ -228,10 +232,10 @@ module _ (lay : Layout) (tries : ℕ) (calls : List Call) (lines : List Line) (c
 
   delete_answered : (key turn : ℕ) (t : IsToldBefore calls lines (Map (DeleteOf key)) r.answer turn) (told : Option ℕ) → t.told ≡ told → IsAsked lay tries calls lines changed client (Map (DeleteOf key)) r → won lay lines r.client.0 ≡ Some turn → r.moment ≡ Some turn → IsAnswered lay calls lines r (Map (DeleteOf key))
   delete_answered key turn t None none x has moment =
-      let answers : r.answer ≡ Value None = t.answers ∙ ap Value none in
+      let answers : r.answer ≡ MapAnswer (Value None) = t.answers ∙ ap of_value none in
       absurd (let z : HasItsEntry false (Some turn) = rw (answers, has) at x.entry in z)
   delete_answered key turn t (Some old) some x has moment =
-      let answers : r.answer ≡ Value (Some old) = t.answers ∙ ap Value some in
+      let answers : r.answer ≡ MapAnswer (Value (Some old)) = t.answers ∙ ap of_value some in
       let same = some_edit (Delete key) t.edit t.is in
       let had = subst (λ (e : MapEdit). get (edit_key e) (map_at calls lines (turn - 1)) ≡ t.told) (sym same) t.had in
       record {
@@ -262,10 +266,10 @@ module _ (lay : Layout) (tries : ℕ) (calls : List Call) (lines : List Line) (c
   -- a delete that finds nothing
   absent_answered : (key : ℕ) (told : Option ℕ) (v : IsValueAt calls lines key r) → v.told ≡ told → IsAsked lay tries calls lines changed client (Map (DeleteOf key)) r → won lay lines r.client.0 ≡ None → IsAnswered lay calls lines r (Map (DeleteOf key))
   absent_answered key (Some old) v some x none =
-      let answers : r.answer ≡ Value (Some old) = v.answers ∙ ap Value some in
+      let answers : r.answer ≡ MapAnswer (Value (Some old)) = v.answers ∙ ap of_value some in
       absurd (let z : HasItsEntry true None = rw (answers, none) at x.entry in z)
   absent_answered key None v nothing x none =
-      let answers : r.answer ≡ Value None = v.answers ∙ ap Value nothing in
+      let answers : r.answer ≡ MapAnswer (Value None) = v.answers ∙ ap of_value nothing in
       let had = value_had lay tries calls lines changed client (Map (DeleteOf key)) r x key (λ e. e) v in
       record {
         right = subst (λ (a : Answer). DeleteIsRight key lay r.client.0 (history lay.mode lines) (start lay.mode lines r.client.0) (linked calls lay.mode lines r.client.0) a) (sym answers) (subst (λ (o : Option ℕ). HadAtKey lay (history lay.mode lines) (start lay.mode lines r.client.0) key o) nothing had);

@@ -8,12 +8,13 @@ use Rattle.arena.specs.Blame.{WasInTheWay}
 use Rattle.arena.specs.Fills.{IsOthersScx}
 use Rattle.script.specs.declared.call.Call.{Call}
 use Rattle.script.specs.declared.command.Command.{Command}
+use Rattle.spelling.specs.declared.reply.Reply.TheVariants.{Contended, Full, NoMemory}
 use Rattle.spelling.specs.declared.request.Request.TheVariants.{Insert, Delete}
 use Rattle.script.specs.declared.command.Command.TheVariants.{Map}
 use Rattle.record.specs.declared.record.Line.{Line}
 use Rattle.record.specs.declared.record.Finished.{Finished}
 use Rattle.record.specs.declared.record.Answer.{Answer}
-use Rattle.record.specs.declared.record.Answer.TheVariants.{Contended, Full, NoMemory}
+use Rattle.record.specs.declared.record.Answer.TheVariants.{Map as MapAnswer}
 use Rattle.record.specs.Answers.{WasBlockedBy}
 use Rattle.record.specs.CommandRules.{IsRight, MayAnswerAtOnce}
 use Rattle.record.specs.Linked.{linked}
@@ -50,7 +51,7 @@ module _ (lay : Layout) (tries : ℕ) (calls : List Call) (lines : List Line) (c
   begun_now : IsSome (begin lines client.pass.0)
   begun_now = subst (λ (n : ℕ). IsSome (begin lines n)) (sym x.pass) (rw x.begun refl)
 
-  pub right_contended : (all : Steps) (memory : Memory) (node : NodeNo) (scx : ScxNo) → AreRemembered lay calls lines all → client.pass.0 < all.judge.layout.passes → IfSome (slice_get all.memories.items client.pass.0) (λ m. memory ≡ m) → r.answer ≡ Contended node scx → IsOthersScx all.judge.layout client.pass.0 scx.0 → (IsMomentAt (history lay.mode lines) memory.begun (start lay.mode lines client.pass.0) → WasInTheWay (history lay.mode lines) (start lay.mode lines client.pass.0) node.0 scx.0) → RightIs command r.answer
+  pub right_contended : (all : Steps) (memory : Memory) (node : NodeNo) (scx : ScxNo) → AreRemembered lay calls lines all → client.pass.0 < all.judge.layout.passes → IfSome (slice_get all.memories.items client.pass.0) (λ m. memory ≡ m) → r.answer ≡ MapAnswer (Contended node scx) → IsOthersScx all.judge.layout client.pass.0 scx.0 → (IsMomentAt (history lay.mode lines) memory.begun (start lay.mode lines client.pass.0) → WasInTheWay (history lay.mode lines) (start lay.mode lines client.pass.0) node.0 scx.0) → RightIs command r.answer
   right_contended all memory node scx kept is_pass is answers others way =
       let small : client.pass.0 < lay.passes = subst (λ (l : Layout). client.pass.0 < l.passes) kept.steps.layout is_pass in
       let other : IsOthersScx lay client.pass.0 scx.0 = subst (λ (l : Layout). IsOthersScx l client.pass.0 scx.0) kept.steps.layout others in
@@ -58,20 +59,20 @@ module _ (lay : Layout) (tries : ℕ) (calls : List Call) (lines : List Line) (c
       let own = subst (λ (n : ℕ). WasBlockedBy lay n (history lay.mode lines) (start lay.mode lines n) node.0 scx.0) x.pass blocked in
       subst (RightIs command) (sym answers) (contended_right lay r.client.0 (history lay.mode lines) (start lay.mode lines r.client.0) (linked calls lay.mode lines r.client.0) lines command x.of_map.0 node scx x.of_map.1 (subst (IsFitting lines command) answers x.fits) own)
 
-  pub right_no_memory : r.answer ≡ NoMemory → RightIs command r.answer
+  pub right_no_memory : r.answer ≡ MapAnswer NoMemory → RightIs command r.answer
   right_no_memory answers = subst (RightIs command) (sym answers) (no_memory_right lay r.client.0 (history lay.mode lines) (start lay.mode lines r.client.0) (linked calls lay.mode lines r.client.0) lines command x.of_map.0 x.of_map.1 (subst (IsFitting lines command) answers x.fits))
 
-  pub right_full_insert : (key value : ℕ) (old : Option ℕ) (what : Resource) (left : ℕ) → command ≡ Map (Insert key value) → ((MayAnswerAtOnce command r.answer → ⊥) → IsTooFewFor lay lines r key old what left) → RightIs command (Full what left)
+  pub right_full_insert : (key value : ℕ) (old : Option ℕ) (what : Resource) (left : ℕ) → command ≡ Map (Insert key value) → ((MayAnswerAtOnce command r.answer → ⊥) → IsTooFewFor lay lines r key old what left) → RightIs command (MapAnswer (Full record { what = what; left = left }))
   right_full_insert key value old what left is few =
       let y = few (at_once_insert command r.answer key value is) in
-      subst (λ (k : Command). RightIs k (Full what left)) (sym is) (old, y.0, y.1)
+      subst (λ (k : Command). RightIs k (MapAnswer (Full record { what = what; left = left }))) (sym is) (old, y.0, y.1)
 
-  pub right_full_old_insert : (key value : ℕ) (what : Resource) (left : ℕ) → command ≡ Map (Insert key value) → ((MayAnswerAtOnce command r.answer → ⊥) → (v : ℕ) × IsTooFewFor lay lines r key (Some v) what left) → RightIs command (Full what left)
+  pub right_full_old_insert : (key value : ℕ) (what : Resource) (left : ℕ) → command ≡ Map (Insert key value) → ((MayAnswerAtOnce command r.answer → ⊥) → (v : ℕ) × IsTooFewFor lay lines r key (Some v) what left) → RightIs command (MapAnswer (Full record { what = what; left = left }))
   right_full_old_insert key value what left is few =
       let y = few (at_once_insert command r.answer key value is) in
-      subst (λ (k : Command). RightIs k (Full what left)) (sym is) (Some y.0, y.1.0, y.1.1)
+      subst (λ (k : Command). RightIs k (MapAnswer (Full record { what = what; left = left }))) (sym is) (Some y.0, y.1.0, y.1.1)
 
-  pub right_full_delete : (key : ℕ) (what : Resource) (left : ℕ) → command ≡ Map (Delete key) → ((MayAnswerAtOnce command r.answer → ⊥) → (v : ℕ) × IsTooFewFor lay lines r key (Some v) what left) → RightIs command (Full what left)
+  pub right_full_delete : (key : ℕ) (what : Resource) (left : ℕ) → command ≡ Map (Delete key) → ((MayAnswerAtOnce command r.answer → ⊥) → (v : ℕ) × IsTooFewFor lay lines r key (Some v) what left) → RightIs command (MapAnswer (Full record { what = what; left = left }))
   right_full_delete key what left is few =
       let y = few (at_once_delete command r.answer key is) in
-      subst (λ (k : Command). RightIs k (Full what left)) (sym is) (y.0, y.1.0, y.1.1)
+      subst (λ (k : Command). RightIs k (MapAnswer (Full record { what = what; left = left }))) (sym is) (y.0, y.1.0, y.1.1)

@@ -4,11 +4,12 @@ use Rattle.std.specs.Prelude.{◌≡◌, ℕ, ◌-◌, List, Option, Some, None}
 use Rattle.arena.specs.declared.layout.Layout.{Layout}
 use Rattle.arena.specs.declared.fault.Resource.{Resource}
 use Rattle.spelling.specs.OrderedMap.{MapCall, Edit, MapEdit, edit_key, get, reply}
+use Rattle.spelling.specs.declared.reply.Reply.TheVariants.{Value}
 use Rattle.script.specs.declared.call.Call.{Call}
 use Rattle.script.specs.declared.command.Command.{Command}
 use Rattle.record.specs.declared.record.Line.{Line}
 use Rattle.record.specs.declared.record.Answer.{Answer}
-use Rattle.record.specs.declared.record.Answer.TheVariants.{Value}
+use Rattle.record.specs.declared.record.Answer.TheVariants.{Map}
 use Rattle.record.specs.declared.record.Finished.{Finished}
 use Rattle.record.specs.Answers.{HasItsEntry}
 use Rattle.record.specs.CommandRules.{enters}
@@ -55,7 +56,7 @@ IsTooFewFor lay lines r key old what left = HadAtKey lay (history lay.mode lines
 -- the answer tells what the map had just before the turn at the key of the command, an edit
 pub record IsToldBefore (calls : List Call) (lines : List Line) (command : Command) (answer : Answer) (turn : ℕ) : Type 0 where
   pub told : Option ℕ
-  pub answers : answer ≡ Value told
+  pub answers : answer ≡ Map (Value told)
   pub edit : MapEdit
   pub is : map_call (Some command) ≡ Some (Edit edit)
   pub had : get (edit_key edit) (map_at calls lines (turn - 1)) ≡ told
@@ -64,7 +65,7 @@ pub record IsToldBefore (calls : List Call) (lines : List Line) (command : Comma
 -- tells
 pub record IsValueAt (calls : List Call) (lines : List Line) (key : ℕ) (r : Finished) : Type 0 where
   pub told : Option ℕ
-  pub answers : r.answer ≡ Value told
+  pub answers : r.answer ≡ Map (Value told)
   pub turn : ℕ
   pub moment : r.moment ≡ Some turn
   pub greatest : IsGreatestTurn (λ m. get key (map_at calls lines m) ≡ told) r.begin r.end turn

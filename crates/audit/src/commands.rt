@@ -2,6 +2,8 @@
 ghost use Rattle.std.specs.Prelude.{◌≡◌, ℕ, ◌+◌, ◌*◌, ◌≤◌, ◌↔◌, IsTrue};
 ghost use Rattle.record.specs.CommandRules.{most_steps, MayMake, MayAnswerAtOnce, MayAnswerAfterStep, enters};
 ghost use Rattle.record.specs.CommandRules.{rules};
+ghost use Rattle.script.specs.declared.command.Command.TheVariants.{Map as MapCommand};
+ghost use Rattle.record.specs.declared.record.Answer.TheVariants.{Map as MapAnswer};
 ghost use Rattle.record.specs.Edits.{EditAfterStep};
 ghost use Rattle.record.specs.Rules.Llx.{LlxAfterStep};
 ghost use Rattle.record.specs.Rules.Range.{TakesNothing, RangeAtOnce, RangeAfterStep};
@@ -11,7 +13,7 @@ ghost use Rattle.record.specs.Rules.Successor.{SuccessorAfterStep};
 use arena::{Kind, Limits};
 use record::Answer;
 use script::Command;
-use spelling::Request;
+use spelling::{Reply, Request};
 
 /// Whether a call may make a step of a kind.
 pub(crate) fn may_make(command: &Command, kind: Kind) -> bool
@@ -80,21 +82,32 @@ pub(crate) fn may_answer_at_once(command: &Command, answer: &Answer) -> bool
     match command {
         Command::Scx(_) => matches!(answer, Answer::Unlinked { .. } | Answer::Full { .. }),
         Command::Vlx { cells: _ } => matches!(answer, Answer::Unlinked { .. }),
-        Command::Map(Request::Range { low, high, most }) => is_range_at_once(
-            *low, *high, *most, answer,
-        ),
-        Command::Map(Request::Successor { key: _ }) => matches!(answer, Answer::NoMemory),
+        Command::Map(request) => match answer {
+            Answer::Map(reply) => may_reply_at_once(request, reply),
+            _ => false,
+        },
         _ => false,
     }
 }
 
-/// Whether a range may give an answer in place of a first step.
-fn is_range_at_once(low: u64, high: u64, most: u32, answer: &Answer) -> bool
-    ensures { IsTrue result → RangeAtOnce low high most answer.now }
+/// Whether a call of the map may give a reply in place of a first step.
+fn may_reply_at_once(request: &Request<u64, u64>, reply: &Reply<u64, u64>) -> bool
+    ensures { IsTrue result → MayAnswerAtOnce (MapCommand request.now) (MapAnswer reply.now) }
 {
-    match answer {
-        Answer::Pairs(pairs) => takes_nothing(low, high, most) && pairs.is_empty(),
-        Answer::NoMemory => !takes_nothing(low, high, most),
+    match request {
+        Request::Range { low, high, most } => is_range_at_once(*low, *high, *most, reply),
+        Request::Successor { key: _ } => matches!(reply, Reply::NoMemory),
+        _ => false,
+    }
+}
+
+/// Whether a range may give a reply in place of a first step.
+fn is_range_at_once(low: u64, high: u64, most: u32, reply: &Reply<u64, u64>) -> bool
+    ensures { IsTrue result → RangeAtOnce low high most (MapAnswer reply.now) }
+{
+    match reply {
+        Reply::Pairs(pairs) => takes_nothing(low, high, most) && pairs.is_empty(),
+        Reply::NoMemory => !takes_nothing(low, high, most),
         _ => false,
     }
 }
@@ -108,11 +121,22 @@ pub(crate) fn may_answer_after_step(command: &Command, answer: &Answer) -> bool
         Command::Scx(_) => matches!(answer, Answer::Done | Answer::Lost { .. }),
         Command::Vlx { cells: _ } => matches!(answer, Answer::Same | Answer::Changed { .. }),
         Command::Set { field: _, value: _ } => is_of_set(answer),
-        Command::Map(Request::Insert { key: _, value: _ })
-        | Command::Map(Request::Delete { key: _ }) => is_of_edit(answer),
-        Command::Map(Request::Get { key: _ }) => matches!(answer, Answer::Value(_)),
-        Command::Map(Request::Successor { key: _ }) => is_of_successor(answer),
-        Command::Map(Request::Range { .. }) => is_of_range(answer),
+        Command::Map(request) => match answer {
+            Answer::Map(reply) => may_reply_after_step(request, reply),
+            _ => false,
+        },
+    }
+}
+
+/// Whether a call of the map may give a reply after a step.
+fn may_reply_after_step(request: &Request<u64, u64>, reply: &Reply<u64, u64>) -> bool
+    ensures { IsTrue result → MayAnswerAfterStep (MapCommand request.now) (MapAnswer reply.now) }
+{
+    match request {
+        Request::Insert { key: _, value: _ } | Request::Delete { key: _ } => is_of_edit(reply),
+        Request::Get { key: _ } => matches!(reply, Reply::Value(_)),
+        Request::Successor { key: _ } => is_of_successor(reply),
+        Request::Range { .. } => is_of_range(reply),
     }
 }
 
@@ -135,30 +159,29 @@ fn is_of_set(answer: &Answer) -> bool
     }
 }
 
-fn is_of_edit(answer: &Answer) -> bool
-    ensures { IsTrue result → EditAfterStep answer.now }
+fn is_of_edit(reply: &Reply<u64, u64>) -> bool
+    ensures { IsTrue result → EditAfterStep (MapAnswer reply.now) }
 {
-    match answer {
-        Answer::Value(_) | Answer::Contended { .. } | Answer::Full { .. } => true,
+    match reply {
+        Reply::Value(_) | Reply::Contended { .. } | Reply::Full(_) => true,
         _ => false,
     }
 }
 
-fn is_of_successor(answer: &Answer) -> bool
-    ensures { IsTrue result → SuccessorAfterStep answer.now }
+fn is_of_successor(reply: &Reply<u64, u64>) -> bool
+    ensures { IsTrue result → SuccessorAfterStep (MapAnswer reply.now) }
 {
-    match answer {
-        Answer::Value(None) | Answer::Pair(_) => true,
-        Answer::Contended { .. } | Answer::NoMemory => true,
+    match reply {
+        Reply::Pair(_) | Reply::Contended { .. } | Reply::NoMemory => true,
         _ => false,
     }
 }
 
-fn is_of_range(answer: &Answer) -> bool
-    ensures { IsTrue result → RangeAfterStep answer.now }
+fn is_of_range(reply: &Reply<u64, u64>) -> bool
+    ensures { IsTrue result → RangeAfterStep (MapAnswer reply.now) }
 {
-    match answer {
-        Answer::Pairs(_) | Answer::Contended { .. } | Answer::NoMemory => true,
+    match reply {
+        Reply::Pairs(_) | Reply::Contended { .. } | Reply::NoMemory => true,
         _ => false,
     }
 }
@@ -169,8 +192,21 @@ pub(crate) fn enters(command: &Command, answer: &Answer) -> bool
 {
     match command {
         Command::Scx(_) | Command::Set { .. } => matches!(answer, Answer::Done),
-        Command::Map(Request::Insert { .. }) => matches!(answer, Answer::Value(_)),
-        Command::Map(Request::Delete { .. }) => matches!(answer, Answer::Value(Some(_))),
+        Command::Map(request) => match answer {
+            Answer::Map(reply) => has_changed(request, reply),
+            _ => false,
+        },
+        _ => false,
+    }
+}
+
+/// Whether a reply says that an edit of the call is in the log.
+fn has_changed(request: &Request<u64, u64>, reply: &Reply<u64, u64>) -> bool
+    ensures { result ≡ enters (MapCommand request.now) (MapAnswer reply.now) }
+{
+    match request {
+        Request::Insert { .. } => matches!(reply, Reply::Value(_)),
+        Request::Delete { .. } => matches!(reply, Reply::Value(Some(_))),
         _ => false,
     }
 }

@@ -5,7 +5,8 @@ ghost use Rattle.spelling.specs.OrderedMap.{get};
 ghost use Rattle.script.specs.declared.call.Call.{Call as CallOf};
 ghost use Rattle.script.specs.declared.command.Command.{Command as CommandOf};
 ghost use Rattle.script.specs.declared.command.Command.TheVariants.{Map as MapCommand};
-ghost use Rattle.record.specs.declared.record.Answer.TheVariants.{Full};
+ghost use Rattle.spelling.specs.declared.reply.Reply.TheVariants.{Full as FullShare};
+ghost use Rattle.record.specs.declared.record.Answer.TheVariants.{Map as MapAnswer};
 ghost use Rattle.record.specs.declared.record.Line.{Line};
 ghost use Rattle.record.specs.CommandRules.{IsRight, IsPlaced, MayAnswerAtOnce};
 ghost use Rattle.record.specs.Linked.{linked};
@@ -21,10 +22,10 @@ ghost use Rattle.audit.specs.declared.client.Client.{Client as ClientOf};
 use crate::client::Client;
 use crate::steps::Steps;
 use arena::Resource;
-use places::Places;
+use places::{Places, pairs_told};
 use record::{Answer, Finished};
 use script::Command;
-use spelling::Request;
+use spelling::{Reply, Request};
 
 /// Whether a call of the map took place where its reply says, and told what the map gave there; or
 /// was refused, and took place nowhere.
@@ -42,11 +43,14 @@ pub(crate) fn is_right(
     let Command::Map(request) = command else {
         return false;
     };
-    match &reply.answer {
-        Answer::Value(_) | Answer::Pair(_) | Answer::Pairs(_) => {
-            is_placed(places, client, request, reply)
+    let Answer::Map(told) = &reply.answer else {
+        return false;
+    };
+    match told {
+        Reply::Value(_) | Reply::Pair(_) | Reply::Pairs(_) => {
+            is_placed(places, client, request, told, reply)
         }
-        _ => reply.moment.is_none() && is_refused(steps, places, client, request, reply),
+        _ => reply.moment.is_none() && is_refused(steps, places, client, request, told, reply),
     }
 }
 
@@ -57,58 +61,70 @@ fn is_placed(
     places: &Places,
     client: &Client,
     request: &Request<u64, u64>,
+    told: &Reply<u64, u64>,
     reply: &Finished,
 ) -> bool
+    requires { reply.now.answer ≡ MapAnswer told.now }
     ensures right { (lay : Layout) (tries : ℕ) (calls : List CallOf) (lines : List Line) → IsAsked lay tries calls lines (changes places.now) client.now (MapCommand request.now) reply.now → IsTrue result → IsRight lay reply.now.client.0 (history lay.mode lines) (start lay.mode lines reply.now.client.0) (linked calls lay.mode lines reply.now.client.0) (MapCommand request.now) reply.now.answer }
     ensures placed { (lay : Layout) (tries : ℕ) (calls : List CallOf) (lines : List Line) → IsAsked lay tries calls lines (changes places.now) client.now (MapCommand request.now) reply.now → IsTrue result → IsPlaced lay calls lines reply.now (MapCommand request.now) }
 {
     match client.won {
-        Some(turn) => {
-            reply.moment == Some(turn) && had_before(places, request, &reply.answer, turn)
-        }
-        None => is_read(places, request, reply),
+        Some(turn) => { reply.moment == Some(turn) && had_before(places, request, told, turn) }
+        None => is_read(places, request, told, reply),
     }
 }
 
-/// Whether the answer tells what the key of an edit had just before a turn.
-fn had_before(places: &Places, request: &Request<u64, u64>, answer: &Answer, turn: u64) -> bool
-    ensures { (calls : List CallOf) (lines : List Line) → AreEntries calls lines (changes places.now) → IsTrue result → IsToldBefore calls lines (MapCommand request.now) answer.now turn }
+/// Whether a reply tells what the key of an edit had just before a turn.
+fn had_before(
+    places: &Places,
+    request: &Request<u64, u64>,
+    told: &Reply<u64, u64>,
+    turn: u64,
+) -> bool
+    ensures { (calls : List CallOf) (lines : List Line) → AreEntries calls lines (changes places.now) → IsTrue result → IsToldBefore calls lines (MapCommand request.now) (MapAnswer told.now) turn }
 {
-    let Answer::Value(told) = answer else {
+    let Reply::Value(value) = told else {
         return false;
     };
     let before = turn.saturating_sub(1);
     match request {
-        Request::Insert { key, value: _ } => has_at(places, *key, *told, before),
-        Request::Delete { key } => has_at(places, *key, *told, before),
+        Request::Insert { key, value: _ } => has_at(places, *key, *value, before),
+        Request::Delete { key } => has_at(places, *key, *value, before),
         _ => false,
     }
 }
 
 /// Whether a call without an entry took place in the greatest of its turns after which the map gave
 /// its answer.
-fn is_read(places: &Places, request: &Request<u64, u64>, reply: &Finished) -> bool
+fn is_read(
+    places: &Places,
+    request: &Request<u64, u64>,
+    told: &Reply<u64, u64>,
+    reply: &Finished,
+) -> bool
+    requires { reply.now.answer ≡ MapAnswer told.now }
     ensures right { (lay : Layout) (tries : ℕ) (calls : List CallOf) (lines : List Line) (client : ClientOf) → IsAsked lay tries calls lines (changes places.now) client (MapCommand request.now) reply.now → won lay lines reply.now.client.0 ≡ None → IsTrue result → IsRight lay reply.now.client.0 (history lay.mode lines) (start lay.mode lines reply.now.client.0) (linked calls lay.mode lines reply.now.client.0) (MapCommand request.now) reply.now.answer }
     ensures placed { (lay : Layout) (tries : ℕ) (calls : List CallOf) (lines : List Line) (client : ClientOf) → IsAsked lay tries calls lines (changes places.now) client (MapCommand request.now) reply.now → won lay lines reply.now.client.0 ≡ None → IsTrue result → IsPlaced lay calls lines reply.now (MapCommand request.now) }
 {
     match request {
-        Request::Get { key } => is_read_of(places, *key, reply),
-        Request::Delete { key } => is_read_of(places, *key, reply),
-        _ => is_read_at(places, request, reply),
+        Request::Get { key } => is_read_of(places, *key, told, reply),
+        Request::Delete { key } => is_read_of(places, *key, told, reply),
+        _ => is_read_at(places, request, told, reply),
     }
 }
 
 /// Whether a call that tells what its key had took place in the greatest of its turns after which
 /// the map had that.
-fn is_read_of(places: &Places, key: u64, reply: &Finished) -> bool
+fn is_read_of(places: &Places, key: u64, told: &Reply<u64, u64>, reply: &Finished) -> bool
+    requires { reply.now.answer ≡ MapAnswer told.now }
     ensures { (calls : List CallOf) (lines : List Line) → AreEntries calls lines (changes places.now) → IsTrue result → IsValueAt calls lines key reply.now }
 {
-    let Answer::Value(told) = reply.answer else {
+    let Reply::Value(value) = told else {
         return false;
     };
     reply.moment.is_some()
         && reply.begin <= reply.end
-        && reply.moment == places.greatest(key, told, reply.begin, reply.end)
+        && reply.moment == places.greatest(key, *value, reply.begin, reply.end)
 }
 
 /// Whether a key has this value after a turn.
@@ -120,24 +136,24 @@ fn has_at(places: &Places, key: u64, value: Option<u64>, turn: u64) -> bool
 
 /// Whether an ordered read took place in the greatest of its turns after which the map gave its
 /// answer.
-fn is_read_at(places: &Places, request: &Request<u64, u64>, reply: &Finished) -> bool
+fn is_read_at(
+    places: &Places,
+    request: &Request<u64, u64>,
+    told: &Reply<u64, u64>,
+    reply: &Finished,
+) -> bool
+    requires { reply.now.answer ≡ MapAnswer told.now }
     ensures { (calls : List CallOf) (lines : List Line) → AreEntries calls lines (changes places.now) → FallFrom (suc reply.now.end) (changes places.now) → reply.now.begin ≤ reply.now.end → IsTrue result → IsReadAt calls lines (MapCommand request.now) reply.now }
 {
     let command = Command::Map(*request);
-    let turn = places.greatest_of(&command, &reply.answer, reply.begin, reply.end);
+    let pairs = pairs_told(told);
+    let turn = places.greatest_of(&command, told, reply.begin, reply.end);
     if reply.moment != Some(turn) {
         return false;
     }
-    match (request, &reply.answer) {
-        (Request::Successor { key: _ }, Answer::Value(told)) => {
-            told.is_none() && places.tells(&command, &[], turn)
-        }
-        (Request::Successor { key: _ }, Answer::Pair(pair)) => {
-            places.tells(&command, &[*pair], turn)
-        }
-        (Request::Range { .. }, Answer::Pairs(pairs)) => {
-            places.tells(&command, pairs.as_slice(), turn)
-        }
+    match (request, told) {
+        (Request::Successor { key: _ }, Reply::Pair(_)) => places.tells(&command, pairs, turn),
+        (Request::Range { .. }, Reply::Pairs(_)) => places.tells(&command, pairs, turn),
         _ => false,
     }
 }
@@ -148,26 +164,24 @@ fn is_refused(
     places: &Places,
     client: &Client,
     request: &Request<u64, u64>,
+    told: &Reply<u64, u64>,
     reply: &Finished,
 ) -> bool
-    requires { client.now.pass.0 < steps.now.judge.layout.passes }
+    requires pass { client.now.pass.0 < steps.now.judge.layout.passes }
+    requires answer { reply.now.answer ≡ MapAnswer told.now }
     ensures right { (lay : Layout) (tries : ℕ) (calls : List CallOf) (lines : List Line) → IsAsked lay tries calls lines (changes places.now) client.now (MapCommand request.now) reply.now → AreRemembered lay calls lines steps.now → IsTrue result → IsRight lay reply.now.client.0 (history lay.mode lines) (start lay.mode lines reply.now.client.0) (linked calls lay.mode lines reply.now.client.0) (MapCommand request.now) reply.now.answer }
     ensures tells_nothing { IsTrue result → reply_told reply.now.answer ≡ None }
 {
-    match &reply.answer {
-        Answer::Contended { node, scx } => {
+    match told {
+        Reply::Contended { node, scx } => {
             let begun = steps.memory(client.pass).begun;
             steps.was_in_the_way(client.pass, (*node, *scx), begun)
         }
-        Answer::Full { what, left } => is_full(
-            steps,
-            places,
-            client,
-            request,
-            reply,
-            (*what, *left),
-        ),
-        Answer::NoMemory => true,
+        Reply::Full(full) => {
+            let full = (full.what, full.left);
+            is_full(steps, places, client, request, reply, full)
+        }
+        Reply::NoMemory => true,
         _ => false,
     }
 }
@@ -183,7 +197,7 @@ fn is_full(
     full: (Resource, u32),
 ) -> bool
     requires { client.now.pass.0 < steps.now.judge.layout.passes }
-    ensures { (lay : Layout) (tries : ℕ) (calls : List CallOf) (lines : List Line) → IsAsked lay tries calls lines (changes places.now) client.now (MapCommand request.now) reply.now → AreRemembered lay calls lines steps.now → IsTrue result → IsRight lay reply.now.client.0 (history lay.mode lines) (start lay.mode lines reply.now.client.0) (linked calls lay.mode lines reply.now.client.0) (MapCommand request.now) (Full full.0 full.1) }
+    ensures { (lay : Layout) (tries : ℕ) (calls : List CallOf) (lines : List Line) → IsAsked lay tries calls lines (changes places.now) client.now (MapCommand request.now) reply.now → AreRemembered lay calls lines steps.now → IsTrue result → IsRight lay reply.now.client.0 (history lay.mode lines) (start lay.mode lines reply.now.client.0) (linked calls lay.mode lines reply.now.client.0) (MapCommand request.now) (MapAnswer (FullShare record { what = full.0; left = full.1 })) }
 {
     match request {
         Request::Insert { key, value: _ } => {

@@ -8,7 +8,6 @@ mod lines;
 mod orders;
 mod outcome;
 mod play;
-mod reply;
 mod threaded;
 
 pub use audited::audit_over;

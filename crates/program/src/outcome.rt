@@ -1,9 +1,8 @@
 //! The outcome of a run as text.
 use crate::lines::Lines;
-use crate::reply::answer_of;
-use dict::Reply;
-use report::answer_text;
+use report::reply_text;
 use runner::Outcome;
+use spelling::Reply;
 use std::alloc::{AllocError, Global};
 use std::io::Write;
 use texts::{Metered, WriteFault, send};
@@ -66,8 +65,8 @@ fn replies_text(
     let mut lines = Lines::new(alloc);
     let mut call = first;
     for reply in replies {
-        let answer = answer_text(alloc, &answer_of(alloc, reply)?)?;
-        lines.put("reply", client, call, answer.as_str())?;
+        let text = reply_text(alloc, reply)?;
+        lines.put("reply", client, call, text.as_str())?;
         call = call.saturating_add(1);
     }
     lines.into_text()

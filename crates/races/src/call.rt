@@ -3,7 +3,7 @@ use crate::plain_map::PlainMap;
 use arena::PassNo;
 use record::Answer;
 use script::{Command, Script};
-use spelling::{Pair, Request};
+use spelling::{Reply, Request};
 use std::alloc::AllocError;
 
 /// What a call on the tree does.
@@ -34,13 +34,13 @@ impl MapCall {
 
     /// Makes the call on a map, and tells what it answers.
     pub(crate) fn make(self, map: &mut PlainMap) -> Result<Answer, AllocError> {
-        Ok(match self.0 {
-            Request::Insert { key, value } => Answer::Value(map.insert(key, value)?),
-            Request::Delete { key } => Answer::Value(map.delete(key)),
-            Request::Get { key } => Answer::Value(map.get(key)),
-            Request::Successor { key } => pair_or_none(map.successor(key)),
-            Request::Range { low, high, most } => Answer::Pairs(map.range((low, high), most)?),
-        })
+        Ok(Answer::Map(match self.0 {
+            Request::Insert { key, value } => Reply::Value(map.insert(key, value)?),
+            Request::Delete { key } => Reply::Value(map.delete(key)),
+            Request::Get { key } => Reply::Value(map.get(key)),
+            Request::Successor { key } => Reply::Pair(map.successor(key)),
+            Request::Range { low, high, most } => Reply::Pairs(map.range((low, high), most)?),
+        }))
     }
 
     /// Whether the call has changed the map, by an update, if it answers this: a delete that found
@@ -48,7 +48,7 @@ impl MapCall {
     pub(crate) fn enters(self, answer: &Answer) -> bool {
         match self.0 {
             Request::Insert { .. } => true,
-            Request::Delete { .. } => *answer != Answer::Value(None),
+            Request::Delete { .. } => *answer != Answer::Map(Reply::Value(None)),
             _ => false,
         }
     }
@@ -71,11 +71,14 @@ impl MapCall {
 
     /// Whether the call may be refused so.
     pub(crate) fn may_be_refused(self, answer: &Answer) -> bool {
-        match (self.0, answer) {
+        let Answer::Map(reply) = answer else {
+            return false;
+        };
+        match (self.0, reply) {
             (Request::Get { .. }, _) => false,
-            (_, Answer::Contended { .. }) => true,
-            (_, Answer::Full { .. }) => self.may_change(),
-            (_, Answer::NoMemory) => !self.may_change(),
+            (_, Reply::Contended { .. }) => true,
+            (_, Reply::Full(_)) => self.may_change(),
+            (_, Reply::NoMemory) => !self.may_change(),
             _ => false,
         }
     }
@@ -83,16 +86,9 @@ impl MapCall {
     /// Whether the call may answer so without a step.
     pub(crate) fn may_answer_at_once(self, answer: &Answer) -> bool {
         match answer {
-            Answer::Pairs(_) => self.takes_nothing(),
-            Answer::NoMemory => self.may_be_refused(answer) && !self.takes_nothing(),
+            Answer::Map(Reply::Pairs(_)) => self.takes_nothing(),
+            Answer::Map(Reply::NoMemory) => self.may_be_refused(answer) && !self.takes_nothing(),
             _ => false,
         }
-    }
-}
-
-fn pair_or_none(found: Option<Pair>) -> Answer {
-    match found {
-        Some(pair) => Answer::Pair(pair),
-        None => Answer::Value(None),
     }
 }

@@ -2,9 +2,9 @@
 ghost use Rattle.std.specs.Prelude.{◌<◌};
 
 use crate::random::Random;
-use arena::{Kind, NodeNo, NodeWord, PassNo, Resource, ScxNo, ScxWord, Side, Word};
+use arena::{Full, Kind, NodeNo, NodeWord, PassNo, Resource, ScxNo, ScxWord, Side, Word};
 use record::{Answer, Entry, Finished, Line, Record, Row};
-use spelling::Pair;
+use spelling::Reply;
 use std::alloc::{AllocError, Global};
 use std::test::Fail;
 
@@ -50,18 +50,25 @@ fn copied_answer(alloc: Global, answer: &Answer) -> Result<Answer, AllocError> {
             scx: *scx,
         },
         Answer::Unlinked { node } => Answer::Unlinked { node: *node },
-        Answer::Value(value) => Answer::Value(*value),
-        Answer::Pair(pair) => Answer::Pair(*pair),
-        Answer::Pairs(pairs) => Answer::Pairs(pairs.as_slice().to_vec(alloc)?),
-        Answer::Contended { node, scx } => Answer::Contended {
-            node: *node,
-            scx: *scx,
-        },
         Answer::Full { what, left } => Answer::Full {
             what: *what,
             left: *left,
         },
-        Answer::NoMemory => Answer::NoMemory,
+        Answer::Map(told) => Answer::Map(copied_told(alloc, told)?),
+    })
+}
+
+fn copied_told(alloc: Global, told: &Reply<u64, u64>) -> Result<Reply<u64, u64>, AllocError> {
+    Ok(match told {
+        Reply::Value(value) => Reply::Value(*value),
+        Reply::Pair(pair) => Reply::Pair(*pair),
+        Reply::Pairs(pairs) => Reply::Pairs(pairs.as_slice().to_vec(alloc)?),
+        Reply::Contended { node, scx } => Reply::Contended {
+            node: *node,
+            scx: *scx,
+        },
+        Reply::Full(full) => Reply::Full(*full),
+        Reply::NoMemory => Reply::NoMemory,
     })
 }
 
@@ -225,19 +232,48 @@ fn random_value(random: &mut Random) -> Option<u64> {
     }
 }
 
-fn random_pairs(alloc: Global, random: &mut Random) -> Result<Answer, AllocError> {
+fn random_pair(random: &mut Random) -> Option<(u64, u64)> {
+    if random.below(6) == 0 {
+        None
+    } else {
+        Some((random.below(6), random.below(17)))
+    }
+}
+
+fn random_pairs(alloc: Global, random: &mut Random) -> Result<Vec<(u64, u64)>, AllocError> {
     let mut pairs = Vec::new(alloc);
     for key in 0..random.below(4) {
-        let value = random.below(17);
-        pairs.push(Pair { key, value })?;
+        pairs.push((key, random.below(17)))?;
     }
-    Ok(Answer::Pairs(pairs))
+    Ok(pairs)
+}
+
+fn random_full(random: &mut Random) -> Full {
+    let left = random.below(4) as u32;
+    let what = match random.below(2) {
+        0 => Resource::Nodes,
+        _ => Resource::Scx,
+    };
+    Full { what, left }
+}
+
+fn random_told(alloc: Global, random: &mut Random) -> Result<Reply<u64, u64>, AllocError> {
+    Ok(match random.below(8) {
+        0 | 1 => Reply::Value(random_value(random)),
+        2 => Reply::Pair(random_pair(random)),
+        3 => Reply::Pairs(random_pairs(alloc, random)?),
+        4 => Reply::Contended {
+            node: NodeNo(random.below(12)),
+            scx: ScxNo(random.below(50)),
+        },
+        5 | 6 => Reply::Full(random_full(random)),
+        _ => Reply::NoMemory,
+    })
 }
 
 fn other_answer(alloc: Global, random: &mut Random) -> Result<Answer, AllocError> {
     let (node, scx) = (NodeNo(random.below(12)), ScxNo(random.below(50)));
-    let left = random.below(4) as u32;
-    Ok(match random.below(16) {
+    Ok(match random.below(18) {
         0 => Answer::Snapshot {
             left: node,
             right: NodeNo(0),
@@ -249,22 +285,11 @@ fn other_answer(alloc: Global, random: &mut Random) -> Result<Answer, AllocError
         5 => Answer::Same,
         6 => Answer::Changed { node, scx },
         7 => Answer::Unlinked { node },
-        8 | 9 => Answer::Value(random_value(random)),
-        10 => Answer::Pair(Pair {
-            key: random.below(6),
-            value: random.below(17),
-        }),
-        11 => random_pairs(alloc, random)?,
-        12 => Answer::Contended { node, scx },
-        13 => Answer::Full {
-            what: Resource::Nodes,
-            left,
-        },
-        14 => Answer::Full {
-            what: Resource::Scx,
-            left,
-        },
-        _ => Answer::NoMemory,
+        8 | 9 => {
+            let Full { what, left } = random_full(random);
+            Answer::Full { what, left }
+        }
+        _ => Answer::Map(random_told(alloc, random)?),
     })
 }
 
@@ -291,16 +316,31 @@ fn told_otherwise(
             node: *node,
             scx: ScxNo(other_number(random, scx.0)),
         },
-        Answer::Contended { node, scx } => Answer::Contended {
-            node: NodeNo(other_number(random, node.0)),
-            scx: *scx,
-        },
-        Answer::Value(Some(value)) => Answer::Value(Some(other_number(random, *value))),
         Answer::Full { what, left } => Answer::Full {
             what: *what,
             left: other_small(random, *left),
         },
+        Answer::Map(reply) => Answer::Map(reply_otherwise(alloc, random, reply)?),
         _ => other_answer(alloc, random)?,
+    })
+}
+
+fn reply_otherwise(
+    alloc: Global,
+    random: &mut Random,
+    reply: &Reply<u64, u64>,
+) -> Result<Reply<u64, u64>, AllocError> {
+    Ok(match reply {
+        Reply::Contended { node, scx } => Reply::Contended {
+            node: NodeNo(other_number(random, node.0)),
+            scx: *scx,
+        },
+        Reply::Value(Some(value)) => Reply::Value(Some(other_number(random, *value))),
+        Reply::Full(full) => Reply::Full(Full {
+            what: full.what,
+            left: other_small(random, full.left),
+        }),
+        _ => random_told(alloc, random)?,
     })
 }
 

@@ -7,7 +7,7 @@ use crate::race::{Race, played};
 use crate::wrong::Wrong;
 use arena::{Kind, Resource};
 use record::Answer;
-use spelling::Request;
+use spelling::{Reply, Request};
 use std::alloc::Global;
 use std::test::Fail;
 
@@ -62,10 +62,10 @@ end,5,,
 #[test]
 fn a_good_record_passes(rt: HostRuntime) -> Result<(), Fail> {
     let replies = [
-        told((0, 0), (1, 48), Some(47), Answer::Value(None)),
-        told((0, 1), (49, 99), Some(98), Answer::Value(Some(50))),
-        told((1, 0), (90, 100), Some(97), Answer::Value(Some(50))),
-        told((1, 1), (101, 107), Some(107), Answer::Value(Some(51))),
+        told((0, 0), (1, 48), Some(47), Reply::Value(None)),
+        told((0, 1), (49, 99), Some(98), Reply::Value(Some(50))),
+        told((1, 0), (90, 100), Some(97), Reply::Value(Some(50))),
+        told((1, 1), (101, 107), Some(107), Reply::Value(Some(51))),
     ];
     passes(&rt, rt.alloc(), RACE, &replies)
 }
@@ -73,10 +73,10 @@ fn a_good_record_passes(rt: HostRuntime) -> Result<(), Fail> {
 #[test]
 fn a_good_record_of_deletes_passes(rt: HostRuntime) -> Result<(), Fail> {
     let replies = [
-        told((1, 0), (3, 50), Some(49), Answer::Value(None)),
-        told((0, 0), (1, 51), Some(48), Answer::Value(None)),
-        told((1, 1), (52, 96), Some(95), Answer::Value(Some(50))),
-        told((0, 1), (97, 168), Some(167), Answer::Value(Some(51))),
+        told((1, 0), (3, 50), Some(49), Reply::Value(None)),
+        told((0, 0), (1, 51), Some(48), Reply::Value(None)),
+        told((1, 1), (52, 96), Some(95), Reply::Value(Some(50))),
+        told((0, 1), (97, 168), Some(167), Reply::Value(Some(51))),
     ];
     passes(&rt, rt.alloc(), DELETES, &replies)
 }
@@ -205,7 +205,7 @@ fn change_and_look(alloc: Global, looked: u64, told: &Answer) -> Result<(), Wron
 
 #[test]
 fn a_change_comes_before_looks_of_its_turn(rt: HostRuntime) {
-    let told = Answer::Value(Some(50));
+    let told = Answer::Map(Reply::Value(Some(50)));
     for (looked, found) in [(6, Err(Wrong::Order(6))), (7, Ok(())), (8, Ok(()))] {
         assert_eq!(rt;
             change_and_look(rt.alloc(), looked, &told),

@@ -2,7 +2,7 @@
 use crate::call::MapCall;
 use arena::{NodeNo, NodeWord, Word};
 use record::{Answer, Finished, Line, Record, Row};
-use spelling::Request;
+use spelling::{Reply, Request};
 
 /// How many calls told something, how many told that there is none, and how many were refused and
 /// why.
@@ -16,11 +16,14 @@ struct Answers {
 
 impl Answers {
     fn count(&mut self, answer: &Answer) {
-        match answer {
-            Answer::Value(None) => add_one(&mut self.none),
-            Answer::Pairs(pairs) if pairs.is_empty() => add_one(&mut self.none),
-            Answer::Contended { .. } => add_one(&mut self.contended),
-            Answer::Full { .. } => add_one(&mut self.full),
+        let Answer::Map(reply) = answer else {
+            return;
+        };
+        match reply {
+            Reply::Value(None) | Reply::Pair(None) => add_one(&mut self.none),
+            Reply::Pairs(pairs) if pairs.is_empty() => add_one(&mut self.none),
+            Reply::Contended { .. } => add_one(&mut self.contended),
+            Reply::Full(_) => add_one(&mut self.full),
             _ => add_one(&mut self.some),
         }
     }
@@ -93,7 +96,7 @@ fn add_one(counter: &mut u64) {
 
 fn tells_two(answer: &Answer) -> bool {
     match answer {
-        Answer::Pairs(pairs) => pairs.len() >= 2,
+        Answer::Map(Reply::Pairs(pairs)) => pairs.len() >= 2,
         _ => false,
     }
 }

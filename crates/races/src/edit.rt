@@ -2,9 +2,9 @@
 use crate::check::check;
 use crate::race::{Race, played};
 use crate::wrong::Wrong;
-use arena::{Kind, NodeNo, NodeWord, PassNo, Resource, ScxNo, Word};
+use arena::{Full, Kind, NodeNo, NodeWord, PassNo, Resource, ScxNo, Word};
 use record::{Answer, Finished, Line, Record, Row};
-use spelling::Pair;
+use spelling::Reply;
 use std::alloc::{AllocError, Global};
 use std::process::Abort;
 use std::test::Fail;
@@ -16,7 +16,7 @@ pub(crate) enum Edit {
     End((u32, u64), u64),
     Moment((u32, u64), Option<u64>),
     Value((u32, u64), Option<u64>),
-    Pair((u32, u64), Pair),
+    Pair((u32, u64), Option<(u64, u64)>),
     Pairs((u32, u64), &'static [(u64, u64)]),
     Contended((u32, u64)),
     NoMemory((u32, u64)),
@@ -69,36 +69,29 @@ impl Edit {
     /// The other answer of this call, if it has one.
     fn answer(self, alloc: Global, told: (u32, u64)) -> Result<Option<Answer>, Fail> {
         let (node, scx) = (NodeNo(0), ScxNo(1));
-        Ok(match self {
-            Edit::Value(call, value) if call == told => Some(Answer::Value(value)),
-            Edit::Pair(call, pair) if call == told => Some(Answer::Pair(pair)),
-            Edit::Pairs(call, pairs) if call == told => Some(all(alloc, pairs)?),
-            Edit::Contended(call) if call == told => Some(Answer::Contended { node, scx }),
-            Edit::NoMemory(call) if call == told => Some(Answer::NoMemory),
-            Edit::Full(call, what, left) if call == told => Some(Answer::Full { what, left }),
-            _ => None,
-        })
+        Ok(Some(Answer::Map(match self {
+            Edit::Value(call, value) if call == told => Reply::Value(value),
+            Edit::Pair(call, pair) if call == told => Reply::Pair(pair),
+            Edit::Pairs(call, pairs) if call == told => all(alloc, pairs)?,
+            Edit::Contended(call) if call == told => Reply::Contended { node, scx },
+            Edit::NoMemory(call) if call == told => Reply::NoMemory,
+            Edit::Full(call, what, left) if call == told => Reply::Full(Full { what, left }),
+            _ => return Ok(None),
+        })))
     }
 }
 
-/// The answer of all these pairs.
-pub(crate) fn all(alloc: Global, pairs: &[(u64, u64)]) -> Result<Answer, AllocError> {
-    let mut told = Vec::new(alloc);
-    for (key, value) in pairs.iter() {
-        told.push(Pair {
-            key: *key,
-            value: *value,
-        })?;
-    }
-    Ok(Answer::Pairs(told))
+/// The reply of all these pairs.
+pub(crate) fn all(alloc: Global, pairs: &[(u64, u64)]) -> Result<Reply<u64, u64>, AllocError> {
+    Ok(Reply::Pairs(pairs.to_vec(alloc)?))
 }
 
 /// A copy of a reply that tells of the map.
 fn copied(alloc: Global, reply: &Finished) -> Result<Finished, Fail> {
-    let answer = match &reply.answer {
-        Answer::Value(value) => Answer::Value(*value),
-        Answer::Pair(pair) => Answer::Pair(*pair),
-        Answer::Pairs(pairs) => Answer::Pairs(pairs.as_slice().to_vec(alloc)?),
+    let told = match &reply.answer {
+        Answer::Map(Reply::Value(value)) => Reply::Value(*value),
+        Answer::Map(Reply::Pair(pair)) => Reply::Pair(*pair),
+        Answer::Map(Reply::Pairs(pairs)) => Reply::Pairs(pairs.as_slice().to_vec(alloc)?),
         _ => return Err("another answer".into()),
     };
     Ok(Finished {
@@ -107,7 +100,7 @@ fn copied(alloc: Global, reply: &Finished) -> Result<Finished, Fail> {
         begin: reply.begin,
         end: reply.end,
         moment: reply.moment,
-        answer,
+        answer: Answer::Map(told),
     })
 }
 
@@ -139,7 +132,7 @@ pub(crate) fn told(
     call: (u32, u64),
     turns: (u64, u64),
     moment: Option<u64>,
-    answer: Answer,
+    reply: Reply<u64, u64>,
 ) -> Finished {
     Finished {
         client: PassNo(call.0),
@@ -147,7 +140,7 @@ pub(crate) fn told(
         begin: turns.0,
         end: turns.1,
         moment,
-        answer,
+        answer: Answer::Map(reply),
     }
 }
 

@@ -29,17 +29,20 @@ impl PlainMap {
     }
 
     /// The pair with the least key above this one.
-    pub(crate) fn successor(&self, key: u64) -> Option<Pair> {
-        self.pairs.iter().find(|pair| pair.key > key).copied()
+    pub(crate) fn successor(&self, key: u64) -> Option<(u64, u64)> {
+        self.pairs
+            .iter()
+            .find(|pair| pair.key > key)
+            .map(|pair| (pair.key, pair.value))
     }
 
     /// The first pairs of those with keys between these, at most so many.
-    pub(crate) fn range(&self, keys: (u64, u64), most: u32) -> Result<Vec<Pair>, AllocError> {
+    pub(crate) fn range(&self, keys: (u64, u64), most: u32) -> Result<Vec<(u64, u64)>, AllocError> {
         let mut taken = Vec::new(self.alloc);
         for pair in self.pairs.iter() {
             let inside = keys.0 <= pair.key && pair.key <= keys.1;
             if inside && taken.len() < most as usize {
-                taken.push(*pair)?;
+                taken.push((pair.key, pair.value))?;
             }
         }
         Ok(taken)

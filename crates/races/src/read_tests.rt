@@ -3,8 +3,8 @@ use crate::edit::{Edit, all, are_found, passes, told};
 use crate::race::Race;
 use crate::wrong::Wrong;
 use arena::Resource;
-use record::{Answer, Finished};
-use spelling::Pair;
+use record::Finished;
+use spelling::Reply;
 use std::test::Fail;
 
 const READS: Race = (SCRIPT, SCHEDULE);
@@ -50,7 +50,7 @@ end,13,,
 ";
 
 /// What the successor tells.
-const NEXT: Pair = Pair { key: 7, value: 70 };
+const NEXT: (u64, u64) = (7, 70);
 
 /// The calls of client 1.
 const RANGE: (u32, u64) = (1, 0);
@@ -62,14 +62,14 @@ const NOTHING: (u32, u64) = (1, 2);
 const TWO: (u32, u64) = (1, 3);
 
 fn value(call: u64, turns: (u64, u64), moment: u64, value: Option<u64>) -> Finished {
-    told((0, call), turns, Some(moment), Answer::Value(value))
+    told((0, call), turns, Some(moment), Reply::Value(value))
 }
 
 #[test]
 fn a_good_record_of_reads_passes(rt: HostRuntime) -> Result<(), Fail> {
     let alloc = rt.alloc();
     let (next, between) = (
-        Answer::Pair(NEXT),
+        Reply::Pair(Some(NEXT)),
         all(alloc, &[(5, 50), (7, 70), (9, 91)])?,
     );
     let (none, two) = (all(alloc, &[])?, all(alloc, &[(6, 60), (7, 70)])?);
@@ -136,22 +136,11 @@ fn other_answers_of_ranges_are_found(rt: HostRuntime) -> Result<(), Fail> {
 #[test]
 fn other_answers_of_successors_are_found(rt: HostRuntime) -> Result<(), Fail> {
     let edits = [
-        (
-            Edit::Pair(SUCCESSOR, Pair { key: 6, value: 60 }),
-            Wrong::Moment(388),
-        ),
-        (
-            Edit::Pair(SUCCESSOR, Pair { key: 6, value: 70 }),
-            Wrong::Answer(388),
-        ),
-        (
-            Edit::Pair(SUCCESSOR, Pair { key: 9, value: 91 }),
-            Wrong::Answer(388),
-        ),
-        (
-            Edit::Pair(SUCCESSOR, Pair { key: 5, value: 51 }),
-            Wrong::Answer(388),
-        ),
+        (Edit::Pair(SUCCESSOR, Some((6, 60))), Wrong::Moment(388)),
+        (Edit::Pair(SUCCESSOR, Some((6, 70))), Wrong::Answer(388)),
+        (Edit::Pair(SUCCESSOR, Some((9, 91))), Wrong::Answer(388)),
+        (Edit::Pair(SUCCESSOR, Some((5, 51))), Wrong::Answer(388)),
+        (Edit::Pair(SUCCESSOR, None), Wrong::Answer(388)),
         (Edit::Value(SUCCESSOR, None), Wrong::Answer(388)),
         (Edit::Pairs(SUCCESSOR, &[(7, 70)]), Wrong::Answer(388)),
         (Edit::Contended(SUCCESSOR), Wrong::Moment(388)),

@@ -1,20 +1,46 @@
--- Answers as text.
-use Rattle.std.specs.Prelude.{ℕ, List, [], ◌∷◌, ◌++◌, Option, Some, None, codes, decimal}
+-- Answers as text, and in which form a text is an answer to which command.
+use Rattle.std.specs.Prelude.{◌≡◌, ⊤, ℕ, ◌<◌, List, [], ◌∷◌, ◌++◌, Option, Some, None, codes, decimal, slice_get}
 use denote.Ref.{Bor}
+use Rattle.arena.specs.declared.fault.Resource.{Resource}
 use Rattle.arena.specs.declared.fault.Resource.TheVariants.{Nodes, Scx}
-use Rattle.spelling.specs.declared.pair.Pair.{Pair}
+use Rattle.spelling.specs.declared.reply.Reply.{Reply}
+use Rattle.spelling.specs.declared.reply.Reply.TheVariants.{Value, Pair, Pairs, Contended, NoMemory, Full as FullShare}
+use Rattle.spelling.specs.declared.request.Request.{Request}
+use Rattle.spelling.specs.declared.request.Request.TheVariants.{Successor}
+use Rattle.script.specs.declared.call.Call.{Call}
+use Rattle.script.specs.declared.command.Command.{Command}
+use Rattle.script.specs.declared.command.Command.TheVariants.{Map as MapCommand}
 use Rattle.record.specs.declared.record.Answer.{Answer}
-use Rattle.record.specs.declared.record.Answer.TheVariants.{Snapshot, Finalized, Fail, Done, Lost, Same, Changed, Unlinked, Full, Value, Pair as PairOf, Pairs, Contended, NoMemory}
+use Rattle.record.specs.declared.record.Answer.TheVariants.{Snapshot, Finalized, Fail, Done, Lost, Same, Changed, Unlinked, Full, Map}
+use Rattle.record.specs.declared.record.Line.{Line}
+use Rattle.record.specs.declared.record.Line.TheVariants.{Step, Log, Reply as ReplyLine}
+use Rattle.record.specs.Commands.{commands}
 
 -- keys and values, each behind a space
-unfoldable pub spaced_pairs : List Pair → List ℕ
+unfoldable pub spaced_pairs : List (ℕ × ℕ) → List ℕ
 spaced_pairs [] = []
-spaced_pairs (p ∷ ps) = codes " " ++ (decimal p.key ++ (codes " " ++ (decimal p.value ++ spaced_pairs ps)))
+spaced_pairs (p ∷ ps) = codes " " ++ (decimal p.0 ++ (codes " " ++ (decimal p.1 ++ spaced_pairs ps)))
 
 -- what stands behind a space, if anything does
 abbrev pub rest_text : Option (Bor (List ℕ)) → List ℕ
 rest_text None = []
 rest_text (Some text) = codes " " ++ text.now
+
+-- how much is left of what a share has run out of
+abbrev pub full_text : Resource → ℕ → List ℕ
+full_text Nodes left = codes "full nodes " ++ decimal left
+full_text Scx left = codes "full scx " ++ decimal left
+
+-- what a call of the map replies, in words parted by one space
+abbrev pub reply_text : Reply ℕ ℕ → List ℕ
+reply_text (Value (Some value)) = codes "some " ++ decimal value
+reply_text (Value None) = codes "none"
+reply_text (Pair (Some p)) = codes "pair " ++ (decimal p.0 ++ (codes " " ++ decimal p.1))
+reply_text (Pair None) = codes "none"
+reply_text (Pairs ps) = codes "pairs" ++ spaced_pairs ps.items
+reply_text (Contended node scx) = codes "contended n" ++ (decimal node.0 ++ (codes " s" ++ decimal scx.0))
+reply_text (FullShare full) = full_text full.what full.left
+reply_text NoMemory = codes "no memory"
 
 -- what an answer says, in words parted by one space
 abbrev pub answer_text : Answer → List ℕ
@@ -26,11 +52,43 @@ answer_text (Lost node scx) = codes "lost n" ++ (decimal node.0 ++ (codes " s" +
 answer_text Same = codes "same"
 answer_text (Changed node scx) = codes "changed n" ++ (decimal node.0 ++ (codes " s" ++ decimal scx.0))
 answer_text (Unlinked node) = codes "unlinked n" ++ decimal node.0
-answer_text (Value (Some value)) = codes "some " ++ decimal value
-answer_text (Value None) = codes "none"
-answer_text (PairOf p) = codes "pair " ++ (decimal p.key ++ (codes " " ++ decimal p.value))
-answer_text (Pairs ps) = codes "pairs" ++ spaced_pairs ps.items
-answer_text (Contended node scx) = codes "contended n" ++ (decimal node.0 ++ (codes " s" ++ decimal scx.0))
-answer_text (Full Nodes left) = codes "full nodes " ++ decimal left
-answer_text (Full Scx left) = codes "full scx " ++ decimal left
-answer_text NoMemory = codes "no memory"
+answer_text (Full what left) = full_text what left
+answer_text (Map reply) = reply_text reply
+
+-- Forms: two texts are each that of two answers
+
+-- the reply with the same text that answers this request: `none` is no pair to a successor, and no
+-- value to any other
+abbrev pub reply_to : Request ℕ ℕ → Reply ℕ ℕ → Reply ℕ ℕ
+reply_to (Successor key) (Value None) = Pair None
+reply_to (Successor key) reply = reply
+reply_to request (Pair None) = Value None
+reply_to request reply = reply
+
+-- the answer of cells with the same text, if there is one: of a share that is used up
+abbrev pub cells_answer : Answer → Answer
+cells_answer (Map (FullShare full)) = Full full.what full.left
+cells_answer answer = answer
+
+-- the answer of the map with the same text that answers this request, if there is one
+abbrev pub map_answer : Request ℕ ℕ → Answer → Answer
+map_answer request (Full what left) = Map (FullShare record { what = what; left = left })
+map_answer request (Map reply) = Map (reply_to request reply)
+map_answer request answer = answer
+
+-- the answer with the same text in the form that answers this command; without one, as it is
+abbrev pub answer_to : Option Command → Answer → Answer
+answer_to (Some (MapCommand request)) answer = map_answer request answer
+answer_to (Some command) answer = cells_answer answer
+answer_to None answer = answer
+
+-- the answer is in the form that answers the command
+abbrev pub IsInForm : Option Command → Answer → Type 0
+IsInForm command answer = answer_to command answer ≡ answer
+
+-- a reply in this line, if it is of one of so many clients, is in the form that answers the call
+-- that it names
+abbrev pub HasForm : ℕ → List Call → Line → Type 0
+HasForm passes calls (ReplyLine reply) = reply.client.0 < passes → IsInForm (slice_get (commands calls reply.client.0) reply.call) reply.answer
+HasForm passes calls (Step row) = ⊤
+HasForm passes calls (Log entry) = ⊤

@@ -1,8 +1,11 @@
--- What was counted.
-use Rattle.std.specs.Prelude.{◌≡◌, ◌<◌, ℕ, List, get_or}
+-- What was counted, and what was kept by clients.
+use Rattle.std.specs.Prelude.{◌≡◌, ◌<◌, ℕ, List, Some, get_or, slice_get}
+use Rattle.std.specs.Option.{option_map}
 use Rattle.record.specs.declared.record.Line.{Line}
 use Rattle.record.specs.Turns.{answered}
 use Rattle.script.specs.declared.call.Call.{Call}
+use Rattle.record.specs.Commands.{commands}
+use Rattle.report.specs.declared.commands.Commands.{Commands}
 use Rattle.report.specs.declared.count.Counts.{Counts}
 use Rattle.report.specs.Report.{calls_by}
 
@@ -17,3 +20,7 @@ HasCounted counts calls = (client : ℕ) → calls_counted counts client ≡ cal
 -- of each of so many clients as many replies were counted as these lines have, the newest first
 abbrev pub HasCountedReplies : Counts → ℕ → List Line → Type 0
 HasCountedReplies counts passes lines = (client : ℕ) → client < passes → calls_counted counts client ≡ answered lines client
+
+-- of each of so many clients the commands among these calls are kept
+abbrev pub HasCommands : Commands → ℕ → List Call → Type 0
+HasCommands all passes calls = (client : ℕ) → client < passes → option_map (λ own. own.items) (slice_get all.clients.items client) ≡ Some (commands calls client)

@@ -31,3 +31,11 @@ pub fn small_number_of(text: &str) -> Option<u32>
 {
     u32::try_from(number_of(text)?).ok()
 }
+
+/// The node and the SCX-record that was in the way there, as `n5 s2`.
+pub fn blame_of(text: &str) -> Option<(NodeNo, ScxNo)>
+    ensures { IfSome result (λ blame. text.now ≡ codes "n" ++ (decimal blame.0.0 ++ (codes " s" ++ decimal blame.1.0))) }
+{
+    let (node, scx) = text.split_once(' ')?;
+    Some((node_of(node)?, scx_of(scx)?))
+}

@@ -1,9 +1,10 @@
 //! The whole report, read back.
-ghost use Rattle.std.specs.Prelude.{◌≡◌, ◌≢◌, ◌<◌, ◌-◌, ◌^◌, List, [], ◌∷◌, ◌++◌, ℕ, IfOk, IsErrOf, OnOk, Some, map, reverse};
+ghost use Rattle.std.specs.Prelude.{◌≡◌, ◌≢◌, ◌<◌, ◌-◌, ◌^◌, List, [], ◌∷◌, ◌++◌, ℕ, All, IfOk, IsErrOf, OnOk, Some, map, reverse};
 ghost use Rattle.arena.specs.Limits.{IsAccepted, IsLayoutOf};
 ghost use Rattle.script.specs.Rows.{limits_row};
 ghost use Rattle.script.specs.declared.script.Script.{Script};
 ghost use Rattle.record.specs.declared.record.Line.{Line};
+ghost use Rattle.report.specs.Answers.{HasForm};
 ghost use Rattle.report.specs.Numbered.{AreNumbered};
 ghost use Rattle.texts.specs.Reads.{HasRead, IsAtRow};
 ghost use Rattle.texts.specs.Texts.{AreRows};
@@ -24,12 +25,14 @@ use texts::{Metered, Rows, by_failure_count};
 
 /// Reads a report of either mode: its rows are those of the record, and no others. Whether the run
 /// is lawful is not asked here, only what a row says by itself, the numbers of the calls and the
-/// counts of the end row. Nothing is kept of a text that is refused. What was written of a record
-/// is read as one that has the same report.
+/// counts of the end row. Where two answers have one text, a reply gets the one that its call may
+/// give. Nothing is kept of a text that is refused. What was written of a record is read as one that
+/// has the same report.
 pub fn read_record<R: Read>(alloc: Global, from: &mut Metered<R>) -> Result<Record, ReportFault>
     ensures rows { (bytes : List ℕ) → R.remaining from.old.inner ≡ Some bytes → IfOk result (λ told. AreRows bytes (map seven (report_rows told.script told.lines.items))) }
     ensures again { (script : Script) (lines : List Line) → R.remaining from.old.inner ≡ Some (report_text script lines) → IfOk result (λ told. report_text told.script told.lines.items ≡ report_text script lines) }
     ensures calls { IfOk result (λ told. AreNumbered told.script.layout.passes (reverse told.lines.items)) }
+    ensures forms { IfOk result (λ told. All (HasForm told.script.layout.passes told.script.calls.items) told.lines.items) }
     ensures accepted { IfOk result (λ told. IsAccepted told.script.limits) }
     ensures layout { IfOk result (λ told. IsLayoutOf told.script.limits told.script.layout.mode told.script.layout) }
 
@@ -47,12 +50,18 @@ fn record_of<R: Read>(alloc: Global, from: &mut Metered<R>) -> Result<Record, Ro
     ensures rows { (bytes : List ℕ) → R.remaining from.old.inner ≡ Some bytes → IfOk result (λ told. AreRows bytes (map seven (report_rows told.script told.lines.items))) }
     ensures again { (script : Script) (lines : List Line) → R.remaining from.old.inner ≡ Some (report_text script lines) → IfOk result (λ told. report_text told.script told.lines.items ≡ report_text script lines) }
     ensures calls { IfOk result (λ told. AreNumbered told.script.layout.passes (reverse told.lines.items)) }
+    ensures forms { IfOk result (λ told. All (HasForm told.script.layout.passes told.script.calls.items) told.lines.items) }
     ensures accepted { IfOk result (λ told. IsAccepted told.script.limits) }
     ensures layout { IfOk result (λ told. IsLayoutOf told.script.limits told.script.layout.mode told.script.layout) }
 {
     let mut rows = Rows::new(alloc, from);
     let script = script_of(alloc, &mut rows)?;
-    let lines = lines_of(alloc, &mut rows, script.layout.passes)?;
+    let lines = lines_of(
+        alloc,
+        &mut rows,
+        script.calls.as_slice(),
+        script.layout.passes,
+    )?;
     end_of(&mut rows, lines.as_slice())?;
     Ok(Record { script, lines })
 }

@@ -1,40 +1,49 @@
 //! The lines of a run, as rows say them.
-ghost use Rattle.std.specs.Prelude.{◌≡◌, ◌<◌, ◌-◌, ◌^◌, List, [], ◌∷◌, ◌++◌, ℕ, get_or, IfOk, IfSome, length, map, reverse};
+ghost use Rattle.std.specs.Prelude.{◌≡◌, ◌<◌, ◌-◌, ◌^◌, List, [], ◌∷◌, ◌++◌, ℕ, All, get_or, IfOk, IfSome, length, map, reverse};
 ghost use Rattle.record.specs.declared.record.Line.{Line};
 ghost use Rattle.record.specs.declared.record.Line.TheVariants.{Step as StepLine, Log};
-ghost use Rattle.report.specs.Counts.{HasCountedReplies, calls_counted};
+ghost use Rattle.report.specs.Counts.{HasCommands, HasCountedReplies, calls_counted};
 ghost use Rattle.report.specs.Numbered.{AreNumbered, IsOfNextCall};
 ghost use Rattle.script.specs.Commands.{texts};
+ghost use Rattle.script.specs.declared.call.Call.{Call as CallOf};
 ghost use Rattle.texts.specs.Reads.{IsAtRow, last_row};
-ghost use Rattle.report.specs.Answers.{answer_text};
+ghost use Rattle.report.specs.Answers.{HasForm, answer_text};
 ghost use Rattle.report.specs.Report.{line_row, moment_text};
 ghost use Rattle.texts.specs.Pages.{seven};
 
 use crate::answer::answer_of;
+use crate::commands::Commands;
 use crate::count::Counts;
 use crate::fault::{NotLawful, RowFault};
+use crate::form::answer_to;
 use crate::name::{client_of, scx_of};
 use crate::rows::{next_row, row_fields};
 use crate::word::word_of;
 use record::{Answer, Entry, Finished, Line, Row};
-use script::kind_of;
+use script::{Call, kind_of};
 use std::alloc::{AllocError, Global};
 use std::io::Read;
 use texts::{Rows, number_of};
 
-/// Reads the lines from this row on, up to the first row that begins as the end row does.
+/// Reads the lines from this row on, up to the first row that begins as the end row does. The calls
+/// are those of so many clients.
 pub fn lines_of<R: Read + Drop>(
     alloc: Global,
     rows: &mut Rows<R>,
+    calls: &[Call],
     passes: u32,
 ) -> Result<Vec<Line>, RowFault>
     ensures calls { IfOk result (λ lines. AreNumbered passes (reverse lines.items)) }
+    ensures forms { IfOk result (λ lines. All (HasForm passes calls.now) lines.items) }
     ensures rows { (bytes : List ℕ) (before : List (List (List ℕ))) → IsAtRow R.remaining bytes before 7 rows.old → IfOk result (λ lines. IsAtRow R.remaining bytes (before ++ map seven (map line_row lines.items)) 7 rows.new) }
 {
+    let Ok(commands) = Commands::of(alloc, calls, passes) else {
+        return Err(RowFault::NoMemory);
+    };
     let mut lines = Vec::new(alloc);
     let mut replies = Counts::new(alloc);
     while row_fields(rows)[0] != "end" {
-        let line = next_line(alloc, rows, passes, &mut replies)?;
+        let line = next_line(alloc, rows, &commands, passes, &mut replies)?;
         lines.push(line).map_err(|_| RowFault::NoMemory)?;
         next_row(rows)?;
     }
@@ -45,14 +54,16 @@ pub fn lines_of<R: Read + Drop>(
 fn next_line<R: Read + Drop>(
     alloc: Global,
     rows: &Rows<R>,
+    commands: &Commands,
     passes: u32,
     replies: &mut Counts,
 ) -> Result<Line, RowFault>
     ensures row { length (last_row rows.now) ≡ 7 → IfOk result (λ line. last_row rows.now ≡ seven (line_row line)) }
     ensures call { IfOk result (IsOfNextCall (calls_counted replies.old)) }
+    ensures form { (calls : List CallOf) → HasCommands commands.now passes calls → IfOk result (HasForm passes calls) }
     ensures counted { (lines : List Line) → HasCountedReplies replies.old passes lines → length lines < 2 ^ 64 - 1 → IfOk result (λ line. HasCountedReplies replies.new passes (line ∷ lines)) }
 {
-    let Ok(line) = line_of(alloc, row_fields(rows), replies) else {
+    let Ok(line) = line_of(alloc, row_fields(rows), commands, replies) else {
         return Err(RowFault::NoMemory);
     };
     let Some(line) = line else {
@@ -68,15 +79,21 @@ fn next_line<R: Read + Drop>(
 
 /// The line that a row says, by its form. A step is of its client's first call that has no reply
 /// yet. The only error is want of memory.
-fn line_of(alloc: Global, fields: [&str; 7], replies: &Counts) -> Result<Option<Line>, AllocError>
+fn line_of(
+    alloc: Global,
+    fields: [&str; 7],
+    commands: &Commands,
+    replies: &Counts,
+) -> Result<Option<Line>, AllocError>
     ensures row { IfOk result (λ o. IfSome o (λ line. texts fields.entry ≡ seven (line_row line))) }
     ensures call { IfOk result (λ o. IfSome o (IsOfNextCall (calls_counted replies.now))) }
+    ensures form { (passes : ℕ) (calls : List CallOf) → HasCommands commands.now passes calls → IfOk result (λ o. IfSome o (HasForm passes calls)) }
 {
     if fields[0] != "reply" {
         return Ok(turn_or_entry_of(fields, replies));
     }
     match answer_of(alloc, fields[6])? {
-        Some(answer) => Ok(reply_of(fields, answer)),
+        Some(answer) => Ok(reply_of(fields, answer, commands)),
         None => Ok(None),
     }
 }
@@ -84,6 +101,7 @@ fn line_of(alloc: Global, fields: [&str; 7], replies: &Counts) -> Result<Option<
 fn turn_or_entry_of(fields: [&str; 7], replies: &Counts) -> Option<Line>
     ensures row { IfSome result (λ line. texts fields.entry ≡ seven (line_row line)) }
     ensures call { IfSome result (IsOfNextCall (calls_counted replies.now)) }
+    ensures form { (passes : ℕ) (calls : List CallOf) → IfSome result (HasForm passes calls) }
 {
     match fields[0] {
         "step" => Some(Line::Step(turn_of(fields, replies)?)),
@@ -132,22 +150,24 @@ fn entry_of(fields: [&str; 7]) -> Option<Entry>
     })
 }
 
-/// The reply with this answer, which the last field spells.
-fn reply_of(fields: [&str; 7], answer: Answer) -> Option<Line>
+/// The reply with this answer, which the last field spells, in the form that answers its call.
+fn reply_of(fields: [&str; 7], answer: Answer, commands: &Commands) -> Option<Line>
     requires { get_or (texts fields) 6 [] ≡ answer_text answer }
     ensures row { IfSome result (λ line. texts fields.entry ≡ seven (line_row line)) }
     ensures call { (calls : ℕ → ℕ) → IfSome result (IsOfNextCall calls) }
+    ensures form { (passes : ℕ) (calls : List CallOf) → HasCommands commands.now passes calls → IfSome result (HasForm passes calls) }
 {
     let ["reply", client, call, begin, end, moment, _] = fields else {
         return None;
     };
+    let (client, call) = (client_of(client)?, number_of(call)?);
     let reply = Finished {
-        client: client_of(client)?,
-        call: number_of(call)?,
+        client,
+        call,
         begin: number_of(begin)?,
         end: number_of(end)?,
         moment: moment_of(moment)?,
-        answer,
+        answer: answer_to(commands.get(client, call), answer),
     };
     Some(Line::Reply(reply))
 }

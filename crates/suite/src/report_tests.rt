@@ -1,8 +1,8 @@
-use arena::{Kind, Mode, NodeNo, NodeWord, PassNo, Resource, ScxNo, ScxWord, Side, Word};
+use arena::{Full, Kind, Mode, NodeNo, NodeWord, PassNo, Resource, ScxNo, ScxWord, Side, Word};
 use record::{Answer, Entry, Finished, Line, Record, Row};
 use report::{WriteFault, read_record, write_record};
 use script::read_script;
-use spelling::Pair;
+use spelling::Reply;
 use std::alloc::Global;
 use std::test::Fail;
 use texts::{FailAt, Metered};
@@ -115,6 +115,11 @@ fn reply(answer: Answer, moment: Option<u64>) -> Line {
         moment,
         answer,
     })
+}
+
+/// One to a call of the map.
+fn told(of_map: Reply<u64, u64>, moment: Option<u64>) -> Line {
+    reply(Answer::Map(of_map), moment)
 }
 
 fn untouched(alloc: Global) -> Result<Record, Fail> {
@@ -259,6 +264,7 @@ call,0,2,successor,5,,
 call,1,2,range,1,9,64
 log,1,47,s1,0,0,
 reply,1,3,30,41,40,none
+reply,1,3,30,41,40,none
 reply,1,3,30,41,40,some 50
 reply,1,3,30,41,40,pair 7 70
 reply,1,3,30,41,40,pairs
@@ -268,11 +274,11 @@ reply,1,3,30,41,,no memory
 reply,1,3,30,41,,contended n0 s21
 reply,1,3,30,41,,full nodes 2
 reply,1,3,30,41,,full scx 0
-end,0,10,1,,,
+end,0,11,1,,,
 ";
 
 /// An entry, and each answer on the tree.
-fn each_tree_line(alloc: Global) -> Result<[Line; 11], Fail> {
+fn each_tree_line(alloc: Global) -> Result<[Line; 12], Fail> {
     let entry = Entry {
         place: 1,
         step: 47,
@@ -280,33 +286,33 @@ fn each_tree_line(alloc: Global) -> Result<[Line; 11], Fail> {
         client: PassNo(0),
         call: 0,
     };
-    let contended = Answer::Contended {
+    let contended = Reply::Contended {
         node: NodeNo(0),
         scx: ScxNo(21),
     };
-    let no_nodes = Answer::Full {
+    let no_nodes = Full {
         what: Resource::Nodes,
         left: 2,
     };
-    let no_scx = Answer::Full {
+    let no_scx = Full {
         what: Resource::Scx,
         left: 0,
     };
-    let pair = |key, value| Pair { key, value };
-    let one = Vec::from_array(alloc, [pair(5, 50)])?;
-    let two = Vec::from_array(alloc, [pair(0, u64::MAX), pair(7, 70)])?;
+    let one = Vec::from_array(alloc, [(5, 50)])?;
+    let two = Vec::from_array(alloc, [(0, u64::MAX), (7, 70)])?;
     Ok([
         Line::Log(entry),
-        reply(Answer::Value(None), Some(40)),
-        reply(Answer::Value(Some(50)), Some(40)),
-        reply(Answer::Pair(pair(7, 70)), Some(40)),
-        reply(Answer::Pairs(Vec::new(alloc)), Some(40)),
-        reply(Answer::Pairs(one), Some(40)),
-        reply(Answer::Pairs(two), Some(40)),
-        reply(Answer::NoMemory, None),
-        reply(contended, None),
-        reply(no_nodes, None),
-        reply(no_scx, None),
+        told(Reply::Value(None), Some(40)),
+        told(Reply::Pair(None), Some(40)),
+        told(Reply::Value(Some(50)), Some(40)),
+        told(Reply::Pair(Some((7, 70))), Some(40)),
+        told(Reply::Pairs(Vec::new(alloc)), Some(40)),
+        told(Reply::Pairs(one), Some(40)),
+        told(Reply::Pairs(two), Some(40)),
+        told(Reply::NoMemory, None),
+        told(contended, None),
+        told(Reply::Full(no_nodes), None),
+        told(Reply::Full(no_scx), None),
     ])
 }
 
@@ -359,6 +365,37 @@ fn reports_that_are_read_back(rt: HostRuntime) -> Result<(), Fail> {
         let (text, result) = written(rt.alloc(), &record, 10000);
         assert_eq!(rt; result, Ok(()));
         assert_eq!(rt; text.as_slice(), report.as_bytes());
+    }
+    Ok(())
+}
+
+/// A get and a successor that tell none, and an insert whose share is used up.
+const IN_FORM: &str = "\
+report,1,tree,,,,
+limits,1,0,0,1,,
+call,0,0,get,5,,
+call,0,1,successor,5,,
+call,0,2,insert,5,50,
+reply,0,0,1,1,1,none
+reply,0,1,2,2,2,none
+reply,0,2,3,3,,full nodes 0
+end,0,3,0,,,
+";
+
+#[test]
+fn replies_are_read_by_their_calls(rt: HostRuntime) -> Result<(), Fail> {
+    let record = read_record(rt.alloc(), &mut Metered::new(IN_FORM.as_bytes()))?;
+    let full = Full {
+        what: Resource::Nodes,
+        left: 0,
+    };
+    let want = [Reply::Value(None), Reply::Pair(None), Reply::Full(full)];
+    let mut lines = record.lines.iter();
+    for told in want {
+        let Some(Line::Reply(reply)) = lines.next() else {
+            return Err("no reply".into());
+        };
+        assert_eq!(rt; &reply.answer, &Answer::Map(told));
     }
     Ok(())
 }

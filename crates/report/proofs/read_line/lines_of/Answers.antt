@@ -1,6 +1,8 @@
 use Rattle.std.proofs.Common.{arith, ◌≡◌, ◌<◌, ◌-◌, ◌^◌, [], ◌∷◌, ◌++◌, ◌∙◌, ap, length, map, reverse, rules, subst, sym, true}
 use Rattle.std.proofs.lemmas.List.{length-reverse, reverse-append}
+use Rattle.std.proofs.lemmas.List.Elements.{All-push}
 use Rattle.std.specs.Result.{is_ok}
+use Rattle.report.specs.Answers.{HasForm}
 use Rattle.report.specs.Counts.{HasCountedReplies}
 use Rattle.report.specs.Numbered.{AreNumbered}
 use Rattle.texts.specs.Reads.{IsAtRow, last_row}
@@ -21,6 +23,7 @@ loop-alloc-preserved g c =
     let few : length (reverse lines) < 2 ^ 64 - 1 = omega (arith, length-reverse lines, c.loop-alloc.lines.ok.0, c.loop-alloc.lines.small) in
     record {
       counted = subst (λ all. HasCountedReplies c.next_line.new.replies c.args.passes all) newest (c.in_ok-line.ensures.counted (reverse lines) inv.counted few);
+      forms = rw items (All-push (HasForm c.args.passes c.args.calls.now) lines line inv.forms (c.in_ok-line.ensures.form c.args.calls.now c.in-Ok.ensures));
       calls = subst (λ all. AreNumbered c.args.passes all) newest (numbered_more c.args.passes c.loop-alloc.replies (reverse lines) line inv.counted c.in_ok-line.ensures.call inv.calls);
       rows = λ bytes before start.
           let here = inv.rows bytes before start in

@@ -1,4 +1,5 @@
-use Rattle.std.proofs.Common.{ℕ, ◌-◌, ◌^◌, List, ◌++◌, map, reverse, vec_len}
+use Rattle.std.proofs.Common.{ℕ, ◌-◌, ◌^◌, All, List, ◌++◌, map, reverse, vec_len}
+use Rattle.report.specs.Answers.{HasForm}
 use Rattle.report.specs.Counts.{HasCountedReplies}
 use Rattle.report.specs.Numbered.{AreNumbered}
 use Rattle.texts.specs.Reads.{IsAtRow}
@@ -9,6 +10,7 @@ use Rattle.report.proofs.read_line.lines_of.Given as goal
 abbrev pub invariant-loop-alloc : goal.invariant-loop-alloc
 invariant-loop-alloc g l = record {
   counted : HasCountedReplies l.replies l.fn.passes (reverse l.lines.items);
+  forms : All (HasForm l.fn.passes l.fn.calls) l.lines.items;
   calls : AreNumbered l.fn.passes (reverse l.lines.items);
   rows : (bytes : List ℕ) (before : List (List (List ℕ))) → IsAtRow g.R.Read.remaining bytes before 7 l.fn.rows
       → IsAtRow g.R.Read.remaining bytes (before ++ map seven (map line_row l.lines.items)) 7 l.rows;

@@ -1,6 +1,6 @@
 use Rattle.std.proofs.Common.{◌≡◌, ◌++◌, length}
 use Rattle.report.specs.Answers.{rest_text, spaced_pairs}
-use Rattle.report.proofs.answer.pairs_of.Given as goal
+use Rattle.report.proofs.reply.pairs_of.Given as goal
 
 -- the pairs so far, and what is left of the text
 abbrev pub invariant-loop-left : goal.invariant-loop-left

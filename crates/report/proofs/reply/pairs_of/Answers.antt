@@ -1,7 +1,7 @@
 use Rattle.std.proofs.Common.{refl}
 use Rattle.report.specs.Answers.{rest_text, spaced_pairs}
 use Rattle.report.proofs.PairTexts.{pair_taken}
-use Rattle.report.proofs.answer.pairs_of.Goals as goal
+use Rattle.report.proofs.reply.pairs_of.Goals as goal
 
 pub loop-left-init : goal.loop-left-init
 unfolding spaced_pairs

@@ -1,0 +1,56 @@
+-- The commands of clients, gathered one after another.
+use Rattle.std.proofs.Common.{◌≡◌, ◌∙◌, ℕ, zero, suc, ◌+◌, ◌<◌, Bool, true, false, cond, eqb, List, [], ◌∷◌, ◌++◌, take, length, get_or, Some, slice_get, refl, sym, ap, append-nil, arith}
+use Rattle.std.proofs.lemmas.Bool.{eq-eqb, ne_eqb}
+use Rattle.std.proofs.lemmas.List.{take_more}
+use Rattle.std.specs.Option.{option_map}
+use borrow.Author.Count.{below_more}
+use Rattle.script.specs.declared.call.Call.{Call}
+use Rattle.script.specs.declared.command.Command.{Command}
+use Rattle.record.specs.Commands.{commands}
+
+commands_or : (b : Bool) (x : Command) (xs ys : List Command) → cond b (x ∷ (xs ++ ys)) (xs ++ ys) ≡ cond b (x ∷ xs) xs ++ ys
+commands_or true x xs ys = refl
+commands_or false x xs ys = refl
+
+commands_append : (xs ys : List Call) (c : ℕ) → commands (xs ++ ys) c ≡ commands xs c ++ commands ys c
+commands_append [] ys c = refl
+commands_append (x ∷ xs) ys c = ap (λ zs. cond (eqb x.client.0 c) (x.command ∷ zs) zs) (commands_append xs ys c) ∙ commands_or (eqb x.client.0 c) x.command (commands xs c) (commands ys c)
+
+-- with the next call
+commands_next : (calls : List Call) (i : ℕ) (call : Call) (c : ℕ) (b : Bool) → i < length calls → call ≡ get_or calls i call → eqb call.client.0 c ≡ b → commands (take (i + 1) calls) c ≡ commands (take i calls) c ++ cond b (call.command ∷ []) []
+commands_next calls i call c b less is same =
+    ap (λ xs. commands xs c) (take_more calls i call less)
+    ∙ commands_append (take i calls) (get_or calls i call ∷ []) c
+    ∙ ap (λ (y : Call). commands (take i calls) c ++ commands (y ∷ []) c) (sym is)
+    ∙ ap (λ x. commands (take i calls) c ++ cond x (call.command ∷ []) []) same
+
+module _ (calls : List Call) (i : ℕ) (call : Call) (c : ℕ) (less : i < length calls) (is : call ≡ get_or calls i call) (own : List Command) (so_far : own ≡ commands (take i calls) c) where
+  -- behind a call of the client
+  pub own_more : call.client.0 ≡ c → (new : List Command) → new ≡ own ++ call.command ∷ [] → new ≡ commands (take (i + 1) calls) c
+  own_more same new pushed = pushed ∙ ap (λ xs. xs ++ call.command ∷ []) so_far ∙ sym (commands_next calls i call c true less is (eq-eqb call.client.0 c same))
+
+  -- behind another's
+  pub own_same : (call.client.0 ≡ c → ⊥) → own ≡ commands (take (i + 1) calls) c
+  own_same other = so_far ∙ sym (commands_next calls i call c false less is (ne_eqb call.client.0 c other) ∙ append-nil (commands (take i calls) c))
+
+got_before : {X : Type 0} (xs : List X) (x : X) (i : ℕ) → i < length xs → slice_get (xs ++ x ∷ []) i ≡ slice_get xs i
+got_before [] x i less = absurd (omega arith)
+got_before (y ∷ xs) x zero less = refl
+got_before (y ∷ xs) x (suc i) less = got_before xs x i (omega (less, arith))
+
+got_last : {X : Type 0} (xs : List X) (x : X) → slice_get (xs ++ x ∷ []) (length xs) ≡ Some x
+got_last [] x = refl
+got_last (y ∷ xs) x = got_last xs x
+
+-- of one client more the commands are kept
+pub kept_more : {X : Type 0} (items : X → List Command) (calls : List Call) (xs new : List X) (x : X) (n : ℕ) → length xs ≡ n
+    → ((c : ℕ) → c < n → option_map items (slice_get xs c) ≡ Some (commands calls c))
+    → items x ≡ commands calls n → new ≡ xs ++ x ∷ []
+    → (c : ℕ) → c < n + 1 → option_map items (slice_get new c) ≡ Some (commands calls c)
+kept_more {X} items calls xs new x n many kept own pushed = below_more (λ (c : ℕ). option_map items (slice_get new c) ≡ Some (commands calls c)) n before here
+  where
+    before : (c : ℕ) → c < n → option_map items (slice_get new c) ≡ Some (commands calls c)
+    before c less = ap (λ (ys : List X). option_map items (slice_get ys c)) pushed ∙ ap (option_map items) (got_before xs x c (omega (less, many, arith))) ∙ kept c less
+
+    here : option_map items (slice_get new n) ≡ Some (commands calls n)
+    here = ap (λ (ys : List X). option_map items (slice_get ys n)) pushed ∙ ap (λ (k : ℕ). option_map items (slice_get (xs ++ x ∷ []) k)) (sym many) ∙ ap (option_map items) (got_last xs x) ∙ ap (λ (cs : List Command). Some cs) own

@@ -1,0 +1,61 @@
+//! The forms of answers that have one text.
+ghost use Rattle.std.specs.Prelude.{◌≡◌};
+ghost use Rattle.report.specs.Answers.{IsInForm, answer_text, answer_to, cells_answer, map_answer, reply_to};
+
+use arena::Full;
+use record::Answer;
+use script::Command;
+use spelling::{Reply, Request};
+
+/// The answer with the same text in the form that answers a command; without one, as it is.
+pub fn answer_to(command: Option<Command>, answer: Answer) -> Answer
+    ensures form { result ≡ answer_to command answer }
+    ensures fits { IsInForm command result }
+    ensures text { answer_text result ≡ answer_text answer }
+{
+    match command {
+        Some(Command::Map(request)) => map_answer(&request, answer),
+        Some(_) => cells_answer(answer),
+        None => answer,
+    }
+}
+
+/// The answer of the map with the same text that answers a request, if there is one.
+fn map_answer(request: &Request<u64, u64>, answer: Answer) -> Answer
+    ensures { result ≡ map_answer request.now answer }
+{
+    match answer {
+        Answer::Full { what, left } => Answer::Map(Reply::Full(Full { what, left })),
+        Answer::Map(reply) => Answer::Map(reply_to(request, reply)),
+        _ => answer,
+    }
+}
+
+/// The answer of cells with the same text, if there is one.
+fn cells_answer(answer: Answer) -> Answer
+    ensures { result ≡ cells_answer answer }
+{
+    match answer {
+        Answer::Map(Reply::Full(full)) => Answer::Full {
+            what: full.what,
+            left: full.left,
+        },
+        _ => answer,
+    }
+}
+
+/// The reply with the same text that answers a request.
+fn reply_to(request: &Request<u64, u64>, reply: Reply<u64, u64>) -> Reply<u64, u64>
+    ensures { result ≡ reply_to request.now reply }
+{
+    match request {
+        Request::Successor { key: _ } => match reply {
+            Reply::Value(None) => Reply::Pair(None),
+            _ => reply,
+        },
+        _ => match reply {
+            Reply::Pair(None) => Reply::Value(None),
+            _ => reply,
+        },
+    }
+}

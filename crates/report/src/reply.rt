@@ -1,0 +1,110 @@
+//! Replies of the map as text.
+ghost use Rattle.std.specs.Prelude.{◌≡◌, ◌++◌, IfOk, IfSome, codes, decimal, string_bytes};
+ghost use Rattle.report.specs.Answers.{full_text, reply_text, spaced_pairs, rest_text};
+
+use crate::name::{blame_of, small_number_of};
+use arena::{Full, Resource};
+use spelling::Reply;
+use std::alloc::{AllocError, Global};
+use texts::number_of;
+
+/// The text of a reply: its name, and what it tells.
+pub fn reply_text(alloc: Global, reply: &Reply<u64, u64>) -> Result<String, AllocError>
+    ensures { IfOk result (λ text. string_bytes text ≡ reply_text reply.now) }
+{
+    match reply {
+        Reply::Value(Some(value)) => format!(in alloc; "some {value}"),
+        Reply::Pair(Some((key, value))) => format!(in alloc; "pair {key} {value}"),
+        Reply::Value(None) | Reply::Pair(None) => format!(in alloc; "none"),
+        Reply::Pairs(pairs) => pairs_text(alloc, pairs.as_slice()),
+        Reply::Contended { node, scx } => format!(in alloc; "contended n{} s{}", node.0, scx.0),
+        Reply::Full(full) => full_text(alloc, full),
+        Reply::NoMemory => format!(in alloc; "no memory"),
+    }
+}
+
+/// The text of what a share has run out of.
+pub(crate) fn full_text(alloc: Global, full: &Full) -> Result<String, AllocError>
+    ensures { IfOk result (λ text. string_bytes text ≡ full_text full.now.what full.now.left) }
+{
+    match full.what {
+        Resource::Nodes => format!(in alloc; "full nodes {}", full.left),
+        Resource::Scx => format!(in alloc; "full scx {}", full.left),
+    }
+}
+
+/// The text of a reply of many pairs: each is its key and its value.
+fn pairs_text(alloc: Global, pairs: &[(u64, u64)]) -> Result<String, AllocError>
+    ensures { IfOk result (λ text. string_bytes text ≡ codes "pairs" ++ spaced_pairs pairs.now) }
+{
+    let mut text = format!(in alloc; "pairs")?;
+    for (key, value) in pairs {
+        let more = format!(in alloc; " {key} {value}")?;
+        text.push_str(more.as_str())?;
+    }
+    Ok(text)
+}
+
+/// The pairs that are told behind the name of their reply.
+pub(crate) fn pairs_of(
+    alloc: Global,
+    told: Option<&str>,
+) -> Result<Option<Reply<u64, u64>>, AllocError>
+    ensures { IfOk result (λ o. IfSome o (λ reply. codes "pairs" ++ rest_text told.entry ≡ reply_text reply)) }
+{
+    let mut pairs = Vec::new(alloc);
+    let mut left = told;
+    while let Some(text) = left {
+        let Some((pair, rest)) = first_pair_of(text) else {
+            return Ok(None);
+        };
+        pairs.push(pair)?;
+        left = rest;
+    }
+    Ok(Some(Reply::Pairs(pairs)))
+}
+
+/// The pair at the head of a text, and what stands behind the next space.
+fn first_pair_of(text: &str) -> Option<((u64, u64), Option<&str>)>
+    ensures { IfSome result (λ r. text.now ≡ decimal r.0.0 ++ (codes " " ++ (decimal r.0.1 ++ rest_text r.1))) }
+{
+    let (key, rest) = text.split_once(' ')?;
+    let (value, rest) = match rest.split_once(' ') {
+        Some((value, rest)) => (value, Some(rest)),
+        None => (rest, None),
+    };
+    Some(((number_of(key)?, number_of(value)?), rest))
+}
+
+/// The reply of this name that tells this, if it is not of many pairs.
+pub(crate) fn telling_reply_of(name: &str, told: &str) -> Option<Reply<u64, u64>>
+    ensures { IfSome result (λ reply. name.now ++ (codes " " ++ told.now) ≡ reply_text reply) }
+{
+    match name {
+        "some" => Some(Reply::Value(Some(number_of(told)?))),
+        "pair" => {
+            let (key, value) = told.split_once(' ')?;
+            Some(Reply::Pair(Some((number_of(key)?, number_of(value)?))))
+        }
+        "contended" => {
+            let (node, scx) = blame_of(told)?;
+            Some(Reply::Contended { node, scx })
+        }
+        "full" => Some(Reply::Full(full_of(told)?)),
+        _ => None,
+    }
+}
+
+/// What a share has run out of.
+fn full_of(told: &str) -> Option<Full>
+    ensures { IfSome result (λ full. codes "full " ++ told.now ≡ full_text full.what full.left) }
+{
+    let (what, left) = told.split_once(' ')?;
+    let left = small_number_of(left)?;
+    let what = match what {
+        "nodes" => Resource::Nodes,
+        "scx" => Resource::Scx,
+        _ => return None,
+    };
+    Some(Full { what, left })
+}
