@@ -9,7 +9,7 @@ use Rattle.arena.specs.declared.step.Kind.TheVariants.{LoadMarked, LoadSettled}
 use Rattle.arena.specs.declared.step.Step.{Step}
 use Rattle.arena.specs.declared.word.NodeWord.TheVariants.{Head, Key, Value, Child}
 use Rattle.arena.specs.declared.word.Side.TheVariants.{Right}
-use Rattle.arena.specs.declared.step.Access.TheVariants.{Load as AsLoad, Store}
+use Rattle.arena.specs.declared.step.Access.TheVariants.{Store}
 use Rattle.arena.specs.declared.step.Kind.TheVariants.{Fill as FillKind}
 use Rattle.arena.specs.declared.word.NodeWord.{NodeWord}
 use Rattle.arena.specs.declared.word.ScxWord.TheVariants.{Plan}
@@ -29,7 +29,7 @@ use Rattle.updates.specs.declared.edit.Piece.TheVariants.{Leaf, Fork}
 use Rattle.updates.specs.declared.update.Updated.TheVariants.{Done as IsDone}
 use Rattle.updates.specs.Pieces.{fills_behind, nth_node, part_behind, word_of, HasPlace}
 use Rattle.updates.specs.Sound.{FillsWell, IsAtFound}
-use Rattle.updates.proofs.Lemmas.{fills_next, fills_word, piece_is, scx_asks, scx_done}
+use Rattle.updates.proofs.Lemmas.{fills_next, fills_word, scx_asks, scx_done}
 use Rattle.forest.specs.declared.straight.changing.Change.{Change}
 use Rattle.forest.specs.StraightChange.{Changer, ChangerWaits, ChangerIsTold, changing_at, scx_fill}
 use Rattle.arena.specs.History.{History, value}
@@ -50,7 +50,7 @@ use Rattle.template.specs.declared.walk.Goal.TheVariants.{Key as ToKey}
 use Rattle.template.specs.declared.walk.WalkRun.{WalkRun}
 use Rattle.template.proofs.Lemmas.{own_since, walk_begins}
 use Rattle.updates.specs.Edits.{EditMeaning}
-use Rattle.updates.specs.Known.{Begins, CanFill, CanLook, IsFilledUpTo, IsNeeded, IsUntouched, Loads, Looks, UpdateAnswers, UpdateIsReady, UpdateIsToldAt, UpdateWaits, UpdateWaitsAt, UpdateTurn, Walks, copied, piece}
+use Rattle.updates.specs.Known.{Begins, CanFill, CanLook, IsFilledUpTo, IsNeeded, IsUntouched, Loads, Looks, UpdateAnswers, UpdateIsReady, UpdateWaits, UpdateTurn, Walks, copied}
 use Rattle.updates.specs.Laws.HandScx.{from}
 use Rattle.updates.specs.Laws.Kept.{idle_over}
 use Rattle.updates.specs.Steps.{IsSpending, IsWanted, fills_left, node_tries, scx_tries, update_left, works_after}

@@ -1,8 +1,6 @@
-use Rattle.std.proofs.Common.{◌≡◌}
 use Rattle.forest.specs.StraightUpdate.{Updater, UpdaterBegins, UpdaterGoesOn}
-use Rattle.forest.specs.Traces.{shared_nodes, weight}
+use Rattle.forest.specs.Traces.{shared_nodes}
 use Rattle.updates.specs.Next.{stands, turn_of}
-use Rattle.updates.specs.Steps.{update_left}
 use Rattle.forest.proofs.Advances.{weighs}
 use Rattle.forest.proofs.StraightUpdate.{walker, walks, finds, stands_at_start, walk_steps, both_steps}
 use Rattle.forest.proofs.straight.updating.begin.Given.{Over}

@@ -1,4 +1,3 @@
-use Rattle.std.proofs.Common.{◌≡◌}
 use Rattle.forest.specs.Traces.{shared_nodes}
 use Rattle.updates.specs.declared.update.Next.TheVariants.{Look, Load, Fill, Change}
 use Rattle.forest.proofs.StraightUpdate.{fewer_behind, steps_as}

@@ -1,4 +1,4 @@
-use Rattle.std.proofs.Common.{◌≡◌, ◌∙◌}
+use Rattle.std.proofs.Common.{◌∙◌}
 use Rattle.forest.proofs.StraightUpdate.{both_steps}
 use Rattle.forest.proofs.straight.updating.try_on.Goals as goal
 

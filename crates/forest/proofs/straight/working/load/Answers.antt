@@ -1,7 +1,5 @@
-use Rattle.std.proofs.Common.{◌≡◌}
 use Rattle.arena.specs.declared.machine.Turn.TheVariants.{Ask}
 use Rattle.forest.specs.Traces.{shared_nodes}
-use Rattle.forest.specs.StraightUpdate.{Updater, UpdaterTries, UpdaterWaits}
 use Rattle.updates.specs.Next.{placed, next_step}
 use Rattle.updates.specs.declared.update.Next.TheVariants.{Load}
 use Rattle.forest.proofs.StraightUpdate.{wants_word, loads_on, load_steps, load_nearer}
