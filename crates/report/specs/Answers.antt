@@ -77,14 +77,14 @@ map_answer request (Map reply) = Map (reply_to request reply)
 map_answer request answer = answer
 
 -- the answer with the same text in the form that answers this command; without one, as it is
-abbrev pub answer_to : Option Command → Answer → Answer
-answer_to (Some (MapCommand request)) answer = map_answer request answer
-answer_to (Some command) answer = cells_answer answer
-answer_to None answer = answer
+abbrev pub fitted_to : Option Command → Answer → Answer
+fitted_to (Some (MapCommand request)) answer = map_answer request answer
+fitted_to (Some command) answer = cells_answer answer
+fitted_to None answer = answer
 
 -- the answer is in the form that answers the command
 abbrev pub IsInForm : Option Command → Answer → Type 0
-IsInForm command answer = answer_to command answer ≡ answer
+IsInForm command answer = fitted_to command answer ≡ answer
 
 -- a reply in this line, if it is of one of so many clients, is in the form that answers the call
 -- that it names

@@ -1,6 +1,6 @@
 //! The forms of answers that have one text.
 ghost use Rattle.std.specs.Prelude.{◌≡◌};
-ghost use Rattle.report.specs.Answers.{IsInForm, answer_text, answer_to, cells_answer, map_answer, reply_to};
+ghost use Rattle.report.specs.Answers.{IsInForm, answer_text, fitted_to, cells_answer, map_answer, reply_to};
 
 use arena::Full;
 use record::Answer;
@@ -8,8 +8,8 @@ use script::Command;
 use spelling::{Reply, Request};
 
 /// The answer with the same text in the form that answers a command; without one, as it is.
-pub fn answer_to(command: Option<Command>, answer: Answer) -> Answer
-    ensures form { result ≡ answer_to command answer }
+pub fn fitted_to(command: Option<Command>, answer: Answer) -> Answer
+    ensures form { result ≡ fitted_to command answer }
     ensures fits { IsInForm command result }
     ensures text { answer_text result ≡ answer_text answer }
 {

@@ -15,7 +15,7 @@ use crate::answer::answer_of;
 use crate::commands::Commands;
 use crate::count::Counts;
 use crate::fault::{NotLawful, RowFault};
-use crate::form::answer_to;
+use crate::form::fitted_to;
 use crate::name::{client_of, scx_of};
 use crate::rows::{next_row, row_fields};
 use crate::word::word_of;
@@ -167,7 +167,7 @@ fn reply_of(fields: [&str; 7], answer: Answer, commands: &Commands) -> Option<Li
         begin: number_of(begin)?,
         end: number_of(end)?,
         moment: moment_of(moment)?,
-        answer: answer_to(commands.get(client, call), answer),
+        answer: fitted_to(commands.get(client, call), answer),
     };
     Some(Line::Reply(reply))
 }

@@ -11,7 +11,7 @@ use Rattle.template.specs.declared.walk.Found.{Found}
 use Rattle.updates.specs.Edits.{EditMeaning}
 use Rattle.updates.specs.Known.{CanFill, UpdateTurn}
 use Rattle.updates.specs.Laws.HandScx.{from}
-use Rattle.updates.specs.Next.{IsSameCall, stands, turn_of, fills, GoesOn, ComesNearer, HasSpent}
+use Rattle.updates.specs.Next.{IsSameUpdate, stands, turn_of, fills, GoesOn, ComesNearer, HasSpent}
 use Rattle.updates.specs.Steps.{IsNearer, IsSpending, fills_left, try_left}
 use Rattle.updates.specs.Tries.{IsTry}
 use Rattle.updates.specs.declared.edit.Nth.{Nth}
@@ -33,7 +33,7 @@ module _ {E : Type 0} (e : EditMeaning E) (m now : UpdateRun E) (f : Found) wher
     pub has_spent : (old : Remaining) (nodes scx : ℕ) → HasSpent e old m f next nodes scx → IsSpending e turn old now nodes scx
     has_spent old nodes scx x = rw (place, is) x
 
-    pub same_call : (old : UpdateRun E) → IsSameCall old (stands e m f next) → IsSameCall old now
+    pub same_call : (old : UpdateRun E) → IsSameUpdate old (stands e m f next) → IsSameUpdate old now
     same_call old x = rw place x
 
   -- so it does where it fills a word

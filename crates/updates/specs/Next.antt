@@ -29,8 +29,8 @@ use Rattle.updates.specs.declared.update.UpdateRun.{UpdateRun}
 use Rattle.updates.specs.declared.update.Updated.{Updated}
 
 -- it makes the same edit, in the same call
-abbrev pub IsSameCall : {E : Type 0} → UpdateRun E → UpdateRun E → Type 0
-IsSameCall old now = (now.edit ≡ old.edit) × (now.call ≡ old.call)
+abbrev pub IsSameUpdate : {E : Type 0} → UpdateRun E → UpdateRun E → Type 0
+IsSameUpdate old now = (now.edit ≡ old.edit) × (now.call ≡ old.call)
 
 module _ {E : Type 0} (e : EditMeaning E) where
   -- The SCX covers all that was looked at and finalizes all but the first, of which a field gets the

@@ -160,7 +160,7 @@ impl<E: Edit + Drop> UpdateRun<E> {
     fn begin_walk(&mut self) -> Turn<Updated>
         ensures turn { (c : Call) (h : History) → IsRun TreeAllows c.layout h → Begins E.means self.old c h → IsTry c h → IsUntouched c h self.old.share → UpdateTurn E.means c h self.new result }
         ensures begins { (c : Call) (h : History) → Begins E.means self.old c h → MatchTurn result (λ _. Unit {0}) (λ _. ⊥) }
-        ensures same { IsSameCall self.old self.new }
+        ensures same { IsSameUpdate self.old self.new }
         ensures nearer { (nodes : ℕ) → IsNearer E.means self.new nodes result (self.old.tries * try_left E.means nodes + try_left E.means nodes) }
         ensures spends { IsSpending E.means result self.old.share self.new (self.old.tries + 1) (self.old.tries + 1) }
         ensures tries { self.new.tries ≡ self.old.tries }
@@ -181,7 +181,7 @@ impl<E: Edit + Drop> UpdateRun<E> {
     /// Ends a try that is lost to this SCX-record over this node, and begins the next if there is one.
     fn lost(&mut self, node: NodeNo, scx: ScxNo) -> Turn<Updated>
         ensures turn { (c : Call) (h : History) → IsRun TreeAllows c.layout h → Begins E.means self.old c h → IsTry c h → IsContended c h node.0 scx.0 → UpdateTurn E.means c h self.new result }
-        ensures same { IsSameCall self.old self.new }
+        ensures same { IsSameUpdate self.old self.new }
         ensures gives_up { (c : Call) (h : History) → Begins E.means self.old c h → MatchTurn result (λ _. Unit {0}) (λ _. self.old.tries ≡ 0) }
         ensures nearer { (nodes : ℕ) → IsNearer E.means self.new nodes result (self.old.tries * try_left E.means nodes) }
         ensures spends { IsSpending E.means result self.old.share self.new self.old.tries self.old.tries }
@@ -197,7 +197,7 @@ impl<E: Edit + Drop> UpdateRun<E> {
     /// Goes on with what the last step of the walk found.
     fn walk_on(&mut self, mut walk: WalkRun, got: Option<u64>) -> Turn<Updated>
         ensures turn { (c : Call) (b h : History) → IsRun TreeAllows c.layout h → IsTry c b → IsUntouched c b self.old.share → Walks E.means self.old (from c b) h walk.goal → WalkIsReady walk (from c b) h got → UpdateTurn E.means c h self.new result }
-        ensures same { IsSameCall self.old self.new }
+        ensures same { IsSameUpdate self.old self.new }
         ensures nearer { (nodes : ℕ) → WalkFits walk got nodes → IsNearer E.means self.new nodes result (self.old.tries * try_left E.means nodes + (walk_left walk.at nodes + (64 * E.means.most_looks + works_behind E.means First + 39))) }
         ensures spends { IsSpending E.means result self.old.share self.new (self.old.tries + 1) (self.old.tries + 1) }
         ensures tries { (self.old.tries ≤ self.new.tries + 1) × (self.new.tries ≤ self.old.tries) }
@@ -236,7 +236,7 @@ impl<E: Edit + Drop> UpdateRun<E> {
     #[inline(always)]
     pub fn test_share(&mut self, found: &Found) -> Result<Next, Turn<Updated>>
         ensures turn { (c : Call) (b h : History) → IsRun TreeAllows c.layout h → IsTry c b → IsUntouched c b self.old.share → Begins E.means self.old (from c b) h → IsQuietSince c.layout c.pass b h → HasFound (E.means.goal self.old.edit) (from c b) h found.now → GoesOn E.means c h self.new found.now result }
-        ensures same { IsSameCall self.old (stands E.means self.new found.now result) }
+        ensures same { IsSameUpdate self.old (stands E.means self.new found.now result) }
         ensures nearer { (nodes : ℕ) → ComesNearer E.means self.new found.now result nodes (self.old.tries * try_left E.means nodes + (64 * E.means.most_looks + works_behind E.means First + 39)) }
         ensures spends { HasSpent E.means self.old.share self.new found.now result (self.old.tries + 1) (self.old.tries + 1) }
         ensures tries { (self.old.tries ≤ self.new.tries + 1) × (self.new.tries ≤ self.old.tries) }
@@ -257,7 +257,7 @@ impl<E: Edit + Drop> UpdateRun<E> {
     #[inline(always)]
     fn look(&mut self, found: &Found) -> Result<Next, Turn<Updated>>
         ensures turn { (c : Call) (b h : History) → IsRun TreeAllows c.layout h → IsTry c b → CanLook E.means self.old (from c b) h found.now → GoesOn E.means c h self.new found.now result }
-        ensures same { IsSameCall self.old (stands E.means self.new found.now result) }
+        ensures same { IsSameUpdate self.old (stands E.means self.new found.now result) }
         ensures nearer { (nodes : ℕ) → ComesNearer E.means self.new found.now result nodes (self.old.tries * try_left E.means nodes + (64 * (E.means.most_looks - length self.old.snaps.items) + works_behind E.means First + 39)) }
         ensures spends { HasSpent E.means self.old.share self.new found.now result (self.old.tries + 1) (self.old.tries + 1) }
         ensures tries { (self.old.tries ≤ self.new.tries + 1) × (self.new.tries ≤ self.old.tries) }
@@ -272,7 +272,7 @@ impl<E: Edit + Drop> UpdateRun<E> {
     /// Goes on with what the last step of an LLX found.
     fn look_on(&mut self, found: Found, mut llx: LlxRun, got: Option<u64>) -> Turn<Updated>
         ensures turn { (c : Call) (b begin h : History) → IsRun TreeAllows c.layout h → IsTry c b → Looks E.means self.old (from c b) h found llx begin → LlxIsReady TreeAllows llx (from (from c b) begin) h got → UpdateTurn E.means c h self.new result }
-        ensures same { IsSameCall self.old self.new }
+        ensures same { IsSameUpdate self.old self.new }
         ensures nearer { (nodes : ℕ) → IsNearer E.means self.new nodes result (self.old.tries * try_left E.means nodes + (llx_left llx.at + 64 * (E.means.most_looks - 1 - length self.old.snaps.items) + works_behind E.means First + 39)) }
         ensures spends { IsSpending E.means result self.old.share self.new (self.old.tries + 1) (self.old.tries + 1) }
         ensures tries { (self.old.tries ≤ self.new.tries + 1) × (self.new.tries ≤ self.old.tries) }
@@ -295,7 +295,7 @@ impl<E: Edit + Drop> UpdateRun<E> {
     #[inline(always)]
     pub fn looked(&mut self, found: &Found, snap: Snap) -> Result<Next, Turn<Updated>>
         ensures turn { (c : Call) (b h : History) → IsRun TreeAllows c.layout h → IsTry c b → CanLook E.means self.old (from c b) h found.now → E.means.looks self.old.edit found.now self.old.snaps.items ≡ Look.At snap.node → IsSnapshot c.layout h snap.node.0 snap → GoesOn E.means c h self.new found.now result }
-        ensures same { IsSameCall self.old (stands E.means self.new found.now result) }
+        ensures same { IsSameUpdate self.old (stands E.means self.new found.now result) }
         ensures nearer { (nodes : ℕ) → ComesNearer E.means self.new found.now result nodes (self.old.tries * try_left E.means nodes + (64 * (E.means.most_looks - 1 - length self.old.snaps.items) + works_behind E.means First + 39)) }
         ensures spends { HasSpent E.means self.old.share self.new found.now result (self.old.tries + 1) (self.old.tries + 1) }
         ensures tries { (self.old.tries ≤ self.new.tries + 1) × (self.new.tries ≤ self.old.tries) }
@@ -308,7 +308,7 @@ impl<E: Edit + Drop> UpdateRun<E> {
     #[inline(always)]
     fn begin_work(&mut self, found: &Found) -> Next
         ensures turn { (c : Call) (b h : History) → IsRun TreeAllows c.layout h → IsTry c b → CanLook E.means self.old (from c b) h found.now → E.means.looks self.old.edit found.now self.old.snaps.items ≡ Look.Enough → GoesOn E.means c h self.new found.now (Ok result) }
-        ensures same { IsSameCall self.old (placed E.means self.new found.now result) }
+        ensures same { IsSameUpdate self.old (placed E.means self.new found.now result) }
         ensures nearer { (nodes : ℕ) → ComesNearer E.means self.new found.now (Ok result) nodes (self.old.tries * try_left E.means nodes + (works_behind E.means First + 39)) }
         ensures spends { HasSpent E.means self.old.share self.new found.now (Ok result) (self.old.tries + 1) (self.old.tries + 1) }
         ensures tries { self.new.tries ≡ self.old.tries }
@@ -329,7 +329,7 @@ impl<E: Edit + Drop> UpdateRun<E> {
     #[inline(always)]
     fn begin_one(&mut self, found: &Found) -> Next
         ensures turn { (c : Call) (b h : History) → IsRun TreeAllows c.layout h → IsTry c b → CanLook E.means self.old (from c b) h found.now → E.means.looks self.old.edit found.now self.old.snaps.items ≡ Look.Enough → E.means.needs self.old.edit found.now ≡ Need.One → self.old.loaded ≡ nothing_loaded → GoesOn E.means c h self.new found.now (Ok result) }
-        ensures same { IsSameCall self.old (placed E.means self.new found.now result) }
+        ensures same { IsSameUpdate self.old (placed E.means self.new found.now result) }
         ensures nearer { (nodes : ℕ) → ComesNearer E.means self.new found.now (Ok result) nodes (self.old.tries * try_left E.means nodes + (works_behind E.means First + 39)) }
         ensures spends { HasSpent E.means self.old.share self.new found.now (Ok result) (self.old.tries + 1) (self.old.tries + 1) }
         ensures tries { self.new.tries ≡ self.old.tries }
@@ -347,7 +347,7 @@ impl<E: Edit + Drop> UpdateRun<E> {
     #[inline(always)]
     fn begin_three(&mut self, found: &Found) -> Next
         ensures turn { (c : Call) (b h : History) → IsRun TreeAllows c.layout h → IsTry c b → CanLook E.means self.old (from c b) h found.now → E.means.looks self.old.edit found.now self.old.snaps.items ≡ Look.Enough → E.means.needs self.old.edit found.now ≡ Need.Three → self.old.loaded ≡ nothing_loaded → GoesOn E.means c h self.new found.now (Ok result) }
-        ensures same { IsSameCall self.old (placed E.means self.new found.now result) }
+        ensures same { IsSameUpdate self.old (placed E.means self.new found.now result) }
         ensures nearer { (nodes : ℕ) → ComesNearer E.means self.new found.now (Ok result) nodes (self.old.tries * try_left E.means nodes + (works_behind E.means First + 39)) }
         ensures spends { E.means.needs self.old.edit found.now ≡ Need.Three → HasSpent E.means self.old.share self.new found.now (Ok result) (self.old.tries + 1) (self.old.tries + 1) }
         ensures tries { self.new.tries ≡ self.old.tries }
@@ -381,7 +381,7 @@ impl<E: Edit + Drop> UpdateRun<E> {
     #[inline(always)]
     fn load(&self, found: &Found, nth: Nth) -> Next
         ensures turn { (c : Call) (b h : History) → IsRun TreeAllows c.layout h → IsTry c b → CanLoad E.means self.now (from c b) h found.now nth → GoesOn E.means c h self.now found.now (Ok result) }
-        ensures same { IsSameCall self.now (placed E.means self.now found.now result) }
+        ensures same { IsSameUpdate self.now (placed E.means self.now found.now result) }
         ensures nearer { (nodes : ℕ) → HasPlace (E.means.needs self.now.edit found.now) nth → ComesNearer E.means self.now found.now (Ok result) nodes (self.now.tries * try_left E.means nodes + (works_left E.means self.now found.now nth + 39)) }
         ensures spends { HasSpent E.means self.now.share self.now found.now (Ok result) self.now.tries (self.now.tries + 1) }
     {
@@ -398,7 +398,7 @@ impl<E: Edit + Drop> UpdateRun<E> {
     #[inline(always)]
     pub fn loaded(&mut self, found: &Found, nth: Nth, part: NodeWord, told: u64) -> Next
         ensures turn { (c : Call) (b h : History) → IsRun TreeAllows c.layout h → IsTry c b → Loads E.means self.old (from c b) h found.now nth part → value h (node (copied E.means self.old found.now) part) ≡ told → GoesOn E.means c h self.new found.now (Ok result) }
-        ensures same { IsSameCall self.old (placed E.means self.new found.now result) }
+        ensures same { IsSameUpdate self.old (placed E.means self.new found.now result) }
         ensures nearer { (nodes : ℕ) → IsWanted E.means self.old found.now nth part → ComesNearer E.means self.new found.now (Ok result) nodes (self.old.tries * try_left E.means nodes + (works_left E.means self.old found.now nth - 1 + 39)) }
         ensures spends { HasSpent E.means self.old.share self.new found.now (Ok result) self.old.tries (self.old.tries + 1) }
         ensures tries { self.new.tries ≡ self.old.tries }
@@ -428,7 +428,7 @@ impl<E: Edit + Drop> UpdateRun<E> {
     /// Goes on behind that fill: with the next word, or with what is done behind the last.
     fn fill_on(&mut self, found: Found, nth: Nth, part: NodeWord) -> Turn<Updated>
         ensures turn { (c : Call) (b h : History) → IsRun TreeAllows c.layout h → IsTry c b → IsFilledUpTo E.means self.old (from c b) h found nth part → UpdateTurn E.means c h self.new result }
-        ensures same { IsSameCall self.old self.new }
+        ensures same { IsSameUpdate self.old self.new }
         ensures nearer { (nodes : ℕ) → IsNearer E.means self.new nodes result (self.old.tries * try_left E.means nodes + (fills_left E.means self.old found nth part + 39)) }
         ensures spends { IsSpending E.means result self.old.share self.new self.old.tries (self.old.tries + 1) }
         ensures tries { self.new.tries ≡ self.old.tries }
@@ -448,7 +448,7 @@ impl<E: Edit + Drop> UpdateRun<E> {
     #[inline(always)]
     pub fn filled(&mut self, found: &Found, nth: Nth) -> Result<Next, Turn<Updated>>
         ensures turn { (c : Call) (b h : History) (part : NodeWord) → IsRun TreeAllows c.layout h → IsTry c b → IsFilledUpTo E.means self.old (from c b) h found.now nth part → part_behind (E.means.pieces self.old.edit found.now self.old.snaps.items self.old.nodes self.old.loaded nth) part ≡ None → GoesOn E.means c h self.new found.now result }
-        ensures same { IsSameCall self.old (stands E.means self.new found.now result) }
+        ensures same { IsSameUpdate self.old (stands E.means self.new found.now result) }
         ensures nearer { (nodes : ℕ) → ComesNearer E.means self.new found.now result nodes (self.old.tries * try_left E.means nodes + (works_after E.means nth + 39)) }
         ensures spends { HasSpent E.means self.old.share self.new found.now result self.old.tries (self.old.tries + 1) }
         ensures tries { self.new.tries ≡ self.old.tries }
@@ -463,7 +463,7 @@ impl<E: Edit + Drop> UpdateRun<E> {
     #[inline(always)]
     fn take_scx(&mut self, found: &Found) -> Result<Next, Turn<Updated>>
         ensures turn { (c : Call) (b h : History) → IsRun TreeAllows c.layout h → IsTry c b → CanScx E.means self.old (from c b) h found.now → GoesOn E.means c h self.new found.now result }
-        ensures same { IsSameCall self.old (stands E.means self.new found.now result) }
+        ensures same { IsSameUpdate self.old (stands E.means self.new found.now result) }
         ensures nearer { (nodes : ℕ) → ComesNearer E.means self.new found.now result nodes (self.old.tries * try_left E.means nodes + 39) }
         ensures spends { HasSpent E.means self.old.share self.new found.now result self.old.tries (self.old.tries + 1) }
         ensures tries { self.new.tries ≡ self.old.tries }
@@ -595,7 +595,7 @@ impl<E: Edit + Drop> UpdateRun<E> {
     /// Goes on with what the last step of the SCX found.
     fn scx_on(&mut self, found: Found, mut scx: ScxRun, got: Option<u64>) -> Turn<Updated>
         ensures turn { (c : Call) (b begin h : History) → IsRun TreeAllows c.layout h → IsTry c b → Scxs E.means self.old (from c b) h found scx begin → ScxIsReady TreeAllows scx (from (from c b) begin) h got → UpdateTurn E.means c h self.new result }
-        ensures same { IsSameCall self.old self.new }
+        ensures same { IsSameUpdate self.old self.new }
         ensures nearer { (nodes : ℕ) → IsNearer E.means self.new nodes result (self.old.tries * try_left E.means nodes + scx_left scx.at) }
         ensures spends { IsSpending E.means result self.old.share self.new self.old.tries self.old.tries }
         ensures tries { (self.old.tries ≤ self.new.tries + 1) × (self.new.tries ≤ self.old.tries) }
@@ -614,7 +614,7 @@ impl<E: Edit + Drop> UpdateRun<E> {
     pub fn step(&mut self, got: Option<u64>) -> Turn<Updated>
         ensures turn { (c : Call) (h : History) → IsRun TreeAllows c.layout h → UpdateIsReady E.means self.old c h got → UpdateTurn E.means c h self.new result }
         ensures begins { got ≡ None → (c : Call) (h : History) → UpdateIsReady E.means self.old c h None → MatchTurn result (λ _. Unit {0}) (λ _. ⊥) }
-        ensures same { IsSameCall self.old self.new }
+        ensures same { IsSameUpdate self.old self.new }
         ensures nearer { (nodes : ℕ) → UpdateFits E.means self.old got nodes → IsNearer E.means self.new nodes result (update_left E.means self.old nodes) }
         ensures spends { IsSpending E.means result self.old.share self.new (node_tries self.old self.old.at) (scx_tries self.old self.old.at) }
         ensures tries { (self.old.tries ≤ self.new.tries + 1) × (self.new.tries ≤ self.old.tries) }
@@ -648,7 +648,7 @@ impl<E: Edit + Drop> UpdateRun<E> {
     ghost use Rattle.arena.specs.Words.{node};
     ghost use Rattle.updates.specs.Laws.HandScx.{from};
     ghost use Rattle.updates.specs.Steps.{IsSpending, node_tries, scx_tries, works_after};
-    ghost use Rattle.updates.specs.Next.{IsSameCall, placed, next_step, stands, turn_of, fills, update_of, GoesOn, ComesNearer, HasSpent};
+    ghost use Rattle.updates.specs.Next.{IsSameUpdate, placed, next_step, stands, turn_of, fills, update_of, GoesOn, ComesNearer, HasSpent};
     ghost use Rattle.template.specs.Blame.{IsContended};
     ghost use Rattle.updates.specs.Tries.{IsTry};
     ghost use Rattle.prims.specs.Laws.Idle.{IsQuietSince};
