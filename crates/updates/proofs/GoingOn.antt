@@ -1,21 +1,23 @@
 -- That an update which begins what it does next stands as is said of that.
 use Rattle.std.proofs.Common.{◌≡◌, ℕ, ◌+◌, ◌*◌, ◌<◌, ◌≤◌, refl, arith}
-use Rattle.std.specs.Prelude.{Result, Ok}
+use Rattle.std.specs.Prelude.{Result, Ok, Err}
 use Rattle.arena.specs.declared.machine.Turn.{Turn}
-use Rattle.arena.specs.declared.machine.Turn.TheVariants.{Ask}
+use Rattle.arena.specs.declared.machine.Turn.TheVariants.{Ask, Done}
 use Rattle.arena.specs.declared.word.NodeWord.{NodeWord}
 use Rattle.arena.specs.History.{History}
-use Rattle.arena.specs.Machines.{Call}
+use Rattle.arena.specs.Machines.{Call, MatchTurn}
 use Rattle.arena.specs.Share.{Remaining}
 use Rattle.template.specs.declared.walk.Found.{Found}
 use Rattle.updates.specs.Edits.{EditMeaning}
 use Rattle.updates.specs.Known.{CanFill, UpdateTurn}
 use Rattle.updates.specs.Laws.HandScx.{from}
-use Rattle.updates.specs.Next.{IsSameUpdate, stands, turn_of, fills, GoesOn, ComesNearer, HasSpent}
-use Rattle.updates.specs.Steps.{IsNearer, IsSpending, fills_left, try_left}
+use Rattle.updates.specs.Next.{IsSameUpdate, placed, next_step, fills, GoesOn, ComesNearer, HasSpent}
+use Rattle.updates.specs.Steps.{IsNearer, IsSpending, Spends, fills_left, node_tries, scx_tries, try_left, update_left}
 use Rattle.updates.specs.Tries.{IsTry}
 use Rattle.updates.specs.declared.edit.Nth.{Nth}
 use Rattle.updates.specs.declared.update.Next.{Next}
+use Rattle.updates.specs.declared.update.Next.TheVariants.{Look, Load, Fill as FillNext, Change}
+use Rattle.updates.specs.declared.update.Stop.{Stop}
 use Rattle.updates.specs.declared.update.UpdateAt.TheVariants.{Fill}
 use Rattle.updates.specs.declared.update.UpdateRun.{UpdateRun}
 use Rattle.updates.specs.declared.update.Updated.{Updated}
@@ -23,18 +25,15 @@ use Rattle.updates.proofs.Nearer.{below}
 use Rattle.updates.proofs.Turns.{fills_word}
 
 module _ {E : Type 0} (e : EditMeaning E) (m now : UpdateRun E) (f : Found) where
-  module _ (next : Result Next (Turn Updated)) (turn : Turn Updated) (place : now ≡ stands e m f next) (is : turn ≡ turn_of e m f next) where
-    pub goes_on : (c : Call) (h : History) → GoesOn e c h m f next → UpdateTurn e c h now turn
+  module _ (next : Next) (turn : Turn Updated) (place : now ≡ placed e m f next) (is : turn ≡ Ask (next_step e m f next)) where
+    pub goes_on : (c : Call) (h : History) → GoesOn e c h m f (Ok next) → UpdateTurn e c h now turn
     goes_on c h x = rw (place, is) x
 
-    pub comes_nearer : (nodes n bound : ℕ) → ComesNearer e m f next nodes n → n ≤ bound → IsNearer e now nodes turn bound
-    comes_nearer nodes n bound x i = rw (place, is) (below (turn_of e m f next) _ n bound x i)
+    pub comes_nearer : (nodes n : ℕ) → ComesNearer e m f (Ok next) nodes n → IsNearer e now nodes turn n
+    comes_nearer nodes n x = rw (place, is) x
 
-    pub has_spent : (old : Remaining) (nodes scx : ℕ) → HasSpent e old m f next nodes scx → IsSpending e turn old now nodes scx
+    pub has_spent : (old : Remaining) (nodes scx : ℕ) → HasSpent e old m f (Ok next) nodes scx → IsSpending e turn old now nodes scx
     has_spent old nodes scx x = rw (place, is) x
-
-    pub same_call : (old : UpdateRun E) → IsSameUpdate old (stands e m f next) → IsSameUpdate old now
-    same_call old x = rw place x
 
   -- so it does where it fills a word
   module _ (nth : Nth) (part : NodeWord) (turn : Turn Updated) (place : now ≡ record m { at = Fill f nth part }) (is : turn ≡ Ask (fills e m f nth part)) where
@@ -47,6 +46,29 @@ module _ {E : Type 0} (e : EditMeaning E) (m now : UpdateRun E) (f : Found) wher
     pub fill_spends : IsSpending e turn m.share now m.tries (m.tries + 1)
     fill_spends = rw (place, is) (omega arith, omega arith)
 
+-- where it stands once that has begun, it makes the same update
+pub placed_same : {E : Type 0} (e : EditMeaning E) (m : UpdateRun E) (f : Found) (next : Next) → IsSameUpdate m (placed e m f next)
+placed_same e m f (Look n) = (refl, refl)
+placed_same e m f (Load nth part) = (refl, refl)
+placed_same e m f (FillNext nth) = (refl, refl)
+placed_same e m f (Change scx) = (refl, refl)
+
+pub placed_tries : {E : Type 0} (e : EditMeaning E) (m : UpdateRun E) (f : Found) (next : Next) → (placed e m f next).tries ≡ m.tries
+placed_tries e m f (Look n) = refl
+placed_tries e m f (Load nth part) = refl
+placed_tries e m f (FillNext nth) = refl
+placed_tries e m f (Change scx) = refl
+
+-- what is below a number is below a greater one
+pub still_nearer : {E : Type 0} (e : EditMeaning E) (m : UpdateRun E) (f : Found) (next : Result Next Stop) (nodes a b : ℕ) → ComesNearer e m f next nodes a → a ≤ b → ComesNearer e m f next nodes b
+still_nearer e m f (Ok next) nodes a b x i = omega (arith, x, i)
+still_nearer e m f (Err stop) nodes a b x i = omega (arith, x, i)
+
 -- what is taken before counts for one try more
 pub taken_before : {E : Type 0} (e : EditMeaning E) (old mid : Remaining) (m : UpdateRun E) (f : Found) (next : Next) (nodes scx : ℕ) → old.nodes ≤ mid.nodes + e.most_nodes → mid.scx ≡ old.scx → HasSpent e mid m f (Ok next) nodes scx → HasSpent e old m f (Ok next) (nodes + 1) scx
 taken_before e old mid m f next nodes scx i same x = (omega (arith, i, x.0), omega (arith, same, x.1))
+
+-- what is spent up to the end of a try, and behind it
+pub spends_on : {E : Type 0} (e : EditMeaning E) (turn : Turn Updated) (old mid : Remaining) (m : UpdateRun E) (nodes scx tries : ℕ) → Spends e.most_nodes old mid nodes tries scx tries → IsSpending e turn mid m tries tries → IsSpending e turn old m nodes scx
+spends_on e (Ask s) old mid m nodes scx tries x y = (let a = x.0 in let b = y.0 in omega (arith, a, b), let a = x.1 in let b = y.1 in omega (arith, a, b))
+spends_on e (Done u) old mid m nodes scx tries x y = (let a = x.0 in let b = y.0 in omega (arith, a, b), let a = x.1 in let b = y.1 in omega (arith, a, b))

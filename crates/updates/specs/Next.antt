@@ -1,6 +1,5 @@
 -- What a try of an update does next, before the update stands there.
-use Rattle.std.specs.Prelude.{◌≡◌, ℕ, length, Result, Ok, Err}
-use Rattle.arena.specs.declared.machine.Turn.{Turn}
+use Rattle.std.specs.Prelude.{◌≡◌, ℕ, suc, ◌*◌, ◌<◌, ◌≤◌, length, Result, Ok, Err}
 use Rattle.arena.specs.declared.machine.Turn.TheVariants.{Ask}
 use Rattle.arena.specs.declared.step.Access.TheVariants.{Load as LoadAccess, Store}
 use Rattle.arena.specs.declared.step.Kind.TheVariants.{LoadMarked, LoadSettled, Fill as FillKind}
@@ -18,15 +17,19 @@ use Rattle.prims.specs.declared.scx.ScxAt.TheVariants.{Plan as AtPlan}
 use Rattle.prims.specs.declared.update.Update.{Update}
 use Rattle.template.specs.declared.walk.Found.{Found}
 use Rattle.updates.specs.Edits.{EditMeaning}
-use Rattle.updates.specs.Known.{UpdateTurn}
+use Rattle.updates.specs.Known.{Begins, UpdateAnswers, UpdateWaits}
 use Rattle.updates.specs.Pieces.{nth_node, plan_over, top_of, word_of}
-use Rattle.updates.specs.Steps.{IsNearer, IsSpending}
+use Rattle.updates.specs.Steps.{IsSpending, Spends, try_left, update_left}
+use Rattle.updates.specs.Tries.{IsTry}
+use Rattle.template.specs.Blame.{IsContended}
 use Rattle.updates.specs.declared.edit.Nth.{Nth}
 use Rattle.updates.specs.declared.update.Next.{Next}
 use Rattle.updates.specs.declared.update.Next.TheVariants.{Look as LookNext, Load as LoadNext, Fill as FillNext, Change}
 use Rattle.updates.specs.declared.update.UpdateAt.TheVariants.{Look, Load, Fill, Scx}
 use Rattle.updates.specs.declared.update.UpdateRun.{UpdateRun}
-use Rattle.updates.specs.declared.update.Updated.{Updated}
+use Rattle.updates.specs.declared.update.Stop.{Stop}
+use Rattle.updates.specs.declared.update.Stop.TheVariants.{Nothing, Lost, Full as FullStop}
+use Rattle.updates.specs.declared.update.Updated.TheVariants.{Done, Full as FullAnswer}
 
 -- it makes the same edit, in the same call
 abbrev pub IsSameUpdate : {E : Type 0} → UpdateRun E → UpdateRun E → Type 0
@@ -61,24 +64,28 @@ module _ {E : Type 0} (e : EditMeaning E) where
   next_step m f (FillNext nth) = fills m f nth Head
   next_step m f (Change scx) = record { kind = FillKind; word = ScxOf scx PlanWord; access = Store (plan_over (length m.snaps.items) (e.side m.edit f)) }
 
-  -- the update where it stands once that has begun, or where it stood in place of it
-  abbrev pub stands : UpdateRun E → Found → Result Next (Turn Updated) → UpdateRun E
-  stands m f (Ok next) = placed m f next
-  stands m f (Err turn) = m
+  -- a try may end so: with what its update answers, or lost to another pass
+  abbrev pub MayStop : Call → History → UpdateRun E → Found → Stop → Type 0
+  MayStop c h m f Nothing = UpdateAnswers e m c h (Done f)
+  MayStop c h m f (Lost node scx) = Begins e m c h × IsTry c h × IsContended c h node.0 scx.0
+  MayStop c h m f (FullStop full) = UpdateAnswers e m c h (FullAnswer full)
 
-  -- and its turn
-  abbrev pub turn_of : UpdateRun E → Found → Result Next (Turn Updated) → Turn Updated
-  turn_of m f (Ok next) = Ask (next_step m f next)
-  turn_of m f (Err turn) = turn
+  -- once it has begun what it does next, it waits for that step; or it may end so
+  abbrev pub GoesOn : Call → History → UpdateRun E → Found → Result Next Stop → Type 0
+  GoesOn c h m f (Ok next) = UpdateWaits e (placed m f next) c h (next_step m f next)
+  GoesOn c h m f (Err stop) = MayStop c h m f stop
 
-  -- once that has begun, it waits for its step; in place of it, it does as its turn says
-  abbrev pub GoesOn : Call → History → UpdateRun E → Found → Result Next (Turn Updated) → Type 0
-  GoesOn c h m f next = UpdateTurn e c h (stands m f next) (turn_of m f next)
-
-  -- fewer than n steps are left then, where it asks for one
-  abbrev pub ComesNearer : UpdateRun E → Found → Result Next (Turn Updated) → ℕ → ℕ → Type 0
-  ComesNearer m f next nodes n = IsNearer e (stands m f next) nodes (turn_of m f next) n
+  -- fewer than n steps are left then; where it ends, at most as many in the tries behind it
+  abbrev pub ComesNearer : UpdateRun E → Found → Result Next Stop → ℕ → ℕ → Type 0
+  ComesNearer m f (Ok next) nodes n = update_left e (placed m f next) nodes < n
+  ComesNearer m f (Err stop) nodes n = m.tries * try_left e nodes ≤ n
 
   -- so much is taken of the share, where so many tries might take of it
-  abbrev pub HasSpent : Remaining → UpdateRun E → Found → Result Next (Turn Updated) → ℕ → ℕ → Type 0
-  HasSpent old m f next nodes scx = IsSpending e (turn_of m f next) old (stands m f next) nodes scx
+  abbrev pub HasSpent : Remaining → UpdateRun E → Found → Result Next Stop → ℕ → ℕ → Type 0
+  HasSpent old m f (Ok next) nodes scx = IsSpending e (Ask (next_step m f next)) old (placed m f next) nodes scx
+  HasSpent old m f (Err stop) nodes scx = Spends e.most_nodes old m.share nodes m.tries scx m.tries
+
+  -- so many steps are left then
+  abbrev pub left_then : UpdateRun E → Found → Result Next Stop → ℕ → ℕ
+  left_then m f (Ok next) nodes = suc (update_left e (placed m f next) nodes)
+  left_then m f (Err stop) nodes = m.tries * try_left e nodes

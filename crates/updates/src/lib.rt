@@ -7,4 +7,4 @@ mod update;
 
 pub use alone::alone_holds;
 pub use edit::{Edit, Loaded, Look, Need, Nodes, Nth, Piece};
-pub use update::{Next, UpdateAt, UpdateRun, Updated, anew};
+pub use update::{Next, Stop, UpdateAt, UpdateRun, Updated, anew};

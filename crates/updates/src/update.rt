@@ -23,6 +23,17 @@ pub enum Updated {
     Full(Full),
 }
 
+/// Why a try ends before its SCX.
+#[derive(Clone, Copy, Debug, PartialEq, Eq)]
+pub enum Stop {
+    /// There is nothing to update.
+    Nothing,
+    /// It is lost to this SCX-record over this node.
+    Lost { node: NodeNo, scx: ScxNo },
+    /// The share has too little left for it.
+    Full(Full),
+}
+
 /// What a try does next, once its leaf is found.
 #[derive(Clone, Copy, Debug, PartialEq, Eq)]
 pub enum Next {
@@ -234,20 +245,19 @@ impl<E: Edit + Drop> UpdateRun<E> {
 
     /// What the try does behind its walk, if the share has what the edit needs.
     #[inline(always)]
-    pub fn test_share(&mut self, found: &Found) -> Result<Next, Turn<Updated>>
+    pub fn test_share(&mut self, found: &Found) -> Result<Next, Stop>
         ensures turn { (c : Call) (b h : History) → IsRun TreeAllows c.layout h → IsTry c b → IsUntouched c b self.old.share → Begins E.means self.old (from c b) h → IsQuietSince c.layout c.pass b h → HasFound (E.means.goal self.old.edit) (from c b) h found.now → GoesOn E.means c h self.new found.now result }
-        ensures same { IsSameUpdate self.old (stands E.means self.new found.now result) }
+        ensures same { IsSameUpdate self.old self.new }
         ensures nearer { (nodes : ℕ) → ComesNearer E.means self.new found.now result nodes (self.old.tries * try_left E.means nodes + (64 * E.means.most_looks + works_behind E.means First + 39)) }
         ensures spends { HasSpent E.means self.old.share self.new found.now result (self.old.tries + 1) (self.old.tries + 1) }
-        ensures tries { (self.old.tries ≤ self.new.tries + 1) × (self.new.tries ≤ self.old.tries) }
+        ensures tries { self.new.tries ≡ self.old.tries }
     {
         let need = self.edit.need(found);
         if need == Need::Nothing {
-            let found = anew(found);
-            return Err(Turn::Done(Updated::Done { found }));
+            return Err(Stop::Nothing);
         }
         if let Some(full) = self.lacks(need) {
-            return Err(Turn::Done(Updated::Full(full)));
+            return Err(Stop::Full(full));
         }
         self.snaps.clear();
         self.look(found)
@@ -255,16 +265,16 @@ impl<E: Edit + Drop> UpdateRun<E> {
 
     /// The next node that the edit names to be looked at, or what is done behind the last.
     #[inline(always)]
-    fn look(&mut self, found: &Found) -> Result<Next, Turn<Updated>>
+    fn look(&mut self, found: &Found) -> Result<Next, Stop>
         ensures turn { (c : Call) (b h : History) → IsRun TreeAllows c.layout h → IsTry c b → CanLook E.means self.old (from c b) h found.now → GoesOn E.means c h self.new found.now result }
-        ensures same { IsSameUpdate self.old (stands E.means self.new found.now result) }
+        ensures same { IsSameUpdate self.old self.new }
         ensures nearer { (nodes : ℕ) → ComesNearer E.means self.new found.now result nodes (self.old.tries * try_left E.means nodes + (64 * (E.means.most_looks - length self.old.snaps.items) + works_behind E.means First + 39)) }
         ensures spends { HasSpent E.means self.old.share self.new found.now result (self.old.tries + 1) (self.old.tries + 1) }
-        ensures tries { (self.old.tries ≤ self.new.tries + 1) × (self.new.tries ≤ self.old.tries) }
+        ensures tries { self.new.tries ≡ self.old.tries }
     {
         match self.edit.look(found, self.snaps.as_slice()) {
             Look::At(node) => Ok(Next::Look(node)),
-            Look::Differs { node, scx } => Err(self.lost(node, scx)),
+            Look::Differs { node, scx } => Err(Stop::Lost { node, scx }),
             Look::Enough => Ok(self.begin_work(found)),
         }
     }
@@ -293,12 +303,12 @@ impl<E: Edit + Drop> UpdateRun<E> {
 
     /// Keeps a snapshot, and tells what is done behind it.
     #[inline(always)]
-    pub fn looked(&mut self, found: &Found, snap: Snap) -> Result<Next, Turn<Updated>>
+    pub fn looked(&mut self, found: &Found, snap: Snap) -> Result<Next, Stop>
         ensures turn { (c : Call) (b h : History) → IsRun TreeAllows c.layout h → IsTry c b → CanLook E.means self.old (from c b) h found.now → E.means.looks self.old.edit found.now self.old.snaps.items ≡ Look.At snap.node → IsSnapshot c.layout h snap.node.0 snap → GoesOn E.means c h self.new found.now result }
-        ensures same { IsSameUpdate self.old (stands E.means self.new found.now result) }
+        ensures same { IsSameUpdate self.old self.new }
         ensures nearer { (nodes : ℕ) → ComesNearer E.means self.new found.now result nodes (self.old.tries * try_left E.means nodes + (64 * (E.means.most_looks - 1 - length self.old.snaps.items) + works_behind E.means First + 39)) }
         ensures spends { HasSpent E.means self.old.share self.new found.now result (self.old.tries + 1) (self.old.tries + 1) }
-        ensures tries { (self.old.tries ≤ self.new.tries + 1) × (self.new.tries ≤ self.old.tries) }
+        ensures tries { self.new.tries ≡ self.old.tries }
     {
         let _fits = self.snaps.try_push(snap);
         self.look(found)
@@ -308,7 +318,7 @@ impl<E: Edit + Drop> UpdateRun<E> {
     #[inline(always)]
     fn begin_work(&mut self, found: &Found) -> Next
         ensures turn { (c : Call) (b h : History) → IsRun TreeAllows c.layout h → IsTry c b → CanLook E.means self.old (from c b) h found.now → E.means.looks self.old.edit found.now self.old.snaps.items ≡ Look.Enough → GoesOn E.means c h self.new found.now (Ok result) }
-        ensures same { IsSameUpdate self.old (placed E.means self.new found.now result) }
+        ensures same { IsSameUpdate self.old self.new }
         ensures nearer { (nodes : ℕ) → ComesNearer E.means self.new found.now (Ok result) nodes (self.old.tries * try_left E.means nodes + (works_behind E.means First + 39)) }
         ensures spends { HasSpent E.means self.old.share self.new found.now (Ok result) (self.old.tries + 1) (self.old.tries + 1) }
         ensures tries { self.new.tries ≡ self.old.tries }
@@ -329,7 +339,7 @@ impl<E: Edit + Drop> UpdateRun<E> {
     #[inline(always)]
     fn begin_one(&mut self, found: &Found) -> Next
         ensures turn { (c : Call) (b h : History) → IsRun TreeAllows c.layout h → IsTry c b → CanLook E.means self.old (from c b) h found.now → E.means.looks self.old.edit found.now self.old.snaps.items ≡ Look.Enough → E.means.needs self.old.edit found.now ≡ Need.One → self.old.loaded ≡ nothing_loaded → GoesOn E.means c h self.new found.now (Ok result) }
-        ensures same { IsSameUpdate self.old (placed E.means self.new found.now result) }
+        ensures same { IsSameUpdate self.old self.new }
         ensures nearer { (nodes : ℕ) → ComesNearer E.means self.new found.now (Ok result) nodes (self.old.tries * try_left E.means nodes + (works_behind E.means First + 39)) }
         ensures spends { HasSpent E.means self.old.share self.new found.now (Ok result) (self.old.tries + 1) (self.old.tries + 1) }
         ensures tries { self.new.tries ≡ self.old.tries }
@@ -347,7 +357,7 @@ impl<E: Edit + Drop> UpdateRun<E> {
     #[inline(always)]
     fn begin_three(&mut self, found: &Found) -> Next
         ensures turn { (c : Call) (b h : History) → IsRun TreeAllows c.layout h → IsTry c b → CanLook E.means self.old (from c b) h found.now → E.means.looks self.old.edit found.now self.old.snaps.items ≡ Look.Enough → E.means.needs self.old.edit found.now ≡ Need.Three → self.old.loaded ≡ nothing_loaded → GoesOn E.means c h self.new found.now (Ok result) }
-        ensures same { IsSameUpdate self.old (placed E.means self.new found.now result) }
+        ensures same { IsSameUpdate self.old self.new }
         ensures nearer { (nodes : ℕ) → ComesNearer E.means self.new found.now (Ok result) nodes (self.old.tries * try_left E.means nodes + (works_behind E.means First + 39)) }
         ensures spends { E.means.needs self.old.edit found.now ≡ Need.Three → HasSpent E.means self.old.share self.new found.now (Ok result) (self.old.tries + 1) (self.old.tries + 1) }
         ensures tries { self.new.tries ≡ self.old.tries }
@@ -381,7 +391,6 @@ impl<E: Edit + Drop> UpdateRun<E> {
     #[inline(always)]
     fn load(&self, found: &Found, nth: Nth) -> Next
         ensures turn { (c : Call) (b h : History) → IsRun TreeAllows c.layout h → IsTry c b → CanLoad E.means self.now (from c b) h found.now nth → GoesOn E.means c h self.now found.now (Ok result) }
-        ensures same { IsSameUpdate self.now (placed E.means self.now found.now result) }
         ensures nearer { (nodes : ℕ) → HasPlace (E.means.needs self.now.edit found.now) nth → ComesNearer E.means self.now found.now (Ok result) nodes (self.now.tries * try_left E.means nodes + (works_left E.means self.now found.now nth + 39)) }
         ensures spends { HasSpent E.means self.now.share self.now found.now (Ok result) self.now.tries (self.now.tries + 1) }
     {
@@ -398,7 +407,7 @@ impl<E: Edit + Drop> UpdateRun<E> {
     #[inline(always)]
     pub fn loaded(&mut self, found: &Found, nth: Nth, part: NodeWord, told: u64) -> Next
         ensures turn { (c : Call) (b h : History) → IsRun TreeAllows c.layout h → IsTry c b → Loads E.means self.old (from c b) h found.now nth part → value h (node (copied E.means self.old found.now) part) ≡ told → GoesOn E.means c h self.new found.now (Ok result) }
-        ensures same { IsSameUpdate self.old (placed E.means self.new found.now result) }
+        ensures same { IsSameUpdate self.old self.new }
         ensures nearer { (nodes : ℕ) → IsWanted E.means self.old found.now nth part → ComesNearer E.means self.new found.now (Ok result) nodes (self.old.tries * try_left E.means nodes + (works_left E.means self.old found.now nth - 1 + 39)) }
         ensures spends { HasSpent E.means self.old.share self.new found.now (Ok result) self.old.tries (self.old.tries + 1) }
         ensures tries { self.new.tries ≡ self.old.tries }
@@ -431,7 +440,7 @@ impl<E: Edit + Drop> UpdateRun<E> {
         ensures same { IsSameUpdate self.old self.new }
         ensures nearer { (nodes : ℕ) → IsNearer E.means self.new nodes result (self.old.tries * try_left E.means nodes + (fills_left E.means self.old found nth part + 39)) }
         ensures spends { IsSpending E.means result self.old.share self.new self.old.tries (self.old.tries + 1) }
-        ensures tries { self.new.tries ≡ self.old.tries }
+        ensures tries { (self.old.tries ≤ self.new.tries + 1) × (self.new.tries ≤ self.old.tries) }
     {
         let snaps = self.snaps.as_slice();
         let piece = self
@@ -446,9 +455,9 @@ impl<E: Edit + Drop> UpdateRun<E> {
 
     /// What is done once the fresh node of this place is filled: with the next node, or the SCX.
     #[inline(always)]
-    pub fn filled(&mut self, found: &Found, nth: Nth) -> Result<Next, Turn<Updated>>
+    pub fn filled(&mut self, found: &Found, nth: Nth) -> Result<Next, Stop>
         ensures turn { (c : Call) (b h : History) (part : NodeWord) → IsRun TreeAllows c.layout h → IsTry c b → IsFilledUpTo E.means self.old (from c b) h found.now nth part → part_behind (E.means.pieces self.old.edit found.now self.old.snaps.items self.old.nodes self.old.loaded nth) part ≡ None → GoesOn E.means c h self.new found.now result }
-        ensures same { IsSameUpdate self.old (stands E.means self.new found.now result) }
+        ensures same { IsSameUpdate self.old self.new }
         ensures nearer { (nodes : ℕ) → ComesNearer E.means self.new found.now result nodes (self.old.tries * try_left E.means nodes + (works_after E.means nth + 39)) }
         ensures spends { HasSpent E.means self.old.share self.new found.now result self.old.tries (self.old.tries + 1) }
         ensures tries { self.new.tries ≡ self.old.tries }
@@ -461,9 +470,9 @@ impl<E: Edit + Drop> UpdateRun<E> {
 
     /// Takes an SCX-record.
     #[inline(always)]
-    fn take_scx(&mut self, found: &Found) -> Result<Next, Turn<Updated>>
+    fn take_scx(&mut self, found: &Found) -> Result<Next, Stop>
         ensures turn { (c : Call) (b h : History) → IsRun TreeAllows c.layout h → IsTry c b → CanScx E.means self.old (from c b) h found.now → GoesOn E.means c h self.new found.now result }
-        ensures same { IsSameUpdate self.old (stands E.means self.new found.now result) }
+        ensures same { IsSameUpdate self.old self.new }
         ensures nearer { (nodes : ℕ) → ComesNearer E.means self.new found.now result nodes (self.old.tries * try_left E.means nodes + 39) }
         ensures spends { HasSpent E.means self.old.share self.new found.now result self.old.tries (self.old.tries + 1) }
         ensures tries { self.new.tries ≡ self.old.tries }
@@ -472,7 +481,7 @@ impl<E: Edit + Drop> UpdateRun<E> {
             Some(scx) => Ok(Next::Change(scx)),
             None => {
                 let what = Resource::Scx;
-                Err(Turn::Done(Updated::Full(Full { what, left: 0 })))
+                Err(Stop::Full(Full { what, left: 0 }))
             }
         }
     }
@@ -581,14 +590,33 @@ impl<E: Edit + Drop> UpdateRun<E> {
         })
     }
 
-    /// Begins what the try does next, or else stands as this turn says.
-    fn go_on(&mut self, found: Found, next: Result<Next, Turn<Updated>>) -> Turn<Updated>
-        ensures place { self.new ≡ stands E.means self.old found next }
-        ensures turn { result ≡ turn_of E.means self.old found next }
+    /// Begins what the try does next, or ends it.
+    fn go_on(&mut self, found: Found, next: Result<Next, Stop>) -> Turn<Updated>
+        ensures turn { (c : Call) (h : History) → IsRun TreeAllows c.layout h → GoesOn E.means c h self.old found next → UpdateTurn E.means c h self.new result }
+        ensures same { IsSameUpdate self.old self.new }
+        ensures nearer { (nodes n : ℕ) → ComesNearer E.means self.old found next nodes n → IsNearer E.means self.new nodes result n }
+        ensures spends { (share : Remaining) (nodes scx : ℕ) → HasSpent E.means share self.old found next nodes scx → IsSpending E.means result share self.new nodes scx }
+        ensures tries { (self.old.tries ≤ self.new.tries + 1) × (self.new.tries ≤ self.old.tries) }
     {
         match next {
             Ok(next) => self.begin(found, next),
-            Err(turn) => turn,
+            Err(stop) => self.stop(&found, stop),
+        }
+    }
+
+    /// Ends a try before its SCX, and begins the next if it is lost and there is one.
+    #[cold]
+    pub fn stop(&mut self, found: &Found, stop: Stop) -> Turn<Updated>
+        ensures turn { (c : Call) (h : History) → IsRun TreeAllows c.layout h → MayStop E.means c h self.old found.now stop → UpdateTurn E.means c h self.new result }
+        ensures same { IsSameUpdate self.old self.new }
+        ensures nearer { (nodes : ℕ) → IsNearer E.means self.new nodes result (self.old.tries * try_left E.means nodes) }
+        ensures spends { IsSpending E.means result self.old.share self.new self.old.tries self.old.tries }
+        ensures tries { (self.old.tries ≤ self.new.tries + 1) × (self.new.tries ≤ self.old.tries) }
+    {
+        match stop {
+            Stop::Nothing => Turn::Done(Updated::Done { found: anew(found) }),
+            Stop::Lost { node, scx } => self.lost(node, scx),
+            Stop::Full(full) => Turn::Done(Updated::Full(full)),
         }
     }
 
@@ -625,7 +653,7 @@ impl<E: Edit + Drop> UpdateRun<E> {
             UpdateAt::Look { found, llx } => self.look_on(found, llx, got),
             UpdateAt::Load { found, nth, part } => {
                 let next = self.loaded(&found, nth, part, got.unwrap_or(0));
-                self.begin(found, next)
+                self.go_on(found, Ok(next))
             }
             UpdateAt::Fill { found, nth, part } => self.fill_on(found, nth, part),
             UpdateAt::Scx { found, scx } => self.scx_on(found, scx, got),
@@ -648,7 +676,8 @@ impl<E: Edit + Drop> UpdateRun<E> {
     ghost use Rattle.arena.specs.Words.{node};
     ghost use Rattle.updates.specs.Laws.HandScx.{from};
     ghost use Rattle.updates.specs.Steps.{IsSpending, node_tries, scx_tries, works_after};
-    ghost use Rattle.updates.specs.Next.{IsSameUpdate, placed, next_step, stands, turn_of, fills, update_of, GoesOn, ComesNearer, HasSpent};
+    ghost use Rattle.updates.specs.Next.{IsSameUpdate, placed, next_step, fills, update_of, MayStop, GoesOn, ComesNearer, HasSpent};
+    ghost use Rattle.arena.specs.Share.{Remaining};
     ghost use Rattle.template.specs.Blame.{IsContended};
     ghost use Rattle.updates.specs.Tries.{IsTry};
     ghost use Rattle.prims.specs.Laws.Idle.{IsQuietSince};

@@ -1,7 +1,7 @@
 use Rattle.std.proofs.Common.{sym, ◌∙◌}
 use Rattle.updates.specs.Laws.HandScx.{from}
 use Rattle.updates.proofs.Filling.{fills_next}
-use Rattle.updates.proofs.GoingOn.{goes_on, comes_nearer, has_spent, same_call, fill_goes_on, fill_nearer, fill_spends}
+use Rattle.updates.proofs.GoingOn.{still_nearer, fill_goes_on, fill_nearer, fill_spends}
 use Rattle.updates.proofs.Nearer.{to_next_fill, fewer_fills, past_fills}
 use Rattle.updates.proofs.update.UpdateRun.fill_on.Goals as goal
 
@@ -16,13 +16,10 @@ returns-in-Some-clause-turn g c d b h run try x = fill_goes_on g.E.Edit.means c.
     (fills_next g.E.Edit.means c.args.self.now (from d b) h c.args.found c.args.nth c.args.part x c.in-Some.next g.met.E.Edit.laws.fills (rw (sym c.as_slice-snaps.ensures.value, sym c.piece-piece.ensures) (sym c.behind.ensures ∙ c.in-Some.is)))
 
 pub returns-clause-nearer : goal.returns-clause-nearer
-returns-clause-nearer g c nodes = comes_nearer g.E.Edit.means c.filled-next.new.self c.go_on.new.self c.args.found c.filled-next.result c.go_on.result c.go_on.ensures.place c.go_on.ensures.turn nodes _ _ (c.filled-next.ensures.nearer nodes) (past_fills _ _ _)
+returns-clause-nearer g c nodes = c.go_on.ensures.nearer nodes _ (still_nearer g.E.Edit.means c.filled-next.new.self c.args.found c.filled-next.result nodes _ _ (c.filled-next.ensures.nearer nodes) (past_fills _ _ _))
 
 pub returns-clause-spends : goal.returns-clause-spends
-returns-clause-spends g c = has_spent g.E.Edit.means c.filled-next.new.self c.go_on.new.self c.args.found c.filled-next.result c.go_on.result c.go_on.ensures.place c.go_on.ensures.turn c.args.self.now.share _ _ c.filled-next.ensures.spends
+returns-clause-spends g c = c.go_on.ensures.spends c.args.self.now.share _ _ c.filled-next.ensures.spends
 
 pub returns-clause-turn : goal.returns-clause-turn
-returns-clause-turn g c d b h run try x = goes_on g.E.Edit.means c.filled-next.new.self c.go_on.new.self c.args.found c.filled-next.result c.go_on.result c.go_on.ensures.place c.go_on.ensures.turn d h (c.filled-next.ensures.turn d b h c.args.part run try x (rw (sym c.as_slice-snaps.ensures.value, sym c.piece-piece.ensures) (sym c.behind.ensures ∙ c.in_default.is)))
-
-pub returns-clause-same : goal.returns-clause-same
-returns-clause-same g c = same_call g.E.Edit.means c.filled-next.new.self c.go_on.new.self c.args.found c.filled-next.result c.go_on.result c.go_on.ensures.place c.go_on.ensures.turn c.args.self.now c.filled-next.ensures.same
+returns-clause-turn g c d b h run try x = c.go_on.ensures.turn d h run (c.filled-next.ensures.turn d b h c.args.part run try x (rw (sym c.as_slice-snaps.ensures.value, sym c.piece-piece.ensures) (sym c.behind.ensures ∙ c.in_default.is)))

@@ -1,5 +1,5 @@
 use Rattle.updates.specs.Laws.HandScx.{from}
-use Rattle.updates.proofs.GoingOn.{goes_on, comes_nearer, has_spent, same_call}
+use Rattle.updates.proofs.GoingOn.{still_nearer}
 use Rattle.arena.specs.declared.machine.Turn.TheVariants.{Done}
 use Rattle.std.proofs.Common.{sym, ◌∙◌, ap}
 use Rattle.updates.proofs.Nearer.{below, looked_on, from_look, to_tries}
@@ -13,7 +13,7 @@ pub returns-in-Ask-clause-nearer : goal.returns-in-Ask-clause-nearer
 returns-in-Ask-clause-nearer g c nodes = looked_on _ _ _ _ _ (rw c.in-Ask.is at c.next.ensures.nearer nodes tt)
 
 pub returns-in-Done-Snapshot-clause-nearer : goal.returns-in-Done-Snapshot-clause-nearer
-returns-in-Done-Snapshot-clause-nearer g c nodes = comes_nearer g.E.Edit.means c.looked-next.new.self c.go_on.new.self c.args.found c.looked-next.result c.go_on.result c.go_on.ensures.place c.go_on.ensures.turn nodes _ _ (c.looked-next.ensures.nearer nodes) (from_look _ _ _ _)
+returns-in-Done-Snapshot-clause-nearer g c nodes = c.go_on.ensures.nearer nodes _ (still_nearer g.E.Edit.means c.looked-next.new.self c.args.found c.looked-next.result nodes _ _ (c.looked-next.ensures.nearer nodes) (from_look _ _ _ _))
 
 pub returns-in-Done-Finalized-clause-nearer : goal.returns-in-Done-Finalized-clause-nearer
 returns-in-Done-Finalized-clause-nearer g c nodes = below c.lost.result _ _ _ (c.lost.ensures.nearer nodes) (to_tries _ _)
@@ -28,11 +28,11 @@ pub returns-in-Done-Snapshot-clause-turn : goal.returns-in-Done-Snapshot-clause-
 returns-in-Done-Snapshot-clause-turn g c d b begin h run try x ready =
     let w = c.next.ensures.turn (from (from d b) begin) h run ready in
     let s = snapped g.E.Edit.means c.args.self.now c.args.llx c.next.new.self c.args.found begin (from d b) h c.next.result x c.next.ensures.same w c.in-Done-Snapshot.snap (c.in-Done-Snapshot.is ∙ ap (λ a. Done a) c.in-Done-Snapshot.field-0-is) in
-    goes_on g.E.Edit.means c.looked-next.new.self c.go_on.new.self c.args.found c.looked-next.result c.go_on.result c.go_on.ensures.place c.go_on.ensures.turn d h (c.looked-next.ensures.turn d b h run try (can_look g.E.Edit.means c.args.self.now c.args.llx c.next.new.self c.args.found begin (from d b) h c.next.result x c.next.ensures.same w)
+    c.go_on.ensures.turn d h run (c.looked-next.ensures.turn d b h run try (can_look g.E.Edit.means c.args.self.now c.args.llx c.next.new.self c.args.found begin (from d b) h c.next.result x c.next.ensures.same w)
     (rw (← c.in-Done-Snapshot.snap-is) at s.0) (rw (← c.in-Done-Snapshot.snap-is) at s.1))
 
 pub returns-in-Done-Snapshot-clause-spends : goal.returns-in-Done-Snapshot-clause-spends
-returns-in-Done-Snapshot-clause-spends g c = has_spent g.E.Edit.means c.looked-next.new.self c.go_on.new.self c.args.found c.looked-next.result c.go_on.result c.go_on.ensures.place c.go_on.ensures.turn c.args.self.now.share _ _ c.looked-next.ensures.spends
+returns-in-Done-Snapshot-clause-spends g c = c.go_on.ensures.spends c.args.self.now.share _ _ c.looked-next.ensures.spends
 
 pub returns-in-Done-Finalized-clause-turn : goal.returns-in-Done-Finalized-clause-turn
 returns-in-Done-Finalized-clause-turn g c d b begin h run try x ready =
@@ -51,6 +51,3 @@ returns-in-Done-Fail-clause-turn g c d b begin h run try x ready =
     (rw (c.in-Done-Fail.is ∙ ap (λ a. Done a) c.in-Done-Fail.field-0-is) at w) in
     let t = look_lost g.E.Edit.means c.args.self.now d b h c.in-Done-Fail.node.0 c.in-Done-Fail.scx.0 try can.begins can.quiet way in
     c.lost-in-Done-Fail.ensures.turn d h run t.0 t.1 (rw (← c.in-Done-Fail.node-is, ← c.in-Done-Fail.scx-is) at t.2)
-
-pub returns-in-Done-Snapshot-clause-same : goal.returns-in-Done-Snapshot-clause-same
-returns-in-Done-Snapshot-clause-same g c = same_call g.E.Edit.means c.looked-next.new.self c.go_on.new.self c.args.found c.looked-next.result c.go_on.result c.go_on.ensures.place c.go_on.ensures.turn c.args.self.now c.looked-next.ensures.same

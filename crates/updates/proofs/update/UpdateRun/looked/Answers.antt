@@ -1,12 +1,12 @@
 use Rattle.std.proofs.Common.{refl, length}
 use Rattle.updates.specs.Laws.HandScx.{from}
-use Rattle.updates.specs.Next.{turn_of}
-use Rattle.updates.proofs.Nearer.{below, one_more, one_or_full}
+use Rattle.updates.proofs.Nearer.{one_more, one_or_full}
+use Rattle.updates.proofs.GoingOn.{still_nearer}
 use Rattle.updates.proofs.Looking.{looked_one_more, pushed}
 use Rattle.updates.proofs.update.UpdateRun.looked.Goals as goal
 
 pub returns-clause-nearer : goal.returns-clause-nearer
-returns-clause-nearer g c nodes = below (turn_of g.E.Edit.means c.look.new.self c.args.found.now c.look.result) _ _ _ (c.look.ensures.nearer nodes) (one_more _ _ _ _ _ g.met.E.Edit.laws.bounds.small (one_or_full c.try_push-fits.result (λ v. length v.items) _ _ c.try_push-fits.ensures.len c.try_push-fits.ensures.err c.try_push-fits.ensures.full))
+returns-clause-nearer g c nodes = still_nearer g.E.Edit.means c.look.new.self c.args.found.now c.look.result nodes _ _ (c.look.ensures.nearer nodes) (one_more _ _ _ _ _ g.met.E.Edit.laws.bounds.small (one_or_full c.try_push-fits.result (λ v. length v.items) _ _ c.try_push-fits.ensures.len c.try_push-fits.ensures.err c.try_push-fits.ensures.full))
 
 pub returns-clause-turn : goal.returns-clause-turn
 returns-clause-turn g c d b h run try x named is = c.look.ensures.turn d b h run try (looked_one_more g.E.Edit.means c.args.self.now _ (from d b) h c.args.found.now c.args.snap c.args.snap.node.0 refl refl

@@ -1,7 +1,5 @@
 use Rattle.std.proofs.Common.{◌≡◌, sym, ◌∙◌, inl}
 use Rattle.updates.specs.declared.update.UpdateAt.TheVariants.{Start, Walk, Look, Load, Fill, Scx}
-use Rattle.std.specs.Prelude.{Ok}
-use Rattle.updates.proofs.GoingOn.{goes_on}
 use Rattle.updates.proofs.Stepping.{at_start, at_walk, at_look, at_load, at_fill, at_scx}
 use Rattle.updates.proofs.update.UpdateRun.step.Goals as goal
 
@@ -22,7 +20,7 @@ returns-in-Look-clause-turn g c d h run r =
 pub returns-in-Load-clause-turn : goal.returns-in-Load-clause-turn
 returns-in-Load-clause-turn g c d h run r =
     let t = at_load g.E.Edit.means c.args.self.now d h c.args.got c.in-Load.found c.in-Load.nth c.in-Load.part c.in-Load.is r in
-    goes_on g.E.Edit.means c.loaded-next.new.self c.begin.new.self c.in-Load.found (Ok c.loaded-next.result) c.begin.result c.begin.ensures.place c.begin.ensures.asks d h (c.loaded-next.ensures.turn d t.0 h run t.1 t.2 (t.3 ∙ sym c.unwrap_or.ensures))
+    c.go_on.ensures.turn d h run (c.loaded-next.ensures.turn d t.0 h run t.1 t.2 (t.3 ∙ sym c.unwrap_or.ensures))
 
 pub returns-in-Fill-clause-turn : goal.returns-in-Fill-clause-turn
 returns-in-Fill-clause-turn g c d h run r =

@@ -1,17 +1,15 @@
-use Rattle.std.proofs.Common.{◌≡◌, ◌≢◌, refl, rules, inl, subst, sym}
-use Rattle.template.specs.declared.walk.Found.{Found}
-use Rattle.updates.specs.Known.{HasNothingToMake}
+use Rattle.std.proofs.Common.{◌≡◌, ◌≢◌, refl, rules, inl}
 use Rattle.updates.specs.declared.edit.Need.TheVariants.{Nothing}
 use Rattle.updates.proofs.Looking.{may_look}
 use Rattle.updates.specs.Laws.HandScx.{from}
-use Rattle.updates.specs.Next.{turn_of}
 use Rattle.updates.proofs.Turns.{at_rest, nothing_entered, untouched_later}
 use Rattle.updates.proofs.Widened.{found_wider}
-use Rattle.updates.proofs.Nearer.{below, from_share}
+use Rattle.updates.proofs.GoingOn.{still_nearer}
+use Rattle.updates.proofs.Nearer.{from_share}
 use Rattle.updates.proofs.update.UpdateRun.test_share.Goals as goal
 
 pub returns-clause-nearer : goal.returns-clause-nearer
-returns-clause-nearer g c nodes = below (turn_of g.E.Edit.means c.look.new.self c.args.found.now c.look.result) _ _ _ (c.look.ensures.nearer nodes) (from_share _ _ _ _)
+returns-clause-nearer g c nodes = still_nearer g.E.Edit.means c.look.new.self c.args.found.now c.look.result nodes _ _ (c.look.ensures.nearer nodes) (from_share _ _ _ _)
 
 pub returns-clause-turn : goal.returns-clause-turn
 returns-clause-turn g c d b h run try first x quiet found =
@@ -22,11 +20,11 @@ pub returns-then-eq-clause-turn : goal.returns-then-eq-clause-turn
 returns-then-eq-clause-turn g c d b h run try first x quiet found =
     let none : c.need-need.result ≡ Nothing = search rules in (
       at_rest g.E.Edit.means c.args.self.now d b h x,
-      inl (subst (λ (f : Found). HasNothingToMake g.E.Edit.means c.args.self.now.edit d h f) (sym c.anew-found.ensures) record {
+      inl record {
         has_found = found_wider d b try.since h _ c.args.found.now found;
         needless = rw c.need-need.ensures at none;
         none = nothing_entered g.E.Edit.means c.args.self.now d b h try x quiet;
-      }),
+      },
     )
 
 pub returns-in-Some-clause-turn : goal.returns-in-Some-clause-turn

@@ -1,22 +1,19 @@
 use Rattle.updates.specs.Laws.HandScx.{from}
-use Rattle.updates.proofs.GoingOn.{goes_on, comes_nearer, has_spent, same_call}
+use Rattle.updates.proofs.GoingOn.{still_nearer}
 use Rattle.updates.proofs.Nearer.{from_walk}
 use Rattle.updates.proofs.Turns.{walks_on, walk_rests, walk_found}
 use Rattle.updates.proofs.update.UpdateRun.walk_on.Goals as goal
 
 pub returns-in-Done-clause-nearer : goal.returns-in-Done-clause-nearer
-returns-in-Done-clause-nearer g c nodes fits = comes_nearer g.E.Edit.means c.test_share-next.new.self c.go_on.new.self c.in-Done.found c.test_share-next.result c.go_on.result c.go_on.ensures.place c.go_on.ensures.turn nodes _ _ (c.test_share-next.ensures.nearer nodes) (from_walk _ _ _)
+returns-in-Done-clause-nearer g c nodes fits = c.go_on.ensures.nearer nodes _ (still_nearer g.E.Edit.means c.test_share-next.new.self c.in-Done.found c.test_share-next.result nodes _ _ (c.test_share-next.ensures.nearer nodes) (from_walk _ _ _))
 
 pub returns-in-Ask-clause-turn : goal.returns-in-Ask-clause-turn
 returns-in-Ask-clause-turn g c d b h run try first x ready = (b, try, first, walks_on g.E.Edit.means c.args.self.now c.args.walk c.next.new.self (from d b) h c.next.result c.in-Ask.step x c.next.ensures.same c.in-Ask.is (c.next.ensures.turn (from d b) h run ready))
 
 pub returns-in-Done-clause-turn : goal.returns-in-Done-clause-turn
-returns-in-Done-clause-turn g c d b h run try first x ready = goes_on g.E.Edit.means c.test_share-next.new.self c.go_on.new.self c.in-Done.found c.test_share-next.result c.go_on.result c.go_on.ensures.place c.go_on.ensures.turn d h (c.test_share-next.ensures.turn d b h run try first
+returns-in-Done-clause-turn g c d b h run try first x ready = c.go_on.ensures.turn d h run (c.test_share-next.ensures.turn d b h run try first
     (walk_rests g.E.Edit.means c.args.self.now c.args.walk (from d b) h c.args.got x ready) x.quiet
     (walk_found g.E.Edit.means c.args.self.now c.args.walk c.next.new.self (from d b) h c.next.result c.in-Done.found x c.next.ensures.same c.in-Done.is (c.next.ensures.turn (from d b) h run ready)))
 
 pub returns-in-Done-clause-spends : goal.returns-in-Done-clause-spends
-returns-in-Done-clause-spends g c = has_spent g.E.Edit.means c.test_share-next.new.self c.go_on.new.self c.in-Done.found c.test_share-next.result c.go_on.result c.go_on.ensures.place c.go_on.ensures.turn c.args.self.now.share _ _ c.test_share-next.ensures.spends
-
-pub returns-in-Done-clause-same : goal.returns-in-Done-clause-same
-returns-in-Done-clause-same g c = same_call g.E.Edit.means c.test_share-next.new.self c.go_on.new.self c.in-Done.found c.test_share-next.result c.go_on.result c.go_on.ensures.place c.go_on.ensures.turn c.args.self.now c.test_share-next.ensures.same
+returns-in-Done-clause-spends g c = c.go_on.ensures.spends c.args.self.now.share _ _ c.test_share-next.ensures.spends
