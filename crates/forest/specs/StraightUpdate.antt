@@ -1,5 +1,5 @@
 -- Calls that stand at a place of an update, of whatever machine updates.
-use Rattle.std.specs.Prelude.{◌≡◌, ℕ, List, Option, None, Result}
+use Rattle.std.specs.Prelude.{◌≡◌, ℕ, List, Option, None, Result, Ok, Err}
 use Rattle.arena.specs.declared.layout.Layout.{Layout}
 use Rattle.arena.specs.declared.machine.Turn.{Turn}
 use Rattle.arena.specs.declared.step.Step.{Step}
@@ -9,9 +9,10 @@ use Rattle.spelling.specs.TreeShape.{TreeAllows}
 use Rattle.updates.specs.Edits.{EditMeaning}
 use Rattle.updates.specs.Known.{UpdateIsReady, UpdateWaits, UpdateAnswers}
 use Rattle.template.specs.declared.walk.Found.{Found}
-use Rattle.updates.specs.Next.{placed, next_step, stands, turn_of}
+use Rattle.updates.specs.Next.{placed, next_step, MayStop}
 use Rattle.updates.specs.Steps.{Spends, node_tries, scx_tries}
 use Rattle.updates.specs.declared.update.Next.{Next}
+use Rattle.updates.specs.declared.update.Stop.{Stop}
 use Rattle.updates.specs.declared.update.UpdateRun.{UpdateRun}
 use Rattle.updates.specs.declared.update.Updated.{Updated}
 use Rattle.forest.specs.declared.view.SeatedPass.{SeatedPass}
@@ -51,6 +52,15 @@ module _ {M E : Type 0} (allows : Layout → History → ℕ → Type 0) (ready 
     pub answers : UpdateAnswers e m u.call h a
     pub course : Trace allows waits same u.call u.first (u.with_run old) h
 
+  -- so too where its try may end so behind that step
+  pub record HasStopped (u : Updater) (m : UpdateRun E) (f : Found) (stop : Stop) (h : History) : Type 0 where
+    pub old : UpdateRun E
+    pub got : Option ℕ
+    pub was : ready (u.with_run old) u.call h got
+    pub goes : HasGoneOn old m m.tries m.tries
+    pub may : MayStop e u.call h m f stop
+    pub course : Trace allows waits same u.call u.first (u.with_run old) h
+
   module _ (u : Updater) (ps : List SeatedPass) where
     -- its update has not begun
     abbrev pub UpdaterBegins : UpdateRun E → Type 0
@@ -76,6 +86,11 @@ module _ {M E : Type 0} (allows : Layout → History → ℕ → Type 0) (ready 
     abbrev pub UpdaterTries : UpdateRun E → Found → Next → Type 0
     UpdaterTries m f next = UpdaterWaits (placed e m f next) (next_step e m f next)
 
-    -- so it does, or it stands as the turn says that came in place of that
-    abbrev pub UpdaterGoesOn : UpdateRun E → Found → Result Next (Turn Updated) → Type 0
-    UpdaterGoesOn m f next = UpdaterStands (stands e m f next) (turn_of e m f next)
+    -- its try may end so, behind the last step that it was told of
+    abbrev pub UpdaterStops : UpdateRun E → Found → Stop → Type 0
+    UpdaterStops m f stop = HoldsForCall allows ps u.call (λ h. HasStopped u m f stop h)
+
+    -- it waits for the first step of what its try does next, or the try may end so
+    abbrev pub UpdaterGoesOn : UpdateRun E → Found → Result Next Stop → Type 0
+    UpdaterGoesOn m f (Ok next) = UpdaterTries m f next
+    UpdaterGoesOn m f (Err stop) = UpdaterStops m f stop

@@ -5,23 +5,22 @@ use Rattle.arena.specs.declared.machine.Turn.{Turn}
 use Rattle.arena.specs.declared.machine.Turn.TheVariants.{Ask, Done}
 use Rattle.arena.specs.declared.word.NodeWord.{NodeWord}
 use Rattle.arena.specs.History.{History}
-use Rattle.arena.specs.Machines.{Call, MatchTurn}
+use Rattle.arena.specs.Machines.{Call}
 use Rattle.arena.specs.Share.{Remaining}
 use Rattle.template.specs.declared.walk.Found.{Found}
 use Rattle.updates.specs.Edits.{EditMeaning}
 use Rattle.updates.specs.Known.{CanFill, UpdateTurn}
 use Rattle.updates.specs.Laws.HandScx.{from}
-use Rattle.updates.specs.Next.{IsSameUpdate, placed, next_step, fills, GoesOn, ComesNearer, HasSpent}
-use Rattle.updates.specs.Steps.{IsNearer, IsSpending, Spends, fills_left, node_tries, scx_tries, try_left, update_left}
+use Rattle.updates.specs.Next.{IsSameUpdate, placed, next_step, fills, GoesOn, ComesNearer, HasSpent, left_then}
+use Rattle.updates.specs.Steps.{IsNearer, IsSpending, Spends, fills_left, try_left}
 use Rattle.updates.specs.Tries.{IsTry}
 use Rattle.updates.specs.declared.edit.Nth.{Nth}
 use Rattle.updates.specs.declared.update.Next.{Next}
-use Rattle.updates.specs.declared.update.Next.TheVariants.{Look, Load, Fill as FillNext, Change}
+use Rattle.updates.specs.declared.update.Next.TheVariants.{Look, Wait, Load, Fill as FillNext, Change}
 use Rattle.updates.specs.declared.update.Stop.{Stop}
 use Rattle.updates.specs.declared.update.UpdateAt.TheVariants.{Fill}
 use Rattle.updates.specs.declared.update.UpdateRun.{UpdateRun}
 use Rattle.updates.specs.declared.update.Updated.{Updated}
-use Rattle.updates.proofs.Nearer.{below}
 use Rattle.updates.proofs.Turns.{fills_word}
 
 module _ {E : Type 0} (e : EditMeaning E) (m now : UpdateRun E) (f : Found) where
@@ -49,15 +48,22 @@ module _ {E : Type 0} (e : EditMeaning E) (m now : UpdateRun E) (f : Found) wher
 -- where it stands once that has begun, it makes the same update
 pub placed_same : {E : Type 0} (e : EditMeaning E) (m : UpdateRun E) (f : Found) (next : Next) → IsSameUpdate m (placed e m f next)
 placed_same e m f (Look n) = (refl, refl)
+placed_same e m f (Wait n b scx) = (refl, refl)
 placed_same e m f (Load nth part) = (refl, refl)
 placed_same e m f (FillNext nth) = (refl, refl)
 placed_same e m f (Change scx) = (refl, refl)
 
 pub placed_tries : {E : Type 0} (e : EditMeaning E) (m : UpdateRun E) (f : Found) (next : Next) → (placed e m f next).tries ≡ m.tries
 placed_tries e m f (Look n) = refl
+placed_tries e m f (Wait n b scx) = refl
 placed_tries e m f (Load nth part) = refl
 placed_tries e m f (FillNext nth) = refl
 placed_tries e m f (Change scx) = refl
+
+-- so much is left, where less is
+pub weighs_next : {E : Type 0} (e : EditMeaning E) (m : UpdateRun E) (f : Found) (next : Result Next Stop) (nodes n : ℕ) → ComesNearer e m f next nodes n → left_then e m f next nodes ≤ n
+weighs_next e m f (Ok next) nodes n x = omega (arith, x)
+weighs_next e m f (Err stop) nodes n x = x
 
 -- what is below a number is below a greater one
 pub still_nearer : {E : Type 0} (e : EditMeaning E) (m : UpdateRun E) (f : Found) (next : Result Next Stop) (nodes a b : ℕ) → ComesNearer e m f next nodes a → a ≤ b → ComesNearer e m f next nodes b

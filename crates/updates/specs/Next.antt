@@ -2,17 +2,17 @@
 use Rattle.std.specs.Prelude.{◌≡◌, ℕ, suc, ◌*◌, ◌<◌, ◌≤◌, length, Result, Ok, Err}
 use Rattle.arena.specs.declared.machine.Turn.TheVariants.{Ask}
 use Rattle.arena.specs.declared.step.Access.TheVariants.{Load as LoadAccess, Store}
-use Rattle.arena.specs.declared.step.Kind.TheVariants.{LoadMarked, LoadSettled, Fill as FillKind}
+use Rattle.arena.specs.declared.step.Kind.TheVariants.{LoadMarked, LoadState, LoadSettled, Fill as FillKind}
 use Rattle.arena.specs.declared.step.Step.{Step}
 use Rattle.arena.specs.declared.word.NodeWord.{NodeWord}
 use Rattle.arena.specs.declared.word.NodeWord.TheVariants.{Head, Marked as MarkedWord}
-use Rattle.arena.specs.declared.word.ScxWord.TheVariants.{Plan as PlanWord}
+use Rattle.arena.specs.declared.word.ScxWord.TheVariants.{Plan as PlanWord, State as StateWord}
 use Rattle.arena.specs.declared.word.Word.TheVariants.{Node as NodeOf, Scx as ScxOf}
 use Rattle.arena.specs.History.{History}
 use Rattle.arena.specs.Machines.{Call}
 use Rattle.arena.specs.Share.{Remaining}
 use Rattle.prims.specs.Snap.{child_of, snap_at}
-use Rattle.prims.specs.declared.llx.LlxAt.TheVariants.{Marked}
+use Rattle.prims.specs.declared.llx.LlxAt.TheVariants.{Marked, StateAgain}
 use Rattle.prims.specs.declared.scx.ScxAt.TheVariants.{Plan as AtPlan}
 use Rattle.prims.specs.declared.update.Update.{Update}
 use Rattle.template.specs.declared.walk.Found.{Found}
@@ -24,7 +24,7 @@ use Rattle.updates.specs.Tries.{IsTry}
 use Rattle.template.specs.Blame.{IsContended}
 use Rattle.updates.specs.declared.edit.Nth.{Nth}
 use Rattle.updates.specs.declared.update.Next.{Next}
-use Rattle.updates.specs.declared.update.Next.TheVariants.{Look as LookNext, Load as LoadNext, Fill as FillNext, Change}
+use Rattle.updates.specs.declared.update.Next.TheVariants.{Look as LookNext, Wait, Load as LoadNext, Fill as FillNext, Change}
 use Rattle.updates.specs.declared.update.UpdateAt.TheVariants.{Look, Load, Fill, Scx}
 use Rattle.updates.specs.declared.update.UpdateRun.{UpdateRun}
 use Rattle.updates.specs.declared.update.Stop.{Stop}
@@ -53,6 +53,7 @@ module _ {E : Type 0} (e : EditMeaning E) where
   -- the update where it stands once this has begun
   abbrev pub placed : UpdateRun E → Found → Next → UpdateRun E
   placed m f (LookNext n) = record m { at = Look f record { node = n; at = Marked } }
+  placed m f (Wait n b scx) = record m { at = Look f record { node = n; at = StateAgain b scx } }
   placed m f (LoadNext nth part) = record m { at = Load f nth part }
   placed m f (FillNext nth) = record m { at = Fill f nth Head }
   placed m f (Change scx) = record m { at = Scx f record { scx = scx; call = m.call; update = update_of m f; at = AtPlan } }
@@ -60,6 +61,7 @@ module _ {E : Type 0} (e : EditMeaning E) where
   -- the step with which it begins
   abbrev pub next_step : UpdateRun E → Found → Next → Step
   next_step m f (LookNext n) = record { kind = LoadMarked; word = NodeOf n MarkedWord; access = LoadAccess }
+  next_step m f (Wait n b scx) = record { kind = LoadState; word = ScxOf scx StateWord; access = LoadAccess }
   next_step m f (LoadNext nth part) = record { kind = LoadSettled; word = NodeOf (e.copies m.edit f m.snaps.items) part; access = LoadAccess }
   next_step m f (FillNext nth) = fills m f nth Head
   next_step m f (Change scx) = record { kind = FillKind; word = ScxOf scx PlanWord; access = Store (plan_over (length m.snaps.items) (e.side m.edit f)) }

@@ -39,8 +39,18 @@ pub enum Stop {
 pub enum Next {
     /// It looks at this node.
     Look(NodeNo),
+    /// It looks again at the state of an SCX-record that is in the way of its look at this node,
+    /// which was marked or not.
+    Wait {
+        node: NodeNo,
+        marked: bool,
+        scx: ScxNo,
+    },
     /// It loads a settled word for the fresh node of this place.
-    Load { nth: Nth, part: NodeWord },
+    Load {
+        nth: Nth,
+        part: NodeWord,
+    },
     /// It fills the fresh node of this place, from its head on.
     Fill(Nth),
     /// It makes its SCX, with this SCX-record.
@@ -527,12 +537,13 @@ impl<E: Edit + Drop> UpdateRun<E> {
     }
 
     /// Begins what the try does next.
-    fn begin(&mut self, found: Found, next: Next) -> Turn<Updated>
+    pub fn begin(&mut self, found: Found, next: Next) -> Turn<Updated>
         ensures place { self.new ≡ placed E.means self.old found next }
         ensures asks { result ≡ Turn.Ask (next_step E.means self.old found next) }
     {
         match next {
             Next::Look(node) => self.begin_look(found, node),
+            Next::Wait { node, marked, scx } => self.begin_wait(found, node, marked, scx),
             Next::Load { nth, part } => self.begin_load(found, nth, part),
             Next::Fill(nth) => self.fill(found, nth, NodeWord::Head),
             Next::Change(scx) => self.begin_scx(found, scx),
@@ -550,6 +561,21 @@ impl<E: Edit + Drop> UpdateRun<E> {
         Turn::Ask(Step {
             kind: Kind::LoadMarked,
             word: Word::Node(node, NodeWord::Marked),
+            access: Access::Load,
+        })
+    }
+
+    /// Begins the second look at a state.
+    fn begin_wait(&mut self, found: Found, node: NodeNo, marked: bool, scx: ScxNo) -> Turn<Updated>
+        ensures place { self.new ≡ placed E.means self.old found (Next.Wait node marked scx) }
+        ensures asks { result ≡ Turn.Ask (next_step E.means self.old found (Next.Wait node marked scx)) }
+    {
+        let at = LlxAt::StateAgain { marked, scx };
+        let llx = LlxRun { node, at };
+        self.at = UpdateAt::Look { found, llx };
+        Turn::Ask(Step {
+            kind: Kind::LoadState,
+            word: Word::Scx(scx, ScxWord::State),
             access: Access::Load,
         })
     }

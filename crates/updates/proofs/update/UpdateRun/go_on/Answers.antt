@@ -1,4 +1,3 @@
-use Rattle.std.proofs.Common.{◌≡◌}
 use Rattle.updates.proofs.GoingOn.{goes_on, comes_nearer, has_spent, spends_on}
 use Rattle.updates.proofs.Nearer.{below}
 use Rattle.updates.proofs.update.UpdateRun.go_on.Goals as goal

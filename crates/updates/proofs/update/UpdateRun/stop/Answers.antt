@@ -1,4 +1,3 @@
-use Rattle.std.proofs.Common.{◌≡◌}
 use Rattle.updates.proofs.update.UpdateRun.stop.Goals as goal
 
 pub returns-in-Nothing-clause-turn : goal.returns-in-Nothing-clause-turn
