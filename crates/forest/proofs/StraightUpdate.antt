@@ -1,11 +1,11 @@
 -- From place to place of an update, of whatever machine updates.
-use Rattle.std.proofs.Common.{◌≡◌, ℕ, suc, true, ap, subst, ◌+◌, ◌<◌, ◌≤◌, List, Option, None, Some, inl, refl, sym, arith, ◌∙◌}
+use Rattle.std.proofs.Common.{◌≡◌, ℕ, suc, Bool, true, ap, subst, ◌+◌, ◌<◌, ◌≤◌, List, Option, None, Some, inl, refl, sym, arith, ◌∙◌}
 use Rattle.std.specs.Prelude.{Result, Ok, Err, IfOk}
 use Rattle.arena.specs.declared.layout.Layout.{Layout}
 use Rattle.arena.specs.declared.machine.Turn.{Turn}
 use Rattle.arena.specs.declared.machine.Turn.TheVariants.{Ask, Done}
 use Rattle.arena.specs.declared.number.NodeNo.{NodeNo}
-use Rattle.arena.specs.declared.step.Kind.TheVariants.{LoadMarked, LoadSettled}
+use Rattle.arena.specs.declared.step.Kind.TheVariants.{LoadMarked, LoadSettled, LoadState}
 use Rattle.arena.specs.declared.step.Step.{Step}
 use Rattle.arena.specs.declared.word.NodeWord.TheVariants.{Head, Key, Value, Child}
 use Rattle.arena.specs.declared.word.Side.TheVariants.{Right}
@@ -29,16 +29,16 @@ use Rattle.updates.specs.declared.edit.Piece.TheVariants.{Leaf, Fork}
 use Rattle.updates.specs.declared.update.Updated.TheVariants.{Done as IsDone}
 use Rattle.updates.specs.Pieces.{fills_behind, nth_node, part_behind, word_of, HasPlace}
 use Rattle.updates.specs.Sound.{FillsWell, IsAtFound}
-use Rattle.updates.proofs.Lemmas.{fills_next, fills_word, scx_asks, scx_done}
+use Rattle.updates.proofs.Lemmas.{fills_next, fills_word, placed_same, scx_asks, scx_done}
 use Rattle.forest.specs.declared.straight.changing.Change.{Change}
 use Rattle.forest.specs.StraightChange.{Changer, ChangerWaits, ChangerIsTold, changing_at, scx_fill}
 use Rattle.arena.specs.History.{History, value}
 use Rattle.arena.specs.Machines.{Call, IsRun}
-use Rattle.arena.specs.Words.{marked, node}
+use Rattle.arena.specs.Words.{marked, node, state}
 use Rattle.arena.proofs.Lemmas.{ends_self}
 use Rattle.prims.specs.Laws.Idle.{quiet_at_start}
 use Rattle.prims.specs.Llx.Known.{load, IsSnapshot}
-use Rattle.prims.specs.declared.llx.LlxAt.TheVariants.{Marked}
+use Rattle.prims.specs.declared.llx.LlxAt.TheVariants.{Marked, StateAgain}
 use Rattle.prims.specs.declared.llx.LlxRun.{LlxRun}
 use Rattle.prims.specs.declared.snap.Snap.{Snap}
 use Rattle.spelling.specs.TreeShape.{TreeAllows}
@@ -53,11 +53,13 @@ use Rattle.updates.specs.Edits.{EditMeaning}
 use Rattle.updates.specs.Known.{Begins, CanFill, CanLook, IsFilledUpTo, IsNeeded, IsUntouched, Loads, Looks, UpdateAnswers, UpdateIsReady, UpdateWaits, UpdateTurn, Walks, copied}
 use Rattle.updates.specs.Laws.HandScx.{from}
 use Rattle.updates.specs.Laws.Kept.{idle_over}
-use Rattle.updates.specs.Steps.{IsSpending, IsWanted, fills_left, node_tries, scx_tries, update_left, works_after}
+use Rattle.updates.specs.Steps.{IsSpending, IsWanted, Spends, fills_left, node_tries, scx_tries, update_left, works_after}
 use Rattle.updates.specs.Tries.{IsTry}
-use Rattle.updates.specs.Next.{placed, next_step, stands, turn_of, update_of}
+use Rattle.updates.specs.Next.{IsSameUpdate, placed, next_step, update_of, MayStop, GoesOn, HasSpent, left_then}
+use Rattle.updates.specs.declared.update.Stop.{Stop}
+use Rattle.arena.specs.Share.{Remaining}
 use Rattle.updates.specs.declared.update.Next.{Next}
-use Rattle.updates.specs.declared.update.Next.TheVariants.{Look as LookNext, Load as LoadNext, Fill as FillNext, Change as ChangeNext}
+use Rattle.updates.specs.declared.update.Next.TheVariants.{Look as LookNext, Wait as WaitNext, Load as LoadNext, Fill as FillNext, Change as ChangeNext}
 use Rattle.updates.specs.declared.update.UpdateAt.TheVariants.{Start, Walk, Look, Fill, Scx}
 use Rattle.updates.specs.declared.edit.Look.TheVariants.{At}
 use Rattle.prims.specs.declared.update.Update.{Update}
@@ -69,7 +71,7 @@ use Rattle.prims.specs.Laws.Idle.{IsQuietSince}
 use Rattle.forest.specs.declared.view.SeatedPass.{SeatedPass}
 use Rattle.forest.specs.StraightLlx.{llx_at}
 use Rattle.forest.specs.StraightLook.{Looker, LookerWaits, LookerSnaps}
-use Rattle.forest.specs.StraightUpdate.{Updater, UpdaterBegins, UpdaterIsTold, UpdaterTries, UpdaterWaits, UpdaterStands}
+use Rattle.forest.specs.StraightUpdate.{Updater, UpdaterBegins, UpdaterGoesOn, UpdaterIsTold, UpdaterStops, UpdaterTries, UpdaterWaits, UpdaterStands}
 use Rattle.forest.specs.StraightWalk.{Walker, WalkerWaits, WalkerFinds}
 use Rattle.forest.specs.TableRule.{history_of}
 use Rattle.forest.specs.Traces.{goes_on, weight}
@@ -77,6 +79,10 @@ use Rattle.forest.specs.Traces.{goes_on, weight}
 -- an update is what its parts are
 pub update_is : (u : Update) (snaps : List Snap) (plan : PlanOf) (old fresh : NodeNo) → snaps ≡ u.snaps → plan ≡ u.plan → old ≡ u.old → fresh ≡ u.fresh → u ≡ record { snaps = snaps; plan = plan; old = old; fresh = fresh }
 update_is u snaps plan old fresh is_snaps is_plan is_old is_fresh i = record { snaps = sym is_snaps i; plan = sym is_plan i; old = sym is_old i; fresh = sym is_fresh i }
+
+-- what is spent up to the end of a try, and behind it
+joined_spends : (most : ℕ) (old mid now : Remaining) (nodes nodes_then scx scx_then tries : ℕ) → Spends most old mid nodes tries scx tries → Spends most mid now tries nodes_then tries scx_then → Spends most old now nodes nodes_then scx scx_then
+joined_spends most old mid now nodes nodes_then scx scx_then tries x y = (let a = x.0 in let b = y.0 in omega (arith, a, b), let a = x.1 in let b = y.1 in omega (arith, a, b))
 
 -- a fresh node that is needed has a place
 has_place : (need : Need) (nth : Nth) → IsNeeded need nth → HasPlace need nth
@@ -135,13 +141,44 @@ module _ {M E : Type 0} (allows : Layout → History → ℕ → Type 0) (ready 
             ),
           )
 
-  -- behind its walk it goes on as its turn says
-  pub finds : (ps : List SeatedPass) (m now : UpdateRun E) (key : ℕ) (f : Found) (turn : Turn Updated) → e.goal m.edit ≡ ToKey key → now.edit ≡ m.edit → now.call ≡ m.call → IsSpending e turn m.share now (m.tries + 1) (m.tries + 1)
-      → ((b h : History) → IsRun TreeAllows u.call.layout h → IsTry u.call b → IsUntouched u.call b m.share → Begins e m (from u.call b) h → IsQuietSince u.call.layout u.call.pass b h → HasFound (e.goal m.edit) (from u.call b) h f → UpdateTurn e u.call h now turn)
-      → WalkerFinds allows ready waits same layout number (walker m) ps key f → UpdaterStands allows ready waits same e layout number u ps now turn
+  -- what its try does next, once it has told so and no more of the share is taken than may
+  module _ (ps : List SeatedPass) (m : UpdateRun E) (f : Found) where
+    goes_from : (old : UpdateRun E) (h : History) (got : Option ℕ) (next : Next) → ready (u.with_run old) u.call h got → IsSameUpdate old m → HasSpent e old.share m f (Ok next) (node_tries old old.at) (scx_tries old old.at) → GoesOn e u.call h m f (Ok next) → waits (u.with_run (placed e m f next)) u.call h (next_step e m f next)
+    goes_from old h got next was same spent z = u.turns old (placed e m f next) h got (next_step e m f next) record { edit = p.0 ∙ same.0; called = p.1 ∙ same.1; spends = spent } was z
+      where
+        p : IsSameUpdate m (placed e m f next)
+        p = placed_same e m f next
+
+    -- behind the step of which it was told it goes on so
+    pub goes_behind : (old : UpdateRun E) (v : ℕ) (next : Result Next Stop) → IsSameUpdate old m → HasSpent e old.share m f next (node_tries old old.at) (scx_tries old old.at) → (x : UpdaterIsTold allows ready waits same e layout number u ps old v) → GoesOn e u.call (history_of u.call.layout.mode x.known) m f next → UpdaterGoesOn allows ready waits same e layout number u ps m f next
+    goes_behind old v (Ok next) is spent x z = record { known = x.known; is = x.is; sound = x.sound; so = (goes_from old (history_of u.call.layout.mode x.known) (Some v) next x.so.0 is spent z, goes_on (u.with_run old) (u.stays old (placed e m f next) ((placed_same e m f next).0 ∙ is.0)) x.so.1) }
+    goes_behind old v (Err stop) is spent x z = record { known = x.known; is = x.is; sound = x.sound; so = record { old = old; got = Some v; was = x.so.0; goes = record { edit = is.0; called = is.1; spends = spent }; may = z; course = x.so.1 } }
+
+    -- where its try ends so, it stands as the turn says that it makes of that
+    pub stops : (now : UpdateRun E) (stop : Stop) (turn : Turn Updated) → IsSameUpdate m now → IsSpending e turn m.share now m.tries m.tries → ((h : History) → IsRun TreeAllows u.call.layout h → MayStop e u.call h m f stop → UpdateTurn e u.call h now turn) → UpdaterStops allows ready waits same e layout number u ps m f stop → UpdaterStands allows ready waits same e layout number u ps now turn
+    stops now stop (Ask s) is spent next x = record {
+      known = x.known;
+      is = x.is;
+      sound = x.sound;
+      so = (
+        u.turns x.so.old now _ x.so.got s record { edit = is.0 ∙ x.so.goes.edit; called = is.1 ∙ x.so.goes.called; spends = joined_spends e.most_nodes x.so.old.share m.share now.share (node_tries x.so.old x.so.old.at) (node_tries now now.at) (scx_tries x.so.old x.so.old.at) (scx_tries now now.at) m.tries x.so.goes.spends spent } x.so.was (next _ (u.tree _ x.sound) x.so.may),
+        goes_on (u.with_run x.so.old) (u.stays x.so.old now (is.0 ∙ x.so.goes.edit)) x.so.course,
+      );
+    }
+    stops now stop (Done a) is spent next x = record {
+      known = x.known;
+      is = x.is;
+      sound = x.sound;
+      so = record { old = x.so.old; got = x.so.got; was = x.so.was; goes = record { edit = is.0 ∙ x.so.goes.edit; called = is.1 ∙ x.so.goes.called; spends = joined_spends e.most_nodes x.so.old.share m.share now.share (node_tries x.so.old x.so.old.at) 0 (scx_tries x.so.old x.so.old.at) 0 m.tries x.so.goes.spends spent }; answers = next _ (u.tree _ x.sound) x.so.may; course = x.so.course };
+    }
+
+  -- behind its walk it goes on as its try does
+  pub finds : (ps : List SeatedPass) (m now : UpdateRun E) (key : ℕ) (f : Found) (next : Result Next Stop) → e.goal m.edit ≡ ToKey key → IsSameUpdate m now → HasSpent e m.share now f next (m.tries + 1) (m.tries + 1)
+      → ((b h : History) → IsRun TreeAllows u.call.layout h → IsTry u.call b → IsUntouched u.call b m.share → Begins e m (from u.call b) h → IsQuietSince u.call.layout u.call.pass b h → HasFound (e.goal m.edit) (from u.call b) h f → GoesOn e u.call h now f next)
+      → WalkerFinds allows ready waits same layout number (walker m) ps key f → UpdaterGoesOn allows ready waits same e layout number u ps now f next
   unfolding walker
-  finds ps m now key f turn goal edit called spends next x =
-      turns turn spends (next y.0 _ (u.tree _ x.so.sound) y.1 y.2 record { run = w.1.run; small = w.0.small; since = own_since (from u.call y.0) _ w.1.own; rests = record { share = w.0.rests.share; over = w.0.rests.over } } w.0.quiet (rw goal (x.finds (from u.call y.0) _ w.1)))
+  finds ps m now key f next goal is spent goes x =
+      goes_behind ps now f (walking m x.last) x.told next is spent x.so (goes y.0 _ (u.tree _ x.so.sound) y.1 y.2 record { run = w.1.run; small = w.0.small; since = own_since (from u.call y.0) _ w.1.own; rests = record { share = w.0.rests.share; over = w.0.rests.over } } w.0.quiet (rw goal (x.finds (from u.call y.0) _ w.1)))
     where
       y : UpdateIsReady e (walking m x.last) u.call (history_of u.call.layout.mode x.so.known) (Some x.told)
       y = u.tells (walking m x.last) _ (Some x.told) x.so.so.0
@@ -149,14 +186,9 @@ module _ {M E : Type 0} (allows : Layout → History → ℕ → Type 0) (ready 
       w : Walks e (walking m x.last) (from u.call y.0) (history_of u.call.layout.mode x.so.known) x.last.goal × WalkIsTold x.last (from u.call y.0) (history_of u.call.layout.mode x.so.known) x.told
       w = y.3
 
-      turns : (t : Turn Updated) → IsSpending e t m.share now (m.tries + 1) (m.tries + 1) → UpdateTurn e u.call (history_of u.call.layout.mode x.so.known) now t → UpdaterStands allows ready waits same e layout number u ps now t
-      turns (Ask s) spent z = record { known = x.so.known; is = x.so.is; sound = x.so.sound; so = (u.turns (walking m x.last) now _ (Some x.told) s record { edit = edit; called = called; spends = spent } x.so.so.0 z, goes_on (u.with_run (walking m x.last)) (u.stays (walking m x.last) now edit) x.so.so.1) }
-      turns (Done a) spent z = record { known = x.so.known; is = x.so.is; sound = x.so.sound; so = record { old = walking m x.last; got = Some x.told; was = x.so.so.0; goes = record { edit = edit; called = called; spends = spent }; answers = z; course = x.so.so.1 } }
-
-  -- behind the step of which it was told it stands as its turn says
-  pub stands_behind : (ps : List SeatedPass) (old now : UpdateRun E) (v : ℕ) (turn : Turn Updated) → now.edit ≡ old.edit → now.call ≡ old.call → IsSpending e turn old.share now (node_tries old old.at) (scx_tries old old.at) → (x : UpdaterIsTold allows ready waits same e layout number u ps old v) → UpdateTurn e u.call (history_of u.call.layout.mode x.known) now turn → UpdaterStands allows ready waits same e layout number u ps now turn
-  stands_behind ps old now v (Ask s) edit called spent x z = record { known = x.known; is = x.is; sound = x.sound; so = (u.turns old now _ (Some v) s record { edit = edit; called = called; spends = spent } x.so.0 z, goes_on (u.with_run old) (u.stays old now edit) x.so.1) }
-  stands_behind ps old now v (Done a) edit called spent x z = record { known = x.known; is = x.is; sound = x.sound; so = record { old = old; got = Some v; was = x.so.0; goes = record { edit = edit; called = called; spends = spent }; answers = z; course = x.so.1 } }
+  -- what it goes on with is what its equal is
+  pub goes_as : (ps : List SeatedPass) (m : UpdateRun E) (f : Found) (next equal : Result Next Stop) → next ≡ equal → UpdaterGoesOn allows ready waits same e layout number u ps m f next → UpdaterGoesOn allows ready waits same e layout number u ps m f equal
+  goes_as ps m f next equal is x = subst (λ (n : Result Next Stop). UpdaterGoesOn allows ready waits same e layout number u ps m f n) is x
 
   -- the update with an LLX at a place
   abbrev pub looking : UpdateRun E → Found → LlxRun → UpdateRun E
@@ -192,11 +224,11 @@ module _ {M E : Type 0} (allows : Layout → History → ℕ → Type 0) (ready 
   begins_look ps m f node x = x
 
   -- with the snapshot it goes on as its turn says
-  pub looks_on : (ps : List SeatedPass) (m now : UpdateRun E) (f : Found) (node : NodeNo) (snap : Snap) (turn : Turn Updated) → now.edit ≡ m.edit → now.call ≡ m.call → IsSpending e turn m.share now (m.tries + 1) (m.tries + 1)
-      → ((b h : History) → IsRun TreeAllows u.call.layout h → IsTry u.call b → CanLook e m (from u.call b) h f → e.looks m.edit f m.snaps.items ≡ At snap.node → IsSnapshot u.call.layout h snap.node.0 snap → UpdateTurn e u.call h now turn)
-      → LookerSnaps allows ready waits same layout number (looker m f) ps node snap → UpdaterStands allows ready waits same e layout number u ps now turn
+  pub looks_on : (ps : List SeatedPass) (m now : UpdateRun E) (f : Found) (node : NodeNo) (snap : Snap) (next : Result Next Stop) → IsSameUpdate m now → HasSpent e m.share now f next (m.tries + 1) (m.tries + 1)
+      → ((b h : History) → IsRun TreeAllows u.call.layout h → IsTry u.call b → CanLook e m (from u.call b) h f → e.looks m.edit f m.snaps.items ≡ At snap.node → IsSnapshot u.call.layout h snap.node.0 snap → GoesOn e u.call h now f next)
+      → LookerSnaps allows ready waits same layout number (looker m f) ps node snap → UpdaterGoesOn allows ready waits same e layout number u ps now f next
   unfolding looker
-  looks_on ps m now f node snap turn edit called spent next x = stands_behind ps (looking m f x.last) now x.told turn edit called spent x.so (next y.0 h (u.tree h x.so.sound) y.1 can named snapped)
+  looks_on ps m now f node snap next is spent goes x = goes_behind ps now f (looking m f x.last) x.told next is spent x.so (goes y.0 h (u.tree h x.so.sound) y.1 can named snapped)
     where
       h : History
       h = history_of u.call.layout.mode x.so.known
@@ -217,9 +249,13 @@ module _ {M E : Type 0} (allows : Layout → History → ℕ → Type 0) (ready 
       snapped = subst (λ (n : NodeNo). IsSnapshot u.call.layout h n.0 snap) (sym x.of_node) (x.snaps (from (from u.call y.0) y.3.0) h (u.tree h x.so.sound) y.3.2)
 
   -- where something is in the way, it waits for the state again
-  pub looks_again : (ps : List SeatedPass) (m : UpdateRun E) (f copy : Found) (llx : LlxRun) (s : Step) → copy ≡ f → LookerWaits allows ready waits same layout number (looker m f) ps llx s → UpdaterWaits allows ready waits same e layout number u ps (looking m copy llx) s
+  pub looks_again : (ps : List SeatedPass) (m : UpdateRun E) (f : Found) (node : NodeNo) (b : Bool) (scx : ScxNo) → LookerWaits allows ready waits same layout number (looker m f) ps (llx_at node (StateAgain b scx)) (load LoadState (state scx.0)) → UpdaterTries allows ready waits same e layout number u ps m f (WaitNext node b scx)
   unfolding looker
-  looks_again ps m f copy llx s is x = subst (λ (g : Found). UpdaterWaits allows ready waits same e layout number u ps (looking m g llx) s) (sym is) x
+  looks_again ps m f node b scx x = x
+
+  -- once its run has begun what comes next, it stands there
+  pub stands_there : (ps : List SeatedPass) (m now : UpdateRun E) (f copy : Found) (next : Next) (turn : Turn Updated) → copy ≡ f → now ≡ placed e m copy next → turn ≡ Ask (next_step e m copy next) → UpdaterTries allows ready waits same e layout number u ps m f next → UpdaterStands allows ready waits same e layout number u ps now turn
+  stands_there ps m now f copy next turn is place asks x = rw (place, asks) (subst (λ (g : Found). UpdaterTries allows ready waits same e layout number u ps m g next) (sym is) x)
 
   -- it stands at its start
   pub stands_at_start : (ps : List SeatedPass) (m : UpdateRun E) → UpdaterBegins allows ready waits same e layout number u ps m → m.at ≡ Start
@@ -258,10 +294,10 @@ module _ {M E : Type 0} (allows : Layout → History → ℕ → Type 0) (ready 
   }
 
   -- with what the load has told it goes on as its turn says
-  pub loads_on : (ps : List SeatedPass) (m now : UpdateRun E) (f : Found) (nth : Nth) (part : NodeWord) (v : ℕ) (turn : Turn Updated) → now.edit ≡ m.edit → now.call ≡ m.call → IsSpending e turn m.share now m.tries (m.tries + 1)
-      → ((b h : History) → IsRun TreeAllows u.call.layout h → IsTry u.call b → Loads e m (from u.call b) h f nth part → value h (node (copied e m f) part) ≡ v → UpdateTurn e u.call h now turn)
-      → UpdaterIsTold allows ready waits same e layout number u ps (placed e m f (LoadNext nth part)) v → UpdaterStands allows ready waits same e layout number u ps now turn
-  loads_on ps m now f nth part v turn edit called spent next x = stands_behind ps (placed e m f (LoadNext nth part)) now v turn edit called spent x (next y.0 h (u.tree h x.sound) y.1 (loads_anywhere m f nth part (from u.call y.0) h y.3.0) y.3.1)
+  pub loads_on : (ps : List SeatedPass) (m now : UpdateRun E) (f : Found) (nth : Nth) (part : NodeWord) (v : ℕ) (next : Result Next Stop) → IsSameUpdate m now → HasSpent e m.share now f next m.tries (m.tries + 1)
+      → ((b h : History) → IsRun TreeAllows u.call.layout h → IsTry u.call b → Loads e m (from u.call b) h f nth part → value h (node (copied e m f) part) ≡ v → GoesOn e u.call h now f next)
+      → UpdaterIsTold allows ready waits same e layout number u ps (placed e m f (LoadNext nth part)) v → UpdaterGoesOn allows ready waits same e layout number u ps now f next
+  loads_on ps m now f nth part v next is spent goes x = goes_behind ps now f (placed e m f (LoadNext nth part)) v next is spent x (goes y.0 h (u.tree h x.sound) y.1 (loads_anywhere m f nth part (from u.call y.0) h y.3.0) y.3.1)
     where
       h : History
       h = history_of u.call.layout.mode x.known
@@ -329,10 +365,10 @@ module _ {M E : Type 0} (allows : Layout → History → ℕ → Type 0) (ready 
   )
 
   -- behind a node's last fill it goes on as its turn says
-  pub fills_end : (ps : List SeatedPass) (m now : UpdateRun E) (f : Found) (nth : Nth) (part : NodeWord) (v : ℕ) (turn : Turn Updated) → now.edit ≡ m.edit → now.call ≡ m.call → IsSpending e turn m.share now m.tries (m.tries + 1)
-      → ((b h : History) → IsRun TreeAllows u.call.layout h → IsTry u.call b → IsFilledUpTo e m (from u.call b) h f nth part → UpdateTurn e u.call h now turn)
-      → UpdaterIsTold allows ready waits same e layout number u ps (filling m f nth part) v → UpdaterStands allows ready waits same e layout number u ps now turn
-  fills_end ps m now f nth part v turn edit called spent next x = stands_behind ps (filling m f nth part) now v turn edit called spent x (next y.0 h (u.tree h x.sound) y.1 (filled_anywhere m f nth part (from u.call y.0) h y.3))
+  pub fills_end : (ps : List SeatedPass) (m now : UpdateRun E) (f : Found) (nth : Nth) (part : NodeWord) (v : ℕ) (next : Result Next Stop) → IsSameUpdate m now → HasSpent e m.share now f next m.tries (m.tries + 1)
+      → ((b h : History) → IsRun TreeAllows u.call.layout h → IsTry u.call b → IsFilledUpTo e m (from u.call b) h f nth part → GoesOn e u.call h now f next)
+      → UpdaterIsTold allows ready waits same e layout number u ps (filling m f nth part) v → UpdaterGoesOn allows ready waits same e layout number u ps now f next
+  fills_end ps m now f nth part v next is spent goes x = goes_behind ps now f (filling m f nth part) v next is spent x (goes y.0 h (u.tree h x.sound) y.1 (filled_anywhere m f nth part (from u.call y.0) h y.3))
     where
       h : History
       h = history_of u.call.layout.mode x.known
@@ -448,12 +484,14 @@ module _ {E : Type 0} (e : EditMeaning E) (m : UpdateRun E) (f : Found) (nth : N
   pub fork_ends : (level class key : ℕ) (l r : NodeNo) → p ≡ Fork level class key l r → part_behind (e.pieces m.edit f m.snaps.items m.nodes m.loaded nth) (Child Right) ≡ None
   fork_ends level class key l r is = ap (λ q. part_behind q (Child Right)) (sym said ∙ is)
 
-module _ {E : Type 0} (e : EditMeaning E) (m : UpdateRun E) (f : Found) (next same : Next) (is : next ≡ same) (nodes : ℕ) where
-  -- what is left of it is left of its equal
-  pub steps_as : (now old : ℕ) → now ≤ old + suc (update_left e (placed e m f same) nodes) → now ≤ old + suc (update_left e (placed e m f next) nodes)
-  steps_as now old i = subst (λ (n : Next). now ≤ old + suc (update_left e (placed e m f n) nodes)) (sym is) i
+module _ {E : Type 0} (e : EditMeaning E) (m : UpdateRun E) (f : Found) (next same : Result Next Stop) (is : next ≡ same) (nodes : ℕ) where
+  -- what is left of what comes next is left of its equal
+  pub left_as : (now old bound : ℕ) → now ≤ old + left_then e m f same nodes → old + left_then e m f next nodes ≤ bound → now ≤ bound
+  left_as now old bound i j = let k = subst (λ (n : Result Next Stop). old + left_then e m f n nodes ≤ bound) is j in omega (arith, i, k)
 
-  -- fewer steps are left behind what goes on
-  pub fewer_behind : (now : UpdateRun E) (more : Result Next (Turn Updated)) → weight (turn_of e now f more) (update_left e (stands e now f more) nodes) < suc (update_left e (placed e m f same) nodes) → IfOk more (λ n. update_left e (placed e now f n) nodes < update_left e (placed e m f next) nodes)
-  fewer_behind now (Ok n) i = subst (λ (k : Next). update_left e (placed e now f n) nodes < update_left e (placed e m f k) nodes) (sym is) (omega (arith, i))
-  fewer_behind now (Err turn) i = tt
+  pub fewer_as : (left : ℕ) → left < left_then e m f same nodes → left < left_then e m f next nodes
+  fewer_as left i = subst (λ (n : Result Next Stop). left < left_then e m f n nodes) (sym is) i
+
+-- so much is left where a run stands once it has begun what comes next
+pub left_there : {E : Type 0} (e : EditMeaning E) (m now : UpdateRun E) (f copy : Found) (next : Next) (turn : Turn Updated) (nodes : ℕ) → copy ≡ f → now ≡ placed e m copy next → turn ≡ Ask (next_step e m copy next) → weight turn (update_left e now nodes) ≡ left_then e m f (Ok next) nodes
+left_there e m now f copy next turn nodes is place asks = rw (place, asks) (ap (λ (g : Found). suc (update_left e (placed e m g next) nodes)) is)

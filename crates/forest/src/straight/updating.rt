@@ -1,10 +1,10 @@
 //! Updates, of whatever machine updates: the first try in line.
-ghost use Rattle.std.specs.Prelude.{◌≡◌, ◌≤◌, ◌<◌, ◌+◌, suc, IfOk};
+ghost use Rattle.std.specs.Prelude.{◌≡◌, ◌≤◌, ◌<◌, ◌+◌, suc};
 ghost use Rattle.forest.specs.TableRule.{IsTableOf};
 ghost use Rattle.forest.specs.Traces.{seat_steps, shared_nodes, weight};
 ghost use Rattle.forest.specs.StraightUpdate.{Updater, UpdaterBegins, UpdaterStands, UpdaterTries, UpdaterGoesOn};
 ghost use Rattle.template.specs.declared.walk.Goal.{Goal};
-ghost use Rattle.updates.specs.Next.{placed, stands, turn_of};
+ghost use Rattle.updates.specs.Next.{placed, left_then};
 ghost use Rattle.updates.specs.Steps.{update_left};
 ghost use Rattle.updates.specs.declared.update.Next.{Next};
 
@@ -16,9 +16,9 @@ use crate::view::SeatView;
 use crate::words::Words;
 use arena::{Access, Kind, Layout, Machine, NodeNo, ScxNo, ScxWord, Shape, Step, Turn, Word};
 use atomic_table::Seat;
-use prims::{LlxAt, LlxRun, ScxAt, ScxRun, Snap};
+use prims::{ScxAt, ScxRun, Snap};
 use template::{Found, Tree};
-use updates::{Edit, Next, UpdateAt, UpdateRun, Updated, anew};
+use updates::{Edit, Next, Stop, UpdateAt, UpdateRun, Updated, anew};
 
 /// Begins an update that walks to this key: its first try, as long as nothing is in its way. Where
 /// something is, the run stands at that place, and the turn is the one that it is to go on with; on
@@ -40,10 +40,8 @@ pub(crate) fn begin<S: Shape, M: Machine<S>, E: Edit + Drop>(
     ensures steps { seat_steps seat.new.me.0.passes + weight result (update_left E.means run.new (shared_nodes layout.now)) ≤ seat_steps seat.old.me.0.passes + update_left E.means run.old (shared_nodes layout.now) }
 {
     let found = walk::call::<S, M>(words, layout, seat, number, key);
-    match run.test_share(&found) {
-        Ok(next) => try_on::<S, M, E>(words, layout, seat, number, run, &found, next),
-        Err(turn) => turn,
-    }
+    let next = run.test_share(&found);
+    try_on::<S, M, E>(words, layout, seat, number, run, &found, next)
 }
 
 /// Makes what a try does next and all behind it, as long as nothing is in its way.
@@ -55,47 +53,30 @@ fn try_on<S: Shape, M: Machine<S>, E: Edit + Drop>(
     number: u64,
     run: &mut UpdateRun<E>,
     found: &Found,
-    mut next: Next,
+    mut next: Result<Next, Stop>,
 ) -> Turn<Updated>
     requires table { IsTableOf words.now.table.shared.table_id words.now.table.shared.key layout.now × (seat.old.table_id ≡ words.now.table.shared.table_id) }
-    requires tries { (u : Updater S.allows M.ready M.waits M.same E.means layout.now number) × UpdaterTries S.allows M.ready M.waits M.same E.means layout.now number u seat.old.me.0.passes run.old found.now next }
+    requires goes_on { (u : Updater S.allows M.ready M.waits M.same E.means layout.now number) × UpdaterGoesOn S.allows M.ready M.waits M.same E.means layout.now number u seat.old.me.0.passes run.old found.now next }
     ensures table { (seat.new.table_id ≡ seat.old.table_id) × (seat.new.me.1 ≡ seat.old.me.1) }
-    ensures stands { (u : Updater S.allows M.ready M.waits M.same E.means layout.now number) → UpdaterTries S.allows M.ready M.waits M.same E.means layout.now number u seat.old.me.0.passes run.old found.now next → UpdaterStands S.allows M.ready M.waits M.same E.means layout.now number u seat.new.me.0.passes run.new result }
-    ensures steps { seat_steps seat.new.me.0.passes + weight result (update_left E.means run.new (shared_nodes layout.now)) ≤ seat_steps seat.old.me.0.passes + suc (update_left E.means (placed E.means run.old found.now next) (shared_nodes layout.now)) }
+    ensures stands { (u : Updater S.allows M.ready M.waits M.same E.means layout.now number) → UpdaterGoesOn S.allows M.ready M.waits M.same E.means layout.now number u seat.old.me.0.passes run.old found.now next → UpdaterStands S.allows M.ready M.waits M.same E.means layout.now number u seat.new.me.0.passes run.new result }
+    ensures steps { seat_steps seat.new.me.0.passes + weight result (update_left E.means run.new (shared_nodes layout.now)) ≤ seat_steps seat.old.me.0.passes + left_then E.means run.old found.now next (shared_nodes layout.now) }
 {
     loop {
-        match go_on::<S, M, E>(words, layout, seat, number, run, found, next) {
-            Ok(more) => next = more,
-            Err(turn) => return turn,
-        }
-    }
-}
-
-/// Makes what a try does next, and tells what it does behind that.
-#[inline(always)]
-fn go_on<S: Shape, M: Machine<S>, E: Edit + Drop>(
-    words: &Words<S>,
-    layout: &Layout,
-    seat: &mut Seat<u8, SeatView>,
-    number: u64,
-    run: &mut UpdateRun<E>,
-    found: &Found,
-    next: Next,
-) -> Result<Next, Turn<Updated>>
-    requires table { IsTableOf words.now.table.shared.table_id words.now.table.shared.key layout.now × (seat.old.table_id ≡ words.now.table.shared.table_id) }
-    requires tries { (u : Updater S.allows M.ready M.waits M.same E.means layout.now number) × UpdaterTries S.allows M.ready M.waits M.same E.means layout.now number u seat.old.me.0.passes run.old found.now next }
-    ensures table { (seat.new.table_id ≡ seat.old.table_id) × (seat.new.me.1 ≡ seat.old.me.1) }
-    ensures goes_on { (u : Updater S.allows M.ready M.waits M.same E.means layout.now number) → UpdaterTries S.allows M.ready M.waits M.same E.means layout.now number u seat.old.me.0.passes run.old found.now next → UpdaterGoesOn S.allows M.ready M.waits M.same E.means layout.now number u seat.new.me.0.passes run.new found.now result }
-    ensures steps { seat_steps seat.new.me.0.passes + weight (turn_of E.means run.new found.now result) (update_left E.means (stands E.means run.new found.now result) (shared_nodes layout.now)) ≤ seat_steps seat.old.me.0.passes + suc (update_left E.means (placed E.means run.old found.now next) (shared_nodes layout.now)) }
-    ensures nearer { IfOk result (λ more. update_left E.means (placed E.means run.new found.now more) (shared_nodes layout.now) < update_left E.means (placed E.means run.old found.now next) (shared_nodes layout.now)) }
-{
-    match next {
-        Next::Look(node) => look_at::<S, M, E>(words, layout, seat, number, run, found, node),
-        Next::Load { nth, part } => {
-            Ok(load::<S, M, E>(words, layout, seat, number, run, found, nth, part))
-        }
-        Next::Fill(nth) => fill_node::<S, M, E>(words, layout, seat, number, run, found, nth),
-        Next::Change(scx) => Err(change::<S, M, E>(words, layout, seat, number, run, found, scx)),
+        let now = match next {
+            Ok(now) => now,
+            Err(stop) => return run.stop(found, stop),
+        };
+        next = match now {
+            Next::Look(node) => look_at::<S, M, E>(words, layout, seat, number, run, found, node),
+            Next::Load { nth, part } => {
+                Ok(load::<S, M, E>(words, layout, seat, number, run, found, nth, part))
+            }
+            Next::Fill(nth) => fill_node::<S, M, E>(words, layout, seat, number, run, found, nth),
+            Next::Change(scx) => {
+                return change::<S, M, E>(words, layout, seat, number, run, found, scx);
+            }
+            Next::Wait { .. } => return run.begin(anew(found), now),
+        };
     }
 }
 
@@ -109,27 +90,17 @@ fn look_at<S: Shape, M: Machine<S>, E: Edit + Drop>(
     run: &mut UpdateRun<E>,
     found: &Found,
     node: NodeNo,
-) -> Result<Next, Turn<Updated>>
+) -> Result<Next, Stop>
     requires table { IsTableOf words.now.table.shared.table_id words.now.table.shared.key layout.now × (seat.old.table_id ≡ words.now.table.shared.table_id) }
     requires tries { (u : Updater S.allows M.ready M.waits M.same E.means layout.now number) × UpdaterTries S.allows M.ready M.waits M.same E.means layout.now number u seat.old.me.0.passes run.old found.now (Next.Look node) }
     ensures table { (seat.new.table_id ≡ seat.old.table_id) × (seat.new.me.1 ≡ seat.old.me.1) }
     ensures goes_on { (u : Updater S.allows M.ready M.waits M.same E.means layout.now number) → UpdaterTries S.allows M.ready M.waits M.same E.means layout.now number u seat.old.me.0.passes run.old found.now (Next.Look node) → UpdaterGoesOn S.allows M.ready M.waits M.same E.means layout.now number u seat.new.me.0.passes run.new found.now result }
-    ensures steps { seat_steps seat.new.me.0.passes + weight (turn_of E.means run.new found.now result) (update_left E.means (stands E.means run.new found.now result) (shared_nodes layout.now)) ≤ seat_steps seat.old.me.0.passes + suc (update_left E.means (placed E.means run.old found.now (Next.Look node)) (shared_nodes layout.now)) }
-    ensures nearer { weight (turn_of E.means run.new found.now result) (update_left E.means (stands E.means run.new found.now result) (shared_nodes layout.now)) < suc (update_left E.means (placed E.means run.old found.now (Next.Look node)) (shared_nodes layout.now)) }
+    ensures steps { seat_steps seat.new.me.0.passes + left_then E.means run.new found.now result (shared_nodes layout.now) ≤ seat_steps seat.old.me.0.passes + suc (update_left E.means (placed E.means run.old found.now (Next.Look node)) (shared_nodes layout.now)) }
+    ensures nearer { left_then E.means run.new found.now result (shared_nodes layout.now) < suc (update_left E.means (placed E.means run.old found.now (Next.Look node)) (shared_nodes layout.now)) }
 {
     match look::<S, M>(words, layout, seat, number, node) {
         Ok(snap) => run.looked(found, snap),
-        Err((marked, scx)) => {
-            let at = LlxAt::StateAgain { marked, scx };
-            let llx = LlxRun { node, at };
-            let found = anew(found);
-            run.at = UpdateAt::Look { found, llx };
-            Err(Turn::Ask(Step {
-                kind: Kind::LoadState,
-                word: Word::Scx(scx, ScxWord::State),
-                access: Access::Load,
-            }))
-        }
+        Err((marked, scx)) => Ok(Next::Wait { node, marked, scx }),
     }
 }
 

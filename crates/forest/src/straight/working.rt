@@ -2,19 +2,19 @@
 ghost use Rattle.std.specs.Prelude.{◌≡◌, ◌≤◌, ◌<◌, ◌+◌, suc};
 ghost use Rattle.arena.specs.Machines.{Call};
 ghost use Rattle.forest.specs.TableRule.{IsTableOf};
-ghost use Rattle.forest.specs.Traces.{Waits, Told, seat_steps, shared_nodes, weight};
+ghost use Rattle.forest.specs.Traces.{Waits, Told, seat_steps, shared_nodes};
 ghost use Rattle.forest.specs.StraightUpdate.{Updater, UpdaterTries, UpdaterGoesOn};
-ghost use Rattle.updates.specs.Next.{placed, stands, turn_of};
+ghost use Rattle.updates.specs.Next.{placed, left_then};
 ghost use Rattle.updates.specs.Steps.{update_left};
 ghost use Rattle.updates.specs.declared.update.Next.{Next};
 
 use crate::straight::placed::step;
 use crate::view::SeatView;
 use crate::words::Words;
-use arena::{Access, Kind, Layout, Machine, NodeNo, NodeWord, Shape, Side, Step, Turn, Word};
+use arena::{Access, Kind, Layout, Machine, NodeNo, NodeWord, Shape, Side, Step, Word};
 use atomic_table::Seat;
 use template::Found;
-use updates::{Edit, Next, Nth, Piece, UpdateRun, Updated};
+use updates::{Edit, Next, Nth, Piece, Stop, UpdateRun};
 
 /// Loads a settled word for the fresh node of this place.
 #[inline(always)]
@@ -75,13 +75,13 @@ pub(crate) fn fill_node<S: Shape, M: Machine<S>, E: Edit + Drop>(
     run: &mut UpdateRun<E>,
     found: &Found,
     nth: Nth,
-) -> Result<Next, Turn<Updated>>
+) -> Result<Next, Stop>
     requires table { IsTableOf words.now.table.shared.table_id words.now.table.shared.key layout.now × (seat.old.table_id ≡ words.now.table.shared.table_id) }
     requires tries { (u : Updater S.allows M.ready M.waits M.same E.means layout.now number) × UpdaterTries S.allows M.ready M.waits M.same E.means layout.now number u seat.old.me.0.passes run.old found.now (Next.Fill nth) }
     ensures table { (seat.new.table_id ≡ seat.old.table_id) × (seat.new.me.1 ≡ seat.old.me.1) }
     ensures goes_on { (u : Updater S.allows M.ready M.waits M.same E.means layout.now number) → UpdaterTries S.allows M.ready M.waits M.same E.means layout.now number u seat.old.me.0.passes run.old found.now (Next.Fill nth) → UpdaterGoesOn S.allows M.ready M.waits M.same E.means layout.now number u seat.new.me.0.passes run.new found.now result }
-    ensures steps { seat_steps seat.new.me.0.passes + weight (turn_of E.means run.new found.now result) (update_left E.means (stands E.means run.new found.now result) (shared_nodes layout.now)) ≤ seat_steps seat.old.me.0.passes + suc (update_left E.means (placed E.means run.old found.now (Next.Fill nth)) (shared_nodes layout.now)) }
-    ensures nearer { weight (turn_of E.means run.new found.now result) (update_left E.means (stands E.means run.new found.now result) (shared_nodes layout.now)) < suc (update_left E.means (placed E.means run.old found.now (Next.Fill nth)) (shared_nodes layout.now)) }
+    ensures steps { seat_steps seat.new.me.0.passes + left_then E.means run.new found.now result (shared_nodes layout.now) ≤ seat_steps seat.old.me.0.passes + suc (update_left E.means (placed E.means run.old found.now (Next.Fill nth)) (shared_nodes layout.now)) }
+    ensures nearer { left_then E.means run.new found.now result (shared_nodes layout.now) < suc (update_left E.means (placed E.means run.old found.now (Next.Fill nth)) (shared_nodes layout.now)) }
 {
     let snaps = run.snaps.as_slice();
     let piece = run.edit.piece(found, snaps, &run.nodes, &run.loaded, nth);

@@ -1,8 +1,5 @@
 use Rattle.forest.specs.Traces.{shared_nodes}
-use Rattle.prims.specs.declared.llx.LlxAt.TheVariants.{StateAgain}
-use Rattle.forest.specs.StraightLlx.{llx_at}
-use Rattle.updates.specs.Next.{stands, turn_of}
-use Rattle.forest.proofs.Advances.{weighs}
+use Rattle.updates.proofs.Lemmas.{weighs_next}
 use Rattle.forest.proofs.StraightUpdate.{looker, begins_look, looks_on, looks_again, look_steps, look_nearer}
 use Rattle.forest.proofs.straight.updating.look_at.Goals as goal
 
@@ -11,15 +8,15 @@ look-requires-clause-waits g c = let r = c.requires.tries in let u = r.0 in
     (looker g.S.Shape.allows g.M.Machine.ready g.M.Machine.waits g.M.Machine.same g.E.Edit.means c.args.layout.now c.args.number u c.args.run.now c.args.found.now, begins_look g.S.Shape.allows g.M.Machine.ready g.M.Machine.waits g.M.Machine.same g.E.Edit.means c.args.layout.now c.args.number u _ c.args.run.now c.args.found.now c.args.node r.1)
 
 pub returns-in-Ok-clause-goes_on : goal.returns-in-Ok-clause-goes_on
-returns-in-Ok-clause-goes_on g c = λ u x. looks_on g.S.Shape.allows g.M.Machine.ready g.M.Machine.waits g.M.Machine.same g.E.Edit.means c.args.layout.now c.args.number u _ c.args.run.now (stands g.E.Edit.means c.looked.new.self c.args.found.now c.looked.result) c.args.found.now c.args.node c.in-Ok.snap (turn_of g.E.Edit.means c.looked.new.self c.args.found.now c.looked.result) c.looked.ensures.same.0 c.looked.ensures.same.1 c.looked.ensures.spends (λ b h. c.looked.ensures.turn u.call b h)
+returns-in-Ok-clause-goes_on g c = λ u x. looks_on g.S.Shape.allows g.M.Machine.ready g.M.Machine.waits g.M.Machine.same g.E.Edit.means c.args.layout.now c.args.number u _ c.args.run.now c.looked.new.self c.args.found.now c.args.node c.in-Ok.snap c.looked.result c.looked.ensures.same c.looked.ensures.spends (λ b h. c.looked.ensures.turn u.call b h)
     (c.in-Ok.ensures.snaps (looker g.S.Shape.allows g.M.Machine.ready g.M.Machine.waits g.M.Machine.same g.E.Edit.means c.args.layout.now c.args.number u c.args.run.now c.args.found.now) (begins_look g.S.Shape.allows g.M.Machine.ready g.M.Machine.waits g.M.Machine.same g.E.Edit.means c.args.layout.now c.args.number u _ c.args.run.now c.args.found.now c.args.node x))
 
 pub returns-in-Ok-clause-steps : goal.returns-in-Ok-clause-steps
-returns-in-Ok-clause-steps g c = look_steps _ _ _ _ _ _ c.look.ensures.steps (weighs (turn_of g.E.Edit.means c.looked.new.self c.args.found.now c.looked.result) _ _ (c.looked.ensures.nearer (shared_nodes c.args.layout.now)))
+returns-in-Ok-clause-steps g c = look_steps _ _ _ _ _ _ c.look.ensures.steps (weighs_next g.E.Edit.means c.looked.new.self c.args.found.now c.looked.result _ _ (c.looked.ensures.nearer (shared_nodes c.args.layout.now)))
 
 pub returns-in-Ok-clause-nearer : goal.returns-in-Ok-clause-nearer
-returns-in-Ok-clause-nearer g c = look_nearer _ _ _ _ (weighs (turn_of g.E.Edit.means c.looked.new.self c.args.found.now c.looked.result) _ _ (c.looked.ensures.nearer (shared_nodes c.args.layout.now)))
+returns-in-Ok-clause-nearer g c = look_nearer _ _ _ _ (weighs_next g.E.Edit.means c.looked.new.self c.args.found.now c.looked.result _ _ (c.looked.ensures.nearer (shared_nodes c.args.layout.now)))
 
 pub returns-in-Err-clause-goes_on : goal.returns-in-Err-clause-goes_on
-returns-in-Err-clause-goes_on g c = λ u x. looks_again g.S.Shape.allows g.M.Machine.ready g.M.Machine.waits g.M.Machine.same g.E.Edit.means c.args.layout.now c.args.number u _ c.args.run.now c.args.found.now c.anew-found.result (llx_at c.args.node (StateAgain c.in-Err.marked c.in-Err.scx)) _ c.anew-found.ensures
+returns-in-Err-clause-goes_on g c = λ u x. looks_again g.S.Shape.allows g.M.Machine.ready g.M.Machine.waits g.M.Machine.same g.E.Edit.means c.args.layout.now c.args.number u _ c.args.run.now c.args.found.now c.args.node c.in-Err.marked c.in-Err.scx
     (c.in-Err.ensures.waits (looker g.S.Shape.allows g.M.Machine.ready g.M.Machine.waits g.M.Machine.same g.E.Edit.means c.args.layout.now c.args.number u c.args.run.now c.args.found.now) (begins_look g.S.Shape.allows g.M.Machine.ready g.M.Machine.waits g.M.Machine.same g.E.Edit.means c.args.layout.now c.args.number u _ c.args.run.now c.args.found.now c.args.node x))

@@ -6,9 +6,8 @@ use Rattle.arena.specs.declared.word.Side.TheVariants.{Left, Right}
 use Rattle.arena.specs.declared.word.Word.TheVariants.{Node as NodeOf}
 use Rattle.forest.specs.Traces.{shared_nodes}
 use Rattle.forest.specs.StraightUpdate.{Updater, UpdaterIsTold, UpdaterTries, UpdaterWaits}
-use Rattle.updates.specs.Next.{stands, turn_of}
 use Rattle.updates.specs.declared.update.Next.TheVariants.{Fill as FillNext}
-use Rattle.forest.proofs.Advances.{weighs}
+use Rattle.updates.proofs.Lemmas.{weighs_next}
 use Rattle.forest.proofs.StraightUpdate.{begins_fill, fills_on, fills_end, filling, head_next, leaf_fewer, fork_fewer, leaf_ends, fork_ends, node_steps, node_nearer}
 use Rattle.forest.proofs.straight.working.fill_node.Given.{Over}
 use Rattle.forest.proofs.straight.working.fill_node.Goals.{After-word-key, After-fill, After-fill-2, After-fill-arg-in-Leaf-1, After-fill-arg-in-Fork-1, After-fill-in-Fork}
@@ -43,18 +42,18 @@ pub fill-requires-in-Leaf-clause-waits : goal.fill-requires-in-Leaf-clause-waits
 fill-requires-in-Leaf-clause-waits g c = let r = c.requires.tries in let u = r.0 in (u.call, u.first, u.with_run (filling g.S.Shape.allows g.M.Machine.ready g.M.Machine.waits g.M.Machine.same g.E.Edit.means c.args.layout.now c.args.number u c.args.run.now c.args.found.now c.args.nth Value), u.is_layout, u.is_number, at_value g c u r.1)
 
 pub returns-in-Leaf-clause-goes_on : goal.returns-in-Leaf-clause-goes_on
-returns-in-Leaf-clause-goes_on g c = λ u x. fills_end g.S.Shape.allows g.M.Machine.ready g.M.Machine.waits g.M.Machine.same g.E.Edit.means c.args.layout.now c.args.number u _ c.args.run.now (stands g.E.Edit.means c.filled.new.self c.args.found.now c.filled.result) c.args.found.now c.args.nth Value c.fill-in-Leaf.result (turn_of g.E.Edit.means c.filled.new.self c.args.found.now c.filled.result) c.filled.ensures.same.0 c.filled.ensures.same.1 c.filled.ensures.spends (λ b h run try x. c.filled.ensures.turn u.call b h Value run try x (leaf_ends g.E.Edit.means c.args.run.now c.args.found.now c.args.nth c.piece-piece.result (is_said g (goal.at.returns-in-Leaf-clause-goes_on g c).After-word-key) _ _ _ _ c.in-Leaf.is))
+returns-in-Leaf-clause-goes_on g c = λ u x. fills_end g.S.Shape.allows g.M.Machine.ready g.M.Machine.waits g.M.Machine.same g.E.Edit.means c.args.layout.now c.args.number u _ c.args.run.now c.filled.new.self c.args.found.now c.args.nth Value c.fill-in-Leaf.result c.filled.result c.filled.ensures.same c.filled.ensures.spends (λ b h run try x. c.filled.ensures.turn u.call b h Value run try x (leaf_ends g.E.Edit.means c.args.run.now c.args.found.now c.args.nth c.piece-piece.result (is_said g (goal.at.returns-in-Leaf-clause-goes_on g c).After-word-key) _ _ _ _ c.in-Leaf.is))
     (c.fill-in-Leaf.ensures.told u.call u.first (u.with_run (filling g.S.Shape.allows g.M.Machine.ready g.M.Machine.waits g.M.Machine.same g.E.Edit.means c.args.layout.now c.args.number u c.args.run.now c.args.found.now c.args.nth Value)) u.is_layout u.is_number (at_value g (goal.at.returns-in-Leaf-clause-goes_on g c).After-fill-arg-in-Leaf-1 u x))
 
 pub returns-in-Leaf-clause-steps : goal.returns-in-Leaf-clause-steps
 returns-in-Leaf-clause-steps g c =
     let fewer = leaf_fewer g.E.Edit.means c.args.run.now c.args.found.now c.args.nth c.piece-piece.result (is_said g (goal.at.returns-in-Leaf-clause-steps g c).After-word-key) _ _ _ _ c.in-Leaf.is in
-    (node_steps _ _ _ _ 2 _ _ (let o = c.fill.ensures.one in let p = c.fill-2.ensures.one in let q = c.fill-in-Leaf.ensures.one in omega (arith, o, p, q)) (weighs (turn_of g.E.Edit.means c.filled.new.self c.args.found.now c.filled.result) _ _ (c.filled.ensures.nearer (shared_nodes c.args.layout.now))) fewer)
+    (node_steps _ _ _ _ 2 _ _ (let o = c.fill.ensures.one in let p = c.fill-2.ensures.one in let q = c.fill-in-Leaf.ensures.one in omega (arith, o, p, q)) (weighs_next g.E.Edit.means c.filled.new.self c.args.found.now c.filled.result _ _ (c.filled.ensures.nearer (shared_nodes c.args.layout.now))) fewer)
 
 pub returns-in-Leaf-clause-nearer : goal.returns-in-Leaf-clause-nearer
 returns-in-Leaf-clause-nearer g c =
     let fewer = leaf_fewer g.E.Edit.means c.args.run.now c.args.found.now c.args.nth c.piece-piece.result (is_said g (goal.at.returns-in-Leaf-clause-nearer g c).After-word-key) _ _ _ _ c.in-Leaf.is in
-    (node_nearer _ _ 2 _ _ (weighs (turn_of g.E.Edit.means c.filled.new.self c.args.found.now c.filled.result) _ _ (c.filled.ensures.nearer (shared_nodes c.args.layout.now))) fewer)
+    (node_nearer _ _ 2 _ _ (weighs_next g.E.Edit.means c.filled.new.self c.args.found.now c.filled.result _ _ (c.filled.ensures.nearer (shared_nodes c.args.layout.now))) fewer)
 
 -- the last two words of a fork
 at_left : (g : Over) (c : After-fill-arg-in-Fork-1 g) (u : Updater {M = g.row.M.Denot} {E = g.row.E.Denot} g.S.Shape.allows g.M.Machine.ready g.M.Machine.waits g.M.Machine.same g.E.Edit.means c.args.layout.now c.args.number) → UpdaterTries g.S.Shape.allows g.M.Machine.ready g.M.Machine.waits g.M.Machine.same g.E.Edit.means c.args.layout.now c.args.number u c.args.seat.now.me.0.passes c.args.run.now c.args.found.now (FillNext c.args.nth) → UpdaterWaits g.S.Shape.allows g.M.Machine.ready g.M.Machine.waits g.M.Machine.same g.E.Edit.means c.args.layout.now c.args.number u c.fill-2.new.seat.me.0.passes (filling g.S.Shape.allows g.M.Machine.ready g.M.Machine.waits g.M.Machine.same g.E.Edit.means c.args.layout.now c.args.number u c.args.run.now c.args.found.now c.args.nth (Child Left)) record { kind = FillKind; word = NodeOf c.at-node.result (Child Left); access = Store c.in-Fork.left.0 }
@@ -72,15 +71,15 @@ pub fill-requires-in-Fork-2-clause-waits : goal.fill-requires-in-Fork-2-clause-w
 fill-requires-in-Fork-2-clause-waits g c = let r = c.requires.tries in let u = r.0 in (u.call, u.first, u.with_run (filling g.S.Shape.allows g.M.Machine.ready g.M.Machine.waits g.M.Machine.same g.E.Edit.means c.args.layout.now c.args.number u c.args.run.now c.args.found.now c.args.nth (Child Right)), u.is_layout, u.is_number, at_right g (goal.at.fill-requires-in-Fork-2-clause-waits g c).After-fill-in-Fork u r.1)
 
 pub returns-in-Fork-clause-goes_on : goal.returns-in-Fork-clause-goes_on
-returns-in-Fork-clause-goes_on g c = λ u x. fills_end g.S.Shape.allows g.M.Machine.ready g.M.Machine.waits g.M.Machine.same g.E.Edit.means c.args.layout.now c.args.number u _ c.args.run.now (stands g.E.Edit.means c.filled-in-Fork.new.self c.args.found.now c.filled-in-Fork.result) c.args.found.now c.args.nth (Child Right) c.fill-in-Fork-2.result (turn_of g.E.Edit.means c.filled-in-Fork.new.self c.args.found.now c.filled-in-Fork.result) c.filled-in-Fork.ensures.same.0 c.filled-in-Fork.ensures.same.1 c.filled-in-Fork.ensures.spends (λ b h run try x. c.filled-in-Fork.ensures.turn u.call b h (Child Right) run try x (fork_ends g.E.Edit.means c.args.run.now c.args.found.now c.args.nth c.piece-piece.result (is_said g (goal.at.returns-in-Fork-clause-goes_on g c).After-word-key) _ _ _ _ _ c.in-Fork.is))
+returns-in-Fork-clause-goes_on g c = λ u x. fills_end g.S.Shape.allows g.M.Machine.ready g.M.Machine.waits g.M.Machine.same g.E.Edit.means c.args.layout.now c.args.number u _ c.args.run.now c.filled-in-Fork.new.self c.args.found.now c.args.nth (Child Right) c.fill-in-Fork-2.result c.filled-in-Fork.result c.filled-in-Fork.ensures.same c.filled-in-Fork.ensures.spends (λ b h run try x. c.filled-in-Fork.ensures.turn u.call b h (Child Right) run try x (fork_ends g.E.Edit.means c.args.run.now c.args.found.now c.args.nth c.piece-piece.result (is_said g (goal.at.returns-in-Fork-clause-goes_on g c).After-word-key) _ _ _ _ _ c.in-Fork.is))
     (c.fill-in-Fork-2.ensures.told u.call u.first (u.with_run (filling g.S.Shape.allows g.M.Machine.ready g.M.Machine.waits g.M.Machine.same g.E.Edit.means c.args.layout.now c.args.number u c.args.run.now c.args.found.now c.args.nth (Child Right))) u.is_layout u.is_number (at_right g (goal.at.returns-in-Fork-clause-goes_on g c).After-fill-in-Fork u x))
 
 pub returns-in-Fork-clause-steps : goal.returns-in-Fork-clause-steps
 returns-in-Fork-clause-steps g c =
     let fewer = fork_fewer g.E.Edit.means c.args.run.now c.args.found.now c.args.nth c.piece-piece.result (is_said g (goal.at.returns-in-Fork-clause-steps g c).After-word-key) _ _ _ _ _ c.in-Fork.is in
-    (node_steps _ _ _ _ 3 _ _ (let o = c.fill.ensures.one in let p = c.fill-2.ensures.one in let q = c.fill-in-Fork.ensures.one in let r = c.fill-in-Fork-2.ensures.one in omega (arith, o, p, q, r)) (weighs (turn_of g.E.Edit.means c.filled-in-Fork.new.self c.args.found.now c.filled-in-Fork.result) _ _ (c.filled-in-Fork.ensures.nearer (shared_nodes c.args.layout.now))) fewer)
+    (node_steps _ _ _ _ 3 _ _ (let o = c.fill.ensures.one in let p = c.fill-2.ensures.one in let q = c.fill-in-Fork.ensures.one in let r = c.fill-in-Fork-2.ensures.one in omega (arith, o, p, q, r)) (weighs_next g.E.Edit.means c.filled-in-Fork.new.self c.args.found.now c.filled-in-Fork.result _ _ (c.filled-in-Fork.ensures.nearer (shared_nodes c.args.layout.now))) fewer)
 
 pub returns-in-Fork-clause-nearer : goal.returns-in-Fork-clause-nearer
 returns-in-Fork-clause-nearer g c =
     let fewer = fork_fewer g.E.Edit.means c.args.run.now c.args.found.now c.args.nth c.piece-piece.result (is_said g (goal.at.returns-in-Fork-clause-nearer g c).After-word-key) _ _ _ _ _ c.in-Fork.is in
-    (node_nearer _ _ 3 _ _ (weighs (turn_of g.E.Edit.means c.filled-in-Fork.new.self c.args.found.now c.filled-in-Fork.result) _ _ (c.filled-in-Fork.ensures.nearer (shared_nodes c.args.layout.now))) fewer)
+    (node_nearer _ _ 3 _ _ (weighs_next g.E.Edit.means c.filled-in-Fork.new.self c.args.found.now c.filled-in-Fork.result _ _ (c.filled-in-Fork.ensures.nearer (shared_nodes c.args.layout.now))) fewer)
