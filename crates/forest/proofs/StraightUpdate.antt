@@ -254,8 +254,8 @@ module _ {M E : Type 0} (allows : Layout → History → ℕ → Type 0) (ready 
   looks_again ps m f node b scx x = x
 
   -- once its run has begun what comes next, it stands there
-  pub stands_there : (ps : List SeatedPass) (m now : UpdateRun E) (f copy : Found) (next : Next) (turn : Turn Updated) → copy ≡ f → now ≡ placed e m copy next → turn ≡ Ask (next_step e m copy next) → UpdaterTries allows ready waits same e layout number u ps m f next → UpdaterStands allows ready waits same e layout number u ps now turn
-  stands_there ps m now f copy next turn is place asks x = rw (place, asks) (subst (λ (g : Found). UpdaterTries allows ready waits same e layout number u ps m g next) (sym is) x)
+  pub stands_there : (ps : List SeatedPass) (m now : UpdateRun E) (f : Found) (next : Next) (turn : Turn Updated) → now ≡ placed e m f next → turn ≡ Ask (next_step e m f next) → UpdaterTries allows ready waits same e layout number u ps m f next → UpdaterStands allows ready waits same e layout number u ps now turn
+  stands_there ps m now f next turn place asks x = rw (place, asks) x
 
   -- it stands at its start
   pub stands_at_start : (ps : List SeatedPass) (m : UpdateRun E) → UpdaterBegins allows ready waits same e layout number u ps m → m.at ≡ Start
@@ -433,9 +433,9 @@ module _ {M E : Type 0} (allows : Layout → History → ℕ → Type 0) (ready 
           (let k = y.3.2 in done_at (from (from u.call y.0) y.3.0) h scx (record help { at = HelpCommit }) (u.tree h x.sound).lawful k.2 k.1 true (record help { at = HelpCommit }) k.0 refl refl)
 
   -- where a node could not be frozen, it waits to look whether all were
-  pub blocked : (ps : List SeatedPass) (m : UpdateRun E) (f copy : Found) (scx run : ScxRun) (s : Step) → copy ≡ f → run ≡ scx → ChangerWaits TreeAllows allows ready waits same layout number (changer m f) ps scx s → UpdaterWaits allows ready waits same e layout number u ps (scxing m copy run) s
+  pub blocked : (ps : List SeatedPass) (m : UpdateRun E) (f : Found) (scx run : ScxRun) (s : Step) → run ≡ scx → ChangerWaits TreeAllows allows ready waits same layout number (changer m f) ps scx s → UpdaterWaits allows ready waits same e layout number u ps (scxing m f run) s
   unfolding changer
-  blocked ps m f copy scx run s is is_run x = subst (λ (g : Found). UpdaterWaits allows ready waits same e layout number u ps (scxing m g run) s) (sym is) (subst (λ (r : ScxRun). UpdaterWaits allows ready waits same e layout number u ps (scxing m f r) s) (sym is_run) x)
+  blocked ps m f scx run s is x = subst (λ (r : ScxRun). UpdaterWaits allows ready waits same e layout number u ps (scxing m f r) s) (sym is) x
 
 -- its steps are those of its walk, and those that are left behind it
 pub walk_steps : (now old walk left tries rest : ℕ) → now ≤ old + walk → left ≤ tries + rest → now + left ≤ old + (tries + (walk + rest))
@@ -493,5 +493,5 @@ module _ {E : Type 0} (e : EditMeaning E) (m : UpdateRun E) (f : Found) (next sa
   fewer_as left i = subst (λ (n : Result Next Stop). left < left_then e m f n nodes) (sym is) i
 
 -- so much is left where a run stands once it has begun what comes next
-pub left_there : {E : Type 0} (e : EditMeaning E) (m now : UpdateRun E) (f copy : Found) (next : Next) (turn : Turn Updated) (nodes : ℕ) → copy ≡ f → now ≡ placed e m copy next → turn ≡ Ask (next_step e m copy next) → weight turn (update_left e now nodes) ≡ left_then e m f (Ok next) nodes
-left_there e m now f copy next turn nodes is place asks = rw (place, asks) (ap (λ (g : Found). suc (update_left e (placed e m g next) nodes)) is)
+pub left_there : {E : Type 0} (e : EditMeaning E) (m now : UpdateRun E) (f : Found) (next : Next) (turn : Turn Updated) (nodes : ℕ) → now ≡ placed e m f next → turn ≡ Ask (next_step e m f next) → weight turn (update_left e now nodes) ≡ left_then e m f (Ok next) nodes
+left_there e m now f next turn nodes place asks = rw (place, asks) refl

@@ -22,8 +22,9 @@ use updates::{Edit, Next, Stop, UpdateAt, UpdateRun, Updated, anew};
 
 /// Begins an update that walks to this key: its first try, as long as nothing is in its way. Where
 /// something is, the run stands at that place, and the turn is the one that it is to go on with; on
-/// the way there it stands nowhere.
-#[inline(always)]
+/// the way there it stands nowhere. Out of line, so that what makes its request stays small enough
+/// to be in line where the request is known.
+#[inline(never)]
 pub(crate) fn begin<S: Shape, M: Machine<S>, E: Edit + Drop>(
     words: &Words<S>,
     layout: &Layout,
@@ -39,7 +40,7 @@ pub(crate) fn begin<S: Shape, M: Machine<S>, E: Edit + Drop>(
     ensures stands { (u : Updater S.allows M.ready M.waits M.same E.means layout.now number) → UpdaterBegins S.allows M.ready M.waits M.same E.means layout.now number u seat.old.me.0.passes run.old → UpdaterStands S.allows M.ready M.waits M.same E.means layout.now number u seat.new.me.0.passes run.new result }
     ensures steps { seat_steps seat.new.me.0.passes + weight result (update_left E.means run.new (shared_nodes layout.now)) ≤ seat_steps seat.old.me.0.passes + update_left E.means run.old (shared_nodes layout.now) }
 {
-    let found = walk::call::<S, M>(words, layout, seat, number, key);
+    let found = anew(&walk::call::<S, M>(words, layout, seat, number, key));
     let next = run.test_share(&found);
     try_on::<S, M, E>(words, layout, seat, number, run, &found, next)
 }
@@ -75,7 +76,7 @@ fn try_on<S: Shape, M: Machine<S>, E: Edit + Drop>(
             Next::Change(scx) => {
                 return change::<S, M, E>(words, layout, seat, number, run, found, scx);
             }
-            Next::Wait { .. } => return run.begin(anew(found), now),
+            Next::Wait { .. } => return run.begin(*found, now),
         };
     }
 }
@@ -131,10 +132,7 @@ fn change<S: Shape, M: Machine<S>, E: Edit + Drop>(
     };
     let snaps = run.snaps.as_slice();
     match changing::call::<S, M, Tree, &[Snap]>(words, layout, seat, number, &snaps, change) {
-        Ok(()) => {
-            let found = anew(found);
-            Turn::Done(Updated::Done { found })
-        }
+        Ok(()) => Turn::Done(Updated::Done { found: *found }),
         Err(help) => {
             let update = run.update(found);
             let at = ScxAt::Help { help };
@@ -145,7 +143,7 @@ fn change<S: Shape, M: Machine<S>, E: Edit + Drop>(
                 at,
             };
             run.at = UpdateAt::Scx {
-                found: anew(found),
+                found: *found,
                 scx: scx_run,
             };
             Turn::Ask(Step {

@@ -1,4 +1,6 @@
-use Rattle.std.proofs.Common.{◌≡◌}
+use Rattle.std.proofs.Common.{◌≡◌, subst, sym}
+use Rattle.template.specs.declared.walk.Found.{Found}
+use Rattle.forest.specs.StraightWalk.{WalkerFinds}
 use Rattle.forest.specs.StraightUpdate.{Updater, UpdaterBegins, UpdaterGoesOn}
 use Rattle.forest.specs.Traces.{shared_nodes}
 use Rattle.updates.proofs.Lemmas.{weighs_next}
@@ -8,13 +10,14 @@ use Rattle.forest.proofs.straight.updating.begin.Goals.{After-test_share-next}
 use Rattle.forest.proofs.straight.updating.begin.Goals as goal
 
 -- whichever call began, behind its walk it goes on as its try does
-goes_on : (g : Over) (c : After-test_share-next g) (u : Updater {M = g.row.M.Denot} {E = g.row.E.Denot} g.S.Shape.allows g.M.Machine.ready g.M.Machine.waits g.M.Machine.same g.E.Edit.means c.args.layout.now c.args.number) → UpdaterBegins g.S.Shape.allows g.M.Machine.ready g.M.Machine.waits g.M.Machine.same g.E.Edit.means c.args.layout.now c.args.number u c.args.seat.now.me.0.passes c.args.run.now → UpdaterGoesOn g.S.Shape.allows g.M.Machine.ready g.M.Machine.waits g.M.Machine.same g.E.Edit.means c.args.layout.now c.args.number u c.call-found.new.seat.me.0.passes c.test_share-next.new.self c.call-found.result c.test_share-next.result
-goes_on g c u x = finds g.S.Shape.allows g.M.Machine.ready g.M.Machine.waits g.M.Machine.same g.E.Edit.means c.args.layout.now c.args.number u _ c.args.run.now c.test_share-next.new.self c.args.key c.call-found.result c.test_share-next.result c.requires.goal c.test_share-next.ensures.same c.test_share-next.ensures.spends
+goes_on : (g : Over) (c : After-test_share-next g) (u : Updater {M = g.row.M.Denot} {E = g.row.E.Denot} g.S.Shape.allows g.M.Machine.ready g.M.Machine.waits g.M.Machine.same g.E.Edit.means c.args.layout.now c.args.number) → UpdaterBegins g.S.Shape.allows g.M.Machine.ready g.M.Machine.waits g.M.Machine.same g.E.Edit.means c.args.layout.now c.args.number u c.args.seat.now.me.0.passes c.args.run.now → UpdaterGoesOn g.S.Shape.allows g.M.Machine.ready g.M.Machine.waits g.M.Machine.same g.E.Edit.means c.args.layout.now c.args.number u c.call.new.seat.me.0.passes c.test_share-next.new.self c.anew-found.result c.test_share-next.result
+goes_on g c u x = finds g.S.Shape.allows g.M.Machine.ready g.M.Machine.waits g.M.Machine.same g.E.Edit.means c.args.layout.now c.args.number u _ c.args.run.now c.test_share-next.new.self c.args.key c.anew-found.result c.test_share-next.result c.requires.goal c.test_share-next.ensures.same c.test_share-next.ensures.spends
     (λ b h. c.test_share-next.ensures.turn u.call b h)
-    (c.call-found.ensures.finds (walker g.S.Shape.allows g.M.Machine.ready g.M.Machine.waits g.M.Machine.same g.E.Edit.means c.args.layout.now c.args.number u c.args.run.now) (walks g.S.Shape.allows g.M.Machine.ready g.M.Machine.waits g.M.Machine.same g.E.Edit.means c.args.layout.now c.args.number u _ c.args.run.now c.args.key c.requires.goal x))
+    (subst (λ (f : Found). WalkerFinds g.S.Shape.allows g.M.Machine.ready g.M.Machine.waits g.M.Machine.same c.args.layout.now c.args.number (walker g.S.Shape.allows g.M.Machine.ready g.M.Machine.waits g.M.Machine.same g.E.Edit.means c.args.layout.now c.args.number u c.args.run.now) c.call.new.seat.me.0.passes c.args.key f) (sym c.anew-found.ensures)
+    (c.call.ensures.finds (walker g.S.Shape.allows g.M.Machine.ready g.M.Machine.waits g.M.Machine.same g.E.Edit.means c.args.layout.now c.args.number u c.args.run.now) (walks g.S.Shape.allows g.M.Machine.ready g.M.Machine.waits g.M.Machine.same g.E.Edit.means c.args.layout.now c.args.number u _ c.args.run.now c.args.key c.requires.goal x)))
 
-pub call-found-requires-clause-waits : goal.call-found-requires-clause-waits
-call-found-requires-clause-waits g c = let r = c.requires.begins in (
+pub call-requires-clause-waits : goal.call-requires-clause-waits
+call-requires-clause-waits g c = let r = c.requires.begins in (
   walker g.S.Shape.allows g.M.Machine.ready g.M.Machine.waits g.M.Machine.same g.E.Edit.means c.args.layout.now c.args.number r.0 c.args.run.now,
   walks g.S.Shape.allows g.M.Machine.ready g.M.Machine.waits g.M.Machine.same g.E.Edit.means c.args.layout.now c.args.number r.0 _ c.args.run.now c.args.key c.requires.goal r.1,
 )
@@ -29,4 +32,4 @@ pub returns-clause-steps : goal.returns-clause-steps
 returns-clause-steps g c =
     let r = c.requires.begins in
     rw (stands_at_start g.S.Shape.allows g.M.Machine.ready g.M.Machine.waits g.M.Machine.same g.E.Edit.means c.args.layout.now c.args.number r.0 _ c.args.run.now r.1)
-    (both_steps _ _ _ c.try_on.ensures.steps (walk_steps _ _ _ _ _ _ c.call-found.ensures.steps (weighs_next g.E.Edit.means c.test_share-next.new.self c.call-found.result c.test_share-next.result _ _ (c.test_share-next.ensures.nearer (shared_nodes c.args.layout.now)))))
+    (both_steps _ _ _ c.try_on.ensures.steps (walk_steps _ _ _ _ _ _ c.call.ensures.steps (weighs_next g.E.Edit.means c.test_share-next.new.self c.anew-found.result c.test_share-next.result _ _ (c.test_share-next.ensures.nearer (shared_nodes c.args.layout.now)))))

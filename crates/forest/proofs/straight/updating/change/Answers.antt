@@ -1,12 +1,8 @@
-use Rattle.std.proofs.Common.{◌≡◌, ◌∙◌, subst, sym}
-use Rattle.arena.specs.declared.machine.Turn.TheVariants.{Done}
+use Rattle.std.proofs.Common.{◌≡◌, ◌∙◌}
 use Rattle.prims.specs.declared.scx.ScxAt.TheVariants.{Help}
 use Rattle.prims.specs.declared.scx.ScxRun.{ScxRun}
 use Rattle.prims.specs.declared.update.Update.{Update}
-use Rattle.template.specs.declared.walk.Found.{Found}
 use Rattle.updates.specs.Next.{update_of}
-use Rattle.updates.specs.declared.update.Updated.TheVariants.{Done as IsDone}
-use Rattle.forest.specs.StraightUpdate.{UpdaterStands}
 use Rattle.forest.proofs.StraightUpdate.{changer, begins_change, changed, blocked, update_is}
 use Rattle.forest.proofs.straight.updating.change.Goals as goal
 
@@ -15,10 +11,10 @@ call-requires-clause-waits g c = let r = c.requires.tries in let u = r.0 in (cha
 
 pub returns-in-Ok-clause-stands : goal.returns-in-Ok-clause-stands
 returns-in-Ok-clause-stands g c = λ u x. let t = c.in-Ok.ensures.commits (changer g.S.Shape.allows g.M.Machine.ready g.M.Machine.waits g.M.Machine.same g.E.Edit.means c.args.layout.now c.args.number u c.args.run.now c.args.found.now) (begins_change g.S.Shape.allows g.M.Machine.ready g.M.Machine.waits g.M.Machine.same g.E.Edit.means c.args.layout.now c.args.number u _ c.args.run.now c.args.found.now c.args.scx c.as_slice-snaps.result.now c.plan.result c.old.result c.fresh.result c.as_slice-snaps.ensures.value c.plan.ensures c.old.ensures c.fresh.ensures x) in
-    subst (λ (f : Found). UpdaterStands g.S.Shape.allows g.M.Machine.ready g.M.Machine.waits g.M.Machine.same g.E.Edit.means c.args.layout.now c.args.number u c.call.new.seat.me.0.passes c.args.run.now (Done (IsDone f))) (sym c.anew-found.ensures) (changed g.S.Shape.allows g.M.Machine.ready g.M.Machine.waits g.M.Machine.same g.E.Edit.means c.args.layout.now c.args.number u _ c.args.run.now c.args.found.now _ _ t.0 t.1 g.met.E.Edit.laws.at_found t.2)
+    changed g.S.Shape.allows g.M.Machine.ready g.M.Machine.waits g.M.Machine.same g.E.Edit.means c.args.layout.now c.args.number u _ c.args.run.now c.args.found.now _ _ t.0 t.1 g.met.E.Edit.laws.at_found t.2
 
 pub returns-in-Err-clause-stands : goal.returns-in-Err-clause-stands
-returns-in-Err-clause-stands g c = λ u x. blocked g.S.Shape.allows g.M.Machine.ready g.M.Machine.waits g.M.Machine.same g.E.Edit.means c.args.layout.now c.args.number u _ c.args.run.now c.args.found.now c.anew.result _ _ _ c.anew.ensures same (c.in-Err.ensures.blocked (changer g.S.Shape.allows g.M.Machine.ready g.M.Machine.waits g.M.Machine.same g.E.Edit.means c.args.layout.now c.args.number u c.args.run.now c.args.found.now) (begins_change g.S.Shape.allows g.M.Machine.ready g.M.Machine.waits g.M.Machine.same g.E.Edit.means c.args.layout.now c.args.number u _ c.args.run.now c.args.found.now c.args.scx c.as_slice-snaps.result.now c.plan.result c.old.result c.fresh.result c.as_slice-snaps.ensures.value c.plan.ensures c.old.ensures c.fresh.ensures x))
+returns-in-Err-clause-stands g c = λ u x. blocked g.S.Shape.allows g.M.Machine.ready g.M.Machine.waits g.M.Machine.same g.E.Edit.means c.args.layout.now c.args.number u _ c.args.run.now c.args.found.now _ _ _ same (c.in-Err.ensures.blocked (changer g.S.Shape.allows g.M.Machine.ready g.M.Machine.waits g.M.Machine.same g.E.Edit.means c.args.layout.now c.args.number u c.args.run.now c.args.found.now) (begins_change g.S.Shape.allows g.M.Machine.ready g.M.Machine.waits g.M.Machine.same g.E.Edit.means c.args.layout.now c.args.number u _ c.args.run.now c.args.found.now c.args.scx c.as_slice-snaps.result.now c.plan.result c.old.result c.fresh.result c.as_slice-snaps.ensures.value c.plan.ensures c.old.ensures c.fresh.ensures x))
   where
     parts : Update
     parts = record { snaps = c.as_slice-snaps.result.now; plan = c.plan.result; old = c.old.result; fresh = c.fresh.result }

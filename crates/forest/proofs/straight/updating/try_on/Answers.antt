@@ -64,10 +64,10 @@ returns-in-Err-clause-steps g c =
     left_as g.E.Edit.means c.loop-next.run c.args.found.now c.loop-next.next (Err c.in-Err.stop) c.in-Err.is (shared_nodes c.args.layout.now) _ _ _ (omega (arith, w)) c.loop-next.invariant.steps
 
 pub returns-in-Wait-clause-stands : goal.returns-in-Wait-clause-stands
-returns-in-Wait-clause-stands g c = λ u x. stands_there g.S.Shape.allows g.M.Machine.ready g.M.Machine.waits g.M.Machine.same g.E.Edit.means c.args.layout.now c.args.number u _ c.loop-next.run c.begin.new.self c.args.found.now c.anew.result c.in-Ok.now c.begin.result c.anew.ensures c.begin.ensures.place c.begin.ensures.asks
+returns-in-Wait-clause-stands g c = λ u x. stands_there g.S.Shape.allows g.M.Machine.ready g.M.Machine.waits g.M.Machine.same g.E.Edit.means c.args.layout.now c.args.number u _ c.loop-next.run c.begin.new.self c.args.found.now c.in-Ok.now c.begin.result c.begin.ensures.place c.begin.ensures.asks
     (goes_as g.S.Shape.allows g.M.Machine.ready g.M.Machine.waits g.M.Machine.same g.E.Edit.means c.args.layout.now c.args.number u _ c.loop-next.run c.args.found.now c.loop-next.next (Ok c.in-Ok.now) c.in-Ok.is (c.loop-next.invariant.goes_on u x))
 
 pub returns-in-Wait-clause-steps : goal.returns-in-Wait-clause-steps
 returns-in-Wait-clause-steps g c =
-    let w = left_there g.E.Edit.means c.loop-next.run c.begin.new.self c.args.found.now c.anew.result c.in-Ok.now c.begin.result (shared_nodes c.args.layout.now) c.anew.ensures c.begin.ensures.place c.begin.ensures.asks in
+    let w = left_there g.E.Edit.means c.loop-next.run c.begin.new.self c.args.found.now c.in-Ok.now c.begin.result (shared_nodes c.args.layout.now) c.begin.ensures.place c.begin.ensures.asks in
     left_as g.E.Edit.means c.loop-next.run c.args.found.now c.loop-next.next (Ok c.in-Ok.now) c.in-Ok.is (shared_nodes c.args.layout.now) _ _ _ (omega (arith, w)) c.loop-next.invariant.steps
