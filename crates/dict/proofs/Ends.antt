@@ -34,7 +34,7 @@ use Rattle.dict.proofs.Endings.{insert_says, delete_says, get_says, successor_sa
 -- What they answer is of a form that such a call may reply
 
 update_form : (e : MapEdit) (a : Updated) → MayReply (Edit e) (word_form (update_reply a))
-update_form e (updated.Done found) = tt
+update_form e (updated.Done key value) = tt
 update_form e (updated.Contended node scx) = tt
 update_form e (updated.Full full) = tt
 

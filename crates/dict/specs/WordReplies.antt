@@ -12,7 +12,7 @@ use Rattle.dict.specs.declared.told.WordReply.TheVariants.{Value, Pair, Pairs, C
 
 -- an edit replies what its leaf tells of the key
 abbrev pub update_reply : Updated → WordReply
-update_reply (updated.Done found) = Value found.value
+update_reply (updated.Done key value) = Value value
 update_reply (updated.Contended node scx) = Contended node scx
 update_reply (updated.Full full) = Full full
 

@@ -30,7 +30,7 @@ impl WordReply {
         ensures { result ≡ update_reply updated }
     {
         match updated {
-            Updated::Done { found } => WordReply::Value(found.value),
+            Updated::Done { key: _, value } => WordReply::Value(value),
             Updated::Contended { node, scx } => WordReply::Contended { node, scx },
             Updated::Full(full) => WordReply::Full(full),
         }

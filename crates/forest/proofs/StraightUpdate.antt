@@ -26,7 +26,6 @@ use Rattle.updates.specs.declared.edit.Nth.{Nth}
 use Rattle.updates.specs.declared.edit.Nth.TheVariants.{First, Second, Third}
 use Rattle.updates.specs.declared.edit.Piece.{Piece}
 use Rattle.updates.specs.declared.edit.Piece.TheVariants.{Leaf, Fork}
-use Rattle.updates.specs.declared.update.Updated.TheVariants.{Done as IsDone}
 use Rattle.updates.specs.Pieces.{fills_behind, nth_node, part_behind, word_of, HasPlace}
 use Rattle.updates.specs.Sound.{FillsWell, IsAtFound}
 use Rattle.updates.proofs.Lemmas.{fills_next, fills_word, placed_same, scx_asks, scx_done}
@@ -50,7 +49,7 @@ use Rattle.template.specs.declared.walk.Goal.TheVariants.{Key as ToKey}
 use Rattle.template.specs.declared.walk.WalkRun.{WalkRun}
 use Rattle.template.proofs.Lemmas.{own_since, walk_begins}
 use Rattle.updates.specs.Edits.{EditMeaning}
-use Rattle.updates.specs.Known.{Begins, CanFill, CanLook, IsFilledUpTo, IsNeeded, IsUntouched, Loads, Looks, UpdateAnswers, UpdateIsReady, UpdateWaits, UpdateTurn, Walks, copied}
+use Rattle.updates.specs.Known.{Begins, CanFill, CanLook, IsFilledUpTo, IsNeeded, IsUntouched, Loads, Looks, UpdateAnswers, UpdateIsReady, UpdateWaits, UpdateTurn, Walks, copied, done_at as done_with}
 use Rattle.updates.specs.Laws.HandScx.{from}
 use Rattle.updates.specs.Laws.Kept.{idle_over}
 use Rattle.updates.specs.Steps.{IsSpending, IsWanted, Spends, fills_left, node_tries, scx_tries, update_left, works_after}
@@ -407,7 +406,7 @@ module _ {M E : Type 0} (allows : Layout → History → ℕ → Type 0) (ready 
       is = update_is (update_of e m f) snaps plan old fresh is_snaps is_plan is_old is_fresh
 
   -- once that is done it has answered
-  pub changed : (ps : List SeatedPass) (m : UpdateRun E) (f : Found) (snaps : List Snap) (change : Change) (help : HelpRun) (v : ℕ) → IsAtFound e → ChangerIsTold TreeAllows allows ready waits same layout number (changer m f) ps (changing_at snaps change (Help (record help { at = HelpCommit }))) v → UpdaterStands allows ready waits same e layout number u ps m (Done (IsDone f))
+  pub changed : (ps : List SeatedPass) (m : UpdateRun E) (f : Found) (snaps : List Snap) (change : Change) (help : HelpRun) (v : ℕ) → IsAtFound e → ChangerIsTold TreeAllows allows ready waits same layout number (changer m f) ps (changing_at snaps change (Help (record help { at = HelpCommit }))) v → UpdaterStands allows ready waits same e layout number u ps m (Done (done_with f))
   unfolding changer
   changed ps m f snaps change help v sound x = record {
     known = x.known;
@@ -428,14 +427,17 @@ module _ {M E : Type 0} (allows : Layout → History → ℕ → Type 0) (ready 
       y : UpdateIsReady e here u.call h (Some v)
       y = u.tells here h (Some v) x.so.0
 
-      answers : UpdateAnswers e m u.call h (IsDone f)
+      answers : UpdateAnswers e m u.call h (done_with f)
       answers = scx_done e sound here scx scx f u.call y.0 y.3.0 h (Done ScxDone) y.1 y.3.1 refl refl refl refl
           (let k = y.3.2 in done_at (from (from u.call y.0) y.3.0) h scx (record help { at = HelpCommit }) (u.tree h x.sound).lawful k.2 k.1 true (record help { at = HelpCommit }) k.0 refl refl)
 
   -- where a node could not be frozen, it waits to look whether all were
-  pub blocked : (ps : List SeatedPass) (m : UpdateRun E) (f : Found) (scx run : ScxRun) (s : Step) → run ≡ scx → ChangerWaits TreeAllows allows ready waits same layout number (changer m f) ps scx s → UpdaterWaits allows ready waits same e layout number u ps (scxing m f run) s
+  blocked : (ps : List SeatedPass) (m : UpdateRun E) (f : Found) (scx run : ScxRun) (s : Step) → run ≡ scx → ChangerWaits TreeAllows allows ready waits same layout number (changer m f) ps scx s → UpdaterWaits allows ready waits same e layout number u ps (scxing m f run) s
   unfolding changer
   blocked ps m f scx run s is x = subst (λ (r : ScxRun). UpdaterWaits allows ready waits same e layout number u ps (scxing m f r) s) (sym is) x
+
+  pub blocks : (ps : List SeatedPass) (m now : UpdateRun E) (f : Found) (scx run : ScxRun) (s : Step) (turn : Turn Updated) → now ≡ scxing m f run → turn ≡ Ask s → run ≡ scx → ChangerWaits TreeAllows allows ready waits same layout number (changer m f) ps scx s → UpdaterStands allows ready waits same e layout number u ps now turn
+  blocks ps m now f scx run s turn place asks is x = rw (place, asks) (blocked ps m f scx run s is x)
 
 -- its steps are those of its walk, and those that are left behind it
 pub walk_steps : (now old walk left tries rest : ℕ) → now ≤ old + walk → left ≤ tries + rest → now + left ≤ old + (tries + (walk + rest))
@@ -495,3 +497,7 @@ module _ {E : Type 0} (e : EditMeaning E) (m : UpdateRun E) (f : Found) (next sa
 -- so much is left where a run stands once it has begun what comes next
 pub left_there : {E : Type 0} (e : EditMeaning E) (m now : UpdateRun E) (f : Found) (next : Next) (turn : Turn Updated) (nodes : ℕ) → now ≡ placed e m f next → turn ≡ Ask (next_step e m f next) → weight turn (update_left e now nodes) ≡ left_then e m f (Ok next) nodes
 left_there e m now f next turn nodes place asks = rw (place, asks) refl
+
+-- what is not more than something is not more than what that is not more than
+pub through : (a b c : ℕ) → a ≤ b → b ≤ c → a ≤ c
+through a b c i j = omega (arith, i, j)

@@ -59,7 +59,7 @@ impl Ended {
             Ended::Scx(Scx::Lost { node, scx }) => Answer::Lost { node, scx },
             Ended::Vlx(Vlx::Same) => Answer::Same,
             Ended::Vlx(Vlx::Changed { node, scx }) => Answer::Changed { node, scx },
-            Ended::Edit(Updated::Done { found }) => Answer::Map(Reply::Value(found.value)),
+            Ended::Edit(Updated::Done { key: _, value }) => Answer::Map(Reply::Value(value)),
             Ended::Edit(Updated::Contended { node, scx }) => {
                 Answer::Map(Reply::Contended { node, scx })
             }

@@ -106,7 +106,7 @@ fn two_pairs(rt: &impl Abort, table: &mut Table) -> Share {
 /// The key and the value that an answer tells, if it tells a pair.
 fn pair(answer: Option<Updated>) -> Option<(u64, u64)> {
     match answer {
-        Some(Updated::Done { found }) => Some((found.key, found.value?)),
+        Some(Updated::Done { key, value }) => Some((key, value?)),
         _ => None,
     }
 }
@@ -146,7 +146,7 @@ fn a_walk_to_the_least_key_loads_no_key_of_a_fork(rt: HostRuntime) -> Result<(),
         got = made(&mut table, step);
     }
     let answer = match Machine::<Tree>::next(&mut walk, got) {
-        Turn::Done(found) => Some(Updated::Done { found }),
+        Turn::Done(found) => Some(Updated::at(&found)),
         Turn::Ask(_) => None,
     };
     assert_eq!(rt; pair(answer), Some((5, 50)));

@@ -51,7 +51,7 @@ impl Told {
     fn of(turn: Turn<Updated>) -> Turn<Told> {
         Turn::Done(match turn {
             Turn::Ask(step) => return Turn::Ask(step),
-            Turn::Done(Updated::Done { found }) => Told::Done { old: found.value },
+            Turn::Done(Updated::Done { value, .. }) => Told::Done { old: value },
             Turn::Done(Updated::Contended { node, scx }) => Told::Contended { node, scx },
             Turn::Done(Updated::Full(full)) => Told::Full(full),
         })

@@ -40,13 +40,12 @@ use Rattle.updates.specs.declared.edit.Look.TheVariants.{At}
 use Rattle.updates.specs.declared.edit.Nth.{Nth}
 use Rattle.updates.specs.declared.edit.Piece.{Piece}
 use Rattle.updates.specs.declared.update.Updated.{Updated}
-use Rattle.updates.specs.declared.update.Updated.TheVariants.{Done as UpdateDone}
 use Rattle.updates.specs.declared.update.UpdateAt.TheVariants.{Walk, Look, Fill, Scx}
 use Rattle.updates.specs.declared.update.UpdateRun.{UpdateRun}
 use Rattle.template.specs.Blame.{IsContended}
 use Rattle.updates.specs.Edits.{EditMeaning}
 use Rattle.updates.specs.Sound.{IsAtFound}
-use Rattle.updates.specs.Known.{RestsWith, AreUsable, CoversLeaf, Begins, Walks, CanLook, CanFill, Scxs, IsUntouched, TryWaits, UpdateWaits, UpdateAnswers}
+use Rattle.updates.specs.Known.{RestsWith, AreUsable, CoversLeaf, Begins, Walks, CanLook, CanFill, Scxs, IsUntouched, TryWaits, UpdateWaits, UpdateAnswers, done_at}
 use Rattle.updates.specs.Laws.Entered.{none_joined, none_lost, none_quiet}
 use Rattle.updates.specs.Laws.HandScx.{from}
 use Rattle.updates.specs.Laws.Kept.{idle_rests}
@@ -191,18 +190,23 @@ module _ {E : Type 0} (e : EditMeaning E) where
   scx_rests m scx f c b begin h x finished = rests_again c h m.share scx x.run.1.lawful x.share x.next_scx x.over (λ z. (let a = x.own_scx.from in omega (arith, z))) finished
 
   -- its SCX is done
-  pub scx_done : IsAtFound e → (m : UpdateRun E) (scx after : ScxRun) (f : Found) (c : Call) (b begin h : History) (turn : Turn ScxAnswer) → IsTry c b → Scxs e m (from c b) h f scx begin → after.scx ≡ scx.scx → after.update ≡ scx.update → after.call ≡ scx.call → turn ≡ Done ScxDone → MatchTurn turn (ScxWaits TreeAllows after (from c begin) h) (ScxAnswers after (from c begin) h) → UpdateAnswers e m c h (UpdateDone f)
+  pub scx_done : IsAtFound e → (m : UpdateRun E) (scx after : ScxRun) (f : Found) (c : Call) (b begin h : History) (turn : Turn ScxAnswer) → IsTry c b → Scxs e m (from c b) h f scx begin → after.scx ≡ scx.scx → after.update ≡ scx.update → after.call ≡ scx.call → turn ≡ Done ScxDone → MatchTurn turn (ScxWaits TreeAllows after (from c begin) h) (ScxAnswers after (from c begin) h) → UpdateAnswers e m c h (done_at f)
   scx_done laws m scx after f c b begin h turn try x is_scx is_update is_call done w = (
     scx_rests m scx f c b begin h x finished,
-    inr (
-      has_made e laws m scx after f c b begin h try x is_scx is_update is_call is_done,
-      record {
-        moment = begin;
-        within = ends_trans h (is_done.entry.row ⊳ is_done.entry.before) begin is_done.entry.is.within (inr is_done.entry.is.since);
-        has_found = found_wider c b try.since begin (path_key (e.goal m.edit)) f x.found;
-        needed = x.need;
-      },
-    ),
+    record {
+      found = f;
+      is_key = refl;
+      is_value = refl;
+      is_done = inr (
+        has_made e laws m scx after f c b begin h try x is_scx is_update is_call is_done,
+        record {
+          moment = begin;
+          within = ends_trans h (is_done.entry.row ⊳ is_done.entry.before) begin is_done.entry.is.within (inr is_done.entry.is.since);
+          has_found = found_wider c b try.since begin (path_key (e.goal m.edit)) f x.found;
+          needed = x.need;
+        },
+      );
+    },
   )
     where
       is_done : IsDone (from c begin) h after

@@ -164,6 +164,10 @@ pub record HasMade (edit : MapEdit) (c : Call) (h : History) (number : ℕ) (old
   pub owner : entry.owner ≡ c.pass
   pub call : entry.call ≡ number
 
+-- what an update answers that is done at this leaf
+abbrev pub done_at : Found → Updated
+done_at f = Done f.key f.value
+
 module _ {E : Type 0} (e : EditMeaning E) where
   -- each snapshot is of the node that the edit has named behind those before it
   abbrev pub AreSeen : E → Found → List Snap → Type 0
@@ -405,9 +409,20 @@ module _ {E : Type 0} (e : EditMeaning E) where
     pub has_found : HasFound (e.goal ed) c moment found
     pub needed : e.needs ed found ≢ Nothing
 
+  -- there was nothing to make at this leaf, or the edit is made there
+  abbrev pub IsDoneAt : E → ℕ → Call → History → Found → Type 0
+  IsDoneAt ed number c h found = HasNothingToMake ed c h found ⊎ (HasMade (e.edit ed found) c h number found.value × WasNeeded ed c h found)
+
+  -- so it is at a leaf of this key, which had this value
+  pub record IsDoneWith (ed : E) (number : ℕ) (c : Call) (h : History) (key : ℕ) (value : Option ℕ) : Type 0 where
+    pub found : Found
+    pub is_key : found.key ≡ key
+    pub is_value : found.value ≡ value
+    pub is_done : IsDoneAt ed number c h found
+
   -- what its answer says
   abbrev pub UpdateSays : UpdateRun E → Call → History → Updated → Type 0
-  UpdateSays m c h (Done found) = HasNothingToMake m.edit c h found ⊎ (HasMade (e.edit m.edit found) c h m.call found.value × WasNeeded m.edit c h found)
+  UpdateSays m c h (Done key value) = IsDoneWith m.edit m.call c h key value
   UpdateSays m c h (FullAnswer full) = IsFullFor m c h full
   UpdateSays m c h (Contended node scx) = IsContended c h node.0 scx.0 × (m.tries ≡ 0) × HasEnteredNone c.layout c.pass h c.start
 

@@ -17,7 +17,7 @@ use Rattle.prims.specs.declared.scx.ScxAt.TheVariants.{Plan as AtPlan}
 use Rattle.prims.specs.declared.update.Update.{Update}
 use Rattle.template.specs.declared.walk.Found.{Found}
 use Rattle.updates.specs.Edits.{EditMeaning}
-use Rattle.updates.specs.Known.{Begins, UpdateAnswers, UpdateWaits}
+use Rattle.updates.specs.Known.{Begins, UpdateAnswers, UpdateWaits, done_at}
 use Rattle.updates.specs.Pieces.{nth_node, plan_over, top_of, word_of}
 use Rattle.updates.specs.Steps.{IsSpending, Spends, try_left, update_left}
 use Rattle.updates.specs.Tries.{IsTry}
@@ -29,7 +29,7 @@ use Rattle.updates.specs.declared.update.UpdateAt.TheVariants.{Look, Load, Fill,
 use Rattle.updates.specs.declared.update.UpdateRun.{UpdateRun}
 use Rattle.updates.specs.declared.update.Stop.{Stop}
 use Rattle.updates.specs.declared.update.Stop.TheVariants.{Nothing, Lost, Full as FullStop}
-use Rattle.updates.specs.declared.update.Updated.TheVariants.{Done, Full as FullAnswer}
+use Rattle.updates.specs.declared.update.Updated.TheVariants.{Full as FullAnswer}
 
 -- it makes the same edit, in the same call
 abbrev pub IsSameUpdate : {E : Type 0} → UpdateRun E → UpdateRun E → Type 0
@@ -68,7 +68,7 @@ module _ {E : Type 0} (e : EditMeaning E) where
 
   -- a try may end so: with what its update answers, or lost to another pass
   abbrev pub MayStop : Call → History → UpdateRun E → Found → Stop → Type 0
-  MayStop c h m f Nothing = UpdateAnswers e m c h (Done f)
+  MayStop c h m f Nothing = UpdateAnswers e m c h (done_at f)
   MayStop c h m f (Lost node scx) = Begins e m c h × IsTry c h × IsContended c h node.0 scx.0
   MayStop c h m f (FullStop full) = UpdateAnswers e m c h (FullAnswer full)
 

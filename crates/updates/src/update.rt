@@ -9,18 +9,35 @@ use arena::{
     ScxWord, Share, Step, Turn, Word,
 };
 use arrayvec::ArrayVec;
+use help::HelpRun;
 use prims::{Llx, LlxAt, LlxRun, Scx, ScxAt, ScxRun, Snap, SnapList, Snaps, Update};
 use template::{Found, Trail, Tree, WalkRun};
 
 /// What an update answers.
 #[derive(Clone, Copy, Debug, PartialEq, Eq)]
 pub enum Updated {
-    /// It is made, or there was nothing to make, at this leaf, which tells what the key had.
-    Done { found: Found },
+    /// It is made, or there was nothing to make, at a leaf of this key, which had this value.
+    Done { key: u64, value: Option<u64> },
     /// All tries were lost, the last to this SCX-record over this node.
     Contended { node: NodeNo, scx: ScxNo },
     /// The share has too little left for the next try.
     Full(Full),
+}
+
+impl Updated {
+    ghost use Rattle.std.specs.Prelude.{◌≡◌};
+    ghost use Rattle.updates.specs.Known.{done_at};
+
+    /// What an update answers that is done at this leaf.
+    #[inline(always)]
+    pub fn at(found: &Found) -> Updated
+        ensures { result ≡ done_at found.now }
+    {
+        Updated::Done {
+            key: found.key,
+            value: found.value,
+        }
+    }
 }
 
 /// Why a try ends before its SCX.
@@ -200,6 +217,7 @@ impl<E: Edit + Drop> UpdateRun<E> {
     }
 
     /// Ends a try that is lost to this SCX-record over this node, and begins the next if there is one.
+    #[cold]
     fn lost(&mut self, node: NodeNo, scx: ScxNo) -> Turn<Updated>
         ensures turn { (c : Call) (h : History) → IsRun TreeAllows c.layout h → Begins E.means self.old c h → IsTry c h → IsContended c h node.0 scx.0 → UpdateTurn E.means c h self.new result }
         ensures same { IsSameUpdate self.old self.new }
@@ -525,6 +543,7 @@ impl<E: Edit + Drop> UpdateRun<E> {
     }
 
     /// What its SCX is to do.
+    #[inline(always)]
     pub fn update(&self, found: &Found) -> Update
         ensures { result ≡ update_of E.means self.now found.now }
     {
@@ -616,6 +635,28 @@ impl<E: Edit + Drop> UpdateRun<E> {
         })
     }
 
+    /// Stands in its SCX where a node could not be frozen.
+    #[cold]
+    pub fn block(&mut self, found: Found, scx: ScxNo, help: HelpRun) -> Turn<Updated>
+        ensures place { self.new ≡ record self.old { at = UpdateAt.Scx found record { scx = scx; call = self.old.call; update = update_of E.means self.old found; at = ScxAt.Help help } } }
+        ensures asks { result ≡ Turn.Ask record { kind = Kind.LoadAllFrozen; word = Word.Scx scx ScxWord.AllFrozen; access = Access.Load } }
+    {
+        let update = self.update(&found);
+        let (call, at) = (self.call, ScxAt::Help { help });
+        let run = ScxRun {
+            scx,
+            call,
+            update,
+            at,
+        };
+        self.at = UpdateAt::Scx { found, scx: run };
+        Turn::Ask(Step {
+            kind: Kind::LoadAllFrozen,
+            word: Word::Scx(scx, ScxWord::AllFrozen),
+            access: Access::Load,
+        })
+    }
+
     /// Begins what the try does next, or ends it.
     fn go_on(&mut self, found: Found, next: Result<Next, Stop>) -> Turn<Updated>
         ensures turn { (c : Call) (h : History) → IsRun TreeAllows c.layout h → GoesOn E.means c h self.old found next → UpdateTurn E.means c h self.new result }
@@ -631,7 +672,7 @@ impl<E: Edit + Drop> UpdateRun<E> {
     }
 
     /// Ends a try before its SCX, and begins the next if it is lost and there is one.
-    #[cold]
+    #[inline(always)]
     pub fn stop(&mut self, found: &Found, stop: Stop) -> Turn<Updated>
         ensures turn { (c : Call) (h : History) → IsRun TreeAllows c.layout h → MayStop E.means c h self.old found.now stop → UpdateTurn E.means c h self.new result }
         ensures same { IsSameUpdate self.old self.new }
@@ -640,7 +681,7 @@ impl<E: Edit + Drop> UpdateRun<E> {
         ensures tries { (self.old.tries ≤ self.new.tries + 1) × (self.new.tries ≤ self.old.tries) }
     {
         match stop {
-            Stop::Nothing => Turn::Done(Updated::Done { found: anew(found) }),
+            Stop::Nothing => Turn::Done(Updated::at(found)),
             Stop::Lost { node, scx } => self.lost(node, scx),
             Stop::Full(full) => Turn::Done(Updated::Full(full)),
         }
@@ -659,7 +700,7 @@ impl<E: Edit + Drop> UpdateRun<E> {
                 self.at = UpdateAt::Scx { found, scx };
                 Turn::Ask(step)
             }
-            Turn::Done(Scx::Done) => Turn::Done(Updated::Done { found }),
+            Turn::Done(Scx::Done) => Turn::Done(Updated::at(&found)),
             Turn::Done(Scx::Lost { node, scx }) => self.lost(node, scx),
         }
     }

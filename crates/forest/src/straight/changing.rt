@@ -179,7 +179,8 @@ pub(crate) fn call<S: Shape, M: Machine<S>, T: Shape, L: SnapList>(
         → ChangerWaits T.allows S.allows M.ready M.waits M.same layout.now number k seat.old.me.0.passes (changing_at (L.list snaps.now) change ScxAt.Plan) (scx_fill change.scx ScxWord.Plan change.plan.0)
         → ChangerWaits T.allows S.allows M.ready M.waits M.same layout.now number k seat.new.me.0.passes (changing_at (L.list snaps.now) change (ScxAt.Help help)) (all_frozen_load change.scx)) }
 {
-    fill_all::<S, M, T, L>(words, layout, seat, number, snaps, change);
+    let layout = *layout;
+    fill_all::<S, M, T, L>(words, &layout, seat, number, snaps, change);
     let begun = HelpRun::new(change.scx);
-    helping::call::<S, M, T>(words, layout, seat, number, begun)
+    helping::call::<S, M, T>(words, &layout, seat, number, begun)
 }

@@ -82,7 +82,7 @@ fn freeze_all<S: Shape, M: Machine<S>, T: Shape>(
     ensures table { (seat.new.table_id ≡ seat.old.table_id) × (seat.new.me.1 ≡ seat.old.me.1) }
     ensures steps { seat_steps seat.new.me.0.passes ≤ seat_steps seat.old.me.0.passes + 12 }
     ensures left { result ≡ false → help_left run.new.at ≤ 1 }
-    ensures same { run.new.scx ≡ run.old.scx }
+    ensures same { (run.new.scx ≡ run.old.scx) × (run.new.plan ≡ run.old.plan) }
     ensures frozen { result ≡ true → (k : Helper T.allows S.allows M.ready M.waits M.same layout.now number)
         → HelperWaits T.allows S.allows M.ready M.waits M.same layout.now number k seat.old.me.0.passes (record run.old { at = HelpAt.Member MemberIndex.First }) (settled_load run.old.scx.0 (ScxWord.Member 0))
         → HelperWaits T.allows S.allows M.ready M.waits M.same layout.now number k seat.new.me.0.passes (record run.new { at = HelpAt.SetFrozen }) record { kind = Kind.SetFrozen; word = Word.Scx run.new.scx ScxWord.AllFrozen; access = Access.Store 1 } }
@@ -91,23 +91,25 @@ fn freeze_all<S: Shape, M: Machine<S>, T: Shape>(
         → HelperWaits T.allows S.allows M.ready M.waits M.same layout.now number k seat.new.me.0.passes run.new record { kind = Kind.LoadAllFrozen; word = Word.Scx run.new.scx ScxWord.AllFrozen; access = Access.Load } }
 {
     let mut j = MemberIndex::First;
+    let scx = run.scx;
+    let plan = run.plan;
     loop {
         let part = ScxWord::Member(j.number());
-        let member = read::<S, M, T>(words, layout, seat, number, run.scx, part);
+        let member = read::<S, M, T>(words, layout, seat, number, scx, part);
         run.members[j.index()] = NodeNo(member);
         let part = ScxWord::Seen(j.number());
-        let seen = read::<S, M, T>(words, layout, seat, number, run.scx, part);
+        let seen = read::<S, M, T>(words, layout, seat, number, scx, part);
         let info = Word::Node(run.members[j.index()], NodeWord::Info);
         let freeze = Access::Exchange {
             expected: seen,
-            new: run.scx.0,
+            new: scx.0,
         };
         let found = act::<S, M, T>(words, layout, seat, number, Kind::Freeze, info, freeze);
-        if !is_frozen(found, seen, run.scx) {
+        if !is_frozen(found, seen, scx) {
             run.at = HelpAt::AllFrozen { j, found };
             return false;
         }
-        match run.plan.member_behind(j) {
+        match plan.member_behind(j) {
             Some(next) => j = next,
             None => return true,
         }
@@ -140,9 +142,10 @@ fn mark_all<S: Shape, M: Machine<S>, T: Shape>(
         → HelperMarks T.allows S.allows M.ready M.waits M.same layout.now number k seat.old.me.0.passes run.now 0
         → HelperWaits T.allows S.allows M.ready M.waits M.same layout.now number k seat.new.me.0.passes (record run.now { at = HelpAt.New }) (settled_load run.now.scx.0 ScxWord.New) }
 {
+    let plan = run.plan;
     let mut from = Some(MemberIndex::First);
     loop {
-        let Some(j) = removed_behind(run.plan, from) else {
+        let Some(j) = removed_behind(plan, from) else {
             return;
         };
         let marked = Word::Node(run.members[j.index()], NodeWord::Marked);
@@ -171,12 +174,14 @@ pub(crate) fn call<S: Shape, M: Machine<S>, T: Shape>(
     ensures blocked { IfErr result (λ run. (k : Helper T.allows S.allows M.ready M.waits M.same layout.now number) → HelperWaits T.allows S.allows M.ready M.waits M.same layout.now number k seat.old.me.0.passes (record unbegun { at = HelpAt.Plan }) (settled_load unbegun.scx.0 ScxWord.Plan) → HelperWaits T.allows S.allows M.ready M.waits M.same layout.now number k seat.new.me.0.passes run record { kind = Kind.LoadAllFrozen; word = Word.Scx run.scx ScxWord.AllFrozen; access = Access.Load }) }
 {
     let mut run = unbegun;
-    let plan = read::<S, M, T>(words, layout, seat, number, run.scx, ScxWord::Plan);
-    run.plan = Plan(plan);
+    let scx = unbegun.scx;
+    let word = read::<S, M, T>(words, layout, seat, number, scx, ScxWord::Plan);
+    let plan = Plan(word);
+    run.plan = plan;
     if !freeze_all::<S, M, T>(words, layout, seat, number, &mut run) {
         return Err(run);
     }
-    let all_frozen = Word::Scx(run.scx, ScxWord::AllFrozen);
+    let all_frozen = Word::Scx(scx, ScxWord::AllFrozen);
     let flag = Access::Store(1);
     act::<S, M, T>(
         words,
@@ -188,13 +193,13 @@ pub(crate) fn call<S: Shape, M: Machine<S>, T: Shape>(
         flag,
     );
     mark_all::<S, M, T>(words, layout, seat, number, &run);
-    let new = read::<S, M, T>(words, layout, seat, number, run.scx, ScxWord::New);
-    let old = read::<S, M, T>(words, layout, seat, number, run.scx, ScxWord::Old);
-    let node = run.members[run.plan.at().index()];
-    let field = Word::Node(node, NodeWord::Child(run.plan.side()));
+    let new = read::<S, M, T>(words, layout, seat, number, scx, ScxWord::New);
+    let old = read::<S, M, T>(words, layout, seat, number, scx, ScxWord::Old);
+    let node = run.members[plan.at().index()];
+    let field = Word::Node(node, NodeWord::Child(plan.side()));
     let change = Access::Exchange { expected: old, new };
     act::<S, M, T>(words, layout, seat, number, Kind::Update, field, change);
-    let state = Word::Scx(run.scx, ScxWord::State);
+    let state = Word::Scx(scx, ScxWord::State);
     let commit = Access::Store(COMMITTED);
     act::<S, M, T>(words, layout, seat, number, Kind::Commit, state, commit);
     Ok(())

@@ -14,11 +14,11 @@ use crate::straight::walk;
 use crate::straight::working::{fill_node, load};
 use crate::view::SeatView;
 use crate::words::Words;
-use arena::{Access, Kind, Layout, Machine, NodeNo, ScxNo, ScxWord, Shape, Step, Turn, Word};
+use arena::{Layout, Machine, NodeNo, ScxNo, Shape, Turn};
 use atomic_table::Seat;
-use prims::{ScxAt, ScxRun, Snap};
+use prims::Snap;
 use template::{Found, Tree};
-use updates::{Edit, Next, Stop, UpdateAt, UpdateRun, Updated, anew};
+use updates::{Edit, Next, Stop, UpdateRun, Updated, anew};
 
 /// Begins an update that walks to this key: its first try, as long as nothing is in its way. Where
 /// something is, the run stands at that place, and the turn is the one that it is to go on with; on
@@ -54,7 +54,7 @@ fn try_on<S: Shape, M: Machine<S>, E: Edit + Drop>(
     number: u64,
     run: &mut UpdateRun<E>,
     found: &Found,
-    mut next: Result<Next, Stop>,
+    next: Result<Next, Stop>,
 ) -> Turn<Updated>
     requires table { IsTableOf words.now.table.shared.table_id words.now.table.shared.key layout.now × (seat.old.table_id ≡ words.now.table.shared.table_id) }
     requires goes_on { (u : Updater S.allows M.ready M.waits M.same E.means layout.now number) × UpdaterGoesOn S.allows M.ready M.waits M.same E.means layout.now number u seat.old.me.0.passes run.old found.now next }
@@ -62,22 +62,80 @@ fn try_on<S: Shape, M: Machine<S>, E: Edit + Drop>(
     ensures stands { (u : Updater S.allows M.ready M.waits M.same E.means layout.now number) → UpdaterGoesOn S.allows M.ready M.waits M.same E.means layout.now number u seat.old.me.0.passes run.old found.now next → UpdaterStands S.allows M.ready M.waits M.same E.means layout.now number u seat.new.me.0.passes run.new result }
     ensures steps { seat_steps seat.new.me.0.passes + weight result (update_left E.means run.new (shared_nodes layout.now)) ≤ seat_steps seat.old.me.0.passes + left_then E.means run.old found.now next (shared_nodes layout.now) }
 {
+    let looked = look_on::<S, M, E>(words, layout, seat, number, run, found, next);
+    let worked = work_on::<S, M, E>(words, layout, seat, number, run, found, looked);
+    let now = match worked {
+        Ok(now) => now,
+        Err(stop) => return run.stop(found, stop),
+    };
+    match now {
+        Next::Change(scx) => change::<S, M, E>(words, layout, seat, number, run, found, scx),
+        _ => run.begin(*found, now),
+    }
+}
+
+/// Makes the looks that come next.
+#[inline(always)]
+fn look_on<S: Shape, M: Machine<S>, E: Edit + Drop>(
+    words: &Words<S>,
+    layout: &Layout,
+    seat: &mut Seat<u8, SeatView>,
+    number: u64,
+    run: &mut UpdateRun<E>,
+    found: &Found,
+    mut next: Result<Next, Stop>,
+) -> Result<Next, Stop>
+    requires table { IsTableOf words.now.table.shared.table_id words.now.table.shared.key layout.now × (seat.old.table_id ≡ words.now.table.shared.table_id) }
+    requires goes_on { (u : Updater S.allows M.ready M.waits M.same E.means layout.now number) × UpdaterGoesOn S.allows M.ready M.waits M.same E.means layout.now number u seat.old.me.0.passes run.old found.now next }
+    ensures table { (seat.new.table_id ≡ seat.old.table_id) × (seat.new.me.1 ≡ seat.old.me.1) }
+    ensures goes_on { (u : Updater S.allows M.ready M.waits M.same E.means layout.now number) → UpdaterGoesOn S.allows M.ready M.waits M.same E.means layout.now number u seat.old.me.0.passes run.old found.now next → UpdaterGoesOn S.allows M.ready M.waits M.same E.means layout.now number u seat.new.me.0.passes run.new found.now result }
+    ensures steps { seat_steps seat.new.me.0.passes + left_then E.means run.new found.now result (shared_nodes layout.now) ≤ seat_steps seat.old.me.0.passes + left_then E.means run.old found.now next (shared_nodes layout.now) }
+{
     loop {
         let now = match next {
             Ok(now) => now,
-            Err(stop) => return run.stop(found, stop),
+            Err(stop) => return Err(stop),
         };
-        next = match now {
-            Next::Look(node) => look_at::<S, M, E>(words, layout, seat, number, run, found, node),
+        match now {
+            Next::Look(node) => {
+                next = look_at::<S, M, E>(words, layout, seat, number, run, found, node);
+            }
+            _ => return Ok(now),
+        }
+    }
+}
+
+/// Makes the loads and fills that come next.
+#[inline(always)]
+fn work_on<S: Shape, M: Machine<S>, E: Edit + Drop>(
+    words: &Words<S>,
+    layout: &Layout,
+    seat: &mut Seat<u8, SeatView>,
+    number: u64,
+    run: &mut UpdateRun<E>,
+    found: &Found,
+    mut next: Result<Next, Stop>,
+) -> Result<Next, Stop>
+    requires table { IsTableOf words.now.table.shared.table_id words.now.table.shared.key layout.now × (seat.old.table_id ≡ words.now.table.shared.table_id) }
+    requires goes_on { (u : Updater S.allows M.ready M.waits M.same E.means layout.now number) × UpdaterGoesOn S.allows M.ready M.waits M.same E.means layout.now number u seat.old.me.0.passes run.old found.now next }
+    ensures table { (seat.new.table_id ≡ seat.old.table_id) × (seat.new.me.1 ≡ seat.old.me.1) }
+    ensures goes_on { (u : Updater S.allows M.ready M.waits M.same E.means layout.now number) → UpdaterGoesOn S.allows M.ready M.waits M.same E.means layout.now number u seat.old.me.0.passes run.old found.now next → UpdaterGoesOn S.allows M.ready M.waits M.same E.means layout.now number u seat.new.me.0.passes run.new found.now result }
+    ensures steps { seat_steps seat.new.me.0.passes + left_then E.means run.new found.now result (shared_nodes layout.now) ≤ seat_steps seat.old.me.0.passes + left_then E.means run.old found.now next (shared_nodes layout.now) }
+{
+    loop {
+        let now = match next {
+            Ok(now) => now,
+            Err(stop) => return Err(stop),
+        };
+        match now {
             Next::Load { nth, part } => {
-                Ok(load::<S, M, E>(words, layout, seat, number, run, found, nth, part))
+                next = Ok(load::<S, M, E>(words, layout, seat, number, run, found, nth, part));
             }
-            Next::Fill(nth) => fill_node::<S, M, E>(words, layout, seat, number, run, found, nth),
-            Next::Change(scx) => {
-                return change::<S, M, E>(words, layout, seat, number, run, found, scx);
+            Next::Fill(nth) => {
+                next = fill_node::<S, M, E>(words, layout, seat, number, run, found, nth);
             }
-            Next::Wait { .. } => return run.begin(*found, now),
-        };
+            _ => return Ok(now),
+        }
     }
 }
 
@@ -122,35 +180,16 @@ fn change<S: Shape, M: Machine<S>, E: Edit + Drop>(
     ensures stands { (u : Updater S.allows M.ready M.waits M.same E.means layout.now number) → UpdaterTries S.allows M.ready M.waits M.same E.means layout.now number u seat.old.me.0.passes run.old found.now (Next.Change scx) → UpdaterStands S.allows M.ready M.waits M.same E.means layout.now number u seat.new.me.0.passes run.new result }
     ensures steps { seat_steps seat.new.me.0.passes + weight result (update_left E.means run.new (shared_nodes layout.now)) ≤ seat_steps seat.old.me.0.passes + suc (update_left E.means (placed E.means run.old found.now (Next.Change scx)) (shared_nodes layout.now)) }
 {
-    let call = run.call;
     let change = Change {
         scx,
-        call,
+        call: run.call,
         plan: run.plan(found),
         old: run.old(found),
         fresh: run.fresh(found),
     };
     let snaps = run.snaps.as_slice();
     match changing::call::<S, M, Tree, &[Snap]>(words, layout, seat, number, &snaps, change) {
-        Ok(()) => Turn::Done(Updated::Done { found: *found }),
-        Err(help) => {
-            let update = run.update(found);
-            let at = ScxAt::Help { help };
-            let scx_run = ScxRun {
-                scx,
-                call,
-                update,
-                at,
-            };
-            run.at = UpdateAt::Scx {
-                found: *found,
-                scx: scx_run,
-            };
-            Turn::Ask(Step {
-                kind: Kind::LoadAllFrozen,
-                word: Word::Scx(scx, ScxWord::AllFrozen),
-                access: Access::Load,
-            })
-        }
+        Ok(()) => Turn::Done(Updated::at(found)),
+        Err(help) => run.block(*found, scx, help),
     }
 }

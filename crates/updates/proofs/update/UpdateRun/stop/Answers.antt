@@ -1,7 +1,7 @@
 use Rattle.updates.proofs.update.UpdateRun.stop.Goals as goal
 
 pub returns-in-Nothing-clause-turn : goal.returns-in-Nothing-clause-turn
-returns-in-Nothing-clause-turn g c d h run x = rw c.anew.ensures (rw c.in-Nothing.is at x)
+returns-in-Nothing-clause-turn g c d h run x = rw c.at.ensures (rw c.in-Nothing.is at x)
 
 pub returns-in-Lost-clause-turn : goal.returns-in-Lost-clause-turn
 returns-in-Lost-clause-turn g c d h run x = let y = rw c.in-Lost.is at x in c.lost.ensures.turn d h run y.0 y.1 y.2

@@ -20,10 +20,15 @@ pub returns-then-eq-clause-turn : goal.returns-then-eq-clause-turn
 returns-then-eq-clause-turn g c d b h run try first x quiet found =
     let none : c.need-need.result ≡ Nothing = search rules in (
       at_rest g.E.Edit.means c.args.self.now d b h x,
-      inl record {
-        has_found = found_wider d b try.since h _ c.args.found.now found;
-        needless = rw c.need-need.ensures at none;
-        none = nothing_entered g.E.Edit.means c.args.self.now d b h try x quiet;
+      record {
+        found = c.args.found.now;
+        is_key = refl;
+        is_value = refl;
+        is_done = inl record {
+          has_found = found_wider d b try.since h _ c.args.found.now found;
+          needless = rw c.need-need.ensures at none;
+          none = nothing_entered g.E.Edit.means c.args.self.now d b h try x quiet;
+        };
       },
     )
 
