@@ -1,6 +1,6 @@
 -- From place to place of an SCX, of whatever machine makes one.
-use Rattle.std.proofs.Common.{◌≡◌, ℕ, suc, ◌<◌, List, Option, refl, ◌∙◌, inl, inr}
-use Rattle.std.specs.Prelude.{Result, Ok, Err, IfOk, IfErr}
+use Rattle.std.proofs.Common.{◌≡◌, ◌↔◌, ℕ, suc, ◌+◌, ◌<◌, List, Option, Some, None, IsSome, refl, arith, ◌∙◌, inl, inr}
+use Rattle.std.specs.Prelude.{Result, Ok, Err, IfOk, IfErr, IfSome, IfNone}
 use Rattle.arena.specs.ScxRecords.{raw_count}
 use Rattle.arena.specs.declared.layout.Layout.{Layout}
 use Rattle.arena.specs.declared.number.MemberIndex.{MemberIndex}
@@ -111,3 +111,31 @@ ok_more (Err e) P Q f x = tt
 pub err_more : {A E : Type 0} (r : Result A E) (P Q R : E → Type 0) → ((e : E) → P e → Q e → R e) → IfErr r P → IfErr r Q → IfErr r R
 err_more (Ok a) P Q R f x y = tt
 err_more (Err e) P Q R f x y = f e x y
+
+-- of the place behind this one, if there is one, and if there is none
+module _ (r : Option MemberIndex) (j : MemberIndex) (count : ℕ) (valid : IsSome r ↔ ((member_index j < 3) × (member_index j + 1 < count))) (is : IfSome r (λ k. member_index k ≡ member_index j + 1)) where
+  pub behind_is : IfSome r (λ next. (member_index next ≡ member_index j + 1) × (member_index next < 4))
+  behind_is = go r valid is
+    where
+      go : (q : Option MemberIndex) → (IsSome q ↔ ((member_index j < 3) × (member_index j + 1 < count))) → IfSome q (λ k. member_index k ≡ member_index j + 1) → IfSome q (λ next. (member_index next ≡ member_index j + 1) × (member_index next < 4))
+      go (Some k) v e = (e, let w = (v.0 refl).0 in omega (arith, e, w))
+      go None v e = tt
+
+  pub behind_some : (P : MemberIndex → Type 0) → ((next : MemberIndex) → member_index next ≡ suc (member_index j) → member_index next < count → P next) → IfSome r P
+  behind_some P f = go r valid is
+    where
+      go : (q : Option MemberIndex) → (IsSome q ↔ ((member_index j < 3) × (member_index j + 1 < count))) → IfSome q (λ k. member_index k ≡ member_index j + 1) → IfSome q P
+      go (Some k) v e = f k (omega (arith, e)) (let w = (v.0 refl).1 in omega (arith, e, w))
+      go None v e = tt
+
+  pub behind_none : (Q : Type 0) → (((member_index j < 3) × (suc (member_index j) < count) → ⊥) → Q) → IfNone r Q
+  behind_none Q f = go r valid
+    where
+      go : (q : Option MemberIndex) → (IsSome q ↔ ((member_index j < 3) × (member_index j + 1 < count))) → IfNone q Q
+      go (Some k) v = tt
+      go None v = f (λ y. let z = v.1 (y.0, let w = y.1 in omega (arith, w)) in cc)
+
+-- behind the fourth there is none
+pub none_behind : (r : Option MemberIndex) (n : ℕ) → IfSome r (λ next. (member_index next ≡ n + 1) × (member_index next < 4)) → n ≡ 3 → (Q : Type 0) → IfNone r Q → Q
+none_behind (Some k) n x is Q q = absurd (let a = x.0 in let b = x.1 in omega (arith, a, b, is))
+none_behind None n x is Q q = q

@@ -1,7 +1,8 @@
 -- From place to place of a HELP, of whatever machine helps.
-use Rattle.std.proofs.Common.{◌≡◌, ◌≢◌, ℕ, suc, ◌<◌, ◌≤◌, length, true, false, ◌⊎◌, List, Option, refl, sym}
+use Rattle.std.proofs.Common.{◌≡◌, ◌≢◌, ℕ, suc, ◌+◌, ◌<◌, ◌≤◌, length, true, false, ◌⊎◌, inl, inr, ⊎_elim, List, Option, refl, sym, subst, arith}
 use Rattle.std.specs.Prelude.{slice_set}
-use Rattle.arena.specs.ScxRecords.{raw_count, plan_finalizes, field_index_of, side_of}
+use Rattle.std.proofs.Math.Nat.{eq-or-lt_of_le}
+use Rattle.arena.specs.ScxRecords.{plan, raw_count, plan_finalizes, field_index_of, side_of}
 use Rattle.arena.specs.declared.layout.Layout.{Layout}
 use Rattle.arena.specs.declared.number.MemberIndex.{MemberIndex}
 use Rattle.arena.specs.declared.number.MemberIndex.TheVariants.{First}
@@ -14,13 +15,27 @@ use Rattle.arena.specs.Words.{scx, info, marked, child, state}
 use Rattle.arena.specs.History.{History}
 use Rattle.arena.specs.Lawful.{Lawful}
 use Rattle.arena.specs.Machines.{Call}
-use Rattle.help.specs.Help.Known.{node_at, reading, settled_load, HelpIsTold, HelpWaits}
+use Rattle.help.specs.Help.Known.{Marks, node_at, reading, settled_load, HelpIsTold, HelpWaits}
 use Rattle.help.proofs.Lemmas.{to_all_frozen as edge_to_all_frozen, to_commit as edge_to_commit, to_freeze as edge_to_freeze, to_mark as edge_to_mark, to_member as edge_to_member, to_new as edge_to_new, to_next as edge_to_next, to_old as edge_to_old, to_seen as edge_to_seen, to_set_frozen as edge_to_set_frozen, to_update as edge_to_update}
 use Rattle.help.specs.declared.state.HelpRun.{HelpRun}
 use Rattle.help.specs.declared.state.HelpAt.TheVariants.{Plan as AtPlan, Member as AtMember, Seen as AtSeen, Freeze as AtFreeze, AllFrozen as AtAllFrozen, SetFrozen as AtSetFrozen, Mark as AtMark, New as AtNew, Old as AtOld, Update as AtUpdate, Commit as AtCommit}
 use Rattle.forest.specs.declared.view.SeatedPass.{SeatedPass}
 use Rattle.forest.specs.StraightHelp.{Helper, HelperWaits, HelperIsTold, HelperMarks}
 use Rattle.forest.specs.Traces.{goes_on}
+
+-- what is below the next is below a number, or is that
+below_or_at : (i p : ℕ) → i < p + 1 → (i < p) ⊎ (i ≡ p)
+below_or_at i p below = ⊎_elim (λ same. inr same) (λ less. inl less) (eq-or-lt_of_le (omega (arith, below)))
+
+-- where the node of a place is not finalized, those up to it are marked once those before it are
+more_marked : (h : History) (m : HelpRun) (p : ℕ) → plan_finalizes m.plan.0 p ≡ false → Marks h (reading m) p → Marks h (reading m) (p + 1)
+more_marked h m p not x = record {
+  started = x.started;
+  plan = x.plan;
+  read = x.read;
+  flag = x.flag;
+  marked = λ i below inside is. ⊎_elim (λ less. x.marked i less inside is) (λ here. absurd (let no : plan_finalizes (plan h m.scx.0) p ≡ false = rw x.plan not in let yes : plan_finalizes (plan h m.scx.0) p ≡ true = subst (λ (k : ℕ). plan_finalizes (plan h m.scx.0) k ≡ true) here is in cc)) (below_or_at i p below);
+}
 
 module _ {M : Type 0} (inner allows : Layout → History → ℕ → Type 0) (ready : M → Call → History → Option ℕ → Type 0) (waits : M → Call → History → Step → Type 0) (same : M → M → Type 0) (layout : Layout) (number : ℕ) (k : Helper inner allows ready waits same layout number) (ps : List SeatedPass) where
   -- it waits for this step
@@ -73,6 +88,13 @@ module _ {M : Type 0} (inner allows : Layout → History → ℕ → Type 0) (re
 
   pub to_mark : (m : HelpRun) (p : ℕ) (next : MemberIndex) → plan_finalizes m.plan.0 (member_index next) ≡ true → ((i : ℕ) → p ≤ i → i < member_index next → plan_finalizes m.plan.0 i ≡ false) → Marked m p → At (record m { at = AtMark next }) record { kind = Mark; word = marked (node_at m.members (member_index next)); access = Store 1 }
   to_mark m p next is none x = takes x.last (record m { at = AtMark next }) x.told _ (sym x.is_scx) (λ lay c h l t. edge_to_mark (reading m) l p next is none (x.marks lay c h t)) x.so
+
+  pub next_place : (m : HelpRun) (p : ℕ) → Marked m (suc p) → Marked m (p + 1)
+  next_place m p x = subst (λ (n : ℕ). Marked m n) (omega arith) x
+
+  -- one that it does not finalize needs no mark
+  pub skips : (m : HelpRun) (p : ℕ) → plan_finalizes m.plan.0 p ≡ false → Marked m p → Marked m (p + 1)
+  skips m p not x = record { last = x.last; is_scx = x.is_scx; told = x.told; marks = λ lay c h t. more_marked h m p not (x.marks lay c h t); so = x.so }
 
   pub to_new : (m : HelpRun) (p : ℕ) → ((i : ℕ) → p ≤ i → i < 4 → plan_finalizes m.plan.0 i ≡ false) → Marked m p → At (record m { at = AtNew }) (settled_load m.scx.0 New)
   to_new m p none x = takes x.last (record m { at = AtNew }) x.told _ (sym x.is_scx) (λ lay c h l t. edge_to_new (reading m) l p none (x.marks lay c h t)) x.so

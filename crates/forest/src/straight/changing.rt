@@ -1,5 +1,6 @@
 //! SCX with an SCX-record of the share, of whatever machine makes one: its steps in line.
-ghost use Rattle.std.specs.Prelude.{◌≡◌, ◌≤◌, ◌+◌, ℕ, suc, IfOk, IfErr};
+ghost use Rattle.std.specs.Prelude.{◌≡◌, ◌≤◌, ◌<◌, ◌+◌, ℕ, suc, IfOk, IfErr, IfSome, IfNone};
+ghost use Rattle.arena.specs.MemberIndex.{member_index};
 ghost use Rattle.forest.specs.TableRule.{IsTableOf};
 ghost use Rattle.forest.specs.Traces.{seat_steps};
 ghost use Rattle.forest.specs.StraightChange.{Changer, ChangerWaits, ChangerIsTold, changing_at, scx_fill, all_frozen_load};
@@ -53,6 +54,31 @@ fn fill<S: Shape, M: Machine<S>, T: Shape>(
     step::<S, M>(words, layout, seat, number, Step { kind, word, access })
 }
 
+/// Fills the node of this place, and tells the place behind it.
+#[inline(always)]
+fn fill_member<S: Shape, M: Machine<S>, T: Shape, L: SnapList>(
+    words: &Words<S>,
+    layout: &Layout,
+    seat: &mut Seat<u8, SeatView>,
+    number: u64,
+    snaps: &L,
+    change: Change,
+    j: MemberIndex,
+) -> Option<MemberIndex>
+    requires table { IsTableOf words.now.table.shared.table_id words.now.table.shared.key layout.now × (seat.old.table_id ≡ words.now.table.shared.table_id) }
+    requires waits { (k : Changer T.allows S.allows M.ready M.waits M.same layout.now number) × ChangerWaits T.allows S.allows M.ready M.waits M.same layout.now number k seat.old.me.0.passes (changing_at (L.list snaps.now) change (ScxAt.Member j)) (scx_fill change.scx (ScxWord.Member (member_index j)) (snap_at (L.list snaps.now) (member_index j)).node.0) }
+    ensures table { (seat.new.table_id ≡ seat.old.table_id) × (seat.new.me.1 ≡ seat.old.me.1) }
+    ensures one { seat_steps seat.new.me.0.passes ≡ suc (seat_steps seat.old.me.0.passes) }
+    ensures behind { IfSome result (λ next. (member_index next ≡ member_index j + 1) × (member_index next < 4)) }
+    ensures next { IfSome result (λ next. (k : Changer T.allows S.allows M.ready M.waits M.same layout.now number) → ChangerWaits T.allows S.allows M.ready M.waits M.same layout.now number k seat.old.me.0.passes (changing_at (L.list snaps.now) change (ScxAt.Member j)) (scx_fill change.scx (ScxWord.Member (member_index j)) (snap_at (L.list snaps.now) (member_index j)).node.0) → ChangerWaits T.allows S.allows M.ready M.waits M.same layout.now number k seat.new.me.0.passes (changing_at (L.list snaps.now) change (ScxAt.Member next)) (scx_fill change.scx (ScxWord.Member (member_index next)) (snap_at (L.list snaps.now) (member_index next)).node.0)) }
+    ensures last { IfNone result ((k : Changer T.allows S.allows M.ready M.waits M.same layout.now number) → ChangerWaits T.allows S.allows M.ready M.waits M.same layout.now number k seat.old.me.0.passes (changing_at (L.list snaps.now) change (ScxAt.Member j)) (scx_fill change.scx (ScxWord.Member (member_index j)) (snap_at (L.list snaps.now) (member_index j)).node.0) → ChangerWaits T.allows S.allows M.ready M.waits M.same layout.now number k seat.new.me.0.passes (changing_at (L.list snaps.now) change (ScxAt.Seen MemberIndex.First)) (scx_fill change.scx (ScxWord.Seen 0) (snap_at (L.list snaps.now) 0).scx.0)) }
+{
+    let part = ScxWord::Member(j.number());
+    let wanted = snaps.get(j.index()).node.0;
+    fill::<S, M, T>(words, layout, seat, number, change.scx, part, wanted);
+    change.plan.member_behind(j)
+}
+
 /// Fills the nodes that the SCX-record covers.
 #[inline(always)]
 fn fill_members<S: Shape, M: Machine<S>, T: Shape, L: SnapList>(
@@ -71,21 +97,47 @@ fn fill_members<S: Shape, M: Machine<S>, T: Shape, L: SnapList>(
         → ChangerWaits T.allows S.allows M.ready M.waits M.same layout.now number k seat.old.me.0.passes (changing_at (L.list snaps.now) change (ScxAt.Member MemberIndex.First)) (scx_fill change.scx (ScxWord.Member 0) (snap_at (L.list snaps.now) 0).node.0)
         → ChangerWaits T.allows S.allows M.ready M.waits M.same layout.now number k seat.new.me.0.passes (changing_at (L.list snaps.now) change (ScxAt.Seen MemberIndex.First)) (scx_fill change.scx (ScxWord.Seen 0) (snap_at (L.list snaps.now) 0).scx.0) }
 {
-    let mut j = MemberIndex::First;
-    loop {
-        let part = ScxWord::Member(j.number());
-        let wanted = snaps.get(j.index()).node.0;
-        fill::<S, M, T>(words, layout, seat, number, change.scx, part, wanted);
-        match change.plan.member_behind(j) {
-            Some(next) => j = next,
-            None => return,
-        }
-    }
+    let first = MemberIndex::First;
+    let Some(second) = fill_member::<S, M, T, L>(words, layout, seat, number, snaps, change, first) else {
+        return;
+    };
+    let Some(third) = fill_member::<S, M, T, L>(words, layout, seat, number, snaps, change, second) else {
+        return;
+    };
+    let Some(fourth) = fill_member::<S, M, T, L>(words, layout, seat, number, snaps, change, third) else {
+        return;
+    };
+    fill_member::<S, M, T, L>(words, layout, seat, number, snaps, change, fourth);
+}
+
+/// Fills what the info of the node of this place was, and tells the place behind it.
+#[inline(always)]
+fn fill_seen<S: Shape, M: Machine<S>, T: Shape, L: SnapList>(
+    words: &Words<S>,
+    layout: &Layout,
+    seat: &mut Seat<u8, SeatView>,
+    number: u64,
+    snaps: &L,
+    change: Change,
+    j: MemberIndex,
+) -> Option<MemberIndex>
+    requires table { IsTableOf words.now.table.shared.table_id words.now.table.shared.key layout.now × (seat.old.table_id ≡ words.now.table.shared.table_id) }
+    requires waits { (k : Changer T.allows S.allows M.ready M.waits M.same layout.now number) × ChangerWaits T.allows S.allows M.ready M.waits M.same layout.now number k seat.old.me.0.passes (changing_at (L.list snaps.now) change (ScxAt.Seen j)) (scx_fill change.scx (ScxWord.Seen (member_index j)) (snap_at (L.list snaps.now) (member_index j)).scx.0) }
+    ensures table { (seat.new.table_id ≡ seat.old.table_id) × (seat.new.me.1 ≡ seat.old.me.1) }
+    ensures one { seat_steps seat.new.me.0.passes ≡ suc (seat_steps seat.old.me.0.passes) }
+    ensures behind { IfSome result (λ next. (member_index next ≡ member_index j + 1) × (member_index next < 4)) }
+    ensures next { IfSome result (λ next. (k : Changer T.allows S.allows M.ready M.waits M.same layout.now number) → ChangerWaits T.allows S.allows M.ready M.waits M.same layout.now number k seat.old.me.0.passes (changing_at (L.list snaps.now) change (ScxAt.Seen j)) (scx_fill change.scx (ScxWord.Seen (member_index j)) (snap_at (L.list snaps.now) (member_index j)).scx.0) → ChangerWaits T.allows S.allows M.ready M.waits M.same layout.now number k seat.new.me.0.passes (changing_at (L.list snaps.now) change (ScxAt.Seen next)) (scx_fill change.scx (ScxWord.Seen (member_index next)) (snap_at (L.list snaps.now) (member_index next)).scx.0)) }
+    ensures last { IfNone result ((k : Changer T.allows S.allows M.ready M.waits M.same layout.now number) → ChangerWaits T.allows S.allows M.ready M.waits M.same layout.now number k seat.old.me.0.passes (changing_at (L.list snaps.now) change (ScxAt.Seen j)) (scx_fill change.scx (ScxWord.Seen (member_index j)) (snap_at (L.list snaps.now) (member_index j)).scx.0) → ChangerWaits T.allows S.allows M.ready M.waits M.same layout.now number k seat.new.me.0.passes (changing_at (L.list snaps.now) change ScxAt.Call) (scx_fill change.scx ScxWord.Call change.call)) }
+{
+    let part = ScxWord::Seen(j.number());
+    let wanted = snaps.get(j.index()).scx.0;
+    fill::<S, M, T>(words, layout, seat, number, change.scx, part, wanted);
+    change.plan.member_behind(j)
 }
 
 /// Fills what the infos of these nodes were.
 #[inline(always)]
-fn fill_seen<S: Shape, M: Machine<S>, T: Shape, L: SnapList>(
+fn fill_infos<S: Shape, M: Machine<S>, T: Shape, L: SnapList>(
     words: &Words<S>,
     layout: &Layout,
     seat: &mut Seat<u8, SeatView>,
@@ -101,16 +153,17 @@ fn fill_seen<S: Shape, M: Machine<S>, T: Shape, L: SnapList>(
         → ChangerWaits T.allows S.allows M.ready M.waits M.same layout.now number k seat.old.me.0.passes (changing_at (L.list snaps.now) change (ScxAt.Seen MemberIndex.First)) (scx_fill change.scx (ScxWord.Seen 0) (snap_at (L.list snaps.now) 0).scx.0)
         → ChangerWaits T.allows S.allows M.ready M.waits M.same layout.now number k seat.new.me.0.passes (changing_at (L.list snaps.now) change ScxAt.Call) (scx_fill change.scx ScxWord.Call change.call) }
 {
-    let mut j = MemberIndex::First;
-    loop {
-        let part = ScxWord::Seen(j.number());
-        let wanted = snaps.get(j.index()).scx.0;
-        fill::<S, M, T>(words, layout, seat, number, change.scx, part, wanted);
-        match change.plan.member_behind(j) {
-            Some(next) => j = next,
-            None => return,
-        }
-    }
+    let first = MemberIndex::First;
+    let Some(second) = fill_seen::<S, M, T, L>(words, layout, seat, number, snaps, change, first) else {
+        return;
+    };
+    let Some(third) = fill_seen::<S, M, T, L>(words, layout, seat, number, snaps, change, second) else {
+        return;
+    };
+    let Some(fourth) = fill_seen::<S, M, T, L>(words, layout, seat, number, snaps, change, third) else {
+        return;
+    };
+    fill_seen::<S, M, T, L>(words, layout, seat, number, snaps, change, fourth);
 }
 
 /// Fills the words of the SCX-record, from its plan on.
@@ -152,7 +205,7 @@ fn fill_all<S: Shape, M: Machine<S>, T: Shape, L: SnapList>(
     );
     fill::<S, M, T>(words, layout, seat, number, scx, ScxWord::Old, change.old.0);
     fill_members::<S, M, T, L>(words, layout, seat, number, snaps, change);
-    fill_seen::<S, M, T, L>(words, layout, seat, number, snaps, change);
+    fill_infos::<S, M, T, L>(words, layout, seat, number, snaps, change);
     fill::<S, M, T>(words, layout, seat, number, scx, ScxWord::Call, change.call)
 }
 

@@ -1,9 +1,9 @@
 //! HELP, of whatever machine helps: its steps in line.
-ghost use Rattle.std.specs.Prelude.{◌≡◌, ◌≢◌, ◌+◌, ◌≤◌, ◌<◌, ◌⊎◌, ℕ, suc, true, false, IfSome, IfNone, IfOk, IfErr};
-ghost use Rattle.arena.specs.ScxRecords.{plan_finalizes};
+ghost use Rattle.std.specs.Prelude.{◌≡◌, ◌≢◌, ◌+◌, ◌≤◌, ◌<◌, ◌⊎◌, ℕ, suc, true, false, IfOk, IfErr};
+ghost use Rattle.arena.specs.ScxRecords.{raw_count};
 ghost use Rattle.arena.specs.MemberIndex.{member_index};
 ghost use Rattle.help.specs.Help.Steps.{help_left};
-ghost use Rattle.help.specs.Help.Known.{first_place, settled_load};
+ghost use Rattle.help.specs.Help.Known.{settled_load};
 ghost use Rattle.help.specs.declared.state.HelpRun.{HelpRun};
 ghost use Rattle.forest.specs.TableRule.{IsTableOf};
 ghost use Rattle.forest.specs.Traces.{seat_steps};
@@ -68,7 +68,53 @@ fn is_frozen(found: u64, seen: u64, scx: ScxNo) -> bool
     found == seen || found == scx.0
 }
 
-/// Freezes the nodes of an SCX-record whose plan has been read.
+/// Freezes the node of this place of an SCX-record whose plan has been read; tells whether it is
+/// frozen.
+#[inline(always)]
+fn freeze<S: Shape, M: Machine<S>, T: Shape>(
+    words: &Words<S>,
+    layout: &Layout,
+    seat: &mut Seat<u8, SeatView>,
+    number: u64,
+    run: &mut HelpRun,
+    j: MemberIndex,
+) -> bool
+    requires table { IsTableOf words.now.table.shared.table_id words.now.table.shared.key layout.now × (seat.old.table_id ≡ words.now.table.shared.table_id) }
+    requires waits { (k : Helper T.allows S.allows M.ready M.waits M.same layout.now number) × HelperWaits T.allows S.allows M.ready M.waits M.same layout.now number k seat.old.me.0.passes (record run.old { at = HelpAt.Member j }) (settled_load run.old.scx.0 (ScxWord.Member (member_index j))) }
+    ensures table { (seat.new.table_id ≡ seat.old.table_id) × (seat.new.me.1 ≡ seat.old.me.1) }
+    ensures steps { seat_steps seat.new.me.0.passes ≡ seat_steps seat.old.me.0.passes + 3 }
+    ensures left { result ≡ false → help_left run.new.at ≤ 1 }
+    ensures same { (run.new.scx ≡ run.old.scx) × (run.new.plan ≡ run.old.plan) }
+    ensures next { result ≡ true → (next : MemberIndex) → member_index next ≡ member_index j + 1 → member_index next < raw_count run.old.plan.0 → (k : Helper T.allows S.allows M.ready M.waits M.same layout.now number)
+        → HelperWaits T.allows S.allows M.ready M.waits M.same layout.now number k seat.old.me.0.passes (record run.old { at = HelpAt.Member j }) (settled_load run.old.scx.0 (ScxWord.Member (member_index j)))
+        → HelperWaits T.allows S.allows M.ready M.waits M.same layout.now number k seat.new.me.0.passes (record run.new { at = HelpAt.Member next }) (settled_load run.new.scx.0 (ScxWord.Member (member_index next))) }
+    ensures last { result ≡ true → ((member_index j < 3) × (member_index j + 1 < raw_count run.old.plan.0) → ⊥) → (k : Helper T.allows S.allows M.ready M.waits M.same layout.now number)
+        → HelperWaits T.allows S.allows M.ready M.waits M.same layout.now number k seat.old.me.0.passes (record run.old { at = HelpAt.Member j }) (settled_load run.old.scx.0 (ScxWord.Member (member_index j)))
+        → HelperWaits T.allows S.allows M.ready M.waits M.same layout.now number k seat.new.me.0.passes (record run.new { at = HelpAt.SetFrozen }) record { kind = Kind.SetFrozen; word = Word.Scx run.new.scx ScxWord.AllFrozen; access = Access.Store 1 } }
+    ensures blocked { result ≡ false → (k : Helper T.allows S.allows M.ready M.waits M.same layout.now number)
+        → HelperWaits T.allows S.allows M.ready M.waits M.same layout.now number k seat.old.me.0.passes (record run.old { at = HelpAt.Member j }) (settled_load run.old.scx.0 (ScxWord.Member (member_index j)))
+        → HelperWaits T.allows S.allows M.ready M.waits M.same layout.now number k seat.new.me.0.passes run.new record { kind = Kind.LoadAllFrozen; word = Word.Scx run.new.scx ScxWord.AllFrozen; access = Access.Load } }
+{
+    let scx = run.scx;
+    let part = ScxWord::Member(j.number());
+    let member = read::<S, M, T>(words, layout, seat, number, scx, part);
+    run.members[j.index()] = NodeNo(member);
+    let part = ScxWord::Seen(j.number());
+    let seen = read::<S, M, T>(words, layout, seat, number, scx, part);
+    let info = Word::Node(run.members[j.index()], NodeWord::Info);
+    let freeze = Access::Exchange {
+        expected: seen,
+        new: scx.0,
+    };
+    let found = act::<S, M, T>(words, layout, seat, number, Kind::Freeze, info, freeze);
+    if !is_frozen(found, seen, scx) {
+        run.at = HelpAt::AllFrozen { j, found };
+        return false;
+    }
+    true
+}
+
+/// Freezes the nodes of an SCX-record whose plan has been read; tells whether all are frozen.
 #[inline(always)]
 fn freeze_all<S: Shape, M: Machine<S>, T: Shape>(
     words: &Words<S>,
@@ -90,39 +136,50 @@ fn freeze_all<S: Shape, M: Machine<S>, T: Shape>(
         → HelperWaits T.allows S.allows M.ready M.waits M.same layout.now number k seat.old.me.0.passes (record run.old { at = HelpAt.Member MemberIndex.First }) (settled_load run.old.scx.0 (ScxWord.Member 0))
         → HelperWaits T.allows S.allows M.ready M.waits M.same layout.now number k seat.new.me.0.passes run.new record { kind = Kind.LoadAllFrozen; word = Word.Scx run.new.scx ScxWord.AllFrozen; access = Access.Load } }
 {
-    let mut j = MemberIndex::First;
-    let scx = run.scx;
     let plan = run.plan;
-    loop {
-        let part = ScxWord::Member(j.number());
-        let member = read::<S, M, T>(words, layout, seat, number, scx, part);
-        run.members[j.index()] = NodeNo(member);
-        let part = ScxWord::Seen(j.number());
-        let seen = read::<S, M, T>(words, layout, seat, number, scx, part);
-        let info = Word::Node(run.members[j.index()], NodeWord::Info);
-        let freeze = Access::Exchange {
-            expected: seen,
-            new: scx.0,
-        };
-        let found = act::<S, M, T>(words, layout, seat, number, Kind::Freeze, info, freeze);
-        if !is_frozen(found, seen, scx) {
-            run.at = HelpAt::AllFrozen { j, found };
-            return false;
-        }
-        match plan.member_behind(j) {
-            Some(next) => j = next,
-            None => return true,
-        }
+    let first = MemberIndex::First;
+    if !freeze::<S, M, T>(words, layout, seat, number, run, first) {
+        return false;
     }
+    let Some(second) = plan.member_behind(first) else {
+        return true;
+    };
+    if !freeze::<S, M, T>(words, layout, seat, number, run, second) {
+        return false;
+    }
+    let Some(third) = plan.member_behind(second) else {
+        return true;
+    };
+    if !freeze::<S, M, T>(words, layout, seat, number, run, third) {
+        return false;
+    }
+    let Some(fourth) = plan.member_behind(third) else {
+        return true;
+    };
+    freeze::<S, M, T>(words, layout, seat, number, run, fourth)
 }
 
-/// The first node to be finalized, from a place on.
+/// Marks the node of this place, if the SCX-record, whose flag is set, finalizes it.
 #[inline(always)]
-fn removed_behind(plan: Plan, from: Option<MemberIndex>) -> Option<MemberIndex>
-    ensures removed { IfSome result (λ k. (first_place from ≤ member_index k) × (plan_finalizes plan.0 (member_index k) ≡ true) × ((i : ℕ) → first_place from ≤ i → i < member_index k → plan_finalizes plan.0 i ≡ false)) }
-    ensures none { IfNone result ((i : ℕ) → first_place from ≤ i → i < 4 → plan_finalizes plan.0 i ≡ false) }
+fn mark<S: Shape, M: Machine<S>, T: Shape>(
+    words: &Words<S>,
+    layout: &Layout,
+    seat: &mut Seat<u8, SeatView>,
+    number: u64,
+    run: &HelpRun,
+    j: MemberIndex,
+)
+    requires table { IsTableOf words.now.table.shared.table_id words.now.table.shared.key layout.now × (seat.old.table_id ≡ words.now.table.shared.table_id) }
+    requires marks { (k : Helper T.allows S.allows M.ready M.waits M.same layout.now number) × HelperMarks T.allows S.allows M.ready M.waits M.same layout.now number k seat.old.me.0.passes run.now (member_index j) }
+    ensures table { (seat.new.table_id ≡ seat.old.table_id) × (seat.new.me.1 ≡ seat.old.me.1) }
+    ensures steps { seat_steps seat.new.me.0.passes ≤ seat_steps seat.old.me.0.passes + 1 }
+    ensures marked { (k : Helper T.allows S.allows M.ready M.waits M.same layout.now number) → HelperMarks T.allows S.allows M.ready M.waits M.same layout.now number k seat.old.me.0.passes run.now (member_index j) → HelperMarks T.allows S.allows M.ready M.waits M.same layout.now number k seat.new.me.0.passes run.now (member_index j + 1) }
 {
-    plan.first_finalized_from(from?)
+    if run.plan.finalizes(j) {
+        let marked = Word::Node(run.members[j.index()], NodeWord::Marked);
+        let mark = Access::Store(1);
+        act::<S, M, T>(words, layout, seat, number, Kind::Mark, marked, mark);
+    }
 }
 
 /// Marks those nodes of an SCX-record whose flag is set that it finalizes.
@@ -142,17 +199,10 @@ fn mark_all<S: Shape, M: Machine<S>, T: Shape>(
         → HelperMarks T.allows S.allows M.ready M.waits M.same layout.now number k seat.old.me.0.passes run.now 0
         → HelperWaits T.allows S.allows M.ready M.waits M.same layout.now number k seat.new.me.0.passes (record run.now { at = HelpAt.New }) (settled_load run.now.scx.0 ScxWord.New) }
 {
-    let plan = run.plan;
-    let mut from = Some(MemberIndex::First);
-    loop {
-        let Some(j) = removed_behind(plan, from) else {
-            return;
-        };
-        let marked = Word::Node(run.members[j.index()], NodeWord::Marked);
-        let mark = Access::Store(1);
-        act::<S, M, T>(words, layout, seat, number, Kind::Mark, marked, mark);
-        from = j.next();
-    }
+    mark::<S, M, T>(words, layout, seat, number, run, MemberIndex::First);
+    mark::<S, M, T>(words, layout, seat, number, run, MemberIndex::Second);
+    mark::<S, M, T>(words, layout, seat, number, run, MemberIndex::Third);
+    mark::<S, M, T>(words, layout, seat, number, run, MemberIndex::Fourth);
 }
 
 /// HELP of an SCX-record by a run that has not begun. Where a node cannot be frozen it tells the

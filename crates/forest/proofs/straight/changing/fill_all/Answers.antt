@@ -5,7 +5,7 @@ use Rattle.prims.specs.declared.scx.ScxAt.TheVariants.{Plan as AtPlan, New as At
 use Rattle.forest.specs.StraightChange.{Changer, ChangerWaits, changing_at, scx_fill}
 use Rattle.forest.proofs.StraightChange.{to_new, to_old, to_member}
 use Rattle.forest.proofs.straight.changing.fill_all.Given.{Over}
-use Rattle.forest.proofs.straight.changing.fill_all.Goals.{After-fill, After-fill-2, After-fill-3, After-fill_members, After-fill_seen}
+use Rattle.forest.proofs.straight.changing.fill_all.Goals.{After-fill, After-fill-2, After-fill-3, After-fill_members, After-fill_infos}
 use Rattle.forest.proofs.straight.changing.fill_all.Goals as goal
 
 -- whichever call waited for the fill of the plan, it goes from fill to fill
@@ -21,8 +21,8 @@ at_member g c k x = to_member g.T.Shape.allows g.S.Shape.allows g.M.Machine.read
 at_seen : (g : Over) (c : After-fill_members g) (k : Changer {M = g.row.M.Denot} g.T.Shape.allows g.S.Shape.allows g.M.Machine.ready g.M.Machine.waits g.M.Machine.same c.args.layout.now c.args.number) → ChangerWaits g.T.Shape.allows g.S.Shape.allows g.M.Machine.ready g.M.Machine.waits g.M.Machine.same c.args.layout.now c.args.number k c.args.seat.now.me.0.passes (changing_at (g.L.SnapList.list c.args.snaps.now) c.args.change AtPlan) (scx_fill c.args.change.scx Plan c.args.change.plan.0) → ChangerWaits g.T.Shape.allows g.S.Shape.allows g.M.Machine.ready g.M.Machine.waits g.M.Machine.same c.args.layout.now c.args.number k c.fill_members.new.seat.me.0.passes (changing_at (g.L.SnapList.list c.args.snaps.now) c.args.change (AtSeen First)) (scx_fill c.args.change.scx (Seen 0) (snap_at (g.L.SnapList.list c.args.snaps.now) 0).scx.0)
 at_seen g c k x = c.fill_members.ensures.waits k (at_member g (goal.at.fill_members-requires-clause-waits g c.before).After-fill-3 k x)
 
-at_call : (g : Over) (c : After-fill_seen g) (k : Changer {M = g.row.M.Denot} g.T.Shape.allows g.S.Shape.allows g.M.Machine.ready g.M.Machine.waits g.M.Machine.same c.args.layout.now c.args.number) → ChangerWaits g.T.Shape.allows g.S.Shape.allows g.M.Machine.ready g.M.Machine.waits g.M.Machine.same c.args.layout.now c.args.number k c.args.seat.now.me.0.passes (changing_at (g.L.SnapList.list c.args.snaps.now) c.args.change AtPlan) (scx_fill c.args.change.scx Plan c.args.change.plan.0) → ChangerWaits g.T.Shape.allows g.S.Shape.allows g.M.Machine.ready g.M.Machine.waits g.M.Machine.same c.args.layout.now c.args.number k c.fill_seen.new.seat.me.0.passes (changing_at (g.L.SnapList.list c.args.snaps.now) c.args.change AtCall) (scx_fill c.args.change.scx CallWord c.args.change.call)
-at_call g c k x = c.fill_seen.ensures.waits k (at_seen g (goal.at.fill_seen-requires-clause-waits g c.before).After-fill_members k x)
+at_call : (g : Over) (c : After-fill_infos g) (k : Changer {M = g.row.M.Denot} g.T.Shape.allows g.S.Shape.allows g.M.Machine.ready g.M.Machine.waits g.M.Machine.same c.args.layout.now c.args.number) → ChangerWaits g.T.Shape.allows g.S.Shape.allows g.M.Machine.ready g.M.Machine.waits g.M.Machine.same c.args.layout.now c.args.number k c.args.seat.now.me.0.passes (changing_at (g.L.SnapList.list c.args.snaps.now) c.args.change AtPlan) (scx_fill c.args.change.scx Plan c.args.change.plan.0) → ChangerWaits g.T.Shape.allows g.S.Shape.allows g.M.Machine.ready g.M.Machine.waits g.M.Machine.same c.args.layout.now c.args.number k c.fill_infos.new.seat.me.0.passes (changing_at (g.L.SnapList.list c.args.snaps.now) c.args.change AtCall) (scx_fill c.args.change.scx CallWord c.args.change.call)
+at_call g c k x = c.fill_infos.ensures.waits k (at_seen g (goal.at.fill_infos-requires-clause-waits g c.before).After-fill_members k x)
 
 pub fill-requires-clause-waits : goal.fill-requires-clause-waits
 fill-requires-clause-waits g c = let r = c.requires.waits in (r.0, (changing_at (g.L.SnapList.list c.args.snaps.now) c.args.change AtPlan), r.1)
@@ -36,11 +36,11 @@ fill-requires-3-clause-waits g c = let r = c.requires.waits in (r.0, (changing_a
 pub fill_members-requires-clause-waits : goal.fill_members-requires-clause-waits
 fill_members-requires-clause-waits g c = let r = c.requires.waits in (r.0, at_member g (goal.at.fill_members-requires-clause-waits g c).After-fill-3 r.0 r.1)
 
-pub fill_seen-requires-clause-waits : goal.fill_seen-requires-clause-waits
-fill_seen-requires-clause-waits g c = let r = c.requires.waits in (r.0, at_seen g (goal.at.fill_seen-requires-clause-waits g c).After-fill_members r.0 r.1)
+pub fill_infos-requires-clause-waits : goal.fill_infos-requires-clause-waits
+fill_infos-requires-clause-waits g c = let r = c.requires.waits in (r.0, at_seen g (goal.at.fill_infos-requires-clause-waits g c).After-fill_members r.0 r.1)
 
 pub fill-requires-4-clause-waits : goal.fill-requires-4-clause-waits
-fill-requires-4-clause-waits g c = let r = c.requires.waits in (r.0, (changing_at (g.L.SnapList.list c.args.snaps.now) c.args.change AtCall), at_call g (goal.at.fill-requires-4-clause-waits g c).After-fill_seen r.0 r.1)
+fill-requires-4-clause-waits g c = let r = c.requires.waits in (r.0, (changing_at (g.L.SnapList.list c.args.snaps.now) c.args.change AtCall), at_call g (goal.at.fill-requires-4-clause-waits g c).After-fill_infos r.0 r.1)
 
 pub returns-clause-told : goal.returns-clause-told
-returns-clause-told g c = λ k x. c.fill-4.ensures.told k (changing_at (g.L.SnapList.list c.args.snaps.now) c.args.change AtCall) (at_call g (goal.at.returns-clause-told g c).After-fill_seen k x)
+returns-clause-told g c = λ k x. c.fill-4.ensures.told k (changing_at (g.L.SnapList.list c.args.snaps.now) c.args.change AtCall) (at_call g (goal.at.returns-clause-told g c).After-fill_infos k x)
