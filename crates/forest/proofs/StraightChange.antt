@@ -103,15 +103,6 @@ module _ {M : Type 0} (inner allows : Layout → History → ℕ → Type 0) (re
     unfolding helper
     help_told help v x = x
 
--- what follows of a value, and of two facts on an error
-pub ok_more : {A E : Type 0} (r : Result A E) (P Q : A → Type 0) → ((a : A) → P a → Q a) → IfOk r P → IfOk r Q
-ok_more (Ok a) P Q f x = f a x
-ok_more (Err e) P Q f x = tt
-
-pub err_more : {A E : Type 0} (r : Result A E) (P Q R : E → Type 0) → ((e : E) → P e → Q e → R e) → IfErr r P → IfErr r Q → IfErr r R
-err_more (Ok a) P Q R f x y = tt
-err_more (Err e) P Q R f x y = f e x y
-
 -- of the place behind this one, if there is one, and if there is none
 module _ (r : Option MemberIndex) (j : MemberIndex) (count : ℕ) (valid : IsSome r ↔ ((member_index j < 3) × (member_index j + 1 < count))) (is : IfSome r (λ k. member_index k ≡ member_index j + 1)) where
   pub behind_is : IfSome r (λ next. (member_index next ≡ member_index j + 1) × (member_index next < 4))

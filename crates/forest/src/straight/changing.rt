@@ -1,5 +1,5 @@
 //! SCX with an SCX-record of the share, of whatever machine makes one: its steps in line.
-ghost use Rattle.std.specs.Prelude.{◌≡◌, ◌≤◌, ◌<◌, ◌+◌, ℕ, suc, IfOk, IfErr, IfSome, IfNone};
+ghost use Rattle.std.specs.Prelude.{◌≡◌, ◌≤◌, ◌<◌, ◌+◌, ℕ, suc, true, false, IfSome, IfNone};
 ghost use Rattle.arena.specs.MemberIndex.{member_index};
 ghost use Rattle.forest.specs.TableRule.{IsTableOf};
 ghost use Rattle.forest.specs.Traces.{seat_steps};
@@ -98,13 +98,16 @@ fn fill_members<S: Shape, M: Machine<S>, T: Shape, L: SnapList>(
         → ChangerWaits T.allows S.allows M.ready M.waits M.same layout.now number k seat.new.me.0.passes (changing_at (L.list snaps.now) change (ScxAt.Seen MemberIndex.First)) (scx_fill change.scx (ScxWord.Seen 0) (snap_at (L.list snaps.now) 0).scx.0) }
 {
     let first = MemberIndex::First;
-    let Some(second) = fill_member::<S, M, T, L>(words, layout, seat, number, snaps, change, first) else {
+    let Some(second) = fill_member::<S, M, T, L>(words, layout, seat, number, snaps, change, first)
+    else {
         return;
     };
-    let Some(third) = fill_member::<S, M, T, L>(words, layout, seat, number, snaps, change, second) else {
+    let Some(third) = fill_member::<S, M, T, L>(words, layout, seat, number, snaps, change, second)
+    else {
         return;
     };
-    let Some(fourth) = fill_member::<S, M, T, L>(words, layout, seat, number, snaps, change, third) else {
+    let Some(fourth) = fill_member::<S, M, T, L>(words, layout, seat, number, snaps, change, third)
+    else {
         return;
     };
     fill_member::<S, M, T, L>(words, layout, seat, number, snaps, change, fourth);
@@ -154,13 +157,16 @@ fn fill_infos<S: Shape, M: Machine<S>, T: Shape, L: SnapList>(
         → ChangerWaits T.allows S.allows M.ready M.waits M.same layout.now number k seat.new.me.0.passes (changing_at (L.list snaps.now) change ScxAt.Call) (scx_fill change.scx ScxWord.Call change.call) }
 {
     let first = MemberIndex::First;
-    let Some(second) = fill_seen::<S, M, T, L>(words, layout, seat, number, snaps, change, first) else {
+    let Some(second) = fill_seen::<S, M, T, L>(words, layout, seat, number, snaps, change, first)
+    else {
         return;
     };
-    let Some(third) = fill_seen::<S, M, T, L>(words, layout, seat, number, snaps, change, second) else {
+    let Some(third) = fill_seen::<S, M, T, L>(words, layout, seat, number, snaps, change, second)
+    else {
         return;
     };
-    let Some(fourth) = fill_seen::<S, M, T, L>(words, layout, seat, number, snaps, change, third) else {
+    let Some(fourth) = fill_seen::<S, M, T, L>(words, layout, seat, number, snaps, change, third)
+    else {
         return;
     };
     fill_seen::<S, M, T, L>(words, layout, seat, number, snaps, change, fourth);
@@ -209,8 +215,8 @@ fn fill_all<S: Shape, M: Machine<S>, T: Shape, L: SnapList>(
     fill::<S, M, T>(words, layout, seat, number, scx, ScxWord::Call, change.call)
 }
 
-/// SCX that begins with the fill of its plan. Where a node cannot be frozen it tells the run of
-/// HELP, which waits to look whether all were frozen.
+/// SCX that begins with the fill of its plan, and then by this run of HELP, which has not begun; tells
+/// whether it is done. Where a node could not be frozen the run waits to look whether all were.
 #[inline(always)]
 pub(crate) fn call<S: Shape, M: Machine<S>, T: Shape, L: SnapList>(
     words: &Words<S>,
@@ -219,21 +225,18 @@ pub(crate) fn call<S: Shape, M: Machine<S>, T: Shape, L: SnapList>(
     number: u64,
     snaps: &L,
     change: Change,
-) -> Result<(), HelpRun>
+    help: &mut HelpRun,
+) -> bool
     requires table { IsTableOf words.now.table.shared.table_id words.now.table.shared.key layout.now × (seat.old.table_id ≡ words.now.table.shared.table_id) }
     requires waits { (k : Changer T.allows S.allows M.ready M.waits M.same layout.now number) × ChangerWaits T.allows S.allows M.ready M.waits M.same layout.now number k seat.old.me.0.passes (changing_at (L.list snaps.now) change ScxAt.Plan) (scx_fill change.scx ScxWord.Plan change.plan.0) }
+    requires begins { (help.old.scx ≡ change.scx) × (help.old.at ≡ HelpAt.Start) }
     ensures table { (seat.new.table_id ≡ seat.old.table_id) × (seat.new.me.1 ≡ seat.old.me.1) }
     ensures steps { seat_steps seat.new.me.0.passes ≤ seat_steps seat.old.me.0.passes + 34 }
-    ensures left { IfErr result (λ help. seat_steps seat.new.me.0.passes + suc (help_left help.at) ≤ seat_steps seat.old.me.0.passes + 34) }
-    ensures commits { IfOk result (λ _. (k : Changer T.allows S.allows M.ready M.waits M.same layout.now number)
-        → ChangerWaits T.allows S.allows M.ready M.waits M.same layout.now number k seat.old.me.0.passes (changing_at (L.list snaps.now) change ScxAt.Plan) (scx_fill change.scx ScxWord.Plan change.plan.0)
-        → (help : HelpRun) × (v : ℕ) × ChangerIsTold T.allows S.allows M.ready M.waits M.same layout.now number k seat.new.me.0.passes (changing_at (L.list snaps.now) change (ScxAt.Help (record help { at = HelpAt.Commit }))) v) }
-    ensures blocked { IfErr result (λ help. (k : Changer T.allows S.allows M.ready M.waits M.same layout.now number)
-        → ChangerWaits T.allows S.allows M.ready M.waits M.same layout.now number k seat.old.me.0.passes (changing_at (L.list snaps.now) change ScxAt.Plan) (scx_fill change.scx ScxWord.Plan change.plan.0)
-        → ChangerWaits T.allows S.allows M.ready M.waits M.same layout.now number k seat.new.me.0.passes (changing_at (L.list snaps.now) change (ScxAt.Help help)) (all_frozen_load change.scx)) }
+    ensures left { result ≡ false → seat_steps seat.new.me.0.passes + suc (help_left help.new.at) ≤ seat_steps seat.old.me.0.passes + 34 }
+    ensures commits { result ≡ true → (k : Changer T.allows S.allows M.ready M.waits M.same layout.now number) → ChangerWaits T.allows S.allows M.ready M.waits M.same layout.now number k seat.old.me.0.passes (changing_at (L.list snaps.now) change ScxAt.Plan) (scx_fill change.scx ScxWord.Plan change.plan.0) → (v : ℕ) × ChangerIsTold T.allows S.allows M.ready M.waits M.same layout.now number k seat.new.me.0.passes (changing_at (L.list snaps.now) change (ScxAt.Help (record help.new { at = HelpAt.Commit }))) v }
+    ensures blocked { result ≡ false → (k : Changer T.allows S.allows M.ready M.waits M.same layout.now number) → ChangerWaits T.allows S.allows M.ready M.waits M.same layout.now number k seat.old.me.0.passes (changing_at (L.list snaps.now) change ScxAt.Plan) (scx_fill change.scx ScxWord.Plan change.plan.0) → ChangerWaits T.allows S.allows M.ready M.waits M.same layout.now number k seat.new.me.0.passes (changing_at (L.list snaps.now) change (ScxAt.Help help.new)) (all_frozen_load change.scx) }
 {
     let layout = *layout;
     fill_all::<S, M, T, L>(words, &layout, seat, number, snaps, change);
-    let begun = HelpRun::new(change.scx);
-    helping::call::<S, M, T>(words, &layout, seat, number, begun)
+    helping::call::<S, M, T>(words, &layout, seat, number, help)
 }

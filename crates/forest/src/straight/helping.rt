@@ -1,5 +1,5 @@
 //! HELP, of whatever machine helps: its steps in line.
-ghost use Rattle.std.specs.Prelude.{◌≡◌, ◌≢◌, ◌+◌, ◌≤◌, ◌<◌, ◌⊎◌, ℕ, suc, true, false, IfOk, IfErr};
+ghost use Rattle.std.specs.Prelude.{◌≡◌, ◌≢◌, ◌+◌, ◌≤◌, ◌<◌, ◌⊎◌, ℕ, suc, true, false};
 ghost use Rattle.arena.specs.ScxRecords.{raw_count};
 ghost use Rattle.arena.specs.MemberIndex.{member_index};
 ghost use Rattle.help.specs.Help.Steps.{help_left};
@@ -205,31 +205,31 @@ fn mark_all<S: Shape, M: Machine<S>, T: Shape>(
     mark::<S, M, T>(words, layout, seat, number, run, MemberIndex::Fourth);
 }
 
-/// HELP of an SCX-record by a run that has not begun. Where a node cannot be frozen it tells the
-/// run, which waits to look whether all were frozen.
+/// HELP of an SCX-record by a run that has not begun; tells whether it has committed. Where a node
+/// could not be frozen the run waits to look whether all were.
 #[inline(always)]
 pub(crate) fn call<S: Shape, M: Machine<S>, T: Shape>(
     words: &Words<S>,
     layout: &Layout,
     seat: &mut Seat<u8, SeatView>,
     number: u64,
-    unbegun: HelpRun,
-) -> Result<(), HelpRun>
+    run: &mut HelpRun,
+) -> bool
     requires table { IsTableOf words.now.table.shared.table_id words.now.table.shared.key layout.now × (seat.old.table_id ≡ words.now.table.shared.table_id) }
-    requires waits { (k : Helper T.allows S.allows M.ready M.waits M.same layout.now number) × HelperWaits T.allows S.allows M.ready M.waits M.same layout.now number k seat.old.me.0.passes (record unbegun { at = HelpAt.Plan }) (settled_load unbegun.scx.0 ScxWord.Plan) }
+    requires waits { (k : Helper T.allows S.allows M.ready M.waits M.same layout.now number) × HelperWaits T.allows S.allows M.ready M.waits M.same layout.now number k seat.old.me.0.passes (record run.old { at = HelpAt.Plan }) (settled_load run.old.scx.0 ScxWord.Plan) }
     ensures table { (seat.new.table_id ≡ seat.old.table_id) × (seat.new.me.1 ≡ seat.old.me.1) }
     ensures steps { seat_steps seat.new.me.0.passes ≤ seat_steps seat.old.me.0.passes + 22 }
-    ensures left { IfErr result (λ run. (run.scx ≡ unbegun.scx) × (seat_steps seat.new.me.0.passes + suc (help_left run.at) ≤ seat_steps seat.old.me.0.passes + 22)) }
-    ensures commits { IfOk result (λ _. (k : Helper T.allows S.allows M.ready M.waits M.same layout.now number) → HelperWaits T.allows S.allows M.ready M.waits M.same layout.now number k seat.old.me.0.passes (record unbegun { at = HelpAt.Plan }) (settled_load unbegun.scx.0 ScxWord.Plan) → (run : HelpRun) × (v : ℕ) × HelperIsTold T.allows S.allows M.ready M.waits M.same layout.now number k seat.new.me.0.passes (record run { at = HelpAt.Commit }) v) }
-    ensures blocked { IfErr result (λ run. (k : Helper T.allows S.allows M.ready M.waits M.same layout.now number) → HelperWaits T.allows S.allows M.ready M.waits M.same layout.now number k seat.old.me.0.passes (record unbegun { at = HelpAt.Plan }) (settled_load unbegun.scx.0 ScxWord.Plan) → HelperWaits T.allows S.allows M.ready M.waits M.same layout.now number k seat.new.me.0.passes run record { kind = Kind.LoadAllFrozen; word = Word.Scx run.scx ScxWord.AllFrozen; access = Access.Load }) }
+    ensures same { run.new.scx ≡ run.old.scx }
+    ensures left { result ≡ false → seat_steps seat.new.me.0.passes + suc (help_left run.new.at) ≤ seat_steps seat.old.me.0.passes + 22 }
+    ensures commits { result ≡ true → (k : Helper T.allows S.allows M.ready M.waits M.same layout.now number) → HelperWaits T.allows S.allows M.ready M.waits M.same layout.now number k seat.old.me.0.passes (record run.old { at = HelpAt.Plan }) (settled_load run.old.scx.0 ScxWord.Plan) → (v : ℕ) × HelperIsTold T.allows S.allows M.ready M.waits M.same layout.now number k seat.new.me.0.passes (record run.new { at = HelpAt.Commit }) v }
+    ensures blocked { result ≡ false → (k : Helper T.allows S.allows M.ready M.waits M.same layout.now number) → HelperWaits T.allows S.allows M.ready M.waits M.same layout.now number k seat.old.me.0.passes (record run.old { at = HelpAt.Plan }) (settled_load run.old.scx.0 ScxWord.Plan) → HelperWaits T.allows S.allows M.ready M.waits M.same layout.now number k seat.new.me.0.passes run.new record { kind = Kind.LoadAllFrozen; word = Word.Scx run.new.scx ScxWord.AllFrozen; access = Access.Load } }
 {
-    let mut run = unbegun;
-    let scx = unbegun.scx;
+    let scx = run.scx;
     let word = read::<S, M, T>(words, layout, seat, number, scx, ScxWord::Plan);
     let plan = Plan(word);
     run.plan = plan;
-    if !freeze_all::<S, M, T>(words, layout, seat, number, &mut run) {
-        return Err(run);
+    if !freeze_all::<S, M, T>(words, layout, seat, number, run) {
+        return false;
     }
     let all_frozen = Word::Scx(scx, ScxWord::AllFrozen);
     let flag = Access::Store(1);
@@ -242,7 +242,7 @@ pub(crate) fn call<S: Shape, M: Machine<S>, T: Shape>(
         all_frozen,
         flag,
     );
-    mark_all::<S, M, T>(words, layout, seat, number, &run);
+    mark_all::<S, M, T>(words, layout, seat, number, run);
     let new = read::<S, M, T>(words, layout, seat, number, scx, ScxWord::New);
     let old = read::<S, M, T>(words, layout, seat, number, scx, ScxWord::Old);
     let node = run.members[plan.at().index()];
@@ -252,5 +252,5 @@ pub(crate) fn call<S: Shape, M: Machine<S>, T: Shape>(
     let state = Word::Scx(scx, ScxWord::State);
     let commit = Access::Store(COMMITTED);
     act::<S, M, T>(words, layout, seat, number, Kind::Commit, state, commit);
-    Ok(())
+    true
 }

@@ -17,6 +17,7 @@ use arena::{
     Access, Kind, Layout, NodeNo, NodeWord, Plan, ScxNo, ScxWord, Shape, Step, Turn, Word,
 };
 use atomic_table::Seat;
+use help::HelpRun;
 use prims::{PutAt, PutRun, Scx, ScxAt, ScxRun, Snap, Snaps, Update};
 
 /// What an SCX with a fresh cell is to do, beside the snapshots, which stay where the caller has
@@ -129,11 +130,11 @@ pub(crate) fn call<S: Shape>(
         old: put.old,
         fresh: put.fresh,
     };
-    match changing::call::<S, PutRun, S, &[Snap]>(words, layout, seat, number, &snaps, change) {
-        Ok(()) => Scx::Done,
-        Err(help) => {
-            let run = machine(snaps, put, number, ScxAt::Help { help }, PutAt::Scx);
-            complete_blocked(words, *layout, seat, number, run)
-        }
+    let mut help = HelpRun::new(put.scx);
+    let own = &mut help;
+    if changing::call::<S, PutRun, S, &[Snap]>(words, layout, seat, number, &snaps, change, own) {
+        return Scx::Done;
     }
+    let run = machine(snaps, put, number, ScxAt::Help { help }, PutAt::Scx);
+    complete_blocked(words, *layout, seat, number, run)
 }

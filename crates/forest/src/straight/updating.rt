@@ -16,6 +16,7 @@ use crate::view::SeatView;
 use crate::words::Words;
 use arena::{Layout, Machine, NodeNo, ScxNo, Shape, Turn};
 use atomic_table::Seat;
+use help::HelpRun;
 use prims::Snap;
 use template::{Found, Tree};
 use updates::{Edit, Next, Stop, UpdateRun, Updated, anew};
@@ -188,8 +189,10 @@ fn change<S: Shape, M: Machine<S>, E: Edit + Drop>(
         fresh: run.fresh(found),
     };
     let snaps = run.snaps.as_slice();
-    match changing::call::<S, M, Tree, &[Snap]>(words, layout, seat, number, &snaps, change) {
-        Ok(()) => Turn::Done(Updated::at(found)),
-        Err(help) => run.block(*found, scx, help),
+    let mut help = HelpRun::new(scx);
+    let own = &mut help;
+    if changing::call::<S, M, Tree, &[Snap]>(words, layout, seat, number, &snaps, change, own) {
+        return Turn::Done(Updated::at(found));
     }
+    run.block(*found, scx, help)
 }

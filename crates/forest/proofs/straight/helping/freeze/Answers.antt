@@ -33,8 +33,12 @@ pub read-member-requires-clause-waits : goal.read-member-requires-clause-waits
 read-member-requires-clause-waits g c = let r = c.requires.waits in (r.0, record c.args.run.now { at = AtMember c.args.j }, rw c.number.ensures.value r.1)
 
 pub read-seen-requires-clause-waits : goal.read-seen-requires-clause-waits
-read-seen-requires-clause-waits g c = let r = c.requires.waits in (r.0, record (with_node c.args.run.now (member_index c.args.j) c.read-member.result) { at = AtSeen c.args.j }, rw c.number-2.ensures.value
-    (to_seen g.T.Shape.allows g.S.Shape.allows g.M.Machine.ready g.M.Machine.waits g.M.Machine.same c.args.layout.now c.args.number r.0 _ c.args.run.now c.args.j c.read-member.result (let i = c.index.ensures.small in let e = c.index.ensures.value in omega arith) (c.read-member.ensures.told r.0 (record c.args.run.now { at = AtMember c.args.j }) (rw c.number.ensures.value r.1))))
+read-seen-requires-clause-waits g c = let r = c.requires.waits in (
+  r.0,
+  record (with_node c.args.run.now (member_index c.args.j) c.read-member.result) { at = AtSeen c.args.j },
+  rw c.number-2.ensures.value
+      (to_seen g.T.Shape.allows g.S.Shape.allows g.M.Machine.ready g.M.Machine.waits g.M.Machine.same c.args.layout.now c.args.number r.0 _ c.args.run.now c.args.j c.read-member.result (let i = c.index.ensures.small in let e = c.index.ensures.value in omega arith) (c.read-member.ensures.told r.0 (record c.args.run.now { at = AtMember c.args.j }) (rw c.number.ensures.value r.1))),
+)
 
 pub act-found-requires-clause-waits : goal.act-found-requires-clause-waits
 act-found-requires-clause-waits g c = let r = c.requires.waits in (r.0, record (with_node c.args.run.now (member_index c.args.j) c.read-member.result) { at = AtFreeze c.args.j c.read-seen.result }, rw (c.index.ensures.value, c.index-2.ensures.value) (at_freeze g (goal.at.act-found-requires-clause-waits g c).After-read-seen r.0 r.1))
