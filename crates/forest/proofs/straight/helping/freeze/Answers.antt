@@ -1,4 +1,4 @@
-use Rattle.std.proofs.Common.{ℕ, suc, arith}
+use Rattle.std.proofs.Common.{ℕ, arith}
 use Rattle.std.specs.Prelude.{slice_set}
 use Rattle.arena.specs.MemberIndex.{member_index}
 use Rattle.arena.specs.Words.{info}
