@@ -44,6 +44,14 @@ __attribute__((destructor)) static void end(void) {
     fclose(file);
 }
 
+/* The program may end so, which runs no destructor. */
+__attribute__((noreturn)) void _exit(int status) {
+    void (*next_exit)(int) = dlsym(RTLD_NEXT, "_exit");
+    end();
+    next_exit(status);
+    __builtin_unreachable();
+}
+
 static int is_refused(void) {
     if (++calls != refused) return 0;
     errno = ENOMEM;
