@@ -25,6 +25,7 @@ use Rattle.updates.specs.Pieces.{many_nodes}
 use Rattle.updates.specs.Steps.{Spends}
 use Rattle.updates.specs.Tries.{HasEnteredNone}
 use Rattle.updates.specs.declared.edit.Need.TheVariants.{Nothing, One}
+use Rattle.updates.specs.declared.update.UpdateAt.{UpdateAt}
 use Rattle.updates.specs.declared.update.UpdateRun.{UpdateRun}
 use Rattle.updates.specs.declared.update.Updated.{Updated}
 use Rattle.updates.specs.declared.update.Updated.TheVariants.{Done, Contended, Full}
@@ -65,11 +66,11 @@ takes_none low high most (inr apart) asks = let some = asks.1 in omega (arith, a
 
 module _ (c : Call) (h : History) where
   -- an insert that is done has changed the map
-  insert_done : (m : UpdateRun Inserted) (found : Found) → m.call ≡ c.number → IsDoneAt insert_means m.edit m.call c h found → WordSays c h (Edit (PutEdit m.edit.key m.edit.value)) m.share m.tries (words.Value found.value)
+  insert_done : (m : UpdateRun Inserted UpdateAt) (found : Found) → m.call ≡ c.number → IsDoneAt insert_means m.edit m.call c h found → WordSays c h (Edit (PutEdit m.edit.key m.edit.value)) m.share m.tries (words.Value found.value)
   insert_done m found number (inl x) = absurd (something found.value x.needless)
   insert_done m found number (inr x) = (record { edit = PutEdit m.edit.key m.edit.value; is_edit = refl; old = found.value; tells = refl; made = subst (λ n. HasMade (PutEdit m.edit.key m.edit.value) c h n found.value) number x.0 }, tt)
 
-  pub insert_says : (m : UpdateRun Inserted) (a : Updated) → IsTreeRun c.layout h → m.edit.key < 2 ^ 64 → m.call ≡ c.number → UpdateSays insert_means m c h a → WordSays c h (Edit (PutEdit m.edit.key m.edit.value)) m.share m.tries (update_reply a)
+  pub insert_says : (m : UpdateRun Inserted UpdateAt) (a : Updated) → IsTreeRun c.layout h → m.edit.key < 2 ^ 64 → m.call ≡ c.number → UpdateSays insert_means m c h a → WordSays c h (Edit (PutEdit m.edit.key m.edit.value)) m.share m.tries (update_reply a)
   insert_says m (Done key value) run small number x = subst (λ v. WordSays c h (Edit (PutEdit m.edit.key m.edit.value)) m.share m.tries (words.Value v)) x.is_value (insert_done m x.found number x.is_done)
   insert_says m (Contended node scx) run small number x = (tt, record { way = x.0; over = x.1; none = x.2 })
   insert_says m (Full full) run small number x = (
@@ -81,7 +82,7 @@ module _ (c : Call) (h : History) where
   )
 
   -- a delete that is done has changed it, or has found no value
-  delete_done : (m : UpdateRun Deleted) (found : Found) (old : Option ℕ) → found.value ≡ old → IsTreeRun c.layout h → m.edit.key < 2 ^ 64 → m.call ≡ c.number → IsDoneAt delete_means m.edit m.call c h found → WordSays c h (Edit (TakeEdit m.edit.key)) m.share m.tries (words.Value old)
+  delete_done : (m : UpdateRun Deleted UpdateAt) (found : Found) (old : Option ℕ) → found.value ≡ old → IsTreeRun c.layout h → m.edit.key < 2 ^ 64 → m.call ≡ c.number → IsDoneAt delete_means m.edit m.call c h found → WordSays c h (Edit (TakeEdit m.edit.key)) m.share m.tries (words.Value old)
   delete_done m found None e run small number (inl x) =
       let y : HasRead c h (Edit (TakeEdit m.edit.key)) (OneValue found.value) = let z = leaf_read c h m.edit.key found small run x.has_found x.none in record { moment = z.moment; within = z.within; since = z.since; own = λ _. z.own tt; map = z.map; spelled = z.spelled; gives = z.gives; none = z.none } in
       (rw e at y, tt)
@@ -91,7 +92,7 @@ module _ (c : Call) (h : History) where
       let made : HasMade (TakeEdit m.edit.key) c h c.number (Some old) = rw (number, e) at x.0 in
       (record { edit = TakeEdit m.edit.key; is_edit = refl; old = Some old; tells = refl; made = made }, tt)
 
-  pub delete_says : (m : UpdateRun Deleted) (a : Updated) → IsTreeRun c.layout h → m.edit.key < 2 ^ 64 → m.call ≡ c.number → UpdateSays delete_means m c h a → WordSays c h (Edit (TakeEdit m.edit.key)) m.share m.tries (update_reply a)
+  pub delete_says : (m : UpdateRun Deleted UpdateAt) (a : Updated) → IsTreeRun c.layout h → m.edit.key < 2 ^ 64 → m.call ≡ c.number → UpdateSays delete_means m c h a → WordSays c h (Edit (TakeEdit m.edit.key)) m.share m.tries (update_reply a)
   delete_says m (Done key value) run small number x = delete_done m x.found value x.is_value run small number x.is_done
   delete_says m (Contended node scx) run small number x = (tt, record { way = x.0; over = x.1; none = x.2 })
   delete_says m (Full full) run small number x = (

@@ -21,6 +21,7 @@ use Rattle.tree.specs.declared.get.GetRun.{GetRun}
 use Rattle.tree.specs.declared.insert.Insert.{Insert as Inserted}
 use Rattle.updates.specs.Known.{RestsWith, UpdateAnswers}
 use Rattle.updates.specs.Steps.{node_tries, scx_tries, Spends}
+use Rattle.updates.specs.declared.update.UpdateAt.{UpdateAt}
 use Rattle.updates.specs.declared.update.UpdateRun.{UpdateRun}
 use Rattle.updates.specs.declared.update.Updated.{Updated}
 use Rattle.updates.specs.declared.update.Updated.TheVariants as updated
@@ -51,7 +52,7 @@ range_form low high most (Err refused.NoMemory) = tt
 -- Their answers
 
 module _ (tries : ℕ) (c : Call) (h : History) where
-  pub insert_ends : (old now : UpdateRun Inserted) (a : Updated) → IsRun TreeAllows c.layout h → Goes (Insert old) tries c → now.edit ≡ old.edit → now.call ≡ old.call → Spends 3 old.share now.share (node_tries old old.at) 0 (scx_tries old old.at) 0 → UpdateAnswers insert_means now c h a → MapAnswers tries (Insert now) c h (update_reply a)
+  pub insert_ends : (old now : UpdateRun Inserted UpdateAt) (a : Updated) → IsRun TreeAllows c.layout h → Goes (Insert old) tries c → now.edit ≡ old.edit → now.call ≡ old.call → Spends 3 old.share now.share (node_tries old old.at) 0 (scx_tries old old.at) 0 → UpdateAnswers insert_means now c h a → MapAnswers tries (Insert now) c h (update_reply a)
   insert_ends old now a run goes edit call spends x =
       let small : now.edit.key < 2 ^ 64 = rw edit goes.small in
       record {
@@ -61,7 +62,7 @@ module _ (tries : ℕ) (c : Call) (h : History) where
         says = insert_says c h now a (goes.mode, run) small (call ∙ goes.number) x.1;
       }
 
-  pub delete_ends : (old now : UpdateRun Deleted) (a : Updated) → IsRun TreeAllows c.layout h → Goes (Delete old) tries c → now.edit ≡ old.edit → now.call ≡ old.call → Spends 1 old.share now.share (node_tries old old.at) 0 (scx_tries old old.at) 0 → UpdateAnswers delete_means now c h a → MapAnswers tries (Delete now) c h (update_reply a)
+  pub delete_ends : (old now : UpdateRun Deleted UpdateAt) (a : Updated) → IsRun TreeAllows c.layout h → Goes (Delete old) tries c → now.edit ≡ old.edit → now.call ≡ old.call → Spends 1 old.share now.share (node_tries old old.at) 0 (scx_tries old old.at) 0 → UpdateAnswers delete_means now c h a → MapAnswers tries (Delete now) c h (update_reply a)
   delete_ends old now a run goes edit call spends x =
       let small : now.edit.key < 2 ^ 64 = rw edit goes.small in
       record {

@@ -17,6 +17,7 @@ use Rattle.updates.specs.Laws.Entered.{none_yet}
 use Rattle.updates.specs.Laws.Kept.{idle_over}
 use Rattle.updates.specs.Steps.{node_tries, scx_tries}
 use Rattle.updates.specs.declared.update.UpdateAt.TheVariants.{Start}
+use Rattle.updates.specs.declared.update.UpdateAt.{UpdateAt}
 use Rattle.updates.specs.declared.update.UpdateRun.{UpdateRun}
 use Rattle.dict.specs.Calls.{call_in, share_of, IsFewCall}
 use Rattle.dict.specs.DictKnown.{DictIsReady}
@@ -33,7 +34,7 @@ module _ (c : Call) (run : IsTreeRun c.layout c.start) where
   rests share x = record { run = run; since = ends_self c.start; now = x; quiet = quiet_at_start c.layout c.pass c.start (idle_over c c.start run.1.lawful x.over) }
 
   -- an update may begin
-  module _ {E : Type 0} (e : EditMeaning E) (m : UpdateRun E) (at : m.at ≡ Start) (share : RestsWith c c.start m.share) where
+  module _ {E : Type 0} (e : EditMeaning E) (m : UpdateRun E UpdateAt) (at : m.at ≡ Start) (share : RestsWith c c.start m.share) where
     update_ready : path_key (e.goal m.edit) < 2 ^ 64 → UpdateIsReady e m c c.start None
     update_ready small = (
       record { run = run; small = small; since = ends_self c.start; rests = share },

@@ -91,7 +91,7 @@ module _ (keys values : ℕ → Type 0) where
           omega (arith, e, i)
 
   -- a step of an update continues a run of a typed dictionary, if its edit is of such words
-  module _ {E : Type 0} (e : EditMeaning E) (m : UpdateRun E) (c : Call) (h : History) (s : Step) (run : IsRun (TypedAllows keys values) c.layout h) (typed : (f : Found) → e.needs m.edit f ≢ Nothing → IsTypedEdit keys values (e.edit m.edit f)) where
+  module _ {E : Type 0} (e : EditMeaning E) (m : UpdateRun E UpdateAt) (c : Call) (h : History) (s : Step) (run : IsRun (TypedAllows keys values) c.layout h) (typed : (f : Found) → e.needs m.edit f ≢ Nothing → IsTypedEdit keys values (e.edit m.edit f)) where
     -- the SCX in hand makes the edit that it tracks
     in_hand : (b : History) (f : Found) (scx : ScxRun) (begin : History) → IsRun TreeAllows c.layout (row_of c s h ⊳ h) → Scxs e m (from c b) (row_of c s h ⊳ h) f scx begin → (t : ℕ) → IsFirst c.layout h (row_of c s h) t → IsBegin h (row_of c s h) t → (d : MapEdit) × Makes c.layout (row_of c s h ⊳ h) t d × IsTypedEdit keys values d
     in_hand b f scx begin tree x t first begins = go x.tracks

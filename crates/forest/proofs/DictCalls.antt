@@ -1,5 +1,5 @@
 -- What a call of a dictionary leaves of its pass.
-use Rattle.std.proofs.Common.{◌≡◌, ◌∙◌, arith, ℕ, suc, ◌+◌, ◌<◌, ◌≤◌, ◌∷◌, Option, Some, None, refl, sym, subst}
+use Rattle.std.proofs.Common.{◌≡◌, ◌∙◌, arith, ℕ, suc, ◌+◌, ◌<◌, ◌≤◌, ◌∷◌, List, Option, Some, None, Bool, true, ap, refl, sym, subst}
 use Rattle.std.proofs.Math.Nat.{lt_of_not-le}
 use Rattle.atomic_table.specs.declared.shared.Seat.{Seat}
 use Rattle.arena.specs.declared.layout.Layout.{Layout}
@@ -7,7 +7,9 @@ use Rattle.arena.specs.declared.limits.Mode.TheVariants.{Tree}
 use Rattle.arena.specs.History.{History, Extends}
 use Rattle.arena.specs.Share.{Remaining}
 use Rattle.arena.proofs.Lemmas.{ends_self}
-use Rattle.spelling.specs.OrderedMap.{MapCall, MapReply}
+use Rattle.std.specs.Prelude.{Result, Ok, Err, IfOk, IfSome}
+use Rattle.std.specs.Option.{option_map}
+use Rattle.spelling.specs.OrderedMap.{MapCall, Edit as EditCall, MapEdit, Insert, Delete, MapReply, OneValue}
 use Rattle.spelling.specs.Runs.{IsTreeRun}
 use Rattle.prims.specs.Laws.Begun.{taken_since}
 use Rattle.prims.specs.Shares.{IsShare}
@@ -20,7 +22,7 @@ use Rattle.dict.specs.Known.{IsUnbegun}
 use Rattle.dict.specs.Says.{Tells}
 use Rattle.dict.specs.Typed.{IsTypedCall, TypedAllows}
 use Rattle.dict.specs.TypedMaps.{typed_run}
-use Rattle.dict.specs.Words.{IsWord}
+use Rattle.dict.specs.Words.{IsWord, IsValidReply}
 use Rattle.spelling.specs.Replies.{told_of}
 use Rattle.spelling.specs.Requests.{AsksForFew, as_map_call}
 use Rattle.dict.specs.declared.dict.DictRun.{DictRun}
@@ -30,7 +32,11 @@ use Rattle.spelling.specs.declared.reply.Reply.{Reply}
 use Rattle.spelling.specs.declared.reply.Reply.TheVariants as replies
 use Rattle.forest.specs.declared.view.SeatView.{SeatView}
 use Rattle.forest.specs.declared.pass.Pass.TheInside.{Inside}
-use Rattle.forest.specs.Dictionary.{IsToldOf, IsRefusalOf, HasSpentAtMost, blamed_by_reply}
+use Rattle.forest.specs.Dictionary.{IsChange, IsChangeOrReading, IsToldOf, IsRefusalOf, HasEdited, HasSpentAtMost, UpdateSays, blamed_by_reply, blamed_by_update, update_reply}
+use Rattle.forest.specs.StraightCalls.{IsFreshEdit, map_edit}
+use Rattle.forest.specs.declared.fault.UpdateFault.{UpdateFault}
+use Rattle.forest.specs.declared.fault.UpdateFault.TheVariants as faults
+use Rattle.forest.specs.declared.straight.calls.WordEdit.{WordEdit}
 use Rattle.forest.specs.Passes.{PassView, HasBlamed, HasGoneOn, run_of, taken_of}
 use Rattle.forest.specs.PassInvariant.{pass_view, IsPass}
 use Rattle.forest.specs.Shares.{IsBetweenCalls}
@@ -105,6 +111,10 @@ module _ {K V : Type 0} (valid_key : K → Type 0) (key : K → ℕ) (valid_valu
   pub request_starts : {T : Type 0} (p : Inside T) (x : IsPass allows Tree p) (m : DictRun K V) (request : Request K V) (tries number : ℕ) → taken_of (pass_view p) ≡ number → call_in m.run ≡ as_map_call key value_word request → IsTypedCall keys values (call_in m.run) → m.tries ≡ tries → IsUnbegun m.run tries number → AsksForFew request → share_of m.run ≡ p.share → CallBegins allows (DictIsReady keys values) (call_of p x (taken_of (pass_view p))) p.seat.me.0.passes m
   request_starts p x m request tries number named call typed same fresh few share = dict_starts p x m typed (rw (same, named) fresh) (few_of key value_word request (call_in m.run) call few) share
 
+  -- and so may a machine of an edit
+  pub edit_starts : {T : Type 0} (p : Inside T) (x : IsPass allows Tree p) (m : DictRun K V) (ed : WordEdit) (tries number : ℕ) → taken_of (pass_view p) ≡ number → IsTypedCall keys values (EditCall (map_edit ed)) → IsFreshEdit ed p.share tries number m → CallBegins allows (DictIsReady keys values) (call_of p x (taken_of (pass_view p))) p.seat.me.0.passes m
+  edit_starts p x m ed tries number named typed fresh = dict_starts p x m (rw fresh.call typed) (rw (fresh.tries, named) fresh.unbegun) (rw fresh.call tt) fresh.share
+
   module _ {T : Type 0} (p : Inside T) (x : IsPass allows Tree p) (s : Seat ℕ SeatView) (m : DictRun K V) (reply : Reply K V) where
     -- the number of the call
     abbrev pub called : ℕ
@@ -127,6 +137,10 @@ module _ {K V : Type 0} (valid_key : K → Type 0) (key : K → ℕ) (valid_valu
 
     abbrev now : PassView
     now = pass_view behind
+
+    -- what is so of it is so where the share and the blame list are these
+    pub so_behind : (Q : Inside T → Type 0) (share : Remaining) (blamed : List ℕ) → share_of m.run ≡ share → blamed ≡ blamed_by_reply reply p.blamed → Q behind → Q (left_with p x s called Answered share blamed)
+    so_behind Q share blamed is_share is_blamed y = subst (λ b. Q (left_with p x s called Answered share b)) (sym is_blamed) (subst (λ r. Q (left_with p x s called Answered r (blamed_by_reply reply p.blamed))) is_share y)
 
     module _ (y : HasEnded allows p s called Answered) where
       tree : IsTreeRun p.layout (run_of now)
@@ -198,3 +212,40 @@ module _ {K V : Type 0} (valid_key : K → Type 0) (key : K → ℕ) (valid_valu
           go (replies.Full f) z = full_says (pass_view p) x.is_pass called refl s.table_id (share_of m.run) (known_of s.me.0.passes) (blamed_by_reply reply p.blamed) tree y.since (call_in m.run) f rests z
           go replies.NoMemory z = (z.0, nothing_says (pass_view p) x.is_pass called refl s.table_id (share_of m.run) (known_of s.me.0.passes) (blamed_by_reply reply p.blamed) tree y.since z.1)
           go (replies.Contended n u) z = lost_says (pass_view p) x.is_pass called refl s.table_id (share_of m.run) (known_of s.me.0.passes) (blamed_by_reply reply p.blamed) tree y.since (tries_behind m.run) n.0 u.0 z
+
+-- What an edit has answered
+
+-- which edit a call makes, if it makes one
+abbrev edit_in : MapEdit → MapCall → MapEdit
+edit_in other (EditCall e) = e
+edit_in other _ = other
+
+-- which value a reply tells
+abbrev told_in : MapReply → Option ℕ
+told_in (OneValue v) = v
+told_in _ = None
+
+module _ {K V : Type 0} (key : K → ℕ) (value_word : V → ℕ) (old new : PassView) where
+  changed : (ed : MapEdit) (v : Option ℕ) → IsChangeOrReading true old new (EditCall ed) (OneValue v) → IsChange old new ed v
+  changed ed v x = subst (λ w. IsChange old new ed w) (sym (ap told_in x.3)) (subst (λ (e : MapEdit). IsChange old new e x.1) (sym (ap (edit_in ed) x.2)) x.4)
+
+  edited_so : (ed : MapEdit) (v : Option ℕ) → IsToldOf old new (EditCall ed) (Some (OneValue v)) → HasEdited old new ed v
+  edited_so (Insert k w) v x = changed (Insert k w) v x
+  edited_so (Delete k) (Some v) x = changed (Delete k) (Some v) x
+  edited_so (Delete k) None x = x
+
+  -- what is told of the map, or why nothing is, is what the answer says
+  pub update_says : (ed : MapEdit) (r : Result (Option V) UpdateFault) → IsToldOf old new (EditCall ed) (told_of key value_word (update_reply r)) → IsRefusalOf {K = K} old new (EditCall ed) (update_reply r) → UpdateSays value_word old new ed r
+  update_says ed (Ok v) told refused = edited_so ed (option_map value_word v) told
+  update_says ed (Err (faults.Contended n s)) told refused = refused
+  update_says ed (Err (faults.Full full)) told refused = refused
+
+  pub update_valid : (valid_key : K → Type 0) (valid_value : V → Type 0) (r : Result (Option V) UpdateFault) → IsValidReply valid_key valid_value (update_reply r) → IfOk r (λ v. IfSome v valid_value)
+  update_valid valid_key valid_value (Ok v) x = x
+  update_valid valid_key valid_value (Err f) x = tt
+
+-- whom the answer blames, the reply does
+pub blames_same : (K : Type 0) {V : Type 0} (r : Result (Option V) UpdateFault) (blamed : List ℕ) → blamed_by_update r blamed ≡ blamed_by_reply {K = K} (update_reply r) blamed
+blames_same K (Ok v) blamed = refl
+blames_same K (Err (faults.Contended n s)) blamed = refl
+blames_same K (Err (faults.Full full)) blamed = refl

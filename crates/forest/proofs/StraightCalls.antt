@@ -1,17 +1,19 @@
 -- Whole calls of a dictionary whose updates are straight.
-use Rattle.std.proofs.Common.{◌≡◌, ℕ, ◌^◌, ◌<◌, List, Option, None, refl, sym, subst, ap, ◌∙◌}
+use Rattle.std.proofs.Common.{◌≡◌, ℕ, zero, suc, ◌+◌, ◌*◌, ◌-◌, ◌^◌, ◌<◌, ◌≤◌, List, Option, None, refl, sym, subst, ap, arith, ◌∙◌}
 use Rattle.arena.specs.declared.layout.Layout.{Layout}
-use Rattle.arena.specs.declared.machine.Turn.{Turn}
-use Rattle.arena.specs.declared.machine.Turn.TheVariants.{Ask, Done}
 use Rattle.arena.specs.declared.step.Step.{Step}
 use Rattle.arena.specs.History.{History}
 use Rattle.arena.specs.Machines.{Call}
+use Rattle.arena.specs.Share.{Remaining}
 use Rattle.spelling.specs.OrderedMap.{MapCall, Edit, Insert as InsertEdit, Delete as DeleteEdit}
 use Rattle.tree.specs.Delete.Means.{delete_means}
 use Rattle.tree.specs.Insert.Means.{insert_means}
 use Rattle.tree.specs.declared.delete.Delete.{Delete as Deleted}
 use Rattle.tree.specs.declared.insert.Insert.{Insert as Inserted}
 use Rattle.updates.specs.Steps.{node_tries, scx_tries}
+use Rattle.updates.specs.Next.{standing}
+use Rattle.updates.specs.declared.update.UpdateAt.{UpdateAt}
+use Rattle.updates.specs.declared.update.UpdateAt.TheVariants.{Start}
 use Rattle.updates.specs.declared.update.UpdateRun.{UpdateRun}
 use Rattle.updates.specs.declared.update.Updated.{Updated}
 use Rattle.dict.specs.Known.{Goes}
@@ -26,8 +28,10 @@ use Rattle.spelling.specs.declared.reply.Reply.{Reply}
 use Rattle.dict.specs.declared.told.WordReply.{WordReply}
 use Rattle.dict.proofs.Lemmas.{insert_ends, delete_ends, edit_spends, dict_ends}
 use Rattle.forest.specs.declared.view.SeatedPass.{SeatedPass}
-use Rattle.forest.specs.StraightCalls.{DictAllows, DictCallIsReady, DictCallWaits, IsSameDictCall, SeatDictBegins, SeatDictEnds, SeatUpdateStands}
-use Rattle.forest.specs.StraightUpdate.{Updater, HasGoneOn, UpdaterBegins, UpdaterStands}
+use Rattle.forest.specs.StraightCalls.{DictAllows, DictCallIsReady, DictCallWaits, IsSameDictCall, SeatDictBegins, SeatDictEnds, SeatUpdateEnds, IsFreshEdit}
+use Rattle.forest.specs.StraightUpdate.{Updater, HasGoneOn, UpdaterBegins, UpdaterEnds}
+use Rattle.forest.specs.declared.straight.calls.WordEdit.TheVariants as edits
+use Rattle.forest.proofs.StraightUpdate.{answers_there}
 use Rattle.forest.specs.TableRule.{history_of}
 use Rattle.forest.specs.Traces.{begins, goes_on}
 
@@ -53,13 +57,13 @@ module _ {K V : Type 0} (valid_key : K → Type 0) (key : K → ℕ) (valid_valu
   module _ (machine : DictRun K V) (c : Call) (layout : Layout) (number : ℕ) (is_layout : c.layout ≡ layout) (is_number : c.number ≡ number) where
     -- Inserts
 
-    abbrev inserting : UpdateRun Inserted → DictRun K V
+    abbrev inserting : UpdateRun Inserted UpdateAt → DictRun K V
     inserting m = record machine { run = Insert m }
 
     insert_call : Inserted → MapCall
     insert_call e = Edit (InsertEdit e.key e.value)
 
-    insert_goes : (old now : UpdateRun Inserted) → HasGoneOn allows ready waits same insert_means layout number old now (node_tries now now.at) (scx_tries now now.at) → Goes (Insert old) machine.tries c → Goes (Insert now) machine.tries c
+    insert_goes : (old now : UpdateRun Inserted UpdateAt) → HasGoneOn allows ready waits same insert_means layout number old now (node_tries now now.at) (scx_tries now now.at) → Goes (Insert old) machine.tries c → Goes (Insert now) machine.tries c
     insert_goes old now on x = record {
       mode = x.mode;
       small = subst (λ (e : Inserted). e.key < 2 ^ 64) (sym on.edit) x.small;
@@ -82,32 +86,31 @@ module _ {K V : Type 0} (valid_key : K → Type 0) (key : K → ℕ) (valid_valu
       stays = λ old now e. (ap insert_call e, refl);
     }
 
-    pub insert_begins : (ps : List SeatedPass) (m : UpdateRun Inserted) → machine.run ≡ Insert m → SeatDictBegins valid_key key valid_value value_word c ps machine → UpdaterBegins allows ready waits same insert_means layout number inserter ps m
+    pub insert_begins : (ps : List SeatedPass) {A : Type 0} (m : UpdateRun Inserted A) → machine.run ≡ Insert (standing m Start) → SeatDictBegins valid_key key valid_value value_word c ps machine → UpdaterBegins allows ready waits same insert_means layout number inserter ps m
     unfolding inserter
     insert_begins ps m is x = record { known = x.known; is = x.is; sound = x.sound; so = (subst (λ r. ready (record machine { run = r }) c (history_of c.layout.mode x.known) None) is x.so.1, begins (λ i. record machine { run = sym is i }) (sym x.so.0)) }
 
-    pub insert_stands : (ps : List SeatedPass) (m : UpdateRun Inserted) (turn : Turn Updated) → UpdaterStands allows ready waits same insert_means layout number inserter ps m turn → SeatUpdateStands valid_key key valid_value value_word c ps machine (inserting m) turn
+    pub insert_ended : (ps : List SeatedPass) {A : Type 0} (m : UpdateRun Inserted A) (a : Updated) → UpdaterEnds allows ready waits same insert_means layout number inserter ps m a → SeatUpdateEnds valid_key key valid_value value_word c ps machine (inserting (standing m Start)) a
     unfolding inserter insert_call
-    insert_stands ps m (Ask s) x = x
-    insert_stands ps m (Done a) x = let y = x.so in record {
+    insert_ended ps m a x = let y = x.so in record {
       known = x.known;
       is = x.is;
       sound = x.sound;
       so = (
-        (y.was.1.0.mode, insert_ends machine.tries c _ y.old m a (typed_run keys values c.layout _ x.sound) y.was.1.0 y.goes.edit y.goes.called y.goes.spends y.answers),
+        (y.was.1.0.mode, insert_ends machine.tries c _ y.old (standing m Start) a (typed_run keys values c.layout _ x.sound) y.was.1.0 y.goes.edit y.goes.called y.goes.spends (answers_there insert_means c _ m Start a y.answers)),
         goes_on (inserting y.old) (ap insert_call y.goes.edit, refl) y.course,
       );
     }
 
     -- Deletes
 
-    abbrev deleting : UpdateRun Deleted → DictRun K V
+    abbrev deleting : UpdateRun Deleted UpdateAt → DictRun K V
     deleting m = record machine { run = Delete m }
 
     delete_call : Deleted → MapCall
     delete_call e = Edit (DeleteEdit e.key)
 
-    delete_goes : (old now : UpdateRun Deleted) → HasGoneOn allows ready waits same delete_means layout number old now (node_tries now now.at) (scx_tries now now.at) → Goes (Delete old) machine.tries c → Goes (Delete now) machine.tries c
+    delete_goes : (old now : UpdateRun Deleted UpdateAt) → HasGoneOn allows ready waits same delete_means layout number old now (node_tries now now.at) (scx_tries now now.at) → Goes (Delete old) machine.tries c → Goes (Delete now) machine.tries c
     delete_goes old now on x = record {
       mode = x.mode;
       small = subst (λ (e : Deleted). e.key < 2 ^ 64) (sym on.edit) x.small;
@@ -130,28 +133,66 @@ module _ {K V : Type 0} (valid_key : K → Type 0) (key : K → ℕ) (valid_valu
       stays = λ old now e. (ap delete_call e, refl);
     }
 
-    pub delete_begins : (ps : List SeatedPass) (m : UpdateRun Deleted) → machine.run ≡ Delete m → SeatDictBegins valid_key key valid_value value_word c ps machine → UpdaterBegins allows ready waits same delete_means layout number deleter ps m
+    pub delete_begins : (ps : List SeatedPass) {A : Type 0} (m : UpdateRun Deleted A) → machine.run ≡ Delete (standing m Start) → SeatDictBegins valid_key key valid_value value_word c ps machine → UpdaterBegins allows ready waits same delete_means layout number deleter ps m
     unfolding deleter
     delete_begins ps m is x = record { known = x.known; is = x.is; sound = x.sound; so = (subst (λ r. ready (record machine { run = r }) c (history_of c.layout.mode x.known) None) is x.so.1, begins (λ i. record machine { run = sym is i }) (sym x.so.0)) }
 
-    pub delete_stands : (ps : List SeatedPass) (m : UpdateRun Deleted) (turn : Turn Updated) → UpdaterStands allows ready waits same delete_means layout number deleter ps m turn → SeatUpdateStands valid_key key valid_value value_word c ps machine (deleting m) turn
+    pub delete_ended : (ps : List SeatedPass) {A : Type 0} (m : UpdateRun Deleted A) (a : Updated) → UpdaterEnds allows ready waits same delete_means layout number deleter ps m a → SeatUpdateEnds valid_key key valid_value value_word c ps machine (deleting (standing m Start)) a
     unfolding deleter delete_call
-    delete_stands ps m (Ask s) x = x
-    delete_stands ps m (Done a) x = let y = x.so in record {
+    delete_ended ps m a x = let y = x.so in record {
       known = x.known;
       is = x.is;
       sound = x.sound;
       so = (
-        (y.was.1.0.mode, delete_ends machine.tries c _ y.old m a (typed_run keys values c.layout _ x.sound) y.was.1.0 y.goes.edit y.goes.called y.goes.spends y.answers),
+        (y.was.1.0.mode, delete_ends machine.tries c _ y.old (standing m Start) a (typed_run keys values c.layout _ x.sound) y.was.1.0 y.goes.edit y.goes.called y.goes.spends (answers_there delete_means c _ m Start a y.answers)),
         goes_on (deleting y.old) (ap delete_call y.goes.edit, refl) y.course,
       );
     }
 
   -- an update that has answered is told as a reply of keys and values
-  pub replies : (c : Call) (ps : List SeatedPass) (first m : DictRun K V) (a : Updated) (w : WordReply) (r : Reply K V) → w ≡ update_reply a → IsValidReply valid_key valid_value r → IsTranslated valid_key key valid_value value_word w r → HasFormOf w r → SeatUpdateStands valid_key key valid_value value_word c ps first m (Done a) → SeatDictEnds valid_key key valid_value value_word c ps first m r
+  pub replies : (c : Call) (ps : List SeatedPass) (first m : DictRun K V) (a : Updated) (w : WordReply) (r : Reply K V) → w ≡ update_reply a → IsValidReply valid_key valid_value r → IsTranslated valid_key key valid_value value_word w r → HasFormOf w r → SeatUpdateEnds valid_key key valid_value value_word c ps first m a → SeatDictEnds valid_key key valid_value value_word c ps first m r
   replies c ps first m a w r is valid says form x = record {
     known = x.known;
     is = x.is;
     sound = x.sound;
     so = (dict_ends valid_key key valid_value value_word m c _ w r x.so.0.0 x.sound (rw is x.so.0.1) valid says form, x.so.1);
   }
+
+-- Machines that have not begun
+
+all_tries : (left tries : ℕ) → 0 < tries → left ≡ tries - 1 → left + 1 ≡ tries
+all_tries left tries some is = omega (arith, some, is)
+
+module _ {K V A : Type 0} where
+  -- the machine of an insert
+  abbrev pub insert_machine : ℕ → UpdateRun Inserted A → DictRun K V
+  insert_machine tries m = record { run = Insert (standing m Start); tries = tries; alloc = None; types = record {} }
+
+  -- and of a delete
+  abbrev pub delete_machine : ℕ → UpdateRun Deleted A → DictRun K V
+  delete_machine tries m = record { run = Delete (standing m Start); tries = tries; alloc = None; types = record {} }
+
+  module _ (share : Remaining) (tries number : ℕ) (some : 0 < tries) where
+    pub insert_fresh : (m : UpdateRun Inserted A) (ed : Inserted) → m.edit ≡ ed → m.share ≡ share → m.call ≡ number → m.tries ≡ tries - 1 → ed.key < 2 ^ 64 → IsFreshEdit (edits.Insert ed) share tries number (insert_machine tries m)
+    insert_fresh m ed is_edit is_share is_call is_tries small = record {
+      call = ap (λ (e : Inserted). Edit (InsertEdit e.key e.value)) is_edit;
+      tries = refl;
+      unbegun = (refl, all_tries m.tries tries some is_tries, is_call, subst (λ (e : Inserted). e.key < 2 ^ 64) (sym is_edit) small);
+      share = is_share;
+    }
+
+    pub delete_fresh : (m : UpdateRun Deleted A) (ed : Deleted) → m.edit ≡ ed → m.share ≡ share → m.call ≡ number → m.tries ≡ tries - 1 → ed.key < 2 ^ 64 → IsFreshEdit (edits.Delete ed) share tries number (delete_machine tries m)
+    delete_fresh m ed is_edit is_share is_call is_tries small = record {
+      call = ap (λ (e : Deleted). Edit (DeleteEdit e.key)) is_edit;
+      tries = refl;
+      unbegun = (refl, all_tries m.tries tries some is_tries, is_call, subst (λ (e : Deleted). e.key < 2 ^ 64) (sym is_edit) small);
+      share = is_share;
+    }
+
+-- all tries have as many steps as each of them so many times
+pub tries_steps : (now old left tries each : ℕ) → 0 < tries → left ≡ tries - 1 → now ≤ old + (left * each + each) → now ≤ old + tries * each
+tries_steps now old left tries each some is small = subst (λ n. now ≤ old + n) (whole tries some is) small
+  where
+    whole : (n : ℕ) → 0 < n → left ≡ n - 1 → left * each + each ≡ n * each
+    whole zero i e = absurd (omega (arith, i))
+    whole (suc k) i e = ap (λ l. l * each + each) (let f : left ≡ k = omega (arith, e) in f) ∙ (let f : k * each + each ≡ suc k * each = omega arith in f)

@@ -1,6 +1,7 @@
 -- From place to place of an update, of whatever machine updates.
-use Rattle.std.proofs.Common.{◌≡◌, ℕ, suc, Bool, true, ap, subst, ◌+◌, ◌<◌, ◌≤◌, List, Option, None, Some, inl, refl, sym, arith, ◌∙◌}
+use Rattle.std.proofs.Common.{◌≡◌, ℕ, suc, Bool, true, ap, subst, ◌+◌, ◌*◌, ◌<◌, ◌≤◌, List, Option, None, Some, inl, refl, sym, arith, ◌∙◌}
 use Rattle.std.specs.Prelude.{Result, Ok, Err}
+use Rattle.arena.specs.declared.fault.Full.{Full}
 use Rattle.arena.specs.declared.layout.Layout.{Layout}
 use Rattle.arena.specs.declared.machine.Turn.{Turn}
 use Rattle.arena.specs.declared.machine.Turn.TheVariants.{Ask, Done}
@@ -16,6 +17,7 @@ use Rattle.arena.specs.declared.word.ScxWord.TheVariants.{Plan}
 use Rattle.arena.specs.declared.word.Word.TheVariants.{Node as NodeOf}
 use Rattle.help.specs.declared.state.HelpAt.TheVariants.{Commit as HelpCommit}
 use Rattle.help.specs.declared.state.HelpRun.{HelpRun}
+use Rattle.prims.specs.Scx.Steps.{scx_left}
 use Rattle.prims.specs.declared.scx.Scx.TheVariants.{Done as ScxDone}
 use Rattle.prims.specs.declared.scx.ScxAt.TheVariants.{Plan as AtPlan, Help}
 use Rattle.prims.specs.declared.scx.ScxRun.{ScxRun}
@@ -30,7 +32,7 @@ use Rattle.updates.specs.Pieces.{fills_behind, nth_node, part_behind, word_of, H
 use Rattle.updates.specs.Sound.{FillsWell, IsAtFound}
 use Rattle.updates.proofs.Lemmas.{fills_next, fills_word, placed_same, scx_asks, scx_done}
 use Rattle.forest.specs.declared.straight.changing.Change.{Change}
-use Rattle.forest.specs.StraightChange.{Changer, ChangerWaits, ChangerIsTold, changing_at, scx_fill}
+use Rattle.forest.specs.StraightChange.{Changer, ChangerWaits, ChangerIsTold, all_frozen_load, changing_at, scx_fill}
 use Rattle.arena.specs.History.{History, value}
 use Rattle.arena.specs.Machines.{Call, IsRun}
 use Rattle.arena.specs.Words.{marked, node, state}
@@ -49,16 +51,20 @@ use Rattle.template.specs.declared.walk.Goal.TheVariants.{Key as ToKey}
 use Rattle.template.specs.declared.walk.WalkRun.{WalkRun}
 use Rattle.template.proofs.Lemmas.{own_since, walk_begins}
 use Rattle.updates.specs.Edits.{EditMeaning}
-use Rattle.updates.specs.Known.{Begins, CanFill, CanLook, IsFilledUpTo, IsNeeded, IsUntouched, Loads, Looks, UpdateAnswers, UpdateIsReady, UpdateWaits, UpdateTurn, Walks, copied, done_at as done_with}
+use Rattle.updates.specs.Known.{Begins, CanFill, CanLook, IsFilledUpTo, IsNeeded, IsUntouched, Loads, Looks, IsFullFor, UpdateAnswers, UpdateIsReady, UpdateWaits, UpdateTurn, Walks, copied, done_at as done_with}
 use Rattle.updates.specs.Laws.HandScx.{from}
 use Rattle.updates.specs.Laws.Kept.{idle_over}
-use Rattle.updates.specs.Steps.{IsSpending, IsWanted, Spends, fills_left, node_tries, scx_tries, update_left, works_after}
+use Rattle.updates.specs.Steps.{IsSpending, IsWanted, Spends, UpdateFits, fills_left, node_tries, scx_tries, try_left, update_left, works_after}
 use Rattle.updates.specs.Tries.{IsTry}
-use Rattle.updates.specs.Next.{IsSameUpdate, placed, next_step, update_of, MayStop, GoesOn, HasSpent, left_then}
+use Rattle.updates.specs.Next.{IsSameUpdate, placed, standing, next_step, update_of, MayStop, GoesOn, HasSpent, left_then}
 use Rattle.updates.specs.declared.update.Stop.{Stop}
+use Rattle.updates.specs.declared.update.Stop.TheVariants.{Nothing as NothingStop, Lost as LostStop, Full as FullStop}
+use Rattle.updates.specs.declared.update.Updated.TheVariants.{Done as DoneAnswer, Contended as ContendedAnswer, Full as FullAnswer}
+use Rattle.updates.specs.Laws.Update.{update_told}
 use Rattle.arena.specs.Share.{Remaining}
 use Rattle.updates.specs.declared.update.Next.{Next}
 use Rattle.updates.specs.declared.update.Next.TheVariants.{Look as LookNext, Wait as WaitNext, Load as LoadNext, Fill as FillNext, Change as ChangeNext}
+use Rattle.updates.specs.declared.update.UpdateAt.{UpdateAt}
 use Rattle.updates.specs.declared.update.UpdateAt.TheVariants.{Start, Walk, Look, Fill, Scx}
 use Rattle.updates.specs.declared.edit.Look.TheVariants.{At}
 use Rattle.prims.specs.declared.update.Update.{Update}
@@ -70,10 +76,11 @@ use Rattle.prims.specs.Laws.Idle.{IsQuietSince}
 use Rattle.forest.specs.declared.view.SeatedPass.{SeatedPass}
 use Rattle.forest.specs.StraightLlx.{llx_at}
 use Rattle.forest.specs.StraightLook.{Looker, LookerWaits, LookerSnaps}
-use Rattle.forest.specs.StraightUpdate.{Updater, UpdaterBegins, UpdaterGoesOn, UpdaterIsTold, UpdaterStops, UpdaterTries, UpdaterWaits, UpdaterStands}
+use Rattle.forest.specs.StraightUpdate.{Updater, HasGoneOn, UpdaterBegins, UpdaterEnds, UpdaterGoesOn, UpdaterIsBlocked, UpdaterIsTold, UpdaterStops, UpdaterTries, UpdaterWaits, UpdaterStands}
 use Rattle.forest.specs.StraightWalk.{Walker, WalkerWaits, WalkerFinds}
 use Rattle.forest.specs.TableRule.{history_of}
-use Rattle.forest.specs.Traces.{goes_on, weight}
+use Rattle.forest.specs.Traces.{goes_on, shared_nodes, weight}
+use Rattle.forest.proofs.Advances.{few_taken}
 
 -- an update is what its parts are
 pub update_is : (u : Update) (snaps : List Snap) (plan : PlanOf) (old fresh : NodeNo) → snaps ≡ u.snaps → plan ≡ u.plan → old ≡ u.old → fresh ≡ u.fresh → u ≡ record { snaps = snaps; plan = plan; old = old; fresh = fresh }
@@ -93,13 +100,36 @@ has_place Three First i = tt
 has_place Three Second i = refl
 has_place Three Third i = refl
 
+-- An update that stands elsewhere, or nowhere
+
+full_there : {E A B : Type 0} (e : EditMeaning E) (c : Call) (h : History) (m : UpdateRun E A) (at : B) (full : Full) → IsFullFor e m c h full → IsFullFor e (standing m at) c h full
+full_there e c h m at full x = record { found = x.found; has_found = x.has_found; needed = x.needed; short = x.short; first = x.first; none = x.none }
+
+pub answers_there : {E A B : Type 0} (e : EditMeaning E) (c : Call) (h : History) (m : UpdateRun E A) (at : B) (a : Updated) → UpdateAnswers e m c h a → UpdateAnswers e (standing m at) c h a
+answers_there e c h m at (DoneAnswer key value) x = x
+answers_there e c h m at (ContendedAnswer n s) x = x
+answers_there e c h m at (FullAnswer full) x = (x.0, full_there e c h m at full x.1)
+
+may_stop_there : {E A : Type 0} (e : EditMeaning E) (c : Call) (h : History) (m : UpdateRun E A) (f : Found) (stop : Stop) → MayStop e c h m f stop → MayStop e c h (standing m Start) f stop
+may_stop_there e c h m f NothingStop x = x
+may_stop_there e c h m f (LostStop n s) x = (record { run = x.0.run; small = x.0.small; since = x.0.since; rests = x.0.rests }, x.1, x.2)
+may_stop_there e c h m f (FullStop full) x = (x.0, full_there e c h m Start full x.1)
+
 module _ {M E : Type 0} (allows : Layout → History → ℕ → Type 0) (ready : M → Call → History → Option ℕ → Type 0) (waits : M → Call → History → Step → Type 0) (same : M → M → Type 0) (e : EditMeaning E) (layout : Layout) (number : ℕ) (u : Updater allows ready waits same e layout number) where
+  -- a call is made by one of the passes
+  pub has_passes : 0 < layout.passes
+  has_passes = subst (λ (l : Layout). 0 < l.passes) u.is_layout (let i = u.call.is_pass in omega (arith, i))
+
+  -- once it is over no try may take any more
+  all_spent : {A : Type 0} (old : UpdateRun E UpdateAt) (m : UpdateRun E A) (nodes scx : ℕ) → HasGoneOn allows ready waits same e layout number old m nodes scx → HasGoneOn allows ready waits same e layout number old m 0 0
+  all_spent old m nodes scx x = record { edit = x.edit; called = x.called; spends = (let s = x.spends.0 in omega (arith, s), let s = x.spends.1 in omega (arith, s)) }
+
   -- the update with its walk at a place
-  abbrev pub walking : UpdateRun E → WalkRun → UpdateRun E
-  walking m walk = record m { at = Walk walk }
+  abbrev pub walking : {A : Type 0} → UpdateRun E A → WalkRun → UpdateRun E UpdateAt
+  walking m walk = standing m (Walk walk)
 
   -- a machine that updates walks
-  pub walker : UpdateRun E → Walker allows ready waits same layout number
+  pub walker : {A : Type 0} → UpdateRun E A → Walker allows ready waits same layout number
   walker m = record {
     call = u.call;
     is_layout = u.is_layout;
@@ -116,19 +146,19 @@ module _ {M E : Type 0} (allows : Layout → History → ℕ → Type 0) (ready 
   }
 
   -- an update that may begin begins its walk
-  pub walks : (ps : List SeatedPass) (m : UpdateRun E) (key : ℕ) → e.goal m.edit ≡ ToKey key → UpdaterBegins allows ready waits same e layout number u ps m → WalkerWaits allows ready waits same layout number (walker m) ps (walk_from key) (load LoadSettled (node 0 Head))
+  pub walks : (ps : List SeatedPass) {A : Type 0} (m : UpdateRun E A) (key : ℕ) → e.goal m.edit ≡ ToKey key → UpdaterBegins allows ready waits same e layout number u ps m → WalkerWaits allows ready waits same layout number (walker m) ps (walk_from key) (load LoadSettled (node 0 Head))
   unfolding walker
   walks ps m key goal x = record {
     known = x.known;
     is = x.is;
     sound = x.sound;
     so = (
-      (let r = u.tells m _ None x.so.0 in u.turns m (walking m (walk_from key)) _ None _ record { edit = refl; called = refl; spends = (rw r.3 (omega arith), rw r.3 (omega arith)) } x.so.0 (waiting _ r)),
-      goes_on (u.with_run m) (u.stays m (walking m (walk_from key)) refl) x.so.1,
+      u.turns (standing m Start) (walking m (walk_from key)) _ None _ record { edit = refl; called = refl; spends = (omega arith, omega arith) } x.so.0 (waiting _ (u.tells (standing m Start) _ None x.so.0)),
+      goes_on (u.with_run (standing m Start)) (u.stays (standing m Start) (walking m (walk_from key)) refl) x.so.1,
     );
   }
     where
-      waiting : (h : History) → UpdateIsReady e m u.call h None → UpdateWaits e (walking m (walk_from key)) u.call h (load LoadSettled (node 0 Head))
+      waiting : (h : History) → UpdateIsReady e (standing m Start) u.call h None → UpdateWaits e (walking m (walk_from key)) u.call h (load LoadSettled (node 0 Head))
       waiting h r =
           let b = r.0 in (
             h,
@@ -141,20 +171,20 @@ module _ {M E : Type 0} (allows : Layout → History → ℕ → Type 0) (ready 
           )
 
   -- what its try does next, once it has told so and no more of the share is taken than may
-  module _ (ps : List SeatedPass) (m : UpdateRun E) (f : Found) where
-    goes_from : (old : UpdateRun E) (h : History) (got : Option ℕ) (next : Next) → ready (u.with_run old) u.call h got → IsSameUpdate old m → HasSpent e old.share m f (Ok next) (node_tries old old.at) (scx_tries old old.at) → GoesOn e u.call h m f (Ok next) → waits (u.with_run (placed e m f next)) u.call h (next_step e m f next)
+  module _ (ps : List SeatedPass) {A : Type 0} (m : UpdateRun E A) (f : Found) where
+    goes_from : (old : UpdateRun E UpdateAt) (h : History) (got : Option ℕ) (next : Next) → ready (u.with_run old) u.call h got → IsSameUpdate old m → HasSpent e old.share m f (Ok next) (node_tries old old.at) (scx_tries old old.at) → GoesOn e u.call h m f (Ok next) → waits (u.with_run (placed e m f next)) u.call h (next_step e m f next)
     goes_from old h got next was same spent z = u.turns old (placed e m f next) h got (next_step e m f next) record { edit = p.0 ∙ same.0; called = p.1 ∙ same.1; spends = spent } was z
       where
         p : IsSameUpdate m (placed e m f next)
         p = placed_same e m f next
 
     -- behind the step of which it was told it goes on so
-    pub goes_behind : (old : UpdateRun E) (v : ℕ) (next : Result Next Stop) → IsSameUpdate old m → HasSpent e old.share m f next (node_tries old old.at) (scx_tries old old.at) → (x : UpdaterIsTold allows ready waits same e layout number u ps old v) → GoesOn e u.call (history_of u.call.layout.mode x.known) m f next → UpdaterGoesOn allows ready waits same e layout number u ps m f next
+    pub goes_behind : (old : UpdateRun E UpdateAt) (v : ℕ) (next : Result Next Stop) → IsSameUpdate old m → HasSpent e old.share m f next (node_tries old old.at) (scx_tries old old.at) → (x : UpdaterIsTold allows ready waits same e layout number u ps old v) → GoesOn e u.call (history_of u.call.layout.mode x.known) m f next → UpdaterGoesOn allows ready waits same e layout number u ps m f next
     goes_behind old v (Ok next) is spent x z = record { known = x.known; is = x.is; sound = x.sound; so = (goes_from old (history_of u.call.layout.mode x.known) (Some v) next x.so.0 is spent z, goes_on (u.with_run old) (u.stays old (placed e m f next) ((placed_same e m f next).0 ∙ is.0)) x.so.1) }
     goes_behind old v (Err stop) is spent x z = record { known = x.known; is = x.is; sound = x.sound; so = record { old = old; got = Some v; was = x.so.0; goes = record { edit = is.0; called = is.1; spends = spent }; may = z; course = x.so.1 } }
 
     -- where its try ends so, it stands as the turn says that it makes of that
-    pub stops : (now : UpdateRun E) (stop : Stop) (turn : Turn Updated) → IsSameUpdate m now → IsSpending e turn m.share now m.tries m.tries → ((h : History) → IsRun TreeAllows u.call.layout h → MayStop e u.call h m f stop → UpdateTurn e u.call h now turn) → UpdaterStops allows ready waits same e layout number u ps m f stop → UpdaterStands allows ready waits same e layout number u ps now turn
+    pub stops : (now : UpdateRun E UpdateAt) (stop : Stop) (turn : Turn Updated) → IsSameUpdate m now → IsSpending e turn m.share now m.tries m.tries → ((h : History) → IsRun TreeAllows u.call.layout h → MayStop e u.call h m f stop → UpdateTurn e u.call h now turn) → UpdaterStops allows ready waits same e layout number u ps m f stop → UpdaterStands allows ready waits same e layout number u ps now turn
     stops now stop (Ask s) is spent next x = record {
       known = x.known;
       is = x.is;
@@ -172,7 +202,7 @@ module _ {M E : Type 0} (allows : Layout → History → ℕ → Type 0) (ready 
     }
 
   -- behind its walk it goes on as its try does
-  pub finds : (ps : List SeatedPass) (m now : UpdateRun E) (key : ℕ) (f : Found) (next : Result Next Stop) → e.goal m.edit ≡ ToKey key → IsSameUpdate m now → HasSpent e m.share now f next (m.tries + 1) (m.tries + 1)
+  pub finds : (ps : List SeatedPass) {A : Type 0} (m now : UpdateRun E A) (key : ℕ) (f : Found) (next : Result Next Stop) → e.goal m.edit ≡ ToKey key → IsSameUpdate m now → HasSpent e m.share now f next (m.tries + 1) (m.tries + 1)
       → ((b h : History) → IsRun TreeAllows u.call.layout h → IsTry u.call b → IsUntouched u.call b m.share → Begins e m (from u.call b) h → IsQuietSince u.call.layout u.call.pass b h → HasFound (e.goal m.edit) (from u.call b) h f → GoesOn e u.call h now f next)
       → WalkerFinds allows ready waits same layout number (walker m) ps key f → UpdaterGoesOn allows ready waits same e layout number u ps now f next
   unfolding walker
@@ -186,15 +216,15 @@ module _ {M E : Type 0} (allows : Layout → History → ℕ → Type 0) (ready 
       w = y.3
 
   -- what it goes on with is what its equal is
-  pub goes_as : (ps : List SeatedPass) (m : UpdateRun E) (f : Found) (next equal : Result Next Stop) → next ≡ equal → UpdaterGoesOn allows ready waits same e layout number u ps m f next → UpdaterGoesOn allows ready waits same e layout number u ps m f equal
+  pub goes_as : (ps : List SeatedPass) {A : Type 0} (m : UpdateRun E A) (f : Found) (next equal : Result Next Stop) → next ≡ equal → UpdaterGoesOn allows ready waits same e layout number u ps m f next → UpdaterGoesOn allows ready waits same e layout number u ps m f equal
   goes_as ps m f next equal is x = subst (λ (n : Result Next Stop). UpdaterGoesOn allows ready waits same e layout number u ps m f n) is x
 
   -- the update with an LLX at a place
-  abbrev pub looking : UpdateRun E → Found → LlxRun → UpdateRun E
-  looking m f llx = record m { at = Look f llx }
+  abbrev pub looking : {A : Type 0} → UpdateRun E A → Found → LlxRun → UpdateRun E UpdateAt
+  looking m f llx = standing m (Look f llx)
 
   -- a machine that updates looks at nodes
-  pub looker : UpdateRun E → Found → Looker allows ready waits same layout number
+  pub looker : {A : Type 0} → UpdateRun E A → Found → Looker allows ready waits same layout number
   looker m f = record {
     call = u.call;
     is_layout = u.is_layout;
@@ -218,12 +248,12 @@ module _ {M E : Type 0} (allows : Layout → History → ℕ → Type 0) (ready 
   }
 
   -- an update whose try looks at a node has begun to look at it
-  pub begins_look : (ps : List SeatedPass) (m : UpdateRun E) (f : Found) (node : NodeNo) → UpdaterTries allows ready waits same e layout number u ps m f (LookNext node) → LookerWaits allows ready waits same layout number (looker m f) ps (llx_at node Marked) (load LoadMarked (marked node.0))
+  pub begins_look : (ps : List SeatedPass) {A : Type 0} (m : UpdateRun E A) (f : Found) (node : NodeNo) → UpdaterTries allows ready waits same e layout number u ps m f (LookNext node) → LookerWaits allows ready waits same layout number (looker m f) ps (llx_at node Marked) (load LoadMarked (marked node.0))
   unfolding looker
   begins_look ps m f node x = x
 
   -- with the snapshot it goes on as its turn says
-  pub looks_on : (ps : List SeatedPass) (m now : UpdateRun E) (f : Found) (node : NodeNo) (snap : Snap) (next : Result Next Stop) → IsSameUpdate m now → HasSpent e m.share now f next (m.tries + 1) (m.tries + 1)
+  pub looks_on : (ps : List SeatedPass) {A : Type 0} (m now : UpdateRun E A) (f : Found) (node : NodeNo) (snap : Snap) (next : Result Next Stop) → IsSameUpdate m now → HasSpent e m.share now f next (m.tries + 1) (m.tries + 1)
       → ((b h : History) → IsRun TreeAllows u.call.layout h → IsTry u.call b → CanLook e m (from u.call b) h f → e.looks m.edit f m.snaps.items ≡ At snap.node → IsSnapshot u.call.layout h snap.node.0 snap → GoesOn e u.call h now f next)
       → LookerSnaps allows ready waits same layout number (looker m f) ps node snap → UpdaterGoesOn allows ready waits same e layout number u ps now f next
   unfolding looker
@@ -248,29 +278,76 @@ module _ {M E : Type 0} (allows : Layout → History → ℕ → Type 0) (ready 
       snapped = subst (λ (n : NodeNo). IsSnapshot u.call.layout h n.0 snap) (sym x.of_node) (x.snaps (from (from u.call y.0) y.3.0) h (u.tree h x.so.sound) y.3.2)
 
   -- where something is in the way, it waits for the state again
-  pub looks_again : (ps : List SeatedPass) (m : UpdateRun E) (f : Found) (node : NodeNo) (b : Bool) (scx : ScxNo) → LookerWaits allows ready waits same layout number (looker m f) ps (llx_at node (StateAgain b scx)) (load LoadState (state scx.0)) → UpdaterTries allows ready waits same e layout number u ps m f (WaitNext node b scx)
+  pub looks_again : (ps : List SeatedPass) {A : Type 0} (m : UpdateRun E A) (f : Found) (node : NodeNo) (b : Bool) (scx : ScxNo) → LookerWaits allows ready waits same layout number (looker m f) ps (llx_at node (StateAgain b scx)) (load LoadState (state scx.0)) → UpdaterTries allows ready waits same e layout number u ps m f (WaitNext node b scx)
   unfolding looker
   looks_again ps m f node b scx x = x
 
-  -- once its run has begun what comes next, it stands there
-  pub stands_there : (ps : List SeatedPass) (m now : UpdateRun E) (f : Found) (next : Next) (turn : Turn Updated) → now ≡ placed e m f next → turn ≡ Ask (next_step e m f next) → UpdaterTries allows ready waits same e layout number u ps m f next → UpdaterStands allows ready waits same e layout number u ps now turn
-  stands_there ps m now f next turn place asks x = rw (place, asks) x
+  -- where the try ends with nothing to make, or with too little left, it has answered so
+  pub ends_needless : (ps : List SeatedPass) {A : Type 0} (m : UpdateRun E A) (f : Found) → UpdaterStops allows ready waits same e layout number u ps m f NothingStop → UpdaterEnds allows ready waits same e layout number u ps m (done_with f)
+  ends_needless ps m f x = record { known = x.known; is = x.is; sound = x.sound; so = let y = x.so in record { old = y.old; got = y.got; was = y.was; goes = all_spent y.old m m.tries m.tries y.goes; answers = y.may; course = y.course } }
 
-  -- it stands at its start
-  pub stands_at_start : (ps : List SeatedPass) (m : UpdateRun E) → UpdaterBegins allows ready waits same e layout number u ps m → m.at ≡ Start
-  stands_at_start ps m x = (u.tells m _ None x.so.0).3
+  pub ends_full : (ps : List SeatedPass) {A : Type 0} (m : UpdateRun E A) (f : Found) (full : Full) → UpdaterStops allows ready waits same e layout number u ps m f (FullStop full) → UpdaterEnds allows ready waits same e layout number u ps m (FullAnswer full)
+  ends_full ps m f full x = record { known = x.known; is = x.is; sound = x.sound; so = let y = x.so in record { old = y.old; got = y.got; was = y.was; goes = all_spent y.old m m.tries m.tries y.goes; answers = y.may; course = y.course } }
+
+  -- Its machine goes on
+
+  -- once its machine has begun what comes next, it stands there
+  pub stands_there : (ps : List SeatedPass) {A : Type 0} (m : UpdateRun E A) (start now : UpdateRun E UpdateAt) (f : Found) (next : Next) (turn : Turn Updated) → start ≡ standing m Start → now ≡ placed e start f next → turn ≡ Ask (next_step e start f next) → UpdaterTries allows ready waits same e layout number u ps m f next → UpdaterStands allows ready waits same e layout number u ps now turn
+  stands_there ps m start now f next turn is place asks x = rw (place, asks, is) (there next x)
+    where
+      there : (n : Next) → UpdaterTries allows ready waits same e layout number u ps m f n → UpdaterTries allows ready waits same e layout number u ps (standing m Start) f n
+      there (LookNext k) y = y
+      there (WaitNext k b scx) y = y
+      there (LoadNext nth part) y = y
+      there (FillNext nth) y = y
+      there (ChangeNext scx) y = y
+
+  -- so too where its try ends
+  pub stops_there : (ps : List SeatedPass) {A : Type 0} (m : UpdateRun E A) (start now : UpdateRun E UpdateAt) (f : Found) (stop : Stop) (turn : Turn Updated) → start ≡ standing m Start → IsSameUpdate start now → IsSpending e turn start.share now start.tries start.tries → ((h : History) → IsRun TreeAllows u.call.layout h → MayStop e u.call h start f stop → UpdateTurn e u.call h now turn) → UpdaterStops allows ready waits same e layout number u ps m f stop → UpdaterStands allows ready waits same e layout number u ps now turn
+  stops_there ps m start now f stop turn is same_run spent next x = stops ps start f now stop turn same_run spent next (subst (λ (r : UpdateRun E UpdateAt). UpdaterStops allows ready waits same e layout number u ps r f stop) (sym is)
+      record { known = x.known; is = x.is; sound = x.sound; so = let y = x.so in record { old = y.old; got = y.got; was = y.was; goes = record { edit = y.goes.edit; called = y.goes.called; spends = y.goes.spends }; may = may_stop_there e u.call _ m f stop y.may; course = y.course } })
+
+  -- so too where its SCX could not freeze a node
+  pub blocks_there : (ps : List SeatedPass) {A : Type 0} (m : UpdateRun E A) (start now : UpdateRun E UpdateAt) (f : Found) (scx : ScxNo) (help : HelpRun) (turn : Turn Updated) → start ≡ standing m Start → now ≡ standing start (Scx f record { scx = scx; call = start.call; update = update_of e start f; at = Help help }) → turn ≡ Ask (all_frozen_load scx) → UpdaterIsBlocked allows ready waits same e layout number u ps m f scx help → UpdaterStands allows ready waits same e layout number u ps now turn
+  blocks_there ps m start now f scx help turn is place asks x = rw (place, asks, is) x
+
+  -- told what its step has found, it stands as its turn says
+  pub told_on : (ps : List SeatedPass) (m now : UpdateRun E UpdateAt) (v : ℕ) (turn : Turn Updated) → IsSameUpdate m now → IsSpending e turn m.share now (node_tries m m.at) (scx_tries m m.at) → ((h : History) → IsRun TreeAllows u.call.layout h → UpdateIsReady e m u.call h (Some v) → UpdateTurn e u.call h now turn) → UpdaterIsTold allows ready waits same e layout number u ps m v → UpdaterStands allows ready waits same e layout number u ps now turn
+  told_on ps m now v (Ask s) is spent next x = record {
+    known = x.known;
+    is = x.is;
+    sound = x.sound;
+    so = (
+      u.turns m now _ (Some v) s record { edit = is.0; called = is.1; spends = spent } x.so.0 (next _ (u.tree _ x.sound) (u.tells m _ (Some v) x.so.0)),
+      goes_on (u.with_run m) (u.stays m now is.0) x.so.1,
+    );
+  }
+  told_on ps m now v (Done a) is spent next x = record {
+    known = x.known;
+    is = x.is;
+    sound = x.sound;
+    so = record { old = m; got = Some v; was = x.so.0; goes = record { edit = is.0; called = is.1; spends = spent }; answers = next _ (u.tree _ x.sound) (u.tells m _ (Some v) x.so.0); course = x.so.1 };
+  }
+
+  -- what it is told fits the taken nodes
+  pub told_fits : (ps : List SeatedPass) (m : UpdateRun E UpdateAt) (v : ℕ) → UpdaterIsTold allows ready waits same e layout number u ps m v → UpdateFits e m (Some v) (shared_nodes layout)
+  told_fits ps m v x = update_told e m u.call _ (Some v) (shared_nodes layout) (u.tree _ x.sound) (u.tells m _ (Some v) x.so.0) (few_taken allows layout u.call _ u.is_layout x.sound)
+
+  -- its answer is that of the update that stands nowhere again
+  pub ends_nowhere : (ps : List SeatedPass) {A B : Type 0} (m : UpdateRun E A) (at : B) (now : UpdateRun E B) (a : Updated) → now ≡ standing m at → UpdaterEnds allows ready waits same e layout number u ps m a → UpdaterEnds allows ready waits same e layout number u ps now a
+  ends_nowhere ps m at now a is x = rw is record { known = x.known; is = x.is; sound = x.sound; so = let y = x.so in record { old = y.old; got = y.got; was = y.was; goes = record { edit = y.goes.edit; called = y.goes.called; spends = y.goes.spends }; answers = answers_there e u.call _ m at a y.answers; course = y.course } }
 
   -- Loads and fills
 
   -- what it wants is one of the words that it may want
-  pub wants_word : (ps : List SeatedPass) (m : UpdateRun E) (f : Found) (nth : Nth) (part : NodeWord) → UpdaterTries allows ready waits same e layout number u ps m f (LoadNext nth part) → IsWanted e m f nth part
+  pub wants_word : (ps : List SeatedPass) {A : Type 0} (m : UpdateRun E A) (f : Found) (nth : Nth) (part : NodeWord) → UpdaterTries allows ready waits same e layout number u ps m f (LoadNext nth part) → IsWanted e m f nth part
   wants_word ps m f nth part x = (loads.wanted, has_place (e.needs m.edit f) nth loads.works.need)
     where
       loads : Loads e (placed e m f (LoadNext nth part)) (from u.call (u.opens (placed e m f (LoadNext nth part)) (history_of u.call.layout.mode x.known) (next_step e m f (LoadNext nth part)) x.so.0).0) (history_of u.call.layout.mode x.known) f nth part
       loads = (u.opens (placed e m f (LoadNext nth part)) (history_of u.call.layout.mode x.known) (next_step e m f (LoadNext nth part)) x.so.0).3.0
 
   -- what is known of loads does not depend on the place of the update
-  loads_anywhere : (m : UpdateRun E) (f : Found) (nth : Nth) (part : NodeWord) (c : Call) (h : History) → Loads e (placed e m f (LoadNext nth part)) c h f nth part → Loads e m c h f nth part
+  loads_anywhere : {A : Type 0} (m : UpdateRun E A) (f : Found) (nth : Nth) (part : NodeWord) (c : Call) (h : History) → Loads e (placed e m f (LoadNext nth part)) c h f nth part → Loads e m c h f nth part
   loads_anywhere m f nth part c h x = record {
     works = record {
       run = x.works.run;
@@ -293,7 +370,7 @@ module _ {M E : Type 0} (allows : Layout → History → ℕ → Type 0) (ready 
   }
 
   -- with what the load has told it goes on as its turn says
-  pub loads_on : (ps : List SeatedPass) (m now : UpdateRun E) (f : Found) (nth : Nth) (part : NodeWord) (v : ℕ) (next : Result Next Stop) → IsSameUpdate m now → HasSpent e m.share now f next m.tries (m.tries + 1)
+  pub loads_on : (ps : List SeatedPass) {A : Type 0} (m now : UpdateRun E A) (f : Found) (nth : Nth) (part : NodeWord) (v : ℕ) (next : Result Next Stop) → IsSameUpdate m now → HasSpent e m.share now f next m.tries (m.tries + 1)
       → ((b h : History) → IsRun TreeAllows u.call.layout h → IsTry u.call b → Loads e m (from u.call b) h f nth part → value h (node (copied e m f) part) ≡ v → GoesOn e u.call h now f next)
       → UpdaterIsTold allows ready waits same e layout number u ps (placed e m f (LoadNext nth part)) v → UpdaterGoesOn allows ready waits same e layout number u ps now f next
   loads_on ps m now f nth part v next is spent goes x = goes_behind ps now f (placed e m f (LoadNext nth part)) v next is spent x (goes y.0 h (u.tree h x.sound) y.1 (loads_anywhere m f nth part (from u.call y.0) h y.3.0) y.3.1)
@@ -305,18 +382,18 @@ module _ {M E : Type 0} (allows : Layout → History → ℕ → Type 0) (ready 
       y = u.tells (placed e m f (LoadNext nth part)) h (Some v) x.so.0
 
   -- the update with a fill at a place
-  abbrev pub filling : UpdateRun E → Found → Nth → NodeWord → UpdateRun E
-  filling m f nth part = record m { at = Fill f nth part }
+  abbrev pub filling : {A : Type 0} → UpdateRun E A → Found → Nth → NodeWord → UpdateRun E UpdateAt
+  filling m f nth part = standing m (Fill f nth part)
 
   -- an update whose try fills a node waits for the first fill
-  pub begins_fill : (ps : List SeatedPass) (m : UpdateRun E) (f : Found) (nth : Nth) (p : Piece) (n : NodeNo) (v : ℕ) → p ≡ e.pieces m.edit f m.snaps.items m.nodes m.loaded nth → n ≡ nth_node m.nodes nth → v ≡ word_of p Head → UpdaterTries allows ready waits same e layout number u ps m f (FillNext nth) → UpdaterWaits allows ready waits same e layout number u ps (filling m f nth Head) record { kind = FillKind; word = NodeOf n Head; access = Store v }
+  pub begins_fill : (ps : List SeatedPass) {A : Type 0} (m : UpdateRun E A) (f : Found) (nth : Nth) (p : Piece) (n : NodeNo) (v : ℕ) → p ≡ e.pieces m.edit f m.snaps.items m.nodes m.loaded nth → n ≡ nth_node m.nodes nth → v ≡ word_of p Head → UpdaterTries allows ready waits same e layout number u ps m f (FillNext nth) → UpdaterWaits allows ready waits same e layout number u ps (filling m f nth Head) record { kind = FillKind; word = NodeOf n Head; access = Store v }
   begins_fill ps m f nth p n v is_p is_n is_v x = subst (λ s. UpdaterWaits allows ready waits same e layout number u ps (filling m f nth Head) s) asked x
     where
       asked : next_step e m f (FillNext nth) ≡ record { kind = FillKind; word = NodeOf n Head; access = Store v }
       asked i = record { kind = FillKind; word = NodeOf (sym is_n i) Head; access = Store (sym (is_v ∙ ap (λ q. word_of q Head) is_p) i) }
 
   -- behind a fill that is not a node's last it waits for the next
-  pub fills_on : (ps : List SeatedPass) (m : UpdateRun E) (f : Found) (nth : Nth) (part next : NodeWord) (told : ℕ) (p : Piece) (n : NodeNo) (v : ℕ) → FillsWell e → part_behind p part ≡ Some next → p ≡ e.pieces m.edit f m.snaps.items m.nodes m.loaded nth → n ≡ nth_node m.nodes nth → v ≡ word_of p next → UpdaterIsTold allows ready waits same e layout number u ps (filling m f nth part) told → UpdaterWaits allows ready waits same e layout number u ps (filling m f nth next) record { kind = FillKind; word = NodeOf n next; access = Store v }
+  pub fills_on : (ps : List SeatedPass) {A : Type 0} (m : UpdateRun E A) (f : Found) (nth : Nth) (part next : NodeWord) (told : ℕ) (p : Piece) (n : NodeNo) (v : ℕ) → FillsWell e → part_behind p part ≡ Some next → p ≡ e.pieces m.edit f m.snaps.items m.nodes m.loaded nth → n ≡ nth_node m.nodes nth → v ≡ word_of p next → UpdaterIsTold allows ready waits same e layout number u ps (filling m f nth part) told → UpdaterWaits allows ready waits same e layout number u ps (filling m f nth next) record { kind = FillKind; word = NodeOf n next; access = Store v }
   fills_on ps m f nth part next told p n v sound behind is_p is_n is_v x = record {
     known = x.known;
     is = x.is;
@@ -337,7 +414,7 @@ module _ {M E : Type 0} (allows : Layout → History → ℕ → Type 0) (ready 
       can = fills_next e (filling m f nth part) (from u.call y.0) h f nth part y.3 next sound (subst (λ q. part_behind q part ≡ Some next) is_p behind)
 
   -- what is known of fresh nodes does not depend on the place of the update
-  filled_anywhere : (m : UpdateRun E) (f : Found) (nth : Nth) (part : NodeWord) (c : Call) (h : History) → IsFilledUpTo e (filling m f nth part) c h f nth part → IsFilledUpTo e m c h f nth part
+  filled_anywhere : {A : Type 0} (m : UpdateRun E A) (f : Found) (nth : Nth) (part : NodeWord) (c : Call) (h : History) → IsFilledUpTo e (filling m f nth part) c h f nth part → IsFilledUpTo e m c h f nth part
   filled_anywhere m f nth part c h x = (
     record {
       works = record {
@@ -364,7 +441,7 @@ module _ {M E : Type 0} (allows : Layout → History → ℕ → Type 0) (ready 
   )
 
   -- behind a node's last fill it goes on as its turn says
-  pub fills_end : (ps : List SeatedPass) (m now : UpdateRun E) (f : Found) (nth : Nth) (part : NodeWord) (v : ℕ) (next : Result Next Stop) → IsSameUpdate m now → HasSpent e m.share now f next m.tries (m.tries + 1)
+  pub fills_end : (ps : List SeatedPass) {A : Type 0} (m now : UpdateRun E A) (f : Found) (nth : Nth) (part : NodeWord) (v : ℕ) (next : Result Next Stop) → IsSameUpdate m now → HasSpent e m.share now f next m.tries (m.tries + 1)
       → ((b h : History) → IsRun TreeAllows u.call.layout h → IsTry u.call b → IsFilledUpTo e m (from u.call b) h f nth part → GoesOn e u.call h now f next)
       → UpdaterIsTold allows ready waits same e layout number u ps (filling m f nth part) v → UpdaterGoesOn allows ready waits same e layout number u ps now f next
   fills_end ps m now f nth part v next is spent goes x = goes_behind ps now f (filling m f nth part) v next is spent x (goes y.0 h (u.tree h x.sound) y.1 (filled_anywhere m f nth part (from u.call y.0) h y.3))
@@ -378,11 +455,11 @@ module _ {M E : Type 0} (allows : Layout → History → ℕ → Type 0) (ready 
   -- Its SCX
 
   -- the update with an SCX at a place
-  abbrev pub scxing : UpdateRun E → Found → ScxRun → UpdateRun E
-  scxing m f scx = record m { at = Scx f scx }
+  abbrev pub scxing : {A : Type 0} → UpdateRun E A → Found → ScxRun → UpdateRun E UpdateAt
+  scxing m f scx = standing m (Scx f scx)
 
   -- a machine that updates makes an SCX
-  pub changer : UpdateRun E → Found → Changer TreeAllows allows ready waits same layout number
+  pub changer : {A : Type 0} → UpdateRun E A → Found → Changer TreeAllows allows ready waits same layout number
   changer m f = record {
     call = u.call;
     is_layout = u.is_layout;
@@ -397,7 +474,7 @@ module _ {M E : Type 0} (allows : Layout → History → ℕ → Type 0) (ready 
   }
 
   -- an update whose try makes its SCX waits for the fill of its plan
-  pub begins_change : (ps : List SeatedPass) (m : UpdateRun E) (f : Found) (scx : ScxNo) (snaps : List Snap) (plan : PlanOf) (old fresh : NodeNo) → snaps ≡ m.snaps.items → plan ≡ (update_of e m f).plan → old ≡ (update_of e m f).old → fresh ≡ (update_of e m f).fresh
+  pub begins_change : (ps : List SeatedPass) {A : Type 0} (m : UpdateRun E A) (f : Found) (scx : ScxNo) (snaps : List Snap) (plan : PlanOf) (old fresh : NodeNo) → snaps ≡ m.snaps.items → plan ≡ (update_of e m f).plan → old ≡ (update_of e m f).old → fresh ≡ (update_of e m f).fresh
       → UpdaterTries allows ready waits same e layout number u ps m f (ChangeNext scx) → ChangerWaits TreeAllows allows ready waits same layout number (changer m f) ps (changing_at snaps record { scx = scx; call = m.call; plan = plan; old = old; fresh = fresh } AtPlan) (scx_fill scx Plan plan.0)
   unfolding changer
   begins_change ps m f scx snaps plan old fresh is_snaps is_plan is_old is_fresh y = subst (λ (w : Update). UpdaterWaits allows ready waits same e layout number u ps (scxing m f record { scx = scx; call = m.call; update = w; at = AtPlan }) (scx_fill scx Plan w.plan.0)) is y
@@ -406,7 +483,7 @@ module _ {M E : Type 0} (allows : Layout → History → ℕ → Type 0) (ready 
       is = update_is (update_of e m f) snaps plan old fresh is_snaps is_plan is_old is_fresh
 
   -- once that is done it has answered
-  pub changed : (ps : List SeatedPass) (m : UpdateRun E) (f : Found) (snaps : List Snap) (change : Change) (help : HelpRun) (v : ℕ) → IsAtFound e → ChangerIsTold TreeAllows allows ready waits same layout number (changer m f) ps (changing_at snaps change (Help (record help { at = HelpCommit }))) v → UpdaterStands allows ready waits same e layout number u ps m (Done (done_with f))
+  pub changed : (ps : List SeatedPass) {A : Type 0} (m : UpdateRun E A) (f : Found) (snaps : List Snap) (change : Change) (help : HelpRun) (v : ℕ) → IsAtFound e → ChangerIsTold TreeAllows allows ready waits same layout number (changer m f) ps (changing_at snaps change (Help (record help { at = HelpCommit }))) v → UpdaterEnds allows ready waits same e layout number u ps m (done_with f)
   unfolding changer
   changed ps m f snaps change help v sound x = record {
     known = x.known;
@@ -418,7 +495,7 @@ module _ {M E : Type 0} (allows : Layout → History → ℕ → Type 0) (ready 
       scx : ScxRun
       scx = changing_at snaps change (Help (record help { at = HelpCommit }))
 
-      here : UpdateRun E
+      here : UpdateRun E UpdateAt
       here = scxing m f scx
 
       h : History
@@ -432,12 +509,9 @@ module _ {M E : Type 0} (allows : Layout → History → ℕ → Type 0) (ready 
           (let k = y.3.2 in done_at (from (from u.call y.0) y.3.0) h scx (record help { at = HelpCommit }) (u.tree h x.sound).lawful k.2 k.1 true (record help { at = HelpCommit }) k.0 refl refl)
 
   -- where a node could not be frozen, it waits to look whether all were
-  blocked : (ps : List SeatedPass) (m : UpdateRun E) (f : Found) (scx run : ScxRun) (s : Step) → run ≡ scx → ChangerWaits TreeAllows allows ready waits same layout number (changer m f) ps scx s → UpdaterWaits allows ready waits same e layout number u ps (scxing m f run) s
+  pub is_blocked : (ps : List SeatedPass) {A : Type 0} (m : UpdateRun E A) (f : Found) (scx : ScxNo) (help : HelpRun) (run : ScxRun) → run ≡ record { scx = scx; call = m.call; update = update_of e m f; at = Help help } → ChangerWaits TreeAllows allows ready waits same layout number (changer m f) ps run (all_frozen_load scx) → UpdaterIsBlocked allows ready waits same e layout number u ps m f scx help
   unfolding changer
-  blocked ps m f scx run s is x = subst (λ (r : ScxRun). UpdaterWaits allows ready waits same e layout number u ps (scxing m f r) s) (sym is) x
-
-  pub blocks : (ps : List SeatedPass) (m now : UpdateRun E) (f : Found) (scx run : ScxRun) (s : Step) (turn : Turn Updated) → now ≡ scxing m f run → turn ≡ Ask s → run ≡ scx → ChangerWaits TreeAllows allows ready waits same layout number (changer m f) ps scx s → UpdaterStands allows ready waits same e layout number u ps now turn
-  blocks ps m now f scx run s turn place asks is x = rw (place, asks) (blocked ps m f scx run s is x)
+  is_blocked ps m f scx help run is x = subst (λ (r : ScxRun). UpdaterWaits allows ready waits same e layout number u ps (scxing m f r) (all_frozen_load scx)) is x
 
 -- its steps are those of its walk, and those that are left behind it
 pub walk_steps : (now old walk left tries rest : ℕ) → now ≤ old + walk → left ≤ tries + rest → now + left ≤ old + (tries + (walk + rest))
@@ -471,7 +545,7 @@ pub head_next : (p : Piece) → part_behind p Head ≡ Some Key
 head_next (Leaf level class key v) = refl
 head_next (Fork level class key l r) = refl
 
-module _ {E : Type 0} (e : EditMeaning E) (m : UpdateRun E) (f : Found) (nth : Nth) (p : Piece) (said : p ≡ e.pieces m.edit f m.snaps.items m.nodes m.loaded nth) where
+module _ {E : Type 0} (e : EditMeaning E) {A : Type 0} (m : UpdateRun E A) (f : Found) (nth : Nth) (p : Piece) (said : p ≡ e.pieces m.edit f m.snaps.items m.nodes m.loaded nth) where
   -- a leaf has two words behind its head, a fork three
   pub leaf_fewer : (level class key v : ℕ) → p ≡ Leaf level class key v → fills_left e m f nth Head ≡ 2 + works_after e nth
   leaf_fewer level class key v is = ap (λ q. fills_behind q Head + works_after e nth) (sym said ∙ is)
@@ -486,7 +560,7 @@ module _ {E : Type 0} (e : EditMeaning E) (m : UpdateRun E) (f : Found) (nth : N
   pub fork_ends : (level class key : ℕ) (l r : NodeNo) → p ≡ Fork level class key l r → part_behind (e.pieces m.edit f m.snaps.items m.nodes m.loaded nth) (Child Right) ≡ None
   fork_ends level class key l r is = ap (λ q. part_behind q (Child Right)) (sym said ∙ is)
 
-module _ {E : Type 0} (e : EditMeaning E) (m : UpdateRun E) (f : Found) (next same : Result Next Stop) (is : next ≡ same) (nodes : ℕ) where
+module _ {E : Type 0} (e : EditMeaning E) {A : Type 0} (m : UpdateRun E A) (f : Found) (next same : Result Next Stop) (is : next ≡ same) (nodes : ℕ) where
   -- what is left of what comes next is left of its equal
   pub left_as : (now old bound : ℕ) → now ≤ old + left_then e m f same nodes → old + left_then e m f next nodes ≤ bound → now ≤ bound
   left_as now old bound i j = let k = subst (λ (n : Result Next Stop). old + left_then e m f n nodes ≤ bound) is j in omega (arith, i, k)
@@ -494,9 +568,20 @@ module _ {E : Type 0} (e : EditMeaning E) (m : UpdateRun E) (f : Found) (next sa
   pub fewer_as : (left : ℕ) → left < left_then e m f same nodes → left < left_then e m f next nodes
   fewer_as left i = subst (λ (n : Result Next Stop). left < left_then e m f n nodes) (sym is) i
 
--- so much is left where a run stands once it has begun what comes next
-pub left_there : {E : Type 0} (e : EditMeaning E) (m now : UpdateRun E) (f : Found) (next : Next) (turn : Turn Updated) (nodes : ℕ) → now ≡ placed e m f next → turn ≡ Ask (next_step e m f next) → weight turn (update_left e now nodes) ≡ left_then e m f (Ok next) nodes
-left_there e m now f next turn nodes place asks = rw (place, asks) refl
+-- so much is left where its machine stands once it has begun what comes next
+pub left_there : {E : Type 0} (e : EditMeaning E) {A : Type 0} (m : UpdateRun E A) (start now : UpdateRun E UpdateAt) (f : Found) (next : Next) (turn : Turn Updated) (nodes : ℕ) → start ≡ standing m Start → now ≡ placed e start f next → turn ≡ Ask (next_step e start f next) → weight turn (update_left e now nodes) ≡ left_then e m f (Ok next) nodes
+left_there e m start now f next turn nodes is place asks = rw (place, asks, is) (there next)
+  where
+    there : (n : Next) → suc (update_left e (placed e (standing m Start) f n) nodes) ≡ suc (update_left e (placed e m f n) nodes)
+    there (LookNext k) = refl
+    there (WaitNext k b scx) = refl
+    there (LoadNext nth part) = refl
+    there (FillNext nth) = refl
+    there (ChangeNext scx) = refl
+
+-- and where its SCX could not freeze a node
+pub left_blocked : {E : Type 0} (e : EditMeaning E) {A : Type 0} (m : UpdateRun E A) (start now : UpdateRun E UpdateAt) (f : Found) (scx : ScxNo) (help : HelpRun) (turn : Turn Updated) (nodes : ℕ) → start ≡ standing m Start → now ≡ standing start (Scx f record { scx = scx; call = start.call; update = update_of e start f; at = Help help }) → turn ≡ Ask (all_frozen_load scx) → weight turn (update_left e now nodes) ≡ suc (m.tries * try_left e nodes + scx_left (Help help))
+left_blocked e m start now f scx help turn nodes is place asks = rw (place, asks, is) refl
 
 -- what is not more than something is not more than what that is not more than
 pub through : (a b c : ℕ) → a ≤ b → b ≤ c → a ≤ c

@@ -16,8 +16,6 @@ use Rattle.spelling.specs.Spelled.{Spells}
 use Rattle.template.specs.Blame.{IsOverOrNew}
 use Rattle.dict.specs.Calls.{need, most_nodes, most_scx, AsksForPairs}
 use Rattle.dict.specs.Says.{HasMadeRow, HasTooLittle, KeepsLists}
-use Rattle.dict.specs.Forms.{Form}
-use Rattle.dict.specs.Forms as form
 use Rattle.spelling.specs.Replies.{word_pair}
 use Rattle.spelling.specs.declared.reply.Reply.{Reply}
 use Rattle.spelling.specs.declared.reply.Reply.TheVariants.{Value, Contended, Full, NoMemory}
@@ -143,13 +141,6 @@ blamed_by_reply (Contended node scx) blamed = scx.0 ∷ blamed
 blamed_by_reply _ blamed = blamed
 
 -- What each call answers
-
--- a reply that an edit may give
-abbrev pub IsUpdateForm : Form → Type 0
-IsUpdateForm form.Value = Unit {0}
-IsUpdateForm form.Contended = Unit {0}
-IsUpdateForm form.Full = Unit {0}
-IsUpdateForm _ = ⊥
 
 -- the answer of an edit as a reply
 abbrev pub update_reply : {K V : Type 0} → Result (Option V) UpdateFault → Reply K V

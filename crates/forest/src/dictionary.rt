@@ -1,29 +1,32 @@
 //! A dictionary that threads share.
-ghost use Rattle.std.specs.Prelude.{◌≡◌, ◌≤◌, ◌+◌, ◌*◌, ◌↔◌, Err, IfOk, IfSome, IsSome, OnOk};
+ghost use Rattle.std.specs.Prelude.{◌≡◌, ◌<◌, ◌≤◌, ◌+◌, ◌*◌, ◌^◌, ◌↔◌, Err, IfOk, IfSome, IsSome, OnOk};
 ghost use Rattle.std.specs.List.{All};
 ghost use Rattle.std.specs.Option.{option_map};
 ghost use Rattle.arena.specs.Limits.{IsAccepted, IsLayoutOf};
 ghost use Rattle.arena.specs.declared.limits.Mode.TheVariants.{Tree};
-ghost use Rattle.spelling.specs.OrderedMap.{Edit, Get, Insert, Delete, OneValue, Range, Successor};
+ghost use Rattle.spelling.specs.OrderedMap.{Edit, Get, Insert as InsertEdit, Delete as DeleteEdit, edit_key, OneValue, Range, Successor};
 ghost use Rattle.dict.specs.Forms.{MayReply, form_of};
-ghost use Rattle.dict.specs.Says.{KeepsLists};
 ghost use Rattle.dict.specs.Steps.{most_steps};
-ghost use Rattle.dict.specs.Typed.{TypedAllows};
+ghost use Rattle.dict.specs.Typed.{IsTypedCall, TypedAllows};
 ghost use Rattle.dict.specs.Words.{IsValidPair, IsValidReply, IsWord};
 ghost use Rattle.spelling.specs.Replies.{told_of};
 ghost use Rattle.spelling.specs.Requests.{AsksForFew, as_map_call};
-ghost use Rattle.forest.specs.Dictionary.{IsReading, IsUpdateForm, update_reply, IsToldOf, IsRefusalOf, HasSpentAtMost, UpdateSays, SuccessorSays, RangeSays, blamed_by_reply, blamed_by_update, blamed_by_read};
+ghost use Rattle.forest.specs.Dictionary.{IsReading, IsToldOf, IsRefusalOf, HasSpentAtMost, UpdateSays, SuccessorSays, RangeSays, blamed_by_reply, blamed_by_update, blamed_by_read};
 ghost use Rattle.forest.specs.Passes.{HasGoneOn, IsOf, AreNew, taken_of};
+ghost use Rattle.forest.specs.StraightCalls.{map_edit};
 ghost use Rattle.forest.specs.Traces.{shared_nodes};
 
 use crate::fault::{NewFault, OrderFault, UpdateFault};
 use crate::forest::Forest;
 use crate::pass::Pass;
-use crate::straight::{calls, walk};
+use crate::steps::whole;
+use crate::straight::calls::{self, WordEdit};
+use crate::straight::walk;
 use arena::{Limits, Mode, NoMemory, Share};
 use dict::{Dict, DictRun, Reply, Request, WordKey, WordValue, value_of};
 use std::alloc::Global;
 use std::mem::replace;
+use tree::{Delete, Insert};
 
 impl<K: WordKey, V: WordValue> Forest<Dict<K, V>> {
     /// An empty dictionary within these limits, and a pass for each client. Refused are limits out
@@ -61,11 +64,14 @@ impl<K: WordKey, V: WordValue> Forest<Dict<K, V>> {
         ensures pass { IsOf self.now pass.new }
         ensures tree { pass.new.layout.mode ≡ Tree }
         ensures goes_on { HasGoneOn (TypedAllows (IsWord K.is_valid K.word_of) (IsWord V.is_valid V.word_of)) pass.old pass.new (taken_of pass.old) (self.now.tries * (3 * (2 + shared_nodes self.now.layout) + 178)) (blamed_by_update result pass.old.blamed) }
-        ensures spends { HasSpentAtMost pass.old pass.new (Edit (Insert (K.word_of key) (V.word_of value))) self.now.tries }
-        ensures says { UpdateSays V.word_of pass.old pass.new (Insert (K.word_of key) (V.word_of value)) result }
+        ensures spends { HasSpentAtMost pass.old pass.new (Edit (InsertEdit (K.word_of key) (V.word_of value))) self.now.tries }
+        ensures says { UpdateSays V.word_of pass.old pass.new (InsertEdit (K.word_of key) (V.word_of value)) result }
         ensures valid { IfOk result (λ old. IfSome old V.is_valid) }
     {
-        of_update(self.ask(None, pass, Request::Insert { key, value }))
+        key.valid();
+        value.valid();
+        let (key, value) = (key.word(), value.word());
+        self.edit(pass, WordEdit::Insert(Insert { key, value }))
     }
 
     /// Takes a key away, and tells the value that it had just before. It takes at most a node and
@@ -75,11 +81,13 @@ impl<K: WordKey, V: WordValue> Forest<Dict<K, V>> {
         ensures pass { IsOf self.now pass.new }
         ensures tree { pass.new.layout.mode ≡ Tree }
         ensures goes_on { HasGoneOn (TypedAllows (IsWord K.is_valid K.word_of) (IsWord V.is_valid V.word_of)) pass.old pass.new (taken_of pass.old) (self.now.tries * (3 * (2 + shared_nodes self.now.layout) + 301)) (blamed_by_update result pass.old.blamed) }
-        ensures spends { HasSpentAtMost pass.old pass.new (Edit (Delete (K.word_of key.now))) self.now.tries }
-        ensures says { UpdateSays V.word_of pass.old pass.new (Delete (K.word_of key.now)) result }
+        ensures spends { HasSpentAtMost pass.old pass.new (Edit (DeleteEdit (K.word_of key.now))) self.now.tries }
+        ensures says { UpdateSays V.word_of pass.old pass.new (DeleteEdit (K.word_of key.now)) result }
         ensures valid { IfOk result (λ old. IfSome old V.is_valid) }
     {
-        of_update(self.ask(None, pass, Request::Delete { key: *key }))
+        key.valid();
+        let key = key.word();
+        self.edit(pass, WordEdit::Delete(Delete { key }))
     }
 
     /// The value of a key, if it has one. It takes nothing, and is never refused.
@@ -116,7 +124,7 @@ impl<K: WordKey, V: WordValue> Forest<Dict<K, V>> {
         ensures says { SuccessorSays K.word_of V.word_of pass.old pass.new (K.word_of key.now) result }
         ensures valid { IfOk result (λ pair. IfSome pair (IsValidPair K.is_valid V.is_valid)) }
     {
-        match self.ask(Some(alloc), pass, Request::Successor { key: *key }) {
+        match self.read(alloc, pass, Request::Successor { key: *key }) {
             Reply::Pair(pair) => Ok(pair),
             Reply::Contended { node, scx } => Err(OrderFault::Contended { node, scx }),
             Reply::NoMemory => Err(OrderFault::NoMemory),
@@ -148,7 +156,7 @@ impl<K: WordKey, V: WordValue> Forest<Dict<K, V>> {
         ensures valid { IfOk result (λ pairs. All (IsValidPair K.is_valid V.is_valid) pairs.items) }
     {
         let (low, high) = (*low, *high);
-        match self.ask(Some(alloc), pass, Request::Range { low, high, most }) {
+        match self.read(alloc, pass, Request::Range { low, high, most }) {
             Reply::Pairs(pairs) => Ok(pairs),
             Reply::Contended { node, scx } => Err(OrderFault::Contended { node, scx }),
             Reply::NoMemory => Err(OrderFault::NoMemory),
@@ -156,16 +164,36 @@ impl<K: WordKey, V: WordValue> Forest<Dict<K, V>> {
         }
     }
 
-    /// Makes a whole call. An ordered read takes memory.
+    /// Makes an edit.
     #[inline(always)]
-    fn ask(
+    fn edit(&self, pass: &mut Pass<Dict<K, V>>, edit: WordEdit) -> Result<Option<V>, UpdateFault>
+        requires pass { IsOf self.now pass.old }
+        requires typed { IsTypedCall (IsWord K.is_valid K.word_of) (IsWord V.is_valid V.word_of) (Edit (map_edit edit)) }
+        requires small { edit_key (map_edit edit) < 2 ^ 64 }
+        ensures pass { IsOf self.now pass.new }
+        ensures tree { pass.new.layout.mode ≡ Tree }
+        ensures goes_on { HasGoneOn (TypedAllows (IsWord K.is_valid K.word_of) (IsWord V.is_valid V.word_of)) pass.old pass.new (taken_of pass.old) (most_steps (Edit (map_edit edit)) self.now.tries (shared_nodes self.now.layout)) (blamed_by_update result pass.old.blamed) }
+        ensures spends { HasSpentAtMost pass.old pass.new (Edit (map_edit edit)) self.now.tries }
+        ensures says { UpdateSays V.word_of pass.old pass.new (map_edit edit) result }
+        ensures valid { IfOk result (λ old. IfSome old V.is_valid) }
+    {
+        let number = pass.taken();
+        let share = replace(&mut pass.share, Share::of(&self.layout, pass.number));
+        let (words, layout, seat) = (&self.words, &self.layout, &mut pass.seat);
+        let (told, share) = calls::edit(words, layout, seat, number, share, self.tries, edit);
+        pass.share = share;
+        pass.blamed.note_update(&told);
+        told
+    }
+
+    /// Makes an ordered read.
+    fn read(
         &self,
-        alloc: Option<Global>,
+        alloc: Global,
         pass: &mut Pass<Dict<K, V>>,
         request: Request<K, V>,
     ) -> Reply<K, V>
         requires pass { IsOf self.now pass.old }
-        requires memory { KeepsLists (as_map_call K.word_of V.word_of request) → IsSome alloc }
         requires few { AsksForFew request }
         ensures pass { IsOf self.now pass.new }
         ensures tree { pass.new.layout.mode ≡ Tree }
@@ -178,27 +206,10 @@ impl<K: WordKey, V: WordValue> Forest<Dict<K, V>> {
     {
         let number = pass.taken();
         let share = replace(&mut pass.share, Share::of(&self.layout, pass.number));
-        let mut run = DictRun::new(alloc, request, share, self.tries, number);
-        let reply = calls::call(&self.words, &self.layout, &mut pass.seat, number, &mut run);
+        let mut run = DictRun::new(Some(alloc), request, share, self.tries, number);
+        let reply = whole(&self.words, &self.layout, &mut pass.seat, number, &mut run);
         pass.share = run.into_share();
         pass.blamed.note_reply(&reply);
         reply
-    }
-}
-
-/// What an edit has answered.
-fn of_update<K: WordKey, V: WordValue>(reply: Reply<K, V>) -> Result<Option<V>, UpdateFault>
-    requires { IsUpdateForm (form_of reply) }
-    ensures { reply ≡ update_reply result }
-{
-    match reply {
-        Reply::Value(old) => Ok(old),
-        Reply::Contended { node, scx } => Err(UpdateFault::Contended { node, scx }),
-        Reply::Full(full) => Err(UpdateFault::Full(full)),
-        Reply::Pair(_) | Reply::NoMemory => unreachable!(),
-        Reply::Pairs(pairs) => {
-            drop(pairs);
-            unreachable!()
-        }
     }
 }

@@ -21,6 +21,7 @@ use Rattle.updates.specs.Pieces.{many_nodes}
 use Rattle.updates.specs.Tries.{HasEnteredNone}
 use Rattle.updates.specs.declared.edit.Need.{Need}
 use Rattle.updates.specs.declared.edit.Need.TheVariants.{Nothing, One}
+use Rattle.updates.specs.declared.update.UpdateAt.{UpdateAt}
 use Rattle.updates.specs.declared.update.UpdateRun.{UpdateRun}
 use Rattle.updates.specs.declared.update.Updated.{Updated}
 use Rattle.updates.specs.declared.update.Updated.TheVariants.{Done, Contended, Full}
@@ -108,11 +109,11 @@ module _ (v : ClientView) (c : Client) (is_pass : c.pass.0 < v.layout.passes) (m
       from (inl at_first) = inl (short_left v.layout v.start c.pass.0 left at_first.share need what k short)
       from (inr (node, scx, lost)) = inr (node, scx, met node scx lost)
 
-  put : (m : UpdateRun Inserted) (found : Found) → IsDoneAt insert_means m.edit m.call call v.past found → IsRightEnd v c.pass.0 (edit_command (PutEdit m.edit.key m.edit.value)) (MapAnswer (Value found.value))
+  put : (m : UpdateRun Inserted UpdateAt) (found : Found) → IsDoneAt insert_means m.edit m.call call v.past found → IsRightEnd v c.pass.0 (edit_command (PutEdit m.edit.key m.edit.value)) (MapAnswer (Value found.value))
   put m found (inl x) = absurd (something found.value x.needless)
   put m found (inr x) = let y = made (PutEdit m.edit.key m.edit.value) m.call found.value x.0 in record { answers = tt; right = tt; entry = entered_some v.won y.0.0 y.0.1; tells = y.1 }
 
-  insert_ends : (m : UpdateRun Inserted) (a : Updated) → m.edit.key < 2 ^ 64 → UpdateAnswers insert_means m call v.past a → IsRightEnd v c.pass.0 (edit_command (PutEdit m.edit.key m.edit.value)) (answer_of (ended.Edit a))
+  insert_ends : (m : UpdateRun Inserted UpdateAt) (a : Updated) → m.edit.key < 2 ^ 64 → UpdateAnswers insert_means m call v.past a → IsRightEnd v c.pass.0 (edit_command (PutEdit m.edit.key m.edit.value)) (answer_of (ended.Edit a))
   insert_ends m (Done key value) small (rests, x) = subst (λ o. IsRightEnd v c.pass.0 (edit_command (PutEdit m.edit.key m.edit.value)) (MapAnswer (Value o))) x.is_value (put m x.found x.is_done)
   insert_ends m (Contended node scx) small (rests, x) = record { answers = tt; right = met node.0 scx.0 x.0; entry = entered_none v.won (unwon x.2); tells = tt }
   insert_ends m (Full full) small (rests, x) = record {
@@ -123,7 +124,7 @@ module _ (v : ClientView) (c : Client) (is_pass : c.pass.0 < v.layout.passes) (m
   }
 
   -- a delete that is done has found nothing to make, and tells no value, or has made its edit
-  taken : (m : UpdateRun Deleted) (found : Found) (old : Option ℕ) → found.value ≡ old → m.edit.key < 2 ^ 64 → IsDoneAt delete_means m.edit m.call call v.past found → IsRightEnd v c.pass.0 (edit_command (TakeEdit m.edit.key)) (MapAnswer (Value old))
+  taken : (m : UpdateRun Deleted UpdateAt) (found : Found) (old : Option ℕ) → found.value ≡ old → m.edit.key < 2 ^ 64 → IsDoneAt delete_means m.edit m.call call v.past found → IsRightEnd v c.pass.0 (edit_command (TakeEdit m.edit.key)) (MapAnswer (Value old))
   taken m found old is small says = go old is says
     where
       go : (old : Option ℕ) → found.value ≡ old → IsDoneAt delete_means m.edit m.call call v.past found → IsRightEnd v c.pass.0 (edit_command (TakeEdit m.edit.key)) (MapAnswer (Value old))
@@ -132,7 +133,7 @@ module _ (v : ClientView) (c : Client) (is_pass : c.pass.0 < v.layout.passes) (m
       go None e (inr x) = absurd (x.1.needed (subst (λ o. delete_need o ≡ Nothing) (sym e) refl))
       go (Some old) e (inr x) = let y = made (TakeEdit m.edit.key) m.call (Some old) (subst (HasMade (TakeEdit m.edit.key) call v.past m.call) e x.0) in record { answers = tt; right = tt; entry = entered_some v.won y.0.0 y.0.1; tells = y.1 }
 
-  delete_ends : (m : UpdateRun Deleted) (a : Updated) → m.edit.key < 2 ^ 64 → UpdateAnswers delete_means m call v.past a → IsRightEnd v c.pass.0 (edit_command (TakeEdit m.edit.key)) (answer_of (ended.Edit a))
+  delete_ends : (m : UpdateRun Deleted UpdateAt) (a : Updated) → m.edit.key < 2 ^ 64 → UpdateAnswers delete_means m call v.past a → IsRightEnd v c.pass.0 (edit_command (TakeEdit m.edit.key)) (answer_of (ended.Edit a))
   delete_ends m (Done key value) small (rests, x) = taken m x.found value x.is_value small x.is_done
   delete_ends m (Contended node scx) small (rests, x) = record { answers = tt; right = met node.0 scx.0 x.0; entry = entered_none v.won (unwon x.2); tells = tt }
   delete_ends m (Full full) small (rests, x) =

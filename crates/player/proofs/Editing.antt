@@ -91,7 +91,7 @@ pub record IsHandOf (number : ℕ) (edit : MapEdit) (call : MachineCall) (h : Hi
 abbrev pub IsEditHand : EditRun → MachineCall → History → ℕ → Type 0
 IsEditHand m call h t = IsHandOf (call_of m) (edit_of m) call h t
 
-module _ {E : Type 0} (means : EditMeaning E) (m : UpdateRun E) where
+module _ {E : Type 0} (means : EditMeaning E) (m : UpdateRun E UpdateAt) where
   -- whatever leaf it finds, its edit is this
   module _ (edit : MapEdit) (fixed : (f : Found) → means.edit m.edit f ≡ edit) (call : MachineCall) (h : History) (t : ℕ) (l : Lawful call.layout h) (own : IsOwnScx call.layout call.pass t) (p : IsInProgress h t) where
     -- what it makes if it is not aborted

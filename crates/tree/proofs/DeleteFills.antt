@@ -33,6 +33,7 @@ use Rattle.updates.specs.declared.edit.Nth.{Nth}
 use Rattle.updates.specs.declared.edit.Nth.TheVariants.{First, Second, Third}
 use Rattle.updates.specs.declared.edit.Piece.{Piece}
 use Rattle.updates.specs.declared.edit.Piece.TheVariants.{Leaf, Fork}
+use Rattle.updates.specs.declared.update.UpdateAt.{UpdateAt}
 use Rattle.updates.specs.declared.update.UpdateRun.{UpdateRun}
 use Rattle.updates.specs.Known.{HasSnapped, IsNeeded, Fills, UpdateWaits, fill_step, piece, top}
 use Rattle.updates.specs.Laws.Hand.{IsPieceWord}
@@ -57,7 +58,7 @@ fork_there : (leaf : Bool) (level class k v : ℕ) (s : Snap) (side : Side) → 
 fork_there true level class k v s side p = absurd p
 fork_there false level class k v s side p = refl
 
-module _ (m : UpdateRun Delete) (c : Call) (h : History) (f : Found) (nth : Nth) (part : NodeWord) (x : Fills delete_means m c h f nth part) where
+module _ (m : UpdateRun Delete UpdateAt) (c : Call) (h : History) (f : Found) (nth : Nth) (part : NodeWord) (x : Fills delete_means m c h f nth part) where
   -- what the node at hand is to hold
   abbrev copy : Piece
   copy = delete_piece f m.snaps.items m.loaded
@@ -107,5 +108,5 @@ module _ (m : UpdateRun Delete) (c : Call) (h : History) (f : Found) (nth : Nth)
   fill_in_order filled = record { head = λ k kind e. inr (head_ordered k e); field = λ k side kind e. inl (field_ordered k side filled e) }
 
 -- whatever step a delete waits for, where nodes were filled in order before
-pub delete_in_order : (m : UpdateRun Delete) (c : Call) (h : History) (s : Step) → AreFilledInOrder h → UpdateWaits delete_means m c h s → IsFillInOrder h (row_of c s h)
+pub delete_in_order : (m : UpdateRun Delete UpdateAt) (c : Call) (h : History) (s : Step) → AreFilledInOrder h → UpdateWaits delete_means m c h s → IsFillInOrder h (row_of c s h)
 delete_in_order m c h s filled x = update_in_order delete_means m c h s (λ d f nth part y. fill_in_order m d h f nth part y filled) x

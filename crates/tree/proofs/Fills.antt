@@ -101,7 +101,7 @@ scx_in_order c begun h j (scx_at.Seen i) s w = subst (λ (t : Step). IsFillInOrd
 scx_in_order c begun h j scx_at.Call s w = subst (λ (t : Step). IsFillInOrder h (row_of c t h)) (sym w.asked) (scx_fill_in_order c h j _)
 
 -- an update whose fills of nodes are in order makes all its steps so
-pub update_in_order : {E : Type 0} (means : EditMeaning E) (m : UpdateRun E) (c : Call) (h : History) (s : Step) → ((d : Call) (f : Found) (nth : Nth) (part : NodeWord) → Fills means m d h f nth part → IsFillInOrder h (row_of d (fill_step means m f nth part) h)) → UpdateWaits means m c h s → IsFillInOrder h (row_of c s h)
+pub update_in_order : {E : Type 0} (means : EditMeaning E) (m : UpdateRun E UpdateAt) (c : Call) (h : History) (s : Step) → ((d : Call) (f : Found) (nth : Nth) (part : NodeWord) → Fills means m d h f nth part → IsFillInOrder h (row_of d (fill_step means m f nth part) h)) → UpdateWaits means m c h s → IsFillInOrder h (row_of c s h)
 update_in_order means m c h s fills x = go m.at x.3
   where
     go : (at : UpdateAt) → UpdateWaitsAt means m (from c x.0) h s at → IsFillInOrder h (row_of c s h)

@@ -21,6 +21,7 @@ use Rattle.updates.specs.declared.edit.Nth.{Nth}
 use Rattle.updates.specs.declared.edit.Nth.TheVariants.{First, Second, Third}
 use Rattle.updates.specs.declared.edit.Piece.{Piece}
 use Rattle.updates.specs.declared.edit.Piece.TheVariants.{Leaf as LeafPiece}
+use Rattle.updates.specs.declared.update.UpdateAt.{UpdateAt}
 use Rattle.updates.specs.declared.update.UpdateRun.{UpdateRun}
 use Rattle.updates.specs.Known.{ComesBefore, IsNeeded, AreInOrder, Fills, UpdateWaits, fill_step, piece, top}
 use Rattle.updates.specs.Laws.Hand.{IsPieceWord, HoldsWords}
@@ -43,7 +44,7 @@ three_rise Three ns x o = o
 three_rise One ns x o = absurd x
 three_rise Nothing ns x o = absurd x
 
-module _ (m : UpdateRun Insert) (c : Call) (h : History) (f : Found) where
+module _ (m : UpdateRun Insert UpdateAt) (c : Call) (h : History) (f : Found) where
   -- what a node at hand is to hold
   said_is : (nth : Nth) (part : NodeWord) → Fills insert_means m c h f nth part → piece insert_means m f (nth_node m.nodes nth).0 ≡ insert_pieces m.edit.key m.edit.value f m.nodes m.loaded nth
   said_is nth part x = piece_is (insert_need f.value) m.nodes (λ i. insert_pieces m.edit.key m.edit.value f m.nodes m.loaded i) nth x.works.need x.works.in_order
@@ -84,5 +85,5 @@ module _ (m : UpdateRun Insert) (c : Call) (h : History) (f : Found) where
   fill_in_order nth part x = record { head = λ k kind e. head_ordered nth part k x e; field = λ k side kind e. inr (field_ordered nth part k side x e) }
 
 -- whatever step an insert waits for
-pub insert_in_order : (m : UpdateRun Insert) (c : Call) (h : History) (s : Step) → UpdateWaits insert_means m c h s → IsFillInOrder h (row_of c s h)
+pub insert_in_order : (m : UpdateRun Insert UpdateAt) (c : Call) (h : History) (s : Step) → UpdateWaits insert_means m c h s → IsFillInOrder h (row_of c s h)
 insert_in_order m c h s x = update_in_order insert_means m c h s (λ d f nth part y. fill_in_order m d h f nth part y) x

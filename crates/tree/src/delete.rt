@@ -13,7 +13,7 @@ pub struct Delete {
 }
 
 /// A delete, step by step.
-pub type DeleteRun = UpdateRun<Delete>;
+pub type DeleteRun = UpdateRun<Delete, UpdateAt>;
 
 impl Delete {
     /// A delete of that key with so many tries, in the caller's call of this number; it takes fresh
@@ -28,7 +28,7 @@ impl Delete {
         ensures tries { result.tries ≡ tries - 1 }
         ensures steps { (nodes : ℕ) → 0 < tries → update_left delete_means result nodes ≡ tries * (3 * (2 + nodes) + 301) }
     {
-        UpdateRun::new(self, share, tries, call)
+        UpdateRun::new(self, share, tries, call, UpdateAt::Start)
     }
 
     ghost use Rattle.std.specs.Prelude.{◌≡◌};

@@ -14,7 +14,7 @@ pub struct Insert {
 }
 
 /// An insert, step by step.
-pub type InsertRun = UpdateRun<Insert>;
+pub type InsertRun = UpdateRun<Insert, UpdateAt>;
 
 impl Insert {
     /// An insert of that with so many tries, in the caller's call of this number; it takes fresh nodes
@@ -29,7 +29,7 @@ impl Insert {
         ensures tries { result.tries ≡ tries - 1 }
         ensures steps { (nodes : ℕ) → 0 < tries → update_left insert_means result nodes ≡ tries * (3 * (2 + nodes) + 178) }
     {
-        UpdateRun::new(self, share, tries, call)
+        UpdateRun::new(self, share, tries, call, UpdateAt::Start)
     }
 
     ghost use Rattle.std.specs.Prelude.{◌≡◌};

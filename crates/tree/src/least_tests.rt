@@ -10,7 +10,9 @@ use prims::Snap;
 use std::process::Abort;
 use std::test::Fail;
 use template::{Found, Goal, WalkRun};
-use updates::{Edit, Loaded, Look, Need, Nodes, Nth, Piece, UpdateRun, Updated};
+use updates::{
+    Edit, Loaded, Look, Need, Nodes, Nth, Piece, UpdateAt, UpdateRun, Updated,
+};
 
 /// No call of these tests has as many steps.
 const MOST_STEPS: u32 = 1000;
@@ -81,7 +83,7 @@ fn made(table: &mut Table, step: Step) -> Option<u64> {
 /// Runs an update by itself: how many steps it makes, what it answers, and what is left of its share.
 fn plays<E: Edit + Drop>(
     table: &mut Table,
-    mut run: UpdateRun<E>,
+    mut run: UpdateRun<E, UpdateAt>,
 ) -> (u32, Option<Updated>, Share) {
     let mut got = None;
     for steps in 0..MOST_STEPS {
@@ -157,12 +159,12 @@ fn a_walk_to_the_least_key_loads_no_key_of_a_fork(rt: HostRuntime) -> Result<(),
 fn the_least_pairs_are_taken_one_after_the_other(rt: HostRuntime) -> Result<(), Fail> {
     let mut table = Table::new(rt.alloc(), 1, 20, 20)?;
     let share = two_pairs(&rt, &mut table);
-    let (_, first, share) = plays(&mut table, UpdateRun::new(PopFirst, share, 3, 2));
+    let (_, first, share) = plays(&mut table, UpdateRun::new(PopFirst, share, 3, 2, UpdateAt::Start));
     assert_eq!(rt; pair(first), Some((5, 50)));
-    let (_, second, share) = plays(&mut table, UpdateRun::new(PopFirst, share, 3, 3));
+    let (_, second, share) = plays(&mut table, UpdateRun::new(PopFirst, share, 3, 3, UpdateAt::Start));
     assert_eq!(rt; pair(second), Some((9, 90)));
     // the root's head and field, and the head of the leaf above all keys
-    let (steps, third, _) = plays(&mut table, UpdateRun::new(PopFirst, share, 3, 4));
+    let (steps, third, _) = plays(&mut table, UpdateRun::new(PopFirst, share, 3, 4, UpdateAt::Start));
     assert_eq!(rt; steps, 3);
     assert!(rt; matches!(third, Some(Updated::Done { .. })));
     assert_eq!(rt; pair(third), None);

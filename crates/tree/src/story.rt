@@ -8,7 +8,7 @@ use spelling::Pair;
 use std::alloc::Global;
 use std::process::Abort;
 use std::test::Fail;
-use updates::{UpdateRun, Updated};
+use updates::{UpdateAt, UpdateRun, Updated};
 
 /// A call of the map.
 #[derive(Clone, Copy)]
@@ -173,8 +173,8 @@ impl Plain {
 /// A call that runs.
 #[derive(Drop)]
 enum Run {
-    Insert(UpdateRun<Insert>),
-    Delete(UpdateRun<Delete>),
+    Insert(UpdateRun<Insert, UpdateAt>),
+    Delete(UpdateRun<Delete, UpdateAt>),
     Get(GetRun),
 }
 

@@ -35,6 +35,7 @@ use Rattle.updates.specs.declared.edit.Look.{Look}
 use Rattle.updates.specs.declared.edit.Look.TheVariants.{Enough}
 use Rattle.updates.specs.declared.update.UpdateAt.TheVariants.{Scx}
 use Rattle.updates.specs.declared.update.UpdateRun.{UpdateRun}
+use Rattle.updates.specs.Next.{standing}
 use Rattle.updates.specs.Edits.{EditBounds, EditMeaning}
 use Rattle.updates.specs.Known.{AreSeen, AreUsable, CoversLeaf, CanScx, IsUpdateFor, TryWaits, piece, top}
 use Rattle.updates.specs.Laws.Entered.{none_quiet}
@@ -94,7 +95,7 @@ plus_one n = omega arith
 abbrev less_an_scx : Remaining → Remaining
 less_an_scx left = record left { next_scx = suc left.next_scx; scx = left.scx - 1 }
 
-module _ {E : Type 0} (e : EditMeaning E) (m : UpdateRun E) (run after : ScxRun) (f : Found) (c : Call) (h : History) (sound : MakesWell e) (few : length m.snaps.items ≤ 4) (x : CanScx e m c h f)
+module _ {E : Type 0} (e : EditMeaning E) {A : Type 0} (m : UpdateRun E A) (run after : ScxRun) (f : Found) (c : Call) (h : History) (sound : MakesWell e) (few : length m.snaps.items ≤ 4) (x : CanScx e m c h f)
     (is : IsUpdateFor e m.edit f m.snaps.items m.nodes run.update) (at : run.at ≡ ScxStart) (is_scx : run.scx.0 ≡ m.share.next_scx) (same_scx : after.scx ≡ run.scx) (same_update : after.update ≡ run.update) (same_call : after.call ≡ run.call) (is_call : after.call ≡ m.call) where
   over : IsUpdateOver run.update
   over = covers_all run.update m.snaps.items (e.side m.edit f) (some_snaps (e.looks m.edit f) m.snaps.items (sound.some m.edit f) x.all.enough) few
@@ -129,7 +130,7 @@ module _ {E : Type 0} (e : EditMeaning E) (m : UpdateRun E) (run after : ScxRun)
   leaf = subst (λ (u : Update). CoversLeaf e m.edit f c h after.scx.0 u.snaps) (sym same_update)
       (subst (λ (xs : List Snap). CoversLeaf e m.edit f c h after.scx.0 xs) (sym is.covers) (sound.leaf m.edit c h f m.snaps.items after.scx.0 x.run x.need x.all.looked x.all.enough))
 
-  first_waits : (turn : Turn ScxAnswer) (step : Step) → turn ≡ Ask step → MatchTurn turn (ScxWaits TreeAllows after (from c h) h) (ScxAnswers after (from c h) h) → TryWaits e (record m { share = less_an_scx m.share; at = Scx f after }) c h step
+  first_waits : (turn : Turn ScxAnswer) (step : Step) → turn ≡ Ask step → MatchTurn turn (ScxWaits TreeAllows after (from c h) h) (ScxAnswers after (from c h) h) → TryWaits e (standing (record m { share = less_an_scx m.share }) (Scx f after)) c h step
   first_waits turn step asked w = (
     h,
     record {
@@ -157,9 +158,9 @@ module _ {E : Type 0} (e : EditMeaning E) (m : UpdateRun E) (run after : ScxRun)
 
   -- it waits for the first step of its SCX
   pub scx_begins : (share : Remaining) (turn : Turn ScxAnswer) (step : Step) → share ≡ record m.share { next_scx = m.share.next_scx + 1; scx = m.share.scx - 1 } → turn ≡ Ask step
-      → (ScxIsReady TreeAllows run (from c h) h None → MatchTurn turn (ScxWaits TreeAllows after (from c h) h) (ScxAnswers after (from c h) h)) → TryWaits e (record m { share = share; at = Scx f after }) c h step
+      → (ScxIsReady TreeAllows run (from c h) h None → MatchTurn turn (ScxWaits TreeAllows after (from c h) h) (ScxAnswers after (from c h) h)) → TryWaits e (standing (record m { share = share }) (Scx f after)) c h step
   scx_begins share turn step less asked w =
-      subst (λ (s : Remaining). TryWaits e (record m { share = s; at = Scx f after }) c h step) (sym (less ∙ (λ i. record m.share { next_scx = plus_one m.share.next_scx i; scx = m.share.scx - 1 })))
+      subst (λ (s : Remaining). TryWaits e (standing (record m { share = s }) (Scx f after)) c h step) (sym (less ∙ (λ i. record m.share { next_scx = plus_one m.share.next_scx i; scx = m.share.scx - 1 })))
       (first_waits turn step asked (w scx_ready))
 
 -- an edit looks at few nodes

@@ -182,7 +182,7 @@ is_something Nothing nth n e = n
 is_something One nth n e = cc
 is_something Three nth n e = cc
 
-module _ {E : Type 0} (e : EditMeaning E) (m : UpdateRun E) (c : Call) (h : History) (f : Found) (nth : Nth) (part : NodeWord) (x : IsFilledUpTo e m c h f nth part) where
+module _ {E : Type 0} (e : EditMeaning E) {A : Type 0} (m : UpdateRun E A) (c : Call) (h : History) (f : Found) (nth : Nth) (part : NodeWord) (x : IsFilledUpTo e m c h f nth part) where
   abbrev here : ℕ
   here = (nth_node m.nodes nth).0
 

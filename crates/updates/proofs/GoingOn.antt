@@ -11,19 +11,20 @@ use Rattle.template.specs.declared.walk.Found.{Found}
 use Rattle.updates.specs.Edits.{EditMeaning}
 use Rattle.updates.specs.Known.{CanFill, UpdateTurn}
 use Rattle.updates.specs.Laws.HandScx.{from}
-use Rattle.updates.specs.Next.{IsSameUpdate, placed, next_step, fills, GoesOn, ComesNearer, HasSpent, left_then}
+use Rattle.updates.specs.Next.{IsSameUpdate, placed, standing, next_step, fills, GoesOn, ComesNearer, HasSpent, left_then}
 use Rattle.updates.specs.Steps.{IsNearer, IsSpending, Spends, fills_left, try_left}
 use Rattle.updates.specs.Tries.{IsTry}
 use Rattle.updates.specs.declared.edit.Nth.{Nth}
 use Rattle.updates.specs.declared.update.Next.{Next}
 use Rattle.updates.specs.declared.update.Next.TheVariants.{Look, Wait, Load, Fill as FillNext, Change}
 use Rattle.updates.specs.declared.update.Stop.{Stop}
+use Rattle.updates.specs.declared.update.UpdateAt.{UpdateAt}
 use Rattle.updates.specs.declared.update.UpdateAt.TheVariants.{Fill}
 use Rattle.updates.specs.declared.update.UpdateRun.{UpdateRun}
 use Rattle.updates.specs.declared.update.Updated.{Updated}
 use Rattle.updates.proofs.Turns.{fills_word}
 
-module _ {E : Type 0} (e : EditMeaning E) (m now : UpdateRun E) (f : Found) where
+module _ {E : Type 0} (e : EditMeaning E) {A : Type 0} (m : UpdateRun E A) (now : UpdateRun E UpdateAt) (f : Found) where
   module _ (next : Next) (turn : Turn Updated) (place : now ≡ placed e m f next) (is : turn ≡ Ask (next_step e m f next)) where
     pub goes_on : (c : Call) (h : History) → GoesOn e c h m f (Ok next) → UpdateTurn e c h now turn
     goes_on c h x = rw (place, is) x
@@ -35,7 +36,7 @@ module _ {E : Type 0} (e : EditMeaning E) (m now : UpdateRun E) (f : Found) wher
     has_spent old nodes scx x = rw (place, is) x
 
   -- so it does where it fills a word
-  module _ (nth : Nth) (part : NodeWord) (turn : Turn Updated) (place : now ≡ record m { at = Fill f nth part }) (is : turn ≡ Ask (fills e m f nth part)) where
+  module _ (nth : Nth) (part : NodeWord) (turn : Turn Updated) (place : now ≡ standing m (Fill f nth part)) (is : turn ≡ Ask (fills e m f nth part)) where
     pub fill_goes_on : (c : Call) (b h : History) → IsTry c b → CanFill e m (from c b) h f nth part → UpdateTurn e c h now turn
     fill_goes_on c b h try x = rw (place, is) (b, try, tt, fills_word e m f nth part _ _ _ (from c b) h x refl refl refl)
 
@@ -46,14 +47,14 @@ module _ {E : Type 0} (e : EditMeaning E) (m now : UpdateRun E) (f : Found) wher
     fill_spends = rw (place, is) (omega arith, omega arith)
 
 -- where it stands once that has begun, it makes the same update
-pub placed_same : {E : Type 0} (e : EditMeaning E) (m : UpdateRun E) (f : Found) (next : Next) → IsSameUpdate m (placed e m f next)
+pub placed_same : {E : Type 0} (e : EditMeaning E) {A : Type 0} (m : UpdateRun E A) (f : Found) (next : Next) → IsSameUpdate m (placed e m f next)
 placed_same e m f (Look n) = (refl, refl)
 placed_same e m f (Wait n b scx) = (refl, refl)
 placed_same e m f (Load nth part) = (refl, refl)
 placed_same e m f (FillNext nth) = (refl, refl)
 placed_same e m f (Change scx) = (refl, refl)
 
-pub placed_tries : {E : Type 0} (e : EditMeaning E) (m : UpdateRun E) (f : Found) (next : Next) → (placed e m f next).tries ≡ m.tries
+pub placed_tries : {E : Type 0} (e : EditMeaning E) {A : Type 0} (m : UpdateRun E A) (f : Found) (next : Next) → (placed e m f next).tries ≡ m.tries
 placed_tries e m f (Look n) = refl
 placed_tries e m f (Wait n b scx) = refl
 placed_tries e m f (Load nth part) = refl
@@ -61,20 +62,20 @@ placed_tries e m f (FillNext nth) = refl
 placed_tries e m f (Change scx) = refl
 
 -- so much is left, where less is
-pub weighs_next : {E : Type 0} (e : EditMeaning E) (m : UpdateRun E) (f : Found) (next : Result Next Stop) (nodes n : ℕ) → ComesNearer e m f next nodes n → left_then e m f next nodes ≤ n
+pub weighs_next : {E : Type 0} (e : EditMeaning E) {A : Type 0} (m : UpdateRun E A) (f : Found) (next : Result Next Stop) (nodes n : ℕ) → ComesNearer e m f next nodes n → left_then e m f next nodes ≤ n
 weighs_next e m f (Ok next) nodes n x = omega (arith, x)
 weighs_next e m f (Err stop) nodes n x = x
 
 -- what is below a number is below a greater one
-pub still_nearer : {E : Type 0} (e : EditMeaning E) (m : UpdateRun E) (f : Found) (next : Result Next Stop) (nodes a b : ℕ) → ComesNearer e m f next nodes a → a ≤ b → ComesNearer e m f next nodes b
+pub still_nearer : {E : Type 0} (e : EditMeaning E) {A : Type 0} (m : UpdateRun E A) (f : Found) (next : Result Next Stop) (nodes a b : ℕ) → ComesNearer e m f next nodes a → a ≤ b → ComesNearer e m f next nodes b
 still_nearer e m f (Ok next) nodes a b x i = omega (arith, x, i)
 still_nearer e m f (Err stop) nodes a b x i = omega (arith, x, i)
 
 -- what is taken before counts for one try more
-pub taken_before : {E : Type 0} (e : EditMeaning E) (old mid : Remaining) (m : UpdateRun E) (f : Found) (next : Next) (nodes scx : ℕ) → old.nodes ≤ mid.nodes + e.most_nodes → mid.scx ≡ old.scx → HasSpent e mid m f (Ok next) nodes scx → HasSpent e old m f (Ok next) (nodes + 1) scx
+pub taken_before : {E : Type 0} (e : EditMeaning E) (old mid : Remaining) {A : Type 0} (m : UpdateRun E A) (f : Found) (next : Next) (nodes scx : ℕ) → old.nodes ≤ mid.nodes + e.most_nodes → mid.scx ≡ old.scx → HasSpent e mid m f (Ok next) nodes scx → HasSpent e old m f (Ok next) (nodes + 1) scx
 taken_before e old mid m f next nodes scx i same x = (omega (arith, i, x.0), omega (arith, same, x.1))
 
 -- what is spent up to the end of a try, and behind it
-pub spends_on : {E : Type 0} (e : EditMeaning E) (turn : Turn Updated) (old mid : Remaining) (m : UpdateRun E) (nodes scx tries : ℕ) → Spends e.most_nodes old mid nodes tries scx tries → IsSpending e turn mid m tries tries → IsSpending e turn old m nodes scx
+pub spends_on : {E : Type 0} (e : EditMeaning E) (turn : Turn Updated) (old mid : Remaining) (m : UpdateRun E UpdateAt) (nodes scx tries : ℕ) → Spends e.most_nodes old mid nodes tries scx tries → IsSpending e turn mid m tries tries → IsSpending e turn old m nodes scx
 spends_on e (Ask s) old mid m nodes scx tries x y = (let a = x.0 in let b = y.0 in omega (arith, a, b), let a = x.1 in let b = y.1 in omega (arith, a, b))
 spends_on e (Done u) old mid m nodes scx tries x y = (let a = x.0 in let b = y.0 in omega (arith, a, b), let a = x.1 in let b = y.1 in omega (arith, a, b))

@@ -25,6 +25,7 @@ use Rattle.updates.specs.declared.edit.Piece.{Piece}
 use Rattle.updates.specs.declared.edit.Piece.TheVariants.{Leaf, Fork}
 use Rattle.updates.specs.declared.update.UpdateAt.TheVariants.{Load}
 use Rattle.updates.specs.declared.update.UpdateRun.{UpdateRun}
+use Rattle.updates.specs.Next.{standing}
 use Rattle.updates.specs.Edits.{EditMeaning}
 use Rattle.updates.specs.Known.{AreLoaded, ComesBefore, IsNeeded, AreInOrder, pieces_by, CanLoad, CanFill, Loads, TryWaits, piece, copied}
 use Rattle.updates.specs.Laws.Hand.{IsBefore, IsPieceWord, HoldsWords, HasFilledTo}
@@ -103,7 +104,7 @@ loaded_one f n ld Marked v i e x = absurd i
 
 module _ {E : Type 0} (e : EditMeaning E) where
   -- it waits for the load
-  pub loads_word : (m : UpdateRun E) (c : Call) (h : History) (f : Found) (nth : Nth) (part : NodeWord) (n : NodeNo) → LoadsWell e → CanLoad e m c h f nth → e.wants m.edit f m.snaps.items m.loaded nth ≡ Some part → n ≡ e.copies m.edit f m.snaps.items → TryWaits e (record m { at = Load f nth part }) c h record { kind = LoadSettled; word = NodeOf n part; access = LoadAccess }
+  pub loads_word : {A : Type 0} (m : UpdateRun E A) (c : Call) (h : History) (f : Found) (nth : Nth) (part : NodeWord) (n : NodeNo) → LoadsWell e → CanLoad e m c h f nth → e.wants m.edit f m.snaps.items m.loaded nth ≡ Some part → n ≡ e.copies m.edit f m.snaps.items → TryWaits e (standing m (Load f nth part)) c h record { kind = LoadSettled; word = NodeOf n part; access = LoadAccess }
   loads_word m c h f nth part n sound x wanted is_n = (
     record {
       works = record {
@@ -129,7 +130,7 @@ module _ {E : Type 0} (e : EditMeaning E) where
   )
 
   -- where nothing is to be loaded, it may fill the head of its node
-  pub fills_head : (m : UpdateRun E) (c : Call) (h : History) (f : Found) (nth : Nth) → CanLoad e m c h f nth → e.wants m.edit f m.snaps.items m.loaded nth ≡ None → CanFill e m c h f nth Head
+  pub fills_head : {A : Type 0} (m : UpdateRun E A) (c : Call) (h : History) (f : Found) (nth : Nth) → CanLoad e m c h f nth → e.wants m.edit f m.snaps.items m.loaded nth ≡ None → CanFill e m c h f nth Head
   fills_head m c h f nth x done = record {
     fills = record {
       works = x.works;
@@ -144,7 +145,7 @@ module _ {E : Type 0} (e : EditMeaning E) where
   }
 
   -- it may go on with what a load has told
-  pub loaded_word : (m : UpdateRun E) (c : Call) (h : History) (f : Found) (nth : Nth) (part : NodeWord) (v : ℕ) → LoadsWell e → Loads e m c h f nth part → value h (node (copied e m f) part) ≡ v → CanLoad e (record m { loaded = with_word m.loaded part v }) c h f nth
+  pub loaded_word : {A : Type 0} (m : UpdateRun E A) (c : Call) (h : History) (f : Found) (nth : Nth) (part : NodeWord) (v : ℕ) → LoadsWell e → Loads e m c h f nth part → value h (node (copied e m f) part) ≡ v → CanLoad e (record m { loaded = with_word m.loaded part v }) c h f nth
   loaded_word m c h f nth part v sound x told = record {
     works = record {
       run = x.works.run;

@@ -35,6 +35,7 @@ use Rattle.updates.specs.declared.edit.Nth.{Nth}
 use Rattle.updates.specs.declared.edit.Nth.TheVariants.{First, Second, Third}
 use Rattle.updates.specs.declared.edit.Piece.{Piece}
 use Rattle.updates.specs.declared.update.UpdateRun.{UpdateRun}
+use Rattle.updates.specs.Next.{standing}
 use Rattle.updates.specs.Edits.{EditMeaning}
 use Rattle.updates.specs.Known.{RestsWith, Begins, HasNodesFor, HasSnapped, AreUsable, AreLoaded, ComesBefore, AreSeen, CanLook, CanLoad, Looks, TryWaits, copied, piece, nothing_loaded}
 use Rattle.updates.specs.Pieces.{less_a_node, many_nodes, top_of}
@@ -73,7 +74,7 @@ seen_one_more e ed f snaps s named x i p = go (at_end snaps s i p)
     go (inl q) = rw (take-append-le i snaps (s ∷ []) (let y = q.0 in omega (arith, y)), q.1) (x i q.0)
     go (inr q) = rw (q.0, take-append-le (length snaps) snaps (s ∷ []) (omega arith), take_all snaps) (named ∙ ap (λ (t : Snap). At t.node) (sym (rw q.0 at q.1)))
 
-pub looked_one_more : {E : Type 0} (e : EditMeaning E) (m now : UpdateRun E) (c : Call) (h : History) (f : Found) (s : Snap) (n : ℕ) → now.edit ≡ m.edit → now.share ≡ m.share → now.snaps.items ≡ m.snaps.items ++ s ∷ [] → e.looks m.edit f m.snaps.items ≡ At s.node → IsSnapshot c.layout h n s → CanLook e m c h f → CanLook e now c h f
+pub looked_one_more : {E : Type 0} (e : EditMeaning E) {A : Type 0} (m now : UpdateRun E A) (c : Call) (h : History) (f : Found) (s : Snap) (n : ℕ) → now.edit ≡ m.edit → now.share ≡ m.share → now.snaps.items ≡ m.snaps.items ++ s ∷ [] → e.looks m.edit f m.snaps.items ≡ At s.node → IsSnapshot c.layout h n s → CanLook e m c h f → CanLook e now c h f
 looked_one_more e m now c h f s n ed share items named is x = record {
   begins = record { run = x.begins.run; small = rw ed x.begins.small; since = x.begins.since; rests = rw share x.begins.rests };
   quiet = x.quiet;
@@ -95,7 +96,7 @@ share_has One left d few some = (omega (arith, few), omega (arith, some))
 share_has Three left d few some = (omega (arith, few), omega (arith, some))
 
 -- the walk has found its leaf, and nothing is looked at
-pub may_look : {E : Type 0} (e : EditMeaning E) (m now : UpdateRun E) (c : Call) (h : History) (f : Found) → now.edit ≡ m.edit → now.share ≡ m.share → now.snaps.items ≡ [] → Begins e m c h → IsQuietSince c.layout c.pass c.start h → HasFound (e.goal m.edit) c h f → HasNodesFor (e.needs m.edit f) m.share → CanLook e now c h f
+pub may_look : {E : Type 0} (e : EditMeaning E) {A : Type 0} (m now : UpdateRun E A) (c : Call) (h : History) (f : Found) → now.edit ≡ m.edit → now.share ≡ m.share → now.snaps.items ≡ [] → Begins e m c h → IsQuietSince c.layout c.pass c.start h → HasFound (e.goal m.edit) c h f → HasNodesFor (e.needs m.edit f) m.share → CanLook e now c h f
 may_look e m now c h f ed share items b quiet found room = record {
   begins = record { run = b.run; small = rw ed b.small; since = b.since; rests = rw share b.rests };
   quiet = quiet;
@@ -157,11 +158,11 @@ no_nothing Nothing left x e = x
 no_nothing One left x e = cc
 no_nothing Three left x e = cc
 
-pub is_needed : {E : Type 0} (e : EditMeaning E) (m : UpdateRun E) (c : Call) (h : History) (f : Found) → CanLook e m c h f → e.needs m.edit f ≢ Nothing
+pub is_needed : {E : Type 0} (e : EditMeaning E) {A : Type 0} (m : UpdateRun E A) (c : Call) (h : History) (f : Found) → CanLook e m c h f → e.needs m.edit f ≢ Nothing
 is_needed e m c h f x = no_nothing (e.needs m.edit f) m.share x.room
 
 -- what was loaded in a try before is forgotten
-pub forgets : {E : Type 0} (e : EditMeaning E) (m : UpdateRun E) (c : Call) (h : History) (f : Found) → CanLook e m c h f → CanLook e (record m { loaded = nothing_loaded }) c h f
+pub forgets : {E : Type 0} (e : EditMeaning E) {A : Type 0} (m : UpdateRun E A) (c : Call) (h : History) (f : Found) → CanLook e m c h f → CanLook e (record m { loaded = nothing_loaded }) c h f
 forgets e m c h f x = record { begins = record { run = x.begins.run; small = x.begins.small; since = x.begins.since; rests = x.begins.rests }; quiet = x.quiet; looked = x.looked; room = x.room }
 
 one_or_three : (need : Need) (left : Remaining) → HasNodesFor need left → need ≢ Three → need ≡ One
@@ -170,10 +171,10 @@ one_or_three One left x d = refl
 one_or_three Three left x d = absurd (d refl)
 
 -- where it does not need three nodes, it needs one
-pub needs_one : {E : Type 0} (e : EditMeaning E) (m : UpdateRun E) (c : Call) (h : History) (f : Found) → CanLook e m c h f → e.needs m.edit f ≢ Three → e.needs m.edit f ≡ One
+pub needs_one : {E : Type 0} (e : EditMeaning E) {A : Type 0} (m : UpdateRun E A) (c : Call) (h : History) (f : Found) → CanLook e m c h f → e.needs m.edit f ≢ Three → e.needs m.edit f ≡ One
 needs_one e m c h f x d = one_or_three (e.needs m.edit f) m.share x.room d
 
-module _ {E : Type 0} (e : EditMeaning E) (m : UpdateRun E) (c : Call) (h : History) (f : Found) (looks : LooksWell e) (x : CanLook e m c h f)
+module _ {E : Type 0} (e : EditMeaning E) {A : Type 0} (m : UpdateRun E A) (c : Call) (h : History) (f : Found) (looks : LooksWell e) (x : CanLook e m c h f)
     (enough : e.looks m.edit f m.snaps.items ≡ Enough) (blank : m.loaded ≡ nothing_loaded) where
   is_copied : IsNamed c.layout h (copied e m f) × (copied e m f < all_nodes c.layout)
   is_copied = looks.copied m.edit c h f m.snaps.items x.begins.run (is_needed e m c h f x) x.looked enough
@@ -190,7 +191,7 @@ module _ {E : Type 0} (e : EditMeaning E) (m : UpdateRun E) (c : Call) (h : Hist
   abbrev nodes_one : NodeNo → Nodes
   nodes_one n = record { first = n; second = record { 0 = 0 }; third = record { 0 = 0 } }
 
-  abbrev one_taken : UpdateRun E
+  abbrev one_taken : UpdateRun E A
   one_taken = record m { share = less_a_node m.share; nodes = nodes_one (record { 0 = m.share.next_node }) }
 
   takes_one : e.needs m.edit f ≡ One → CanLoad e one_taken c h f First
@@ -222,9 +223,9 @@ module _ {E : Type 0} (e : EditMeaning E) (m : UpdateRun E) (c : Call) (h : Hist
       top_is : m.share.next_node + 0 ≡ top_of (e.needs m.edit f) (nodes_one (record { 0 = m.share.next_node }))
       top_is = none_more m.share.next_node ∙ sym (ap (λ n. top_of n (nodes_one (record { 0 = m.share.next_node }))) one)
 
-  pub one_then : (now : UpdateRun E) (first : NodeNo) → e.needs m.edit f ≡ One → now ≡ record m { share = now.share } → (0 < m.share.nodes → (first.0 ≡ m.share.next_node) × (now.share ≡ less_a_node m.share)) → CanLoad e (record now { nodes = nodes_one first }) c h f First
+  pub one_then : (now : UpdateRun E A) (first : NodeNo) → e.needs m.edit f ≡ One → now ≡ record m { share = now.share } → (0 < m.share.nodes → (first.0 ≡ m.share.next_node) × (now.share ≡ less_a_node m.share)) → CanLoad e (record now { nodes = nodes_one first }) c h f First
   one_then now first one same taken =
-      subst (λ (n : UpdateRun E). CanLoad e (record n { nodes = nodes_one first }) c h f First) (sym (same ∙ ap (λ (s : Remaining). record m { share = s }) t.1))
+      subst (λ (n : UpdateRun E A). CanLoad e (record n { nodes = nodes_one first }) c h f First) (sym (same ∙ ap (λ (s : Remaining). record m { share = s }) t.1))
       (subst (λ (k : NodeNo). CanLoad e (record m { share = less_a_node m.share; nodes = nodes_one k }) c h f First) (λ i. record { 0 = sym t.0 i }) (takes_one one))
     where
       room : HasNodesFor One m.share
@@ -243,7 +244,7 @@ module _ {E : Type 0} (e : EditMeaning E) (m : UpdateRun E) (c : Call) (h : Hist
   abbrev nodes_three : Nodes
   nodes_three = record { first = record { 0 = m.share.next_node }; second = record { 0 = m.share.next_node + 1 }; third = record { 0 = m.share.next_node + 1 + 1 } }
 
-  abbrev three_taken : UpdateRun E
+  abbrev three_taken : UpdateRun E A
   three_taken = record m { share = less_three; nodes = nodes_three }
 
   takes_three : e.needs m.edit f ≡ Three → CanLoad e three_taken c h f First
@@ -286,13 +287,13 @@ module _ {E : Type 0} (e : EditMeaning E) (m : UpdateRun E) (c : Call) (h : Hist
       top_is : m.share.next_node + 2 ≡ top_of (e.needs m.edit f) nodes_three
       top_is = last_is m.share.next_node ∙ sym (ap (λ n. top_of n nodes_three) three)
 
-  pub three_then : (one two now : UpdateRun E) (first second third : NodeNo) → e.needs m.edit f ≡ Three
+  pub three_then : (one two now : UpdateRun E A) (first second third : NodeNo) → e.needs m.edit f ≡ Three
       → one ≡ record m { share = one.share } → (0 < m.share.nodes → (first.0 ≡ m.share.next_node) × (one.share ≡ less_a_node m.share))
       → two ≡ record one { share = two.share } → (0 < one.share.nodes → (second.0 ≡ one.share.next_node) × (two.share ≡ less_a_node one.share))
       → now ≡ record two { share = now.share } → (0 < two.share.nodes → (third.0 ≡ two.share.next_node) × (now.share ≡ less_a_node two.share))
       → CanLoad e (record now { nodes = record { first = first; second = second; third = third } }) c h f First
   three_then one two now first second third three same_one taken_one same_two taken_two same_now taken_now =
-      subst (λ (n : UpdateRun E). CanLoad e (record n { nodes = record { first = first; second = second; third = third } }) c h f First) (sym is_now)
+      subst (λ (n : UpdateRun E A). CanLoad e (record n { nodes = record { first = first; second = second; third = third } }) c h f First) (sym is_now)
       (subst (λ (ns : Nodes). CanLoad e (record m { share = less_three; nodes = ns }) c h f First) nodes_are (takes_three three))
     where
       room : HasNodesFor Three m.share
@@ -308,19 +309,19 @@ module _ {E : Type 0} (e : EditMeaning E) (m : UpdateRun E) (c : Call) (h : Hist
       u = taken_two (subst (λ (s : Remaining). 0 < s.nodes) (sym t.1) (let r = room.0 in omega (arith, r)))
 
       is_two : two ≡ record m { share = less_two }
-      is_two = same_two ∙ ap (λ (s : Remaining). record one { share = s }) u.1 ∙ ap (λ (n : UpdateRun E). record n { share = less_a_node n.share }) is_one
+      is_two = same_two ∙ ap (λ (s : Remaining). record one { share = s }) u.1 ∙ ap (λ (n : UpdateRun E A). record n { share = less_a_node n.share }) is_one
 
       v : (third.0 ≡ two.share.next_node) × (now.share ≡ less_a_node two.share)
-      v = taken_now (subst (λ (n : UpdateRun E). 0 < n.share.nodes) (sym is_two) (let r = room.0 in omega (arith, r)))
+      v = taken_now (subst (λ (n : UpdateRun E A). 0 < n.share.nodes) (sym is_two) (let r = room.0 in omega (arith, r)))
 
       is_now : now ≡ record m { share = less_three }
-      is_now = same_now ∙ ap (λ (s : Remaining). record two { share = s }) v.1 ∙ ap (λ (n : UpdateRun E). record n { share = less_a_node n.share }) is_two
+      is_now = same_now ∙ ap (λ (s : Remaining). record two { share = s }) v.1 ∙ ap (λ (n : UpdateRun E A). record n { share = less_a_node n.share }) is_two
 
       second_is : second.0 ≡ m.share.next_node + 1
-      second_is = u.0 ∙ ap (λ (n : UpdateRun E). n.share.next_node) is_one
+      second_is = u.0 ∙ ap (λ (n : UpdateRun E A). n.share.next_node) is_one
 
       third_is : third.0 ≡ m.share.next_node + 1 + 1
-      third_is = v.0 ∙ ap (λ (n : UpdateRun E). n.share.next_node) is_two
+      third_is = v.0 ∙ ap (λ (n : UpdateRun E A). n.share.next_node) is_two
 
       nodes_are : nodes_three ≡ record { first = first; second = second; third = third }
       nodes_are i = record { first = record { 0 = sym t.0 i }; second = record { 0 = sym second_is i }; third = record { 0 = sym third_is i } }
@@ -331,10 +332,10 @@ pub pushed : {T E : Type 0} (r : Result T E) (P : Type 0) (n most : ℕ) → n <
 pushed (Ok v) P n most i j p full = p
 pushed (Err v) P n most i j p full = absurd (omega (arith, i, j, full))
 
-module _ {E : Type 0} (e : EditMeaning E) (m : UpdateRun E) (llx after : LlxRun) (f : Found) (begin : History) (c : Call) (h : History) (turn : Turn Llx) (x : Looks e m c h f llx begin) (same : after.node ≡ llx.node)
+module _ {E : Type 0} (e : EditMeaning E) {A : Type 0} (m : UpdateRun E A) (llx after : LlxRun) (f : Found) (begin : History) (c : Call) (h : History) (turn : Turn Llx) (x : Looks e m c h f llx begin) (same : after.node ≡ llx.node)
     (w : MatchTurn turn (LlxWaits TreeAllows after (from c begin) h) (LlxAnswers after (from c begin) h)) where
   -- its LLX asks for a step
-  pub looks_on : (step : Step) → turn ≡ Ask step → TryWaits e (record m { at = Look f after }) c h step
+  pub looks_on : (step : Step) → turn ≡ Ask step → TryWaits e (standing m (Look f after)) c h step
   looks_on step asked = (
     begin,
     record { run = x.run; looked = x.looked; rests = x.rests; room = x.room; named = x.named ∙ ap At (sym same); now = x.now; quiet = x.quiet; since = x.since },

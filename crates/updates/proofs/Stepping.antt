@@ -13,6 +13,7 @@ use Rattle.template.specs.Walk.Known.{WalkIsReady}
 use Rattle.template.specs.declared.walk.Found.{Found}
 use Rattle.template.specs.declared.walk.WalkRun.{WalkRun}
 use Rattle.updates.specs.declared.edit.Nth.{Nth}
+use Rattle.updates.specs.declared.update.UpdateAt.{UpdateAt}
 use Rattle.updates.specs.declared.update.UpdateAt.TheVariants.{Start, Walk, Look, Load, Fill, Scx}
 use Rattle.updates.specs.declared.update.UpdateRun.{UpdateRun}
 use Rattle.updates.specs.Edits.{EditMeaning}
@@ -20,7 +21,7 @@ use Rattle.updates.specs.Known.{RestsWith, IsUntouched, FirstOrLost, Begins, Wal
 use Rattle.updates.specs.Laws.HandScx.{from}
 use Rattle.updates.specs.Tries.{IsTry}
 
-module _ {E : Type 0} (e : EditMeaning E) (m : UpdateRun E) (c : Call) (h : History) where
+module _ {E : Type 0} (e : EditMeaning E) (m : UpdateRun E UpdateAt) (c : Call) (h : History) where
   pub at_start : (got : Option ℕ) → m.at ≡ Start → UpdateIsReady e m c h got → Begins e m c h × IsTry c h × RestsWith c c.start m.share
   at_start None is r = (r.0, r.1, r.2)
   at_start (Some v) is r = absurd (subst (λ p. UpdateIsToldAt e m (from c r.0) h v p) is r.3)

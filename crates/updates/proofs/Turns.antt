@@ -43,6 +43,7 @@ use Rattle.updates.specs.declared.update.Updated.{Updated}
 use Rattle.updates.specs.declared.update.UpdateAt.TheVariants.{Walk, Look, Fill, Scx}
 use Rattle.updates.specs.declared.update.UpdateRun.{UpdateRun}
 use Rattle.template.specs.Blame.{IsContended}
+use Rattle.updates.specs.Next.{standing}
 use Rattle.updates.specs.Edits.{EditMeaning}
 use Rattle.updates.specs.Sound.{IsAtFound}
 use Rattle.updates.specs.Known.{RestsWith, AreUsable, CoversLeaf, Begins, Walks, CanLook, CanFill, Scxs, IsUntouched, TryWaits, UpdateWaits, UpdateAnswers, done_at}
@@ -77,11 +78,11 @@ rests_again c h left m l share next over real finished = record {
 
 module _ {E : Type 0} (e : EditMeaning E) where
   -- a try less, and the same share
-  pub begins_again : (m now : UpdateRun E) (c : Call) (h : History) → now.edit ≡ m.edit → now.share ≡ m.share → Begins e m c h → Begins e now c h
+  pub begins_again : {A : Type 0} (m now : UpdateRun E A) (c : Call) (h : History) → now.edit ≡ m.edit → now.share ≡ m.share → Begins e m c h → Begins e now c h
   begins_again m now c h ed share b = record { run = b.run; small = rw ed b.small; since = b.since; rests = rw share b.rests }
 
   -- its walk begins, and a try with it
-  pub begins_walk : (m : UpdateRun E) (walk after : WalkRun) (c : Call) (h : History) (turn : Turn Found) (step : Step) → Begins e m c h → IsTry c h → IsUntouched c h m.share → walk.goal ≡ e.goal m.edit → walk.at ≡ WalkStart → walk.trail.node.0 ≡ 0 → after.goal ≡ walk.goal → turn ≡ Ask step → (WalkIsReady walk (from c h) h None → MatchTurn turn (WalkWaits after (from c h) h) (WalkAnswers after (from c h) h)) → UpdateWaits e (record m { at = Walk after }) c h step
+  pub begins_walk : {A : Type 0} (m : UpdateRun E A) (walk after : WalkRun) (c : Call) (h : History) (turn : Turn Found) (step : Step) → Begins e m c h → IsTry c h → IsUntouched c h m.share → walk.goal ≡ e.goal m.edit → walk.at ≡ WalkStart → walk.trail.node.0 ≡ 0 → after.goal ≡ walk.goal → turn ≡ Ask step → (WalkIsReady walk (from c h) h None → MatchTurn turn (WalkWaits after (from c h) h) (WalkAnswers after (from c h) h)) → UpdateWaits e (standing m (Walk after)) c h step
   begins_walk m walk after c h turn step b try first is at root same asked w = (
     h,
     try,
@@ -93,7 +94,7 @@ module _ {E : Type 0} (e : EditMeaning E) where
   )
 
   -- its walk asks for a step
-  pub walks_on : (m : UpdateRun E) (walk after : WalkRun) (c : Call) (h : History) (turn : Turn Found) (step : Step) → Walks e m c h walk.goal → after.goal ≡ walk.goal → turn ≡ Ask step → MatchTurn turn (WalkWaits after c h) (WalkAnswers after c h) → TryWaits e (record m { at = Walk after }) c h step
+  pub walks_on : {A : Type 0} (m : UpdateRun E A) (walk after : WalkRun) (c : Call) (h : History) (turn : Turn Found) (step : Step) → Walks e m c h walk.goal → after.goal ≡ walk.goal → turn ≡ Ask step → MatchTurn turn (WalkWaits after c h) (WalkAnswers after c h) → TryWaits e (standing m (Walk after)) c h step
   walks_on m walk after c h turn step x same asked w = (record { small = x.small; rests = x.rests; quiet = x.quiet; same = same ∙ x.same }, rw asked at w)
 
   walk_since : (walk : WalkRun) (c : Call) (h : History) (got : Option ℕ) → WalkIsReady walk c h got → Extends h c.start
@@ -101,15 +102,15 @@ module _ {E : Type 0} (e : EditMeaning E) where
   walk_since walk c h (Some v) x = own_since c h x.own
 
   -- its walk is told something, at a moment of the call
-  pub walk_rests : (m : UpdateRun E) (walk : WalkRun) (c : Call) (h : History) (got : Option ℕ) → Walks e m c h walk.goal → WalkIsReady walk c h got → Begins e m c h
+  pub walk_rests : {A : Type 0} (m : UpdateRun E A) (walk : WalkRun) (c : Call) (h : History) (got : Option ℕ) → Walks e m c h walk.goal → WalkIsReady walk c h got → Begins e m c h
   walk_rests m walk c h got x ready = record { run = (walk_ready_run walk c h got ready).0; small = x.small; since = walk_since walk c h got ready; rests = x.rests }
 
   -- its walk has found a leaf
-  pub walk_found : (m : UpdateRun E) (walk after : WalkRun) (c : Call) (h : History) (turn : Turn Found) (f : Found) → Walks e m c h walk.goal → after.goal ≡ walk.goal → turn ≡ Done f → MatchTurn turn (WalkWaits after c h) (WalkAnswers after c h) → HasFound (e.goal m.edit) c h f
+  pub walk_found : {A : Type 0} (m : UpdateRun E A) (walk after : WalkRun) (c : Call) (h : History) (turn : Turn Found) (f : Found) → Walks e m c h walk.goal → after.goal ≡ walk.goal → turn ≡ Done f → MatchTurn turn (WalkWaits after c h) (WalkAnswers after c h) → HasFound (e.goal m.edit) c h f
   walk_found m walk after c h turn f x same done w = subst (λ goal. HasFound goal c h f) (same ∙ x.same) (rw done at w)
 
   -- its LLX may begin, and asks for the mark of its node
-  pub looks_at : (m : UpdateRun E) (f : Found) (n : NodeNo) (c : Call) (h : History) → IsRun TreeAllows c.layout h → CanLook e m c h f → e.looks m.edit f m.snaps.items ≡ At n → IsOpened c.layout h n.0 → TryWaits e (record m { at = Look f (record { node = n; at = AtMarked }) }) c h (load LoadMarked (marked n.0))
+  pub looks_at : {A : Type 0} (m : UpdateRun E A) (f : Found) (n : NodeNo) (c : Call) (h : History) → IsRun TreeAllows c.layout h → CanLook e m c h f → e.looks m.edit f m.snaps.items ≡ At n → IsOpened c.layout h n.0 → TryWaits e (standing m (Look f (record { node = n; at = AtMarked }))) c h (load LoadMarked (marked n.0))
   looks_at m f n c h run x named opened = (
     h,
     record {
@@ -131,7 +132,7 @@ module _ {E : Type 0} (e : EditMeaning E) where
     } record { stands = refl; asked = refl },
   )
 
-  pub fills_word : (m : UpdateRun E) (f : Found) (nth : Nth) (part : NodeWord) (p : Piece) (n : NodeNo) (v : ℕ) (c : Call) (h : History) → CanFill e m c h f nth part → p ≡ e.pieces m.edit f m.snaps.items m.nodes m.loaded nth → n ≡ nth_node m.nodes nth → v ≡ word_of p part → TryWaits e (record m { at = Fill f nth part }) c h record { kind = FillKind; word = NodeOf n part; access = Store v }
+  pub fills_word : {A : Type 0} (m : UpdateRun E A) (f : Found) (nth : Nth) (part : NodeWord) (p : Piece) (n : NodeNo) (v : ℕ) (c : Call) (h : History) → CanFill e m c h f nth part → p ≡ e.pieces m.edit f m.snaps.items m.nodes m.loaded nth → n ≡ nth_node m.nodes nth → v ≡ word_of p part → TryWaits e (standing m (Fill f nth part)) c h record { kind = FillKind; word = NodeOf n part; access = Store v }
   fills_word m f nth part p n v c h x is_p is_n is_v = (
     record {
       works = record {
@@ -159,7 +160,7 @@ module _ {E : Type 0} (e : EditMeaning E) where
   )
 
   -- its SCX asks for a step
-  pub scx_asks : (m : UpdateRun E) (scx after : ScxRun) (f : Found) (begin : History) (c : Call) (h : History) (turn : Turn ScxAnswer) (step : Step) → Scxs e m c h f scx begin → after.scx ≡ scx.scx → after.update ≡ scx.update → after.call ≡ scx.call → turn ≡ Ask step → MatchTurn turn (ScxWaits TreeAllows after (from c begin) h) (ScxAnswers after (from c begin) h) → TryWaits e (record m { at = Scx f after }) c h step
+  pub scx_asks : {A : Type 0} (m : UpdateRun E A) (scx after : ScxRun) (f : Found) (begin : History) (c : Call) (h : History) (turn : Turn ScxAnswer) (step : Step) → Scxs e m c h f scx begin → after.scx ≡ scx.scx → after.update ≡ scx.update → after.call ≡ scx.call → turn ≡ Ask step → MatchTurn turn (ScxWaits TreeAllows after (from c begin) h) (ScxAnswers after (from c begin) h) → TryWaits e (standing m (Scx f after)) c h step
   scx_asks m scx after f begin c h turn step x is_scx is_update is_call asked w = (
     begin,
     record {
@@ -186,11 +187,11 @@ module _ {E : Type 0} (e : EditMeaning E) where
   )
 
   -- where its SCX is finished, the pass is at rest
-  scx_rests : (m : UpdateRun E) (scx : ScxRun) (f : Found) (c : Call) (b begin h : History) → Scxs e m (from c b) h f scx begin → value h (state scx.scx.0) ≢ 0 → RestsWith c h m.share
+  scx_rests : {A : Type 0} (m : UpdateRun E A) (scx : ScxRun) (f : Found) (c : Call) (b begin h : History) → Scxs e m (from c b) h f scx begin → value h (state scx.scx.0) ≢ 0 → RestsWith c h m.share
   scx_rests m scx f c b begin h x finished = rests_again c h m.share scx x.run.1.lawful x.share x.next_scx x.over (λ z. (let a = x.own_scx.from in omega (arith, z))) finished
 
   -- its SCX is done
-  pub scx_done : IsAtFound e → (m : UpdateRun E) (scx after : ScxRun) (f : Found) (c : Call) (b begin h : History) (turn : Turn ScxAnswer) → IsTry c b → Scxs e m (from c b) h f scx begin → after.scx ≡ scx.scx → after.update ≡ scx.update → after.call ≡ scx.call → turn ≡ Done ScxDone → MatchTurn turn (ScxWaits TreeAllows after (from c begin) h) (ScxAnswers after (from c begin) h) → UpdateAnswers e m c h (done_at f)
+  pub scx_done : IsAtFound e → {A : Type 0} (m : UpdateRun E A) (scx after : ScxRun) (f : Found) (c : Call) (b begin h : History) (turn : Turn ScxAnswer) → IsTry c b → Scxs e m (from c b) h f scx begin → after.scx ≡ scx.scx → after.update ≡ scx.update → after.call ≡ scx.call → turn ≡ Done ScxDone → MatchTurn turn (ScxWaits TreeAllows after (from c begin) h) (ScxAnswers after (from c begin) h) → UpdateAnswers e m c h (done_at f)
   scx_done laws m scx after f c b begin h turn try x is_scx is_update is_call done w = (
     scx_rests m scx f c b begin h x finished,
     record {
@@ -216,7 +217,7 @@ module _ {E : Type 0} (e : EditMeaning E) where
       finished z = let a : value h (state scx.scx.0) ≡ 1 = subst (λ (t : ScxNo). value h (state t.0) ≡ 1) is_scx is_done.committed in omega (arith, a, z)
 
   -- its SCX is lost: it may try again
-  pub scx_lost : (m : UpdateRun E) (scx after : ScxRun) (f : Found) (c : Call) (b begin h : History) (turn : Turn ScxAnswer) (n : NodeNo) (s : ScxNo) → IsTry c b → Scxs e m (from c b) h f scx begin → after.scx ≡ scx.scx → after.update ≡ scx.update → turn ≡ Done (Lost n s) → MatchTurn turn (ScxWaits TreeAllows after (from c begin) h) (ScxAnswers after (from c begin) h) → Begins e m c h × IsTry c h × IsContended c h n.0 s.0
+  pub scx_lost : {A : Type 0} (m : UpdateRun E A) (scx after : ScxRun) (f : Found) (c : Call) (b begin h : History) (turn : Turn ScxAnswer) (n : NodeNo) (s : ScxNo) → IsTry c b → Scxs e m (from c b) h f scx begin → after.scx ≡ scx.scx → after.update ≡ scx.update → turn ≡ Done (Lost n s) → MatchTurn turn (ScxWaits TreeAllows after (from c begin) h) (ScxAnswers after (from c begin) h) → Begins e m c h × IsTry c h × IsContended c h n.0 s.0
   scx_lost m scx after f c b begin h turn n s try x is_scx is_update done w = (
     record { run = x.run; small = x.small; since = since; rests = scx_rests m scx f c b begin h x finished },
     record { since = since; none = none_joined c.layout c.pass h b c.start x.now try.none (none_lost c.layout c.pass scx.scx.0 h b x.run.1.lawful aborted x.only) },
@@ -237,11 +238,11 @@ module _ {E : Type 0} (e : EditMeaning E) where
       finished z = let a = aborted in omega (arith, a, z)
 
   -- while it only looks, it has entered nothing
-  pub nothing_entered : (m : UpdateRun E) (c : Call) (b h : History) → IsTry c b → Begins e m (from c b) h → IsQuietSince c.layout c.pass b h → HasEnteredNone c.layout c.pass h c.start
+  pub nothing_entered : {A : Type 0} (m : UpdateRun E A) (c : Call) (b h : History) → IsTry c b → Begins e m (from c b) h → IsQuietSince c.layout c.pass b h → HasEnteredNone c.layout c.pass h c.start
   nothing_entered m c b h try x quiet = none_joined c.layout c.pass h b c.start x.since try.none (none_quiet c.layout c.pass h b x.run.1.lawful quiet)
 
   -- and may try again, if another was in its way
-  pub look_lost : (m : UpdateRun E) (c : Call) (b h : History) (n s : ℕ) → IsTry c b → Begins e m (from c b) h → IsQuietSince c.layout c.pass b h → IsContended (from c b) h n s → Begins e m c h × IsTry c h × IsContended c h n s
+  pub look_lost : {A : Type 0} (m : UpdateRun E A) (c : Call) (b h : History) (n s : ℕ) → IsTry c b → Begins e m (from c b) h → IsQuietSince c.layout c.pass b h → IsContended (from c b) h n s → Begins e m c h × IsTry c h × IsContended c h n s
   look_lost m c b h n s try x quiet way = (
     record { run = x.run; small = x.small; since = ends_trans h b c.start x.since try.since; rests = record { share = x.rests.share; over = x.rests.over } },
     record { since = ends_trans h b c.start x.since try.since; none = nothing_entered m c b h try x quiet },
@@ -249,7 +250,7 @@ module _ {E : Type 0} (e : EditMeaning E) where
   )
 
   -- at rest in a try it is so in the call
-  pub at_rest : (m : UpdateRun E) (c : Call) (b h : History) → Begins e m (from c b) h → RestsWith c h m.share
+  pub at_rest : {A : Type 0} (m : UpdateRun E A) (c : Call) (b h : History) → Begins e m (from c b) h → RestsWith c h m.share
   at_rest m c b h x = record { share = x.rests.share; over = x.rests.over }
 
 -- a turn that always asks for a step answers nothing

@@ -203,19 +203,19 @@ module _ {E : Type 0} (e : EditMeaning E) where
   CoversLeaf ed f c begin s snaps = (k : History) → IsTreeRun c.layout k → Extends k begin → CoversSnaps k s snaps → edit_leaf k s (e.edit ed f) ≡ f.trail.node.0
 
   -- what each fresh node is to hold
-  abbrev pub piece : UpdateRun E → Found → ℕ → Piece
+  abbrev pub piece : {A : Type 0} → UpdateRun E A → Found → ℕ → Piece
   piece m f n = pieces_by (λ nth. e.pieces m.edit f m.snaps.items m.nodes m.loaded nth) m.nodes n
 
   -- the last fresh node
-  abbrev pub top : UpdateRun E → Found → ℕ
+  abbrev pub top : {A : Type 0} → UpdateRun E A → Found → ℕ
   top m f = top_of (e.needs m.edit f) m.nodes
 
   -- the node of which the edit copies words
-  abbrev pub copied : UpdateRun E → Found → ℕ
+  abbrev pub copied : {A : Type 0} → UpdateRun E A → Found → ℕ
   copied m f = (e.copies m.edit f m.snaps.items).0
 
   -- all is looked at, and the fresh nodes before this one are done with
-  pub record Works (m : UpdateRun E) (c : Call) (h : History) (f : Found) (nth : Nth) : Type 0 where
+  pub record Works {A : Type 0} (m : UpdateRun E A) (c : Call) (h : History) (f : Found) (nth : Nth) : Type 0 where
     pub run : IsTreeRun c.layout h
     pub since : Extends h c.start
     pub quiet : IsQuietSince c.layout c.pass c.start h
@@ -232,18 +232,18 @@ module _ {E : Type 0} (e : EditMeaning E) where
     pub before : (i : Nth) → ComesBefore i nth → e.wants m.edit f m.snaps.items m.loaded i ≡ None
 
   -- those before it are full
-  abbrev pub AreFull : UpdateRun E → Call → History → Found → Nth → Type 0
+  abbrev pub AreFull : {A : Type 0} → UpdateRun E A → Call → History → Found → Nth → Type 0
   AreFull m c h f nth = HasFilledTo c.layout h c.pass m.share m.nodes.first.0 (top m f) (nth_node m.nodes nth).0 (piece m f)
 
   -- this one is one of them
-  pub record IsInHand (m : UpdateRun E) (f : Found) (nth : Nth) : Type 0 where
+  pub record IsInHand {A : Type 0} (m : UpdateRun E A) (f : Found) (nth : Nth) : Type 0 where
     pub lowest : m.nodes.first.0 ≤ (nth_node m.nodes nth).0
     pub highest : (nth_node m.nodes nth).0 ≤ top m f
 
   -- What it waits for
 
   -- a step of an LLX, which has begun at a moment of the call
-  pub record Looks (m : UpdateRun E) (c : Call) (h : History) (f : Found) (llx : LlxRun) (begin : History) : Type 0 where
+  pub record Looks {A : Type 0} (m : UpdateRun E A) (c : Call) (h : History) (f : Found) (llx : LlxRun) (begin : History) : Type 0 where
     pub run : IsTreeRun c.layout h
     pub looked : HasLooked c h m.edit f m.snaps.items
     pub rests : RestsWith c h m.share
@@ -254,7 +254,7 @@ module _ {E : Type 0} (e : EditMeaning E) where
     pub since : Extends begin c.start
 
   -- the load of a word for a fresh node
-  pub record Loads (m : UpdateRun E) (c : Call) (h : History) (f : Found) (nth : Nth) (part : NodeWord) : Type 0 where
+  pub record Loads {A : Type 0} (m : UpdateRun E A) (c : Call) (h : History) (f : Found) (nth : Nth) (part : NodeWord) : Type 0 where
     pub works : Works m c h f nth
     pub full : AreFull m c h f nth
     pub hand : IsInHand m f nth
@@ -262,7 +262,7 @@ module _ {E : Type 0} (e : EditMeaning E) where
     pub settled : IsSettled (node (copied m f) part)
 
   -- the fill of a word of it, with what the piece says
-  pub record Fills (m : UpdateRun E) (c : Call) (h : History) (f : Found) (nth : Nth) (part : NodeWord) : Type 0 where
+  pub record Fills {A : Type 0} (m : UpdateRun E A) (c : Call) (h : History) (f : Found) (nth : Nth) (part : NodeWord) : Type 0 where
     pub works : Works m c h f nth
     pub full : AreFull m c h f nth
     pub hand : IsInHand m f nth
@@ -270,11 +270,11 @@ module _ {E : Type 0} (e : EditMeaning E) where
     pub part_is : IsPieceWord (piece m f (nth_node m.nodes nth).0) part
 
   -- that word is filled, as those before it
-  abbrev pub IsFilledUpTo : UpdateRun E → Call → History → Found → Nth → NodeWord → Type 0
+  abbrev pub IsFilledUpTo : {A : Type 0} → UpdateRun E A → Call → History → Found → Nth → NodeWord → Type 0
   IsFilledUpTo m c h f nth part = Fills m c h f nth part × HoldsWords h (nth_node m.nodes nth).0 (piece m f (nth_node m.nodes nth).0) (IsUpTo part) × IsTakenNode h (nth_node m.nodes nth).0
 
   -- a step of its SCX, which has the fresh nodes and an SCX-record in hand
-  pub record Scxs (m : UpdateRun E) (c : Call) (h : History) (f : Found) (scx : ScxRun) (begin : History) : Type 0 where
+  pub record Scxs {A : Type 0} (m : UpdateRun E A) (c : Call) (h : History) (f : Found) (scx : ScxRun) (begin : History) : Type 0 where
     pub run : IsTreeRun c.layout h
     pub small : path_key (e.goal m.edit) < 2 ^ 64
     pub now : Extends h c.start
@@ -298,18 +298,18 @@ module _ {E : Type 0} (e : EditMeaning E) where
     pub leaf : CoversLeaf m.edit f c begin scx.scx.0 scx.update.snaps
 
   -- the walk goes where the edit's is to go, and the pass is at rest
-  pub record Walks (m : UpdateRun E) (c : Call) (h : History) (goal : Goal) : Type 0 where
+  pub record Walks {A : Type 0} (m : UpdateRun E A) (c : Call) (h : History) (goal : Goal) : Type 0 where
     pub small : path_key (e.goal m.edit) < 2 ^ 64
     pub rests : RestsWith c h m.share
     pub quiet : IsQuietSince c.layout c.pass c.start h
     pub same : goal ≡ e.goal m.edit
 
   -- the word that is filled
-  abbrev pub fill_step : UpdateRun E → Found → Nth → NodeWord → Step
+  abbrev pub fill_step : {A : Type 0} → UpdateRun E A → Found → Nth → NodeWord → Step
   fill_step m f nth part = node_fill (nth_node m.nodes nth).0 part (word_of (piece m f (nth_node m.nodes nth).0) part)
 
   -- what holds while it waits for this step at this place
-  abbrev pub UpdateWaitsAt : UpdateRun E → Call → History → Step → UpdateAt → Type 0
+  abbrev pub UpdateWaitsAt : {A : Type 0} → UpdateRun E A → Call → History → Step → UpdateAt → Type 0
   UpdateWaitsAt m c h s Start = ⊥
   UpdateWaitsAt m c h s (Walk walk) = Walks m c h walk.goal × WalkWaits walk c h s
   UpdateWaitsAt m c h s (Look f llx) = (begin : History) × Looks m c h f llx begin × LlxWaits TreeAllows llx (from c begin) h s
@@ -318,7 +318,7 @@ module _ {E : Type 0} (e : EditMeaning E) where
   UpdateWaitsAt m c h s (Scx f scx) = (begin : History) × Scxs m c h f scx begin × ScxWaits TreeAllows scx (from c begin) h s
 
   -- what holds once the step of this place has told v
-  abbrev pub UpdateIsToldAt : UpdateRun E → Call → History → ℕ → UpdateAt → Type 0
+  abbrev pub UpdateIsToldAt : {A : Type 0} → UpdateRun E A → Call → History → ℕ → UpdateAt → Type 0
   UpdateIsToldAt m c h v Start = ⊥
   UpdateIsToldAt m c h v (Walk walk) = Walks m c h walk.goal × WalkIsReady walk c h (Some v)
   UpdateIsToldAt m c h v (Look f llx) = (begin : History) × Looks m c h f llx begin × LlxIsReady TreeAllows llx (from c begin) h (Some v)
@@ -327,54 +327,54 @@ module _ {E : Type 0} (e : EditMeaning E) where
   UpdateIsToldAt m c h v (Scx f scx) = (begin : History) × Scxs m c h f scx begin × ScxIsReady TreeAllows scx (from c begin) h (Some v)
 
   -- it may begin a try
-  pub record Begins (m : UpdateRun E) (c : Call) (h : History) : Type 0 where
+  pub record Begins {A : Type 0} (m : UpdateRun E A) (c : Call) (h : History) : Type 0 where
     pub run : IsTreeRun c.layout h
     pub small : path_key (e.goal m.edit) < 2 ^ 64
     pub since : Extends h c.start
     pub rests : RestsWith c h m.share
 
   -- while it walks in its first try nothing of its share is taken
-  abbrev pub FirstOrLost : UpdateRun E → Call → History → UpdateAt → Type 0
+  abbrev pub FirstOrLost : {A : Type 0} → UpdateRun E A → Call → History → UpdateAt → Type 0
   FirstOrLost m c begin (Walk walk) = IsUntouched c begin m.share
   FirstOrLost m c begin _ = Unit {0}
 
   -- it may be called with this: with nothing at its start, then with what its step told
-  abbrev pub UpdateIsReady : UpdateRun E → Call → History → Option ℕ → Type 0
+  abbrev pub UpdateIsReady : UpdateRun E UpdateAt → Call → History → Option ℕ → Type 0
   UpdateIsReady m c h None = Begins m c h × IsTry c h × RestsWith c c.start m.share × (m.at ≡ Start)
   UpdateIsReady m c h (Some v) = (begin : History) × IsTry c begin × FirstOrLost m c begin m.at × UpdateIsToldAt m (from c begin) h v m.at
 
   -- in the try that this call is, it waits for this step where it stands
-  abbrev pub TryWaits : UpdateRun E → Call → History → Step → Type 0
+  abbrev pub TryWaits : UpdateRun E UpdateAt → Call → History → Step → Type 0
   TryWaits m c h s = UpdateWaitsAt m c h s m.at
 
   -- it waits for this step in the try that began at some moment
-  abbrev pub UpdateWaits : UpdateRun E → Call → History → Step → Type 0
+  abbrev pub UpdateWaits : UpdateRun E UpdateAt → Call → History → Step → Type 0
   UpdateWaits m c h s = (begin : History) × IsTry c begin × FirstOrLost m c begin m.at × TryWaits m (from c begin) h s
 
   -- What its turns are asked for
 
   -- it may look at the next node, where these snapshots are there
-  pub record CanLook (m : UpdateRun E) (c : Call) (h : History) (f : Found) : Type 0 where
+  pub record CanLook {A : Type 0} (m : UpdateRun E A) (c : Call) (h : History) (f : Found) : Type 0 where
     pub begins : Begins m c h
     pub quiet : IsQuietSince c.layout c.pass c.start h
     pub looked : HasLooked c h m.edit f m.snaps.items
     pub room : HasNodesFor (e.needs m.edit f) m.share
 
   -- it may load for the fresh node of this place
-  pub record CanLoad (m : UpdateRun E) (c : Call) (h : History) (f : Found) (nth : Nth) : Type 0 where
+  pub record CanLoad {A : Type 0} (m : UpdateRun E A) (c : Call) (h : History) (f : Found) (nth : Nth) : Type 0 where
     pub works : Works m c h f nth
     pub full : AreFull m c h f nth
     pub hand : IsInHand m f nth
 
   -- it may fill this word of that node
-  pub record CanFill (m : UpdateRun E) (c : Call) (h : History) (f : Found) (nth : Nth) (part : NodeWord) : Type 0 where
+  pub record CanFill {A : Type 0} (m : UpdateRun E A) (c : Call) (h : History) (f : Found) (nth : Nth) (part : NodeWord) : Type 0 where
     pub fills : Fills m c h f nth part
     pub same : piece m f (nth_node m.nodes nth).0 ≡ e.pieces m.edit f m.snaps.items m.nodes m.loaded nth
     pub may : FieldMay part (IsForField c.layout h m.nodes.first.0 (top m f) (word_of (piece m f (nth_node m.nodes nth).0) part))
     pub words : HoldsWords h (nth_node m.nodes nth).0 (piece m f (nth_node m.nodes nth).0) (IsBefore part)
 
   -- it may begin its SCX: all its fresh nodes are full
-  pub record CanScx (m : UpdateRun E) (c : Call) (h : History) (f : Found) : Type 0 where
+  pub record CanScx {A : Type 0} (m : UpdateRun E A) (c : Call) (h : History) (f : Found) : Type 0 where
     pub run : IsTreeRun c.layout h
     pub since : Extends h c.start
     pub quiet : IsQuietSince c.layout c.pass c.start h
@@ -394,7 +394,7 @@ module _ {E : Type 0} (e : EditMeaning E) where
 
   -- The share has too little left for the edit at the leaf that was found. Nothing of it was taken
   -- since the call began, or a try was lost to another pass; and the pass has entered nothing.
-  pub record IsFullFor (m : UpdateRun E) (c : Call) (h : History) (full : Full) : Type 0 where
+  pub record IsFullFor {A : Type 0} (m : UpdateRun E A) (c : Call) (h : History) (full : Full) : Type 0 where
     pub found : Found
     pub has_found : HasFound (e.goal m.edit) c h found
     pub needed : e.needs m.edit found ≢ Nothing
@@ -421,15 +421,15 @@ module _ {E : Type 0} (e : EditMeaning E) where
     pub is_done : IsDoneAt ed number c h found
 
   -- what its answer says
-  abbrev pub UpdateSays : UpdateRun E → Call → History → Updated → Type 0
+  abbrev pub UpdateSays : {A : Type 0} → UpdateRun E A → Call → History → Updated → Type 0
   UpdateSays m c h (Done key value) = IsDoneWith m.edit m.call c h key value
   UpdateSays m c h (FullAnswer full) = IsFullFor m c h full
   UpdateSays m c h (Contended node scx) = IsContended c h node.0 scx.0 × (m.tries ≡ 0) × HasEnteredNone c.layout c.pass h c.start
 
   -- and behind it the pass is at rest, with what is left of the share
-  abbrev pub UpdateAnswers : UpdateRun E → Call → History → Updated → Type 0
+  abbrev pub UpdateAnswers : {A : Type 0} → UpdateRun E A → Call → History → Updated → Type 0
   UpdateAnswers m c h answer = RestsWith c h m.share × UpdateSays m c h answer
 
   -- it waits for the step that it asks for, or its answer is right
-  abbrev pub UpdateTurn : Call → History → UpdateRun E → Turn Updated → Type 0
+  abbrev pub UpdateTurn : Call → History → UpdateRun E UpdateAt → Turn Updated → Type 0
   UpdateTurn c h m turn = MatchTurn turn (UpdateWaits m c h) (UpdateAnswers m c h)

@@ -25,20 +25,25 @@ use Rattle.template.specs.Blame.{IsContended}
 use Rattle.updates.specs.declared.edit.Nth.{Nth}
 use Rattle.updates.specs.declared.update.Next.{Next}
 use Rattle.updates.specs.declared.update.Next.TheVariants.{Look as LookNext, Wait, Load as LoadNext, Fill as FillNext, Change}
+use Rattle.updates.specs.declared.update.UpdateAt.{UpdateAt}
 use Rattle.updates.specs.declared.update.UpdateAt.TheVariants.{Look, Load, Fill, Scx}
 use Rattle.updates.specs.declared.update.UpdateRun.{UpdateRun}
 use Rattle.updates.specs.declared.update.Stop.{Stop}
 use Rattle.updates.specs.declared.update.Stop.TheVariants.{Nothing, Lost, Full as FullStop}
 use Rattle.updates.specs.declared.update.Updated.TheVariants.{Full as FullAnswer}
 
+-- the update where it stands at this place, or at none
+abbrev pub standing : {E A B : Type 0} → UpdateRun E A → B → UpdateRun E B
+standing m at = record { edit = m.edit; share = m.share; snaps = m.snaps; nodes = m.nodes; loaded = m.loaded; tries = m.tries; call = m.call; at = at }
+
 -- it makes the same edit, in the same call
-abbrev pub IsSameUpdate : {E : Type 0} → UpdateRun E → UpdateRun E → Type 0
+abbrev pub IsSameUpdate : {E A B : Type 0} → UpdateRun E A → UpdateRun E B → Type 0
 IsSameUpdate old now = (now.edit ≡ old.edit) × (now.call ≡ old.call)
 
 module _ {E : Type 0} (e : EditMeaning E) where
   -- The SCX covers all that was looked at and finalizes all but the first, of which a field gets the
   -- last fresh node.
-  abbrev pub update_of : UpdateRun E → Found → Update
+  abbrev pub update_of : {A : Type 0} → UpdateRun E A → Found → Update
   update_of m f = record {
     snaps = m.snaps.items;
     plan = record { 0 = plan_over (length m.snaps.items) (e.side m.edit f) };
@@ -47,19 +52,19 @@ module _ {E : Type 0} (e : EditMeaning E) where
   }
 
   -- the fill of a word of the fresh node of this place
-  abbrev pub fills : UpdateRun E → Found → Nth → NodeWord → Step
+  abbrev pub fills : {A : Type 0} → UpdateRun E A → Found → Nth → NodeWord → Step
   fills m f nth part = record { kind = FillKind; word = NodeOf (nth_node m.nodes nth) part; access = Store (word_of (e.pieces m.edit f m.snaps.items m.nodes m.loaded nth) part) }
 
   -- the update where it stands once this has begun
-  abbrev pub placed : UpdateRun E → Found → Next → UpdateRun E
-  placed m f (LookNext n) = record m { at = Look f record { node = n; at = Marked } }
-  placed m f (Wait n b scx) = record m { at = Look f record { node = n; at = StateAgain b scx } }
-  placed m f (LoadNext nth part) = record m { at = Load f nth part }
-  placed m f (FillNext nth) = record m { at = Fill f nth Head }
-  placed m f (Change scx) = record m { at = Scx f record { scx = scx; call = m.call; update = update_of m f; at = AtPlan } }
+  abbrev pub placed : {A : Type 0} → UpdateRun E A → Found → Next → UpdateRun E UpdateAt
+  placed m f (LookNext n) = standing m (Look f record { node = n; at = Marked })
+  placed m f (Wait n b scx) = standing m (Look f record { node = n; at = StateAgain b scx })
+  placed m f (LoadNext nth part) = standing m (Load f nth part)
+  placed m f (FillNext nth) = standing m (Fill f nth Head)
+  placed m f (Change scx) = standing m (Scx f record { scx = scx; call = m.call; update = update_of m f; at = AtPlan })
 
   -- the step with which it begins
-  abbrev pub next_step : UpdateRun E → Found → Next → Step
+  abbrev pub next_step : {A : Type 0} → UpdateRun E A → Found → Next → Step
   next_step m f (LookNext n) = record { kind = LoadMarked; word = NodeOf n MarkedWord; access = LoadAccess }
   next_step m f (Wait n b scx) = record { kind = LoadState; word = ScxOf scx StateWord; access = LoadAccess }
   next_step m f (LoadNext nth part) = record { kind = LoadSettled; word = NodeOf (e.copies m.edit f m.snaps.items) part; access = LoadAccess }
@@ -67,27 +72,27 @@ module _ {E : Type 0} (e : EditMeaning E) where
   next_step m f (Change scx) = record { kind = FillKind; word = ScxOf scx PlanWord; access = Store (plan_over (length m.snaps.items) (e.side m.edit f)) }
 
   -- a try may end so: with what its update answers, or lost to another pass
-  abbrev pub MayStop : Call → History → UpdateRun E → Found → Stop → Type 0
+  abbrev pub MayStop : {A : Type 0} → Call → History → UpdateRun E A → Found → Stop → Type 0
   MayStop c h m f Nothing = UpdateAnswers e m c h (done_at f)
   MayStop c h m f (Lost node scx) = Begins e m c h × IsTry c h × IsContended c h node.0 scx.0
   MayStop c h m f (FullStop full) = UpdateAnswers e m c h (FullAnswer full)
 
   -- once it has begun what it does next, it waits for that step; or it may end so
-  abbrev pub GoesOn : Call → History → UpdateRun E → Found → Result Next Stop → Type 0
+  abbrev pub GoesOn : {A : Type 0} → Call → History → UpdateRun E A → Found → Result Next Stop → Type 0
   GoesOn c h m f (Ok next) = UpdateWaits e (placed m f next) c h (next_step m f next)
   GoesOn c h m f (Err stop) = MayStop c h m f stop
 
   -- fewer than n steps are left then; where it ends, at most as many in the tries behind it
-  abbrev pub ComesNearer : UpdateRun E → Found → Result Next Stop → ℕ → ℕ → Type 0
+  abbrev pub ComesNearer : {A : Type 0} → UpdateRun E A → Found → Result Next Stop → ℕ → ℕ → Type 0
   ComesNearer m f (Ok next) nodes n = update_left e (placed m f next) nodes < n
   ComesNearer m f (Err stop) nodes n = m.tries * try_left e nodes ≤ n
 
   -- so much is taken of the share, where so many tries might take of it
-  abbrev pub HasSpent : Remaining → UpdateRun E → Found → Result Next Stop → ℕ → ℕ → Type 0
+  abbrev pub HasSpent : {A : Type 0} → Remaining → UpdateRun E A → Found → Result Next Stop → ℕ → ℕ → Type 0
   HasSpent old m f (Ok next) nodes scx = IsSpending e (Ask (next_step m f next)) old (placed m f next) nodes scx
   HasSpent old m f (Err stop) nodes scx = Spends e.most_nodes old m.share nodes m.tries scx m.tries
 
   -- so many steps are left then
-  abbrev pub left_then : UpdateRun E → Found → Result Next Stop → ℕ → ℕ
+  abbrev pub left_then : {A : Type 0} → UpdateRun E A → Found → Result Next Stop → ℕ → ℕ
   left_then m f (Ok next) nodes = suc (update_left e (placed m f next) nodes)
   left_then m f (Err stop) nodes = m.tries * try_left e nodes

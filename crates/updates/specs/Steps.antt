@@ -34,15 +34,15 @@ abbrev pub try_left : {E : Type 0} → EditMeaning E → ℕ → ℕ
 try_left e nodes = 3 * (2 + nodes) + (64 * e.most_looks + works_behind e First + 39)
 
 -- how many loads and fills are left, where no word of the fresh node of this place is filled
-abbrev pub works_left : {E : Type 0} → EditMeaning E → UpdateRun E → Found → Nth → ℕ
+abbrev pub works_left : {E A : Type 0} → EditMeaning E → UpdateRun E A → Found → Nth → ℕ
 works_left e m f nth = e.works m.edit f m.snaps.items m.loaded nth + works_after e nth
 
 -- how many are left behind the fill of this word
-abbrev pub fills_left : {E : Type 0} → EditMeaning E → UpdateRun E → Found → Nth → NodeWord → ℕ
+abbrev pub fills_left : {E A : Type 0} → EditMeaning E → UpdateRun E A → Found → Nth → NodeWord → ℕ
 fills_left e m f nth part = fills_behind (e.pieces m.edit f m.snaps.items m.nodes m.loaded nth) part + works_after e nth
 
 -- how many steps are left in this try, at this place
-abbrev pub phase_left : {E : Type 0} → EditMeaning E → UpdateRun E → ℕ → UpdateAt → ℕ
+abbrev pub phase_left : {E A : Type 0} → EditMeaning E → UpdateRun E A → ℕ → UpdateAt → ℕ
 phase_left e m nodes Start = try_left e nodes
 phase_left e m nodes (Walk walk) = walk_left walk.at nodes + (64 * e.most_looks + works_behind e First + 39)
 phase_left e m nodes (Look f llx) = llx_left llx.at + 64 * (e.most_looks - 1 - length m.snaps.items) + works_behind e First + 39
@@ -51,38 +51,38 @@ phase_left e m nodes (Fill f nth part) = fills_left e m f nth part + 39
 phase_left e m nodes (Scx f scx) = scx_left scx.at
 
 -- how many steps are left, where no more nodes than these are taken
-abbrev pub update_left : {E : Type 0} → EditMeaning E → UpdateRun E → ℕ → ℕ
+abbrev pub update_left : {E : Type 0} → EditMeaning E → UpdateRun E UpdateAt → ℕ → ℕ
 update_left e m nodes = m.tries * try_left e nodes + phase_left e m nodes m.at
 
 -- where the run asks for a step, fewer than n are left then
-abbrev pub IsNearer : {E : Type 0} → EditMeaning E → UpdateRun E → ℕ → Turn Updated → ℕ → Type 0
+abbrev pub IsNearer : {E : Type 0} → EditMeaning E → UpdateRun E UpdateAt → ℕ → Turn Updated → ℕ → Type 0
 IsNearer e m nodes turn n = MatchTurn turn (λ _. update_left e m nodes < n) (λ _. Unit {0})
 
 -- the edit has a fresh node at this place, and wants this word next for it
-abbrev pub IsWanted : {E : Type 0} → EditMeaning E → UpdateRun E → Found → Nth → NodeWord → Type 0
+abbrev pub IsWanted : {E A : Type 0} → EditMeaning E → UpdateRun E A → Found → Nth → NodeWord → Type 0
 IsWanted e m f nth part = (e.wants m.edit f m.snaps.items m.loaded nth ≡ Some part) × HasPlace (e.needs m.edit f) nth
 
 -- what the run is told at this place fits so many taken nodes
-abbrev pub UpdateFitsAt : {E : Type 0} → EditMeaning E → UpdateRun E → Option ℕ → ℕ → UpdateAt → Type 0
+abbrev pub UpdateFitsAt : {E A : Type 0} → EditMeaning E → UpdateRun E A → Option ℕ → ℕ → UpdateAt → Type 0
 UpdateFitsAt e m got nodes (Walk walk) = WalkFits walk got nodes
 UpdateFitsAt e m got nodes (Load f nth part) = IsWanted e m f nth part
 UpdateFitsAt e m got nodes _ = Unit {0}
 
 -- what the run is told where it stands fits so many taken nodes
-abbrev pub UpdateFits : {E : Type 0} → EditMeaning E → UpdateRun E → Option ℕ → ℕ → Type 0
+abbrev pub UpdateFits : {E : Type 0} → EditMeaning E → UpdateRun E UpdateAt → Option ℕ → ℕ → Type 0
 UpdateFits e m got nodes = UpdateFitsAt e m got nodes m.at
 
 -- What it takes of its share
 
 -- how many tries, this one and those behind it, may still take nodes
-abbrev pub node_tries : {E : Type 0} → UpdateRun E → UpdateAt → ℕ
+abbrev pub node_tries : {E A : Type 0} → UpdateRun E A → UpdateAt → ℕ
 node_tries m (Load f nth part) = m.tries
 node_tries m (Fill f nth part) = m.tries
 node_tries m (Scx f scx) = m.tries
 node_tries m _ = m.tries + 1
 
 -- and how many an SCX-record
-abbrev pub scx_tries : {E : Type 0} → UpdateRun E → UpdateAt → ℕ
+abbrev pub scx_tries : {E A : Type 0} → UpdateRun E A → UpdateAt → ℕ
 scx_tries m (Scx f scx) = m.tries
 scx_tries m _ = m.tries + 1
 
@@ -92,5 +92,5 @@ abbrev pub Spends : ℕ → Remaining → Remaining → ℕ → ℕ → ℕ → 
 Spends most old now nodes nodes_then scx scx_then = (old.nodes + most * nodes_then ≤ now.nodes + most * nodes) × (old.scx + scx_then ≤ now.scx + scx)
 
 -- so much is taken of the share, where so many tries might take of it
-abbrev pub IsSpending : {E : Type 0} → EditMeaning E → Turn Updated → Remaining → UpdateRun E → ℕ → ℕ → Type 0
+abbrev pub IsSpending : {E : Type 0} → EditMeaning E → Turn Updated → Remaining → UpdateRun E UpdateAt → ℕ → ℕ → Type 0
 IsSpending e turn old m nodes scx = MatchTurn turn (λ _. Spends e.most_nodes old m.share nodes (node_tries m m.at) scx (scx_tries m m.at)) (λ _. Spends e.most_nodes old m.share nodes 0 scx 0)

@@ -16,7 +16,8 @@ use template::{Found, Trail, Tree, WalkRun};
 /// What an update answers.
 #[derive(Clone, Copy, Debug, PartialEq, Eq)]
 pub enum Updated {
-    /// It is made, or there was nothing to make, at a leaf of this key, which had this value.
+    /// It is made, or there was nothing to make, at a leaf of this key; `value` is what the key of
+    /// the edit had, none where the leaf has another.
     Done { key: u64, value: Option<u64> },
     /// All tries were lost, the last to this SCX-record over this node.
     Contended { node: NodeNo, scx: ScxNo },
@@ -109,9 +110,10 @@ pub enum UpdateAt {
 
 /// An update of the tree, step by step: a walk, LLXs of the nodes that the edit names, loads and fills
 /// of fresh nodes, an SCX; and again where such a try is lost, as long as tries are left. From Brown,
-/// Ellen and Ruppert (PPoPP 2014).
+/// Ellen and Ruppert (PPoPP 2014). The machine stands at an `UpdateAt`; whoever makes its steps in
+/// line keeps no place, `()`, which spares the writing of one.
 #[derive(Debug, Drop)]
-pub struct UpdateRun<E> {
+pub struct UpdateRun<E, A> {
     /// What is to be done.
     pub edit: E,
     /// The nodes and SCX-records that it may take.
@@ -127,7 +129,7 @@ pub struct UpdateRun<E> {
     /// The number of the call, as its maker counts.
     pub call: u64,
     /// Where the run stands.
-    pub at: UpdateAt,
+    pub at: A,
 }
 
 /// The same leaf, made anew from its parts. Copied as a whole it would take the bytes between them
@@ -157,18 +159,31 @@ pub fn anew(found: &Found) -> Found
     }
 }
 
-impl<E: Edit + Drop> UpdateRun<E> {
+impl<E: Edit + Drop, A: Drop> UpdateRun<E, A> {
     ghost use Rattle.std.specs.Prelude.{◌≡◌, ℕ, ◌≤◌, ◌*◌, ◌+◌, ◌-◌, length};
-    ghost use Rattle.updates.specs.declared.edit.Nth.TheVariants.{First, Second, Third};
-    ghost use Rattle.template.specs.Walk.Steps.{WalkFits, walk_left};
-    ghost use Rattle.prims.specs.Llx.Steps.{llx_left};
-    ghost use Rattle.prims.specs.Scx.Steps.{scx_left};
-    ghost use Rattle.updates.specs.Pieces.{with_word, fills_behind};
+    ghost use Rattle.updates.specs.declared.edit.Nth.TheVariants.{First};
+    ghost use Rattle.std.specs.Prelude.{◌≢◌, IfNone, IfSome, None, Ok};
+    ghost use Rattle.template.specs.FoundLeaf.{HasFound};
+    ghost use Rattle.updates.specs.Known.{HasNodesFor, IsShort, IsFilledUpTo, CanScx};
+    ghost use Rattle.updates.specs.Pieces.{HasPlace, part_behind};
+    ghost use Rattle.updates.specs.Steps.{IsWanted};
+    ghost use Rattle.updates.specs.Pieces.{less_a_node};
+    ghost use Rattle.arena.specs.History.{History, value};
+    ghost use Rattle.arena.specs.Machines.{Call, IsRun};
+    ghost use Rattle.prims.specs.Llx.Known.{IsSnapshot};
+    ghost use Rattle.spelling.specs.TreeShape.{TreeAllows};
+    ghost use Rattle.updates.specs.Known.{Begins, IsUntouched, CanLook, nothing_loaded, CanLoad, Loads, copied};
+    ghost use Rattle.arena.specs.Words.{node};
+    ghost use Rattle.updates.specs.Laws.HandScx.{from};
+    ghost use Rattle.updates.specs.Steps.{works_after};
+    ghost use Rattle.updates.specs.Next.{IsSameUpdate, standing, update_of, GoesOn, ComesNearer, HasSpent};
+    ghost use Rattle.updates.specs.Tries.{IsTry};
+    ghost use Rattle.prims.specs.Laws.Idle.{IsQuietSince};
 
-    /// A run that has not begun, in the caller's call of this number.
+    /// A run at this place, or at none, which has taken nothing, in the caller's call of this number.
     #[inline(always)]
-    pub fn new(edit: E, share: Share, tries: u32, call: u64) -> UpdateRun<E>
-        ensures start { result.at ≡ UpdateAt.Start }
+    pub fn new(edit: E, share: Share, tries: u32, call: u64, at: A) -> UpdateRun<E, A>
+        ensures place { result.at ≡ at }
         ensures share { result.share ≡ share }
         ensures edit { result.edit ≡ edit }
         ensures call { result.call ≡ call }
@@ -182,7 +197,23 @@ impl<E: Edit + Drop> UpdateRun<E> {
             loaded: Loaded::default(),
             tries: tries.saturating_sub(1),
             call,
-            at: UpdateAt::Start,
+            at,
+        }
+    }
+
+    /// The same update, at this place or at none.
+    pub fn stand<B>(self, at: B) -> UpdateRun<E, B>
+        ensures { result ≡ standing self at }
+    {
+        UpdateRun {
+            edit: self.edit,
+            share: self.share,
+            snaps: self.snaps,
+            nodes: self.nodes,
+            loaded: self.loaded,
+            tries: self.tries,
+            call: self.call,
+            at,
         }
     }
 
@@ -192,65 +223,6 @@ impl<E: Edit + Drop> UpdateRun<E> {
         ensures { result ≡ self.share }
     {
         self.share
-    }
-
-    /// Begins a try.
-    fn begin_walk(&mut self) -> Turn<Updated>
-        ensures turn { (c : Call) (h : History) → IsRun TreeAllows c.layout h → Begins E.means self.old c h → IsTry c h → IsUntouched c h self.old.share → UpdateTurn E.means c h self.new result }
-        ensures begins { (c : Call) (h : History) → Begins E.means self.old c h → MatchTurn result (λ _. Unit {0}) (λ _. ⊥) }
-        ensures same { IsSameUpdate self.old self.new }
-        ensures nearer { (nodes : ℕ) → IsNearer E.means self.new nodes result (self.old.tries * try_left E.means nodes + try_left E.means nodes) }
-        ensures spends { IsSpending E.means result self.old.share self.new (self.old.tries + 1) (self.old.tries + 1) }
-        ensures tries { self.new.tries ≡ self.old.tries }
-    {
-        let mut walk = WalkRun::new(self.edit.goal());
-        match Machine::<Tree>::next(&mut walk, None) {
-            Turn::Ask(step) => {
-                self.at = UpdateAt::Walk { walk };
-                Turn::Ask(step)
-            }
-            Turn::Done(_) => Turn::Done(Updated::Contended {
-                node: NodeNo(0),
-                scx: ScxNo(0),
-            }),
-        }
-    }
-
-    /// Ends a try that is lost to this SCX-record over this node, and begins the next if there is one.
-    #[cold]
-    fn lost(&mut self, node: NodeNo, scx: ScxNo) -> Turn<Updated>
-        ensures turn { (c : Call) (h : History) → IsRun TreeAllows c.layout h → Begins E.means self.old c h → IsTry c h → IsContended c h node.0 scx.0 → UpdateTurn E.means c h self.new result }
-        ensures same { IsSameUpdate self.old self.new }
-        ensures gives_up { (c : Call) (h : History) → Begins E.means self.old c h → MatchTurn result (λ _. Unit {0}) (λ _. self.old.tries ≡ 0) }
-        ensures nearer { (nodes : ℕ) → IsNearer E.means self.new nodes result (self.old.tries * try_left E.means nodes) }
-        ensures spends { IsSpending E.means result self.old.share self.new self.old.tries self.old.tries }
-        ensures tries { (self.old.tries ≤ self.new.tries + 1) × (self.new.tries ≤ self.old.tries) }
-    {
-        if self.tries == 0 {
-            return Turn::Done(Updated::Contended { node, scx });
-        }
-        self.tries -= 1;
-        self.begin_walk()
-    }
-
-    /// Goes on with what the last step of the walk found.
-    fn walk_on(&mut self, mut walk: WalkRun, got: Option<u64>) -> Turn<Updated>
-        ensures turn { (c : Call) (b h : History) → IsRun TreeAllows c.layout h → IsTry c b → IsUntouched c b self.old.share → Walks E.means self.old (from c b) h walk.goal → WalkIsReady walk (from c b) h got → UpdateTurn E.means c h self.new result }
-        ensures same { IsSameUpdate self.old self.new }
-        ensures nearer { (nodes : ℕ) → WalkFits walk got nodes → IsNearer E.means self.new nodes result (self.old.tries * try_left E.means nodes + (walk_left walk.at nodes + (64 * E.means.most_looks + works_behind E.means First + 39))) }
-        ensures spends { IsSpending E.means result self.old.share self.new (self.old.tries + 1) (self.old.tries + 1) }
-        ensures tries { (self.old.tries ≤ self.new.tries + 1) × (self.new.tries ≤ self.old.tries) }
-    {
-        match Machine::<Tree>::next(&mut walk, got) {
-            Turn::Ask(step) => {
-                self.at = UpdateAt::Walk { walk };
-                Turn::Ask(step)
-            }
-            Turn::Done(found) => {
-                let next = self.test_share(&found);
-                self.go_on(found, next)
-            }
-        }
     }
 
     /// What the share lacks of so many fresh nodes and an SCX-record.
@@ -304,28 +276,6 @@ impl<E: Edit + Drop> UpdateRun<E> {
             Look::At(node) => Ok(Next::Look(node)),
             Look::Differs { node, scx } => Err(Stop::Lost { node, scx }),
             Look::Enough => Ok(self.begin_work(found)),
-        }
-    }
-
-    /// Goes on with what the last step of an LLX found.
-    fn look_on(&mut self, found: Found, mut llx: LlxRun, got: Option<u64>) -> Turn<Updated>
-        ensures turn { (c : Call) (b begin h : History) → IsRun TreeAllows c.layout h → IsTry c b → Looks E.means self.old (from c b) h found llx begin → LlxIsReady TreeAllows llx (from (from c b) begin) h got → UpdateTurn E.means c h self.new result }
-        ensures same { IsSameUpdate self.old self.new }
-        ensures nearer { (nodes : ℕ) → IsNearer E.means self.new nodes result (self.old.tries * try_left E.means nodes + (llx_left llx.at + 64 * (E.means.most_looks - 1 - length self.old.snaps.items) + works_behind E.means First + 39)) }
-        ensures spends { IsSpending E.means result self.old.share self.new (self.old.tries + 1) (self.old.tries + 1) }
-        ensures tries { (self.old.tries ≤ self.new.tries + 1) × (self.new.tries ≤ self.old.tries) }
-    {
-        match Machine::<Tree>::next(&mut llx, got) {
-            Turn::Ask(step) => {
-                self.at = UpdateAt::Look { found, llx };
-                Turn::Ask(step)
-            }
-            Turn::Done(Llx::Snapshot(snap)) => {
-                let next = self.looked(&found, snap);
-                self.go_on(found, next)
-            }
-            Turn::Done(Llx::Finalized { node, scx }) => self.lost(node, scx),
-            Turn::Done(Llx::Fail { node, scx }) => self.lost(node, scx),
         }
     }
 
@@ -444,43 +394,6 @@ impl<E: Edit + Drop> UpdateRun<E> {
         self.load(found, nth)
     }
 
-    /// Fills a word of the fresh node of this place.
-    #[inline(always)]
-    fn fill(&mut self, found: Found, nth: Nth, part: NodeWord) -> Turn<Updated>
-        ensures place { self.new ≡ record self.old { at = UpdateAt.Fill found nth part } }
-        ensures asks { result ≡ Turn.Ask (fills E.means self.old found nth part) }
-    {
-        let snaps = self.snaps.as_slice();
-        let piece = self
-            .edit
-            .piece(&found, snaps, &self.nodes, &self.loaded, nth);
-        self.at = UpdateAt::Fill { found, nth, part };
-        Turn::Ask(Step {
-            kind: Kind::Fill,
-            word: Word::Node(self.nodes.at(nth), part),
-            access: Access::Store(piece.word(part)),
-        })
-    }
-
-    /// Goes on behind that fill: with the next word, or with what is done behind the last.
-    fn fill_on(&mut self, found: Found, nth: Nth, part: NodeWord) -> Turn<Updated>
-        ensures turn { (c : Call) (b h : History) → IsRun TreeAllows c.layout h → IsTry c b → IsFilledUpTo E.means self.old (from c b) h found nth part → UpdateTurn E.means c h self.new result }
-        ensures same { IsSameUpdate self.old self.new }
-        ensures nearer { (nodes : ℕ) → IsNearer E.means self.new nodes result (self.old.tries * try_left E.means nodes + (fills_left E.means self.old found nth part + 39)) }
-        ensures spends { IsSpending E.means result self.old.share self.new self.old.tries (self.old.tries + 1) }
-        ensures tries { (self.old.tries ≤ self.new.tries + 1) × (self.new.tries ≤ self.old.tries) }
-    {
-        let snaps = self.snaps.as_slice();
-        let piece = self
-            .edit
-            .piece(&found, snaps, &self.nodes, &self.loaded, nth);
-        if let Some(next) = piece.behind(part) {
-            return self.fill(found, nth, next);
-        }
-        let next = self.filled(&found, nth);
-        self.go_on(found, next)
-    }
-
     /// What is done once the fresh node of this place is filled: with the next node, or the SCX.
     #[inline(always)]
     pub fn filled(&mut self, found: &Found, nth: Nth) -> Result<Next, Stop>
@@ -543,8 +456,7 @@ impl<E: Edit + Drop> UpdateRun<E> {
     }
 
     /// What its SCX is to do.
-    #[inline(always)]
-    pub fn update(&self, found: &Found) -> Update
+    fn update(&self, found: &Found) -> Update
         ensures { result ≡ update_of E.means self.now found.now }
     {
         Update {
@@ -553,6 +465,161 @@ impl<E: Edit + Drop> UpdateRun<E> {
             old: self.old(found),
             fresh: self.fresh(found),
         }
+    }
+
+    /// Its SCX with this SCX-record, at this place.
+    fn scx_run(&self, found: &Found, scx: ScxNo, at: ScxAt) -> ScxRun
+        ensures { result ≡ record { scx = scx; call = self.now.call; update = update_of E.means self.now found.now; at = at } }
+    {
+        ScxRun {
+            scx,
+            call: self.call,
+            update: self.update(found),
+            at,
+        }
+    }
+}
+
+impl<E: Edit + Drop> UpdateRun<E, UpdateAt> {
+    ghost use Rattle.std.specs.Prelude.{◌≡◌, ℕ, ◌≤◌, ◌*◌, ◌+◌, ◌-◌, length};
+    ghost use Rattle.updates.specs.declared.edit.Nth.TheVariants.{First};
+    ghost use Rattle.template.specs.Walk.Steps.{WalkFits, walk_left};
+    ghost use Rattle.prims.specs.Llx.Steps.{llx_left};
+    ghost use Rattle.prims.specs.Scx.Steps.{scx_left};
+    ghost use Rattle.std.specs.Prelude.{None, Ok};
+    ghost use Rattle.template.specs.Walk.Known.{WalkIsReady};
+    ghost use Rattle.updates.specs.Known.{Walks, IsFilledUpTo, UpdateIsReady};
+    ghost use Rattle.updates.specs.Steps.{UpdateFits, fills_left};
+    ghost use Rattle.arena.specs.History.{History};
+    ghost use Rattle.arena.specs.Machines.{Call, IsRun};
+    ghost use Rattle.prims.specs.Llx.Known.{LlxIsReady};
+    ghost use Rattle.prims.specs.Scx.Known.{ScxIsReady};
+    ghost use Rattle.spelling.specs.TreeShape.{TreeAllows};
+    ghost use Rattle.updates.specs.Known.{Begins, IsUntouched, Looks, Scxs, UpdateTurn, copied};
+    ghost use Rattle.arena.specs.Words.{node};
+    ghost use Rattle.updates.specs.Laws.HandScx.{from};
+    ghost use Rattle.updates.specs.Steps.{IsSpending, node_tries, scx_tries};
+    ghost use Rattle.updates.specs.Next.{IsSameUpdate, placed, next_step, fills, update_of, MayStop, GoesOn, ComesNearer, HasSpent};
+    ghost use Rattle.arena.specs.Share.{Remaining};
+    ghost use Rattle.template.specs.Blame.{IsContended};
+    ghost use Rattle.updates.specs.Tries.{IsTry};
+
+    /// Begins a try.
+    fn begin_walk(&mut self) -> Turn<Updated>
+        ensures turn { (c : Call) (h : History) → IsRun TreeAllows c.layout h → Begins E.means self.old c h → IsTry c h → IsUntouched c h self.old.share → UpdateTurn E.means c h self.new result }
+        ensures begins { (c : Call) (h : History) → Begins E.means self.old c h → MatchTurn result (λ _. Unit {0}) (λ _. ⊥) }
+        ensures same { IsSameUpdate self.old self.new }
+        ensures nearer { (nodes : ℕ) → IsNearer E.means self.new nodes result (self.old.tries * try_left E.means nodes + try_left E.means nodes) }
+        ensures spends { IsSpending E.means result self.old.share self.new (self.old.tries + 1) (self.old.tries + 1) }
+        ensures tries { self.new.tries ≡ self.old.tries }
+    {
+        let mut walk = WalkRun::new(self.edit.goal());
+        match Machine::<Tree>::next(&mut walk, None) {
+            Turn::Ask(step) => {
+                self.at = UpdateAt::Walk { walk };
+                Turn::Ask(step)
+            }
+            Turn::Done(_) => Turn::Done(Updated::Contended {
+                node: NodeNo(0),
+                scx: ScxNo(0),
+            }),
+        }
+    }
+
+    /// Ends a try that is lost to this SCX-record over this node, and begins the next if there is one.
+    #[cold]
+    fn lost(&mut self, node: NodeNo, scx: ScxNo) -> Turn<Updated>
+        ensures turn { (c : Call) (h : History) → IsRun TreeAllows c.layout h → Begins E.means self.old c h → IsTry c h → IsContended c h node.0 scx.0 → UpdateTurn E.means c h self.new result }
+        ensures same { IsSameUpdate self.old self.new }
+        ensures gives_up { (c : Call) (h : History) → Begins E.means self.old c h → MatchTurn result (λ _. Unit {0}) (λ _. self.old.tries ≡ 0) }
+        ensures nearer { (nodes : ℕ) → IsNearer E.means self.new nodes result (self.old.tries * try_left E.means nodes) }
+        ensures spends { IsSpending E.means result self.old.share self.new self.old.tries self.old.tries }
+        ensures tries { (self.old.tries ≤ self.new.tries + 1) × (self.new.tries ≤ self.old.tries) }
+    {
+        if self.tries == 0 {
+            return Turn::Done(Updated::Contended { node, scx });
+        }
+        self.tries -= 1;
+        self.begin_walk()
+    }
+
+    /// Goes on with what the last step of the walk found.
+    fn walk_on(&mut self, mut walk: WalkRun, got: Option<u64>) -> Turn<Updated>
+        ensures turn { (c : Call) (b h : History) → IsRun TreeAllows c.layout h → IsTry c b → IsUntouched c b self.old.share → Walks E.means self.old (from c b) h walk.goal → WalkIsReady walk (from c b) h got → UpdateTurn E.means c h self.new result }
+        ensures same { IsSameUpdate self.old self.new }
+        ensures nearer { (nodes : ℕ) → WalkFits walk got nodes → IsNearer E.means self.new nodes result (self.old.tries * try_left E.means nodes + (walk_left walk.at nodes + (64 * E.means.most_looks + works_behind E.means First + 39))) }
+        ensures spends { IsSpending E.means result self.old.share self.new (self.old.tries + 1) (self.old.tries + 1) }
+        ensures tries { (self.old.tries ≤ self.new.tries + 1) × (self.new.tries ≤ self.old.tries) }
+    {
+        match Machine::<Tree>::next(&mut walk, got) {
+            Turn::Ask(step) => {
+                self.at = UpdateAt::Walk { walk };
+                Turn::Ask(step)
+            }
+            Turn::Done(found) => {
+                let next = self.test_share(&found);
+                self.go_on(found, next)
+            }
+        }
+    }
+
+    /// Goes on with what the last step of an LLX found.
+    fn look_on(&mut self, found: Found, mut llx: LlxRun, got: Option<u64>) -> Turn<Updated>
+        ensures turn { (c : Call) (b begin h : History) → IsRun TreeAllows c.layout h → IsTry c b → Looks E.means self.old (from c b) h found llx begin → LlxIsReady TreeAllows llx (from (from c b) begin) h got → UpdateTurn E.means c h self.new result }
+        ensures same { IsSameUpdate self.old self.new }
+        ensures nearer { (nodes : ℕ) → IsNearer E.means self.new nodes result (self.old.tries * try_left E.means nodes + (llx_left llx.at + 64 * (E.means.most_looks - 1 - length self.old.snaps.items) + works_behind E.means First + 39)) }
+        ensures spends { IsSpending E.means result self.old.share self.new (self.old.tries + 1) (self.old.tries + 1) }
+        ensures tries { (self.old.tries ≤ self.new.tries + 1) × (self.new.tries ≤ self.old.tries) }
+    {
+        match Machine::<Tree>::next(&mut llx, got) {
+            Turn::Ask(step) => {
+                self.at = UpdateAt::Look { found, llx };
+                Turn::Ask(step)
+            }
+            Turn::Done(Llx::Snapshot(snap)) => {
+                let next = self.looked(&found, snap);
+                self.go_on(found, next)
+            }
+            Turn::Done(Llx::Finalized { node, scx }) => self.lost(node, scx),
+            Turn::Done(Llx::Fail { node, scx }) => self.lost(node, scx),
+        }
+    }
+
+    /// Fills a word of the fresh node of this place.
+    #[inline(always)]
+    fn fill(&mut self, found: Found, nth: Nth, part: NodeWord) -> Turn<Updated>
+        ensures place { self.new ≡ record self.old { at = UpdateAt.Fill found nth part } }
+        ensures asks { result ≡ Turn.Ask (fills E.means self.old found nth part) }
+    {
+        let snaps = self.snaps.as_slice();
+        let piece = self
+            .edit
+            .piece(&found, snaps, &self.nodes, &self.loaded, nth);
+        self.at = UpdateAt::Fill { found, nth, part };
+        Turn::Ask(Step {
+            kind: Kind::Fill,
+            word: Word::Node(self.nodes.at(nth), part),
+            access: Access::Store(piece.word(part)),
+        })
+    }
+
+    /// Goes on behind that fill: with the next word, or with what is done behind the last.
+    fn fill_on(&mut self, found: Found, nth: Nth, part: NodeWord) -> Turn<Updated>
+        ensures turn { (c : Call) (b h : History) → IsRun TreeAllows c.layout h → IsTry c b → IsFilledUpTo E.means self.old (from c b) h found nth part → UpdateTurn E.means c h self.new result }
+        ensures same { IsSameUpdate self.old self.new }
+        ensures nearer { (nodes : ℕ) → IsNearer E.means self.new nodes result (self.old.tries * try_left E.means nodes + (fills_left E.means self.old found nth part + 39)) }
+        ensures spends { IsSpending E.means result self.old.share self.new self.old.tries (self.old.tries + 1) }
+        ensures tries { (self.old.tries ≤ self.new.tries + 1) × (self.new.tries ≤ self.old.tries) }
+    {
+        let snaps = self.snaps.as_slice();
+        let piece = self
+            .edit
+            .piece(&found, snaps, &self.nodes, &self.loaded, nth);
+        if let Some(next) = piece.behind(part) {
+            return self.fill(found, nth, next);
+        }
+        let next = self.filled(&found, nth);
+        self.go_on(found, next)
     }
 
     /// Begins what the try does next.
@@ -618,15 +685,8 @@ impl<E: Edit + Drop> UpdateRun<E> {
         ensures place { self.new ≡ placed E.means self.old found (Next.Change scx) }
         ensures asks { result ≡ Turn.Ask (next_step E.means self.old found (Next.Change scx)) }
     {
-        let update = self.update(&found);
-        let plan = update.plan;
-        let (call, at) = (self.call, ScxAt::Plan);
-        let run = ScxRun {
-            scx,
-            call,
-            update,
-            at,
-        };
+        let run = self.scx_run(&found, scx, ScxAt::Plan);
+        let plan = run.update.plan;
         self.at = UpdateAt::Scx { found, scx: run };
         Turn::Ask(Step {
             kind: Kind::Fill,
@@ -641,14 +701,7 @@ impl<E: Edit + Drop> UpdateRun<E> {
         ensures place { self.new ≡ record self.old { at = UpdateAt.Scx found record { scx = scx; call = self.old.call; update = update_of E.means self.old found; at = ScxAt.Help help } } }
         ensures asks { result ≡ Turn.Ask record { kind = Kind.LoadAllFrozen; word = Word.Scx scx ScxWord.AllFrozen; access = Access.Load } }
     {
-        let update = self.update(&found);
-        let (call, at) = (self.call, ScxAt::Help { help });
-        let run = ScxRun {
-            scx,
-            call,
-            update,
-            at,
-        };
+        let run = self.scx_run(&found, scx, ScxAt::Help { help });
         self.at = UpdateAt::Scx { found, scx: run };
         Turn::Ask(Step {
             kind: Kind::LoadAllFrozen,
@@ -726,31 +779,9 @@ impl<E: Edit + Drop> UpdateRun<E> {
             UpdateAt::Scx { found, scx } => self.scx_on(found, scx, got),
         }
     }
-
-    ghost use Rattle.std.specs.Prelude.{◌≢◌, IfNone, IfSome, None, Ok};
-    ghost use Rattle.template.specs.FoundLeaf.{HasFound};
-    ghost use Rattle.template.specs.Walk.Known.{WalkIsReady};
-    ghost use Rattle.updates.specs.Known.{HasNodesFor, IsShort, Walks, IsFilledUpTo, CanScx, UpdateIsReady};
-    ghost use Rattle.updates.specs.Pieces.{HasPlace, part_behind};
-    ghost use Rattle.updates.specs.Steps.{IsWanted, UpdateFits, fills_left};
-    ghost use Rattle.updates.specs.Pieces.{less_a_node};
-    ghost use Rattle.arena.specs.History.{History, value};
-    ghost use Rattle.arena.specs.Machines.{Call, IsRun};
-    ghost use Rattle.prims.specs.Llx.Known.{IsOpened, IsSnapshot, LlxIsReady};
-    ghost use Rattle.prims.specs.Scx.Known.{ScxIsReady};
-    ghost use Rattle.spelling.specs.TreeShape.{TreeAllows};
-    ghost use Rattle.updates.specs.Known.{Begins, IsUntouched, CanLook, Looks, nothing_loaded, CanLoad, CanFill, Loads, Scxs, UpdateTurn, copied};
-    ghost use Rattle.arena.specs.Words.{node};
-    ghost use Rattle.updates.specs.Laws.HandScx.{from};
-    ghost use Rattle.updates.specs.Steps.{IsSpending, node_tries, scx_tries, works_after};
-    ghost use Rattle.updates.specs.Next.{IsSameUpdate, placed, next_step, fills, update_of, MayStop, GoesOn, ComesNearer, HasSpent};
-    ghost use Rattle.arena.specs.Share.{Remaining};
-    ghost use Rattle.template.specs.Blame.{IsContended};
-    ghost use Rattle.updates.specs.Tries.{IsTry};
-    ghost use Rattle.prims.specs.Laws.Idle.{IsQuietSince};
 }
 
-impl<E: Edit + Drop> Machine<Tree> for UpdateRun<E> {
+impl<E: Edit + Drop> Machine<Tree> for UpdateRun<E, UpdateAt> {
     type Answer = Updated;
 
     ghost use Rattle.std.specs.Prelude.{◌≡◌, ℕ, ◌+◌, ◌≤◌};

@@ -1,74 +1,81 @@
-//! Calls of a dictionary.
-ghost use Rattle.std.specs.Prelude.{◌≡◌, ◌≤◌, ◌+◌};
+//! Edits of a dictionary.
+ghost use Rattle.std.specs.Prelude.{◌≡◌, ◌≤◌, ◌<◌, ◌+◌, ◌^◌};
 ghost use Rattle.arena.specs.Machines.{Call};
-ghost use Rattle.dict.specs.Steps.{map_left};
-ghost use Rattle.dict.specs.declared.dict.DictRun.{DictRun};
+ghost use Rattle.dict.specs.Steps.{most_steps};
+ghost use Rattle.dict.specs.Translated.{HasFormOf, IsTranslated};
+ghost use Rattle.dict.specs.WordReplies.{update_reply as word_reply};
+ghost use Rattle.dict.specs.Words.{IsValidReply};
+ghost use Rattle.dict.specs.declared.dict.DictRun.{DictRun as Run};
+ghost use Rattle.spelling.specs.OrderedMap.{Edit as EditCall, edit_key};
+ghost use Rattle.forest.specs.Dictionary.{update_reply};
 ghost use Rattle.forest.specs.TableRule.{IsTableOf};
-ghost use Rattle.forest.specs.Traces.{seat_steps, shared_nodes, weight};
-ghost use Rattle.forest.specs.StraightCalls.{SeatDictBegins, SeatDictEnds, SeatUpdateStands};
+ghost use Rattle.forest.specs.Traces.{seat_steps, shared_nodes};
+ghost use Rattle.forest.specs.StraightCalls.{HasEnded, IsFreshEdit, SeatDictBegins, map_edit};
 
-use crate::steps::{complete, whole};
+use crate::fault::UpdateFault;
 use crate::straight::updating;
 use crate::view::SeatView;
 use crate::words::Words;
-use arena::{Layout, Turn};
+use arena::{Layout, Share};
 use atomic_table::Seat;
-use dict::{Dict, DictRun, MapRun, Reply, WordKey, WordReply, WordValue, translated};
+use dict::{Dict, DictRun, WordKey, WordValue, value_of};
 use tree::{Delete, Insert};
-use updates::Updated;
+use updates::{UpdateRun, Updated};
 
-/// Ends a call whose update has answered; else the machine goes on.
+/// An edit, in words.
+#[derive(Clone, Copy)]
+pub(crate) enum WordEdit {
+    Insert(Insert),
+    Delete(Delete),
+}
+
+/// What an update tells, of values.
 #[inline(always)]
-fn finish<K: WordKey, V: WordValue>(
-    words: &Words<Dict<K, V>>,
-    layout: &Layout,
-    seat: &mut Seat<u8, SeatView>,
-    number: u64,
-    machine: &mut DictRun<K, V>,
-    turn: Turn<Updated>,
-) -> Reply<K, V>
-    requires table { IsTableOf words.now.table.shared.table_id words.now.table.shared.key layout.now × (seat.old.table_id ≡ words.now.table.shared.table_id) }
-    requires stands { (c : Call) × (first : DictRun K V) × (c.layout ≡ layout.now) × (c.number ≡ number) × SeatUpdateStands K.is_valid K.word_of V.is_valid V.word_of c seat.old.me.0.passes first machine.old turn }
-    ensures table { (seat.new.table_id ≡ seat.old.table_id) × (seat.new.me.1 ≡ seat.old.me.1) }
-    ensures ends { (c : Call) (first : DictRun K V) → c.layout ≡ layout.now → c.number ≡ number → SeatUpdateStands K.is_valid K.word_of V.is_valid V.word_of c seat.old.me.0.passes first machine.old turn → SeatDictEnds K.is_valid K.word_of V.is_valid V.word_of c seat.new.me.0.passes first machine.new result }
-    ensures steps { seat_steps seat.new.me.0.passes ≤ seat_steps seat.old.me.0.passes + weight turn (map_left machine.old.run (shared_nodes layout.now)) }
+fn told<K: WordKey, V: WordValue>(updated: Updated) -> Result<Option<V>, UpdateFault>
+    ensures valid { IsValidReply K.is_valid V.is_valid (update_reply {K = K} result) }
+    ensures says { IsTranslated K.is_valid K.word_of V.is_valid V.word_of (word_reply updated) (update_reply {K = K} result) }
+    ensures form { HasFormOf (word_reply updated) (update_reply {K = K} result) }
 {
-    match turn {
-        Turn::Ask(step) => complete(words, layout, seat, number, machine, Turn::Ask(step)),
-        Turn::Done(updated) => translated(machine.alloc, WordReply::of_update(updated)),
+    match updated {
+        Updated::Done { key: _, value } => Ok(value_of(value)),
+        Updated::Contended { node, scx } => Err(UpdateFault::Contended { node, scx }),
+        Updated::Full(full) => Err(UpdateFault::Full(full)),
     }
 }
 
-/// Makes a whole call of a dictionary: the first try of an edit in line; else the machine goes on.
+/// Makes an edit with so many tries and this share, and tells what is left of that.
 #[inline(always)]
-pub(crate) fn call<K: WordKey, V: WordValue>(
+pub(crate) fn edit<K: WordKey, V: WordValue>(
     words: &Words<Dict<K, V>>,
     layout: &Layout,
     seat: &mut Seat<u8, SeatView>,
     number: u64,
-    machine: &mut DictRun<K, V>,
-) -> Reply<K, V>
+    share: Share,
+    tries: u32,
+    edit: WordEdit,
+) -> (Result<Option<V>, UpdateFault>, Share)
     requires table { IsTableOf words.now.table.shared.table_id words.now.table.shared.key layout.now × (seat.old.table_id ≡ words.now.table.shared.table_id) }
-    requires begins { (c : Call) × (c.layout ≡ layout.now) × (c.number ≡ number) × SeatDictBegins K.is_valid K.word_of V.is_valid V.word_of c seat.old.me.0.passes machine.old }
+    requires tries { 0 < tries }
+    requires small { edit_key (map_edit edit) < 2 ^ 64 }
+    requires begins { (c : Call) × (c.layout ≡ layout.now) × (c.number ≡ number) × ((first : Run K V) → IsFreshEdit edit share tries number first → SeatDictBegins K.is_valid K.word_of V.is_valid V.word_of c seat.old.me.0.passes first) }
     ensures table { (seat.new.table_id ≡ seat.old.table_id) × (seat.new.me.1 ≡ seat.old.me.1) }
-    ensures ends { (c : Call) → c.layout ≡ layout.now → c.number ≡ number → SeatDictBegins K.is_valid K.word_of V.is_valid V.word_of c seat.old.me.0.passes machine.old → SeatDictEnds K.is_valid K.word_of V.is_valid V.word_of c seat.new.me.0.passes machine.old machine.new result }
-    ensures steps { seat_steps seat.new.me.0.passes ≤ seat_steps seat.old.me.0.passes + map_left machine.old.run (shared_nodes layout.now) }
+    ensures ends { (c : Call) → c.layout ≡ layout.now → c.number ≡ number → ((first : Run K V) → IsFreshEdit edit share tries number first → SeatDictBegins K.is_valid K.word_of V.is_valid V.word_of c seat.old.me.0.passes first) → HasEnded K.is_valid K.word_of V.is_valid V.word_of c seat.new.me.0.passes edit share tries number result.1 result.0 }
+    ensures steps { seat_steps seat.new.me.0.passes ≤ seat_steps seat.old.me.0.passes + most_steps (EditCall (map_edit edit)) tries (shared_nodes layout.now) }
 {
-    match &mut machine.run {
-        MapRun::Insert(update) => {
-            let key = update.edit.key;
-            let turn = updating::begin::<Dict<K, V>, DictRun<K, V>, Insert>(
-                words, layout, seat, number, update, key,
+    match edit {
+        WordEdit::Insert(edit) => {
+            let mut run = UpdateRun::new(edit, share, tries, number, ());
+            let updated = updating::call::<Dict<K, V>, DictRun<K, V>, Insert>(
+                words, layout, seat, number, &mut run, edit.key,
             );
-            finish(words, layout, seat, number, machine, turn)
+            (told::<K, V>(updated), run.into_share())
         }
-        MapRun::Delete(update) => {
-            let key = update.edit.key;
-            let turn = updating::begin::<Dict<K, V>, DictRun<K, V>, Delete>(
-                words, layout, seat, number, update, key,
+        WordEdit::Delete(edit) => {
+            let mut run = UpdateRun::new(edit, share, tries, number, ());
+            let updated = updating::call::<Dict<K, V>, DictRun<K, V>, Delete>(
+                words, layout, seat, number, &mut run, edit.key,
             );
-            finish(words, layout, seat, number, machine, turn)
+            (told::<K, V>(updated), run.into_share())
         }
-        _ => whole(words, layout, seat, number, machine),
     }
 }

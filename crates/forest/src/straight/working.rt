@@ -18,12 +18,12 @@ use updates::{Edit, Next, Nth, Piece, Stop, UpdateRun};
 
 /// Loads a settled word for the fresh node of this place.
 #[inline(always)]
-pub(crate) fn load<S: Shape, M: Machine<S>, E: Edit + Drop>(
+pub(crate) fn load<S: Shape, M: Machine<S>, E: Edit + Copy>(
     words: &Words<S>,
     layout: &Layout,
     seat: &mut Seat<u8, SeatView>,
     number: u64,
-    run: &mut UpdateRun<E>,
+    run: &mut UpdateRun<E, ()>,
     found: &Found,
     nth: Nth,
     part: NodeWord,
@@ -67,12 +67,12 @@ fn fill<S: Shape, M: Machine<S>>(
 
 /// Fills the fresh node of this place.
 #[inline(always)]
-pub(crate) fn fill_node<S: Shape, M: Machine<S>, E: Edit + Drop>(
+pub(crate) fn fill_node<S: Shape, M: Machine<S>, E: Edit + Copy>(
     words: &Words<S>,
     layout: &Layout,
     seat: &mut Seat<u8, SeatView>,
     number: u64,
-    run: &mut UpdateRun<E>,
+    run: &mut UpdateRun<E, ()>,
     found: &Found,
     nth: Nth,
 ) -> Result<Next, Stop>

@@ -88,7 +88,7 @@ module _ {E : Type 0} (e : EditMeaning E) where
     seen = x.seen;
   }
 
-  pub works_more : (m : UpdateRun E) (c : Call) (h : History) (r : Row) (f : Found) (nth : Nth) → IsRun TreeAllows c.layout (r ⊳ h) → IsIdle c.layout c.pass (r ⊳ h) → Works e m c h f nth → Works e m c (r ⊳ h) f nth
+  pub works_more : {A : Type 0} (m : UpdateRun E A) (c : Call) (h : History) (r : Row) (f : Found) (nth : Nth) → IsRun TreeAllows c.layout (r ⊳ h) → IsIdle c.layout c.pass (r ⊳ h) → Works e m c h f nth → Works e m c (r ⊳ h) f nth
   works_more m c h r f nth run idle x = record {
     run = (x.run.0, run);
     since = inr x.since;

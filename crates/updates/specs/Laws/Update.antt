@@ -63,12 +63,12 @@ field_may_more Marked P Q f x = tt
 module _ {E : Type 0} (e : EditMeaning E) where
   -- Rows of other passes
 
-  walks_by_others : (m : UpdateRun E) (c : Call) (h : History) (r : Row) (goal : Goal) → IsRun TreeAllows c.layout (r ⊳ h) → r.pass.0 ≢ c.pass → Walks e m c h goal → Walks e m c (r ⊳ h) goal
+  walks_by_others : (m : UpdateRun E UpdateAt) (c : Call) (h : History) (r : Row) (goal : Goal) → IsRun TreeAllows c.layout (r ⊳ h) → r.pass.0 ≢ c.pass → Walks e m c h goal → Walks e m c (r ⊳ h) goal
   walks_by_others m c h r goal run other x =
       let rests : RestsWith c (r ⊳ h) m.share = rests_by_others c h r m.share run.lawful other x.rests in
       record { small = x.small; rests = rests; quiet = quiet_rests c h r m.share run.lawful rests x.quiet; same = x.same }
 
-  looks_by_others : (m : UpdateRun E) (c : Call) (h : History) (r : Row) (f : Found) (llx : LlxRun) (begin : History) → IsRun TreeAllows c.layout (r ⊳ h) → r.pass.0 ≢ c.pass → Looks e m c h f llx begin → Looks e m c (r ⊳ h) f llx begin
+  looks_by_others : (m : UpdateRun E UpdateAt) (c : Call) (h : History) (r : Row) (f : Found) (llx : LlxRun) (begin : History) → IsRun TreeAllows c.layout (r ⊳ h) → r.pass.0 ≢ c.pass → Looks e m c h f llx begin → Looks e m c (r ⊳ h) f llx begin
   looks_by_others m c h r f llx begin run other x = record {
     run = (x.run.0, run);
     looked = looked_more e c h r m.edit f m.snaps.items x.run run x.looked;
@@ -80,10 +80,10 @@ module _ {E : Type 0} (e : EditMeaning E) where
     since = x.since;
   }
 
-  full_by_others : (m : UpdateRun E) (c : Call) (h : History) (r : Row) (f : Found) (nth : Nth) → IsRun TreeAllows c.layout (r ⊳ h) → r.pass.0 ≢ c.pass → HasFilledTo c.layout h c.pass m.share m.nodes.first.0 (top e m f) (nth_node m.nodes nth).0 (piece e m f) → HasFilledTo c.layout (r ⊳ h) c.pass m.share m.nodes.first.0 (top e m f) (nth_node m.nodes nth).0 (piece e m f)
+  full_by_others : (m : UpdateRun E UpdateAt) (c : Call) (h : History) (r : Row) (f : Found) (nth : Nth) → IsRun TreeAllows c.layout (r ⊳ h) → r.pass.0 ≢ c.pass → HasFilledTo c.layout h c.pass m.share m.nodes.first.0 (top e m f) (nth_node m.nodes nth).0 (piece e m f) → HasFilledTo c.layout (r ⊳ h) c.pass m.share m.nodes.first.0 (top e m f) (nth_node m.nodes nth).0 (piece e m f)
   full_by_others m c h r f nth run other x = by_others c.layout h r c.pass m.share m.nodes.first.0 (top e m f) (piece e m f) c.is_pass run.lawful other (nth_node m.nodes nth).0 x
 
-  scxs_by_others : (m : UpdateRun E) (c : Call) (h : History) (r : Row) (f : Found) (scx : ScxRun) (begin : History) → IsRun TreeAllows c.layout (r ⊳ h) → r.pass.0 ≢ c.pass → Scxs e m c h f scx begin → Scxs e m c (r ⊳ h) f scx begin
+  scxs_by_others : (m : UpdateRun E UpdateAt) (c : Call) (h : History) (r : Row) (f : Found) (scx : ScxRun) (begin : History) → IsRun TreeAllows c.layout (r ⊳ h) → r.pass.0 ≢ c.pass → Scxs e m c h f scx begin → Scxs e m c (r ⊳ h) f scx begin
   scxs_by_others m c h r f scx begin run other x = record {
     run = (x.run.0, run);
     small = x.small;
@@ -105,7 +105,7 @@ module _ {E : Type 0} (e : EditMeaning E) where
     leaf = x.leaf;
   }
 
-  kept_at : (m : UpdateRun E) (c : Call) (h : History) (s : Step) (r : Row) (at : UpdateAt) → IsRun TreeAllows c.layout (r ⊳ h) → r.pass.0 ≢ c.pass → UpdateWaitsAt e m c h s at → UpdateWaitsAt e m c (r ⊳ h) s at
+  kept_at : (m : UpdateRun E UpdateAt) (c : Call) (h : History) (s : Step) (r : Row) (at : UpdateAt) → IsRun TreeAllows c.layout (r ⊳ h) → r.pass.0 ≢ c.pass → UpdateWaitsAt e m c h s at → UpdateWaitsAt e m c (r ⊳ h) s at
   kept_at m c h s r Start run other w = w
   kept_at m c h s r (Walk walk) run other w = (walks_by_others m c h r walk.goal run other w.0, walk_keeps walk c h s r run other w.1)
   kept_at m c h s r (Look f llx) run other w = (w.0, looks_by_others m c h r f llx w.0 run other w.1, llx_keeps TreeAllows llx (from c w.0) h s r run other w.2)
@@ -122,12 +122,12 @@ module _ {E : Type 0} (e : EditMeaning E) where
   kept_at m c h s r (Scx f scx) run other w = (w.0, scxs_by_others m c h r f scx w.0 run other w.1, scx_keeps TreeAllows scx (from c w.0) h s r run other w.2)
 
   -- rows of other passes leave an update waiting for the same step
-  pub update_keeps : (m : UpdateRun E) (c : Call) (h : History) (s : Step) (r : Row) → IsRun TreeAllows c.layout (r ⊳ h) → r.pass.0 ≢ c.pass → UpdateWaits e m c h s → UpdateWaits e m c (r ⊳ h) s
+  pub update_keeps : (m : UpdateRun E UpdateAt) (c : Call) (h : History) (s : Step) (r : Row) → IsRun TreeAllows c.layout (r ⊳ h) → r.pass.0 ≢ c.pass → UpdateWaits e m c h s → UpdateWaits e m c (r ⊳ h) s
   update_keeps m c h s r run other w = (w.0, w.1, w.2, kept_at m (from c w.0) h s r m.at run other w.3)
 
   -- The step that it waits for
 
-  lawful_at : (m : UpdateRun E) (c : Call) (h : History) (s : Step) (at : UpdateAt) → IsRun TreeAllows c.layout h → UpdateWaitsAt e m c h s at → IsRun TreeAllows c.layout (row_of c s h ⊳ h)
+  lawful_at : (m : UpdateRun E UpdateAt) (c : Call) (h : History) (s : Step) (at : UpdateAt) → IsRun TreeAllows c.layout h → UpdateWaitsAt e m c h s at → IsRun TreeAllows c.layout (row_of c s h ⊳ h)
   lawful_at m c h s Start run w = absurd w
   lawful_at m c h s (Walk walk) run w = walk_lawful walk c h s run w.1
   lawful_at m c h s (Look f llx) run w = llx_lawful TreeAllows llx (from c w.0) h s run w.2
@@ -138,17 +138,17 @@ module _ {E : Type 0} (e : EditMeaning E) where
   lawful_at m c h s (Scx f scx) run w = scx_lawful TreeAllows scx (from c w.0) h s run w.2
 
   -- the step that an update waits for continues the run
-  pub update_lawful : (m : UpdateRun E) (c : Call) (h : History) (s : Step) → IsRun TreeAllows c.layout h → UpdateWaits e m c h s → IsRun TreeAllows c.layout (row_of c s h ⊳ h)
+  pub update_lawful : (m : UpdateRun E UpdateAt) (c : Call) (h : History) (s : Step) → IsRun TreeAllows c.layout h → UpdateWaits e m c h s → IsRun TreeAllows c.layout (row_of c s h ⊳ h)
   update_lawful m c h s run w = lawful_at m (from c w.0) h s m.at run w.3
 
   -- Its own row
 
-  walks_by_step : (m : UpdateRun E) (c : Call) (h : History) (r : Row) (goal : Goal) → IsRun TreeAllows c.layout (r ⊳ h) → r.kind ≢ FillKind → Walks e m c h goal → Walks e m c (r ⊳ h) goal
+  walks_by_step : (m : UpdateRun E UpdateAt) (c : Call) (h : History) (r : Row) (goal : Goal) → IsRun TreeAllows c.layout (r ⊳ h) → r.kind ≢ FillKind → Walks e m c h goal → Walks e m c (r ⊳ h) goal
   walks_by_step m c h r goal run no_fill x =
       let rests : RestsWith c (r ⊳ h) m.share = rests_by_step c h r m.share run.lawful no_fill x.rests in
       record { small = x.small; rests = rests; quiet = quiet_rests c h r m.share run.lawful rests x.quiet; same = x.same }
 
-  looks_by_step : (m : UpdateRun E) (c : Call) (h : History) (r : Row) (f : Found) (llx : LlxRun) (begin : History) → IsRun TreeAllows c.layout (r ⊳ h) → r.kind ≢ FillKind → Looks e m c h f llx begin → Looks e m c (r ⊳ h) f llx begin
+  looks_by_step : (m : UpdateRun E UpdateAt) (c : Call) (h : History) (r : Row) (f : Found) (llx : LlxRun) (begin : History) → IsRun TreeAllows c.layout (r ⊳ h) → r.kind ≢ FillKind → Looks e m c h f llx begin → Looks e m c (r ⊳ h) f llx begin
   looks_by_step m c h r f llx begin run no_fill x = record {
     run = (x.run.0, run);
     looked = looked_more e c h r m.edit f m.snaps.items x.run run x.looked;
@@ -161,7 +161,7 @@ module _ {E : Type 0} (e : EditMeaning E) where
   }
 
   -- a load changes nothing
-  loads_made : (m : UpdateRun E) (c : Call) (h : History) (s : Step) (f : Found) (nth : Nth) (part : NodeWord) → IsRun TreeAllows c.layout (row_of c s h ⊳ h) → s ≡ load LoadSettled (node (copied e m f) part) → Loads e m c h f nth part → Loads e m c (row_of c s h ⊳ h) f nth part
+  loads_made : (m : UpdateRun E UpdateAt) (c : Call) (h : History) (s : Step) (f : Found) (nth : Nth) (part : NodeWord) → IsRun TreeAllows c.layout (row_of c s h ⊳ h) → s ≡ load LoadSettled (node (copied e m f) part) → Loads e m c h f nth part → Loads e m c (row_of c s h ⊳ h) f nth part
   loads_made m c h s f nth part run asked x = record {
     works = works_more e m c h (row_of c s h) f nth run (idle_over c (row_of c s h ⊳ h) run.lawful full.over) x.works;
     full = full;
@@ -177,7 +177,7 @@ module _ {E : Type 0} (e : EditMeaning E) where
       full = by_load c.layout h (row_of c s h) c.pass m.share m.nodes.first.0 (top e m f) (nth_node m.nodes nth).0 (piece e m f) run.lawful (λ q. let z : LoadSettled ≡ FillKind = sym (ap (λ (t : Step). t.kind) asked) ∙ q in cc) same x.full
 
   -- a fill of a word of the fresh node of this place
-  module _ (m : UpdateRun E) (c : Call) (h : History) (f : Found) (nth : Nth) (part : NodeWord) where
+  module _ (m : UpdateRun E UpdateAt) (c : Call) (h : History) (f : Found) (nth : Nth) (part : NodeWord) where
     abbrev n : ℕ
     n = (nth_node m.nodes nth).0
 
@@ -212,7 +212,7 @@ module _ {E : Type 0} (e : EditMeaning E) where
     fills_then : (s : Step) → s ≡ fill_step e m f nth part → IsRun TreeAllows c.layout (row_of c s h ⊳ h) → Fills e m c h f nth part → May → HoldsWords h n p (IsBefore part) → Then (row_of c s h ⊳ h)
     fills_then s asked run x may words = rw asked (fills_made (rw asked at run) x may words)
 
-  scxs_made : (m : UpdateRun E) (c : Call) (h : History) (s : Step) (f : Found) (scx : ScxRun) (begin : History) → IsRun TreeAllows c.layout (row_of c s h ⊳ h) → Scxs e m c h f scx begin → ScxWaits TreeAllows scx (from c begin) h s → Scxs e m c (row_of c s h ⊳ h) f scx begin
+  scxs_made : (m : UpdateRun E UpdateAt) (c : Call) (h : History) (s : Step) (f : Found) (scx : ScxRun) (begin : History) → IsRun TreeAllows c.layout (row_of c s h ⊳ h) → Scxs e m c h f scx begin → ScxWaits TreeAllows scx (from c begin) h s → Scxs e m c (row_of c s h ⊳ h) f scx begin
   scxs_made m c h s f scx begin run x w = record {
     run = (x.run.0, run);
     small = x.small;
@@ -234,7 +234,7 @@ module _ {E : Type 0} (e : EditMeaning E) where
     leaf = x.leaf;
   }
 
-  made_at : (m : UpdateRun E) (c : Call) (h : History) (s : Step) (v : ℕ) (at : UpdateAt) → IsRun TreeAllows c.layout (row_of c s h ⊳ h) → IsTold s.access (value h s.word) v → UpdateWaitsAt e m c h s at → UpdateIsToldAt e m c (row_of c s h ⊳ h) v at
+  made_at : (m : UpdateRun E UpdateAt) (c : Call) (h : History) (s : Step) (v : ℕ) (at : UpdateAt) → IsRun TreeAllows c.layout (row_of c s h ⊳ h) → IsTold s.access (value h s.word) v → UpdateWaitsAt e m c h s at → UpdateIsToldAt e m c (row_of c s h ⊳ h) v at
   made_at m c h s v Start run t w = w
   made_at m c h s v (Walk walk) run t w = (walks_by_step m c h (row_of c s h) walk.goal run (walk_fills_not walk c h s w.1) w.0, walk_made walk c h s v run t w.1)
   made_at m c h s v (Look f llx) run t w = (w.0, looks_by_step m c h (row_of c s h) f llx w.0 run (llx_fills_not TreeAllows llx (from c w.0) h s w.2) w.1, llx_made TreeAllows llx (from c w.0) h s v run t w.2)
@@ -243,7 +243,7 @@ module _ {E : Type 0} (e : EditMeaning E) where
   made_at m c h s v (Scx f scx) run t w = (w.0, scxs_made m c h s f scx w.0 run w.1 w.2, scx_made TreeAllows scx (from c w.0) h s v run t w.2)
 
   -- once the step is made, an update may be called with what it told
-  pub update_made : (m : UpdateRun E) (c : Call) (h : History) (s : Step) (v : ℕ) → IsRun TreeAllows c.layout (row_of c s h ⊳ h) → IsTold s.access (value h s.word) v → UpdateWaits e m c h s → UpdateIsReady e m c (row_of c s h ⊳ h) (Some v)
+  pub update_made : (m : UpdateRun E UpdateAt) (c : Call) (h : History) (s : Step) (v : ℕ) → IsRun TreeAllows c.layout (row_of c s h ⊳ h) → IsTold s.access (value h s.word) v → UpdateWaits e m c h s → UpdateIsReady e m c (row_of c s h ⊳ h) (Some v)
   update_made m c h s v run t w = (w.0, w.1, w.2, made_at m (from c w.0) h s v m.at run t w.3)
 
   -- What it is told
@@ -257,7 +257,7 @@ module _ {E : Type 0} (e : EditMeaning E) where
   needed_place Nothing Second x = absurd x
   needed_place Nothing Third x = absurd x
 
-  fits_at : (m : UpdateRun E) (c : Call) (h : History) (v nodes : ℕ) (at : UpdateAt) → IsRun TreeAllows c.layout h → UpdateIsToldAt e m c h v at → length (taken_nodes h) ≤ nodes → UpdateFitsAt e m (Some v) nodes at
+  fits_at : (m : UpdateRun E UpdateAt) (c : Call) (h : History) (v nodes : ℕ) (at : UpdateAt) → IsRun TreeAllows c.layout h → UpdateIsToldAt e m c h v at → length (taken_nodes h) ≤ nodes → UpdateFitsAt e m (Some v) nodes at
   fits_at m c h v nodes Start run x few = absurd x
   fits_at m c h v nodes (Walk walk) run x few = walk_told walk c h (Some v) nodes run x.1 few
   fits_at m c h v nodes (Look f llx) run x few = tt
@@ -266,6 +266,6 @@ module _ {E : Type 0} (e : EditMeaning E) where
   fits_at m c h v nodes (Scx f scx) run x few = tt
 
   -- what an update may be told fits the nodes that are taken by then
-  pub update_told : (m : UpdateRun E) (c : Call) (h : History) (got : Option ℕ) (nodes : ℕ) → IsRun TreeAllows c.layout h → UpdateIsReady e m c h got → length (taken_nodes h) ≤ nodes → UpdateFits e m got nodes
+  pub update_told : (m : UpdateRun E UpdateAt) (c : Call) (h : History) (got : Option ℕ) (nodes : ℕ) → IsRun TreeAllows c.layout h → UpdateIsReady e m c h got → length (taken_nodes h) ≤ nodes → UpdateFits e m got nodes
   update_told m c h None nodes run x few = subst (λ at. UpdateFitsAt e m None nodes at) (sym x.3) tt
   update_told m c h (Some v) nodes run x few = fits_at m (from c x.0) h v nodes m.at run x.3 few

@@ -1,4 +1,4 @@
-use Rattle.updates.proofs.update.UpdateRun.stop.Goals as goal
+use Rattle.updates.proofs.update.UpdateRun+E+UpdateAt.stop.Goals as goal
 
 pub returns-in-Nothing-clause-turn : goal.returns-in-Nothing-clause-turn
 returns-in-Nothing-clause-turn g c d h run x = rw c.at.ensures (rw c.in-Nothing.is at x)

@@ -3,7 +3,7 @@ use Rattle.arena.specs.declared.machine.Turn.TheVariants.{Done}
 use Rattle.updates.specs.Laws.HandScx.{from}
 use Rattle.updates.proofs.Nearer.{below, to_tries, less_scx}
 use Rattle.updates.proofs.Turns.{scx_asks, scx_done, scx_lost}
-use Rattle.updates.proofs.update.UpdateRun.scx_on.Goals as goal
+use Rattle.updates.proofs.update.UpdateRun+E+UpdateAt.scx_on.Goals as goal
 
 pub returns-in-Ask-clause-nearer : goal.returns-in-Ask-clause-nearer
 returns-in-Ask-clause-nearer g c nodes = less_scx _ _ _ (rw c.in-Ask.is at c.next.ensures.nearer nodes tt)

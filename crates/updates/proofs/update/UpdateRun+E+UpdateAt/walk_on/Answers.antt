@@ -2,7 +2,7 @@ use Rattle.updates.specs.Laws.HandScx.{from}
 use Rattle.updates.proofs.GoingOn.{still_nearer}
 use Rattle.updates.proofs.Nearer.{from_walk}
 use Rattle.updates.proofs.Turns.{walks_on, walk_rests, walk_found}
-use Rattle.updates.proofs.update.UpdateRun.walk_on.Goals as goal
+use Rattle.updates.proofs.update.UpdateRun+E+UpdateAt.walk_on.Goals as goal
 
 pub returns-in-Done-clause-nearer : goal.returns-in-Done-clause-nearer
 returns-in-Done-clause-nearer g c nodes fits = c.go_on.ensures.nearer nodes _ (still_nearer g.E.Edit.means c.test_share-next.new.self c.in-Done.found c.test_share-next.result nodes _ _ (c.test_share-next.ensures.nearer nodes) (from_walk _ _ _))

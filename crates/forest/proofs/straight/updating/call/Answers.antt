@@ -4,10 +4,10 @@ use Rattle.forest.specs.StraightWalk.{WalkerFinds}
 use Rattle.forest.specs.StraightUpdate.{Updater, UpdaterBegins, UpdaterGoesOn}
 use Rattle.forest.specs.Traces.{shared_nodes}
 use Rattle.updates.proofs.Lemmas.{weighs_next}
-use Rattle.forest.proofs.StraightUpdate.{walker, walks, finds, stands_at_start, walk_steps, both_steps}
-use Rattle.forest.proofs.straight.updating.begin.Given.{Over}
-use Rattle.forest.proofs.straight.updating.begin.Goals.{After-test_share-next}
-use Rattle.forest.proofs.straight.updating.begin.Goals as goal
+use Rattle.forest.proofs.StraightUpdate.{walker, walks, finds, walk_steps, both_steps}
+use Rattle.forest.proofs.straight.updating.call.Given.{Over}
+use Rattle.forest.proofs.straight.updating.call.Goals.{After-test_share-next}
+use Rattle.forest.proofs.straight.updating.call.Goals as goal
 
 -- whichever call began, behind its walk it goes on as its try does
 goes_on : (g : Over) (c : After-test_share-next g) (u : Updater {M = g.row.M.Denot} {E = g.row.E.Denot} g.S.Shape.allows g.M.Machine.ready g.M.Machine.waits g.M.Machine.same g.E.Edit.means c.args.layout.now c.args.number) → UpdaterBegins g.S.Shape.allows g.M.Machine.ready g.M.Machine.waits g.M.Machine.same g.E.Edit.means c.args.layout.now c.args.number u c.args.seat.now.me.0.passes c.args.run.now → UpdaterGoesOn g.S.Shape.allows g.M.Machine.ready g.M.Machine.waits g.M.Machine.same g.E.Edit.means c.args.layout.now c.args.number u c.call.new.seat.me.0.passes c.test_share-next.new.self c.anew-found.result c.test_share-next.result
@@ -25,11 +25,9 @@ call-requires-clause-waits g c = let r = c.requires.begins in (
 pub try_on-requires-clause-goes_on : goal.try_on-requires-clause-goes_on
 try_on-requires-clause-goes_on g c = let r = c.requires.begins in (r.0, goes_on g (goal.at.try_on-requires-clause-goes_on g c).After-test_share-next r.0 r.1)
 
-pub returns-clause-stands : goal.returns-clause-stands
-returns-clause-stands g c = λ u x. c.try_on.ensures.stands u (goes_on g (goal.at.returns-clause-stands g c).After-test_share-next u x)
+pub returns-clause-ends : goal.returns-clause-ends
+returns-clause-ends g c = λ u x. c.try_on.ensures.ends u (goes_on g (goal.at.returns-clause-ends g c).After-test_share-next u x)
 
 pub returns-clause-steps : goal.returns-clause-steps
 returns-clause-steps g c =
-    let r = c.requires.begins in
-    rw (stands_at_start g.S.Shape.allows g.M.Machine.ready g.M.Machine.waits g.M.Machine.same g.E.Edit.means c.args.layout.now c.args.number r.0 _ c.args.run.now r.1)
-    (both_steps _ _ _ c.try_on.ensures.steps (walk_steps _ _ _ _ _ _ c.call.ensures.steps (weighs_next g.E.Edit.means c.test_share-next.new.self c.anew-found.result c.test_share-next.result _ _ (c.test_share-next.ensures.nearer (shared_nodes c.args.layout.now)))))
+    both_steps _ _ _ c.try_on.ensures.steps (walk_steps _ _ _ _ _ _ c.call.ensures.steps (weighs_next g.E.Edit.means c.test_share-next.new.self c.anew-found.result c.test_share-next.result _ _ (c.test_share-next.ensures.nearer (shared_nodes c.args.layout.now))))

@@ -1,7 +1,7 @@
 use Rattle.std.proofs.Common.{◌≡◌, refl, inr}
 use Rattle.updates.proofs.Nearer.{below, try_less, one_back}
 use Rattle.updates.proofs.Turns.{begins_again, asks_on}
-use Rattle.updates.proofs.update.UpdateRun.lost.Goals as goal
+use Rattle.updates.proofs.update.UpdateRun+E+UpdateAt.lost.Goals as goal
 
 pub returns-clause-gives_up : goal.returns-clause-gives_up
 returns-clause-gives_up g c d h b = asks_on (c.args.self.now.tries ≡ 0) c.begin_walk.result (c.begin_walk.ensures.begins d h (begins_again g.E.Edit.means c.args.self.now _ d h refl refl b))

@@ -7,7 +7,7 @@ use Rattle.updates.specs.declared.edit.Look.TheVariants.{At}
 use Rattle.updates.proofs.Blaming.{look_failed, look_finalized}
 use Rattle.updates.proofs.Looking.{looks_on, can_look, snapped, is_needed}
 use Rattle.updates.proofs.Turns.{look_lost}
-use Rattle.updates.proofs.update.UpdateRun.look_on.Goals as goal
+use Rattle.updates.proofs.update.UpdateRun+E+UpdateAt.look_on.Goals as goal
 
 pub returns-in-Ask-clause-nearer : goal.returns-in-Ask-clause-nearer
 returns-in-Ask-clause-nearer g c nodes = looked_on _ _ _ _ _ (rw c.in-Ask.is at c.next.ensures.nearer nodes tt)

@@ -2,7 +2,7 @@ use Rattle.std.proofs.Common.{refl, ◌∙◌}
 use Rattle.template.proofs.Lemmas.{walk_ready_first}
 use Rattle.updates.specs.Laws.HandScx.{from}
 use Rattle.updates.proofs.Turns.{begins_walk}
-use Rattle.updates.proofs.update.UpdateRun.begin_walk.Goals as goal
+use Rattle.updates.proofs.update.UpdateRun+E+UpdateAt.begin_walk.Goals as goal
 
 pub returns-in-Ask-clause-turn : goal.returns-in-Ask-clause-turn
 returns-in-Ask-clause-turn g c d h run b try first = begins_walk g.E.Edit.means c.args.self.now c.new-walk.result c.next.new.self d h c.next.result c.in-Ask.step b try first (c.new-walk.ensures.goal ∙ c.goal.ensures) c.new-walk.ensures.start c.new-walk.ensures.root c.next.ensures.same c.in-Ask.is (c.next.ensures.turn (from d h) h run)

@@ -1,6 +1,6 @@
 use Rattle.updates.proofs.GoingOn.{goes_on, comes_nearer, has_spent, spends_on}
 use Rattle.updates.proofs.Nearer.{below}
-use Rattle.updates.proofs.update.UpdateRun.go_on.Goals as goal
+use Rattle.updates.proofs.update.UpdateRun+E+UpdateAt.go_on.Goals as goal
 
 pub returns-in-Ok-clause-turn : goal.returns-in-Ok-clause-turn
 returns-in-Ok-clause-turn g c d h run x = goes_on g.E.Edit.means c.args.self.now c.begin.new.self c.args.found c.in-Ok.next c.begin.result c.begin.ensures.place c.begin.ensures.asks d h (rw c.in-Ok.is at x)

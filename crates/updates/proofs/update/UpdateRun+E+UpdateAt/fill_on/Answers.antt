@@ -3,7 +3,7 @@ use Rattle.updates.specs.Laws.HandScx.{from}
 use Rattle.updates.proofs.Filling.{fills_next}
 use Rattle.updates.proofs.GoingOn.{still_nearer, fill_goes_on, fill_nearer, fill_spends}
 use Rattle.updates.proofs.Nearer.{to_next_fill, fewer_fills, past_fills}
-use Rattle.updates.proofs.update.UpdateRun.fill_on.Goals as goal
+use Rattle.updates.proofs.update.UpdateRun+E+UpdateAt.fill_on.Goals as goal
 
 pub returns-in-Some-clause-nearer : goal.returns-in-Some-clause-nearer
 returns-in-Some-clause-nearer g c nodes = fill_nearer g.E.Edit.means c.args.self.now c.fill.new.self c.args.found c.args.nth c.in-Some.next c.fill.result c.fill.ensures.place c.fill.ensures.asks nodes _ (to_next_fill _ _ _ _ (fewer_fills _ c.args.part c.in-Some.next (rw (sym c.as_slice-snaps.ensures.value, sym c.piece-piece.ensures) (sym c.behind.ensures ∙ c.in-Some.is))))

@@ -1,7 +1,7 @@
 use Rattle.std.proofs.Common.{◌≡◌, sym, ◌∙◌, inl}
 use Rattle.updates.specs.declared.update.UpdateAt.TheVariants.{Start, Walk, Look, Load, Fill, Scx}
 use Rattle.updates.proofs.Stepping.{at_start, at_walk, at_look, at_load, at_fill, at_scx}
-use Rattle.updates.proofs.update.UpdateRun.step.Goals as goal
+use Rattle.updates.proofs.update.UpdateRun+E+UpdateAt.step.Goals as goal
 
 pub returns-in-Start-clause-turn : goal.returns-in-Start-clause-turn
 returns-in-Start-clause-turn g c d h run r = let t = at_start g.E.Edit.means c.args.self.now d h c.args.got c.in-Start.is r in

@@ -1,0 +1,74 @@
+use Rattle.std.proofs.Common.{◌≡◌, ◌∙◌, ◌≤◌, sym, ap, subst}
+use Rattle.dict.specs.Calls.{call_in}
+use Rattle.dict.specs.Forms.{MayReply, form_of}
+use Rattle.dict.specs.Steps.{map_left, most_steps}
+use Rattle.dict.specs.Typed.{TypedAllows}
+use Rattle.dict.specs.Words.{IsWord}
+use Rattle.spelling.specs.Requests.{as_map_call}
+use Rattle.forest.specs.Passes.{Ground, taken_of}
+use Rattle.forest.specs.PassInvariant.{pass_view}
+use Rattle.forest.specs.Traces.{shared_nodes}
+use Rattle.forest.proofs.DictCalls.{Answered, IsSameCall, request_starts, dict_ended, dict_pass, dict_goes_on, dict_spends, dict_tells, dict_refuses}
+use Rattle.forest.proofs.Entered.{HasEnded}
+use Rattle.forest.proofs.Passes.{layout_of, call_of}
+use Rattle.forest.proofs.dictionary.Forest+Dict+K+V.read.Given.{Over}
+use Rattle.forest.proofs.dictionary.Forest+Dict+K+V.read.Goals as goal
+
+pub whole-reply-requires-clause-begins : goal.whole-reply-requires-clause-begins
+whole-reply-requires-clause-begins g c =
+    let named = ap taken_of c.pass.view_is ∙ sym c.taken-number.ensures in
+    let made = c.new-run.ensures in (
+      call_of c.pass.inside c.pass.invariant (taken_of (pass_view c.pass.inside)),
+      layout_of c.pass.view_is c.self.view_is c.requires.pass,
+      named,
+      request_starts g.K.WordKey.is_valid g.K.WordKey.word_of g.V.WordValue.is_valid g.V.WordValue.word_of c.pass.inside c.pass.invariant c.new-run.result c.args.request c.self.inside.tries c.taken-number.result named made.call made.typed made.tries (made.fresh c.self.invariant.3) c.requires.few (made.share ∙ c.replace-share.ensures.value),
+    )
+
+-- how it has ended
+ended : (g : Over) (c : goal.After-note_reply g) → HasEnded (TypedAllows (IsWord g.K.WordKey.is_valid g.K.WordKey.word_of) (IsWord g.V.WordValue.is_valid g.V.WordValue.word_of)) c.pass.inside c.whole-reply.new.seat (taken_of (pass_view c.pass.inside)) (Answered g.K.WordKey.is_valid g.K.WordKey.word_of g.V.WordValue.is_valid g.V.WordValue.word_of c.pass.inside c.pass.invariant c.whole-reply.new.seat c.whole-reply.new.machine c.whole-reply.result) × IsSameCall g.K.WordKey.is_valid g.K.WordKey.word_of g.V.WordValue.is_valid g.V.WordValue.word_of c.new-run.result c.whole-reply.new.machine
+ended g c =
+    let named = ap taken_of c.pass.view_is ∙ sym c.taken-number.ensures in
+    let made = c.new-run.ensures in
+    dict_ended g.K.WordKey.is_valid g.K.WordKey.word_of g.V.WordValue.is_valid g.V.WordValue.word_of c.pass.inside c.pass.invariant c.whole-reply.new.seat c.whole-reply.new.machine c.whole-reply.result c.new-run.result
+    (c.whole-reply.ensures.ends (call_of c.pass.inside c.pass.invariant (taken_of (pass_view c.pass.inside))) (layout_of c.pass.view_is c.self.view_is c.requires.pass) named
+    (request_starts g.K.WordKey.is_valid g.K.WordKey.word_of g.V.WordValue.is_valid g.V.WordValue.word_of c.pass.inside c.pass.invariant c.new-run.result c.args.request c.self.inside.tries c.taken-number.result named made.call made.typed made.tries (made.fresh c.self.invariant.3) c.requires.few (made.share ∙ c.replace-share.ensures.value)))
+
+-- it is of the call that was asked for
+same_call : (g : Over) (c : goal.After-note_reply g) → call_in c.whole-reply.new.machine.run ≡ as_map_call g.K.WordKey.word_of g.V.WordValue.word_of c.args.request
+same_call g c = (ended g c).1.0 ∙ c.new-run.ensures.call
+
+same_tries : (g : Over) (c : goal.After-note_reply g) → c.whole-reply.new.machine.tries ≡ c.self.inside.tries
+same_tries g c = (ended g c).1.1 ∙ c.new-run.ensures.tries
+
+pub invariant_of-pass : goal.invariant_of-pass
+invariant_of-pass g c =
+    rw (c.into_share-pass-inside.ensures, c.note_reply.ensures) (dict_pass g.K.WordKey.is_valid g.K.WordKey.word_of g.V.WordValue.is_valid g.V.WordValue.word_of c.pass.inside c.pass.invariant c.whole-reply.new.seat c.whole-reply.new.machine c.whole-reply.result (ended g c).0 c.whole-reply.ensures.table.1)
+
+-- the forest as its caller sees it
+tries_are : (g : Over) (c : goal.After-note_reply g) → c.args.self.now.tries ≡ c.self.inside.tries
+tries_are g c = ap (λ (f : Ground). f.tries) (sym c.self.view_is)
+
+layout_is : (g : Over) (c : goal.After-note_reply g) → c.args.self.now.layout ≡ c.self.inside.layout
+layout_is g c = ap (λ (f : Ground). f.layout) (sym c.self.view_is)
+
+pub returns-clause-goes_on : goal.returns-clause-goes_on
+returns-clause-goes_on g c =
+    rw (← c.pass.view_is, c.into_share-pass-inside.ensures, c.note_reply.ensures, tries_are g c, layout_is g c) (dict_goes_on g.K.WordKey.is_valid g.K.WordKey.word_of g.V.WordValue.is_valid g.V.WordValue.word_of c.pass.inside c.pass.invariant c.whole-reply.new.seat c.whole-reply.new.machine c.whole-reply.result (ended g c).0 (map_left c.new-run.result.run (shared_nodes c.self.inside.layout)) (most_steps (as_map_call g.K.WordKey.word_of g.V.WordValue.word_of c.args.request) c.self.inside.tries (shared_nodes c.self.inside.layout)) c.whole-reply.ensures.table.0 c.whole-reply.ensures.steps (subst (λ k. map_left c.new-run.result.run (shared_nodes c.self.inside.layout) ≤ most_steps k c.self.inside.tries (shared_nodes c.self.inside.layout)) c.new-run.ensures.call (c.new-run.ensures.steps (shared_nodes c.self.inside.layout) c.self.invariant.3)))
+
+pub returns-clause-spends : goal.returns-clause-spends
+returns-clause-spends g c =
+    rw (← c.pass.view_is, c.into_share-pass-inside.ensures, c.note_reply.ensures, tries_are g c, ← same_call g c, ← same_tries g c) (dict_spends g.K.WordKey.is_valid g.K.WordKey.word_of g.V.WordValue.is_valid g.V.WordValue.word_of c.pass.inside c.pass.invariant c.whole-reply.new.seat c.whole-reply.new.machine c.whole-reply.result (ended g c).0)
+
+pub returns-clause-told : goal.returns-clause-told
+returns-clause-told g c =
+    rw (← c.pass.view_is, c.into_share-pass-inside.ensures, c.note_reply.ensures, ← same_call g c) (dict_tells g.K.WordKey.is_valid g.K.WordKey.word_of g.V.WordValue.is_valid g.V.WordValue.word_of c.pass.inside c.pass.invariant c.whole-reply.new.seat c.whole-reply.new.machine c.whole-reply.result (ended g c).0)
+
+pub returns-clause-refused : goal.returns-clause-refused
+returns-clause-refused g c =
+    rw (← c.pass.view_is, c.into_share-pass-inside.ensures, c.note_reply.ensures, ← same_call g c) (dict_refuses g.K.WordKey.is_valid g.K.WordKey.word_of g.V.WordValue.is_valid g.V.WordValue.word_of c.pass.inside c.pass.invariant c.whole-reply.new.seat c.whole-reply.new.machine c.whole-reply.result (ended g c).0)
+
+pub returns-clause-form : goal.returns-clause-form
+returns-clause-form g c = subst (λ k. MayReply k (form_of c.whole-reply.result)) (same_call g c) (ended g c).0.answers.form
+
+pub returns-clause-valid : goal.returns-clause-valid
+returns-clause-valid g c = (ended g c).0.answers.valid

@@ -1,0 +1,118 @@
+//! Updates that meet something in their way: their machine goes on from there.
+ghost use Rattle.std.specs.Prelude.{◌≡◌, ◌≤◌, ◌<◌, ◌+◌};
+ghost use Rattle.forest.specs.TableRule.{IsTableOf};
+ghost use Rattle.forest.specs.Traces.{seat_steps, shared_nodes, weight};
+ghost use Rattle.forest.specs.StraightUpdate.{Updater, UpdaterEnds, UpdaterGoesOn, UpdaterIsBlocked, UpdaterStands};
+ghost use Rattle.prims.specs.Scx.Steps.{scx_left};
+ghost use Rattle.prims.specs.declared.scx.ScxAt.{ScxAt};
+ghost use Rattle.updates.specs.Next.{left_then, standing};
+ghost use Rattle.updates.specs.Steps.{try_left, update_left};
+ghost use Rattle.updates.specs.declared.update.UpdateAt.{UpdateAt as Places};
+
+use crate::straight::placed::step;
+use crate::view::SeatView;
+use crate::words::Words;
+use arena::{Layout, Machine, PassNo, ScxNo, Shape, Share, Turn};
+use atomic_table::Seat;
+use help::HelpRun;
+use std::mem::replace;
+use template::Found;
+use updates::{Edit, Next, Stop, UpdateAt, UpdateRun, Updated};
+
+/// Takes an update out, to stand at its start. Until it comes back one that has nothing to do with
+/// it is in its place.
+fn take_up<E: Edit + Copy>(run: &mut UpdateRun<E, ()>, layout: &Layout) -> UpdateRun<E, UpdateAt>
+    requires some { 0 < layout.now.passes }
+    ensures { result ≡ standing run.old Places.Start }
+{
+    let share = Share::of(layout, PassNo(0));
+    let other = UpdateRun::new(run.edit, share, 0, 0, ());
+    replace(run, other).stand(UpdateAt::Start)
+}
+
+/// Makes the rest of an update from this turn of its machine on, and puts it back.
+fn finish<S: Shape, M: Machine<S>, E: Edit + Copy>(
+    words: &Words<S>,
+    layout: &Layout,
+    seat: &mut Seat<u8, SeatView>,
+    number: u64,
+    run: &mut UpdateRun<E, ()>,
+    mut standing: UpdateRun<E, UpdateAt>,
+    mut turn: Turn<Updated>,
+) -> Updated
+    requires table { IsTableOf words.now.table.shared.table_id words.now.table.shared.key layout.now × (seat.old.table_id ≡ words.now.table.shared.table_id) }
+    requires stands { (u : Updater S.allows M.ready M.waits M.same E.means layout.now number) × UpdaterStands S.allows M.ready M.waits M.same E.means layout.now number u seat.old.me.0.passes standing turn }
+    ensures table { (seat.new.table_id ≡ seat.old.table_id) × (seat.new.me.1 ≡ seat.old.me.1) }
+    ensures ends { (u : Updater S.allows M.ready M.waits M.same E.means layout.now number) → UpdaterStands S.allows M.ready M.waits M.same E.means layout.now number u seat.old.me.0.passes standing turn → UpdaterEnds S.allows M.ready M.waits M.same E.means layout.now number u seat.new.me.0.passes run.new result }
+    ensures steps { seat_steps seat.new.me.0.passes ≤ seat_steps seat.old.me.0.passes + weight turn (update_left E.means standing (shared_nodes layout.now)) }
+{
+    loop {
+        match turn {
+            Turn::Ask(asked) => {
+                let told = step::<S, M>(words, layout, seat, number, asked);
+                turn = standing.step(Some(told));
+            }
+            Turn::Done(updated) => {
+                *run = standing.stand(());
+                return updated;
+            }
+        }
+    }
+}
+
+/// Makes the rest of an update from what its try does next on.
+#[cold]
+#[inline(never)]
+pub(crate) fn from_next<S: Shape, M: Machine<S>, E: Edit + Copy>(
+    words: &Words<S>,
+    layout: &Layout,
+    seat: &mut Seat<u8, SeatView>,
+    number: u64,
+    run: &mut UpdateRun<E, ()>,
+    found: &Found,
+    next: Result<Next, Stop>,
+) -> Updated
+    requires table { IsTableOf words.now.table.shared.table_id words.now.table.shared.key layout.now × (seat.old.table_id ≡ words.now.table.shared.table_id) }
+    requires goes_on { (u : Updater S.allows M.ready M.waits M.same E.means layout.now number) × UpdaterGoesOn S.allows M.ready M.waits M.same E.means layout.now number u seat.old.me.0.passes run.old found.now next }
+    ensures table { (seat.new.table_id ≡ seat.old.table_id) × (seat.new.me.1 ≡ seat.old.me.1) }
+    ensures ends { (u : Updater S.allows M.ready M.waits M.same E.means layout.now number) → UpdaterGoesOn S.allows M.ready M.waits M.same E.means layout.now number u seat.old.me.0.passes run.old found.now next → UpdaterEnds S.allows M.ready M.waits M.same E.means layout.now number u seat.new.me.0.passes run.new result }
+    ensures steps { seat_steps seat.new.me.0.passes ≤ seat_steps seat.old.me.0.passes + left_then E.means run.old found.now next (shared_nodes layout.now) }
+{
+    let mut standing = take_up(run, layout);
+    match next {
+        Ok(next) => {
+            let turn = standing.begin(*found, next);
+            finish::<S, M, E>(words, layout, seat, number, run, standing, turn)
+        }
+        Err(stop) => {
+            let turn = standing.stop(found, stop);
+            finish::<S, M, E>(words, layout, seat, number, run, standing, turn)
+        }
+    }
+}
+
+/// Makes the rest of an update whose SCX could not freeze a node.
+#[cold]
+#[inline(never)]
+pub(crate) fn from_block<S: Shape, M: Machine<S>, E: Edit + Copy>(
+    words: &Words<S>,
+    layout: &Layout,
+    seat: &mut Seat<u8, SeatView>,
+    number: u64,
+    run: &mut UpdateRun<E, ()>,
+    found: &Found,
+    scx: ScxNo,
+    help: &HelpRun,
+) -> Updated
+    requires table { IsTableOf words.now.table.shared.table_id words.now.table.shared.key layout.now × (seat.old.table_id ≡ words.now.table.shared.table_id) }
+    requires blocked { (u : Updater S.allows M.ready M.waits M.same E.means layout.now number) × UpdaterIsBlocked S.allows M.ready M.waits M.same E.means layout.now number u seat.old.me.0.passes run.old found.now scx help.now }
+    ensures table { (seat.new.table_id ≡ seat.old.table_id) × (seat.new.me.1 ≡ seat.old.me.1) }
+    ensures ends { (u : Updater S.allows M.ready M.waits M.same E.means layout.now number) → UpdaterIsBlocked S.allows M.ready M.waits M.same E.means layout.now number u seat.old.me.0.passes run.old found.now scx help.now → UpdaterEnds S.allows M.ready M.waits M.same E.means layout.now number u seat.new.me.0.passes run.new result }
+    ensures steps { seat_steps seat.new.me.0.passes ≤ seat_steps seat.old.me.0.passes + suc (run.old.tries * try_left E.means (shared_nodes layout.now) + scx_left (ScxAt.Help help.now)) }
+{
+    let mut standing = take_up(run, layout);
+    let turn = standing.block(*found, scx, *help);
+    finish::<S, M, E>(words, layout, seat, number, run, standing, turn)
+}
+
+ghost use Rattle.std.specs.Prelude.{suc, ◌*◌};
