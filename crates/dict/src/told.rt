@@ -26,7 +26,7 @@ pub enum WordReply {
 
 impl WordReply {
     /// What an edit has answered.
-    pub fn of_update(updated: Updated) -> WordReply
+    pub(crate) fn of_update(updated: Updated) -> WordReply
         ensures { result ≡ update_reply updated }
     {
         match updated {

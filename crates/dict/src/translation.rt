@@ -62,7 +62,10 @@ pub fn pairs_of<K: WordKey, V: WordValue>(
 
 /// A reply in words as one of keys and values.
 #[inline(always)]
-pub fn translated<K: WordKey, V: WordValue>(alloc: Option<Global>, reply: WordReply) -> Reply<K, V>
+pub(crate) fn translated<K: WordKey, V: WordValue>(
+    alloc: Option<Global>,
+    reply: WordReply,
+) -> Reply<K, V>
     ensures valid { IsValidReply K.is_valid V.is_valid result }
     ensures says { IsTranslated K.is_valid K.word_of V.is_valid V.word_of reply result }
     ensures form { HasFormOf reply result }

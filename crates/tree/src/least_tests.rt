@@ -10,9 +10,7 @@ use prims::Snap;
 use std::process::Abort;
 use std::test::Fail;
 use template::{Found, Goal, WalkRun};
-use updates::{
-    Edit, Loaded, Look, Need, Nodes, Nth, Piece, UpdateAt, UpdateRun, Updated,
-};
+use updates::{Edit, Loaded, Look, Need, Nodes, Nth, Piece, UpdateAt, UpdateRun, Updated};
 
 /// No call of these tests has as many steps.
 const MOST_STEPS: u32 = 1000;
@@ -159,12 +157,21 @@ fn a_walk_to_the_least_key_loads_no_key_of_a_fork(rt: HostRuntime) -> Result<(),
 fn the_least_pairs_are_taken_one_after_the_other(rt: HostRuntime) -> Result<(), Fail> {
     let mut table = Table::new(rt.alloc(), 1, 20, 20)?;
     let share = two_pairs(&rt, &mut table);
-    let (_, first, share) = plays(&mut table, UpdateRun::new(PopFirst, share, 3, 2, UpdateAt::Start));
+    let (_, first, share) = plays(
+        &mut table,
+        UpdateRun::new(PopFirst, share, 3, 2, UpdateAt::Start),
+    );
     assert_eq!(rt; pair(first), Some((5, 50)));
-    let (_, second, share) = plays(&mut table, UpdateRun::new(PopFirst, share, 3, 3, UpdateAt::Start));
+    let (_, second, share) = plays(
+        &mut table,
+        UpdateRun::new(PopFirst, share, 3, 3, UpdateAt::Start),
+    );
     assert_eq!(rt; pair(second), Some((9, 90)));
     // the root's head and field, and the head of the leaf above all keys
-    let (steps, third, _) = plays(&mut table, UpdateRun::new(PopFirst, share, 3, 4, UpdateAt::Start));
+    let (steps, third, _) = plays(
+        &mut table,
+        UpdateRun::new(PopFirst, share, 3, 4, UpdateAt::Start),
+    );
     assert_eq!(rt; steps, 3);
     assert!(rt; matches!(third, Some(Updated::Done { .. })));
     assert_eq!(rt; pair(third), None);

@@ -11,9 +11,8 @@ ghost use Rattle.updates.specs.declared.update.UpdateAt.{UpdateAt};
 
 use crate::straight::changing::{self, Change};
 use crate::straight::looking::look;
-use crate::straight::resuming;
-use crate::straight::walk;
 use crate::straight::working::{fill_node, load};
+use crate::straight::{resuming, walk};
 use crate::view::SeatView;
 use crate::words::Words;
 use arena::{Layout, Machine, NodeNo, ScxNo, Shape};
@@ -24,8 +23,9 @@ use template::{Found, Tree};
 use updates::{Edit, Next, Stop, UpdateRun, Updated, anew};
 
 /// Makes an update that walks to this key: its first try in line, as long as nothing is in its way.
-/// Where something is, its machine goes on from there. No place is written before.
-#[inline(always)]
+/// Where something is, its machine goes on from there; before, the update stands nowhere. Out of
+/// line, since nothing is put in line of what would grow very large, as a call of any edit would.
+#[inline(never)]
 pub(crate) fn call<S: Shape, M: Machine<S>, E: Edit + Copy>(
     words: &Words<S>,
     layout: &Layout,

@@ -1,5 +1,5 @@
 //! Walks to a key, of whatever machine walks.
-ghost use Rattle.std.specs.Prelude.{◌≡◌, ℕ, ◌≤◌, ◌+◌, ◌*◌, suc, true, cond, ltb, IfOk, IfErr};
+ghost use Rattle.std.specs.Prelude.{◌≡◌, ◌≢◌, ◌≤◌, ◌+◌, ◌*◌, suc, true, false, cond, ltb, IfOk, IfErr};
 ghost use Rattle.arena.specs.Heads.{head_of};
 ghost use Rattle.forest.specs.TableRule.{IsTableOf};
 ghost use Rattle.forest.specs.Traces.{seat_steps, shared_nodes};
@@ -49,6 +49,24 @@ fn side_of(wanted: u64, key: u64) -> Side
     }
 }
 
+/// Whether the head that this word holds is of a class above 0. The word is asked, not the head made
+/// of it, so that a walk makes none before its end.
+#[inline(always)]
+fn is_high(word: u64) -> bool
+    ensures high { result ≡ true → (head_of word).class ≢ 0 }
+    ensures low { result ≡ false → (head_of word).class ≡ 0 }
+{
+    word % 4 != 0
+}
+
+/// Whether it is the head of a leaf.
+#[inline(always)]
+fn is_leaf(word: u64) -> bool
+    ensures { result ≡ (head_of word).leaf }
+{
+    word / 4 % 2 == 1
+}
+
 /// Ends at a leaf of class 0 that has this key.
 #[inline(always)]
 fn end<S: Shape, M: Machine<S>>(
@@ -96,19 +114,20 @@ fn pass<S: Shape, M: Machine<S>>(
     wanted: u64,
     trail: Trail,
     at: WalkAt,
-    head: Head,
+    word: u64,
 ) -> Result<Side, Found>
     requires place { LoadsHead at }
     requires table { IsTableOf words.now.table.shared.table_id words.now.table.shared.key layout.now × (seat.old.table_id ≡ words.now.table.shared.table_id) }
-    requires told { (w : Walker S.allows M.ready M.waits M.same layout.now number) × (v : ℕ) × (head_of v ≡ head) × WalkerIsTold S.allows M.ready M.waits M.same layout.now number w seat.old.me.0.passes (walk_at wanted trail at) v }
+    requires told { (w : Walker S.allows M.ready M.waits M.same layout.now number) × WalkerIsTold S.allows M.ready M.waits M.same layout.now number w seat.old.me.0.passes (walk_at wanted trail at) word }
     ensures table { (seat.new.table_id ≡ seat.old.table_id) × (seat.new.me.1 ≡ seat.old.me.1) }
     ensures steps { IfOk result (λ _. seat_steps seat.new.me.0.passes ≤ seat_steps seat.old.me.0.passes + 1) }
     ensures last_steps { IfErr result (λ _. seat_steps seat.new.me.0.passes ≤ seat_steps seat.old.me.0.passes + 2) }
-    ensures down { IfOk result (λ side. (w : Walker S.allows M.ready M.waits M.same layout.now number) (v : ℕ) → head_of v ≡ head → WalkerIsTold S.allows M.ready M.waits M.same layout.now number w seat.old.me.0.passes (walk_at wanted trail at) v → WalkerWaits S.allows M.ready M.waits M.same layout.now number w seat.new.me.0.passes (walk_at wanted trail (WalkAt.Child head.level side)) (load Kind.LoadChild (Word.Node trail.node (NodeWord.Child side)))) }
-    ensures finds { IfErr result (λ found. (w : Walker S.allows M.ready M.waits M.same layout.now number) (v : ℕ) → head_of v ≡ head → WalkerIsTold S.allows M.ready M.waits M.same layout.now number w seat.old.me.0.passes (walk_at wanted trail at) v → WalkerFinds S.allows M.ready M.waits M.same layout.now number w seat.new.me.0.passes wanted found) }
+    ensures down { IfOk result (λ side. (w : Walker S.allows M.ready M.waits M.same layout.now number) → WalkerIsTold S.allows M.ready M.waits M.same layout.now number w seat.old.me.0.passes (walk_at wanted trail at) word → WalkerWaits S.allows M.ready M.waits M.same layout.now number w seat.new.me.0.passes (walk_at wanted trail (WalkAt.Child (head_of word).level side)) (load Kind.LoadChild (Word.Node trail.node (NodeWord.Child side)))) }
+    ensures finds { IfErr result (λ found. (w : Walker S.allows M.ready M.waits M.same layout.now number) → WalkerIsTold S.allows M.ready M.waits M.same layout.now number w seat.old.me.0.passes (walk_at wanted trail at) word → WalkerFinds S.allows M.ready M.waits M.same layout.now number w seat.new.me.0.passes wanted found) }
 {
-    if head.class != 0 {
-        if head.leaf {
+    let head = Head::of(word);
+    if is_high(word) {
+        if is_leaf(word) {
             return Err(Found {
                 trail,
                 head,
@@ -120,7 +139,7 @@ fn pass<S: Shape, M: Machine<S>>(
     }
     let (kind, part) = (Kind::LoadSettled, NodeWord::Key);
     let key = read::<S, M>(words, layout, seat, number, kind, trail.node, part);
-    if head.leaf {
+    if is_leaf(word) {
         return Err(end::<S, M>(words, layout, seat, number, wanted, trail, head, key));
     }
     Ok(side_of(wanted, key))
@@ -154,8 +173,9 @@ pub(crate) fn call<S: Shape, M: Machine<S>>(
     loop {
         let node = trail.node;
         let (kind, part) = (Kind::LoadSettled, NodeWord::Head);
-        let head = Head::of(read::<S, M>(words, &layout, seat, number, kind, node, part));
-        let side = match pass::<S, M>(words, &layout, seat, number, wanted, trail, at, head) {
+        let word = read::<S, M>(words, &layout, seat, number, kind, node, part);
+        let head = Head::of(word);
+        let side = match pass::<S, M>(words, &layout, seat, number, wanted, trail, at, word) {
             Ok(side) => side,
             Err(found) => return found,
         };

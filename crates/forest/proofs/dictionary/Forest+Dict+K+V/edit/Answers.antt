@@ -1,5 +1,5 @@
 use Rattle.std.proofs.Common.{◌≡◌, ◌∙◌, sym, ap, subst, arith}
-use Rattle.dict.specs.Calls.{call_in, share_of}
+use Rattle.dict.specs.Calls.{call_in}
 use Rattle.dict.specs.Steps.{most_steps}
 use Rattle.dict.specs.Typed.{TypedAllows}
 use Rattle.dict.specs.Words.{IsWord}

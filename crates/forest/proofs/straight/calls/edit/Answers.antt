@@ -2,16 +2,13 @@ use Rattle.std.proofs.Common.{◌≡◌, refl, sym, subst}
 use Rattle.arena.specs.Machines.{Call}
 use Rattle.dict.specs.declared.dict.DictRun.{DictRun}
 use Rattle.dict.specs.WordReplies.{update_reply as word_reply}
-use Rattle.spelling.specs.OrderedMap.{edit_key}
 use Rattle.forest.specs.Dictionary.{update_reply}
-use Rattle.forest.specs.StraightCalls.{DictAllows, DictCallIsReady, DictCallWaits, IsSameDictCall, IsFreshEdit, SeatDictBegins, map_edit}
+use Rattle.forest.specs.StraightCalls.{DictAllows, DictCallIsReady, DictCallWaits, IsSameDictCall, IsFreshEdit, SeatDictBegins}
 use Rattle.forest.specs.StraightUpdate.{UpdaterBegins}
-use Rattle.forest.specs.Traces.{shared_nodes}
 use Rattle.forest.specs.declared.straight.calls.WordEdit.{WordEdit}
-use Rattle.forest.specs.declared.straight.calls.WordEdit.TheVariants.{Insert, Delete}
 use Rattle.tree.specs.Delete.Means.{delete_means}
 use Rattle.tree.specs.Insert.Means.{insert_means}
-use Rattle.forest.proofs.StraightCalls.{inserter, insert_begins, insert_ended, insert_fresh, insert_machine, deleter, delete_begins, delete_ended, delete_fresh, delete_machine, replies, tries_steps}
+use Rattle.forest.proofs.StraightCalls.{inserter, insert_begins, insert_ended, insert_fresh, insert_machine, deleter, delete_begins, delete_ended, delete_fresh, delete_machine, replies}
 use Rattle.forest.proofs.straight.calls.edit.Given.{Over}
 use Rattle.forest.proofs.straight.calls.edit.Goals.{After-new-run, After-new-run-in-Delete}
 use Rattle.forest.proofs.straight.calls.edit.Goals as goal

@@ -4,7 +4,7 @@ use Rattle.arena.specs.MemberIndex.{member_index}
 use Rattle.arena.specs.Words.{info}
 use Rattle.arena.specs.declared.step.Access.TheVariants.{Exchange}
 use Rattle.arena.specs.declared.step.Kind.TheVariants.{Freeze}
-use Rattle.arena.specs.declared.word.ScxWord.TheVariants.{Member, Seen}
+use Rattle.arena.specs.declared.word.ScxWord.TheVariants.{Member}
 use Rattle.help.specs.Help.Known.{node_at, settled_load}
 use Rattle.help.specs.declared.state.HelpAt.TheVariants.{Member as AtMember, Seen as AtSeen, Freeze as AtFreeze}
 use Rattle.help.specs.declared.state.HelpRun.{HelpRun}

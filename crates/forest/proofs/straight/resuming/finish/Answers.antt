@@ -1,4 +1,4 @@
-use Rattle.std.proofs.Common.{◌≡◌, ◌∙◌, arith}
+use Rattle.std.proofs.Common.{◌∙◌, arith}
 use Rattle.forest.specs.StraightUpdate.{Updater, UpdaterIsTold, UpdaterStands}
 use Rattle.forest.specs.Traces.{shared_nodes}
 use Rattle.updates.specs.Steps.{IsNearer, update_left}

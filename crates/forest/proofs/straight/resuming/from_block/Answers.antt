@@ -1,4 +1,4 @@
-use Rattle.std.proofs.Common.{◌≡◌, arith}
+use Rattle.std.proofs.Common.{arith}
 use Rattle.forest.specs.Traces.{shared_nodes}
 use Rattle.forest.proofs.StraightUpdate.{has_passes, blocks_there, left_blocked}
 use Rattle.forest.proofs.straight.resuming.from_block.Goals as goal

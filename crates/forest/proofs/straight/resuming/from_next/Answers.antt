@@ -1,4 +1,4 @@
-use Rattle.std.proofs.Common.{◌≡◌, arith}
+use Rattle.std.proofs.Common.{arith}
 use Rattle.forest.specs.Traces.{shared_nodes}
 use Rattle.forest.proofs.Advances.{weighs}
 use Rattle.forest.proofs.StraightUpdate.{has_passes, left_there, stands_there, stops_there}

@@ -1,4 +1,4 @@
-use Rattle.std.proofs.Common.{◌≡◌, ◌∙◌, ap, arith}
+use Rattle.std.proofs.Common.{◌∙◌, ap}
 use Rattle.std.specs.Prelude.{Ok, Err}
 use Rattle.forest.specs.StraightUpdate.{Updater, UpdaterGoesOn}
 use Rattle.forest.specs.Traces.{shared_nodes}
