@@ -4,6 +4,7 @@
 mod alone;
 mod edit;
 mod update;
+mod work;
 
 pub use alone::alone_holds;
 pub use edit::{Edit, Loaded, Look, Need, Nodes, Nth, Piece};
