@@ -113,7 +113,7 @@ module _ {K V : Type 0} (valid_key : K → Type 0) (key : K → ℕ) (valid_valu
 
   -- and so may a machine of an edit
   pub edit_starts : {T : Type 0} (p : Inside T) (x : IsPass allows Tree p) (m : DictRun K V) (ed : WordEdit) (tries number : ℕ) → taken_of (pass_view p) ≡ number → IsTypedCall keys values (EditCall (map_edit ed)) → IsFreshEdit ed p.share tries number m → CallBegins allows (DictIsReady keys values) (call_of p x (taken_of (pass_view p))) p.seat.me.0.passes m
-  edit_starts p x m ed tries number named typed fresh = dict_starts p x m (rw fresh.call typed) (rw (fresh.tries, named) fresh.unbegun) (rw fresh.call tt) fresh.share
+  edit_starts p x m ed tries number named typed fresh = dict_starts p x m (rw fresh.is_call typed) (rw (fresh.has_tries, named) fresh.unbegun) (rw fresh.is_call tt) fresh.has_share
 
   module _ {T : Type 0} (p : Inside T) (x : IsPass allows Tree p) (s : Seat ℕ SeatView) (m : DictRun K V) (reply : Reply K V) where
     -- the number of the call

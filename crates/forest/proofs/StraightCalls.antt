@@ -16,7 +16,8 @@ use Rattle.updates.specs.declared.update.UpdateAt.{UpdateAt}
 use Rattle.updates.specs.declared.update.UpdateAt.TheVariants.{Start}
 use Rattle.updates.specs.declared.update.UpdateRun.{UpdateRun}
 use Rattle.updates.specs.declared.update.Updated.{Updated}
-use Rattle.dict.specs.Known.{Goes}
+use Rattle.arena.specs.declared.limits.Mode.TheVariants.{Tree}
+use Rattle.dict.specs.Known.{Goes, MapAnswers}
 use Rattle.dict.specs.Typed.{IsTypedCall}
 use Rattle.dict.specs.TypedMaps.{typed_run}
 use Rattle.dict.specs.Words.{IsWord, IsValidReply}
@@ -28,12 +29,12 @@ use Rattle.spelling.specs.declared.reply.Reply.{Reply}
 use Rattle.dict.specs.declared.told.WordReply.{WordReply}
 use Rattle.dict.proofs.Lemmas.{insert_ends, delete_ends, edit_spends, dict_ends}
 use Rattle.forest.specs.declared.view.SeatedPass.{SeatedPass}
-use Rattle.forest.specs.StraightCalls.{DictAllows, DictCallIsReady, DictCallWaits, IsSameDictCall, SeatDictBegins, SeatDictEnds, SeatUpdateEnds, IsFreshEdit}
+use Rattle.forest.specs.StraightCalls.{DictAllows, DictCallIsReady, DictCallWaits, IsSameDictCall, SeatDictBegins, SeatDictEnds, IsFreshEdit}
 use Rattle.forest.specs.StraightUpdate.{Updater, HasGoneOn, UpdaterBegins, UpdaterEnds}
 use Rattle.forest.specs.declared.straight.calls.WordEdit.TheVariants as edits
 use Rattle.forest.proofs.StraightUpdate.{answers_there}
 use Rattle.forest.specs.TableRule.{history_of}
-use Rattle.forest.specs.Traces.{begins, goes_on}
+use Rattle.forest.specs.Traces.{HoldsForCall, Trace, begins, goes_on}
 
 module _ {K V : Type 0} (valid_key : K → Type 0) (key : K → ℕ) (valid_value : V → Type 0) (value_word : V → ℕ) where
   abbrev allows : Layout → History → ℕ → Type 0
@@ -53,6 +54,10 @@ module _ {K V : Type 0} (valid_key : K → Type 0) (key : K → ℕ) (valid_valu
 
   abbrev values : ℕ → Type 0
   values = IsWord valid_value value_word
+
+  -- its update has answered this
+  abbrev SeatUpdateEnds : Call → List SeatedPass → DictRun K V → DictRun K V → Updated → Type 0
+  SeatUpdateEnds c ps first m a = HoldsForCall allows ps c (λ h. ((c.layout.mode ≡ Tree) × MapAnswers m.tries m.run c h (update_reply a)) × Trace allows waits same c first m h)
 
   module _ (machine : DictRun K V) (c : Call) (layout : Layout) (number : ℕ) (is_layout : c.layout ≡ layout) (is_number : c.number ≡ number) where
     -- Inserts
@@ -90,7 +95,7 @@ module _ {K V : Type 0} (valid_key : K → Type 0) (key : K → ℕ) (valid_valu
     unfolding inserter
     insert_begins ps m is x = record { known = x.known; is = x.is; sound = x.sound; so = (subst (λ r. ready (record machine { run = r }) c (history_of c.layout.mode x.known) None) is x.so.1, begins (λ i. record machine { run = sym is i }) (sym x.so.0)) }
 
-    pub insert_ended : (ps : List SeatedPass) {A : Type 0} (m : UpdateRun Inserted A) (a : Updated) → UpdaterEnds allows ready waits same insert_means layout number inserter ps m a → SeatUpdateEnds valid_key key valid_value value_word c ps machine (inserting (standing m Start)) a
+    pub insert_ended : (ps : List SeatedPass) {A : Type 0} (m : UpdateRun Inserted A) (a : Updated) → UpdaterEnds allows ready waits same insert_means layout number inserter ps m a → SeatUpdateEnds c ps machine (inserting (standing m Start)) a
     unfolding inserter insert_call
     insert_ended ps m a x = let y = x.so in record {
       known = x.known;
@@ -137,7 +142,7 @@ module _ {K V : Type 0} (valid_key : K → Type 0) (key : K → ℕ) (valid_valu
     unfolding deleter
     delete_begins ps m is x = record { known = x.known; is = x.is; sound = x.sound; so = (subst (λ r. ready (record machine { run = r }) c (history_of c.layout.mode x.known) None) is x.so.1, begins (λ i. record machine { run = sym is i }) (sym x.so.0)) }
 
-    pub delete_ended : (ps : List SeatedPass) {A : Type 0} (m : UpdateRun Deleted A) (a : Updated) → UpdaterEnds allows ready waits same delete_means layout number deleter ps m a → SeatUpdateEnds valid_key key valid_value value_word c ps machine (deleting (standing m Start)) a
+    pub delete_ended : (ps : List SeatedPass) {A : Type 0} (m : UpdateRun Deleted A) (a : Updated) → UpdaterEnds allows ready waits same delete_means layout number deleter ps m a → SeatUpdateEnds c ps machine (deleting (standing m Start)) a
     unfolding deleter delete_call
     delete_ended ps m a x = let y = x.so in record {
       known = x.known;
@@ -150,7 +155,7 @@ module _ {K V : Type 0} (valid_key : K → Type 0) (key : K → ℕ) (valid_valu
     }
 
   -- an update that has answered is told as a reply of keys and values
-  pub replies : (c : Call) (ps : List SeatedPass) (first m : DictRun K V) (a : Updated) (w : WordReply) (r : Reply K V) → w ≡ update_reply a → IsValidReply valid_key valid_value r → IsTranslated valid_key key valid_value value_word w r → HasFormOf w r → SeatUpdateEnds valid_key key valid_value value_word c ps first m a → SeatDictEnds valid_key key valid_value value_word c ps first m r
+  pub replies : (c : Call) (ps : List SeatedPass) (first m : DictRun K V) (a : Updated) (w : WordReply) (r : Reply K V) → w ≡ update_reply a → IsValidReply valid_key valid_value r → IsTranslated valid_key key valid_value value_word w r → HasFormOf w r → SeatUpdateEnds c ps first m a → SeatDictEnds valid_key key valid_value value_word c ps first m r
   replies c ps first m a w r is valid says form x = record {
     known = x.known;
     is = x.is;
@@ -175,18 +180,18 @@ module _ {K V A : Type 0} where
   module _ (share : Remaining) (tries number : ℕ) (some : 0 < tries) where
     pub insert_fresh : (m : UpdateRun Inserted A) (ed : Inserted) → m.edit ≡ ed → m.share ≡ share → m.call ≡ number → m.tries ≡ tries - 1 → ed.key < 2 ^ 64 → IsFreshEdit (edits.Insert ed) share tries number (insert_machine tries m)
     insert_fresh m ed is_edit is_share is_call is_tries small = record {
-      call = ap (λ (e : Inserted). Edit (InsertEdit e.key e.value)) is_edit;
-      tries = refl;
+      is_call = ap (λ (e : Inserted). Edit (InsertEdit e.key e.value)) is_edit;
+      has_tries = refl;
       unbegun = (refl, all_tries m.tries tries some is_tries, is_call, subst (λ (e : Inserted). e.key < 2 ^ 64) (sym is_edit) small);
-      share = is_share;
+      has_share = is_share;
     }
 
     pub delete_fresh : (m : UpdateRun Deleted A) (ed : Deleted) → m.edit ≡ ed → m.share ≡ share → m.call ≡ number → m.tries ≡ tries - 1 → ed.key < 2 ^ 64 → IsFreshEdit (edits.Delete ed) share tries number (delete_machine tries m)
     delete_fresh m ed is_edit is_share is_call is_tries small = record {
-      call = ap (λ (e : Deleted). Edit (DeleteEdit e.key)) is_edit;
-      tries = refl;
+      is_call = ap (λ (e : Deleted). Edit (DeleteEdit e.key)) is_edit;
+      has_tries = refl;
       unbegun = (refl, all_tries m.tries tries some is_tries, is_call, subst (λ (e : Deleted). e.key < 2 ^ 64) (sym is_edit) small);
-      share = is_share;
+      has_share = is_share;
     }
 
 -- all tries have as many steps as each of them so many times

@@ -1,27 +1,24 @@
 -- Whole calls of a dictionary.
 use Rattle.std.specs.Prelude.{◌≡◌, ℕ, List, Option, Result}
 use Rattle.arena.specs.declared.layout.Layout.{Layout}
-use Rattle.arena.specs.declared.limits.Mode.TheVariants.{Tree}
 use Rattle.arena.specs.declared.step.Step.{Step}
 use Rattle.arena.specs.History.{History}
 use Rattle.arena.specs.Machines.{Call}
 use Rattle.arena.specs.Share.{Remaining}
 use Rattle.dict.specs.Calls.{call_in, share_of}
 use Rattle.dict.specs.DictKnown.{DictIsReady, DictWaits, DictAnswers}
-use Rattle.dict.specs.Known.{IsUnbegun, MapAnswers}
+use Rattle.dict.specs.Known.{IsUnbegun}
 use Rattle.dict.specs.Typed.{TypedAllows}
-use Rattle.dict.specs.WordReplies.{update_reply}
 use Rattle.dict.specs.Words.{IsWord}
 use Rattle.dict.specs.declared.dict.DictRun.{DictRun}
 use Rattle.spelling.specs.declared.reply.Reply.{Reply}
-use Rattle.updates.specs.declared.update.Updated.{Updated}
 use Rattle.spelling.specs.OrderedMap.{MapEdit, Edit, Insert, Delete}
 use Rattle.forest.specs.Dictionary.{update_reply as answer}
 use Rattle.forest.specs.declared.fault.UpdateFault.{UpdateFault}
 use Rattle.forest.specs.declared.straight.calls.WordEdit.{WordEdit}
 use Rattle.forest.specs.declared.straight.calls.WordEdit.TheVariants as edits
 use Rattle.forest.specs.declared.view.SeatedPass.{SeatedPass}
-use Rattle.forest.specs.Traces.{CallBegins, HoldsForCall, Trace, Ends}
+use Rattle.forest.specs.Traces.{CallBegins, Ends}
 
 -- the edit of the map that this is
 abbrev pub map_edit : WordEdit → MapEdit
@@ -30,11 +27,11 @@ map_edit (edits.Delete e) = Delete e.key
 
 -- a machine that makes this edit with so many tries and this share, in the call of this number, has
 -- not begun
-pub record IsFreshEdit {K V : Type 0} (ed : WordEdit) (left : Remaining) (most number : ℕ) (m : DictRun K V) : Type 0 where
-  pub call : call_in m.run ≡ Edit (map_edit ed)
-  pub tries : m.tries ≡ most
-  pub unbegun : IsUnbegun m.run most number
-  pub share : share_of m.run ≡ left
+pub record IsFreshEdit {K V : Type 0} (edit : WordEdit) (share : Remaining) (tries number : ℕ) (m : DictRun K V) : Type 0 where
+  pub is_call : call_in m.run ≡ Edit (map_edit edit)
+  pub has_tries : m.tries ≡ tries
+  pub has_share : share_of m.run ≡ share
+  pub unbegun : IsUnbegun m.run tries number
 
 -- `valid` says of a key or a value whether it is one of its type, `word` which word stands for it.
 module _ {K V : Type 0} (valid_key : K → Type 0) (key : K → ℕ) (valid_value : V → Type 0) (value : V → ℕ) where
@@ -63,15 +60,11 @@ module _ {K V : Type 0} (valid_key : K → Type 0) (key : K → ℕ) (valid_valu
     abbrev pub SeatDictEnds : DictRun K V → Reply K V → Type 0
     SeatDictEnds = Ends DictAllows DictCallWaits IsSameDictCall c ps first (DictAnswers valid_key key valid_value value)
 
-    -- its update has answered this
-    abbrev pub SeatUpdateEnds : DictRun K V → Updated → Type 0
-    SeatUpdateEnds m a = HoldsForCall DictAllows ps c (λ h. ((c.layout.mode ≡ Tree) × MapAnswers m.tries m.run c h (update_reply a)) × Trace DictAllows DictCallWaits IsSameDictCall c first m h)
-
   -- The call of an edit has ended with this answer: a machine of the edit has begun it, and one that
   -- has so much of the share left has ended it.
-  pub record HasEnded (c : Call) (ps : List SeatedPass) (ed : WordEdit) (share : Remaining) (tries number : ℕ) (left : Remaining) (told : Result (Option V) UpdateFault) : Type 0 where
+  pub record EditHasEnded (c : Call) (ps : List SeatedPass) (edit : WordEdit) (share : Remaining) (tries number : ℕ) (left : Remaining) (told : Result (Option V) UpdateFault) : Type 0 where
     pub first : DictRun K V
     pub last : DictRun K V
-    pub fresh : IsFreshEdit ed share tries number first
+    pub fresh : IsFreshEdit edit share tries number first
     pub is_left : share_of last.run ≡ left
     pub ends : SeatDictEnds c ps first last (answer told)

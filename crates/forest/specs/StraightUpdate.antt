@@ -1,4 +1,4 @@
--- Calls that stand at a place of an update, of whatever machine updates.
+-- Calls of updates, of whatever machine updates: at a place of it, or before it has begun.
 use Rattle.std.specs.Prelude.{◌≡◌, ℕ, List, Option, None, Result, Ok, Err}
 use Rattle.arena.specs.declared.layout.Layout.{Layout}
 use Rattle.arena.specs.declared.machine.Turn.{Turn}
@@ -68,7 +68,7 @@ module _ {M E : Type 0} (allows : Layout → History → ℕ → Type 0) (ready 
     pub course : Trace allows waits same u.call u.first (u.with_run old) h
 
   module _ (u : Updater) (ps : List SeatedPass) where
-    -- its update has not begun
+    -- its update has not begun: the call begins with its machine at the start
     abbrev pub UpdaterBegins : {A : Type 0} → UpdateRun E A → Type 0
     UpdaterBegins m = HoldsForCall allows ps u.call (λ h. ready (u.with_run (standing m Start)) u.call h None × Trace allows waits same u.call u.first (u.with_run (standing m Start)) h)
 

@@ -72,6 +72,7 @@ impl Blamed {
             self.push(*scx);
         }
     }
+
     /// Takes in what the answer of an edit blames.
     pub(crate) fn note_update<V>(&mut self, told: &Result<Option<V>, UpdateFault>)
         ensures { self.new ≡ blamed_by_update told.now self.old }

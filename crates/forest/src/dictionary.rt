@@ -1,5 +1,5 @@
 //! A dictionary that threads share.
-ghost use Rattle.std.specs.Prelude.{◌≡◌, ◌<◌, ◌≤◌, ◌+◌, ◌*◌, ◌^◌, ◌↔◌, Err, IfOk, IfSome, IsSome, OnOk};
+ghost use Rattle.std.specs.Prelude.{◌≡◌, ◌<◌, ◌≤◌, ◌+◌, ◌*◌, ◌^◌, ◌↔◌, Err, IfOk, IfSome, OnOk};
 ghost use Rattle.std.specs.List.{All};
 ghost use Rattle.std.specs.Option.{option_map};
 ghost use Rattle.arena.specs.Limits.{IsAccepted, IsLayoutOf};
@@ -180,7 +180,7 @@ impl<K: WordKey, V: WordValue> Forest<Dict<K, V>> {
         let number = pass.taken();
         let share = replace(&mut pass.share, Share::of(&self.layout, pass.number));
         let (words, layout, seat) = (&self.words, &self.layout, &mut pass.seat);
-        let (told, share) = calls::edit(words, layout, seat, number, share, self.tries, edit);
+        let (told, share) = calls::make(words, layout, seat, number, share, self.tries, edit);
         pass.share = share;
         pass.blamed.note_update(&told);
         told

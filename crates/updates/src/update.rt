@@ -1,16 +1,15 @@
 //! The machine of an edit of the tree.
 ghost use Rattle.std.specs.Prelude.{◌≡◌, ℕ, ◌+◌, ◌*◌, ◌-◌, ◌<◌, ◌≤◌, length};
 ghost use Rattle.arena.specs.Machines.{MatchTurn};
-ghost use Rattle.updates.specs.Steps.{try_left, works_behind, works_left, update_left, IsNearer};
+ghost use Rattle.updates.specs.Steps.{try_left, works_behind, update_left, IsNearer};
 
-use crate::edit::{Edit, Loaded, Look, Need, Nodes, Nth};
+use crate::edit::{Edit, Loaded, Nodes, Nth};
 use arena::{
-    Access, Full, Head, Kind, Machine, MemberIndex, NodeNo, NodeWord, Plan, Resource, ScxNo,
-    ScxWord, Share, Step, Turn, Word,
+    Access, Full, Head, Kind, Machine, NodeNo, NodeWord, ScxNo, ScxWord, Share, Step, Turn, Word,
 };
 use arrayvec::ArrayVec;
 use help::HelpRun;
-use prims::{Llx, LlxAt, LlxRun, Scx, ScxAt, ScxRun, Snap, SnapList, Snaps, Update};
+use prims::{Llx, LlxAt, LlxRun, Scx, ScxAt, ScxRun, Snap};
 use template::{Found, Trail, Tree, WalkRun};
 
 /// What an update answers.
@@ -174,8 +173,7 @@ impl<E: Edit + Drop> UpdateRun<E, UpdateAt> {
     ghost use Rattle.prims.specs.Llx.Known.{LlxIsReady};
     ghost use Rattle.prims.specs.Scx.Known.{ScxIsReady};
     ghost use Rattle.spelling.specs.TreeShape.{TreeAllows};
-    ghost use Rattle.updates.specs.Known.{Begins, IsUntouched, Looks, Scxs, UpdateTurn, copied};
-    ghost use Rattle.arena.specs.Words.{node};
+    ghost use Rattle.updates.specs.Known.{Begins, IsUntouched, Looks, Scxs, UpdateTurn};
     ghost use Rattle.updates.specs.Laws.HandScx.{from};
     ghost use Rattle.updates.specs.Steps.{IsSpending, node_tries, scx_tries};
     ghost use Rattle.updates.specs.Next.{IsSameUpdate, placed, next_step, fills, update_of, MayStop, GoesOn, ComesNearer, HasSpent};
@@ -404,7 +402,6 @@ impl<E: Edit + Drop> UpdateRun<E, UpdateAt> {
     }
 
     /// Ends a try before its SCX, and begins the next if it is lost and there is one.
-    #[inline(always)]
     pub fn stop(&mut self, found: &Found, stop: Stop) -> Turn<Updated>
         ensures turn { (c : Call) (h : History) → IsRun TreeAllows c.layout h → MayStop E.means c h self.old found.now stop → UpdateTurn E.means c h self.new result }
         ensures same { IsSameUpdate self.old self.new }
@@ -437,8 +434,8 @@ impl<E: Edit + Drop> UpdateRun<E, UpdateAt> {
         }
     }
 
-    /// Goes on with what the last step found; with nothing at the first call, which asks for a step.
-    /// Out of line, so that machines with an update among others do not pay for its locals.
+    /// Goes on with what the last step found; with nothing at the first call, which asks for a
+    /// step. Out of line, so that machines with an update among others do not pay for its locals.
     #[inline(never)]
     pub fn step(&mut self, got: Option<u64>) -> Turn<Updated>
         ensures turn { (c : Call) (h : History) → IsRun TreeAllows c.layout h → UpdateIsReady E.means self.old c h got → UpdateTurn E.means c h self.new result }

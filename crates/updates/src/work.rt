@@ -29,7 +29,7 @@ impl<E: Edit + Drop, A: Drop> UpdateRun<E, A> {
     ghost use Rattle.updates.specs.Tries.{IsTry};
     ghost use Rattle.prims.specs.Laws.Idle.{IsQuietSince};
 
-    /// A run at this place, or at none, which has taken nothing, in the caller's call of this number.
+    /// A run at this place, or at none, in the caller's call of this number.
     #[inline(always)]
     pub fn new(edit: E, share: Share, tries: u32, call: u64, at: A) -> UpdateRun<E, A>
         ensures place { result.at ≡ at }

@@ -10,7 +10,7 @@ ghost use Rattle.spelling.specs.OrderedMap.{Edit as EditCall, edit_key};
 ghost use Rattle.forest.specs.Dictionary.{update_reply};
 ghost use Rattle.forest.specs.TableRule.{IsTableOf};
 ghost use Rattle.forest.specs.Traces.{seat_steps, shared_nodes};
-ghost use Rattle.forest.specs.StraightCalls.{HasEnded, IsFreshEdit, SeatDictBegins, map_edit};
+ghost use Rattle.forest.specs.StraightCalls.{EditHasEnded, IsFreshEdit, SeatDictBegins, map_edit};
 
 use crate::fault::UpdateFault;
 use crate::straight::updating;
@@ -29,9 +29,9 @@ pub(crate) enum WordEdit {
     Delete(Delete),
 }
 
-/// What an update tells, of values.
+/// What the caller of an edit gets of what its update has answered.
 #[inline(always)]
-fn told<K: WordKey, V: WordValue>(updated: Updated) -> Result<Option<V>, UpdateFault>
+fn of_update<K: WordKey, V: WordValue>(updated: Updated) -> Result<Option<V>, UpdateFault>
     ensures valid { IsValidReply K.is_valid V.is_valid (update_reply {K = K} result) }
     ensures says { IsTranslated K.is_valid K.word_of V.is_valid V.word_of (word_reply updated) (update_reply {K = K} result) }
     ensures form { HasFormOf (word_reply updated) (update_reply {K = K} result) }
@@ -45,7 +45,7 @@ fn told<K: WordKey, V: WordValue>(updated: Updated) -> Result<Option<V>, UpdateF
 
 /// Makes an edit with so many tries and this share, and tells what is left of that.
 #[inline(always)]
-pub(crate) fn edit<K: WordKey, V: WordValue>(
+pub(crate) fn make<K: WordKey, V: WordValue>(
     words: &Words<Dict<K, V>>,
     layout: &Layout,
     seat: &mut Seat<u8, SeatView>,
@@ -59,7 +59,7 @@ pub(crate) fn edit<K: WordKey, V: WordValue>(
     requires small { edit_key (map_edit edit) < 2 ^ 64 }
     requires begins { (c : Call) × (c.layout ≡ layout.now) × (c.number ≡ number) × ((first : Run K V) → IsFreshEdit edit share tries number first → SeatDictBegins K.is_valid K.word_of V.is_valid V.word_of c seat.old.me.0.passes first) }
     ensures table { (seat.new.table_id ≡ seat.old.table_id) × (seat.new.me.1 ≡ seat.old.me.1) }
-    ensures ends { (c : Call) → c.layout ≡ layout.now → c.number ≡ number → ((first : Run K V) → IsFreshEdit edit share tries number first → SeatDictBegins K.is_valid K.word_of V.is_valid V.word_of c seat.old.me.0.passes first) → HasEnded K.is_valid K.word_of V.is_valid V.word_of c seat.new.me.0.passes edit share tries number result.1 result.0 }
+    ensures ends { (c : Call) → c.layout ≡ layout.now → c.number ≡ number → ((first : Run K V) → IsFreshEdit edit share tries number first → SeatDictBegins K.is_valid K.word_of V.is_valid V.word_of c seat.old.me.0.passes first) → EditHasEnded K.is_valid K.word_of V.is_valid V.word_of c seat.new.me.0.passes edit share tries number result.1 result.0 }
     ensures steps { seat_steps seat.new.me.0.passes ≤ seat_steps seat.old.me.0.passes + most_steps (EditCall (map_edit edit)) tries (shared_nodes layout.now) }
 {
     match edit {
@@ -68,14 +68,14 @@ pub(crate) fn edit<K: WordKey, V: WordValue>(
             let updated = updating::call::<Dict<K, V>, DictRun<K, V>, Insert>(
                 words, layout, seat, number, &mut run, edit.key,
             );
-            (told::<K, V>(updated), run.into_share())
+            (of_update::<K, V>(updated), run.into_share())
         }
         WordEdit::Delete(edit) => {
             let mut run = UpdateRun::new(edit, share, tries, number, ());
             let updated = updating::call::<Dict<K, V>, DictRun<K, V>, Delete>(
                 words, layout, seat, number, &mut run, edit.key,
             );
-            (told::<K, V>(updated), run.into_share())
+            (of_update::<K, V>(updated), run.into_share())
         }
     }
 }

@@ -1,5 +1,5 @@
 //! Updates that meet something in their way: their machine goes on from there.
-ghost use Rattle.std.specs.Prelude.{◌≡◌, ◌≤◌, ◌<◌, ◌+◌};
+ghost use Rattle.std.specs.Prelude.{◌≡◌, ◌≤◌, ◌<◌, ◌+◌, ◌*◌, suc};
 ghost use Rattle.forest.specs.TableRule.{IsTableOf};
 ghost use Rattle.forest.specs.Traces.{seat_steps, shared_nodes, weight};
 ghost use Rattle.forest.specs.StraightUpdate.{Updater, UpdaterEnds, UpdaterGoesOn, UpdaterIsBlocked, UpdaterStands};
@@ -19,8 +19,8 @@ use std::mem::replace;
 use template::Found;
 use updates::{Edit, Next, Stop, UpdateAt, UpdateRun, Updated};
 
-/// Takes an update out, to stand at its start. Until it comes back one that has nothing to do with
-/// it is in its place.
+/// Takes an update out, to be put at a place. Until it comes back, another stands in for it, whose
+/// share nobody takes from: that of some pass, since a share is always one's.
 fn take_up<E: Edit + Copy>(run: &mut UpdateRun<E, ()>, layout: &Layout) -> UpdateRun<E, UpdateAt>
     requires some { 0 < layout.now.passes }
     ensures { result ≡ standing run.old Places.Start }
@@ -37,23 +37,23 @@ fn finish<S: Shape, M: Machine<S>, E: Edit + Copy>(
     seat: &mut Seat<u8, SeatView>,
     number: u64,
     run: &mut UpdateRun<E, ()>,
-    mut standing: UpdateRun<E, UpdateAt>,
+    mut machine: UpdateRun<E, UpdateAt>,
     mut turn: Turn<Updated>,
 ) -> Updated
     requires table { IsTableOf words.now.table.shared.table_id words.now.table.shared.key layout.now × (seat.old.table_id ≡ words.now.table.shared.table_id) }
-    requires stands { (u : Updater S.allows M.ready M.waits M.same E.means layout.now number) × UpdaterStands S.allows M.ready M.waits M.same E.means layout.now number u seat.old.me.0.passes standing turn }
+    requires stands { (u : Updater S.allows M.ready M.waits M.same E.means layout.now number) × UpdaterStands S.allows M.ready M.waits M.same E.means layout.now number u seat.old.me.0.passes machine turn }
     ensures table { (seat.new.table_id ≡ seat.old.table_id) × (seat.new.me.1 ≡ seat.old.me.1) }
-    ensures ends { (u : Updater S.allows M.ready M.waits M.same E.means layout.now number) → UpdaterStands S.allows M.ready M.waits M.same E.means layout.now number u seat.old.me.0.passes standing turn → UpdaterEnds S.allows M.ready M.waits M.same E.means layout.now number u seat.new.me.0.passes run.new result }
-    ensures steps { seat_steps seat.new.me.0.passes ≤ seat_steps seat.old.me.0.passes + weight turn (update_left E.means standing (shared_nodes layout.now)) }
+    ensures ends { (u : Updater S.allows M.ready M.waits M.same E.means layout.now number) → UpdaterStands S.allows M.ready M.waits M.same E.means layout.now number u seat.old.me.0.passes machine turn → UpdaterEnds S.allows M.ready M.waits M.same E.means layout.now number u seat.new.me.0.passes run.new result }
+    ensures steps { seat_steps seat.new.me.0.passes ≤ seat_steps seat.old.me.0.passes + weight turn (update_left E.means machine (shared_nodes layout.now)) }
 {
     loop {
         match turn {
             Turn::Ask(asked) => {
                 let told = step::<S, M>(words, layout, seat, number, asked);
-                turn = standing.step(Some(told));
+                turn = machine.step(Some(told));
             }
             Turn::Done(updated) => {
-                *run = standing.stand(());
+                *run = machine.stand(());
                 return updated;
             }
         }
@@ -78,15 +78,15 @@ pub(crate) fn from_next<S: Shape, M: Machine<S>, E: Edit + Copy>(
     ensures ends { (u : Updater S.allows M.ready M.waits M.same E.means layout.now number) → UpdaterGoesOn S.allows M.ready M.waits M.same E.means layout.now number u seat.old.me.0.passes run.old found.now next → UpdaterEnds S.allows M.ready M.waits M.same E.means layout.now number u seat.new.me.0.passes run.new result }
     ensures steps { seat_steps seat.new.me.0.passes ≤ seat_steps seat.old.me.0.passes + left_then E.means run.old found.now next (shared_nodes layout.now) }
 {
-    let mut standing = take_up(run, layout);
+    let mut machine = take_up(run, layout);
     match next {
         Ok(next) => {
-            let turn = standing.begin(*found, next);
-            finish::<S, M, E>(words, layout, seat, number, run, standing, turn)
+            let turn = machine.begin(*found, next);
+            finish::<S, M, E>(words, layout, seat, number, run, machine, turn)
         }
         Err(stop) => {
-            let turn = standing.stop(found, stop);
-            finish::<S, M, E>(words, layout, seat, number, run, standing, turn)
+            let turn = machine.stop(found, stop);
+            finish::<S, M, E>(words, layout, seat, number, run, machine, turn)
         }
     }
 }
@@ -110,9 +110,7 @@ pub(crate) fn from_block<S: Shape, M: Machine<S>, E: Edit + Copy>(
     ensures ends { (u : Updater S.allows M.ready M.waits M.same E.means layout.now number) → UpdaterIsBlocked S.allows M.ready M.waits M.same E.means layout.now number u seat.old.me.0.passes run.old found.now scx help.now → UpdaterEnds S.allows M.ready M.waits M.same E.means layout.now number u seat.new.me.0.passes run.new result }
     ensures steps { seat_steps seat.new.me.0.passes ≤ seat_steps seat.old.me.0.passes + suc (run.old.tries * try_left E.means (shared_nodes layout.now) + scx_left (ScxAt.Help help.now)) }
 {
-    let mut standing = take_up(run, layout);
-    let turn = standing.block(*found, scx, *help);
-    finish::<S, M, E>(words, layout, seat, number, run, standing, turn)
+    let mut machine = take_up(run, layout);
+    let turn = machine.block(*found, scx, *help);
+    finish::<S, M, E>(words, layout, seat, number, run, machine, turn)
 }
-
-ghost use Rattle.std.specs.Prelude.{suc, ◌*◌};

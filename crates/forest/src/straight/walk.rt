@@ -49,8 +49,8 @@ fn side_of(wanted: u64, key: u64) -> Side
     }
 }
 
-/// Whether the head that this word holds is of a class above 0. The word is asked, not the head made
-/// of it, so that a walk makes none before its end.
+/// Whether the head in this word is of a class above 0. A walk asks the word at each node, so that
+/// of the heads that it makes of them the compiler keeps the last alone.
 #[inline(always)]
 fn is_high(word: u64) -> bool
     ensures high { result ≡ true → (head_of word).class ≢ 0 }
@@ -59,7 +59,7 @@ fn is_high(word: u64) -> bool
     word % 4 != 0
 }
 
-/// Whether it is the head of a leaf.
+/// Whether the head in this word is a leaf's.
 #[inline(always)]
 fn is_leaf(word: u64) -> bool
     ensures { result ≡ (head_of word).leaf }

@@ -9,9 +9,9 @@ use Rattle.forest.specs.declared.straight.calls.WordEdit.{WordEdit}
 use Rattle.tree.specs.Delete.Means.{delete_means}
 use Rattle.tree.specs.Insert.Means.{insert_means}
 use Rattle.forest.proofs.StraightCalls.{inserter, insert_begins, insert_ended, insert_fresh, insert_machine, deleter, delete_begins, delete_ended, delete_fresh, delete_machine, replies}
-use Rattle.forest.proofs.straight.calls.edit.Given.{Over}
-use Rattle.forest.proofs.straight.calls.edit.Goals.{After-new-run, After-new-run-in-Delete}
-use Rattle.forest.proofs.straight.calls.edit.Goals as goal
+use Rattle.forest.proofs.straight.calls.make.Given.{Over}
+use Rattle.forest.proofs.straight.calls.make.Goals.{After-new-run, After-new-run-in-Delete}
+use Rattle.forest.proofs.straight.calls.make.Goals as goal
 
 -- Inserts
 
@@ -34,7 +34,7 @@ returns-in-Insert-clause-ends g c = λ call lay number x. let k = (goal.at.retur
   last = insert_machine c.args.tries c.call-updated.new.run;
   fresh = insert_is_fresh g k;
   is_left = sym c.into_share.ensures;
-  ends = replies g.K.WordKey.is_valid g.K.WordKey.word_of g.V.WordValue.is_valid g.V.WordValue.word_of call _ (insert_first g k) (insert_machine c.args.tries c.call-updated.new.run) c.call-updated.result (word_reply c.call-updated.result) (update_reply c.told.result) refl c.told.ensures.valid c.told.ensures.says c.told.ensures.form
+  ends = replies g.K.WordKey.is_valid g.K.WordKey.word_of g.V.WordValue.is_valid g.V.WordValue.word_of call _ (insert_first g k) (insert_machine c.args.tries c.call-updated.new.run) c.call-updated.result (word_reply c.call-updated.result) (update_reply c.of_update.result) refl c.of_update.ensures.valid c.of_update.ensures.says c.of_update.ensures.form
       (insert_ended g.K.WordKey.is_valid g.K.WordKey.word_of g.V.WordValue.is_valid g.V.WordValue.word_of (insert_first g k) call c.args.layout.now c.args.number lay number _ c.call-updated.new.run c.call-updated.result
       (c.call-updated.ensures.ends (inserter g.K.WordKey.is_valid g.K.WordKey.word_of g.V.WordValue.is_valid g.V.WordValue.word_of (insert_first g k) call c.args.layout.now c.args.number lay number) (insert_may_begin g k call lay number x)));
 }
@@ -60,7 +60,7 @@ returns-in-Delete-clause-ends g c = λ call lay number x. let k = (goal.at.retur
   last = delete_machine c.args.tries c.call-updated-in-Delete.new.run;
   fresh = delete_is_fresh g k;
   is_left = sym c.into_share-in-Delete.ensures;
-  ends = replies g.K.WordKey.is_valid g.K.WordKey.word_of g.V.WordValue.is_valid g.V.WordValue.word_of call _ (delete_first g k) (delete_machine c.args.tries c.call-updated-in-Delete.new.run) c.call-updated-in-Delete.result (word_reply c.call-updated-in-Delete.result) (update_reply c.told-in-Delete.result) refl c.told-in-Delete.ensures.valid c.told-in-Delete.ensures.says c.told-in-Delete.ensures.form
+  ends = replies g.K.WordKey.is_valid g.K.WordKey.word_of g.V.WordValue.is_valid g.V.WordValue.word_of call _ (delete_first g k) (delete_machine c.args.tries c.call-updated-in-Delete.new.run) c.call-updated-in-Delete.result (word_reply c.call-updated-in-Delete.result) (update_reply c.of_update-in-Delete.result) refl c.of_update-in-Delete.ensures.valid c.of_update-in-Delete.ensures.says c.of_update-in-Delete.ensures.form
       (delete_ended g.K.WordKey.is_valid g.K.WordKey.word_of g.V.WordValue.is_valid g.V.WordValue.word_of (delete_first g k) call c.args.layout.now c.args.number lay number _ c.call-updated-in-Delete.new.run c.call-updated-in-Delete.result
       (c.call-updated-in-Delete.ensures.ends (deleter g.K.WordKey.is_valid g.K.WordKey.word_of g.V.WordValue.is_valid g.V.WordValue.word_of (delete_first g k) call c.args.layout.now c.args.number lay number) (delete_may_begin g k call lay number x)));
 }
