@@ -60,8 +60,9 @@ pub fn pairs_of<K: WordKey, V: WordValue>(
     Ok(pairs)
 }
 
-/// A reply in words as one of keys and values.
-#[inline(always)]
+/// A reply in words as one of keys and values. Out of line, so that a machine does not pay for its
+/// locals at each step.
+#[inline(never)]
 pub(crate) fn translated<K: WordKey, V: WordValue>(
     alloc: Option<Global>,
     reply: WordReply,

@@ -347,9 +347,7 @@ impl RangeRun {
 
     /// Goes on with what the last step found; with nothing at the first call, which asks for a step
     /// if there is something to be told, and else ends. It gives up one try at most, where an
-    /// SCX-record of another pass was in the way of the call; and none as it ends. Out of line, so
-    /// that machines with such a read among others do not pay for its locals.
-    #[inline(never)]
+    /// SCX-record of another pass was in the way of the call; and none as it ends.
     pub fn step(&mut self, got: Option<u64>) -> Turn<Told>
         ensures turn { (c : Call) (h : History) → RangeIsReady self.old c h got → RangeTurn c h self.new result }
         ensures begins { got ≡ None → AsksForSome self.old → (c : Call) (h : History) → RangeIsReady self.old c h None → MatchTurn result (λ _. Unit {0}) (λ _. ⊥) }

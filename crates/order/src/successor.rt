@@ -349,9 +349,7 @@ impl SuccessorRun {
 
     /// Goes on with what the last step found; with nothing at the first call, which asks for a step.
     /// It gives up one try at most, where an SCX-record of another pass was in the way of the call;
-    /// and none as it ends. Out of line, so that machines with such a read among others do not
-    /// pay for its locals.
-    #[inline(never)]
+    /// and none as it ends.
     pub fn step(&mut self, got: Option<u64>) -> Turn<Told>
         ensures turn { (c : Call) (h : History) → SuccessorIsReady self.old c h got → SuccessorTurn c h self.new result }
         ensures begins { got ≡ None → (c : Call) (h : History) → SuccessorIsReady self.old c h None → MatchTurn result (λ _. Unit {0}) (λ _. ⊥) }

@@ -435,8 +435,7 @@ impl<E: Edit + Drop> UpdateRun<E, UpdateAt> {
     }
 
     /// Goes on with what the last step found; with nothing at the first call, which asks for a
-    /// step. Out of line, so that machines with an update among others do not pay for its locals.
-    #[inline(never)]
+    /// step.
     pub fn step(&mut self, got: Option<u64>) -> Turn<Updated>
         ensures turn { (c : Call) (h : History) → IsRun TreeAllows c.layout h → UpdateIsReady E.means self.old c h got → UpdateTurn E.means c h self.new result }
         ensures begins { got ≡ None → (c : Call) (h : History) → UpdateIsReady E.means self.old c h None → MatchTurn result (λ _. Unit {0}) (λ _. ⊥) }
