@@ -21,5 +21,5 @@ pub use run::MapRun;
 pub use shape::Dict;
 pub use spelling::{Reply, Request};
 pub use told::WordReply;
-pub use translation::{pairs_of, value_of};
+pub use translation::{pairs_of, translated, value_of};
 pub use value::WordValue;

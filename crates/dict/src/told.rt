@@ -37,7 +37,7 @@ impl WordReply {
     }
 
     /// What a successor has answered.
-    pub(crate) fn of_successor(told: Result<Option<Pair>, Refused>) -> WordReply
+    pub fn of_successor(told: Result<Option<Pair>, Refused>) -> WordReply
         ensures { result ≡ successor_reply told }
     {
         match told {
@@ -48,7 +48,7 @@ impl WordReply {
     }
 
     /// What a range has answered.
-    pub(crate) fn of_range(told: Result<Vec<Pair>, Refused>) -> WordReply
+    pub fn of_range(told: Result<Vec<Pair>, Refused>) -> WordReply
         ensures { result ≡ range_reply told }
     {
         match told {

@@ -63,10 +63,7 @@ pub fn pairs_of<K: WordKey, V: WordValue>(
 /// A reply in words as one of keys and values. Out of line, so that a machine does not pay for its
 /// locals at each step.
 #[inline(never)]
-pub(crate) fn translated<K: WordKey, V: WordValue>(
-    alloc: Option<Global>,
-    reply: WordReply,
-) -> Reply<K, V>
+pub fn translated<K: WordKey, V: WordValue>(alloc: Option<Global>, reply: WordReply) -> Reply<K, V>
     ensures valid { IsValidReply K.is_valid V.is_valid result }
     ensures says { IsTranslated K.is_valid K.word_of V.is_valid V.word_of reply result }
     ensures form { HasFormOf reply result }

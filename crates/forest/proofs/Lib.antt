@@ -25,6 +25,7 @@ mod StraightScx
 mod StraightVlx
 mod StraightWalk
 mod StraightLook
+mod StraightReads
 mod StraightUpdate
 mod Took
 mod Versions

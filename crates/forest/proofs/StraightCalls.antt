@@ -1,11 +1,19 @@
 -- Whole calls of a dictionary whose updates are straight.
+use Rattle.std.specs.Global.{Global}
+use Rattle.std.specs.Prelude.{Result, Vec}
 use Rattle.std.proofs.Common.{◌≡◌, ℕ, zero, suc, ◌+◌, ◌*◌, ◌-◌, ◌^◌, ◌<◌, ◌≤◌, List, Option, None, refl, sym, subst, ap, arith, ◌∙◌}
 use Rattle.arena.specs.declared.layout.Layout.{Layout}
 use Rattle.arena.specs.declared.step.Step.{Step}
 use Rattle.arena.specs.History.{History}
 use Rattle.arena.specs.Machines.{Call}
 use Rattle.arena.specs.Share.{Remaining}
-use Rattle.spelling.specs.OrderedMap.{MapCall, Edit, Insert as InsertEdit, Delete as DeleteEdit}
+use Rattle.order.specs.Range.Known.{IsSameRange, RangeAnswers, RangeIsReady, RangeWaits}
+use Rattle.order.specs.Successor.Known.{SuccessorAnswers, SuccessorIsReady, SuccessorWaits}
+use Rattle.order.specs.declared.range.RangeRun.{RangeRun}
+use Rattle.order.specs.declared.refused.Refused.{Refused}
+use Rattle.order.specs.declared.successor.SuccessorRun.{SuccessorRun}
+use Rattle.spelling.specs.declared.pair.Pair.{Pair}
+use Rattle.spelling.specs.OrderedMap.{MapCall, Edit, Insert as InsertEdit, Delete as DeleteEdit, Successor as SuccessorCall, Range as RangeCall}
 use Rattle.tree.specs.Delete.Means.{delete_means}
 use Rattle.tree.specs.Insert.Means.{insert_means}
 use Rattle.tree.specs.declared.delete.Delete.{Delete as Deleted}
@@ -16,25 +24,25 @@ use Rattle.updates.specs.declared.update.UpdateAt.{UpdateAt}
 use Rattle.updates.specs.declared.update.UpdateAt.TheVariants.{Start}
 use Rattle.updates.specs.declared.update.UpdateRun.{UpdateRun}
 use Rattle.updates.specs.declared.update.Updated.{Updated}
-use Rattle.arena.specs.declared.limits.Mode.TheVariants.{Tree}
-use Rattle.dict.specs.Known.{Goes, MapAnswers}
+use Rattle.dict.specs.Known.{Goes}
 use Rattle.dict.specs.Typed.{IsTypedCall}
 use Rattle.dict.specs.TypedMaps.{typed_run}
 use Rattle.dict.specs.Words.{IsWord, IsValidReply}
 use Rattle.dict.specs.declared.dict.DictRun.{DictRun}
-use Rattle.dict.specs.declared.run.MapRun.TheVariants.{Insert, Delete}
+use Rattle.dict.specs.declared.run.MapRun.TheVariants.{Insert, Delete, Successor, Range}
 use Rattle.dict.specs.Translated.{IsTranslated, HasFormOf}
-use Rattle.dict.specs.WordReplies.{update_reply}
+use Rattle.dict.specs.WordReplies.{update_reply, successor_reply, range_reply}
 use Rattle.spelling.specs.declared.reply.Reply.{Reply}
 use Rattle.dict.specs.declared.told.WordReply.{WordReply}
-use Rattle.dict.proofs.Lemmas.{insert_ends, delete_ends, edit_spends, dict_ends}
+use Rattle.dict.proofs.Lemmas.{insert_ends, delete_ends, successor_ends, range_ends, edit_spends, dict_ends}
 use Rattle.forest.specs.declared.view.SeatedPass.{SeatedPass}
-use Rattle.forest.specs.StraightCalls.{DictAllows, DictCallIsReady, DictCallWaits, IsSameDictCall, SeatDictBegins, SeatDictEnds, IsFreshEdit}
+use Rattle.forest.specs.StraightCalls.{DictAllows, DictCallIsReady, DictCallWaits, IsSameDictCall, SeatDictBegins, SeatDictEnds, SeatWordEnds, IsFreshEdit}
+use Rattle.forest.specs.StraightReads.{IsSameSuccessor, ReaderBegins, ReaderEnds, Ranger, Searcher}
 use Rattle.forest.specs.StraightUpdate.{Updater, HasGoneOn, UpdaterBegins, UpdaterEnds}
 use Rattle.forest.specs.declared.straight.calls.WordEdit.TheVariants as edits
 use Rattle.forest.proofs.StraightUpdate.{answers_there}
 use Rattle.forest.specs.TableRule.{history_of}
-use Rattle.forest.specs.Traces.{HoldsForCall, Trace, begins, goes_on}
+use Rattle.forest.specs.Traces.{begins, goes_on}
 
 module _ {K V : Type 0} (valid_key : K → Type 0) (key : K → ℕ) (valid_value : V → Type 0) (value_word : V → ℕ) where
   abbrev allows : Layout → History → ℕ → Type 0
@@ -55,9 +63,9 @@ module _ {K V : Type 0} (valid_key : K → Type 0) (key : K → ℕ) (valid_valu
   abbrev values : ℕ → Type 0
   values = IsWord valid_value value_word
 
-  -- its update has answered this
-  abbrev SeatUpdateEnds : Call → List SeatedPass → DictRun K V → DictRun K V → Updated → Type 0
-  SeatUpdateEnds c ps first m a = HoldsForCall allows ps c (λ h. ((c.layout.mode ≡ Tree) × MapAnswers m.tries m.run c h (update_reply a)) × Trace allows waits same c first m h)
+  -- its machine has answered so
+  abbrev ends : Call → List SeatedPass → DictRun K V → DictRun K V → WordReply → Type 0
+  ends = SeatWordEnds valid_key key valid_value value_word
 
   module _ (machine : DictRun K V) (c : Call) (layout : Layout) (number : ℕ) (is_layout : c.layout ≡ layout) (is_number : c.number ≡ number) where
     -- Inserts
@@ -95,7 +103,7 @@ module _ {K V : Type 0} (valid_key : K → Type 0) (key : K → ℕ) (valid_valu
     unfolding inserter
     insert_begins ps m is x = record { known = x.known; is = x.is; sound = x.sound; so = (subst (λ r. ready (record machine { run = r }) c (history_of c.layout.mode x.known) None) is x.so.1, begins (λ i. record machine { run = sym is i }) (sym x.so.0)) }
 
-    pub insert_ended : (ps : List SeatedPass) {A : Type 0} (m : UpdateRun Inserted A) (a : Updated) → UpdaterEnds allows ready waits same insert_means layout number inserter ps m a → SeatUpdateEnds c ps machine (inserting (standing m Start)) a
+    pub insert_ended : (ps : List SeatedPass) {A : Type 0} (m : UpdateRun Inserted A) (a : Updated) → UpdaterEnds allows ready waits same insert_means layout number inserter ps m a → ends c ps machine (inserting (standing m Start)) (update_reply a)
     unfolding inserter insert_call
     insert_ended ps m a x = let y = x.so in record {
       known = x.known;
@@ -142,7 +150,7 @@ module _ {K V : Type 0} (valid_key : K → Type 0) (key : K → ℕ) (valid_valu
     unfolding deleter
     delete_begins ps m is x = record { known = x.known; is = x.is; sound = x.sound; so = (subst (λ r. ready (record machine { run = r }) c (history_of c.layout.mode x.known) None) is x.so.1, begins (λ i. record machine { run = sym is i }) (sym x.so.0)) }
 
-    pub delete_ended : (ps : List SeatedPass) {A : Type 0} (m : UpdateRun Deleted A) (a : Updated) → UpdaterEnds allows ready waits same delete_means layout number deleter ps m a → SeatUpdateEnds c ps machine (deleting (standing m Start)) a
+    pub delete_ended : (ps : List SeatedPass) {A : Type 0} (m : UpdateRun Deleted A) (a : Updated) → UpdaterEnds allows ready waits same delete_means layout number deleter ps m a → ends c ps machine (deleting (standing m Start)) (update_reply a)
     unfolding deleter delete_call
     delete_ended ps m a x = let y = x.so in record {
       known = x.known;
@@ -154,13 +162,86 @@ module _ {K V : Type 0} (valid_key : K → Type 0) (key : K → ℕ) (valid_valu
       );
     }
 
-  -- an update that has answered is told as a reply of keys and values
-  pub replies : (c : Call) (ps : List SeatedPass) (first m : DictRun K V) (a : Updated) (w : WordReply) (r : Reply K V) → w ≡ update_reply a → IsValidReply valid_key valid_value r → IsTranslated valid_key key valid_value value_word w r → HasFormOf w r → SeatUpdateEnds c ps first m a → SeatDictEnds valid_key key valid_value value_word c ps first m r
-  replies c ps first m a w r is valid says form x = record {
+    -- Successors
+
+    abbrev searching : Remaining → SuccessorRun → DictRun K V
+    searching share m = record machine { run = Successor m share }
+
+    pub searcher : Remaining → Searcher allows ready waits same layout number
+    searcher share = record {
+      call = c;
+      is_layout = is_layout;
+      is_number = is_number;
+      tree = λ h run. typed_run keys values c.layout h run;
+      first = machine;
+      with_run = searching share;
+      opens = λ m h s x. x.1.1.0;
+      tells = λ m h got x. x.1.1.0;
+      turns = λ old now h got s is x w. (tt, (record { mode = x.1.0.mode; small = tt; number = tt; spent = x.1.0.spent }, (w, x.1.1.1)));
+      stays = λ old now is. (ap SuccessorCall is, refl);
+    }
+
+    pub search_begins : (ps : List SeatedPass) (share : Remaining) (m : SuccessorRun) → machine.run ≡ Successor m share → SeatDictBegins valid_key key valid_value value_word c ps machine → ReaderBegins allows ready waits same SuccessorIsReady SuccessorWaits IsSameSuccessor layout number (searcher share) ps m
+    unfolding searcher
+    search_begins ps share m is x = record { known = x.known; is = x.is; sound = x.sound; so = (subst (λ r. ready (record machine { run = r }) c (history_of c.layout.mode x.known) None) is x.so.1, begins (λ i. record machine { run = sym is i }) (sym x.so.0)) }
+
+    pub search_ended : (ps : List SeatedPass) (share : Remaining) (m : SuccessorRun) (a : Result (Option Pair) Refused) → ReaderEnds allows ready waits same SuccessorIsReady SuccessorWaits IsSameSuccessor layout number (searcher share) ps SuccessorAnswers m a → ends c ps machine (searching share m) (successor_reply a)
+    unfolding searcher
+    search_ended ps share m a x = let y = x.so in record {
+      known = x.known;
+      is = x.is;
+      sound = x.sound;
+      so = (
+        (y.was.1.0.mode, successor_ends machine.tries c _ m share a y.was.1.1.1 y.was.1.0.spent y.answers),
+        goes_on (searching share y.old) (ap SuccessorCall y.is_same, refl) y.course,
+      );
+    }
+
+    -- Ranges
+
+    abbrev ranging : Remaining → RangeRun → DictRun K V
+    ranging share m = record machine { run = Range m share }
+
+    range_call : (old now : RangeRun) → IsSameRange old now → RangeCall now.low now.high now.most ≡ RangeCall old.low old.high old.most
+    range_call old now is i = RangeCall (is.0 i) (is.1 i) (is.2 i)
+
+    pub ranger : Remaining → Ranger allows ready waits same layout number
+    ranger share = record {
+      call = c;
+      is_layout = is_layout;
+      is_number = is_number;
+      tree = λ h run. typed_run keys values c.layout h run;
+      first = machine;
+      with_run = ranging share;
+      opens = λ m h s x. x.1.1.0;
+      tells = λ m h got x. x.1.1.0;
+      turns = λ old now h got s is x w. (tt, (record { mode = x.1.0.mode; small = tt; number = tt; spent = x.1.0.spent }, (w, x.1.1.1)));
+      stays = λ old now is. (range_call old now is, refl);
+    }
+
+    pub range_begins : (ps : List SeatedPass) (share : Remaining) (m : RangeRun) → machine.run ≡ Range m share → SeatDictBegins valid_key key valid_value value_word c ps machine → ReaderBegins allows ready waits same RangeIsReady RangeWaits IsSameRange layout number (ranger share) ps m
+    unfolding ranger
+    range_begins ps share m is x = record { known = x.known; is = x.is; sound = x.sound; so = (subst (λ r. ready (record machine { run = r }) c (history_of c.layout.mode x.known) None) is x.so.1, begins (λ i. record machine { run = sym is i }) (sym x.so.0)) }
+
+    pub range_ended : (ps : List SeatedPass) (share : Remaining) (m : RangeRun) (a : Result (Vec Pair Global) Refused) → ReaderEnds allows ready waits same RangeIsReady RangeWaits IsSameRange layout number (ranger share) ps RangeAnswers m a → ends c ps machine (ranging share m) (range_reply a)
+    unfolding ranger
+    range_ended ps share m a x = let y = x.so in record {
+      known = x.known;
+      is = x.is;
+      sound = x.sound;
+      so = (
+        (y.was.1.0.mode, range_ends machine.tries c _ m share a y.was.1.1.1 y.was.1.0.spent y.answers),
+        goes_on (ranging share y.old) (range_call y.old m y.is_same, refl) y.course,
+      );
+    }
+
+  -- a machine that has answered is told as a reply of keys and values
+  pub replies : (c : Call) (ps : List SeatedPass) (first m : DictRun K V) (w : WordReply) (r : Reply K V) → IsValidReply valid_key valid_value r → IsTranslated valid_key key valid_value value_word w r → HasFormOf w r → ends c ps first m w → SeatDictEnds valid_key key valid_value value_word c ps first m r
+  replies c ps first m w r valid says form x = record {
     known = x.known;
     is = x.is;
     sound = x.sound;
-    so = (dict_ends valid_key key valid_value value_word m c _ w r x.so.0.0 x.sound (rw is x.so.0.1) valid says form, x.so.1);
+    so = (dict_ends valid_key key valid_value value_word m c _ w r x.so.0.0 x.sound x.so.0.1 valid says form, x.so.1);
   }
 
 -- Machines that have not begun

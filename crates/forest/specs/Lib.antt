@@ -13,6 +13,7 @@ pub mod StraightGet
 pub mod StraightUpdate
 pub mod StraightCalls
 pub mod StraightLook
+pub mod StraightReads
 pub mod Traces
 pub mod TableRule
 pub mod JoinedSeats

@@ -1,16 +1,18 @@
 -- Whole calls of a dictionary.
 use Rattle.std.specs.Prelude.{◌≡◌, ℕ, List, Option, Result}
 use Rattle.arena.specs.declared.layout.Layout.{Layout}
+use Rattle.arena.specs.declared.limits.Mode.TheVariants.{Tree}
 use Rattle.arena.specs.declared.step.Step.{Step}
 use Rattle.arena.specs.History.{History}
 use Rattle.arena.specs.Machines.{Call}
 use Rattle.arena.specs.Share.{Remaining}
 use Rattle.dict.specs.Calls.{call_in, share_of}
 use Rattle.dict.specs.DictKnown.{DictIsReady, DictWaits, DictAnswers}
-use Rattle.dict.specs.Known.{IsUnbegun}
+use Rattle.dict.specs.Known.{IsUnbegun, MapAnswers}
 use Rattle.dict.specs.Typed.{TypedAllows}
 use Rattle.dict.specs.Words.{IsWord}
 use Rattle.dict.specs.declared.dict.DictRun.{DictRun}
+use Rattle.dict.specs.declared.told.WordReply.{WordReply}
 use Rattle.spelling.specs.declared.reply.Reply.{Reply}
 use Rattle.spelling.specs.OrderedMap.{MapEdit, Edit, Insert, Delete}
 use Rattle.forest.specs.Dictionary.{update_reply as answer}
@@ -18,7 +20,7 @@ use Rattle.forest.specs.declared.fault.UpdateFault.{UpdateFault}
 use Rattle.forest.specs.declared.straight.calls.WordEdit.{WordEdit}
 use Rattle.forest.specs.declared.straight.calls.WordEdit.TheVariants as edits
 use Rattle.forest.specs.declared.view.SeatedPass.{SeatedPass}
-use Rattle.forest.specs.Traces.{CallBegins, Ends}
+use Rattle.forest.specs.Traces.{CallBegins, Ends, HoldsForCall, Trace}
 
 -- the edit of the map that this is
 abbrev pub map_edit : WordEdit → MapEdit
@@ -55,6 +57,10 @@ module _ {K V : Type 0} (valid_key : K → Type 0) (key : K → ℕ) (valid_valu
     -- a call begins with the machine `first`
     abbrev pub SeatDictBegins : Type 0
     SeatDictBegins = CallBegins DictAllows DictCallIsReady c ps first
+
+    -- the machine inside has ended with this reply, in words
+    abbrev pub SeatWordEnds : DictRun K V → WordReply → Type 0
+    SeatWordEnds m w = HoldsForCall DictAllows ps c (λ h. ((c.layout.mode ≡ Tree) × MapAnswers m.tries m.run c h w) × Trace DictAllows DictCallWaits IsSameDictCall c first m h)
 
     -- the call has ended with this reply
     abbrev pub SeatDictEnds : DictRun K V → Reply K V → Type 0

@@ -6,6 +6,7 @@ ghost use Rattle.arena.specs.Limits.{IsAccepted, IsLayoutOf};
 ghost use Rattle.arena.specs.declared.limits.Mode.TheVariants.{Tree};
 ghost use Rattle.spelling.specs.OrderedMap.{Edit, Get, Insert as InsertEdit, Delete as DeleteEdit, edit_key, OneValue, Range, Successor};
 ghost use Rattle.dict.specs.Forms.{MayReply, form_of};
+ghost use Rattle.dict.specs.Says.{KeepsLists};
 ghost use Rattle.dict.specs.Steps.{most_steps};
 ghost use Rattle.dict.specs.Typed.{IsTypedCall, TypedAllows};
 ghost use Rattle.dict.specs.Words.{IsValidPair, IsValidReply, IsWord};
@@ -19,7 +20,6 @@ ghost use Rattle.forest.specs.Traces.{shared_nodes};
 use crate::fault::{NewFault, OrderFault, UpdateFault};
 use crate::forest::Forest;
 use crate::pass::Pass;
-use crate::steps::whole;
 use crate::straight::calls::{self, WordEdit};
 use crate::straight::walk;
 use arena::{Limits, Mode, NoMemory, Share};
@@ -195,6 +195,7 @@ impl<K: WordKey, V: WordValue> Forest<Dict<K, V>> {
     ) -> Reply<K, V>
         requires pass { IsOf self.now pass.old }
         requires few { AsksForFew request }
+        requires ordered { KeepsLists (as_map_call K.word_of V.word_of request) }
         ensures pass { IsOf self.now pass.new }
         ensures tree { pass.new.layout.mode ≡ Tree }
         ensures goes_on { HasGoneOn (TypedAllows (IsWord K.is_valid K.word_of) (IsWord V.is_valid V.word_of)) pass.old pass.new (taken_of pass.old) (most_steps (as_map_call K.word_of V.word_of request) self.now.tries (shared_nodes self.now.layout)) (blamed_by_reply result pass.old.blamed) }
@@ -207,7 +208,8 @@ impl<K: WordKey, V: WordValue> Forest<Dict<K, V>> {
         let number = pass.taken();
         let share = replace(&mut pass.share, Share::of(&self.layout, pass.number));
         let mut run = DictRun::new(Some(alloc), request, share, self.tries, number);
-        let reply = whole(&self.words, &self.layout, &mut pass.seat, number, &mut run);
+        let (words, layout, seat) = (&self.words, &self.layout, &mut pass.seat);
+        let reply = calls::read(words, layout, seat, number, &mut run);
         pass.share = run.into_share();
         pass.blamed.note_reply(&reply);
         reply

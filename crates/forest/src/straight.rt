@@ -8,6 +8,7 @@ pub(crate) mod helping;
 pub(crate) mod llx;
 pub(crate) mod looking;
 pub(crate) mod placed;
+pub(crate) mod reading;
 pub(crate) mod resuming;
 pub(crate) mod scx;
 pub(crate) mod updating;

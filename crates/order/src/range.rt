@@ -120,6 +120,7 @@ impl RangeRun {
     }
 
     /// Asks for a load of a settled word, and stands there.
+    #[inline(always)]
     fn load(&mut self, at: RangeAt, node: NodeNo, part: NodeWord) -> Turn<Told>
         ensures stands { self.new ≡ record self.old { at = at } }
         ensures asked { result ≡ Turn.Ask record { kind = Kind.LoadSettled; word = Word.Node node part; access = Access.Load } }
@@ -176,6 +177,7 @@ impl RangeRun {
         self.begin()
     }
 
+    #[inline(always)]
     fn load_head(&mut self, above: u64, node: NodeNo) -> Turn<Told>
         ensures turn { (c : Call) (h : History) → Goes self.old c h → Visits self.old c h node.0 → above < level_at h node.0 → RangeTurn c h self.new result }
         ensures same { IsSameRange self.old self.new }
@@ -186,6 +188,7 @@ impl RangeRun {
     }
 
     /// Goes on with the head of a node. On the right of what is above all keys there is no pair.
+    #[inline(always)]
     fn head_on(&mut self, head: Head, node: NodeNo) -> Turn<Told>
         ensures turn { (c : Call) (h : History) → Goes self.old c h → IsOwnMoment c h → Visits self.old c h node.0 → head_at h node.0 ≡ head → RangeTurn c h self.new result }
         ensures same { IsSameRange self.old self.new }
@@ -202,6 +205,7 @@ impl RangeRun {
     }
 
     /// Goes on with the key of a node of class 0.
+    #[inline(always)]
     fn key_on(&mut self, head: Head, node: NodeNo, key: u64) -> Turn<Told>
         ensures turn { (c : Call) (h : History) → Goes self.old c h → IsOwnMoment c h → Visits self.old c h node.0 → HasLowHead h node.0 head → key_at h node.0 ≡ key → RangeTurn c h self.new result }
         ensures same { IsSameRange self.old self.new }
@@ -218,6 +222,7 @@ impl RangeRun {
     }
 
     /// Takes a pair.
+    #[inline(always)]
     fn value_on(&mut self, pair: Pair) -> Turn<Told>
         ensures turn { (c : Call) (h : History) (n : ℕ) → Goes self.old c h → IsOwnMoment c h → HasKey self.old c h n pair.key → value_at h n ≡ pair.value → RangeTurn c h self.new result }
         ensures same { IsSameRange self.old self.new }
@@ -231,6 +236,7 @@ impl RangeRun {
     }
 
     /// Goes on behind a leaf.
+    #[inline(always)]
     fn visited(&mut self) -> Turn<Told>
         ensures turn { (c : Call) (h : History) → Goes self.old c h → GoesBehind self.old c h (self.old.leaves - 1) → RangeTurn c h self.new result }
         ensures same { IsSameRange self.old self.new }
@@ -290,8 +296,10 @@ impl RangeRun {
         }
     }
 
-    /// Keeps a snapshot, and goes on to the children that are to be visited.
-    fn looked(&mut self, level: u64, left: bool, right: bool, snap: Snap) -> Turn<Told>
+    /// Keeps a snapshot of the fork at which it looks, and goes on to the children that are to be
+    /// visited. So may whoever has made the steps of the LLX go on.
+    #[inline(always)]
+    pub fn looked(&mut self, level: u64, left: bool, right: bool, snap: Snap) -> Turn<Told>
         ensures turn { (c : Call) (h : History) → Goes self.old c h → LooksIn self.old c h level left right snap.node.0 → IsSnapshot c.layout h snap.node.0 snap → RangeTurn c h self.new result }
         ensures same { IsSameRange self.old self.new }
         ensures nearer { (nodes : ℕ) → level + 1 < 2 + nodes → IsNearer self.new nodes result (self.old.tries * try_left self.old.most nodes + (length self.old.snaps.items + 1 + 67 * (1 + nodes - level) + leaves_left self.old.leaves nodes)) }
@@ -348,6 +356,7 @@ impl RangeRun {
     /// Goes on with what the last step found; with nothing at the first call, which asks for a step
     /// if there is something to be told, and else ends. It gives up one try at most, where an
     /// SCX-record of another pass was in the way of the call; and none as it ends.
+    #[inline(always)]
     pub fn step(&mut self, got: Option<u64>) -> Turn<Told>
         ensures turn { (c : Call) (h : History) → RangeIsReady self.old c h got → RangeTurn c h self.new result }
         ensures begins { got ≡ None → AsksForSome self.old → (c : Call) (h : History) → RangeIsReady self.old c h None → MatchTurn result (λ _. Unit {0}) (λ _. ⊥) }
@@ -395,6 +404,7 @@ impl Machine<Tree> for RangeRun {
 
     ghost asks_first = { AsksForSome };
 
+    #[inline(always)]
     fn next(&mut self, got: Option<u64>) -> Turn<Told> {
         self.step(got)
     }

@@ -119,6 +119,7 @@ impl SuccessorRun {
     }
 
     /// Asks for a load of a settled word, and stands there.
+    #[inline(always)]
     fn load(&mut self, at: SuccessorAt, node: NodeNo, part: NodeWord) -> Turn<Told>
         ensures stands { self.new ≡ record self.old { at = at } }
         ensures asked { result ≡ Turn.Ask record { kind = Kind.LoadSettled; word = Word.Node node part; access = Access.Load } }
@@ -227,8 +228,10 @@ impl SuccessorRun {
         }
     }
 
-    /// Keeps a snapshot, and goes on to a child of its node.
-    fn looked(&mut self, route: Route, level: u64, side: Side, snap: Snap) -> Turn<Told>
+    /// Keeps a snapshot of the fork at which it looks, and goes on to a child of that. So may whoever
+    /// has made the steps of the LLX go on.
+    #[inline(always)]
+    pub fn looked(&mut self, route: Route, level: u64, side: Side, snap: Snap) -> Turn<Told>
         ensures turn { (c : Call) (h : History) → Goes self.old c h → LooksAt self.old c h route level side snap.node.0 → IsSnapshot c.layout h snap.node.0 snap → SuccessorTurn c h self.new result }
         ensures same { self.new.key ≡ self.old.key }
         ensures nearer { (nodes : ℕ) → level + 1 < 2 + nodes → IsNearer self.new nodes result (self.old.tries * try_left nodes + (length self.old.snaps.items + 1 + 67 * (1 + nodes - level) + behind route nodes)) }
@@ -248,6 +251,7 @@ impl SuccessorRun {
     }
 
     /// Asks for the head of a node below a fork of the level `above`.
+    #[inline(always)]
     fn load_head(&mut self, route: Route, above: u64, node: NodeNo) -> Turn<Told>
         ensures turn { (c : Call) (h : History) → Goes self.old c h → StandsAt self.old c h route node.0 → above < level_at h node.0 → SuccessorTurn c h self.new result }
         ensures same { self.new.key ≡ self.old.key }
@@ -260,6 +264,7 @@ impl SuccessorRun {
 
     /// Goes on with the head of a node. Above all keys there is no pair. Behind the path of the key
     /// it always goes left.
+    #[inline(always)]
     fn head_on(&mut self, route: Route, head: Head, node: NodeNo) -> Turn<Told>
         ensures turn { (c : Call) (h : History) → Goes self.old c h → IsOwnMoment c h → StandsAt self.old c h route node.0 → head_at h node.0 ≡ head → SuccessorTurn c h self.new result }
         ensures same { self.new.key ≡ self.old.key }
@@ -277,6 +282,7 @@ impl SuccessorRun {
     }
 
     /// Goes on with the key of a node of class 0.
+    #[inline(always)]
     fn key_on(&mut self, route: Route, head: Head, node: NodeNo, key: u64) -> Turn<Told>
         ensures turn { (c : Call) (h : History) → Goes self.old c h → StandsAt self.old c h route node.0 → HasHead h route node.0 head → key_at h node.0 ≡ key → SuccessorTurn c h self.new result }
         ensures same { self.new.key ≡ self.old.key }
@@ -350,6 +356,7 @@ impl SuccessorRun {
     /// Goes on with what the last step found; with nothing at the first call, which asks for a step.
     /// It gives up one try at most, where an SCX-record of another pass was in the way of the call;
     /// and none as it ends.
+    #[inline(always)]
     pub fn step(&mut self, got: Option<u64>) -> Turn<Told>
         ensures turn { (c : Call) (h : History) → SuccessorIsReady self.old c h got → SuccessorTurn c h self.new result }
         ensures begins { got ≡ None → (c : Call) (h : History) → SuccessorIsReady self.old c h None → MatchTurn result (λ _. Unit {0}) (λ _. ⊥) }
@@ -401,6 +408,7 @@ impl Machine<Tree> for SuccessorRun {
 
     ghost asks_first = { λ _. Unit {0} };
 
+    #[inline(always)]
     fn next(&mut self, got: Option<u64>) -> Turn<Told> {
         self.step(got)
     }

@@ -1,7 +1,9 @@
-//! Edits of a dictionary.
+//! Edits and ordered reads of a dictionary.
 ghost use Rattle.std.specs.Prelude.{◌≡◌, ◌≤◌, ◌<◌, ◌+◌, ◌^◌};
 ghost use Rattle.arena.specs.Machines.{Call};
-ghost use Rattle.dict.specs.Steps.{most_steps};
+ghost use Rattle.dict.specs.Calls.{call_in};
+ghost use Rattle.dict.specs.Says.{KeepsLists};
+ghost use Rattle.dict.specs.Steps.{map_left, most_steps};
 ghost use Rattle.dict.specs.Translated.{HasFormOf, IsTranslated};
 ghost use Rattle.dict.specs.WordReplies.{update_reply as word_reply};
 ghost use Rattle.dict.specs.Words.{IsValidReply};
@@ -10,15 +12,15 @@ ghost use Rattle.spelling.specs.OrderedMap.{Edit as EditCall, edit_key};
 ghost use Rattle.forest.specs.Dictionary.{update_reply};
 ghost use Rattle.forest.specs.TableRule.{IsTableOf};
 ghost use Rattle.forest.specs.Traces.{seat_steps, shared_nodes};
-ghost use Rattle.forest.specs.StraightCalls.{EditHasEnded, IsFreshEdit, SeatDictBegins, map_edit};
+ghost use Rattle.forest.specs.StraightCalls.{EditHasEnded, IsFreshEdit, SeatDictBegins, SeatDictEnds, SeatWordEnds, map_edit};
 
 use crate::fault::UpdateFault;
-use crate::straight::updating;
+use crate::straight::{reading, updating};
 use crate::view::SeatView;
 use crate::words::Words;
 use arena::{Layout, Share};
 use atomic_table::Seat;
-use dict::{Dict, DictRun, WordKey, WordValue, value_of};
+use dict::{Dict, DictRun, MapRun, Reply, WordKey, WordReply, WordValue, translated, value_of};
 use tree::{Delete, Insert};
 use updates::{UpdateRun, Updated};
 
@@ -78,4 +80,61 @@ pub(crate) fn make<K: WordKey, V: WordValue>(
             (of_update::<K, V>(updated), run.into_share())
         }
     }
+}
+
+/// Makes an ordered read, in words.
+fn in_words<K: WordKey, V: WordValue>(
+    words: &Words<Dict<K, V>>,
+    layout: &Layout,
+    seat: &mut Seat<u8, SeatView>,
+    number: u64,
+    run: &mut MapRun,
+) -> WordReply
+    requires table { IsTableOf words.now.table.shared.table_id words.now.table.shared.key layout.now × (seat.old.table_id ≡ words.now.table.shared.table_id) }
+    requires ordered { KeepsLists (call_in run.old) }
+    requires begins { (c : Call) × (first : Run K V) × (c.layout ≡ layout.now) × (c.number ≡ number) × (first.run ≡ run.old) × SeatDictBegins K.is_valid K.word_of V.is_valid V.word_of c seat.old.me.0.passes first }
+    ensures table { (seat.new.table_id ≡ seat.old.table_id) × (seat.new.me.1 ≡ seat.old.me.1) }
+    ensures ends { (c : Call) (first : Run K V) → c.layout ≡ layout.now → c.number ≡ number → first.run ≡ run.old → SeatDictBegins K.is_valid K.word_of V.is_valid V.word_of c seat.old.me.0.passes first → SeatWordEnds K.is_valid K.word_of V.is_valid V.word_of c seat.new.me.0.passes first record first { run = run.new } result }
+    ensures steps { seat_steps seat.new.me.0.passes ≤ seat_steps seat.old.me.0.passes + map_left run.old (shared_nodes layout.now) }
+{
+    match run {
+        MapRun::Successor {
+            run: inner,
+            share: _,
+        } => {
+            let told = reading::successor::<Dict<K, V>, DictRun<K, V>>(
+                words, layout, seat, number, inner,
+            );
+            WordReply::of_successor(told)
+        }
+        MapRun::Range {
+            run: inner,
+            share: _,
+        } => {
+            let told = reading::range::<Dict<K, V>, DictRun<K, V>>(
+                words, layout, seat, number, inner,
+            );
+            WordReply::of_range(told)
+        }
+        MapRun::Insert(_) | MapRun::Delete(_) | MapRun::Get { .. } => unreachable!(),
+    }
+}
+
+/// Makes an ordered read.
+pub(crate) fn read<K: WordKey, V: WordValue>(
+    words: &Words<Dict<K, V>>,
+    layout: &Layout,
+    seat: &mut Seat<u8, SeatView>,
+    number: u64,
+    run: &mut DictRun<K, V>,
+) -> Reply<K, V>
+    requires table { IsTableOf words.now.table.shared.table_id words.now.table.shared.key layout.now × (seat.old.table_id ≡ words.now.table.shared.table_id) }
+    requires ordered { KeepsLists (call_in run.old.run) }
+    requires begins { (c : Call) × (c.layout ≡ layout.now) × (c.number ≡ number) × SeatDictBegins K.is_valid K.word_of V.is_valid V.word_of c seat.old.me.0.passes run.old }
+    ensures table { (seat.new.table_id ≡ seat.old.table_id) × (seat.new.me.1 ≡ seat.old.me.1) }
+    ensures ends { (c : Call) → c.layout ≡ layout.now → c.number ≡ number → SeatDictBegins K.is_valid K.word_of V.is_valid V.word_of c seat.old.me.0.passes run.old → SeatDictEnds K.is_valid K.word_of V.is_valid V.word_of c seat.new.me.0.passes run.old run.new result }
+    ensures steps { seat_steps seat.new.me.0.passes ≤ seat_steps seat.old.me.0.passes + map_left run.old.run (shared_nodes layout.now) }
+{
+    let told = in_words::<K, V>(words, layout, seat, number, &mut run.run);
+    translated(run.alloc, told)
 }

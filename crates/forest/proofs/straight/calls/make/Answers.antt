@@ -34,7 +34,7 @@ returns-in-Insert-clause-ends g c = λ call lay number x. let k = (goal.at.retur
   last = insert_machine c.args.tries c.call-updated.new.run;
   fresh = insert_is_fresh g k;
   is_left = sym c.into_share.ensures;
-  ends = replies g.K.WordKey.is_valid g.K.WordKey.word_of g.V.WordValue.is_valid g.V.WordValue.word_of call _ (insert_first g k) (insert_machine c.args.tries c.call-updated.new.run) c.call-updated.result (word_reply c.call-updated.result) (update_reply c.of_update.result) refl c.of_update.ensures.valid c.of_update.ensures.says c.of_update.ensures.form
+  ends = replies g.K.WordKey.is_valid g.K.WordKey.word_of g.V.WordValue.is_valid g.V.WordValue.word_of call _ (insert_first g k) (insert_machine c.args.tries c.call-updated.new.run) (word_reply c.call-updated.result) (update_reply c.of_update.result) c.of_update.ensures.valid c.of_update.ensures.says c.of_update.ensures.form
       (insert_ended g.K.WordKey.is_valid g.K.WordKey.word_of g.V.WordValue.is_valid g.V.WordValue.word_of (insert_first g k) call c.args.layout.now c.args.number lay number _ c.call-updated.new.run c.call-updated.result
       (c.call-updated.ensures.ends (inserter g.K.WordKey.is_valid g.K.WordKey.word_of g.V.WordValue.is_valid g.V.WordValue.word_of (insert_first g k) call c.args.layout.now c.args.number lay number) (insert_may_begin g k call lay number x)));
 }
@@ -60,7 +60,7 @@ returns-in-Delete-clause-ends g c = λ call lay number x. let k = (goal.at.retur
   last = delete_machine c.args.tries c.call-updated-in-Delete.new.run;
   fresh = delete_is_fresh g k;
   is_left = sym c.into_share-in-Delete.ensures;
-  ends = replies g.K.WordKey.is_valid g.K.WordKey.word_of g.V.WordValue.is_valid g.V.WordValue.word_of call _ (delete_first g k) (delete_machine c.args.tries c.call-updated-in-Delete.new.run) c.call-updated-in-Delete.result (word_reply c.call-updated-in-Delete.result) (update_reply c.of_update-in-Delete.result) refl c.of_update-in-Delete.ensures.valid c.of_update-in-Delete.ensures.says c.of_update-in-Delete.ensures.form
+  ends = replies g.K.WordKey.is_valid g.K.WordKey.word_of g.V.WordValue.is_valid g.V.WordValue.word_of call _ (delete_first g k) (delete_machine c.args.tries c.call-updated-in-Delete.new.run) (word_reply c.call-updated-in-Delete.result) (update_reply c.of_update-in-Delete.result) c.of_update-in-Delete.ensures.valid c.of_update-in-Delete.ensures.says c.of_update-in-Delete.ensures.form
       (delete_ended g.K.WordKey.is_valid g.K.WordKey.word_of g.V.WordValue.is_valid g.V.WordValue.word_of (delete_first g k) call c.args.layout.now c.args.number lay number _ c.call-updated-in-Delete.new.run c.call-updated-in-Delete.result
       (c.call-updated-in-Delete.ensures.ends (deleter g.K.WordKey.is_valid g.K.WordKey.word_of g.V.WordValue.is_valid g.V.WordValue.word_of (delete_first g k) call c.args.layout.now c.args.number lay number) (delete_may_begin g k call lay number x)));
 }
